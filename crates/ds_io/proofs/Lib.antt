@@ -1,0 +1,3 @@
+pub mod SinkLemmas
+pub mod ShelfLemmas
+pub mod CallLemmas

@@ -1,0 +1,12 @@
+use Rattle.std.specs.Prelude.{[]}
+use Rattle.std.specs.String.{string_bytes}
+use Rattle.ds_io.specs.Shelves.{Named}
+use Rattle.ds_io.specs.declared.files.Entry.{Entry}
+
+-- the file of an entry
+abbrev pub named : Entry → Named
+named e = record { name = string_bytes e.name; bytes = e.bytes.items }
+
+-- no file
+abbrev pub nothing : Named
+nothing = record { name = []; bytes = [] }

@@ -1,0 +1,136 @@
+//! What no clause says: that calls succeed where there is memory, and what the system's files and streams answer.
+
+ghost use Rattle.std.specs.Prelude.{◌<◌, ◌-◌, ◌^◌, IfOk, IsTrue};
+
+use crate::{
+    Calls, DiskShelf, Failed, Files, MemShelf, MemSink, QuietShelf, QuietSink, ReadFault, Shelf,
+    Sink, StdSink, put_all, read_all,
+};
+use std::alloc::{AllocError, Global};
+use std::fs::File;
+use std::io;
+
+/// The one file `cart`, of three bytes.
+fn one_file(alloc: Global) -> Result<Files, AllocError> {
+    let mut files = Files::new(alloc);
+    let bytes = Vec::from_slice(alloc, &[1, 2, 3])?;
+    files.push(String::from_str(alloc, "cart")?, bytes)?;
+    Ok(files)
+}
+
+/// The calls with these two numbers.
+fn two(alloc: Global, first: u64, second: u64) -> Result<Calls, AllocError>
+    requires above { 0 < first }
+    requires rises { first < second }
+    requires below { second < 2 ^ 64 - 1 }
+{
+    let mut calls = Calls::new(alloc);
+    calls.push(first)?;
+    calls.push(second)?;
+    Ok(calls)
+}
+
+fn find<F: Shelf>(shelf: &mut F, name: &str) -> Result<bool, Failed> {
+    shelf.find(name)
+}
+
+fn read<F: Shelf>(shelf: &mut F, into: &mut [u8]) -> Result<usize, Failed> {
+    shelf.read(into)
+}
+
+fn put<S: Sink>(sink: &mut S, bytes: &[u8]) -> Result<usize, Failed> {
+    sink.put(bytes)
+}
+
+fn whole<F: Shelf>(alloc: Global, shelf: &mut F, limit: usize) -> Result<Vec<u8>, ReadFault>
+    requires { limit < 2 ^ 62 }
+{
+    read_all(alloc, shelf, limit)
+}
+
+/// Known without a run, through the clauses of every sink: three bytes fit a room of four.
+fn told(alloc: Global) -> Result<bool, AllocError>
+    ensures { IfOk result (λ told. IsTrue told) }
+{
+    let mut sink = QuietSink::new(alloc, 4)?;
+    let _ = put_all(&mut sink, &[1, 2, 3]);
+    Ok(sink.is_told())
+}
+
+#[test]
+fn a_file_is_read_whole_or_is_too_long(rt: HostRuntime) -> Result<(), AllocError> {
+    let mut shelf = QuietShelf::new(one_file(rt.alloc())?);
+    assert_eq!(rt; find(&mut shelf, "card"), Ok(false));
+    assert_eq!(rt; find(&mut shelf, "cart"), Ok(true));
+    assert_eq!(rt;
+        whole(rt.alloc(), &mut shelf, 2).err(),
+        Some(ReadFault::TooLong)
+    );
+    assert_eq!(rt; find(&mut shelf, "cart"), Ok(true));
+    match whole(rt.alloc(), &mut shelf, 3) {
+        Ok(bytes) => assert_eq!(rt; bytes.as_slice(), [1, 2, 3].as_slice()),
+        Err(_) => panic!(rt; "the file has three bytes"),
+    }
+    Ok(())
+}
+
+#[test]
+fn sinks_tell_while_the_bytes_fit(rt: HostRuntime) -> Result<(), AllocError> {
+    assert!(rt; told(rt.alloc())?);
+    let mut quiet = QuietSink::new(rt.alloc(), 4)?;
+    let mut failing = MemSink::new(rt.alloc(), two(rt.alloc(), 3, 5)?, 4)?;
+    assert_eq!(rt; put(&mut quiet, &[1, 2, 3]), Ok(3));
+    assert_eq!(rt; put(&mut failing, &[1, 2, 3]), Ok(3));
+    assert!(rt; quiet.is_told() && failing.is_told());
+    assert_eq!(rt; quiet.bytes(), failing.bytes());
+    assert_eq!(rt; put(&mut quiet, &[4, 5, 6]), Ok(3));
+    assert_eq!(rt; put(&mut failing, &[4, 5, 6]), Ok(3));
+    assert!(rt; !quiet.is_told() && !failing.is_told());
+    assert_eq!(rt; put(&mut failing, &[7]), Err(Failed));
+    Ok(())
+}
+
+#[test]
+fn calls_fail_by_their_numbers(rt: HostRuntime) -> Result<(), AllocError> {
+    let mut shelf = MemShelf::new(one_file(rt.alloc())?, two(rt.alloc(), 3, 5)?);
+    let mut failed = [false; 6];
+    for fails in failed.iter_mut() {
+        *fails = find(&mut shelf, "cart").is_err();
+    }
+    assert_eq!(rt; failed, [false, false, true, false, true, false]);
+    Ok(())
+}
+
+#[test]
+fn a_failed_read_leaves_the_place(rt: HostRuntime) -> Result<(), AllocError> {
+    let mut shelf = MemShelf::new(one_file(rt.alloc())?, two(rt.alloc(), 1, 4)?);
+    let mut into = [0; 2];
+    assert_eq!(rt; find(&mut shelf, "cart"), Err(Failed));
+    assert_eq!(rt; find(&mut shelf, "cart"), Ok(true));
+    assert_eq!(rt; read(&mut shelf, &mut into), Ok(2));
+    assert_eq!(rt; read(&mut shelf, &mut into), Err(Failed));
+    assert_eq!(rt; read(&mut shelf, &mut into), Ok(1));
+    assert_eq!(rt; into, [3, 2]);
+    Ok(())
+}
+
+#[test]
+fn the_disk_answers_each_cause(rt: HostRuntime) {
+    let mut shelf = DiskShelf::new(&rt);
+    let mut into = [0; 4];
+    assert_eq!(rt; shelf.find("no such file"), Ok(false));
+    assert_eq!(rt; shelf.find("/dev/null"), Ok(true));
+    assert_eq!(rt; shelf.read(&mut into), Ok(0));
+    assert_eq!(rt; shelf.find("/"), Ok(true));
+    assert_eq!(rt; shelf.read(&mut into), Err(Failed));
+}
+
+#[test]
+fn a_full_device_is_a_fault(rt: HostRuntime) -> io::Result<()> {
+    let mut full = StdSink::new(File::create(&rt, "/dev/full")?);
+    assert_eq!(rt; full.put(&[]), Ok(0));
+    assert_eq!(rt; full.put(&[1]), Err(Failed));
+    let mut taken = StdSink::new(File::create(&rt, "/dev/null")?);
+    assert_eq!(rt; put_all(&mut taken, &[1, 2, 3]), Ok(()));
+    Ok(())
+}

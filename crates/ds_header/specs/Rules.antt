@@ -1,0 +1,89 @@
+-- When a cartridge is accepted: the rules of its header, in their order (our choice of rules and order; the fields are those
+-- of GBATEK, "DS Cartridge Header").
+use Rattle.std.specs.Prelude.{ℕ, ◌≡◌, ◌≤◌, ◌<◌, ◌+◌, ◌%◌, ◌^◌, ◌==◌, ◌&&◌, ◌||◌, ◌⊎◌, Bool, List, [], ◌∷◌, Option, Some, None, length, nat_le, nat_lt, if◌then◌else◌}
+use Rattle.ds_base.specs.declared.processors.Proc.{Proc}
+use Rattle.ds_base.specs.declared.processors.Proc.TheVariants.{Nine, Seven}
+use Rattle.ds_header.specs.declared.faults.HeaderFault.{HeaderFault}
+use Rattle.ds_header.specs.declared.faults.HeaderField.{HeaderField}
+use Rattle.ds_header.specs.declared.faults.HeaderField.TheVariants.{Short, UnitCode, Arm9Rom, Arm9Place, Arm9Entry, Arm7Rom, Arm7Place, Arm7Entry}
+use Rattle.ds_header.specs.Fields.{unit_code_of, offset_of, entry_of, place_of, length_of}
+
+-- a range of addresses, the last not in it
+pub record Range : Type 0 where
+  pub first : ℕ
+  pub past : ℕ
+
+-- main memory with its mirrors, and ARM7's work RAM: the shared one's last mirror and its own (GBATEK, "DS Memory Map")
+abbrev pub main_range : Range
+main_range = record { first = 0x2000000; past = 0x3000000 }
+
+abbrev pub work_range : Range
+work_range = record { first = 0x37F8000; past = 0x3810000 }
+
+-- so many bytes from an address on lie in a range; none do where the address does
+abbrev pub lies_within : Range → ℕ → ℕ → Bool
+lies_within range at count = nat_le range.first at && nat_lt at range.past && nat_le (at + count) range.past
+
+-- they lie where a processor's image may
+abbrev pub lies_in : Proc → ℕ → ℕ → Bool
+lies_in Nine at count = lies_within main_range at count
+lies_in Seven at count = lies_within main_range at count || lies_within work_range at count
+
+-- a rule of a field, and the value that is told where it is broken
+pub record Rule : Type 0 where
+  pub field : HeaderField
+  pub value : ℕ
+  pub holds : Bool
+
+abbrev pub rule : HeaderField → ℕ → Bool → Rule
+rule field value holds = record { field = field; value = value; holds = holds }
+
+-- the file has a header, and it isn't for DSi consoles alone
+abbrev pub file_rules : List ℕ → List Rule
+file_rules file =
+    rule Short (length file) (nat_le 512 (length file))
+    ∷ rule UnitCode (unit_code_of file) (unit_code_of file == 0 || unit_code_of file == 2)
+    ∷ []
+
+-- an image has at most 4 MiB and lies in the file, the sum being exact; it goes to memory where it may, and begins to run at
+-- a word there
+abbrev pub image_rules : HeaderField → HeaderField → HeaderField → List ℕ → Proc → List Rule
+image_rules rom place entry file proc =
+    rule rom (offset_of file proc)
+    (nat_le (length_of file proc) (2 ^ 22) && nat_le (offset_of file proc + length_of file proc) (length file))
+    ∷ rule place (place_of file proc) (lies_in proc (place_of file proc) (length_of file proc))
+    ∷ rule entry (entry_of file proc) (entry_of file proc % 4 == 0 && lies_in proc (entry_of file proc) 0)
+    ∷ []
+
+-- the rules for a processor's image
+abbrev pub rules_for : List ℕ → Proc → List Rule
+rules_for file Nine = image_rules Arm9Rom Arm9Place Arm9Entry file Nine
+rules_for file Seven = image_rules Arm7Rom Arm7Place Arm7Entry file Seven
+
+-- the first rule of a list that is broken
+abbrev pub first_broken : List Rule → Option HeaderFault
+first_broken [] = None
+first_broken (r ∷ rules) = if r.holds then first_broken rules else Some (record { field = r.field; value = r.value })
+
+abbrev pub or_then : Option HeaderFault → Option HeaderFault → Option HeaderFault
+or_then None later = later
+or_then (Some fault) later = Some fault
+
+-- why a file is refused: the first field that breaks its rule, with its value
+abbrev pub fault_of : List ℕ → Option HeaderFault
+fault_of file = or_then (first_broken (file_rules file)) (or_then (first_broken (rules_for file Nine)) (first_broken (rules_for file Seven)))
+
+-- a cartridge that is accepted
+abbrev pub IsAccepted : List ℕ → Type 0
+IsAccepted file = fault_of file ≡ None
+
+-- so many bytes from an address on lie in a range
+pub record IsWithin (range : Range) (at count : ℕ) : Type 0 where
+  pub first : range.first ≤ at
+  pub below : at < range.past
+  pub whole : at + count ≤ range.past
+
+-- they lie where a processor's image may
+abbrev pub LiesIn : Proc → ℕ → ℕ → Type 0
+LiesIn Nine at count = IsWithin main_range at count
+LiesIn Seven at count = IsWithin main_range at count ⊎ IsWithin work_range at count

@@ -1,0 +1,11 @@
+pub mod Registers
+pub mod Bytes
+pub mod States
+pub mod Words
+pub mod Fields
+pub mod Steps
+pub mod Videos
+pub mod Boots
+pub mod Booted
+pub mod Reference
+pub mod Observed

@@ -1,0 +1,92 @@
+//! Memories of a fixed size.
+
+ghost use Rattle.std.specs.Prelude.{◌≡◌, ◌<◌, ◌*◌, ◌+◌, IfOk, slice_index, slice_set, length};
+ghost use Rattle.ds_machine.specs.Bytes.{zeroes, word_at, with_word};
+
+use std::alloc::{AllocError, Global};
+use std::marker::Model;
+
+/// N bytes, seen as their list. The size travels with the type, so no access tests it.
+#[derive(Drop)]
+pub struct Block<const N: usize> {
+    bytes: Vec<u8>,
+}
+
+impl<const N: usize> Model for Block<N> {
+    ghost use Rattle.std.specs.Prelude.{◌≡◌, ℕ, List, length};
+
+    ghost Value = { List ℕ };
+
+    ghost view = { λ b. b.bytes.items };
+
+    ghost invariant = { λ b. length b.bytes.items ≡ N };
+}
+
+/// So many zeros.
+#[tactic(auto, unfolding(crate::specs::Bytes::zeroes))]
+fn zeroed(alloc: Global, count: usize) -> Result<Vec<u8>, AllocError>
+    ensures zero { IfOk result (λ v. v.items ≡ zeroes count) }
+    ensures long { IfOk result (λ v. length v.items ≡ count) }
+{
+    Ok(vec![in alloc; 0; count]?)
+}
+
+impl<const N: usize> Block<N> {
+    /// N zeros.
+    pub fn new(alloc: Global) -> Result<Block<N>, AllocError>
+        ensures { IfOk result (λ b. b ≡ zeroes N) }
+    {
+        Ok(Block {
+            bytes: zeroed(alloc, N)?,
+        })
+    }
+
+    /// All the bytes, from where they lie.
+    #[inline(always)]
+    pub fn bytes(&self) -> &[u8]
+        ensures { result.now ≡ self.now }
+    {
+        self.bytes.as_slice()
+    }
+
+    /// The byte at a place.
+    #[inline(always)]
+    pub fn byte(&self, at: usize) -> u8
+        requires { at < N }
+        ensures { result ≡ slice_index self.now at }
+    {
+        self.bytes[at]
+    }
+
+    /// Puts a byte at a place.
+    #[inline(always)]
+    pub fn set_byte(&mut self, at: usize, value: u8)
+        requires { at < N }
+        ensures { self.new ≡ slice_set self.old at value }
+    {
+        self.bytes[at] = value;
+    }
+
+    /// The word whose bytes stand from a place on, the least significant first.
+    #[inline(always)]
+    pub fn word(&self, at: usize) -> u32
+        requires { at + 3 < N }
+        ensures { result ≡ word_at self.now at }
+    {
+        let bytes = &self.bytes;
+        u32::from_le_bytes([bytes[at], bytes[at + 1], bytes[at + 2], bytes[at + 3]])
+    }
+
+    /// Puts a word's bytes from a place on, the least significant first.
+    #[inline(always)]
+    pub fn set_word(&mut self, at: usize, value: u32)
+        requires { at + 3 < N }
+        ensures { self.new ≡ with_word self.old at value }
+    {
+        let [first, second, third, fourth] = value.to_le_bytes();
+        self.bytes[at] = first;
+        self.bytes[at + 1] = second;
+        self.bytes[at + 2] = third;
+        self.bytes[at + 3] = fourth;
+    }
+}

@@ -1,0 +1,20 @@
+//! The console's machine: its memories, its processors, its display, and the step of each actor.
+//!
+//! A machine is seen as a `MachineState` (specs/States.antt): a record with a part for each unit, each processor's own part
+//! apart. `Machine::new` stands for the boot state, and `Machine::step` is exactly the reference step of the actor that steps.
+#![tactic(auto)]
+
+mod answers;
+mod blocks;
+mod boots;
+mod laws;
+mod machines;
+mod memories;
+mod processors;
+mod registers;
+mod videos;
+mod words;
+
+pub use answers::{Done, Seen};
+pub use laws::reference_laws;
+pub use machines::Machine;

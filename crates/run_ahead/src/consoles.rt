@@ -1,0 +1,160 @@
+//! The console.
+
+ghost use Rattle.std.specs.Prelude.{◌≡◌, ◌≤◌, ◌<◌, ◌+◌, ◌*◌, ◌^◌, None, slice_index, IfOk};
+ghost use Rattle.ds_machine.specs.Booted.{booted};
+ghost use Rattle.ds_machine.specs.Reference.{IsDue};
+ghost use Rattle.ds_machine.specs.Observed.{memory_of, size_of, processor_of, seen_of};
+ghost use Rattle.run_ahead.specs.Turns.{Turns, RunsOn};
+
+use crate::turns::Turned;
+use ds_base::{Due, LeftOut, Memory, Proc, Tick};
+use ds_header::Cart;
+use ds_machine::{Done, Machine, Seen};
+use std::alloc::{AllocError, Global};
+use std::marker::Model;
+
+/// How many steps a console took, by who took them, and in how many turns.
+#[derive(Clone, Copy, PartialEq, Eq, Debug)]
+pub struct Counts {
+    /// Steps of ARM9.
+    pub nine: u64,
+    /// Steps of ARM7.
+    pub seven: u64,
+    /// Steps of all other actors.
+    pub events: u64,
+    /// Turns.
+    pub turns: u64,
+}
+
+/// A console. No call but `turn` changes it.
+#[derive(Drop)]
+pub struct Console {
+    machine: Machine,
+    limit: u64,
+    stopped: Option<LeftOut>,
+}
+
+impl Model for Console {
+    ghost use Rattle.run_ahead.specs.Consoles.{ConsoleState};
+    ghost use Rattle.ds_machine.specs.Booted.{booted};
+    ghost use Rattle.ds_machine.specs.Reference.{CountsWithin};
+    ghost use Rattle.std.specs.Prelude.{◌≤◌, ◌^◌};
+
+    ghost Value = { ConsoleState };
+
+    ghost view = { λ c. record { machine = c.machine; limit = c.limit; stopped = c.stopped } };
+
+    // no step was taken at its limit or later
+    ghost invariant = { λ c. CountsWithin c.limit c.machine × (c.limit ≤ 2 ^ 56) };
+}
+
+impl Console {
+    /// A console that is switched on with a cartridge, and hasn't run. All memory of a run is taken here.
+    pub fn new(alloc: Global, cart: Cart) -> Result<Console, AllocError>
+        ensures { IfOk result (λ console. console ≡ record { machine = booted cart; limit = 0; stopped = None }) }
+    {
+        let machine = Machine::new(alloc, &cart)?;
+        Ok(Console {
+            machine,
+            limit: 0,
+            stopped: None,
+        })
+    }
+
+    /// One turn: nothing where no actor is due below the limit, and otherwise the step of the actor that is due first. After a
+    /// stop every turn answers the same and changes nothing.
+    pub fn turn(&mut self, until: Tick) -> Turned
+        requires { until.0 ≤ 2 ^ 56 }
+        ensures turn { Turns until.0 self.old result self.new }
+        ensures runs { self.old.stopped ≡ None → RunsOn until.0 self.old.machine result self.new.machine }
+    {
+        self.step(until)
+    }
+
+    /// A turn, as the one step that it is so far.
+    #[inline(always)]
+    fn step(&mut self, until: Tick) -> Turned
+        requires { until.0 ≤ 2 ^ 56 }
+        ensures { Turns until.0 self.old result self.new }
+    {
+        if let Some(left) = self.stopped {
+            return Turned::Stopped(left);
+        }
+        self.limit = self.limit.max(until.0);
+        let due = self.machine.due();
+        if until.0 <= due.tick.0 {
+            return Turned::AtEnd;
+        }
+        match self.machine.step(due.rank) {
+            Done::Made => Turned::Ran,
+            Done::Frame { swapped } => Turned::Frame { swapped },
+            Done::Stopped(left) => {
+                self.stopped = Some(left);
+                Turned::Stopped(left)
+            }
+        }
+    }
+
+    /// The actor that steps next, and when.
+    pub fn due(&self) -> Due
+        ensures { IsDue self.now.machine result }
+    {
+        self.machine.due()
+    }
+
+    /// What a processor does next.
+    pub fn seen(&self, proc: Proc) -> Seen
+        ensures { result ≡ seen_of self.now.machine proc }
+    {
+        self.machine.seen(proc)
+    }
+
+    /// A memory's bytes, from where they lie.
+    pub fn bytes(&self, memory: Memory) -> &[u8]
+        ensures { result.now ≡ memory_of self.now.machine memory }
+    {
+        self.machine.bytes(memory)
+    }
+
+    /// The byte of a memory at a place.
+    pub fn byte_of(&self, memory: Memory, at: u32) -> u8
+        requires { at < size_of memory }
+        ensures { result ≡ slice_index (memory_of self.now.machine memory) at }
+    {
+        self.machine.byte_of(memory, at)
+    }
+
+    /// A processor's registers, in the order in which they are written out.
+    pub fn registers(&self, proc: Proc) -> [u32; 37]
+        ensures { result ≡ (processor_of self.now.machine proc).registers }
+    {
+        self.machine.registers(proc)
+    }
+
+    /// The greatest limit of the turns so far, up to the first that answered a stop; 0 at first.
+    pub fn limit(&self) -> Tick
+        ensures limit { result.0 ≡ self.now.limit }
+        ensures range { result.0 ≤ 2 ^ 56 }
+    {
+        Tick(self.limit)
+    }
+
+    /// How many steps there were. They add up to at most 24 times the limit, and each was a turn.
+    pub fn counts(&self) -> Counts
+        ensures nine { result.nine ≡ self.now.machine.nine.processor.steps }
+        ensures seven { result.seven ≡ self.now.machine.seven.processor.steps }
+        ensures events { result.events ≡ self.now.machine.events }
+        ensures turns { result.turns ≡ result.nine + result.seven + result.events }
+        ensures bound { result.nine + result.seven + result.events ≤ 24 * self.now.limit }
+    {
+        let nine = self.machine.steps(Proc::Nine);
+        let seven = self.machine.steps(Proc::Seven);
+        let events = self.machine.events();
+        Counts {
+            nine,
+            seven,
+            events,
+            turns: nine + seven + events,
+        }
+    }
+}

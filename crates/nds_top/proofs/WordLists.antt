@@ -1,0 +1,18 @@
+use Rattle.std.specs.Str.{bytes_eq}
+use Rattle.std.proofs.lemmas.Slice.Eq.{bytes_eq-Decides}
+use Rattle.std.proofs.Common.{ℕ, ◌≡◌, List, [], ◌∷◌, length, get_or, map, refl, arith, true}
+
+-- a list of five is its elements
+pub five_of : {X Y : Type 0} (f : X → Y) (xs : List X) (a b c d e : X) → length xs ≡ 5 → a ≡ get_or xs 0 a → b ≡ get_or xs 1 b → c ≡ get_or xs 2 c → d ≡ get_or xs 3 d
+    → e ≡ get_or xs 4 e → map f xs ≡ f a ∷ f b ∷ f c ∷ f d ∷ f e ∷ []
+five_of f [] a b c d e h p q r s t = absurd (omega (arith, h))
+five_of f (v ∷ []) a b c d e h p q r s t = absurd (omega (arith, h))
+five_of f (v ∷ w ∷ []) a b c d e h p q r s t = absurd (omega (arith, h))
+five_of f (v ∷ w ∷ x ∷ []) a b c d e h p q r s t = absurd (omega (arith, h))
+five_of f (v ∷ w ∷ x ∷ y ∷ []) a b c d e h p q r s t = absurd (omega (arith, h))
+five_of f (v ∷ w ∷ x ∷ y ∷ z ∷ []) a b c d e h p q r s t = rw (p, q, r, s, t) refl
+five_of f (v ∷ w ∷ x ∷ y ∷ z ∷ u ∷ rest) a b c d e h p q r s t = absurd (omega (arith, h))
+
+-- texts that test equal are equal
+pub same_bytes : (a b : List ℕ) → bytes_eq a b ≡ true → a ≡ b
+same_bytes a b h = (bytes_eq-Decides a b).0 h

@@ -1,0 +1,41 @@
+use Rattle.std.proofs.Common.{[], ◌∷◌, None, Some, ap, ◌∙◌, sym, subst}
+use Rattle.ds_machine.specs.States.{MachineState}
+use Rattle.ds_runs.specs.Runs.{Runs, At}
+use Rattle.ds_machine.specs.Reference.{reference}
+use Rattle.run_ahead.specs.Consoles.{ConsoleState}
+use Rattle.run_ahead.specs.Turns.{next_shown}
+use Rattle.run_ahead.specs.declared.turns.Turned.TheVariants as answers
+use Rattle.nds_top.proofs.Playing.{going_first, going_on, goes_down, ends_here}
+use Rattle.nds_top.proofs.plays.run_to.Goals as goal
+
+pub turns-init : goal.turns-init
+turns-init c = going_first c.args.until.0 c.args.console.now c.requires.open
+
+pub turns-preserved-in-Ran : goal.turns-preserved-in-Ran
+turns-preserved-in-Ran c =
+    let t = c.in-Ran.ensures.turn in
+    going_on c.args.until.0 c.args.console.now c.turns.console c.turn.new.self answers.Ran [] c.turns.invariant t t.0 t.2 (c.in-Ran.ensures.runs t.0)
+
+pub turns-preserved : goal.turns-preserved
+turns-preserved c =
+    let t = c.in-Frame.ensures.turn in
+    going_on c.args.until.0 c.args.console.now c.turns.console c.turn.new.self (answers.Frame c.in-Frame.swapped) (next_shown c.turns.console.machine c.in-Frame.swapped ∷ []) c.turns.invariant t t.0 t.2 (c.in-Frame.ensures.runs t.0)
+
+pub returns-in-Stopped : goal.returns-in-Stopped
+returns-in-Stopped c =
+    let open_ = c.turns.invariant.still_open in
+    let t = c.in-Stopped.ensures.turn.0 open_ in
+    ends_here c.args.until.0 c.args.console.now c.turns.console c.turn.new.self (answers.Stopped c.in-Stopped.left) (Some c.in-Stopped.left) c.turns.invariant c.in-Stopped.ensures.turn
+    (ap (λ (x : ConsoleState). x.stopped) t.1) (ap (λ (x : ConsoleState). x.limit) t.1) (c.in-Stopped.ensures.runs open_)
+
+pub returns-in-AtEnd : goal.returns-in-AtEnd
+returns-in-AtEnd c =
+    let t = c.in-AtEnd.ensures.turn in
+    let before = c.turns.console in
+    let P : MachineState → Type 0 = λ x. Runs reference c.args.until.0 (At x) before.machine [] in
+    ends_here c.args.until.0 c.args.console.now before c.turn.new.self answers.AtEnd None c.turns.invariant t
+    (ap (λ (x : ConsoleState). x.stopped) t.2 ∙ t.0) (ap (λ (x : ConsoleState). x.limit) t.2)
+    (subst P (sym (ap (λ (x : ConsoleState). x.machine) t.2)) (c.in-AtEnd.ensures.runs t.0))
+
+pub turns-smaller-in-Ran : goal.turns-smaller-in-Ran
+turns-smaller-in-Ran c = goes_down c.args.until.0 c.turns.console.machine c.turn.new.self.machine [] c.in-Ran.ensures.turn.1

@@ -1,0 +1,80 @@
+use Rattle.std.specs.Prelude.{ℕ, ◌+◌, List, [], ◌∷◌, ◌++◌, flat_map, codes}
+use Rattle.byteorder.specs.Endian.{little_bytes}
+use Rattle.ds_base.specs.declared.left_out.LeftOut.{LeftOut}
+use Rattle.ds_base.specs.declared.left_out.LeftKind.{LeftKind}
+use Rattle.ds_base.specs.declared.left_out.LeftKind.TheVariants.{NotYet, Swi, BigEndian, HaltMode, DmaStart, CardTransfer, DisplayMode, BgMode, Capture, Mosaic, ExtendedBackground, BitmapObject}
+use Rattle.ds_base.specs.declared.memories.Memory.{Memory}
+use Rattle.ds_base.specs.declared.memories.Memory.TheVariants.{Main, Shared, Own7, Itcm, Dtcm, Palette, Vram, Oam}
+use Rattle.ds_base.specs.declared.processors.Proc.TheVariants.{Nine, Seven}
+use Rattle.ds_runs.specs.Runs.{Ending, At, Stopped}
+use Rattle.ds_machine.specs.States.{MachineState}
+use Rattle.ds_machine.specs.Observed.{memory_of, processor_of}
+use Rattle.ds_machine.specs.Reference.{Shown}
+use Rattle.nds_top.specs.declared.commands.Keep.{Keep}
+use Rattle.nds_top.specs.declared.commands.Keep.TheVariants.{Nothing}
+
+-- What a run writes (our choice of records). All numbers are little-endian.
+
+-- numbers of 8 bytes each, and of 4 bytes each
+unfoldable pub longs : List ℕ → List ℕ
+longs numbers = flat_map (little_bytes 8) numbers
+
+unfoldable pub words : List ℕ → List ℕ
+words numbers = flat_map (little_bytes 4) numbers
+
+-- the memories, in the order in which they are written
+abbrev pub all_memories : List Memory
+all_memories = Main ∷ Shared ∷ Own7 ∷ Itcm ∷ Dtcm ∷ Palette ∷ Vram ∷ Oam ∷ []
+
+unfoldable pub memory_bytes : MachineState → List ℕ
+memory_bytes s = flat_map (memory_of s) all_memories
+
+-- the record of memories: 'M', the eight memories, ARM9's registers, ARM7's registers
+abbrev pub lettered_memories : MachineState → List ℕ
+lettered_memories s = codes "M" ++ memory_bytes s
+
+abbrev pub both_registers : MachineState → List ℕ
+both_registers s = words (processor_of s Nine).registers ++ words (processor_of s Seven).registers
+
+abbrev pub memory_record : MachineState → List ℕ
+memory_record s = lettered_memories s ++ both_registers s
+
+-- the record of the end: 'E', the tick run to, and how many steps ARM9, ARM7 and the other actors took, and in how many turns;
+-- so far each step is a turn
+abbrev pub end_record : ℕ → MachineState → List ℕ
+end_record until s =
+    let nine = s.nine.processor.steps in
+    let seven = s.seven.processor.steps in
+    codes "E" ++ longs (until ∷ nine ∷ seven ∷ s.events ∷ (nine + seven + s.events) ∷ [])
+
+-- the number of each kind of stop
+abbrev pub kind_number : LeftKind → ℕ
+kind_number NotYet = 1
+kind_number Swi = 2
+kind_number BigEndian = 3
+kind_number HaltMode = 4
+kind_number DmaStart = 5
+kind_number CardTransfer = 6
+kind_number DisplayMode = 7
+kind_number BgMode = 8
+kind_number Capture = 9
+kind_number Mosaic = 10
+kind_number ExtendedBackground = 11
+kind_number BitmapObject = 12
+
+-- the record of a stop: 'X', the tick, the actor's rank, the kind, the value
+abbrev pub stop_record : LeftOut → List ℕ
+stop_record left = codes "X" ++ longs (left.tick.0 ∷ []) ++ (left.rank ∷ kind_number left.kind ∷ words (left.value ∷ []))
+
+-- the records of what a run put out, as far as it is kept
+abbrev pub shown : Keep → List Shown → List ℕ
+shown Nothing outs = []
+
+-- what comes after them
+abbrev pub last_records : ℕ → Ending MachineState LeftOut → List ℕ
+last_records until (At s) = memory_record s ++ end_record until s
+last_records until (Stopped left) = stop_record left
+
+-- what a run to a tick writes
+abbrev pub output_of : ℕ → Keep → Ending MachineState LeftOut → List Shown → List ℕ
+output_of until keep end outs = shown keep outs ++ last_records until end

@@ -1,0 +1,38 @@
+use Rattle.std.specs.Prelude.{ℕ, ◌≡◌, ◌≢◌, ◌≤◌, ◌<◌, List, [], ◌∷◌, length, codes, slice_index_or}
+use Rattle.std.specs.Fmt.{decimal}
+use Rattle.nds_top.specs.declared.commands.Keep.{Keep}
+use Rattle.nds_top.specs.declared.commands.Keep.TheVariants.{Nothing}
+
+-- Which words a command line may have. The rule is the writer: each thing that may be asked for has its one list of words, and
+-- `decimal` writes a number in digits without a leading zero. (Our choice of commands.)
+
+-- what may be asked for: to run a cartridge, with no key script, to a tick, and what to write
+pub data Asked : Type 0 where
+  AskRun : List ℕ → ℕ → Keep → Asked
+
+abbrev pub keep_word : Keep → List ℕ
+keep_word Nothing = codes "none"
+
+-- the words that ask for it: the command, and each of its words
+abbrev pub words_of : Asked → List (List ℕ)
+words_of (AskRun cart ticks keep) = codes "run" ∷ cart ∷ codes "none" ∷ decimal ticks ∷ keep_word keep ∷ []
+
+-- a word begins as numbers do
+abbrev pub BeginsNumber : List ℕ → Type 0
+BeginsNumber word = (0 < length word) × (48 ≤ slice_index_or word 0 0) × (slice_index_or word 0 0 ≡ 48 → length word ≤ 1)
+
+-- a word that may name a file: it isn't empty and doesn't begin with '-'
+abbrev pub IsName : List ℕ → Type 0
+IsName word = (0 < length word) × (slice_index_or word 0 0 ≢ 45)
+
+-- what is in its range
+abbrev pub IsAllowed : Asked → Type 0
+IsAllowed (AskRun cart ticks keep) = IsName cart × (1 ≤ ticks) × (ticks ≤ 100000000000)
+
+-- the words ask for this
+abbrev pub Asks : List (List ℕ) → Asked → Type 0
+Asks words asked = (words ≡ words_of asked) × IsAllowed asked
+
+-- they ask for nothing
+abbrev pub AskNothing : List (List ℕ) → Type 0
+AskNothing words = (asked : Asked) → ¬ Asks words asked

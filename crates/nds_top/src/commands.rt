@@ -1,0 +1,106 @@
+//! What the words of a command line ask for.
+
+ghost use Rattle.std.specs.Prelude.{◌≡◌, ◌≢◌, ◌≤◌, ◌<◌, ◌↔◌, ℕ, IfSome, IfNone, IsTrue, codes, [], ◌∷◌, map};
+ghost use Rattle.std.specs.String.{string_bytes};
+ghost use Rattle.std.specs.Fmt.{decimal};
+ghost use Rattle.nds_top.specs.Words.{IsName, BeginsNumber, Asks, AskNothing, keep_word};
+ghost use Rattle.nds_top.specs.Commands.{asked_by};
+
+/// The greatest tick to which a run may be asked for.
+const MOST_TICKS: u64 = 100_000_000_000;
+
+/// Which frames and lists of a run are written.
+#[derive(Clone, Copy, PartialEq, Eq, Debug)]
+pub enum Keep {
+    /// None of them.
+    Nothing,
+}
+
+/// What the words ask for: to run a cartridge to a tick, in ticks, and what to write.
+#[derive(Clone, Copy)]
+pub(crate) struct Run<'a> {
+    pub(crate) cart: &'a str,
+    pub(crate) ticks: u64,
+    pub(crate) keep: Keep,
+}
+
+/// Whether a word begins as numbers do: with a digit, and with 0 only where nothing follows.
+fn begins_number(word: &str) -> bool
+    ensures { IsTrue result ↔ BeginsNumber word.now }
+{
+    let bytes = word.as_bytes();
+    !bytes.is_empty() && bytes[0] >= b'0' && (bytes[0] != b'0' || bytes.len() <= 1)
+}
+
+/// The number from least to most that a word writes in decimal, with no leading zero.
+fn number(word: &str, least: u64, most: u64) -> Option<u64>
+    ensures some { IfSome result (λ n. (word.now ≡ decimal n) × (least ≤ n) × (n ≤ most)) }
+    ensures none { IfNone result ((n : ℕ) → least ≤ n → n ≤ most → word.now ≢ decimal n) }
+{
+    if !begins_number(word) {
+        return None;
+    }
+    let Ok(n) = word.parse::<u64>() else {
+        return None;
+    };
+    if n < least || most < n {
+        return None;
+    }
+    Some(n)
+}
+
+/// Whether a word may name a file.
+fn is_name(word: &str) -> bool
+    ensures { IsTrue result ↔ IsName word.now }
+{
+    let bytes = word.as_bytes();
+    !bytes.is_empty() && bytes[0] != b'-'
+}
+
+/// What is kept, by its word.
+fn keep_of(word: &str) -> Option<Keep>
+    ensures some { IfSome result (λ keep. word.now ≡ keep_word keep) }
+    ensures none { IfNone result ((keep : Keep) → word.now ≢ keep_word keep) }
+{
+    if word == "none" {
+        Some(Keep::Nothing)
+    } else {
+        None
+    }
+}
+
+/// What the words after `run` ask for.
+fn run_of<'a>(cart: &'a str, keys: &str, ticks: &str, keep: &str) -> Option<Run<'a>>
+    ensures some { IfSome result (λ c. Asks (codes "run" ∷ cart.entry.now ∷ keys.now ∷ ticks.now ∷ keep.now ∷ []) (asked_by c)) }
+    ensures none { IfNone result (AskNothing (codes "run" ∷ cart.entry.now ∷ keys.now ∷ ticks.now ∷ keep.now ∷ [])) }
+{
+    if !is_name(cart) {
+        return None;
+    }
+    if keys != "none" {
+        return None;
+    }
+    let Some(ticks) = number(ticks, 1, MOST_TICKS) else {
+        return None;
+    };
+    let Some(keep) = keep_of(keep) else {
+        return None;
+    };
+    Some(Run { cart, ticks, keep })
+}
+
+/// What the words ask for, where they ask for something.
+pub(crate) fn read_words(words: &[String]) -> Option<Run<'_>>
+    ensures some { IfSome result (λ c. Asks (map string_bytes words.entry.now) (asked_by c)) }
+    ensures none { IfNone result (AskNothing (map string_bytes words.entry.now)) }
+{
+    if words.len() == 5 && words[0].as_str() == "run" {
+        return run_of(
+            words[1].as_str(),
+            words[2].as_str(),
+            words[3].as_str(),
+            words[4].as_str(),
+        );
+    }
+    None
+}

@@ -1,0 +1,46 @@
+//! Numbers as bytes, little-endian.
+
+ghost use Rattle.std.specs.Prelude.{◌≡◌, ◌∷◌, []};
+ghost use Rattle.nds_top.specs.Records.{longs, words};
+
+use byteorder::{ByteOrder, LittleEndian};
+
+/// The 8 bytes of a number.
+#[tactic(auto, unfolding(crate::specs::Records::longs))]
+pub(crate) fn long_bytes(value: u64) -> [u8; 8]
+    ensures { result ≡ longs (value ∷ []) }
+{
+    let mut bytes = [0; 8];
+    LittleEndian::write_u64_into(&[value], &mut bytes);
+    bytes
+}
+
+/// The 8 bytes of each of five numbers.
+#[tactic(auto, unfolding(crate::specs::Records::longs))]
+pub(crate) fn five_longs(values: &[u64; 5]) -> [u8; 40]
+    ensures { result ≡ longs values.now }
+{
+    let mut bytes = [0; 40];
+    LittleEndian::write_u64_into(values, &mut bytes);
+    bytes
+}
+
+/// The 4 bytes of a number.
+#[tactic(auto, unfolding(crate::specs::Records::words))]
+pub(crate) fn word_bytes(value: u32) -> [u8; 4]
+    ensures { result ≡ words (value ∷ []) }
+{
+    let mut bytes = [0; 4];
+    LittleEndian::write_u32_into(&[value], &mut bytes);
+    bytes
+}
+
+/// The 4 bytes of each of a processor's registers.
+#[tactic(auto, unfolding(crate::specs::Records::words))]
+pub(crate) fn register_bytes(registers: &[u32; 37]) -> [u8; 148]
+    ensures { result ≡ words registers.now }
+{
+    let mut bytes = [0; 148];
+    LittleEndian::write_u32_into(registers, &mut bytes);
+    bytes
+}

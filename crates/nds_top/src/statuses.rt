@@ -1,0 +1,47 @@
+//! How a call ends.
+
+ghost use Rattle.std.specs.Prelude.{◌≡◌};
+ghost use Rattle.nds_top.specs.Statuses.{number_of};
+
+use ds_base::LeftOut;
+use ds_header::HeaderFault;
+
+/// How a call ends. (Our choice.)
+#[derive(Clone, Copy, PartialEq, Eq, Debug)]
+pub enum Status {
+    /// The command ended.
+    Done,
+    /// The words ask for nothing.
+    Usage,
+    /// There is no file of the name.
+    NoFile,
+    /// A call of the shelf failed.
+    ReadFault,
+    /// A call of the output's sink failed; a front of the output is written.
+    WriteFault,
+    /// A file is longer than it may be.
+    TooLong,
+    /// The cartridge's header breaks a rule: the first that it breaks.
+    BadHeader(HeaderFault),
+    /// The run came to a step that needs what is left out.
+    LeftOut(LeftOut),
+    /// There was no memory; nothing was written.
+    NoMemory,
+}
+
+/// The number that the program ends with.
+pub fn number(status: &Status) -> u8
+    ensures { result ≡ number_of status.now }
+{
+    match status {
+        Status::Done => 0,
+        Status::Usage => 2,
+        Status::NoFile => 3,
+        Status::ReadFault => 4,
+        Status::WriteFault => 5,
+        Status::TooLong => 6,
+        Status::BadHeader(_) => 7,
+        Status::LeftOut(_) => 9,
+        Status::NoMemory => 12,
+    }
+}

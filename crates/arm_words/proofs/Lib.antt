@@ -1,0 +1,17 @@
+pub mod ArmBranches
+pub mod ArmData
+pub mod ArmDouble
+pub mod ArmMultiplies
+pub mod ArmTransfers
+pub mod CanonicalLaws
+pub mod Digits
+pub mod Facts
+pub mod Halves
+pub mod Laws
+pub mod Masks
+pub mod Names
+pub mod PartLaws
+pub mod Rotations
+pub mod Splits
+pub mod Stages
+pub mod ThumbLaws

@@ -1,0 +1,12 @@
+pub mod ArmTable
+pub mod Bits
+pub mod Canonical
+pub mod Fields
+pub mod HighOperations
+pub mod Operations
+pub mod Parts
+pub mod Rows
+pub mod Spellings
+pub mod ThumbImmediates
+pub mod ThumbOperations
+pub mod ThumbTable

@@ -1,0 +1,28 @@
+use Rattle.std.specs.Prelude.{ℕ, List, ◌++◌, codes, Option, Some, None}
+use Rattle.ds_base.specs.declared.processors.Arch.{Arch}
+use Rattle.arm_words.specs.Canonical.{canonical}
+use Rattle.arm_words.specs.declared.instructions.Instr.{Instr}
+use Rattle.arm_words.specs.declared.spellings.Spelling.{Spelling}
+use Rattle.arm_words.specs.declared.spellings.Spelling.TheVariants.{Word, Half}
+use Rattle.asm_text.specs.declared.sets.Set.{Set}
+use Rattle.asm_text.specs.declared.sets.Set.TheVariants.{Arm, Thumb}
+use Rattle.asm_text.specs.Text.{digits}
+use Rattle.asm_text.specs.Statements.{statement}
+
+-- a number as a word or half of a set
+abbrev pub spelling : Set → ℕ → Spelling
+spelling Arm word = Word word
+spelling Thumb word = Half word
+
+-- a word or half itself, with all its digits (our choice)
+abbrev pub raw : Spelling → List ℕ
+raw (Word word) = codes ".word 0x" ++ digits 8 word
+raw (Half half) = codes ".half 0x" ++ digits 4 half
+
+abbrev pub stated : ℕ → Spelling → Option Instr → List ℕ
+stated at s None = raw s
+stated at s (Some instr) = statement at instr
+
+-- the statement of a word or half at an address: that of its instruction where it is canonical, otherwise the number itself
+abbrev pub listed : Arch → Set → ℕ → ℕ → List ℕ
+listed arch set at word = stated at (spelling set word) (canonical arch (spelling set word))

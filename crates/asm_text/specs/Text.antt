@@ -1,0 +1,56 @@
+use Rattle.std.specs.Prelude.{ℕ, zero, suc, ◌+◌, ◌/◌, ◌%◌, ◌^◌, ◌==◌, nat_lt, List, [], ◌∷◌, ◌++◌, codes, Bool, if◌then◌else◌}
+use Rattle.arm_words.specs.Bits.{bit}
+
+-- texts, each after a mark
+abbrev pub preceded : List ℕ → List (List ℕ) → List ℕ
+preceded mark [] = []
+preceded mark (x ∷ xs) = mark ++ (x ++ preceded mark xs)
+
+-- texts with a mark between each two
+abbrev pub joined : List ℕ → List (List ℕ) → List ℕ
+joined mark [] = []
+joined mark (x ∷ xs) = x ++ preceded mark xs
+
+-- a text that stands only where a bit is set
+abbrev pub where_set : Bool → List ℕ → List ℕ
+where_set b text = if b then text else []
+
+-- numbers are written in hexadecimal with lower-case digits, after 0x and without leading zeros (our choice)
+abbrev pub digit : ℕ → ℕ
+digit d = if nat_lt d 10 then 48 + d else 87 + d
+
+-- the last `count` digits of a number
+abbrev pub digits : ℕ → ℕ → List ℕ
+digits zero n = []
+digits (suc count) n = digit (n / 16 ^ count % 16) ∷ digits count n
+
+abbrev pub trimmed : List ℕ → List ℕ
+trimmed [] = []
+trimmed (d ∷ []) = d ∷ []
+trimmed (d ∷ e ∷ ds) = if d == 48 then trimmed (e ∷ ds) else d ∷ e ∷ ds
+
+abbrev pub hex : ℕ → List ℕ
+hex n = codes "0x" ++ trimmed (digits 8 n)
+
+-- a number as an operand
+abbrev pub number : ℕ → List ℕ
+number n = codes "#" ++ hex n
+
+-- the numbers in names, which are below 16, are decimal
+abbrev pub decimal : ℕ → List ℕ
+decimal n = if nat_lt n 10 then (48 + n) ∷ [] else 49 ∷ (38 + n) ∷ []
+
+abbrev pub register : ℕ → List ℕ
+register n = codes "r" ++ decimal n
+
+-- of `left` registers from `r` on those whose bits are set, ascending
+abbrev pub registers : ℕ → ℕ → ℕ → List (List ℕ)
+registers zero r list = []
+registers (suc left) r list = if bit r list then register r ∷ registers left (r + 1) list else registers left (r + 1) list
+
+-- a list of registers, whose bits are those of `list`
+unfoldable pub members : ℕ → List ℕ
+members list = joined (codes ",") (registers 16 0 list)
+
+abbrev pub register_list : ℕ → List ℕ
+register_list list = codes "{" ++ (members list ++ codes "}")

@@ -1,0 +1,21 @@
+//! Words and halves as statements of assembly: one line of text for each word or half at an address, which is its instruction's
+//! statement where it is canonical, and the number itself otherwise. `specs/` has the text of each statement.
+#![tactic(auto)]
+
+mod addresses;
+mod arm;
+mod lines;
+mod listing;
+mod names;
+mod operands;
+mod parts;
+mod registers;
+mod sets;
+mod statements;
+#[cfg(test)]
+mod tests;
+mod thumb;
+
+pub use lines::Line;
+pub use listing::list_word;
+pub use sets::Set;

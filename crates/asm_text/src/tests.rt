@@ -1,0 +1,26 @@
+//! Statements written by hand from the ARM manual's encodings: for each row of both tables one, and the edges of what is canonical.
+
+mod arm;
+mod thumb;
+
+use crate::{Line, Set, list_word};
+use ds_base::Arch;
+use std::process::Abort;
+
+const AT: u32 = 0x200_0000;
+
+fn lists_words(rt: &impl Abort, arch: Arch, rows: &[(u32, &str)]) {
+    let mut line = Line::new();
+    for (word, text) in rows {
+        list_word(arch, Set::Arm, AT, *word, &mut line);
+        assert!(rt; line.bytes() == text.as_bytes(), "at {word:#X}");
+    }
+}
+
+fn lists_halves(rt: &impl Abort, arch: Arch, rows: &[(u16, &str)]) {
+    let mut line = Line::new();
+    for (half, text) in rows {
+        list_word(arch, Set::Thumb, AT, *half as u32, &mut line);
+        assert!(rt; line.bytes() == text.as_bytes(), "at {half:#X}");
+    }
+}

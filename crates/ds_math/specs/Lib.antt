@@ -1,0 +1,3 @@
+pub mod Dividers
+pub mod Division
+pub mod Roots

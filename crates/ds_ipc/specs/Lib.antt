@@ -1,0 +1,2 @@
+pub mod Ipcs
+pub mod Sides

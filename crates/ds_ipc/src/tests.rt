@@ -1,0 +1,122 @@
+//! What no clause says: the walk of a full FIFO, and each interrupt raised once and not raised once.
+
+use crate::{Got, Ipc};
+use ds_base::{Proc, Raised};
+use std::test::Fail;
+
+const NONE: Raised = Raised { nine: 0, seven: 0 };
+
+#[test]
+fn the_seventeenth_word_is_lost_and_an_empty_fifo_gives_the_last_one(
+    rt: HostRuntime,
+) -> Result<(), Fail> {
+    let mut ipc = Ipc::new(rt.alloc())?;
+    ipc.control_write(Proc::Nine, 0x8000);
+    ipc.control_write(Proc::Seven, 0x8000);
+    for word in 1..18u32 {
+        assert_eq!(rt; ipc.send(Proc::Nine, word), NONE, "word {word}");
+    }
+    assert_eq!(rt; ipc.control_read(Proc::Nine), 0xC102);
+    assert_eq!(rt; ipc.control_read(Proc::Seven), 0x8201);
+    for word in 1..19u32 {
+        assert_eq!(rt;
+            ipc.receive(Proc::Seven),
+            Got {
+                word: word.min(16),
+                raised: NONE
+            },
+            "word {word}"
+        );
+    }
+    assert_eq!(rt; ipc.control_read(Proc::Seven), 0xC101);
+    assert_eq!(rt; ipc.control_read(Proc::Nine), 0xC101);
+    ipc.control_write(Proc::Seven, 0xC000);
+    assert_eq!(rt; ipc.control_read(Proc::Seven), 0x8101);
+    Ok(())
+}
+
+#[test]
+fn a_clear_empties_the_fifo_and_the_word_received_last(rt: HostRuntime) -> Result<(), Fail> {
+    let mut ipc = Ipc::new(rt.alloc())?;
+    ipc.control_write(Proc::Nine, 0x8000);
+    ipc.control_write(Proc::Seven, 0x8000);
+    ipc.send(Proc::Nine, 7);
+    ipc.send(Proc::Nine, 8);
+    assert_eq!(rt; ipc.receive(Proc::Seven).word, 7);
+    ipc.control_write(Proc::Seven, 0);
+    assert_eq!(rt; ipc.receive(Proc::Seven).word, 8);
+    assert_eq!(rt; ipc.receive(Proc::Seven).word, 8);
+    ipc.control_write(Proc::Nine, 8);
+    assert_eq!(rt; ipc.control_read(Proc::Nine), 0x101);
+    assert_eq!(rt; ipc.receive(Proc::Seven).word, 0);
+    assert_eq!(rt; ipc.control_read(Proc::Seven), 0x101);
+    assert_eq!(rt; ipc.send(Proc::Nine, 9), NONE);
+    assert_eq!(rt; ipc.control_read(Proc::Nine), 0x101);
+    Ok(())
+}
+
+#[test]
+fn the_sync_interrupt_asks_both_sides(rt: HostRuntime) -> Result<(), Fail> {
+    let mut ipc = Ipc::new(rt.alloc())?;
+    assert_eq!(rt; ipc.sync_write(Proc::Nine, 0x2A0F), NONE);
+    assert_eq!(rt; ipc.sync_write(Proc::Seven, 0x4500), NONE);
+    assert_eq!(rt; ipc.sync_read(Proc::Nine), 0x0A05);
+    assert_eq!(rt; ipc.sync_read(Proc::Seven), 0x450A);
+    assert_eq!(rt; ipc.sync_write(Proc::Nine, 0x0300), NONE);
+    assert_eq!(rt;
+        ipc.sync_write(Proc::Nine, 0x2300),
+        Raised {
+            nine: 0,
+            seven: 0x1_0000
+        }
+    );
+    Ok(())
+}
+
+#[test]
+fn each_fifo_interrupt_is_raised_where_its_enable_asks_for_it(rt: HostRuntime) -> Result<(), Fail> {
+    let mut ipc = Ipc::new(rt.alloc())?;
+    let empty = Raised {
+        nine: 0x2_0000,
+        seven: 0,
+    };
+    let filled = Raised {
+        nine: 0,
+        seven: 0x4_0000,
+    };
+    assert_eq!(rt; ipc.control_write(Proc::Nine, 0x8004), empty);
+    assert_eq!(rt; ipc.control_write(Proc::Nine, 0x8004), NONE);
+    assert_eq!(rt; ipc.control_write(Proc::Seven, 0x8400), NONE);
+    assert_eq!(rt; ipc.send(Proc::Nine, 1), filled);
+    assert_eq!(rt; ipc.send(Proc::Nine, 2), NONE);
+    assert_eq!(rt;
+        ipc.receive(Proc::Seven),
+        Got {
+            word: 1,
+            raised: NONE
+        }
+    );
+    assert_eq!(rt;
+        ipc.receive(Proc::Seven),
+        Got {
+            word: 2,
+            raised: empty
+        }
+    );
+    assert_eq!(rt;
+        ipc.receive(Proc::Seven),
+        Got {
+            word: 2,
+            raised: NONE
+        }
+    );
+    assert_eq!(rt; ipc.control_write(Proc::Nine, 0x800C), NONE);
+    ipc.control_write(Proc::Nine, 0x8000);
+    ipc.control_write(Proc::Seven, 0x8000);
+    assert_eq!(rt; ipc.send(Proc::Nine, 3), NONE);
+    assert_eq!(rt; ipc.control_write(Proc::Seven, 0x8400), filled);
+    assert_eq!(rt; ipc.control_write(Proc::Seven, 0x8400), NONE);
+    assert_eq!(rt; ipc.control_write(Proc::Nine, 0x8004), NONE);
+    assert_eq!(rt; ipc.control_write(Proc::Nine, 0x800C), empty);
+    Ok(())
+}

@@ -1,0 +1,3 @@
+pub mod Four
+pub mod Kept
+pub mod Later

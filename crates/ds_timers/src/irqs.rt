@@ -1,0 +1,118 @@
+//! The interrupt words of one processor.
+
+ghost use Rattle.std.specs.Prelude.{◌≡◌};
+ghost use Rattle.ds_timers.specs.Irqs.{IrqState, irq_at_boot, shares_bit, line_is_up, events, irq_raised, irq_acked, irq_levelled};
+
+use std::marker::Model;
+
+/// Interrupt 21, geometry FIFO, which is a level and no event.
+const LEVEL: u32 = 0x20_0000;
+
+/// IME, IE and IF of one processor. Contracts see the three.
+#[derive(Drop)]
+pub struct Irq {
+    master: bool,
+    enabled: u32,
+    flags: u32,
+}
+
+impl Model for Irq {
+    ghost use Rattle.ds_timers.specs.Irqs.{IrqState};
+
+    ghost Value = { IrqState };
+
+    ghost view = { λ i. record { master = i.master; enabled = i.enabled; flags = i.flags } };
+}
+
+fn events(bits: u32) -> u32
+    ensures { result ≡ events bits }
+{
+    bits & !LEVEL
+}
+
+impl Irq {
+    /// The words at boot: all 0.
+    pub fn new() -> Irq
+        ensures { result ≡ irq_at_boot }
+    {
+        Irq {
+            master: false,
+            enabled: 0,
+            flags: 0,
+        }
+    }
+
+    /// Whether the line to the processor is up: IME is set, and IE and IF share a bit.
+    pub fn line(&self) -> bool
+        ensures { result ≡ line_is_up self.now }
+    {
+        self.master && self.wakes()
+    }
+
+    /// Whether a halted processor wakes: IE and IF share a bit, whatever IME is.
+    pub fn wakes(&self) -> bool
+        ensures { result ≡ shares_bit self.now }
+    {
+        self.enabled & self.flags != 0
+    }
+
+    /// IE.
+    pub fn enabled(&self) -> u32
+        ensures { result ≡ self.now.enabled }
+    {
+        self.enabled
+    }
+
+    /// IF.
+    pub fn flags(&self) -> u32
+        ensures { result ≡ self.now.flags }
+    {
+        self.flags
+    }
+
+    /// IME bit 0.
+    pub fn master(&self) -> bool
+        ensures { result ≡ self.now.master }
+    {
+        self.master
+    }
+
+    /// Events set their bits of IF. Bit 21 is no event's and stays.
+    pub fn raise(&mut self, bits: u32)
+        ensures { self.new ≡ irq_raised self.old bits }
+    {
+        self.flags |= events(bits);
+    }
+
+    /// A write of IF: the bits that are 1 are cleared, but for bit 21, which only its level changes.
+    pub fn ack(&mut self, bits: u32)
+        ensures { self.new ≡ irq_acked self.old bits }
+    {
+        self.flags &= !events(bits);
+    }
+
+    /// A write of IE, as the port keeps it.
+    pub fn set_enabled(&mut self, bits: u32)
+        ensures { self.new ≡ record self.old { enabled = bits } }
+    {
+        self.enabled = bits;
+    }
+
+    /// A write of IME's bit 0.
+    pub fn set_master(&mut self, on: bool)
+        ensures { self.new ≡ record self.old { master = on } }
+    {
+        self.master = on;
+    }
+
+    /// Bit 21 of IF is set or clear from now on, until the next such call.
+    pub fn level21(&mut self, on: bool)
+        ensures { self.new ≡ irq_levelled self.old on }
+    {
+        self.flags = if on {
+            self.flags | LEVEL
+        } else {
+            events(self.flags)
+        };
+    }
+}

@@ -1,0 +1,12 @@
+//! What each address names, as either processor sees it: the two address tables of the console (GBATEK, "DS Memory Map" and
+//! "DS Memory Control - WRAM"), past ARM9's tightly coupled memories.
+#![tactic(auto)]
+
+mod kinds;
+mod tables;
+
+pub use kinds::Place;
+pub use tables::place;
+
+#[cfg(test)]
+mod tests;

@@ -1,0 +1,5 @@
+pub mod Cases
+pub mod CellLemmas
+pub mod MapLaws
+pub mod PageLemmas
+pub mod SetLaws

@@ -1,0 +1,143 @@
+use Rattle.std.specs.Prelude.{ℕ, ◌≡◌, ◌<◌, ◌+◌, ◌*◌, ◌/◌, ◌%◌, ◌^◌, ◌==◌, ◌||◌, nat_lt, if◌then◌else◌, List, [], ◌∷◌, Option, Some, None, slice_index}
+use Rattle.ds_base.specs.declared.memories.Space.{Space}
+use Rattle.ds_base.specs.declared.memories.Space.TheVariants.{ABg, BBg, AObj, BObj, Lcdc, Arm7, ABgPalette, BBgPalette, AObjPalette, BObjPalette}
+
+-- The bank map (GBATEK, "DS Memory Control - VRAM", the table of VRAM bank control registers). Banks are numbered from 0, which
+-- is A, to 8, which is I.
+
+-- how many bytes a space has
+abbrev pub size_of : Space → ℕ
+size_of ABg = 0x80000
+size_of BBg = 0x20000
+size_of AObj = 0x40000
+size_of BObj = 0x20000
+size_of Lcdc = 0x100000
+size_of Arm7 = 0x40000
+size_of ABgPalette = 0x8000
+size_of BBgPalette = 0x8000
+size_of AObjPalette = 0x2000
+size_of BObjPalette = 0x2000
+
+-- where each bank's bytes begin in the memory of all nine: A to D have 128K each, E 64K, F and G 16K each, H 32K, I 16K
+unfoldable pub first_cell : ℕ → ℕ
+first_cell bank =
+    if nat_lt bank 4 then bank * 0x20000 else (
+    if bank == 4 then 0x80000 else (
+    if bank == 5 then 0x90000 else (
+    if bank == 6 then 0x94000 else (
+    if bank == 7 then 0x98000 else 0xA0000))))
+
+-- a row of a bank's table: an MST, the space in which the bank stands with it, the address there, what bit 0 and what bit 1 of
+-- OFS add to that address, and how many of the bank's bytes stand there, from its first on
+pub record Row : Type 0 where
+  pub mst : ℕ
+  pub space : Space
+  pub base : ℕ
+  pub ofs_0 : ℕ
+  pub ofs_1 : ℕ
+  pub size : ℕ
+
+abbrev pub row : ℕ → Space → ℕ → ℕ → ℕ → ℕ → Row
+row mst space base ofs_0 ofs_1 size = record { mst = mst; space = space; base = base; ofs_0 = ofs_0; ofs_1 = ofs_1; size = size }
+
+-- An MST that has no row maps a bank nowhere; so do those of textures and their palettes, which no processor sees.
+
+-- A and B
+abbrev pub rows_of_ab : ℕ → List Row
+rows_of_ab lcdc =
+    row 0 Lcdc lcdc 0 0 0x20000
+    ∷ row 1 ABg 0 0x20000 0x40000 0x20000
+    ∷ row 2 AObj 0 0x20000 0 0x20000
+    ∷ []
+
+-- C and D, which differ in the space of MST 4
+abbrev pub rows_of_cd : ℕ → Space → List Row
+rows_of_cd lcdc fourth =
+    row 0 Lcdc lcdc 0 0 0x20000
+    ∷ row 1 ABg 0 0x20000 0x40000 0x20000
+    ∷ row 2 Arm7 0 0x20000 0 0x20000
+    ∷ row 4 fourth 0 0 0 0x20000
+    ∷ []
+
+-- E; of its 64K the first 32K serve as palettes
+abbrev pub rows_of_e : List Row
+rows_of_e =
+    row 0 Lcdc 0x80000 0 0 0x10000
+    ∷ row 1 ABg 0 0 0 0x10000
+    ∷ row 2 AObj 0 0 0 0x10000
+    ∷ row 4 ABgPalette 0 0 0 0x8000
+    ∷ []
+
+-- F and G; of their 16K the first 8K serve as palettes of objects
+abbrev pub rows_of_fg : ℕ → List Row
+rows_of_fg lcdc =
+    row 0 Lcdc lcdc 0 0 0x4000
+    ∷ row 1 ABg 0 0x4000 0x10000 0x4000
+    ∷ row 2 AObj 0 0x4000 0x10000 0x4000
+    ∷ row 4 ABgPalette 0 0x4000 0 0x4000
+    ∷ row 5 AObjPalette 0 0 0 0x2000
+    ∷ []
+
+-- H
+abbrev pub rows_of_h : List Row
+rows_of_h =
+    row 0 Lcdc 0x98000 0 0 0x8000
+    ∷ row 1 BBg 0 0 0 0x8000
+    ∷ row 2 BBgPalette 0 0 0 0x8000
+    ∷ []
+
+-- I; of its 16K the first 8K serve as palettes of objects
+abbrev pub rows_of_i : List Row
+rows_of_i =
+    row 0 Lcdc 0xA0000 0 0 0x4000
+    ∷ row 1 BBg 0x8000 0 0 0x4000
+    ∷ row 2 BObj 0 0 0 0x4000
+    ∷ row 3 BObjPalette 0 0 0 0x2000
+    ∷ []
+
+abbrev pub rows_of : ℕ → List Row
+rows_of bank =
+    if bank == 0 then rows_of_ab 0x00000 else (
+    if bank == 1 then rows_of_ab 0x20000 else (
+    if bank == 2 then rows_of_cd 0x40000 BBg else (
+    if bank == 3 then rows_of_cd 0x60000 BObj else (
+    if bank == 4 then rows_of_e else (
+    if bank == 5 then rows_of_fg 0x90000 else (
+    if bank == 6 then rows_of_fg 0x94000 else (
+    if bank == 7 then rows_of_h else rows_of_i)))))))
+
+-- the row of an MST
+abbrev pub row_by : List Row → ℕ → Option Row
+row_by [] mst = None
+row_by (r ∷ rs) mst = if mst == r.mst then Some r else row_by rs mst
+
+-- a control's fields: bit 7 enables the bank, bits 3 and 4 are OFS, bits 0 to 2 are MST, of which A, B, H and I have only bits
+-- 0 and 1
+abbrev pub mst_of : ℕ → ℕ → ℕ
+mst_of bank control = if nat_lt bank 2 || nat_lt 6 bank then control % 4 else control % 8
+
+abbrev pub address_of : Row → ℕ → ℕ
+address_of r control = r.base + control / 2 ^ 3 % 2 * r.ofs_0 + control / 2 ^ 4 % 2 * r.ofs_1
+
+-- cell i of a bank stands at an address of a space by the bank's control
+pub record Stands (bank control i : ℕ) (space : Space) (at : ℕ) : Type 0 where
+  pub enabled : control / 2 ^ 7 % 2 ≡ 1
+  pub row : Row
+  pub by : row_by (rows_of bank) (mst_of bank control) ≡ Some row
+  pub in_space : row.space ≡ space
+  pub within : i < row.size
+  pub address : at ≡ address_of row control + i
+
+-- a bank stands somewhere in a space
+pub record StandsIn (bank control : ℕ) (space : Space) : Type 0 where
+  pub i : ℕ
+  pub at : ℕ
+  pub stands : Stands bank control i space at
+
+-- a byte of the memory of all nine banks is a cell that stands at an address of a space, by all controls
+pub record IsThere (controls : List ℕ) (space : Space) (at cell : ℕ) : Type 0 where
+  pub bank : ℕ
+  pub known : bank < 9
+  pub i : ℕ
+  pub stands : Stands bank (slice_index controls bank) i space at
+  pub number : cell ≡ first_cell bank + i

@@ -1,0 +1,4 @@
+pub mod BankMap
+pub mod Cells
+pub mod Flat
+pub mod Pages

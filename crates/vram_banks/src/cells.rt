@@ -1,0 +1,109 @@
+//! The bytes of all nine banks.
+
+ghost use Rattle.std.specs.Prelude.{◌≡◌, ◌<◌, ◌≤◌, ◌+◌, ◌-◌, ◌*◌, ◌/◌, ◌%◌, IfOk, slice_index, slice_range, slice_set, length};
+ghost use Rattle.ds_base.specs.declared.memories.Width.TheVariants.{Byte, Half, Word};
+ghost use Rattle.vram_banks.specs.Cells.{zeros, value_by, put_by};
+
+use crate::windows::CELLS;
+use std::alloc::{AllocError, Global};
+use std::marker::Model;
+
+/// The bytes of the nine banks, 656K in the order A to I. Contracts see the list of them.
+#[derive(Drop)]
+pub struct Cells {
+    bytes: Vec<u8>,
+}
+
+impl Model for Cells {
+    ghost use Rattle.std.specs.Prelude.{List, ℕ, length, ◌≡◌};
+
+    ghost Value = { List ℕ };
+
+    ghost view = { λ c. c.bytes.items };
+
+    ghost invariant = { λ c. length c.bytes.items ≡ 0xA4000 };
+}
+
+#[tactic(auto, unfolding(crate::specs::Cells::zeros))]
+fn zeroed(alloc: Global, count: usize) -> Result<Vec<u8>, AllocError>
+    ensures value { IfOk result (λ v. v.items ≡ zeros count) }
+    ensures long { IfOk result (λ v. length v.items ≡ count) }
+{
+    vec![in alloc; 0; count]
+}
+
+impl Cells {
+    /// All bytes are 0.
+    pub fn new(alloc: Global) -> Result<Cells, AllocError>
+        ensures { IfOk result (λ c. c ≡ zeros 0xA4000) }
+    {
+        let bytes = zeroed(alloc, CELLS)?;
+        Ok(Cells { bytes })
+    }
+
+    pub fn byte(&self, at: u32) -> u8
+        requires { at < 0xA4000 }
+        ensures { result ≡ slice_index self.now at }
+    {
+        self.bytes[at as usize]
+    }
+
+    pub fn half(&self, at: u32) -> u16
+        requires { at + 2 ≤ 0xA4000 }
+        ensures { result ≡ value_by Half (slice_index self.now) at }
+    {
+        let at = at as usize;
+        u16::from_le_bytes([self.bytes[at], self.bytes[at + 1]])
+    }
+
+    pub fn word(&self, at: u32) -> u32
+        requires { at + 4 ≤ 0xA4000 }
+        ensures { result ≡ value_by Word (slice_index self.now) at }
+    {
+        let at = at as usize;
+        u32::from_le_bytes([
+            self.bytes[at],
+            self.bytes[at + 1],
+            self.bytes[at + 2],
+            self.bytes[at + 3],
+        ])
+    }
+
+    pub fn put_byte(&mut self, at: u32, value: u8)
+        requires { at < 0xA4000 }
+        ensures { self.new ≡ slice_set self.old at value }
+    {
+        self.bytes[at as usize] = value;
+    }
+
+    pub fn put_half(&mut self, at: u32, value: u16)
+        requires { at + 2 ≤ 0xA4000 }
+        ensures { self.new ≡ put_by Half (λ a x bytes. slice_set bytes a x) at value self.old }
+    {
+        let at = at as usize;
+        let bytes = value.to_le_bytes();
+        self.bytes[at] = bytes[0];
+        self.bytes[at + 1] = bytes[1];
+    }
+
+    pub fn put_word(&mut self, at: u32, value: u32)
+        requires { at + 4 ≤ 0xA4000 }
+        ensures { self.new ≡ put_by Word (λ a x bytes. slice_set bytes a x) at value self.old }
+    {
+        let at = at as usize;
+        let bytes = value.to_le_bytes();
+        self.bytes[at] = bytes[0];
+        self.bytes[at + 1] = bytes[1];
+        self.bytes[at + 2] = bytes[2];
+        self.bytes[at + 3] = bytes[3];
+    }
+
+    /// Copies the bytes from a place on.
+    pub fn copy(&self, at: u32, into: &mut [u8])
+        requires { at + length into.old ≤ 0xA4000 }
+        ensures { into.new ≡ slice_range self.now at (at + length into.old) }
+    {
+        let at = at as usize;
+        into.copy_from_slice(&self.bytes[at..at + into.len()]);
+    }
+}

@@ -1,0 +1,5 @@
+pub mod EffectLemmas
+pub mod LaneLemmas
+pub mod NibbleLemmas
+pub mod RowLemmas
+pub mod SecondLemmas

@@ -1,0 +1,5 @@
+use Rattle.std.proofs.lemmas.Simd.{zip2_splat}
+use Rattle.line_lanes.proofs.lanes.scale_each.Goals as goal
+
+pub returns : goal.returns
+returns c = zip2_splat _ c.args.lanes 8 c.args.factor c.requires

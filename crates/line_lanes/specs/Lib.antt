@@ -1,0 +1,4 @@
+pub mod Lanes
+pub mod Nibbles
+pub mod Pixels
+pub mod Seconds

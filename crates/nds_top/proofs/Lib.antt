@@ -4,3 +4,4 @@ pub mod Pieces
 pub mod Loading
 pub mod Playing
 pub mod Running
+pub mod TurnCounts

@@ -6,10 +6,9 @@ use Rattle.ds_io.specs.Shelves.{Told}
 use Rattle.ds_runs.specs.Runs.{At, Stopped}
 use Rattle.ds_machine.specs.Booted.{booted}
 use Rattle.run_ahead.specs.Consoles.{ConsoleState}
-use Rattle.run_ahead.specs.Turns.{HasTurned}
 use Rattle.nds_top.specs.Words.{Asked, AskRun, Asks, AskNothing}
 use Rattle.nds_top.specs.Loads.{IsFile, IsAbsent, IsLong}
-use Rattle.nds_top.specs.Plays.{Wrote, WroteFront}
+use Rattle.nds_top.specs.Plays.{Wrote, WroteFront, IsAfterItsTurns}
 use Rattle.nds_top.specs.declared.commands.Keep.{Keep}
 use Rattle.nds_top.specs.declared.statuses.Status.{Status}
 use Rattle.nds_top.specs.declared.statuses.Status.TheVariants.{Done, Usage, NoFile, ReadFault, TooLong, BadHeader, NoMemory, WriteFault, LeftOut}
@@ -48,9 +47,10 @@ pub record IsCart (told : Option Told) (name file : List ℕ) : Type 0 where
   pub short : length file ≤ most_bytes
   pub accepted : IsAccepted file
 
--- the seat has a console that was switched on with the cartridge and turned to the tick, of which this holds
+-- the seat has a console that was switched on with the cartridge, as after as many turns with the tick as its counts say, of which
+-- this holds
 abbrev pub Seated : {S : Type 0} → Call S → List ℕ → ℕ → (ConsoleState → Type 0) → Type 0
-Seated c file ticks holds = IsSomeAnd c.seat (λ k. HasTurned ticks (switched_on file) k × holds k)
+Seated c file ticks holds = IsSomeAnd c.seat (λ k. IsAfterItsTurns ticks (switched_on file) k × holds k)
 
 -- the words' cartridge is found, read and not too long, and its header is refused for this: its bytes are these, where files are
 -- told

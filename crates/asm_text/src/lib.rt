@@ -9,6 +9,7 @@ mod listing;
 mod names;
 mod operands;
 mod parts;
+mod reading;
 mod registers;
 mod sets;
 mod statements;

@@ -1,0 +1,4 @@
+//! Statements read back.
+
+pub(crate) mod names;
+pub(crate) mod parts;

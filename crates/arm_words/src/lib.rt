@@ -21,5 +21,5 @@ pub use operations::{
     CompareOp, DataOp, HalfOp, HighOp, MoveOp, ThumbDataOp, ThumbImmediateOp, ThumbTransferOp,
 };
 pub use parts::{Condition, FieldMask, Offset, Operand, Shift, ShortOffset, ThumbOperand};
-pub use spellings::{Spelling, encode};
+pub use spellings::{Spelling, encode, spell};
 pub use thumb::decode_thumb;

@@ -59,7 +59,9 @@ fn low_byte(r8: u8, immed: u8) -> u16
     r8 as u16 * 256 + immed as u16
 }
 
-fn spell(instr: &Instr) -> Spelling
+/// The word or half whose fixed bits and fields are those of an instruction's row, whether an architecture has such an instruction or
+/// not: what `encode` gives where one has it.
+pub fn spell(instr: &Instr) -> Spelling
     requires { HasFields instr.now }
     ensures { result ≡ spelled instr.now }
 {

@@ -1,2 +1,3 @@
 mod Rotations
 pub mod NameLaws
+pub mod Again

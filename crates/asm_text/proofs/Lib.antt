@@ -1,3 +1,4 @@
 mod Rotations
 pub mod NameLaws
 pub mod Again
+pub mod AddressLaws

@@ -1,4 +1,7 @@
 //! Statements read back.
 
+pub(crate) mod arm_rows;
+pub(crate) mod arm_stems;
+mod arm_transfers;
 pub(crate) mod names;
 pub(crate) mod parts;

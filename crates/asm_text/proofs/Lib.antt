@@ -2,3 +2,8 @@ mod Rotations
 pub mod NameLaws
 pub mod Again
 pub mod AddressLaws
+pub mod ArmStems
+pub mod ArmRows
+pub mod ArmRowsData
+pub mod ArmRowsTransfers
+pub mod ArmRead

@@ -7,3 +7,4 @@ pub mod ArmRows
 pub mod ArmRowsData
 pub mod ArmRowsTransfers
 pub mod ArmRead
+pub mod ThumbStems

@@ -7,3 +7,4 @@ pub mod Operands
 pub mod Reading
 pub mod Statements
 pub mod Text
+pub mod ThumbReading

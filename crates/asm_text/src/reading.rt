@@ -5,3 +5,5 @@ pub(crate) mod arm_stems;
 mod arm_transfers;
 pub(crate) mod names;
 pub(crate) mod parts;
+pub(crate) mod thumb_rows;
+pub(crate) mod thumb_stems;

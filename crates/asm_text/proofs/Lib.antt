@@ -8,3 +8,6 @@ pub mod ArmRowsData
 pub mod ArmRowsTransfers
 pub mod ArmRead
 pub mod ThumbStems
+pub mod ThumbRows
+pub mod ThumbRowsAgain
+pub mod ThumbRowsTransfers

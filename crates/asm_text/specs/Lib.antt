@@ -1,5 +1,6 @@
 pub mod Addresses
 pub mod ArmReading
+pub mod Candidates
 pub mod Listed
 pub mod Names
 pub mod Naming

@@ -14,6 +14,11 @@ abbrev pub spelling : Set → ℕ → Spelling
 spelling Arm word = Word word
 spelling Thumb word = Half word
 
+-- the number of a word or half
+abbrev pub number_in : Spelling → ℕ
+number_in (Word word) = word
+number_in (Half half) = half
+
 -- a word or half itself, with all its digits (our choice)
 abbrev pub raw : Spelling → List ℕ
 raw (Word word) = codes ".word 0x" ++ digits 8 word

@@ -38,7 +38,7 @@ fn raw(spelling: Spelling, into: &mut Line)
     }
 }
 
-fn spelling(set: Set, word: u32) -> Spelling
+pub(crate) fn spelling(set: Set, word: u32) -> Spelling
     requires { IsInRange (spelling set word) }
     ensures { result ≡ spelling set word }
 {

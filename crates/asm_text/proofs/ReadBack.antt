@@ -1,0 +1,109 @@
+-- Each word or half is read back from its statement, and so has one of its own.
+use Rattle.std.proofs.Common.{ℕ, ◌≡◌, ◌≢◌, ◌<◌, ◌^◌, ◌%◌, Bool, true, false, List, [], ◌∷◌, ◌++◌, refl, sym, ap, ◌∙◌, arith, Option, Some, None, subst}
+use Rattle.std.specs.Prelude.{codes, ◌&&◌, if◌then◌else◌, IfSome}
+use Rattle.ds_base.specs.declared.processors.Arch.{Arch}
+use Rattle.arm_words.specs.Canonical.{canonical, if_canonical, canonical_form, same_spelling}
+use Rattle.arm_words.specs.Fields.{HasFields}
+use Rattle.arm_words.specs.Spellings.{spelled, decoded, IsInRange}
+use Rattle.arm_words.specs.declared.instructions.Instr.{Instr}
+use Rattle.arm_words.specs.declared.parts.Condition.TheVariants.{Al}
+use Rattle.arm_words.specs.declared.spellings.Spelling.{Spelling}
+use Rattle.arm_words.specs.declared.spellings.Spelling.TheVariants.{Word, Half}
+use Rattle.arm_words.proofs.CanonicalLaws.{same_is}
+use Rattle.arm_words.proofs.Facts.{and_parts}
+use Rattle.arm_words.proofs.Laws.{decoded_arm_fields, decoded_thumb_fields}
+use Rattle.asm_text.specs.Candidates.{candidate, if_read, in_set, number_read, read_in, row_in, stems_in}
+use Rattle.asm_text.specs.Listed.{listed, number_in, raw, spelling, stated}
+use Rattle.asm_text.specs.Naming.{read, named, filled, IsStem}
+use Rattle.asm_text.specs.Reading.{hex_at}
+use Rattle.asm_text.specs.Statements.{statement}
+use Rattle.asm_text.specs.Text.{digits}
+use Rattle.asm_text.specs.declared.reading.names.Stem.{Stem}
+use Rattle.asm_text.specs.declared.reading.names.Stem.TheVariants.{Row, Raw}
+use Rattle.asm_text.specs.declared.sets.Set.{Set}
+use Rattle.asm_text.specs.declared.sets.Set.TheVariants.{Arm, Thumb}
+use Rattle.asm_text.proofs.Again.{digits_again, half_again}
+use Rattle.asm_text.proofs.ArmStems.{word_stem}
+use Rattle.asm_text.proofs.ArmRead.{arm_read}
+use Rattle.asm_text.proofs.NameLaws.{read_raw}
+use Rattle.asm_text.proofs.ThumbStems.{half_stem}
+use Rattle.asm_text.proofs.ThumbRows.{thumb_read}
+
+-- what a canonical spelling's instruction is
+record Canon (s : Spelling) (o : Option Instr) (i : Instr) : Type 0 where
+  found : o ≡ Some i
+  form : canonical_form i ≡ true
+  spelt : spelled i ≡ s
+
+canon_if : (b : Bool) (j i : Instr) → (if b then Some j else None) ≡ Some i → (b ≡ true) × (j ≡ i)
+canon_if true j i h = (refl, cc)
+canon_if false j i h = absurd cc
+
+canon : (s : Spelling) (o : Option Instr) (i : Instr) → if_canonical s o ≡ Some i → Canon s o i
+canon s None i h = absurd cc
+canon s (Some j) i h =
+    let k = canon_if (canonical_form j && same_spelling (spelled j) s) j i h in
+    let parts = and_parts (canonical_form j) (same_spelling (spelled j) s) k.0 in
+    let P : Instr → Type 0 = λ x. Canon s (Some j) x in
+    subst P k.1 (record { found = refl; form = parts.0; spelt = same_is (spelled j) s parts.1 })
+
+fields_of : (o : Option Instr) (i : Instr) → o ≡ Some i → IfSome o (λ j. HasFields j) → HasFields i
+fields_of None i h f = absurd cc
+fields_of (Some j) i h f = (let e : j ≡ i = cc in let P : Instr → Type 0 = λ x. HasFields x in subst P e f)
+
+word_raw : (at w : ℕ) → w < 2 ^ 32 → candidate Arm at (raw (Word w)) ≡ Some w
+unfolding hex_at
+word_raw at w h =
+    let rest : List ℕ = codes "0x" ++ digits 8 w in
+    let e : w % 2 ^ 32 ≡ w = omega arith in
+    let n : hex_at rest ≡ (w, []) = digits_again w [] h refl in
+    let r : read_in Arm at (raw (Word w)) ≡ Some (Raw (hex_at rest).0) = read_raw (stems_in Arm) (row_in Arm) at (codes ".word") (Raw 0) rest word_stem in
+    rw (r, n, e) refl
+
+half_raw : (at w : ℕ) → w < 2 ^ 16 → candidate Thumb at (raw (Half w)) ≡ Some w
+unfolding hex_at
+half_raw at w h =
+    let rest : List ℕ = codes "0x" ++ digits 4 w in
+    let e : w % 2 ^ 16 ≡ w = omega arith in
+    let n : hex_at rest ≡ (w, []) = half_again w [] h refl in
+    let r : read_in Thumb at (raw (Half w)) ≡ Some (Raw (hex_at rest).0) = read_raw (stems_in Thumb) (row_in Thumb) at (codes ".half") (Raw 0) rest half_stem in
+    rw (r, n, e) refl
+
+arm_back : (arch : Arch) (at w : ℕ) (o : Option Instr) → canonical arch (Word w) ≡ o → at < 2 ^ 32 → w < 2 ^ 32 → candidate Arm at (stated at (Word w) o) ≡ Some w
+arm_back arch at w None c ha hw = word_raw at w hw
+arm_back arch at w (Some i) c ha hw =
+    let k = canon (Word w) (decoded arch (Word w)) i c in
+    let f : HasFields i = fields_of (decoded arch (Word w)) i k.found (decoded_arm_fields arch w hw) in
+    let n : number_in (spelled i) ≡ w = ap number_in k.spelt in
+    let e : w % 2 ^ 32 ≡ w = omega arith in
+    rw (arm_read at w i ha f k.form k.spelt, n, e) refl
+
+thumb_back : (arch : Arch) (at w : ℕ) (o : Option Instr) → canonical arch (Half w) ≡ o → at < 2 ^ 32 → w < 2 ^ 16 → candidate Thumb at (stated at (Half w) o) ≡ Some w
+thumb_back arch at w None c ha hw = half_raw at w hw
+thumb_back arch at w (Some i) c ha hw =
+    let k = canon (Half w) (decoded arch (Half w)) i c in
+    let f : HasFields i = fields_of (decoded arch (Half w)) i k.found (decoded_thumb_fields arch w hw) in
+    let n : number_in (spelled i) ≡ w = ap number_in k.spelt in
+    let e : w % 2 ^ 16 ≡ w = omega arith in
+    rw (thumb_read at w i ha f k.form k.spelt, n, e) refl
+
+pub read_back : (arch : Arch) (set : Set) (at w : ℕ) → at < 2 ^ 32 → IsInRange (spelling set w) → candidate set at (listed arch set at w) ≡ Some w
+read_back arch Arm at w ha hw = arm_back arch at w (canonical arch (Word w)) refl ha hw
+read_back arch Thumb at w ha hw = thumb_back arch at w (canonical arch (Half w)) refl ha hw
+
+-- each statement is one word's
+pub one_text : (arch : Arch) (set : Set) (at v w : ℕ) → at < 2 ^ 32 → IsInRange (spelling set v) → IsInRange (spelling set w) → listed arch set at v ≡ listed arch set at w → v ≡ w
+one_text arch set at v w ha hv hw e =
+    let k : Some v ≡ Some w = sym (read_back arch set at v ha hv) ∙ ap (candidate set at) e ∙ read_back arch set at w ha hw in
+    cc
+
+-- a byte's line is no word's statement
+byte_unread : (set : Set) (at : ℕ) (rest : List ℕ) → candidate set at (codes ".byte" ++ 32 ∷ rest) ≡ None
+unfolding read named
+byte_unread Arm at rest = refl
+byte_unread Thumb at rest = refl
+
+pub no_byte : (arch : Arch) (set : Set) (at w : ℕ) (rest : List ℕ) → at < 2 ^ 32 → IsInRange (spelling set w) → listed arch set at w ≢ codes ".byte" ++ 32 ∷ rest
+no_byte arch set at w rest ha hw e =
+    let k : Some w ≡ None = sym (read_back arch set at w ha hw) ∙ ap (candidate set at) e ∙ byte_unread set at rest in
+    cc

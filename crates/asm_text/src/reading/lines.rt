@@ -1,0 +1,132 @@
+//! The word or half whose statement a text is.
+
+ghost use Rattle.std.specs.Prelude.{◌≡◌, ◌≢◌, ◌<◌, ◌^◌, ◌↔◌, ℕ, IfOk, IfSome, IsTrue, Ok, OnErr};
+ghost use Rattle.arm_words.specs.Fields.{HasFields};
+ghost use Rattle.arm_words.specs.Spellings.{IsInRange};
+ghost use Rattle.asm_text.specs.Candidates.{candidate, in_set, number_read, read_in, row_in, stems_in, HasStem};
+ghost use Rattle.asm_text.specs.Listed.{listed, number_in, spelling};
+
+use super::arm_rows::arm_row;
+use super::arm_stems::ARM_STEMS;
+use super::names::{Stem, name, named};
+use super::parts::hex_at;
+use super::thumb_rows::thumb_row;
+use super::thumb_stems::THUMB_STEMS;
+use crate::lines::Line;
+use crate::listing::{list_word, spelling};
+use crate::sets::Set;
+use arm_words::{Condition, Instr, Spelling, spell};
+use ds_base::Arch;
+
+/// A text is no word's or half's statement.
+#[derive(Clone, Copy, PartialEq, Eq, Debug)]
+pub struct NotText;
+
+fn stems_in(set: Set) -> &'static [(u64, Stem)]
+    ensures { result.now ≡ stems_in set }
+{
+    match set {
+        Set::Arm => &ARM_STEMS,
+        Set::Thumb => &THUMB_STEMS,
+    }
+}
+
+fn row_in(set: Set, at: u32, template: Instr, cond: Condition, text: &[u8]) -> Instr
+    ensures row { result ≡ row_in set at template cond text.now }
+    ensures fields { HasFields result }
+{
+    match set {
+        Set::Arm => arm_row(at, template, cond, text),
+        Set::Thumb => thumb_row(at, template, cond, text),
+    }
+}
+
+/// What a text may be the statement of: a row's instruction with its fields, or a number.
+#[tactic(auto, unfolding(crate::specs::Naming::read))]
+fn read_in(set: Set, at: u32, text: &[u8]) -> Option<Stem>
+    ensures value { result ≡ read_in set at text.now }
+    ensures fields { IfSome result HasStem }
+{
+    let (key, rest) = name(text);
+    let (stem, cond) = named(stems_in(set), key);
+    match stem {
+        Some(Stem::Row(instr)) => Some(Stem::Row(row_in(set, at, instr, cond, rest))),
+        Some(Stem::Raw(_)) => Some(Stem::Raw(hex_at(rest).0)),
+        None => None,
+    }
+}
+
+fn number_in(spelling: Spelling) -> u32
+    ensures { result ≡ number_in spelling }
+{
+    match spelling {
+        Spelling::Word(word) => word,
+        Spelling::Half(half) => half as u32,
+    }
+}
+
+fn number_read(stem: Stem) -> u32
+    requires { HasStem stem }
+    ensures { result ≡ number_read stem }
+{
+    match stem {
+        Stem::Row(instr) => number_in(spell(&instr)),
+        Stem::Raw(number) => number,
+    }
+}
+
+fn in_set(set: Set, n: u32) -> u32
+    ensures value { result ≡ in_set set n }
+    ensures range { IsInRange (spelling set result) }
+{
+    match set {
+        Set::Arm => n,
+        Set::Thumb => n % 0x1_0000,
+    }
+}
+
+/// The word whose statement a text may be: if it is one's, then this one's.
+fn candidate(set: Set, at: u32, text: &[u8]) -> Option<u32>
+    ensures value { result ≡ candidate set at text.now }
+    ensures range { IfSome result (λ word. IsInRange (spelling set word)) }
+{
+    match read_in(set, at, text) {
+        Some(stem) => Some(in_set(set, number_read(stem))),
+        None => None,
+    }
+}
+
+fn same(a: &[u8], b: &[u8]) -> bool
+    ensures { IsTrue result ↔ (a.now ≡ b.now) }
+{
+    a == b
+}
+
+/// Reads the statement of a word (ARM) or half (Thumb) at address `at`: it is the one whose statement, as `list_word` writes it, is
+/// the text, to the byte. Each word or half has one statement at an address, and no other text is read as it. `NotText` exactly
+/// where the text is none's statement there.
+pub fn read_bytes(arch: Arch, set: Set, at: u32, text: &[u8]) -> Result<Spelling, NotText>
+    ensures found { IfOk result (λ s. IsInRange s × (s ≡ spelling set (number_in s)) × (text.now ≡ listed arch set at (number_in s))) }
+    ensures own { (word : ℕ) → IsInRange (spelling set word) → text.now ≡ listed arch set at word → result ≡ Ok (spelling set word) }
+    ensures none { OnErr result ((word : ℕ) → IsInRange (spelling set word) → text.now ≢ listed arch set at word) }
+{
+    let Some(word) = candidate(set, at, text) else {
+        return Err(NotText);
+    };
+    let mut line = Line::new();
+    list_word(arch, set, at, word, &mut line);
+    if same(line.bytes(), text) {
+        Ok(spelling(set, word))
+    } else {
+        Err(NotText)
+    }
+}
+
+/// The same for a text that is known to be text.
+pub fn read_line(arch: Arch, set: Set, at: u32, text: &str) -> Result<Spelling, NotText>
+    ensures found { IfOk result (λ s. IsInRange s × (s ≡ spelling set (number_in s)) × (text.now ≡ listed arch set at (number_in s))) }
+    ensures own { (word : ℕ) → IsInRange (spelling set word) → text.now ≡ listed arch set at word → result ≡ Ok (spelling set word) }
+    ensures none { OnErr result ((word : ℕ) → IsInRange (spelling set word) → text.now ≢ listed arch set at word) }
+{
+    read_bytes(arch, set, at, text.as_bytes())
+}

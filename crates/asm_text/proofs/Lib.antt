@@ -11,3 +11,4 @@ pub mod ThumbStems
 pub mod ThumbRows
 pub mod ThumbRowsAgain
 pub mod ThumbRowsTransfers
+pub mod ReadBack

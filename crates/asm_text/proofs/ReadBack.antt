@@ -9,8 +9,7 @@ use Rattle.arm_words.specs.declared.instructions.Instr.{Instr}
 use Rattle.arm_words.specs.declared.parts.Condition.TheVariants.{Al}
 use Rattle.arm_words.specs.declared.spellings.Spelling.{Spelling}
 use Rattle.arm_words.specs.declared.spellings.Spelling.TheVariants.{Word, Half}
-use Rattle.arm_words.proofs.CanonicalLaws.{same_is}
-use Rattle.arm_words.proofs.Facts.{and_parts}
+use Rattle.arm_words.proofs.Facts.{and_parts, equal}
 use Rattle.arm_words.proofs.Laws.{decoded_arm_fields, decoded_thumb_fields}
 use Rattle.asm_text.specs.Candidates.{candidate, if_read, in_set, number_read, read_in, row_in, stems_in}
 use Rattle.asm_text.specs.Listed.{listed, number_in, raw, spelling, stated}
@@ -22,12 +21,17 @@ use Rattle.asm_text.specs.declared.reading.names.Stem.{Stem}
 use Rattle.asm_text.specs.declared.reading.names.Stem.TheVariants.{Row, Raw}
 use Rattle.asm_text.specs.declared.sets.Set.{Set}
 use Rattle.asm_text.specs.declared.sets.Set.TheVariants.{Arm, Thumb}
-use Rattle.asm_text.proofs.Again.{digits_again, half_again}
-use Rattle.asm_text.proofs.ArmStems.{word_stem}
+use Rattle.asm_text.proofs.Again.{digits_again}
+use Rattle.asm_text.proofs.ArmStems.{word_named}
 use Rattle.asm_text.proofs.ArmRead.{arm_read}
 use Rattle.asm_text.proofs.NameLaws.{read_raw}
-use Rattle.asm_text.proofs.ThumbStems.{half_stem}
-use Rattle.asm_text.proofs.ThumbRows.{thumb_read}
+use Rattle.asm_text.proofs.ThumbRowsAgain.{thumb_again, raw_half_again}
+
+same_is : (s t : Spelling) → same_spelling s t ≡ true → s ≡ t
+same_is (Word w) (Word v) e = ap (λ (n : ℕ). Word n) (equal w v e)
+same_is (Half h) (Half g) e = ap (λ (n : ℕ). Half n) (equal h g e)
+same_is (Word w) (Half g) e = absurd cc
+same_is (Half h) (Word v) e = absurd cc
 
 -- what a canonical spelling's instruction is
 record Canon (s : Spelling) (o : Option Instr) (i : Instr) : Type 0 where
@@ -57,17 +61,13 @@ word_raw at w h =
     let rest : List ℕ = codes "0x" ++ digits 8 w in
     let e : w % 2 ^ 32 ≡ w = omega arith in
     let n : hex_at rest ≡ (w, []) = digits_again w [] h refl in
-    let r : read_in Arm at (raw (Word w)) ≡ Some (Raw (hex_at rest).0) = read_raw (stems_in Arm) (row_in Arm) at (codes ".word") (Raw 0) rest word_stem in
+    let r : read_in Arm at (raw (Word w)) ≡ Some (Raw (hex_at rest).0) = read_raw (stems_in Arm) (row_in Arm) at (codes ".word") (Raw 0) rest word_named in
     rw (r, n, e) refl
 
 half_raw : (at w : ℕ) → w < 2 ^ 16 → candidate Thumb at (raw (Half w)) ≡ Some w
-unfolding hex_at
 half_raw at w h =
-    let rest : List ℕ = codes "0x" ++ digits 4 w in
     let e : w % 2 ^ 16 ≡ w = omega arith in
-    let n : hex_at rest ≡ (w, []) = half_again w [] h refl in
-    let r : read_in Thumb at (raw (Half w)) ≡ Some (Raw (hex_at rest).0) = read_raw (stems_in Thumb) (row_in Thumb) at (codes ".half") (Raw 0) rest half_stem in
-    rw (r, n, e) refl
+    rw (raw_half_again at w h, e) refl
 
 arm_back : (arch : Arch) (at w : ℕ) (o : Option Instr) → canonical arch (Word w) ≡ o → at < 2 ^ 32 → w < 2 ^ 32 → candidate Arm at (stated at (Word w) o) ≡ Some w
 arm_back arch at w None c ha hw = word_raw at w hw
@@ -85,7 +85,7 @@ thumb_back arch at w (Some i) c ha hw =
     let f : HasFields i = fields_of (decoded arch (Half w)) i k.found (decoded_thumb_fields arch w hw) in
     let n : number_in (spelled i) ≡ w = ap number_in k.spelt in
     let e : w % 2 ^ 16 ≡ w = omega arith in
-    rw (thumb_read at w i ha f k.form k.spelt, n, e) refl
+    rw (thumb_again at w i ha f k.spelt, n, e) refl
 
 pub read_back : (arch : Arch) (set : Set) (at w : ℕ) → at < 2 ^ 32 → IsInRange (spelling set w) → candidate set at (listed arch set at w) ≡ Some w
 read_back arch Arm at w ha hw = arm_back arch at w (canonical arch (Word w)) refl ha hw

@@ -19,4 +19,5 @@ mod thumb;
 
 pub use lines::Line;
 pub use listing::list_word;
+pub use reading::lines::{NotText, read_bytes, read_line};
 pub use sets::Set;

@@ -1,9 +1,10 @@
 //! Statements read back.
 
-pub(crate) mod arm_rows;
-pub(crate) mod arm_stems;
+mod arm_rows;
+mod arm_stems;
 mod arm_transfers;
-pub(crate) mod names;
+pub(crate) mod lines;
+mod names;
 pub(crate) mod parts;
-pub(crate) mod thumb_rows;
-pub(crate) mod thumb_stems;
+mod thumb_rows;
+mod thumb_stems;

@@ -12,3 +12,5 @@ pub mod ThumbRows
 pub mod ThumbRowsAgain
 pub mod ThumbRowsTransfers
 pub mod ReadBack
+pub mod StartLaws
+pub mod PlainLaws

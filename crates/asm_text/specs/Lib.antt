@@ -9,3 +9,5 @@ pub mod Reading
 pub mod Statements
 pub mod Text
 pub mod ThumbReading
+pub mod Starts
+pub mod StatementLaws

@@ -12,6 +12,7 @@ mod parts;
 mod reading;
 mod registers;
 mod sets;
+mod starts;
 mod statements;
 #[cfg(test)]
 mod tests;
@@ -21,3 +22,4 @@ pub use lines::Line;
 pub use listing::list_word;
 pub use reading::lines::{NotText, read_bytes, read_line};
 pub use sets::Set;
+pub use starts::{list_byte, list_start};

@@ -1,9 +1,9 @@
 -- Each statement is one line, and with its line feed no shorter than its word.
-use Rattle.std.proofs.Common.{ℕ, zero, suc, ◌≡◌, ◌≢◌, ◌<◌, ◌≤◌, ◌+◌, ◌*◌, ◌^◌, Bool, true, false, List, [], ◌∷◌, ◌++◌, length, refl, sym, ap, ◌∙◌, arith, Option, Some, None, length-append}
+use Rattle.std.proofs.Common.{ℕ, zero, suc, ◌≡◌, ◌≢◌, ◌≤◌, ◌+◌, ◌*◌, ◌^◌, Bool, true, false, List, [], ◌∷◌, ◌++◌, length, refl, arith, Option, Some, None, length-append}
 use Rattle.std.specs.Prelude.{nat_lt, codes, if◌then◌else◌, ◌==◌, ◌&&◌, not}
 use Rattle.ds_base.specs.declared.processors.Arch.{Arch}
 use Rattle.arm_words.specs.Bits.{bit}
-use Rattle.arm_words.specs.Canonical.{canonical, canonical_form, if_canonical, same_spelling, immediate}
+use Rattle.arm_words.specs.Canonical.{canonical_form, if_canonical, same_spelling, immediate}
 use Rattle.arm_words.specs.Spellings.{spelled, decoded}
 use Rattle.arm_words.specs.declared.parts.Condition.{Condition}
 use Rattle.arm_words.specs.declared.parts.Condition.TheVariants as conditions
@@ -38,7 +38,7 @@ use Rattle.arm_words.specs.declared.instructions.Instr.{Instr}
 use Rattle.arm_words.specs.declared.instructions.Instr.TheVariants.{Bx, BlxRegister, Bkpt, Clz, Saturating, Smla, Smlaw, Smulw, Smlal, Smul, Mul, Mla, LongMultiply, Swap, HalfTransfer, Mrs, Msr, MsrImmediate, Compare, Move, Data, DoubleTransfer, Transfer, Multiple, Branch, Coprocessor, Swi, BlxTarget, Pld, Never, ThumbAddSub, ThumbShift, ThumbImmediate, ThumbData, ThumbBx, ThumbBlxRegister, ThumbHigh, ThumbLoadLiteral, ThumbRegisterOffset, ThumbImmediateOffset, ThumbHalfOffset, ThumbStackOffset, ThumbAddress, ThumbAdjustStack, ThumbPushPop, ThumbBkpt, ThumbMultiple, ThumbBranchIf, ThumbSwi, ThumbBranch, ThumbBlxSuffix, ThumbBlPrefix, ThumbBlSuffix}
 use Rattle.arm_words.specs.declared.spellings.Spelling.{Spelling}
 use Rattle.arm_words.specs.declared.spellings.Spelling.TheVariants as spellings
-use Rattle.asm_text.specs.Text.{preceded, joined, where_set, digit, digits, trimmed, hex, number, decimal, register, registers, members, register_list}
+use Rattle.asm_text.specs.Text.{preceded, joined, where_set, digits, hex, number, decimal, register, registers, members, register_list}
 use Rattle.asm_text.specs.Names.{suffix, shift_name, data_name, compare_name, move_name, half_name, saturating_name, long_name, half_letter, load_name, block_mode, status_name, field_letters, immediate_name, thumb_data_name, high_name, transfer_name}
 use Rattle.asm_text.specs.Operands.{amount_shown, shift_shown, shifted, operand, small_operand, offset, short_offset, at_offset, address}
 use Rattle.asm_text.specs.Addresses.{arm_target, half_target, thumb_target}

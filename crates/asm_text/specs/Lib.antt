@@ -11,3 +11,4 @@ pub mod Text
 pub mod ThumbReading
 pub mod Starts
 pub mod StatementLaws
+pub mod StartReading

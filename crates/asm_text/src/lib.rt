@@ -22,4 +22,4 @@ pub use lines::Line;
 pub use listing::list_word;
 pub use reading::lines::{NotText, read_bytes, read_line};
 pub use sets::Set;
-pub use starts::{list_byte, list_start};
+pub use starts::{list_byte, list_start, read_byte, read_start};

@@ -170,7 +170,7 @@ later_again list r (suc left) (suc fuel) rest hf hr hb =
           (let xs : List (List ℕ) = registers left (r + 1) list in
           let more : List ℕ = preceded (codes ",") xs ++ 125 ∷ rest in
           let s : members_from (suc fuel) (list % 2 ^ r) (44 ∷ (register r ++ more)) ≡ members_from fuel (list % 2 ^ (r + 1)) more =
-              step fuel (list % 2 ^ r) (list % 2 ^ (r + 1)) r (44 ∷ (register r ++ more)) more (comma_member r more (omega arith) (follows xs rest)) (set_next list r hb one.1) in
+          step fuel (list % 2 ^ r) (list % 2 ^ (r + 1)) r (44 ∷ (register r ++ more)) more (comma_member r more (omega arith) (follows xs rest)) (set_next list r hb one.1) in
           rw one.0 (ap (λ (x : List ℕ). members_from (suc fuel) (list % 2 ^ r) (44 ∷ x)) (append_assoc (register r) (preceded (codes ",") xs) (125 ∷ rest)) ∙ s ∙ later_again list (r + 1) left fuel rest (omega arith) (omega arith) hb))
     ]
 
@@ -186,7 +186,7 @@ first_again list r (suc left) (suc fuel) rest hf hr hb =
           (let xs : List (List ℕ) = registers left (r + 1) list in
           let more : List ℕ = preceded (codes ",") xs ++ 125 ∷ rest in
           let s : members_from (suc fuel) (list % 2 ^ r) (register r ++ more) ≡ members_from fuel (list % 2 ^ (r + 1)) more =
-              step fuel (list % 2 ^ r) (list % 2 ^ (r + 1)) r (register r ++ more) more (plain_member r more (omega arith) (follows xs rest)) (set_next list r hb one.1) in
+          step fuel (list % 2 ^ r) (list % 2 ^ (r + 1)) r (register r ++ more) more (plain_member r more (omega arith) (follows xs rest)) (set_next list r hb one.1) in
           rw one.0 (ap (members_from (suc fuel) (list % 2 ^ r)) (append_assoc (register r) (preceded (codes ",") xs) (125 ∷ rest)) ∙ s ∙ later_again list (r + 1) left fuel rest (omega arith) (omega arith) hb))
     ]
 

@@ -1,16 +1,16 @@
-mod Rotations
-pub mod NameLaws
-pub mod Again
 pub mod AddressLaws
-pub mod ArmStems
+pub mod Again
+pub mod ArmRead
 pub mod ArmRows
 pub mod ArmRowsData
 pub mod ArmRowsTransfers
-pub mod ArmRead
-pub mod ThumbStems
+pub mod ArmStems
+pub mod NameLaws
+pub mod PlainLaws
+pub mod ReadBack
+mod Rotations
+pub mod StartLaws
 pub mod ThumbRows
 pub mod ThumbRowsAgain
 pub mod ThumbRowsTransfers
-pub mod ReadBack
-pub mod StartLaws
-pub mod PlainLaws
+pub mod ThumbStems

@@ -22,7 +22,7 @@ use Rattle.asm_text.specs.declared.reading.names.Stem.TheVariants.{Row, Raw}
 use Rattle.asm_text.specs.declared.sets.Set.{Set}
 use Rattle.asm_text.specs.declared.sets.Set.TheVariants.{Arm, Thumb}
 use Rattle.asm_text.proofs.Again.{digits_again}
-use Rattle.asm_text.proofs.ArmStems.{word_named}
+use Rattle.asm_text.proofs.ArmStems.{word_stem}
 use Rattle.asm_text.proofs.ArmRead.{arm_read}
 use Rattle.asm_text.proofs.NameLaws.{read_raw}
 use Rattle.asm_text.proofs.ThumbRowsAgain.{thumb_again, raw_half_again}
@@ -61,7 +61,7 @@ word_raw at w h =
     let rest : List ℕ = codes "0x" ++ digits 8 w in
     let e : w % 2 ^ 32 ≡ w = omega arith in
     let n : hex_at rest ≡ (w, []) = digits_again w [] h refl in
-    let r : read_in Arm at (raw (Word w)) ≡ Some (Raw (hex_at rest).0) = read_raw (stems_in Arm) (row_in Arm) at (codes ".word") (Raw 0) rest word_named in
+    let r : read_in Arm at (raw (Word w)) ≡ Some (Raw (hex_at rest).0) = read_raw (stems_in Arm) (row_in Arm) at (codes ".word") (Raw 0) rest word_stem in
     rw (r, n, e) refl
 
 half_raw : (at w : ℕ) → w < 2 ^ 16 → candidate Thumb at (raw (Half w)) ≡ Some w

@@ -6,9 +6,9 @@ pub mod Names
 pub mod Naming
 pub mod Operands
 pub mod Reading
+pub mod StartReading
+pub mod Starts
+pub mod StatementLaws
 pub mod Statements
 pub mod Text
 pub mod ThumbReading
-pub mod Starts
-pub mod StatementLaws
-pub mod StartReading

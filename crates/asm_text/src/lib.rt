@@ -4,6 +4,7 @@
 
 mod addresses;
 mod arm;
+mod laws;
 mod lines;
 mod listing;
 mod names;
@@ -18,6 +19,7 @@ mod statements;
 mod tests;
 mod thumb;
 
+pub use laws::statement_laws;
 pub use lines::Line;
 pub use listing::list_word;
 pub use reading::lines::{NotText, read_bytes, read_line};

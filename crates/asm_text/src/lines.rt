@@ -1,6 +1,6 @@
 //! A line of text, without its end.
 
-ghost use Rattle.std.specs.Prelude.{◌≡◌, ◌+◌, ◌<◌, ◌≤◌, length, ◌++◌, ◌∷◌, []};
+ghost use Rattle.std.specs.Prelude.{◌≡◌, ◌↔◌, IsTrue, ◌+◌, ◌<◌, ◌≤◌, length, ◌++◌, ◌∷◌, []};
 
 use arrayvec::ArrayVec;
 use std::marker::Model;
@@ -69,4 +69,11 @@ impl Line {
     {
         self.put_bytes(text.as_bytes());
     }
+}
+
+/// Whether two texts are the same.
+pub(crate) fn same(a: &[u8], b: &[u8]) -> bool
+    ensures { IsTrue result ↔ (a.now ≡ b.now) }
+{
+    a == b
 }

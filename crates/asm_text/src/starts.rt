@@ -1,12 +1,12 @@
 //! The lines of a listing that are no statements: its first line, and the bytes after the last whole word or half.
 
-ghost use Rattle.std.specs.Prelude.{◌≡◌, ◌↔◌, ◌<◌, ◌≤◌, ◌^◌, ◌++◌, ℕ, IfSome, IsTrue, Some, length};
+ghost use Rattle.std.specs.Prelude.{◌≡◌, ◌<◌, ◌≤◌, ◌^◌, ◌++◌, ℕ, IfSome, Some, length};
 ghost use Rattle.ds_base.specs.declared.processors.Arch.{Arch};
 ghost use Rattle.asm_text.specs.StartReading.{address_at, arch_at, byte_at, is_thumb, set_at};
 ghost use Rattle.asm_text.specs.Starts.{raw_byte, start, start_name};
 ghost use Rattle.asm_text.specs.declared.sets.Set.{Set};
 
-use crate::lines::Line;
+use crate::lines::{Line, same};
 use crate::parts::{digits, hex};
 use crate::reading::parts::{byte, hex_at, past};
 use crate::sets::Set;
@@ -41,12 +41,6 @@ pub fn list_byte(byte: u8, into: &mut Line)
     into.clear();
     into.put_text(".byte 0x");
     into.put_bytes(&digits(byte as u32)[6..]);
-}
-
-fn same(a: &[u8], b: &[u8]) -> bool
-    ensures { IsTrue result ↔ (a.now ≡ b.now) }
-{
-    a == b
 }
 
 fn start_at(text: &[u8]) -> (Arch, Set, u32)

@@ -1,6 +1,6 @@
 //! The word or half whose statement a text is.
 
-ghost use Rattle.std.specs.Prelude.{◌≡◌, ◌≢◌, ◌<◌, ◌^◌, ◌↔◌, ℕ, IfOk, IfSome, IsTrue, Ok, OnErr};
+ghost use Rattle.std.specs.Prelude.{◌≡◌, ◌≢◌, ◌<◌, ◌^◌, ℕ, IfOk, IfSome, Ok, OnErr};
 ghost use Rattle.arm_words.specs.Fields.{HasFields};
 ghost use Rattle.arm_words.specs.Spellings.{IsInRange};
 ghost use Rattle.asm_text.specs.Candidates.{candidate, in_set, number_read, read_in, row_in, stems_in, HasStem};
@@ -12,7 +12,7 @@ use super::names::{Stem, name, named};
 use super::parts::hex_at;
 use super::thumb_rows::thumb_row;
 use super::thumb_stems::THUMB_STEMS;
-use crate::lines::Line;
+use crate::lines::{Line, same};
 use crate::listing::{list_word, spelling};
 use crate::sets::Set;
 use arm_words::{Condition, Instr, Spelling, spell};
@@ -94,12 +94,6 @@ fn candidate(set: Set, at: u32, text: &[u8]) -> Option<u32>
         Some(stem) => Some(in_set(set, number_read(stem))),
         None => None,
     }
-}
-
-fn same(a: &[u8], b: &[u8]) -> bool
-    ensures { IsTrue result ↔ (a.now ≡ b.now) }
-{
-    a == b
 }
 
 /// Reads the statement of a word (ARM) or half (Thumb) at address `at`: it is the one whose statement, as `list_word` writes it, is

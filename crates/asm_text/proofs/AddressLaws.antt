@@ -1,9 +1,8 @@
 -- Addresses, register lists and status fields are read as they are written.
-use Rattle.std.proofs.Common.{ℕ, zero, suc, ◌≡◌, ◌≢◌, ◌<◌, ◌≤◌, ◌+◌, ◌-◌, ◌*◌, ◌/◌, ◌%◌, ◌^◌, Bool, true, false, List, [], ◌∷◌, ◌++◌, length, drop, ◌⊎◌, refl, sym, ap, ◌∙◌, arith, inl, inr, append_assoc}
+use Rattle.std.proofs.Common.{ℕ, zero, suc, ◌≡◌, ◌<◌, ◌≤◌, ◌+◌, ◌*◌, ◌/◌, ◌%◌, ◌^◌, Bool, true, false, List, [], ◌∷◌, ◌++◌, ◌⊎◌, refl, sym, ap, ◌∙◌, arith, inl, inr, append_assoc}
 use Rattle.std.proofs.lemmas.List.{append-nil}
 use Rattle.std.proofs.lemmas.Nat.{mod-pow-add}
-use Rattle.std.specs.Prelude.{slice_index, codes, if◌then◌else◌, ◌&&◌, ◌==◌, not}
-use Rattle.arm_words.specs.Bits.{bit}
+use Rattle.std.specs.Prelude.{slice_index, codes, ◌&&◌, ◌==◌, not}
 use Rattle.arm_words.specs.Fields.{HasOffset, HasShortOffset}
 use Rattle.arm_words.specs.declared.parts.Shift.{Shift}
 use Rattle.arm_words.specs.declared.parts.Shift.TheVariants.{Lsl}
@@ -14,10 +13,10 @@ use Rattle.arm_words.specs.declared.parts.ShortOffset.{ShortOffset}
 use Rattle.arm_words.specs.declared.parts.ShortOffset.TheVariants.{ShortNumber, ShortRegister}
 use Rattle.asm_text.specs.Names.{field_letters}
 use Rattle.asm_text.specs.Operands.{shifted, offset, short_offset, at_offset, address}
-use Rattle.asm_text.specs.Reading.{hex_at, register_at, is_decimal, shifted_at, unsigned_at, offset_at, address_at, member_at, members_from, registers_at, letter_at, fields_at}
+use Rattle.asm_text.specs.Reading.{register_at, unsigned_at, offset_at, address_at, member_at, members_from, registers_at, fields_at}
 use Rattle.asm_text.specs.Text.{register, hex, preceded, joined, registers, members, where_set}
 use Rattle.asm_text.specs.declared.reading.parts.Address.{Address}
-use Rattle.asm_text.proofs.Again.{EndsNumber, EndsDecimal, EndsShift, hex_again, register_again, shifted_again}
+use Rattle.asm_text.proofs.Again.{EndsDecimal, EndsShift, hex_again, register_again, shifted_again}
 
 -- an offset that is read
 abbrev taken : Bool → Offset → List ℕ → Bool × Offset × List ℕ

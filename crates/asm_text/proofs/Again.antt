@@ -1,17 +1,17 @@
 -- Each part of a statement is read as it was written, whatever follows that can't go on it.
-use Rattle.std.proofs.Common.{ℕ, zero, suc, ◌≡◌, ◌≢◌, ◌<◌, ◌≤◌, ◌+◌, ◌-◌, ◌*◌, ◌/◌, ◌%◌, ◌^◌, Bool, true, false, List, [], ◌∷◌, ◌++◌, length, drop, ◌⊎◌, refl, sym, ap, ◌∙◌, arith, inl, inr, append_assoc}
+use Rattle.std.proofs.Common.{ℕ, zero, suc, ◌≡◌, ◌≢◌, ◌<◌, ◌≤◌, ◌+◌, ◌-◌, ◌*◌, ◌/◌, ◌%◌, ◌^◌, true, false, List, [], ◌∷◌, ◌++◌, ◌⊎◌, refl, sym, ap, ◌∙◌, arith, inl, inr, append_assoc}
 use Rattle.std.proofs.lemmas.List.{append-nil}
-use Rattle.std.specs.Prelude.{nat_lt, nat_le, slice_index, codes, if◌then◌else◌, ◌||◌, ◌&&◌, ◌==◌, not}
+use Rattle.std.specs.Prelude.{nat_lt, nat_le, slice_index, codes, ◌==◌}
 use Rattle.arm_words.specs.Canonical.{immediate, least_rotation, least_operand, none_below, turned_back}
-use Rattle.arm_words.specs.Fields.{HasOperand, HasOffset}
+use Rattle.arm_words.specs.Fields.{HasOperand}
 use Rattle.arm_words.specs.declared.parts.Shift.{Shift}
 use Rattle.arm_words.specs.declared.parts.Shift.TheVariants.{Lsl, Lsr, Asr, Ror}
 use Rattle.arm_words.specs.declared.parts.Operand.{Operand}
 use Rattle.arm_words.specs.declared.parts.Operand.TheVariants.{Immediate, Shifted, ShiftedByRegister}
 use Rattle.arm_words.proofs.Facts.{and_parts, le_of}
 use Rattle.asm_text.specs.Names.{shift_name}
-use Rattle.asm_text.specs.Operands.{amount_shown, shift_shown, shifted, operand}
-use Rattle.asm_text.specs.Reading.{numeral, hex_at, marked_at, decimal_at, register_at, next_at, one_at, two_at, three_at, four_at, is_decimal, is_digit, digit_value, shift_at, by_shift, shifted_at, rotation_from, rotation_of, operand_at}
+use Rattle.asm_text.specs.Operands.{shifted, operand}
+use Rattle.asm_text.specs.Reading.{numeral, hex_at, marked_at, decimal_at, register_at, one_at, two_at, three_at, four_at, is_decimal, is_digit, digit_value, shift_at, by_shift, shifted_at, rotation_from, rotation_of, operand_at}
 use Rattle.asm_text.specs.Text.{register, decimal, hex, number, digits, digit, trimmed, joined}
 use Rattle.asm_text.proofs.Rotations.{back_again, below_word}
 

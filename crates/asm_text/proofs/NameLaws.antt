@@ -1,10 +1,10 @@
 -- A name is read as what it was written for, with each condition.
-use Rattle.std.proofs.Common.{ℕ, zero, suc, ◌≡◌, ◌≢◌, ◌<◌, ◌≤◌, ◌+◌, ◌-◌, ◌*◌, ◌/◌, ◌%◌, ◌^◌, Bool, true, false, List, [], ◌∷◌, ◌++◌, length, refl, sym, ap, ◌∙◌, arith, inl, inr, Option, Some, None, ◌⊎◌, subst, append_assoc}
-use Rattle.std.specs.Prelude.{nat_lt, codes, if◌then◌else◌, ◌&&◌, ◌==◌, not}
+use Rattle.std.proofs.Common.{ℕ, ◌≡◌, ◌<◌, ◌+◌, ◌*◌, ◌/◌, ◌%◌, ◌^◌, Bool, true, List, [], ◌∷◌, ◌++◌, refl, sym, ap, ◌∙◌, arith, Option, Some, append_assoc}
+use Rattle.std.specs.Prelude.{codes, ◌==◌, not}
 use Rattle.arm_words.specs.declared.parts.Condition.{Condition}
 use Rattle.arm_words.specs.declared.parts.Condition.TheVariants.{Eq, Ne, Cs, Cc, Mi, Pl, Vs, Vc, Hi, Ls, Ge, Lt, Gt, Le, Al}
 use Rattle.asm_text.specs.Names.{suffix}
-use Rattle.asm_text.specs.Naming.{letters, name, lookup, with_suffix, named, Filler, filled, if_filled, read, no_blank, seen, IsStem}
+use Rattle.asm_text.specs.Naming.{letters, name, lookup, with_suffix, named, Filler, filled, read, no_blank, IsStem}
 use Rattle.asm_text.specs.Statements.{on}
 use Rattle.asm_text.specs.Text.{joined}
 use Rattle.asm_text.specs.declared.reading.names.Stem.{Stem}

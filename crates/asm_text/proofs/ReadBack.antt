@@ -6,19 +6,16 @@ use Rattle.arm_words.specs.Canonical.{canonical, if_canonical, canonical_form, s
 use Rattle.arm_words.specs.Fields.{HasFields}
 use Rattle.arm_words.specs.Spellings.{spelled, decoded, IsInRange}
 use Rattle.arm_words.specs.declared.instructions.Instr.{Instr}
-use Rattle.arm_words.specs.declared.parts.Condition.TheVariants.{Al}
 use Rattle.arm_words.specs.declared.spellings.Spelling.{Spelling}
 use Rattle.arm_words.specs.declared.spellings.Spelling.TheVariants.{Word, Half}
 use Rattle.arm_words.proofs.Facts.{and_parts, equal}
 use Rattle.arm_words.proofs.Laws.{decoded_arm_fields, decoded_thumb_fields}
-use Rattle.asm_text.specs.Candidates.{candidate, if_read, in_set, number_read, read_in, row_in, stems_in}
+use Rattle.asm_text.specs.Candidates.{candidate, read_in, row_in, stems_in}
 use Rattle.asm_text.specs.Listed.{listed, number_in, raw, spelling, stated}
-use Rattle.asm_text.specs.Naming.{read, named, filled, IsStem}
+use Rattle.asm_text.specs.Naming.{read, named}
 use Rattle.asm_text.specs.Reading.{hex_at}
-use Rattle.asm_text.specs.Statements.{statement}
 use Rattle.asm_text.specs.Text.{digits}
-use Rattle.asm_text.specs.declared.reading.names.Stem.{Stem}
-use Rattle.asm_text.specs.declared.reading.names.Stem.TheVariants.{Row, Raw}
+use Rattle.asm_text.specs.declared.reading.names.Stem.TheVariants.{Raw}
 use Rattle.asm_text.specs.declared.sets.Set.{Set}
 use Rattle.asm_text.specs.declared.sets.Set.TheVariants.{Arm, Thumb}
 use Rattle.asm_text.proofs.Again.{digits_again}

@@ -1,9 +1,12 @@
-//! Statements written by hand from the ARM manual's encodings: for each row of both tables one, and the edges of what is canonical.
+//! Statements written by hand from the ARM manual's encodings: for each row of both tables one, and the edges of what is canonical,
+//! listed and read back; and texts that are near a statement and none.
 
 mod arm;
+mod refused;
 mod thumb;
 
-use crate::{Line, Set, list_word};
+use crate::{Line, Set, list_word, read_line};
+use arm_words::Spelling;
 use ds_base::Arch;
 use std::process::Abort;
 
@@ -14,6 +17,8 @@ fn lists_words(rt: &impl Abort, arch: Arch, rows: &[(u32, &str)]) {
     for (word, text) in rows {
         list_word(arch, Set::Arm, AT, *word, &mut line);
         assert!(rt; line.bytes() == text.as_bytes(), "at {word:#X}");
+        let read = read_line(arch, Set::Arm, AT, text);
+        assert!(rt; read == Ok(Spelling::Word(*word)), "read at {word:#X}");
     }
 }
 
@@ -22,5 +27,7 @@ fn lists_halves(rt: &impl Abort, arch: Arch, rows: &[(u16, &str)]) {
     for (half, text) in rows {
         list_word(arch, Set::Thumb, AT, *half as u32, &mut line);
         assert!(rt; line.bytes() == text.as_bytes(), "at {half:#X}");
+        let read = read_line(arch, Set::Thumb, AT, text);
+        assert!(rt; read == Ok(Spelling::Half(*half)), "read at {half:#X}");
     }
 }

@@ -1,5 +1,4 @@
-use Rattle.std.proofs.Common.{ℕ, ◌≡◌, ◌≢◌, ◌<◌, ◌≤◌, ◌^◌, length, List, ◌++◌, codes}
-use Rattle.asm_text.specs.Starts.{raw_byte}
+use Rattle.std.proofs.Common.{◌++◌, codes}
 use Rattle.asm_text.specs.Text.{digits}
 use Rattle.asm_text.proofs.PlainLaws.{listed_line}
 use Rattle.asm_text.proofs.ReadBack.{one_text, no_byte}

@@ -1,5 +1,4 @@
-use Rattle.std.proofs.Common.{ℕ, ◌≡◌, ◌≢◌, ◌<◌, ◌^◌, List, ap, refl, sym, ◌∙◌, arith, Option, Ok, Some, None, true, false}
-use Rattle.arm_words.specs.Spellings.{IsInRange}
+use Rattle.std.proofs.Common.{ℕ, ◌≡◌, ap, refl, sym, ◌∙◌, arith, Ok, Some, true, false}
 use Rattle.asm_text.specs.Candidates.{candidate}
 use Rattle.asm_text.specs.Listed.{listed, spelling, number_in}
 use Rattle.asm_text.specs.declared.sets.Set.{Set}

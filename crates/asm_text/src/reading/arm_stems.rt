@@ -70,9 +70,38 @@ macro_rules! multiple {
     };
 }
 
-/// Each name, with what it stands for.
+/// Each name, with what it stands for. Those that programs have most often stand first, since the table is read from its start.
 pub(crate) const ARM_STEMS: [(u64, Stem); 97] = [
+    (0x3092, transfer!(true, false, false)), // ldr
+    (0x35f6, move_operand!(Mov, false)), // mov
+    (0x2, row!(Branch { link: false } offset)), // b
+    (0x4e92, transfer!(false, false, false)), // str
+    (0x484, data!(Add, false)), // add
+    (0xdb0, compare!(Cmp)), // cmp
+    (0x4c, row!(Branch { link: true } offset)), // bl
+    (0x4ea2, data!(Sub, false)), // sub
+    (0x61242, transfer!(true, true, false)), // ldrb
+    (0x9d242, transfer!(false, true, false)), // strb
+    (0xc23521, multiple!(true, false, true)), // ldmia
+    (0x13a3482, multiple!(false, true, false)), // stmdb
     (0x58, row!(Bx {} rm)), // bx
+    (0x5c4, data!(And, false)), // and
+    (0x3e52, data!(Orr, false)), // orr
+    (0x5274, compare!(Tst)), // tst
+    (0x923, data!(Bic, false)), // bic
+    (0x9093, data!(Add, true)), // adds
+    (0x9d453, data!(Sub, true)), // subs
+    (0x6bed3, move_operand!(Mov, true)), // movs
+    (0x4a62, data!(Rsb, false)), // rsb
+    (0xb893, data!(And, true)), // ands
+    (0x7ca53, data!(Orr, true)), // orrs
+    (0x15f2, data!(Eor, false)), // eor
+    (0x36ce, move_operand!(Mvn, false)), // mvn
+    (0x61248, half_transfer!(Ldrh)), // ldrh
+    (0x9d248, half_transfer!(Strh)), // strh
+    (0x50b1, compare!(Teq)), // teq
+    (0xdae, compare!(Cmn)), // cmn
+    (0xebbe44, Stem::Raw(0)), // .word
     (0x998, row!(BlxRegister {} rm)), // blx
     (0x12e14, Stem::Row(Instr::Bkpt { immed: 0 })), // bkpt
     (0xd9a, row!(Clz {} rd rm)), // clz
@@ -158,8 +187,6 @@ pub(crate) const ARM_STEMS: [(u64, Stem); 97] = [
     ), // smlals
     (0x4ef0, row!(Swap { byte: false } rd rm rn)), // swp
     (0x9de02, row!(Swap { byte: true } rd rm rn)), // swpb
-    (0x9d248, half_transfer!(Strh)), // strh
-    (0x61248, half_transfer!(Ldrh)), // ldrh
     (0xc24a62, half_transfer!(Ldrsb)), // ldrsb
     (0xc24a68, half_transfer!(Ldrsh)), // ldrsh
     (0x3653, row!(Mrs { spsr: false } rd)), // mrs
@@ -167,54 +194,28 @@ pub(crate) const ARM_STEMS: [(u64, Stem); 97] = [
         0x3672,
         row!(Msr { spsr: false, fields: FieldMask { f: false, s: false, x: false, c: false } } rm),
     ), // msr
-    (0x5274, compare!(Tst)), // tst
-    (0x50b1, compare!(Teq)), // teq
-    (0xdb0, compare!(Cmp)), // cmp
-    (0xdae, compare!(Cmn)), // cmn
-    (0x35f6, move_operand!(Mov, false)), // mov
-    (0x6bed3, move_operand!(Mov, true)), // movs
-    (0x36ce, move_operand!(Mvn, false)), // mvn
     (0x6d9d3, move_operand!(Mvn, true)), // mvns
-    (0x5c4, data!(And, false)), // and
-    (0xb893, data!(And, true)), // ands
-    (0x15f2, data!(Eor, false)), // eor
     (0x2be53, data!(Eor, true)), // eors
-    (0x4ea2, data!(Sub, false)), // sub
-    (0x9d453, data!(Sub, true)), // subs
-    (0x4a62, data!(Rsb, false)), // rsb
     (0x94c53, data!(Rsb, true)), // rsbs
-    (0x484, data!(Add, false)), // add
-    (0x9093, data!(Add, true)), // adds
     (0x483, data!(Adc, false)), // adc
     (0x9073, data!(Adc, true)), // adcs
     (0x4c43, data!(Sbc, false)), // sbc
     (0x98873, data!(Sbc, true)), // sbcs
     (0x4a63, data!(Rsc, false)), // rsc
     (0x94c73, data!(Rsc, true)), // rscs
-    (0x3e52, data!(Orr, false)), // orr
-    (0x7ca53, data!(Orr, true)), // orrs
-    (0x923, data!(Bic, false)), // bic
     (0x12473, data!(Bic, true)), // bics
     (0x61244, double_transfer!(false)), // ldrd
     (0x9d244, double_transfer!(true)), // strd
-    (0x4e92, transfer!(false, false, false)), // str
     (0x9d254, transfer!(false, false, true)), // strt
-    (0x9d242, transfer!(false, true, false)), // strb
     (0x13a4854, transfer!(false, true, true)), // strbt
-    (0x3092, transfer!(true, false, false)), // ldr
     (0x61254, transfer!(true, false, true)), // ldrt
-    (0x61242, transfer!(true, true, false)), // ldrb
     (0xc24854, transfer!(true, true, true)), // ldrbt
     (0x13a3481, multiple!(false, false, false)), // stmda
     (0x13a3521, multiple!(false, false, true)), // stmia
-    (0x13a3482, multiple!(false, true, false)), // stmdb
     (0x13a3522, multiple!(false, true, true)), // stmib
     (0xc23481, multiple!(true, false, false)), // ldmda
-    (0xc23521, multiple!(true, false, true)), // ldmia
     (0xc23482, multiple!(true, true, false)), // ldmdb
     (0xc23522, multiple!(true, true, true)), // ldmib
-    (0x2, row!(Branch { link: false } offset)), // b
-    (0x4c, row!(Branch { link: true } offset)), // bl
     (
         0x3472,
         row!(Coprocessor { load: false } op1 crn rd cp op2 crm),
@@ -232,5 +233,4 @@ pub(crate) const ARM_STEMS: [(u64, Stem); 97] = [
             offset: Offset::Number { offset: 0 },
         }),
     ), // pld
-    (0xebbe44, Stem::Raw(0)), // .word
 ];

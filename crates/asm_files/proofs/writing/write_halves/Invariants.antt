@@ -1,0 +1,13 @@
+use Rattle.std.proofs.Common.{◌≤◌, length}
+use Rattle.asm_files.specs.Listings.{text_of, thumb_lines}
+use Rattle.asm_files.specs.Pages.{Passing}
+use Rattle.asm_files.proofs.writing.write_halves.Given as goal
+
+abbrev pub invariant-loop-rest : goal.invariant-loop-rest
+invariant-loop-rest g l = record {
+  passing : Passing g.O.Sink.tells g.O.Sink.taken l.initial.out l.out l.initial.page l.page (text_of (thumb_lines l.arch l.start l.image)) (text_of (thumb_lines l.arch l.at l.rest));
+  later : g.O.Sink.faults l.initial.out ≤ g.O.Sink.faults l.out;
+}
+
+abbrev pub decreases-loop-rest : goal.decreases-loop-rest
+decreases-loop-rest g l = length l.rest

@@ -1,6 +1,9 @@
-use Rattle.nds_top.specs.Words.{Asked, AskRun}
-use Rattle.nds_top.specs.declared.commands.Run.{Run}
+use Rattle.nds_top.specs.Words.{Asked, AskRun, AskList, AskAsm}
+use Rattle.nds_top.specs.declared.commands.Command.{Command}
+use Rattle.nds_top.specs.declared.commands.Command.TheVariants.{Run, List, Asm}
 
 -- what a command asks for
-abbrev pub asked_by : Run → Asked
-asked_by command = AskRun command.cart.now command.ticks command.keep
+abbrev pub asked_by : Command → Asked
+asked_by (Run cart ticks keep) = AskRun cart.now ticks keep
+asked_by (List cart proc set) = AskList cart.now proc set
+asked_by (Asm file) = AskAsm file.now

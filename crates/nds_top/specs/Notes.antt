@@ -73,6 +73,10 @@ stop_value left = codes " value " ++ hex_word left.value ++ line_feed
 abbrev pub stop_line : LeftOut → List ℕ
 stop_line left = stop_label left ++ stop_place left ++ stop_value left
 
+-- `bad text: line L`
+unfoldable pub text_line : ℕ → List ℕ
+text_line line = codes "bad text: line " ++ decimal line ++ line_feed
+
 -- the line of a status, with the name of the file that it speaks of
 abbrev pub note_of : status.Status → List ℕ → List ℕ
 note_of statuses.Done name = []
@@ -83,6 +87,7 @@ note_of statuses.WriteFault name = codes "write fault" ++ line_feed
 note_of statuses.TooLong name = codes "too long: " ++ name ++ line_feed
 note_of (statuses.BadHeader fault) name = header_line fault
 note_of (statuses.LeftOut left) name = stop_line left
+note_of (statuses.BadText line) name = text_line line
 note_of statuses.NoMemory name = codes "out of memory" ++ line_feed
 
 -- the file that the words name

@@ -1,6 +1,6 @@
 use Rattle.std.specs.Prelude.{ℕ}
 use Rattle.nds_top.specs.declared.statuses.Status.{Status}
-use Rattle.nds_top.specs.declared.statuses.Status.TheVariants.{Done, Usage, NoFile, ReadFault, WriteFault, TooLong, BadHeader, LeftOut, NoMemory}
+use Rattle.nds_top.specs.declared.statuses.Status.TheVariants.{Done, Usage, NoFile, ReadFault, WriteFault, TooLong, BadHeader, LeftOut, BadText, NoMemory}
 
 -- the number of each status (our choice)
 abbrev pub number_of : Status → ℕ
@@ -12,4 +12,5 @@ number_of WriteFault = 5
 number_of TooLong = 6
 number_of (BadHeader fault) = 7
 number_of (LeftOut left) = 9
+number_of (BadText line) = 10
 number_of NoMemory = 12

@@ -1,30 +1,32 @@
 //! The top call.
 
-ghost use Rattle.std.specs.Prelude.{◌≡◌, ◌≤◌, None, map};
+ghost use Rattle.std.specs.Prelude.{◌≡◌, None, map};
 ghost use Rattle.std.specs.String.{string_bytes};
-ghost use Rattle.nds_top.specs.Answers.{Gives, RunGives};
+ghost use Rattle.nds_top.specs.Answers.{Gives, CommandGives};
+ghost use Rattle.nds_top.specs.Commands.{asked_by};
 ghost use Rattle.nds_top.specs.Notes.{Noted, note_of, file_asked};
+ghost use Rattle.nds_top.specs.Words.{IsAllowed};
 
-use crate::commands::{Run, read_words};
-use crate::loads::load;
+use crate::commands::{Command, file_of, read_words};
+use crate::listings::{assemble, list};
 use crate::notes::note;
-use crate::plays::{Played, play};
+use crate::runs::run;
 use crate::statuses::Status;
-use ds_base::Tick;
-use ds_header::Cart;
 use ds_io::{Shelf, Sink};
 use run_ahead::Console;
 use std::alloc::Global;
 
-/// The greatest length of a cartridge, in bytes.
-const MOST_BYTES: usize = 33_554_432;
-
 /// Carries out what the words of a command line ask for, and says how it ended. `words` leaves out the program's name. The
 /// output goes to `out`, and the line that tells the status to `notes`. The console that ran is left in `seat`, which is empty
-/// before.
+/// before, and stays so where none ran.
 ///
-/// `run CART none TICKS none` boots a cartridge, runs it to a tick, and writes the records of memories and of the end, or that of
-/// the stop that it came to.
+/// - `run CART none TICKS none` boots a cartridge, runs it to a tick, and writes the records of memories and of the end, or that
+///   of the stop that it came to.
+/// - `list CART PROC` writes the listing of one image of a cartridge: of ARM9's, `9`, or ARM7's, `7`, as words, or of the same
+///   as halves, `9t` and `7t`.
+/// - `asm FILE` writes the bytes whose listing the file is. All of it is read before the first byte is written.
+///
+/// A file's name isn't empty and doesn't begin with `-`. A cartridge has 33,554,432 bytes at most, a listing 134,217,728.
 pub fn ds_main<F: Shelf, O: Sink, N: Sink>(
     alloc: Global,
     words: &[String],
@@ -54,24 +56,24 @@ pub fn ds_main<F: Shelf, O: Sink, N: Sink>(
             Status::Usage
         }
         Some(command) => {
-            let status = run(alloc, command, shelf, out, seat);
-            note(notes, &status, command.cart);
+            let status = carry_out(alloc, command, shelf, out, seat);
+            note(notes, &status, file_of(&command));
             status
         }
     }
 }
 
-/// Runs a cartridge.
-fn run<F: Shelf, O: Sink>(
+/// Carries out a command.
+fn carry_out<F: Shelf, O: Sink>(
     alloc: Global,
-    command: Run<'_>,
+    command: Command<'_>,
     shelf: &mut F,
     out: &mut O,
     seat: &mut Option<Console>,
 ) -> Status
-    requires early { command.ticks ≤ 100000000000 }
+    requires allowed { IsAllowed (asked_by command) }
     requires empty { seat.old ≡ None }
-    ensures answer { RunGives (record {
+    ensures answer { CommandGives (record {
       told = F.told shelf.old;
       shelf_before = F.faults shelf.old;
       shelf_after = F.faults shelf.new;
@@ -82,24 +84,11 @@ fn run<F: Shelf, O: Sink>(
       out_before = O.faults out.old;
       out_after = O.faults out.new;
       seat = seat.new;
-    }) command.entry.cart.now command.entry.ticks command.entry.keep result }
+    }) (asked_by command.entry) result }
 {
-    let bytes = match load(alloc, shelf, command.cart, MOST_BYTES) {
-        Ok(bytes) => bytes,
-        Err(status) => return status,
-    };
-    let cart = match Cart::read(bytes) {
-        Ok(cart) => cart,
-        Err(fault) => return Status::BadHeader(fault),
-    };
-    let Ok(mut console) = Console::new(alloc, cart) else {
-        return Status::NoMemory;
-    };
-    let played = play(&mut console, Tick(command.ticks), command.keep, out);
-    *seat = Some(console);
-    match played {
-        Played::Done => Status::Done,
-        Played::LeftOut(left) => Status::LeftOut(left),
-        Played::WriteFault => Status::WriteFault,
+    match command {
+        Command::Run { cart, ticks, keep } => run(alloc, cart, ticks, keep, shelf, out, seat),
+        Command::List { cart, proc, set } => list(alloc, cart, proc, set, shelf, out),
+        Command::Asm { file } => assemble(alloc, file, shelf, out),
     }
 }

@@ -3,8 +3,11 @@
 ghost use Rattle.std.specs.Prelude.{◌≡◌, ◌≢◌, ◌≤◌, ◌<◌, ◌↔◌, ℕ, IfSome, IfNone, IsTrue, codes, [], ◌∷◌, map};
 ghost use Rattle.std.specs.String.{string_bytes};
 ghost use Rattle.std.specs.Fmt.{decimal};
-ghost use Rattle.nds_top.specs.Words.{IsName, BeginsNumber, Asks, AskNothing, keep_word};
+ghost use Rattle.nds_top.specs.Words.{IsName, BeginsNumber, Asks, AskNothing, keep_word, image_word, file_of_asked};
 ghost use Rattle.nds_top.specs.Commands.{asked_by};
+
+use asm_text::Set;
+use ds_base::Proc;
 
 /// The greatest tick to which a run may be asked for.
 const MOST_TICKS: u64 = 100_000_000_000;
@@ -16,12 +19,25 @@ pub enum Keep {
     Nothing,
 }
 
-/// What the words ask for: to run a cartridge to a tick, in ticks, and what to write.
+/// What the words ask for.
 #[derive(Clone, Copy)]
-pub(crate) struct Run<'a> {
-    pub(crate) cart: &'a str,
-    pub(crate) ticks: u64,
-    pub(crate) keep: Keep,
+pub(crate) enum Command<'a> {
+    /// To run a cartridge to a tick, in ticks, and what to write.
+    Run {
+        cart: &'a str,
+        ticks: u64,
+        keep: Keep,
+    },
+    /// To list the image of one of its processors, as words or as halves.
+    List {
+        cart: &'a str,
+        proc: Proc,
+        set: Set,
+    },
+    /// To assemble a listing.
+    Asm {
+        file: &'a str,
+    },
 }
 
 /// Whether a word begins as numbers do: with a digit, and with 0 only where nothing follows.
@@ -69,8 +85,26 @@ fn keep_of(word: &str) -> Option<Keep>
     }
 }
 
+/// An image and how it is listed, by its word.
+fn image_of_word(word: &str) -> Option<(Proc, Set)>
+    ensures some { IfSome result (λ i. word.now ≡ image_word i.0 i.1) }
+    ensures none { IfNone result ((proc : Proc) → (set : Set) → word.now ≢ image_word proc set) }
+{
+    if word == "9" {
+        Some((Proc::Nine, Set::Arm))
+    } else if word == "7" {
+        Some((Proc::Seven, Set::Arm))
+    } else if word == "9t" {
+        Some((Proc::Nine, Set::Thumb))
+    } else if word == "7t" {
+        Some((Proc::Seven, Set::Thumb))
+    } else {
+        None
+    }
+}
+
 /// What the words after `run` ask for.
-fn run_of<'a>(cart: &'a str, keys: &str, ticks: &str, keep: &str) -> Option<Run<'a>>
+fn run_of<'a>(cart: &'a str, keys: &str, ticks: &str, keep: &str) -> Option<Command<'a>>
     ensures some { IfSome result (λ c. Asks (codes "run" ∷ cart.entry.now ∷ keys.now ∷ ticks.now ∷ keep.now ∷ []) (asked_by c)) }
     ensures none { IfNone result (AskNothing (codes "run" ∷ cart.entry.now ∷ keys.now ∷ ticks.now ∷ keep.now ∷ [])) }
 {
@@ -86,11 +120,36 @@ fn run_of<'a>(cart: &'a str, keys: &str, ticks: &str, keep: &str) -> Option<Run<
     let Some(keep) = keep_of(keep) else {
         return None;
     };
-    Some(Run { cart, ticks, keep })
+    Some(Command::Run { cart, ticks, keep })
+}
+
+/// What the words after `list` ask for.
+fn list_of<'a>(cart: &'a str, image: &str) -> Option<Command<'a>>
+    ensures some { IfSome result (λ c. Asks (codes "list" ∷ cart.entry.now ∷ image.now ∷ []) (asked_by c)) }
+    ensures none { IfNone result (AskNothing (codes "list" ∷ cart.entry.now ∷ image.now ∷ [])) }
+{
+    if !is_name(cart) {
+        return None;
+    }
+    let Some((proc, set)) = image_of_word(image) else {
+        return None;
+    };
+    Some(Command::List { cart, proc, set })
+}
+
+/// What the word after `asm` asks for.
+fn asm_of(file: &str) -> Option<Command<'_>>
+    ensures some { IfSome result (λ c. Asks (codes "asm" ∷ file.entry.now ∷ []) (asked_by c)) }
+    ensures none { IfNone result (AskNothing (codes "asm" ∷ file.entry.now ∷ [])) }
+{
+    if !is_name(file) {
+        return None;
+    }
+    Some(Command::Asm { file })
 }
 
 /// What the words ask for, where they ask for something.
-pub(crate) fn read_words(words: &[String]) -> Option<Run<'_>>
+pub(crate) fn read_words(words: &[String]) -> Option<Command<'_>>
     ensures some { IfSome result (λ c. Asks (map string_bytes words.entry.now) (asked_by c)) }
     ensures none { IfNone result (AskNothing (map string_bytes words.entry.now)) }
 {
@@ -102,5 +161,22 @@ pub(crate) fn read_words(words: &[String]) -> Option<Run<'_>>
             words[4].as_str(),
         );
     }
+    if words.len() == 3 && words[0].as_str() == "list" {
+        return list_of(words[1].as_str(), words[2].as_str());
+    }
+    if words.len() == 2 && words[0].as_str() == "asm" {
+        return asm_of(words[1].as_str());
+    }
     None
+}
+
+/// The file that a command names.
+pub(crate) fn file_of<'a>(command: &Command<'a>) -> &'a str
+    ensures { result.now ≡ file_of_asked (asked_by command.now) }
+{
+    match command {
+        Command::Run { cart, .. } => cart,
+        Command::List { cart, .. } => cart,
+        Command::Asm { file } => file,
+    }
 }

@@ -3,7 +3,7 @@
 ghost use Rattle.std.specs.Prelude.{◌≡◌, ◌<◌, ◌≤◌, ◌++◌, OnOk, OnErr};
 ghost use Rattle.ds_io.specs.Faults.{Rose};
 ghost use Rattle.ds_io.specs.Sinks.{Appended, AppendedFront};
-ghost use Rattle.nds_top.specs.Notes.{hex_digit, hex_word, field_word, kind_word, header_label, header_value, header_line, stop_label, stop_place, stop_value, stop_line, note_of, Noted};
+ghost use Rattle.nds_top.specs.Notes.{hex_digit, hex_word, field_word, kind_word, header_label, header_value, header_line, stop_label, stop_place, stop_value, stop_line, text_line, note_of, Noted};
 
 use crate::records::{put_three, put_two};
 use crate::statuses::Status;
@@ -179,6 +179,20 @@ fn put_stop_line<N: Sink>(notes: &mut N, left: LeftOut) -> Result<(), Failed>
     Ok(())
 }
 
+/// The line of a listing's first bad line.
+#[tactic(auto, unfolding(crate::specs::Notes::text_line))]
+fn put_text_line<N: Sink>(notes: &mut N, line: u32) -> Result<(), Failed>
+    ensures ok { OnOk result (Appended N.tells N.taken notes.old notes.new (text_line line)) }
+    ensures err { OnErr result (AppendedFront N.tells N.taken notes.old notes.new (text_line line)) }
+    ensures cause { OnErr result (Rose (N.faults notes.old) (N.faults notes.new)) }
+    ensures later { N.faults notes.old ≤ N.faults notes.new }
+{
+    let mut number = Buffer::new();
+    let number = number.format(line).as_bytes();
+    put_three(notes, b"bad text: line ", number, b"\n")?;
+    Ok(())
+}
+
 /// The line of a status, with the name of the file that it speaks of.
 #[tactic(auto, using(ds_io::proofs::SinkLemmas::append_none))]
 fn put_line<N: Sink>(notes: &mut N, status: &Status, name: &[u8]) -> Result<(), Failed>
@@ -195,6 +209,7 @@ fn put_line<N: Sink>(notes: &mut N, status: &Status, name: &[u8]) -> Result<(), 
         Status::TooLong => put_three(notes, b"too long: ", name, b"\n"),
         Status::BadHeader(fault) => put_header_line(notes, *fault),
         Status::LeftOut(left) => put_stop_line(notes, *left),
+        Status::BadText { line } => put_text_line(notes, *line),
         Status::NoMemory => put_all(notes, b"out of memory\n"),
     }
 }

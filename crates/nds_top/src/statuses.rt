@@ -25,6 +25,11 @@ pub enum Status {
     BadHeader(HeaderFault),
     /// The run came to a step that needs what is left out.
     LeftOut(LeftOut),
+    /// A listing's file is no listing: the first line that begins none.
+    BadText {
+        /// The line's number, from 1.
+        line: u32,
+    },
     /// There was no memory; nothing was written.
     NoMemory,
 }
@@ -42,6 +47,7 @@ pub fn number(status: &Status) -> u8
         Status::TooLong => 6,
         Status::BadHeader(_) => 7,
         Status::LeftOut(_) => 9,
+        Status::BadText { line: _ } => 10,
         Status::NoMemory => 12,
     }
 }

@@ -1,6 +1,8 @@
 //! The words that are built, on worked programs.
 
-use super::{BRANCH, Ended, run};
+use super::Ended;
+use super::carts::{BRANCH, run};
+use super::runs::end_record;
 use ds_base::{Memory, Proc};
 use run_ahead::Console;
 use std::alloc::{AllocError, Global};
@@ -39,9 +41,8 @@ fn moves_sums_stores_and_loads_are_taken(rt: HostRuntime) -> Result<(), AllocErr
         BRANCH,
     ];
     let ended = run(rt.alloc(), &words, &[BRANCH], "8")?;
-    let end =
-        b"E\x08\0\0\0\0\0\0\0\x07\0\0\0\0\0\0\0\x02\0\0\0\0\0\0\0\0\0\0\0\0\0\0\0\x09\0\0\0\0\0\0\0";
-    assert!(rt; ended.out.bytes().ends_with(end));
+    let end = end_record(rt.alloc(), &[8, 7, 2, 0, 9])?;
+    assert!(rt; ended.out.bytes().ends_with(end.as_slice()));
     let Ended { seat, .. } = ended;
     let Some(console) = seat else {
         panic!(rt; "no console");

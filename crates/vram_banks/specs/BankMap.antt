@@ -37,62 +37,62 @@ pub record Row : Type 0 where
   pub ofs_1 : ℕ
   pub size : ℕ
 
-abbrev pub row : ℕ → Space → ℕ → ℕ → ℕ → ℕ → Row
-row mst space base ofs_0 ofs_1 size = record { mst = mst; space = space; base = base; ofs_0 = ofs_0; ofs_1 = ofs_1; size = size }
+abbrev pub mapped : ℕ → Space → ℕ → ℕ → ℕ → ℕ → Row
+mapped mst space base ofs_0 ofs_1 size = record { mst = mst; space = space; base = base; ofs_0 = ofs_0; ofs_1 = ofs_1; size = size }
 
 -- An MST that has no row maps a bank nowhere; so do those of textures and their palettes, which no processor sees.
 
 -- A and B
 abbrev pub rows_of_ab : ℕ → List Row
 rows_of_ab lcdc =
-    row 0 Lcdc lcdc 0 0 0x20000
-    ∷ row 1 ABg 0 0x20000 0x40000 0x20000
-    ∷ row 2 AObj 0 0x20000 0 0x20000
+    mapped 0 Lcdc lcdc 0 0 0x20000
+    ∷ mapped 1 ABg 0 0x20000 0x40000 0x20000
+    ∷ mapped 2 AObj 0 0x20000 0 0x20000
     ∷ []
 
 -- C and D, which differ in the space of MST 4
 abbrev pub rows_of_cd : ℕ → Space → List Row
 rows_of_cd lcdc fourth =
-    row 0 Lcdc lcdc 0 0 0x20000
-    ∷ row 1 ABg 0 0x20000 0x40000 0x20000
-    ∷ row 2 Arm7 0 0x20000 0 0x20000
-    ∷ row 4 fourth 0 0 0 0x20000
+    mapped 0 Lcdc lcdc 0 0 0x20000
+    ∷ mapped 1 ABg 0 0x20000 0x40000 0x20000
+    ∷ mapped 2 Arm7 0 0x20000 0 0x20000
+    ∷ mapped 4 fourth 0 0 0 0x20000
     ∷ []
 
 -- E; of its 64K the first 32K serve as palettes
 abbrev pub rows_of_e : List Row
 rows_of_e =
-    row 0 Lcdc 0x80000 0 0 0x10000
-    ∷ row 1 ABg 0 0 0 0x10000
-    ∷ row 2 AObj 0 0 0 0x10000
-    ∷ row 4 ABgPalette 0 0 0 0x8000
+    mapped 0 Lcdc 0x80000 0 0 0x10000
+    ∷ mapped 1 ABg 0 0 0 0x10000
+    ∷ mapped 2 AObj 0 0 0 0x10000
+    ∷ mapped 4 ABgPalette 0 0 0 0x8000
     ∷ []
 
 -- F and G; of their 16K the first 8K serve as palettes of objects
 abbrev pub rows_of_fg : ℕ → List Row
 rows_of_fg lcdc =
-    row 0 Lcdc lcdc 0 0 0x4000
-    ∷ row 1 ABg 0 0x4000 0x10000 0x4000
-    ∷ row 2 AObj 0 0x4000 0x10000 0x4000
-    ∷ row 4 ABgPalette 0 0x4000 0 0x4000
-    ∷ row 5 AObjPalette 0 0 0 0x2000
+    mapped 0 Lcdc lcdc 0 0 0x4000
+    ∷ mapped 1 ABg 0 0x4000 0x10000 0x4000
+    ∷ mapped 2 AObj 0 0x4000 0x10000 0x4000
+    ∷ mapped 4 ABgPalette 0 0x4000 0 0x4000
+    ∷ mapped 5 AObjPalette 0 0 0 0x2000
     ∷ []
 
 -- H
 abbrev pub rows_of_h : List Row
 rows_of_h =
-    row 0 Lcdc 0x98000 0 0 0x8000
-    ∷ row 1 BBg 0 0 0 0x8000
-    ∷ row 2 BBgPalette 0 0 0 0x8000
+    mapped 0 Lcdc 0x98000 0 0 0x8000
+    ∷ mapped 1 BBg 0 0 0 0x8000
+    ∷ mapped 2 BBgPalette 0 0 0 0x8000
     ∷ []
 
 -- I; of its 16K the first 8K serve as palettes of objects
 abbrev pub rows_of_i : List Row
 rows_of_i =
-    row 0 Lcdc 0xA0000 0 0 0x4000
-    ∷ row 1 BBg 0x8000 0 0 0x4000
-    ∷ row 2 BObj 0 0 0 0x4000
-    ∷ row 3 BObjPalette 0 0 0 0x2000
+    mapped 0 Lcdc 0xA0000 0 0 0x4000
+    ∷ mapped 1 BBg 0x8000 0 0 0x4000
+    ∷ mapped 2 BObj 0 0 0 0x4000
+    ∷ mapped 3 BObjPalette 0 0 0 0x2000
     ∷ []
 
 abbrev pub rows_of : ℕ → List Row

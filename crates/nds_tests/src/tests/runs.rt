@@ -8,11 +8,18 @@ use run_ahead::Console;
 use std::alloc::{AllocError, Global};
 use std::process::Abort;
 
+/// Adds a number, little-endian.
+fn put_long(record: &mut Vec<u8>, value: u64) -> Result<(), AllocError> {
+    record.extend_from_slice(&value.to_le_bytes())?;
+    Ok(())
+}
+
 /// The record of the end.
-pub(super) fn end_record(alloc: Global, numbers: &[u64; 5]) -> Result<Vec<u8>, AllocError> {
-    let mut record = vec![in alloc; b'E'; 1]?;
+pub(super) fn end_record(alloc: Global, numbers: &[u64]) -> Result<Vec<u8>, AllocError> {
+    let mut record = Vec::new(alloc);
+    record.push(b'E')?;
     for number in numbers {
-        record.extend_from_slice(&number.to_le_bytes())?;
+        put_long(&mut record, *number)?;
     }
     Ok(record)
 }
@@ -22,7 +29,7 @@ fn branches_end_with(
     rt: &impl Abort,
     alloc: Global,
     ticks: &str,
-    numbers: &[u64; 5],
+    numbers: &[u64],
 ) -> Result<(), AllocError> {
     let ended = run(alloc, &[BRANCH], &[BRANCH], ticks)?;
     let end = end_record(alloc, numbers)?;

@@ -65,7 +65,8 @@ fn arm7_there_and_back(
 fn the_image_of_arm7_is_listed_from_its_own_address(rt: HostRuntime) -> Result<(), AllocError> {
     let words = b".arm7 0x2100000\nb 0x2100000\n";
     arm7_there_and_back(&rt, rt.alloc(), "7", words)?;
-    let halves = b".thumb7 0x2100000\n.half 0xfffe\n.half 0xeaff\n";
+    // FFFEh is the second half of a call, and EAFFh no half of ARM7
+    let halves = b".thumb7 0x2100000\nbll #0x7fe\n.half 0xeaff\n";
     arm7_there_and_back(&rt, rt.alloc(), "7t", halves)
 }
 

@@ -100,13 +100,18 @@ fn each_failed_call_of_the_shelf_is_a_read_fault(rt: HostRuntime) -> Result<(), 
     Ok(())
 }
 
+/// Bytes are a front of others, and not all of them.
+fn are_front(rt: &impl Abort, bytes: &[u8], whole: &[u8]) {
+    assert!(rt; bytes.len() < whole.len());
+    assert!(rt; whole.starts_with(bytes));
+}
+
 /// The call came to a write fault, and a front of the whole output is written.
 fn expect_front(rt: &impl Abort, ended: &Failing, whole: &[u8]) {
     has_number(rt, ended.status, 5);
     assert!(rt; ended.notes.bytes() == b"write fault\n".as_slice());
     assert!(rt; ended.out.is_told());
-    assert!(rt; ended.out.bytes().len() < whole.len());
-    assert!(rt; whole.starts_with(ended.out.bytes()));
+    are_front(rt, ended.out.bytes(), whole);
 }
 
 /// With this call of the output's sink failing, a run of ARM9's word is a write fault.
@@ -172,16 +177,24 @@ fn has_status_without_note(
     Ok(ended)
 }
 
-/// The same of a name that no file has, and of the cartridge's own.
-fn keeps_its_status(rt: &impl Abort, alloc: Global, call: u64) -> Result<(), AllocError>
+/// The words of a run of a name that no file has.
+const ABSENT: [&str; 5] = ["run", "NAME", "none", "9", "none"];
+
+/// The same of such words: a front of the note is written.
+fn keeps_no_file(rt: &impl Abort, alloc: Global, call: u64) -> Result<(), AllocError>
     requires above { 0 < call }
     requires below { call < 2 ^ 64 - 1 }
 {
-    let absent = ["run", "NAME", "none", "9", "none"];
-    let ended = has_status_without_note(rt, alloc, &absent, call, 3)?;
-    let line = b"no file: NAME\n";
-    assert!(rt; ended.notes.bytes().len() < line.len());
-    assert!(rt; line.starts_with(ended.notes.bytes()));
+    let ended = has_status_without_note(rt, alloc, &ABSENT, call, 3)?;
+    are_front(rt, ended.notes.bytes(), b"no file: NAME\n");
+    Ok(())
+}
+
+/// The same of a cartridge: its stop is written all the same.
+fn keeps_left_out(rt: &impl Abort, alloc: Global, call: u64) -> Result<(), AllocError>
+    requires above { 0 < call }
+    requires below { call < 2 ^ 64 - 1 }
+{
     let ended = has_status_without_note(rt, alloc, &RUN, call, 9)?;
     assert_eq!(rt; ended.out.bytes().len(), 15);
     Ok(())
@@ -190,18 +203,30 @@ fn keeps_its_status(rt: &impl Abort, alloc: Global, call: u64) -> Result<(), All
 #[test]
 fn a_failed_note_changes_no_status(rt: HostRuntime) -> Result<(), AllocError> {
     for call in 1..4u64 {
-        keeps_its_status(&rt, rt.alloc(), call)?;
+        keeps_no_file(&rt, rt.alloc(), call)?;
+        keeps_left_out(&rt, rt.alloc(), call)?;
     }
+    Ok(())
+}
+
+/// A cartridge of so many bytes is refused for its length.
+fn is_too_long(rt: &impl Abort, alloc: Global, length: usize) -> Result<(), AllocError> {
+    let ended = with_no_failure(alloc, STOP, length)?;
+    expect_refused(rt, &ended, 6, b"too long: file\n");
+    Ok(())
+}
+
+/// A cartridge of so many bytes runs to its stop.
+fn comes_to_its_stop(rt: &impl Abort, alloc: Global, length: usize) -> Result<(), AllocError> {
+    let ended = with_no_failure(alloc, STOP, length)?;
+    has_number(rt, ended.status, 9);
     Ok(())
 }
 
 #[test]
 fn a_cartridge_may_have_32_mib_and_no_byte_more(rt: HostRuntime) -> Result<(), AllocError> {
-    let long = with_no_failure(rt.alloc(), STOP, 33_554_433)?;
-    expect_refused(&rt, &long, 6, b"too long: file\n");
-    let whole = with_no_failure(rt.alloc(), STOP, 33_554_432)?;
-    has_number(&rt, whole.status, 9);
-    Ok(())
+    is_too_long(&rt, rt.alloc(), 33_554_433)?;
+    comes_to_its_stop(&rt, rt.alloc(), 33_554_432)
 }
 
 /// The program ends with this number.
@@ -257,14 +282,20 @@ fn is_bad_header(
     Ok(())
 }
 
+/// With this number set in its header, a cartridge runs to its end.
+fn is_accepted(rt: &impl Abort, alloc: Global, at: usize, value: u32) -> Result<(), AllocError> {
+    let ended = call(alloc, short_cart(alloc, at, value)?, &RUN)?;
+    has_number(rt, ended.status, 0);
+    assert!(rt; ended.notes.bytes().is_empty());
+    assert!(rt; !ended.out.bytes().is_empty());
+    assert!(rt; ended.seat.is_some());
+    Ok(())
+}
+
 #[test]
 fn a_refused_header_is_told_by_its_field_and_value(rt: HostRuntime) -> Result<(), AllocError> {
     let alloc = rt.alloc();
-    let accepted = call(alloc, short_cart(alloc, 0x12, 2)?, &RUN)?;
-    has_number(&rt, accepted.status, 0);
-    assert!(rt; accepted.notes.bytes().is_empty());
-    assert!(rt; !accepted.out.bytes().is_empty());
-    assert!(rt; accepted.seat.is_some());
+    is_accepted(&rt, alloc, 0x12, 2)?;
     is_bad_header(&rt, alloc, 0x12, 3, b"bad header: UnitCode 0x00000003\n")?;
     is_bad_header(&rt, alloc, 0x2C, 5, b"bad header: Arm9Rom 0x000001fc\n")?;
     let place = 0x0200_0002;

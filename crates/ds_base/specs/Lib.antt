@@ -1,1 +1,9 @@
+pub mod Accesses
+pub mod Bits
+pub mod Digits
+pub mod Interrupts
 pub mod KeyLines
+pub mod Memories
+pub mod Numbers
+pub mod Processors
+pub mod Schedules

@@ -1,7 +1,7 @@
 //! The key script: which keys are pressed from which tick on.
 
 ghost use Rattle.std.specs.Prelude.{◌≡◌, ◌<◌, ◌^◌, ◌++◌, ◌∷◌, [], length, IfOk, OnErr};
-ghost use Rattle.ds_base.specs.KeyLines.{ComesAfter, line_at};
+ghost use Rattle.ds_base.specs.KeyLines.{AreKeyLines, ComesAfter, line_at};
 
 use crate::ticks::Tick;
 use std::alloc::{AllocError, Global};
@@ -56,9 +56,10 @@ impl Keys {
         Ok(())
     }
 
-    /// How many lines there are.
+    /// How many lines there are. Their ticks rise, and each tells of twelve keys.
     pub fn len(&self) -> usize
-        ensures { result ≡ length self.now }
+        ensures length { result ≡ length self.now }
+        ensures lines { AreKeyLines self.now }
     {
         self.lines.len()
     }

@@ -1,5 +1,8 @@
 //! The two processors.
 
+ghost use Rattle.std.specs.Prelude.{◌≡◌};
+ghost use Rattle.ds_base.specs.Processors.{architecture_of, ticks_per_clock};
+
 /// One of the console's two processors (GBATEK, "NDS Overview"). It also names the processor's side of what both share.
 #[derive(Clone, Copy, PartialEq, Eq, Debug)]
 pub enum Proc {
@@ -16,6 +19,30 @@ pub enum Arch {
     V4,
     /// ARMv5TE, that of ARM9.
     V5,
+}
+
+impl Proc {
+    /// The architecture of its instructions.
+    #[inline(always)]
+    pub const fn architecture(self) -> Arch
+        ensures { result ≡ architecture_of self }
+    {
+        match self {
+            Proc::Nine => Arch::V5,
+            Proc::Seven => Arch::V4,
+        }
+    }
+
+    /// One of its clocks, in ticks.
+    #[inline(always)]
+    pub const fn ticks_per_clock(self) -> u64
+        ensures { result ≡ ticks_per_clock self }
+    {
+        match self {
+            Proc::Nine => 1,
+            Proc::Seven => 2,
+        }
+    }
 }
 
 /// The bits of each processor's interrupt flags (IF) that an event raises (GBATEK, "DS Interrupts").

@@ -1,6 +1,6 @@
-//! That calls which take memory succeed, and that a script tells its lines back.
+//! That calls which take memory succeed, that a script tells its lines back, and the tables of numbers, from GBATEK.
 
-use crate::{KeyLine, Keys, Tick};
+use crate::{Interrupt, KeyLine, Keys, Memory, Space, Tick, hex_digits};
 use std::alloc::AllocError;
 
 #[test]
@@ -21,4 +21,61 @@ fn a_script_tells_the_lines_that_it_took(rt: HostRuntime) -> Result<(), AllocErr
     assert!(rt; keys.line(0) == first);
     assert!(rt; keys.line(1) == second);
     Ok(())
+}
+
+#[test]
+fn interrupts_stand_at_their_bits_of_if(rt: HostRuntime) {
+    for (interrupt, bits) in [
+        (Interrupt::VBlank, 0x0000_0001),
+        (Interrupt::HBlank, 0x0000_0002),
+        (Interrupt::VCount, 0x0000_0004),
+        (Interrupt::Timer0, 0x0000_0008),
+        (Interrupt::Timer3, 0x0000_0040),
+        (Interrupt::Dma0, 0x0000_0100),
+        (Interrupt::Dma3, 0x0000_0800),
+        (Interrupt::Keys, 0x0000_1000),
+        (Interrupt::IpcSync, 0x0001_0000),
+        (Interrupt::SendFifoEmpty, 0x0002_0000),
+        (Interrupt::ReceiveFifoNotEmpty, 0x0004_0000),
+        (Interrupt::CardTransfer, 0x0008_0000),
+        (Interrupt::GeometryFifo, 0x0020_0000),
+    ] {
+        assert_eq!(rt; interrupt.bit(), bits);
+    }
+}
+
+#[test]
+fn memories_and_spaces_have_the_sizes_of_the_hardware(rt: HostRuntime) {
+    for (memory, kibibytes) in [
+        (Memory::Main, 4_096),
+        (Memory::Shared, 32),
+        (Memory::Own7, 64),
+        (Memory::Itcm, 32),
+        (Memory::Dtcm, 16),
+        (Memory::Palette, 2),
+        (Memory::Vram, 656),
+        (Memory::Oam, 2),
+    ] {
+        assert_eq!(rt; memory.size(), kibibytes * 1_024);
+    }
+    for (space, kibibytes) in [
+        (Space::ABg, 512),
+        (Space::BBg, 128),
+        (Space::AObj, 256),
+        (Space::BObj, 128),
+        (Space::Lcdc, 1_024),
+        (Space::Arm7, 256),
+        (Space::ABgPalette, 32),
+        (Space::BBgPalette, 32),
+        (Space::AObjPalette, 8),
+        (Space::BObjPalette, 8),
+    ] {
+        assert_eq!(rt; space.size(), kibibytes * 1_024);
+    }
+}
+
+#[test]
+fn words_are_written_in_lower_case_digits(rt: HostRuntime) {
+    assert!(rt; hex_digits(0x0123_4567) == *b"01234567");
+    assert!(rt; hex_digits(0x89AB_CDEF) == *b"89abcdef");
 }

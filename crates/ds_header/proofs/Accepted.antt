@@ -2,8 +2,8 @@ use Rattle.std.proofs.Common.{ℕ, ◌≡◌, ◌+◌, ◌%◌, ◌^◌, ◌&&�
 use Rattle.ds_base.specs.declared.processors.Proc.{Proc}
 use Rattle.ds_base.specs.declared.processors.Proc.TheVariants.{Nine, Seven}
 use Rattle.ds_header.specs.declared.faults.HeaderFault.{HeaderFault}
-use Rattle.ds_header.specs.Fields.{entry_of, length_of, offset_of, place_of}
-use Rattle.ds_header.specs.Rules.{IsAccepted, LiesIn, Range, IsWithin, main_range, work_range, first_broken, rules_for, or_then, lies_in, lies_within}
+use Rattle.ds_header.specs.Fields.{image_entry, image_length, image_offset, image_place}
+use Rattle.ds_header.specs.Rules.{IsAccepted, ImageLies, Range, IsWithin, main_range, work_range, first_broken, rules_for, or_then, lies_in, lies_within}
 
 -- where the first of two lists and the second are unbroken, both are
 both : (first second : Option HeaderFault) → or_then first second ≡ None → (first ≡ None) × (second ≡ None)
@@ -23,9 +23,9 @@ three false b c x y z h = absurd (cc)
 
 -- the rules of an image, one by one
 rule_facts : (file : List ℕ) (proc : Proc) → IsAccepted file →
-    ((nat_le (length_of file proc) (2 ^ 22) && nat_le (offset_of file proc + length_of file proc) (length file)) ≡ true)
-    × (lies_in proc (place_of file proc) (length_of file proc) ≡ true)
-    × ((entry_of file proc % 4 == 0 && lies_in proc (entry_of file proc) 0) ≡ true)
+    ((nat_le (image_length file proc) (2 ^ 22) && nat_le (image_offset file proc + image_length file proc) (length file)) ≡ true)
+    × (lies_in proc (image_place file proc) (image_length file proc) ≡ true)
+    × ((image_entry file proc % 4 == 0 && lies_in proc (image_entry file proc) 0) ≡ true)
 rule_facts file Nine h = three _ _ _ _ _ _ (rules_hold file Nine h)
 rule_facts file Seven h = three _ _ _ _ _ _ (rules_hold file Seven h)
 
@@ -47,15 +47,15 @@ within range at count h =
       whole = (let e : nat_le (at + count) range.past ≡ true = p.1 in grind (arith, e));
     }
 
-lies : (proc : Proc) (at count : ℕ) → lies_in proc at count ≡ true → LiesIn proc at count
+lies : (proc : Proc) (at count : ℕ) → lies_in proc at count ≡ true → ImageLies proc at count
 lies Nine at count h = within main_range at count h
 lies Seven at count h = elim (or_either _ _ h) [ inl a ↦ inl (within main_range at count a) | inr b ↦ inr (within work_range at count b) ]
 
 -- a processor begins at a word where its image may lie
-pub entry_aligned : (file : List ℕ) (proc : Proc) → IsAccepted file → entry_of file proc % 4 ≡ 0
-entry_aligned file proc h = same (entry_of file proc % 4) 0 (and_both _ _ (rule_facts file proc h).2).0 where
+pub entry_aligned : (file : List ℕ) (proc : Proc) → IsAccepted file → image_entry file proc % 4 ≡ 0
+entry_aligned file proc h = same (image_entry file proc % 4) 0 (and_both _ _ (rule_facts file proc h).2).0 where
   same : (a b : ℕ) → (a == b) ≡ true → a ≡ b
   same a b e = grind (arith, e)
 
-pub entry_lies : (file : List ℕ) (proc : Proc) → IsAccepted file → LiesIn proc (entry_of file proc) 0
-entry_lies file proc h = lies proc (entry_of file proc) 0 (and_both _ _ (rule_facts file proc h).2).1
+pub entry_lies : (file : List ℕ) (proc : Proc) → IsAccepted file → ImageLies proc (image_entry file proc) 0
+entry_lies file proc h = lies proc (image_entry file proc) 0 (and_both _ _ (rule_facts file proc h).2).1

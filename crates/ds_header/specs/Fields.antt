@@ -41,31 +41,31 @@ image_fields proc = record {
 }
 
 -- the bytes of a field, and the number that they are, the lowest first
-abbrev pub bytes_of : List ℕ → Field → List ℕ
-bytes_of file f = take f.size (drop f.at file)
+abbrev pub field_bytes : List ℕ → Field → List ℕ
+field_bytes file f = take f.size (drop f.at file)
 
-unfoldable pub number_of : List ℕ → Field → ℕ
-number_of file f = little_number f.size (drop f.at file)
+unfoldable pub field_number : List ℕ → Field → ℕ
+field_number file f = little_number f.size (drop f.at file)
 
 -- what a file says
 abbrev pub title_of : List ℕ → List ℕ
-title_of file = bytes_of file title_field
+title_of file = field_bytes file title_field
 
 abbrev pub unit_code_of : List ℕ → ℕ
-unit_code_of file = number_of file unit_code_field
+unit_code_of file = field_number file unit_code_field
 
-abbrev pub offset_of : List ℕ → Proc → ℕ
-offset_of file proc = number_of file (image_fields proc).offset
+abbrev pub image_offset : List ℕ → Proc → ℕ
+image_offset file proc = field_number file (image_fields proc).offset
 
-abbrev pub entry_of : List ℕ → Proc → ℕ
-entry_of file proc = number_of file (image_fields proc).entry
+abbrev pub image_entry : List ℕ → Proc → ℕ
+image_entry file proc = field_number file (image_fields proc).entry
 
-abbrev pub place_of : List ℕ → Proc → ℕ
-place_of file proc = number_of file (image_fields proc).place
+abbrev pub image_place : List ℕ → Proc → ℕ
+image_place file proc = field_number file (image_fields proc).place
 
-abbrev pub length_of : List ℕ → Proc → ℕ
-length_of file proc = number_of file (image_fields proc).length
+abbrev pub image_length : List ℕ → Proc → ℕ
+image_length file proc = field_number file (image_fields proc).length
 
 -- the image of a processor: what the file has from its offset on
 abbrev pub image_of : List ℕ → Proc → List ℕ
-image_of file proc = take (length_of file proc) (drop (offset_of file proc) file)
+image_of file proc = take (image_length file proc) (drop (image_offset file proc) file)

@@ -6,7 +6,7 @@ use Rattle.ds_base.specs.declared.processors.Proc.TheVariants.{Nine, Seven}
 use Rattle.ds_header.specs.declared.faults.HeaderFault.{HeaderFault}
 use Rattle.ds_header.specs.declared.faults.HeaderField.{HeaderField}
 use Rattle.ds_header.specs.declared.faults.HeaderField.TheVariants.{Short, UnitCode, Arm9Rom, Arm9Place, Arm9Entry, Arm7Rom, Arm7Place, Arm7Entry}
-use Rattle.ds_header.specs.Fields.{unit_code_of, offset_of, entry_of, place_of, length_of}
+use Rattle.ds_header.specs.Fields.{unit_code_of, image_offset, image_entry, image_place, image_length}
 
 -- a range of addresses, the last not in it
 pub record Range : Type 0 where
@@ -49,10 +49,10 @@ file_rules file =
 -- a word there
 abbrev pub image_rules : HeaderField → HeaderField → HeaderField → List ℕ → Proc → List Rule
 image_rules rom place entry file proc =
-    rule rom (offset_of file proc)
-    (nat_le (length_of file proc) (2 ^ 22) && nat_le (offset_of file proc + length_of file proc) (length file))
-    ∷ rule place (place_of file proc) (lies_in proc (place_of file proc) (length_of file proc))
-    ∷ rule entry (entry_of file proc) (entry_of file proc % 4 == 0 && lies_in proc (entry_of file proc) 0)
+    rule rom (image_offset file proc)
+    (nat_le (image_length file proc) (2 ^ 22) && nat_le (image_offset file proc + image_length file proc) (length file))
+    ∷ rule place (image_place file proc) (lies_in proc (image_place file proc) (image_length file proc))
+    ∷ rule entry (image_entry file proc) (image_entry file proc % 4 == 0 && lies_in proc (image_entry file proc) 0)
     ∷ []
 
 -- the rules for a processor's image
@@ -84,6 +84,6 @@ pub record IsWithin (range : Range) (at count : ℕ) : Type 0 where
   pub whole : at + count ≤ range.past
 
 -- they lie where a processor's image may
-abbrev pub LiesIn : Proc → ℕ → ℕ → Type 0
-LiesIn Nine at count = IsWithin main_range at count
-LiesIn Seven at count = IsWithin main_range at count ⊎ IsWithin work_range at count
+abbrev pub ImageLies : Proc → ℕ → ℕ → Type 0
+ImageLies Nine at count = IsWithin main_range at count
+ImageLies Seven at count = IsWithin main_range at count ⊎ IsWithin work_range at count

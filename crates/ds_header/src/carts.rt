@@ -1,8 +1,8 @@
 //! Accepted cartridges.
 
 ghost use Rattle.std.specs.Prelude.{◌≡◌, ◌≤◌, ◌%◌, ◌^◌, Some, IfOk, IfErr, length};
-ghost use Rattle.ds_header.specs.Fields.{entry_of, image_of, length_of, place_of, title_of};
-ghost use Rattle.ds_header.specs.Rules.{IsAccepted, LiesIn, fault_of};
+ghost use Rattle.ds_header.specs.Fields.{image_entry, image_of, image_length, image_place, title_of};
+ghost use Rattle.ds_header.specs.Rules.{IsAccepted, ImageLies, fault_of};
 
 use crate::faults::HeaderFault;
 use crate::fields::{TITLE, image_fields};
@@ -52,7 +52,7 @@ impl Cart {
     /// The image of a processor, of 4 MiB at most.
     pub fn image(&self, proc: Proc) -> &[u8]
         ensures image { result.now ≡ image_of self.now proc }
-        ensures length { length result.now ≡ length_of self.now proc }
+        ensures length { length result.now ≡ image_length self.now proc }
         ensures longest { length result.now ≤ 2 ^ 22 }
     {
         let file = self.file.as_slice();
@@ -63,17 +63,17 @@ impl Cart {
 
     /// The address at which the image of a processor goes to memory.
     pub fn place(&self, proc: Proc) -> u32
-        ensures place { result ≡ place_of self.now proc }
-        ensures lies { LiesIn proc result (length (image_of self.now proc)) }
+        ensures place { result ≡ image_place self.now proc }
+        ensures lies { ImageLies proc result (length (image_of self.now proc)) }
     {
         image_fields(self.file.as_slice(), proc).place
     }
 
     /// The address at which a processor begins to run.
     pub fn entry(&self, proc: Proc) -> u32
-        ensures entry { result ≡ entry_of self.now proc }
+        ensures entry { result ≡ image_entry self.now proc }
         ensures aligned { result % 4 ≡ 0 }
-        ensures lies { LiesIn proc result 0 }
+        ensures lies { ImageLies proc result 0 }
     {
         image_fields(self.file.as_slice(), proc).entry
     }

@@ -1,7 +1,7 @@
 //! The numbers of a cartridge's header (GBATEK, "DS Cartridge Header").
 
 ghost use Rattle.std.specs.Prelude.{◌≡◌, ◌≤◌, ◌+◌, length};
-ghost use Rattle.ds_header.specs.Fields.{entry_of, field, image_at, length_of, number_of, offset_of, place_of, unit_code_of};
+ghost use Rattle.ds_header.specs.Fields.{image_entry, field, image_at, image_length, field_number, image_offset, image_place, unit_code_of};
 
 use byteorder::{ByteOrder, LittleEndian};
 use ds_base::Proc;
@@ -28,16 +28,16 @@ pub(crate) struct ImageFields {
 }
 
 /// The word of the header that begins at a byte of it, the lowest byte first.
-#[tactic(auto, unfolding(crate::specs::Fields::number_of))]
+#[tactic(auto, unfolding(crate::specs::Fields::field_number))]
 fn word(file: &[u8], at: usize) -> u32
     requires { at + 4 ≤ length file.now }
-    ensures { result ≡ number_of file.now (field at 4) }
+    ensures { result ≡ field_number file.now (field at 4) }
 {
     LittleEndian::read_u32(&file[at..])
 }
 
 /// The file's unit code.
-#[tactic(auto, unfolding(crate::specs::Fields::number_of))]
+#[tactic(auto, unfolding(crate::specs::Fields::field_number))]
 pub(crate) fn unit_code(file: &[u8]) -> u8
     requires { 512 ≤ length file.now }
     ensures { result ≡ unit_code_of file.now }
@@ -59,10 +59,10 @@ fn image_at(proc: Proc) -> usize
 /// What the file's header says of a processor's image.
 pub(crate) fn image_fields(file: &[u8], proc: Proc) -> ImageFields
     requires { 512 ≤ length file.now }
-    ensures offset { result.offset ≡ offset_of file.now proc }
-    ensures entry { result.entry ≡ entry_of file.now proc }
-    ensures place { result.place ≡ place_of file.now proc }
-    ensures length { result.length ≡ length_of file.now proc }
+    ensures offset { result.offset ≡ image_offset file.now proc }
+    ensures entry { result.entry ≡ image_entry file.now proc }
+    ensures place { result.place ≡ image_place file.now proc }
+    ensures length { result.length ≡ image_length file.now proc }
 {
     let at = image_at(proc);
     ImageFields {

@@ -1,7 +1,7 @@
 use Rattle.std.specs.Prelude.{ℕ, false, List, take}
 use Rattle.ds_base.specs.declared.processors.Proc.{Proc}
 use Rattle.ds_base.specs.declared.processors.Proc.TheVariants.{Nine, Seven}
-use Rattle.ds_header.specs.Fields.{place_of, entry_of, image_of}
+use Rattle.ds_header.specs.Fields.{image_place, image_entry, image_of}
 use Rattle.ds_machine.specs.Boots.{CopiedState, copied}
 use Rattle.ds_machine.specs.Bytes.{zeroes}
 use Rattle.ds_machine.specs.Registers.{booted_registers}
@@ -24,13 +24,13 @@ with_header s file = copied Nine s header_place (take header_bytes file)
 abbrev pub memories_booted : List ℕ → CopiedState
 memories_booted file =
     let none : CopiedState = record { main = zeroes 4194304; shared = zeroes 32768; own = zeroes 65536 } in
-    let nine = copied Nine none (place_of file Nine) (image_of file Nine) in
-    let seven = copied Seven nine (place_of file Seven) (image_of file Seven) in
+    let nine = copied Nine none (image_place file Nine) (image_of file Nine) in
+    let seven = copied Seven nine (image_place file Seven) (image_of file Seven) in
     with_header seven file
 
 -- a processor at boot: it is due at once
 abbrev pub processor_booted : Proc → List ℕ → ProcessorState
-processor_booted proc file = record { registers = booted_registers proc (entry_of file proc); due = 0; steps = 0 }
+processor_booted proc file = record { registers = booted_registers proc (image_entry file proc); due = 0; steps = 0 }
 
 -- CP15 at boot (our choice): ITCM is on at 0 with 32 MiB of mirrors, DTCM is on at 3000000h with 16 KiB
 abbrev pub cp15_at_boot : Cp15State

@@ -2,7 +2,7 @@
 
 ghost use Rattle.std.specs.Prelude.{◌≡◌, ◌+◌, ◌<◌, ◌≤◌, ◌^◌, length, IfOk};
 ghost use Rattle.ds_machine.specs.Boots.{stored, copied};
-ghost use Rattle.ds_header.specs.Fields.{place_of, image_of};
+ghost use Rattle.ds_header.specs.Fields.{image_place, image_of};
 ghost use Rattle.ds_machine.specs.Booted.{memories_booted, processor_booted, with_header};
 ghost use Rattle.ds_machine.specs.Bytes.{zeroes};
 
@@ -88,7 +88,7 @@ const HEADER_PLACE: u32 = 0x027F_FE00;
 
 /// Copies the image of a processor to where its header says.
 fn copy_image(memories: &mut Copied, cart: &Cart, proc: Proc)
-    ensures { memories.new ≡ copied proc memories.old (place_of cart.now proc) (image_of cart.now proc) }
+    ensures { memories.new ≡ copied proc memories.old (image_place cart.now proc) (image_of cart.now proc) }
 {
     memories.copy(proc, cart.place(proc), cart.image(proc));
 }

@@ -3,7 +3,7 @@ use Rattle.ds_base.specs.declared.processors.Arch.{Arch}
 use Rattle.ds_base.specs.declared.processors.Arch.TheVariants.{V4, V5}
 use Rattle.ds_base.specs.declared.processors.Proc.{Proc}
 use Rattle.ds_base.specs.declared.processors.Proc.TheVariants.{Nine, Seven}
-use Rattle.ds_header.specs.Fields.{image_of, place_of}
+use Rattle.ds_header.specs.Fields.{image_of, image_place}
 use Rattle.ds_io.specs.Faults.{Rose}
 use Rattle.ds_io.specs.Shelves.{Told}
 use Rattle.ds_io.specs.Sinks.{Appended, AppendedFront}
@@ -70,7 +70,7 @@ arch_of Seven = V4
 
 -- the listing of a processor's image in a cartridge's file, by the processor's architecture and from the image's address on
 abbrev pub listing_of : List ℕ → Proc → Set → List ℕ
-listing_of file proc set = listing (arch_of proc) set (place_of file proc) (image_of file proc)
+listing_of file proc set = listing (arch_of proc) set (image_place file proc) (image_of file proc)
 
 -- when each answer to `list` comes
 abbrev pub ListGives : {S : Type 0} → Call S → List ℕ → Proc → Set → Status → Type 0

@@ -3,14 +3,14 @@ use Rattle.nds_top.specs.declared.statuses.Status.{Status}
 use Rattle.nds_top.specs.declared.statuses.Status.TheVariants.{Done, Usage, NoFile, ReadFault, WriteFault, TooLong, BadHeader, LeftOut, BadText, NoMemory}
 
 -- the number of each status (our choice)
-abbrev pub number_of : Status → ℕ
-number_of Done = 0
-number_of Usage = 2
-number_of NoFile = 3
-number_of ReadFault = 4
-number_of WriteFault = 5
-number_of TooLong = 6
-number_of (BadHeader fault) = 7
-number_of (LeftOut left) = 9
-number_of (BadText line) = 10
-number_of NoMemory = 12
+abbrev pub status_number : Status → ℕ
+status_number Done = 0
+status_number Usage = 2
+status_number NoFile = 3
+status_number ReadFault = 4
+status_number WriteFault = 5
+status_number TooLong = 6
+status_number (BadHeader fault) = 7
+status_number (LeftOut left) = 9
+status_number (BadText line) = 10
+status_number NoMemory = 12

@@ -1,7 +1,7 @@
 //! How a call ends.
 
 ghost use Rattle.std.specs.Prelude.{◌≡◌};
-ghost use Rattle.nds_top.specs.Statuses.{number_of};
+ghost use Rattle.nds_top.specs.Statuses.{status_number};
 
 use ds_base::LeftOut;
 use ds_header::HeaderFault;
@@ -36,7 +36,7 @@ pub enum Status {
 
 /// The number that the program ends with.
 pub fn number(status: &Status) -> u8
-    ensures { result ≡ number_of status.now }
+    ensures { result ≡ status_number status.now }
 {
     match status {
         Status::Done => 0,

@@ -98,6 +98,11 @@ all_join now [] (y ∷ ys) c d h k = absurd h
 all_join now (x ∷ xs) [] c d h k = absurd h
 all_join now (x ∷ xs) (y ∷ ys) c d h k = (h.0, all_join now xs ys c d h.1 k)
 
+-- one due tick becomes later, and the others stay
+pub one_moves : (now : Tick) (front : List (Option Tick)) (old new : Option Tick) (back : List (Option Tick)) → IsLater now new
+    → AllReschedule now (front ++ old ∷ back) (front ++ new ∷ back)
+one_moves now front old new back later = all_join now front front (old ∷ back) (new ∷ back) (all_stay now front) (inr later, all_stay now back)
+
 -- something holds of each entry of a list with its rank, from a rank on
 abbrev pub EachFrom : (ℕ → Option Tick → Type 0) → ℕ → List (Option Tick) → Type 0
 EachFrom P from [] = Unit {0}

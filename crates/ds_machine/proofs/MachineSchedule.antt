@@ -21,7 +21,7 @@ use Rattle.ds_runs.proofs.Lists.{within, one_moves, EachFrom, IsNotBefore, least
 use Rattle.ds_runs.proofs.RunLaws.{same_makes, same_stops, not_both}
 use Rattle.ds_machine.specs.MainMemory.{main_place, main_machine, value_in, first_outside}
 use Rattle.ds_machine.specs.Observed.{processor_of}
-use Rattle.ds_machine.specs.Reference.{Shown, due_by, dues_of, step_by, step_of, after_video, shown_by_video, with_processor, processor_steps, reference, IsSound}
+use Rattle.ds_machine.specs.Reference.{Shown, due_by, dues_of, step_by, step_of, after_video, shown_by_video, with_processor, processor_steps, reference, IsSound, HasCounted, CountsWithin}
 use Rattle.ds_machine.specs.States.{MachineState, ProcessorState, VideoState}
 use Rattle.ds_machine.specs.Steps.{Outcome, Takes, Needs, processor_after, by_access, by_word, by_fetch, outcome}
 use Rattle.ds_machine.specs.Videos.{video_due, video_after}
@@ -82,10 +82,14 @@ pub record Owes (actor : actor.Actor) (tick : Tick) (s next : MachineState) : Ty
   pub all : AllReschedule tick (dues_of s) (dues_of next)
   pub own : IsLater tick (due_by actor next)
   pub counted : OneMore s next
+  pub within : (limit : ℕ) → HasCounted s → CountsWithin limit s → tick.0 < limit → CountsWithin limit next
+
+due_is : (a : ℕ) (tick : Tick) → (let due : Option Tick = Some (record { 0 = a }) in due) ≡ Some tick → a ≡ tick.0
+due_is a tick h = ap (λ (x : Tick). x.0) (same_Some (record { 0 = a }) tick h)
 
 -- a tick after the due tick
 due_then : (a : ℕ) (tick : Tick) (b : ℕ) → (let due : Option Tick = Some (record { 0 = a }) in due) ≡ Some tick → a < b → tick.0 < b
-due_then a tick b h lt = let e : a ≡ tick.0 = ap (λ (x : Tick). x.0) (same_Some (record { 0 = a }) tick h) in omega (arith, e, lt)
+due_then a tick b h lt = let e = due_is a tick h in omega (arith, e, lt)
 
 owes_video : (s : MachineState) (tick : Tick) → due_by Video s ≡ Some tick → Owes Video tick s (after_video s)
 unfolding dues_of
@@ -95,6 +99,7 @@ owes_video s tick due =
       all = one_moves tick (take 1 (dues_of s)) (due_by Video s) (due_by Video (after_video s)) (drop 2 (dues_of s)) later;
       own = later;
       counted = omega arith;
+      within = λ limit h w lt. record { nine = w.nine; seven = w.seven; events = (let e = due_is (video_due s.video) tick due in let k = h.events in omega (arith, e, k, lt)) };
     }
 
 owes_nine : (s : MachineState) (tick : Tick) (processor : ProcessorState) (main : List ℕ) → due_by (Processor Nine) s ≡ Some tick
@@ -107,6 +112,7 @@ owes_nine s tick processor main due lt steps =
       all = one_moves tick (take 22 (dues_of s)) (due_by (Processor Nine) s) (due_by (Processor Nine) next) (drop 23 (dues_of s)) later;
       own = later;
       counted = omega (arith, steps);
+      within = λ limit h w lt. record { nine = (let e = due_is s.nine.processor.due tick due in let k = h.nine in omega (arith, e, k, lt, steps)); seven = w.seven; events = w.events };
     }
 
 owes_seven : (s : MachineState) (tick : Tick) (processor : ProcessorState) (main : List ℕ) → due_by (Processor Seven) s ≡ Some tick
@@ -119,6 +125,7 @@ owes_seven s tick processor main due lt steps =
       all = one_moves tick (take 23 (dues_of s)) (due_by (Processor Seven) s) (due_by (Processor Seven) next) [] later;
       own = later;
       counted = omega (arith, steps);
+      within = λ limit h w lt. record { nine = w.nine; seven = (let e = due_is s.seven.processor.due tick due in let k = h.seven in omega (arith, e, k, lt, steps)); events = w.events };
     }
 
 owes_processor : (proc : Proc) (rank : ℕ) (s next : MachineState) (tick : Tick) (outs : List Shown) (o : Outcome) → Costs (processor_of s proc) o
@@ -182,7 +189,7 @@ due_of_step s rank tick a least e =
     subst (λ (x : actor.Actor). due_by x s ≡ Some tick) e (sym (due_of_rank s rank lt) ∙ least.there)
 
 pub early_due : (a : ℕ) (tick : Tick) → (let due : Option Tick = Some (record { 0 = a }) in due) ≡ Some tick → tick.0 ≤ 2 ^ 56 → a ≤ 2 ^ 56
-early_due a tick h early = let e : a ≡ tick.0 = ap (λ (x : Tick). x.0) (same_Some (record { 0 = a }) tick h) in omega (arith, e, early)
+early_due a tick h early = let e = due_is a tick h in omega (arith, e, early)
 
 -- the three actors that are built
 abbrev pub due_video : MachineState → Due
@@ -257,3 +264,10 @@ stop_leaves s left rank stop h = by_actor (actor_of rank) rank s left stop h whe
   by_actor Card rank s left stop h = absurd (not_both s left [] stop h)
   by_actor (Dma proc channel) rank s left stop h = absurd (not_both s left [] stop h)
   by_actor (Processor proc) rank s left stop h = by_outcome proc rank s left stop (outcome proc s.wramcnt s.main (processor_of s proc)) h
+
+-- a step below a limit leaves every count within it
+pub counts_within : (s next : MachineState) (tick : Tick) (rank : ℕ) (outs : List Shown) (before limit : ℕ) → IsLeast (dues_of s) tick rank → step_of rank s ≡ Makes next outs
+    → HasCounted s → CountsWithin before s → before ≤ limit → tick.0 < limit → CountsWithin limit next
+counts_within s next tick rank outs before limit least goes has w le lt =
+    let o = owes s next tick rank outs least goes in
+    o.within limit has (record { nine = (let k = w.nine in omega (arith, k, le)); seven = (let k = w.seven in omega (arith, k, le)); events = (let k = w.events in omega (arith, k, le)) }) lt

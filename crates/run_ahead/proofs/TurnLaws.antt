@@ -19,11 +19,11 @@ goes_on until old new front step = λ limit le end outs run.
 
 -- what a turn says of the reference run
 pub runs_on : (until : ℕ) (old : ConsoleState) (answer : turned.Turned) (new : ConsoleState) → Turns until old answer new → old.stopped ≡ None → RunsOn until old.machine answer new.machine
-runs_on until old answers.Ran new turn none = goes_on until old.machine new.machine [] turn.1
-runs_on until old (answers.Frame swapped) new turn none = goes_on until old.machine new.machine (next_shown old.machine swapped ∷ []) turn.1
-runs_on until old answers.AtEnd new turn none = over old.machine turn.1
-runs_on until old (answers.Stopped left) new turn none =
-    let stop = (turn.0 none).0 in
+runs_on until old answers.Ran new t open_ = goes_on until old.machine new.machine [] t.1
+runs_on until old (answers.Frame swapped) new t open_ = goes_on until old.machine new.machine (next_shown old.machine swapped ∷ []) t.1
+runs_on until old answers.AtEnd new t open_ = over old.machine t.1
+runs_on until old (answers.Stopped left) new t open_ =
+    let stop = (t.0 open_).0 in
     stops old.machine new.machine stop.tick stop.rank left stop.least stop.below stop.step
 
 -- from every machine there are runs

@@ -3,7 +3,7 @@ use Rattle.ds_base.specs.declared.processors.Proc.{Proc}
 use Rattle.ds_base.specs.declared.processors.Proc.TheVariants.{Nine, Seven}
 use Rattle.ds_header.specs.declared.faults.HeaderFault.{HeaderFault}
 use Rattle.ds_header.specs.Fields.{image_entry, image_length, image_offset, image_place}
-use Rattle.ds_header.specs.Rules.{IsAccepted, ImageLies, Range, IsWithin, main_range, work_range, Rule, first_broken, header_rules, fault_of, lies_in, lies_within}
+use Rattle.ds_header.specs.Rules.{IsAccepted, ImageLies, Range, IsWithin, main_range, work_range, Rule, first_broken, fault_of, lies_in, lies_within}
 use Rattle.ds_header.specs.Groups.{file_rules, rules_for, or_then, fault_by_groups}
 
 first_or : (holds : Bool) (fault : HeaderFault) (rest later : Option HeaderFault) → (if holds then or_then rest later else Some fault) ≡ or_then (if holds then rest else Some fault) later

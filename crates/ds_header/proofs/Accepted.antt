@@ -1,9 +1,27 @@
-use Rattle.std.proofs.Common.{ℕ, ◌≡◌, ◌+◌, ◌%◌, ◌^◌, ◌&&◌, ◌||◌, ◌==◌, ◌⊎◌, Bool, Option, Some, None, List, length, true, false, nat_le, nat_lt, if◌then◌else◌, arith, refl, inl, inr}
+use Rattle.std.proofs.Common.{ℕ, ◌≡◌, ◌+◌, ◌%◌, ◌^◌, ◌&&◌, ◌||◌, ◌==◌, ◌⊎◌, Bool, Option, Some, None, List, [], ◌∷◌, ◌++◌, length, true, false, nat_le, nat_lt, if◌then◌else◌, arith, refl, sym, ap, ◌∙◌, inl, inr}
 use Rattle.ds_base.specs.declared.processors.Proc.{Proc}
 use Rattle.ds_base.specs.declared.processors.Proc.TheVariants.{Nine, Seven}
 use Rattle.ds_header.specs.declared.faults.HeaderFault.{HeaderFault}
 use Rattle.ds_header.specs.Fields.{image_entry, image_length, image_offset, image_place}
-use Rattle.ds_header.specs.Rules.{IsAccepted, ImageLies, Range, IsWithin, main_range, work_range, first_broken, rules_for, or_then, lies_in, lies_within}
+use Rattle.ds_header.specs.Rules.{IsAccepted, ImageLies, Range, IsWithin, main_range, work_range, Rule, first_broken, fault_of, lies_in, lies_within}
+use Rattle.ds_header.specs.Groups.{file_rules, rules_for, or_then, fault_by_groups}
+
+first_or : (holds : Bool) (fault : HeaderFault) (rest later : Option HeaderFault) → (if holds then or_then rest later else Some fault) ≡ or_then (if holds then rest else Some fault) later
+first_or true fault rest later = refl
+first_or false fault rest later = refl
+
+-- the first broken rule of two lists, one after the other
+broken_append : (xs ys : List Rule) → first_broken (xs ++ ys) ≡ or_then (first_broken xs) (first_broken ys)
+broken_append [] ys = refl
+broken_append (r ∷ rs) ys =
+    ap (λ rest. if r.holds then rest else Some (record { field = r.field; value = r.value })) (broken_append rs ys)
+    ∙ first_or r.holds (record { field = r.field; value = r.value }) (first_broken rs) (first_broken ys)
+
+-- by groups it is the same fault
+pub by_groups : (file : List ℕ) → fault_by_groups file ≡ fault_of file
+by_groups file =
+    ap (or_then (first_broken (file_rules file))) (sym (broken_append (rules_for file Nine) (rules_for file Seven)))
+    ∙ sym (broken_append (file_rules file) (rules_for file Nine ++ rules_for file Seven))
 
 -- where the first of two lists and the second are unbroken, both are
 both : (first second : Option HeaderFault) → or_then first second ≡ None → (first ≡ None) × (second ≡ None)
@@ -12,8 +30,8 @@ both (Some fault) second h = absurd (cc)
 
 -- of an accepted cartridge no rule is broken
 pub rules_hold : (file : List ℕ) (proc : Proc) → IsAccepted file → first_broken (rules_for file proc) ≡ None
-rules_hold file Nine h = (both _ _ (both _ _ h).1).0
-rules_hold file Seven h = (both _ _ (both _ _ h).1).1
+rules_hold file Nine h = (both _ _ (both _ _ (by_groups file ∙ h)).1).0
+rules_hold file Seven h = (both _ _ (both _ _ (by_groups file ∙ h)).1).1
 
 three : (a b c : Bool) (x y z : HeaderFault) → (if a then (if b then (if c then None else Some z) else Some y) else Some x) ≡ None → (a ≡ true) × (b ≡ true) × (c ≡ true)
 three true true true x y z h = (refl, refl, refl)

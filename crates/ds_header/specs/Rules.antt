@@ -38,40 +38,42 @@ pub record Rule : Type 0 where
 abbrev pub rule : HeaderField → ℕ → Bool → Rule
 rule field value holds = record { field = field; value = value; holds = holds }
 
--- the file has a header, and it isn't for DSi consoles alone
-abbrev pub file_rules : List ℕ → List Rule
-file_rules file =
+-- an image has at most 4 MiB and lies in the file, the sum being exact
+abbrev pub rom_rule : HeaderField → List ℕ → Proc → Rule
+rom_rule field file proc =
+    rule field (image_offset file proc)
+    (nat_le (image_length file proc) (2 ^ 22) && nat_le (image_offset file proc + image_length file proc) (length file))
+
+-- it goes to memory where it may
+abbrev pub place_rule : HeaderField → List ℕ → Proc → Rule
+place_rule field file proc = rule field (image_place file proc) (lies_in proc (image_place file proc) (image_length file proc))
+
+-- and begins to run at a word there
+abbrev pub entry_rule : HeaderField → List ℕ → Proc → Rule
+entry_rule field file proc = rule field (image_entry file proc) (image_entry file proc % 4 == 0 && lies_in proc (image_entry file proc) 0)
+
+-- the eight rules, in the order in which they are tried: the file has a header, and it isn't for DSi consoles alone; then ARM9's image,
+-- and ARM7's
+abbrev pub header_rules : List ℕ → List Rule
+header_rules file =
     rule Short (length file) (nat_le 512 (length file))
     ∷ rule UnitCode (unit_code_of file) (unit_code_of file == 0 || unit_code_of file == 2)
+    ∷ rom_rule Arm9Rom file Nine
+    ∷ place_rule Arm9Place file Nine
+    ∷ entry_rule Arm9Entry file Nine
+    ∷ rom_rule Arm7Rom file Seven
+    ∷ place_rule Arm7Place file Seven
+    ∷ entry_rule Arm7Entry file Seven
     ∷ []
-
--- an image has at most 4 MiB and lies in the file, the sum being exact; it goes to memory where it may, and begins to run at
--- a word there
-abbrev pub image_rules : HeaderField → HeaderField → HeaderField → List ℕ → Proc → List Rule
-image_rules rom place entry file proc =
-    rule rom (image_offset file proc)
-    (nat_le (image_length file proc) (2 ^ 22) && nat_le (image_offset file proc + image_length file proc) (length file))
-    ∷ rule place (image_place file proc) (lies_in proc (image_place file proc) (image_length file proc))
-    ∷ rule entry (image_entry file proc) (image_entry file proc % 4 == 0 && lies_in proc (image_entry file proc) 0)
-    ∷ []
-
--- the rules for a processor's image
-abbrev pub rules_for : List ℕ → Proc → List Rule
-rules_for file Nine = image_rules Arm9Rom Arm9Place Arm9Entry file Nine
-rules_for file Seven = image_rules Arm7Rom Arm7Place Arm7Entry file Seven
 
 -- the first rule of a list that is broken
 abbrev pub first_broken : List Rule → Option HeaderFault
 first_broken [] = None
 first_broken (r ∷ rules) = if r.holds then first_broken rules else Some (record { field = r.field; value = r.value })
 
-abbrev pub or_then : Option HeaderFault → Option HeaderFault → Option HeaderFault
-or_then None later = later
-or_then (Some fault) later = Some fault
-
 -- why a file is refused: the first field that breaks its rule, with its value
 abbrev pub fault_of : List ℕ → Option HeaderFault
-fault_of file = or_then (first_broken (file_rules file)) (or_then (first_broken (rules_for file Nine)) (first_broken (rules_for file Seven)))
+fault_of file = first_broken (header_rules file)
 
 -- a cartridge that is accepted
 abbrev pub IsAccepted : List ℕ → Type 0

@@ -1,7 +1,8 @@
 //! The rules by which a cartridge is accepted. (Our choice.)
 
 ghost use Rattle.std.specs.Prelude.{◌≡◌, ◌≤◌, None, IfNone, length};
-ghost use Rattle.ds_header.specs.Rules.{fault_of, file_rules, first_broken, image_rules, lies_in, lies_within};
+ghost use Rattle.ds_header.specs.Groups.{fault_by_groups, file_rules, image_rules};
+ghost use Rattle.ds_header.specs.Rules.{fault_of, first_broken, lies_in, lies_within};
 
 use crate::faults::HeaderField::{
     Arm7Entry, Arm7Place, Arm7Rom, Arm9Entry, Arm9Place, Arm9Rom, Short, UnitCode,
@@ -87,8 +88,15 @@ fn image_fault(
 }
 
 /// The first field that breaks its rule, with its value.
+#[tactic(auto, using(crate::proofs::Accepted::by_groups))]
 pub(crate) fn fault(file: &[u8]) -> Option<HeaderFault>
     ensures { result ≡ fault_of file.now }
+{
+    fault_in_groups(file)
+}
+
+fn fault_in_groups(file: &[u8]) -> Option<HeaderFault>
+    ensures { result ≡ fault_by_groups file.now }
 {
     if let Some(fault) = file_fault(file) {
         return Some(fault);

@@ -112,6 +112,10 @@ fn each_rule_is_broken_past_its_edge(rt: HostRuntime) -> Result<(), AllocError> 
         (0x024, 0x01ff_fffc, Arm9Entry, 0x01ff_fffc),
         (0x024, 0x0200_0002, Arm9Entry, 0x0200_0002),
         (0x024, 0x0300_0000, Arm9Entry, 0x0300_0000),
+        (0x024, 0x037f_8000, Arm9Entry, 0x037f_8000),
+        (0x024, 0x0380_0000, Arm9Entry, 0x0380_0000),
+        (0x030, 0x1fd, Arm7Rom, 0x1fd),
+        (0x034, 0x037f_8002, Arm7Entry, 0x037f_8002),
         (0x03c, 5, Arm7Rom, 0x1fc),
         (0x030, 0xffff_fffc, Arm7Rom, 0xffff_fffc),
         (0x038, 0x01ff_ffff, Arm7Place, 0x01ff_ffff),
@@ -134,6 +138,42 @@ fn each_rule_is_broken_past_its_edge(rt: HostRuntime) -> Result<(), AllocError> 
         refusal(rt.alloc(), &empty)?,
         Some((Arm9Place, 0x0300_0000))
     );
+    Ok(())
+}
+
+/// Two rules that are broken at once, and the earlier one, which is told: the length of the file, the two words, and the fault.
+const TWO_BROKEN: [(usize, [(u16, u32); 2], HeaderField, u32); 8] = [
+    (511, [(0x010, 0x0001_0000), (0x02c, 5)], Short, 511),
+    (512, [(0x010, 0x0001_0000), (0x02c, 5)], UnitCode, 1),
+    (512, [(0x020, 0x1fd), (0x028, 0x0100_0000)], Arm9Rom, 0x1fd),
+    (
+        512,
+        [(0x028, 0x0100_0000), (0x024, 1)],
+        Arm9Place,
+        0x0100_0000,
+    ),
+    (512, [(0x024, 1), (0x030, 0x1fd)], Arm9Entry, 1),
+    (512, [(0x030, 0x1fd), (0x038, 0x0100_0000)], Arm7Rom, 0x1fd),
+    (
+        512,
+        [(0x038, 0x0100_0000), (0x034, 1)],
+        Arm7Place,
+        0x0100_0000,
+    ),
+    (
+        512,
+        [(0x034, 1), (0x028, 0x0100_0000)],
+        Arm9Place,
+        0x0100_0000,
+    ),
+];
+
+#[test]
+fn of_two_rules_the_earlier_is_told(rt: HostRuntime) -> Result<(), AllocError> {
+    for (length, changes, field, value) in TWO_BROKEN {
+        let fault = Cart::read(file(rt.alloc(), length, &changes)?).err();
+        assert_eq!(rt; fault, Some(HeaderFault { field, value }));
+    }
     Ok(())
 }
 
@@ -161,7 +201,9 @@ fn a_cartridge_tells_its_images(rt: HostRuntime) -> Result<(), AllocError> {
     let changes = [
         (0, 0x4342_4120),
         (0x1fc, 0x0403_0201),
+        (0x024, 0x0200_0100),
         (0x030, 0x1fe),
+        (0x034, 0x0380_0040),
         (0x03c, 2),
     ];
     match Cart::read(file(rt.alloc(), 0x200, &changes)?) {
@@ -169,8 +211,10 @@ fn a_cartridge_tells_its_images(rt: HostRuntime) -> Result<(), AllocError> {
             assert_eq!(rt; cart.bytes().len(), 0x200);
             assert_eq!(rt; cart.image(Proc::Nine), [1, 2, 3, 4].as_slice());
             assert_eq!(rt; cart.image(Proc::Seven), [3, 4].as_slice());
+            assert_eq!(rt; cart.place(Proc::Nine), 0x0200_0000);
+            assert_eq!(rt; cart.entry(Proc::Nine), 0x0200_0100);
             assert_eq!(rt; cart.place(Proc::Seven), 0x0210_0000);
-            assert_eq!(rt; cart.entry(Proc::Nine), 0x0200_0000);
+            assert_eq!(rt; cart.entry(Proc::Seven), 0x0380_0040);
             assert_eq!(rt; cart.title(), b" ABC\0\0\0\0\0\0\0\0".as_slice());
         }
         Err(_) => panic!(rt; "the header keeps all rules"),

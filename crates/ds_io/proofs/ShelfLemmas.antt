@@ -1,6 +1,6 @@
 use Rattle.std.proofs.Common.{ℕ, ◌≡◌, ◌≤◌, ◌<◌, ◌+◌, ◌-◌, List, [], ◌++◌, length, take, drop, Option, Some, None, option_map, unwrap_or, arith, refl, sym, ◌∙◌, ap, subst, length-append, map, get_or, true, false, suc}
 use Rattle.std.specs.String.{string_bytes}
-use Rattle.ds_io.specs.Entries.{named}
+use Rattle.ds_io.specs.Entries.{entry_file}
 use Rattle.ds_io.specs.declared.files.Entry.{Entry}
 use Rattle.std.specs.Str.{bytes_eq}
 use Rattle.std.proofs.Math.Seq.{take-add, drop-cons}
@@ -54,20 +54,20 @@ took_more (Some s) (Some m) new all into put n first second =
     more_at s new all into put n first.0 first.1 (subst P (same_Some m _ first.2) second)
 
 -- an entry of another name is passed
-pub file_skip : (es : List Entry) (i : ℕ) (name : List ℕ) (e : Entry) → i < length es → e ≡ get_or es i e → false ≡ bytes_eq (string_bytes e.name) name → file_of (drop (i + 1) (map named es)) name ≡ file_of (drop i (map named es)) name
+pub file_skip : (es : List Entry) (i : ℕ) (name : List ℕ) (e : Entry) → i < length es → e ≡ get_or es i e → false ≡ bytes_eq (string_bytes e.name) name → file_of (drop (i + 1) (map entry_file es)) name ≡ file_of (drop i (map entry_file es)) name
 file_skip es i name e h at miss =
-    let long : length (map named es) ≡ length es = length-map es named in
-    let is : get_or (map named es) i (named e) ≡ named e = get_or-map named es i e (named e) h ∙ ap named (sym at) in
+    let long : length (map entry_file es) ≡ length es = length-map es entry_file in
+    let is : get_or (map entry_file es) i (entry_file e) ≡ entry_file e = get_or-map entry_file es i e (entry_file e) h ∙ ap entry_file (sym at) in
     let next : suc i ≡ i + 1 = omega arith in
-    let split = rw next at (drop-cons (map named es) i (named e) (omega (arith, long))) in
+    let split = rw next at (drop-cons (map entry_file es) i (entry_file e) (omega (arith, long))) in
     rw (split, is, sym miss) refl
 
 -- an entry of the name is the file, where none before has it
-pub file_hit : (es : List Entry) (i : ℕ) (name : List ℕ) (e : Entry) (d : Named) → i < length es → e ≡ get_or es i e → true ≡ bytes_eq (string_bytes e.name) name → file_of (drop i (map named es)) name ≡ Some (get_or (map named es) i d).bytes
+pub file_hit : (es : List Entry) (i : ℕ) (name : List ℕ) (e : Entry) (d : Named) → i < length es → e ≡ get_or es i e → true ≡ bytes_eq (string_bytes e.name) name → file_of (drop i (map entry_file es)) name ≡ Some (get_or (map entry_file es) i d).bytes
 file_hit es i name e d h at hit =
-    let long : length (map named es) ≡ length es = length-map es named in
-    let is : get_or (map named es) i d ≡ named e = get_or-map named es i e d h ∙ ap named (sym at) in
-    rw (drop-cons (map named es) i d (omega (arith, long)), is, sym hit) refl
+    let long : length (map entry_file es) ≡ length es = length-map es entry_file in
+    let is : get_or (map entry_file es) i d ≡ entry_file e = get_or-map entry_file es i e d h ∙ ap entry_file (sym at) in
+    rw (drop-cons (map entry_file es) i d (omega (arith, long)), is, sym hit) refl
 
 -- bytes that were taken are some that were left
 pub took_some : (old new : Option Told) (bytes : List ℕ) (most : ℕ) → Took old bytes new → length bytes ≤ most → TookSome old most new

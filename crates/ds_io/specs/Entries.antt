@@ -4,8 +4,8 @@ use Rattle.ds_io.specs.Shelves.{Named}
 use Rattle.ds_io.specs.declared.files.Entry.{Entry}
 
 -- the file of an entry
-abbrev pub named : Entry → Named
-named e = record { name = string_bytes e.name; bytes = e.bytes.items }
+abbrev pub entry_file : Entry → Named
+entry_file e = record { name = string_bytes e.name; bytes = e.bytes.items }
 
 -- no file
 abbrev pub nothing : Named

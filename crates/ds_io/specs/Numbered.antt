@@ -10,8 +10,8 @@ pub record AreCalls (calls : List ℕ) : Type 0 where
   pub numbers : All (λ call. (0 < call) × (call < 2 ^ 64 - 1)) calls
 
 -- a number after those of a list, and one at least
-abbrev pub ComesAfter : List ℕ → ℕ → Type 0
-ComesAfter calls call = slice_index calls (length calls - 1) < call
+abbrev pub IsNextCall : List ℕ → ℕ → Type 0
+IsNextCall calls call = slice_index calls (length calls - 1) < call
 
 -- which calls of an object are to fail, and the number of the call made last: 0 before the first
 pub record Numbered : Type 0 where

@@ -3,7 +3,7 @@
 ghost use Rattle.std.specs.Prelude.{◌≡◌, ◌<◌, ◌≤◌, ◌-◌, ◌^◌, ◌++◌, ◌∷◌, ◌==◌, [], IsTrue, OnOk, OnErr};
 ghost use Rattle.std.specs.List.{list_any};
 ghost use Rattle.ds_io.specs.Faults.{Rose};
-ghost use Rattle.ds_io.specs.Numbered.{ComesAfter, called, fails_now, fault_count};
+ghost use Rattle.ds_io.specs.Numbered.{IsNextCall, called, fails_now, fault_count};
 
 use std::alloc::{AllocError, Global};
 use std::marker::Model;
@@ -37,7 +37,7 @@ impl Calls {
 
     /// Adds the number of a call at the end. For want of memory the numbers stay as they were.
     pub fn push(&mut self, call: u64) -> Result<(), AllocError>
-        requires rises { ComesAfter self.old call }
+        requires rises { IsNextCall self.old call }
         requires below { call < 2 ^ 64 - 1 }
         ensures ok { OnOk result (self.new ≡ self.old ++ call ∷ []) }
         ensures err { OnErr result (self.new ≡ self.old) }

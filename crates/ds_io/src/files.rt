@@ -22,12 +22,12 @@ pub struct Files {
 
 impl Model for Files {
     ghost use Rattle.std.specs.Prelude.{List, map};
-    ghost use Rattle.ds_io.specs.Entries.{named};
+    ghost use Rattle.ds_io.specs.Entries.{entry_file};
     ghost use Rattle.ds_io.specs.Shelves.{Named};
 
     ghost Value = { List Named };
 
-    ghost view = { λ f. map named f.entries.items };
+    ghost view = { λ f. map entry_file f.entries.items };
 }
 
 impl Files {

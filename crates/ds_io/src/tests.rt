@@ -9,6 +9,15 @@ use crate::{
 use std::alloc::{AllocError, Global};
 use std::fs::File;
 use std::io;
+use std::io::Write;
+
+/// A name of 260 bytes, which is longer than a file's may be.
+const LONG_NAME: &str = concat!(
+    "aaaaaaaaaaaaaaaaaaaaaaaaaaaaaaaaaaaaaaaaaaaaaaaaaaaaaaaaaaaaaaaaa",
+    "aaaaaaaaaaaaaaaaaaaaaaaaaaaaaaaaaaaaaaaaaaaaaaaaaaaaaaaaaaaaaaaaa",
+    "aaaaaaaaaaaaaaaaaaaaaaaaaaaaaaaaaaaaaaaaaaaaaaaaaaaaaaaaaaaaaaaaa",
+    "aaaaaaaaaaaaaaaaaaaaaaaaaaaaaaaaaaaaaaaaaaaaaaaaaaaaaaaaaaaaaaaaa"
+);
 
 /// The one file `cart`, of three bytes.
 fn one_file(alloc: Global) -> Result<Files, AllocError> {
@@ -28,6 +37,30 @@ fn two(alloc: Global, first: u64, second: u64) -> Result<Calls, AllocError>
     calls.push(first)?;
     calls.push(second)?;
     Ok(calls)
+}
+
+/// A stream that takes two bytes at a time at most, and keeps the first eight.
+#[derive(Drop)]
+struct Few {
+    bytes: [u8; 8],
+    taken: usize,
+}
+
+impl Write for Few {
+    fn write(&mut self, buf: &[u8]) -> io::Result<usize> {
+        let taken = buf.len().min(2);
+        for byte in &buf[..taken] {
+            if self.taken < 8 {
+                self.bytes[self.taken] = *byte;
+                self.taken += 1;
+            }
+        }
+        Ok(taken)
+    }
+
+    fn flush(&mut self) -> io::Result<()> {
+        Ok(())
+    }
 }
 
 fn find<F: Shelf>(shelf: &mut F, name: &str) -> Result<bool, Failed> {
@@ -87,7 +120,67 @@ fn sinks_tell_while_the_bytes_fit(rt: HostRuntime) -> Result<(), AllocError> {
     assert_eq!(rt; put(&mut failing, &[4, 5, 6]), Ok(3));
     assert!(rt; !quiet.is_told() && !failing.is_told());
     assert_eq!(rt; put(&mut failing, &[7]), Err(Failed));
+    assert_eq!(rt; put(&mut quiet, &[7]), Ok(1));
+    assert_eq!(rt; put(&mut failing, &[7]), Ok(1));
+    assert!(rt; !quiet.is_told() && !failing.is_told());
+    assert_eq!(rt; quiet.bytes(), [1, 2, 3].as_slice());
+    assert_eq!(rt; failing.bytes(), [1, 2, 3].as_slice());
     Ok(())
+}
+
+/// A put that fails keeps nothing, and a later one goes on after what was kept.
+#[test]
+fn a_failed_put_keeps_nothing(rt: HostRuntime) -> Result<(), AllocError> {
+    let mut sink = MemSink::new(rt.alloc(), two(rt.alloc(), 2, 4)?, 8)?;
+    for (bytes, answer) in [
+        ([1, 2], Ok(2)),
+        ([3, 4], Err(Failed)),
+        ([5, 6], Ok(2)),
+        ([7, 8], Err(Failed)),
+        ([9, 10], Ok(2)),
+    ] {
+        assert_eq!(rt; put(&mut sink, &bytes), answer);
+    }
+    assert!(rt; sink.is_told());
+    assert_eq!(rt; sink.bytes(), [1, 2, 5, 6, 9, 10].as_slice());
+    Ok(())
+}
+
+/// Of two files with a name the first is found; a file that isn't there leaves the place, and one that is found begins anew.
+#[test]
+fn a_name_finds_its_first_file(rt: HostRuntime) -> Result<(), AllocError> {
+    let mut files = one_file(rt.alloc())?;
+    for name in ["cart", "keys"] {
+        let bytes = Vec::from_slice(rt.alloc(), &[8, 9])?;
+        files.push(String::from_str(rt.alloc(), name)?, bytes)?;
+    }
+    let mut shelf = QuietShelf::new(files);
+    let mut into = [0; 2];
+    assert_eq!(rt; read(&mut shelf, &mut into), Ok(0));
+    for (name, found, taken, bytes) in [
+        ("cart", true, 2, [1, 2]),
+        ("card", false, 1, [3, 2]),
+        ("keys", true, 2, [8, 9]),
+        ("cart", true, 2, [1, 2]),
+    ] {
+        assert_eq!(rt; find(&mut shelf, name), Ok(found));
+        assert_eq!(rt; read(&mut shelf, &mut into), Ok(taken));
+        assert_eq!(rt; into, bytes);
+    }
+    Ok(())
+}
+
+/// After a short write the rest is written from where it stopped.
+#[test]
+fn short_writes_lose_no_byte(rt: HostRuntime) {
+    let mut few = Few {
+        bytes: [0; 8],
+        taken: 0,
+    };
+    let mut sink = StdSink::new(&mut few);
+    assert_eq!(rt; put(&mut sink, &[1, 2, 3]), Ok(2));
+    assert_eq!(rt; put_all(&mut sink, &[3, 4, 5, 6, 7]), Ok(()));
+    assert_eq!(rt; few.bytes, [1, 2, 3, 4, 5, 6, 7, 0]);
 }
 
 #[test]
@@ -119,6 +212,8 @@ fn the_disk_answers_each_cause(rt: HostRuntime) {
     let mut shelf = DiskShelf::new(&rt);
     let mut into = [0; 4];
     assert_eq!(rt; shelf.find("no such file"), Ok(false));
+    assert_eq!(rt; shelf.find("/dev/null/file"), Err(Failed));
+    assert_eq!(rt; shelf.find(LONG_NAME), Err(Failed));
     assert_eq!(rt; shelf.find("/dev/null"), Ok(true));
     assert_eq!(rt; shelf.read(&mut into), Ok(0));
     assert_eq!(rt; shelf.find("/"), Ok(true));

@@ -1,8 +1,8 @@
-use Rattle.std.specs.Prelude.{ℕ, ◌≤◌, length}
+use Rattle.std.specs.Prelude.{ℕ}
 use Rattle.ds_base.specs.declared.processors.Proc.{Proc}
 use Rattle.ds_base.specs.declared.processors.Proc.TheVariants.{Nine, Seven}
 use Rattle.ds_base.specs.declared.processors.Raised.{Raised}
-use Rattle.ds_ipc.specs.Sides.{Side, side_at_boot, sync_word, sync_written, sync_raised, control_word, control_written, control_forgotten, control_raised, sent, send_raised, received, received_word, taken, receive_raised}
+use Rattle.ds_ipc.specs.Sides.{Side, IsSide, side_at_boot, sync_word, sync_written, sync_raised, control_word, control_written, control_forgotten, control_raised, sent, send_raised, received, received_word, taken, receive_raised}
 
 -- both sides
 pub record IpcState : Type 0 where
@@ -12,10 +12,10 @@ pub record IpcState : Type 0 where
 abbrev pub ipc_at_boot : IpcState
 ipc_at_boot = record { nine = side_at_boot; seven = side_at_boot }
 
--- neither FIFO holds more than 16 words (GBATEK, "DS Inter Process Communication (IPC)")
-pub record HoldsSixteen (s : IpcState) : Type 0 where
-  pub nine_at_most : length s.nine.words ≤ 16
-  pub seven_at_most : length s.seven.words ≤ 16
+-- what holds of them at every time
+pub record AreSides (s : IpcState) : Type 0 where
+  pub nine : IsSide s.nine
+  pub seven : IsSide s.seven
 
 abbrev pub across : Proc → Proc
 across Nine = Seven

@@ -1,7 +1,7 @@
 //! Both sides, and the calls of each.
 
 ghost use Rattle.std.specs.Prelude.{◌≡◌, IfOk};
-ghost use Rattle.ds_ipc.specs.Ipcs.{ipc_at_boot, HoldsSixteen, raised_at, ipc_sync_word, ipc_sync_written, ipc_sync_raised, ipc_control_word, ipc_control_written, ipc_control_raised, ipc_sent, ipc_send_raised, ipc_received, ipc_received_word, ipc_receive_raised};
+ghost use Rattle.ds_ipc.specs.Ipcs.{AreSides, ipc_at_boot, raised_at, ipc_sync_word, ipc_sync_written, ipc_sync_raised, ipc_control_word, ipc_control_written, ipc_control_raised, ipc_sent, ipc_send_raised, ipc_received, ipc_received_word, ipc_receive_raised};
 
 use crate::sides;
 use crate::sides::{Side, Taken};
@@ -79,7 +79,7 @@ impl Ipc {
         }
     }
 
-    /// A side writes IPCSYNC. Bit 13 raises interrupt 16 on the other side where that side's bit 14 is set.
+    /// A side writes IPCSYNC. Bit 13 raises IPC sync on the other side where that side's bit 14 is set.
     pub fn sync_write(&mut self, side: Proc, value: u16) -> Raised
         ensures state { self.new ≡ ipc_sync_written self.old side value }
         ensures raised { result ≡ ipc_sync_raised self.old side value }
@@ -98,10 +98,8 @@ impl Ipc {
 
     /// IPCFIFOCNT as a side reads it.
     pub fn control_read(&self, side: Proc) -> u16
-        ensures word { result ≡ ipc_control_word self.now side }
-        ensures within { HoldsSixteen self.now }
+        ensures { result ≡ ipc_control_word self.now side }
     {
-        let _at_most = (self.nine.waiting(), self.seven.waiting());
         match side {
             Proc::Nine => sides::control_read(&self.nine, &self.seven),
             Proc::Seven => sides::control_read(&self.seven, &self.nine),
@@ -125,7 +123,8 @@ impl Ipc {
         }
     }
 
-    /// A side sends a word. To a full FIFO it is lost; a disabled side sends nothing.
+    /// A side sends a word. To a full FIFO it is lost; a disabled side sends nothing. Whether the other side is enabled doesn't
+    /// count.
     pub fn send(&mut self, side: Proc, word: u32) -> Raised
         ensures state { self.new ≡ ipc_sent self.old side word }
         ensures raised { result ≡ ipc_send_raised self.old side }
@@ -146,5 +145,13 @@ impl Ipc {
             Proc::Nine => got_across(Proc::Seven, sides::receive(&mut self.nine, &mut self.seven)),
             Proc::Seven => got_across(Proc::Nine, sides::receive(&mut self.seven, &mut self.nine)),
         }
+    }
+    /// Does nothing; its contract states what holds of both sides at every time: neither FIFO holds more than 16 words, and how
+    /// many bits their numbers have.
+    pub fn laws(&self)
+        ensures { AreSides self.now }
+    {
+        self.nine.laws();
+        self.seven.laws();
     }
 }

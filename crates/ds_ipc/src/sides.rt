@@ -1,23 +1,16 @@
 //! One processor's side, and what a call of one side does to both: `own` is the caller's, `other` the other processor's.
 
-ghost use Rattle.std.specs.Prelude.{◌≡◌, ◌≤◌, length, IfOk, if◌then◌else◌};
-ghost use Rattle.ds_ipc.specs.Sides.{side_at_boot, bit, at_bit, sync_word, sync_written, sync_raised, control_word, control_written, control_forgotten, control_raised, sent, send_raised, received, received_word, taken, receive_raised};
+ghost use Rattle.std.specs.Prelude.{◌≡◌, ◌≤◌, IfOk};
+ghost use Rattle.ds_base.specs.Bits.{bit, flag};
+ghost use Rattle.ds_ipc.specs.Sides.{IsSide, side_at_boot, raised_if, sync_word, sync_written, sync_raised, control_word, control_written, control_forgotten, control_raised, sent, send_raised, received, received_word, taken, receive_raised};
 
 use circular_buffer::HeapCircularBuffer;
+use ds_base::Interrupt;
 use std::alloc::{AllocError, Global};
 use std::marker::Model;
 
 /// How many words a FIFO holds.
 const WORDS: usize = 16;
-
-/// Interrupt 16, IPC sync.
-const SYNC: u32 = 0x1_0000;
-
-/// Interrupt 17, send FIFO empty.
-const EMPTIED: u32 = 0x2_0000;
-
-/// Interrupt 18, receive FIFO not empty.
-const FILLED: u32 = 0x4_0000;
 
 /// One processor's side.
 #[derive(Drop)]
@@ -67,33 +60,32 @@ impl Side {
         })
     }
 
-    /// How many words wait.
-    pub fn waiting(&self) -> usize
-        ensures count { result ≡ length self.now.words }
-        ensures within { result ≤ 16 }
+    /// What holds of the side at every time.
+    pub fn laws(&self)
+        ensures { IsSide self.now }
     {
-        self.words.len()
+        let _last: u32 = self.last;
     }
 }
 
 fn has(value: u16, n: u8) -> bool
     requires { n ≤ 15 }
-    ensures { result ≡ bit value n }
+    ensures { result ≡ bit n value }
 {
     (value >> n) & 1 == 1
 }
 
 fn mark(n: u8, set: bool) -> u16
     requires { n ≤ 15 }
-    ensures { result ≡ at_bit n set }
+    ensures { result ≡ flag n set }
 {
     if set { 1 << n } else { 0 }
 }
 
-fn when(raised: bool, interrupt: u32) -> u32
-    ensures { result ≡ (if raised then interrupt else 0) }
+fn when(raised: bool, interrupt: Interrupt) -> u32
+    ensures { result ≡ raised_if raised interrupt }
 {
-    if raised { interrupt } else { 0 }
+    if raised { interrupt.bit() } else { 0 }
 }
 
 pub fn sync_read(own: &Side, other: &Side) -> u16
@@ -108,7 +100,7 @@ pub fn sync_write(own: &mut Side, other: &Side, value: u16) -> u32
 {
     own.passed = (value >> 8) & 15;
     own.sync_raises = has(value, 14);
-    when(has(value, 13) && other.sync_raises, SYNC)
+    when(has(value, 13) && other.sync_raises, Interrupt::IpcSync)
 }
 
 pub fn control_read(own: &Side, other: &Side) -> u16
@@ -130,12 +122,9 @@ pub fn control_write(own: &mut Side, other: &mut Side, value: u16) -> u32
     ensures raised { result ≡ control_raised own.old other.old value }
 {
     let clears = has(value, 3);
-    let newly_empty = if own.words.is_empty() {
-        !own.empty_raises
-    } else {
-        clears
-    };
-    let newly_filled = !own.filled_raises && !other.words.is_empty();
+    let rises_on_empty = has(value, 2) && !own.empty_raises && own.words.is_empty();
+    let empties = clears && !own.words.is_empty();
+    let rises_on_filled = has(value, 10) && !own.filled_raises && !other.words.is_empty();
     own.enabled = has(value, 15);
     own.empty_raises = has(value, 2);
     own.filled_raises = has(value, 10);
@@ -144,7 +133,12 @@ pub fn control_write(own: &mut Side, other: &mut Side, value: u16) -> u32
         own.words.clear();
         other.last = 0;
     }
-    when(own.empty_raises && newly_empty, EMPTIED) + when(own.filled_raises && newly_filled, FILLED)
+    let emptied = when(
+        rises_on_empty || own.empty_raises && empties,
+        Interrupt::SendFifoEmpty,
+    );
+    let filled = when(rises_on_filled, Interrupt::ReceiveFifoNotEmpty);
+    emptied + filled
 }
 
 pub fn send(own: &mut Side, other: &Side, word: u32) -> u32
@@ -160,7 +154,7 @@ pub fn send(own: &mut Side, other: &Side, word: u32) -> u32
     }
     let first = own.words.is_empty();
     own.words.push_back(word);
-    when(first && other.filled_raises, FILLED)
+    when(first && other.filled_raises, Interrupt::ReceiveFifoNotEmpty)
 }
 
 pub fn receive(own: &mut Side, other: &mut Side) -> Taken
@@ -169,7 +163,8 @@ pub fn receive(own: &mut Side, other: &mut Side) -> Taken
     ensures word { result.word ≡ received_word own.old other.old }
     ensures raised { result.raised ≡ receive_raised own.old other.old }
 {
-    if !own.enabled {
+    let takes = own.enabled;
+    if !takes {
         let word = other.words.front().copied().unwrap_or(own.last);
         return Taken { word, raised: 0 };
     }
@@ -183,7 +178,10 @@ pub fn receive(own: &mut Side, other: &mut Side) -> Taken
         }
         Some(word) => {
             own.last = word;
-            let raised = when(other.words.is_empty() && other.empty_raises, EMPTIED);
+            let raised = when(
+                other.words.is_empty() && other.empty_raises,
+                Interrupt::SendFifoEmpty,
+            );
             Taken { word, raised }
         }
     }

@@ -120,3 +120,71 @@ fn each_fifo_interrupt_is_raised_where_its_enable_asks_for_it(rt: HostRuntime) -
     assert_eq!(rt; ipc.control_write(Proc::Nine, 0x800C), empty);
     Ok(())
 }
+
+/// Each side as the sender, the other disabled: the word waits there and is told of, and is seen without being taken.
+#[test]
+fn a_word_waits_at_a_disabled_side(rt: HostRuntime) -> Result<(), Fail> {
+    for (own, other, raised) in [
+        (
+            Proc::Nine,
+            Proc::Seven,
+            Raised {
+                nine: 0,
+                seven: 0x4_0000,
+            },
+        ),
+        (
+            Proc::Seven,
+            Proc::Nine,
+            Raised {
+                nine: 0x4_0000,
+                seven: 0,
+            },
+        ),
+    ] {
+        let mut ipc = Ipc::new(rt.alloc())?;
+        ipc.laws();
+        ipc.control_write(own, 0x8004);
+        assert_eq!(rt; ipc.control_write(other, 0x400), NONE);
+        assert_eq!(rt; ipc.send(own, 7), raised);
+        for _ in 0..2 {
+            assert_eq!(rt;
+                ipc.receive(other),
+                Got {
+                    word: 7,
+                    raised: NONE
+                }
+            );
+        }
+        assert_eq!(rt;
+            (ipc.control_read(own), ipc.control_read(other)),
+            (0x8104, 0x0401)
+        );
+        assert_eq!(rt; ipc.send(other, 9), NONE);
+        assert_eq!(rt; ipc.receive(own).word, 0);
+        assert_eq!(rt; ipc.control_read(own), 0xC104);
+    }
+    Ok(())
+}
+
+/// A full FIFO of a side that is disabled afterwards takes no word and sets no error.
+#[test]
+fn a_disabled_side_makes_no_error(rt: HostRuntime) -> Result<(), Fail> {
+    let mut ipc = Ipc::new(rt.alloc())?;
+    ipc.control_write(Proc::Seven, 0x8000);
+    for word in 0..16u32 {
+        ipc.send(Proc::Seven, word);
+    }
+    ipc.control_write(Proc::Seven, 0);
+    assert_eq!(rt; ipc.send(Proc::Seven, 16), NONE);
+    assert_eq!(rt; ipc.receive(Proc::Seven).word, 0);
+    assert_eq!(rt; ipc.control_read(Proc::Seven), 0x0102);
+    assert_eq!(rt;
+        ipc.control_write(Proc::Seven, 0x000C),
+        Raised {
+            nine: 0,
+            seven: 0x2_0000
+        }
+    );
+    Ok(())
+}

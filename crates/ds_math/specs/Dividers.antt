@@ -1,4 +1,4 @@
-use Rattle.std.specs.Prelude.{ℕ, ◌≡◌, ◌≢◌, ◌+◌, ◌*◌, ◌-◌, ◌/◌, ◌%◌, ◌^◌, ◌==◌, if◌then◌else◌, ℤ, pos, negsuc, unsigned_abs, int_div, int_rem, Option, Some, None, is_some}
+use Rattle.std.specs.Prelude.{ℕ, ◌≡◌, ◌≢◌, ◌<◌, ◌+◌, ◌*◌, ◌-◌, ◌/◌, ◌%◌, ◌^◌, ◌==◌, if◌then◌else◌, ℤ, pos, negsuc, unsigned_abs, int_div, int_rem, Option, Some, None, is_some}
 use Rattle.std.specs.Int.{cast_signed, w32, w64}
 use Rattle.ds_base.specs.declared.ticks.Tick.{Tick}
 use Rattle.ds_math.specs.declared.dividers.Quotient.{Quotient}
@@ -14,11 +14,19 @@ pub record DividerState : Type 0 where
   pub remainder : ℕ
   pub due : Option Tick
 
+-- what holds of it at every time: how many bits its registers have (GBATEK, "DS Maths"; the mode is DIVCNT's bits 0 and 1)
+pub record IsDivider (s : DividerState) : Type 0 where
+  pub mode : s.mode < 2 ^ 2
+  pub numerator : s.numerator < 2 ^ 64
+  pub denominator : s.denominator < 2 ^ 64
+  pub quotient : s.quotient < 2 ^ 64
+  pub remainder : s.remainder < 2 ^ 64
+
 -- all is 0 at boot (our choice)
 abbrev pub divider_at_boot : DividerState
 divider_at_boot = record { mode = 0; numerator = 0; denominator = 0; quotient = 0; remainder = 0; due = None }
 
--- how long a division takes: 18 bus clocks of 2 ticks in mode 0, 34 in the others (GBATEK, "DS Maths", DIVCNT)
+-- how long a division takes, in ticks: 18 bus clocks of 2 ticks in mode 0, 34 in the others (GBATEK, "DS Maths", DIVCNT)
 abbrev pub division_ticks : ℕ → ℕ
 division_ticks mode = if mode == 0 then 36 else 68
 

@@ -20,6 +20,11 @@ pub record RootState : Type 0 where
   pub root : ℕ
   pub due : Option Tick
 
+-- what holds of it at every time: how many bits its registers have (GBATEK, "DS Maths")
+pub record IsRootUnit (s : RootState) : Type 0 where
+  pub value : s.value < 2 ^ 64
+  pub root : s.root < 2 ^ 32
+
 -- all is 0 at boot (our choice)
 abbrev pub root_at_boot : RootState
 root_at_boot = record { wide = false; value = 0; root = 0; due = None }

@@ -1,8 +1,10 @@
 //! Signed division.
 
-ghost use Rattle.std.specs.Prelude.{◌≡◌, ◌≢◌, ◌<◌, ◌≤◌, ◌^◌, IsSome, pos, int_div, int_rem};
+ghost use Rattle.std.specs.Prelude.{◌≡◌, ◌≢◌, ◌<◌, Some, IsSome, pos, int_div, int_rem};
+ghost use Rattle.ds_base.specs.Schedules.{IsEarly, Reschedules};
+ghost use Rattle.ds_base.specs.declared.ticks.Tick.{Tick};
 ghost use Rattle.ds_math.specs.Division.{modulo};
-ghost use Rattle.ds_math.specs.Dividers.{DividerState, divider_at_boot, division_started, division_finished, divider_seen, division_ticks, dividend, divisor, quotient_by_zero, quotient_word, remainder_word, HoldsResults};
+ghost use Rattle.ds_math.specs.Dividers.{IsDivider, divider_at_boot, division_started, division_finished, divider_seen, division_ticks, dividend, divisor, quotient_by_zero, quotient_word, remainder_word, HoldsResults};
 
 use ds_base::Tick;
 use std::marker::Model;
@@ -66,8 +68,9 @@ impl Divider {
     /// Starts a division at a tick, also while another runs. It is done 36 ticks later in mode 0 and 68 in the others.
     pub fn start(&mut self, mode: u8, numerator: u64, denominator: u64, now: Tick)
         requires mode { mode < 4 }
-        requires early { now.0 ≤ 2 ^ 56 }
-        ensures { self.new ≡ division_started self.old mode numerator denominator now }
+        requires early { IsEarly (Some now) }
+        ensures state { self.new ≡ division_started self.old mode numerator denominator now }
+        ensures schedule { Reschedules now self.old.due self.new.due }
     {
         self.mode = mode;
         self.numerator = numerator;
@@ -82,12 +85,13 @@ impl Divider {
         self.due
     }
 
-    /// The running division is done.
+    /// The running division is done, and none is due from then on.
     #[tactic(auto, using(crate::proofs::Results::are_results))]
     pub fn finish(&mut self)
         requires { IsSome self.old.due }
         ensures results { HoldsResults self.new }
         ensures state { self.new ≡ division_finished self.old }
+        ensures schedule { (now : Tick) → Reschedules now self.old.due self.new.due }
     {
         self.quotient = quotient_of(self.mode, self.numerator, self.denominator);
         self.remainder = remainder_of(self.mode, self.numerator, self.denominator);
@@ -96,7 +100,8 @@ impl Divider {
 
     /// What the registers show.
     pub fn read(&self) -> Quotient
-        ensures { result ≡ divider_seen self.now }
+        ensures seen { result ≡ divider_seen self.now }
+        ensures mode { result.mode < 4 }
     {
         Quotient {
             mode: self.mode,
@@ -107,6 +112,13 @@ impl Divider {
             busy: self.due.is_some(),
             zero: self.denominator == 0,
         }
+    }
+
+    /// Does nothing; its contract states what holds of the divider at every time: how many bits each register has.
+    pub fn laws(&self)
+        ensures { IsDivider self.now }
+    {
+        let _seen = self.read();
     }
 }
 

@@ -1,7 +1,9 @@
 //! Square roots.
 
-ghost use Rattle.std.specs.Prelude.{◌≡◌, ◌<◌, ◌≤◌, ◌^◌, IsSome};
-ghost use Rattle.ds_math.specs.Roots.{RootState, root_at_boot, root_started, root_finished, root_seen, radicand, IsRoot};
+ghost use Rattle.std.specs.Prelude.{◌≡◌, Some, IsSome};
+ghost use Rattle.ds_base.specs.Schedules.{IsEarly, Reschedules};
+ghost use Rattle.ds_base.specs.declared.ticks.Tick.{Tick};
+ghost use Rattle.ds_math.specs.Roots.{IsRootUnit, root_at_boot, root_started, root_finished, root_seen, radicand, IsRoot};
 
 use ds_base::Tick;
 use std::marker::Model;
@@ -51,8 +53,9 @@ impl Root {
 
     /// Starts a root at a tick, also while another runs. It is done 26 ticks later.
     pub fn start(&mut self, wide: bool, value: u64, now: Tick)
-        requires { now.0 ≤ 2 ^ 56 }
-        ensures { self.new ≡ root_started self.old wide value now }
+        requires { IsEarly (Some now) }
+        ensures state { self.new ≡ root_started self.old wide value now }
+        ensures schedule { Reschedules now self.old.due self.new.due }
     {
         self.wide = wide;
         self.value = value;
@@ -66,12 +69,13 @@ impl Root {
         self.due
     }
 
-    /// The running root is done.
+    /// The running root is done, and none is due from then on.
     #[tactic(auto, using(crate::proofs::RootLaws::is_root_of))]
     pub fn finish(&mut self)
         requires { IsSome self.old.due }
         ensures root { IsRoot (radicand self.new.wide self.new.value) self.new.root }
         ensures state { self.new ≡ root_finished self.old }
+        ensures schedule { (now : Tick) → Reschedules now self.old.due self.new.due }
     {
         self.root = whole_root(radicand(self.wide, self.value));
         self.due = None;
@@ -87,6 +91,13 @@ impl Root {
             root: self.root,
             busy: self.due.is_some(),
         }
+    }
+
+    /// Does nothing; its contract states what holds of the unit at every time: how many bits each register has.
+    pub fn laws(&self)
+        ensures { IsRootUnit self.now }
+    {
+        let _seen = self.read();
     }
 }
 

@@ -1,18 +1,19 @@
 use Rattle.std.specs.Prelude.{ℕ, ◌≡◌, ◌<◌, ◌≤◌, ◌+◌, ◌-◌, ◌%◌, ◌==◌, nat_le, ◌&&◌, if◌then◌else◌, List, [], ◌∷◌, All}
 use Rattle.ds_base.specs.declared.processors.Proc.{Proc}
 use Rattle.ds_base.specs.declared.processors.Proc.TheVariants.{Nine, Seven}
+use Rattle.ds_base.specs.Memories.{memory_size, space_size}
 use Rattle.ds_base.specs.declared.memories.Memory.{Memory}
-use Rattle.ds_base.specs.declared.memories.Memory.TheVariants.{Main, Shared, Own7, Itcm, Dtcm, Palette, Vram, Oam}
+use Rattle.ds_base.specs.declared.memories.Memory.TheVariants.{Main, Shared, Own7, Palette, Oam}
 use Rattle.ds_base.specs.declared.memories.Space.{Space}
 use Rattle.ds_base.specs.declared.memories.Space.TheVariants.{ABg, BBg, AObj, BObj, Lcdc, Arm7}
 use Rattle.ds_places.specs.declared.kinds.Place.{Place}
 use Rattle.ds_places.specs.declared.kinds.Place.TheVariants.{Cell, Banks, Port, Rom, Nothing}
 
--- what stands in a region: a memory from one of its cells on, or a space of video memory, each again and again after so many
--- bytes; the ports; the boot ROM; nothing
+-- what stands in a region: so many bytes of a memory from one of its cells on, or a space of video memory, each again and again; the
+-- ports; the boot ROM; nothing
 pub data Content : Type 0 where
-  Cells : Memory → ℕ → ℕ → Content
-  Video : Space → ℕ → Content
+  Cells : (memory : Memory) → (from bytes : ℕ) → Content
+  Video : (space : Space) → Content
   Ports : Content
   BootRom : Content
   Empty : Content
@@ -29,30 +30,30 @@ region first last content = record { first = first; last = last; content = conte
 -- shared work RAM as ARM9 sees it, by WRAMCNT (GBATEK, "DS Memory Control - WRAM")
 abbrev pub shared_for_nine : ℕ → Content
 shared_for_nine wramcnt =
-    if wramcnt == 0 then Cells Shared 0 0x8000 else (
+    if wramcnt == 0 then Cells Shared 0 (memory_size Shared) else (
     if wramcnt == 1 then Cells Shared 0x4000 0x4000 else (
     if wramcnt == 2 then Cells Shared 0 0x4000 else Empty))
 
 -- and as ARM7 sees it; where it has none of it, its own work RAM stands there
 abbrev pub shared_for_seven : ℕ → Content
 shared_for_seven wramcnt =
-    if wramcnt == 0 then Cells Own7 0 0x10000 else (
+    if wramcnt == 0 then Cells Own7 0 (memory_size Own7) else (
     if wramcnt == 1 then Cells Shared 0 0x4000 else (
-    if wramcnt == 2 then Cells Shared 0x4000 0x4000 else Cells Shared 0 0x8000))
+    if wramcnt == 2 then Cells Shared 0x4000 0x4000 else Cells Shared 0 (memory_size Shared)))
 
 -- ARM9's addresses past its TCMs (GBATEK, "DS Memory Map"; that all repeats by remainder is our choice)
 abbrev pub regions_of_nine : ℕ → List Region
 regions_of_nine wramcnt =
-    region 0x02000000 0x02FFFFFF (Cells Main 0 0x400000)
+    region 0x02000000 0x02FFFFFF (Cells Main 0 (memory_size Main))
     ∷ region 0x03000000 0x03FFFFFF (shared_for_nine wramcnt)
     ∷ region 0x04000000 0x04FFFFFF Ports
-    ∷ region 0x05000000 0x05FFFFFF (Cells Palette 0 0x800)
-    ∷ region 0x06000000 0x061FFFFF (Video ABg 0x80000)
-    ∷ region 0x06200000 0x063FFFFF (Video BBg 0x20000)
-    ∷ region 0x06400000 0x065FFFFF (Video AObj 0x40000)
-    ∷ region 0x06600000 0x067FFFFF (Video BObj 0x20000)
-    ∷ region 0x06800000 0x06FFFFFF (Video Lcdc 0x100000)
-    ∷ region 0x07000000 0x07FFFFFF (Cells Oam 0 0x800)
+    ∷ region 0x05000000 0x05FFFFFF (Cells Palette 0 (memory_size Palette))
+    ∷ region 0x06000000 0x061FFFFF (Video ABg)
+    ∷ region 0x06200000 0x063FFFFF (Video BBg)
+    ∷ region 0x06400000 0x065FFFFF (Video AObj)
+    ∷ region 0x06600000 0x067FFFFF (Video BObj)
+    ∷ region 0x06800000 0x06FFFFFF (Video Lcdc)
+    ∷ region 0x07000000 0x07FFFFFF (Cells Oam 0 (memory_size Oam))
     ∷ region 0xFFFF0000 0xFFFFFFFF BootRom
     ∷ []
 
@@ -60,11 +61,11 @@ regions_of_nine wramcnt =
 abbrev pub regions_of_seven : ℕ → List Region
 regions_of_seven wramcnt =
     region 0x00000000 0x00003FFF BootRom
-    ∷ region 0x02000000 0x02FFFFFF (Cells Main 0 0x400000)
+    ∷ region 0x02000000 0x02FFFFFF (Cells Main 0 (memory_size Main))
     ∷ region 0x03000000 0x037FFFFF (shared_for_seven wramcnt)
-    ∷ region 0x03800000 0x03FFFFFF (Cells Own7 0 0x10000)
+    ∷ region 0x03800000 0x03FFFFFF (Cells Own7 0 (memory_size Own7))
     ∷ region 0x04000000 0x04FFFFFF Ports
-    ∷ region 0x06000000 0x06FFFFFF (Video Arm7 0x40000)
+    ∷ region 0x06000000 0x06FFFFFF (Video Arm7)
     ∷ []
 
 abbrev pub regions_of : Proc → ℕ → List Region
@@ -73,8 +74,8 @@ regions_of Seven wramcnt = regions_of_seven wramcnt
 
 -- what stands at an offset into a region
 abbrev pub place_at : Content → ℕ → Place
-place_at (Cells memory from size) offset = Cell memory (from + offset % size)
-place_at (Video space size) offset = Banks space (offset % size)
+place_at (Cells memory from bytes) offset = Cell memory (from + offset % bytes)
+place_at (Video space) offset = Banks space (offset % space_size space)
 place_at Ports offset = Port offset
 place_at BootRom offset = Rom offset
 place_at Empty offset = Nothing
@@ -97,21 +98,10 @@ place_by (r ∷ rs) at = if nat_le r.first at && nat_le at r.last then place_at 
 abbrev pub place_of : Proc → ℕ → ℕ → Place
 place_of proc wramcnt at = place_by (regions_of proc wramcnt) at
 
--- how many bytes a memory has
-abbrev pub size_of_memory : Memory → ℕ
-size_of_memory Main = 0x400000
-size_of_memory Shared = 0x8000
-size_of_memory Own7 = 0x10000
-size_of_memory Itcm = 0x8000
-size_of_memory Dtcm = 0x4000
-size_of_memory Palette = 0x800
-size_of_memory Vram = 0xA4000
-size_of_memory Oam = 0x800
-
--- a cell's number is below the memory's size; an address of a space is below the size of the largest, 1 MiB
-abbrev pub IsWithin : Place → Type 0
-IsWithin (Cell memory at) = at < size_of_memory memory
-IsWithin (Banks space at) = at < 0x100000
-IsWithin (Port at) = at < 0x1000000
-IsWithin (Rom at) = at < 0x10000
-IsWithin Nothing = Unit {0}
+-- a cell's number is below the memory's size, and an address of a space below the space's
+abbrev pub IsInside : Place → Type 0
+IsInside (Cell memory at) = at < memory_size memory
+IsInside (Banks space at) = at < space_size space
+IsInside (Port at) = at < 0x1000000
+IsInside (Rom at) = at < 0x10000
+IsInside Nothing = Unit {0}

@@ -1,7 +1,7 @@
 //! The two address tables.
 
 ghost use Rattle.std.specs.Prelude.{◌≡◌, ◌<◌, ◌≤◌, ◌+◌, ◌-◌, ◌/◌, ◌^◌};
-ghost use Rattle.ds_places.specs.AddressTables.{place_of, place_at, place_by, regions_of, regions_of_nine, regions_of_seven, shared_for_nine, shared_for_seven, HasPlace, IsWithin};
+ghost use Rattle.ds_places.specs.AddressTables.{place_of, place_at, place_by, regions_of, regions_of_nine, regions_of_seven, shared_for_nine, shared_for_seven, HasPlace, IsInside};
 
 use crate::kinds::Place;
 use ds_base::{Memory, Proc, Space};
@@ -23,7 +23,7 @@ fn shared_for_nine(wramcnt: u8, at: u32) -> Place
     requires kept { wramcnt < 4 }
     requires region { 0x3000000 ≤ at }
     ensures value { result ≡ place_at (shared_for_nine wramcnt) (at - 0x3000000) }
-    ensures within { IsWithin result }
+    ensures within { IsInside result }
 {
     match wramcnt {
         0 => cell(Memory::Shared, at % 0x8000),
@@ -38,7 +38,7 @@ fn shared_for_seven(wramcnt: u8, at: u32) -> Place
     requires kept { wramcnt < 4 }
     requires region { 0x3000000 ≤ at }
     ensures value { result ≡ place_at (shared_for_seven wramcnt) (at - 0x3000000) }
-    ensures within { IsWithin result }
+    ensures within { IsInside result }
 {
     match wramcnt {
         0 => cell(Memory::Own7, at % 0x10000),
@@ -52,7 +52,7 @@ fn shared_for_seven(wramcnt: u8, at: u32) -> Place
 fn video_for_nine(wramcnt: u8, at: u32) -> Place
     requires { at / 2 ^ 24 ≡ 6 }
     ensures value { result ≡ place_by (regions_of_nine wramcnt) at }
-    ensures within { IsWithin result }
+    ensures within { IsInside result }
 {
     match (at >> 21) & 7 {
         0 => banks(Space::ABg, at % 0x80000),
@@ -66,7 +66,7 @@ fn video_for_nine(wramcnt: u8, at: u32) -> Place
 fn place_for_nine(wramcnt: u8, at: u32) -> Place
     requires { wramcnt < 4 }
     ensures value { result ≡ place_by (regions_of_nine wramcnt) at }
-    ensures within { IsWithin result }
+    ensures within { IsInside result }
 {
     match at >> 24 {
         2 => cell(Memory::Main, at % 0x400000),
@@ -83,7 +83,7 @@ fn place_for_nine(wramcnt: u8, at: u32) -> Place
 fn place_for_seven(wramcnt: u8, at: u32) -> Place
     requires { wramcnt < 4 }
     ensures value { result ≡ place_by (regions_of_seven wramcnt) at }
-    ensures within { IsWithin result }
+    ensures within { IsInside result }
 {
     match at >> 24 {
         0 if at < 0x4000 => Place::Rom(at),
@@ -103,7 +103,7 @@ pub fn place(proc: Proc, wramcnt: u8, at: u32) -> Place
     ensures value { result ≡ place_of proc wramcnt at }
     ensures stands { HasPlace (regions_of proc wramcnt) at result }
     ensures only { (other : Place) → HasPlace (regions_of proc wramcnt) at other → other ≡ result }
-    ensures within { IsWithin result }
+    ensures within { IsInside result }
 {
     match proc {
         Proc::Nine => place_for_nine(wramcnt, at),

@@ -1,3 +1,4 @@
+mod Choices
 pub mod Four
-pub mod Kept
-pub mod Later
+pub mod Changed
+pub mod Overflowed

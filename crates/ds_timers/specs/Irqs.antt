@@ -1,5 +1,7 @@
-use Rattle.std.specs.Prelude.{ℕ, ◌^◌, ◌==◌, ◌&&◌, not, if◌then◌else◌, Bool, false, bit_and, bit_or}
+use Rattle.std.specs.Prelude.{ℕ, ◌<◌, ◌^◌, ◌==◌, ◌&&◌, not, if◌then◌else◌, Bool, false, bit_and, bit_or}
 use Rattle.std.specs.Int.{bit_not, w32}
+use Rattle.ds_base.specs.Interrupts.{interrupt_bit}
+use Rattle.ds_base.specs.declared.interrupts.Interrupt.TheVariants.{GeometryFifo}
 
 -- a processor's interrupt words (GBATEK, "DS Interrupts"): IME bit 0, IE and IF
 pub record IrqState : Type 0 where
@@ -7,11 +9,16 @@ pub record IrqState : Type 0 where
   pub enabled : ℕ
   pub flags : ℕ
 
+-- what holds of them at every time: IE and IF have 32 bits
+pub record IsIrq (s : IrqState) : Type 0 where
+  pub enabled : s.enabled < 2 ^ 32
+  pub flags : s.flags < 2 ^ 32
+
 -- all is 0 at boot (our choice)
 abbrev pub irq_at_boot : IrqState
 irq_at_boot = record { master = false; enabled = 0; flags = 0 }
 
--- IE and IF share a bit; a halted processor wakes by this, whatever IME is (GBATEK, "Halt")
+-- IE and IF share a bit. A halted processor wakes by this, whatever IME is (our choice)
 abbrev pub shares_bit : IrqState → Bool
 shares_bit s = not (bit_and s.enabled s.flags == 0)
 
@@ -19,21 +26,23 @@ shares_bit s = not (bit_and s.enabled s.flags == 0)
 abbrev pub line_is_up : IrqState → Bool
 line_is_up s = s.master && shares_bit s
 
--- all bits but that of interrupt 21, geometry FIFO, which is a level and no event (GBATEK, "DS 3D Status", GXSTAT bits 30 and 31)
+-- the bit of the geometry FIFO's interrupt, which tells its condition as it is and no event (our choice, by GBATEK, "DS 3D Status", GXSTAT
+-- bits 30 and 31)
 abbrev pub level : ℕ
-level = 2 ^ 21
+level = interrupt_bit GeometryFifo
 
+-- all bits but that one
 abbrev pub events : ℕ → ℕ
-events bits = bit_and bits (bit_not w32 level)
+events word = bit_and word (bit_not w32 level)
 
 -- events set their bits of IF
 abbrev pub irq_raised : IrqState → ℕ → IrqState
 irq_raised s bits = record s { flags = bit_or s.flags (events bits) }
 
--- a 1 written to a bit of IF clears it (GBATEK, "DS Interrupts", IF), and leaves the level as it is
+-- a 1 written to a bit of IF clears it (GBATEK, "DS Interrupts", IF); that it leaves the level as it is is our choice
 abbrev pub irq_acked : IrqState → ℕ → IrqState
 irq_acked s bits = record s { flags = bit_and s.flags (bit_not w32 (events bits)) }
 
--- bit 21 of IF is as the level says, and no other bit changes
+-- the level's bit of IF is as it is told, and no other bit changes (our choice)
 abbrev pub irq_levelled : IrqState → Bool → IrqState
 irq_levelled s on = record s { flags = if on then bit_or s.flags level else events s.flags }

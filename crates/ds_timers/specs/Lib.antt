@@ -1,2 +1,3 @@
 pub mod Irqs
+pub mod TimersKept
 pub mod Timing

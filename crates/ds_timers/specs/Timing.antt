@@ -1,135 +1,168 @@
-use Rattle.std.specs.Prelude.{ℕ, ◌≡◌, ◌≢◌, ◌<◌, ◌≤◌, ◌+◌, ◌-◌, ◌*◌, ◌/◌, ◌%◌, ◌^◌, ◌==◌, ◌&&◌, ◌||◌, not, if◌then◌else◌, Bool, false, bit_and, List, [], ◌∷◌, length, slice_index_or, slice_set, Option, Some, None, is_some}
+use Rattle.std.specs.Prelude.{ℕ, ◌≡◌, ◌≢◌, ◌<◌, ◌+◌, ◌-◌, ◌*◌, ◌/◌, ◌^◌, ◌==◌, ◌&&◌, ◌||◌, ◌⊎◌, not, if◌then◌else◌, Bool, true, false, bit_and, List, [], ◌∷◌, length, slice_index_or, slice_set, Option, Some, None, is_some}
+use Rattle.ds_base.specs.Bits.{bit, bits}
+use Rattle.ds_base.specs.Interrupts.{interrupt_bit}
+use Rattle.ds_base.specs.Schedules.{IsEarly, IsLater}
 use Rattle.ds_base.specs.declared.ticks.Tick.{Tick}
-use Rattle.ds_timers.specs.declared.timers.Timer.{Timer}
+use Rattle.ds_base.specs.declared.interrupts.Interrupt.{Interrupt}
+use Rattle.ds_base.specs.declared.interrupts.Interrupt.TheVariants.{Timer0, Timer1, Timer2, Timer3}
+
+-- A timer's control and reload as they are kept, and its counter (GBATEK, "DS Timers", which sends to "GBA Timers"). A timer that counts
+-- time has an anchor, the tick `since` at which its counter was `count`; any other has none, and its counter is `count`.
+pub record TimerState : Type 0 where
+  pub control : ℕ
+  pub reload : ℕ
+  pub count : ℕ
+  pub since : Option Tick
 
 -- what a control keeps: the prescaler in bits 0 and 1, count-up in 2, interrupt in 6, start in 7 (GBATEK, "GBA Timers", TMxCNT_H)
 abbrev pub kept_control : ℕ → ℕ
 kept_control value = bit_and value 0xC7
 
--- the ticks of one count: 1, 64, 256 or 1,024 bus clocks of 2 ticks
+-- a timer's pace, the ticks of one count: 1, 64, 256 or 1,024 bus clocks by the prescaler (GBATEK, "GBA Timers", TMxCNT_H bits 0 and 1,
+-- and "DS Timers": the timers' clock is the bus clock), each of 2 ticks
 abbrev pub pace : ℕ → ℕ
-pace control = if control % 4 == 0 then 2 else (if control % 4 == 1 then 128 else (if control % 4 == 2 then 512 else 2048))
+pace control =
+    let prescaler = bits 0 2 control in
+    if prescaler == 0 then 2 else (if prescaler == 1 then 128 else (if prescaler == 2 then 512 else 2048))
 
--- it is started
+-- it is started (GBATEK, "GBA Timers", TMxCNT_H bit 7)
 abbrev pub runs : ℕ → Bool
-runs control = control / 2 ^ 7 % 2 == 1
+runs control = bit 7 control
 
--- its overflow raises an interrupt
+-- its overflow raises an interrupt (TMxCNT_H bit 6)
 abbrev pub raises : ℕ → Bool
-raises control = control / 2 ^ 6 % 2 == 1
+raises control = bit 6 control
 
--- it counts the overflows of the timer before it; timer 0 has none before it
+-- it counts the overflows of the timer before it; timer 0 has none before it (TMxCNT_H bit 2)
 abbrev pub counts_up : ℕ → ℕ → Bool
-counts_up which control = not (which == 0) && control / 2 ^ 2 % 2 == 1
+counts_up which control = not (which == 0) && bit 2 control
 
 -- it counts time
 abbrev pub runs_free : ℕ → ℕ → Bool
 runs_free which control = runs control && not (counts_up which control)
 
 -- the timers at boot: all 0 (our choice)
-abbrev pub timer_at_boot : Timer
+abbrev pub timer_at_boot : TimerState
 timer_at_boot = record { control = 0; reload = 0; count = 0; since = None }
 
-abbrev pub timers_at_boot : List Timer
+abbrev pub timers_at_boot : List TimerState
 timers_at_boot = timer_at_boot ∷ timer_at_boot ∷ timer_at_boot ∷ timer_at_boot ∷ []
 
-abbrev pub timer_at : List Timer → ℕ → Timer
+abbrev pub timer_at : List TimerState → ℕ → TimerState
 timer_at timers which = slice_index_or timers which timer_at_boot
 
--- The counter at a tick. A timer that counts time has an anchor, the tick `since` at which its counter was `count`, and one count more at each
--- full pace after it; any other holds its count.
+-- the counter at a tick, a number of counts: one more at each whole pace since the anchor (GBATEK, "GBA Timers", TMxCNT_L: the counter
+-- counts up; that it is reckoned from an anchor is our choice of form)
 abbrev pub counted : Option Tick → ℕ → ℕ → Tick → ℕ
 counted None count ticks now = count
 counted (Some since) count ticks now = count + (now.0 - since.0) / ticks
 
-abbrev pub counter_of : Timer → Tick → ℕ
+abbrev pub counter_of : TimerState → Tick → ℕ
 counter_of t now = counted t.since t.count (pace t.control) now
 
--- when the counter would be 65,536; a timer with no anchor is never due
+-- when a timer overflows, in ticks: its counter would be 65,536 then; a timer with no anchor is never due (GBATEK, "GBA Timers")
 abbrev pub full : Option Tick → ℕ → ℕ → Option Tick
 full None count ticks = None
 full (Some since) count ticks = Some (record { 0 = since.0 + (65536 - count) * ticks })
 
-abbrev pub due_of : Timer → Option Tick
-due_of t = full t.since t.count (pace t.control)
+abbrev pub timer_due : TimerState → Option Tick
+timer_due t = full t.since t.count (pace t.control)
 
--- a tick is before another, if there is one
-abbrev pub IsBefore : Tick → Option Tick → Type 0
-IsBefore now None = Unit {0}
-IsBefore now (Some due) = now.0 < due.0
-
-abbrev pub IsEarly : Option Tick → Type 0
-IsEarly None = Unit {0}
-IsEarly (Some tick) = tick.0 ≤ 2 ^ 56
-
--- what each of the four timers keeps: it has an anchor exactly where it counts time, and its numbers have 16 bits
-pub record IsTimer (which : ℕ) (t : Timer) : Type 0 where
+-- what holds of each of the four timers at every time: its control has the kept bits alone, its other numbers have 16 bits, and it has an
+-- anchor exactly where it counts time
+pub record IsTimer (which : ℕ) (t : TimerState) : Type 0 where
+  pub control : kept_control t.control ≡ t.control
+  pub reload : t.reload < 2 ^ 16
+  pub count : t.count < 2 ^ 16
   pub anchored : is_some t.since ≡ runs_free which t.control
   pub early : IsEarly t.since
-  pub count : t.count < 2 ^ 16
-  pub reload : t.reload < 2 ^ 16
 
-pub record AreTimers (timers : List Timer) : Type 0 where
+pub record AreTimers (timers : List TimerState) : Type 0 where
   pub four : length timers ≡ 4
   pub each : (which : ℕ) → which < 4 → IsTimer which (timer_at timers which)
 
--- what happens to a timer at a tick makes it due later or not at all, and no other timer due at another tick
-pub record Reschedules (old new : List Timer) (which : ℕ) (now : Tick) : Type 0 where
-  pub later : IsBefore now (due_of (timer_at new which))
-  pub others : (other : ℕ) → other < 4 → other ≢ which → due_of (timer_at new other) ≡ due_of (timer_at old other)
+-- what happens to timer `which` at a tick makes it due later than that tick or not at all, and no other timer due otherwise than before
+pub record SchedulesOne (which : ℕ) (now : Tick) (old new : List TimerState) : Type 0 where
+  pub later : IsLater now (timer_due (timer_at new which))
+  pub others : (other : ℕ) → other < 4 → other ≢ which → timer_due (timer_at new other) ≡ timer_due (timer_at old other)
 
--- the same of what happens at the tick at which the timer itself is due
-abbrev pub ReschedulesAtDue : Option Tick → List Timer → List Timer → ℕ → Type 0
-ReschedulesAtDue None old new which = Unit {0}
-ReschedulesAtDue (Some due) old new which = Reschedules old new which due
+-- From a tick on a timer counts from a number: its counter is that number and one more for each whole pace since then, and it overflows when
+-- the counts that are left to 65,536 are over.
+pub record CountsFrom (t : TimerState) (number : ℕ) (start : Tick) : Type 0 where
+  pub counter : (at : Tick) → counter_of t at ≡ number + (at.0 - start.0) / pace t.control
+  pub overflow : timer_due t ≡ Some (record { 0 = start.0 + (65536 - number) * pace t.control })
 
--- a reload is written; the counter stays
-abbrev pub reload_set : List Timer → ℕ → ℕ → List Timer
+-- a reload is written; the counter stays (GBATEK, "GBA Timers", TMxCNT_L)
+abbrev pub reload_set : List TimerState → ℕ → ℕ → List TimerState
 reload_set timers which value = slice_set timers which (record (timer_at timers which) { reload = value })
 
--- it counts time on at the same pace
-abbrev pub runs_on : ℕ → Timer → ℕ → Bool
-runs_on which t control = runs_free which control && is_some t.since && (pace control == pace t.control)
+-- a write of a control starts the timer: bit 7 goes from 0 to 1
+abbrev pub is_start : ℕ → ℕ → Bool
+is_start old new = runs new && not (runs old)
 
--- the count that a write of the control leaves: a start takes the reload, all else keeps the counter
-abbrev pub count_left : Timer → ℕ → Tick → ℕ
-count_left t control now = if runs control && not (runs t.control) then t.reload else counter_of t now
+-- A control is written at a tick, with these kept bits (GBATEK, "GBA Timers", TMxCNT_H; that a running timer whose pace changes counts
+-- the new pace from that tick on, and goes on where its pace stays, is our choice). Four cases, of which one applies:
+pub data ChangesControl (which : ℕ) (old : TimerState) (control : ℕ) (now : Tick) (new : TimerState) : Type 0 where
+  -- it starts: its counter is the reload, and counts from this tick on where it counts time
+  starts : is_start old.control control ≡ true
+      → new ≡ record old { control = control; count = old.reload; since = if runs_free which control then Some now else None }
+      → ChangesControl which old control now new
+  -- it counts time on at its pace: it goes on by the anchor that it has
+  goes_on : runs_free which old.control ≡ true → runs_free which control ≡ true → pace control ≡ pace old.control
+      → new ≡ record old { control = control }
+      → ChangesControl which old control now new
+  -- it ran, and counts time at another pace or counted up before: it takes its counter at this tick as a new anchor
+  takes_anchor : is_start old.control control ≡ false → runs_free which control ≡ true
+      → (runs_free which old.control ≡ false) ⊎ (pace control ≢ pace old.control)
+      → new ≡ record old { control = control; count = counter_of old now; since = Some now }
+      → ChangesControl which old control now new
+  -- it stops or is stopped, or it ran and counts up: it holds its count
+  holds_count : is_start old.control control ≡ false → runs_free which control ≡ false
+      → new ≡ record old { control = control; count = counter_of old now; since = None }
+      → ChangesControl which old control now new
 
--- A control is written at a tick (GBATEK, "GBA Timers"). Where the timer counts time on at its pace, its anchor stays; where it counts time
--- otherwise, it has a new anchor at this tick; where it stops or counts up, it holds its count.
-abbrev pub controlled : ℕ → Timer → ℕ → Tick → Timer
+-- the same as a function, for those who compute with it
+abbrev pub controlled : ℕ → TimerState → ℕ → Tick → TimerState
 controlled which t control now =
-    if runs_on which t control then record t { control = control }
-    else record t { control = control; count = count_left t control now; since = (if runs_free which control then Some now else None) }
+    if is_start t.control control then record t { control = control; count = t.reload; since = if runs_free which control then Some now else None }
+    else (if runs_free which control then (
+    if runs_free which t.control && (pace control == pace t.control) then record t { control = control }
+    else record t { control = control; count = counter_of t now; since = Some now }
+    ) else record t { control = control; count = counter_of t now; since = None })
 
-abbrev pub control_set : List Timer → ℕ → ℕ → Tick → List Timer
+abbrev pub control_set : List TimerState → ℕ → ℕ → Tick → List TimerState
 control_set timers which value now = slice_set timers which (controlled which (timer_at timers which) (kept_control value) now)
 
 -- An event in which timer `which` overflows. A timer counts up in it where it runs, counts up, and the one before it overflows; it overflows in
--- turn where that is its 65,536th count.
-abbrev pub carries : ℕ → Bool → Timer → Bool
+-- turn where that is its 65,536th count (GBATEK, "GBA Timers", TMxCNT_H bit 2; that all of it is one event is our choice).
+abbrev pub carries : ℕ → Bool → TimerState → Bool
 carries i before t = before && runs t.control && counts_up i t.control
 
-abbrev pub overflows : ℕ → ℕ → Bool → Timer → Bool
+abbrev pub overflows : ℕ → ℕ → Bool → TimerState → Bool
 overflows which i before t = (i == which) || (carries i before t && t.count == 65535)
 
 -- one timer after it: an overflow starts it again from the reload, where it counts time with an anchor at its due tick
-abbrev pub after_overflow : ℕ → ℕ → Bool → Timer → Timer
+abbrev pub after_overflow : ℕ → ℕ → Bool → TimerState → TimerState
 after_overflow which i before t =
-    if i == which then record t { count = t.reload; since = due_of t }
+    if i == which then record t { count = t.reload; since = timer_due t }
     else (if carries i before t then record t { count = (if t.count == 65535 then t.reload else t.count + 1) }
     else t)
 
--- the interrupt that it raises where it overflows and its bit 6 is set: 3 to 6 for timers 0 to 3 (GBATEK, "DS Interrupts")
-abbrev pub overflow_bit : ℕ → ℕ → Bool → Timer → ℕ
-overflow_bit which i before t = if overflows which i before t && raises t.control then 2 ^ (3 + i) else 0
+-- each timer's interrupt (GBATEK, "DS Interrupts")
+abbrev pub timer_interrupt : ℕ → Interrupt
+timer_interrupt i = if i == 0 then Timer0 else (if i == 1 then Timer1 else (if i == 2 then Timer2 else Timer3))
 
--- all four after it, and the interrupts that they raise
+-- the bit of IF that it raises where it overflows and its own bit 6 is set
+abbrev pub overflow_bit : ℕ → ℕ → Bool → TimerState → ℕ
+overflow_bit which i before t = if overflows which i before t && raises t.control then interrupt_bit (timer_interrupt i) else 0
+
+-- all four after it, and the bits of IF that they raise
 pub record Overflow : Type 0 where
-  pub timers : List Timer
+  pub timers : List TimerState
   pub bits : ℕ
 
-abbrev pub overflow_of : List Timer → ℕ → Overflow
+-- each timer in its order, by whether the one before it overflows (GBATEK, "GBA Timers", TMxCNT_H bit 2)
+abbrev pub overflow_of : List TimerState → ℕ → Overflow
 overflow_of timers which =
     let zero = overflows which 0 false (timer_at timers 0) in
     let one = overflows which 1 zero (timer_at timers 1) in

@@ -1,12 +1,10 @@
 //! The interrupt words of one processor.
 
 ghost use Rattle.std.specs.Prelude.{◌≡◌};
-ghost use Rattle.ds_timers.specs.Irqs.{IrqState, irq_at_boot, shares_bit, line_is_up, events, irq_raised, irq_acked, irq_levelled};
+ghost use Rattle.ds_timers.specs.Irqs.{IsIrq, irq_at_boot, level, shares_bit, line_is_up, events, irq_raised, irq_acked, irq_levelled};
 
+use ds_base::Interrupt;
 use std::marker::Model;
-
-/// Interrupt 21, geometry FIFO, which is a level and no event.
-const LEVEL: u32 = 0x20_0000;
 
 /// IME, IE and IF of one processor. Contracts see the three.
 #[derive(Drop)]
@@ -24,10 +22,17 @@ impl Model for Irq {
     ghost view = { λ i. record { master = i.master; enabled = i.enabled; flags = i.flags } };
 }
 
+/// The bit of the geometry FIFO's interrupt, which is a level and no event.
+fn level() -> u32
+    ensures { result ≡ level }
+{
+    Interrupt::GeometryFifo.bit()
+}
+
 fn events(bits: u32) -> u32
     ensures { result ≡ events bits }
 {
-    bits & !LEVEL
+    bits & !level()
 }
 
 impl Irq {
@@ -49,7 +54,7 @@ impl Irq {
         self.master && self.wakes()
     }
 
-    /// Whether a halted processor wakes: IE and IF share a bit, whatever IME is.
+    /// Whether a halted processor wakes: IE and IF share a bit, whatever IME is (our choice).
     pub fn wakes(&self) -> bool
         ensures { result ≡ shares_bit self.now }
     {
@@ -77,14 +82,14 @@ impl Irq {
         self.master
     }
 
-    /// Events set their bits of IF. Bit 21 is no event's and stays.
+    /// Events set their bits of IF. The geometry FIFO's is no event's and stays (our choice).
     pub fn raise(&mut self, bits: u32)
         ensures { self.new ≡ irq_raised self.old bits }
     {
         self.flags |= events(bits);
     }
 
-    /// A write of IF: the bits that are 1 are cleared, but for bit 21, which only its level changes.
+    /// A write of IF: the bits that are 1 are cleared, but for the geometry FIFO's, which only its level changes (our choice).
     pub fn ack(&mut self, bits: u32)
         ensures { self.new ≡ irq_acked self.old bits }
     {
@@ -105,14 +110,20 @@ impl Irq {
         self.master = on;
     }
 
-    /// Bit 21 of IF is set or clear from now on, until the next such call.
+    /// The geometry FIFO's bit of IF is set or clear from now on, until the next such call.
     pub fn level21(&mut self, on: bool)
         ensures { self.new ≡ irq_levelled self.old on }
     {
         self.flags = if on {
-            self.flags | LEVEL
+            self.flags | level()
         } else {
             events(self.flags)
         };
+    }
+    /// Does nothing; its contract states what holds of the words at every time: IE and IF have 32 bits.
+    pub fn laws(&self)
+        ensures { IsIrq self.now }
+    {
+        let _words = (self.enabled(), self.flags());
     }
 }

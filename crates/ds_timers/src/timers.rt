@@ -1,10 +1,14 @@
 //! The four timers of one processor. A counter is never ticked up: it is computed from the tick and the count at which it
 //! began.
 
-ghost use Rattle.std.specs.Prelude.{◌≡◌, ◌<◌, ◌≤◌, ◌+◌, ◌^◌, IsSome, is_some};
-ghost use Rattle.ds_timers.specs.Timing.{AreTimers, IsBefore, IsEarly, Reschedules, ReschedulesAtDue, timers_at_boot, timer_at, pace, runs, raises, counts_up, runs_free, counter_of, due_of, controlled, reload_set, control_set, carries, overflows, after_overflow, overflow_bit, overflow_of};
+ghost use Rattle.std.specs.Prelude.{◌≡◌, ◌<◌, ◌≤◌, ◌^◌, ℕ, Some, None, IsSome, true, is_some, slice_set, if◌then◌else◌};
+ghost use Rattle.ds_base.specs.Interrupts.{interrupt_bit};
+ghost use Rattle.ds_base.specs.Schedules.{IsEarly, IsLater, Reschedules};
+ghost use Rattle.ds_base.specs.declared.ticks.Tick.{Tick};
+ghost use Rattle.ds_timers.specs.TimersKept.{timer_seen};
+ghost use Rattle.ds_timers.specs.Timing.{AreTimers, ChangesControl, CountsFrom, IsTimer, SchedulesOne, timers_at_boot, timer_at, kept_control, pace, runs, raises, counts_up, runs_free, counter_of, timer_due, timer_interrupt, is_start, controlled, reload_set, control_set, carries, overflows, after_overflow, overflow_bit, overflow_of};
 
-use ds_base::Tick;
+use ds_base::{Interrupt, Tick};
 use std::marker::Model;
 
 /// The bits that a control keeps.
@@ -34,15 +38,15 @@ pub struct Timers {
 }
 
 impl Model for Timers {
-    ghost use Rattle.std.specs.Prelude.{List};
-    ghost use Rattle.ds_timers.specs.declared.timers.Timer.{Timer};
-    ghost use Rattle.ds_timers.specs.Timing.{AreTimers};
+    ghost use Rattle.std.specs.Prelude.{List, map};
+    ghost use Rattle.ds_timers.specs.TimersKept.{timer_seen};
+    ghost use Rattle.ds_timers.specs.Timing.{AreTimers, TimerState};
 
-    ghost Value = { List Timer };
+    ghost Value = { List TimerState };
 
-    ghost view = { λ t. t.timers };
+    ghost view = { λ t. map timer_seen t.timers };
 
-    ghost invariant = { λ t. AreTimers t.timers };
+    ghost invariant = { λ t. AreTimers (map timer_seen t.timers) };
 }
 
 fn ticks(control: u16) -> u64
@@ -83,8 +87,9 @@ fn goes_alone(which: u8, control: u16) -> bool
 }
 
 fn counter(timer: Timer, now: Tick) -> u16
-    requires { IsBefore now (due_of timer) }
-    ensures { result ≡ counter_of timer now }
+    requires is { timer.count < 2 ^ 16 }
+    requires ahead { IsLater now (timer_due (timer_seen timer)) }
+    ensures { result ≡ counter_of (timer_seen timer) now }
 {
     match timer.since {
         None => timer.count,
@@ -97,7 +102,7 @@ fn counter(timer: Timer, now: Tick) -> u16
 
 fn due(timer: Timer) -> Option<Tick>
     requires { IsEarly timer.since }
-    ensures { result ≡ due_of timer }
+    ensures { result ≡ timer_due (timer_seen timer) }
 {
     match timer.since {
         None => None,
@@ -105,41 +110,52 @@ fn due(timer: Timer) -> Option<Tick>
     }
 }
 
+/// The tick, where there is an anchor to take.
+fn anchor(taken: bool, now: Tick) -> Option<Tick>
+    ensures { result ≡ (if taken then Some now else None) }
+{
+    if taken { Some(now) } else { None }
+}
+
+/// A timer after a write of its control.
 fn with_control(which: u8, timer: Timer, control: u16, now: Tick) -> Timer
-    requires { IsBefore now (due_of timer) }
-    ensures { result ≡ controlled which timer control now }
+    requires ahead { IsLater now (timer_due (timer_seen timer)) }
+    ensures { timer_seen result ≡ controlled which (timer_seen timer) control now }
 {
     let alone = goes_alone(which, control);
-    if alone && timer.since.is_some() && ticks(control) == ticks(timer.control) {
+    if is_on(control) && !is_on(timer.control) {
+        return Timer {
+            control,
+            count: timer.reload,
+            since: anchor(alone, now),
+            ..timer
+        };
+    }
+    if alone && goes_alone(which, timer.control) && ticks(control) == ticks(timer.control) {
         return Timer { control, ..timer };
     }
-    let count = if is_on(control) && !is_on(timer.control) {
-        timer.reload
-    } else {
-        counter(timer, now)
-    };
-    let since = if alone { Some(now) } else { None };
     Timer {
         control,
-        count,
-        since,
+        count: counter(timer, now),
+        since: anchor(alone, now),
         ..timer
     }
 }
 
+/// A timer after an event in which timer `which` overflows, and the timer before this one, or not.
 fn passed(which: u8, i: u8, before: bool, timer: Timer) -> After
     requires i { i < 4 }
     requires early { IsEarly timer.since }
-    ensures value { result.timer ≡ after_overflow which i before timer }
-    ensures overflows { result.overflows ≡ overflows which i before timer }
-    ensures bits { result.bits ≡ overflow_bit which i before timer }
+    ensures value { timer_seen result.timer ≡ after_overflow which i before (timer_seen timer) }
+    ensures overflows { result.overflows ≡ overflows which i before (timer_seen timer) }
+    ensures bits { result.bits ≡ overflow_bit which i before (timer_seen timer) }
     ensures within { result.bits ≤ 64 }
 {
     let carries = before && is_on(timer.control) && goes_with(i, timer.control);
     let last = timer.count == 0xFFFF;
     let overflows = i == which || carries && last;
     let bits = if overflows && interrupts(timer.control) {
-        bit(i)
+        interrupt(i).bit()
     } else {
         0
     };
@@ -164,16 +180,16 @@ fn passed(which: u8, i: u8, before: bool, timer: Timer) -> After
     }
 }
 
-fn bit(i: u8) -> u32
+fn interrupt(i: u8) -> Interrupt
     requires { i < 4 }
-    ensures value { result ≡ 2 ^ (3 + i) }
-    ensures within { result ≤ 64 }
+    ensures interrupt { result ≡ timer_interrupt i }
+    ensures within { interrupt_bit result ≤ 64 }
 {
     match i {
-        0 => 8,
-        1 => 16,
-        2 => 32,
-        _ => 64,
+        0 => Interrupt::Timer0,
+        1 => Interrupt::Timer1,
+        2 => Interrupt::Timer2,
+        _ => Interrupt::Timer3,
     }
 }
 
@@ -193,12 +209,30 @@ impl Timers {
         }
     }
 
+    /// A timer as it is kept.
+    fn timer(&self, which: u8) -> Timer
+        requires { which < 4 }
+        ensures seen { timer_seen result ≡ timer_at self.now which }
+        ensures is { IsTimer which (timer_seen result) }
+    {
+        self.timers[which as usize]
+    }
+
+    /// Another timer in its place.
+    fn put(&mut self, which: u8, timer: Timer)
+        requires which { which < 4 }
+        requires is { IsTimer which (timer_seen timer) }
+        ensures { self.new ≡ slice_set self.old which (timer_seen timer) }
+    {
+        self.timers[which as usize] = timer;
+    }
+
     /// A timer's control as it is kept.
     pub fn control(&self, which: u8) -> u16
         requires { which < 4 }
         ensures { result ≡ (timer_at self.now which).control }
     {
-        self.timers[which as usize].control
+        self.timer(which).control
     }
 
     /// A timer's reload as it is kept.
@@ -206,71 +240,89 @@ impl Timers {
         requires { which < 4 }
         ensures { result ≡ (timer_at self.now which).reload }
     {
-        self.timers[which as usize].reload
+        self.timer(which).reload
     }
 
     /// A timer's counter at a tick before it is due.
     pub fn counter_at(&self, which: u8, now: Tick) -> u16
         requires which { which < 4 }
-        requires ahead { IsBefore now (due_of (timer_at self.now which)) }
+        requires ahead { IsLater now (timer_due (timer_at self.now which)) }
         ensures { result ≡ counter_of (timer_at self.now which) now }
     {
-        counter(self.timers[which as usize], now)
+        counter(self.timer(which), now)
     }
 
-    /// A write of a timer's reload. The counter stays until the next start or overflow.
+    /// A write of a timer's reload. The counter stays until the next start or overflow, and so does what is due.
     pub fn set_reload(&mut self, which: u8, value: u16)
         requires { which < 4 }
-        ensures { self.new ≡ reload_set self.old which value }
+        ensures timers { self.new ≡ reload_set self.old which value }
+        ensures schedule { (now : Tick) (each : ℕ) → each < 4 → Reschedules now (timer_due (timer_at self.old each)) (timer_due (timer_at self.new each)) }
     {
-        let timer = self.timers[which as usize];
-        self.timers[which as usize] = Timer {
-            reload: value,
-            ..timer
-        };
+        self.laws();
+        let timer = self.timer(which);
+        self.put(
+            which,
+            Timer {
+                reload: value,
+                ..timer
+            },
+        );
     }
 
-    /// A write of a timer's control at a tick before it is due.
+    /// A write of a timer's control at a tick before it is due. `change` says by which case it changes; `start` what a start
+    /// means for one that counts time: from then on it counts paces from its reload.
     pub fn set_control(&mut self, which: u8, value: u16, now: Tick)
         requires which { which < 4 }
-        requires ahead { IsBefore now (due_of (timer_at self.old which)) }
-        requires early { now.0 ≤ 2 ^ 56 }
+        requires ahead { IsLater now (timer_due (timer_at self.old which)) }
+        requires early { IsEarly (Some now) }
         ensures timers { self.new ≡ control_set self.old which value now }
-        ensures schedule { Reschedules self.old self.new which now }
+        ensures change { ChangesControl which (timer_at self.old which) (kept_control value) now (timer_at self.new which) }
+        ensures start { is_start (timer_at self.old which).control (kept_control value) ≡ true → runs_free which (kept_control value) ≡ true
+            → CountsFrom (timer_at self.new which) (timer_at self.old which).reload now }
+        ensures alone { SchedulesOne which now self.old self.new }
+        ensures schedule { (each : ℕ) → each < 4 → Reschedules now (timer_due (timer_at self.old each)) (timer_due (timer_at self.new each)) }
     {
-        self.timers[which as usize] = with_control(
-            which,
-            self.timers[which as usize],
-            value & KEPT,
-            now,
-        );
+        self.laws();
+        let timer = with_control(which, self.timer(which), value & KEPT, now);
+        self.put(which, timer);
     }
 
     /// When a timer overflows, None exactly where it doesn't count time.
     pub fn due(&self, which: u8) -> Option<Tick>
         requires { which < 4 }
-        ensures tick { result ≡ due_of (timer_at self.now which) }
+        ensures tick { result ≡ timer_due (timer_at self.now which) }
         ensures free { is_some result ≡ runs_free which (timer_at self.now which).control }
-        ensures timers { AreTimers self.now }
     {
-        due(self.timers[which as usize])
+        due(self.timer(which))
     }
 
     /// A timer overflows at its due tick, and with it those after it that count up and are full. Gives the bits of IF that
-    /// they raise.
+    /// they raise. From then on it counts paces from its reload again.
     pub fn overflow(&mut self, which: u8) -> u32
         requires which { which < 4 }
-        requires due { IsSome (due_of (timer_at self.old which)) }
-        requires early { IsEarly (due_of (timer_at self.old which)) }
+        requires due { IsSome (timer_due (timer_at self.old which)) }
+        requires early { IsEarly (timer_due (timer_at self.old which)) }
         ensures timers { self.new ≡ (overflow_of self.old which).timers }
         ensures bits { result ≡ (overflow_of self.old which).bits }
-        ensures schedule { ReschedulesAtDue (due_of (timer_at self.old which)) self.old self.new which }
+        ensures again { (now : Tick) → timer_due (timer_at self.old which) ≡ Some now → CountsFrom (timer_at self.new which) (timer_at self.old which).reload now }
+        ensures alone { (now : Tick) → timer_due (timer_at self.old which) ≡ Some now → SchedulesOne which now self.old self.new }
+        ensures schedule { (now : Tick) (each : ℕ) → each < 4 → timer_due (timer_at self.old which) ≡ Some now
+            → Reschedules now (timer_due (timer_at self.old each)) (timer_due (timer_at self.new each)) }
     {
-        let zero = passed(which, 0, false, self.timers[0]);
-        let one = passed(which, 1, zero.overflows, self.timers[1]);
-        let two = passed(which, 2, one.overflows, self.timers[2]);
-        let three = passed(which, 3, two.overflows, self.timers[3]);
+        self.laws();
+        let zero = passed(which, 0, false, self.timer(0));
+        let one = passed(which, 1, zero.overflows, self.timer(1));
+        let two = passed(which, 2, one.overflows, self.timer(2));
+        let three = passed(which, 3, two.overflows, self.timer(3));
         self.timers = [zero.timer, one.timer, two.timer, three.timer];
         zero.bits + one.bits + two.bits + three.bits
+    }
+
+    /// Does nothing; its contract states what holds of the timers at every time: that there are four, and of each which bits its
+    /// numbers have, and that it has an anchor exactly where it counts time.
+    pub fn laws(&self)
+        ensures { AreTimers self.now }
+    {
+        let _first = self.timers[0];
     }
 }

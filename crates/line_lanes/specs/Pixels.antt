@@ -38,7 +38,8 @@ abbrev pub darkened : ℕ → ℕ → ℕ
 darkened evy = by_channel (λ x. x - x * held evy / 16)
 
 -- master brightness by the port's value: the factor in bits 0 to 4, the mode in bits 14 to 15, where 1 is up and 2 is down
--- (GBATEK, "DS Video Stuff", MASTER_BRIGHT); modes 0 and 3 change nothing (mode 3 is reserved: our choice)
+-- (GBATEK, "DS Video Stuff", MASTER_BRIGHT). That it works on channels of five bits, where GBATEK speaks of six, is our choice, and so is
+-- that modes 0 and 3 change nothing (mode 3 is reserved)
 abbrev pub mastered : ℕ → ℕ → ℕ
 mastered value p =
     if value / 16384 % 4 == 1 then brightened (value % 32) p

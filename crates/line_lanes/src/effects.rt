@@ -66,7 +66,8 @@ pub fn darken(row: &mut [u16], evy: u8)
 }
 
 /// Master brightness (GBATEK, "DS Video Stuff", MASTER_BRIGHT): `value` is the port's, its factor in bits 0 to 4 and its mode
-/// in bits 14 to 15. Mode 1 brightens and mode 2 darkens; modes 0 and 3 leave the row as it is.
+/// in bits 14 to 15. Mode 1 brightens and mode 2 darkens; modes 0 and 3 leave the row as it is. Its channels have five bits
+/// (our choice).
 pub fn master(row: &mut [u16], value: u16)
     ensures { row.new ≡ map (mastered value) row.old }
 {

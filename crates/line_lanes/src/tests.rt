@@ -15,6 +15,38 @@ fn brightens_every_place_at_every_length(rt: HostRuntime) {
     }
 }
 
+/// The lengths around a block of eight lanes, and around two.
+const LENGTHS: [usize; 9] = [0, 1, 7, 8, 9, 15, 16, 17, 31];
+
+/// By 0 and 16 the second row shows, each pixel in its place; by 16 a pixel is black but for bit 15.
+#[test]
+fn every_kernel_reaches_every_place_at_every_length(rt: HostRuntime) {
+    let mut next = [0; 32];
+    for (place, pixel) in next.iter_mut().enumerate() {
+        *pixel = 33 * (place as u16 % 32);
+    }
+    for len in LENGTHS {
+        let mut blended = [0x8010; 32];
+        let mut darkened = next;
+        let mut mastered = next;
+        blend(&mut blended[..len], &next[..len], 0, 16);
+        darken(&mut darkened[..len], 16);
+        master(&mut mastered[..len], 0x8010);
+        for (place, pixel) in next.iter().enumerate() {
+            let wanted = if place < len {
+                (0x8000 + *pixel, 0, 0)
+            } else {
+                (0x8010, *pixel, *pixel)
+            };
+            assert_eq!(rt;
+                (blended[place], darkened[place], mastered[place]),
+                wanted,
+                "place {place} of {len}"
+            );
+        }
+    }
+}
+
 /// Pixel, EVY, and the pixel brightened: red, green and blue c become c + (31 - c) EVY / 16.
 const BRIGHTENED: [(u16, u8, u16); 7] = [
     (0x1234, 0, 0x1234),

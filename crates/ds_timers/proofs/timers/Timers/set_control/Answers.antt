@@ -1,16 +1,46 @@
-use Rattle.std.proofs.Common.{sym}
-use Rattle.ds_timers.specs.Timing.{AreTimers, IsBefore, due_of, timer_at}
-use Rattle.ds_timers.proofs.Kept.{control_keeps}
-use Rattle.ds_timers.proofs.Later.{control_reschedules}
+use Rattle.std.proofs.Common.{◌≡◌, ◌∙◌, sym, subst, ap, slice_set}
+use Rattle.ds_base.specs.Schedules.{IsLater}
+use Rattle.ds_timers.specs.TimersKept.{timer_seen}
+use Rattle.ds_timers.specs.Timing.{IsTimer, ChangesControl, CountsFrom, SchedulesOne, timer_at, timer_due, kept_control, controlled, control_set}
+use Rattle.ds_timers.proofs.Changed.{controlled_is, kept_twice, control_changes, control_counts, control_schedules}
+use Rattle.ds_timers.proofs.Four.{one_reschedules}
 use Rattle.ds_timers.proofs.timers.Timers.set_control.Goals as goal
 
-pub invariant_of-self : goal.invariant_of-self
-invariant_of-self c =
-    let before : IsBefore c.args.now (due_of (timer_at c.self.inside.timers c.args.which)) = rw c.self.view_is c.requires.ahead in
-    rw c.with_control.ensures (control_keeps _ _ _ c.args.now c.self.invariant c.requires.which before c.requires.early)
+pub put-requires-clause-is : goal.put-requires-clause-is
+put-requires-clause-is c =
+    let t = timer_seen c.timer.result in
+    let now = c.args.now in
+    let before : IsLater now (timer_due t) = subst (λ x. IsLater now (timer_due x)) (sym c.timer.ensures.seen) c.requires.ahead in
+    subst (IsTimer c.args.which) (sym c.with_control-timer.ensures)
+    (controlled_is c.args.which t (kept_control c.args.value) now c.timer.ensures.is (kept_twice c.args.value) before c.requires.early)
+
+new_is : (c : goal.After-put) → c.put.new.self ≡ control_set c.args.self.now c.args.which c.args.value c.args.now
+new_is c =
+    let kept = kept_control c.args.value in
+    c.put.ensures ∙ ap (slice_set c.args.self.now c.args.which) (c.with_control-timer.ensures ∙ ap (λ x. controlled c.args.which x kept c.args.now) c.timer.ensures.seen)
+
+pub returns-clause-change : goal.returns-clause-change
+returns-clause-change c =
+    let old = c.args.self.now in
+    let which = c.args.which in
+    let kept = kept_control c.args.value in
+    subst (λ new. ChangesControl which (timer_at old which) kept c.args.now (timer_at new which)) (sym (new_is c)) (control_changes old which kept c.args.now c.laws.ensures c.requires.which)
+
+pub returns-clause-start : goal.returns-clause-start
+returns-clause-start c =
+    let old = c.args.self.now in
+    let which = c.args.which in
+    λ starts free. subst (λ new. CountsFrom (timer_at new which) (timer_at old which).reload c.args.now) (sym (new_is c))
+    (control_counts old which (kept_control c.args.value) c.args.now c.laws.ensures c.requires.which starts free)
+
+alone : (c : goal.After-put) → SchedulesOne c.args.which c.args.now c.args.self.now c.put.new.self
+alone c =
+    let old = c.args.self.now in
+    let which = c.args.which in
+    subst (SchedulesOne which c.args.now old) (sym (new_is c)) (control_schedules old which (kept_control c.args.value) c.args.now c.laws.ensures c.requires.which c.requires.ahead)
+
+pub returns-clause-alone : goal.returns-clause-alone
+returns-clause-alone c = alone c
 
 pub returns-clause-schedule : goal.returns-clause-schedule
-returns-clause-schedule c =
-    let old = c.args.self.now in
-    let held : AreTimers old = rw (sym c.self.view_is) c.self.invariant in
-    rw (c.with_control.ensures, c.self.view_is) (control_reschedules old _ _ c.args.now held c.requires.which c.requires.ahead)
+returns-clause-schedule c = one_reschedules c.args.which c.args.now c.args.self.now c.put.new.self (alone c)

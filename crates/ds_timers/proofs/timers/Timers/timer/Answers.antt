@@ -1,0 +1,8 @@
+use Rattle.std.proofs.Common.{subst}
+use Rattle.std.proofs.Math.ListN.{get_or-map}
+use Rattle.ds_timers.specs.TimersKept.{timer_seen}
+use Rattle.ds_timers.specs.Timing.{IsTimer}
+use Rattle.ds_timers.proofs.timers.Timers.timer.Goals as goal
+
+pub returns-clause-is : goal.returns-clause-is
+returns-clause-is c = subst (IsTimer c.args.which) (get_or-map timer_seen c.self.inside.timers c.args.which _) (c.self.invariant.each c.args.which c.requires)

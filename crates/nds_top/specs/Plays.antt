@@ -63,11 +63,6 @@ pub record RunsTo (until : ℕ) (old : ConsoleState) (stop : Option LeftOut) (ne
   pub limit : new.limit ≡ max old.limit until
   pub turned : HasTurned until old new
 
--- records were written whole, and the answer is this one; or a front of them, where the sink's count of faults rose
-abbrev pub PutsRecords : {S : Type 0} → (S → Bool) → (S → List ℕ → Type 0) → (S → ℕ) → List ℕ → played.Played → S → played.Played → S → Type 0
-PutsRecords tells taken faults records whole before answers.WriteFault after = AppendedFront tells taken before after records × Rose (faults before) (faults after)
-PutsRecords tells taken faults records whole before other after = (other ≡ whole) × Appended tells taken before after records
-
 -- by the answer: the whole output of the run, or a front of it where the sink's count of faults rose; and the console is as after
 -- turns with that limit
 abbrev pub Plays : {S : Type 0} → (S → Bool) → (S → List ℕ → Type 0) → (S → ℕ) → ℕ → Keep → ConsoleState → S → played.Played → ConsoleState → S → Type 0

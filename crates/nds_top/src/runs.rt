@@ -1,7 +1,7 @@
 //! The command that runs a cartridge.
 
 ghost use Rattle.std.specs.Prelude.{◌≡◌, ◌≤◌, None};
-ghost use Rattle.nds_top.specs.Answers.{RunGives};
+ghost use Rattle.nds_top.specs.Answers.{around, RunGives};
 
 use crate::commands::Keep;
 use crate::loads::load_cart;
@@ -24,18 +24,7 @@ pub(crate) fn run<F: Shelf, O: Sink>(
 ) -> Status
     requires early { ticks ≤ 100000000000 }
     requires empty { seat.old ≡ None }
-    ensures answer { RunGives (record {
-      told = F.told shelf.old;
-      shelf_before = F.faults shelf.old;
-      shelf_after = F.faults shelf.new;
-      tells = O.tells;
-      taken = O.taken;
-      old = out.old;
-      new = out.new;
-      out_before = O.faults out.old;
-      out_after = O.faults out.new;
-      seat = seat.new;
-    }) name.now ticks keep result }
+    ensures answer { RunGives (around F.told F.faults O.tells O.taken O.faults shelf.old shelf.new out.old out.new seat.new) name.now ticks keep result }
 {
     let cart = match load_cart(alloc, shelf, name) {
         Ok(cart) => cart,

@@ -1,1 +1,1 @@
-pub mod MachineTicks
+pub mod MachineSchedule

@@ -1,9 +1,11 @@
 use Rattle.std.specs.Prelude.{ℕ, false, List, take}
+use Rattle.ds_base.specs.Memories.{memory_size}
+use Rattle.ds_base.specs.Numbers.{zeroes}
+use Rattle.ds_base.specs.declared.memories.Memory.TheVariants.{Itcm, Dtcm, Vram}
 use Rattle.ds_base.specs.declared.processors.Proc.{Proc}
 use Rattle.ds_base.specs.declared.processors.Proc.TheVariants.{Nine, Seven}
 use Rattle.ds_header.specs.Fields.{image_place, image_entry, image_of}
-use Rattle.ds_machine.specs.Boots.{CopiedState, copied}
-use Rattle.ds_machine.specs.Bytes.{zeroes}
+use Rattle.ds_machine.specs.Boots.{CopiedState, no_copies, wramcnt_at_boot, copied}
 use Rattle.ds_machine.specs.Registers.{booted_registers}
 use Rattle.ds_machine.specs.States.{MachineState, ProcessorState, Cp15State}
 
@@ -23,8 +25,7 @@ with_header s file = copied Nine s header_place (take header_bytes file)
 -- the memories after boot: ARM9's image first, then ARM7's, then the header
 abbrev pub memories_booted : List ℕ → CopiedState
 memories_booted file =
-    let none : CopiedState = record { main = zeroes 4194304; shared = zeroes 32768; own = zeroes 65536 } in
-    let nine = copied Nine none (image_place file Nine) (image_of file Nine) in
+    let nine = copied Nine no_copies (image_place file Nine) (image_of file Nine) in
     let seven = copied Seven nine (image_place file Seven) (image_of file Seven) in
     with_header seven file
 
@@ -39,14 +40,14 @@ cp15_at_boot = record { control = 0x00052078; dtcm = 0x0300000A; itcm = 0x000000
 -- the boot state, from the cartridge's file
 abbrev pub booted : List ℕ → MachineState
 booted file = let memories = memories_booted file in record {
-  nine = record { processor = processor_booted Nine file; cp15 = cp15_at_boot; itcm = zeroes 32768; dtcm = zeroes 16384 };
+  nine = record { processor = processor_booted Nine file; cp15 = cp15_at_boot; itcm = zeroes (memory_size Itcm); dtcm = zeroes (memory_size Dtcm) };
   seven = record { processor = processor_booted Seven file; own = memories.own };
   main = memories.main;
   shared = memories.shared;
-  wramcnt = 3;
-  palette = zeroes 2048;
-  vram = zeroes 671744;
-  oam = zeroes 2048;
+  wramcnt = wramcnt_at_boot;
+  palette = memories.palette;
+  vram = zeroes (memory_size Vram);
+  oam = memories.oam;
   video = record { frame = 0; line = 0; blanked = false };
   events = 0;
 }

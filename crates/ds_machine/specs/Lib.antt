@@ -1,6 +1,6 @@
 pub mod Registers
-pub mod Bytes
 pub mod States
+pub mod MainMemory
 pub mod Words
 pub mod Fields
 pub mod Steps

@@ -1,82 +1,101 @@
-use Rattle.std.specs.Prelude.{ℕ, ◌+◌, ◌==◌, ◌≡◌, ◌≤◌, ◌^◌, Bool, false, if◌then◌else◌, List, [], ◌∷◌, Option, Some, None}
-use Rattle.std.specs.Option.{option_map}
+use Rattle.std.specs.Prelude.{ℕ, ◌+◌, ◌≡◌, ◌≤◌, ◌^◌, Bool, false, if◌then◌else◌, List, [], ◌∷◌, map, Option, Some, None}
 use Rattle.ds_base.specs.declared.left_out.LeftOut.{LeftOut}
 use Rattle.ds_base.specs.declared.left_out.LeftKind.TheVariants.{NotYet}
+use Rattle.ds_base.specs.declared.processors.Proc.{Proc}
 use Rattle.ds_base.specs.declared.processors.Proc.TheVariants.{Nine, Seven}
 use Rattle.ds_base.specs.declared.ticks.Due.{Due}
-use Rattle.ds_runs.specs.Runs.{Machine, IsLeast}
+use Rattle.ds_base.specs.declared.ticks.Tick.{Tick}
+use Rattle.ds_runs.specs.Actors.{actors, actor_of}
+use Rattle.ds_runs.specs.Runs.{Machine, Stepped, Makes, Stops, IsLeast}
+use Rattle.ds_runs.specs.declared.actors.Actor as actor
+use Rattle.ds_runs.specs.declared.actors.Actor.TheVariants.{KeyScript, Video, Timer, Divider, SquareRoot, Geometry, Card, Dma, Processor}
+use Rattle.ds_machine.specs.Observed.{processor_of}
 use Rattle.ds_machine.specs.States.{MachineState, ProcessorState}
-use Rattle.ds_machine.specs.Steps.{Outcome, outcome, after, needed}
+use Rattle.ds_machine.specs.Steps.{Outcome, Takes, Needs, outcome}
 use Rattle.ds_machine.specs.Videos.{video_due, video_after, makes_whole}
 use Rattle.ds_machine.specs.declared.answers.Done.{Done}
 use Rattle.ds_machine.specs.declared.answers.Done.TheVariants.{Made, Frame, Stopped}
 
--- The reference machine. Its 24 actors have ranks: 1 is the video, 22 is ARM9 and 23 is ARM7; the others aren't built yet and are
--- never due. Our choice of ranks.
+-- The reference machine. Of its actors the display and the processors are built; the others are never due.
 
 -- what a run puts out: a frame became whole at this tick, and waiting lists were swapped there or not
 pub record Shown : Type 0 where
   pub tick : ℕ
   pub swapped : Bool
 
--- when each actor is due
-abbrev pub due_of : MachineState → ℕ → Option ℕ
-due_of s rank =
-    if rank == 1 then Some (video_due s.video)
-    else (if rank == 22 then Some s.nine.processor.due
-    else (if rank == 23 then Some s.seven.processor.due
-    else None))
+-- the frame that the display's next event makes whole
+abbrev pub next_shown : MachineState → Bool → Shown
+next_shown s swapped = record { tick = video_due s.video; swapped = swapped }
 
--- the display's event: so far it only counts
+-- when an actor is due
+abbrev pub due_by : actor.Actor → MachineState → Option Tick
+due_by KeyScript s = None
+due_by Video s = Some (record { 0 = video_due s.video })
+due_by (Timer proc number) s = None
+due_by Divider s = None
+due_by SquareRoot s = None
+due_by Geometry s = None
+due_by Card s = None
+due_by (Dma proc channel) s = None
+due_by (Processor proc) s = Some (record { 0 = (processor_of s proc).due })
+
+-- when each actor is due, by rank
+unfoldable pub dues_of : MachineState → List (Option Tick)
+dues_of s = map (λ (a : actor.Actor). due_by a s) actors
+
+-- the display's event, which so far only counts, and what it puts out
 abbrev pub after_video : MachineState → MachineState
 after_video s = record s { video = video_after s.video; events = s.events + 1 }
 
--- a step of ARM9, and one of ARM7
-abbrev pub after_nine : MachineState → Option MachineState
-after_nine s = option_map (λ m. record s { nine = record s.nine { processor = m.processor }; main = m.main })
-    (after Nine s.nine.processor (outcome Nine s.main s.nine.processor.registers))
+abbrev pub shown_by_video : MachineState → List Shown
+shown_by_video s = if makes_whole s.video then next_shown s false ∷ [] else []
 
-abbrev pub after_seven : MachineState → Option MachineState
-after_seven s = option_map (λ m. record s { seven = record s.seven { processor = m.processor }; main = m.main })
-    (after Seven s.seven.processor (outcome Seven s.main s.seven.processor.registers))
+-- a machine with this processor, and with this main memory
+abbrev pub with_processor : Proc → MachineState → ProcessorState → List ℕ → MachineState
+with_processor Nine s processor main = record s { nine = record s.nine { processor = processor }; main = main }
+with_processor Seven s processor main = record s { seven = record s.seven { processor = processor }; main = main }
 
--- what an actor's step leaves, or nothing where it stops the machine
-abbrev pub step_of : ℕ → MachineState → Option MachineState
-step_of rank s =
-    if rank == 1 then Some (after_video s)
-    else (if rank == 22 then after_nine s
-    else (if rank == 23 then after_seven s
-    else None))
+-- a processor's step, by what it comes to: one that needs what isn't built stops, and leaves the machine as it was
+abbrev pub processor_steps : ℕ → Proc → MachineState → Outcome → Stepped MachineState Shown LeftOut
+processor_steps rank proc s (Takes processor main) = Makes (with_processor proc s processor main) []
+processor_steps rank proc s (Needs value) =
+    Stops (record { kind = NotYet; tick = record { 0 = (processor_of s proc).due }; rank = rank; value = value }) s
 
--- what it puts out
-abbrev pub out_of : ℕ → MachineState → List Shown
-out_of rank s = if (rank == 1) then (if makes_whole s.video then record { tick = video_due s.video; swapped = false } ∷ [] else []) else []
+-- what an actor's step comes to; one that isn't built leaves all as it is
+abbrev pub step_by : ℕ → actor.Actor → MachineState → Stepped MachineState Shown LeftOut
+step_by rank KeyScript s = Makes s []
+step_by rank Video s = Makes (after_video s) (shown_by_video s)
+step_by rank (Timer proc number) s = Makes s []
+step_by rank Divider s = Makes s []
+step_by rank SquareRoot s = Makes s []
+step_by rank Geometry s = Makes s []
+step_by rank Card s = Makes s []
+step_by rank (Dma proc channel) s = Makes s []
+step_by rank (Processor proc) s = processor_steps rank proc s (outcome proc s.wramcnt s.main (processor_of s proc))
 
--- a stop of a processor's step
-abbrev pub stop_at : ℕ → ProcessorState → Outcome → LeftOut
-stop_at rank p o = record { kind = NotYet; tick = record { 0 = p.due }; rank = rank; value = needed o }
-
-abbrev pub stop_of : ℕ → MachineState → LeftOut
-stop_of rank s =
-    if rank == 22 then stop_at rank s.nine.processor (outcome Nine s.main s.nine.processor.registers)
-    else stop_at rank s.seven.processor (outcome Seven s.main s.seven.processor.registers)
+abbrev pub step_of : ℕ → MachineState → Stepped MachineState Shown LeftOut
+step_of rank s = step_by rank (actor_of rank) s
 
 abbrev pub reference : Machine MachineState Shown LeftOut
-reference = record { due = due_of; step = step_of; out = out_of; stop = stop_of }
+reference = record { dues = dues_of; step = step_of }
 
 -- the actor may take the next step: it is the least, and its tick is one of those that a run may come to
 abbrev pub MayStep : MachineState → ℕ → Type 0
-MayStep s rank = (tick : ℕ) × IsLeast (due_of s) tick rank × (tick ≤ 2 ^ 56)
+MayStep s rank = (tick : Tick) × IsLeast (dues_of s) tick rank × (tick.0 ≤ 2 ^ 56)
 
--- the actor took its step, by what is answered; a step that stops leaves the machine as it was
+-- what a step came to, by what is answered and by the machine afterwards
+abbrev pub stepped_of : MachineState → Done → MachineState → Stepped MachineState Shown LeftOut
+stepped_of old Made new = Makes new []
+stepped_of old (Frame swapped) new = Makes new (next_shown old swapped ∷ [])
+stepped_of old (Stopped left) new = Stops left new
+
+-- the actor of a rank took its step
 abbrev pub Steps : ℕ → MachineState → Done → MachineState → Type 0
-Steps rank old Made new = (step_of rank old ≡ Some new) × (out_of rank old ≡ [])
-Steps rank old (Frame swapped) new = (step_of rank old ≡ Some new) × (out_of rank old ≡ record { tick = video_due old.video; swapped = swapped } ∷ [])
-Steps rank old (Stopped left) new = (step_of rank old ≡ None) × (stop_of rank old ≡ left) × (new ≡ old)
+Steps rank old done new = step_of rank old ≡ stepped_of old done new
 
 -- this is the least actor, and it is due then
 abbrev pub IsDue : MachineState → Due → Type 0
-IsDue s due = IsLeast (due_of s) due.tick.0 due.rank
+IsDue s due = IsLeast (dues_of s) due.tick due.rank
 
 -- the states that come up: so far nothing is asked of one
 abbrev pub IsSound : MachineState → Type 0

@@ -1,53 +1,54 @@
-use Rattle.std.specs.Prelude.{ℕ, ◌+◌, ◌*◌, ◌≡◌, if◌then◌else◌, List, slice_index, Option, Some, None}
+use Rattle.std.specs.Prelude.{ℕ, ◌+◌, ◌*◌, ◌≡◌, List, slice_index, Option, Some, None}
+use Rattle.ds_base.specs.Accesses.{perform}
+use Rattle.ds_base.specs.Processors.{ticks_per_clock}
+use Rattle.ds_base.specs.declared.memories.Width.TheVariants.{Word}
 use Rattle.ds_base.specs.declared.processors.Proc.{Proc}
+use Rattle.ds_machine.specs.MainMemory.{main_place, main_machine, value_in, first_outside}
 use Rattle.ds_machine.specs.States.{ProcessorState}
-use Rattle.ds_machine.specs.Words.{built, access_of, unbuilt, read_by, main_after, registers_after, clocks_of, clock_of, r15, in_main, fetched}
+use Rattle.ds_machine.specs.Words.{built, accesses_of, registers_after, clocks_of, r15}
 use Rattle.ds_machine.specs.declared.words.Built.{Built}
 
 -- A processor's step over main memory.
 
--- what a step comes to: the registers and main memory after it with its clocks, or the value that tells what isn't built of what
--- it needs
+-- what a step comes to: the processor and main memory after it; or the value that tells what isn't built of what it needs
 pub data Outcome : Type 0 where
-  Takes : List ℕ → List ℕ → ℕ → Outcome
-  Needs : ℕ → Outcome
+  Takes : (processor : ProcessorState) → (main : List ℕ) → Outcome
+  Needs : (value : ℕ) → Outcome
 
--- by the first byte of its access whose place isn't built: its address
-abbrev pub by_access : Proc → List ℕ → List ℕ → Built → Option ℕ → Outcome
-by_access proc main registers instruction (Some at) = Needs at
-by_access proc main registers instruction None =
-    let access = access_of registers instruction in
-    Takes (registers_after registers instruction (read_by main access)) (main_after main access) (clocks_of proc instruction)
+-- a processor after a step that leaves these registers and costs so many clocks
+abbrev pub processor_after : Proc → ProcessorState → List ℕ → ℕ → ProcessorState
+processor_after proc p registers clocks =
+    record { registers = registers; due = p.due + ticks_per_clock proc * clocks; steps = p.steps + 1 }
+
+-- by the first byte of its accesses whose place isn't built: its address
+abbrev pub by_access : Proc → ℕ → List ℕ → ProcessorState → Built → Option ℕ → Outcome
+by_access proc wramcnt main p instruction (Some at) = Needs at
+by_access proc wramcnt main p instruction None =
+    let performed = perform (main_machine proc wramcnt) main (accesses_of p.registers instruction) in
+    Takes (processor_after proc p (registers_after p.registers instruction (slice_index performed.values 0)) (clocks_of proc instruction))
+    performed.state
 
 -- by the instruction of the word that was fetched: the word itself, where it isn't built
-abbrev pub by_word : Proc → List ℕ → List ℕ → ℕ → Option Built → Outcome
-by_word proc main registers word None = Needs word
-by_word proc main registers word (Some instruction) = by_access proc main registers instruction (unbuilt (access_of registers instruction))
+abbrev pub by_word : Proc → ℕ → List ℕ → ProcessorState → ℕ → Option Built → Outcome
+by_word proc wramcnt main p word None = Needs word
+by_word proc wramcnt main p word (Some instruction) =
+    by_access proc wramcnt main p instruction (first_outside proc wramcnt (accesses_of p.registers instruction))
 
--- by the fetch address: the address itself, where its place isn't built
-abbrev pub outcome : Proc → List ℕ → List ℕ → Outcome
-outcome proc main registers =
-    let at = slice_index registers r15 in
-    if in_main at then by_word proc main registers (fetched main at) (built (fetched main at)) else Needs at
+-- by the place of the fetch address: the address itself, where it isn't built
+abbrev pub by_fetch : Proc → ℕ → List ℕ → ProcessorState → ℕ → Option ℕ → Outcome
+by_fetch proc wramcnt main p at None = Needs at
+by_fetch proc wramcnt main p at (Some cell) =
+    let word = value_in (Some cell) main Word in
+    by_word proc wramcnt main p word (built word)
 
--- a processor and main memory after its step
-pub record Made : Type 0 where
-  pub processor : ProcessorState
-  pub main : List ℕ
-
--- where all that the step needs is built
-abbrev pub after : Proc → ProcessorState → Outcome → Option Made
-after proc p (Takes registers main clocks) = Some (record {
-  processor = record { registers = registers; due = p.due + clock_of proc * clocks; steps = p.steps + 1 };
-  main = main;
-})
-after proc p (Needs value) = None
-
-abbrev pub needed : Outcome → ℕ
-needed (Takes registers main clocks) = 0
-needed (Needs value) = value
+-- what the step of a processor comes to, by what WRAMCNT keeps and by main memory
+abbrev pub outcome : Proc → ℕ → List ℕ → ProcessorState → Outcome
+outcome proc wramcnt main p =
+    let at = slice_index p.registers r15 in
+    by_fetch proc wramcnt main p at (main_place proc wramcnt at)
 
 -- a step was taken, or it needs what isn't built and left the processor and main memory as they were
-abbrev pub Stepped : Proc → List ℕ → ProcessorState → Option ℕ → ProcessorState → List ℕ → Type 0
-Stepped proc main old None new main_new = after proc old (outcome proc main old.registers) ≡ Some (record { processor = new; main = main_new })
-Stepped proc main old (Some value) new main_new = (outcome proc main old.registers ≡ Needs value) × (new ≡ old) × (main_new ≡ main)
+abbrev pub ProcessorSteps : Proc → ℕ → List ℕ → ProcessorState → Option ℕ → ProcessorState → List ℕ → Type 0
+ProcessorSteps proc wramcnt main old None new main_new = outcome proc wramcnt main old ≡ Takes new main_new
+ProcessorSteps proc wramcnt main old (Some value) new main_new =
+    (outcome proc wramcnt main old ≡ Needs value) × (new ≡ old) × (main_new ≡ main)

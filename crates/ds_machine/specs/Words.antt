@@ -1,12 +1,11 @@
-use Rattle.std.specs.Prelude.{ℕ, ◌+◌, ◌-◌, ◌*◌, ◌/◌, ◌%◌, ◌^◌, ◌==◌, nat_lt, Bool, true, false, if◌then◌else◌, List, slice_index, slice_set, Option, Some, None}
+use Rattle.std.specs.Prelude.{ℕ, ◌+◌, ◌-◌, ◌*◌, ◌/◌, ◌%◌, ◌^◌, ◌==◌, nat_lt, Bool, true, false, if◌then◌else◌, List, [], ◌∷◌, slice_index, slice_set, Option, Some, None}
 use Rattle.std.specs.Int.{rotate_right, w32}
+use Rattle.ds_base.specs.Accesses.{Access, Read, Write}
+use Rattle.ds_base.specs.declared.memories.Width.TheVariants.{Word}
 use Rattle.ds_base.specs.declared.processors.Proc.{Proc}
 use Rattle.ds_base.specs.declared.processors.Proc.TheVariants.{Nine, Seven}
-use Rattle.ds_machine.specs.Bytes.{word_at, with_word}
 use Rattle.ds_machine.specs.declared.words.Built.{Built}
 use Rattle.ds_machine.specs.declared.words.Built.TheVariants.{Branch, Move, Add, Subtract, Load, Store}
-use Rattle.ds_machine.specs.declared.words.Access.{Access}
-use Rattle.ds_machine.specs.declared.words.Access.TheVariants.{Nothing, Read, Write}
 
 -- The words that the processors execute so far, alike on both: those of condition 'always' of this table, by their bits 31 to 20,
 -- with rd below 15 where there is an rd (ARM manual, A4.1 "Alphabetical list of ARM instructions": B, MOV, ADD, SUB, LDR, STR;
@@ -17,15 +16,15 @@ use Rattle.ds_machine.specs.declared.words.Access.TheVariants.{Nothing, Read, Wr
 --   E24  sub rd, rn, #immediate  EA0 to EAF  b
 
 -- an immediate operand: bits 7 to 0, rotated right by twice bits 11 to 8
-abbrev pub immediate : ℕ → ℕ
-immediate word = rotate_right w32 (word % 2 ^ 8) (2 * (word / 2 ^ 8 % 2 ^ 4))
+abbrev pub built_immediate : ℕ → ℕ
+built_immediate word = rotate_right w32 (word % 2 ^ 8) (2 * (word / 2 ^ 8 % 2 ^ 4))
 
 -- a word with an rd, by its bits 31 to 20
 abbrev pub built_by : ℕ → ℕ → ℕ → ℕ → Option Built
 built_by word operation rn rd =
-    if operation == 0xE3A then Some (Move rd (immediate word))
-    else (if operation == 0xE28 then Some (Add rd rn (immediate word))
-    else (if operation == 0xE24 then Some (Subtract rd rn (immediate word))
+    if operation == 0xE3A then Some (Move rd (built_immediate word))
+    else (if operation == 0xE28 then Some (Add rd rn (built_immediate word))
+    else (if operation == 0xE24 then Some (Subtract rd rn (built_immediate word))
     else (if operation == 0xE59 then Some (Load rd rn true (word % 2 ^ 12))
     else (if operation == 0xE51 then Some (Load rd rn false (word % 2 ^ 12))
     else (if operation == 0xE58 then Some (Store rd rn true (word % 2 ^ 12))
@@ -40,8 +39,8 @@ built word =
     else built_by word (word / 2 ^ 20) (word / 2 ^ 16 % 2 ^ 4) (word / 2 ^ 12 % 2 ^ 4))
 
 -- four times a signed number of 24 bits, modulo 2^32
-abbrev pub distance : ℕ → ℕ
-distance field = if nat_lt field (2 ^ 23) then 4 * field else 4 * field + 0xFC000000
+abbrev pub branch_distance : ℕ → ℕ
+branch_distance field = if nat_lt field (2 ^ 23) then 4 * field else 4 * field + 0xFC000000
 
 -- the place of r15 among the 37 registers, and of each register in System mode
 abbrev pub r15 : ℕ
@@ -55,32 +54,36 @@ abbrev pub register_of : List ℕ → ℕ → ℕ
 register_of registers r = if r == 15 then (slice_index registers r15 + 8) % 2 ^ 32 else slice_index registers (register_place r)
 
 -- the address of a load or a store
-abbrev pub address_of : List ℕ → ℕ → Bool → ℕ → ℕ
-address_of registers rn up offset =
+abbrev pub data_address : List ℕ → ℕ → Bool → ℕ → ℕ
+data_address registers rn up offset =
     if up then (register_of registers rn + offset) % 2 ^ 32 else (register_of registers rn + 2 ^ 32 - offset) % 2 ^ 32
 
--- the access that an instruction makes of memory
-abbrev pub access_of : List ℕ → Built → Access
-access_of registers (Branch field) = Nothing
-access_of registers (Move rd value) = Nothing
-access_of registers (Add rd rn value) = Nothing
-access_of registers (Subtract rd rn value) = Nothing
-access_of registers (Load rd rn up offset) = Read (address_of registers rn up offset)
-access_of registers (Store rd rn up offset) = Write (address_of registers rn up offset) (register_of registers rd)
+-- the accesses that an instruction makes of memory
+abbrev pub accesses_of : List ℕ → Built → List Access
+accesses_of registers (Branch field) = []
+accesses_of registers (Move rd value) = []
+accesses_of registers (Add rd rn value) = []
+accesses_of registers (Subtract rd rn value) = []
+accesses_of registers (Load rd rn up offset) = Read (data_address registers rn up offset) Word ∷ []
+accesses_of registers (Store rd rn up offset) = Write (data_address registers rn up offset) Word (register_of registers rd) ∷ []
+
+-- a word that is read, as it is loaded: rotated right, so that the byte at the address is the lowest (ARM manual, A4.1 "LDR")
+abbrev pub loaded : ℕ → ℕ → ℕ
+loaded at value = rotate_right w32 value (8 * (at % 4))
 
 -- the register rd has a value, and r15 moves on
-abbrev pub with_register : List ℕ → ℕ → ℕ → List ℕ
-with_register registers rd value = moved_on (slice_set registers (register_place rd) value) where
+abbrev pub register_put : List ℕ → ℕ → ℕ → List ℕ
+register_put registers rd value = moved_on (slice_set registers (register_place rd) value) where
   moved_on : List ℕ → List ℕ
   moved_on x = slice_set x r15 ((slice_index x r15 + 4) % 2 ^ 32)
 
 -- the registers after an instruction, from the value that it read
 abbrev pub registers_after : List ℕ → Built → ℕ → List ℕ
-registers_after registers (Branch field) value = slice_set registers r15 ((slice_index registers r15 + 8 + distance field) % 2 ^ 32)
-registers_after registers (Move rd operand) value = with_register registers rd operand
-registers_after registers (Add rd rn operand) value = with_register registers rd ((register_of registers rn + operand) % 2 ^ 32)
-registers_after registers (Subtract rd rn operand) value = with_register registers rd ((register_of registers rn + 2 ^ 32 - operand) % 2 ^ 32)
-registers_after registers (Load rd rn up offset) value = with_register registers rd value
+registers_after registers (Branch field) value = slice_set registers r15 ((slice_index registers r15 + 8 + branch_distance field) % 2 ^ 32)
+registers_after registers (Move rd operand) value = register_put registers rd operand
+registers_after registers (Add rd rn operand) value = register_put registers rd ((register_of registers rn + operand) % 2 ^ 32)
+registers_after registers (Subtract rd rn operand) value = register_put registers rd ((register_of registers rn + 2 ^ 32 - operand) % 2 ^ 32)
+registers_after registers (Load rd rn up offset) value = register_put registers rd (loaded (data_address registers rn up offset) value)
 registers_after registers (Store rd rn up offset) value = slice_set registers r15 ((slice_index registers r15 + 4) % 2 ^ 32)
 
 -- what an instruction costs a processor, in its own clocks (our choice)
@@ -93,41 +96,3 @@ clocks_of Nine (Load rd rn up offset) = 2
 clocks_of Seven (Load rd rn up offset) = 3
 clocks_of Nine (Store rd rn up offset) = 1
 clocks_of Seven (Store rd rn up offset) = 2
-
--- one of a processor's clocks, in ticks
-abbrev pub clock_of : Proc → ℕ
-clock_of Nine = 1
-clock_of Seven = 2
-
--- the address is in main memory, and the place that it names there: the 4 MiB stand again and again in their 16 MiB (GBATEK,
--- "DS Memory Map"); a word's address is aligned down
-abbrev pub in_main : ℕ → Bool
-in_main at = at / 2 ^ 24 == 2
-
-abbrev pub main_place : ℕ → ℕ
-main_place at = at % 4194304
-
-abbrev pub word_place : ℕ → ℕ
-word_place at = main_place at - main_place at % 4
-
--- the word that is fetched at an address, where its place is built
-abbrev pub fetched : List ℕ → ℕ → ℕ
-fetched main at = if in_main at then word_at main (word_place at) else 0
-
--- the first byte that an access touches, where its place isn't built
-abbrev pub unbuilt : Access → Option ℕ
-unbuilt Nothing = None
-unbuilt (Read at) = if in_main at then None else Some (at - at % 4)
-unbuilt (Write at value) = if in_main at then None else Some (at - at % 4)
-
--- what an access reads, and main memory after it. A word that is read from an address that isn't aligned is rotated right, so that
--- the byte at the address is the lowest; a store is aligned down
-abbrev pub read_by : List ℕ → Access → ℕ
-read_by main Nothing = 0
-read_by main (Read at) = rotate_right w32 (word_at main (word_place at)) (8 * (at % 4))
-read_by main (Write at value) = 0
-
-abbrev pub main_after : List ℕ → Access → List ℕ
-main_after main Nothing = main
-main_after main (Read at) = main
-main_after main (Write at value) = with_word main (word_place at) value

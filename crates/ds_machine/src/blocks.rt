@@ -1,7 +1,8 @@
 //! Memories of a fixed size.
 
 ghost use Rattle.std.specs.Prelude.{◌≡◌, ◌<◌, ◌*◌, ◌+◌, IfOk, slice_index, slice_set, length};
-ghost use Rattle.ds_machine.specs.Bytes.{zeroes, word_at, with_word};
+ghost use Rattle.ds_base.specs.Numbers.{zeroes, number_at, with_number};
+ghost use Rattle.ds_base.specs.declared.memories.Width.TheVariants.{Word};
 
 use std::alloc::{AllocError, Global};
 use std::marker::Model;
@@ -23,7 +24,7 @@ impl<const N: usize> Model for Block<N> {
 }
 
 /// So many zeros.
-#[tactic(auto, unfolding(crate::specs::Bytes::zeroes))]
+#[tactic(auto, unfolding(ds_base::specs::Numbers::zeroes))]
 fn zeroed(alloc: Global, count: usize) -> Result<Vec<u8>, AllocError>
     ensures zero { IfOk result (λ v. v.items ≡ zeroes count) }
     ensures long { IfOk result (λ v. length v.items ≡ count) }
@@ -71,7 +72,7 @@ impl<const N: usize> Block<N> {
     #[inline(always)]
     pub fn word(&self, at: usize) -> u32
         requires { at + 3 < N }
-        ensures { result ≡ word_at self.now at }
+        ensures { result ≡ number_at Word self.now at }
     {
         let bytes = &self.bytes;
         u32::from_le_bytes([bytes[at], bytes[at + 1], bytes[at + 2], bytes[at + 3]])
@@ -81,7 +82,7 @@ impl<const N: usize> Block<N> {
     #[inline(always)]
     pub fn set_word(&mut self, at: usize, value: u32)
         requires { at + 3 < N }
-        ensures { self.new ≡ with_word self.old at value }
+        ensures { self.new ≡ with_number Word self.old at value }
     {
         let [first, second, third, fourth] = value.to_le_bytes();
         self.bytes[at] = first;

@@ -1,29 +1,32 @@
 //! What boot copies.
 
 ghost use Rattle.std.specs.Prelude.{◌≡◌, ◌+◌, ◌<◌, ◌≤◌, ◌^◌, length, IfOk};
-ghost use Rattle.ds_machine.specs.Boots.{stored, copied};
+ghost use Rattle.ds_base.specs.Memories.{memory_size};
 ghost use Rattle.ds_header.specs.Fields.{image_place, image_of};
+ghost use Rattle.ds_machine.specs.Boots.{no_copies, cell_put, stored_at, stored, copied};
+ghost use Rattle.ds_places.specs.AddressTables.{IsWithin};
 ghost use Rattle.ds_machine.specs.Booted.{memories_booted, processor_booted, with_header};
-ghost use Rattle.ds_machine.specs.Bytes.{zeroes};
 
 use crate::blocks::Block;
-use crate::memories::{MAIN_BYTES, OWN_BYTES, SHARED_BYTES};
 use crate::processors::Processor;
 use crate::registers::boot_registers;
-use ds_base::Proc;
+use ds_base::{MAIN_BYTES, Memory, OAM_BYTES, OWN7_BYTES, PALETTE_BYTES, Proc, SHARED_BYTES};
 use ds_header::Cart;
+use ds_places::{Place, place};
 use std::alloc::{AllocError, Global};
 use std::marker::Model;
 
-/// Where ARM7's own work RAM begins.
-const OWN_START: u32 = 0x0380_0000;
+/// What WRAMCNT keeps at boot: ARM7 has all of the shared work RAM. (Our choice; GBATEK, "DS Memory Control - WRAM".)
+pub const WRAMCNT_AT_BOOT: u8 = 3;
 
-/// The memories that boot writes.
+/// The memories that boot can write: those that have cells at addresses past the tightly coupled memories.
 #[derive(Drop)]
 pub struct Copied {
-    main: Block<MAIN_BYTES>,
-    shared: Block<SHARED_BYTES>,
-    own: Block<OWN_BYTES>,
+    pub main: Block<MAIN_BYTES>,
+    pub shared: Block<SHARED_BYTES>,
+    pub own: Block<OWN7_BYTES>,
+    pub palette: Block<PALETTE_BYTES>,
+    pub oam: Block<OAM_BYTES>,
 }
 
 impl Model for Copied {
@@ -31,36 +34,58 @@ impl Model for Copied {
 
     ghost Value = { CopiedState };
 
-    ghost view = { λ c. record { main = c.main; shared = c.shared; own = c.own } };
+    ghost view = { λ c. record { main = c.main; shared = c.shared; own = c.own; palette = c.palette; oam = c.oam } };
 }
 
 impl Copied {
     /// All zeros.
     pub fn new(alloc: Global) -> Result<Copied, AllocError>
-        ensures { IfOk result (λ c. c ≡ record { main = zeroes 4194304; shared = zeroes 32768; own = zeroes 65536 }) }
+        ensures { IfOk result (λ c. c ≡ no_copies) }
     {
         Ok(Copied {
             main: Block::new(alloc)?,
             shared: Block::new(alloc)?,
             own: Block::new(alloc)?,
+            palette: Block::new(alloc)?,
+            oam: Block::new(alloc)?,
         })
     }
 
+    /// Puts a byte into a cell of a memory. No address has cells of the tightly coupled memories or of video memory.
+    fn put(&mut self, memory: Memory, at: usize, byte: u8)
+        requires { at < memory_size memory }
+        ensures { self.new ≡ cell_put memory at self.old byte }
+    {
+        match memory {
+            Memory::Main => self.main.set_byte(at, byte),
+            Memory::Shared => self.shared.set_byte(at, byte),
+            Memory::Own7 => self.own.set_byte(at, byte),
+            Memory::Palette => self.palette.set_byte(at, byte),
+            Memory::Oam => self.oam.set_byte(at, byte),
+            Memory::Itcm | Memory::Dtcm | Memory::Vram => {}
+        }
+    }
+
+    /// Stores a byte at a place: only cells of memories take it.
+    fn store_at(&mut self, place: Place, byte: u8)
+        requires { IsWithin place }
+        ensures { self.new ≡ stored_at place self.old byte }
+    {
+        match place {
+            Place::Cell { memory, at } => self.put(memory, at as usize, byte),
+            Place::Banks { space: _, at: _ } => {}
+            Place::Port(_) => {}
+            Place::Rom(_) => {}
+            Place::Nothing => {}
+        }
+    }
+
     /// Stores a byte where a processor sees an address.
+    #[tactic(auto, unfolding(crate::specs::Boots::stored))]
     fn store(&mut self, proc: Proc, at: u32, byte: u8)
         ensures { self.new ≡ stored proc self.old at byte }
     {
-        if at >> 24 == 2 {
-            self.main.set_byte(at as usize % MAIN_BYTES, byte);
-            return;
-        }
-        match proc {
-            Proc::Nine => {}
-            Proc::Seven if at < OWN_START => {
-                self.shared.set_byte(at as usize % SHARED_BYTES, byte);
-            }
-            Proc::Seven => self.own.set_byte(at as usize % OWN_BYTES, byte),
-        }
+        self.store_at(place(proc, WRAMCNT_AT_BOOT, at), byte);
     }
 
     /// Copies bytes to where a processor sees them from an address on.
@@ -71,13 +96,6 @@ impl Copied {
         for (i, byte) in bytes.iter().enumerate() {
             self.store(proc, at + i as u32, *byte);
         }
-    }
-
-    /// The three memories.
-    pub fn parts(self) -> (Block<MAIN_BYTES>, Block<SHARED_BYTES>, Block<OWN_BYTES>)
-        ensures { (result.0 ≡ self.main) × (result.1 ≡ self.shared) × (result.2 ≡ self.own) }
-    {
-        (self.main, self.shared, self.own)
     }
 }
 

@@ -9,7 +9,6 @@ mod blocks;
 mod boots;
 mod laws;
 mod machines;
-mod memories;
 mod processors;
 mod registers;
 mod videos;

@@ -1,25 +1,26 @@
 //! The machine.
 
-ghost use Rattle.std.specs.Prelude.{◌≡◌, ◌≤◌, ◌<◌, ◌^◌, slice_index, option_map, IfOk};
-ghost use Rattle.ds_machine.specs.Reference.{due_of, IsDue, HasCounted, MayStep, Steps};
-ghost use Rattle.ds_machine.specs.Booted.{booted};
-ghost use Rattle.ds_machine.specs.Observed.{memory_of, size_of, processor_of, seen_of};
-ghost use Rattle.ds_machine.specs.Videos.{video_due};
+ghost use Rattle.std.specs.Prelude.{◌≡◌, ◌≤◌, ◌<◌, ◌^◌, slice_index, IfOk};
+ghost use Rattle.ds_base.specs.Memories.{memory_size};
 ghost use Rattle.ds_base.specs.declared.left_out.LeftKind.TheVariants.{NotYet};
+ghost use Rattle.ds_runs.specs.Runs.{due_at};
+ghost use Rattle.ds_machine.specs.Booted.{booted};
+ghost use Rattle.ds_machine.specs.Observed.{memory_of, processor_of, seen_of};
+ghost use Rattle.ds_machine.specs.Reference.{dues_of, due_by, step_by, stepped_of, IsDue, HasCounted, MayStep, Steps};
+ghost use Rattle.ds_machine.specs.Videos.{video_due};
 
 use crate::answers::{Done, Seen};
 use crate::blocks::Block;
-use crate::boots::{memories_at_boot, processor_at_boot};
-use crate::memories::{
-    DTCM_BYTES, ITCM_BYTES, MAIN_BYTES, OAM_BYTES, OWN_BYTES, PALETTE_BYTES, SHARED_BYTES,
-    VRAM_BYTES,
-};
+use crate::boots::{Copied, WRAMCNT_AT_BOOT, memories_at_boot, processor_at_boot};
 use crate::processors::Processor;
 use crate::registers::Registers;
 use crate::videos::Video;
-use ds_base::{Due, LeftKind, LeftOut, Memory, Proc, Tick};
+use ds_base::{
+    DTCM_BYTES, Due, ITCM_BYTES, LeftKind, LeftOut, MAIN_BYTES, Memory, OAM_BYTES, OWN7_BYTES,
+    PALETTE_BYTES, Proc, SHARED_BYTES, Tick, VRAM_BYTES,
+};
 use ds_header::Cart;
-use ds_runs::first_of;
+use ds_runs::{Actor, first_of};
 use std::alloc::{AllocError, Global};
 use std::marker::Model;
 
@@ -58,7 +59,7 @@ pub(crate) struct Nine {
 #[derive(Drop)]
 pub(crate) struct Seven {
     pub(crate) processor: Processor,
-    pub(crate) own: Block<OWN_BYTES>,
+    pub(crate) own: Block<OWN7_BYTES>,
 }
 
 /// The whole console but for its outside: memories, processors, units.
@@ -79,7 +80,7 @@ pub struct Machine {
 impl Model for Machine {
     ghost use Rattle.ds_machine.specs.States.{MachineState};
     ghost use Rattle.ds_machine.specs.Videos.{video_due};
-    ghost use Rattle.std.specs.Prelude.{◌≤◌};
+    ghost use Rattle.std.specs.Prelude.{◌≤◌, ◌<◌};
 
     ghost Value = { MachineState };
 
@@ -101,8 +102,8 @@ impl Model for Machine {
       events = m.events;
     } };
 
-    // each event has a tick of its own
-    ghost invariant = { λ m. m.events ≤ video_due m.video };
+    // each event has a tick of its own, and WRAMCNT has two bits
+    ghost invariant = { λ m. (m.events ≤ video_due m.video) × (m.wramcnt < 4) };
 }
 
 impl Machine {
@@ -111,7 +112,13 @@ impl Machine {
     pub fn new(alloc: Global, cart: &Cart) -> Result<Machine, AllocError>
         ensures { IfOk result (λ machine. machine ≡ booted cart.now) }
     {
-        let (main, shared, own) = memories_at_boot(alloc, cart)?.parts();
+        let Copied {
+            main,
+            shared,
+            own,
+            palette,
+            oam,
+        } = memories_at_boot(alloc, cart)?;
         Ok(Machine {
             nine: Nine {
                 processor: processor_at_boot(Proc::Nine, cart),
@@ -125,10 +132,10 @@ impl Machine {
             },
             main,
             shared,
-            wramcnt: 3,
-            palette: Block::new(alloc)?,
+            wramcnt: WRAMCNT_AT_BOOT,
+            palette,
             vram: Block::new(alloc)?,
-            oam: Block::new(alloc)?,
+            oam,
             video: Video::new(),
             events: 0,
         })
@@ -155,37 +162,44 @@ impl Machine {
         first_of(video, first_of(nine, seven))
     }
 
-    /// When an actor is due. A rank of an actor that isn't built yet is never due.
+    /// When the actor of a rank is due, if it is.
     pub fn due_of(&self, rank: u8) -> Option<Tick>
         requires { rank < 24 }
-        ensures { option_map (λ tick. tick.0) result ≡ due_of self.now rank }
+        ensures { result ≡ due_at (dues_of self.now) rank }
     {
-        match rank {
-            VIDEO => Some(Tick(self.video.due())),
-            NINE => Some(Tick(self.nine.processor.due())),
-            SEVEN => Some(Tick(self.seven.processor.due())),
+        self.due_by(Actor::of(rank))
+    }
+
+    /// When an actor is due. One that isn't built yet is never due.
+    fn due_by(&self, actor: Actor) -> Option<Tick>
+        ensures { result ≡ due_by actor self.now }
+    {
+        match actor {
+            Actor::Video => Some(Tick(self.video.due())),
+            Actor::Processor(proc) => Some(Tick(self.processor(proc).due())),
             _ => None,
         }
     }
 
-    /// The step of the actor that is due first. A step that needs what is left out isn't taken, and leaves the machine as it
-    /// was.
+    /// The step of the actor that is due first. A step that needs what is left out stops, and leaves the machine as it was.
     #[inline(always)]
     pub fn step(&mut self, rank: u8) -> Done
         requires { MayStep self.old rank }
         ensures { Steps rank self.old result self.new }
     {
-        match rank {
-            VIDEO => self.step_video(),
-            NINE => self.step_nine(),
-            _ => self.step_seven(),
+        match Actor::of(rank) {
+            Actor::Video => self.step_video(rank),
+            Actor::Processor(Proc::Nine) => self.step_nine(rank),
+            Actor::Processor(Proc::Seven) => self.step_seven(rank),
+            _ => Done::Made,
         }
     }
 
-    fn step_video(&mut self) -> Done
+    fn step_video(&mut self, rank: u8) -> Done
         requires { video_due self.old.video ≤ 2 ^ 56 }
-        ensures { Steps 1 self.old result self.new }
+        ensures { step_by rank Actor.Video self.old ≡ stepped_of self.old result self.new }
     {
+        let _ = rank;
         let whole = self.video.event();
         self.events += 1;
         if whole {
@@ -195,24 +209,26 @@ impl Machine {
     }
 
     #[inline(always)]
-    fn step_nine(&mut self) -> Done
+    fn step_nine(&mut self, rank: u8) -> Done
         requires { self.old.nine.processor.due ≤ 2 ^ 56 }
-        ensures { Steps 22 self.old result self.new }
+        ensures { step_by rank (Actor.Processor Proc.Nine) self.old ≡ stepped_of self.old result self.new }
     {
-        match self.nine.processor.step(&mut self.main, Proc::Nine) {
+        let wramcnt = self.wramcnt;
+        match self.nine.processor.step(&mut self.main, Proc::Nine, wramcnt) {
             None => Done::Made,
-            Some(value) => Done::Stopped(not_yet(NINE, self.nine.processor.due(), value)),
+            Some(value) => Done::Stopped(not_yet(rank, self.nine.processor.due(), value)),
         }
     }
 
     #[inline(always)]
-    fn step_seven(&mut self) -> Done
+    fn step_seven(&mut self, rank: u8) -> Done
         requires { self.old.seven.processor.due ≤ 2 ^ 56 }
-        ensures { Steps 23 self.old result self.new }
+        ensures { step_by rank (Actor.Processor Proc.Seven) self.old ≡ stepped_of self.old result self.new }
     {
-        match self.seven.processor.step(&mut self.main, Proc::Seven) {
+        let wramcnt = self.wramcnt;
+        match self.seven.processor.step(&mut self.main, Proc::Seven, wramcnt) {
             None => Done::Made,
-            Some(value) => Done::Stopped(not_yet(SEVEN, self.seven.processor.due(), value)),
+            Some(value) => Done::Stopped(not_yet(rank, self.seven.processor.due(), value)),
         }
     }
 
@@ -220,7 +236,7 @@ impl Machine {
     pub fn seen(&self, proc: Proc) -> Seen
         ensures { result ≡ seen_of self.now proc }
     {
-        let (at, word) = self.processor(proc).next(&self.main);
+        let (at, word) = self.processor(proc).next(&self.main, proc, self.wramcnt);
         Seen::Word { at, word }
     }
 
@@ -242,7 +258,7 @@ impl Machine {
 
     /// The byte of a memory at a place.
     pub fn byte_of(&self, memory: Memory, at: u32) -> u8
-        requires { at < size_of memory }
+        requires { at < memory_size memory }
         ensures { result ≡ slice_index (memory_of self.now memory) at }
     {
         let at = at as usize;

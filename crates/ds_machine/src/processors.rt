@@ -1,15 +1,20 @@
 //! A processor's step.
 
-ghost use Rattle.std.specs.Prelude.{◌≡◌, ◌≤◌, ◌^◌, ◌<◌, ◌+◌, slice_index};
-ghost use Rattle.ds_machine.specs.Steps.{Stepped};
-ghost use Rattle.ds_machine.specs.Words.{fetched, in_main, word_place, r15, address_of, access_of, unbuilt, read_by, main_after, registers_after, clocks_of, clock_of};
-ghost use Rattle.ds_machine.specs.Fields.{HasFields};
+ghost use Rattle.std.specs.Prelude.{◌≡◌, ◌≤◌, ◌^◌, ◌<◌, ◌+◌, slice_index, IfSome, None};
+ghost use Rattle.ds_base.specs.Accesses.{perform};
+ghost use Rattle.ds_base.specs.Numbers.{number_at, with_number, aligned_down};
+ghost use Rattle.ds_base.specs.Processors.{ticks_per_clock};
+ghost use Rattle.ds_base.specs.declared.memories.Width.TheVariants.{Word};
+ghost use Rattle.ds_machine.specs.Fields.{HasBuiltFields};
+ghost use Rattle.ds_machine.specs.MainMemory.{main_place, main_machine, value_in, put_in, outside, first_outside};
+ghost use Rattle.ds_machine.specs.Steps.{ProcessorSteps};
+ghost use Rattle.ds_machine.specs.Words.{r15, data_address, accesses_of, loaded, registers_after, clocks_of};
 
 use crate::blocks::Block;
-use crate::memories::MAIN_BYTES;
 use crate::registers::{R15, Registers, register, set_register};
-use crate::words::{Access, Built, branch_distance, built_word};
-use ds_base::Proc;
+use crate::words::{Built, branch_distance, built_word};
+use ds_base::{MAIN_BYTES, Memory, Proc};
+use ds_places::{Place, place};
 use std::marker::Model;
 
 /// A processor: its registers, when it is due, and how many steps it took.
@@ -32,23 +37,62 @@ impl Model for Processor {
     ghost invariant = { λ p. p.steps ≤ p.due };
 }
 
-/// Whether an address is in main memory.
+/// The cell of main memory that an address names for a processor, if it names one. `wramcnt` is what WRAMCNT keeps, below 4.
 #[inline(always)]
-fn is_in_main(at: u32) -> bool
-    ensures { result ≡ in_main at }
+#[tactic(auto, unfolding(crate::specs::MainMemory::main_place))]
+fn main_cell(proc: Proc, wramcnt: u8, at: u32) -> Option<usize>
+    requires { wramcnt < 4 }
+    ensures cell { result ≡ main_place proc wramcnt at }
+    ensures within { IfSome result (λ cell. cell < 4194304) }
 {
-    at >> 24 == 2
+    match place(proc, wramcnt, at) {
+        Place::Cell {
+            memory: Memory::Main,
+            at,
+        } => Some(at as usize),
+        _ => None,
+    }
 }
 
-/// The word that is fetched at an address of main memory, or 0 elsewhere.
+/// The word at a cell of main memory, aligned down.
 #[inline(always)]
-fn fetch(main: &Block<MAIN_BYTES>, at: u32) -> u32
-    ensures { result ≡ fetched main.now at }
+fn word_at(main: &Block<MAIN_BYTES>, cell: usize) -> u32
+    requires { cell < 4194304 }
+    ensures { result ≡ number_at Word main.now (aligned_down Word cell) }
 {
-    if !is_in_main(at) {
-        return 0;
+    main.word(cell - cell % 4)
+}
+
+/// Puts a word at a cell of main memory, aligned down.
+#[inline(always)]
+fn set_word_at(main: &mut Block<MAIN_BYTES>, cell: usize, value: u32)
+    requires { cell < 4194304 }
+    ensures { main.new ≡ with_number Word main.old (aligned_down Word cell) value }
+{
+    main.set_word(cell - cell % 4, value);
+}
+
+/// The word that a processor reads or fetches at an address of main memory, or 0 elsewhere.
+#[inline(always)]
+fn read_word(main: &Block<MAIN_BYTES>, proc: Proc, wramcnt: u8, at: u32) -> u32
+    requires { wramcnt < 4 }
+    ensures { result ≡ value_in (main_place proc wramcnt at) main.now Word }
+{
+    match main_cell(proc, wramcnt, at) {
+        Some(cell) => word_at(main, cell),
+        None => 0,
     }
-    main.word(place_of_word(at))
+}
+
+/// Writes a processor's word at an address of main memory, and nothing elsewhere.
+#[inline(always)]
+fn write_word(main: &mut Block<MAIN_BYTES>, proc: Proc, wramcnt: u8, at: u32, value: u32)
+    requires { wramcnt < 4 }
+    ensures { main.new ≡ put_in (main_place proc wramcnt at) main.old Word value }
+{
+    if let Some(cell) = main_cell(proc, wramcnt, at) {
+        set_word_at(main, cell, value);
+    }
 }
 
 /// The address of a load or a store.
@@ -56,7 +100,7 @@ fn fetch(main: &Block<MAIN_BYTES>, at: u32) -> u32
 fn address(registers: &Registers, rn: u8, up: bool, offset: u32) -> u32
     requires rn { rn < 16 }
     requires offset { offset < 2 ^ 12 }
-    ensures { result ≡ address_of registers.now rn up offset }
+    ensures { result ≡ data_address registers.now rn up offset }
 {
     let base = register(registers, rn);
     if up {
@@ -65,68 +109,86 @@ fn address(registers: &Registers, rn: u8, up: bool, offset: u32) -> u32
     base.wrapping_sub(offset)
 }
 
-/// The access that an instruction makes of memory.
+/// The first byte of a word outside main memory.
 #[inline(always)]
-fn access(registers: &Registers, instruction: Built) -> Access
-    requires { HasFields instruction }
-    ensures { result ≡ access_of registers.now instruction }
+fn word_outside(proc: Proc, wramcnt: u8, at: u32) -> Option<u32>
+    requires { wramcnt < 4 }
+    ensures { result ≡ outside (main_place proc wramcnt at) at None }
+{
+    match main_cell(proc, wramcnt, at) {
+        Some(_) => None,
+        None => Some(at - at % 4),
+    }
+}
+
+/// The first byte that an instruction's accesses touch outside main memory.
+#[inline(always)]
+fn byte_outside(
+    registers: &Registers,
+    proc: Proc,
+    wramcnt: u8,
+    instruction: Built,
+) -> Option<u32>
+    requires fields { HasBuiltFields instruction }
+    requires kept { wramcnt < 4 }
+    ensures { result ≡ first_outside proc wramcnt (accesses_of registers.now instruction) }
 {
     match instruction {
-        Built::Branch(_) => Access::Nothing,
-        Built::Move(_, _) => Access::Nothing,
-        Built::Add(_, _, _) => Access::Nothing,
-        Built::Subtract(_, _, _) => Access::Nothing,
-        Built::Load(_, rn, up, offset) => Access::Read(address(registers, rn, up, offset)),
-        Built::Store(rd, rn, up, offset) => {
-            Access::Write(address(registers, rn, up, offset), register(registers, rd))
+        Built::Load(_, rn, up, offset) => {
+            word_outside(proc, wramcnt, address(registers, rn, up, offset))
         }
+        Built::Store(_, rn, up, offset) => {
+            word_outside(proc, wramcnt, address(registers, rn, up, offset))
+        }
+        Built::Branch(_) => None,
+        Built::Move(_, _) => None,
+        Built::Add(_, _, _) => None,
+        Built::Subtract(_, _, _) => None,
     }
 }
 
-/// The first byte that an access touches, where its place isn't built.
+/// Makes an instruction's accesses of main memory, and answers what they read.
 #[inline(always)]
-fn unbuilt_byte(access: Access) -> Option<u32>
-    ensures { result ≡ unbuilt access }
+fn access(
+    main: &mut Block<MAIN_BYTES>,
+    registers: &Registers,
+    proc: Proc,
+    wramcnt: u8,
+    instruction: Built,
+) -> u32
+    requires fields { HasBuiltFields instruction }
+    requires kept { wramcnt < 4 }
+    ensures value { result ≡ slice_index (perform (main_machine proc wramcnt) main.old (accesses_of registers.now instruction)).values 0 }
+    ensures main { main.new ≡ (perform (main_machine proc wramcnt) main.old (accesses_of registers.now instruction)).state }
 {
-    match access {
-        Access::Nothing => None,
-        Access::Read(at) if is_in_main(at) => None,
-        Access::Write(at, _) if is_in_main(at) => None,
-        Access::Read(at) => Some(at - at % 4),
-        Access::Write(at, _) => Some(at - at % 4),
-    }
-}
-
-/// The place of a word in main memory, by an address there.
-#[inline(always)]
-fn place_of_word(at: u32) -> usize
-    ensures place { result ≡ word_place at }
-    ensures within { result + 3 < 4194304 }
-{
-    let place = at as usize % MAIN_BYTES;
-    place - place % 4
-}
-
-/// Makes an access of main memory, and answers what it reads.
-#[inline(always)]
-fn make(main: &mut Block<MAIN_BYTES>, access: Access) -> u32
-    ensures read { result ≡ read_by main.old access }
-    ensures main { main.new ≡ main_after main.old access }
-{
-    match access {
-        Access::Nothing => 0,
-        Access::Read(at) => main.word(place_of_word(at)).rotate_right(8 * (at % 4)),
-        Access::Write(at, value) => {
-            main.set_word(place_of_word(at), value);
+    match instruction {
+        Built::Load(_, rn, up, offset) => {
+            read_word(main, proc, wramcnt, address(registers, rn, up, offset))
+        }
+        Built::Store(rd, rn, up, offset) => {
+            let value = register(registers, rd);
+            write_word(main, proc, wramcnt, address(registers, rn, up, offset), value);
             0
         }
+        Built::Branch(_) => 0,
+        Built::Move(_, _) => 0,
+        Built::Add(_, _, _) => 0,
+        Built::Subtract(_, _, _) => 0,
     }
+}
+
+/// A word that is read, as it is loaded: rotated right, so that the byte at the address is the lowest.
+#[inline(always)]
+fn load(at: u32, value: u32) -> u32
+    ensures { result ≡ loaded at value }
+{
+    value.rotate_right(8 * (at % 4))
 }
 
 /// What an instruction does to the registers, from the value that it read.
 #[inline(always)]
 fn execute(registers: &mut Registers, instruction: Built, value: u32)
-    requires { HasFields instruction }
+    requires { HasBuiltFields instruction }
     ensures { registers.new ≡ registers_after registers.old instruction value }
 {
     match instruction {
@@ -143,7 +205,10 @@ fn execute(registers: &mut Registers, instruction: Built, value: u32)
             let difference = register(registers, rn).wrapping_sub(operand);
             set_register(registers, rd, difference);
         }
-        Built::Load(rd, _, _, _) => set_register(registers, rd, value),
+        Built::Load(rd, rn, up, offset) => {
+            let at = address(registers, rn, up, offset);
+            set_register(registers, rd, load(at, value));
+        }
         Built::Store(_, _, _, _) => registers[R15] = registers[R15].wrapping_add(4),
     }
 }
@@ -163,18 +228,6 @@ fn clocks(proc: Proc, instruction: Built) -> u64
         (Proc::Seven, Built::Load(_, _, _, _)) => 3,
         (Proc::Nine, Built::Store(_, _, _, _)) => 1,
         (Proc::Seven, Built::Store(_, _, _, _)) => 2,
-    }
-}
-
-/// One of a processor's clocks, in ticks.
-#[inline(always)]
-fn clock(proc: Proc) -> u64
-    ensures clock { result ≡ clock_of proc }
-    ensures some { (0 < result) × (result ≤ 2) }
-{
-    match proc {
-        Proc::Nine => 1,
-        Proc::Seven => 2,
     }
 }
 
@@ -214,35 +267,37 @@ impl Processor {
     }
 
     /// The word that it executes next, and its address.
-    pub fn next(&self, main: &Block<MAIN_BYTES>) -> (u32, u32)
-        ensures { (result.0 ≡ slice_index self.now.registers r15) × (result.1 ≡ fetched main.now result.0) }
+    pub fn next(&self, main: &Block<MAIN_BYTES>, proc: Proc, wramcnt: u8) -> (u32, u32)
+        requires { wramcnt < 4 }
+        ensures address { result.0 ≡ slice_index self.now.registers r15 }
+        ensures word { result.1 ≡ value_in (main_place proc wramcnt result.0) main.now Word }
     {
         let at = self.registers[R15];
-        (at, fetch(main, at))
+        (at, read_word(main, proc, wramcnt, at))
     }
 
     /// One step over main memory. Where it needs what isn't built, the answer is the address or the word that tells it, and
     /// nothing changes.
     #[inline(always)]
-    pub fn step(&mut self, main: &mut Block<MAIN_BYTES>, proc: Proc) -> Option<u32>
-        requires { self.old.due ≤ 2 ^ 56 }
-        ensures { Stepped proc main.old self.old result self.new main.new }
+    pub fn step(&mut self, main: &mut Block<MAIN_BYTES>, proc: Proc, wramcnt: u8) -> Option<u32>
+        requires early { self.old.due ≤ 2 ^ 56 }
+        requires kept { wramcnt < 4 }
+        ensures { ProcessorSteps proc wramcnt main.old self.old result self.new main.new }
     {
         let at = self.registers[R15];
-        if !is_in_main(at) {
+        let Some(cell) = main_cell(proc, wramcnt, at) else {
             return Some(at);
-        }
-        let word = fetch(main, at);
+        };
+        let word = word_at(main, cell);
         let Some(instruction) = built_word(word) else {
             return Some(word);
         };
-        let access = access(&self.registers, instruction);
-        if let Some(at) = unbuilt_byte(access) {
+        if let Some(at) = byte_outside(&self.registers, proc, wramcnt, instruction) {
             return Some(at);
         }
-        let value = make(main, access);
+        let value = access(main, &self.registers, proc, wramcnt, instruction);
         execute(&mut self.registers, instruction, value);
-        self.due += clock(proc) * clocks(proc, instruction);
+        self.due += proc.ticks_per_clock() * clocks(proc, instruction);
         self.steps += 1;
         None
     }

@@ -3,7 +3,7 @@
 //! Undefined. r15 is the address of the next instruction.
 
 ghost use Rattle.std.specs.Prelude.{◌≡◌, ◌<◌};
-ghost use Rattle.ds_machine.specs.Words.{register_place, register_of, with_register};
+ghost use Rattle.ds_machine.specs.Words.{register_place, register_of, register_put};
 ghost use Rattle.ds_machine.specs.Registers.{booted_registers, stacks_of};
 
 use ds_base::Proc;
@@ -103,7 +103,7 @@ pub fn register(registers: &Registers, r: u8) -> u32
 #[inline(always)]
 pub fn set_register(registers: &mut Registers, rd: u8, value: u32)
     requires { rd < 15 }
-    ensures { registers.new ≡ with_register registers.old rd value }
+    ensures { registers.new ≡ register_put registers.old rd value }
 {
     registers[place_of_register(rd)] = value;
     registers[R15] = registers[R15].wrapping_add(4);

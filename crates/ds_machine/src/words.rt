@@ -1,8 +1,8 @@
 //! The words that the processors execute so far.
 
 ghost use Rattle.std.specs.Prelude.{◌≡◌, ◌<◌, ◌^◌, IfSome};
-ghost use Rattle.ds_machine.specs.Words.{built, built_by, immediate, distance};
-ghost use Rattle.ds_machine.specs.Fields.{HasFields};
+ghost use Rattle.ds_machine.specs.Words.{built, built_by, built_immediate, branch_distance};
+ghost use Rattle.ds_machine.specs.Fields.{HasBuiltFields};
 
 /// An instruction that is built, with its fields under the ARM manual's names.
 #[derive(Clone, Copy)]
@@ -21,21 +21,10 @@ pub enum Built {
     Store(u8, u8, bool, u32),
 }
 
-/// What an instruction does to memory: a word is read at an address, or written.
-#[derive(Clone, Copy)]
-pub enum Access {
-    /// It makes no access.
-    Nothing,
-    /// It reads the word at an address.
-    Read(u32),
-    /// It writes a word at an address.
-    Write(u32, u32),
-}
-
 /// An immediate operand.
 #[inline(always)]
 fn immediate_of(word: u32) -> u32
-    ensures { result ≡ immediate word }
+    ensures { result ≡ built_immediate word }
 {
     (word & 0xFF).rotate_right(2 * ((word >> 8) & 15))
 }
@@ -46,7 +35,7 @@ fn built_word_by(word: u32, operation: u32, rn: u8, rd: u8) -> Option<Built>
     requires rn { rn < 16 }
     requires rd { rd < 15 }
     ensures instruction { result ≡ built_by word operation rn rd }
-    ensures fields { IfSome result HasFields }
+    ensures fields { IfSome result HasBuiltFields }
 {
     match operation {
         0xE3A => Some(Built::Move(rd, immediate_of(word))),
@@ -64,7 +53,7 @@ fn built_word_by(word: u32, operation: u32, rn: u8, rd: u8) -> Option<Built>
 #[inline(always)]
 pub fn built_word(word: u32) -> Option<Built>
     ensures instruction { result ≡ built word }
-    ensures fields { IfSome result HasFields }
+    ensures fields { IfSome result HasBuiltFields }
 {
     if word >> 24 == 0xEA {
         return Some(Built::Branch(word & 0xFF_FFFF));
@@ -81,7 +70,7 @@ pub fn built_word(word: u32) -> Option<Built>
 #[inline(always)]
 pub fn branch_distance(field: u32) -> u32
     requires { field < 2 ^ 24 }
-    ensures { result ≡ distance field }
+    ensures { result ≡ branch_distance field }
 {
     let bytes = field << 2;
     if field < 0x80_0000 {

@@ -1,2 +1,5 @@
+pub mod Lists
+pub mod Places
+pub mod ActorTable
 pub mod RunLaws
 pub mod RunExists

@@ -1,76 +1,102 @@
-use Rattle.std.proofs.Common.{ℕ, zero, suc, ◌≡◌, ◌<◌, ◌≤◌, ◌+◌, ◌-◌, ◌*◌, ◌⊎◌, inl, inr, List, [], ◌++◌, Option, Some, None, refl, ap, arith}
-use Rattle.std.proofs.Math.Nat.{mul-le-mul_left}
-use Rattle.ds_runs.specs.Runs.{IsLeast, Machine, Ending, At, Stopped, Runs, over, stops, more, Ticks, steps_of}
+use Rattle.std.proofs.Common.{ℕ, zero, suc, ◌≡◌, ◌<◌, ◌≤◌, ◌+◌, ◌-◌, ◌*◌, ◌⊎◌, inl, inr, List, [], ◌++◌, length, Option, Some, None, refl, sym, ◌∙◌, ap, subst, arith}
+use Rattle.ds_base.specs.declared.ticks.Tick.{Tick}
+use Rattle.ds_base.specs.Schedules.{IsLater}
+use Rattle.ds_runs.specs.Runs.{IsLeast, due_at, Machine, Stepped, Makes, Stops, Ending, At, Stopped, Runs, over, stops, more, steps_of}
+use Rattle.ds_runs.specs.Schedules.{Schedules, places_left}
 use Rattle.ds_runs.specs.Laws.{RunsEnd}
-use Rattle.ds_runs.proofs.RunLaws.{over_here, least_unique}
+use Rattle.ds_runs.proofs.Lists.{within, has_least, least_unique, at_rank, is_later}
+use Rattle.ds_runs.proofs.Places.{later_place, left_at, left_below}
+use Rattle.ds_runs.proofs.RunLaws.{over_here}
 
 le_or_lt : (x y : ℕ) → (x ≤ y) ⊎ (y < x)
 le_or_lt x y = grind arith
 
-later_place : (k t r u : ℕ) → t < u → r < k → k * t + r < k * u
-later_place k t r u lt small =
-    let le : k * (t + 1) ≤ k * u = mul-le-mul_left {m = t + 1} {n = u} k (omega arith) in
-    let e : k * (t + 1) ≡ k * t + k = grind arith in
-    omega (arith, le, e)
+same_or_not : (x y : ℕ) → (x ≡ y) ⊎ ((x < y) ⊎ (y < x))
+same_or_not x y = grind arith
 
-module _ {S O L : Type 0} (m : Machine S O L) (ranks : ℕ) (Sound : S → Type 0) (ticks : Ticks m ranks Sound) where
-  -- each step raises the place in the order of steps, which is ranks * tick + rank
-  pub place_rises : (s next : S) (t r u q : ℕ) → Sound s → IsLeast (m.due s) t r → r < ranks → m.step r s ≡ Some next → IsLeast (m.due next) u q
-      → ranks * t + r < ranks * u + q
-  place_rises s next t r u q sound least small goes after =
-      elim (ticks.rises s next t r q u sound least goes after.there) [
-        | inl lt ↦ (let k = later_place ranks t r u lt small in omega (arith, k))
-        | inr kept ↦ elim (least.least q u kept.0) [
-          | inl lt ↦ (let k = later_place ranks t r u lt small in omega (arith, k))
-          | inr same ↦ (let e : ranks * t ≡ ranks * u = ap (λ (x : ℕ). ranks * x) same.0 in omega (arith, e, same.1, kept.1))
+module _ {S O L : Type 0} (m : Machine S O L) (ranks : ℕ) (Sound : S → Type 0) (schedules : Schedules m ranks Sound) where
+  -- the least actor is always there
+  pub least_is : (s : S) → Sound s → (tick : Tick) × (rank : ℕ) × IsLeast (m.dues s) tick rank
+  least_is s sound = let d = schedules.somebody s sound in has_least (m.dues s) d.0 d.1 d.2
+
+  -- and its rank is one of the ranks
+  pub low_rank : (s : S) (t : Tick) (r : ℕ) → Sound s → IsLeast (m.dues s) t r → r < ranks
+  low_rank s t r sound least = let k = within (m.dues s) r t least.there in let e = schedules.entries s sound in omega (arith, k, e)
+
+  -- each step raises the place in the order of steps, which is ranks * tick + rank: whoever is due after it is due there
+  pub place_rises : (s next : S) (t : Tick) (r : ℕ) (outs : List O) (u : Tick) (q : ℕ) → Sound s → IsLeast (m.dues s) t r → m.step r s ≡ Makes next outs → due_at (m.dues next) q ≡ Some u
+      → ranks * t.0 + r < ranks * u.0 + q
+  place_rises s next t r outs u q sound least goes due =
+      let small = low_rank s t r sound least in
+      elim (same_or_not q r) [
+        | inl same ↦ (let P : ℕ → Type 0 = λ x. due_at (m.dues next) x ≡ Some u in
+          let lt = is_later t (due_at (m.dues next) r) u (schedules.later s next t r outs sound least goes) (subst P same due) in
+          let k = later_place ranks t.0 r u.0 lt small in omega (arith, k))
+        | inr differ ↦ elim (at_rank t (m.dues s) (m.dues next) (schedules.reschedules s next t r outs sound least goes) q) [
+          | inl kept ↦ elim (least.least q u (sym kept ∙ due)) [
+            | inl lt ↦ (let k = later_place ranks t.0 r u.0 lt small in omega (arith, k))
+            | inr same ↦ (let e : ranks * t.0 ≡ ranks * u.0 = ap (λ (x : ℕ). ranks * x) same.0 in omega (arith, e, same.1, differ))
+          ]
+          | inr later ↦ (let lt = is_later t (due_at (m.dues next) q) u later due in
+            let k = later_place ranks t.0 r u.0 lt small in omega (arith, k))
         ]
       ]
 
+  -- a step below the limit leaves fewer places
+  pub fewer_left : (limit : ℕ) (s next : S) (t : Tick) (r : ℕ) (outs : List O) → Sound s → IsLeast (m.dues s) t r → t.0 < limit → m.step r s ≡ Makes next outs
+      → places_left ranks limit 0 (m.dues next) < places_left ranks limit 0 (m.dues s)
+  fewer_left limit s next t r outs sound least lt goes =
+      let here = left_at ranks limit 0 (m.dues s) r t least.there in
+      let below = later_place ranks t.0 r limit lt (low_rank s t r sound least) in
+      let bound : ℕ = ranks * limit - (ranks * t.0 + r) - 1 in
+      let rest = left_below ranks limit 0 bound (m.dues next) (λ q u due. (let k = place_rises s next t r outs u q sound least goes due in omega (arith, k, below))) in
+      omega (arith, here, below, rest)
+
   -- every sound state runs to every limit
   pub run_exists : (limit : ℕ) (s : S) → Sound s → (end : Ending S L) × (outs : List O) × Runs m limit end s outs
-  run_exists limit s sound = let l = ticks.least s sound in from (ranks * limit) s sound l.0 l.1 l.2 l.3 (omega arith) where
-    goes_to : (s : S) (t r : ℕ) → IsLeast (m.due s) t r → t < limit → (o : Option S) → m.step r s ≡ o
-        → ((next : S) → m.step r s ≡ Some next → (end : Ending S L) × (outs : List O) × Runs m limit end next outs)
+  run_exists limit s sound = let l = least_is s sound in from (ranks * limit) s sound l.0 l.1 l.2 (omega arith) where
+    goes_to : (s : S) (t : Tick) (r : ℕ) → IsLeast (m.dues s) t r → t.0 < limit → (o : Stepped S O L) → m.step r s ≡ o
+        → ((next : S) (outs : List O) → m.step r s ≡ Makes next outs → (end : Ending S L) × (rest : List O) × Runs m limit end next rest)
         → (end : Ending S L) × (outs : List O) × Runs m limit end s outs
-    goes_to s t r least lt None e rec = (Stopped (m.stop r s), [], stops s t r least lt e)
-    goes_to s t r least lt (Some next) e rec = let k = rec next e in (k.0, m.out r s ++ k.1, more k.0 s next t r k.1 least lt e k.2)
+    goes_to s t r least lt (Stops stop left) e rec = (Stopped stop, [], stops s left t r stop least lt e)
+    goes_to s t r least lt (Makes next outs) e rec = let k = rec next outs e in (k.0, outs ++ k.1, more k.0 s next t r outs k.1 least lt e k.2)
 
-    from : (n : ℕ) (s : S) → Sound s → (t r : ℕ) → IsLeast (m.due s) t r → r < ranks → ranks * limit ≤ n + (ranks * t + r)
+    from : (n : ℕ) (s : S) → Sound s → (t : Tick) (r : ℕ) → IsLeast (m.dues s) t r → ranks * limit ≤ n + (ranks * t.0 + r)
         → (end : Ending S L) × (outs : List O) × Runs m limit end s outs
-    from zero s sound t r least small room =
-        elim (le_or_lt limit t) [
-          | inl le ↦ (At s, [], over_here m limit s t r least le)
-          | inr lt ↦ (let k = later_place ranks t r limit lt small in absurd (omega (arith, k, room)))
+    from zero s sound t r least room =
+        elim (le_or_lt limit t.0) [
+          | inl le ↦ (At s, [], over s (over_here (m.dues s) limit t r least le))
+          | inr lt ↦ (let k = later_place ranks t.0 r limit lt (low_rank s t r sound least) in absurd (omega (arith, k, room)))
         ]
-    from (suc n) s sound t r least small room =
-        elim (le_or_lt limit t) [
-          | inl le ↦ (At s, [], over_here m limit s t r least le)
-          | inr lt ↦ goes_to s t r least lt (m.step r s) refl (λ next e.
-              (let sound₂ = ticks.stays s next t r sound least e in
-              let l = ticks.least next sound₂ in
-              let k = place_rises s next t r l.0 l.1 sound least small e l.2 in
-              from n next sound₂ l.0 l.1 l.2 l.3 (omega (arith, k, room))))
+    from (suc n) s sound t r least room =
+        elim (le_or_lt limit t.0) [
+          | inl le ↦ (At s, [], over s (over_here (m.dues s) limit t r least le))
+          | inr lt ↦ goes_to s t r least lt (m.step r s) refl (λ next outs e.
+              (let sound₂ = schedules.stays s next t r outs sound least e in
+              let l = least_is next sound₂ in
+              let k = place_rises s next t r outs l.0 l.1 sound least e l.2.there in
+              from n next sound₂ l.0 l.1 l.2 (omega (arith, k, room))))
         ]
 
   -- a run takes at most `ranks` steps a tick
-  pub run_bounded : (limit : ℕ) (end : Ending S L) (s : S) (outs : List O) → (run : Runs m limit end s outs) → Sound s
-      → (tick rank : ℕ) → IsLeast (m.due s) tick rank → rank < ranks → steps_of run ≤ ranks * limit - (ranks * tick + rank)
-  run_bounded limit end s outs (over s0 h) sound tick rank least small = omega arith
-  run_bounded limit end s outs (stops s0 t r l lt halts) sound tick rank least small = omega arith
-  run_bounded limit end s outs (more e0 s0 next t r rest_out l lt goes rest) sound tick rank least small =
-      let same = least_unique (m.due s0) t r tick rank l least in
-      let low : r < ranks = omega (arith, same) in
-      let sound₂ = ticks.stays s0 next t r sound l goes in
-      let n = ticks.least next sound₂ in
-      let key = place_rises s0 next t r n.0 n.1 sound l low goes n.2 in
-      let below = later_place ranks t r limit lt low in
-      let rec = run_bounded limit e0 next rest_out rest sound₂ n.0 n.1 n.2 n.3 in
-      let e : ranks * t ≡ ranks * tick = ap (λ (x : ℕ). ranks * x) same.0 in
+  pub run_bounded : (limit : ℕ) (end : Ending S L) (s : S) (all : List O) → (run : Runs m limit end s all) → Sound s
+      → (tick : Tick) (rank : ℕ) → IsLeast (m.dues s) tick rank → steps_of run ≤ ranks * limit - (ranks * tick.0 + rank)
+  run_bounded limit end s all (over s0 h) sound tick rank least = omega arith
+  run_bounded limit end s all (stops s0 left t r stop l lt halts) sound tick rank least = omega arith
+  run_bounded limit end s all (more e0 s0 next t r outs rest l lt goes run) sound tick rank least =
+      let same = least_unique (m.dues s0) t r tick rank l least in
+      let low = low_rank s0 t r sound l in
+      let sound₂ = schedules.stays s0 next t r outs sound l goes in
+      let n = least_is next sound₂ in
+      let key = place_rises s0 next t r outs n.0 n.1 sound l goes n.2.there in
+      let below = later_place ranks t.0 r limit lt low in
+      let rec = run_bounded limit e0 next rest run sound₂ n.0 n.1 n.2 in
+      let e : ranks * t.0 ≡ ranks * tick.0 = ap (λ (x : Tick). ranks * x.0) same.0 in
       omega (arith, key, below, rec, e, same.1)
 
   -- and so at most `ranks` times its limit
   pub run_ends : RunsEnd m ranks Sound
   run_ends limit s end outs sound run =
-      let l = ticks.least s sound in
-      let k = run_bounded limit end s outs run sound l.0 l.1 l.2 l.3 in
+      let l = least_is s sound in
+      let k = run_bounded limit end s outs run sound l.0 l.1 l.2 in
       omega (arith, k)

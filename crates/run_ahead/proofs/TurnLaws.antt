@@ -1,29 +1,67 @@
-use Rattle.std.proofs.Common.{ℕ, ◌≡◌, ◌<◌, List, [], ◌++◌, None, subst, arith}
+use Rattle.std.proofs.Common.{ℕ, ◌≡◌, ◌<◌, ◌+◌, List, [], ◌∷◌, ◌++◌, Option, Some, None, refl, sym, ◌∙◌, ap, subst, arith}
 use Rattle.ds_base.specs.declared.left_out.LeftOut.{LeftOut}
-use Rattle.ds_runs.specs.Runs.{Stopped, Runs, over, stops, more}
+use Rattle.ds_runs.specs.Runs.{Stepped, Makes, Stops, Stopped, Runs, over, stops, more}
+use Rattle.ds_runs.proofs.RunExists.{run_exists, fewer_left}
+use Rattle.ds_runs.proofs.RunLaws.{same_stops, not_both}
 use Rattle.ds_machine.specs.States.{MachineState}
-use Rattle.ds_machine.specs.Reference.{Shown, reference}
+use Rattle.ds_machine.specs.Reference.{Shown, next_shown, step_of, reference, IsSound}
+use Rattle.ds_machine.proofs.MachineSchedule.{reference_schedules, owes, stop_leaves}
 use Rattle.run_ahead.specs.Consoles.{ConsoleState}
-use Rattle.run_ahead.specs.Turns.{TakesStep, Stops, Turns, RunsOn, GoesOn}
+use Rattle.run_ahead.specs.Turns.{TakesStep, MeetsStop, Turns, RunsOn, GoesOn, HasRuns, turns_of, turns_left, counted_of, turns_in, HasTurned, none, turn, TurnsAddUp}
 use Rattle.run_ahead.specs.declared.turns.Turned as turned
 use Rattle.run_ahead.specs.declared.turns.Turned.TheVariants as answers
 
 -- the reference run from before a step goes through it
 pub goes_on : (until : ℕ) (old new : MachineState) (front : List Shown) → TakesStep until old front new → GoesOn until old new front
 goes_on until old new front step = λ limit le end outs run.
-    (let lt : step.tick < until = step.below in
-    let P : List Shown → Type 0 = λ x. Runs reference limit end old (x ++ outs) in
-    subst P step.out (more end old new step.tick step.rank outs step.least (omega arith) step.step run))
-
--- and from before a stop, stops there
-pub stops_here : (until : ℕ) (old : MachineState) (left : LeftOut) → Stops until old left → Runs reference until (Stopped left) old []
-stops_here until old left stop =
-    let P : LeftOut → Type 0 = λ x. Runs reference until (Stopped x) old [] in
-    subst P stop.stop (stops old stop.tick stop.rank stop.least stop.below stop.step)
+    (let lt : step.tick.0 < until = step.below in
+    more end old new step.tick step.rank front outs step.least (omega arith) step.step run)
 
 -- what a turn says of the reference run
 pub runs_on : (until : ℕ) (old : ConsoleState) (answer : turned.Turned) (new : ConsoleState) → Turns until old answer new → old.stopped ≡ None → RunsOn until old.machine answer new.machine
-runs_on until old answers.Ran new turn none = goes_on until old.machine new.machine [] turn.1
-runs_on until old (answers.Frame swapped) new turn none = goes_on until old.machine new.machine _ turn.1
-runs_on until old answers.AtEnd new turn none = over old.machine turn.1
-runs_on until old (answers.Stopped left) new turn none = stops_here until old.machine left (turn.0 none).0
+runs_on until old answers.Ran new t open_ = goes_on until old.machine new.machine [] t.1
+runs_on until old (answers.Frame swapped) new t open_ = goes_on until old.machine new.machine (next_shown old.machine swapped ∷ []) t.1
+runs_on until old answers.AtEnd new t open_ = over old.machine t.1
+runs_on until old (answers.Stopped left) new t open_ =
+    let stop = (t.0 open_).0 in
+    stops old.machine new.machine stop.tick stop.rank left stop.least stop.below stop.step
+
+-- from every machine there are runs
+pub has_runs : (s : MachineState) → HasRuns s
+has_runs s = λ limit. run_exists reference 24 IsSound reference_schedules limit s tt
+
+-- a step is one more turn, and leaves fewer below the limit
+took : (until : ℕ) (old new : MachineState) (front : List Shown) → TakesStep until old front new → turns_of new ≡ 1 + turns_of old
+took until old new front step = let e = (owes old new step.tick step.rank front step.least step.step).counted in omega (arith, e)
+
+fewer : (until : ℕ) (old new : MachineState) (front : List Shown) → TakesStep until old front new → turns_left until new < turns_left until old
+fewer until old new front step = fewer_left reference 24 IsSound reference_schedules until old new step.tick step.rank front tt step.least step.below step.step
+
+stayed : (old new : MachineState) → new ≡ old → turns_of new ≡ 0 + turns_of old
+stayed old new e = let g : turns_of new ≡ turns_of old = ap turns_of e in omega (arith, g)
+
+stopped : (until : ℕ) (old new : ConsoleState) (o : Option LeftOut) → old.stopped ≡ o → (left : LeftOut) → Turns until old (answers.Stopped left) new → turns_of new.machine ≡ 0 + turns_of old.machine
+stopped until old new None e left t = let stop = (t.0 e).0 in stayed old.machine new.machine (stop_leaves old.machine new.machine stop.rank left stop.step)
+stopped until old new (Some l) e left t = stayed old.machine new.machine (ap (λ (x : ConsoleState). x.machine) (t.1 (rw e refl)).1)
+
+pub turn_counts : (until : ℕ) (old : ConsoleState) (answer : turned.Turned) (new : ConsoleState) → Turns until old answer new → turns_of new.machine ≡ counted_of answer + turns_of old.machine
+turn_counts until old answers.Ran new t = took until old.machine new.machine [] t.1
+turn_counts until old (answers.Frame swapped) new t = took until old.machine new.machine (next_shown old.machine swapped ∷ []) t.1
+turn_counts until old answers.AtEnd new t = stayed old.machine new.machine (ap (λ (x : ConsoleState). x.machine) t.2)
+turn_counts until old (answers.Stopped left) new t = stopped until old new old.stopped refl left t
+
+pub turn_falls : (until : ℕ) (old : ConsoleState) (answer : turned.Turned) (new : ConsoleState) → Turns until old answer new → counted_of answer ≡ 1 → turns_left until new.machine < turns_left until old.machine
+turn_falls until old answers.Ran new t counts = fewer until old.machine new.machine [] t.1
+turn_falls until old (answers.Frame swapped) new t counts = fewer until old.machine new.machine (next_shown old.machine swapped ∷ []) t.1
+turn_falls until old answers.AtEnd new t counts = absurd (omega (arith, counts))
+turn_falls until old (answers.Stopped left) new t counts = absurd (omega (arith, counts))
+
+-- all turns together count the steps since the start
+pub turns_add_up : TurnsAddUp
+turns_add_up until start now t = add t where
+  add : {until : ℕ} {start now : ConsoleState} (t : HasTurned until start now) → turns_of now.machine ≡ turns_in t + turns_of start.machine
+  add (none start) = omega arith
+  add {until} (turn start before now answer earlier last) =
+      let e = turn_counts until before answer now last in
+      let f = add earlier in
+      omega (arith, e, f)

@@ -1,10 +1,11 @@
-use Rattle.std.specs.Prelude.{ℕ, ◌≡◌, ◌<◌, ◌≤◌, Bool, List, [], ◌∷◌, ◌++◌, Some, None, IsSome, max}
+use Rattle.std.specs.Prelude.{ℕ, ◌≡◌, ◌<◌, ◌≤◌, ◌+◌, Bool, List, [], ◌∷◌, ◌++◌, Some, None, IsSome, max}
 use Rattle.ds_base.specs.declared.left_out.LeftOut.{LeftOut}
-use Rattle.ds_runs.specs.Runs.{IsLeast, Ending, At, Runs}
+use Rattle.ds_base.specs.declared.ticks.Tick.{Tick}
+use Rattle.ds_runs.specs.Runs.{IsLeast, IsOver, Makes, Stops, Ending, At, Runs}
 use Rattle.ds_runs.specs.Runs as runs
+use Rattle.ds_runs.specs.Schedules.{places_left}
 use Rattle.ds_machine.specs.States.{MachineState}
-use Rattle.ds_machine.specs.Videos.{video_due}
-use Rattle.ds_machine.specs.Reference.{Shown, due_of, step_of, out_of, stop_of, reference}
+use Rattle.ds_machine.specs.Reference.{Shown, next_shown, dues_of, step_of, reference}
 use Rattle.run_ahead.specs.Consoles.{ConsoleState}
 use Rattle.run_ahead.specs.declared.turns.Turned.{Turned}
 use Rattle.run_ahead.specs.declared.turns.Turned.TheVariants.{Ran, Frame, AtEnd, Stopped}
@@ -13,42 +14,32 @@ use Rattle.run_ahead.specs.declared.turns.Turned.TheVariants.{Ran, Frame, AtEnd,
 
 -- the least actor of a machine is due below the limit, and takes its step
 pub record TakesStep (until : ℕ) (old : MachineState) (outs : List Shown) (new : MachineState) : Type 0 where
-  pub tick : ℕ
+  pub tick : Tick
   pub rank : ℕ
-  pub least : IsLeast (due_of old) tick rank
-  pub below : tick < until
-  pub step : step_of rank old ≡ Some new
-  pub out : out_of rank old ≡ outs
+  pub least : IsLeast (dues_of old) tick rank
+  pub below : tick.0 < until
+  pub step : step_of rank old ≡ Makes new outs
 
--- its step stops the machine
-pub record Stops (until : ℕ) (old : MachineState) (left : LeftOut) : Type 0 where
-  pub tick : ℕ
+-- its step stops the machine, and leaves this state
+pub record MeetsStop (until : ℕ) (old : MachineState) (left : LeftOut) (new : MachineState) : Type 0 where
+  pub tick : Tick
   pub rank : ℕ
-  pub least : IsLeast (due_of old) tick rank
-  pub below : tick < until
-  pub step : step_of rank old ≡ None
-  pub stop : stop_of rank old ≡ left
-
--- no actor is due below the limit
-abbrev pub IsOver : ℕ → MachineState → Type 0
-IsOver until s = (rank tick : ℕ) → due_of s rank ≡ Some tick → until ≤ tick
+  pub least : IsLeast (dues_of old) tick rank
+  pub below : tick.0 < until
+  pub step : step_of rank old ≡ Stops left new
 
 -- the machine is this now, and the limit was raised
 abbrev pub run_to : ConsoleState → ℕ → MachineState → ConsoleState
 run_to old until machine = record old { machine = machine; limit = max old.limit until }
-
--- the frame that the display's next event makes whole
-abbrev pub next_shown : MachineState → Bool → Shown
-next_shown s swapped = record { tick = video_due s.video; swapped = swapped }
 
 -- what a turn with a limit does to a console, by its answer: one step of the reference machine; after a stop nothing any more
 abbrev pub Turns : ℕ → ConsoleState → Turned → ConsoleState → Type 0
 Turns until old Ran new = (old.stopped ≡ None) × TakesStep until old.machine [] new.machine × (new ≡ run_to old until new.machine)
 Turns until old (Frame swapped) new = (old.stopped ≡ None) × TakesStep until old.machine (next_shown old.machine swapped ∷ []) new.machine
     × (new ≡ run_to old until new.machine)
-Turns until old AtEnd new = (old.stopped ≡ None) × IsOver until old.machine × (new ≡ run_to old until old.machine)
+Turns until old AtEnd new = (old.stopped ≡ None) × IsOver (dues_of old.machine) until × (new ≡ run_to old until old.machine)
 Turns until old (Stopped left) new =
-    (old.stopped ≡ None → Stops until old.machine left × (new ≡ record (run_to old until old.machine) { stopped = Some left }))
+    (old.stopped ≡ None → MeetsStop until old.machine left new.machine × (new ≡ record (run_to old until new.machine) { stopped = Some left }))
     × (IsSome old.stopped → (old.stopped ≡ Some left) × (new ≡ old))
 
 -- to each limit that isn't below this one, what runs on from the new state is the rest of the run from the old one, which puts
@@ -64,7 +55,41 @@ RunsOn until old (Frame swapped) new = GoesOn until old new (next_shown old swap
 RunsOn until old AtEnd new = Runs reference until (At old) old []
 RunsOn until old (Stopped left) new = Runs reference until (runs.Stopped left) old []
 
+-- the reference run goes on from a state to every limit
+abbrev pub HasRuns : MachineState → Type 0
+HasRuns s = (limit : ℕ) → (end : Ending MachineState LeftOut) × (outs : List Shown) × Runs reference limit end s outs
+
+-- how many turns a machine took: while a turn is one step, all its steps
+abbrev pub turns_of : MachineState → ℕ
+turns_of s = s.nine.processor.steps + s.seven.processor.steps + s.events
+
+-- a turn counts where it took a step
+abbrev pub counted_of : Turned → ℕ
+counted_of Ran = 1
+counted_of (Frame swapped) = 1
+counted_of AtEnd = 0
+counted_of (Stopped left) = 0
+
+-- no more turns than this take a step below a limit, from a state on: a loop over turns counts it down
+abbrev pub turns_left : ℕ → MachineState → ℕ
+turns_left until s = places_left 24 until 0 (dues_of s)
+
 -- a console is as it was after some turns with a limit
 pub data HasTurned (until : ℕ) : ConsoleState → ConsoleState → Type 0 where
   none : (start : ConsoleState) → HasTurned until start start
   turn : (start before now : ConsoleState) (answer : Turned) → HasTurned until start before → Turns until before answer now → HasTurned until start now
+
+-- how many of a console's turns count
+abbrev pub turns_in : {until : ℕ} {start now : ConsoleState} → HasTurned until start now → ℕ
+turns_in (none start) = 0
+turns_in (turn start before now answer earlier last) = counted_of answer + turns_in earlier
+
+-- a console is as it was after as many turns with a limit as its counts say
+pub record IsAfterItsTurns (until : ℕ) (start now : ConsoleState) : Type 0 where
+  pub turned : HasTurned until start now
+  pub counted : turns_in turned ≡ turns_of now.machine
+
+-- all turns together add as many steps to the counts as count
+abbrev pub TurnsAddUp : Type 0
+TurnsAddUp = (until : ℕ) (start now : ConsoleState) (turned : HasTurned until start now)
+    → turns_of now.machine ≡ turns_in turned + turns_of start.machine

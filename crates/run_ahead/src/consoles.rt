@@ -1,10 +1,11 @@
 //! The console.
 
 ghost use Rattle.std.specs.Prelude.{◌≡◌, ◌≤◌, ◌<◌, ◌+◌, ◌*◌, ◌^◌, None, slice_index, IfOk};
+ghost use Rattle.ds_base.specs.Memories.{memory_size};
 ghost use Rattle.ds_machine.specs.Booted.{booted};
+ghost use Rattle.ds_machine.specs.Observed.{memory_of, processor_of, seen_of};
 ghost use Rattle.ds_machine.specs.Reference.{IsDue};
-ghost use Rattle.ds_machine.specs.Observed.{memory_of, size_of, processor_of, seen_of};
-ghost use Rattle.run_ahead.specs.Turns.{Turns, RunsOn};
+ghost use Rattle.run_ahead.specs.Turns.{Turns, RunsOn, HasRuns, turns_of, turns_left, counted_of};
 
 use crate::turns::Turned;
 use ds_base::{Due, LeftOut, Memory, Proc, Tick};
@@ -62,11 +63,14 @@ impl Console {
     }
 
     /// One turn: nothing where no actor is due below the limit, and otherwise the step of the actor that is due first. After a
-    /// stop every turn answers the same and changes nothing.
+    /// stop every turn answers the same and changes nothing. A turn that takes a step is one more of the counts, and fewer such turns
+    /// are left below the limit.
     pub fn turn(&mut self, until: Tick) -> Turned
         requires { until.0 ≤ 2 ^ 56 }
         ensures turn { Turns until.0 self.old result self.new }
         ensures runs { self.old.stopped ≡ None → RunsOn until.0 self.old.machine result self.new.machine }
+        ensures counted { turns_of self.new.machine ≡ counted_of result + turns_of self.old.machine }
+        ensures falls { counted_of result ≡ 1 → turns_left until.0 self.new.machine < turns_left until.0 self.old.machine }
     {
         self.step(until)
     }
@@ -102,6 +106,11 @@ impl Console {
         self.machine.due()
     }
 
+    /// Does nothing; its contract states that the reference run goes on from this machine to every limit.
+    pub fn has_runs(&self)
+        ensures { HasRuns self.now.machine }
+    {}
+
     /// What a processor does next.
     pub fn seen(&self, proc: Proc) -> Seen
         ensures { result ≡ seen_of self.now.machine proc }
@@ -118,7 +127,7 @@ impl Console {
 
     /// The byte of a memory at a place.
     pub fn byte_of(&self, memory: Memory, at: u32) -> u8
-        requires { at < size_of memory }
+        requires { at < memory_size memory }
         ensures { result ≡ slice_index (memory_of self.now.machine memory) at }
     {
         self.machine.byte_of(memory, at)
@@ -144,7 +153,7 @@ impl Console {
         ensures nine { result.nine ≡ self.now.machine.nine.processor.steps }
         ensures seven { result.seven ≡ self.now.machine.seven.processor.steps }
         ensures events { result.events ≡ self.now.machine.events }
-        ensures turns { result.turns ≡ result.nine + result.seven + result.events }
+        ensures turns { result.turns ≡ turns_of self.now.machine }
         ensures bound { result.nine + result.seven + result.events ≤ 24 * self.now.limit }
     {
         let nine = self.machine.steps(Proc::Nine);

@@ -3,7 +3,10 @@
 #![tactic(auto)]
 
 mod consoles;
+mod laws;
 mod turns;
 
 pub use consoles::{Console, Counts};
+pub use ds_machine::{Seen, reference_laws};
+pub use laws::turn_laws;
 pub use turns::Turned;

@@ -1,5 +1,11 @@
-use Rattle.run_ahead.proofs.TurnLaws.{runs_on}
+use Rattle.run_ahead.proofs.TurnLaws.{runs_on, turn_counts, turn_falls}
 use Rattle.run_ahead.proofs.consoles.Console.turn.Goals as goal
 
 pub returns-clause-runs : goal.returns-clause-runs
 returns-clause-runs c = λ none. runs_on _ _ _ _ c.step.ensures none
+
+pub returns-clause-counted : goal.returns-clause-counted
+returns-clause-counted c = turn_counts _ _ _ _ c.step.ensures
+
+pub returns-clause-falls : goal.returns-clause-falls
+returns-clause-falls c = λ counts. turn_falls _ _ _ _ c.step.ensures counts

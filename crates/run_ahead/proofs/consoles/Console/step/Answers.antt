@@ -1,0 +1,22 @@
+use Rattle.std.proofs.Common.{ℕ, ◌≡◌, ◌≤◌, ◌<◌, ◌^◌, max, [], ◌∷◌, List, arith}
+use Rattle.ds_base.specs.declared.ticks.Due.{Due}
+use Rattle.ds_runs.specs.Runs.{IsLeast, Makes}
+use Rattle.ds_machine.specs.States.{MachineState}
+use Rattle.ds_machine.specs.Reference.{Shown, next_shown, dues_of, step_of, HasCounted, CountsWithin}
+use Rattle.ds_machine.proofs.MachineSchedule.{counts_within}
+use Rattle.run_ahead.proofs.consoles.Console.step.Goals as goal
+
+still_within : (s next : MachineState) (due : Due) (outs : List Shown) (before until limit : ℕ) → IsLeast (dues_of s) due.tick due.rank → step_of due.rank s ≡ Makes next outs
+    → HasCounted s → CountsWithin before s × (before ≤ 2 ^ 56) → due.tick.0 < until → until ≤ 2 ^ 56 → limit ≡ max before until → CountsWithin limit next × (limit ≤ 2 ^ 56)
+still_within s next due outs before until limit least goes has within lt early most =
+    (counts_within s next due.tick due.rank outs before limit least goes has within.0 (omega (arith, most)) (omega (arith, most, lt)), (let k = within.1 in omega (arith, most, k, early)))
+
+pub invariant_of-self-in-Made : goal.invariant_of-self-in-Made
+invariant_of-self-in-Made c =
+    still_within c.self.inside.machine c.step.new.self c.due-due.result [] c.self.inside.limit c.args.until.0 c.max-self-inside.result
+    c.due-due.ensures.least c.in-Made.ensures c.due-due.ensures.counted c.self.invariant c.if-until-due.false c.requires c.max-self-inside.ensures
+
+pub invariant_of-self-in-Frame : goal.invariant_of-self-in-Frame
+invariant_of-self-in-Frame c =
+    still_within c.self.inside.machine c.step.new.self c.due-due.result (next_shown c.self.inside.machine c.in-Frame.swapped ∷ []) c.self.inside.limit c.args.until.0 c.max-self-inside.result
+    c.due-due.ensures.least c.in-Frame.ensures c.due-due.ensures.counted c.self.invariant c.if-until-due.false c.requires c.max-self-inside.ensures

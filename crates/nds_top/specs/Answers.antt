@@ -8,11 +8,12 @@ use Rattle.ds_io.specs.Sinks.{Appended, AppendedFront}
 use Rattle.ds_runs.specs.Runs.{At, Stopped}
 use Rattle.ds_machine.specs.Booted.{booted}
 use Rattle.run_ahead.specs.Consoles.{ConsoleState}
+use Rattle.run_ahead.specs.Turns.{IsAfterItsTurns}
 use Rattle.asm_text.specs.declared.sets.Set.{Set}
 use Rattle.asm_files.specs.Listings.{listing, IsListing, IsFirstBad}
 use Rattle.nds_top.specs.Words.{Asked, AskRun, AskList, AskAsm, Asks, AskNothing}
 use Rattle.nds_top.specs.Loads.{IsCart, IsText, Refuses, RefusesCart, most_text}
-use Rattle.nds_top.specs.Plays.{Wrote, WroteFront, IsAfterItsTurns}
+use Rattle.nds_top.specs.Plays.{Wrote, WroteFront}
 use Rattle.nds_top.specs.declared.commands.Keep.{Keep}
 use Rattle.nds_top.specs.declared.statuses.Status.{Status}
 use Rattle.nds_top.specs.declared.statuses.Status.TheVariants.{Done, Usage, WriteFault, LeftOut, BadText}

@@ -9,7 +9,7 @@ use crate::plays::{Played, play};
 use crate::statuses::Status;
 use ds_base::Tick;
 use ds_io::{Shelf, Sink};
-use run_ahead::Console;
+use run_ahead::{Console, turn_laws};
 use std::alloc::Global;
 
 /// Runs a cartridge to a tick.
@@ -33,6 +33,7 @@ pub(crate) fn run<F: Shelf, O: Sink>(
     let Ok(mut console) = Console::new(alloc, cart) else {
         return Status::NoMemory;
     };
+    turn_laws();
     let played = play(&mut console, Tick(ticks), keep, out);
     *seat = Some(console);
     match played {

@@ -46,31 +46,31 @@ fn interrupts_stand_at_their_bits_of_if(rt: HostRuntime) {
 
 #[test]
 fn memories_and_spaces_have_the_sizes_of_the_hardware(rt: HostRuntime) {
-    for (memory, kibibytes) in [
-        (Memory::Main, 4_096),
-        (Memory::Shared, 32),
-        (Memory::Own7, 64),
-        (Memory::Itcm, 32),
-        (Memory::Dtcm, 16),
-        (Memory::Palette, 2),
-        (Memory::Vram, 656),
-        (Memory::Oam, 2),
+    for (memory, bytes) in [
+        (Memory::Main, 4_194_304),
+        (Memory::Shared, 32_768),
+        (Memory::Own7, 65_536),
+        (Memory::Itcm, 32_768),
+        (Memory::Dtcm, 16_384),
+        (Memory::Palette, 2_048),
+        (Memory::Vram, 671_744),
+        (Memory::Oam, 2_048),
     ] {
-        assert_eq!(rt; memory.size(), kibibytes * 1_024);
+        assert_eq!(rt; memory.size(), bytes);
     }
-    for (space, kibibytes) in [
-        (Space::ABg, 512),
-        (Space::BBg, 128),
-        (Space::AObj, 256),
-        (Space::BObj, 128),
-        (Space::Lcdc, 1_024),
-        (Space::Arm7, 256),
-        (Space::ABgPalette, 32),
-        (Space::BBgPalette, 32),
-        (Space::AObjPalette, 8),
-        (Space::BObjPalette, 8),
+    for (space, bytes) in [
+        (Space::ABg, 524_288),
+        (Space::BBg, 131_072),
+        (Space::AObj, 262_144),
+        (Space::BObj, 131_072),
+        (Space::Lcdc, 1_048_576),
+        (Space::Arm7, 262_144),
+        (Space::ABgPalette, 32_768),
+        (Space::BBgPalette, 32_768),
+        (Space::AObjPalette, 8_192),
+        (Space::BObjPalette, 8_192),
     ] {
-        assert_eq!(rt; space.size(), kibibytes * 1_024);
+        assert_eq!(rt; space.size(), bytes);
     }
 }
 

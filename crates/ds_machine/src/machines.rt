@@ -214,7 +214,11 @@ impl Machine {
         ensures { step_by rank (Actor.Processor Proc.Nine) self.old ≡ stepped_of self.old result self.new }
     {
         let wramcnt = self.wramcnt;
-        match self.nine.processor.step(&mut self.main, Proc::Nine, wramcnt) {
+        match self
+            .nine
+            .processor
+            .step(&mut self.main, Proc::Nine, wramcnt)
+        {
             None => Done::Made,
             Some(value) => Done::Stopped(not_yet(rank, self.nine.processor.due(), value)),
         }
@@ -226,7 +230,11 @@ impl Machine {
         ensures { step_by rank (Actor.Processor Proc.Seven) self.old ≡ stepped_of self.old result self.new }
     {
         let wramcnt = self.wramcnt;
-        match self.seven.processor.step(&mut self.main, Proc::Seven, wramcnt) {
+        match self
+            .seven
+            .processor
+            .step(&mut self.main, Proc::Seven, wramcnt)
+        {
             None => Done::Made,
             Some(value) => Done::Stopped(not_yet(rank, self.seven.processor.due(), value)),
         }

@@ -2,6 +2,7 @@
 
 ghost use Rattle.std.specs.Prelude.{◌≡◌, ◌≤◌, ◌^◌, ◌<◌, ◌+◌, slice_index, IfSome, None};
 ghost use Rattle.ds_base.specs.Accesses.{perform};
+ghost use Rattle.ds_base.specs.Memories.{memory_size};
 ghost use Rattle.ds_base.specs.Numbers.{number_at, with_number, aligned_down};
 ghost use Rattle.ds_base.specs.Processors.{ticks_per_clock};
 ghost use Rattle.ds_base.specs.declared.memories.Width.TheVariants.{Word};
@@ -43,7 +44,7 @@ impl Model for Processor {
 fn main_cell(proc: Proc, wramcnt: u8, at: u32) -> Option<usize>
     requires { wramcnt < 4 }
     ensures cell { result ≡ main_place proc wramcnt at }
-    ensures within { IfSome result (λ cell. cell < 4194304) }
+    ensures within { IfSome result (λ cell. cell < memory_size Memory.Main) }
 {
     match place(proc, wramcnt, at) {
         Place::Cell {
@@ -57,7 +58,7 @@ fn main_cell(proc: Proc, wramcnt: u8, at: u32) -> Option<usize>
 /// The word at a cell of main memory, aligned down.
 #[inline(always)]
 fn word_at(main: &Block<MAIN_BYTES>, cell: usize) -> u32
-    requires { cell < 4194304 }
+    requires { cell < memory_size Memory.Main }
     ensures { result ≡ number_at Word main.now (aligned_down Word cell) }
 {
     main.word(cell - cell % 4)
@@ -66,7 +67,7 @@ fn word_at(main: &Block<MAIN_BYTES>, cell: usize) -> u32
 /// Puts a word at a cell of main memory, aligned down.
 #[inline(always)]
 fn set_word_at(main: &mut Block<MAIN_BYTES>, cell: usize, value: u32)
-    requires { cell < 4194304 }
+    requires { cell < memory_size Memory.Main }
     ensures { main.new ≡ with_number Word main.old (aligned_down Word cell) value }
 {
     main.set_word(cell - cell % 4, value);
@@ -123,12 +124,7 @@ fn word_outside(proc: Proc, wramcnt: u8, at: u32) -> Option<u32>
 
 /// The first byte that an instruction's accesses touch outside main memory.
 #[inline(always)]
-fn byte_outside(
-    registers: &Registers,
-    proc: Proc,
-    wramcnt: u8,
-    instruction: Built,
-) -> Option<u32>
+fn byte_outside(registers: &Registers, proc: Proc, wramcnt: u8, instruction: Built) -> Option<u32>
     requires fields { HasBuiltFields instruction }
     requires kept { wramcnt < 4 }
     ensures { result ≡ first_outside proc wramcnt (accesses_of registers.now instruction) }
@@ -167,7 +163,13 @@ fn access(
         }
         Built::Store(rd, rn, up, offset) => {
             let value = register(registers, rd);
-            write_word(main, proc, wramcnt, address(registers, rn, up, offset), value);
+            write_word(
+                main,
+                proc,
+                wramcnt,
+                address(registers, rn, up, offset),
+                value,
+            );
             0
         }
         Built::Branch(_) => 0,

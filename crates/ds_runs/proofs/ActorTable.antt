@@ -1,10 +1,9 @@
-use Rattle.std.proofs.Common.{ℕ, zero, suc, ◌≡◌, ◌<◌, ◌≤◌, ◌+◌, ◌-◌, List, [], ◌∷◌, map, length, get_or, Option, Some, None, refl, sym, ◌∙◌, ap, subst, arith}
+use Rattle.std.proofs.Common.{ℕ, zero, suc, ◌≡◌, ◌<◌, List, [], ◌∷◌, map, length, get_or, Option, None, refl, arith}
 use Rattle.ds_base.specs.declared.ticks.Tick.{Tick}
-use Rattle.ds_base.specs.declared.processors.Proc.TheVariants.{Nine, Seven}
 use Rattle.ds_runs.specs.declared.actors.Actor as actor
-use Rattle.ds_runs.specs.declared.actors.Actor.TheVariants.{KeyScript, Timer, Dma}
+use Rattle.ds_runs.specs.declared.actors.Actor.TheVariants.{KeyScript}
 use Rattle.ds_runs.specs.Runs.{due_at}
-use Rattle.ds_runs.specs.Actors.{actors, actor_of, IsNumbered}
+use Rattle.ds_runs.specs.Actors.{actors, actor_of}
 
 -- The table of actors.
 

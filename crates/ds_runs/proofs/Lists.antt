@@ -1,10 +1,9 @@
-use Rattle.std.proofs.Common.{ℕ, zero, suc, ◌≡◌, ◌<◌, ◌≤◌, ◌+◌, ◌-◌, ◌*◌, ◌⊎◌, inl, inr, max, List, [], ◌∷◌, ◌++◌, map, length, get_or, Option, Some, None, refl, sym, ◌∙◌, ap, subst, arith}
+use Rattle.std.proofs.Common.{ℕ, zero, suc, ◌≡◌, ◌<◌, ◌≤◌, ◌+◌, ◌⊎◌, inl, inr, List, [], ◌∷◌, ◌++◌, length, Option, Some, None, refl, sym, ◌∙◌, ap, subst, arith}
 use Rattle.std.proofs.lemmas.Option.{same_Some, none-some}
-use Rattle.std.specs.List.{AllZip}
 use Rattle.ds_base.specs.declared.ticks.Tick.{Tick}
 use Rattle.ds_base.specs.Schedules.{Reschedules, IsLater}
 use Rattle.ds_runs.specs.Runs.{IsLeast, IsOver, due_at}
-use Rattle.ds_runs.specs.Schedules.{AllReschedule, places_left}
+use Rattle.ds_runs.specs.Schedules.{AllReschedule}
 
 -- Due ticks as one list.
 
@@ -51,19 +50,19 @@ HasLeast dues = (tick : Tick) × (rank : ℕ) × IsLeast dues tick rank
 find : (dues : List (Option Tick)) → Silent dues ⊎ HasLeast dues
 find [] = inl (λ rank tick h. none-some tick h)
 find (None ∷ ds) = elim (find ds) [
-    | inl silent ↦ inl (still silent)
-    | inr l ↦ inr (l.0, suc l.1, pushed None ds l.0 l.1 l.2 (λ at h. absurd (none-some at h)))
-  ] where
+  | inl silent ↦ inl (still silent)
+  | inr l ↦ inr (l.0, suc l.1, pushed None ds l.0 l.1 l.2 (λ at h. absurd (none-some at h)))
+] where
   still : Silent ds → Silent (None ∷ ds)
   still silent zero tick h = none-some tick h
   still silent (suc rank) tick h = silent rank tick h
 find (Some t ∷ ds) = elim (find ds) [
-    | inl silent ↦ inr (t, zero, first_least t ds (λ rank tick h. absurd (silent rank tick h)))
-    | inr l ↦ elim (le_or_lt t.0 l.0.0) [
-      | inl le ↦ inr (t, zero, first_least t ds (λ rank tick h. elim (l.2.least rank tick h) [ inl a ↦ omega (arith, a, le) | inr b ↦ omega (arith, b.0, le) ]))
-      | inr lt ↦ inr (l.0, suc l.1, pushed (Some t) ds l.0 l.1 l.2 (λ at h. subst (λ (x : Tick). l.0.0 < x.0) (same_Some t at h) lt))
-    ]
+  | inl silent ↦ inr (t, zero, first_least t ds (λ rank tick h. absurd (silent rank tick h)))
+  | inr l ↦ elim (le_or_lt t.0 l.0.0) [
+    | inl le ↦ inr (t, zero, first_least t ds (λ rank tick h. elim (l.2.least rank tick h) [ inl a ↦ omega (arith, a, le) | inr b ↦ omega (arith, b.0, le) ]))
+    | inr lt ↦ inr (l.0, suc l.1, pushed (Some t) ds l.0 l.1 l.2 (λ at h. subst (λ (x : Tick). l.0.0 < x.0) (same_Some t at h) lt))
   ]
+]
 
 -- where somebody is due, somebody is the least
 pub has_least : (dues : List (Option Tick)) (rank : ℕ) (tick : Tick) → due_at dues rank ≡ Some tick → HasLeast dues

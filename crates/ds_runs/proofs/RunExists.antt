@@ -1,6 +1,5 @@
-use Rattle.std.proofs.Common.{ℕ, zero, suc, ◌≡◌, ◌<◌, ◌≤◌, ◌+◌, ◌-◌, ◌*◌, ◌⊎◌, inl, inr, List, [], ◌++◌, length, Option, Some, None, refl, sym, ◌∙◌, ap, subst, arith}
+use Rattle.std.proofs.Common.{ℕ, zero, suc, ◌≡◌, ◌<◌, ◌≤◌, ◌+◌, ◌-◌, ◌*◌, ◌⊎◌, inl, inr, List, [], ◌++◌, Some, refl, sym, ◌∙◌, ap, subst, arith}
 use Rattle.ds_base.specs.declared.ticks.Tick.{Tick}
-use Rattle.ds_base.specs.Schedules.{IsLater}
 use Rattle.ds_runs.specs.Runs.{IsLeast, due_at, Machine, Stepped, Makes, Stops, Ending, At, Stopped, Runs, over, stops, more, steps_of}
 use Rattle.ds_runs.specs.Schedules.{Schedules, places_left}
 use Rattle.ds_runs.specs.Laws.{RunsEnd}
@@ -30,15 +29,15 @@ module _ {S O L : Type 0} (m : Machine S O L) (ranks : ℕ) (Sound : S → Type 
       let small = low_rank s t r sound least in
       elim (same_or_not q r) [
         | inl same ↦ (let P : ℕ → Type 0 = λ x. due_at (m.dues next) x ≡ Some u in
-          let lt = is_later t (due_at (m.dues next) r) u (schedules.later s next t r outs sound least goes) (subst P same due) in
-          let k = later_place ranks t.0 r u.0 lt small in omega (arith, k))
+            let lt = is_later t (due_at (m.dues next) r) u (schedules.later s next t r outs sound least goes) (subst P same due) in
+            let k = later_place ranks t.0 r u.0 lt small in omega (arith, k))
         | inr differ ↦ elim (at_rank t (m.dues s) (m.dues next) (schedules.reschedules s next t r outs sound least goes) q) [
           | inl kept ↦ elim (least.least q u (sym kept ∙ due)) [
             | inl lt ↦ (let k = later_place ranks t.0 r u.0 lt small in omega (arith, k))
             | inr same ↦ (let e : ranks * t.0 ≡ ranks * u.0 = ap (λ (x : ℕ). ranks * x) same.0 in omega (arith, e, same.1, differ))
           ]
           | inr later ↦ (let lt = is_later t (due_at (m.dues next) q) u later due in
-            let k = later_place ranks t.0 r u.0 lt small in omega (arith, k))
+              let k = later_place ranks t.0 r u.0 lt small in omega (arith, k))
         ]
       ]
 

@@ -1,6 +1,6 @@
-use Rattle.std.proofs.Common.{ℕ, ◌≡◌, ◌<◌, ◌≤◌, inl, inr, List, [], ◌++◌, Option, Some, None, refl, sym, ◌∙◌, ap, subst, arith, append_assoc}
+use Rattle.std.proofs.Common.{ℕ, ◌≡◌, ◌<◌, ◌≤◌, inl, inr, List, [], ◌++◌, Option, refl, sym, ◌∙◌, ap, subst, arith, append_assoc}
 use Rattle.ds_base.specs.declared.ticks.Tick.{Tick}
-use Rattle.ds_runs.specs.Runs.{IsLeast, IsOver, due_at, Machine, Stepped, Makes, Stops, Ending, At, Stopped, Runs, over, stops, more}
+use Rattle.ds_runs.specs.Runs.{IsLeast, IsOver, Machine, Stepped, Makes, Stops, Ending, At, Stopped, Runs, over, stops, more}
 use Rattle.ds_runs.specs.Laws.{RunsJoin, RunsAreOne}
 use Rattle.ds_runs.proofs.Lists.{least_unique}
 

@@ -1,5 +1,5 @@
-use Rattle.std.specs.Prelude.{ℕ, ◌≡◌, ◌≤◌, ◌<◌, ◌+◌, ◌-◌, ◌*◌, List, ◌++◌}
-use Rattle.ds_runs.specs.Runs.{Machine, IsLeast, Ending, At, Runs, steps_of}
+use Rattle.std.specs.Prelude.{ℕ, ◌≡◌, ◌≤◌, ◌*◌, List, ◌++◌}
+use Rattle.ds_runs.specs.Runs.{Machine, Ending, At, Runs, steps_of}
 
 -- The laws of a machine's runs, for the states that come up (the sound ones).
 

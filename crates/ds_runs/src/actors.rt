@@ -85,14 +85,26 @@ impl Actor {
         match self {
             Actor::KeyScript => 0,
             Actor::Video => 1,
-            Actor::Timer { proc: Proc::Nine, number } => 2 + number,
-            Actor::Timer { proc: Proc::Seven, number } => 6 + number,
+            Actor::Timer {
+                proc: Proc::Nine,
+                number,
+            } => 2 + number,
+            Actor::Timer {
+                proc: Proc::Seven,
+                number,
+            } => 6 + number,
             Actor::Divider => 10,
             Actor::SquareRoot => 11,
             Actor::Geometry => 12,
             Actor::Card => 13,
-            Actor::Dma { proc: Proc::Nine, channel } => 14 + channel,
-            Actor::Dma { proc: Proc::Seven, channel } => 18 + channel,
+            Actor::Dma {
+                proc: Proc::Nine,
+                channel,
+            } => 14 + channel,
+            Actor::Dma {
+                proc: Proc::Seven,
+                channel,
+            } => 18 + channel,
             Actor::Processor(Proc::Nine) => 22,
             Actor::Processor(Proc::Seven) => 23,
         }

@@ -1,13 +1,12 @@
-use Rattle.std.proofs.Common.{ℕ, ◌≡◌, ◌<◌, ◌+◌, List, [], ◌∷◌, ◌++◌, Option, Some, None, refl, sym, ◌∙◌, ap, subst, arith}
+use Rattle.std.proofs.Common.{ℕ, ◌≡◌, ◌<◌, ◌+◌, List, [], ◌∷◌, Option, Some, None, refl, ap, arith}
 use Rattle.ds_base.specs.declared.left_out.LeftOut.{LeftOut}
-use Rattle.ds_runs.specs.Runs.{Stepped, Makes, Stops, Stopped, Runs, over, stops, more}
+use Rattle.ds_runs.specs.Runs.{over, stops, more}
 use Rattle.ds_runs.proofs.RunExists.{run_exists, fewer_left}
-use Rattle.ds_runs.proofs.RunLaws.{same_stops, not_both}
 use Rattle.ds_machine.specs.States.{MachineState}
-use Rattle.ds_machine.specs.Reference.{Shown, next_shown, step_of, reference, IsSound}
+use Rattle.ds_machine.specs.Reference.{Shown, next_shown, reference, IsSound}
 use Rattle.ds_machine.proofs.MachineSchedule.{reference_schedules, owes, stop_leaves}
 use Rattle.run_ahead.specs.Consoles.{ConsoleState}
-use Rattle.run_ahead.specs.Turns.{TakesStep, MeetsStop, Turns, RunsOn, GoesOn, HasRuns, turns_of, turns_left, counted_of, turns_in, HasTurned, none, turn, TurnsAddUp}
+use Rattle.run_ahead.specs.Turns.{TakesStep, Turns, RunsOn, GoesOn, HasRuns, turns_of, turns_left, counted_of, turns_in, HasTurned, none, turn, TurnsAddUp}
 use Rattle.run_ahead.specs.declared.turns.Turned as turned
 use Rattle.run_ahead.specs.declared.turns.Turned.TheVariants as answers
 

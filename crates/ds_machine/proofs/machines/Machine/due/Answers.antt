@@ -1,4 +1,4 @@
-use Rattle.std.proofs.Common.{◌≡◌, ◌∙◌, ap, sym}
+use Rattle.std.proofs.Common.{◌∙◌, ap}
 use Rattle.ds_machine.specs.States.{MachineState}
 use Rattle.ds_machine.specs.Videos.{video_due}
 use Rattle.ds_machine.proofs.MachineSchedule.{least_found}

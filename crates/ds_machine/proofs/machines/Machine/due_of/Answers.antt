@@ -1,5 +1,4 @@
-use Rattle.std.proofs.Common.{◌≡◌, ◌∙◌, sym, ap, Option}
-use Rattle.ds_base.specs.declared.ticks.Tick.{Tick}
+use Rattle.std.proofs.Common.{◌∙◌, sym, ap}
 use Rattle.ds_runs.specs.declared.actors.Actor as actor
 use Rattle.ds_machine.specs.Reference.{due_by}
 use Rattle.ds_machine.proofs.MachineSchedule.{due_of_rank}

@@ -1,5 +1,4 @@
-use Rattle.std.proofs.Common.{◌≡◌, ◌∙◌, sym, ap, subst}
-use Rattle.ds_base.specs.declared.processors.Proc.{Proc}
+use Rattle.std.proofs.Common.{◌≡◌, sym}
 use Rattle.ds_base.specs.declared.processors.Proc.TheVariants.{Nine, Seven}
 use Rattle.ds_runs.specs.Actors.{actor_of}
 use Rattle.ds_runs.specs.declared.actors.Actor.TheVariants.{Video, Processor}

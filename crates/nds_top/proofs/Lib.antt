@@ -4,4 +4,3 @@ pub mod Pieces
 pub mod Loading
 pub mod Playing
 pub mod Running
-pub mod TurnCounts

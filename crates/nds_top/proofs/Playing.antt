@@ -3,9 +3,8 @@ use Rattle.ds_base.specs.declared.left_out.LeftOut.{LeftOut}
 use Rattle.ds_runs.specs.Runs.{Runs}
 use Rattle.ds_machine.specs.States.{MachineState}
 use Rattle.ds_machine.specs.Reference.{Shown, reference}
-use Rattle.ds_machine.proofs.MachineTicks.{ticks_left, step_left}
 use Rattle.run_ahead.specs.Consoles.{ConsoleState}
-use Rattle.run_ahead.specs.Turns.{TakesStep, GoesOn, Turns, HasTurned, run_to, none, turn}
+use Rattle.run_ahead.specs.Turns.{GoesOn, Turns, HasTurned, run_to, none, turn}
 use Rattle.run_ahead.specs.declared.turns.Turned.{Turned}
 use Rattle.nds_top.specs.Plays.{ending, RunsTo}
 
@@ -43,10 +42,6 @@ going_on until start before now answer front going turns open_ is on = record {
   limit = (let P : ℕ → Type 0 = λ x. max x until ≡ max start.limit until in
       subst P (sym (ap (λ (x : ConsoleState). x.limit) is)) (max_twice before.limit start.limit until going.limit));
 }
-
--- fewer ticks are left after a step
-pub goes_down : (until : ℕ) (old new : MachineState) (front : List Shown) → TakesStep until old front new → ticks_left until new < ticks_left until old
-goes_down until old new front step = step_left until old new step.rank step.tick step.least.there step.below step.step
 
 -- the turn that ends the run
 pub ends_here : (until : ℕ) (start before now : ConsoleState) (answer : Turned) (stop : Option LeftOut) → Going until start before → Turns until before answer now

@@ -1,8 +1,6 @@
 use Rattle.std.specs.Prelude.{ℕ, ◌≡◌, List, Bool, Option, Some, None, IsSomeAnd}
-use Rattle.ds_base.specs.declared.processors.Arch.{Arch}
-use Rattle.ds_base.specs.declared.processors.Arch.TheVariants.{V4, V5}
+use Rattle.ds_base.specs.Processors.{architecture_of}
 use Rattle.ds_base.specs.declared.processors.Proc.{Proc}
-use Rattle.ds_base.specs.declared.processors.Proc.TheVariants.{Nine, Seven}
 use Rattle.ds_header.specs.Fields.{image_of, image_place}
 use Rattle.ds_io.specs.Faults.{Rose}
 use Rattle.ds_io.specs.Shelves.{Told}
@@ -10,11 +8,12 @@ use Rattle.ds_io.specs.Sinks.{Appended, AppendedFront}
 use Rattle.ds_runs.specs.Runs.{At, Stopped}
 use Rattle.ds_machine.specs.Booted.{booted}
 use Rattle.run_ahead.specs.Consoles.{ConsoleState}
+use Rattle.run_ahead.specs.Turns.{IsAfterItsTurns}
 use Rattle.asm_text.specs.declared.sets.Set.{Set}
 use Rattle.asm_files.specs.Listings.{listing, IsListing, IsFirstBad}
 use Rattle.nds_top.specs.Words.{Asked, AskRun, AskList, AskAsm, Asks, AskNothing}
 use Rattle.nds_top.specs.Loads.{IsCart, IsText, Refuses, RefusesCart, most_text}
-use Rattle.nds_top.specs.Plays.{Wrote, WroteFront, IsAfterItsTurns}
+use Rattle.nds_top.specs.Plays.{Wrote, WroteFront}
 use Rattle.nds_top.specs.declared.commands.Keep.{Keep}
 use Rattle.nds_top.specs.declared.statuses.Status.{Status}
 use Rattle.nds_top.specs.declared.statuses.Status.TheVariants.{Done, Usage, WriteFault, LeftOut, BadText}
@@ -34,6 +33,22 @@ pub record Call (S : Type 0) : Type 1 where
   pub out_before : ℕ
   pub out_after : ℕ
   pub seat : Option ConsoleState
+
+-- a call with these meanings of its shelf and its output's sink, and with both as they were before and after
+abbrev pub around : {F S : Type 0} → (told : F → Option Told) → (shelf_faults : F → ℕ) → (tells : S → Bool) → (taken : S → List ℕ → Type 0) → (out_faults : S → ℕ)
+    → (shelf_old shelf_new : F) → (old new : S) → (seat : Option ConsoleState) → Call S
+around told shelf_faults tells taken out_faults shelf_old shelf_new old new seat = record {
+  told = told shelf_old;
+  shelf_before = shelf_faults shelf_old;
+  shelf_after = shelf_faults shelf_new;
+  tells = tells;
+  taken = taken;
+  old = old;
+  new = new;
+  out_before = out_faults old;
+  out_after = out_faults new;
+  seat = seat;
+}
 
 -- nothing was written, and no console is left
 abbrev pub IsUntouched : {S : Type 0} → Call S → Type 0
@@ -63,14 +78,9 @@ RunGives c name ticks keep WriteFault = Rose c.out_before c.out_after × ((file 
     × WroteFront c.tells c.taken ticks keep (booted file) c.old c.new × Seated c file ticks (λ k. Unit {0}))
 RunGives c name ticks keep other = IsUntouched c × RefusesCart c.told (Rose c.shelf_before c.shelf_after) name other
 
--- the architecture of each processor (GBATEK, "NDS Overview")
-abbrev pub arch_of : Proc → Arch
-arch_of Nine = V5
-arch_of Seven = V4
-
 -- the listing of a processor's image in a cartridge's file, by the processor's architecture and from the image's address on
 abbrev pub listing_of : List ℕ → Proc → Set → List ℕ
-listing_of file proc set = listing (arch_of proc) set (image_place file proc) (image_of file proc)
+listing_of file proc set = listing (architecture_of proc) set (image_place file proc) (image_of file proc)
 
 -- when each answer to `list` comes
 abbrev pub ListGives : {S : Type 0} → Call S → List ℕ → Proc → Set → Status → Type 0

@@ -3,6 +3,7 @@ pub mod Commands
 pub mod Statuses
 pub mod Notes
 pub mod Loads
+pub mod Puts
 pub mod Records
 pub mod Plays
 pub mod Answers

@@ -1,27 +1,19 @@
-use Rattle.std.specs.Prelude.{ℕ, ◌+◌, ◌/◌, ◌%◌, ◌^◌, nat_lt, Bool, if◌then◌else◌, List, [], ◌∷◌, ◌++◌, codes, slice_index_or}
+use Rattle.std.specs.Prelude.{ℕ, Bool, List, [], ◌∷◌, ◌++◌, Result, codes, slice_index_or}
+use Rattle.std.specs.List.{concat}
 use Rattle.std.specs.Fmt.{decimal}
+use Rattle.ds_base.specs.Digits.{hex_digits}
 use Rattle.ds_base.specs.declared.left_out.LeftOut.{LeftOut}
 use Rattle.ds_base.specs.declared.left_out.LeftKind.{LeftKind}
 use Rattle.ds_base.specs.declared.left_out.LeftKind.TheVariants.{NotYet, Swi, BigEndian, HaltMode, DmaStart, CardTransfer, DisplayMode, BgMode, Capture, Mosaic, ExtendedBackground, BitmapObject}
 use Rattle.ds_header.specs.declared.faults.HeaderFault.{HeaderFault}
 use Rattle.ds_header.specs.declared.faults.HeaderField.{HeaderField}
 use Rattle.ds_header.specs.declared.faults.HeaderField.TheVariants.{Short, UnitCode, Arm9Rom, Arm9Place, Arm9Entry, Arm7Rom, Arm7Place, Arm7Entry}
-use Rattle.ds_io.specs.Faults.{Rose}
-use Rattle.ds_io.specs.Sinks.{Appended, AppendedFront}
+use Rattle.ds_io.specs.declared.faults.Failed.{Failed}
+use Rattle.nds_top.specs.Puts.{Puts}
 use Rattle.nds_top.specs.declared.statuses.Status as status
 use Rattle.nds_top.specs.declared.statuses.Status.TheVariants as statuses
 
--- The line that tells a status to a person (our choice).
-
--- a hexadecimal digit, in lower case
-abbrev pub hex_digit : ℕ → ℕ
-hex_digit n = if nat_lt n 10 then 48 + n else 87 + n
-
--- a word as `0x` and eight hexadecimal digits
-abbrev pub hex_word : ℕ → List ℕ
-hex_word v = codes "0x"
-    ++ (hex_digit (v / 2 ^ 28) ∷ hex_digit (v / 2 ^ 24 % 16) ∷ hex_digit (v / 2 ^ 20 % 16) ∷ hex_digit (v / 2 ^ 16 % 16)
-    ∷ hex_digit (v / 2 ^ 12 % 16) ∷ hex_digit (v / 2 ^ 8 % 16) ∷ hex_digit (v / 2 ^ 4 % 16) ∷ hex_digit (v % 16) ∷ [])
+-- The line that tells a status to a person (our choice). VALUE and V are eight hexadecimal digits after `0x`.
 
 abbrev pub line_feed : List ℕ
 line_feed = 10 ∷ []
@@ -51,40 +43,26 @@ kind_word ExtendedBackground = codes "ExtendedBackground"
 kind_word BitmapObject = codes "BitmapObject"
 
 -- `bad header: FIELD VALUE`
-unfoldable pub header_label : HeaderFault → List ℕ
-header_label fault = codes "bad header: " ++ field_word fault.field ++ codes " "
-
-unfoldable pub header_value : HeaderFault → List ℕ
-header_value fault = hex_word fault.value ++ line_feed
-
 abbrev pub header_line : HeaderFault → List ℕ
-header_line fault = header_label fault ++ header_value fault
+header_line fault = concat (codes "bad header: " ∷ field_word fault.field ∷ codes " 0x" ∷ hex_digits 8 fault.value ∷ line_feed ∷ [])
 
 -- `left out: KIND tick T actor R value V`
-unfoldable pub stop_label : LeftOut → List ℕ
-stop_label left = codes "left out: " ++ kind_word left.kind ++ codes " tick "
-
-unfoldable pub stop_place : LeftOut → List ℕ
-stop_place left = decimal left.tick.0 ++ codes " actor " ++ decimal left.rank
-
-unfoldable pub stop_value : LeftOut → List ℕ
-stop_value left = codes " value " ++ hex_word left.value ++ line_feed
-
 abbrev pub stop_line : LeftOut → List ℕ
-stop_line left = stop_label left ++ stop_place left ++ stop_value left
+stop_line left = concat (codes "left out: " ∷ kind_word left.kind ∷ codes " tick " ∷ decimal left.tick.0 ∷ codes " actor " ∷ decimal left.rank
+    ∷ codes " value 0x" ∷ hex_digits 8 left.value ∷ line_feed ∷ [])
 
 -- `bad text: line L`
-unfoldable pub text_line : ℕ → List ℕ
-text_line line = codes "bad text: line " ++ decimal line ++ line_feed
+abbrev pub text_line : ℕ → List ℕ
+text_line line = concat (codes "bad text: line " ∷ decimal line ∷ line_feed ∷ [])
 
 -- the line of a status, with the name of the file that it speaks of
 abbrev pub note_of : status.Status → List ℕ → List ℕ
 note_of statuses.Done name = []
 note_of statuses.Usage name = codes "usage: nds run|list|asm|trace|peek|demo" ++ line_feed
-note_of statuses.NoFile name = codes "no file: " ++ name ++ line_feed
-note_of statuses.ReadFault name = codes "read fault: " ++ name ++ line_feed
+note_of statuses.NoFile name = concat (codes "no file: " ∷ name ∷ line_feed ∷ [])
+note_of statuses.ReadFault name = concat (codes "read fault: " ∷ name ∷ line_feed ∷ [])
 note_of statuses.WriteFault name = codes "write fault" ++ line_feed
-note_of statuses.TooLong name = codes "too long: " ++ name ++ line_feed
+note_of statuses.TooLong name = concat (codes "too long: " ∷ name ∷ line_feed ∷ [])
 note_of (statuses.BadHeader fault) name = header_line fault
 note_of (statuses.LeftOut left) name = stop_line left
 note_of (statuses.BadText line) name = text_line line
@@ -94,7 +72,6 @@ note_of statuses.NoMemory name = codes "out of memory" ++ line_feed
 abbrev pub file_asked : List (List ℕ) → List ℕ
 file_asked words = slice_index_or words 1 []
 
--- a sink took a line, or a front of it where its count of faults rose
+-- a sink was to take a line: it took it, or a front of it where its count of faults rose
 pub data Noted {S : Type 0} (tells : S → Bool) (taken : S → List ℕ → Type 0) (faults : S → ℕ) (line : List ℕ) (before after : S) : Type 0 where
-  whole : Appended tells taken before after line → Noted tells taken faults line before after
-  front : AppendedFront tells taken before after line → Rose (faults before) (faults after) → Noted tells taken faults line before after
+  noted : (written : Result (Unit {0}) Failed) → Puts tells taken faults line written before after → Noted tells taken faults line before after

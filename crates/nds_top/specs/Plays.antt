@@ -1,4 +1,4 @@
-use Rattle.std.specs.Prelude.{ℕ, ◌≡◌, ◌+◌, Bool, List, Option, Some, None, max}
+use Rattle.std.specs.Prelude.{ℕ, ◌≡◌, Bool, List, Option, Some, None, max}
 use Rattle.ds_base.specs.declared.left_out.LeftOut.{LeftOut}
 use Rattle.ds_io.specs.Faults.{Rose}
 use Rattle.ds_io.specs.Sinks.{Appended, AppendedFront}
@@ -6,9 +6,7 @@ use Rattle.ds_runs.specs.Runs.{Ending, At, Stopped, Runs}
 use Rattle.ds_machine.specs.States.{MachineState}
 use Rattle.ds_machine.specs.Reference.{Shown, reference}
 use Rattle.run_ahead.specs.Consoles.{ConsoleState}
-use Rattle.run_ahead.specs.Turns.{HasTurned, none, turn}
-use Rattle.run_ahead.specs.declared.turns.Turned as turned
-use Rattle.run_ahead.specs.declared.turns.Turned.TheVariants as turns
+use Rattle.run_ahead.specs.Turns.{HasTurned}
 use Rattle.nds_top.specs.Records.{output_of}
 use Rattle.nds_top.specs.declared.commands.Keep.{Keep}
 use Rattle.nds_top.specs.declared.plays.Played as played
@@ -29,27 +27,6 @@ pub record WroteFront {S : Type 0} (tells : S → Bool) (taken : S → List ℕ 
   pub ran : Runs reference until end start outs
   pub written : AppendedFront tells taken old new (output_of until keep end outs)
 
--- how many turns a machine took: while a turn is one step, all its steps
-abbrev pub turns_of : MachineState → ℕ
-turns_of s = s.nine.processor.steps + s.seven.processor.steps + s.events
-
--- a turn counts where it took a step
-abbrev pub counted_of : turned.Turned → ℕ
-counted_of turns.Ran = 1
-counted_of (turns.Frame swapped) = 1
-counted_of turns.AtEnd = 0
-counted_of (turns.Stopped left) = 0
-
--- how many of a console's turns count
-abbrev pub turns_in : {until : ℕ} {start now : ConsoleState} → HasTurned until start now → ℕ
-turns_in (none start) = 0
-turns_in (turn start before now answer earlier last) = counted_of answer + turns_in earlier
-
--- a console is as it was after as many turns with a limit as its counts say
-pub record IsAfterItsTurns (until : ℕ) (start now : ConsoleState) : Type 0 where
-  pub turned : HasTurned until start now
-  pub counted : turns_in turned ≡ turns_of now.machine
-
 -- how a run ends, by the stop that it came to and its last state
 abbrev pub ending : Option LeftOut → MachineState → Ending MachineState LeftOut
 ending None s = At s
@@ -62,11 +39,6 @@ pub record RunsTo (until : ℕ) (old : ConsoleState) (stop : Option LeftOut) (ne
   pub stopped : new.stopped ≡ stop
   pub limit : new.limit ≡ max old.limit until
   pub turned : HasTurned until old new
-
--- records were written whole, and the answer is this one; or a front of them, where the sink's count of faults rose
-abbrev pub PutsRecords : {S : Type 0} → (S → Bool) → (S → List ℕ → Type 0) → (S → ℕ) → List ℕ → played.Played → S → played.Played → S → Type 0
-PutsRecords tells taken faults records whole before answers.WriteFault after = AppendedFront tells taken before after records × Rose (faults before) (faults after)
-PutsRecords tells taken faults records whole before other after = (other ≡ whole) × Appended tells taken before after records
 
 -- by the answer: the whole output of the run, or a front of it where the sink's count of faults rose; and the console is as after
 -- turns with that limit

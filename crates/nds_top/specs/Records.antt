@@ -1,4 +1,5 @@
-use Rattle.std.specs.Prelude.{ℕ, ◌+◌, List, [], ◌∷◌, ◌++◌, flat_map, codes}
+use Rattle.std.specs.Prelude.{ℕ, ◌+◌, List, [], ◌∷◌, ◌++◌, map, flat_map, codes}
+use Rattle.std.specs.List.{concat}
 use Rattle.byteorder.specs.Endian.{little_bytes}
 use Rattle.ds_base.specs.declared.left_out.LeftOut.{LeftOut}
 use Rattle.ds_base.specs.declared.left_out.LeftKind.{LeftKind}
@@ -13,7 +14,7 @@ use Rattle.ds_machine.specs.Reference.{Shown}
 use Rattle.nds_top.specs.declared.commands.Keep.{Keep}
 use Rattle.nds_top.specs.declared.commands.Keep.TheVariants.{Nothing}
 
--- What a run writes (our choice of records). All numbers are little-endian.
+-- What a run writes (our choice of records), each record by its parts. All numbers are little-endian.
 
 -- numbers of 8 bytes each, and of 4 bytes each
 unfoldable pub longs : List ℕ → List ℕ
@@ -26,26 +27,17 @@ words numbers = flat_map (little_bytes 4) numbers
 abbrev pub all_memories : List Memory
 all_memories = Main ∷ Shared ∷ Own7 ∷ Itcm ∷ Dtcm ∷ Palette ∷ Vram ∷ Oam ∷ []
 
-unfoldable pub memory_bytes : MachineState → List ℕ
-memory_bytes s = flat_map (memory_of s) all_memories
-
 -- the record of memories: 'M', the eight memories, ARM9's registers, ARM7's registers
-abbrev pub lettered_memories : MachineState → List ℕ
-lettered_memories s = codes "M" ++ memory_bytes s
-
-abbrev pub both_registers : MachineState → List ℕ
-both_registers s = words (processor_of s Nine).registers ++ words (processor_of s Seven).registers
-
-abbrev pub memory_record : MachineState → List ℕ
-memory_record s = lettered_memories s ++ both_registers s
+abbrev pub memory_record : MachineState → List (List ℕ)
+memory_record s = codes "M" ∷ map (memory_of s) all_memories ++ (words (processor_of s Nine).registers ∷ words (processor_of s Seven).registers ∷ [])
 
 -- the record of the end: 'E', the tick run to, and how many steps ARM9, ARM7 and the other actors took, and in how many turns;
 -- so far each step is a turn
-abbrev pub end_record : ℕ → MachineState → List ℕ
+abbrev pub end_record : ℕ → MachineState → List (List ℕ)
 end_record until s =
     let nine = s.nine.processor.steps in
     let seven = s.seven.processor.steps in
-    codes "E" ++ longs (until ∷ nine ∷ seven ∷ s.events ∷ (nine + seven + s.events) ∷ [])
+    codes "E" ∷ longs (until ∷ nine ∷ seven ∷ s.events ∷ (nine + seven + s.events) ∷ []) ∷ []
 
 -- the number of each kind of stop
 abbrev pub kind_number : LeftKind → ℕ
@@ -63,8 +55,8 @@ kind_number ExtendedBackground = 11
 kind_number BitmapObject = 12
 
 -- the record of a stop: 'X', the tick, the actor's rank, the kind, the value
-abbrev pub stop_record : LeftOut → List ℕ
-stop_record left = codes "X" ++ longs (left.tick.0 ∷ []) ++ (left.rank ∷ kind_number left.kind ∷ words (left.value ∷ []))
+abbrev pub stop_record : LeftOut → List (List ℕ)
+stop_record left = codes "X" ∷ longs (left.tick.0 ∷ []) ∷ (left.rank ∷ kind_number left.kind ∷ []) ∷ words (left.value ∷ []) ∷ []
 
 -- the records of what a run put out, as far as it is kept
 abbrev pub shown : Keep → List Shown → List ℕ
@@ -72,8 +64,8 @@ shown Nothing outs = []
 
 -- what comes after them
 abbrev pub last_records : ℕ → Ending MachineState LeftOut → List ℕ
-last_records until (At s) = memory_record s ++ end_record until s
-last_records until (Stopped left) = stop_record left
+last_records until (At s) = concat (memory_record s ++ end_record until s)
+last_records until (Stopped left) = concat (stop_record left)
 
 -- what a run to a tick writes
 abbrev pub output_of : ℕ → Keep → Ending MachineState LeftOut → List Shown → List ℕ

@@ -2,7 +2,7 @@
 
 ghost use Rattle.std.specs.Prelude.{◌≡◌, None, map};
 ghost use Rattle.std.specs.String.{string_bytes};
-ghost use Rattle.nds_top.specs.Answers.{Gives, CommandGives};
+ghost use Rattle.nds_top.specs.Answers.{around, Gives, CommandGives};
 ghost use Rattle.nds_top.specs.Commands.{asked_by};
 ghost use Rattle.nds_top.specs.Notes.{Noted, note_of, file_asked};
 ghost use Rattle.nds_top.specs.Words.{IsAllowed};
@@ -36,18 +36,7 @@ pub fn ds_main<F: Shelf, O: Sink, N: Sink>(
     seat: &mut Option<Console>,
 ) -> Status
     requires { seat.old ≡ None }
-    ensures answer { Gives (record {
-      told = F.told shelf.old;
-      shelf_before = F.faults shelf.old;
-      shelf_after = F.faults shelf.new;
-      tells = O.tells;
-      taken = O.taken;
-      old = out.old;
-      new = out.new;
-      out_before = O.faults out.old;
-      out_after = O.faults out.new;
-      seat = seat.new;
-    }) (map string_bytes words.now) result }
+    ensures answer { Gives (around F.told F.faults O.tells O.taken O.faults shelf.old shelf.new out.old out.new seat.new) (map string_bytes words.now) result }
     ensures note { Noted N.tells N.taken N.faults (note_of result (file_asked (map string_bytes words.now))) notes.old notes.new }
 {
     match read_words(words) {
@@ -73,18 +62,7 @@ fn carry_out<F: Shelf, O: Sink>(
 ) -> Status
     requires allowed { IsAllowed (asked_by command) }
     requires empty { seat.old ≡ None }
-    ensures answer { CommandGives (record {
-      told = F.told shelf.old;
-      shelf_before = F.faults shelf.old;
-      shelf_after = F.faults shelf.new;
-      tells = O.tells;
-      taken = O.taken;
-      old = out.old;
-      new = out.new;
-      out_before = O.faults out.old;
-      out_after = O.faults out.new;
-      seat = seat.new;
-    }) (asked_by command.entry) result }
+    ensures answer { CommandGives (around F.told F.faults O.tells O.taken O.faults shelf.old shelf.new out.old out.new seat.new) (asked_by command.entry) result }
 {
     match command {
         Command::Run { cart, ticks, keep } => run(alloc, cart, ticks, keep, shelf, out, seat),

@@ -1,28 +1,18 @@
 //! The commands on listings: an image as text, and text as an image.
 
 ghost use Rattle.std.specs.Prelude.{◌≡◌, None};
-ghost use Rattle.nds_top.specs.Answers.{ListGives, AsmGives, arch_of};
+ghost use Rattle.nds_top.specs.Answers.{around, ListGives, AsmGives};
 
 use crate::loads::{load, load_cart};
 use crate::statuses::Status;
 use asm_files::write_listing;
 use asm_text::Set;
-use ds_base::{Arch, Proc};
+use ds_base::Proc;
 use ds_io::{Shelf, Sink, put_all};
 use std::alloc::Global;
 
 /// The greatest length of a listing's file, in bytes.
 const MOST_TEXT: usize = 134_217_728;
-
-/// The architecture of a processor.
-fn arch_of(proc: Proc) -> Arch
-    ensures { result ≡ arch_of proc }
-{
-    match proc {
-        Proc::Nine => Arch::V5,
-        Proc::Seven => Arch::V4,
-    }
-}
 
 /// Writes the listing of an image of a cartridge.
 pub(crate) fn list<F: Shelf, O: Sink>(
@@ -33,25 +23,19 @@ pub(crate) fn list<F: Shelf, O: Sink>(
     shelf: &mut F,
     out: &mut O,
 ) -> Status
-    ensures answer { ListGives (record {
-      told = F.told shelf.old;
-      shelf_before = F.faults shelf.old;
-      shelf_after = F.faults shelf.new;
-      tells = O.tells;
-      taken = O.taken;
-      old = out.old;
-      new = out.new;
-      out_before = O.faults out.old;
-      out_after = O.faults out.new;
-      seat = None;
-    }) name.now proc set result }
+    ensures answer { ListGives (around F.told F.faults O.tells O.taken O.faults shelf.old shelf.new out.old out.new None) name.now proc set result }
 {
     let cart = match load_cart(alloc, shelf, name) {
         Ok(cart) => cart,
         Err(status) => return status,
     };
-    let arch = arch_of(proc);
-    match write_listing(arch, set, cart.place(proc), cart.image(proc), out) {
+    match write_listing(
+        proc.architecture(),
+        set,
+        cart.place(proc),
+        cart.image(proc),
+        out,
+    ) {
         Ok(()) => Status::Done,
         Err(_) => Status::WriteFault,
     }
@@ -64,18 +48,7 @@ pub(crate) fn assemble<F: Shelf, O: Sink>(
     shelf: &mut F,
     out: &mut O,
 ) -> Status
-    ensures answer { AsmGives (record {
-      told = F.told shelf.old;
-      shelf_before = F.faults shelf.old;
-      shelf_after = F.faults shelf.new;
-      tells = O.tells;
-      taken = O.taken;
-      old = out.old;
-      new = out.new;
-      out_before = O.faults out.old;
-      out_after = O.faults out.new;
-      seat = None;
-    }) name.now result }
+    ensures answer { AsmGives (around F.told F.faults O.tells O.taken O.faults shelf.old shelf.new out.old out.new None) name.now result }
 {
     let mut text = match load(alloc, shelf, name, MOST_TEXT) {
         Ok(text) => text,

@@ -1,14 +1,14 @@
 //! Playing a console: a run, and what it writes.
 
 ghost use Rattle.std.specs.Prelude.{◌≡◌, ◌≤◌, ◌^◌, None};
-ghost use Rattle.ds_runs.specs.Runs.{At};
-ghost use Rattle.nds_top.specs.Plays.{Plays, RunsTo, PutsRecords};
-ghost use Rattle.nds_top.specs.Records.{last_records, stop_record};
+ghost use Rattle.nds_top.specs.Plays.{Plays, RunsTo, ending};
+ghost use Rattle.nds_top.specs.Puts.{Puts};
+ghost use Rattle.nds_top.specs.Records.{last_records};
 
 use crate::commands::Keep;
 use crate::records::{put_last, put_stop};
 use ds_base::{LeftOut, Tick};
-use ds_io::Sink;
+use ds_io::{Failed, Sink};
 use run_ahead::{Console, Turned};
 
 /// How playing a console ended.
@@ -31,9 +31,13 @@ pub fn play<O: Sink>(console: &mut Console, until: Tick, keep: Keep, out: &mut O
     ensures later { O.faults out.old ≤ O.faults out.new }
 {
     let Keep::Nothing = keep;
-    match run_to(console, until) {
-        None => ended(out, until, console),
-        Some(left) => stopped(out, left),
+    let stop = run_to(console, until);
+    if put_records(out, until, stop, console).is_err() {
+        return Played::WriteFault;
+    }
+    match stop {
+        None => Played::Done,
+        Some(left) => Played::LeftOut(left),
     }
 }
 
@@ -53,24 +57,17 @@ fn run_to(console: &mut Console, until: Tick) -> Option<LeftOut>
     }
 }
 
-/// Writes the last records of a run that came to its tick.
-fn ended<O: Sink>(out: &mut O, until: Tick, console: &Console) -> Played
-    ensures records { PutsRecords O.tells O.taken O.faults (last_records until.0 (At console.now.machine)) Played.Done out.old result out.new }
-    ensures later { O.faults out.old ≤ O.faults out.new }
+/// Writes the last records of a run, by the stop that it came to.
+fn put_records<O: Sink>(
+    out: &mut O,
+    until: Tick,
+    stop: Option<LeftOut>,
+    console: &Console,
+) -> Result<(), Failed>
+    ensures { Puts O.tells O.taken O.faults (last_records until.0 (ending stop console.now.machine)) result out.old out.new }
 {
-    match put_last(out, until, console) {
-        Ok(()) => Played::Done,
-        Err(_) => Played::WriteFault,
-    }
-}
-
-/// Writes the record of a stop.
-fn stopped<O: Sink>(out: &mut O, left: LeftOut) -> Played
-    ensures records { PutsRecords O.tells O.taken O.faults (stop_record left) (Played.LeftOut left) out.old result out.new }
-    ensures later { O.faults out.old ≤ O.faults out.new }
-{
-    match put_stop(out, left) {
-        Ok(()) => Played::LeftOut(left),
-        Err(_) => Played::WriteFault,
+    match stop {
+        None => put_last(out, until, console),
+        Some(left) => put_stop(out, left),
     }
 }

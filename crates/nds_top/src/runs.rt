@@ -1,7 +1,7 @@
 //! The command that runs a cartridge.
 
 ghost use Rattle.std.specs.Prelude.{◌≡◌, ◌≤◌, None};
-ghost use Rattle.nds_top.specs.Answers.{RunGives};
+ghost use Rattle.nds_top.specs.Answers.{around, RunGives};
 
 use crate::commands::Keep;
 use crate::loads::load_cart;
@@ -9,7 +9,7 @@ use crate::plays::{Played, play};
 use crate::statuses::Status;
 use ds_base::Tick;
 use ds_io::{Shelf, Sink};
-use run_ahead::Console;
+use run_ahead::{Console, turn_laws};
 use std::alloc::Global;
 
 /// Runs a cartridge to a tick.
@@ -24,18 +24,7 @@ pub(crate) fn run<F: Shelf, O: Sink>(
 ) -> Status
     requires early { ticks ≤ 100000000000 }
     requires empty { seat.old ≡ None }
-    ensures answer { RunGives (record {
-      told = F.told shelf.old;
-      shelf_before = F.faults shelf.old;
-      shelf_after = F.faults shelf.new;
-      tells = O.tells;
-      taken = O.taken;
-      old = out.old;
-      new = out.new;
-      out_before = O.faults out.old;
-      out_after = O.faults out.new;
-      seat = seat.new;
-    }) name.now ticks keep result }
+    ensures answer { RunGives (around F.told F.faults O.tells O.taken O.faults shelf.old shelf.new out.old out.new seat.new) name.now ticks keep result }
 {
     let cart = match load_cart(alloc, shelf, name) {
         Ok(cart) => cart,
@@ -44,6 +33,7 @@ pub(crate) fn run<F: Shelf, O: Sink>(
     let Ok(mut console) = Console::new(alloc, cart) else {
         return Status::NoMemory;
     };
+    turn_laws();
     let played = play(&mut console, Tick(ticks), keep, out);
     *seat = Some(console);
     match played {

@@ -1,11 +1,10 @@
-use Rattle.std.proofs.Common.{[], ◌∷◌, None, Some, ap, ◌∙◌, sym, subst}
+use Rattle.std.proofs.Common.{refl, [], ◌∷◌, None, Some, ap, ◌∙◌, sym, subst}
 use Rattle.ds_machine.specs.States.{MachineState}
 use Rattle.ds_runs.specs.Runs.{Runs, At}
-use Rattle.ds_machine.specs.Reference.{reference}
+use Rattle.ds_machine.specs.Reference.{reference, next_shown}
 use Rattle.run_ahead.specs.Consoles.{ConsoleState}
-use Rattle.run_ahead.specs.Turns.{next_shown}
 use Rattle.run_ahead.specs.declared.turns.Turned.TheVariants as answers
-use Rattle.nds_top.proofs.Playing.{going_first, going_on, goes_down, ends_here}
+use Rattle.nds_top.proofs.Playing.{going_first, going_on, ends_here}
 use Rattle.nds_top.proofs.plays.run_to.Goals as goal
 
 pub turns-init : goal.turns-init
@@ -38,4 +37,7 @@ returns-in-AtEnd c =
     (subst P (sym (ap (λ (x : ConsoleState). x.machine) t.2)) (c.in-AtEnd.ensures.runs t.0))
 
 pub turns-smaller-in-Ran : goal.turns-smaller-in-Ran
-turns-smaller-in-Ran c = goes_down c.args.until.0 c.turns.console.machine c.turn.new.self.machine [] c.in-Ran.ensures.turn.1
+turns-smaller-in-Ran c = c.in-Ran.ensures.falls refl
+
+pub turns-smaller : goal.turns-smaller
+turns-smaller c = c.in-Frame.ensures.falls refl

@@ -1,0 +1,11 @@
+//! The top call on worked files, with what it came to as plain values, for the tests of the top call, which stand on this crate. Its
+//! functions promise nothing beside being safe, so that no test's proof carries what is known of shelves, sinks and consoles.
+#![tactic(auto)]
+
+mod calls;
+mod carts;
+
+pub use calls::{
+    Came, Fails, NO_FAILS, Told, Turns, call, call_over, file, turned, turns_to_a_frame,
+};
+pub use carts::{BRANCH, Image, bytes_of, cart, cart_of_words, run_words, set, set_all};

@@ -94,7 +94,7 @@ rows_of bank =
     if bank == 6 then rows_of_fg 0x94000 else (
     if bank == 7 then rows_of_h else rows_of_i)))))))
 
--- whether two spaces are one
+-- a number for each space, by which spaces are compared
 abbrev pub space_number : Space → ℕ
 space_number ABg = 0
 space_number BBg = 1

@@ -135,7 +135,8 @@ impl Vram {
     /// An access at a flat address.
     fn read_flat(&self, x: u32, width: Width) -> u32
         requires { x < 0x254000 }
-        ensures { result ≡ value_by width (or_at self.now.controls self.now.bytes) (aligned_down width x) }
+        ensures value { result ≡ value_by width (or_at self.now.controls self.now.bytes) (aligned_down width x) }
+        ensures narrow { result < 256 ^ width_bytes width }
     {
         match width {
             Width::Byte => self.byte(x) as u32,
@@ -148,6 +149,7 @@ impl Vram {
     /// remainder of the space's size and aligned down to the width.
     pub fn read(&self, space: Space, at: u32, width: Width) -> u32
         ensures value { result ≡ vram_value self.now space at width }
+        ensures narrow { result < 256 ^ width_bytes width }
         ensures stands { IsRead self.now space at width result }
     {
         self.read_flat(flat(space, at), width)

@@ -10,6 +10,6 @@ returns c =
     let v : Banks = c.args.self.now in
     let place = ap (aligned_down c.args.width) c.flat.ensures.value in
     let same : c.read_flat.result ≡ vram_value v c.args.space c.args.at c.args.width =
-    c.read_flat.ensures ∙ ap (value_by c.args.width (or_at v.controls v.bytes)) place ∙ value_flat v c.args.space c.args.at c.args.width in
+    c.read_flat.ensures.value ∙ ap (value_by c.args.width (or_at v.controls v.bytes)) place ∙ value_flat v c.args.space c.args.at c.args.width in
     let P : ℕ → Type 0 = λ value. IsRead v c.args.space c.args.at c.args.width value in
-    record { value = same; stands = subst P (sym same) (is_read v c.args.space c.args.at c.args.width) }
+    record { value = same; narrow = c.read_flat.ensures.narrow; stands = subst P (sym same) (is_read v c.args.space c.args.at c.args.width) }

@@ -2,7 +2,7 @@
 
 ghost use Rattle.std.specs.Prelude.{◌≡◌, ◌<◌, ◌≤◌, ◌+◌, ◌*◌, ◌^◌, length};
 ghost use Rattle.ds_base.specs.declared.memories.Width.TheVariants.{Half};
-ghost use Rattle.vram_banks.specs.Cells.{vram_value};
+ghost use Rattle.vram_banks.specs.Cells.{vram_byte, vram_value};
 ghost use Rattle.bg2d.specs.Colours.{opaque_pixel, palette_colour};
 
 use ds_base::{Space, Width};
@@ -30,4 +30,12 @@ pub fn half(vram: &Vram, space: Space, at: u32) -> u16
     ensures { result ≡ vram_value vram.now space at Half }
 {
     vram.read(space, at, Width::Half) as u16
+}
+
+/// The byte at an address of a space.
+#[inline(always)]
+pub fn byte(vram: &Vram, space: Space, at: u32) -> u8
+    ensures { result ≡ vram_byte vram.now space at }
+{
+    vram.read(space, at, Width::Byte) as u8
 }

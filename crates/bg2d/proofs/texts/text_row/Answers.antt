@@ -15,9 +15,9 @@ returns c = λ x lt.
     let down : ℕ = c.args.line + layer.down in
     let first : ℕ → ℕ = λ width. layer.across % width / 8 * 8 in
     let are : AreEntries v layer (first (text_width layer)) (down % text_height layer) entries 33 = (λ k known.
-        c.text_entries.ensures k known
-        ∙ ap (λ (width : ℕ). text_entry v layer ((first width + 8 * k) % text_width layer) (down % c.text_height.result)) c.text_width.ensures
-        ∙ ap (λ (height : ℕ). text_entry v layer ((first (text_width layer) + 8 * k) % text_width layer) (down % height)) c.text_height.ensures) in
+    c.text_entries.ensures k known
+    ∙ ap (λ (width : ℕ). text_entry v layer ((first width + 8 * k) % text_width layer) (down % c.text_height.result)) c.text_width.ensures
+    ∙ ap (λ (height : ℕ). text_entry v layer ((first (text_width layer) + 8 * k) % text_width layer) (down % height)) c.text_height.ensures) in
     c.paint.ensures x lt
     ∙ ap (λ (height : ℕ). tiled_pixel v palette layer (down % height) entries (layer.across % 8) x) c.text_height.ensures
     ∙ tiled_is_text v palette layer c.args.line x entries lt are

@@ -15,6 +15,3 @@ mod tiles;
 pub use affines::affine_row;
 pub use layers::{AffineLayer, Row, TextLayer};
 pub use texts::text_row;
-
-#[cfg(test)]
-mod tests;

@@ -1,7 +1,7 @@
 use Rattle.std.proofs.Common.{ℕ, zero, suc, ◌≡◌, ◌≢◌, ◌<◌, ◌+◌, ◌*◌, ◌/◌, ◌%◌, ◌^◌, ◌⊎◌, inl, inr, max, List, length, get_or, Option, Some, None, refl, ap, sym, ◌∙◌, subst, arith, add-zero}
 use Rattle.std.specs.Int.{bit_at}
 use Rattle.std.proofs.lemmas.Nat.Bits.{bit_at_or, bit_at-zero, bit_at-lt}
-use Rattle.std.proofs.lemmas.Nat.{mod_below, mod-mul-add, mul-mod, div-add-mod'}
+use Rattle.std.proofs.lemmas.Nat.{mod_below, or_lt, mod-mul-add, mul-mod, div-add-mod'}
 use Rattle.std.proofs.lemmas.Option.{same_Some, none-some}
 use Rattle.std.proofs.lemmas.List.{get_or-set_same, get_or-set_other, length-set}
 use Rattle.ds_base.specs.Memories.{space_size}
@@ -172,6 +172,21 @@ byte_flat v space at =
     let small = mod_below at (space_size space) (space_size-whole space).some in
     or_below-same 9 (λ b. byte_or_0 v.bytes (cell_there v.controls space at b)) (λ b. byte_or_0 v.bytes (cell_of v.controls b (origin_of space + at % space_size space)))
     (λ b lt. ap (byte_or_0 v.bytes) (there_flat v.controls space at b lt small))
+
+-- which is a byte
+or_narrow : (n : ℕ) (f : ℕ → ℕ) → ((b : ℕ) → f b < 256) → or_below n f < 256
+unfolding or_below
+or_narrow zero f h = omega arith
+or_narrow (suc n) f h = or_lt 8 (or_below n f) (f n) (or_narrow n f h) (h n)
+
+cell_narrow : (bytes : List ℕ) (o : Option ℕ) → ((i : ℕ) → get_or bytes i 0 < 256) → byte_or_0 bytes o < 256
+cell_narrow bytes None h = omega arith
+cell_narrow bytes (Some i) h = h i
+
+pub byte_narrow : (v : Banks) (space : Space) (at : ℕ) → ((i : ℕ) → get_or v.bytes i 0 < 256) → vram_byte v space at < 256
+unfolding vram_byte
+byte_narrow v space at h =
+    or_narrow 9 (λ bank. byte_or_0 v.bytes (cell_there v.controls space at bank)) (λ bank. cell_narrow v.bytes (cell_there v.controls space at bank) h)
 
 -- the bytes of an access from a flat address on
 value_by-shifted : (width : Width) (f : ℕ → ℕ) (x : ℕ) → value_by width f x ≡ value_by width (λ k. f (x + k)) 0

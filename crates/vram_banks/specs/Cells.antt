@@ -27,6 +27,7 @@ pub record IsControl (bank control : ℕ) : Type 0 where
 -- what always holds of video memory
 pub record AreBanks (v : Banks) : Type 0 where
   pub bytes : length v.bytes ≡ 0xA4000
+  pub narrow : (at : ℕ) → slice_index v.bytes at < 256
   pub controls : length v.controls ≡ 9
   pub each : (bank : ℕ) → bank < 9 → IsControl bank (slice_index v.controls bank)
 

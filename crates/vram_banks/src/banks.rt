@@ -281,11 +281,12 @@ impl Vram {
     }
 
     /// Does nothing; its contract tells that the bytes are 671,744 and the controls nine, each below 256 and with no bits but those
-    /// that its bank keeps.
+    /// that its bank keeps, and that what stands at an address is a byte.
     pub fn bank_laws(&self)
-        ensures { AreBanks self.now }
+        ensures state { AreBanks self.now }
+        ensures narrow { (space : Space) → (at : ℕ) → vram_byte self.now space at < 256 }
     {
-        let _bytes = self.cells.bytes();
+        self.cells.byte_laws();
         self.map.control_laws();
     }
 

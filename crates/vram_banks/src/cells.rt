@@ -1,6 +1,6 @@
 //! The bytes of all nine banks.
 
-ghost use Rattle.std.specs.Prelude.{◌≡◌, ◌<◌, ◌≤◌, ◌+◌, ◌-◌, ◌*◌, ◌/◌, ◌%◌, IfOk, slice_index, slice_range, slice_set, length};
+ghost use Rattle.std.specs.Prelude.{◌≡◌, ◌<◌, ◌≤◌, ◌+◌, ◌-◌, ◌*◌, ◌/◌, ◌%◌, ℕ, IfOk, slice_index, slice_range, slice_set, length};
 ghost use Rattle.ds_base.specs.declared.memories.Width.TheVariants.{Byte, Half, Word};
 ghost use Rattle.ds_base.specs.Numbers.{zeroes, value_by, put_by};
 
@@ -32,6 +32,13 @@ fn zeroed(alloc: Global, count: usize) -> Result<Vec<u8>, AllocError>
     vec![in alloc; 0; count]
 }
 
+/// Does nothing; its contract tells that the elements of a slice of bytes are bytes.
+fn are_narrow(bytes: &[u8])
+    ensures { (i : ℕ) → slice_index bytes.now i < 256 }
+{
+    let _ = bytes;
+}
+
 impl Cells {
     /// All bytes are 0.
     pub fn new(alloc: Global) -> Result<Cells, AllocError>
@@ -43,10 +50,17 @@ impl Cells {
 
     /// All the bytes, from where they lie.
     pub fn bytes(&self) -> &[u8]
-        ensures value { result.now ≡ self.now }
-        ensures long { length self.now ≡ 0xA4000 }
+        ensures { result.now ≡ self.now }
     {
         self.bytes.as_slice()
+    }
+
+    /// Does nothing; its contract tells how many bytes there are, and that they are bytes.
+    pub fn byte_laws(&self)
+        ensures long { length self.now ≡ 0xA4000 }
+        ensures narrow { (i : ℕ) → slice_index self.now i < 256 }
+    {
+        are_narrow(self.bytes.as_slice());
     }
 
     pub fn byte(&self, at: u32) -> u8

@@ -5,9 +5,10 @@ use Rattle.std.proofs.lemmas.List.{get_or-take, get_or-drop}
 use Rattle.ds_base.specs.declared.memories.Width.{Width}
 use Rattle.ds_base.specs.declared.memories.Width.TheVariants.{Byte, Half, Word}
 use Rattle.vram_banks.specs.declared.maps.Page.TheVariants.{Empty, One}
-use Rattle.vram_banks.specs.Flat.{or_below, put_below, put, byte_or_0, cell_of, or_at, put_at}
-use Rattle.vram_banks.specs.Pages.{NoneBelow, OneBelow, IsFound}
-use Rattle.vram_banks.specs.Cells.{Banks, bytes_of, value_by, put_by}
+use Rattle.ds_base.specs.Numbers.{width_bytes, value_by, put_by}
+use Rattle.vram_banks.specs.paging.Flat.{cell_of, or_at, put_at}
+use Rattle.vram_banks.specs.paging.Pages.{NoneBelow, OneBelow, IsFound}
+use Rattle.vram_banks.specs.Cells.{Banks, byte_or_0, or_below, put_there, put_below}
 use Rattle.vram_banks.proofs.Cases.{same_or_not}
 
 pub or_none : (f : ℕ → ℕ) → or_below 0 f ≡ 0
@@ -22,7 +23,7 @@ pub put_none : (f : ℕ → Option ℕ) (x : ℕ) (bytes : List ℕ) → put_bel
 unfolding put_below
 put_none f x bytes = refl
 
-pub put_more : (n : ℕ) (f : ℕ → Option ℕ) (x : ℕ) (bytes : List ℕ) → put_below (n + 1) f x bytes ≡ put (f n) x (put_below n f x bytes)
+pub put_more : (n : ℕ) (f : ℕ → Option ℕ) (x : ℕ) (bytes : List ℕ) → put_below (n + 1) f x bytes ≡ put_there (f n) x (put_below n f x bytes)
 unfolding put_below
 put_more n f x bytes = rw add-one refl
 
@@ -94,7 +95,7 @@ one_at controls x cell j k i h small e f =
     let Q : ℕ → Type 0 = λ y. OneBelow (λ bank. cell_of controls bank (x + j)) 9 y in
     subst P (sym e) (subst Q (sym f) (h.1 j small)))
 
-pub value_of_empty : (width : Width) (controls bytes : List ℕ) (x : ℕ) → IsFound controls x Empty → x % bytes_of width ≡ 0 → value_by width (or_at controls bytes) x ≡ 0
+pub value_of_empty : (width : Width) (controls bytes : List ℕ) (x : ℕ) → IsFound controls x Empty → x % width_bytes width ≡ 0 → value_by width (or_at controls bytes) x ≡ 0
 value_of_empty Byte controls bytes x h whole = or_at-empty controls bytes x (empty_at controls x 0 x h (omega arith) (omega arith))
 value_of_empty Half controls bytes x h whole =
     rw (
@@ -109,7 +110,7 @@ value_of_empty Word controls bytes x h whole =
       or_at-empty controls bytes (x + 3) (empty_at controls x 3 (x + 3) h (omega arith) refl),
     ) refl
 
-pub value_of_one : (width : Width) (controls bytes : List ℕ) (x cell : ℕ) → IsFound controls x (One cell) → x % bytes_of width ≡ 0 →
+pub value_of_one : (width : Width) (controls bytes : List ℕ) (x cell : ℕ) → IsFound controls x (One cell) → x % width_bytes width ≡ 0 →
     value_by width (or_at controls bytes) x ≡ value_by width (slice_index bytes) cell
 value_of_one Byte controls bytes x cell h whole = or_at-one controls bytes x cell (one_at controls x cell 0 x cell h (omega arith) (omega arith) (omega arith))
 value_of_one Half controls bytes x cell h whole =
@@ -125,7 +126,7 @@ value_of_one Word controls bytes x cell h whole =
       or_at-one controls bytes (x + 3) (cell + 3) (one_at controls x cell 3 (x + 3) (cell + 3) h (omega arith) refl refl),
     ) refl
 
-pub put_to_empty : (width : Width) (controls : List ℕ) (x value : ℕ) (bytes : List ℕ) → IsFound controls x Empty → x % bytes_of width ≡ 0 →
+pub put_to_empty : (width : Width) (controls : List ℕ) (x value : ℕ) (bytes : List ℕ) → IsFound controls x Empty → x % width_bytes width ≡ 0 →
     put_by width (put_at controls) x value bytes ≡ bytes
 put_to_empty Byte controls x value bytes h whole = put_at-empty controls x (value % 256) bytes (empty_at controls x 0 x h (omega arith) (omega arith))
 put_to_empty Half controls x value bytes h whole =
@@ -139,7 +140,7 @@ put_to_empty Word controls x value bytes h whole =
     let b3 = put_at-empty controls (x + 3) (value / 16777216 % 256) bytes (empty_at controls x 3 (x + 3) h (omega arith) refl) in
     rw (b0, b1, b2, b3) refl
 
-pub put_to_one : (width : Width) (controls : List ℕ) (x value : ℕ) (bytes : List ℕ) (cell : ℕ) → IsFound controls x (One cell) → x % bytes_of width ≡ 0 →
+pub put_to_one : (width : Width) (controls : List ℕ) (x value : ℕ) (bytes : List ℕ) (cell : ℕ) → IsFound controls x (One cell) → x % width_bytes width ≡ 0 →
     put_by width (put_at controls) x value bytes ≡ put_by width (λ a v bs. slice_set bs a v) cell value bytes
 put_to_one Byte controls x value bytes cell h whole = put_at-one controls x (value % 256) bytes cell (one_at controls x cell 0 x cell h (omega arith) (omega arith) (omega arith))
 put_to_one Half controls x value bytes cell h whole =

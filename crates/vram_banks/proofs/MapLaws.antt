@@ -1,18 +1,20 @@
 use Rattle.std.proofs.Common.{ℕ, ◌≡◌, ◌≢◌, ◌<◌, ◌≤◌, ◌+◌, ◌-◌, ◌*◌, ◌/◌, ◌%◌, ◌^◌, ◌⊎◌, inl, inr, Bool, true, false, not, ◌||◌, ◌&&◌, ◌==◌, nat_lt, nat_le, List, [], ◌∷◌, get_or, Option, Some, None, refl, ap, sym, ◌∙◌, subst, arith}
 use Rattle.std.specs.Prelude.{if◌then◌else◌}
 use Rattle.std.proofs.lemmas.Option.{same_Some, none-some}
+use Rattle.ds_base.specs.Bits.{bits}
+use Rattle.ds_base.specs.Memories.{space_size}
 use Rattle.ds_base.specs.declared.memories.Space.{Space}
 use Rattle.ds_base.specs.declared.memories.Space.TheVariants.{ABg, BBg, AObj, BObj, Lcdc, Arm7, ABgPalette, BBgPalette, AObjPalette, BObjPalette}
 use Rattle.vram_banks.specs.declared.windows.Window.{Window}
-use Rattle.vram_banks.specs.BankMap.{Row, rows_of, row_by, mst_of, address_of, first_cell, size_of, Stands, StandsIn}
-use Rattle.vram_banks.specs.Cells.{allotted_bit}
-use Rattle.vram_banks.specs.Flat.{origin_of, no_window, window_by, window_of, cell_in}
+use Rattle.vram_banks.specs.BankMap.{BankRow, rows_of, row_by, chosen_row, row_start, same_space, space_number, first_cell, Stands, StandsIn}
+use Rattle.vram_banks.specs.Cells.{allotted_bit, cell_by, cell_there}
+use Rattle.vram_banks.specs.paging.Flat.{origin_of, no_window, window_by, window_of, cell_in, cell_of}
 use Rattle.vram_banks.proofs.Cases.{same_or_not}
 
 -- every row of a table lies in its space, and its bytes in its bank, which has n
-abbrev pub all_fit : ℕ → List Row → Bool
+abbrev pub all_fit : ℕ → List BankRow → Bool
 all_fit n [] = true
-all_fit n (r ∷ rs) = nat_le (r.base + r.ofs_0 + r.ofs_1 + r.size) (size_of r.space) && nat_le r.size n && all_fit n rs
+all_fit n (r ∷ rs) = nat_le (r.base + r.ofs_0 + r.ofs_1 + r.size) (space_size r.space) && nat_le r.size n && all_fit n rs
 
 -- how many bytes a bank has
 abbrev pub size_of_bank : ℕ → ℕ
@@ -23,22 +25,22 @@ size_of_bank bank =
     if bank == 6 then 0x4000 else (
     if bank == 7 then 0x8000 else 0x4000))))
 
-pub record Fits (n : ℕ) (r : Row) : Type 0 where
-  pub in_space : r.base + r.ofs_0 + r.ofs_1 + r.size ≤ size_of r.space
+pub record Fits (n : ℕ) (r : BankRow) : Type 0 where
+  pub in_space : r.base + r.ofs_0 + r.ofs_1 + r.size ≤ space_size r.space
   pub in_bank : r.size ≤ n
 
-fits_first : (n : ℕ) (r : Row) (rs : List Row) → all_fit n (r ∷ rs) ≡ true → Fits n r × (all_fit n rs ≡ true)
+fits_first : (n : ℕ) (r : BankRow) (rs : List BankRow) → all_fit n (r ∷ rs) ≡ true → Fits n r × (all_fit n rs ≡ true)
 fits_first n r rs h = (record { in_space = grind (arith, h); in_bank = grind (arith, h) }, grind (arith, h))
 
-row_by-first : (r : Row) (rs : List Row) (mst : ℕ) → ((mst ≡ r.mst) × (row_by (r ∷ rs) mst ≡ Some r)) ⊎ ((mst ≢ r.mst) × (row_by (r ∷ rs) mst ≡ row_by rs mst))
+row_by-first : (r : BankRow) (rs : List BankRow) (mst : ℕ) → ((mst ≡ r.mst) × (row_by (r ∷ rs) mst ≡ Some r)) ⊎ ((mst ≢ r.mst) × (row_by (r ∷ rs) mst ≡ row_by rs mst))
 row_by-first r rs mst = grind arith
 
-row_by-fits : (n : ℕ) (rows : List Row) (mst : ℕ) (r : Row) → all_fit n rows ≡ true → row_by rows mst ≡ Some r → Fits n r
+row_by-fits : (n : ℕ) (rows : List BankRow) (mst : ℕ) (r : BankRow) → all_fit n rows ≡ true → row_by rows mst ≡ Some r → Fits n r
 row_by-fits n [] mst r h e = absurd (none-some r e)
 row_by-fits n (q ∷ rows) mst r h e =
     let first = fits_first n q rows h in
     elim (row_by-first q rows mst) [
-      | inl here ↦ (let P : Row → Type 0 = λ x. Fits n x in subst P (same_Some q r (sym here.1 ∙ e)) first.0)
+      | inl here ↦ (let P : BankRow → Type 0 = λ x. Fits n x in subst P (same_Some q r (sym here.1 ∙ e)) first.0)
       | inr past ↦ row_by-fits n rows mst r first.1 (sym past.1 ∙ e)
     ]
 
@@ -55,7 +57,7 @@ space_at x =
     if nat_lt x 0x250000 then BBgPalette else (
     if nat_lt x 0x252000 then AObjPalette else BObjPalette))))))))
 
-pub space_at-origin : (space : Space) (at : ℕ) → at < size_of space → space_at (origin_of space + at) ≡ space
+pub space_at-origin : (space : Space) (at : ℕ) → at < space_size space → space_at (origin_of space + at) ≡ space
 space_at-origin ABg at h = grind arith
 space_at-origin BBg at h = grind arith
 space_at-origin AObj at h = grind arith
@@ -138,10 +140,10 @@ one_cell bank other i j known also p q e =
     (same, omega (arith, e, first))
 
 -- a row by which a bank stands
-pub fits_of : (bank mst : ℕ) (r : Row) → bank < 9 → row_by (rows_of bank) mst ≡ Some r → Fits (size_of_bank bank) r
+pub fits_of : (bank mst : ℕ) (r : BankRow) → bank < 9 → row_by (rows_of bank) mst ≡ Some r → Fits (size_of_bank bank) r
 fits_of bank mst r h e = row_by-fits (size_of_bank bank) (rows_of bank) mst r (rows_of-fit bank h) e
 
-address_within : (r : Row) (control : ℕ) → address_of r control ≤ r.base + r.ofs_0 + r.ofs_1
+address_within : (r : BankRow) (control : ℕ) → row_start r control ≤ r.base + r.ofs_0 + r.ofs_1
 address_within r control =
     let a : control / 2 ^ 3 % 2 < 2 = omega arith in
     let b : control / 2 ^ 4 % 2 < 2 = omega arith in
@@ -150,55 +152,55 @@ address_within r control =
 in_window : (first size start i x : ℕ) → i < size → x ≡ first + i → cell_in (record { first = first; size = size }) start x ≡ Some (start + i)
 in_window first size start i x h e = grind (arith, e)
 
-window_on : (o : Option Row) (e control : ℕ) (r : Row) → e ≡ 1 → o ≡ Some r →
-    (if e == 1 then window_by o control else no_window) ≡ record { first = origin_of r.space + address_of r control; size = r.size }
+window_on : (o : Option BankRow) (e control : ℕ) (r : BankRow) → e ≡ 1 → o ≡ Some r →
+    (if e == 1 then window_by o control else no_window) ≡ record { first = origin_of r.space + row_start r control; size = r.size }
 window_on o e control r on by = rw (on, by) refl
 
-enabled_window : (bank control : ℕ) (r : Row) → control / 2 ^ 7 % 2 ≡ 1 → row_by (rows_of bank) (mst_of bank control) ≡ Some r →
-    window_of bank control ≡ record { first = origin_of r.space + address_of r control; size = r.size }
+enabled_window : (bank control : ℕ) (r : BankRow) → control / 2 ^ 7 % 2 ≡ 1 → chosen_row bank control ≡ Some r →
+    window_of bank control ≡ record { first = origin_of r.space + row_start r control; size = r.size }
 unfolding window_of
-enabled_window bank control r on by = window_on (row_by (rows_of bank) (mst_of bank control)) (control / 2 ^ 7 % 2) control r on by
+enabled_window bank control r on by = window_on (chosen_row bank control) (control / 2 ^ 7 % 2) control r on by
 
 -- a cell that stands somewhere is the one that the code finds there
 pub stands_cell : (bank control i : ℕ) (space : Space) (at : ℕ) → Stands bank control i space at → cell_in (window_of bank control) (first_cell bank) (origin_of space + at) ≡ Some (first_cell bank + i)
 stands_cell bank control i space at s =
     let same : origin_of s.row.space ≡ origin_of space = ap origin_of s.in_space in
     let address = s.address in
-    let here : origin_of space + at ≡ origin_of s.row.space + address_of s.row control + i = omega (arith, same, address) in
+    let here : origin_of space + at ≡ origin_of s.row.space + row_start s.row control + i = omega (arith, same, address) in
     ap (λ (w : Window). cell_in w (first_cell bank) (origin_of space + at)) (enabled_window bank control s.row s.enabled s.by)
-    ∙ in_window (origin_of s.row.space + address_of s.row control) s.row.size (first_cell bank) i (origin_of space + at) s.within here
+    ∙ in_window (origin_of s.row.space + row_start s.row control) s.row.size (first_cell bank) i (origin_of space + at) s.within here
 
 -- what is known where the code finds a cell
-pub record Found (e : ℕ) (o : Option Row) (control start x cell : ℕ) : Type 0 where
+pub record Found (e : ℕ) (o : Option BankRow) (control start x cell : ℕ) : Type 0 where
   pub on : e ≡ 1
-  pub row : Row
+  pub row : BankRow
   pub by : o ≡ Some row
   pub i : ℕ
   pub within : i < row.size
-  pub address : x ≡ origin_of row.space + address_of row control + i
+  pub address : x ≡ origin_of row.space + row_start row control + i
   pub number : cell ≡ start + i
 
 found_in : (first size start x cell : ℕ) → cell_in (record { first = first; size = size }) start x ≡ Some cell → (first ≤ x) × (x < first + size) × (cell ≡ start + (x - first))
 found_in first size start x cell h = grind arith
 
-found_row : (r : Row) (e control start x cell : ℕ) → e ≡ 1 → cell_in (window_by (Some r) control) start x ≡ Some cell → Found e (Some r) control start x cell
+found_row : (r : BankRow) (e control start x cell : ℕ) → e ≡ 1 → cell_in (window_by (Some r) control) start x ≡ Some cell → Found e (Some r) control start x cell
 found_row r e control start x cell on h =
-    let f = found_in (origin_of r.space + address_of r control) r.size start x cell h in
+    let f = found_in (origin_of r.space + row_start r control) r.size start x cell h in
     record {
       on = on;
       row = r;
       by = refl;
-      i = x - (origin_of r.space + address_of r control);
+      i = x - (origin_of r.space + row_start r control);
       within = omega (arith, f);
       address = omega (arith, f);
       number = f.2;
     }
 
-found_on : (o : Option Row) (e control start x cell : ℕ) → e ≡ 1 → cell_in (window_by o control) start x ≡ Some cell → Found e o control start x cell
+found_on : (o : Option BankRow) (e control start x cell : ℕ) → e ≡ 1 → cell_in (window_by o control) start x ≡ Some cell → Found e o control start x cell
 found_on None e control start x cell on h = let f = found_in 0 0 start x cell h in absurd (omega (arith, f))
 found_on (Some r) e control start x cell on h = found_row r e control start x cell on h
 
-pub found_window : (o : Option Row) (e control start x cell : ℕ) → cell_in (if e == 1 then window_by o control else no_window) start x ≡ Some cell → Found e o control start x cell
+pub found_window : (o : Option BankRow) (e control start x cell : ℕ) → cell_in (if e == 1 then window_by o control else no_window) start x ≡ Some cell → Found e o control start x cell
 found_window o e control start x cell h =
     elim (same_or_not e 1) [
       | inl on ↦ found_on o e control start x cell on (rw on at h)
@@ -208,20 +210,119 @@ found_window o e control start x cell h =
     ]
 
 -- what the code finds at an address of a space stands there
-pub cell_stands : (bank control : ℕ) (space : Space) (at cell : ℕ) → bank < 9 → at < size_of space → cell_in (window_of bank control) (first_cell bank) (origin_of space + at) ≡ Some cell →
+pub cell_stands : (bank control : ℕ) (space : Space) (at cell : ℕ) → bank < 9 → at < space_size space → cell_in (window_of bank control) (first_cell bank) (origin_of space + at) ≡ Some cell →
     (i : ℕ) × Stands bank control i space at × (cell ≡ first_cell bank + i)
 unfolding window_of
 cell_stands bank control space at cell known small h =
-    let f = found_window (row_by (rows_of bank) (mst_of bank control)) (control / 2 ^ 7 % 2) control (first_cell bank) (origin_of space + at) cell h in
-    let fits = fits_of bank (mst_of bank control) f.row known f.by in
+    let f = found_window (chosen_row bank control) (control / 2 ^ 7 % 2) control (first_cell bank) (origin_of space + at) cell h in
+    let fits = fits_of bank (control % 8) f.row known f.by in
     let a = address_within f.row control in
     let s = fits.in_space in
     let w = f.within in
-    let here : origin_of space + at ≡ origin_of f.row.space + (address_of f.row control + f.i) = (let d = f.address in omega (arith, d)) in
+    let here : origin_of space + at ≡ origin_of f.row.space + (row_start f.row control + f.i) = (let d = f.address in omega (arith, d)) in
     let same : f.row.space ≡ space =
-    sym (space_at-origin f.row.space (address_of f.row control + f.i) (omega (arith, a, s, w))) ∙ ap space_at (sym here) ∙ space_at-origin space at small in
+    sym (space_at-origin f.row.space (row_start f.row control + f.i) (omega (arith, a, s, w))) ∙ ap space_at (sym here) ∙ space_at-origin space at small in
     let origin : origin_of f.row.space ≡ origin_of space = ap origin_of same in
     (f.i, record { enabled = f.on; row = f.row; by = f.by; in_space = same; within = f.within; address = omega (arith, here, origin) }, f.number)
+
+-- ---- a bank's cell in a space is its cell at the flat address
+
+abbrev space_of_number : ℕ → Space
+space_of_number n =
+    if n == 0 then ABg else (
+    if n == 1 then BBg else (
+    if n == 2 then AObj else (
+    if n == 3 then BObj else (
+    if n == 4 then Lcdc else (
+    if n == 5 then Arm7 else (
+    if n == 6 then ABgPalette else (
+    if n == 7 then BBgPalette else (
+    if n == 8 then AObjPalette else BObjPalette))))))))
+
+space_of_its_number : (space : Space) → space_of_number (space_number space) ≡ space
+space_of_its_number ABg = refl
+space_of_its_number BBg = refl
+space_of_its_number AObj = refl
+space_of_its_number BObj = refl
+space_of_its_number Lcdc = refl
+space_of_its_number Arm7 = refl
+space_of_its_number ABgPalette = refl
+space_of_its_number BBgPalette = refl
+space_of_its_number AObjPalette = refl
+space_of_its_number BObjPalette = refl
+
+same_numbers : (a b : Space) → space_number a ≡ space_number b → a ≡ b
+same_numbers a b e = sym (space_of_its_number a) ∙ ap space_of_number e ∙ space_of_its_number b
+
+before_or_not : (x y : ℕ) → (x < y) ⊎ (y ≤ x)
+before_or_not x y = grind arith
+
+-- in its own space a row's cells are those of its window
+cell_here : (r : BankRow) (control first origin at : ℕ) (space : Space) → space_number r.space ≡ space_number space → origin_of r.space ≡ origin →
+    cell_by (Some r) first control space at ≡ cell_in (window_by (Some r) control) first (origin + at)
+cell_here r control first origin at space e o = grind (arith, e, o)
+
+-- and in another space there are none
+not_in_space : (r : BankRow) (control first at : ℕ) (space : Space) → space_number r.space ≢ space_number space → cell_by (Some r) first control space at ≡ None
+not_in_space r control first at space e =
+    let t : same_space r.space space ≡ false = grind (arith, e) in
+    rw t refl
+
+outside : (start size first x : ℕ) → (start ≤ x → x < start + size → ⊥) → (s : ℕ) → start ≡ s → cell_in (record { first = s; size = size }) first x ≡ None
+outside start size first x none s e = elim (before_or_not x start) [
+  | inl before ↦ grind (arith, before, e)
+  | inr low ↦ elim (before_or_not x (start + size)) [
+    | inl high ↦ absurd (none low high)
+    | inr past ↦ grind (arith, past, e)
+  ]
+]
+
+cell_elsewhere : (r : BankRow) (control first start x at : ℕ) (space : Space) → space_number r.space ≢ space_number space →
+    start ≡ origin_of r.space + row_start r control → (start ≤ x → x < start + r.size → ⊥) →
+    cell_by (Some r) first control space at ≡ cell_in (window_by (Some r) control) first x
+cell_elsewhere r control first start x at space e s none =
+    not_in_space r control first at space e ∙ sym (outside start r.size first x none (origin_of r.space + row_start r control) s)
+
+row_there : (n : ℕ) (r : BankRow) (control first : ℕ) (space : Space) (at : ℕ) → Fits n r → at < space_size space →
+    cell_by (Some r) first control space at ≡ cell_in (window_by (Some r) control) first (origin_of space + at)
+row_there n r control first space at fits small =
+    elim (same_or_not (space_number r.space) (space_number space)) [
+      | inl e ↦ cell_here r control first (origin_of space) at space e (ap origin_of (same_numbers r.space space e))
+      | inr other ↦
+          (let a = address_within r control in
+          let f = fits.in_space in
+          let start : ℕ = origin_of r.space + row_start r control in
+          let none : start ≤ origin_of space + at → origin_of space + at < start + r.size → ⊥ = (λ low high.
+          (let d : ℕ = origin_of space + at - origin_of r.space in
+          let here : origin_of r.space + d ≡ origin_of space + at = omega (arith, low) in
+          let inside : d < space_size r.space = omega (arith, here, high, a, f) in
+          let same : r.space ≡ space = sym (space_at-origin r.space d inside) ∙ ap space_at here ∙ space_at-origin space at small in
+          other (ap space_number same))) in
+          cell_elsewhere r control first start (origin_of space + at) at space other refl none)
+    ]
+
+chosen_there : (bank control : ℕ) (o : Option BankRow) (space : Space) (at : ℕ) → bank < 9 → at < space_size space → chosen_row bank control ≡ o →
+    cell_by o (first_cell bank) control space at ≡ cell_in (window_by o control) (first_cell bank) (origin_of space + at)
+chosen_there bank control None space at known small e = grind arith
+chosen_there bank control (Some r) space at known small e =
+    row_there (size_of_bank bank) r control (first_cell bank) space at (fits_of bank (control % 8) r known e) small
+
+there_by : (e bank control : ℕ) (o : Option BankRow) (space : Space) (at : ℕ) → bank < 9 → at < space_size space → chosen_row bank control ≡ o →
+    (if e == 1 then cell_by o (first_cell bank) control space at else None)
+    ≡ cell_in (if e == 1 then window_by o control else no_window) (first_cell bank) (origin_of space + at)
+there_by e bank control o space at known small chosen =
+    elim (same_or_not e 1) [
+      | inl on ↦ rw on (chosen_there bank control o space at known small chosen)
+      | inr off ↦ (let t : (e == 1) ≡ false = grind arith in
+          rw t (sym (outside 0 0 (first_cell bank) (origin_of space + at) (λ low high. omega (arith, high)) 0 refl)))
+    ]
+
+pub there_flat : (controls : List ℕ) (space : Space) (at bank : ℕ) → bank < 9 → at % space_size space < space_size space →
+    cell_there controls space at bank ≡ cell_of controls bank (origin_of space + at % space_size space)
+unfolding cell_there cell_of window_of
+there_flat controls space at bank known small =
+    let control : ℕ = get_or controls bank 0 in
+    there_by (bits 7 1 control) bank control (chosen_row bank control) space (at % space_size space) known small refl
 
 -- ---- C and D with ARM7
 
@@ -229,26 +330,26 @@ is_seven : Space → Bool
 is_seven Arm7 = true
 is_seven other = false
 
-abbrev seven_by_two : List Row → Bool
+abbrev seven_by_two : List BankRow → Bool
 seven_by_two [] = true
 seven_by_two (r ∷ rs) = (r.mst == 2 || not (is_seven r.space)) && seven_by_two rs
 
-seven_first : (r : Row) (rs : List Row) → seven_by_two (r ∷ rs) ≡ true → (is_seven r.space ≡ true → r.mst ≡ 2) × (seven_by_two rs ≡ true)
+seven_first : (r : BankRow) (rs : List BankRow) → seven_by_two (r ∷ rs) ≡ true → (is_seven r.space ≡ true → r.mst ≡ 2) × (seven_by_two rs ≡ true)
 seven_first r rs h = (λ e. grind (arith, h, e), grind (arith, h))
 
 -- where a row of ARM7's space stands for MST 2 alone, a bank that stands there has MST 2
-row_by-seven : (rows : List Row) (mst : ℕ) (r : Row) → seven_by_two rows ≡ true → row_by rows mst ≡ Some r → is_seven r.space ≡ true → mst ≡ 2
+row_by-seven : (rows : List BankRow) (mst : ℕ) (r : BankRow) → seven_by_two rows ≡ true → row_by rows mst ≡ Some r → is_seven r.space ≡ true → mst ≡ 2
 row_by-seven [] mst r h e s = absurd (none-some r e)
 row_by-seven (q ∷ rows) mst r h e s =
     let first = seven_first q rows h in
     elim (row_by-first q rows mst) [
       | inl here ↦
-          (let P : Row → Type 0 = λ x. is_seven x.space ≡ true in
+          (let P : BankRow → Type 0 = λ x. is_seven x.space ≡ true in
           here.0 ∙ first.0 (subst P (sym (same_Some q r (sym here.1 ∙ e))) s))
       | inr past ↦ row_by-seven rows mst r first.1 (sym past.1 ∙ e) s
     ]
 
-row_of_seven : Row
+row_of_seven : BankRow
 row_of_seven = record { mst = 2; space = Arm7; base = 0; ofs_0 = 0x20000; ofs_1 = 0; size = 0x20000 }
 
 allotted_facts : (control : ℕ) → allotted_bit control ≡ 1 → (control / 2 ^ 7 % 2 ≡ 1) × (control % 8 ≡ 2)
@@ -260,36 +361,36 @@ facts_allotted control a b = grind (arith, a, b)
 allotted_small : (control : ℕ) → allotted_bit control < 2
 allotted_small control = grind arith
 
-seven_in : (bank control : ℕ) → row_by (rows_of bank) 2 ≡ Some row_of_seven → mst_of bank control ≡ control % 8 → allotted_bit control ≡ 1 → StandsIn bank control Arm7
+seven_in : (bank control : ℕ) → row_by (rows_of bank) 2 ≡ Some row_of_seven → allotted_bit control ≡ 1 → StandsIn bank control Arm7
 unfolding row_of_seven
-seven_in bank control by mst h =
+seven_in bank control by h =
     let facts = allotted_facts control h in
     record {
       i = 0;
-      at = address_of row_of_seven control + 0;
+      at = row_start row_of_seven control + 0;
       stands = record {
         enabled = facts.0;
         row = row_of_seven;
-        by = ap (row_by (rows_of bank)) (mst ∙ facts.1) ∙ by;
+        by = ap (row_by (rows_of bank)) facts.1 ∙ by;
         in_space = refl;
         within = omega arith;
         address = refl;
       };
     }
 
-seven_out : (bank control : ℕ) → seven_by_two (rows_of bank) ≡ true → mst_of bank control ≡ control % 8 → StandsIn bank control Arm7 → allotted_bit control ≡ 1
+seven_out : (bank control : ℕ) → seven_by_two (rows_of bank) ≡ true → StandsIn bank control Arm7 → allotted_bit control ≡ 1
 unfolding is_seven
-seven_out bank control test mst s =
+seven_out bank control test s =
     facts_allotted control s.stands.enabled
-    (sym mst ∙ row_by-seven (rows_of bank) (mst_of bank control) s.stands.row test s.stands.by (ap is_seven s.stands.in_space))
+    (row_by-seven (rows_of bank) (control % 8) s.stands.row test s.stands.by (ap is_seven s.stands.in_space))
 
 allotted_c : (control : ℕ) → (allotted_bit control ≡ 1 → StandsIn 2 control Arm7) × (StandsIn 2 control Arm7 → allotted_bit control ≡ 1)
 unfolding is_seven row_of_seven
-allotted_c control = (seven_in 2 control refl refl, seven_out 2 control refl refl)
+allotted_c control = (seven_in 2 control refl, seven_out 2 control refl)
 
 allotted_d : (control : ℕ) → (allotted_bit control ≡ 1 → StandsIn 3 control Arm7) × (StandsIn 3 control Arm7 → allotted_bit control ≡ 1)
 unfolding is_seven row_of_seven
-allotted_d control = (seven_in 3 control refl refl, seven_out 3 control refl refl)
+allotted_d control = (seven_in 3 control refl, seven_out 3 control refl)
 
 pub low_bit : (c d : ℕ) (controls : List ℕ) → c ≡ allotted_bit (get_or controls 2 0) → d ≡ allotted_bit (get_or controls 3 0) →
     ((c + 2 * d) % 2 ≡ 1 → StandsIn 2 (get_or controls 2 0) Arm7) × (StandsIn 2 (get_or controls 2 0) Arm7 → (c + 2 * d) % 2 ≡ 1)

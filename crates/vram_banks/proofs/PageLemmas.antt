@@ -1,12 +1,13 @@
-use Rattle.std.proofs.Common.{ℕ, ◌≡◌, ◌<◌, ◌≤◌, ◌+◌, ◌-◌, ◌*◌, ◌/◌, ◌%◌, inl, inr, List, length, get_or, [], ◌∷◌, Option, Some, None, refl, sym, ◌∙◌, ap, subst, arith}
+use Rattle.std.proofs.Common.{ℕ, ◌≡◌, ◌<◌, ◌≤◌, ◌+◌, ◌-◌, ◌*◌, ◌/◌, ◌%◌, ◌⊎◌, inl, inr, List, length, get_or, set, [], ◌∷◌, Option, Some, None, refl, sym, ◌∙◌, ap, subst, arith}
 use Rattle.std.proofs.lemmas.Grind.{common_steps}
-use Rattle.std.proofs.lemmas.List.{get_or_default}
+use Rattle.std.proofs.lemmas.List.{get_or_default, get_or-set_same, get_or-set_other}
 use Rattle.vram_banks.specs.declared.maps.Page.{Page}
 use Rattle.vram_banks.specs.declared.maps.Page.TheVariants.{Empty, One, Several}
 use Rattle.vram_banks.specs.declared.windows.Window.{Window}
-use Rattle.vram_banks.specs.BankMap.{first_cell}
-use Rattle.vram_banks.specs.Flat.{no_window, window_of, cell_in, cell_of, IsRoomy}
-use Rattle.vram_banks.specs.Pages.{NoneBelow, IsPageBelow, IsFound, AreWindows, ArePages, window_at, cell_by, page_at, with_cell}
+use Rattle.vram_banks.specs.BankMap.{first_cell, mst_bits, kept_bank_control}
+use Rattle.vram_banks.specs.Cells.{IsControl}
+use Rattle.vram_banks.specs.paging.Flat.{no_window, window_of, cell_in, cell_of, IsRoomy}
+use Rattle.vram_banks.specs.paging.Pages.{NoneBelow, IsPageBelow, IsFound, AreWindows, ArePages, window_at, cell_by, page_at, with_cell}
 use Rattle.vram_banks.proofs.Cases.{same_or_not}
 
 -- where the banks below n have none, and bank n has this
@@ -144,3 +145,35 @@ found_at controls windows pages x page long are these small e =
     let same : page_at pages (x / 8192) ≡ page = get_or_default pages (x / 8192) Several Empty in_pages ∙ e in
     let P : Page → Type 0 = λ p. IsPageBelow (cell_by windows (x / 8192 * 8192)) 9 p in
     found_by controls windows x page are (subst P same (these (x / 8192) k))
+
+-- ---- what controls keep
+
+mst_two_or_three : (bank : ℕ) → (mst_bits bank ≡ 2) ⊎ (mst_bits bank ≡ 3)
+mst_two_or_three bank = grind arith
+
+is_kept : (bank written : ℕ) → written < 256 → IsControl bank (kept_bank_control bank written)
+is_kept bank written small = elim (mst_two_or_three bank) [
+  | inl two ↦ record { small = rw two (omega arith); kept = rw two (omega arith) }
+  | inr three ↦ record { small = rw three (omega arith); kept = rw three (omega arith) }
+]
+
+is_blank : (bank : ℕ) → IsControl bank 0
+is_blank bank = elim (mst_two_or_three bank) [
+  | inl two ↦ record { small = omega arith; kept = rw two refl }
+  | inr three ↦ record { small = omega arith; kept = rw three refl }
+]
+
+pub controls-blank : (bank : ℕ) → bank < 9 → IsControl bank (get_or no_controls bank 0)
+controls-blank bank h = (let P : ℕ → Type 0 = λ c. IsControl bank c in subst P (sym (no_control bank h)) (is_blank bank))
+
+pub controls_set : (controls : List ℕ) (bank written : ℕ) → length controls ≡ 9 → written < 256 → ((b : ℕ) → b < 9 → IsControl b (get_or controls b 0)) →
+    (b : ℕ) → b < 9 → IsControl b (get_or (set controls bank (kept_bank_control bank written)) b 0)
+controls_set controls bank written nine small each b known =
+    let P : ℕ → Type 0 = λ c. IsControl b c in
+    elim (same_or_not b bank) [
+      | inl same ↦
+          (let here : get_or (set controls bank (kept_bank_control bank written)) b 0 ≡ kept_bank_control b written =
+          ap (λ (k : ℕ). get_or (set controls k (kept_bank_control k written)) b 0) (sym same) ∙ get_or-set_same controls b (kept_bank_control b written) 0 (omega (arith, nine)) in
+          subst P (sym here) (is_kept b written small))
+      | inr other ↦ subst P (sym (get_or-set_other controls bank b (kept_bank_control bank written) 0 other)) (each b known)
+    ]

@@ -1,4 +1,3 @@
 pub mod BankMap
 pub mod Cells
-pub mod Flat
-pub mod Pages
+pub mod paging

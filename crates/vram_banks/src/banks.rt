@@ -3,9 +3,10 @@
 ghost use Rattle.std.specs.Prelude.{◌≡◌, ◌<◌, ◌≤◌, ◌+◌, ◌-◌, ◌*◌, ◌/◌, ◌%◌, ◌^◌, ◌↔◌, ℕ, IfSome, IfOk, slice_index, slice_set, length};
 ghost use Rattle.ds_base.specs.declared.memories.Width.TheVariants.{Byte, Half, Word};
 ghost use Rattle.ds_base.specs.declared.memories.Space.TheVariants.{Arm7};
-ghost use Rattle.vram_banks.specs.BankMap.{size_of, IsThere, StandsIn};
-ghost use Rattle.vram_banks.specs.Flat.{origin_of, byte_or_0, put, or_at, put_at};
-ghost use Rattle.vram_banks.specs.Cells.{Banks, blank, byte_at, value_by, value_at, put_by, written, allotted_bit, allotted_of, bytes_of, IsOr, IsRead, IsWritten};
+ghost use Rattle.ds_base.specs.Numbers.{width_bytes, aligned_down, value_by, put_by};
+ghost use Rattle.vram_banks.specs.BankMap.{kept_bank_control, StandsIn};
+ghost use Rattle.vram_banks.specs.Cells.{Banks, AreBanks, blank_banks, byte_or_0, put_there, vram_byte, vram_value, vram_written, allotted_bit, allotted_of, IsCellAt, IsOr, IsRead, IsWritten};
+ghost use Rattle.vram_banks.specs.paging.Flat.{or_at, put_at};
 
 use crate::cells::Cells;
 use crate::maps::{Map, PAGE, Page};
@@ -47,7 +48,7 @@ fn allotted_bit(control: u8) -> u8
 impl Vram {
     /// All bytes and controls are 0. This alone takes memory.
     pub fn new(alloc: Global) -> Result<Vram, AllocError>
-        ensures { IfOk result (λ v. v ≡ blank) }
+        ensures { IfOk result (λ v. v ≡ blank_banks) }
     {
         let cells = Cells::new(alloc)?;
         Ok(Vram {
@@ -56,10 +57,11 @@ impl Vram {
         })
     }
 
-    /// Writes the control of a bank, of 0 (A) to 8 (I): bit 7 enables it, bits 3 and 4 are OFS, bits 0 to 2 MST.
+    /// Writes the control of a bank, of 0 (A) to 8 (I): bit 7 enables it, bits 3 and 4 are OFS, and MST begins at bit 0, of two bits for
+    /// A, B, H and I and of three for the others. The other bits aren't kept.
     pub fn set_control(&mut self, bank: u8, value: u8)
         requires { bank < 9 }
-        ensures { self.new ≡ record self.old { controls = slice_set self.old.controls bank value } }
+        ensures { self.new ≡ record self.old { controls = slice_set self.old.controls bank (kept_bank_control bank value) } }
     {
         self.map.set_control(bank, value);
     }
@@ -75,7 +77,7 @@ impl Vram {
     }
 
     /// The OR of all cells at a flat address, bank by bank.
-    #[tactic(auto, using(crate::proofs::CellLemmas::or_none, crate::proofs::CellLemmas::or_more), unfolding(crate::specs::Flat::or_at))]
+    #[tactic(auto, using(crate::proofs::CellLemmas::or_none, crate::proofs::CellLemmas::or_more), unfolding(crate::specs::paging::Flat::or_at))]
     fn byte_of_several(&self, x: u32) -> u8
         ensures { result ≡ or_at self.now.controls self.now.bytes x }
     {
@@ -133,7 +135,8 @@ impl Vram {
     /// An access at a flat address.
     fn read_flat(&self, x: u32, width: Width) -> u32
         requires { x < 0x254000 }
-        ensures { result ≡ value_by width (or_at self.now.controls self.now.bytes) (x - x % bytes_of width) }
+        ensures value { result ≡ value_by width (or_at self.now.controls self.now.bytes) (aligned_down width x) }
+        ensures narrow { result < 256 ^ width_bytes width }
     {
         match width {
             Width::Byte => self.byte(x) as u32,
@@ -145,7 +148,8 @@ impl Vram {
     /// What an access reads: the OR of all cells that stand at each byte's address, 0 where none stands. `at` is taken by
     /// remainder of the space's size and aligned down to the width.
     pub fn read(&self, space: Space, at: u32, width: Width) -> u32
-        ensures value { result ≡ value_at self.now space at width }
+        ensures value { result ≡ vram_value self.now space at width }
+        ensures narrow { result < 256 ^ width_bytes width }
         ensures stands { IsRead self.now space at width result }
     {
         self.read_flat(flat(space, at), width)
@@ -153,7 +157,7 @@ impl Vram {
 
     fn put(&mut self, cell: Option<u32>, value: u8)
         requires { IfSome cell (λ i. i < 0xA4000) }
-        ensures { self.new ≡ record self.old { bytes = put cell value self.old.bytes } }
+        ensures { self.new ≡ record self.old { bytes = put_there cell value self.old.bytes } }
     {
         if let Some(i) = cell {
             self.cells.put_byte(i, value);
@@ -161,7 +165,7 @@ impl Vram {
     }
 
     /// Writes all cells at a flat address, bank by bank.
-    #[tactic(auto, using(crate::proofs::CellLemmas::put_none, crate::proofs::CellLemmas::put_more), unfolding(crate::specs::Flat::put_at))]
+    #[tactic(auto, using(crate::proofs::CellLemmas::put_none, crate::proofs::CellLemmas::put_more), unfolding(crate::specs::paging::Flat::put_at))]
     fn put_several(&mut self, x: u32, value: u8)
         ensures { self.new ≡ record self.old { bytes = put_at self.old.controls x value self.old.bytes } }
     {
@@ -219,7 +223,7 @@ impl Vram {
     /// An access at a flat address.
     fn write_flat(&mut self, x: u32, width: Width, value: u32)
         requires { x < 0x254000 }
-        ensures { self.new ≡ record self.old { bytes = put_by width (put_at self.old.controls) (x - x % bytes_of width) value self.old.bytes } }
+        ensures { self.new ≡ record self.old { bytes = put_by width (put_at self.old.controls) (aligned_down width x) value self.old.bytes } }
     {
         match width {
             Width::Byte => self.put_byte(x, (value % 0x100) as u8),
@@ -231,7 +235,7 @@ impl Vram {
     /// Writes an access's bytes into all cells that stand at their addresses, and changes nothing else. `at` is taken by
     /// remainder of the space's size and aligned down to the width; of `value` the low bytes of that width are written.
     pub fn write(&mut self, space: Space, at: u32, width: Width, value: u32)
-        ensures value { self.new ≡ written self.old space at width value }
+        ensures value { self.new ≡ vram_written self.old space at width value }
         ensures changed { IsWritten self.old self.new space at width value }
     {
         // here the proof learns how many bytes there are
@@ -264,8 +268,8 @@ impl Vram {
     /// Puts the bytes from an address of a space on into a row: at each place i the byte at the exact sum `at` + i, taken by
     /// remainder of the space's size.
     pub fn row(&self, space: Space, at: u32, into: &mut [u8])
-        ensures value { (i : ℕ) → i < length into.new → slice_index into.new i ≡ byte_at self.now space (at + i) }
-        ensures stands { (i : ℕ) → i < length into.new → IsOr (IsThere self.now.controls space ((at + i) % size_of space)) self.now.bytes (slice_index into.new i) }
+        ensures value { (i : ℕ) → i < length into.new → slice_index into.new i ≡ vram_byte self.now space (at + i) }
+        ensures stands { (i : ℕ) → i < length into.new → IsOr (IsCellAt self.now space (at + i)) self.now.bytes (slice_index into.new i) }
     {
         let mut done = 0;
         while done < into.len() {
@@ -274,6 +278,23 @@ impl Vram {
             self.part(x, &mut into[done..done + count]);
             done += count;
         }
+    }
+
+    /// Does nothing; its contract tells that the bytes are 671,744 and the controls nine, each below 256 and with no bits but those
+    /// that its bank keeps, and that what stands at an address is a byte.
+    pub fn bank_laws(&self)
+        ensures state { AreBanks self.now }
+        ensures narrow { (space : Space) → (at : ℕ) → vram_byte self.now space at < 256 }
+    {
+        self.cells.byte_laws();
+        self.map.control_laws();
+    }
+
+    /// The memory of all banks, 671,744 bytes in the order A to I, from where they lie.
+    pub fn bytes(&self) -> &[u8]
+        ensures { result.now ≡ self.now.bytes }
+    {
+        self.cells.bytes()
     }
 
     /// The byte of a number, below 671,744, in the memory of all banks.

@@ -1,10 +1,10 @@
 //! The bytes of all nine banks.
 
-ghost use Rattle.std.specs.Prelude.{◌≡◌, ◌<◌, ◌≤◌, ◌+◌, ◌-◌, ◌*◌, ◌/◌, ◌%◌, IfOk, slice_index, slice_range, slice_set, length};
+ghost use Rattle.std.specs.Prelude.{◌≡◌, ◌<◌, ◌≤◌, ◌+◌, ◌-◌, ◌*◌, ◌/◌, ◌%◌, ℕ, IfOk, slice_index, slice_range, slice_set, length};
 ghost use Rattle.ds_base.specs.declared.memories.Width.TheVariants.{Byte, Half, Word};
-ghost use Rattle.vram_banks.specs.Cells.{zeros, value_by, put_by};
+ghost use Rattle.ds_base.specs.Numbers.{zeroes, value_by, put_by};
 
-use crate::windows::CELLS;
+use ds_base::VRAM_BYTES;
 use std::alloc::{AllocError, Global};
 use std::marker::Model;
 
@@ -24,21 +24,43 @@ impl Model for Cells {
     ghost invariant = { λ c. length c.bytes.items ≡ 0xA4000 };
 }
 
-#[tactic(auto, unfolding(crate::specs::Cells::zeros))]
+#[tactic(auto, unfolding(ds_base::specs::Numbers::zeroes))]
 fn zeroed(alloc: Global, count: usize) -> Result<Vec<u8>, AllocError>
-    ensures value { IfOk result (λ v. v.items ≡ zeros count) }
+    ensures value { IfOk result (λ v. v.items ≡ zeroes count) }
     ensures long { IfOk result (λ v. length v.items ≡ count) }
 {
     vec![in alloc; 0; count]
 }
 
+/// Does nothing; its contract tells that the elements of a slice of bytes are bytes.
+fn are_narrow(bytes: &[u8])
+    ensures { (i : ℕ) → slice_index bytes.now i < 256 }
+{
+    let _ = bytes;
+}
+
 impl Cells {
     /// All bytes are 0.
     pub fn new(alloc: Global) -> Result<Cells, AllocError>
-        ensures { IfOk result (λ c. c ≡ zeros 0xA4000) }
+        ensures { IfOk result (λ c. c ≡ zeroes 0xA4000) }
     {
-        let bytes = zeroed(alloc, CELLS)?;
+        let bytes = zeroed(alloc, VRAM_BYTES)?;
         Ok(Cells { bytes })
+    }
+
+    /// All the bytes, from where they lie.
+    pub fn bytes(&self) -> &[u8]
+        ensures { result.now ≡ self.now }
+    {
+        self.bytes.as_slice()
+    }
+
+    /// Does nothing; its contract tells how many bytes there are, and that they are bytes.
+    pub fn byte_laws(&self)
+        ensures long { length self.now ≡ 0xA4000 }
+        ensures narrow { (i : ℕ) → slice_index self.now i < 256 }
+    {
+        are_narrow(self.bytes.as_slice());
     }
 
     pub fn byte(&self, at: u32) -> u8

@@ -1,11 +1,12 @@
 //! The controls of the nine banks, and which cells stand at a flat address by them.
 
 ghost use Rattle.std.specs.Prelude.{◌≡◌, length, ◌<◌, ◌≤◌, ◌+◌, ◌-◌, ◌*◌, ◌/◌, ◌%◌, ℕ, IfSome, slice_index, slice_set, [], ◌∷◌};
-ghost use Rattle.vram_banks.specs.BankMap.{first_cell};
-ghost use Rattle.vram_banks.specs.Flat.{cell_in, cell_of, no_window, IsRoomy};
-ghost use Rattle.vram_banks.specs.Pages.{window_at, cell_by, with_cell, IsPageBelow, AreWindows, ArePages, IsFound};
+ghost use Rattle.vram_banks.specs.BankMap.{first_cell, kept_bank_control};
+ghost use Rattle.vram_banks.specs.Cells.{IsControl};
+ghost use Rattle.vram_banks.specs.paging.Flat.{cell_in, cell_of, no_window, IsRoomy};
+ghost use Rattle.vram_banks.specs.paging.Pages.{window_at, cell_by, with_cell, IsPageBelow, AreWindows, ArePages, IsFound};
 
-use crate::windows::{Window, bank_window, first_cell, nowhere};
+use crate::windows::{Window, bank_window, first_cell, kept_bank_control, nowhere};
 use std::marker::Model;
 
 /// How many bytes a page has. Each bank's place begins and ends at the border of a page.
@@ -88,14 +89,15 @@ pub struct Map {
 }
 
 impl Model for Map {
-    ghost use Rattle.std.specs.Prelude.{List, ℕ, ◌≡◌, length};
-    ghost use Rattle.vram_banks.specs.Pages.{AreWindows, ArePages};
+    ghost use Rattle.std.specs.Prelude.{List, ℕ, ◌≡◌, ◌<◌, length, slice_index};
+    ghost use Rattle.vram_banks.specs.Cells.{IsControl};
+    ghost use Rattle.vram_banks.specs.paging.Pages.{AreWindows, ArePages};
 
     ghost Value = { List ℕ };
 
     ghost view = { λ m. m.controls };
 
-    ghost invariant = { λ m. (length m.pages ≡ 298) × AreWindows m.controls m.windows × ArePages m.windows m.pages 298 };
+    ghost invariant = { λ m. (length m.pages ≡ 298) × AreWindows m.controls m.windows × ArePages m.windows m.pages 298 × ((bank : ℕ) → bank < 9 → IsControl bank (slice_index m.controls bank)) };
 }
 
 impl Map {
@@ -116,11 +118,21 @@ impl Map {
     /// Writes a bank's control.
     pub fn set_control(&mut self, bank: u8, value: u8)
         requires { bank < 9 }
-        ensures { self.new ≡ slice_set self.old bank value }
+        ensures { self.new ≡ slice_set self.old bank (kept_bank_control bank value) }
     {
-        self.controls[bank as usize] = value;
-        self.windows[bank as usize] = bank_window(bank, value);
+        let control = kept_bank_control(bank, value);
+        self.controls[bank as usize] = control;
+        self.windows[bank as usize] = bank_window(bank, control);
         fill(&self.windows, &mut self.pages);
+    }
+
+    /// Does nothing; its contract tells that there are nine controls, and that each has only the bits that its bank keeps.
+    pub fn control_laws(&self)
+        ensures nine { length self.now ≡ 9 }
+        ensures each { (bank : ℕ) → bank < 9 → IsControl bank (slice_index self.now bank) }
+    {
+        // here the proof learns what the map keeps
+        let _ = &self.controls;
     }
 
     /// The control of a bank.
@@ -132,7 +144,7 @@ impl Map {
     }
 
     /// The cell of a bank that stands at a flat address.
-    #[tactic(auto, unfolding(crate::specs::Flat::cell_of))]
+    #[tactic(auto, unfolding(crate::specs::paging::Flat::cell_of))]
     pub fn cell(&self, bank: u8, x: u32) -> Option<u32>
         requires { bank < 9 }
         ensures value { result ≡ cell_of self.now bank x }

@@ -1,13 +1,11 @@
 //! Where each bank stands, by its control.
 
 ghost use Rattle.std.specs.Prelude.{◌≡◌, ◌<◌, ◌≤◌, ◌+◌, ◌-◌, ◌*◌, ◌/◌, ◌%◌, ◌^◌, Some};
-ghost use Rattle.vram_banks.specs.BankMap.{size_of, first_cell, rows_of_ab, rows_of_cd, rows_of_e, rows_of_fg, rows_of_h, rows_of_i, row_by};
-ghost use Rattle.vram_banks.specs.Flat.{origin_of, window_by, window_of, no_window, IsRoomy};
+ghost use Rattle.ds_base.specs.Memories.{space_size};
+ghost use Rattle.vram_banks.specs.BankMap.{first_cell, kept_bank_control, rows_of_ab, rows_of_cd, rows_of_e, rows_of_fg, rows_of_h, rows_of_i, row_by};
+ghost use Rattle.vram_banks.specs.paging.Flat.{origin_of, window_by, window_of, no_window, IsRoomy};
 
 use ds_base::Space;
-
-/// How many bytes all banks have.
-pub const CELLS: usize = 0xa4000;
 
 /// The size of the largest space, of which every other space's size is a divisor.
 pub const LARGEST: u32 = 0x100000;
@@ -41,7 +39,7 @@ fn origin(space: Space) -> u32
 
 /// The flat address of an address in a space, which is taken by remainder of the space's size.
 pub fn flat(space: Space, at: u32) -> u32
-    ensures value { result ≡ origin_of space + at % size_of space }
+    ensures value { result ≡ origin_of space + at % space_size space }
     ensures small { result < 0x254000 }
 {
     match space {
@@ -72,6 +70,19 @@ pub fn first_cell(bank: u8) -> u32
         7 => 0x98000,
         _ => 0xa0000,
     }
+}
+
+/// What a bank's control keeps of a byte that is written to it: MST, of two bits for A, B, H and I and of three for the others, OFS in
+/// bits 3 and 4, and bit 7.
+pub fn kept_bank_control(bank: u8, written: u8) -> u8
+    ensures { result ≡ kept_bank_control bank written }
+{
+    let mst = if bank < 2 || 6 < bank {
+        written % 4
+    } else {
+        written % 8
+    };
+    mst + (written >> 3) % 4 * 8 + (written >> 7) * 128
 }
 
 /// The window of a bank that stands nowhere.
@@ -182,25 +193,25 @@ fn window_of_i(mst: u8, control: u8) -> Window
 }
 
 /// Where a bank stands by its control.
-#[tactic(auto, unfolding(crate::specs::Flat::window_of, crate::specs::BankMap::first_cell))]
+#[tactic(auto, unfolding(crate::specs::paging::Flat::window_of, crate::specs::BankMap::first_cell))]
 pub fn bank_window(bank: u8, control: u8) -> Window
     requires { bank < 9 }
     ensures value { result ≡ window_of bank control }
-    ensures roomy { IsRoomy (CELLS - first_cell bank) result }
+    ensures roomy { IsRoomy (0xA4000 - first_cell bank) result }
 {
     if control >> 7 == 0 {
         return nowhere();
     }
     let mst = control % 8;
     match bank {
-        0 => window_of_ab(0, mst % 4, control),
-        1 => window_of_ab(0x20000, mst % 4, control),
+        0 => window_of_ab(0, mst, control),
+        1 => window_of_ab(0x20000, mst, control),
         2 => window_of_cd(0x40000, Space::BBg, mst, control),
         3 => window_of_cd(0x60000, Space::BObj, mst, control),
         4 => window_of_e(mst, control),
         5 => window_of_fg(0x90000, mst, control),
         6 => window_of_fg(0x94000, mst, control),
-        7 => window_of_h(mst % 4, control),
-        _ => window_of_i(mst % 4, control),
+        7 => window_of_h(mst, control),
+        _ => window_of_i(mst, control),
     }
 }

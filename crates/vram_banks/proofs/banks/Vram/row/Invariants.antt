@@ -1,11 +1,12 @@
-use Rattle.std.proofs.Common.{ℕ, ◌≡◌, ◌<◌, ◌≤◌, ◌+◌, ◌-◌, get_or, length}
-use Rattle.vram_banks.specs.Cells.{byte_at}
+use Rattle.std.proofs.Common.{ℕ, ◌≡◌, ◌<◌, ◌≤◌, ◌+◌, ◌-◌, ◌%◌, get_or, length}
+use Rattle.ds_base.specs.Memories.{space_size}
+use Rattle.vram_banks.specs.paging.Flat.{origin_of, or_at}
 use Rattle.vram_banks.proofs.banks.Vram.row.Given as goal
 
 abbrev pub invariant-loop-done : goal.invariant-loop-done
 invariant-loop-done l = record {
   within : l.done ≤ length l.into;
-  so_far : (k : ℕ) → k < l.done → get_or l.into k 0 ≡ byte_at l.self l.space (l.at + k);
+  so_far : (k : ℕ) → k < l.done → get_or l.into k 0 ≡ or_at l.self.controls l.self.bytes (origin_of l.space + (l.at + k) % space_size l.space);
 }
 
 abbrev pub decreases-loop-done : goal.decreases-loop-done

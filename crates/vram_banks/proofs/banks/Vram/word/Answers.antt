@@ -1,7 +1,8 @@
 use Rattle.std.proofs.Common.{◌≡◌, ◌∙◌, sym, subst, arith}
 use Rattle.ds_base.specs.declared.memories.Width.TheVariants.{Word}
-use Rattle.vram_banks.specs.Flat.{or_at}
-use Rattle.vram_banks.specs.Cells.{Banks, value_by}
+use Rattle.vram_banks.specs.paging.Flat.{or_at}
+use Rattle.vram_banks.specs.Cells.{Banks}
+use Rattle.ds_base.specs.Numbers.{value_by}
 use Rattle.vram_banks.proofs.CellLemmas.{value_of_empty, value_of_one}
 use Rattle.vram_banks.proofs.banks.Vram.word.Goals as goal
 

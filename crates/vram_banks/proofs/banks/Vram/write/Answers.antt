@@ -1,15 +1,17 @@
-use Rattle.std.proofs.Common.{ℕ, ◌≡◌, ◌-◌, ◌%◌, ◌∙◌, ap, sym, subst, length}
-use Rattle.vram_banks.specs.Flat.{put_at}
-use Rattle.vram_banks.specs.Cells.{Banks, bytes_of, put_by, written, IsWritten}
-use Rattle.vram_banks.proofs.SetLaws.{flat_aligned, is_written}
+use Rattle.std.proofs.Common.{ℕ, ◌≡◌, ◌∙◌, ap, sym, subst, length}
+use Rattle.ds_base.specs.Numbers.{aligned_down, put_by}
+use Rattle.vram_banks.specs.paging.Flat.{put_at}
+use Rattle.vram_banks.specs.Cells.{Banks, vram_written, IsWritten}
+use Rattle.vram_banks.proofs.SetLaws.{written_flat, is_written}
 use Rattle.vram_banks.proofs.banks.Vram.write.Goals as goal
 
 pub returns : goal.returns
 returns c =
     let v : Banks = c.args.self.now in
-    let place = ap (λ (x : ℕ). x - x % bytes_of c.args.width) c.flat.ensures.value ∙ flat_aligned c.args.space c.args.at c.args.width in
-    let same : c.write_flat.new.self ≡ written v c.args.space c.args.at c.args.width c.args.value =
-    c.write_flat.ensures ∙ ap (λ (x : ℕ). record v { bytes = put_by c.args.width (put_at v.controls) x c.args.value v.bytes }) place in
+    let place = ap (aligned_down c.args.width) c.flat.ensures.value in
+    let same : c.write_flat.new.self ≡ vram_written v c.args.space c.args.at c.args.width c.args.value =
+    c.write_flat.ensures ∙ ap (λ (x : ℕ). record v { bytes = put_by c.args.width (put_at v.controls) x c.args.value v.bytes }) place
+    ∙ sym (written_flat v c.args.space c.args.at c.args.width c.args.value) in
     let L : Banks → Type 0 = λ s. length s.bytes ≡ 0xA4000 in
     let P : Banks → Type 0 = λ s. IsWritten v s c.args.space c.args.at c.args.width c.args.value in
     record { value = same; changed = subst P (sym same) (is_written v c.args.space c.args.at c.args.width c.args.value (subst L c.self.view_is c.self.invariant)) }

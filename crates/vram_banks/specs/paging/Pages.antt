@@ -3,7 +3,7 @@ use Rattle.vram_banks.specs.declared.windows.Window.{Window}
 use Rattle.vram_banks.specs.declared.maps.Page.{Page}
 use Rattle.vram_banks.specs.declared.maps.Page.TheVariants.{Empty, One, Several}
 use Rattle.vram_banks.specs.BankMap.{first_cell}
-use Rattle.vram_banks.specs.Flat.{no_window, window_of, cell_in, cell_of, IsRoomy}
+use Rattle.vram_banks.specs.paging.Flat.{no_window, window_of, cell_in, cell_of, IsRoomy}
 
 -- What the code keeps beside the controls: each bank's window, and for each page of 8K what stands there.
 

@@ -1,8 +1,10 @@
-use Rattle.std.specs.Prelude.{ℕ, zero, suc, ◌≡◌, ◌≤◌, ◌+◌, ◌-◌, ◌/◌, ◌%◌, ◌^◌, ◌==◌, ◌&&◌, nat_le, nat_lt, if◌then◌else◌, List, Option, Some, None, bit_or, slice_index, slice_set}
+use Rattle.std.specs.Prelude.{ℕ, ◌≡◌, ◌≤◌, ◌+◌, ◌-◌, ◌%◌, ◌==◌, ◌&&◌, nat_le, nat_lt, if◌then◌else◌, List, Option, Some, None, slice_index}
+use Rattle.ds_base.specs.Bits.{bits}
 use Rattle.ds_base.specs.declared.memories.Space.{Space}
 use Rattle.ds_base.specs.declared.memories.Space.TheVariants.{ABg, BBg, AObj, BObj, Lcdc, Arm7, ABgPalette, BBgPalette, AObjPalette, BObjPalette}
 use Rattle.vram_banks.specs.declared.windows.Window.{Window}
-use Rattle.vram_banks.specs.BankMap.{Row, rows_of, row_by, mst_of, address_of, first_cell}
+use Rattle.vram_banks.specs.BankMap.{BankRow, chosen_row, row_start, first_cell}
+use Rattle.vram_banks.specs.Cells.{byte_or_0, or_below, put_below}
 
 -- The bank map as a function, as the code computes it: the spaces laid one after another, so that a space and an address in it
 -- are one number, a flat address, and a bank's place a range of them. (Our choice of form; that it is the relation of BankMap is
@@ -25,12 +27,12 @@ abbrev pub no_window : Window
 no_window = record { first = 0; size = 0 }
 
 -- the range in which a bank stands by a row
-abbrev pub window_by : Option Row → ℕ → Window
+abbrev pub window_by : Option BankRow → ℕ → Window
 window_by None control = no_window
-window_by (Some r) control = record { first = origin_of r.space + address_of r control; size = r.size }
+window_by (Some r) control = record { first = origin_of r.space + row_start r control; size = r.size }
 
 unfoldable pub window_of : ℕ → ℕ → Window
-window_of bank control = if control / 2 ^ 7 % 2 == 1 then window_by (row_by (rows_of bank) (mst_of bank control)) control else no_window
+window_of bank control = if bits 7 1 control == 1 then window_by (chosen_row bank control) control else no_window
 
 -- a window and its bounds are whole pages of 8K below the end of all spaces, and it has at most n bytes
 pub record IsRoomy (n : ℕ) (w : Window) : Type 0 where
@@ -45,24 +47,6 @@ cell_in w start x = if nat_le w.first x && nat_lt x (w.first + w.size) then Some
 -- the cell of a bank that stands at a flat address
 unfoldable pub cell_of : List ℕ → ℕ → ℕ → Option ℕ
 cell_of controls bank x = cell_in (window_of bank (slice_index controls bank)) (first_cell bank) x
-
-abbrev pub byte_or_0 : List ℕ → Option ℕ → ℕ
-byte_or_0 bytes None = 0
-byte_or_0 bytes (Some cell) = slice_index bytes cell
-
--- the OR of f at the numbers below n
-unfoldable pub or_below : ℕ → (ℕ → ℕ) → ℕ
-or_below zero f = 0
-or_below (suc n) f = bit_or (or_below n f) (f n)
-
-abbrev pub put : Option ℕ → ℕ → List ℕ → List ℕ
-put None x bytes = bytes
-put (Some cell) x bytes = slice_set bytes cell x
-
--- a value is put where f gives a place, for the numbers below n
-unfoldable pub put_below : ℕ → (ℕ → Option ℕ) → ℕ → List ℕ → List ℕ
-put_below zero f x bytes = bytes
-put_below (suc n) f x bytes = put (f n) x (put_below n f x bytes)
 
 -- the OR of all cells at a flat address
 unfoldable pub or_at : List ℕ → List ℕ → ℕ → ℕ

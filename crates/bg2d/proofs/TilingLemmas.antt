@@ -1,0 +1,120 @@
+use Rattle.std.proofs.Common.{ℕ, Bool, true, false, ◌≡◌, ◌<◌, ◌+◌, ◌-◌, ◌*◌, ◌/◌, ◌%◌, ◌^◌, ◌⊎◌, inl, inr, List, get_or, refl, sym, ◌∙◌, ap, subst, arith}
+use Rattle.ds_base.specs.Bits.{bits, bit}
+use Rattle.ds_base.specs.declared.memories.Width.TheVariants.{Half}
+use Rattle.vram_banks.specs.Cells.{Banks, vram_byte, vram_value}
+use Rattle.bg2d.specs.declared.layers.TextLayer.{TextLayer}
+use Rattle.bg2d.specs.Bases.{background_space, map_base, tile_base}
+use Rattle.bg2d.specs.Colours.{indexed_pixel}
+use Rattle.bg2d.specs.Tiles.{nibble_at, index_of_16, index_of_256, flipped}
+use Rattle.bg2d.specs.TextPixels.{text_width, text_height, text_block, has_256, text_entry, text_index, text_colour, text_entry_pixel, text_point_pixel, text_pixel}
+use Rattle.bg2d.specs.rows.Tiling.{tile_row, tiled_pixel, AreEntries, ArePacked, AreIndices}
+
+-- ---- indices from bytes
+
+even_or_odd : (i : ℕ) → (i % 2 ≡ 0) ⊎ (i % 2 ≡ 1)
+even_or_odd i = grind arith
+
+left_nibble : (i byte : ℕ) → i % 2 ≡ 0 → nibble_at i byte ≡ byte % 16
+left_nibble i byte h = grind (arith, h)
+
+right_nibble : (i byte : ℕ) → i % 2 ≡ 1 → nibble_at i byte ≡ byte / 16
+right_nibble i byte h = grind (arith, h)
+
+-- the nibble at place i of a tile's row of four bytes
+nibble_there : (bytes indices : List ℕ) (k i : ℕ) →
+    ((j : ℕ) → get_or indices (2 * j) 0 ≡ get_or bytes j 0 % 16) → ((j : ℕ) → get_or indices (2 * j + 1) 0 ≡ get_or bytes j 0 / 16) →
+    get_or indices (8 * k + i) 0 ≡ nibble_at i (get_or bytes (4 * k + i / 2) 0)
+nibble_there bytes indices k i low high = elim (even_or_odd i) [
+  | inl even ↦
+      (let place : 8 * k + i ≡ 2 * (4 * k + i / 2) = omega arith in
+      ap (λ (j : ℕ). get_or indices j 0) place ∙ low (4 * k + i / 2) ∙ sym (left_nibble i (get_or bytes (4 * k + i / 2) 0) even))
+  | inr odd ↦
+      (let place : 8 * k + i ≡ 2 * (4 * k + i / 2) + 1 = omega arith in
+      ap (λ (j : ℕ). get_or indices j 0) place ∙ high (4 * k + i / 2) ∙ sym (right_nibble i (get_or bytes (4 * k + i / 2) 0) odd))
+]
+
+index_16 : (v : Banks) (layer : TextLayer) (entry i y : ℕ) → has_256 layer ≡ false →
+    text_index v layer entry i (flipped (bit 11 entry) (y % 8)) ≡ nibble_at i (vram_byte v (background_space layer.engine) (tile_row layer entry y + i / 2))
+unfolding text_index
+index_16 v layer entry i y h = rw h refl
+
+index_256 : (v : Banks) (layer : TextLayer) (entry i y : ℕ) → has_256 layer ≡ true →
+    text_index v layer entry i (flipped (bit 11 entry) (y % 8)) ≡ vram_byte v (background_space layer.engine) (tile_row layer entry y + i)
+unfolding text_index
+index_256 v layer entry i y h = rw h refl
+
+pub indices_of_16 : (v : Banks) (layer : TextLayer) (y : ℕ) (entries bytes indices : List ℕ) → has_256 layer ≡ false →
+    ArePacked v layer y entries 4 bytes 33 →
+    ((j : ℕ) → get_or indices (2 * j) 0 ≡ get_or bytes j 0 % 16) → ((j : ℕ) → get_or indices (2 * j + 1) 0 ≡ get_or bytes j 0 / 16) →
+    AreIndices v layer y entries indices
+indices_of_16 v layer y entries bytes indices narrow packed low high k i known small =
+    nibble_there bytes indices k i low high
+    ∙ ap (nibble_at i) (packed k (i / 2) known (omega arith))
+    ∙ sym (index_16 v layer (get_or entries k 0) i y narrow)
+
+pub indices_of_256 : (v : Banks) (layer : TextLayer) (y : ℕ) (entries indices : List ℕ) → has_256 layer ≡ true →
+    ArePacked v layer y entries 8 indices 33 → AreIndices v layer y entries indices
+indices_of_256 v layer y entries indices wide packed k i known small =
+    packed k i known small ∙ sym (index_256 v layer (get_or entries k 0) i y wide)
+
+-- all nibbles of bytes are below 16
+pub narrow_nibbles : (bytes indices : List ℕ) → ((j : ℕ) → get_or bytes j 0 < 256) →
+    ((j : ℕ) → get_or indices (2 * j) 0 ≡ get_or bytes j 0 % 16) → ((j : ℕ) → get_or indices (2 * j + 1) 0 ≡ get_or bytes j 0 / 16) →
+    (i : ℕ) → get_or indices i 0 < 16
+narrow_nibbles bytes indices small low high i = elim (even_or_odd i) [
+  | inl even ↦
+      (let place : i ≡ 2 * (i / 2) = omega arith in
+      let e : get_or indices i 0 ≡ get_or bytes (i / 2) 0 % 16 = ap (λ (j : ℕ). get_or indices j 0) place ∙ low (i / 2) in omega (arith, e))
+  | inr odd ↦
+      (let place : i ≡ 2 * (i / 2) + 1 = omega arith in
+      let e : get_or indices i 0 ≡ get_or bytes (i / 2) 0 / 16 = ap (λ (j : ℕ). get_or indices j 0) place ∙ high (i / 2) in
+      let s = small (i / 2) in omega (arith, e, s))
+]
+
+-- ---- a place of the row is a place in a tile
+
+wide_or_not : (layer : TextLayer) → (text_width layer ≡ 256) ⊎ (text_width layer ≡ 512)
+wide_or_not layer = grind arith
+
+record InTile (width across x : ℕ) : Type 0 where
+  point : (x + across) % width ≡ (across % width / 8 * 8 + 8 * ((across % 8 + x) / 8)) % width + (across % 8 + x) % 8
+  edge : (across % width / 8 * 8 + 8 * ((across % 8 + x) / 8)) % width % 8 ≡ 0
+
+in_tile_256 : (across x : ℕ) → InTile 256 across x
+in_tile_256 across x = record { point = omega arith; edge = omega arith }
+
+in_tile_512 : (across x : ℕ) → InTile 512 across x
+in_tile_512 across x = record { point = omega arith; edge = omega arith }
+
+in_tile : (width across x : ℕ) → (width ≡ 256) ⊎ (width ≡ 512) → InTile width across x
+in_tile width across x h = (let P : ℕ → Type 0 = λ w. InTile w across x in elim h [
+  | inl e ↦ subst P (sym e) (in_tile_256 across x)
+  | inr e ↦ subst P (sym e) (in_tile_512 across x)
+])
+
+-- the pixels of a tile's row have one entry
+entry_of_tile : (v : Banks) (layer : TextLayer) (edge i y : ℕ) → edge % 8 ≡ 0 → i < 8 → text_entry v layer (edge + i) y ≡ text_entry v layer edge y
+unfolding text_entry
+entry_of_tile v layer edge i y whole small =
+    let block : (edge + i) / 256 ≡ edge / 256 = omega arith in
+    let column : (edge + i) % 256 / 8 ≡ edge % 256 / 8 = omega arith in
+    rw (block, column) refl
+
+pub tiled_is_text : (v : Banks) (palette : List ℕ) (layer : TextLayer) (line x : ℕ) (entries : List ℕ) → x < 256 →
+    AreEntries v layer (layer.across % text_width layer / 8 * 8) ((line + layer.down) % text_height layer) entries 33 →
+    tiled_pixel v palette layer ((line + layer.down) % text_height layer) entries (layer.across % 8) x ≡ text_pixel v palette layer line x
+unfolding text_pixel
+tiled_is_text v palette layer line x entries small are =
+    let y : ℕ = (line + layer.down) % text_height layer in
+    let point : ℕ = (x + layer.across) % text_width layer in
+    let at : ℕ = layer.across % 8 + x in
+    let edge : ℕ = (layer.across % text_width layer / 8 * 8 + 8 * (at / 8)) % text_width layer in
+    let t = in_tile (text_width layer) layer.across x (wide_or_not layer) in
+    let here : point ≡ edge + at % 8 = t.point in
+    let whole : edge % 8 ≡ 0 = t.edge in
+    let column : at % 8 ≡ point % 8 = omega (arith, here, whole) in
+    let entry : get_or entries (at / 8) 0 ≡ text_entry v layer point y =
+    are (at / 8) (omega arith) ∙ sym (entry_of_tile v layer edge (at % 8) y whole (omega arith)) ∙ ap (λ (p : ℕ). text_entry v layer p y) (sym here) in
+    ap (λ (e : ℕ). text_entry_pixel v palette layer e at y) entry
+    ∙ ap (λ (c : ℕ). indexed_pixel (text_colour v palette layer (text_entry v layer point y))
+    (text_index v layer (text_entry v layer point y) (flipped (bit 10 (text_entry v layer point y)) c) (flipped (bit 11 (text_entry v layer point y)) (y % 8)))) column

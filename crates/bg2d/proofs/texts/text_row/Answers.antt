@@ -1,0 +1,23 @@
+use Rattle.std.proofs.Common.{ℕ, List, ◌+◌, ◌*◌, ◌/◌, ◌%◌, ap, ◌∙◌}
+use Rattle.vram_banks.specs.Cells.{Banks}
+use Rattle.bg2d.specs.declared.layers.TextLayer.{TextLayer}
+use Rattle.bg2d.specs.TextPixels.{text_width, text_height, text_entry}
+use Rattle.bg2d.specs.rows.Tiling.{tiled_pixel, AreEntries}
+use Rattle.bg2d.proofs.TilingLemmas.{tiled_is_text}
+use Rattle.bg2d.proofs.texts.text_row.Goals as goal
+
+pub returns : goal.returns
+returns c = λ x lt.
+    let v : Banks = c.args.vram.now in
+    let palette : List ℕ = c.args.palette.now in
+    let layer : TextLayer = c.args.layer.now in
+    let entries : List ℕ = c.text_entries.new.into in
+    let down : ℕ = c.args.line + layer.down in
+    let first : ℕ → ℕ = λ width. layer.across % width / 8 * 8 in
+    let are : AreEntries v layer (first (text_width layer)) (down % text_height layer) entries 33 = (λ k known.
+    c.text_entries.ensures k known
+    ∙ ap (λ (width : ℕ). text_entry v layer ((first width + 8 * k) % text_width layer) (down % c.text_height.result)) c.text_width.ensures
+    ∙ ap (λ (height : ℕ). text_entry v layer ((first (text_width layer) + 8 * k) % text_width layer) (down % height)) c.text_height.ensures) in
+    c.paint.ensures x lt
+    ∙ ap (λ (height : ℕ). tiled_pixel v palette layer (down % height) entries (layer.across % 8) x) c.text_height.ensures
+    ∙ tiled_is_text v palette layer c.args.line x entries lt are

@@ -1,0 +1,247 @@
+//! Rows of text backgrounds.
+
+ghost use Rattle.std.specs.Prelude.{◌≡◌, ◌<◌, ◌≤◌, ◌+◌, ◌-◌, ◌*◌, ◌/◌, ◌%◌, ◌^◌, ℕ, Bool, true, false, length, slice_index};
+ghost use Rattle.ds_base.specs.Bits.{bits, bit};
+ghost use Rattle.bg2d.specs.TextPixels.{text_width, text_height, has_256, palette_slot, palette_space, text_entry, text_index, text_colour, text_entry_pixel, text_pixel};
+ghost use Rattle.bg2d.specs.Colours.{indexed_pixel};
+ghost use Rattle.bg2d.specs.Tiles.{flipped};
+ghost use Rattle.bg2d.specs.rows.Tiling.{tile_row, tiled_pixel, AreEntries, ArePacked, AreIndices, AreNarrow};
+
+use crate::bases::{background_space, map_base, tile_base};
+use crate::colours::{half, opaque_pixel, palette_colour};
+use crate::layers::{Row, TextLayer};
+use crate::tiles::flipped;
+use ds_base::Space;
+use line_lanes::unpack4;
+use vram_banks::Vram;
+
+/// How many tiles a row touches: 256 pixels, and a tile's part at either end.
+const TILES: usize = 33;
+
+fn text_width(layer: &TextLayer) -> u32
+    ensures { result ≡ text_width layer.now }
+{
+    if (layer.control >> 14) % 2 == 1 {
+        512
+    } else {
+        256
+    }
+}
+
+fn text_height(layer: &TextLayer) -> u32
+    ensures { result ≡ text_height layer.now }
+{
+    if (layer.control >> 15) % 2 == 1 {
+        512
+    } else {
+        256
+    }
+}
+
+/// The map's entry of a point of the background.
+#[tactic(auto, unfolding(crate::specs::TextPixels::text_entry))]
+fn text_entry(vram: &Vram, layer: &TextLayer, x: u32, y: u32) -> u16
+    requires across { x < 512 }
+    requires down { y < 512 }
+    ensures { result ≡ text_entry vram.now layer.now x y }
+{
+    let block = x / 256 + text_width(layer) / 256 * (y / 256);
+    let base = map_base(layer.engine, layer.display, layer.control);
+    half(
+        vram,
+        background_space(layer.engine),
+        base + 0x800 * block + 64 * (y % 256 / 8) + 2 * (x % 256 / 8),
+    )
+}
+
+/// The entries of the tiles of a row, from the tile on whose left edge is `first`.
+fn text_entries(vram: &Vram, layer: &TextLayer, first: u32, y: u32, into: &mut [u16; TILES])
+    requires across { first < 512 }
+    requires down { y < 512 }
+    ensures { AreEntries vram.now layer.now first y into.new 33 }
+{
+    let width = text_width(layer);
+    for k in 0..TILES {
+        into[k] = text_entry(vram, layer, (first + 8 * k as u32) % width, y);
+    }
+}
+
+/// Where the row of an entry's tile begins that shows line y of the background.
+fn tile_row(layer: &TextLayer, entry: u16, y: u32) -> u32
+    ensures { result ≡ tile_row layer.now entry y }
+{
+    let base = tile_base(layer.engine, layer.display, layer.control);
+    let line = flipped((entry >> 11) % 2 == 1, y as usize % 8) as u32;
+    let tile = (entry % 0x400) as u32;
+    if has_256(layer) {
+        base + 64 * tile + 8 * line
+    } else {
+        base + 32 * tile + 4 * line
+    }
+}
+
+fn has_256(layer: &TextLayer) -> bool
+    ensures { result ≡ has_256 layer.now }
+{
+    (layer.control >> 7) % 2 == 1
+}
+
+/// The rows of tiles of 16 colours, four bytes each.
+fn pack(vram: &Vram, layer: &TextLayer, entries: &[u16; TILES], y: u32, into: &mut [u8; 132])
+    ensures { ArePacked vram.now layer.now y entries.now 4 into.new 33 }
+{
+    let space = background_space(layer.engine);
+    for k in 0..TILES {
+        let at = tile_row(layer, entries[k], y);
+        vram.row(space, at, &mut into[4 * k..4 * k + 4]);
+    }
+}
+
+/// The rows of tiles of 256 colours, eight bytes each, which are their indices.
+fn copy_rows(vram: &Vram, layer: &TextLayer, entries: &[u16; TILES], y: u32, into: &mut [u8; 264])
+    ensures { ArePacked vram.now layer.now y entries.now 8 into.new 33 }
+{
+    let space = background_space(layer.engine);
+    for k in 0..TILES {
+        let at = tile_row(layer, entries[k], y);
+        vram.row(space, at, &mut into[8 * k..8 * k + 8]);
+    }
+}
+
+/// The nibbles of packed bytes, all of which are below 16.
+fn unpack(packed: &[u8], into: &mut [u8])
+    requires { length into.old ≡ 2 * length packed.now }
+    ensures low { (i : ℕ) → slice_index into.new (2 * i) ≡ slice_index packed.now i % 16 }
+    ensures high { (i : ℕ) → slice_index into.new (2 * i + 1) ≡ slice_index packed.now i / 16 }
+    ensures narrow { (i : ℕ) → i < length into.new → slice_index into.new i < 16 }
+{
+    unpack4(packed, into);
+}
+
+/// The indices of the tiles' rows.
+fn text_indices(
+    vram: &Vram,
+    layer: &TextLayer,
+    entries: &[u16; TILES],
+    y: u32,
+    into: &mut [u8; 264],
+)
+    ensures value { AreIndices vram.now layer.now y entries.now into.new }
+    ensures narrow { AreNarrow layer.now into.new }
+{
+    if has_256(layer) {
+        copy_rows(vram, layer, entries, y, into);
+    } else {
+        let mut packed = [0; 132];
+        pack(vram, layer, entries, y, &mut packed);
+        unpack(&packed, into);
+    }
+}
+
+/// Where a palette of 256 colours begins in the space of extended palettes.
+fn extended_palette(layer: &TextLayer, entry: u16) -> u32
+    ensures { result ≡ 0x2000 * palette_slot layer.now + 512 * bits 12 4 entry }
+{
+    let slot = if layer.number < 2 && (layer.control >> 13) % 2 == 1 {
+        layer.number as u32 + 2
+    } else {
+        layer.number as u32
+    };
+    0x2000 * slot + 512 * (entry >> 12) as u32
+}
+
+fn palette_space(engine: u8) -> Space
+    ensures { result ≡ palette_space engine }
+{
+    if engine == 0 {
+        Space::ABgPalette
+    } else {
+        Space::BBgPalette
+    }
+}
+
+/// The colour of an index, by the entry's palette.
+#[tactic(auto, unfolding(crate::specs::TextPixels::text_colour))]
+fn text_colour(vram: &Vram, palette: &[u8], layer: &TextLayer, entry: u16, index: u8) -> u16
+    requires colours { length palette.now ≡ 512 }
+    requires narrow { has_256 layer.now ≡ false → index < 16 }
+    ensures { result ≡ text_colour vram.now palette.now layer.now entry index }
+{
+    if !has_256(layer) {
+        palette_colour(palette, 16 * (entry >> 12) as usize + index as usize)
+    } else if (layer.display >> 30) % 2 == 1 {
+        half(
+            vram,
+            palette_space(layer.engine),
+            extended_palette(layer, entry) + 2 * index as u32,
+        )
+    } else {
+        palette_colour(palette, index as usize)
+    }
+}
+
+/// The pixel of an index, by the entry's palette.
+#[inline(always)]
+fn text_index_pixel(vram: &Vram, palette: &[u8], layer: &TextLayer, entry: u16, index: u8) -> u16
+    requires colours { length palette.now ≡ 512 }
+    requires narrow { has_256 layer.now ≡ false → index < 16 }
+    ensures { result ≡ indexed_pixel (text_colour vram.now palette.now layer.now entry) index }
+{
+    if index == 0 {
+        0
+    } else {
+        opaque_pixel(text_colour(vram, palette, layer, entry, index))
+    }
+}
+
+/// The pixels of a row from its tiles' entries and indices. The first tile's left edge is `fine` pixels left of the screen.
+fn paint(
+    vram: &Vram,
+    palette: &[u8],
+    layer: &TextLayer,
+    y: u32,
+    fine: usize,
+    entries: &[u16; TILES],
+    indices: &[u8; 264],
+    into: &mut [u16; 256],
+)
+    requires colours { length palette.now ≡ 512 }
+    requires fine { fine < 8 }
+    requires indices { AreIndices vram.now layer.now y entries.now indices.now }
+    requires narrow { AreNarrow layer.now indices.now }
+    ensures { (x : ℕ) → x < 256 → slice_index into.new x ≡ tiled_pixel vram.now palette.now layer.now y entries.now fine x }
+{
+    for x in 0..256 {
+        let at = fine + x;
+        let entry = entries[at / 8];
+        let place = flipped((entry >> 10) % 2 == 1, at % 8);
+        let index = indices[8 * (at / 8) + place];
+        into[x] = text_index_pixel(vram, palette, layer, entry, index);
+    }
+}
+
+/// Draws a text background's row at a line of the screen: at each place the pixel of the map entry, the tile and the palette that
+/// the background's scrolls bring there (GBATEK, "LCD VRAM BG Screen Data Format (BG Map)"). `palette` has the 512 bytes of the
+/// engine's background palette.
+pub fn text_row(vram: &Vram, palette: &[u8], layer: &TextLayer, line: u8, into: &mut Row)
+    requires { length palette.now ≡ 512 }
+    ensures { (x : ℕ) → x < 256 → slice_index into.new.pixels x ≡ text_pixel vram.now palette.now layer.now line x }
+{
+    let y = (line as u32 + layer.down as u32) % text_height(layer);
+    let first = layer.across as u32 % text_width(layer) / 8 * 8;
+    let mut entries = [0; TILES];
+    text_entries(vram, layer, first, y, &mut entries);
+    let mut indices = [0; 264];
+    text_indices(vram, layer, &entries, y, &mut indices);
+    let fine = layer.across as usize % 8;
+    paint(
+        vram,
+        palette,
+        layer,
+        y,
+        fine,
+        &entries,
+        &indices,
+        &mut into.pixels,
+    );
+}

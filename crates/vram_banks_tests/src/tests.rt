@@ -1,0 +1,4 @@
+//! Each rule of video memory on worked rows, from GBATEK's bank table.
+
+mod accesses;
+mod entries;

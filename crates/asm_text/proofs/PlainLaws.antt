@@ -2,7 +2,7 @@
 use Rattle.std.proofs.Common.{ℕ, zero, suc, ◌≡◌, ◌≢◌, ◌≤◌, ◌+◌, ◌*◌, ◌^◌, Bool, true, false, List, [], ◌∷◌, ◌++◌, length, refl, arith, Option, Some, None, length-append}
 use Rattle.std.specs.Prelude.{nat_lt, codes, if◌then◌else◌, ◌==◌, ◌&&◌, not}
 use Rattle.ds_base.specs.declared.processors.Arch.{Arch}
-use Rattle.arm_words.specs.Bits.{bit}
+use Rattle.ds_base.specs.Bits.{bit}
 use Rattle.arm_words.specs.Canonical.{canonical_form, if_canonical, same_spelling, immediate}
 use Rattle.arm_words.specs.Spellings.{spelled, decoded}
 use Rattle.arm_words.specs.declared.parts.Condition.{Condition}

@@ -1,5 +1,5 @@
 use Rattle.std.specs.Prelude.{ℕ, zero, suc, ◌+◌, ◌/◌, ◌%◌, ◌^◌, ◌==◌, nat_lt, List, [], ◌∷◌, ◌++◌, codes, Bool, if◌then◌else◌}
-use Rattle.arm_words.specs.Bits.{bit}
+use Rattle.ds_base.specs.Bits.{bit}
 
 -- texts, each after a mark
 abbrev pub preceded : List ℕ → List (List ℕ) → List ℕ

@@ -1,5 +1,5 @@
 use Rattle.std.specs.Prelude.{ℕ, ◌+◌, ◌-◌, ◌*◌, ◌/◌, ◌%◌, ◌^◌, ◌==◌, List, drop, slice_index, Bool, ◌||◌, if◌then◌else◌}
-use Rattle.asm_text.specs.Reading.{hex_at, marked_at, decimal_at, register_at, one_at, two_at, three_at, four_at, operand_at, rotation_of, address_at, registers_at, fields_at, is_spsr}
+use Rattle.asm_text.specs.Reader.Parts.{hex_at, marked_at, decimal_at, register_at, one_at, two_at, three_at, four_at, operand_at, rotation_of, address_at, registers_at, fields_at, is_spsr}
 use Rattle.arm_words.specs.declared.parts.Condition.{Condition}
 use Rattle.arm_words.specs.declared.parts.Offset.{Offset}
 use Rattle.arm_words.specs.declared.parts.Offset.TheVariants.{Number, Register}
@@ -16,16 +16,16 @@ use Rattle.arm_words.specs.declared.instructions.Instr.TheVariants.{Bx, BlxRegis
 -- instruction too. No public clause speaks of it.
 
 -- the distance of a target from what r15 reads as
-abbrev pub distance : ℕ → ℕ → ℕ
-distance at target = ((target + 2 ^ 32 - at) % 2 ^ 32 + 2 ^ 32 - 8) % 2 ^ 32
+abbrev pub branch_distance : ℕ → ℕ → ℕ
+branch_distance at target = ((target + 2 ^ 32 - at) % 2 ^ 32 + 2 ^ 32 - 8) % 2 ^ 32
 
 unfoldable pub branch_at : ℕ → Bool → Condition → List ℕ → Instr
-branch_at at link cond text = Branch cond link (distance at (hex_at text).0 / 4 % 2 ^ 24)
+branch_at at link cond text = Branch cond link (branch_distance at (hex_at text).0 / 4 % 2 ^ 24)
 
 -- blx has a register or a target
 unfoldable pub blx_at : ℕ → Condition → List ℕ → Instr
 blx_at at cond text =
-    let d = distance at (hex_at text).0 in
+    let d = branch_distance at (hex_at text).0 in
     if slice_index text 0 == 114 then BlxRegister cond (one_at text)
     else BlxTarget (d / 2 % 2 == 1) (d / 4 % 2 ^ 24)
 

@@ -1,10 +1,10 @@
 use Rattle.std.specs.Prelude.{ℕ, ◌%◌, ◌^◌, List, Option, Some, None}
 use Rattle.arm_words.specs.Fields.{HasFields}
 use Rattle.arm_words.specs.Spellings.{spelled}
-use Rattle.asm_text.specs.ArmReading.{arm_row}
+use Rattle.asm_text.specs.Reader.ArmRows.{arm_row}
 use Rattle.asm_text.specs.Listed.{number_in}
-use Rattle.asm_text.specs.Naming.{Filler, read}
-use Rattle.asm_text.specs.ThumbReading.{thumb_row}
+use Rattle.asm_text.specs.Reader.Names.{Filler, read}
+use Rattle.asm_text.specs.Reader.ThumbRows.{thumb_row}
 use Rattle.asm_text.specs.declared.reading.arm_stems.TheConstants.{ARM_STEMS}
 use Rattle.asm_text.specs.declared.reading.names.Stem.{Stem}
 use Rattle.asm_text.specs.declared.reading.names.Stem.TheVariants.{Row, Raw}

@@ -2,7 +2,7 @@ use Rattle.std.specs.Prelude.{ℕ, ◌+◌, ◌*◌, ◌/◌, ◌%◌, ◌^◌, 
 use Rattle.arm_words.specs.declared.parts.Condition.{Condition}
 use Rattle.arm_words.specs.declared.parts.Condition.TheVariants.{Al}
 use Rattle.arm_words.specs.declared.instructions.Instr.{Instr}
-use Rattle.asm_text.specs.Reading.{hex_at}
+use Rattle.asm_text.specs.Reader.Parts.{hex_at}
 use Rattle.asm_text.specs.declared.reading.names.Stem.{Stem}
 use Rattle.asm_text.specs.declared.reading.names.Stem.TheVariants.{Row, Raw}
 use Rattle.asm_text.specs.declared.reading.names.TheConstants.{CONDITIONS}
@@ -30,8 +30,8 @@ with_suffix (Some cond) None whole = (whole, Al)
 with_suffix None front whole = (whole, Al)
 
 -- what a name's key stands for, and its condition
-unfoldable pub named : List (ℕ × Stem) → ℕ → Option Stem × Condition
-named table key = with_suffix (lookup (key % 1024) CONDITIONS) (lookup (key / 1024) table) (lookup key table)
+unfoldable pub named_stem : List (ℕ × Stem) → ℕ → Option Stem × Condition
+named_stem table key = with_suffix (lookup (key % 1024) CONDITIONS) (lookup (key / 1024) table) (lookup key table)
 
 -- what fills the fields of an instruction in, at an address: its template, its condition, and the text of its operands
 abbrev pub Filler : Type 0
@@ -49,7 +49,7 @@ if_filled fill at (Some stem) cond text = Some (filled fill at stem cond text)
 unfoldable pub read : List (ℕ × Stem) → Filler → ℕ → List ℕ → Option Stem
 read table fill at text =
     let n = name 0 text in
-    let s = named table n.0 in
+    let s = named_stem table n.0 in
     if_filled fill at s.0 s.1 n.1
 
 abbrev pub no_blank : List ℕ → Bool
@@ -59,7 +59,7 @@ no_blank (b ∷ bs) = not (b == 32) && no_blank bs
 -- what is seen of a name: what the table has for it, what it stands for alone, that its key has room for a suffix, and that it has
 -- no blank
 abbrev pub seen : List (ℕ × Stem) → List ℕ → Option Stem × (Option Stem × Condition) × Bool × Bool
-seen table nm = (lookup (letters 0 nm) table, named table (letters 0 nm), nat_lt (letters 0 nm) (2 ^ 50), no_blank nm)
+seen table nm = (lookup (letters 0 nm) table, named_stem table (letters 0 nm), nat_lt (letters 0 nm) (2 ^ 50), no_blank nm)
 
 -- a table has a name for this
 abbrev pub IsStem : List (ℕ × Stem) → List ℕ → Stem → Type 0

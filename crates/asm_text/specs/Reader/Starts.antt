@@ -3,7 +3,7 @@ use Rattle.ds_base.specs.declared.processors.Arch.{Arch}
 use Rattle.ds_base.specs.declared.processors.Arch.TheVariants.{V4, V5}
 use Rattle.asm_text.specs.declared.sets.Set.{Set}
 use Rattle.asm_text.specs.declared.sets.Set.TheVariants.{Arm, Thumb}
-use Rattle.asm_text.specs.Reading.{hex_at}
+use Rattle.asm_text.specs.Reader.Parts.{hex_at}
 
 -- What the reader takes from a listing's first line, and from a byte's line. It refuses nothing: what it takes is listed again and
 -- compared with the text. No public clause speaks of it.
@@ -18,8 +18,8 @@ set_at text = if is_thumb text then Thumb else Arm
 abbrev pub arch_at : List ℕ → Arch
 arch_at text = if slice_index text (if is_thumb text then 6 else 4) == 57 then V5 else V4
 
-abbrev pub address_at : List ℕ → ℕ
-address_at text = (hex_at (drop (if is_thumb text then 8 else 6) text)).0
+abbrev pub start_address_at : List ℕ → ℕ
+start_address_at text = (hex_at (drop (if is_thumb text then 8 else 6) text)).0
 
-abbrev pub byte_at : List ℕ → ℕ
-byte_at text = (hex_at (drop 6 text)).0 % 2 ^ 8
+abbrev pub listed_byte_at : List ℕ → ℕ
+listed_byte_at text = (hex_at (drop 6 text)).0 % 2 ^ 8

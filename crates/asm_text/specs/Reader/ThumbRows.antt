@@ -1,5 +1,5 @@
 use Rattle.std.specs.Prelude.{ℕ, ◌+◌, ◌-◌, ◌*◌, ◌/◌, ◌%◌, ◌^◌, ◌==◌, nat_le, Bool, true, false, List, drop, slice_index, if◌then◌else◌}
-use Rattle.asm_text.specs.Reading.{hex_at, marked_at, one_at, two_at, register_at, registers_at}
+use Rattle.asm_text.specs.Reader.Parts.{hex_at, marked_at, one_at, two_at, register_at, registers_at}
 use Rattle.arm_words.specs.declared.parts.Condition.{Condition}
 use Rattle.arm_words.specs.declared.parts.Condition.TheVariants.{Al}
 use Rattle.arm_words.specs.declared.parts.Shift.{Shift}
@@ -24,14 +24,14 @@ unfoldable pub small_at : List ℕ → ThumbOperand
 small_at text = if slice_index text 0 == 35 then Small ((marked_at text).0 % 8) else LowRegister (one_at text % 8)
 
 -- `add` and `sub` of a register and a number: r13 is the stack's
-abbrev pub with_number : Bool → ℕ → ℕ → Instr
-with_number subtract rd n =
+abbrev pub sum_with_number : Bool → ℕ → ℕ → Instr
+sum_with_number subtract rd n =
     if rd == 13 then ThumbAdjustStack subtract (n / 4 % 128)
     else ThumbImmediate (if subtract then immediate_ops.Sub else immediate_ops.Add) (rd % 8) (n % 256)
 
 -- `add` and `sub` of two registers: r13 and r15 are bases of addresses
-abbrev pub with_register : Bool → ℕ → ℕ → List ℕ → Instr
-with_register subtract rd rn third =
+abbrev pub sum_with_register : Bool → ℕ → ℕ → List ℕ → Instr
+sum_with_register subtract rd rn third =
     if nat_le 8 rn then ThumbAddress (rn == 13) (rd % 8) ((marked_at third).0 / 4 % 256)
     else ThumbAddSub subtract (small_at third) rn (rd % 8)
 
@@ -40,8 +40,8 @@ add_sub_row subtract text =
     let rd = register_at text in
     let second = drop 2 rd.1 in
     let rn = register_at second in
-    if slice_index second 0 == 35 then with_number subtract rd.0 (marked_at second).0
-    else with_register subtract rd.0 rn.0 (drop 2 rn.1)
+    if slice_index second 0 == 35 then sum_with_number subtract rd.0 (marked_at second).0
+    else sum_with_register subtract rd.0 rn.0 (drop 2 rn.1)
 
 unfoldable pub immediate_row : ThumbImmediateOp → List ℕ → Instr
 immediate_row op text =
@@ -49,11 +49,11 @@ immediate_row op text =
     ThumbImmediate op (rd.0 % 8) ((marked_at (drop 2 rd.1)).0 % 256)
 
 -- the shift of that name
-abbrev pub shift_of : ThumbDataOp → Shift
-shift_of thumb_ops.Lsl = shifts.Lsl
-shift_of thumb_ops.Lsr = shifts.Lsr
-shift_of thumb_ops.Asr = shifts.Asr
-shift_of _ = shifts.Ror
+abbrev pub shift_named : ThumbDataOp → Shift
+shift_named thumb_ops.Lsl = shifts.Lsl
+shift_named thumb_ops.Lsr = shifts.Lsr
+shift_named thumb_ops.Asr = shifts.Asr
+shift_named _ = shifts.Ror
 
 -- two registers, and for a shift a third operand; with a number in place of the second register it is `cmp`
 unfoldable pub data_row : ThumbDataOp → List ℕ → Instr
@@ -62,7 +62,7 @@ data_row op text =
     let second = drop 2 rd.1 in
     let rm = register_at second in
     if slice_index second 0 == 35 then ThumbImmediate immediate_ops.Cmp (rd.0 % 8) ((marked_at second).0 % 256)
-    else (if slice_index rm.1 0 == 44 then ThumbShift (shift_of op) ((marked_at (drop 2 rm.1)).0 % 32) (rm.0 % 8) (rd.0 % 8)
+    else (if slice_index rm.1 0 == 44 then ThumbShift (shift_named op) ((marked_at (drop 2 rm.1)).0 % 32) (rm.0 % 8) (rd.0 % 8)
     else ThumbData op (rm.0 % 8) (rd.0 % 8))
 
 -- a word at a base and a number: r13 and r15 have rows of their own

@@ -22,13 +22,13 @@ size Arm = 4
 size Thumb = 2
 
 -- its bytes, the lowest first
-unfoldable pub bytes_of : Spelling → List ℕ
-bytes_of (Word w) = w % 2 ^ 8 ∷ w / 2 ^ 8 % 2 ^ 8 ∷ w / 2 ^ 16 % 2 ^ 8 ∷ w / 2 ^ 24 % 2 ^ 8 ∷ []
-bytes_of (Half h) = h % 2 ^ 8 ∷ h / 2 ^ 8 % 2 ^ 8 ∷ []
+unfoldable pub spelling_bytes : Spelling → List ℕ
+spelling_bytes (Word w) = w % 2 ^ 8 ∷ w / 2 ^ 8 % 2 ^ 8 ∷ w / 2 ^ 16 % 2 ^ 8 ∷ w / 2 ^ 24 % 2 ^ 8 ∷ []
+spelling_bytes (Half h) = h % 2 ^ 8 ∷ h / 2 ^ 8 % 2 ^ 8 ∷ []
 
 -- what a line stands for, as bytes
 abbrev pub piece_bytes : Piece → List ℕ
-piece_bytes (Number s) = bytes_of s
+piece_bytes (Number s) = spelling_bytes s
 piece_bytes (Byte b) = b ∷ []
 
 -- a line is the statement of a word or half, after which comes the next; after a byte's line there is none
@@ -37,7 +37,7 @@ pub record IsStatement (arch : Arch) (set : Set) (from : Place) (line bytes : Li
   pub number : ℕ
   pub in_range : IsInRange (spelling set number)
   pub text : line ≡ listed arch set from.at number
-  pub its_bytes : bytes ≡ bytes_of (spelling set number)
+  pub its_bytes : bytes ≡ spelling_bytes (spelling set number)
   pub next : to ≡ record { at = (from.at + size set) % 2 ^ 32; left = 0 }
 
 -- a line is that of a byte: fewer than a word or half has are left

@@ -1,8 +1,8 @@
 //! Texts that no word or half has as its statement.
 
 use super::AT;
-use crate::{NotText, Set, read_line};
 use arm_words::Spelling;
+use asm_text::{NotText, Set, read_line};
 use ds_base::Arch;
 use std::process::Abort;
 

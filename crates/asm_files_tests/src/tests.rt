@@ -35,7 +35,11 @@ fn reads(rt: &impl Abort, alloc: Global, text: &str, image: &[u8]) -> Result<(),
 fn is_bad(rt: &impl Abort, alloc: Global, text: &str, line: u32) -> Result<(), AllocError> {
     let mut place = Vec::from_slice(alloc, text.as_bytes())?;
     assert!(rt; place.len() < 0x1_0000_0000);
-    assert_eq!(rt; assemble(place.as_mut_slice()), Err(BadLine { line }), "{text}");
+    assert_eq!(rt;
+        assemble(place.as_mut_slice()),
+        Err(BadLine { line }),
+        "{text}"
+    );
     Ok(())
 }
 
@@ -45,7 +49,9 @@ fn words_both_ways(rt: HostRuntime) -> Result<(), AllocError> {
         (
             Arch::V5,
             0x200_0000,
-            &[1, 0, 0xA0, 0xE3, 1, 0x0C, 0xA0, 0xE3, 0x40, 0x0F, 0xA0, 0xE3],
+            &[
+                1, 0, 0xA0, 0xE3, 1, 0x0C, 0xA0, 0xE3, 0x40, 0x0F, 0xA0, 0xE3,
+            ],
             ".arm9 0x2000000\nmov r0, #0x1\nmov r0, #0x100\n.word 0xe3a00f40\n",
         ),
         (Arch::V5, 0x200_0000, &[], ".arm9 0x2000000\n"),

@@ -1,6 +1,6 @@
 use Rattle.std.proofs.Common.{ℕ, zero, suc, Bool, true, ◌&&◌, ◌||◌, ◌≡◌, inl, inr, ◌<◌, ◌+◌, ◌*◌, ◌/◌, ◌%◌, ◌^◌, ◌==◌, nat_lt, nat_eq, refl, sym, ◌∙◌, ap, arith, if◌then◌else◌}
 use Rattle.arm_words.proofs.Facts.{and_parts, equal, last_or_less}
-use Rattle.arm_words.specs.Bits.{bit, flag}
+use Rattle.ds_base.specs.Bits.{bit, flag}
 use Rattle.arm_words.specs.Parts.{condition_of, condition_number, shift_of, shift_number}
 use Rattle.arm_words.specs.Operations.{data_op_of, data_op_number, compare_op_of, compare_op_number, move_op_of, move_op_number, half_op_of, half_op_bits}
 use Rattle.arm_words.specs.ThumbOperations.{thumb_data_op_of, thumb_data_op_number, thumb_transfer_op_of, thumb_transfer_op_number}

@@ -1,6 +1,6 @@
 use Rattle.std.proofs.Common.{ℕ, [], ◌∷◌, Bool, true, ◌&&◌, ◌||◌, not, ◌≡◌, ◌⊎◌, inl, inr, ◌<◌, ◌+◌, ◌*◌, ◌/◌, ◌%◌, ◌^◌, ◌==◌, nat_lt, bit_and, refl, ◌∙◌, ap, arith, if◌then◌else◌}
 use Rattle.arm_words.proofs.Facts.{and_parts, not_true, unequal}
-use Rattle.arm_words.specs.Bits.{bits, bit}
+use Rattle.ds_base.specs.Bits.{bits, bit}
 use Rattle.arm_words.specs.Parts.{operand_of, operand_bits, offset_of, offset_bits, short_offset_of, short_offset_bits, field_mask_of, field_mask_bits, thumb_operand_of, thumb_operand_bits}
 use Rattle.arm_words.specs.Fields.{HasOperand, HasOffset, HasShortOffset, HasThumbOperand}
 use Rattle.arm_words.specs.ArmTable.{has_operand, has_result, has_offset, at8}

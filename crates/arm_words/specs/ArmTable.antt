@@ -1,6 +1,6 @@
 use Rattle.std.specs.Prelude.{ℕ, ◌+◌, ◌*◌, ◌/◌, ◌^◌, ◌==◌, bit_and, nat_lt, Bool, ◌&&◌, ◌||◌, not, Option, if◌then◌else◌, List, [], ◌∷◌}
 use Rattle.ds_base.specs.declared.processors.Arch.{Arch}
-use Rattle.arm_words.specs.Bits.{bits, bit}
+use Rattle.ds_base.specs.Bits.{bits, bit}
 use Rattle.arm_words.specs.Parts.{condition_of, operand_of, offset_of, short_offset_of, field_mask_of}
 use Rattle.arm_words.specs.Operations.{data_op_of, compare_op_of, move_op_of, half_op_of}
 use Rattle.arm_words.specs.Rows.{Row, row, both, v5, v4, always, first, or_else}

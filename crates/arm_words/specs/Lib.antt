@@ -1,5 +1,4 @@
 pub mod ArmTable
-pub mod Bits
 pub mod Canonical
 pub mod Fields
 pub mod HighOperations

@@ -1,5 +1,5 @@
 use Rattle.std.specs.Prelude.{ℕ, ◌+◌, ◌*◌, ◌/◌, ◌%◌, ◌^◌, if◌then◌else◌, [], ◌∷◌, slice_index_or}
-use Rattle.arm_words.specs.Bits.{bits, bit, flag}
+use Rattle.ds_base.specs.Bits.{bits, bit, flag}
 use Rattle.arm_words.specs.declared.parts.Condition.{Condition}
 use Rattle.arm_words.specs.declared.parts.Condition.TheVariants.{Eq, Ne, Cs, Cc, Mi, Pl, Vs, Vc, Hi, Ls, Ge, Lt, Gt, Le, Al}
 use Rattle.arm_words.specs.declared.parts.Shift.{Shift}

@@ -1,6 +1,6 @@
 use Rattle.std.specs.Prelude.{◌≡◌, ℕ, ◌+◌, ◌*◌, ◌/◌, ◌%◌, ◌^◌, ◌<◌, Bool, Option, Some}
 use Rattle.ds_base.specs.declared.processors.Arch.{Arch}
-use Rattle.arm_words.specs.Bits.{flag}
+use Rattle.ds_base.specs.Bits.{flag}
 use Rattle.arm_words.specs.Parts.{condition_number, shift_number, operand_bits, offset_bits, short_offset_bits, field_mask_bits, thumb_operand_bits}
 use Rattle.arm_words.specs.Operations.{data_op_number, compare_op_number, move_op_number, half_op_bits}
 use Rattle.arm_words.specs.ThumbOperations.{thumb_data_op_number, thumb_transfer_op_number}

@@ -1,6 +1,6 @@
 use Rattle.std.specs.Prelude.{ℕ, ◌+◌, ◌*◌, ◌^◌, nat_lt, Bool, Option, List, [], ◌∷◌}
 use Rattle.ds_base.specs.declared.processors.Arch.{Arch}
-use Rattle.arm_words.specs.Bits.{bits, bit}
+use Rattle.ds_base.specs.Bits.{bits, bit}
 use Rattle.arm_words.specs.Parts.{condition_of, shift_of, thumb_operand_of}
 use Rattle.arm_words.specs.ThumbOperations.{thumb_data_op_of, thumb_transfer_op_of}
 use Rattle.arm_words.specs.ThumbImmediates.{thumb_immediate_op_of}

@@ -1,7 +1,7 @@
 //! Reading the fields of a word or half.
 
 ghost use Rattle.std.specs.Prelude.{◌≡◌, ◌≤◌, ◌<◌, ◌+◌, ◌*◌, ◌^◌};
-ghost use Rattle.arm_words.specs.Bits.{bit, bits};
+ghost use Rattle.ds_base.specs.Bits.{bit, bits};
 ghost use Rattle.arm_words.specs.Parts.{condition_of, shift_of, operand_of, offset_of, short_offset_of, field_mask_of, thumb_operand_of};
 ghost use Rattle.arm_words.specs.Operations.{data_op_of, compare_op_of, move_op_of, half_op_of};
 ghost use Rattle.arm_words.specs.ThumbOperations.{thumb_data_op_of, thumb_transfer_op_of};

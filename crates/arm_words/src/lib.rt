@@ -10,8 +10,6 @@ mod numbers;
 mod operations;
 mod parts;
 mod spellings;
-#[cfg(test)]
-mod tests;
 mod thumb;
 
 pub use arm::decode_arm;

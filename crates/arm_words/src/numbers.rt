@@ -1,7 +1,7 @@
 //! The numbers of the parts of an instruction, at their places in a word or half.
 
 ghost use Rattle.std.specs.Prelude.{◌≡◌, ◌<◌, ◌≤◌, ◌+◌, ◌*◌, ◌/◌, ◌%◌, ◌^◌};
-ghost use Rattle.arm_words.specs.Bits.{flag};
+ghost use Rattle.ds_base.specs.Bits.{flag};
 ghost use Rattle.arm_words.specs.Fields.{HasOffset, HasOperand, HasShortOffset, HasThumbOperand};
 ghost use Rattle.arm_words.specs.HighOperations.{high_op_number};
 ghost use Rattle.arm_words.specs.Operations.{compare_op_number, data_op_number, half_op_bits, move_op_number};

@@ -2,7 +2,7 @@
 
 ghost use Rattle.std.specs.Prelude.{◌≡◌, ◌<◌, ◌≤◌, ◌+◌, ◌*◌, ◌/◌, ◌%◌, ◌^◌};
 ghost use Rattle.ds_base.specs.declared.processors.Arch.{Arch};
-ghost use Rattle.arm_words.specs.Bits.{flag};
+ghost use Rattle.ds_base.specs.Bits.{flag};
 ghost use Rattle.arm_words.specs.Canonical.{IsCanonical};
 ghost use Rattle.arm_words.specs.Fields.{HasFields};
 ghost use Rattle.arm_words.specs.Spellings.{decoded, index, low_byte, lows, regs, spelled, word, Has, IsInstruction};

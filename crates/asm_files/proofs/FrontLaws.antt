@@ -10,7 +10,7 @@ use Rattle.asm_text.specs.StatementLaws.{StatementLaws}
 use Rattle.asm_text.proofs.StartLaws.{one_start}
 use Rattle.asm_files.specs.declared.places.Place.{Place}
 use Rattle.asm_files.specs.Listings.{text_of, whole_lines, tail, listing_lines, lines_of, IsListing, IsFront, IsFirstBad}
-use Rattle.asm_files.specs.Lines.{first_place, Path, HasPath, EndsAt}
+use Rattle.asm_files.specs.Reader.Lines.{first_place, Path, HasPath, EndsAt}
 use Rattle.asm_files.proofs.PathLaws.{path_of_lines, lines_of_path, path_split, path_once}
 use Rattle.asm_files.proofs.TextLaws.{lines_again, tail_again, text_again, listing_plain}
 

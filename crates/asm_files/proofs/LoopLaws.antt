@@ -7,7 +7,7 @@ use Rattle.asm_text.specs.StatementLaws.{StatementLaws}
 use Rattle.arm_words.specs.declared.spellings.Spelling.{Spelling}
 use Rattle.arm_words.specs.declared.spellings.Spelling.TheVariants.{Word, Half}
 use Rattle.asm_files.specs.declared.places.Place.{Place}
-use Rattle.asm_files.specs.Lines.{bytes_of, Leads, Path, HasPath, EndsAt}
+use Rattle.asm_files.specs.Reader.Lines.{spelling_bytes, Leads, Path, HasPath, EndsAt}
 use Rattle.asm_files.proofs.PathLaws.{path_split, path_once, path_more}
 
 -- the next of a list's lines
@@ -71,8 +71,8 @@ module _ (arch : Arch) (set : Set) (from : Place) (ls : List (List ℕ)) (count 
       let P : List (List ℕ) → Type 0 = λ x. Path arch set from x (bytes ++ b) to in
       subst P (sym n.taken) (path_more arch set from (take count ls) bytes mid l b to p s)
 
-pub four_at_most : (s : Spelling) → length (bytes_of s) ≤ 4
-unfolding bytes_of
+pub four_at_most : (s : Spelling) → length (spelling_bytes s) ≤ 4
+unfolding spelling_bytes
 four_at_most (Word w) = omega arith
 four_at_most (Half h) = omega arith
 

@@ -9,8 +9,8 @@ use Rattle.asm_text.specs.Starts.{raw_byte}
 use Rattle.ds_io.specs.Sinks.{Appended, AppendedFront}
 use Rattle.ds_io.proofs.SinkLemmas.{append_none, append_twice, front_after, front_of_more}
 use Rattle.asm_files.specs.Listings.{text_of, half_of, word_of, arm_lines, thumb_lines, lines_of}
-use Rattle.asm_files.specs.Lines.{size}
-use Rattle.asm_files.specs.Pages.{Passing, Passed}
+use Rattle.asm_files.specs.Reader.Lines.{size}
+use Rattle.asm_files.specs.Writer.Pages.{Passing, Passed}
 use Rattle.asm_files.proofs.PathLaws.{few_lines}
 
 -- the bytes of a page and of two texts, in two ways

@@ -12,13 +12,13 @@ use Rattle.asm_text.specs.StatementLaws.{StatementLaws}
 use Rattle.asm_text.proofs.StartLaws.{one_byte}
 use Rattle.asm_files.specs.declared.places.Place.{Place}
 use Rattle.asm_files.specs.Listings.{half_of, word_of, arm_lines, thumb_lines, lines_of, AllBytes}
-use Rattle.asm_files.specs.Lines.{first_place, size, bytes_of, IsStatement, IsByteLine, Leads, Path, HasPath}
+use Rattle.asm_files.specs.Reader.Lines.{first_place, size, spelling_bytes, IsStatement, IsByteLine, Leads, Path, HasPath}
 
 -- a line leads to one place
 pub leads_once : StatementLaws → (arch : Arch) (set : Set) (from : Place) (line b : List ℕ) (m : Place) (c : List ℕ) (n : Place) → from.at < 2 ^ 32 → Leads arch set from line b m → Leads arch set from line c n → (b ≡ c) × (m ≡ n)
 leads_once laws arch set from line b m c n h (inl x) (inl y) =
     let e : x.number ≡ y.number = laws.one arch set from.at x.number y.number h x.in_range y.in_range (sym x.text ∙ y.text) in
-    (x.its_bytes ∙ ap (λ (w : ℕ). bytes_of (spelling set w)) e ∙ sym y.its_bytes, x.next ∙ sym y.next)
+    (x.its_bytes ∙ ap (λ (w : ℕ). spelling_bytes (spelling set w)) e ∙ sym y.its_bytes, x.next ∙ sym y.next)
 leads_once laws arch set from line b m c n h (inl x) (inr y) = absurd (laws.apart arch set from.at x.number y.number h x.in_range y.in_range (sym x.text ∙ y.text))
 leads_once laws arch set from line b m c n h (inr x) (inl y) = absurd (laws.apart arch set from.at y.number x.number h y.in_range x.in_range (sym y.text ∙ x.text))
 leads_once laws arch set from line b m c n h (inr x) (inr y) =
@@ -77,8 +77,8 @@ word_again w h = omega arith
 half_again : (w : ℕ) → w < 2 ^ 16 → half_of (w % 2 ^ 8) (w / 2 ^ 8 % 2 ^ 8) ≡ w
 half_again w h = omega arith
 
-word_bytes : (a b c d : ℕ) → a < 2 ^ 8 → b < 2 ^ 8 → c < 2 ^ 8 → d < 2 ^ 8 → a ∷ b ∷ c ∷ d ∷ [] ≡ bytes_of (Word (word_of a b c d))
-unfolding bytes_of
+word_bytes : (a b c d : ℕ) → a < 2 ^ 8 → b < 2 ^ 8 → c < 2 ^ 8 → d < 2 ^ 8 → a ∷ b ∷ c ∷ d ∷ [] ≡ spelling_bytes (Word (word_of a b c d))
+unfolding spelling_bytes
 word_bytes a b c d ha hb hc hd =
     let ea : word_of a b c d % 2 ^ 8 ≡ a = omega arith in
     let eb : word_of a b c d / 2 ^ 8 % 2 ^ 8 ≡ b = omega arith in
@@ -86,8 +86,8 @@ word_bytes a b c d ha hb hc hd =
     let ed : word_of a b c d / 2 ^ 24 % 2 ^ 8 ≡ d = omega arith in
     rw (ea, eb, ec, ed) refl
 
-half_bytes : (a b : ℕ) → a < 2 ^ 8 → b < 2 ^ 8 → a ∷ b ∷ [] ≡ bytes_of (Half (half_of a b))
-unfolding bytes_of
+half_bytes : (a b : ℕ) → a < 2 ^ 8 → b < 2 ^ 8 → a ∷ b ∷ [] ≡ spelling_bytes (Half (half_of a b))
+unfolding spelling_bytes
 half_bytes a b ha hb =
     let ea : half_of a b % 2 ^ 8 ≡ a = omega arith in
     let eb : half_of a b / 2 ^ 8 % 2 ^ 8 ≡ b = omega arith in
@@ -173,8 +173,8 @@ pub record AreLines (arch : Arch) (set : Set) (at : ℕ) (lines : List (List ℕ
   pub are : lines ≡ lines_of arch set at image
   pub all : AllBytes image
 
-number_more : (arch : Arch) (set : Set) (at n : ℕ) (ls : List (List ℕ)) (rest : List ℕ) → IsInRange (spelling set n) → AreLines arch set ((at + size set) % 2 ^ 32) ls rest → AreLines arch set at (listed arch set at n ∷ ls) (bytes_of (spelling set n) ++ rest)
-unfolding bytes_of
+number_more : (arch : Arch) (set : Set) (at n : ℕ) (ls : List (List ℕ)) (rest : List ℕ) → IsInRange (spelling set n) → AreLines arch set ((at + size set) % 2 ^ 32) ls rest → AreLines arch set at (listed arch set at n ∷ ls) (spelling_bytes (spelling set n) ++ rest)
+unfolding spelling_bytes
 number_more arch Arm at n ls rest h r = record {
   are = ap (λ (x : ℕ). listed arch Arm at x ∷ ls) (sym (word_again n h)) ∙ ap (λ (x : List (List ℕ)). listed arch Arm at (word_of (n % 2 ^ 8) (n / 2 ^ 8 % 2 ^ 8) (n / 2 ^ 16 % 2 ^ 8) (n / 2 ^ 24 % 2 ^ 8)) ∷ x) r.are;
   all = (omega arith, (omega arith, (omega arith, (omega arith, r.all))));
@@ -194,7 +194,7 @@ first_of_path arch set at l ls image to first mid rest (inl x) e q rec =
     let P : Place → Type 0 = λ y. Path arch set y ls rest to in
     let r = rec rest (subst P x.next q) in
     let Q : List ℕ → Type 0 = λ y. AreLines arch set at (l ∷ ls) y in
-    let R : List ℕ → Type 0 = λ y. AreLines arch set at (y ∷ ls) (bytes_of (spelling set x.number) ++ rest) in
+    let R : List ℕ → Type 0 = λ y. AreLines arch set at (y ∷ ls) (spelling_bytes (spelling set x.number) ++ rest) in
     subst Q (sym (e ∙ ap (λ (y : List ℕ). y ++ rest) x.its_bytes)) (subst R (sym x.text) (number_more arch set at x.number ls rest x.in_range r))
 first_of_path arch set at l ls image to first mid rest (inr x) e q rec =
     let P : Place → Type 0 = λ y. Path arch set y ls rest to in

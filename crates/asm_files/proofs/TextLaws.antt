@@ -9,7 +9,7 @@ use Rattle.asm_text.specs.StatementLaws.{StatementLaws}
 use Rattle.asm_text.proofs.StartLaws.{byte_plain, start_plain}
 use Rattle.asm_files.specs.declared.places.Place.{Place}
 use Rattle.asm_files.specs.Listings.{text_of, lines_in, tail_in, whole_lines, tail, listing_lines, lines_of, AllBytes}
-use Rattle.asm_files.specs.Lines.{first_place, Leads, Path}
+use Rattle.asm_files.specs.Reader.Lines.{first_place, Leads, Path}
 use Rattle.asm_files.proofs.PathLaws.{path_of_lines}
 
 abbrev pub AllPlain : List (List ℕ) → Type 0

@@ -1,3 +1,3 @@
-pub mod Lines
 pub mod Listings
-pub mod Pages
+pub mod Reader
+pub mod Writer

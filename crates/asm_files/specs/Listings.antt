@@ -1,17 +1,19 @@
 -- Listings of images (our choice).
-use Rattle.std.specs.Prelude.{ℕ, ◌≡◌, ◌≢◌, ◌<◌, ◌≤◌, ◌+◌, ◌*◌, ◌%◌, ◌^◌, ◌==◌, List, [], ◌∷◌, ◌++◌, length, take, map, if◌then◌else◌, ◌⊎◌}
+use Rattle.std.specs.Prelude.{ℕ, ◌≡◌, ◌≢◌, ◌<◌, ◌≤◌, ◌+◌, ◌%◌, ◌^◌, ◌==◌, List, [], ◌∷◌, ◌++◌, length, take, map, if◌then◌else◌, ◌⊎◌}
+use Rattle.ds_base.specs.Numbers.{number_at}
+use Rattle.ds_base.specs.declared.memories.Width.TheVariants.{Half, Word}
 use Rattle.ds_base.specs.declared.processors.Arch.{Arch}
 use Rattle.asm_text.specs.declared.sets.Set.{Set}
 use Rattle.asm_text.specs.declared.sets.Set.TheVariants.{Arm, Thumb}
 use Rattle.asm_text.specs.Listed.{listed}
 use Rattle.asm_text.specs.Starts.{start, raw_byte}
 
--- a number of bytes, the lowest first
+-- the number that bytes stand for, the lowest first
 abbrev pub half_of : ℕ → ℕ → ℕ
-half_of a b = a + 2 ^ 8 * b
+half_of a b = number_at Half (a ∷ b ∷ []) 0
 
 abbrev pub word_of : ℕ → ℕ → ℕ → ℕ → ℕ
-word_of a b c d = a + 2 ^ 8 * b + 2 ^ 16 * c + 2 ^ 24 * d
+word_of a b c d = number_at Word (a ∷ b ∷ c ∷ d ∷ []) 0
 
 -- the lines of an image at an address: a statement a word or half, at addresses modulo 2^32, and a line for each byte that is left
 abbrev pub arm_lines : Arch → ℕ → List ℕ → List (List ℕ)

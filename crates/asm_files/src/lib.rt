@@ -6,8 +6,6 @@ mod laws;
 mod pages;
 mod places;
 mod reading;
-#[cfg(test)]
-mod tests;
 mod writing;
 
 pub use laws::listing_laws;

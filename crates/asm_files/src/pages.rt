@@ -3,7 +3,7 @@
 ghost use Rattle.std.specs.Prelude.{◌≡◌, ◌+◌, ◌<◌, ◌≤◌, ◌++◌, ◌∷◌, [], length, OnErr, OnOk};
 ghost use Rattle.ds_io.specs.Faults.{Rose};
 ghost use Rattle.ds_io.specs.Sinks.{Appended, AppendedFront};
-ghost use Rattle.asm_files.specs.Pages.{Passed};
+ghost use Rattle.asm_files.specs.Writer.Pages.{Passed};
 
 use arrayvec::ArrayVec;
 use asm_text::Line;

@@ -2,7 +2,7 @@
 
 ghost use Rattle.std.specs.Prelude.{◌≡◌, ◌≢◌, ◌<◌, ◌≤◌, ◌+◌, ◌^◌, ◌++◌, ◌∷◌, [], ℕ, List, length, take, drop, IfOk, IfErr, IfSome, IfNone};
 ghost use Rattle.arm_words.specs.Spellings.{IsInRange};
-ghost use Rattle.asm_files.specs.Lines.{first_place, piece_bytes, size, EndsAt, HasPath, Leads};
+ghost use Rattle.asm_files.specs.Reader.Lines.{first_place, piece_bytes, size, EndsAt, HasPath, Leads};
 ghost use Rattle.asm_files.specs.Listings.{tail, whole_lines, IsFirstBad, IsListing};
 ghost use Rattle.asm_files.specs.declared.places.Place.{Place};
 
@@ -65,7 +65,7 @@ fn read_line(arch: Arch, set: Set, place: Place, line: &[u8]) -> Option<(Piece, 
 }
 
 /// Writes a piece's bytes at a place, and gives the place after them.
-#[tactic(auto, unfolding(crate::specs::Lines::bytes_of))]
+#[tactic(auto, unfolding(crate::specs::Reader::Lines::spelling_bytes))]
 fn put(piece: Piece, at: usize, text: &mut [u8]) -> usize
     requires { at + length (piece_bytes piece) ≤ length text.old }
     ensures at { result ≡ at + length (piece_bytes piece) }

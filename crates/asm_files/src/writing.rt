@@ -5,7 +5,7 @@ ghost use Rattle.ds_io.specs.Faults.{Rose};
 ghost use Rattle.ds_io.specs.Sinks.{Appended, AppendedFront};
 ghost use Rattle.asm_text.specs.Starts.{raw_byte};
 ghost use Rattle.asm_files.specs.Listings.{arm_lines, lines_of, listing, text_of, thumb_lines};
-ghost use Rattle.asm_files.specs.Pages.{Passed};
+ghost use Rattle.asm_files.specs.Writer.Pages.{Passed};
 
 use crate::pages::{Page, put_line, send};
 use asm_text::{Line, Set, list_byte, list_start, list_word};

@@ -13,7 +13,7 @@ use Rattle.arm_words.specs.declared.parts.ShortOffset.{ShortOffset}
 use Rattle.arm_words.specs.declared.parts.ShortOffset.TheVariants.{ShortNumber, ShortRegister}
 use Rattle.asm_text.specs.Names.{field_letters}
 use Rattle.asm_text.specs.Operands.{shifted, offset, short_offset, at_offset, address}
-use Rattle.asm_text.specs.Reading.{register_at, unsigned_at, offset_at, address_at, member_at, members_from, registers_at, fields_at}
+use Rattle.asm_text.specs.Reader.Parts.{register_at, unsigned_at, offset_at, address_at, member_at, members_from, registers_at, fields_at}
 use Rattle.asm_text.specs.Text.{register, hex, preceded, joined, registers, members, where_set}
 use Rattle.asm_text.specs.declared.reading.parts.Address.{Address}
 use Rattle.asm_text.proofs.Again.{EndsDecimal, EndsShift, hex_again, register_again, shifted_again}

@@ -11,8 +11,9 @@ use Rattle.arm_words.specs.declared.parts.Operand.TheVariants.{Immediate, Shifte
 use Rattle.arm_words.proofs.Facts.{and_parts, le_of}
 use Rattle.asm_text.specs.Names.{shift_name}
 use Rattle.asm_text.specs.Operands.{shifted, operand}
-use Rattle.asm_text.specs.Reading.{numeral, hex_at, marked_at, decimal_at, register_at, one_at, two_at, three_at, four_at, is_decimal, is_digit, digit_value, shift_at, by_shift, shifted_at, rotation_from, rotation_of, operand_at}
-use Rattle.asm_text.specs.Text.{register, decimal, hex, number, digits, digit, trimmed, joined}
+use Rattle.asm_text.specs.Reader.Parts.{numeral, hex_at, marked_at, decimal_at, register_at, one_at, two_at, three_at, four_at, is_decimal, is_digit, digit_value, shift_at, by_shift, shifted_at, rotation_from, rotation_of, operand_at}
+use Rattle.ds_base.specs.Digits.{hex_digit, hex_digits}
+use Rattle.asm_text.specs.Text.{register, decimal, hex, number, trimmed, joined}
 use Rattle.asm_text.proofs.Rotations.{back_again, below_word}
 
 -- what can't go on a number
@@ -44,10 +45,10 @@ pub register_again : (n : ℕ) (rest : List ℕ) → n < 16 → EndsDecimal rest
 register_again n rest h e = decimal_again n rest h e
 
 -- a digit goes on a number
-digit_step : (m d : ℕ) (bs : List ℕ) → d < 16 → numeral m (digit d ∷ bs) ≡ numeral ((m * 16 + d) % 2 ^ 32) bs
+digit_step : (m d : ℕ) (bs : List ℕ) → d < 16 → numeral m (hex_digit d ∷ bs) ≡ numeral ((m * 16 + d) % 2 ^ 32) bs
 digit_step m d bs h =
-    let is : is_digit (digit d) ≡ true = grind arith in
-    let value : digit_value (digit d) ≡ d = grind arith in
+    let is : is_digit (hex_digit d) ≡ true = grind arith in
+    let value : digit_value (hex_digit d) ≡ d = grind arith in
     rw (is, value) refl
 
 numeral_stops : (m : ℕ) (rest : List ℕ) → EndsNumber rest → numeral m rest ≡ (m, rest)
@@ -64,18 +65,18 @@ trimmed_same (d ∷ []) rest = refl
 trimmed_same (d ∷ e ∷ ds) rest =
     elim (same_or_not d 48) [ inl same ↦ (let r = trimmed_same (e ∷ ds) rest in rw same r) | inr other ↦ grind (arith, other) ]
 
-step_to : (m d next : ℕ) (bs : List ℕ) → d < 16 → (m * 16 + d) % 2 ^ 32 ≡ next → numeral m (digit d ∷ bs) ≡ numeral next bs
+step_to : (m d next : ℕ) (bs : List ℕ) → d < 16 → (m * 16 + d) % 2 ^ 32 ≡ next → numeral m (hex_digit d ∷ bs) ≡ numeral next bs
 step_to m d next bs h e = digit_step m d bs h ∙ ap (λ (x : ℕ). numeral x bs) e
 
-pub digits_again : (n : ℕ) (rest : List ℕ) → n < 2 ^ 32 → EndsNumber rest → numeral 0 (digits 8 n ++ rest) ≡ (n, rest)
+pub digits_again : (n : ℕ) (rest : List ℕ) → n < 2 ^ 32 → EndsNumber rest → numeral 0 (hex_digits 8 n ++ rest) ≡ (n, rest)
 digits_again n rest h e =
-    let l0 : List ℕ = digit (n / 16 ^ 0 % 16) ∷ rest in
-    let l1 : List ℕ = digit (n / 16 ^ 1 % 16) ∷ l0 in
-    let l2 : List ℕ = digit (n / 16 ^ 2 % 16) ∷ l1 in
-    let l3 : List ℕ = digit (n / 16 ^ 3 % 16) ∷ l2 in
-    let l4 : List ℕ = digit (n / 16 ^ 4 % 16) ∷ l3 in
-    let l5 : List ℕ = digit (n / 16 ^ 5 % 16) ∷ l4 in
-    let l6 : List ℕ = digit (n / 16 ^ 6 % 16) ∷ l5 in
+    let l0 : List ℕ = hex_digit (n / 16 ^ 0 % 16) ∷ rest in
+    let l1 : List ℕ = hex_digit (n / 16 ^ 1 % 16) ∷ l0 in
+    let l2 : List ℕ = hex_digit (n / 16 ^ 2 % 16) ∷ l1 in
+    let l3 : List ℕ = hex_digit (n / 16 ^ 3 % 16) ∷ l2 in
+    let l4 : List ℕ = hex_digit (n / 16 ^ 4 % 16) ∷ l3 in
+    let l5 : List ℕ = hex_digit (n / 16 ^ 5 % 16) ∷ l4 in
+    let l6 : List ℕ = hex_digit (n / 16 ^ 6 % 16) ∷ l5 in
     step_to 0 (n / 16 ^ 7 % 16) (n / 16 ^ 7) l6 (omega arith) (omega arith)
     ∙ step_to (n / 16 ^ 7) (n / 16 ^ 6 % 16) (n / 16 ^ 6) l5 (omega arith) (omega arith)
     ∙ step_to (n / 16 ^ 6) (n / 16 ^ 5 % 16) (n / 16 ^ 5) l4 (omega arith) (omega arith)
@@ -87,11 +88,11 @@ digits_again n rest h e =
     ∙ numeral_stops n rest e
 
 -- the four digits of a half
-pub half_again : (n : ℕ) (rest : List ℕ) → n < 2 ^ 16 → EndsNumber rest → numeral 0 (digits 4 n ++ rest) ≡ (n, rest)
+pub half_again : (n : ℕ) (rest : List ℕ) → n < 2 ^ 16 → EndsNumber rest → numeral 0 (hex_digits 4 n ++ rest) ≡ (n, rest)
 half_again n rest h e =
-    let l0 : List ℕ = digit (n / 16 ^ 0 % 16) ∷ rest in
-    let l1 : List ℕ = digit (n / 16 ^ 1 % 16) ∷ l0 in
-    let l2 : List ℕ = digit (n / 16 ^ 2 % 16) ∷ l1 in
+    let l0 : List ℕ = hex_digit (n / 16 ^ 0 % 16) ∷ rest in
+    let l1 : List ℕ = hex_digit (n / 16 ^ 1 % 16) ∷ l0 in
+    let l2 : List ℕ = hex_digit (n / 16 ^ 2 % 16) ∷ l1 in
     step_to 0 (n / 16 ^ 3 % 16) (n / 16 ^ 3) l2 (omega arith) (omega arith)
     ∙ step_to (n / 16 ^ 3) (n / 16 ^ 2 % 16) (n / 16 ^ 2) l1 (omega arith) (omega arith)
     ∙ step_to (n / 16 ^ 2) (n / 16 ^ 1 % 16) (n / 16 ^ 1) l0 (omega arith) (omega arith)
@@ -99,20 +100,20 @@ half_again n rest h e =
     ∙ numeral_stops n rest e
 
 -- the two digits of a byte
-pub byte_again : (n : ℕ) (rest : List ℕ) → n < 2 ^ 8 → EndsNumber rest → numeral 0 (digits 2 n ++ rest) ≡ (n, rest)
+pub byte_again : (n : ℕ) (rest : List ℕ) → n < 2 ^ 8 → EndsNumber rest → numeral 0 (hex_digits 2 n ++ rest) ≡ (n, rest)
 byte_again n rest h e =
-    let l0 : List ℕ = digit (n / 16 ^ 0 % 16) ∷ rest in
+    let l0 : List ℕ = hex_digit (n / 16 ^ 0 % 16) ∷ rest in
     step_to 0 (n / 16 ^ 1 % 16) (n / 16 ^ 1) l0 (omega arith) (omega arith)
     ∙ step_to (n / 16 ^ 1) (n / 16 ^ 0 % 16) n rest (omega arith) (omega arith)
     ∙ numeral_stops n rest e
 
 pub hex_again : (n : ℕ) (rest : List ℕ) → n < 2 ^ 32 → EndsNumber rest → hex_at (hex n ++ rest) ≡ (n, rest)
 unfolding hex_at
-hex_again n rest h e = trimmed_same (digits 8 n) rest ∙ digits_again n rest h e
+hex_again n rest h e = trimmed_same (hex_digits 8 n) rest ∙ digits_again n rest h e
 
 pub marked_again : (n : ℕ) (rest : List ℕ) → n < 2 ^ 32 → EndsNumber rest → marked_at (number n ++ rest) ≡ (n, rest)
 unfolding marked_at
-marked_again n rest h e = trimmed_same (digits 8 n) rest ∙ digits_again n rest h e
+marked_again n rest h e = trimmed_same (hex_digits 8 n) rest ∙ digits_again n rest h e
 
 -- registers with a comma and a blank between them
 pub one_again : (a : ℕ) → a < 16 → one_at (joined (codes ", ") (register a ∷ [])) ≡ a

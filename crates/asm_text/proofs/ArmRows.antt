@@ -7,10 +7,10 @@ use Rattle.arm_words.specs.declared.parts.Condition.TheVariants.{Al}
 use Rattle.arm_words.specs.declared.instructions.Instr.{Instr}
 use Rattle.arm_words.specs.declared.instructions.Instr.TheVariants.{Bx, BlxRegister, Bkpt, Clz, Saturating, Smla, Smlaw, Smulw, Smlal, Smul, Mul, Mla, LongMultiply, Branch, Swi, BlxTarget}
 use Rattle.asm_text.specs.Addresses.{arm_target, half_target}
-use Rattle.asm_text.specs.ArmReading.{arm_row, blx_at, branch_at, distance}
+use Rattle.asm_text.specs.Reader.ArmRows.{arm_row, blx_at, branch_at, branch_distance}
 use Rattle.asm_text.specs.Names.{half_letter, long_name, saturating_name}
-use Rattle.asm_text.specs.Naming.{read}
-use Rattle.asm_text.specs.Reading.{hex_at}
+use Rattle.asm_text.specs.Reader.Names.{read}
+use Rattle.asm_text.specs.Reader.Parts.{hex_at}
 use Rattle.asm_text.specs.Statements.{on, statement}
 use Rattle.asm_text.specs.Text.{hex, joined, register, where_set}
 use Rattle.asm_text.specs.declared.reading.names.Stem.TheVariants.{Row}
@@ -115,16 +115,16 @@ swi_read at cond immed h =
     (ap (λ (n : ℕ). Swi cond (n % 2 ^ 24)) e ∙ ap (Swi cond) (within immed (2 ^ 24) h))
 
 -- a target's distance tells the offset and bit H
-away : (at by : ℕ) → at < 2 ^ 32 → by < 2 ^ 24 → distance at (arm_target at by) / 4 % 2 ^ 24 ≡ by
+away : (at by : ℕ) → at < 2 ^ 32 → by < 2 ^ 24 → branch_distance at (arm_target at by) / 4 % 2 ^ 24 ≡ by
 away at by ha h = grind arith
 
-half_away : (at by : ℕ) → at < 2 ^ 32 → by < 2 ^ 24 → distance at (half_target at by) / 4 % 2 ^ 24 ≡ by
+half_away : (at by : ℕ) → at < 2 ^ 32 → by < 2 ^ 24 → branch_distance at (half_target at by) / 4 % 2 ^ 24 ≡ by
 half_away at by ha h = grind arith
 
-even : (at by : ℕ) → at < 2 ^ 32 → by < 2 ^ 24 → distance at (arm_target at by) / 2 % 2 ≡ 0
+even : (at by : ℕ) → at < 2 ^ 32 → by < 2 ^ 24 → branch_distance at (arm_target at by) / 2 % 2 ≡ 0
 even at by ha h = grind arith
 
-odd : (at by : ℕ) → at < 2 ^ 32 → by < 2 ^ 24 → distance at (half_target at by) / 2 % 2 ≡ 1
+odd : (at by : ℕ) → at < 2 ^ 32 → by < 2 ^ 24 → branch_distance at (half_target at by) / 2 % 2 ≡ 1
 odd at by ha h = grind arith
 
 arm_below : (at by : ℕ) → arm_target at by < 2 ^ 32
@@ -137,7 +137,7 @@ pub branch_read : (at : ℕ) (cond : Condition) (link : Bool) (by : ℕ) → at 
 unfolding arm_row branch_at
 branch_read at cond link by ha h =
     row_read at (codes "b" ++ where_set link (codes "l")) (Branch Al link 0) cond (hex (arm_target at by) ∷ []) (Branch cond link by) (ArmStems.branch_stem link)
-    (ap (λ (n : ℕ). Branch cond link (distance at n / 4 % 2 ^ 24)) (number_read (arm_target at by) (arm_below at by)) ∙ ap (Branch cond link) (away at by ha h))
+    (ap (λ (n : ℕ). Branch cond link (branch_distance at n / 4 % 2 ^ 24)) (number_read (arm_target at by) (arm_below at by)) ∙ ap (Branch cond link) (away at by ha h))
 
 pub blx_register_read : (at : ℕ) (cond : Condition) (rm : ℕ) → HasFields (BlxRegister cond rm) → IsRead at (BlxRegister cond rm)
 unfolding arm_row blx_at
@@ -145,20 +145,20 @@ blx_register_read at cond rm h =
     row_read at (codes "blx") (BlxRegister Al 0) cond (register rm ∷ []) (BlxRegister cond rm) ArmStems.blx_stem (ap (BlxRegister cond) (one_again rm h))
 
 -- what blx with a target gives
-target_given : (at target by : ℕ) (half : Bool) → target < 2 ^ 32 → distance at target / 4 % 2 ^ 24 ≡ by → (distance at target / 2 % 2 == 1) ≡ half →
+target_given : (at target by : ℕ) (half : Bool) → target < 2 ^ 32 → branch_distance at target / 4 % 2 ^ 24 ≡ by → (branch_distance at target / 2 % 2 == 1) ≡ half →
     blx_at at Al (hex target ++ []) ≡ BlxTarget half by
 unfolding blx_at
 target_given at target by half ht hn hb =
-    ap (λ (n : ℕ). BlxTarget (distance at n / 2 % 2 == 1) (distance at n / 4 % 2 ^ 24)) (number_read target ht)
-    ∙ ap (λ (b : Bool). BlxTarget b (distance at target / 4 % 2 ^ 24)) hb ∙ ap (BlxTarget half) hn
+    ap (λ (n : ℕ). BlxTarget (branch_distance at n / 2 % 2 == 1) (branch_distance at n / 4 % 2 ^ 24)) (number_read target ht)
+    ∙ ap (λ (b : Bool). BlxTarget b (branch_distance at target / 4 % 2 ^ 24)) hb ∙ ap (BlxTarget half) hn
 
 pub blx_target_read : (at : ℕ) (half : Bool) (by : ℕ) → at < 2 ^ 32 → HasFields (BlxTarget half by) → IsRead at (BlxTarget half by)
 unfolding arm_row
 blx_target_read at true by ha h =
-    let odd_one : (distance at (half_target at by) / 2 % 2 == 1) ≡ true = rw (odd at by ha h) refl in
+    let odd_one : (branch_distance at (half_target at by) / 2 % 2 == 1) ≡ true = rw (odd at by ha h) refl in
     row_read at (codes "blx") (BlxRegister Al 0) Al (hex (half_target at by) ∷ []) (BlxTarget true by) ArmStems.blx_stem
     (target_given at (half_target at by) by true (half_below at by) (half_away at by ha h) odd_one)
 blx_target_read at false by ha h =
-    let even_one : (distance at (arm_target at by) / 2 % 2 == 1) ≡ false = rw (even at by ha h) refl in
+    let even_one : (branch_distance at (arm_target at by) / 2 % 2 == 1) ≡ false = rw (even at by ha h) refl in
     row_read at (codes "blx") (BlxRegister Al 0) Al (hex (arm_target at by) ∷ []) (BlxTarget false by) ArmStems.blx_stem
     (target_given at (arm_target at by) by false (arm_below at by) (away at by ha h) even_one)

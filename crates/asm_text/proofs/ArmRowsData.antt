@@ -13,10 +13,10 @@ use Rattle.arm_words.specs.declared.operations.CompareOp.{CompareOp}
 use Rattle.arm_words.specs.declared.operations.MoveOp.{MoveOp}
 use Rattle.arm_words.specs.declared.instructions.Instr.{Instr}
 use Rattle.arm_words.specs.declared.instructions.Instr.TheVariants.{Compare, Coprocessor, Data, Move, Mrs, Msr, MsrImmediate}
-use Rattle.asm_text.specs.ArmReading.{arm_row, compare_at, coprocessor_at, data_at, move_at, mrs_at, msr_at}
+use Rattle.asm_text.specs.Reader.ArmRows.{arm_row, compare_at, coprocessor_at, data_at, move_at, mrs_at, msr_at}
 use Rattle.asm_text.specs.Names.{compare_name, data_name, field_letters, move_name, status_name}
 use Rattle.asm_text.specs.Operands.{operand}
-use Rattle.asm_text.specs.Reading.{is_spsr, marked_at, operand_at, register_at, rotation_of}
+use Rattle.asm_text.specs.Reader.Parts.{is_spsr, marked_at, operand_at, register_at, rotation_of}
 use Rattle.asm_text.specs.Text.{decimal, number, register, where_set}
 use Rattle.asm_text.proofs.AddressLaws.{fields_again}
 use Rattle.asm_text.proofs.Again.{decimal_again, immediate_again, operand_again, register_again}

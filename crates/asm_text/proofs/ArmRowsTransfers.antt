@@ -12,10 +12,10 @@ use Rattle.arm_words.specs.declared.parts.ShortOffset.{ShortOffset}
 use Rattle.arm_words.specs.declared.parts.ShortOffset.TheVariants.{ShortNumber, ShortRegister}
 use Rattle.arm_words.specs.declared.operations.HalfOp.{HalfOp}
 use Rattle.arm_words.specs.declared.instructions.Instr.TheVariants.{DoubleTransfer, HalfTransfer, Multiple, Pld, Swap, Transfer}
-use Rattle.asm_text.specs.ArmReading.{arm_row, double_transfer_at, half_transfer_at, multiple_at, pld_at, short_of, swap_at, transfer_at}
+use Rattle.asm_text.specs.Reader.ArmRows.{arm_row, double_transfer_at, half_transfer_at, multiple_at, pld_at, short_of, swap_at, transfer_at}
 use Rattle.asm_text.specs.Names.{block_mode, half_name, load_name}
 use Rattle.asm_text.specs.Operands.{address, at_offset, offset, short_offset}
-use Rattle.asm_text.specs.Reading.{address_at, register_at}
+use Rattle.asm_text.specs.Reader.Parts.{address_at, register_at}
 use Rattle.asm_text.specs.Text.{members, register, register_list, where_set}
 use Rattle.asm_text.specs.declared.reading.parts.Address.{Address}
 use Rattle.asm_text.proofs.AddressLaws.{address_again, at_offset_again, lengthened, registers_again, short_address_again}

@@ -4,7 +4,7 @@ use Rattle.std.specs.Prelude.{codes, ◌==◌, not}
 use Rattle.arm_words.specs.declared.parts.Condition.{Condition}
 use Rattle.arm_words.specs.declared.parts.Condition.TheVariants.{Eq, Ne, Cs, Cc, Mi, Pl, Vs, Vc, Hi, Ls, Ge, Lt, Gt, Le, Al}
 use Rattle.asm_text.specs.Names.{suffix}
-use Rattle.asm_text.specs.Naming.{letters, name, lookup, with_suffix, named, Filler, filled, read, no_blank, IsStem}
+use Rattle.asm_text.specs.Reader.Names.{letters, name, lookup, with_suffix, named_stem, Filler, filled, read, no_blank, IsStem}
 use Rattle.asm_text.specs.Statements.{on}
 use Rattle.asm_text.specs.Text.{joined}
 use Rattle.asm_text.specs.declared.reading.names.Stem.{Stem}
@@ -58,8 +58,8 @@ back_key k n h = omega arith
 
 -- a name in the table with a suffix is read as the two
 with_pair : (table : List (ℕ × Stem)) (k a b : ℕ) (stem : Stem) (cond : Condition) → k < 2 ^ 50 → a % 32 * 32 + b % 32 < 1024 → lookup (a % 32 * 32 + b % 32) CONDITIONS ≡ Some cond →
-    lookup k table ≡ Some stem → named table (letters k (a ∷ b ∷ [])) ≡ (Some stem, cond)
-unfolding named
+    lookup k table ≡ Some stem → named_stem table (letters k (a ∷ b ∷ [])) ≡ (Some stem, cond)
+unfolding named_stem
 with_pair table k a b stem cond hk hn hc hs =
     let n : ℕ = a % 32 * 32 + b % 32 in
     let e : letters k (a ∷ b ∷ []) ≡ k * 1024 + n = pair_key k a b hk in
@@ -67,8 +67,8 @@ with_pair table k a b stem cond hk hn hc hs =
     rw (front_key k n hn, back_key k n hn, hc, hs) refl in
     ap (λ (x : ℕ). with_suffix (lookup (x % 1024) CONDITIONS) (lookup (x / 1024) table) (lookup x table)) e ∙ made
 
-named_with : (table : List (ℕ × Stem)) (k : ℕ) (stem : Stem) → k < 2 ^ 50 → lookup k table ≡ Some stem → named table k ≡ (Some stem, Al) → (cond : Condition) →
-    named table (letters k (suffix cond)) ≡ (Some stem, cond)
+named_with : (table : List (ℕ × Stem)) (k : ℕ) (stem : Stem) → k < 2 ^ 50 → lookup k table ≡ Some stem → named_stem table k ≡ (Some stem, Al) → (cond : Condition) →
+    named_stem table (letters k (suffix cond)) ≡ (Some stem, cond)
 named_with table k stem hk hs alone Eq = with_pair table k 101 113 stem Eq hk (omega arith) refl hs
 named_with table k stem hk hs alone Ne = with_pair table k 110 101 stem Ne hk (omega arith) refl hs
 named_with table k stem hk hs alone Cs = with_pair table k 99 115 stem Cs hk (omega arith) refl hs
@@ -88,7 +88,7 @@ named_with table k stem hk hs alone Al = alone
 -- what a stem's test tells
 record Parts (table : List (ℕ × Stem)) (nm : List ℕ) (stem : Stem) : Type 0 where
   whole : lookup (letters 0 nm) table ≡ Some stem
-  alone : named table (letters 0 nm) ≡ (Some stem, Al)
+  alone : named_stem table (letters 0 nm) ≡ (Some stem, Al)
   room : letters 0 nm < 2 ^ 50
   blank : no_blank nm ≡ true
 
@@ -111,7 +111,7 @@ read_on table fill at nm stem cond operands h =
     let whole : List ℕ = nm ++ suffix cond in
     let again : name 0 (whole ++ 32 ∷ rest) ≡ (letters 0 whole, rest) = name_again 0 whole rest (blank_free nm (suffix cond) p.blank (suffix_blank_free cond)) in
     let text : on nm cond operands ≡ whole ++ 32 ∷ rest = sym (append_assoc nm (suffix cond) (32 ∷ rest)) in
-    let key : named table (letters 0 whole) ≡ (Some stem, cond) = ap (named table) (letters_after 0 nm (suffix cond)) ∙ named_with table (letters 0 nm) stem p.room p.whole p.alone cond in
+    let key : named_stem table (letters 0 whole) ≡ (Some stem, cond) = ap (named_stem table) (letters_after 0 nm (suffix cond)) ∙ named_with table (letters 0 nm) stem p.room p.whole p.alone cond in
     rw (text, again, key) refl
 
 -- the same of a text that is no instruction's: its name has no condition

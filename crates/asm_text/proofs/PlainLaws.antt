@@ -2,7 +2,7 @@
 use Rattle.std.proofs.Common.{ℕ, zero, suc, ◌≡◌, ◌≢◌, ◌≤◌, ◌+◌, ◌*◌, ◌^◌, Bool, true, false, List, [], ◌∷◌, ◌++◌, length, refl, arith, Option, Some, None, length-append}
 use Rattle.std.specs.Prelude.{nat_lt, codes, if◌then◌else◌, ◌==◌, ◌&&◌, not}
 use Rattle.ds_base.specs.declared.processors.Arch.{Arch}
-use Rattle.arm_words.specs.Bits.{bit}
+use Rattle.ds_base.specs.Bits.{bit}
 use Rattle.arm_words.specs.Canonical.{canonical_form, if_canonical, same_spelling, immediate}
 use Rattle.arm_words.specs.Spellings.{spelled, decoded}
 use Rattle.arm_words.specs.declared.parts.Condition.{Condition}
@@ -38,11 +38,12 @@ use Rattle.arm_words.specs.declared.instructions.Instr.{Instr}
 use Rattle.arm_words.specs.declared.instructions.Instr.TheVariants.{Bx, BlxRegister, Bkpt, Clz, Saturating, Smla, Smlaw, Smulw, Smlal, Smul, Mul, Mla, LongMultiply, Swap, HalfTransfer, Mrs, Msr, MsrImmediate, Compare, Move, Data, DoubleTransfer, Transfer, Multiple, Branch, Coprocessor, Swi, BlxTarget, Pld, Never, ThumbAddSub, ThumbShift, ThumbImmediate, ThumbData, ThumbBx, ThumbBlxRegister, ThumbHigh, ThumbLoadLiteral, ThumbRegisterOffset, ThumbImmediateOffset, ThumbHalfOffset, ThumbStackOffset, ThumbAddress, ThumbAdjustStack, ThumbPushPop, ThumbBkpt, ThumbMultiple, ThumbBranchIf, ThumbSwi, ThumbBranch, ThumbBlxSuffix, ThumbBlPrefix, ThumbBlSuffix}
 use Rattle.arm_words.specs.declared.spellings.Spelling.{Spelling}
 use Rattle.arm_words.specs.declared.spellings.Spelling.TheVariants as spellings
-use Rattle.asm_text.specs.Text.{preceded, joined, where_set, digits, hex, number, decimal, register, registers, members, register_list}
+use Rattle.ds_base.specs.Digits.{hex_digits}
+use Rattle.asm_text.specs.Text.{preceded, joined, where_set, hex, number, decimal, register, registers, members, register_list}
 use Rattle.asm_text.specs.Names.{suffix, shift_name, data_name, compare_name, move_name, half_name, saturating_name, long_name, half_letter, load_name, block_mode, status_name, field_letters, immediate_name, thumb_data_name, high_name, transfer_name}
 use Rattle.asm_text.specs.Operands.{amount_shown, shift_shown, shifted, operand, small_operand, offset, short_offset, at_offset, address}
 use Rattle.asm_text.specs.Addresses.{arm_target, half_target, thumb_target}
-use Rattle.asm_text.specs.Statements.{written, on, thumb_amount, statement}
+use Rattle.asm_text.specs.Statements.{with_operands, on, thumb_amount, statement}
 use Rattle.asm_text.specs.declared.sets.Set.{Set}
 use Rattle.asm_text.specs.Listed.{listed, spelling, raw, stated}
 use Rattle.asm_text.specs.Starts.{HasNoFeed}
@@ -116,7 +117,7 @@ space_line name rest n r = record {
   long = (let a : 1 ≤ length name = n.some in let b : 1 ≤ length rest = r.some in omega (arith, length-append name (codes " " ++ rest)));
 }
 
-written_line : (name x : List ℕ) (xs : List (List ℕ)) → IsPart name → IsPart x → AllParts xs → IsLine (written name (x ∷ xs))
+written_line : (name x : List ℕ) (xs : List (List ℕ)) → IsPart name → IsPart x → AllParts xs → IsLine (with_operands name (x ∷ xs))
 written_line name x xs n h hs = space_line name (joined (codes ", ") (x ∷ xs)) n (joined_part x xs h hs)
 
 on_line : (name : List ℕ) (cond : Condition) (x : List ℕ) (xs : List (List ℕ)) → IsPart name → IsPart x → AllParts xs → IsLine (on name cond (x ∷ xs))
@@ -393,8 +394,8 @@ statement_line at (ThumbBlPrefix by) e = written_line _ _ _ (part (codes "blh") 
 statement_line at (ThumbBlSuffix by) e = written_line _ _ _ (part (codes "bll") refl (omega arith)) (number_part by) done
 
 raw_line : (s : Spelling) → IsLine (raw s)
-raw_line (spellings.Word w) = record { plain = plain_append (codes ".word 0x") (digits 8 w) (plain_of (codes ".word 0x") refl) (digits_plain 8 w); long = omega arith }
-raw_line (spellings.Half h) = record { plain = plain_append (codes ".half 0x") (digits 4 h) (plain_of (codes ".half 0x") refl) (digits_plain 4 h); long = omega arith }
+raw_line (spellings.Word w) = record { plain = plain_append (codes ".word 0x") (hex_digits 8 w) (plain_of (codes ".word 0x") refl) (digits_plain 8 w); long = omega arith }
+raw_line (spellings.Half h) = record { plain = plain_append (codes ".half 0x") (hex_digits 4 h) (plain_of (codes ".half 0x") refl) (digits_plain 4 h); long = omega arith }
 
 stated_line : (at : ℕ) (s : Spelling) (o : Option Instr) → IsLine (stated at s (if_canonical s o))
 stated_line at s None = raw_line s

@@ -10,11 +10,11 @@ use Rattle.arm_words.specs.declared.spellings.Spelling.{Spelling}
 use Rattle.arm_words.specs.declared.spellings.Spelling.TheVariants.{Word, Half}
 use Rattle.arm_words.proofs.Facts.{and_parts, equal}
 use Rattle.arm_words.proofs.Laws.{decoded_arm_fields, decoded_thumb_fields}
-use Rattle.asm_text.specs.Candidates.{candidate, read_in, row_in, stems_in}
+use Rattle.asm_text.specs.Reader.Candidates.{candidate, read_in, row_in, stems_in}
 use Rattle.asm_text.specs.Listed.{listed, number_in, raw, spelling, stated}
-use Rattle.asm_text.specs.Naming.{read, named}
-use Rattle.asm_text.specs.Reading.{hex_at}
-use Rattle.asm_text.specs.Text.{digits}
+use Rattle.asm_text.specs.Reader.Names.{read, named_stem}
+use Rattle.asm_text.specs.Reader.Parts.{hex_at}
+use Rattle.ds_base.specs.Digits.{hex_digits}
 use Rattle.asm_text.specs.declared.reading.names.Stem.TheVariants.{Raw}
 use Rattle.asm_text.specs.declared.sets.Set.{Set}
 use Rattle.asm_text.specs.declared.sets.Set.TheVariants.{Arm, Thumb}
@@ -55,7 +55,7 @@ fields_of (Some j) i h f = (let e : j ≡ i = cc in let P : Instr → Type 0 = �
 word_raw : (at w : ℕ) → w < 2 ^ 32 → candidate Arm at (raw (Word w)) ≡ Some w
 unfolding hex_at
 word_raw at w h =
-    let rest : List ℕ = codes "0x" ++ digits 8 w in
+    let rest : List ℕ = codes "0x" ++ hex_digits 8 w in
     let e : w % 2 ^ 32 ≡ w = omega arith in
     let n : hex_at rest ≡ (w, []) = digits_again w [] h refl in
     let r : read_in Arm at (raw (Word w)) ≡ Some (Raw (hex_at rest).0) = read_raw (stems_in Arm) (row_in Arm) at (codes ".word") (Raw 0) rest word_stem in
@@ -96,7 +96,7 @@ one_text arch set at v w ha hv hw e =
 
 -- a byte's line is no word's statement
 byte_unread : (set : Set) (at : ℕ) (rest : List ℕ) → candidate set at (codes ".byte" ++ 32 ∷ rest) ≡ None
-unfolding read named
+unfolding read named_stem
 byte_unread Arm at rest = refl
 byte_unread Thumb at rest = refl
 

@@ -2,10 +2,10 @@
 use Rattle.std.proofs.Common.{ℕ, ◌≡◌, ◌<◌, ◌*◌, ◌/◌, ◌%◌, ◌^◌, Bool, true, false, List, [], ◌∷◌, ◌++◌, refl, ap, arith, inl, inr, ◌⊎◌}
 use Rattle.std.specs.Prelude.{codes, if◌then◌else◌, ◌==◌, nat_le}
 use Rattle.asm_text.specs.Operands.{amount_shown}
-use Rattle.asm_text.specs.Reading.{marked_at, register_at}
+use Rattle.asm_text.specs.Reader.Parts.{marked_at, register_at}
 use Rattle.asm_text.specs.Statements.{thumb_amount}
 use Rattle.asm_text.specs.Text.{joined, number, register}
-use Rattle.asm_text.specs.ThumbReading.{add_sub_row, immediate_row, data_row, shift_of, small_at, high_row}
+use Rattle.asm_text.specs.Reader.ThumbRows.{add_sub_row, immediate_row, data_row, shift_named, small_at, high_row}
 use Rattle.asm_text.proofs.Again.{register_again, marked_again, one_again, two_again}
 use Rattle.arm_words.specs.declared.parts.Shift.{Shift}
 use Rattle.arm_words.specs.declared.parts.Shift.TheVariants as shifts
@@ -131,7 +131,7 @@ amount_again shifts.Lsr amount h = shown amount h
 amount_again shifts.Asr amount h = shown amount h
 amount_again shifts.Ror amount h = shown amount h
 
-pub shift_number : (op : ThumbDataOp) (shift : Shift) (amount rm rd : ℕ) → shift_of op ≡ shift → amount < 32 → rm < 8 → rd < 8 →
+pub shift_number : (op : ThumbDataOp) (shift : Shift) (amount rm rd : ℕ) → shift_named op ≡ shift → amount < 32 → rm < 8 → rd < 8 →
     data_row op (joined (codes ", ") (register rd ∷ register rm ∷ number (thumb_amount shift amount) ∷ [])) ≡ ThumbShift shift amount rm rd
 unfolding data_row
 shift_number op shift amount rm rd s h hm hd =

@@ -3,13 +3,14 @@ use Rattle.std.proofs.Common.{ℕ, ◌≡◌, ◌<◌, ◌+◌, ◌*◌, ◌%◌
 use Rattle.std.specs.Prelude.{codes, if◌then◌else◌}
 use Rattle.asm_text.specs.Names.{thumb_data_name, high_name, transfer_name, load_name, shift_name}
 use Rattle.asm_text.specs.Listed.{raw}
-use Rattle.asm_text.specs.Naming.{IsStem, read}
+use Rattle.asm_text.specs.Reader.Names.{IsStem, read}
 use Rattle.asm_text.specs.Operands.{at_offset}
 use Rattle.asm_text.specs.Addresses.{thumb_target}
-use Rattle.asm_text.specs.Reading.{hex_at, marked_at}
+use Rattle.asm_text.specs.Reader.Parts.{hex_at, marked_at}
 use Rattle.asm_text.specs.Statements.{on, statement, thumb_amount}
-use Rattle.asm_text.specs.Text.{digits, joined, number, hex, register, register_list}
-use Rattle.asm_text.specs.ThumbReading.{thumb_row, shift_of}
+use Rattle.ds_base.specs.Digits.{hex_digits}
+use Rattle.asm_text.specs.Text.{joined, number, hex, register, register_list}
+use Rattle.asm_text.specs.Reader.ThumbRows.{thumb_row, shift_named}
 use Rattle.asm_text.specs.declared.reading.names.Stem.TheVariants.{Row, Raw}
 use Rattle.asm_text.specs.declared.reading.thumb_stems.TheConstants.{THUMB_STEMS}
 use Rattle.asm_text.proofs.Again.{half_again, hex_again, one_again}
@@ -60,7 +61,7 @@ shift_op shifts.Lsr = thumb_ops.Lsr
 shift_op shifts.Asr = thumb_ops.Asr
 shift_op shifts.Ror = thumb_ops.Ror
 
-shift_op_of : (shift : Shift) → shift_of (shift_op shift) ≡ shift
+shift_op_of : (shift : Shift) → shift_named (shift_op shift) ≡ shift
 shift_op_of shifts.Lsl = refl
 shift_op_of shifts.Lsr = refl
 shift_op_of shifts.Asr = refl
@@ -261,5 +262,5 @@ thumb_again at half i ha h e = each_read at i ha h (is_half (spelled i) half e)
 pub raw_half_again : (at half : ℕ) → half < 2 ^ 16 → read THUMB_STEMS thumb_row at (raw (Half half)) ≡ Some (Raw half)
 unfolding hex_at
 raw_half_again at half h =
-    read_raw THUMB_STEMS thumb_row at (codes ".half") (Raw 0) (codes "0x" ++ digits 4 half) half_stem
+    read_raw THUMB_STEMS thumb_row at (codes ".half") (Raw 0) (codes "0x" ++ hex_digits 4 half) half_stem
     ∙ ap (λ (p : ℕ × List ℕ). Some (Raw p.0)) (half_again half [] h refl)

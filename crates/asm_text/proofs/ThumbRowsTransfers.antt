@@ -4,9 +4,9 @@ use Rattle.std.proofs.lemmas.List.{append-nil}
 use Rattle.std.specs.Prelude.{codes, drop, if◌then◌else◌, nat_le}
 use Rattle.asm_text.specs.Addresses.{thumb_target}
 use Rattle.asm_text.specs.Operands.{at_offset}
-use Rattle.asm_text.specs.Reading.{hex_at, marked_at, one_at, register_at, registers_at}
+use Rattle.asm_text.specs.Reader.Parts.{hex_at, marked_at, one_at, register_at, registers_at}
 use Rattle.asm_text.specs.Text.{joined, number, hex, register, members, register_list}
-use Rattle.asm_text.specs.ThumbReading.{transfer_row, number_offset, word_offset, byte_offset, half_offset, push_pop_row, multiple_row, halves_to, branch_by}
+use Rattle.asm_text.specs.Reader.ThumbRows.{transfer_row, number_offset, word_offset, byte_offset, half_offset, push_pop_row, multiple_row, halves_to, branch_by}
 use Rattle.asm_text.proofs.Again.{register_again, marked_again, hex_again}
 use Rattle.asm_text.proofs.AddressLaws.{registers_again}
 use Rattle.asm_text.proofs.ThumbRows.{before_comma, other}

@@ -2,7 +2,7 @@
 use Rattle.std.proofs.Common.{Bool, true, false, refl}
 use Rattle.std.specs.Prelude.{codes, if◌then◌else◌}
 use Rattle.asm_text.specs.Names.{thumb_data_name, high_name, transfer_name}
-use Rattle.asm_text.specs.Naming.{named, IsStem}
+use Rattle.asm_text.specs.Reader.Names.{named_stem, IsStem}
 use Rattle.asm_text.specs.declared.reading.names.Stem.TheVariants.{Row, Raw}
 use Rattle.asm_text.specs.declared.reading.thumb_stems.TheConstants.{THUMB_STEMS}
 use Rattle.arm_words.specs.declared.parts.ThumbOperand.TheVariants.{Small}
@@ -16,16 +16,16 @@ use Rattle.arm_words.specs.declared.operations.ThumbTransferOp.TheVariants as tr
 use Rattle.arm_words.specs.declared.instructions.Instr.TheVariants.{ThumbAddSub, ThumbImmediate, ThumbData, ThumbBx, ThumbBlxRegister, ThumbHigh, ThumbRegisterOffset, ThumbPushPop, ThumbBkpt, ThumbMultiple, ThumbSwi, ThumbBranch, ThumbBlxSuffix, ThumbBlPrefix, ThumbBlSuffix}
 
 pub add_sub_stem : (subtract : Bool) → IsStem THUMB_STEMS (if subtract then codes "sub" else codes "add") (Row (ThumbAddSub subtract (Small 0) 0 0))
-unfolding named
+unfolding named_stem
 add_sub_stem false = refl
 add_sub_stem true = refl
 
 pub move_stem : IsStem THUMB_STEMS (codes "mov") (Row (ThumbImmediate immediate_ops.Mov 0 0))
-unfolding named
+unfolding named_stem
 move_stem = refl
 
 pub data_stem : (op : ThumbDataOp) → IsStem THUMB_STEMS (thumb_data_name op) (Row (ThumbData op 0 0))
-unfolding named
+unfolding named_stem
 data_stem thumb_ops.And = refl
 data_stem thumb_ops.Eor = refl
 data_stem thumb_ops.Lsl = refl
@@ -44,21 +44,21 @@ data_stem thumb_ops.Bic = refl
 data_stem thumb_ops.Mvn = refl
 
 pub bx_stem : IsStem THUMB_STEMS (codes "bx") (Row (ThumbBx 0))
-unfolding named
+unfolding named_stem
 bx_stem = refl
 
 pub blx_stem : IsStem THUMB_STEMS (codes "blx") (Row (ThumbBlxRegister 0))
-unfolding named
+unfolding named_stem
 blx_stem = refl
 
 pub high_stem : (op : HighOp) → IsStem THUMB_STEMS (high_name op) (Row (ThumbHigh op 0 0))
-unfolding named
+unfolding named_stem
 high_stem high_ops.Add = refl
 high_stem high_ops.Cmp = refl
 high_stem high_ops.Mov = refl
 
 pub transfer_stem : (op : ThumbTransferOp) → IsStem THUMB_STEMS (transfer_name op) (Row (ThumbRegisterOffset op 0 0 0))
-unfolding named
+unfolding named_stem
 transfer_stem transfer_ops.Str = refl
 transfer_stem transfer_ops.Strh = refl
 transfer_stem transfer_ops.Strb = refl
@@ -69,40 +69,40 @@ transfer_stem transfer_ops.Ldrb = refl
 transfer_stem transfer_ops.Ldrsh = refl
 
 pub push_pop_stem : (load : Bool) → IsStem THUMB_STEMS (if load then codes "pop" else codes "push") (Row (ThumbPushPop load false 0))
-unfolding named
+unfolding named_stem
 push_pop_stem false = refl
 push_pop_stem true = refl
 
 pub bkpt_stem : IsStem THUMB_STEMS (codes "bkpt") (Row (ThumbBkpt 0))
-unfolding named
+unfolding named_stem
 bkpt_stem = refl
 
 pub multiple_stem : (load : Bool) → IsStem THUMB_STEMS (if load then codes "ldmia" else codes "stmia") (Row (ThumbMultiple load 0 0))
-unfolding named
+unfolding named_stem
 multiple_stem false = refl
 multiple_stem true = refl
 
 pub swi_stem : IsStem THUMB_STEMS (codes "swi") (Row (ThumbSwi 0))
-unfolding named
+unfolding named_stem
 swi_stem = refl
 
 pub branch_stem : IsStem THUMB_STEMS (codes "b") (Row (ThumbBranch 0))
-unfolding named
+unfolding named_stem
 branch_stem = refl
 
 pub blx_suffix_stem : IsStem THUMB_STEMS (codes "blxl") (Row (ThumbBlxSuffix 0))
-unfolding named
+unfolding named_stem
 blx_suffix_stem = refl
 
 pub bl_prefix_stem : IsStem THUMB_STEMS (codes "blh") (Row (ThumbBlPrefix 0))
-unfolding named
+unfolding named_stem
 bl_prefix_stem = refl
 
 pub bl_suffix_stem : IsStem THUMB_STEMS (codes "bll") (Row (ThumbBlSuffix 0))
-unfolding named
+unfolding named_stem
 bl_suffix_stem = refl
 
 -- a half itself
 pub half_stem : IsStem THUMB_STEMS (codes ".half") (Raw 0)
-unfolding named
+unfolding named_stem
 half_stem = refl

@@ -1,14 +1,9 @@
 pub mod Addresses
-pub mod ArmReading
-pub mod Candidates
 pub mod Listed
 pub mod Names
-pub mod Naming
 pub mod Operands
-pub mod Reading
-pub mod StartReading
+pub mod Reader
 pub mod Starts
 pub mod StatementLaws
 pub mod Statements
 pub mod Text
-pub mod ThumbReading

@@ -6,7 +6,7 @@ use Rattle.arm_words.specs.declared.spellings.Spelling.{Spelling}
 use Rattle.arm_words.specs.declared.spellings.Spelling.TheVariants.{Word, Half}
 use Rattle.asm_text.specs.declared.sets.Set.{Set}
 use Rattle.asm_text.specs.declared.sets.Set.TheVariants.{Arm, Thumb}
-use Rattle.asm_text.specs.Text.{digits}
+use Rattle.ds_base.specs.Digits.{hex_digits}
 use Rattle.asm_text.specs.Statements.{statement}
 
 -- a number as a word or half of a set
@@ -21,8 +21,8 @@ number_in (Half half) = half
 
 -- a word or half itself, with all its digits (our choice)
 abbrev pub raw : Spelling → List ℕ
-raw (Word word) = codes ".word 0x" ++ digits 8 word
-raw (Half half) = codes ".half 0x" ++ digits 4 half
+raw (Word word) = codes ".word 0x" ++ hex_digits 8 word
+raw (Half half) = codes ".half 0x" ++ hex_digits 4 half
 
 abbrev pub stated : ℕ → Spelling → Option Instr → List ℕ
 stated at s None = raw s

@@ -3,7 +3,8 @@ use Rattle.ds_base.specs.declared.processors.Arch.{Arch}
 use Rattle.ds_base.specs.declared.processors.Arch.TheVariants.{V4, V5}
 use Rattle.asm_text.specs.declared.sets.Set.{Set}
 use Rattle.asm_text.specs.declared.sets.Set.TheVariants.{Arm, Thumb}
-use Rattle.asm_text.specs.Text.{digits, hex}
+use Rattle.ds_base.specs.Digits.{hex_digits}
+use Rattle.asm_text.specs.Text.{hex}
 
 -- what a listing begins with: the instruction set and the processor (our choice)
 abbrev pub start_name : Arch → Set → List ℕ
@@ -18,7 +19,7 @@ start arch set at = start_name arch set ++ hex at
 
 -- a byte itself, where no word or half is left (our choice)
 abbrev pub raw_byte : ℕ → List ℕ
-raw_byte b = codes ".byte 0x" ++ digits 2 b
+raw_byte b = codes ".byte 0x" ++ hex_digits 2 b
 
 -- a text without line feeds
 abbrev pub HasNoFeed : List ℕ → Type 0

@@ -11,8 +11,8 @@ use Rattle.arm_words.specs.declared.instructions.Instr.{Instr}
 use Rattle.arm_words.specs.declared.instructions.Instr.TheVariants.{Bx, BlxRegister, Bkpt, Clz, Saturating, Smla, Smlaw, Smulw, Smlal, Smul, Mul, Mla, LongMultiply, Swap, HalfTransfer, Mrs, Msr, MsrImmediate, Compare, Move, Data, DoubleTransfer, Transfer, Multiple, Branch, Coprocessor, Swi, BlxTarget, Pld, Never, ThumbAddSub, ThumbShift, ThumbImmediate, ThumbData, ThumbBx, ThumbBlxRegister, ThumbHigh, ThumbLoadLiteral, ThumbRegisterOffset, ThumbImmediateOffset, ThumbHalfOffset, ThumbStackOffset, ThumbAddress, ThumbAdjustStack, ThumbPushPop, ThumbBkpt, ThumbMultiple, ThumbBranchIf, ThumbSwi, ThumbBranch, ThumbBlxSuffix, ThumbBlPrefix, ThumbBlSuffix}
 
 -- a name and its operands, with a comma and a space between them
-abbrev pub written : List ℕ → List (List ℕ) → List ℕ
-written name operands = name ++ (codes " " ++ joined (codes ", ") operands)
+abbrev pub with_operands : List ℕ → List (List ℕ) → List ℕ
+with_operands name operands = name ++ (codes " " ++ joined (codes ", ") operands)
 
 -- the same with the condition's suffix
 abbrev pub on : List ℕ → Condition → List (List ℕ) → List ℕ
@@ -30,7 +30,7 @@ thumb_amount Ror amount = amount_shown amount
 abbrev pub statement : ℕ → Instr → List ℕ
 statement at (Bx cond rm) = on (codes "bx") cond (register rm ∷ [])
 statement at (BlxRegister cond rm) = on (codes "blx") cond (register rm ∷ [])
-statement at (Bkpt immed) = written (codes "bkpt") (hex immed ∷ [])
+statement at (Bkpt immed) = with_operands (codes "bkpt") (hex immed ∷ [])
 statement at (Clz cond rd rm) = on (codes "clz") cond (register rd ∷ register rm ∷ [])
 statement at (Saturating cond double subtract rd rm rn) =
     on (saturating_name double subtract) cond (register rd ∷ register rm ∷ register rn ∷ [])
@@ -73,37 +73,37 @@ statement at (Branch cond link by) = on (codes "b" ++ where_set link (codes "l")
 statement at (Coprocessor cond load op1 crn rd cp op2 crm) =
     on (if load then codes "mrc" else codes "mcr") cond ((codes "p" ++ decimal cp) ∷ decimal op1 ∷ register rd ∷ (codes "c" ++ decimal crn) ∷ (codes "c" ++ decimal crm) ∷ decimal op2 ∷ [])
 statement at (Swi cond immed) = on (codes "swi") cond (hex immed ∷ [])
-statement at (BlxTarget half by) = written (codes "blx") (hex (if half then half_target at by else arm_target at by) ∷ [])
-statement at (Pld up rn by) = written (codes "pld") (at_offset rn (offset up by) ∷ [])
+statement at (BlxTarget half by) = with_operands (codes "blx") (hex (if half then half_target at by else arm_target at by) ∷ [])
+statement at (Pld up rn by) = with_operands (codes "pld") (at_offset rn (offset up by) ∷ [])
 statement at (Never immed) = []
 statement at (ThumbAddSub subtract second rn rd) =
-    written (if subtract then codes "sub" else codes "add") (register rd ∷ register rn ∷ small_operand second ∷ [])
+    with_operands (if subtract then codes "sub" else codes "add") (register rd ∷ register rn ∷ small_operand second ∷ [])
 statement at (ThumbShift shift amount rm rd) =
-    written (shift_name shift) (register rd ∷ register rm ∷ number (thumb_amount shift amount) ∷ [])
-statement at (ThumbImmediate op rd immed) = written (immediate_name op) (register rd ∷ number immed ∷ [])
-statement at (ThumbData op rm rd) = written (thumb_data_name op) (register rd ∷ register rm ∷ [])
-statement at (ThumbBx rm) = written (codes "bx") (register rm ∷ [])
-statement at (ThumbBlxRegister rm) = written (codes "blx") (register rm ∷ [])
-statement at (ThumbHigh op rm rd) = written (high_name op) (register rd ∷ register rm ∷ [])
-statement at (ThumbLoadLiteral rd immed) = written (codes "ldr") (register rd ∷ at_offset 15 (number (4 * immed)) ∷ [])
-statement at (ThumbRegisterOffset op rm rn rd) = written (transfer_name op) (register rd ∷ at_offset rn (register rm) ∷ [])
+    with_operands (shift_name shift) (register rd ∷ register rm ∷ number (thumb_amount shift amount) ∷ [])
+statement at (ThumbImmediate op rd immed) = with_operands (immediate_name op) (register rd ∷ number immed ∷ [])
+statement at (ThumbData op rm rd) = with_operands (thumb_data_name op) (register rd ∷ register rm ∷ [])
+statement at (ThumbBx rm) = with_operands (codes "bx") (register rm ∷ [])
+statement at (ThumbBlxRegister rm) = with_operands (codes "blx") (register rm ∷ [])
+statement at (ThumbHigh op rm rd) = with_operands (high_name op) (register rd ∷ register rm ∷ [])
+statement at (ThumbLoadLiteral rd immed) = with_operands (codes "ldr") (register rd ∷ at_offset 15 (number (4 * immed)) ∷ [])
+statement at (ThumbRegisterOffset op rm rn rd) = with_operands (transfer_name op) (register rd ∷ at_offset rn (register rm) ∷ [])
 statement at (ThumbImmediateOffset byte load immed rn rd) =
-    written (load_name load ++ where_set byte (codes "b")) (register rd ∷ at_offset rn (number (if byte then immed else 4 * immed)) ∷ [])
+    with_operands (load_name load ++ where_set byte (codes "b")) (register rd ∷ at_offset rn (number (if byte then immed else 4 * immed)) ∷ [])
 statement at (ThumbHalfOffset load immed rn rd) =
-    written (load_name load ++ codes "h") (register rd ∷ at_offset rn (number (2 * immed)) ∷ [])
-statement at (ThumbStackOffset load rd immed) = written (load_name load) (register rd ∷ at_offset 13 (number (4 * immed)) ∷ [])
+    with_operands (load_name load ++ codes "h") (register rd ∷ at_offset rn (number (2 * immed)) ∷ [])
+statement at (ThumbStackOffset load rd immed) = with_operands (load_name load) (register rd ∷ at_offset 13 (number (4 * immed)) ∷ [])
 statement at (ThumbAddress stack rd immed) =
-    written (codes "add") (register rd ∷ register (if stack then 13 else 15) ∷ number (4 * immed) ∷ [])
+    with_operands (codes "add") (register rd ∷ register (if stack then 13 else 15) ∷ number (4 * immed) ∷ [])
 statement at (ThumbAdjustStack subtract immed) =
-    written (if subtract then codes "sub" else codes "add") (register 13 ∷ number (4 * immed) ∷ [])
+    with_operands (if subtract then codes "sub" else codes "add") (register 13 ∷ number (4 * immed) ∷ [])
 statement at (ThumbPushPop load extra list) =
-    written (if load then codes "pop" else codes "push") (register_list (list + (if extra then (if load then 2 ^ 15 else 2 ^ 14) else 0)) ∷ [])
-statement at (ThumbBkpt immed) = written (codes "bkpt") (hex immed ∷ [])
+    with_operands (if load then codes "pop" else codes "push") (register_list (list + (if extra then (if load then 2 ^ 15 else 2 ^ 14) else 0)) ∷ [])
+statement at (ThumbBkpt immed) = with_operands (codes "bkpt") (hex immed ∷ [])
 statement at (ThumbMultiple load rn list) =
-    written (if load then codes "ldmia" else codes "stmia") ((register rn ++ codes "!") ∷ register_list list ∷ [])
+    with_operands (if load then codes "ldmia" else codes "stmia") ((register rn ++ codes "!") ∷ register_list list ∷ [])
 statement at (ThumbBranchIf cond by) = on (codes "b") cond (hex (thumb_target at (2 ^ 7) by) ∷ [])
-statement at (ThumbSwi immed) = written (codes "swi") (hex immed ∷ [])
-statement at (ThumbBranch by) = written (codes "b") (hex (thumb_target at (2 ^ 10) by) ∷ [])
-statement at (ThumbBlxSuffix by) = written (codes "blxl") (number by ∷ [])
-statement at (ThumbBlPrefix by) = written (codes "blh") (number by ∷ [])
-statement at (ThumbBlSuffix by) = written (codes "bll") (number by ∷ [])
+statement at (ThumbSwi immed) = with_operands (codes "swi") (hex immed ∷ [])
+statement at (ThumbBranch by) = with_operands (codes "b") (hex (thumb_target at (2 ^ 10) by) ∷ [])
+statement at (ThumbBlxSuffix by) = with_operands (codes "blxl") (number by ∷ [])
+statement at (ThumbBlPrefix by) = with_operands (codes "blh") (number by ∷ [])
+statement at (ThumbBlSuffix by) = with_operands (codes "bll") (number by ∷ [])

@@ -1,5 +1,6 @@
-use Rattle.std.specs.Prelude.{ℕ, zero, suc, ◌+◌, ◌/◌, ◌%◌, ◌^◌, ◌==◌, nat_lt, List, [], ◌∷◌, ◌++◌, codes, Bool, if◌then◌else◌}
-use Rattle.arm_words.specs.Bits.{bit}
+use Rattle.std.specs.Prelude.{ℕ, zero, suc, ◌+◌, ◌==◌, nat_lt, List, [], ◌∷◌, ◌++◌, codes, Bool, if◌then◌else◌}
+use Rattle.ds_base.specs.Bits.{bit}
+use Rattle.ds_base.specs.Digits.{hex_digits}
 
 -- texts, each after a mark
 abbrev pub preceded : List ℕ → List (List ℕ) → List ℕ
@@ -16,21 +17,13 @@ abbrev pub where_set : Bool → List ℕ → List ℕ
 where_set b text = if b then text else []
 
 -- numbers are written in hexadecimal with lower-case digits, after 0x and without leading zeros (our choice)
-abbrev pub digit : ℕ → ℕ
-digit d = if nat_lt d 10 then 48 + d else 87 + d
-
--- the last `count` digits of a number
-abbrev pub digits : ℕ → ℕ → List ℕ
-digits zero n = []
-digits (suc count) n = digit (n / 16 ^ count % 16) ∷ digits count n
-
 abbrev pub trimmed : List ℕ → List ℕ
 trimmed [] = []
 trimmed (d ∷ []) = d ∷ []
 trimmed (d ∷ e ∷ ds) = if d == 48 then trimmed (e ∷ ds) else d ∷ e ∷ ds
 
 abbrev pub hex : ℕ → List ℕ
-hex n = codes "0x" ++ trimmed (digits 8 n)
+hex n = codes "0x" ++ trimmed (hex_digits 8 n)
 
 -- a number as an operand
 abbrev pub number : ℕ → List ℕ

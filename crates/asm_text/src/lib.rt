@@ -15,8 +15,6 @@ mod registers;
 mod sets;
 mod starts;
 mod statements;
-#[cfg(test)]
-mod tests;
 mod thumb;
 
 pub use laws::statement_laws;

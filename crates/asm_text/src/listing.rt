@@ -6,18 +6,17 @@ ghost use Rattle.arm_words.specs.declared.spellings.Spelling.TheVariants.{Half, 
 ghost use Rattle.asm_text.specs.Listed.{listed, raw, spelling};
 
 use crate::lines::Line;
-use crate::parts::digits;
 use crate::sets::Set;
 use crate::statements::statement;
 use arm_words::{Spelling, canonical};
-use ds_base::Arch;
+use ds_base::{Arch, hex_digits};
 
 fn raw_word(word: u32, into: &mut Line)
     requires { length into.old + 16 ≤ 96 }
     ensures { into.new ≡ into.old ++ raw (Word word) }
 {
     into.put_text(".word 0x");
-    into.put_bytes(&digits(word));
+    into.put_bytes(&hex_digits(word));
 }
 
 fn raw_half(half: u16, into: &mut Line)
@@ -25,7 +24,7 @@ fn raw_half(half: u16, into: &mut Line)
     ensures { into.new ≡ into.old ++ raw (Half half) }
 {
     into.put_text(".half 0x");
-    into.put_bytes(&digits(half as u32)[4..]);
+    into.put_bytes(&hex_digits(half as u32)[4..]);
 }
 
 fn raw(spelling: Spelling, into: &mut Line)

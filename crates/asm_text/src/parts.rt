@@ -3,11 +3,12 @@
 ghost use Rattle.std.specs.Prelude.{◌≡◌, ◌+◌, ◌<◌, ◌≤◌, length, ◌++◌, ◌∷◌, [], codes};
 ghost use Rattle.asm_text.specs.Names.{suffix};
 ghost use Rattle.asm_text.specs.Statements.{on};
-ghost use Rattle.asm_text.specs.Text.{decimal, digit, digits, hex, members, number, register, register_list, trimmed, where_set};
+ghost use Rattle.asm_text.specs.Text.{decimal, hex, members, number, register, register_list, trimmed, where_set};
 
 use crate::lines::Line;
 use crate::names::suffix;
 use arm_words::Condition;
+use ds_base::hex_digits;
 
 pub fn decimal(n: u8, into: &mut Line)
     requires room { length into.old + 2 ≤ 96 }
@@ -33,29 +34,6 @@ pub fn register(n: u8, into: &mut Line)
     decimal(n, into);
 }
 
-fn digit(d: u8) -> u8
-    requires { d < 16 }
-    ensures { result ≡ digit d }
-{
-    if d < 10 { b'0' + d } else { b'a' + (d - 10) }
-}
-
-/// All eight digits of a number.
-pub fn digits(n: u32) -> [u8; 8]
-    ensures { result ≡ digits 8 n }
-{
-    [
-        digit((n >> 28) as u8),
-        digit((n >> 24 & 15) as u8),
-        digit((n >> 20 & 15) as u8),
-        digit((n >> 16 & 15) as u8),
-        digit((n >> 12 & 15) as u8),
-        digit((n >> 8 & 15) as u8),
-        digit((n >> 4 & 15) as u8),
-        digit((n & 15) as u8),
-    ]
-}
-
 fn trimmed(digits: &[u8]) -> &[u8]
     ensures text { result.now ≡ trimmed digits.now }
     ensures room { length result.now ≤ length digits.now }
@@ -73,7 +51,7 @@ pub fn hex(n: u32, into: &mut Line)
     ensures room { length into.new ≤ length into.old + 10 }
 {
     into.put_text("0x");
-    into.put_bytes(trimmed(&digits(n)));
+    into.put_bytes(trimmed(&hex_digits(n)));
 }
 
 pub fn number(n: u32, into: &mut Line)

@@ -2,15 +2,15 @@
 
 ghost use Rattle.std.specs.Prelude.{◌≡◌, ◌<◌, ◌≤◌, ◌^◌, ◌++◌, ℕ, IfSome, Some, length};
 ghost use Rattle.ds_base.specs.declared.processors.Arch.{Arch};
-ghost use Rattle.asm_text.specs.StartReading.{address_at, arch_at, byte_at, is_thumb, set_at};
+ghost use Rattle.asm_text.specs.Reader.Starts.{start_address_at, arch_at, listed_byte_at, is_thumb, set_at};
 ghost use Rattle.asm_text.specs.Starts.{raw_byte, start, start_name};
 ghost use Rattle.asm_text.specs.declared.sets.Set.{Set};
 
 use crate::lines::{Line, same};
-use crate::parts::{digits, hex};
+use crate::parts::hex;
 use crate::reading::parts::{byte, hex_at, past};
 use crate::sets::Set;
-use ds_base::Arch;
+use ds_base::{Arch, hex_digits};
 
 fn start_name(arch: Arch, set: Set) -> &'static str
     ensures name { result.now ≡ start_name arch set }
@@ -40,13 +40,13 @@ pub fn list_byte(byte: u8, into: &mut Line)
 {
     into.clear();
     into.put_text(".byte 0x");
-    into.put_bytes(&digits(byte as u32)[6..]);
+    into.put_bytes(&hex_digits(byte as u32)[6..]);
 }
 
 fn start_at(text: &[u8]) -> (Arch, Set, u32)
     ensures arch { result.0 ≡ arch_at text.now }
     ensures set { result.1 ≡ set_at text.now }
-    ensures at { result.2 ≡ address_at text.now }
+    ensures at { result.2 ≡ start_address_at text.now }
 {
     let (set, digit) = if byte(text, 4) == b'm' {
         (Set::Thumb, 6)

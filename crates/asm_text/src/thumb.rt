@@ -4,7 +4,7 @@ ghost use Rattle.std.specs.Prelude.{◌≡◌, ◌+◌, ◌<◌, ◌≤◌, ◌^
 ghost use Rattle.arm_words.specs.Fields.{HasThumbOperand};
 ghost use Rattle.arm_words.specs.declared.instructions.Instr.TheVariants.{ThumbAddSub, ThumbAddress, ThumbAdjustStack, ThumbBranch, ThumbBranchIf, ThumbHalfOffset, ThumbImmediate, ThumbImmediateOffset, ThumbLoadLiteral, ThumbMultiple, ThumbPushPop, ThumbRegisterOffset, ThumbShift, ThumbStackOffset};
 ghost use Rattle.arm_words.specs.declared.parts.Condition.TheVariants.{Al};
-ghost use Rattle.asm_text.specs.Statements.{statement, thumb_amount, written};
+ghost use Rattle.asm_text.specs.Statements.{statement, thumb_amount, with_operands};
 ghost use Rattle.asm_text.specs.Text.{number};
 
 use crate::addresses::thumb_target;
@@ -193,7 +193,7 @@ pub fn branch(at: u32, by: u16, into: &mut Line)
 pub fn marked(name: &str, n: u32, into: &mut Line)
     requires room { length into.old + 80 ≤ 96 }
     requires name { length name.now ≤ 8 }
-    ensures { into.new ≡ into.old ++ written name.now (number n ∷ []) }
+    ensures { into.new ≡ into.old ++ with_operands name.now (number n ∷ []) }
 {
     into.put_text(name);
     into.put_text(" ");

@@ -4,8 +4,8 @@
 ghost use Rattle.std.specs.Prelude.{◌≡◌, ◌%◌, ◌^◌};
 ghost use Rattle.arm_words.specs.Fields.{HasFields};
 ghost use Rattle.arm_words.specs.declared.instructions.Instr.TheVariants.{Bkpt, Bx, Clz, LongMultiply, Mla, Mul, Saturating, Smla, Smlal, Smlaw, Smul, Smulw, Swi};
-ghost use Rattle.asm_text.specs.ArmReading.{arm_row, blx_at, branch_at, compare_at, coprocessor_at, data_at, distance, move_at, mrs_at, msr_at};
-ghost use Rattle.asm_text.specs.Reading.{four_at, hex_at, one_at, three_at, two_at};
+ghost use Rattle.asm_text.specs.Reader.ArmRows.{arm_row, blx_at, branch_at, compare_at, coprocessor_at, data_at, branch_distance, move_at, mrs_at, msr_at};
+ghost use Rattle.asm_text.specs.Reader.Parts.{four_at, hex_at, one_at, three_at, two_at};
 
 use crate::reading::arm_transfers::{
     double_transfer_at, half_transfer_at, multiple_at, pld_at, swap_at, transfer_at,
@@ -46,13 +46,13 @@ fn swi_at(cond: Condition, text: &[u8]) -> Instr
 }
 
 /// A target's distance from what r15 reads as.
-fn distance(at: u32, target: u32) -> u32
-    ensures { result ≡ distance at target }
+fn branch_distance(at: u32, target: u32) -> u32
+    ensures { result ≡ branch_distance at target }
 {
     target.wrapping_sub(at).wrapping_sub(8)
 }
 
-#[tactic(auto, unfolding(crate::specs::ArmReading::branch_at))]
+#[tactic(auto, unfolding(crate::specs::Reader::ArmRows::branch_at))]
 fn branch_at(at: u32, link: bool, cond: Condition, text: &[u8]) -> Instr
     ensures row { result ≡ branch_at at link cond text.now }
     ensures fields { HasFields result }
@@ -60,11 +60,11 @@ fn branch_at(at: u32, link: bool, cond: Condition, text: &[u8]) -> Instr
     Instr::Branch {
         cond,
         link,
-        offset: distance(at, hex_at(text).0) / 4 % 0x100_0000,
+        offset: branch_distance(at, hex_at(text).0) / 4 % 0x100_0000,
     }
 }
 
-#[tactic(auto, unfolding(crate::specs::ArmReading::blx_at))]
+#[tactic(auto, unfolding(crate::specs::Reader::ArmRows::blx_at))]
 fn blx_at(at: u32, cond: Condition, text: &[u8]) -> Instr
     ensures row { result ≡ blx_at at cond text.now }
     ensures fields { HasFields result }
@@ -75,14 +75,14 @@ fn blx_at(at: u32, cond: Condition, text: &[u8]) -> Instr
             rm: one_at(text),
         };
     }
-    let away = distance(at, hex_at(text).0);
+    let away = branch_distance(at, hex_at(text).0);
     Instr::BlxTarget {
         half: away / 2 % 2 == 1,
         offset: away / 4 % 0x100_0000,
     }
 }
 
-#[tactic(auto, unfolding(crate::specs::ArmReading::mrs_at))]
+#[tactic(auto, unfolding(crate::specs::Reader::ArmRows::mrs_at))]
 fn mrs_at(cond: Condition, text: &[u8]) -> Instr
     ensures row { result ≡ mrs_at cond text.now }
     ensures fields { HasFields result }
@@ -95,7 +95,7 @@ fn mrs_at(cond: Condition, text: &[u8]) -> Instr
     }
 }
 
-#[tactic(auto, unfolding(crate::specs::ArmReading::msr_at))]
+#[tactic(auto, unfolding(crate::specs::Reader::ArmRows::msr_at))]
 fn msr_at(cond: Condition, text: &[u8]) -> Instr
     ensures row { result ≡ msr_at cond text.now }
     ensures fields { HasFields result }
@@ -122,7 +122,7 @@ fn msr_at(cond: Condition, text: &[u8]) -> Instr
     }
 }
 
-#[tactic(auto, unfolding(crate::specs::ArmReading::compare_at))]
+#[tactic(auto, unfolding(crate::specs::Reader::ArmRows::compare_at))]
 fn compare_at(op: CompareOp, cond: Condition, text: &[u8]) -> Instr
     ensures row { result ≡ compare_at op cond text.now }
     ensures fields { HasFields result }
@@ -136,7 +136,7 @@ fn compare_at(op: CompareOp, cond: Condition, text: &[u8]) -> Instr
     }
 }
 
-#[tactic(auto, unfolding(crate::specs::ArmReading::move_at))]
+#[tactic(auto, unfolding(crate::specs::Reader::ArmRows::move_at))]
 fn move_at(op: MoveOp, set_flags: bool, cond: Condition, text: &[u8]) -> Instr
     ensures row { result ≡ move_at op set_flags cond text.now }
     ensures fields { HasFields result }
@@ -151,7 +151,7 @@ fn move_at(op: MoveOp, set_flags: bool, cond: Condition, text: &[u8]) -> Instr
     }
 }
 
-#[tactic(auto, unfolding(crate::specs::ArmReading::data_at))]
+#[tactic(auto, unfolding(crate::specs::Reader::ArmRows::data_at))]
 fn data_at(op: DataOp, set_flags: bool, cond: Condition, text: &[u8]) -> Instr
     ensures row { result ≡ data_at op set_flags cond text.now }
     ensures fields { HasFields result }
@@ -168,7 +168,7 @@ fn data_at(op: DataOp, set_flags: bool, cond: Condition, text: &[u8]) -> Instr
     }
 }
 
-#[tactic(auto, unfolding(crate::specs::ArmReading::coprocessor_at))]
+#[tactic(auto, unfolding(crate::specs::Reader::ArmRows::coprocessor_at))]
 fn coprocessor_at(load: bool, cond: Condition, text: &[u8]) -> Instr
     ensures row { result ≡ coprocessor_at load cond text.now }
     ensures fields { HasFields result }
@@ -343,7 +343,7 @@ fn long_multiply_at(
 }
 
 /// The instruction of a row, whose flags are those of `template`, with a condition and the operands that the text has.
-#[tactic(auto, unfolding(crate::specs::ArmReading::arm_row))]
+#[tactic(auto, unfolding(crate::specs::Reader::ArmRows::arm_row))]
 pub(crate) fn arm_row(at: u32, template: Instr, cond: Condition, text: &[u8]) -> Instr
     ensures row { result ≡ arm_row at template cond text.now }
     ensures fields { HasFields result }

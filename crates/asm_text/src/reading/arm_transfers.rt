@@ -2,12 +2,12 @@
 
 ghost use Rattle.std.specs.Prelude.{◌≡◌};
 ghost use Rattle.arm_words.specs.Fields.{HasFields, HasOffset, HasShortOffset};
-ghost use Rattle.asm_text.specs.ArmReading.{double_transfer_at, half_transfer_at, multiple_at, pld_at, short_of, swap_at, transfer_at};
+ghost use Rattle.asm_text.specs.Reader.ArmRows.{double_transfer_at, half_transfer_at, multiple_at, pld_at, short_of, swap_at, transfer_at};
 
 use crate::reading::parts::{Address, address_at, byte, past, register_at, registers_at};
 use arm_words::{Condition, HalfOp, Instr, Offset, ShortOffset};
 
-#[tactic(auto, unfolding(crate::specs::ArmReading::swap_at))]
+#[tactic(auto, unfolding(crate::specs::Reader::ArmRows::swap_at))]
 pub(crate) fn swap_at(byte: bool, cond: Condition, text: &[u8]) -> Instr
     ensures row { result ≡ swap_at byte cond text.now }
     ensures fields { HasFields result }
@@ -37,7 +37,7 @@ fn short_of(offset: Offset) -> ShortOffset
     }
 }
 
-#[tactic(auto, unfolding(crate::specs::ArmReading::half_transfer_at))]
+#[tactic(auto, unfolding(crate::specs::Reader::ArmRows::half_transfer_at))]
 pub(crate) fn half_transfer_at(op: HalfOp, cond: Condition, text: &[u8]) -> Instr
     ensures row { result ≡ half_transfer_at op cond text.now }
     ensures fields { HasFields result }
@@ -56,7 +56,7 @@ pub(crate) fn half_transfer_at(op: HalfOp, cond: Condition, text: &[u8]) -> Inst
     }
 }
 
-#[tactic(auto, unfolding(crate::specs::ArmReading::double_transfer_at))]
+#[tactic(auto, unfolding(crate::specs::Reader::ArmRows::double_transfer_at))]
 pub(crate) fn double_transfer_at(store: bool, cond: Condition, text: &[u8]) -> Instr
     ensures row { result ≡ double_transfer_at store cond text.now }
     ensures fields { HasFields result }
@@ -76,7 +76,7 @@ pub(crate) fn double_transfer_at(store: bool, cond: Condition, text: &[u8]) -> I
 }
 
 /// `t` is bit 21 where the name tells it.
-#[tactic(auto, unfolding(crate::specs::ArmReading::transfer_at))]
+#[tactic(auto, unfolding(crate::specs::Reader::ArmRows::transfer_at))]
 pub(crate) fn transfer_at(byte: bool, t: bool, load: bool, cond: Condition, text: &[u8]) -> Instr
     ensures row { result ≡ transfer_at byte t load cond text.now }
     ensures fields { HasFields result }
@@ -96,7 +96,7 @@ pub(crate) fn transfer_at(byte: bool, t: bool, load: bool, cond: Condition, text
     }
 }
 
-#[tactic(auto, unfolding(crate::specs::ArmReading::multiple_at))]
+#[tactic(auto, unfolding(crate::specs::Reader::ArmRows::multiple_at))]
 pub(crate) fn multiple_at(pre: bool, up: bool, load: bool, cond: Condition, text: &[u8]) -> Instr
     ensures row { result ≡ multiple_at pre up load cond text.now }
     ensures fields { HasFields result }
@@ -116,7 +116,7 @@ pub(crate) fn multiple_at(pre: bool, up: bool, load: bool, cond: Condition, text
     }
 }
 
-#[tactic(auto, unfolding(crate::specs::ArmReading::pld_at))]
+#[tactic(auto, unfolding(crate::specs::Reader::ArmRows::pld_at))]
 pub(crate) fn pld_at(text: &[u8]) -> Instr
     ensures row { result ≡ pld_at text.now }
     ensures fields { HasFields result }

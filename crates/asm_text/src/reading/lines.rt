@@ -3,12 +3,12 @@
 ghost use Rattle.std.specs.Prelude.{◌≡◌, ◌≢◌, ◌<◌, ◌^◌, ℕ, IfOk, IfSome, Ok, OnErr};
 ghost use Rattle.arm_words.specs.Fields.{HasFields};
 ghost use Rattle.arm_words.specs.Spellings.{IsInRange};
-ghost use Rattle.asm_text.specs.Candidates.{candidate, in_set, number_read, read_in, row_in, stems_in, HasStem};
+ghost use Rattle.asm_text.specs.Reader.Candidates.{candidate, in_set, number_read, read_in, row_in, stems_in, HasStem};
 ghost use Rattle.asm_text.specs.Listed.{listed, number_in, spelling};
 
 use super::arm_rows::arm_row;
 use super::arm_stems::ARM_STEMS;
-use super::names::{Stem, name, named};
+use super::names::{Stem, name, named_stem};
 use super::parts::hex_at;
 use super::thumb_rows::thumb_row;
 use super::thumb_stems::THUMB_STEMS;
@@ -42,13 +42,13 @@ fn row_in(set: Set, at: u32, template: Instr, cond: Condition, text: &[u8]) -> I
 }
 
 /// What a text may be the statement of: a row's instruction with its fields, or a number.
-#[tactic(auto, unfolding(crate::specs::Naming::read))]
+#[tactic(auto, unfolding(crate::specs::Reader::Names::read))]
 fn read_in(set: Set, at: u32, text: &[u8]) -> Option<Stem>
     ensures value { result ≡ read_in set at text.now }
     ensures fields { IfSome result HasStem }
 {
     let (key, rest) = name(text);
-    let (stem, cond) = named(stems_in(set), key);
+    let (stem, cond) = named_stem(stems_in(set), key);
     match stem {
         Some(Stem::Row(instr)) => Some(Stem::Row(row_in(set, at, instr, cond, rest))),
         Some(Stem::Raw(_)) => Some(Stem::Raw(hex_at(rest).0)),

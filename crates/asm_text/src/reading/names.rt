@@ -1,9 +1,31 @@
 //! The names that statements begin with.
 
 ghost use Rattle.std.specs.Prelude.{◌≡◌};
-ghost use Rattle.asm_text.specs.Naming.{lookup, name, named};
+ghost use Rattle.asm_text.specs.Reader.Names.{lookup, name, named_stem};
 
 use arm_words::{Condition, Instr};
+
+/// The key of a name of at most seven letters: five bits a letter, the first highest.
+macro_rules! key {
+    (@letter $name:literal $at:literal) => {
+        if $at < $name.len() {
+            ($name[$at] as u64 % 32) << (5 * ($name.len() - 1 - $at))
+        } else {
+            0
+        }
+    };
+    ($name:literal) => {
+        key!(@letter $name 0)
+            + key!(@letter $name 1)
+            + key!(@letter $name 2)
+            + key!(@letter $name 3)
+            + key!(@letter $name 4)
+            + key!(@letter $name 5)
+            + key!(@letter $name 6)
+    };
+}
+
+pub(crate) use key;
 
 /// What a name stands for.
 #[derive(Clone, Copy)]
@@ -15,25 +37,25 @@ pub(crate) enum Stem {
     Raw(u32),
 }
 
-/// The suffixes of conditions, by their keys.
+/// The suffixes of conditions.
 const CONDITIONS: [(u64, Condition); 14] = [
-    (0xb1, Condition::Eq), // eq
-    (0x1c5, Condition::Ne), // ne
-    (0x73, Condition::Cs), // cs
-    (0x63, Condition::Cc), // cc
-    (0x1a9, Condition::Mi), // mi
-    (0x20c, Condition::Pl), // pl
-    (0x2d3, Condition::Vs), // vs
-    (0x2c3, Condition::Vc), // vc
-    (0x109, Condition::Hi), // hi
-    (0x193, Condition::Ls), // ls
-    (0xe5, Condition::Ge), // ge
-    (0x194, Condition::Lt), // lt
-    (0xf4, Condition::Gt), // gt
-    (0x185, Condition::Le), // le
+    (key!(b"eq"), Condition::Eq),
+    (key!(b"ne"), Condition::Ne),
+    (key!(b"cs"), Condition::Cs),
+    (key!(b"cc"), Condition::Cc),
+    (key!(b"mi"), Condition::Mi),
+    (key!(b"pl"), Condition::Pl),
+    (key!(b"vs"), Condition::Vs),
+    (key!(b"vc"), Condition::Vc),
+    (key!(b"hi"), Condition::Hi),
+    (key!(b"ls"), Condition::Ls),
+    (key!(b"ge"), Condition::Ge),
+    (key!(b"lt"), Condition::Lt),
+    (key!(b"gt"), Condition::Gt),
+    (key!(b"le"), Condition::Le),
 ];
 
-/// The key of a text up to its first blank, and what follows the blank: five bits a letter.
+/// The key of a text up to its first blank, and what follows the blank.
 pub(crate) fn name(text: &[u8]) -> (u64, &[u8])
     ensures key { result.0 ≡ (name 0 text.now).0 }
     ensures rest { result.1.now ≡ (name 0 text.now).1 }
@@ -66,10 +88,10 @@ fn lookup<T: Copy>(table: &[(u64, T)], key: u64) -> Option<T>
 
 /// What a name's key stands for, and its condition: where its last two letters are a condition's suffix and the table has what
 /// stands before them, these; otherwise the whole name, with Al.
-#[tactic(auto, unfolding(crate::specs::Naming::named))]
-pub(crate) fn named(table: &[(u64, Stem)], key: u64) -> (Option<Stem>, Condition)
-    ensures stem { result.0 ≡ (named table.now key).0 }
-    ensures condition { result.1 ≡ (named table.now key).1 }
+#[tactic(auto, unfolding(crate::specs::Reader::Names::named_stem))]
+pub(crate) fn named_stem(table: &[(u64, Stem)], key: u64) -> (Option<Stem>, Condition)
+    ensures stem { result.0 ≡ (named_stem table.now key).0 }
+    ensures condition { result.1 ≡ (named_stem table.now key).1 }
 {
     if let Some(cond) = lookup(&CONDITIONS, key % 1024) {
         if let Some(stem) = lookup(table, key / 1024) {

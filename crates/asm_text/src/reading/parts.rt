@@ -3,7 +3,7 @@
 ghost use Rattle.std.specs.Prelude.{◌≡◌, ◌+◌, ◌*◌, ◌<◌, ◌≤◌, ◌^◌, drop, slice_index};
 ghost use Rattle.arm_words.specs.Canonical.{turned_back};
 ghost use Rattle.arm_words.specs.Fields.{HasOffset, HasOperand};
-ghost use Rattle.asm_text.specs.Reading.{address_at, as_offset, by_shift, decimal_at, digit_value, fields_at, four_at, hex_at, is_decimal, is_digit, is_spsr, letter_at, marked_at, member_at, next_at, numeral, offset_at, one_at, operand_at, register_at, registers_at, rotation_of, shift_at, shifted_at, three_at, two_at, unsigned_at};
+ghost use Rattle.asm_text.specs.Reader.Parts.{address_at, as_offset, by_shift, decimal_at, digit_value, fields_at, four_at, hex_at, is_decimal, is_digit, is_spsr, letter_at, marked_at, member_at, next_at, numeral, offset_at, one_at, operand_at, register_at, registers_at, rotation_of, shift_at, shifted_at, three_at, two_at, unsigned_at};
 
 use arm_words::{FieldMask, Offset, Operand, Shift};
 
@@ -64,7 +64,7 @@ fn numeral(text: &[u8]) -> (u32, &[u8])
 }
 
 /// A number after `0x`.
-#[tactic(auto, unfolding(crate::specs::Reading::hex_at))]
+#[tactic(auto, unfolding(crate::specs::Reader::Parts::hex_at))]
 pub(crate) fn hex_at(text: &[u8]) -> (u32, &[u8])
     ensures value { result.0 ≡ (hex_at text.now).0 }
     ensures rest { result.1.now ≡ (hex_at text.now).1 }
@@ -73,7 +73,7 @@ pub(crate) fn hex_at(text: &[u8]) -> (u32, &[u8])
 }
 
 /// A number after `#0x`.
-#[tactic(auto, unfolding(crate::specs::Reading::marked_at))]
+#[tactic(auto, unfolding(crate::specs::Reader::Parts::marked_at))]
 pub(crate) fn marked_at(text: &[u8]) -> (u32, &[u8])
     ensures value { result.0 ≡ (marked_at text.now).0 }
     ensures rest { result.1.now ≡ (marked_at text.now).1 }
@@ -82,7 +82,7 @@ pub(crate) fn marked_at(text: &[u8]) -> (u32, &[u8])
 }
 
 /// A decimal number below 16.
-#[tactic(auto, unfolding(crate::specs::Reading::decimal_at))]
+#[tactic(auto, unfolding(crate::specs::Reader::Parts::decimal_at))]
 pub(crate) fn decimal_at(text: &[u8]) -> (u8, &[u8])
     ensures value { result.0 ≡ (decimal_at text.now).0 }
     ensures rest { result.1.now ≡ (decimal_at text.now).1 }
@@ -158,7 +158,7 @@ pub(crate) fn four_at(text: &[u8]) -> (u8, u8, u8, u8)
 }
 
 /// A shift, by its name.
-#[tactic(auto, unfolding(crate::specs::Reading::shift_at))]
+#[tactic(auto, unfolding(crate::specs::Reader::Parts::shift_at))]
 pub(crate) fn shift_at(text: &[u8]) -> Shift
     ensures { result ≡ shift_at text.now }
 {
@@ -175,7 +175,7 @@ pub(crate) fn shift_at(text: &[u8]) -> Shift
     }
 }
 
-#[tactic(auto, unfolding(crate::specs::Reading::by_shift))]
+#[tactic(auto, unfolding(crate::specs::Reader::Parts::by_shift))]
 fn by_shift(rm: u8, shift: Shift, text: &[u8]) -> (Operand, &[u8])
     requires { rm < 16 }
     ensures value { result.0 ≡ (by_shift rm shift text.now).0 }
@@ -207,7 +207,7 @@ fn by_shift(rm: u8, shift: Shift, text: &[u8]) -> (Operand, &[u8])
     (Operand::ShiftedByRegister { rm, shift, rs }, rest)
 }
 
-#[tactic(auto, unfolding(crate::specs::Reading::shifted_at))]
+#[tactic(auto, unfolding(crate::specs::Reader::Parts::shifted_at))]
 fn shifted_at(text: &[u8]) -> (Operand, &[u8])
     ensures value { result.0 ≡ (shifted_at text.now).0 }
     ensures rest { result.1.now ≡ (shifted_at text.now).1 }
@@ -236,7 +236,7 @@ fn turned_back(rotate: u32, n: u32) -> u64
 }
 
 /// The least rotation that gives a number, and its byte; anything where none does.
-#[tactic(auto, unfolding(crate::specs::Reading::rotation_of))]
+#[tactic(auto, unfolding(crate::specs::Reader::Parts::rotation_of))]
 pub(crate) fn rotation_of(n: u32) -> (u8, u8)
     ensures value { result ≡ rotation_of n }
     ensures bound { result.0 < 16 }
@@ -251,7 +251,7 @@ pub(crate) fn rotation_of(n: u32) -> (u8, u8)
 }
 
 /// The last operand of data processing.
-#[tactic(auto, unfolding(crate::specs::Reading::operand_at))]
+#[tactic(auto, unfolding(crate::specs::Reader::Parts::operand_at))]
 pub(crate) fn operand_at(text: &[u8]) -> Operand
     ensures value { result ≡ operand_at text.now }
     ensures fields { HasOperand result }
@@ -279,7 +279,7 @@ fn as_offset(operand: Operand) -> Offset
     }
 }
 
-#[tactic(auto, unfolding(crate::specs::Reading::unsigned_at))]
+#[tactic(auto, unfolding(crate::specs::Reader::Parts::unsigned_at))]
 fn unsigned_at(marked: bool, text: &[u8]) -> (Offset, &[u8])
     ensures value { result.0 ≡ (unsigned_at marked text.now).0 }
     ensures rest { result.1.now ≡ (unsigned_at marked text.now).1 }
@@ -299,7 +299,7 @@ fn unsigned_at(marked: bool, text: &[u8]) -> (Offset, &[u8])
 }
 
 /// Whether an offset is added, the offset, and what follows it.
-#[tactic(auto, unfolding(crate::specs::Reading::offset_at))]
+#[tactic(auto, unfolding(crate::specs::Reader::Parts::offset_at))]
 fn offset_at(text: &[u8]) -> (bool, Offset, &[u8])
     ensures up { result.0 ≡ (offset_at text.now).0 }
     ensures value { result.1 ≡ (offset_at text.now).1 }
@@ -327,7 +327,7 @@ pub(crate) struct Address {
 }
 
 /// An address in brackets, or with its offset after them.
-#[tactic(auto, unfolding(crate::specs::Reading::address_at))]
+#[tactic(auto, unfolding(crate::specs::Reader::Parts::address_at))]
 pub(crate) fn address_at(text: &[u8]) -> Address
     ensures value { result ≡ address_at text.now }
     ensures rn { result.rn < 16 }
@@ -345,7 +345,7 @@ pub(crate) fn address_at(text: &[u8]) -> Address
     }
 }
 
-#[tactic(auto, unfolding(crate::specs::Reading::member_at))]
+#[tactic(auto, unfolding(crate::specs::Reader::Parts::member_at))]
 fn member_at(text: &[u8]) -> (u32, &[u8])
     ensures value { result.0 ≡ (member_at text.now).0 }
     ensures rest { result.1.now ≡ (member_at text.now).1 }
@@ -390,7 +390,7 @@ fn letter_at(letter: u8, text: &[u8]) -> (bool, &[u8])
 }
 
 /// The letters of the status fields that are written.
-#[tactic(auto, unfolding(crate::specs::Reading::fields_at))]
+#[tactic(auto, unfolding(crate::specs::Reader::Parts::fields_at))]
 pub(crate) fn fields_at(text: &[u8]) -> (FieldMask, &[u8])
     ensures value { result.0 ≡ (fields_at text.now).0 }
     ensures rest { result.1.now ≡ (fields_at text.now).1 }

@@ -3,7 +3,7 @@
 
 ghost use Rattle.std.specs.Prelude.{◌≡◌, ◌<◌, ◌≤◌, ◌^◌};
 ghost use Rattle.arm_words.specs.Fields.{HasFields, HasThumbOperand};
-ghost use Rattle.asm_text.specs.ThumbReading.{add_sub_row, branch_by, byte_offset, data_row, half_offset, halves_to, high_row, immediate_row, multiple_row, number_offset, push_pop_row, shift_of, small_at, thumb_row, transfer_row, with_number, with_register, word_offset};
+ghost use Rattle.asm_text.specs.Reader.ThumbRows.{add_sub_row, branch_by, byte_offset, data_row, half_offset, halves_to, high_row, immediate_row, multiple_row, number_offset, push_pop_row, shift_named, small_at, thumb_row, transfer_row, sum_with_number, sum_with_register, word_offset};
 
 use crate::reading::parts::{
     byte, hex_at, marked_at, one_at, past, register_at, registers_at, two_at,
@@ -12,7 +12,7 @@ use arm_words::{
     Condition, HighOp, Instr, Shift, ThumbDataOp, ThumbImmediateOp, ThumbOperand, ThumbTransferOp,
 };
 
-#[tactic(auto, unfolding(crate::specs::ThumbReading::small_at))]
+#[tactic(auto, unfolding(crate::specs::Reader::ThumbRows::small_at))]
 fn small_at(text: &[u8]) -> ThumbOperand
     ensures value { result ≡ small_at text.now }
     ensures fields { HasThumbOperand result }
@@ -28,8 +28,8 @@ fn small_at(text: &[u8]) -> ThumbOperand
 }
 
 /// `add` and `sub` of a register and a number: r13 is the stack's.
-fn with_number(subtract: bool, rd: u8, n: u32) -> Instr
-    ensures value { result ≡ with_number subtract rd n }
+fn sum_with_number(subtract: bool, rd: u8, n: u32) -> Instr
+    ensures value { result ≡ sum_with_number subtract rd n }
     ensures fields { HasFields result }
 {
     if rd == 13 {
@@ -50,8 +50,8 @@ fn with_number(subtract: bool, rd: u8, n: u32) -> Instr
 }
 
 /// `add` and `sub` of two registers: r13 and r15 are bases of addresses.
-fn with_register(subtract: bool, rd: u8, rn: u8, third: &[u8]) -> Instr
-    ensures value { result ≡ with_register subtract rd rn third.now }
+fn sum_with_register(subtract: bool, rd: u8, rn: u8, third: &[u8]) -> Instr
+    ensures value { result ≡ sum_with_register subtract rd rn third.now }
     ensures fields { HasFields result }
 {
     if rn >= 8 {
@@ -69,7 +69,7 @@ fn with_register(subtract: bool, rd: u8, rn: u8, third: &[u8]) -> Instr
     }
 }
 
-#[tactic(auto, unfolding(crate::specs::ThumbReading::add_sub_row))]
+#[tactic(auto, unfolding(crate::specs::Reader::ThumbRows::add_sub_row))]
 fn add_sub_row(subtract: bool, text: &[u8]) -> Instr
     ensures value { result ≡ add_sub_row subtract text.now }
     ensures fields { HasFields result }
@@ -77,13 +77,13 @@ fn add_sub_row(subtract: bool, text: &[u8]) -> Instr
     let (rd, rest) = register_at(text);
     let second = past(rest, 2);
     if byte(second, 0) == b'#' {
-        return with_number(subtract, rd, marked_at(second).0);
+        return sum_with_number(subtract, rd, marked_at(second).0);
     }
     let (rn, rest) = register_at(second);
-    with_register(subtract, rd, rn, past(rest, 2))
+    sum_with_register(subtract, rd, rn, past(rest, 2))
 }
 
-#[tactic(auto, unfolding(crate::specs::ThumbReading::immediate_row))]
+#[tactic(auto, unfolding(crate::specs::Reader::ThumbRows::immediate_row))]
 fn immediate_row(op: ThumbImmediateOp, text: &[u8]) -> Instr
     ensures value { result ≡ immediate_row op text.now }
     ensures fields { HasFields result }
@@ -97,8 +97,8 @@ fn immediate_row(op: ThumbImmediateOp, text: &[u8]) -> Instr
 }
 
 /// The shift of that name.
-fn shift_of(op: ThumbDataOp) -> Shift
-    ensures { result ≡ shift_of op }
+fn shift_named(op: ThumbDataOp) -> Shift
+    ensures { result ≡ shift_named op }
 {
     match op {
         ThumbDataOp::Lsl => Shift::Lsl,
@@ -109,7 +109,7 @@ fn shift_of(op: ThumbDataOp) -> Shift
 }
 
 /// Two registers, and for a shift a third operand; with a number in place of the second register it is `cmp`.
-#[tactic(auto, unfolding(crate::specs::ThumbReading::data_row))]
+#[tactic(auto, unfolding(crate::specs::Reader::ThumbRows::data_row))]
 fn data_row(op: ThumbDataOp, text: &[u8]) -> Instr
     ensures value { result ≡ data_row op text.now }
     ensures fields { HasFields result }
@@ -126,7 +126,7 @@ fn data_row(op: ThumbDataOp, text: &[u8]) -> Instr
     let (rm, rest) = register_at(second);
     if byte(rest, 0) == b',' {
         return Instr::ThumbShift {
-            shift: shift_of(op),
+            shift: shift_named(op),
             amount: (marked_at(past(rest, 2)).0 % 32) as u8,
             rm: rm % 8,
             rd: rd % 8,
@@ -195,7 +195,7 @@ fn half_offset(load: bool, rn: u8, rd: u8, n: u32) -> Instr
 }
 
 /// A transfer at a base and a number, by its width.
-#[tactic(auto, unfolding(crate::specs::ThumbReading::number_offset))]
+#[tactic(auto, unfolding(crate::specs::Reader::ThumbRows::number_offset))]
 fn number_offset(op: ThumbTransferOp, rn: u8, rd: u8, n: u32) -> Instr
     requires { rd < 8 }
     ensures value { result ≡ number_offset op rn rd n }
@@ -211,7 +211,7 @@ fn number_offset(op: ThumbTransferOp, rn: u8, rd: u8, n: u32) -> Instr
     }
 }
 
-#[tactic(auto, unfolding(crate::specs::ThumbReading::transfer_row))]
+#[tactic(auto, unfolding(crate::specs::Reader::ThumbRows::transfer_row))]
 fn transfer_row(op: ThumbTransferOp, text: &[u8]) -> Instr
     ensures value { result ≡ transfer_row op text.now }
     ensures fields { HasFields result }
@@ -231,7 +231,7 @@ fn transfer_row(op: ThumbTransferOp, text: &[u8]) -> Instr
 }
 
 /// A list with r14 or r15, which stand above the low registers.
-#[tactic(auto, unfolding(crate::specs::ThumbReading::push_pop_row))]
+#[tactic(auto, unfolding(crate::specs::Reader::ThumbRows::push_pop_row))]
 fn push_pop_row(load: bool, text: &[u8]) -> Instr
     ensures value { result ≡ push_pop_row load text.now }
     ensures fields { HasFields result }
@@ -244,7 +244,7 @@ fn push_pop_row(load: bool, text: &[u8]) -> Instr
     }
 }
 
-#[tactic(auto, unfolding(crate::specs::ThumbReading::multiple_row))]
+#[tactic(auto, unfolding(crate::specs::Reader::ThumbRows::multiple_row))]
 fn multiple_row(load: bool, text: &[u8]) -> Instr
     ensures value { result ≡ multiple_row load text.now }
     ensures fields { HasFields result }
@@ -291,7 +291,7 @@ fn high_row(op: HighOp, text: &[u8]) -> Instr
 
 /// The instruction of a Thumb statement at address `at`: `template` is the row that its name stands for (`swi` where it is none of
 /// Thumb's), and `text` are its operands. Its fields are in their ranges, whatever the text.
-#[tactic(auto, unfolding(crate::specs::ThumbReading::thumb_row))]
+#[tactic(auto, unfolding(crate::specs::Reader::ThumbRows::thumb_row))]
 pub(crate) fn thumb_row(at: u32, template: Instr, cond: Condition, text: &[u8]) -> Instr
     ensures value { result ≡ thumb_row at template cond text.now }
     ensures fields { HasFields result }

@@ -1,299 +1,302 @@
-//! The names of Thumb statements, each as a number with five bits a letter, and the row that it stands for. Where several rows have
-//! one name, it stands for the first, and the operands tell.
+//! The names of Thumb statements, and the row that each stands for. Where several rows have one name, it stands for the first, and
+//! the operands tell.
 
-use crate::reading::names::Stem;
+use crate::reading::names::{Stem, key};
 use arm_words::{HighOp, Instr, ThumbDataOp, ThumbImmediateOp, ThumbOperand, ThumbTransferOp};
 
 pub(crate) const THUMB_STEMS: [(u64, Stem); 43] = [
     (
-        0x484,
+        key!(b"add"),
         Stem::Row(Instr::ThumbAddSub {
             subtract: false,
             operand: ThumbOperand::Small { immed: 0 },
             rn: 0,
             rd: 0,
         }),
-    ), // add
+    ),
     (
-        0x4ea2,
+        key!(b"sub"),
         Stem::Row(Instr::ThumbAddSub {
             subtract: true,
             operand: ThumbOperand::Small { immed: 0 },
             rn: 0,
             rd: 0,
         }),
-    ), // sub
+    ),
     (
-        0x35f6,
+        key!(b"mov"),
         Stem::Row(Instr::ThumbImmediate {
             op: ThumbImmediateOp::Mov,
             rd: 0,
             immed: 0,
         }),
-    ), // mov
+    ),
     (
-        0x5c4,
+        key!(b"and"),
         Stem::Row(Instr::ThumbData {
             op: ThumbDataOp::And,
             rm: 0,
             rd: 0,
         }),
-    ), // and
+    ),
     (
-        0x15f2,
+        key!(b"eor"),
         Stem::Row(Instr::ThumbData {
             op: ThumbDataOp::Eor,
             rm: 0,
             rd: 0,
         }),
-    ), // eor
+    ),
     (
-        0x326c,
+        key!(b"lsl"),
         Stem::Row(Instr::ThumbData {
             op: ThumbDataOp::Lsl,
             rm: 0,
             rd: 0,
         }),
-    ), // lsl
+    ),
     (
-        0x3272,
+        key!(b"lsr"),
         Stem::Row(Instr::ThumbData {
             op: ThumbDataOp::Lsr,
             rm: 0,
             rd: 0,
         }),
-    ), // lsr
+    ),
     (
-        0x672,
+        key!(b"asr"),
         Stem::Row(Instr::ThumbData {
             op: ThumbDataOp::Asr,
             rm: 0,
             rd: 0,
         }),
-    ), // asr
+    ),
     (
-        0x483,
+        key!(b"adc"),
         Stem::Row(Instr::ThumbData {
             op: ThumbDataOp::Adc,
             rm: 0,
             rd: 0,
         }),
-    ), // adc
+    ),
     (
-        0x4c43,
+        key!(b"sbc"),
         Stem::Row(Instr::ThumbData {
             op: ThumbDataOp::Sbc,
             rm: 0,
             rd: 0,
         }),
-    ), // sbc
+    ),
     (
-        0x49f2,
+        key!(b"ror"),
         Stem::Row(Instr::ThumbData {
             op: ThumbDataOp::Ror,
             rm: 0,
             rd: 0,
         }),
-    ), // ror
+    ),
     (
-        0x5274,
+        key!(b"tst"),
         Stem::Row(Instr::ThumbData {
             op: ThumbDataOp::Tst,
             rm: 0,
             rd: 0,
         }),
-    ), // tst
+    ),
     (
-        0x38a7,
+        key!(b"neg"),
         Stem::Row(Instr::ThumbData {
             op: ThumbDataOp::Neg,
             rm: 0,
             rd: 0,
         }),
-    ), // neg
+    ),
     (
-        0xdb0,
+        key!(b"cmp"),
         Stem::Row(Instr::ThumbData {
             op: ThumbDataOp::Cmp,
             rm: 0,
             rd: 0,
         }),
-    ), // cmp
+    ),
     (
-        0xdae,
+        key!(b"cmn"),
         Stem::Row(Instr::ThumbData {
             op: ThumbDataOp::Cmn,
             rm: 0,
             rd: 0,
         }),
-    ), // cmn
+    ),
     (
-        0x3e52,
+        key!(b"orr"),
         Stem::Row(Instr::ThumbData {
             op: ThumbDataOp::Orr,
             rm: 0,
             rd: 0,
         }),
-    ), // orr
+    ),
     (
-        0x36ac,
+        key!(b"mul"),
         Stem::Row(Instr::ThumbData {
             op: ThumbDataOp::Mul,
             rm: 0,
             rd: 0,
         }),
-    ), // mul
+    ),
     (
-        0x923,
+        key!(b"bic"),
         Stem::Row(Instr::ThumbData {
             op: ThumbDataOp::Bic,
             rm: 0,
             rd: 0,
         }),
-    ), // bic
+    ),
     (
-        0x36ce,
+        key!(b"mvn"),
         Stem::Row(Instr::ThumbData {
             op: ThumbDataOp::Mvn,
             rm: 0,
             rd: 0,
         }),
-    ), // mvn
-    (0x58, Stem::Row(Instr::ThumbBx { rm: 0 })), // bx
-    (0x998, Stem::Row(Instr::ThumbBlxRegister { rm: 0 })), // blx
+    ),
+    (key!(b"bx"), Stem::Row(Instr::ThumbBx { rm: 0 })),
+    (key!(b"blx"), Stem::Row(Instr::ThumbBlxRegister { rm: 0 })),
     (
-        0x9088,
+        key!(b"addh"),
         Stem::Row(Instr::ThumbHigh {
             op: HighOp::Add,
             rm: 0,
             rd: 0,
         }),
-    ), // addh
+    ),
     (
-        0x1b608,
+        key!(b"cmph"),
         Stem::Row(Instr::ThumbHigh {
             op: HighOp::Cmp,
             rm: 0,
             rd: 0,
         }),
-    ), // cmph
+    ),
     (
-        0x6bec8,
+        key!(b"movh"),
         Stem::Row(Instr::ThumbHigh {
             op: HighOp::Mov,
             rm: 0,
             rd: 0,
         }),
-    ), // movh
+    ),
     (
-        0x4e92,
+        key!(b"str"),
         Stem::Row(Instr::ThumbRegisterOffset {
             op: ThumbTransferOp::Str,
             rm: 0,
             rn: 0,
             rd: 0,
         }),
-    ), // str
+    ),
     (
-        0x9d248,
+        key!(b"strh"),
         Stem::Row(Instr::ThumbRegisterOffset {
             op: ThumbTransferOp::Strh,
             rm: 0,
             rn: 0,
             rd: 0,
         }),
-    ), // strh
+    ),
     (
-        0x9d242,
+        key!(b"strb"),
         Stem::Row(Instr::ThumbRegisterOffset {
             op: ThumbTransferOp::Strb,
             rm: 0,
             rn: 0,
             rd: 0,
         }),
-    ), // strb
+    ),
     (
-        0xc24a62,
+        key!(b"ldrsb"),
         Stem::Row(Instr::ThumbRegisterOffset {
             op: ThumbTransferOp::Ldrsb,
             rm: 0,
             rn: 0,
             rd: 0,
         }),
-    ), // ldrsb
+    ),
     (
-        0x3092,
+        key!(b"ldr"),
         Stem::Row(Instr::ThumbRegisterOffset {
             op: ThumbTransferOp::Ldr,
             rm: 0,
             rn: 0,
             rd: 0,
         }),
-    ), // ldr
+    ),
     (
-        0x61248,
+        key!(b"ldrh"),
         Stem::Row(Instr::ThumbRegisterOffset {
             op: ThumbTransferOp::Ldrh,
             rm: 0,
             rn: 0,
             rd: 0,
         }),
-    ), // ldrh
+    ),
     (
-        0x61242,
+        key!(b"ldrb"),
         Stem::Row(Instr::ThumbRegisterOffset {
             op: ThumbTransferOp::Ldrb,
             rm: 0,
             rn: 0,
             rd: 0,
         }),
-    ), // ldrb
+    ),
     (
-        0xc24a68,
+        key!(b"ldrsh"),
         Stem::Row(Instr::ThumbRegisterOffset {
             op: ThumbTransferOp::Ldrsh,
             rm: 0,
             rn: 0,
             rd: 0,
         }),
-    ), // ldrsh
+    ),
     (
-        0x85668,
+        key!(b"push"),
         Stem::Row(Instr::ThumbPushPop {
             load: false,
             extra: false,
             list: 0,
         }),
-    ), // push
+    ),
     (
-        0x41f0,
+        key!(b"pop"),
         Stem::Row(Instr::ThumbPushPop {
             load: true,
             extra: false,
             list: 0,
         }),
-    ), // pop
-    (0x12e14, Stem::Row(Instr::ThumbBkpt { immed: 0 })), // bkpt
+    ),
+    (key!(b"bkpt"), Stem::Row(Instr::ThumbBkpt { immed: 0 })),
     (
-        0x13a3521,
+        key!(b"stmia"),
         Stem::Row(Instr::ThumbMultiple {
             load: false,
             rn: 0,
             list: 0,
         }),
-    ), // stmia
+    ),
     (
-        0xc23521,
+        key!(b"ldmia"),
         Stem::Row(Instr::ThumbMultiple {
             load: true,
             rn: 0,
             list: 0,
         }),
-    ), // ldmia
-    (0x4ee9, Stem::Row(Instr::ThumbSwi { immed: 0 })), // swi
-    (0x2, Stem::Row(Instr::ThumbBranch { offset: 0 })), // b
-    (0x1330c, Stem::Row(Instr::ThumbBlxSuffix { offset: 0 })), // blxl
-    (0x988, Stem::Row(Instr::ThumbBlPrefix { offset: 0 })), // blh
-    (0x98c, Stem::Row(Instr::ThumbBlSuffix { offset: 0 })), // bll
-    (0xe40586, Stem::Raw(0)), // .half
+    ),
+    (key!(b"swi"), Stem::Row(Instr::ThumbSwi { immed: 0 })),
+    (key!(b"b"), Stem::Row(Instr::ThumbBranch { offset: 0 })),
+    (
+        key!(b"blxl"),
+        Stem::Row(Instr::ThumbBlxSuffix { offset: 0 }),
+    ),
+    (key!(b"blh"), Stem::Row(Instr::ThumbBlPrefix { offset: 0 })),
+    (key!(b"bll"), Stem::Row(Instr::ThumbBlSuffix { offset: 0 })),
+    (key!(b".half"), Stem::Raw(0)),
 ];

@@ -1,6 +1,6 @@
 use Rattle.std.proofs.Common.{ℕ, List, [], ◌∷◌, ◌++◌, ◌≡◌, ◌≢◌, ◌≤◌, ◌+◌, ◌-◌, length, take, drop, arith, refl, sym, ap, subst, ◌∙◌, length-drop, length-take}
 use Rattle.std.proofs.lemmas.List.{take_rest, drop-drop}
-use Rattle.asm_files.specs.Lines.{first_place, Path, piece_bytes}
+use Rattle.asm_files.specs.Reader.Lines.{first_place, Path, piece_bytes}
 use Rattle.asm_files.specs.Listings.{whole_lines, tail}
 use Rattle.asm_files.proofs.LoopLaws.{stops, ends, whole, goes_on, next_of, kept_on}
 use Rattle.asm_files.proofs.reading.read_lines.Goals as goal

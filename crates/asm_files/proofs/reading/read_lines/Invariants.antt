@@ -1,5 +1,5 @@
 use Rattle.std.proofs.Common.{◌≡◌, ◌≤◌, ◌+◌, ◌-◌, length, take, drop}
-use Rattle.asm_files.specs.Lines.{first_place, Path}
+use Rattle.asm_files.specs.Reader.Lines.{first_place, Path}
 use Rattle.asm_files.specs.Listings.{tail, whole_lines}
 use Rattle.asm_files.proofs.reading.read_lines.Given as goal
 

@@ -1,7 +1,7 @@
 use Rattle.std.proofs.Common.{◌≤◌, length, map}
 use Rattle.asm_text.specs.Starts.{raw_byte}
 use Rattle.asm_files.specs.Listings.{text_of}
-use Rattle.asm_files.specs.Pages.{Passing}
+use Rattle.asm_files.specs.Writer.Pages.{Passing}
 use Rattle.asm_files.proofs.writing.write_bytes.Given as goal
 
 abbrev pub invariant-loop-rest : goal.invariant-loop-rest

@@ -1,6 +1,6 @@
 use Rattle.std.proofs.Common.{◌≤◌, length}
 use Rattle.asm_files.specs.Listings.{text_of, thumb_lines}
-use Rattle.asm_files.specs.Pages.{Passing}
+use Rattle.asm_files.specs.Writer.Pages.{Passing}
 use Rattle.asm_files.proofs.writing.write_halves.Given as goal
 
 abbrev pub invariant-loop-rest : goal.invariant-loop-rest

@@ -1,6 +1,6 @@
 use Rattle.std.proofs.Common.{◌≤◌, length}
 use Rattle.asm_files.specs.Listings.{text_of, arm_lines}
-use Rattle.asm_files.specs.Pages.{Passing}
+use Rattle.asm_files.specs.Writer.Pages.{Passing}
 use Rattle.asm_files.proofs.writing.write_words.Given as goal
 
 abbrev pub invariant-loop-rest : goal.invariant-loop-rest

@@ -5,6 +5,6 @@ pub returns : goal.returns
 returns c =
     let into = c.args.into.now in
     c.put_bytes.ensures.text
-    ∙ ap (λ (l : List ℕ). l ++ c.digits.result) c.put_text.ensures.text
-    ∙ append_assoc into (codes ".word 0x") c.digits.result
-    ∙ ap (λ (ds : List ℕ). into ++ (codes ".word 0x" ++ ds)) c.digits.ensures
+    ∙ ap (λ (l : List ℕ). l ++ c.hex_digits.result) c.put_text.ensures.text
+    ∙ append_assoc into (codes ".word 0x") c.hex_digits.result
+    ∙ ap (λ (ds : List ℕ). into ++ (codes ".word 0x" ++ ds)) c.hex_digits.ensures

@@ -2,13 +2,13 @@ use Rattle.std.proofs.Common.{ℕ, List, ◌≡◌, ◌<◌, ◌^◌, ap, sym, �
 use Rattle.ds_base.specs.declared.processors.Arch.{Arch}
 use Rattle.asm_text.specs.declared.sets.Set.{Set}
 use Rattle.asm_text.specs.Starts.{start}
-use Rattle.asm_text.specs.StartReading.{arch_at, set_at, address_at}
+use Rattle.asm_text.specs.Reader.Starts.{arch_at, set_at, start_address_at}
 use Rattle.asm_text.proofs.StartLaws.{arch_again, set_again, address_again}
 use Rattle.asm_text.proofs.starts.read_start.Goals as goal
 
 -- what is taken from a first line is what it was written for
-is_start : (text : List ℕ) (a : Arch) (s : Set) (n : ℕ) (arch : Arch) (set : Set) (at : ℕ) → a ≡ arch_at text → s ≡ set_at text → n ≡ address_at text → at < 2 ^ 32 → text ≡ start arch set at → (a ≡ arch) × (s ≡ set) × (n ≡ at)
-is_start text a s n arch set at ea es en h e = (ea ∙ ap arch_at e ∙ arch_again arch set at, es ∙ ap set_at e ∙ set_again arch set at, en ∙ ap address_at e ∙ address_again arch set at h)
+is_start : (text : List ℕ) (a : Arch) (s : Set) (n : ℕ) (arch : Arch) (set : Set) (at : ℕ) → a ≡ arch_at text → s ≡ set_at text → n ≡ start_address_at text → at < 2 ^ 32 → text ≡ start arch set at → (a ≡ arch) × (s ≡ set) × (n ≡ at)
+is_start text a s n arch set at ea es en h e = (ea ∙ ap arch_at e ∙ arch_again arch set at, es ∙ ap set_at e ∙ set_again arch set at, en ∙ ap start_address_at e ∙ address_again arch set at h)
 
 three : (a b : Arch) (s t : Set) (m n : ℕ) → a ≡ b → s ≡ t → m ≡ n → ◌≡◌ {A = Option (Arch × Set × ℕ)} (Some (a, s, m)) (Some (b, t, n))
 three a b s t m n ea es en = cc

@@ -1,5 +1,5 @@
 use Rattle.std.proofs.Common.{ℕ, ◌≡◌, ap, refl, sym, ◌∙◌, arith, Ok, Some, true, false}
-use Rattle.asm_text.specs.Candidates.{candidate}
+use Rattle.asm_text.specs.Reader.Candidates.{candidate}
 use Rattle.asm_text.specs.Listed.{listed, spelling, number_in}
 use Rattle.asm_text.specs.declared.sets.Set.{Set}
 use Rattle.asm_text.specs.declared.sets.Set.TheVariants.{Arm, Thumb}

@@ -1,5 +1,5 @@
 use Rattle.std.proofs.Common.{◌≡◌, length}
-use Rattle.asm_text.specs.Naming.{name}
+use Rattle.asm_text.specs.Reader.Names.{name}
 use Rattle.asm_text.proofs.reading.names.name.Given as goal
 
 abbrev pub invariant-loop-rest : goal.invariant-loop-rest

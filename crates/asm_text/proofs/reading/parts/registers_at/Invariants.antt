@@ -1,5 +1,5 @@
 use Rattle.std.proofs.Common.{◌≡◌, ◌-◌, ◌<◌, ◌^◌}
-use Rattle.asm_text.specs.Reading.{members_from, registers_at}
+use Rattle.asm_text.specs.Reader.Parts.{members_from, registers_at}
 use Rattle.asm_text.proofs.reading.parts.registers_at.Given as goal
 
 abbrev pub invariant-loop : goal.invariant-loop

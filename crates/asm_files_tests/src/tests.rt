@@ -1,0 +1,162 @@
+//! Listings written by hand from the ARM manual's encodings, both ways, and texts that are none.
+
+use asm_files::{BadLine, assemble, write_listing};
+use asm_text::Set;
+use ds_base::Arch;
+use ds_io::QuietSink;
+use std::alloc::{AllocError, Global};
+use std::process::Abort;
+
+/// An image's listing is a text, and the text's image is it.
+fn both_ways(
+    rt: &impl Abort,
+    alloc: Global,
+    arch: Arch,
+    set: Set,
+    at: u32,
+    image: &[u8],
+    text: &str,
+) -> Result<(), AllocError> {
+    let mut sink = QuietSink::new(alloc, 200)?;
+    assert!(rt; write_listing(arch, set, at, image, &mut sink).is_ok());
+    assert_eq!(rt; sink.bytes(), text.as_bytes());
+    reads(rt, alloc, text, image)
+}
+
+fn reads(rt: &impl Abort, alloc: Global, text: &str, image: &[u8]) -> Result<(), AllocError> {
+    let mut place = Vec::from_slice(alloc, text.as_bytes())?;
+    assert!(rt; place.len() < 0x1_0000_0000);
+    let read = assemble(place.as_mut_slice());
+    assert_eq!(rt; read, Ok(image.len()));
+    assert_eq!(rt; &place.as_slice()[..image.len()], image);
+    Ok(())
+}
+
+fn is_bad(rt: &impl Abort, alloc: Global, text: &str, line: u32) -> Result<(), AllocError> {
+    let mut place = Vec::from_slice(alloc, text.as_bytes())?;
+    assert!(rt; place.len() < 0x1_0000_0000);
+    assert_eq!(rt;
+        assemble(place.as_mut_slice()),
+        Err(BadLine { line }),
+        "{text}"
+    );
+    Ok(())
+}
+
+#[test]
+fn words_both_ways(rt: HostRuntime) -> Result<(), AllocError> {
+    let rows: [(Arch, u32, &[u8], &str); 9] = [
+        (
+            Arch::V5,
+            0x200_0000,
+            &[
+                1, 0, 0xA0, 0xE3, 1, 0x0C, 0xA0, 0xE3, 0x40, 0x0F, 0xA0, 0xE3,
+            ],
+            ".arm9 0x2000000\nmov r0, #0x1\nmov r0, #0x100\n.word 0xe3a00f40\n",
+        ),
+        (Arch::V5, 0x200_0000, &[], ".arm9 0x2000000\n"),
+        (Arch::V4, 0, &[], ".arm7 0x0\n"),
+        (Arch::V5, 0, &[0x0A], ".arm9 0x0\n.byte 0x0a\n"),
+        (
+            Arch::V5,
+            0,
+            &[0x0A, 0x0D],
+            ".arm9 0x0\n.byte 0x0a\n.byte 0x0d\n",
+        ),
+        (
+            Arch::V5,
+            0x10,
+            &[1, 0, 0xA0, 0xE3, 0x12, 0xAB, 0xFF],
+            ".arm9 0x10\nmov r0, #0x1\n.byte 0x12\n.byte 0xab\n.byte 0xff\n",
+        ),
+        (
+            Arch::V5,
+            0xFFFF_FFFC,
+            &[0xFE, 0xFF, 0xFF, 0xEA, 0xFE, 0xFF, 0xFF, 0xEA],
+            ".arm9 0xfffffffc\nb 0xfffffffc\nb 0x0\n",
+        ),
+        (
+            Arch::V5,
+            0x238_0000,
+            &[0x12, 0x1F, 0x6F, 0xE1],
+            ".arm9 0x2380000\nclz r1, r2\n",
+        ),
+        (
+            Arch::V4,
+            0x238_0000,
+            &[0x12, 0x1F, 0x6F, 0xE1],
+            ".arm7 0x2380000\n.word 0xe16f1f12\n",
+        ),
+    ];
+    for (arch, at, image, text) in rows {
+        both_ways(&rt, rt.alloc(), arch, Set::Arm, at, image, text)?;
+    }
+    Ok(())
+}
+
+#[test]
+fn halves_both_ways(rt: HostRuntime) -> Result<(), AllocError> {
+    let rows: [(Arch, u32, &[u8], &str); 5] = [
+        (
+            Arch::V5,
+            0x200_0000,
+            &[0xC0, 0x46, 0x70, 0x47, 0x70, 0xB5, 0x12],
+            ".thumb9 0x2000000\nmovh r8, r8\nbx r14\npush {r4,r5,r6,r14}\n.byte 0x12\n",
+        ),
+        (
+            Arch::V4,
+            0xFFFF_FFFE,
+            &[0xFE, 0xE7, 0xFE, 0xE7],
+            ".thumb7 0xfffffffe\nb 0xfffffffe\nb 0x0\n",
+        ),
+        (Arch::V4, 1, &[0xFE, 0xE7], ".thumb7 0x1\nb 0x1\n"),
+        (Arch::V5, 0, &[0xA0, 0x47], ".thumb9 0x0\nblx r4\n"),
+        (Arch::V4, 0, &[0xA0, 0x47], ".thumb7 0x0\n.half 0x47a0\n"),
+    ];
+    for (arch, at, image, text) in rows {
+        both_ways(&rt, rt.alloc(), arch, Set::Thumb, at, image, text)?;
+    }
+    Ok(())
+}
+
+#[test]
+fn first_bad_lines(rt: HostRuntime) -> Result<(), AllocError> {
+    let rows = [
+        ("", 1),
+        ("\n", 1),
+        (".arm9 0x02000000\n", 1),
+        (".arm9 0x2000000", 1),
+        (".arm9 0x2000000 \n", 1),
+        (".arm9 0x2000000\r\n", 1),
+        (".arm9  0x2000000\n", 1),
+        (".arm9 0xFF\n", 1),
+        (".arm9 0x\n", 1),
+        (".arm9 0x100000000\n", 1),
+        (".arm8 0x0\n", 1),
+        (
+            ".arm9 0x000000000000000000000000000000000000000000000000000000000000000000000000000000000000000000000000000000000000002000000\nmov r0, #0x1\n",
+            1,
+        ),
+        (".arm9 0x0\n\n", 2),
+        (".arm9 0x2000000\n.word 0xe3a00001\n", 2),
+        (".arm9 0x2000000\nmov r0, #0x1", 2),
+        (".arm9 0x2000000\nmov r0, #0x1\r\n", 2),
+        (".thumb9 0x0\n.byte 0x12\r\n", 2),
+        (".thumb9 0x0\n.byte 0x1\n", 2),
+        (".thumb9 0x0\n.byte 0xAB\n", 2),
+        (
+            ".arm9 0x0\nmov r0, #0x000000000000000000000000000000000000000000000000000000000000000000000000000000000000000000000000000000000000001\n",
+            2,
+        ),
+        (".arm9 0x2000000\n.byte 0x01\nmov r0, #0x1\n", 3),
+        (
+            ".arm9 0x0\n.byte 0x00\n.byte 0x01\n.byte 0x02\n.byte 0x03\n",
+            5,
+        ),
+        (".thumb7 0x0\n.byte 0x00\n.byte 0x01\n", 3),
+    ];
+    for (text, line) in rows {
+        is_bad(&rt, rt.alloc(), text, line)?;
+    }
+    Ok(())
+}

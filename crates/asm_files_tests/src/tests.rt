@@ -17,7 +17,7 @@ fn both_ways(
     image: &[u8],
     text: &str,
 ) -> Result<(), AllocError> {
-    let mut sink = QuietSink::new(alloc, 200)?;
+    let mut sink = QuietSink::new(alloc, 6_000)?;
     assert!(rt; write_listing(arch, set, at, image, &mut sink).is_ok());
     assert_eq!(rt; sink.bytes(), text.as_bytes());
     reads(rt, alloc, text, image)
@@ -117,6 +117,17 @@ fn halves_both_ways(rt: HostRuntime) -> Result<(), AllocError> {
         both_ways(&rt, rt.alloc(), arch, Set::Thumb, at, image, text)?;
     }
     Ok(())
+}
+
+/// A word of zeros is `andeq r0, r0, r0`; 300 of them don't fit on one page.
+#[test]
+fn a_listing_longer_than_a_page(rt: HostRuntime) -> Result<(), AllocError> {
+    let alloc = rt.alloc();
+    let mut text = String::from_str(alloc, ".arm7 0x0\n")?;
+    for _ in 0..300 {
+        text.push_str("andeq r0, r0, r0\n")?;
+    }
+    both_ways(&rt, alloc, Arch::V4, Set::Arm, 0, &[0; 1_200], &text)
 }
 
 #[test]

@@ -14,7 +14,7 @@ use Rattle.arm_words.specs.declared.parts.ShortOffset.TheVariants.{ShortNumber, 
 use Rattle.asm_text.specs.Names.{field_letters}
 use Rattle.asm_text.specs.Operands.{shifted, offset, short_offset, at_offset, address}
 use Rattle.asm_text.specs.Reader.Parts.{register_at, unsigned_at, offset_at, address_at, member_at, members_from, registers_at, fields_at}
-use Rattle.asm_text.specs.Text.{register, hex, preceded, joined, registers, members, where_set}
+use Rattle.asm_text.specs.Text.{register_name, hex, preceded, joined, register_names, members, where_set}
 use Rattle.asm_text.specs.declared.reading.parts.Address.{Address}
 use Rattle.asm_text.proofs.Again.{EndsDecimal, EndsShift, hex_again, register_again, shifted_again}
 
@@ -54,19 +54,19 @@ given pre up write_back rn off = record { pre = pre; up = up; write_back = write
 abbrev IsRead : List ℕ → Bool → Offset → Type 0
 IsRead text up off = (rest : List ℕ) → EndsShift rest → offset_at (text ++ rest) ≡ taken up off rest
 
-after : (rn : ℕ) (up : Bool) (off : Offset) (text : List ℕ) → rn < 16 → IsRead text up off → address_at (91 ∷ (register rn ++ 93 ∷ 44 ∷ 32 ∷ (text ++ []))) ≡ given false up false rn off
+after : (rn : ℕ) (up : Bool) (off : Offset) (text : List ℕ) → rn < 16 → IsRead text up off → address_at (91 ∷ (register_name rn ++ 93 ∷ 44 ∷ 32 ∷ (text ++ []))) ≡ given false up false rn off
 unfolding address_at
 after rn up off text hn h =
     let tail : List ℕ = 93 ∷ 44 ∷ 32 ∷ (text ++ []) in
-    let r : register_at (register rn ++ tail) ≡ (rn, tail) = register_again rn tail hn refl in
+    let r : register_at (register_name rn ++ tail) ≡ (rn, tail) = register_again rn tail hn refl in
     rw (r, h [] at_end) refl
 
 before : (rn : ℕ) (up : Bool) (off : Offset) (text rest : List ℕ) (marked : Bool) → rn < 16 → IsRead text up off → (slice_index rest 0 == 33) ≡ marked →
-    address_at (91 ∷ (register rn ++ 44 ∷ 32 ∷ (text ++ 93 ∷ rest))) ≡ given true up marked rn off
+    address_at (91 ∷ (register_name rn ++ 44 ∷ 32 ∷ (text ++ 93 ∷ rest))) ≡ given true up marked rn off
 unfolding address_at
 before rn up off text rest marked hn h m =
     let tail : List ℕ = 44 ∷ 32 ∷ (text ++ 93 ∷ rest) in
-    let r : register_at (register rn ++ tail) ≡ (rn, tail) = register_again rn tail hn refl in
+    let r : register_at (register_name rn ++ tail) ≡ (rn, tail) = register_again rn tail hn refl in
     rw (r, h (93 ∷ rest) (at_bracket rest), m) refl
 
 after_text : (a b : List ℕ) → (91 ∷ (a ++ 93 ∷ 44 ∷ 32 ∷ b)) ++ [] ≡ 91 ∷ (a ++ 93 ∷ 44 ∷ 32 ∷ (b ++ []))
@@ -80,9 +80,9 @@ one_text a b rest = simp append_assoc
 
 read_address : (pre up write_back : Bool) (rn : ℕ) (off : Offset) (text : List ℕ) → rn < 16 → IsRead text up off →
     address_at (address pre write_back rn text ++ []) ≡ given pre up (pre && write_back) rn off
-read_address false up write_back rn off text hn h = ap address_at (after_text (register rn) text) ∙ after rn up off text hn h
-read_address true up true rn off text hn h = ap address_at (before_text (register rn) text (codes "!") []) ∙ before rn up off text (33 ∷ []) true hn h refl
-read_address true up false rn off text hn h = ap address_at (before_text (register rn) text [] []) ∙ before rn up off text [] false hn h refl
+read_address false up write_back rn off text hn h = ap address_at (after_text (register_name rn) text) ∙ after rn up off text hn h
+read_address true up true rn off text hn h = ap address_at (before_text (register_name rn) text (codes "!") []) ∙ before rn up off text (33 ∷ []) true hn h refl
+read_address true up false rn off text hn h = ap address_at (before_text (register_name rn) text [] []) ∙ before rn up off text [] false hn h refl
 
 pub address_again : (pre up write_back : Bool) (rn : ℕ) (off : Offset) → rn < 16 → HasOffset off →
     address_at (address pre write_back rn (offset up off) ++ []) ≡ given pre up (pre && write_back) rn off
@@ -95,7 +95,7 @@ lengthened (ShortRegister rm) = Register rm Lsl 0
 
 lengthened_text : (up : Bool) (off : ShortOffset) → short_offset up off ≡ offset up (lengthened off)
 lengthened_text up (ShortNumber n) = refl
-lengthened_text up (ShortRegister rm) = ap (λ (x : List ℕ). where_set (not up) (codes "-") ++ x) (sym (append-nil (register rm)))
+lengthened_text up (ShortRegister rm) = ap (λ (x : List ℕ). where_set (not up) (codes "-") ++ x) (sym (append-nil (register_name rm)))
 
 lengthened_fields : (off : ShortOffset) → HasShortOffset off → HasOffset (lengthened off)
 lengthened_fields (ShortNumber n) h = omega (arith, h)
@@ -108,7 +108,7 @@ short_address_again pre up write_back rn off hn h =
 
 -- a base and an offset in brackets alone
 pub at_offset_again : (up : Bool) (rn : ℕ) (off : Offset) → rn < 16 → HasOffset off → address_at (at_offset rn (offset up off) ++ []) ≡ given true up false rn off
-at_offset_again up rn off hn h = ap address_at (one_text (register rn) (offset up off) []) ∙ before rn up off (offset up off) [] false hn (λ rest e. offset_again up off rest h e) refl
+at_offset_again up rn off hn h = ap address_at (one_text (register_name rn) (offset up off) []) ∙ before rn up off (offset up off) [] false hn (λ rest e. offset_again up off rest h e) refl
 
 -- no register comes: nothing changes
 stays : (fuel sum : ℕ) (rest : List ℕ) → sum < 2 ^ 16 → members_from fuel sum (125 ∷ rest) ≡ (sum, 125 ∷ rest)
@@ -119,11 +119,11 @@ stays (suc fuel) sum rest h =
     rw e (stays fuel sum rest h)
 
 -- a register comes, with or without a comma before it
-plain_member : (r : ℕ) (more : List ℕ) → r < 16 → EndsDecimal more → member_at (register r ++ more) ≡ (2 ^ r, more)
+plain_member : (r : ℕ) (more : List ℕ) → r < 16 → EndsDecimal more → member_at (register_name r ++ more) ≡ (2 ^ r, more)
 unfolding member_at
 plain_member r more h e = rw (register_again r more h e) refl
 
-comma_member : (r : ℕ) (more : List ℕ) → r < 16 → EndsDecimal more → member_at (44 ∷ (register r ++ more)) ≡ (2 ^ r, more)
+comma_member : (r : ℕ) (more : List ℕ) → r < 16 → EndsDecimal more → member_at (44 ∷ (register_name r ++ more)) ≡ (2 ^ r, more)
 unfolding member_at
 comma_member r more h e = rw (register_again r more h e) refl
 
@@ -156,7 +156,7 @@ set_next list r hb h =
 
 -- the registers from one on, each after a comma
 later_again : (list r left fuel : ℕ) (rest : List ℕ) → left ≤ fuel → r + left ≡ 16 → list < 2 ^ 16 →
-    members_from fuel (list % 2 ^ r) (preceded (codes ",") (registers left r list) ++ 125 ∷ rest) ≡ (list, 125 ∷ rest)
+    members_from fuel (list % 2 ^ r) (preceded (codes ",") (register_names left r list) ++ 125 ∷ rest) ≡ (list, 125 ∷ rest)
 later_again list r zero fuel rest hf hr hb =
     let k : r ≡ 16 = omega arith in
     let e : list % 2 ^ r ≡ list = rw k (omega arith) in
@@ -166,34 +166,34 @@ later_again list r (suc left) (suc fuel) rest hf hr hb =
     elim (set_or_not (list / 2 ^ r)) [
       | inl unset ↦ rw (unset.0, unset_same list r unset.1) (later_again list (r + 1) left (suc fuel) rest (omega arith) (omega arith) hb)
       | inr one ↦
-          (let xs : List (List ℕ) = registers left (r + 1) list in
+          (let xs : List (List ℕ) = register_names left (r + 1) list in
           let more : List ℕ = preceded (codes ",") xs ++ 125 ∷ rest in
-          let s : members_from (suc fuel) (list % 2 ^ r) (44 ∷ (register r ++ more)) ≡ members_from fuel (list % 2 ^ (r + 1)) more =
-          step fuel (list % 2 ^ r) (list % 2 ^ (r + 1)) r (44 ∷ (register r ++ more)) more (comma_member r more (omega arith) (follows xs rest)) (set_next list r hb one.1) in
-          rw one.0 (ap (λ (x : List ℕ). members_from (suc fuel) (list % 2 ^ r) (44 ∷ x)) (append_assoc (register r) (preceded (codes ",") xs) (125 ∷ rest)) ∙ s ∙ later_again list (r + 1) left fuel rest (omega arith) (omega arith) hb))
+          let s : members_from (suc fuel) (list % 2 ^ r) (44 ∷ (register_name r ++ more)) ≡ members_from fuel (list % 2 ^ (r + 1)) more =
+          step fuel (list % 2 ^ r) (list % 2 ^ (r + 1)) r (44 ∷ (register_name r ++ more)) more (comma_member r more (omega arith) (follows xs rest)) (set_next list r hb one.1) in
+          rw one.0 (ap (λ (x : List ℕ). members_from (suc fuel) (list % 2 ^ r) (44 ∷ x)) (append_assoc (register_name r) (preceded (codes ",") xs) (125 ∷ rest)) ∙ s ∙ later_again list (r + 1) left fuel rest (omega arith) (omega arith) hb))
     ]
 
 -- the same where none came before
 first_again : (list r left fuel : ℕ) (rest : List ℕ) → left ≤ fuel → r + left ≡ 16 → list < 2 ^ 16 →
-    members_from fuel (list % 2 ^ r) (joined (codes ",") (registers left r list) ++ 125 ∷ rest) ≡ (list, 125 ∷ rest)
+    members_from fuel (list % 2 ^ r) (joined (codes ",") (register_names left r list) ++ 125 ∷ rest) ≡ (list, 125 ∷ rest)
 first_again list r zero fuel rest hf hr hb = later_again list r zero fuel rest hf hr hb
 first_again list r (suc left) zero rest hf hr hb = absurd (omega arith)
 first_again list r (suc left) (suc fuel) rest hf hr hb =
     elim (set_or_not (list / 2 ^ r)) [
       | inl unset ↦ rw (unset.0, unset_same list r unset.1) (first_again list (r + 1) left (suc fuel) rest (omega arith) (omega arith) hb)
       | inr one ↦
-          (let xs : List (List ℕ) = registers left (r + 1) list in
+          (let xs : List (List ℕ) = register_names left (r + 1) list in
           let more : List ℕ = preceded (codes ",") xs ++ 125 ∷ rest in
-          let s : members_from (suc fuel) (list % 2 ^ r) (register r ++ more) ≡ members_from fuel (list % 2 ^ (r + 1)) more =
-          step fuel (list % 2 ^ r) (list % 2 ^ (r + 1)) r (register r ++ more) more (plain_member r more (omega arith) (follows xs rest)) (set_next list r hb one.1) in
-          rw one.0 (ap (members_from (suc fuel) (list % 2 ^ r)) (append_assoc (register r) (preceded (codes ",") xs) (125 ∷ rest)) ∙ s ∙ later_again list (r + 1) left fuel rest (omega arith) (omega arith) hb))
+          let s : members_from (suc fuel) (list % 2 ^ r) (register_name r ++ more) ≡ members_from fuel (list % 2 ^ (r + 1)) more =
+          step fuel (list % 2 ^ r) (list % 2 ^ (r + 1)) r (register_name r ++ more) more (plain_member r more (omega arith) (follows xs rest)) (set_next list r hb one.1) in
+          rw one.0 (ap (members_from (suc fuel) (list % 2 ^ r)) (append_assoc (register_name r) (preceded (codes ",") xs) (125 ∷ rest)) ∙ s ∙ later_again list (r + 1) left fuel rest (omega arith) (omega arith) hb))
     ]
 
 pub registers_again : (list : ℕ) (rest : List ℕ) → list < 2 ^ 16 → registers_at (members list ++ 125 ∷ rest) ≡ (list, 125 ∷ rest)
 unfolding registers_at members
 registers_again list rest h =
     let e : 0 ≡ list % 2 ^ 0 = omega arith in
-    ap (λ (x : ℕ). members_from 16 x (joined (codes ",") (registers 16 0 list) ++ 125 ∷ rest)) e ∙ first_again list 0 16 16 rest (omega arith) refl h
+    ap (λ (x : ℕ). members_from 16 x (joined (codes ",") (register_names 16 0 list) ++ 125 ∷ rest)) e ∙ first_again list 0 16 16 rest (omega arith) refl h
 
 -- the letters of status fields, before a comma
 abbrev mask : Bool → Bool → Bool → Bool → FieldMask

@@ -13,7 +13,7 @@ use Rattle.asm_text.specs.Names.{shift_name}
 use Rattle.asm_text.specs.Operands.{shifted, operand}
 use Rattle.asm_text.specs.Reader.Parts.{numeral, hex_at, marked_at, decimal_at, register_at, one_at, two_at, three_at, four_at, is_decimal, is_digit, digit_value, shift_at, by_shift, shifted_at, rotation_from, rotation_of, operand_at}
 use Rattle.ds_base.specs.Digits.{hex_digit, hex_digits}
-use Rattle.asm_text.specs.Text.{register, decimal, hex, number, trimmed, joined}
+use Rattle.asm_text.specs.Text.{register_name, decimal, hex, number, trimmed, joined}
 use Rattle.asm_text.proofs.Rotations.{back_again, below_word}
 
 -- what can't go on a number
@@ -41,7 +41,7 @@ decimal_again n rest h e =
       | inr high ↦ (let d : is_decimal (38 + n) ≡ true = grind arith in let k : (10 + (38 + n) % 16) % 16 ≡ n = omega arith in rw (decimal_high n high, d, k) refl)
     ]
 
-pub register_again : (n : ℕ) (rest : List ℕ) → n < 16 → EndsDecimal rest → register_at (register n ++ rest) ≡ (n, rest)
+pub register_again : (n : ℕ) (rest : List ℕ) → n < 16 → EndsDecimal rest → register_at (register_name n ++ rest) ≡ (n, rest)
 register_again n rest h e = decimal_again n rest h e
 
 -- a digit goes on a number
@@ -116,25 +116,25 @@ unfolding marked_at
 marked_again n rest h e = trimmed_same (hex_digits 8 n) rest ∙ digits_again n rest h e
 
 -- registers with a comma and a blank between them
-pub one_again : (a : ℕ) → a < 16 → one_at (joined (codes ", ") (register a ∷ [])) ≡ a
+pub one_again : (a : ℕ) → a < 16 → one_at (joined (codes ", ") (register_name a ∷ [])) ≡ a
 one_again a ha = ap (λ (p : ℕ × List ℕ). p.0) (register_again a [] ha refl)
 
-pub two_again : (a b : ℕ) → a < 16 → b < 16 → two_at (joined (codes ", ") (register a ∷ register b ∷ [])) ≡ (a, b)
+pub two_again : (a b : ℕ) → a < 16 → b < 16 → two_at (joined (codes ", ") (register_name a ∷ register_name b ∷ [])) ≡ (a, b)
 two_again a b ha hb =
-    let lb : List ℕ = register b ++ [] in
+    let lb : List ℕ = register_name b ++ [] in
     rw (register_again a (44 ∷ 32 ∷ lb) ha refl, register_again b [] hb refl) refl
 
-pub three_again : (a b c : ℕ) → a < 16 → b < 16 → c < 16 → three_at (joined (codes ", ") (register a ∷ register b ∷ register c ∷ [])) ≡ (a, b, c)
+pub three_again : (a b c : ℕ) → a < 16 → b < 16 → c < 16 → three_at (joined (codes ", ") (register_name a ∷ register_name b ∷ register_name c ∷ [])) ≡ (a, b, c)
 three_again a b c ha hb hc =
-    let lc : List ℕ = register c ++ [] in
-    let lb : List ℕ = register b ++ 44 ∷ 32 ∷ lc in
+    let lc : List ℕ = register_name c ++ [] in
+    let lb : List ℕ = register_name b ++ 44 ∷ 32 ∷ lc in
     rw (register_again a (44 ∷ 32 ∷ lb) ha refl, register_again b (44 ∷ 32 ∷ lc) hb refl, register_again c [] hc refl) refl
 
-pub four_again : (a b c d : ℕ) → a < 16 → b < 16 → c < 16 → d < 16 → four_at (joined (codes ", ") (register a ∷ register b ∷ register c ∷ register d ∷ [])) ≡ (a, b, c, d)
+pub four_again : (a b c d : ℕ) → a < 16 → b < 16 → c < 16 → d < 16 → four_at (joined (codes ", ") (register_name a ∷ register_name b ∷ register_name c ∷ register_name d ∷ [])) ≡ (a, b, c, d)
 four_again a b c d ha hb hc hd =
-    let ld : List ℕ = register d ++ [] in
-    let lc : List ℕ = register c ++ 44 ∷ 32 ∷ ld in
-    let lb : List ℕ = register b ++ 44 ∷ 32 ∷ lc in
+    let ld : List ℕ = register_name d ++ [] in
+    let lc : List ℕ = register_name c ++ 44 ∷ 32 ∷ ld in
+    let lb : List ℕ = register_name b ++ 44 ∷ 32 ∷ lc in
     rw (register_again a (44 ∷ 32 ∷ lb) ha refl, register_again b (44 ∷ 32 ∷ lc) hb refl, register_again c (44 ∷ 32 ∷ ld) hc refl, register_again d [] hd refl) refl
 
 -- what can follow a shifted register
@@ -148,25 +148,25 @@ not_decimal b h = grind arith
 
 -- a shift by a number, after the three letters of its name
 by_amount : (rm n : ℕ) (shift : Shift) (a b c : ℕ) (rest : List ℕ) → rm < 16 → n < 33 → EndsNumber rest → shift_at (a ∷ b ∷ c ∷ 32 ∷ (number n ++ rest)) ≡ shift →
-    shifted_at (register rm ++ 44 ∷ 32 ∷ a ∷ b ∷ c ∷ 32 ∷ (number n ++ rest)) ≡ (Shifted rm shift (n % 32), rest)
+    shifted_at (register_name rm ++ 44 ∷ 32 ∷ a ∷ b ∷ c ∷ 32 ∷ (number n ++ rest)) ≡ (Shifted rm shift (n % 32), rest)
 unfolding shifted_at by_shift
 by_amount rm n shift a b c rest hm hn e s =
     rw (register_again rm (44 ∷ 32 ∷ a ∷ b ∷ c ∷ 32 ∷ (number n ++ rest)) hm refl, s, marked_again n rest (omega arith) e) refl
 
-by_register : (rm rs : ℕ) (shift : Shift) (a b c : ℕ) (rest : List ℕ) → rm < 16 → rs < 16 → EndsDecimal rest → shift_at (a ∷ b ∷ c ∷ 32 ∷ (register rs ++ rest)) ≡ shift →
-    shifted_at (register rm ++ 44 ∷ 32 ∷ a ∷ b ∷ c ∷ 32 ∷ (register rs ++ rest)) ≡ (ShiftedByRegister rm shift rs, rest)
+by_register : (rm rs : ℕ) (shift : Shift) (a b c : ℕ) (rest : List ℕ) → rm < 16 → rs < 16 → EndsDecimal rest → shift_at (a ∷ b ∷ c ∷ 32 ∷ (register_name rs ++ rest)) ≡ shift →
+    shifted_at (register_name rm ++ 44 ∷ 32 ∷ a ∷ b ∷ c ∷ 32 ∷ (register_name rs ++ rest)) ≡ (ShiftedByRegister rm shift rs, rest)
 unfolding shifted_at by_shift
 by_register rm rs shift a b c rest hm hs e s =
-    rw (register_again rm (44 ∷ 32 ∷ a ∷ b ∷ c ∷ 32 ∷ (register rs ++ rest)) hm refl, s, register_again rs rest hs e) refl
+    rw (register_again rm (44 ∷ 32 ∷ a ∷ b ∷ c ∷ 32 ∷ (register_name rs ++ rest)) hm refl, s, register_again rs rest hs e) refl
 
-by_rrx : (rm : ℕ) (rest : List ℕ) → rm < 16 → EndsShift rest → shifted_at (register rm ++ 44 ∷ 32 ∷ 114 ∷ 114 ∷ 120 ∷ rest) ≡ (Shifted rm Ror 0, rest)
+by_rrx : (rm : ℕ) (rest : List ℕ) → rm < 16 → EndsShift rest → shifted_at (register_name rm ++ 44 ∷ 32 ∷ 114 ∷ 114 ∷ 120 ∷ rest) ≡ (Shifted rm Ror 0, rest)
 unfolding shifted_at by_shift shift_at
 by_rrx rm rest hm e = rw (register_again rm (44 ∷ 32 ∷ 114 ∷ 114 ∷ 120 ∷ rest) hm refl, e.blank) refl
 
-by_nothing : (rm : ℕ) (rest : List ℕ) → rm < 16 → EndsShift rest → shifted_at (register rm ++ rest) ≡ (Shifted rm Lsl 0, rest)
+by_nothing : (rm : ℕ) (rest : List ℕ) → rm < 16 → EndsShift rest → shifted_at (register_name rm ++ rest) ≡ (Shifted rm Lsl 0, rest)
 unfolding shifted_at
 by_nothing rm rest hm e =
-    let r : register_at (register rm ++ rest) ≡ (rm, rest) = register_again rm rest hm (not_decimal (slice_index rest 0) e.digit) in
+    let r : register_at (register_name rm ++ rest) ≡ (rm, rest) = register_again rm rest hm (not_decimal (slice_index rest 0) e.digit) in
     rw (r, e.comma) refl
 
 zero_or : (n : ℕ) → ((n ≡ 0) × ((n == 0) ≡ true)) ⊎ ((n == 0) ≡ false)
@@ -186,15 +186,15 @@ same_amount : (rm n m : ℕ) (shift : Shift) (rest : List ℕ) → n ≡ m → p
 same_amount rm n m shift rest e = ap (pair rm shift rest) e
 
 amount_again : (rm n m : ℕ) (shift : Shift) (a b c : ℕ) (rest : List ℕ) → rm < 16 → n < 33 → n % 32 ≡ m → EndsShift rest → shift_at (a ∷ b ∷ c ∷ 32 ∷ (number n ++ rest)) ≡ shift →
-    shifted_at ((register rm ++ 44 ∷ 32 ∷ a ∷ b ∷ c ∷ 32 ∷ number n) ++ rest) ≡ (Shifted rm shift m, rest)
+    shifted_at ((register_name rm ++ 44 ∷ 32 ∷ a ∷ b ∷ c ∷ 32 ∷ number n) ++ rest) ≡ (Shifted rm shift m, rest)
 amount_again rm n m shift a b c rest hm hn em e s =
-    ap shifted_at (amount_after (register rm) (number n) rest a b c) ∙ by_amount rm n shift a b c rest hm hn e.digit s ∙ same_amount rm (n % 32) m shift rest em
+    ap shifted_at (amount_after (register_name rm) (number n) rest a b c) ∙ by_amount rm n shift a b c rest hm hn e.digit s ∙ same_amount rm (n % 32) m shift rest em
 
 pub shifted_again : (rm : ℕ) (shift : Shift) (amount : ℕ) (rest : List ℕ) → rm < 16 → amount < 32 → EndsShift rest → shifted_at (shifted rm shift amount ++ rest) ≡ (Shifted rm shift amount, rest)
 unfolding shift_at
 shifted_again rm Lsl amount rest hm ha e =
     elim (zero_or amount) [
-      | inl z ↦ rw z.1 (ap shifted_at (nothing_after (register rm) rest) ∙ by_nothing rm rest hm e ∙ same_amount rm 0 amount Lsl rest (sym z.0))
+      | inl z ↦ rw z.1 (ap shifted_at (nothing_after (register_name rm) rest) ∙ by_nothing rm rest hm e ∙ same_amount rm 0 amount Lsl rest (sym z.0))
       | inr n ↦ rw n (amount_again rm amount amount Lsl 108 115 108 rest hm (omega arith) (omega arith) e refl)
     ]
 shifted_again rm Lsr amount rest hm ha e =
@@ -209,17 +209,17 @@ shifted_again rm Asr amount rest hm ha e =
     ]
 shifted_again rm Ror amount rest hm ha e =
     elim (zero_or amount) [
-      | inl z ↦ rw z.1 (ap shifted_at (append_assoc (register rm) (codes ", rrx") rest) ∙ by_rrx rm rest hm e ∙ same_amount rm 0 amount Ror rest (sym z.0))
+      | inl z ↦ rw z.1 (ap shifted_at (append_assoc (register_name rm) (codes ", rrx") rest) ∙ by_rrx rm rest hm e ∙ same_amount rm 0 amount Ror rest (sym z.0))
       | inr n ↦ rw n (amount_again rm amount amount Ror 114 111 114 rest hm (omega arith) (omega arith) e refl)
     ]
 
 shift_name_again : (shift : Shift) (rm rs : ℕ) → rm < 16 → rs < 16 →
-    shifted_at ((register rm ++ (codes ", " ++ (shift_name shift ++ (codes " " ++ register rs)))) ++ []) ≡ (ShiftedByRegister rm shift rs, [])
+    shifted_at ((register_name rm ++ (codes ", " ++ (shift_name shift ++ (codes " " ++ register_name rs)))) ++ []) ≡ (ShiftedByRegister rm shift rs, [])
 unfolding shift_at
-shift_name_again Lsl rm rs hm hs = ap shifted_at (amount_after (register rm) (register rs) [] 108 115 108) ∙ by_register rm rs Lsl 108 115 108 [] hm hs refl refl
-shift_name_again Lsr rm rs hm hs = ap shifted_at (amount_after (register rm) (register rs) [] 108 115 114) ∙ by_register rm rs Lsr 108 115 114 [] hm hs refl refl
-shift_name_again Asr rm rs hm hs = ap shifted_at (amount_after (register rm) (register rs) [] 97 115 114) ∙ by_register rm rs Asr 97 115 114 [] hm hs refl refl
-shift_name_again Ror rm rs hm hs = ap shifted_at (amount_after (register rm) (register rs) [] 114 111 114) ∙ by_register rm rs Ror 114 111 114 [] hm hs refl refl
+shift_name_again Lsl rm rs hm hs = ap shifted_at (amount_after (register_name rm) (register_name rs) [] 108 115 108) ∙ by_register rm rs Lsl 108 115 108 [] hm hs refl refl
+shift_name_again Lsr rm rs hm hs = ap shifted_at (amount_after (register_name rm) (register_name rs) [] 108 115 114) ∙ by_register rm rs Lsr 108 115 114 [] hm hs refl refl
+shift_name_again Asr rm rs hm hs = ap shifted_at (amount_after (register_name rm) (register_name rs) [] 97 115 114) ∙ by_register rm rs Asr 97 115 114 [] hm hs refl refl
+shift_name_again Ror rm rs hm hs = ap shifted_at (amount_after (register_name rm) (register_name rs) [] 114 111 114) ∙ by_register rm rs Ror 114 111 114 [] hm hs refl refl
 
 -- rotations that give no byte are passed over
 passed : (n from count left : ℕ) → ((r : ℕ) → from ≤ r → r < from + count → 256 ≤ turned_back r n) → rotation_from n from (count + left) ≡ rotation_from n (from + count) left
@@ -261,10 +261,10 @@ pub immediate_again : (rotate immed : ℕ) → rotate < 16 → immed < 256 → l
 immediate_again rotate immed hr hi l =
     ap (λ (p : ℕ × List ℕ). rotation_of p.0) (marked_again (immediate rotate immed) [] (below_word rotate immed hr hi) refl) ∙ rotation_again rotate immed hr hi l
 
-shifted_first : (rm : ℕ) (x : List ℕ) → (slice_index (register rm ++ x) 0 == 35) ≡ false
+shifted_first : (rm : ℕ) (x : List ℕ) → (slice_index (register_name rm ++ x) 0 == 35) ≡ false
 shifted_first rm x = refl
 
-shifted_starts : (rm : ℕ) (x rest : List ℕ) → (slice_index ((register rm ++ x) ++ rest) 0 == 35) ≡ false
+shifted_starts : (rm : ℕ) (x rest : List ℕ) → (slice_index ((register_name rm ++ x) ++ rest) 0 == 35) ≡ false
 shifted_starts rm x rest = refl
 
 pub operand_again : (o : Operand) → HasOperand o → least_operand o ≡ true → operand_at (operand o ++ []) ≡ o

@@ -39,7 +39,7 @@ use Rattle.arm_words.specs.declared.instructions.Instr.TheVariants.{Bx, BlxRegis
 use Rattle.arm_words.specs.declared.spellings.Spelling.{Spelling}
 use Rattle.arm_words.specs.declared.spellings.Spelling.TheVariants as spellings
 use Rattle.ds_base.specs.Digits.{hex_digits}
-use Rattle.asm_text.specs.Text.{preceded, joined, where_set, hex, number, decimal, register, registers, members, register_list}
+use Rattle.asm_text.specs.Text.{preceded, joined, where_set, hex, number, decimal, register_name, register_names, members, register_list}
 use Rattle.asm_text.specs.Names.{suffix, shift_name, data_name, compare_name, move_name, half_name, saturating_name, long_name, half_letter, load_name, block_mode, status_name, field_letters, immediate_name, thumb_data_name, high_name, transfer_name}
 use Rattle.asm_text.specs.Operands.{amount_shown, shift_shown, shifted, operand, small_operand, offset, short_offset, at_offset, address}
 use Rattle.asm_text.specs.Addresses.{arm_target, half_target, thumb_target}
@@ -145,20 +145,20 @@ decimal_part n = choose (nat_lt n 10) where
   choose true = record { plain = (high 48 n (omega arith), tt); some = omega arith }
   choose false = record { plain = (high 49 0 (omega arith), (high 38 n (omega arith), tt)); some = omega arith }
 
-register_part : (n : ℕ) → IsPart (register n)
+register_part : (n : ℕ) → IsPart (register_name n)
 register_part n = then_part (codes "r") (decimal n) (plain_of (codes "r") refl) (decimal_part n)
 
 one_more : (set : Bool) (x : List ℕ) (xs : List (List ℕ)) → IsPart x → AllParts xs → AllParts (if set then x ∷ xs else xs)
 one_more true x xs h hs = more h hs
 one_more false x xs h hs = hs
 
-registers_parts : (left r list : ℕ) → AllParts (registers left r list)
+registers_parts : (left r list : ℕ) → AllParts (register_names left r list)
 registers_parts zero r list = done
-registers_parts (suc left) r list = one_more (bit r list) (register r) (registers left (r + 1) list) (register_part r) (registers_parts left (r + 1) list)
+registers_parts (suc left) r list = one_more (bit r list) (register_name r) (register_names left (r + 1) list) (register_part r) (registers_parts left (r + 1) list)
 
 members_plain : (list : ℕ) → HasNoFeed (members list)
 unfolding members
-members_plain list = joined_plain (codes ",") (registers 16 0 list) (plain_of (codes ",") refl) (registers_parts 16 0 list)
+members_plain list = joined_plain (codes ",") (register_names 16 0 list) (plain_of (codes ",") refl) (registers_parts 16 0 list)
 
 list_part : (list : ℕ) → IsPart (register_list list)
 list_part list = part_then (codes "{") (members list ++ codes "}") (part (codes "{") refl (omega arith)) (plain_append (members list) (codes "}") (members_plain list) (plain_of (codes "}") refl))
@@ -180,16 +180,16 @@ shown_plain shifts.Asr amount = by_plain (codes ", asr ") (amount_shown amount) 
 shown_plain shifts.Ror amount = either_plain (amount == 0) (codes ", rrx") (codes ", ror " ++ number amount) (plain_of (codes ", rrx") refl) (by_plain (codes ", ror ") amount (plain_of (codes ", ror ") refl))
 
 shifted_part : (rm : ℕ) (shift : Shift) (amount : ℕ) → IsPart (shifted rm shift amount)
-shifted_part rm shift amount = part_then (register rm) (shift_shown shift amount) (register_part rm) (shown_plain shift amount)
+shifted_part rm shift amount = part_then (register_name rm) (shift_shown shift amount) (register_part rm) (shown_plain shift amount)
 
 operand_part : (o : Operand) → IsPart (operand o)
 operand_part (Immediate rotate immed) = number_part (immediate rotate immed)
 operand_part (Shifted rm shift amount) = shifted_part rm shift amount
 operand_part (ShiftedByRegister rm shift rs) =
-    part_then (register rm) (codes ", " ++ (shift_name shift ++ (codes " " ++ register rs))) (register_part rm)
-    (plain_append (codes ", ") (shift_name shift ++ (codes " " ++ register rs)) (plain_of (codes ", ") refl)
-    (plain_append (shift_name shift) (codes " " ++ register rs) (shift_part shift).plain
-    (plain_append (codes " ") (register rs) (plain_of (codes " ") refl) (register_part rs).plain)))
+    part_then (register_name rm) (codes ", " ++ (shift_name shift ++ (codes " " ++ register_name rs))) (register_part rm)
+    (plain_append (codes ", ") (shift_name shift ++ (codes " " ++ register_name rs)) (plain_of (codes ", ") refl)
+    (plain_append (shift_name shift) (codes " " ++ register_name rs) (shift_part shift).plain
+    (plain_append (codes " ") (register_name rs) (plain_of (codes " ") refl) (register_part rs).plain)))
 
 small_part : (o : ThumbOperand) → IsPart (small_operand o)
 small_part (LowRegister rm) = register_part rm
@@ -207,10 +207,10 @@ offset_part up (Register rm shift amount) = signed_part up (shifted rm shift amo
 
 short_part : (up : Bool) (o : ShortOffset) → IsPart (short_offset up o)
 short_part up (ShortNumber n) = then_part (codes "#") (where_set (not up) (codes "-") ++ hex n) (plain_of (codes "#") refl) (signed_part up (hex n) (hex_part n))
-short_part up (ShortRegister rm) = signed_part up (register rm) (register_part rm)
+short_part up (ShortRegister rm) = signed_part up (register_name rm) (register_part rm)
 
-bracketed : (rn : ℕ) (rest : List ℕ) → HasNoFeed rest → IsPart (codes "[" ++ (register rn ++ rest))
-bracketed rn rest h = part_then (codes "[") (register rn ++ rest) (part (codes "[") refl (omega arith)) (plain_append (register rn) rest (register_part rn).plain h)
+bracketed : (rn : ℕ) (rest : List ℕ) → HasNoFeed rest → IsPart (codes "[" ++ (register_name rn ++ rest))
+bracketed rn rest h = part_then (codes "[") (register_name rn ++ rest) (part (codes "[") refl (omega arith)) (plain_append (register_name rn) rest (register_part rn).plain h)
 
 at_part : (rn : ℕ) (by : List ℕ) → IsPart by → IsPart (at_offset rn by)
 at_part rn by h = bracketed rn (codes ", " ++ (by ++ codes "]")) (plain_append (codes ", ") (by ++ codes "]") (plain_of (codes ", ") refl) (plain_append by (codes "]") h.plain (plain_of (codes "]") refl)))
@@ -362,7 +362,7 @@ statement_line at (Move cond op set_flags rd second) e = on_line _ cond _ _ (mar
 statement_line at (Data cond op set_flags rn rd second) e = on_line _ cond _ _ (marked (data_name op) set_flags (codes "s") (data_part op) (plain_of (codes "s") refl)) (register_part rd) (more (register_part rn) (more (operand_part second) done))
 statement_line at (DoubleTransfer cond store pre up write_back rn rd by) e = on_line _ cond _ _ (either_part store (codes "strd") (codes "ldrd") (part (codes "strd") refl (omega arith)) (part (codes "ldrd") refl (omega arith))) (register_part rd) (more (address_part pre write_back rn (short_offset up by) (short_part up by)) done)
 statement_line at (Transfer cond pre up byte write_back load rn rd by) e = on_line _ cond _ _ (part_then (load_name load) (where_set byte (codes "b") ++ where_set (not pre && write_back) (codes "t")) (load_part load) (plain_append (where_set byte (codes "b")) (where_set (not pre && write_back) (codes "t")) (where_plain byte (codes "b") (plain_of (codes "b") refl)) (where_plain (not pre && write_back) (codes "t") (plain_of (codes "t") refl)))) (register_part rd) (more (address_part pre write_back rn (offset up by) (offset_part up by)) done)
-statement_line at (Multiple cond pre up user write_back load rn list) e = on_line _ cond _ _ (part_then (if load then codes "ldm" else codes "stm") (block_mode pre up) (either_part load (codes "ldm") (codes "stm") (part (codes "ldm") refl (omega arith)) (part (codes "stm") refl (omega arith))) (mode_plain pre up)) (marked (register rn) write_back (codes "!") (register_part rn) (plain_of (codes "!") refl)) (more (marked (register_list list) user (codes "^") (list_part list) (plain_of (codes "^") refl)) done)
+statement_line at (Multiple cond pre up user write_back load rn list) e = on_line _ cond _ _ (part_then (if load then codes "ldm" else codes "stm") (block_mode pre up) (either_part load (codes "ldm") (codes "stm") (part (codes "ldm") refl (omega arith)) (part (codes "stm") refl (omega arith))) (mode_plain pre up)) (marked (register_name rn) write_back (codes "!") (register_part rn) (plain_of (codes "!") refl)) (more (marked (register_list list) user (codes "^") (list_part list) (plain_of (codes "^") refl)) done)
 statement_line at (Branch cond link by) e = on_line _ cond _ _ (marked (codes "b") link (codes "l") (part (codes "b") refl (omega arith)) (plain_of (codes "l") refl)) (hex_part (arm_target at by)) done
 statement_line at (Coprocessor cond load op1 crn rd cp op2 crm) e = on_line _ cond _ _ (either_part load (codes "mrc") (codes "mcr") (part (codes "mrc") refl (omega arith)) (part (codes "mcr") refl (omega arith))) (after_letter (codes "p") cp (plain_of (codes "p") refl)) (more (decimal_part op1) (more (register_part rd) (more (after_letter (codes "c") crn (plain_of (codes "c") refl)) (more (after_letter (codes "c") crm (plain_of (codes "c") refl)) (more (decimal_part op2) done)))))
 statement_line at (Swi cond immed) e = on_line _ cond _ _ (part (codes "swi") refl (omega arith)) (hex_part immed) done
@@ -377,7 +377,7 @@ statement_line at (ThumbBx rm) e = written_line _ _ _ (part (codes "bx") refl (o
 statement_line at (ThumbBlxRegister rm) e = written_line _ _ _ (part (codes "blx") refl (omega arith)) (register_part rm) done
 statement_line at (ThumbHigh op rm rd) e = written_line _ _ _ (high_part op) (register_part rd) (more (register_part rm) done)
 statement_line at (ThumbLoadLiteral rd immed) e = written_line _ _ _ (part (codes "ldr") refl (omega arith)) (register_part rd) (more (at_part 15 (number (4 * immed)) (number_part (4 * immed))) done)
-statement_line at (ThumbRegisterOffset op rm rn rd) e = written_line _ _ _ (transfer_part op) (register_part rd) (more (at_part rn (register rm) (register_part rm)) done)
+statement_line at (ThumbRegisterOffset op rm rn rd) e = written_line _ _ _ (transfer_part op) (register_part rd) (more (at_part rn (register_name rm) (register_part rm)) done)
 statement_line at (ThumbImmediateOffset byte load immed rn rd) e = written_line _ _ _ (marked (load_name load) byte (codes "b") (load_part load) (plain_of (codes "b") refl)) (register_part rd) (more (at_part rn (number (if byte then immed else 4 * immed)) (number_part (if byte then immed else 4 * immed))) done)
 statement_line at (ThumbHalfOffset load immed rn rd) e = written_line _ _ _ (part_then (load_name load) (codes "h") (load_part load) (plain_of (codes "h") refl)) (register_part rd) (more (at_part rn (number (2 * immed)) (number_part (2 * immed))) done)
 statement_line at (ThumbStackOffset load rd immed) e = written_line _ _ _ (load_part load) (register_part rd) (more (at_part 13 (number (4 * immed)) (number_part (4 * immed))) done)
@@ -385,7 +385,7 @@ statement_line at (ThumbAddress stack rd immed) e = written_line _ _ _ (part (co
 statement_line at (ThumbAdjustStack subtract immed) e = written_line _ _ _ (either_part subtract (codes "sub") (codes "add") (part (codes "sub") refl (omega arith)) (part (codes "add") refl (omega arith))) (register_part 13) (more (number_part (4 * immed)) done)
 statement_line at (ThumbPushPop load extra list) e = written_line _ _ _ (either_part load (codes "pop") (codes "push") (part (codes "pop") refl (omega arith)) (part (codes "push") refl (omega arith))) (list_part (list + (if extra then (if load then 2 ^ 15 else 2 ^ 14) else 0))) done
 statement_line at (ThumbBkpt immed) e = written_line _ _ _ (part (codes "bkpt") refl (omega arith)) (hex_part immed) done
-statement_line at (ThumbMultiple load rn list) e = written_line _ _ _ (either_part load (codes "ldmia") (codes "stmia") (part (codes "ldmia") refl (omega arith)) (part (codes "stmia") refl (omega arith))) (part_then (register rn) (codes "!") (register_part rn) (plain_of (codes "!") refl)) (more (list_part list) done)
+statement_line at (ThumbMultiple load rn list) e = written_line _ _ _ (either_part load (codes "ldmia") (codes "stmia") (part (codes "ldmia") refl (omega arith)) (part (codes "stmia") refl (omega arith))) (part_then (register_name rn) (codes "!") (register_part rn) (plain_of (codes "!") refl)) (more (list_part list) done)
 statement_line at (ThumbBranchIf cond by) e = on_line _ cond _ _ (part (codes "b") refl (omega arith)) (hex_part (thumb_target at (2 ^ 7) by)) done
 statement_line at (ThumbSwi immed) e = written_line _ _ _ (part (codes "swi") refl (omega arith)) (hex_part immed) done
 statement_line at (ThumbBranch by) e = written_line _ _ _ (part (codes "b") refl (omega arith)) (hex_part (thumb_target at (2 ^ 10) by)) done

@@ -9,7 +9,7 @@ use Rattle.asm_text.specs.Addresses.{thumb_target}
 use Rattle.asm_text.specs.Reader.Parts.{hex_at, marked_at}
 use Rattle.asm_text.specs.Statements.{on, statement, thumb_amount}
 use Rattle.ds_base.specs.Digits.{hex_digits}
-use Rattle.asm_text.specs.Text.{joined, number, hex, register, register_list}
+use Rattle.asm_text.specs.Text.{joined, number, hex, register_name, register_list}
 use Rattle.asm_text.specs.Reader.ThumbRows.{thumb_row, shift_named}
 use Rattle.asm_text.specs.declared.reading.names.Stem.TheVariants.{Row, Raw}
 use Rattle.asm_text.specs.declared.reading.thumb_stems.TheConstants.{THUMB_STEMS}
@@ -50,9 +50,9 @@ row_on at nm template cond operands i s e = read_on THUMB_STEMS thumb_row at nm 
 add_sub_read : (at : ℕ) (subtract : Bool) (second : ThumbOperand) (rn rd : ℕ) → HasFields (ThumbAddSub subtract second rn rd) → IsRead at (ThumbAddSub subtract second rn rd)
 unfolding thumb_row
 add_sub_read at subtract (LowRegister rm) rn rd h =
-    row_on at (if subtract then codes "sub" else codes "add") (ThumbAddSub subtract (Small 0) 0 0) Al (register rd ∷ register rn ∷ register rm ∷ []) _ (add_sub_stem subtract) (add_registers subtract rm rn rd h.0 h.1 h.2)
+    row_on at (if subtract then codes "sub" else codes "add") (ThumbAddSub subtract (Small 0) 0 0) Al (register_name rd ∷ register_name rn ∷ register_name rm ∷ []) _ (add_sub_stem subtract) (add_registers subtract rm rn rd h.0 h.1 h.2)
 add_sub_read at subtract (Small n) rn rd h =
-    row_on at (if subtract then codes "sub" else codes "add") (ThumbAddSub subtract (Small 0) 0 0) Al (register rd ∷ register rn ∷ number n ∷ []) _ (add_sub_stem subtract) (add_small subtract n rn rd h.0 h.1 h.2)
+    row_on at (if subtract then codes "sub" else codes "add") (ThumbAddSub subtract (Small 0) 0 0) Al (register_name rd ∷ register_name rn ∷ number n ∷ []) _ (add_sub_stem subtract) (add_small subtract n rn rd h.0 h.1 h.2)
 
 -- the data operation of a shift's name
 abbrev shift_op : Shift → ThumbDataOp
@@ -76,47 +76,47 @@ shift_stem shifts.Ror = data_stem thumb_ops.Ror
 shift_read : (at : ℕ) (shift : Shift) (amount rm rd : ℕ) → HasFields (ThumbShift shift amount rm rd) → IsRead at (ThumbShift shift amount rm rd)
 unfolding thumb_row
 shift_read at shift amount rm rd h =
-    row_on at (shift_name shift) (ThumbData (shift_op shift) 0 0) Al (register rd ∷ register rm ∷ number (thumb_amount shift amount) ∷ []) _ (shift_stem shift)
+    row_on at (shift_name shift) (ThumbData (shift_op shift) 0 0) Al (register_name rd ∷ register_name rm ∷ number (thumb_amount shift amount) ∷ []) _ (shift_stem shift)
     (shift_number (shift_op shift) shift amount rm rd (shift_op_of shift) h.0 h.1 h.2)
 
 immediate_read : (at : ℕ) (op : ThumbImmediateOp) (rd n : ℕ) → HasFields (ThumbImmediate op rd n) → IsRead at (ThumbImmediate op rd n)
 unfolding thumb_row
 immediate_read at immediate_ops.Mov rd n h =
-    row_on at (codes "mov") (ThumbImmediate immediate_ops.Mov 0 0) Al (register rd ∷ number n ∷ []) _ move_stem (move_number immediate_ops.Mov rd n h.0 h.1)
+    row_on at (codes "mov") (ThumbImmediate immediate_ops.Mov 0 0) Al (register_name rd ∷ number n ∷ []) _ move_stem (move_number immediate_ops.Mov rd n h.0 h.1)
 immediate_read at immediate_ops.Cmp rd n h =
-    row_on at (codes "cmp") (ThumbData thumb_ops.Cmp 0 0) Al (register rd ∷ number n ∷ []) _ (data_stem thumb_ops.Cmp) (compare_number thumb_ops.Cmp rd n h.0 h.1)
+    row_on at (codes "cmp") (ThumbData thumb_ops.Cmp 0 0) Al (register_name rd ∷ number n ∷ []) _ (data_stem thumb_ops.Cmp) (compare_number thumb_ops.Cmp rd n h.0 h.1)
 immediate_read at immediate_ops.Add rd n h =
-    row_on at (codes "add") (ThumbAddSub false (Small 0) 0 0) Al (register rd ∷ number n ∷ []) _ (add_sub_stem false) (add_number false rd n h.0 h.1)
+    row_on at (codes "add") (ThumbAddSub false (Small 0) 0 0) Al (register_name rd ∷ number n ∷ []) _ (add_sub_stem false) (add_number false rd n h.0 h.1)
 immediate_read at immediate_ops.Sub rd n h =
-    row_on at (codes "sub") (ThumbAddSub true (Small 0) 0 0) Al (register rd ∷ number n ∷ []) _ (add_sub_stem true) (add_number true rd n h.0 h.1)
+    row_on at (codes "sub") (ThumbAddSub true (Small 0) 0 0) Al (register_name rd ∷ number n ∷ []) _ (add_sub_stem true) (add_number true rd n h.0 h.1)
 
 data_read : (at : ℕ) (op : ThumbDataOp) (rm rd : ℕ) → HasFields (ThumbData op rm rd) → IsRead at (ThumbData op rm rd)
 unfolding thumb_row
 data_read at op rm rd h =
-    row_on at (thumb_data_name op) (ThumbData op 0 0) Al (register rd ∷ register rm ∷ []) _ (data_stem op) (data_registers op rm rd h.0 h.1)
+    row_on at (thumb_data_name op) (ThumbData op 0 0) Al (register_name rd ∷ register_name rm ∷ []) _ (data_stem op) (data_registers op rm rd h.0 h.1)
 
 bx_read : (at rm : ℕ) → HasFields (ThumbBx rm) → IsRead at (ThumbBx rm)
 unfolding thumb_row
-bx_read at rm h = row_on at (codes "bx") (ThumbBx 0) Al (register rm ∷ []) _ bx_stem (ap ThumbBx (one_again rm h))
+bx_read at rm h = row_on at (codes "bx") (ThumbBx 0) Al (register_name rm ∷ []) _ bx_stem (ap ThumbBx (one_again rm h))
 
 blx_read : (at rm : ℕ) → HasFields (ThumbBlxRegister rm) → IsRead at (ThumbBlxRegister rm)
 unfolding thumb_row
-blx_read at rm h = row_on at (codes "blx") (ThumbBlxRegister 0) Al (register rm ∷ []) _ blx_stem (ap ThumbBlxRegister (one_again rm h))
+blx_read at rm h = row_on at (codes "blx") (ThumbBlxRegister 0) Al (register_name rm ∷ []) _ blx_stem (ap ThumbBlxRegister (one_again rm h))
 
 high_read : (at : ℕ) (op : HighOp) (rm rd : ℕ) → HasFields (ThumbHigh op rm rd) → IsRead at (ThumbHigh op rm rd)
 unfolding thumb_row
 high_read at op rm rd h =
-    row_on at (high_name op) (ThumbHigh op 0 0) Al (register rd ∷ register rm ∷ []) _ (high_stem op) (high_registers op rm rd h.0 h.1)
+    row_on at (high_name op) (ThumbHigh op 0 0) Al (register_name rd ∷ register_name rm ∷ []) _ (high_stem op) (high_registers op rm rd h.0 h.1)
 
 literal_read : (at rd n : ℕ) → HasFields (ThumbLoadLiteral rd n) → IsRead at (ThumbLoadLiteral rd n)
 unfolding thumb_row
 literal_read at rd n h =
-    row_on at (codes "ldr") (ThumbRegisterOffset transfer_ops.Ldr 0 0 0) Al (register rd ∷ at_offset 15 (number (4 * n)) ∷ []) _ (transfer_stem transfer_ops.Ldr) (load_literal rd n h.0 h.1)
+    row_on at (codes "ldr") (ThumbRegisterOffset transfer_ops.Ldr 0 0 0) Al (register_name rd ∷ at_offset 15 (number (4 * n)) ∷ []) _ (transfer_stem transfer_ops.Ldr) (load_literal rd n h.0 h.1)
 
 register_read : (at : ℕ) (op : ThumbTransferOp) (rm rn rd : ℕ) → HasFields (ThumbRegisterOffset op rm rn rd) → IsRead at (ThumbRegisterOffset op rm rn rd)
 unfolding thumb_row
 register_read at op rm rn rd h =
-    row_on at (transfer_name op) (ThumbRegisterOffset op 0 0 0) Al (register rd ∷ at_offset rn (register rm) ∷ []) _ (transfer_stem op) (register_offset op rm rn rd h.0 h.1 h.2)
+    row_on at (transfer_name op) (ThumbRegisterOffset op 0 0 0) Al (register_name rd ∷ at_offset rn (register_name rm) ∷ []) _ (transfer_stem op) (register_offset op rm rn rd h.0 h.1 h.2)
 
 word_stem : (load : Bool) → IsStem THUMB_STEMS (load_name load) (Row (ThumbRegisterOffset (word_op load) 0 0 0))
 word_stem true = transfer_stem transfer_ops.Ldr
@@ -138,34 +138,34 @@ bare false = refl
 number_read : (at : ℕ) (byte load : Bool) (n rn rd : ℕ) → HasFields (ThumbImmediateOffset byte load n rn rd) → IsRead at (ThumbImmediateOffset byte load n rn rd)
 unfolding thumb_row
 number_read at true load n rn rd h =
-    row_on at (load_name load ++ codes "b") (ThumbRegisterOffset (byte_op load) 0 0 0) Al (register rd ∷ at_offset rn (number n) ∷ []) _ (byte_stem load)
+    row_on at (load_name load ++ codes "b") (ThumbRegisterOffset (byte_op load) 0 0 0) Al (register_name rd ∷ at_offset rn (number n) ∷ []) _ (byte_stem load)
     (byte_number load n rn rd h.0 h.1 h.2)
 number_read at false load n rn rd h =
-    row_on at (load_name load ++ []) (ThumbRegisterOffset (word_op load) 0 0 0) Al (register rd ∷ at_offset rn (number (4 * n)) ∷ []) _ (rw (bare load) (word_stem load))
+    row_on at (load_name load ++ []) (ThumbRegisterOffset (word_op load) 0 0 0) Al (register_name rd ∷ at_offset rn (number (4 * n)) ∷ []) _ (rw (bare load) (word_stem load))
     (word_number load n rn rd h.0 h.1 h.2)
 
 half_read : (at : ℕ) (load : Bool) (n rn rd : ℕ) → HasFields (ThumbHalfOffset load n rn rd) → IsRead at (ThumbHalfOffset load n rn rd)
 unfolding thumb_row
 half_read at load n rn rd h =
-    row_on at (load_name load ++ codes "h") (ThumbRegisterOffset (half_op load) 0 0 0) Al (register rd ∷ at_offset rn (number (2 * n)) ∷ []) _ (halfword_stem load)
+    row_on at (load_name load ++ codes "h") (ThumbRegisterOffset (half_op load) 0 0 0) Al (register_name rd ∷ at_offset rn (number (2 * n)) ∷ []) _ (halfword_stem load)
     (half_number load n rn rd h.0 h.1 h.2)
 
 stack_read : (at : ℕ) (load : Bool) (rd n : ℕ) → HasFields (ThumbStackOffset load rd n) → IsRead at (ThumbStackOffset load rd n)
 unfolding thumb_row
 stack_read at load rd n h =
-    row_on at (load_name load) (ThumbRegisterOffset (word_op load) 0 0 0) Al (register rd ∷ at_offset 13 (number (4 * n)) ∷ []) _ (word_stem load)
+    row_on at (load_name load) (ThumbRegisterOffset (word_op load) 0 0 0) Al (register_name rd ∷ at_offset 13 (number (4 * n)) ∷ []) _ (word_stem load)
     (stack_offset load rd n h.0 h.1)
 
 address_read : (at : ℕ) (stack : Bool) (rd n : ℕ) → HasFields (ThumbAddress stack rd n) → IsRead at (ThumbAddress stack rd n)
 unfolding thumb_row
 address_read at stack rd n h =
-    row_on at (codes "add") (ThumbAddSub false (Small 0) 0 0) Al (register rd ∷ register (if stack then 13 else 15) ∷ number (4 * n) ∷ []) _ (add_sub_stem false)
+    row_on at (codes "add") (ThumbAddSub false (Small 0) 0 0) Al (register_name rd ∷ register_name (if stack then 13 else 15) ∷ number (4 * n) ∷ []) _ (add_sub_stem false)
     (address_of stack rd n h.0 h.1)
 
 adjust_read : (at : ℕ) (subtract : Bool) (n : ℕ) → HasFields (ThumbAdjustStack subtract n) → IsRead at (ThumbAdjustStack subtract n)
 unfolding thumb_row
 adjust_read at subtract n h =
-    row_on at (if subtract then codes "sub" else codes "add") (ThumbAddSub subtract (Small 0) 0 0) Al (register 13 ∷ number (4 * n) ∷ []) _ (add_sub_stem subtract) (adjust subtract n h)
+    row_on at (if subtract then codes "sub" else codes "add") (ThumbAddSub subtract (Small 0) 0 0) Al (register_name 13 ∷ number (4 * n) ∷ []) _ (add_sub_stem subtract) (adjust subtract n h)
 
 push_pop_read : (at : ℕ) (load extra : Bool) (list : ℕ) → HasFields (ThumbPushPop load extra list) → IsRead at (ThumbPushPop load extra list)
 unfolding thumb_row
@@ -175,7 +175,7 @@ push_pop_read at load extra list h =
 multiple_read : (at : ℕ) (load : Bool) (rn list : ℕ) → HasFields (ThumbMultiple load rn list) → IsRead at (ThumbMultiple load rn list)
 unfolding thumb_row
 multiple_read at load rn list h =
-    row_on at (if load then codes "ldmia" else codes "stmia") (ThumbMultiple load 0 0) Al ((register rn ++ codes "!") ∷ register_list list ∷ []) _ (multiple_stem load) (multiple load rn list h.0 h.1)
+    row_on at (if load then codes "ldmia" else codes "stmia") (ThumbMultiple load 0 0) Al ((register_name rn ++ codes "!") ∷ register_list list ∷ []) _ (multiple_stem load) (multiple load rn list h.0 h.1)
 
 -- a byte as the last operand
 last_byte : (n : ℕ) → n < 256 → (hex_at (joined (codes ", ") (hex n ∷ []))).0 % 256 ≡ n

@@ -5,7 +5,7 @@ use Rattle.std.specs.Prelude.{codes, drop, if◌then◌else◌, nat_le}
 use Rattle.asm_text.specs.Addresses.{thumb_target}
 use Rattle.asm_text.specs.Operands.{at_offset}
 use Rattle.asm_text.specs.Reader.Parts.{hex_at, marked_at, one_at, register_at, registers_at}
-use Rattle.asm_text.specs.Text.{joined, number, hex, register, members, register_list}
+use Rattle.asm_text.specs.Text.{joined, number, hex, register_name, members, register_list}
 use Rattle.asm_text.specs.Reader.ThumbRows.{transfer_row, number_offset, word_offset, byte_offset, half_offset, push_pop_row, multiple_row, halves_to, branch_by}
 use Rattle.asm_text.proofs.Again.{register_again, marked_again, hex_again}
 use Rattle.asm_text.proofs.AddressLaws.{registers_again}
@@ -19,29 +19,29 @@ use Rattle.arm_words.specs.declared.instructions.Instr.TheVariants.{ThumbLoadLit
 
 -- a register, and a base and an offset in brackets
 operands : (rd rn : ℕ) (by : List ℕ) →
-    joined (codes ", ") (register rd ∷ at_offset rn by ∷ []) ≡ register rd ++ 44 ∷ 32 ∷ 91 ∷ (register rn ++ 44 ∷ 32 ∷ (by ++ 93 ∷ []))
-operands rd rn by = ap (λ (x : List ℕ). register rd ++ 44 ∷ 32 ∷ 91 ∷ x) (append-nil (register rn ++ 44 ∷ 32 ∷ (by ++ 93 ∷ [])))
+    joined (codes ", ") (register_name rd ∷ at_offset rn by ∷ []) ≡ register_name rd ++ 44 ∷ 32 ∷ 91 ∷ (register_name rn ++ 44 ∷ 32 ∷ (by ++ 93 ∷ []))
+operands rd rn by = ap (λ (x : List ℕ). register_name rd ++ 44 ∷ 32 ∷ 91 ∷ x) (append-nil (register_name rn ++ 44 ∷ 32 ∷ (by ++ 93 ∷ [])))
 
 pub register_offset : (op : ThumbTransferOp) (rm rn rd : ℕ) → rm < 8 → rn < 8 → rd < 8 →
-    transfer_row op (joined (codes ", ") (register rd ∷ at_offset rn (register rm) ∷ [])) ≡ ThumbRegisterOffset op rm rn rd
+    transfer_row op (joined (codes ", ") (register_name rd ∷ at_offset rn (register_name rm) ∷ [])) ≡ ThumbRegisterOffset op rm rn rd
 unfolding transfer_row
 register_offset op rm rn rd hm hn hd =
-    let by : List ℕ = register rm ++ 93 ∷ [] in
-    let r1 = before_comma rd (91 ∷ (register rn ++ 44 ∷ 32 ∷ by)) (omega arith) in
+    let by : List ℕ = register_name rm ++ 93 ∷ [] in
+    let r1 = before_comma rd (91 ∷ (register_name rn ++ 44 ∷ 32 ∷ by)) (omega arith) in
     let r2 = before_comma rn by (omega arith) in
     let r3 : one_at by ≡ rm = ap (λ (p : ℕ × List ℕ). p.0) (register_again rm (93 ∷ []) (omega arith) refl) in
     let em : rm % 8 ≡ rm = omega arith in
     let en : rn % 8 ≡ rn = omega arith in
     let ed : rd % 8 ≡ rd = omega arith in
-    ap (transfer_row op) (operands rd rn (register rm)) ∙ rw (r1, r2, r3, em, en, ed) refl
+    ap (transfer_row op) (operands rd rn (register_name rm)) ∙ rw (r1, r2, r3, em, en, ed) refl
 
 -- a number as offset
 at_number : (op : ThumbTransferOp) (rn rd n : ℕ) → rn < 16 → rd < 8 → n < 2 ^ 32 →
-    transfer_row op (joined (codes ", ") (register rd ∷ at_offset rn (number n) ∷ [])) ≡ number_offset op rn rd n
+    transfer_row op (joined (codes ", ") (register_name rd ∷ at_offset rn (number n) ∷ [])) ≡ number_offset op rn rd n
 unfolding transfer_row
 at_number op rn rd n hn hd h =
     let by : List ℕ = number n ++ 93 ∷ [] in
-    let r1 = before_comma rd (91 ∷ (register rn ++ 44 ∷ 32 ∷ by)) (omega arith) in
+    let r1 = before_comma rd (91 ∷ (register_name rn ++ 44 ∷ 32 ∷ by)) (omega arith) in
     let r2 = before_comma rn by hn in
     let r3 : marked_at by ≡ (n, 93 ∷ []) = marked_again n (93 ∷ []) h refl in
     let ed : rd % 8 ≡ rd = omega arith in
@@ -72,19 +72,19 @@ of_half true rn rd n = refl
 of_half false rn rd n = refl
 
 pub load_literal : (rd n : ℕ) → rd < 8 → n < 256 →
-    transfer_row transfer_ops.Ldr (joined (codes ", ") (register rd ∷ at_offset 15 (number (4 * n)) ∷ [])) ≡ ThumbLoadLiteral rd n
+    transfer_row transfer_ops.Ldr (joined (codes ", ") (register_name rd ∷ at_offset 15 (number (4 * n)) ∷ [])) ≡ ThumbLoadLiteral rd n
 load_literal rd n hd h =
     let e : 4 * n / 4 % 256 ≡ n = omega arith in
     at_number transfer_ops.Ldr 15 rd (4 * n) (omega arith) hd (omega arith) ∙ of_word true 15 rd (4 * n) ∙ ap (ThumbLoadLiteral rd) e
 
 pub stack_offset : (load : Bool) (rd n : ℕ) → rd < 8 → n < 256 →
-    transfer_row (word_op load) (joined (codes ", ") (register rd ∷ at_offset 13 (number (4 * n)) ∷ [])) ≡ ThumbStackOffset load rd n
+    transfer_row (word_op load) (joined (codes ", ") (register_name rd ∷ at_offset 13 (number (4 * n)) ∷ [])) ≡ ThumbStackOffset load rd n
 stack_offset load rd n hd h =
     let e : 4 * n / 4 % 256 ≡ n = omega arith in
     at_number (word_op load) 13 rd (4 * n) (omega arith) hd (omega arith) ∙ of_word load 13 rd (4 * n) ∙ ap (ThumbStackOffset load rd) e
 
 pub word_number : (load : Bool) (n rn rd : ℕ) → n < 32 → rn < 8 → rd < 8 →
-    transfer_row (word_op load) (joined (codes ", ") (register rd ∷ at_offset rn (number (4 * n)) ∷ [])) ≡ ThumbImmediateOffset false load n rn rd
+    transfer_row (word_op load) (joined (codes ", ") (register_name rd ∷ at_offset rn (number (4 * n)) ∷ [])) ≡ ThumbImmediateOffset false load n rn rd
 word_number load n rn rd h hn hd =
     let e : 4 * n / 4 % 32 ≡ n = omega arith in
     let en : rn % 8 ≡ rn = omega arith in
@@ -92,14 +92,14 @@ word_number load n rn rd h hn hd =
     at_number (word_op load) rn rd (4 * n) (omega arith) hd (omega arith) ∙ of_word load rn rd (4 * n) ∙ low
 
 pub byte_number : (load : Bool) (n rn rd : ℕ) → n < 32 → rn < 8 → rd < 8 →
-    transfer_row (byte_op load) (joined (codes ", ") (register rd ∷ at_offset rn (number n) ∷ [])) ≡ ThumbImmediateOffset true load n rn rd
+    transfer_row (byte_op load) (joined (codes ", ") (register_name rd ∷ at_offset rn (number n) ∷ [])) ≡ ThumbImmediateOffset true load n rn rd
 byte_number load n rn rd h hn hd =
     let e : n % 32 ≡ n = omega arith in
     let en : rn % 8 ≡ rn = omega arith in
     at_number (byte_op load) rn rd n (omega arith) hd (omega arith) ∙ of_byte load rn rd n ∙ rw (e, en) refl
 
 pub half_number : (load : Bool) (n rn rd : ℕ) → n < 32 → rn < 8 → rd < 8 →
-    transfer_row (half_op load) (joined (codes ", ") (register rd ∷ at_offset rn (number (2 * n)) ∷ [])) ≡ ThumbHalfOffset load n rn rd
+    transfer_row (half_op load) (joined (codes ", ") (register_name rd ∷ at_offset rn (number (2 * n)) ∷ [])) ≡ ThumbHalfOffset load n rn rd
 half_number load n rn rd h hn hd =
     let e : 2 * n / 2 % 32 ≡ n = omega arith in
     let en : rn % 8 ≡ rn = omega arith in
@@ -127,15 +127,15 @@ push_pop load extra list h =
     rw (list_again (list + extra_bit load extra) e.2, e.0, e.1) refl
 
 pub multiple : (load : Bool) (rn list : ℕ) → rn < 8 → list < 256 →
-    multiple_row load (joined (codes ", ") ((register rn ++ codes "!") ∷ register_list list ∷ [])) ≡ ThumbMultiple load rn list
+    multiple_row load (joined (codes ", ") ((register_name rn ++ codes "!") ∷ register_list list ∷ [])) ≡ ThumbMultiple load rn list
 unfolding multiple_row
 multiple load rn list hn h =
     let rest : List ℕ = 44 ∷ 32 ∷ 123 ∷ ((members list ++ 125 ∷ []) ++ []) in
-    let r1 : register_at (register rn ++ 33 ∷ rest) ≡ (rn, 33 ∷ rest) = register_again rn (33 ∷ rest) (omega arith) refl in
+    let r1 : register_at (register_name rn ++ 33 ∷ rest) ≡ (rn, 33 ∷ rest) = register_again rn (33 ∷ rest) (omega arith) refl in
     let r2 : registers_at ((members list ++ 125 ∷ []) ++ []) ≡ (list, 125 ∷ []) = list_again list (omega arith) in
     let en : rn % 8 ≡ rn = omega arith in
     let el : list % 256 ≡ list = omega arith in
-    ap (multiple_row load) (append_assoc (register rn) (codes "!") rest) ∙ rw (r1, r2, en, el) refl
+    ap (multiple_row load) (append_assoc (register_name rn) (codes "!") rest) ∙ rw (r1, r2, en, el) refl
 
 -- the distance of a target
 away_short : (at n : ℕ) → at < 2 ^ 32 → n < 2 ^ 8 → halves_to at (thumb_target at (2 ^ 7) n) % 2 ^ 8 ≡ n

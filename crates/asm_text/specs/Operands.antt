@@ -1,5 +1,5 @@
 use Rattle.std.specs.Prelude.{ℕ, ◌==◌, List, [], ◌++◌, codes, Bool, not, if◌then◌else◌}
-use Rattle.asm_text.specs.Text.{where_set, number, hex, register}
+use Rattle.asm_text.specs.Text.{where_set, number, hex, register_name}
 use Rattle.asm_text.specs.Names.{shift_name}
 use Rattle.arm_words.specs.Canonical.{immediate}
 use Rattle.arm_words.specs.declared.parts.Shift.{Shift}
@@ -25,16 +25,16 @@ shift_shown Asr amount = codes ", asr " ++ number (amount_shown amount)
 shift_shown Ror amount = if amount == 0 then codes ", rrx" else codes ", ror " ++ number amount
 
 abbrev pub shifted : ℕ → Shift → ℕ → List ℕ
-shifted rm shift amount = register rm ++ shift_shown shift amount
+shifted rm shift amount = register_name rm ++ shift_shown shift amount
 
 -- the last operand of data processing
 abbrev pub operand : Operand → List ℕ
 operand (Immediate rotate immed) = number (immediate rotate immed)
 operand (Shifted rm shift amount) = shifted rm shift amount
-operand (ShiftedByRegister rm shift rs) = register rm ++ (codes ", " ++ (shift_name shift ++ (codes " " ++ register rs)))
+operand (ShiftedByRegister rm shift rs) = register_name rm ++ (codes ", " ++ (shift_name shift ++ (codes " " ++ register_name rs)))
 
 abbrev pub small_operand : ThumbOperand → List ℕ
-small_operand (LowRegister rm) = register rm
+small_operand (LowRegister rm) = register_name rm
 small_operand (Small immed) = number immed
 
 -- an offset, with a minus where it is taken away (ARM manual, "Addressing mode 2" and "3"); 0 has one too, so that each word has a
@@ -45,14 +45,14 @@ offset up (Register rm shift amount) = where_set (not up) (codes "-") ++ shifted
 
 abbrev pub short_offset : Bool → ShortOffset → List ℕ
 short_offset up (ShortNumber n) = codes "#" ++ (where_set (not up) (codes "-") ++ hex n)
-short_offset up (ShortRegister rm) = where_set (not up) (codes "-") ++ register rm
+short_offset up (ShortRegister rm) = where_set (not up) (codes "-") ++ register_name rm
 
 -- a base and an offset in brackets
 abbrev pub at_offset : ℕ → List ℕ → List ℕ
-at_offset rn by = codes "[" ++ (register rn ++ (codes ", " ++ (by ++ codes "]")))
+at_offset rn by = codes "[" ++ (register_name rn ++ (codes ", " ++ (by ++ codes "]")))
 
 -- an address: the offset is added before the access or after it, and written back where that is marked
 abbrev pub address : Bool → Bool → ℕ → List ℕ → List ℕ
 address pre write_back rn by =
     if pre then at_offset rn by ++ where_set write_back (codes "!")
-    else codes "[" ++ (register rn ++ (codes "], " ++ by))
+    else codes "[" ++ (register_name rn ++ (codes "], " ++ by))

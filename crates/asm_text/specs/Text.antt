@@ -33,17 +33,17 @@ number n = codes "#" ++ hex n
 abbrev pub decimal : ℕ → List ℕ
 decimal n = if nat_lt n 10 then (48 + n) ∷ [] else 49 ∷ (38 + n) ∷ []
 
-abbrev pub register : ℕ → List ℕ
-register n = codes "r" ++ decimal n
+abbrev pub register_name : ℕ → List ℕ
+register_name n = codes "r" ++ decimal n
 
 -- of `left` registers from `r` on those whose bits are set, ascending
-abbrev pub registers : ℕ → ℕ → ℕ → List (List ℕ)
-registers zero r list = []
-registers (suc left) r list = if bit r list then register r ∷ registers left (r + 1) list else registers left (r + 1) list
+abbrev pub register_names : ℕ → ℕ → ℕ → List (List ℕ)
+register_names zero r list = []
+register_names (suc left) r list = if bit r list then register_name r ∷ register_names left (r + 1) list else register_names left (r + 1) list
 
 -- a list of registers, whose bits are those of `list`
 unfoldable pub members : ℕ → List ℕ
-members list = joined (codes ",") (registers 16 0 list)
+members list = joined (codes ",") (register_names 16 0 list)
 
 abbrev pub register_list : ℕ → List ℕ
 register_list list = codes "{" ++ (members list ++ codes "}")

@@ -5,7 +5,7 @@ ghost use Rattle.arm_words.specs.Fields.{HasOffset, HasOperand, HasShortOffset};
 ghost use Rattle.arm_words.specs.declared.instructions.Instr.TheVariants.{Bkpt, BlxTarget, Branch, Compare, Coprocessor, Data, DoubleTransfer, HalfTransfer, Move, Mrs, Msr, MsrImmediate, Multiple, Pld, Swap, Swi, Transfer};
 ghost use Rattle.asm_text.specs.Names.{block_mode};
 ghost use Rattle.asm_text.specs.Statements.{on, statement};
-ghost use Rattle.asm_text.specs.Text.{decimal, hex, register, where_set};
+ghost use Rattle.asm_text.specs.Text.{decimal, hex, register_name, where_set};
 
 use crate::addresses::{arm_target, half_target};
 use crate::lines::Line;
@@ -207,7 +207,7 @@ pub fn data_processing(
 fn base(write_back: bool, rn: u8, into: &mut Line)
     requires room { length into.old + 4 ≤ 96 }
     requires rn { rn < 16 }
-    ensures text { into.new ≡ into.old ++ (register rn ++ where_set write_back (codes "!")) }
+    ensures text { into.new ≡ into.old ++ (register_name rn ++ where_set write_back (codes "!")) }
     ensures room { length into.new ≤ length into.old + 4 }
 {
     register(rn, into);
@@ -256,7 +256,7 @@ fn coprocessor_start(cp: u8, op1: u8, rd: u8, into: &mut Line)
     requires cp { cp < 16 }
     requires op1 { op1 < 8 }
     requires rd { rd < 16 }
-    ensures text { into.new ≡ into.old ++ (codes "p" ++ (decimal cp ++ (codes ", " ++ (decimal op1 ++ (codes ", " ++ (register rd ++ codes ", ")))))) }
+    ensures text { into.new ≡ into.old ++ (codes "p" ++ (decimal cp ++ (codes ", " ++ (decimal op1 ++ (codes ", " ++ (register_name rd ++ codes ", ")))))) }
     ensures room { length into.new ≤ length into.old + 14 }
 {
     into.put_text("p");

@@ -5,7 +5,7 @@ ghost use Rattle.arm_words.specs.Canonical.{immediate};
 ghost use Rattle.arm_words.specs.Fields.{HasOffset, HasOperand, HasShortOffset, HasThumbOperand};
 ghost use Rattle.asm_text.specs.Names.{field_letters, status_name};
 ghost use Rattle.asm_text.specs.Operands.{address, amount_shown, at_offset, offset, operand, shift_shown, shifted, short_offset, small_operand};
-ghost use Rattle.asm_text.specs.Text.{hex, number, register, where_set};
+ghost use Rattle.asm_text.specs.Text.{hex, number, register_name, where_set};
 
 use crate::lines::Line;
 use crate::names::{shift_name, status_name};
@@ -153,7 +153,7 @@ fn short_offset(up: bool, by: ShortOffset, into: &mut Line)
 pub fn open(pre: bool, rn: u8, into: &mut Line)
     requires room { length into.old + 7 ≤ 96 }
     requires rn { rn < 16 }
-    ensures text { into.new ≡ into.old ++ (codes "[" ++ (register rn ++ (if pre then codes ", " else codes "], "))) }
+    ensures text { into.new ≡ into.old ++ (codes "[" ++ (register_name rn ++ (if pre then codes ", " else codes "], "))) }
     ensures room { length into.new ≤ length into.old + 7 }
 {
     into.put_text("[");

@@ -3,7 +3,7 @@
 ghost use Rattle.std.specs.Prelude.{◌≡◌, ◌+◌, ◌<◌, ◌≤◌, length, ◌++◌, ◌∷◌, [], codes};
 ghost use Rattle.asm_text.specs.Names.{suffix};
 ghost use Rattle.asm_text.specs.Statements.{on};
-ghost use Rattle.asm_text.specs.Text.{decimal, hex, members, number, register, register_list, trimmed, where_set};
+ghost use Rattle.asm_text.specs.Text.{decimal, hex, members, number, register_name, register_list, trimmed, where_set};
 
 use crate::lines::Line;
 use crate::names::suffix;
@@ -27,7 +27,7 @@ pub fn decimal(n: u8, into: &mut Line)
 pub fn register(n: u8, into: &mut Line)
     requires room { length into.old + 3 ≤ 96 }
     requires n { n < 16 }
-    ensures text { into.new ≡ into.old ++ register n }
+    ensures text { into.new ≡ into.old ++ register_name n }
     ensures room { length into.new ≤ length into.old + 3 }
 {
     into.put_text("r");
@@ -114,7 +114,7 @@ pub fn condition(cond: Condition, into: &mut Line)
 pub fn first(cond: Condition, r: u8, into: &mut Line)
     requires room { length into.old + 8 ≤ 96 }
     requires r { r < 16 }
-    ensures text { into.new ≡ into.old ++ (suffix cond ++ (codes " " ++ (register r ++ codes ", "))) }
+    ensures text { into.new ≡ into.old ++ (suffix cond ++ (codes " " ++ (register_name r ++ codes ", "))) }
     ensures room { length into.new ≤ length into.old + 8 }
 {
     condition(cond, into);

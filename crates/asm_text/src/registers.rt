@@ -2,7 +2,7 @@
 
 ghost use Rattle.std.specs.Prelude.{◌≡◌, ◌+◌, ◌<◌, ◌≤◌, length, ◌++◌, ◌∷◌, []};
 ghost use Rattle.asm_text.specs.Statements.{on};
-ghost use Rattle.asm_text.specs.Text.{register};
+ghost use Rattle.asm_text.specs.Text.{register_name};
 
 use crate::lines::Line;
 use crate::parts::{condition, first, register};
@@ -13,7 +13,7 @@ pub fn one(name: &str, cond: Condition, a: u8, into: &mut Line)
     requires room { length into.old + 80 ≤ 96 }
     requires name { length name.now ≤ 8 }
     requires a { a < 16 }
-    ensures { into.new ≡ into.old ++ on name.now cond (register a ∷ []) }
+    ensures { into.new ≡ into.old ++ on name.now cond (register_name a ∷ []) }
 {
     into.put_text(name);
     condition(cond, into);
@@ -26,7 +26,7 @@ pub fn two(name: &str, cond: Condition, a: u8, b: u8, into: &mut Line)
     requires name { length name.now ≤ 8 }
     requires a { a < 16 }
     requires b { b < 16 }
-    ensures { into.new ≡ into.old ++ on name.now cond (register a ∷ register b ∷ []) }
+    ensures { into.new ≡ into.old ++ on name.now cond (register_name a ∷ register_name b ∷ []) }
 {
     into.put_text(name);
     first(cond, a, into);
@@ -40,7 +40,7 @@ pub fn three(name: &str, cond: Condition, a: u8, b: u8, c: u8, into: &mut Line)
     requires a { a < 16 }
     requires b { b < 16 }
     requires c { c < 16 }
-    ensures { into.new ≡ into.old ++ on name.now cond (register a ∷ register b ∷ register c ∷ []) }
+    ensures { into.new ≡ into.old ++ on name.now cond (register_name a ∷ register_name b ∷ register_name c ∷ []) }
 {
     into.put_text(name);
     first(cond, a, into);
@@ -57,7 +57,7 @@ pub fn four(name: &str, cond: Condition, a: u8, b: u8, c: u8, d: u8, into: &mut 
     requires b { b < 16 }
     requires c { c < 16 }
     requires d { d < 16 }
-    ensures { into.new ≡ into.old ++ on name.now cond (register a ∷ register b ∷ register c ∷ register d ∷ []) }
+    ensures { into.new ≡ into.old ++ on name.now cond (register_name a ∷ register_name b ∷ register_name c ∷ register_name d ∷ []) }
 {
     into.put_text(name);
     first(cond, a, into);

@@ -2,7 +2,7 @@
 
 ghost use Rattle.std.specs.Prelude.{◌≡◌, ◌<◌, ◌≤◌, ◌^◌, ◌++◌, ℕ, IfSome, Some, length};
 ghost use Rattle.ds_base.specs.declared.processors.Arch.{Arch};
-ghost use Rattle.asm_text.specs.Reader.Starts.{start_address_at, arch_at, listed_byte_at, is_thumb, set_at};
+ghost use Rattle.asm_text.specs.Reader.Starts.{start_address_at, arch_at, listed_byte_at, names_thumb, set_at};
 ghost use Rattle.asm_text.specs.Starts.{raw_byte, start, start_name};
 ghost use Rattle.asm_text.specs.declared.sets.Set.{Set};
 

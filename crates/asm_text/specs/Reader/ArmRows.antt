@@ -16,16 +16,16 @@ use Rattle.arm_words.specs.declared.instructions.Instr.TheVariants.{Bx, BlxRegis
 -- instruction too. No public clause speaks of it.
 
 -- the distance of a target from what r15 reads as
-abbrev pub branch_distance : ℕ → ℕ → ℕ
-branch_distance at target = ((target + 2 ^ 32 - at) % 2 ^ 32 + 2 ^ 32 - 8) % 2 ^ 32
+abbrev pub distance_read : ℕ → ℕ → ℕ
+distance_read at target = ((target + 2 ^ 32 - at) % 2 ^ 32 + 2 ^ 32 - 8) % 2 ^ 32
 
 unfoldable pub branch_at : ℕ → Bool → Condition → List ℕ → Instr
-branch_at at link cond text = Branch cond link (branch_distance at (hex_at text).0 / 4 % 2 ^ 24)
+branch_at at link cond text = Branch cond link (distance_read at (hex_at text).0 / 4 % 2 ^ 24)
 
 -- blx has a register or a target
 unfoldable pub blx_at : ℕ → Condition → List ℕ → Instr
 blx_at at cond text =
-    let d = branch_distance at (hex_at text).0 in
+    let d = distance_read at (hex_at text).0 in
     if slice_index text 0 == 114 then BlxRegister cond (one_at text)
     else BlxTarget (d / 2 % 2 == 1) (d / 4 % 2 ^ 24)
 

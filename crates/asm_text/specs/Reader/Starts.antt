@@ -9,17 +9,17 @@ use Rattle.asm_text.specs.Reader.Parts.{hex_at}
 -- compared with the text. No public clause speaks of it.
 
 -- .thumb9 and .thumb7 have an m where the other names have their digit
-abbrev pub is_thumb : List ℕ → Bool
-is_thumb text = slice_index text 4 == 109
+abbrev pub names_thumb : List ℕ → Bool
+names_thumb text = slice_index text 4 == 109
 
 abbrev pub set_at : List ℕ → Set
-set_at text = if is_thumb text then Thumb else Arm
+set_at text = if names_thumb text then Thumb else Arm
 
 abbrev pub arch_at : List ℕ → Arch
-arch_at text = if slice_index text (if is_thumb text then 6 else 4) == 57 then V5 else V4
+arch_at text = if slice_index text (if names_thumb text then 6 else 4) == 57 then V5 else V4
 
 abbrev pub start_address_at : List ℕ → ℕ
-start_address_at text = (hex_at (drop (if is_thumb text then 8 else 6) text)).0
+start_address_at text = (hex_at (drop (if names_thumb text then 8 else 6) text)).0
 
 abbrev pub listed_byte_at : List ℕ → ℕ
 listed_byte_at text = (hex_at (drop 6 text)).0 % 2 ^ 8

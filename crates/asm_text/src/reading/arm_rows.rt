@@ -4,7 +4,7 @@
 ghost use Rattle.std.specs.Prelude.{◌≡◌, ◌%◌, ◌^◌};
 ghost use Rattle.arm_words.specs.Fields.{HasFields};
 ghost use Rattle.arm_words.specs.declared.instructions.Instr.TheVariants.{Bkpt, Bx, Clz, LongMultiply, Mla, Mul, Saturating, Smla, Smlal, Smlaw, Smul, Smulw, Swi};
-ghost use Rattle.asm_text.specs.Reader.ArmRows.{arm_row, blx_at, branch_at, compare_at, coprocessor_at, data_at, branch_distance, move_at, mrs_at, msr_at};
+ghost use Rattle.asm_text.specs.Reader.ArmRows.{arm_row, blx_at, branch_at, compare_at, coprocessor_at, data_at, distance_read, move_at, mrs_at, msr_at};
 ghost use Rattle.asm_text.specs.Reader.Parts.{four_at, hex_at, one_at, three_at, two_at};
 
 use crate::reading::arm_transfers::{
@@ -46,8 +46,8 @@ fn swi_at(cond: Condition, text: &[u8]) -> Instr
 }
 
 /// A target's distance from what r15 reads as.
-fn branch_distance(at: u32, target: u32) -> u32
-    ensures { result ≡ branch_distance at target }
+fn distance_read(at: u32, target: u32) -> u32
+    ensures { result ≡ distance_read at target }
 {
     target.wrapping_sub(at).wrapping_sub(8)
 }
@@ -60,7 +60,7 @@ fn branch_at(at: u32, link: bool, cond: Condition, text: &[u8]) -> Instr
     Instr::Branch {
         cond,
         link,
-        offset: branch_distance(at, hex_at(text).0) / 4 % 0x100_0000,
+        offset: distance_read(at, hex_at(text).0) / 4 % 0x100_0000,
     }
 }
 
@@ -75,7 +75,7 @@ fn blx_at(at: u32, cond: Condition, text: &[u8]) -> Instr
             rm: one_at(text),
         };
     }
-    let away = branch_distance(at, hex_at(text).0);
+    let away = distance_read(at, hex_at(text).0);
     Instr::BlxTarget {
         half: away / 2 % 2 == 1,
         offset: away / 4 % 0x100_0000,

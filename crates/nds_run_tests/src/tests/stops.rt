@@ -40,16 +40,16 @@ fn counts_of(told: &Told) -> [u64; 4] {
 fn stops(rt: &impl Abort, alloc: Global, row: &Row<'_>) -> Result<(), AllocError> {
     let came = run_words(alloc, row.nine, row.seven, "2000")?;
     let record = stop_record(alloc, row)?;
-    let value = row.value;
-    assert!(rt; came.ended(9, row.note, record.as_slice()), "{value}");
+    assert!(rt; came.ended(9, row.note, record.as_slice()));
+    let (tick, rank, counts, [nine, seven]) = (row.tick, row.rank, row.counts, row.places);
     let seen = told(rt, &came);
     // the limit is that of the turn that stopped, and its step was neither taken nor counted
     assert_eq!(rt; seen.limit, 2000);
-    assert!(rt; counts_of(&seen) == row.counts, "{value}");
-    assert_eq!(rt; seen.tick, row.tick);
-    assert_eq!(rt; seen.rank, row.rank);
-    assert_eq!(rt; seen.nine[30], row.places[0], "{value}");
-    assert_eq!(rt; seen.seven[30], row.places[1], "{value}");
+    assert!(rt; counts_of(&seen) == counts, "at {tick}");
+    assert_eq!(rt; seen.tick, tick);
+    assert_eq!(rt; seen.rank, rank);
+    assert_eq!(rt; seen.nine[30], nine, "at {tick}");
+    assert_eq!(rt; seen.seven[30], seven, "at {tick}");
     Ok(())
 }
 

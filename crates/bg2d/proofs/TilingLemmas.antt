@@ -1,14 +1,13 @@
-use Rattle.std.proofs.Common.{ℕ, Bool, true, false, ◌≡◌, ◌<◌, ◌+◌, ◌-◌, ◌*◌, ◌/◌, ◌%◌, ◌^◌, ◌==◌, ◌⊎◌, inl, inr, List, get_or, drop, refl, sym, ◌∙◌, ap, subst, arith}
+use Rattle.std.proofs.Common.{ℕ, Bool, true, false, ◌≡◌, ◌<◌, ◌+◌, ◌-◌, ◌*◌, ◌/◌, ◌%◌, ◌==◌, ◌⊎◌, inl, inr, List, get_or, drop, refl, sym, ◌∙◌, ap, subst, arith}
 use Rattle.std.specs.List.{slice_range}
 use Rattle.std.proofs.lemmas.List.{get_or-take, get_or-drop}
 use Rattle.ds_base.specs.Bits.{bits, bit}
-use Rattle.ds_base.specs.declared.memories.Width.TheVariants.{Half}
-use Rattle.vram_banks.specs.Cells.{Banks, vram_byte, vram_value}
+use Rattle.vram_banks.specs.Cells.{Banks, vram_byte}
 use Rattle.bg2d.specs.declared.layers.TextLayer.{TextLayer}
-use Rattle.bg2d.specs.Bases.{background_space, map_base, tile_base}
+use Rattle.bg2d.specs.Bases.{background_space}
 use Rattle.bg2d.specs.Colours.{indexed_pixel, palette_colour, extended_colour}
-use Rattle.bg2d.specs.Tiles.{nibble_at, index_of_16, index_of_256, flipped}
-use Rattle.bg2d.specs.TextPixels.{text_width, text_height, text_block, has_256, text_entry, text_index, text_colour, text_entry_pixel, text_point_pixel, text_pixel, palette_slot, palette_space}
+use Rattle.bg2d.specs.Tiles.{nibble_at, flipped}
+use Rattle.bg2d.specs.TextPixels.{text_width, text_height, has_256, text_entry, text_index, text_colour, text_entry_pixel, text_pixel, palette_slot, palette_space}
 use Rattle.bg2d.specs.rows.Tiling.{tile_row, tiled_pixel, AreEntries, ArePacked, AreIndices, ArePainted}
 
 -- ---- indices from bytes

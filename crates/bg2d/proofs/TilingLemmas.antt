@@ -1,13 +1,14 @@
-use Rattle.std.proofs.Common.{ℕ, Bool, true, false, ◌≡◌, ◌<◌, ◌+◌, ◌-◌, ◌*◌, ◌/◌, ◌%◌, ◌^◌, ◌⊎◌, inl, inr, List, get_or, refl, sym, ◌∙◌, ap, subst, arith}
+use Rattle.std.proofs.Common.{ℕ, Bool, true, false, ◌≡◌, ◌<◌, ◌+◌, ◌-◌, ◌*◌, ◌/◌, ◌%◌, ◌==◌, ◌⊎◌, inl, inr, List, get_or, drop, refl, sym, ◌∙◌, ap, subst, arith}
+use Rattle.std.specs.List.{slice_range}
+use Rattle.std.proofs.lemmas.List.{get_or-take, get_or-drop}
 use Rattle.ds_base.specs.Bits.{bits, bit}
-use Rattle.ds_base.specs.declared.memories.Width.TheVariants.{Half}
-use Rattle.vram_banks.specs.Cells.{Banks, vram_byte, vram_value}
+use Rattle.vram_banks.specs.Cells.{Banks, vram_byte}
 use Rattle.bg2d.specs.declared.layers.TextLayer.{TextLayer}
-use Rattle.bg2d.specs.Bases.{background_space, map_base, tile_base}
-use Rattle.bg2d.specs.Colours.{indexed_pixel}
-use Rattle.bg2d.specs.Tiles.{nibble_at, index_of_16, index_of_256, flipped}
-use Rattle.bg2d.specs.TextPixels.{text_width, text_height, text_block, has_256, text_entry, text_index, text_colour, text_entry_pixel, text_point_pixel, text_pixel}
-use Rattle.bg2d.specs.rows.Tiling.{tile_row, tiled_pixel, AreEntries, ArePacked, AreIndices}
+use Rattle.bg2d.specs.Bases.{background_space}
+use Rattle.bg2d.specs.Colours.{indexed_pixel, palette_colour, extended_colour}
+use Rattle.bg2d.specs.Tiles.{nibble_at, flipped}
+use Rattle.bg2d.specs.TextPixels.{text_width, text_height, has_256, text_entry, text_index, text_colour, text_entry_pixel, text_pixel, palette_slot, palette_space}
+use Rattle.bg2d.specs.rows.Tiling.{tile_row, tiled_pixel, AreEntries, ArePacked, AreIndices, ArePainted}
 
 -- ---- indices from bytes
 
@@ -76,6 +77,10 @@ narrow_nibbles bytes indices small low high i = elim (even_or_odd i) [
 wide_or_not : (layer : TextLayer) → (text_width layer ≡ 256) ⊎ (text_width layer ≡ 512)
 wide_or_not layer = grind arith
 
+flipped_below : (flip : Bool) (place : ℕ) → place < 8 → flipped flip place < 8
+flipped_below true place h = omega arith
+flipped_below false place h = h
+
 record InTile (width across x : ℕ) : Type 0 where
   point : (x + across) % width ≡ (across % width / 8 * 8 + 8 * ((across % 8 + x) / 8)) % width + (across % 8 + x) % 8
   edge : (across % width / 8 * 8 + 8 * ((across % 8 + x) / 8)) % width % 8 ≡ 0
@@ -118,3 +123,53 @@ tiled_is_text v palette layer line x entries small are =
     ap (λ (e : ℕ). text_entry_pixel v palette layer e at y) entry
     ∙ ap (λ (c : ℕ). indexed_pixel (text_colour v palette layer (text_entry v layer point y))
     (text_index v layer (text_entry v layer point y) (flipped (bit 10 (text_entry v layer point y)) c) (flipped (bit 11 (text_entry v layer point y)) (y % 8)))) column
+
+-- ---- painting
+
+same_pixel : (f g : ℕ → ℕ) (index : ℕ) → f index ≡ g index → indexed_pixel f index ≡ indexed_pixel g index
+same_pixel f g index e = rw e refl
+
+pub painted_16 : (v : Banks) (palette : List ℕ) (layer : TextLayer) (entry start index : ℕ) → has_256 layer ≡ false → start ≡ 16 * bits 12 4 entry →
+    indexed_pixel (λ c. palette_colour palette (start + c)) index ≡ indexed_pixel (text_colour v palette layer entry) index
+unfolding text_colour
+painted_16 v palette layer entry start index h e =
+    same_pixel (λ c. palette_colour palette (start + c)) (text_colour v palette layer entry) index
+    (ap (λ (s : ℕ). palette_colour palette (s + index)) e ∙ (rw h refl))
+
+pub painted_256 : (v : Banks) (palette : List ℕ) (layer : TextLayer) (entry index : ℕ) → has_256 layer ≡ true → bit 30 layer.display ≡ false →
+    indexed_pixel (λ c. palette_colour palette (0 + c)) index ≡ indexed_pixel (text_colour v palette layer entry) index
+unfolding text_colour
+painted_256 v palette layer entry index h off =
+    let none : 0 + index ≡ index = omega arith in
+    same_pixel (λ c. palette_colour palette (0 + c)) (text_colour v palette layer entry) index
+    (ap (palette_colour palette) none ∙ (rw (h, off) refl))
+
+pub painted_extended : (v : Banks) (palette : List ℕ) (layer : TextLayer) (entry at index : ℕ) → has_256 layer ≡ true → bit 30 layer.display ≡ true →
+    at ≡ 0x2000 * palette_slot layer + 512 * bits 12 4 entry →
+    indexed_pixel (extended_colour v (palette_space layer.engine) at) index ≡ indexed_pixel (text_colour v palette layer entry) index
+unfolding text_colour
+painted_extended v palette layer entry at index h on e =
+    same_pixel (extended_colour v (palette_space layer.engine) at) (text_colour v palette layer entry) index
+    (ap (λ (a : ℕ). extended_colour v (palette_space layer.engine) a index) e ∙ (rw (h, on) refl))
+
+pub on_by : (n : ℕ) → n ≡ 1 → (n == 1) ≡ true
+on_by n h = rw h refl
+
+pub off_by : (n : ℕ) → (n ≡ 1 → ⊥) → (n == 1) ≡ false
+off_by n h = grind (arith, h)
+
+-- the painted pixels, from the tile's left edge on, are those of the background
+pub painted_is_tiled : (v : Banks) (palette : List ℕ) (layer : TextLayer) (y fine x : ℕ) (entries indices pixels : List ℕ) → fine + x < 264 →
+    AreIndices v layer y entries indices → ArePainted v palette layer entries indices pixels 33 →
+    get_or pixels (fine + x) 0 ≡ tiled_pixel v palette layer y entries fine x
+painted_is_tiled v palette layer y fine x entries indices pixels small are painted =
+    let at : ℕ = fine + x in
+    let k : ℕ = at / 8 in
+    let entry : ℕ = get_or entries k 0 in
+    let known : k < 33 = omega arith in
+    let place : at ≡ 8 * k + at % 8 = omega arith in
+    ap (λ (j : ℕ). get_or pixels j 0) place ∙ painted k (at % 8) known (omega arith)
+    ∙ ap (indexed_pixel (text_colour v palette layer entry)) (are k (flipped (bit 10 entry) (at % 8)) known (flipped_below (bit 10 entry) (at % 8) (omega arith)))
+
+pub index_of_range : (row : List ℕ) (from n i : ℕ) → i < n → get_or (slice_range row from (from + n)) i 0 ≡ get_or row (from + i) 0
+index_of_range row from n i lt = get_or-take (from + n - from) (drop from row) i 0 (omega arith) ∙ get_or-drop from row i 0

@@ -1,16 +1,16 @@
 //! Rows of text backgrounds.
 
-ghost use Rattle.std.specs.Prelude.{◌≡◌, ◌<◌, ◌≤◌, ◌+◌, ◌-◌, ◌*◌, ◌/◌, ◌%◌, ◌^◌, ℕ, Bool, true, false, length, slice_index};
+ghost use Rattle.std.specs.Prelude.{◌≡◌, ◌<◌, ◌≤◌, ◌+◌, ◌-◌, ◌*◌, ◌/◌, ◌%◌, ◌^◌, ℕ, Bool, true, false, length, slice_index, slice_range};
 ghost use Rattle.ds_base.specs.Bits.{bits, bit};
-ghost use Rattle.bg2d.specs.TextPixels.{text_width, text_height, has_256, palette_slot, palette_space, text_entry, text_index, text_colour, text_entry_pixel, text_pixel};
+ghost use Rattle.bg2d.specs.TextPixels.{text_width, text_height, has_256, palette_slot, palette_space, text_entry, text_colour, text_pixel};
 ghost use Rattle.bg2d.specs.Colours.{indexed_pixel};
 ghost use Rattle.bg2d.specs.Tiles.{flipped};
-ghost use Rattle.bg2d.specs.rows.Tiling.{tile_row, tiled_pixel, AreEntries, ArePacked, AreIndices, AreNarrow};
+ghost use Rattle.bg2d.specs.rows.Tiling.{tile_row, AreEntries, ArePacked, AreIndices, AreNarrow, ArePainted};
 
 use crate::bases::{background_space, map_base, tile_base};
-use crate::colours::{half, opaque_pixel, palette_colour};
+use crate::colours::{half, paint_extended, paint_standard};
 use crate::layers::{Row, TextLayer};
-use crate::tiles::flipped;
+use crate::tiles::{copy_eight, copy_four, flipped};
 use ds_base::Space;
 use line_lanes::unpack4;
 use vram_banks::Vram;
@@ -68,7 +68,9 @@ fn text_entries(vram: &Vram, layer: &TextLayer, first: u32, y: u32, into: &mut [
 
 /// Where the row of an entry's tile begins that shows line y of the background.
 fn tile_row(layer: &TextLayer, entry: u16, y: u32) -> u32
-    ensures { result ≡ tile_row layer.now entry y }
+    ensures value { result ≡ tile_row layer.now entry y }
+    ensures whole { result % 4 ≡ 0 }
+    ensures small { result < 0x100000 }
 {
     let base = tile_base(layer.engine, layer.display, layer.control);
     let line = flipped((entry >> 11) % 2 == 1, y as usize % 8) as u32;
@@ -93,7 +95,7 @@ fn pack(vram: &Vram, layer: &TextLayer, entries: &[u16; TILES], y: u32, into: &m
     let space = background_space(layer.engine);
     for k in 0..TILES {
         let at = tile_row(layer, entries[k], y);
-        vram.row(space, at, &mut into[4 * k..4 * k + 4]);
+        copy_four(vram, space, at, &mut into[4 * k..4 * k + 4]);
     }
 }
 
@@ -104,7 +106,7 @@ fn copy_rows(vram: &Vram, layer: &TextLayer, entries: &[u16; TILES], y: u32, int
     let space = background_space(layer.engine);
     for k in 0..TILES {
         let at = tile_row(layer, entries[k], y);
-        vram.row(space, at, &mut into[8 * k..8 * k + 8]);
+        copy_eight(vram, space, at, &mut into[8 * k..8 * k + 8]);
     }
 }
 
@@ -160,64 +162,70 @@ fn palette_space(engine: u8) -> Space
     }
 }
 
-/// The colour of an index, by the entry's palette.
-#[tactic(auto, unfolding(crate::specs::TextPixels::text_colour))]
-fn text_colour(vram: &Vram, palette: &[u8], layer: &TextLayer, entry: u16, index: u8) -> u16
+/// The pixels of a tile's row, from its eight indices, by the entry's palette.
+fn paint_tile(
+    vram: &Vram,
+    palette: &[u8],
+    layer: &TextLayer,
+    entry: u16,
+    indices: &[u8],
+    into: &mut [u16],
+)
     requires colours { length palette.now ≡ 512 }
-    requires narrow { has_256 layer.now ≡ false → index < 16 }
-    ensures { result ≡ text_colour vram.now palette.now layer.now entry index }
+    requires indices { length indices.now ≡ 8 }
+    requires room { length into.old ≡ 8 }
+    requires narrow { has_256 layer.now ≡ false → (i : ℕ) → i < 8 → slice_index indices.now i < 16 }
+    ensures { (i : ℕ) → i < 8 → slice_index into.new i ≡ indexed_pixel (text_colour vram.now palette.now layer.now entry) (slice_index indices.now (flipped (bit 10 entry) i)) }
 {
+    let flip = (entry >> 10) % 2 == 1;
     if !has_256(layer) {
-        palette_colour(palette, 16 * (entry >> 12) as usize + index as usize)
+        paint_standard(palette, 16 * (entry >> 12) as usize, flip, indices, into);
     } else if (layer.display >> 30) % 2 == 1 {
-        half(
+        let space = palette_space(layer.engine);
+        paint_extended(
             vram,
-            palette_space(layer.engine),
-            extended_palette(layer, entry) + 2 * index as u32,
-        )
+            space,
+            extended_palette(layer, entry),
+            flip,
+            indices,
+            into,
+        );
     } else {
-        palette_colour(palette, index as usize)
+        paint_standard(palette, 0, flip, indices, into);
     }
 }
 
-/// The pixel of an index, by the entry's palette.
-#[inline(always)]
-fn text_index_pixel(vram: &Vram, palette: &[u8], layer: &TextLayer, entry: u16, index: u8) -> u16
-    requires colours { length palette.now ≡ 512 }
-    requires narrow { has_256 layer.now ≡ false → index < 16 }
-    ensures { result ≡ indexed_pixel (text_colour vram.now palette.now layer.now entry) index }
-{
-    if index == 0 {
-        0
-    } else {
-        opaque_pixel(text_colour(vram, palette, layer, entry, index))
-    }
-}
-
-/// The pixels of a row from its tiles' entries and indices. The first tile's left edge is `fine` pixels left of the screen.
+/// The pixels of all tiles of a row.
 fn paint(
     vram: &Vram,
     palette: &[u8],
     layer: &TextLayer,
-    y: u32,
-    fine: usize,
     entries: &[u16; TILES],
     indices: &[u8; 264],
-    into: &mut [u16; 256],
+    into: &mut [u16; 264],
 )
     requires colours { length palette.now ≡ 512 }
-    requires fine { fine < 8 }
-    requires indices { AreIndices vram.now layer.now y entries.now indices.now }
     requires narrow { AreNarrow layer.now indices.now }
-    ensures { (x : ℕ) → x < 256 → slice_index into.new x ≡ tiled_pixel vram.now palette.now layer.now y entries.now fine x }
+    ensures { ArePainted vram.now palette.now layer.now entries.now indices.now into.new 33 }
 {
-    for x in 0..256 {
-        let at = fine + x;
-        let entry = entries[at / 8];
-        let place = flipped((entry >> 10) % 2 == 1, at % 8);
-        let index = indices[8 * (at / 8) + place];
-        into[x] = text_index_pixel(vram, palette, layer, entry, index);
+    for k in 0..TILES {
+        paint_tile(
+            vram,
+            palette,
+            layer,
+            entries[k],
+            &indices[8 * k..8 * k + 8],
+            &mut into[8 * k..8 * k + 8],
+        );
     }
+}
+
+/// The 256 pixels of a row of tiles that are on the screen, of which the first is `fine` pixels right of the first tile's edge.
+fn clip(pixels: &[u16; 264], fine: usize, into: &mut [u16; 256])
+    requires { fine < 8 }
+    ensures { into.new ≡ slice_range pixels.now fine (fine + 256) }
+{
+    into.copy_from_slice(&pixels[fine..fine + 256]);
 }
 
 /// Draws a text background's row at a line of the screen: at each place the pixel of the map entry, the tile and the palette that
@@ -233,15 +241,8 @@ pub fn text_row(vram: &Vram, palette: &[u8], layer: &TextLayer, line: u8, into: 
     text_entries(vram, layer, first, y, &mut entries);
     let mut indices = [0; 264];
     text_indices(vram, layer, &entries, y, &mut indices);
+    let mut pixels = [0; 264];
+    paint(vram, palette, layer, &entries, &indices, &mut pixels);
     let fine = layer.across as usize % 8;
-    paint(
-        vram,
-        palette,
-        layer,
-        y,
-        fine,
-        &entries,
-        &indices,
-        &mut into.pixels,
-    );
+    clip(&pixels, fine, &mut into.pixels);
 }

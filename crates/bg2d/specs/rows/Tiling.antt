@@ -3,7 +3,8 @@ use Rattle.ds_base.specs.Bits.{bit}
 use Rattle.vram_banks.specs.Cells.{Banks, vram_byte}
 use Rattle.bg2d.specs.declared.layers.TextLayer.{TextLayer}
 use Rattle.bg2d.specs.Bases.{background_space, tile_base}
-use Rattle.bg2d.specs.TextPixels.{has_256, text_width, text_entry, text_index, text_entry_pixel}
+use Rattle.bg2d.specs.Colours.{indexed_pixel}
+use Rattle.bg2d.specs.TextPixels.{has_256, text_width, text_entry, text_index, text_colour, text_entry_pixel}
 use Rattle.bg2d.specs.Tiles.{flipped}
 
 -- How the code draws a row: by tiles. No public call speaks of it.
@@ -37,3 +38,10 @@ AreNarrow layer indices = has_256 layer ≡ false → (i : ℕ) → i < 264 → 
 -- the pixel at place x of a row whose first tile's left edge is `fine` pixels left of the screen
 abbrev pub tiled_pixel : Banks → List ℕ → TextLayer → ℕ → List ℕ → ℕ → ℕ → ℕ
 tiled_pixel v palette layer y entries fine x = text_entry_pixel v palette layer (slice_index entries ((fine + x) / 8)) (fine + x) y
+
+-- the pixels of the first n tiles, eight each, from their indices
+abbrev pub ArePainted : Banks → List ℕ → TextLayer → List ℕ → List ℕ → List ℕ → ℕ → Type 0
+ArePainted v palette layer entries indices pixels n =
+    (k i : ℕ) → k < n → i < 8 →
+    slice_index pixels (8 * k + i)
+    ≡ indexed_pixel (text_colour v palette layer (slice_index entries k)) (slice_index indices (8 * k + flipped (bit 10 (slice_index entries k)) i))

@@ -15,17 +15,15 @@ fn brightens_every_place_at_every_length(rt: HostRuntime) {
     }
 }
 
-/// The lengths around a block of eight lanes, and around two.
-const LENGTHS: [usize; 9] = [0, 1, 7, 8, 9, 15, 16, 17, 31];
-
-/// By 0 and 16 the second row shows, each pixel in its place; by 16 a pixel is black but for bit 15.
+/// By 0 and 16 the second row shows, each pixel in its place; by 16 a pixel is black but for bit 15. The lengths go around each
+/// block of eight lanes.
 #[test]
 fn every_kernel_reaches_every_place_at_every_length(rt: HostRuntime) {
     let mut next = [0; 32];
     for (place, pixel) in next.iter_mut().enumerate() {
-        *pixel = 33 * (place as u16 % 32);
+        *pixel = 33 * (place % 32) as u16;
     }
-    for len in LENGTHS {
+    for len in 0..32usize {
         let mut blended = [0x8010; 32];
         let mut darkened = next;
         let mut mastered = next;
@@ -34,7 +32,7 @@ fn every_kernel_reaches_every_place_at_every_length(rt: HostRuntime) {
         master(&mut mastered[..len], 0x8010);
         for (place, pixel) in next.iter().enumerate() {
             let wanted = if place < len {
-                (0x8000 + *pixel, 0, 0)
+                (0x8000 | *pixel, 0, 0)
             } else {
                 (0x8010, *pixel, *pixel)
             };

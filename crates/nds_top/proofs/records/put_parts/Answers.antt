@@ -1,4 +1,4 @@
-use Rattle.std.proofs.Common.{arith, ◌≡◌, ◌<◌, ◌++◌, List, ℕ, Bor, length, take, drop, get_or, flat_map, suc, subst}
+use Rattle.std.proofs.Common.{arith, ◌<◌, ◌++◌, List, ℕ, Bor, length, take, drop, get_or, flat_map, suc, subst}
 use Rattle.std.proofs.lemmas.Result.{err_from_is_err_and}
 use Rattle.ds_io.specs.Sinks.{AppendedFront}
 use Rattle.ds_io.proofs.SinkLemmas.{front_after, front_of_more}

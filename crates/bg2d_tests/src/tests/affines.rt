@@ -1,5 +1,7 @@
 //! Affine backgrounds.
 
+ghost use Rattle.std.specs.Prelude.{◌<◌};
+
 use super::numbered_palette;
 use bg2d::{AffineLayer, Row, affine_row};
 use ds_base::{Space, Width};

@@ -4,7 +4,7 @@ ghost use Rattle.std.specs.Prelude.{◌≡◌, ◌+◌, ◌<◌, ◌≤◌, ◌^
 ghost use Rattle.ds_base.specs.Memories.{memory_size};
 ghost use Rattle.ds_header.specs.Fields.{image_place, image_of};
 ghost use Rattle.ds_machine.specs.Boots.{no_copies, cell_put, stored_at, stored, copied};
-ghost use Rattle.ds_places.specs.AddressTables.{IsWithin};
+ghost use Rattle.ds_places.specs.AddressTables.{IsInside};
 ghost use Rattle.ds_machine.specs.Booted.{memories_booted, processor_booted, with_header};
 
 use crate::blocks::Block;
@@ -68,7 +68,7 @@ impl Copied {
 
     /// Stores a byte at a place: only cells of memories take it.
     fn store_at(&mut self, place: Place, byte: u8)
-        requires { IsWithin place }
+        requires { IsInside place }
         ensures { self.new ≡ stored_at place self.old byte }
     {
         match place {

@@ -1,0 +1,24 @@
+//! A processor's core: its 37 registers, the bus through which it reaches memory, and what each instruction does. `specs/` has the
+//! meaning of every instruction of both architectures, one file a class of the ARM Architecture Reference Manual: the list of its
+//! accesses, the registers after it, and its cost.
+#![tactic(auto)]
+
+mod banks;
+mod buses;
+mod classes;
+mod cores;
+mod exceptions;
+mod flats;
+mod outcomes;
+mod registers;
+mod touches;
+
+pub use banks::Bank;
+pub use buses::Bus;
+pub use classes::Class;
+pub use cores::Core;
+pub use exceptions::Exception;
+pub use flats::FlatBus;
+pub use outcomes::Stepped;
+pub use registers::Registers;
+pub use touches::Touch;

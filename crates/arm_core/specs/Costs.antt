@@ -1,4 +1,4 @@
-use Rattle.std.specs.Prelude.{ℕ, ◌+◌, max}
+use Rattle.std.specs.Prelude.{ℕ, ◌+◌, ◌≤◌, max}
 use Rattle.ds_base.specs.declared.processors.Arch.{Arch}
 use Rattle.ds_base.specs.declared.processors.Arch.TheVariants.{V4, V5}
 use Rattle.arm_core.specs.declared.classes.Class.{Class}
@@ -29,3 +29,9 @@ clocks Nothing            = costs        1         1
 -- what a write of r15 adds that isn't a branch's or an exception's
 abbrev pub jump_clocks : ℕ
 jump_clocks = 2
+
+-- a class of several registers has at most sixteen
+abbrev pub HasClocks : Class → Type 0
+HasClocks (LoadMultiple n) = n ≤ 16
+HasClocks (StoreMultiple n) = n ≤ 16
+HasClocks class = Unit {0}

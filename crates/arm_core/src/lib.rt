@@ -6,19 +6,25 @@
 mod banks;
 mod buses;
 mod classes;
+mod conditions;
 mod cores;
 mod exceptions;
 mod flats;
 mod outcomes;
 mod registers;
+mod shifter;
 mod touches;
 
 pub use banks::Bank;
 pub use buses::Bus;
 pub use classes::Class;
+pub use conditions::holds;
 pub use cores::Core;
 pub use exceptions::Exception;
 pub use flats::FlatBus;
 pub use outcomes::Stepped;
 pub use registers::Registers;
+pub use shifter::{
+    Shifted32, first_operand, rotated_immediate, shift_by, shift_by_number, shifter_operand,
+};
 pub use touches::Touch;

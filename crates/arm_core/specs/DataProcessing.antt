@@ -13,19 +13,14 @@ use Rattle.arm_core.specs.Registers.{RegisterState, bank, saved_place, next, put
 use Rattle.arm_core.specs.Conditions.{c_flag, v_flag}
 use Rattle.arm_core.specs.Shifter.{shifter_operand, first_operand}
 use Rattle.arm_core.specs.declared.shifter.Shifted32.{Shifted32}
+use Rattle.arm_core.specs.declared.results.Computed.{Computed}
 use Rattle.arm_core.specs.Effects.{Meaning}
 use Rattle.arm_core.specs.declared.classes.Class.{Class}
 use Rattle.arm_core.specs.declared.classes.Class.TheVariants.{Processing, ShiftByRegister}
 
 -- Data processing (ARM manual, A3.4 "Data-processing instructions", and A4.1 under each name).
 
--- a result, with the C and V that go with it
-pub record Computed : Type 0 where
-  pub value : ℕ
-  pub carry : Bool
-  pub overflow : Bool
-
--- the flags after a result: N is its bit 31, Z that it is 0
+-- the flags after a result and the C and V that go with it: N is its bit 31, Z that it is 0
 abbrev pub with_flags : Computed → RegisterState → RegisterState
 with_flags r s = record s { cpsr = s.cpsr % 2 ^ 28 + flag 28 r.overflow + flag 29 r.carry + flag 30 (r.value == 0) + flag 31 (bit 31 r.value) }
 

@@ -12,7 +12,9 @@ mod exceptions;
 mod flats;
 mod outcomes;
 mod registers;
+mod results;
 mod shifter;
+mod statuses;
 mod touches;
 
 pub use banks::Bank;
@@ -24,7 +26,9 @@ pub use exceptions::Exception;
 pub use flats::FlatBus;
 pub use outcomes::Stepped;
 pub use registers::Registers;
+pub use results::{Computed, compare_result, data_result, move_result};
 pub use shifter::{
     Shifted32, first_operand, rotated_immediate, shift_by, shift_by_number, shifter_operand,
 };
+pub use statuses::replaced;
 pub use touches::Touch;

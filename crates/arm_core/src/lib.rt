@@ -3,6 +3,8 @@
 //! accesses, the registers after it, and its cost.
 #![tactic(auto)]
 
+mod addresses;
+mod addressing;
 mod banks;
 mod buses;
 mod classes;
@@ -13,6 +15,8 @@ mod outcomes;
 mod registers;
 mod touches;
 
+pub use addresses::Addressed;
+pub use addressing::{addressed, moved_base, short_offset_value, write_back};
 pub use banks::Bank;
 pub use buses::Bus;
 pub use classes::Class;

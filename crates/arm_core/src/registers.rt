@@ -11,11 +11,11 @@ use std::marker::Model;
 #[derive(Drop)]
 pub struct Registers {
     /// r0 to r12; r8 to r12 of FIQ; r13 and r14 of System, FIQ, Supervisor, Abort, IRQ, Undefined.
-    general: [u32; 30],
-    pc: u32,
-    cpsr: u32,
+    pub(crate) general: [u32; 30],
+    pub(crate) pc: u32,
+    pub(crate) cpsr: u32,
     /// SPSR of FIQ, Supervisor, Abort, IRQ, Undefined.
-    saved: [u32; 5],
+    pub(crate) saved: [u32; 5],
 }
 
 impl Model for Registers {

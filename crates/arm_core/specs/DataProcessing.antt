@@ -11,7 +11,8 @@ use Rattle.arm_words.specs.declared.parts.Operand.{Operand}
 use Rattle.arm_words.specs.declared.parts.Operand.TheVariants.{Immediate, Shifted, ShiftedByRegister}
 use Rattle.arm_core.specs.Registers.{RegisterState, bank, saved_place, next, put}
 use Rattle.arm_core.specs.Conditions.{c_flag, v_flag}
-use Rattle.arm_core.specs.Shifter.{Shifted32, shifter_operand, first_operand}
+use Rattle.arm_core.specs.Shifter.{shifter_operand, first_operand}
+use Rattle.arm_core.specs.declared.shifter.Shifted32.{Shifted32}
 use Rattle.arm_core.specs.Effects.{Meaning}
 use Rattle.arm_core.specs.declared.classes.Class.{Class}
 use Rattle.arm_core.specs.declared.classes.Class.TheVariants.{Processing, ShiftByRegister}

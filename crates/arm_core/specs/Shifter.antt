@@ -7,14 +7,11 @@ use Rattle.arm_words.specs.declared.parts.Operand.{Operand}
 use Rattle.arm_words.specs.declared.parts.Operand.TheVariants.{Immediate, Shifted, ShiftedByRegister}
 use Rattle.arm_core.specs.Registers.{RegisterState, register, late_register}
 use Rattle.arm_core.specs.Conditions.{c_flag}
+use Rattle.arm_core.specs.declared.shifter.Shifted32.{Shifted32}
 
 -- The operand of data processing and its carry (ARM manual, A5.1 "Addressing Mode 1 - Data-processing operands").
 
 -- shifter_operand and shifter_carry_out
-pub record Shifted32 : Type 0 where
-  pub value : ℕ
-  pub carry : Bool
-
 abbrev pub shifted32 : ℕ → Bool → Shifted32
 shifted32 value carry = record { value = value; carry = carry }
 

@@ -8,11 +8,13 @@ mod addressing;
 mod banks;
 mod buses;
 mod classes;
+mod conditions;
 mod cores;
 mod exceptions;
 mod flats;
 mod outcomes;
 mod registers;
+mod shifter;
 mod touches;
 
 pub use addresses::Addressed;
@@ -20,9 +22,13 @@ pub use addressing::{addressed, moved_base, short_offset_value, write_back};
 pub use banks::Bank;
 pub use buses::Bus;
 pub use classes::Class;
+pub use conditions::holds;
 pub use cores::Core;
 pub use exceptions::Exception;
 pub use flats::FlatBus;
 pub use outcomes::Stepped;
 pub use registers::Registers;
+pub use shifter::{
+    Shifted32, first_operand, rotated_immediate, shift_by, shift_by_number, shifter_operand,
+};
 pub use touches::Touch;

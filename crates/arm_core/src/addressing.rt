@@ -1,12 +1,28 @@
 //! The addresses of transfers.
 
 ghost use Rattle.std.specs.Prelude.{◌≡◌, ◌<◌};
-ghost use Rattle.arm_words.specs.Fields.{HasShortOffset};
-ghost use Rattle.arm_core.specs.Addressing.{addressed, moved_base, short_offset_value, with_base};
+ghost use Rattle.arm_words.specs.Fields.{HasOffset, HasShortOffset};
+ghost use Rattle.arm_core.specs.Addressing.{addressed, moved_base, offset_value, short_offset_value, with_base};
 
 use crate::addresses::Addressed;
 use crate::registers::Registers;
-use arm_words::ShortOffset;
+use crate::shifter::shift_by_number;
+use arm_words::{Offset, ShortOffset};
+
+/// The offset of mode 2: a number, or a register that an amount shifts (ARM manual, A5.2).
+#[inline(always)]
+pub fn offset_value(s: &Registers, offset: Offset) -> u32
+    requires { HasOffset offset }
+    ensures { result ≡ offset_value s.now offset }
+{
+    match offset {
+        Offset::Number { offset } => offset as u32,
+        Offset::Register { rm, shift, amount } => {
+            let c = (s.cpsr() >> 29) & 1 == 1;
+            shift_by_number(shift, s.get(rm), amount as u32, c).value
+        }
+    }
+}
 
 /// The offset of mode 3: a number or a register (ARM manual, A5.3).
 #[inline(always)]

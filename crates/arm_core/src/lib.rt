@@ -18,7 +18,7 @@ mod shifter;
 mod touches;
 
 pub use addresses::Addressed;
-pub use addressing::{addressed, moved_base, short_offset_value, write_back};
+pub use addressing::{addressed, moved_base, offset_value, short_offset_value, write_back};
 pub use banks::Bank;
 pub use buses::Bus;
 pub use classes::Class;

@@ -51,7 +51,14 @@ pub fn moved_base(up: bool, base: u32, offset: u32) -> u32
 /// Where a transfer with base `rn` goes, in modes 2 and 3. With `pre` the offset is added before the access, and the base is written back
 /// with `write_back`; otherwise it is added after the access, and the base is written back. r15 isn't written back.
 #[inline(always)]
-pub fn addressed(s: &Registers, pre: bool, up: bool, write_back: bool, rn: u8, offset: u32) -> Addressed
+pub fn addressed(
+    s: &Registers,
+    pre: bool,
+    up: bool,
+    write_back: bool,
+    rn: u8,
+    offset: u32,
+) -> Addressed
     requires { rn < 16 }
     ensures { result ≡ addressed s.now pre up write_back rn offset }
 {

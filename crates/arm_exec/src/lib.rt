@@ -6,7 +6,9 @@ mod exceptions;
 mod swaps;
 mod transfers;
 
-pub use branches::{address, branch, distance8, distance11, distance24, exchange, exchange_to, prefix, suffix};
+pub use branches::{
+    address, branch, distance8, distance11, distance24, exchange, exchange_to, prefix, suffix,
+};
 pub use exceptions::{interrupt, software, undefined};
 pub use swaps::swap;
 pub use transfers::{half_transfer, literal, transfer};

@@ -57,7 +57,15 @@ fn swap_byte<B: Bus>(arch: Arch, s: &mut Registers, bus: &mut B, rd: u8, rm: u8,
 }
 
 /// SWP and SWPB (ARM manual, A4.1 "SWP", "SWPB").
-pub fn swap<B: Bus>(arch: Arch, s: &mut Registers, bus: &mut B, byte: bool, rd: u8, rm: u8, rn: u8) -> Stepped
+pub fn swap<B: Bus>(
+    arch: Arch,
+    s: &mut Registers,
+    bus: &mut B,
+    byte: bool,
+    rd: u8,
+    rm: u8,
+    rn: u8,
+) -> Stepped
     requires rd { rd < 16 }
     requires rm { rm < 16 }
     requires rn { rn < 16 }

@@ -13,7 +13,10 @@ ghost use Rattle.arm_core.specs.Transfers.{half_or_signed_meaning, half_transfer
 ghost use Rattle.arm_core.specs.declared.classes.Class.TheVariants.{Load};
 
 use crate::branches::exchange_to;
-use arm_core::{Addressed, Bus, Class, Registers, Stepped, addressed, offset_value, short_offset_value, write_back};
+use arm_core::{
+    Addressed, Bus, Class, Registers, Stepped, addressed, offset_value, short_offset_value,
+    write_back,
+};
 use arm_words::{HalfOp, Offset, ShortOffset};
 use ds_base::{Arch, Width};
 
@@ -115,7 +118,14 @@ fn loaded_word(arch: Arch, s: &mut Registers, rn: u8, rd: u8, to: Addressed, val
 
 /// LDR (ARM manual, A4.1).
 #[inline(always)]
-fn load_word<B: Bus>(arch: Arch, s: &mut Registers, bus: &mut B, rn: u8, rd: u8, to: Addressed) -> Stepped
+fn load_word<B: Bus>(
+    arch: Arch,
+    s: &mut Registers,
+    bus: &mut B,
+    rn: u8,
+    rd: u8,
+    to: Addressed,
+) -> Stepped
     requires rn { rn < 16 }
     requires rd { rd < 16 }
     ensures registers { s.new ≡ (carried_out B.memory arch s.old (B.state bus.old) (load_word_meaning arch s.old rn rd to)).registers }
@@ -124,12 +134,26 @@ fn load_word<B: Bus>(arch: Arch, s: &mut Registers, bus: &mut B, rn: u8, rd: u8,
     ensures same { B.identity bus.new ≡ B.identity bus.old }
 {
     let value = bus.read(to.address, Width::Word);
-    Stepped::Cost(loaded_word(arch, s, rn, rd, to, value.rotate_right(8 * (to.address % 4))))
+    Stepped::Cost(loaded_word(
+        arch,
+        s,
+        rn,
+        rd,
+        to,
+        value.rotate_right(8 * (to.address % 4)),
+    ))
 }
 
 /// LDRB (ARM manual, A4.1).
 #[inline(always)]
-fn load_byte<B: Bus>(arch: Arch, s: &mut Registers, bus: &mut B, rn: u8, rd: u8, to: Addressed) -> Stepped
+fn load_byte<B: Bus>(
+    arch: Arch,
+    s: &mut Registers,
+    bus: &mut B,
+    rn: u8,
+    rd: u8,
+    to: Addressed,
+) -> Stepped
     requires rn { rn < 16 }
     requires rd { rd < 16 }
     ensures registers { s.new ≡ (carried_out B.memory arch s.old (B.state bus.old) (load_meaning s.old rn rd to Byte (λ value. value % 2 ^ 8))).registers }
@@ -143,7 +167,14 @@ fn load_byte<B: Bus>(arch: Arch, s: &mut Registers, bus: &mut B, rn: u8, rd: u8,
 
 /// LDRSB (ARM manual, A4.1).
 #[inline(always)]
-fn load_signed_byte<B: Bus>(arch: Arch, s: &mut Registers, bus: &mut B, rn: u8, rd: u8, to: Addressed) -> Stepped
+fn load_signed_byte<B: Bus>(
+    arch: Arch,
+    s: &mut Registers,
+    bus: &mut B,
+    rn: u8,
+    rd: u8,
+    to: Addressed,
+) -> Stepped
     requires rn { rn < 16 }
     requires rd { rd < 16 }
     ensures registers { s.new ≡ (carried_out B.memory arch s.old (B.state bus.old) (load_meaning s.old rn rd to Byte signed_byte)).registers }
@@ -157,7 +188,14 @@ fn load_signed_byte<B: Bus>(arch: Arch, s: &mut Registers, bus: &mut B, rn: u8, 
 
 /// LDRH (ARM manual, A4.1).
 #[inline(always)]
-fn load_half<B: Bus>(arch: Arch, s: &mut Registers, bus: &mut B, rn: u8, rd: u8, to: Addressed) -> Stepped
+fn load_half<B: Bus>(
+    arch: Arch,
+    s: &mut Registers,
+    bus: &mut B,
+    rn: u8,
+    rd: u8,
+    to: Addressed,
+) -> Stepped
     requires rn { rn < 16 }
     requires rd { rd < 16 }
     ensures registers { s.new ≡ (carried_out B.memory arch s.old (B.state bus.old) (load_meaning s.old rn rd to Half (rotated_half arch to.address))).registers }
@@ -171,7 +209,14 @@ fn load_half<B: Bus>(arch: Arch, s: &mut Registers, bus: &mut B, rn: u8, rd: u8,
 
 /// LDRSH (ARM manual, A4.1) at an even address.
 #[inline(always)]
-fn load_signed_half<B: Bus>(arch: Arch, s: &mut Registers, bus: &mut B, rn: u8, rd: u8, to: Addressed) -> Stepped
+fn load_signed_half<B: Bus>(
+    arch: Arch,
+    s: &mut Registers,
+    bus: &mut B,
+    rn: u8,
+    rd: u8,
+    to: Addressed,
+) -> Stepped
     requires rn { rn < 16 }
     requires rd { rd < 16 }
     ensures registers { s.new ≡ (carried_out B.memory arch s.old (B.state bus.old) (load_meaning s.old rn rd to Half signed_half)).registers }
@@ -185,7 +230,15 @@ fn load_signed_half<B: Bus>(arch: Arch, s: &mut Registers, bus: &mut B, rn: u8, 
 
 /// STR, STRB, STRH (ARM manual, A4.1).
 #[inline(always)]
-fn store<B: Bus>(arch: Arch, s: &mut Registers, bus: &mut B, rn: u8, rd: u8, to: Addressed, width: Width) -> Stepped
+fn store<B: Bus>(
+    arch: Arch,
+    s: &mut Registers,
+    bus: &mut B,
+    rn: u8,
+    rd: u8,
+    to: Addressed,
+    width: Width,
+) -> Stepped
     requires rn { rn < 16 }
     requires rd { rd < 16 }
     ensures registers { s.new ≡ (carried_out B.memory arch s.old (B.state bus.old) (store_meaning s.old rn rd to width)).registers }
@@ -206,7 +259,16 @@ fn store<B: Bus>(arch: Arch, s: &mut Registers, bus: &mut B, rn: u8, rd: u8, to:
 
 /// LDR, LDRB, STR and STRB at an address.
 #[inline(always)]
-fn transfer_at<B: Bus>(arch: Arch, s: &mut Registers, bus: &mut B, load: bool, byte: bool, rn: u8, rd: u8, to: Addressed) -> Stepped
+fn transfer_at<B: Bus>(
+    arch: Arch,
+    s: &mut Registers,
+    bus: &mut B,
+    load: bool,
+    byte: bool,
+    rn: u8,
+    rd: u8,
+    to: Addressed,
+) -> Stepped
     requires rn { rn < 16 }
     requires rd { rd < 16 }
     ensures registers { s.new ≡ (carried_out B.memory arch s.old (B.state bus.old) (word_or_byte_meaning arch s.old load byte rn rd to)).registers }
@@ -224,7 +286,19 @@ fn transfer_at<B: Bus>(arch: Arch, s: &mut Registers, bus: &mut B, load: bool, b
 
 /// LDR, LDRB, STR and STRB, also with `t` (ARM manual, A4.1 under their names, A5.2 "Addressing Mode 2").
 #[inline]
-pub fn transfer<B: Bus>(arch: Arch, s: &mut Registers, bus: &mut B, pre: bool, up: bool, byte: bool, write_back: bool, load: bool, rn: u8, rd: u8, offset: Offset) -> Stepped
+pub fn transfer<B: Bus>(
+    arch: Arch,
+    s: &mut Registers,
+    bus: &mut B,
+    pre: bool,
+    up: bool,
+    byte: bool,
+    write_back: bool,
+    load: bool,
+    rn: u8,
+    rd: u8,
+    offset: Offset,
+) -> Stepped
     requires rn { rn < 16 }
     requires rd { rd < 16 }
     requires offset { HasOffset offset }
@@ -239,7 +313,14 @@ pub fn transfer<B: Bus>(arch: Arch, s: &mut Registers, bus: &mut B, pre: bool, u
 
 /// LDRSH (ARM manual, A4.1).
 #[inline(always)]
-fn load_signed_half_or_byte<B: Bus>(arch: Arch, s: &mut Registers, bus: &mut B, rn: u8, rd: u8, to: Addressed) -> Stepped
+fn load_signed_half_or_byte<B: Bus>(
+    arch: Arch,
+    s: &mut Registers,
+    bus: &mut B,
+    rn: u8,
+    rd: u8,
+    to: Addressed,
+) -> Stepped
     requires rn { rn < 16 }
     requires rd { rd < 16 }
     ensures registers { s.new ≡ (carried_out B.memory arch s.old (B.state bus.old) (signed_half_meaning arch s.old rn rd to)).registers }
@@ -261,7 +342,15 @@ fn load_signed_half_or_byte<B: Bus>(arch: Arch, s: &mut Registers, bus: &mut B, 
 
 /// STRH, LDRH, LDRSB and LDRSH at an address.
 #[inline(always)]
-fn half_transfer_at<B: Bus>(arch: Arch, s: &mut Registers, bus: &mut B, op: HalfOp, rn: u8, rd: u8, to: Addressed) -> Stepped
+fn half_transfer_at<B: Bus>(
+    arch: Arch,
+    s: &mut Registers,
+    bus: &mut B,
+    op: HalfOp,
+    rn: u8,
+    rd: u8,
+    to: Addressed,
+) -> Stepped
     requires rn { rn < 16 }
     requires rd { rd < 16 }
     ensures registers { s.new ≡ (carried_out B.memory arch s.old (B.state bus.old) (half_or_signed_meaning arch s.old op rn rd to)).registers }
@@ -279,7 +368,18 @@ fn half_transfer_at<B: Bus>(arch: Arch, s: &mut Registers, bus: &mut B, op: Half
 
 /// STRH, LDRH, LDRSB and LDRSH (ARM manual, A4.1 under their names, A5.3 "Addressing Mode 3").
 #[inline]
-pub fn half_transfer<B: Bus>(arch: Arch, s: &mut Registers, bus: &mut B, op: HalfOp, pre: bool, up: bool, write_back: bool, rn: u8, rd: u8, offset: ShortOffset) -> Stepped
+pub fn half_transfer<B: Bus>(
+    arch: Arch,
+    s: &mut Registers,
+    bus: &mut B,
+    op: HalfOp,
+    pre: bool,
+    up: bool,
+    write_back: bool,
+    rn: u8,
+    rd: u8,
+    offset: ShortOffset,
+) -> Stepped
     requires rn { rn < 16 }
     requires rd { rd < 16 }
     requires offset { HasShortOffset offset }

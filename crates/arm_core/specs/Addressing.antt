@@ -40,8 +40,8 @@ abbrev pub with_base : Bool → ℕ → ℕ → RegisterState → RegisterState
 with_base false rn base s = s
 with_base true rn base s = put rn base s
 
--- mode 4: the registers of a list from r on, the lowest first
-abbrev pub listed_from : ℕ → ℕ → ℕ → List ℕ
+-- mode 4: the registers of a list from r on, the lowest first; it doesn't unfold by itself, since it has a case for each register
+unfoldable pub listed_from : ℕ → ℕ → ℕ → List ℕ
 listed_from zero r list = []
 listed_from (suc count) r list = if bit r list then r ∷ listed_from count (r + 1) list else listed_from count (r + 1) list
 

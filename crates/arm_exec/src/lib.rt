@@ -3,6 +3,7 @@
 
 mod branches;
 mod exceptions;
+mod multiples;
 mod multiplies;
 mod processing;
 mod statuses;

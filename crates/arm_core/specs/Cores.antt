@@ -6,12 +6,12 @@ use Rattle.arm_core.specs.Registers.{RegisterState}
 abbrev pub booted : ℕ → List ℕ → RegisterState
 booted entry stacks = record {
   general =
-    -- r0 to r12
-    0 ∷ 0 ∷ 0 ∷ 0 ∷ 0 ∷ 0 ∷ 0 ∷ 0 ∷ 0 ∷ 0 ∷ 0 ∷ 0 ∷ entry
-    -- r8 to r12 of FIQ
-    ∷ 0 ∷ 0 ∷ 0 ∷ 0 ∷ 0
-    -- r13 and r14 of System, FIQ, Supervisor, Abort, IRQ, Undefined
-    ∷ slice_index stacks 0 ∷ entry ∷ 0 ∷ 0 ∷ slice_index stacks 2 ∷ 0 ∷ 0 ∷ 0 ∷ slice_index stacks 1 ∷ 0 ∷ 0 ∷ 0 ∷ [];
+      -- r0 to r12
+      0 ∷ 0 ∷ 0 ∷ 0 ∷ 0 ∷ 0 ∷ 0 ∷ 0 ∷ 0 ∷ 0 ∷ 0 ∷ 0 ∷ entry
+      -- r8 to r12 of FIQ
+      ∷ 0 ∷ 0 ∷ 0 ∷ 0 ∷ 0
+      -- r13 and r14 of System, FIQ, Supervisor, Abort, IRQ, Undefined
+      ∷ slice_index stacks 0 ∷ entry ∷ 0 ∷ 0 ∷ slice_index stacks 2 ∷ 0 ∷ 0 ∷ 0 ∷ slice_index stacks 1 ∷ 0 ∷ 0 ∷ 0 ∷ [];
   pc = entry;
   cpsr = 0xDF;
   saved = 0 ∷ 0 ∷ 0 ∷ 0 ∷ 0 ∷ [];

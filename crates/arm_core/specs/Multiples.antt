@@ -118,8 +118,8 @@ load_multiple_meaning arch s pre up user write_back rn list =
     record {
       accesses = reads (lowest pre up base bytes) registers;
       after = λ values.
-        let filled = with_base written rn moved (loaded b registers values (next s)) in
-        (if bit 15 (transferred arch list) then loaded_r15 arch user (last_of values) filled else filled);
+          let filled = with_base written rn moved (loaded b registers values (next s)) in
+          (if bit 15 (transferred arch list) then loaded_r15 arch user (last_of values) filled else filled);
       class = LoadMultiple (count_ones list);
       jumps = bit 15 (transferred arch list);
     }

@@ -36,12 +36,12 @@ bank s = bank_of (bits 0 5 s.cpsr)
 
 -- where r8 to r14 stand among the general registers, in each bank (figure "Register organization")
 abbrev pub places : Bank → List ℕ
-places System     = 8 ∷ 9 ∷ 10 ∷ 11 ∷ 12 ∷ 18 ∷ 19 ∷ []
-places Fiq        = 13 ∷ 14 ∷ 15 ∷ 16 ∷ 17 ∷ 20 ∷ 21 ∷ []
+places System = 8 ∷ 9 ∷ 10 ∷ 11 ∷ 12 ∷ 18 ∷ 19 ∷ []
+places Fiq = 13 ∷ 14 ∷ 15 ∷ 16 ∷ 17 ∷ 20 ∷ 21 ∷ []
 places Supervisor = 8 ∷ 9 ∷ 10 ∷ 11 ∷ 12 ∷ 22 ∷ 23 ∷ []
-places Abort      = 8 ∷ 9 ∷ 10 ∷ 11 ∷ 12 ∷ 24 ∷ 25 ∷ []
-places Irq        = 8 ∷ 9 ∷ 10 ∷ 11 ∷ 12 ∷ 26 ∷ 27 ∷ []
-places Undefined  = 8 ∷ 9 ∷ 10 ∷ 11 ∷ 12 ∷ 28 ∷ 29 ∷ []
+places Abort = 8 ∷ 9 ∷ 10 ∷ 11 ∷ 12 ∷ 24 ∷ 25 ∷ []
+places Irq = 8 ∷ 9 ∷ 10 ∷ 11 ∷ 12 ∷ 26 ∷ 27 ∷ []
+places Undefined = 8 ∷ 9 ∷ 10 ∷ 11 ∷ 12 ∷ 28 ∷ 29 ∷ []
 
 -- where a register below r15 stands
 abbrev pub place : Bank → ℕ → ℕ
@@ -49,12 +49,12 @@ place b r = if nat_lt r 8 then r else slice_index_or (places b) (r - 8) 0
 
 -- which of the SPSRs a bank has
 abbrev pub saved_place : Bank → Option ℕ
-saved_place System     = None
-saved_place Fiq        = Some 0
+saved_place System = None
+saved_place Fiq = Some 0
 saved_place Supervisor = Some 1
-saved_place Abort      = Some 2
-saved_place Irq        = Some 3
-saved_place Undefined  = Some 4
+saved_place Abort = Some 2
+saved_place Irq = Some 3
+saved_place Undefined = Some 4
 
 -- T: the processor is in Thumb state
 abbrev pub is_thumb : RegisterState → Bool

@@ -1,7 +1,8 @@
-use Rattle.std.proofs.Common.{ℕ, zero, suc, ◌≡◌, ◌<◌, ◌+◌, ◌-◌, ◌%◌, ◌/◌, ◌^◌, Bool, true, false, if◌then◌else◌, List, [], ◌∷◌, Option, None, refl, sym, ◌∙◌, ap, arith}
+use Rattle.std.proofs.Common.{ℕ, zero, suc, ◌≡◌, ◌<◌, ◌+◌, ◌-◌, ◌%◌, ◌/◌, ◌^◌, Bool, true, false, if◌then◌else◌, List, [], ◌∷◌, Option, Some, None, refl, sym, ◌∙◌, ap, arith}
 use Rattle.ds_base.specs.Bits.{bit}
+use Rattle.ds_base.specs.declared.left_out.Stop.{Stop}
 use Rattle.ds_base.specs.declared.memories.Width.TheVariants.{Word}
-use Rattle.ds_base.specs.Accesses.{MemoryMachine, Access, Performed, perform}
+use Rattle.ds_base.specs.Accesses.{MemoryMachine, Access, Write, Performed, perform}
 use Rattle.arm_core.specs.Addressing.{listed_from}
 use Rattle.arm_core.specs.Multiples.{reads, last_of}
 
@@ -49,3 +50,13 @@ last_or_last last (value ∷ rest) = of_more value rest where
 pub reads_go : {S : Type 0} (m : MemoryMachine S) (s : S) (at : ℕ) (rs : List ℕ) → (perform m s (reads at rs)).stop ≡ None
 reads_go m s at [] = refl
 reads_go m s at (r ∷ rs) = reads_go m (m.read_next s at Word) ((at + 4) % 2 ^ 32) rs
+
+-- a refused write ends the accesses
+pub refused : {S : Type 0} (m : MemoryMachine S) (s : S) (at value : ℕ) (rest : List Access) (stop : Stop) → m.refusal s at Word value ≡ Some stop
+    → ((perform m s (Write at Word value ∷ rest)).stop ≡ Some stop) × ((perform m s (Write at Word value ∷ rest)).state ≡ m.write_next s at Word value)
+refused m s at value rest stop h = (rw h refl, rw h refl)
+
+-- one that isn't goes on
+pub goes_on : {S : Type 0} (m : MemoryMachine S) (s : S) (at value : ℕ) (rest : List Access) → m.refusal s at Word value ≡ None
+    → perform m s (Write at Word value ∷ rest) ≡ perform m (m.write_next s at Word value) rest
+goes_on m s at value rest h = rw h refl

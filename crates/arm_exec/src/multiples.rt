@@ -1,6 +1,6 @@
 //! LDM and STM (ARM manual, A3.12 "Load and Store Multiple instructions").
 
-ghost use Rattle.std.specs.Prelude.{◌≡◌, ◌<◌, ◌^◌, ◌∷◌, [], map, false};
+ghost use Rattle.std.specs.Prelude.{◌≡◌, ◌<◌, ◌^◌, ◌∷◌, [], map, false, IsTrue};
 ghost use Rattle.ds_base.specs.Accesses.{perform};
 ghost use Rattle.arm_core.specs.Addressing.{listed};
 ghost use Rattle.arm_core.specs.Effects.{carried_out};
@@ -131,4 +131,50 @@ pub fn load_multiple<B: Bus>(
         load_r15(arch, s, user, last);
     }
     Stepped::Cost(Class::LoadMultiple(list.count_ones()).cost(arch, jumps))
+}
+
+/// What is stored of a register: the base as it is after the instruction where that is stored, and the base is written back.
+#[inline(always)]
+fn stored_value(s: &Registers, bank: Bank, rn: u8, written: bool, new_base: u32, r: u8) -> u32
+    requires rn { rn < 16 }
+    requires base { IsTrue written → rn < 15 }
+    requires r { r < 16 }
+    ensures { result ≡ stored_value s.now bank rn written new_base r }
+{
+    if written && r == rn && bank.place(r) == s.bank().place(rn) {
+        new_base
+    } else {
+        s.get_late_in(bank, r)
+    }
+}
+
+/// Stores the registers of a list from an address up, until a write is refused.
+#[inline(always)]
+fn store_list<B: Bus>(
+    s: &Registers,
+    bus: &mut B,
+    bank: Bank,
+    rn: u8,
+    written: bool,
+    new_base: u32,
+    from: u32,
+    list: u16,
+) -> Option<Stop>
+    requires rn { rn < 16 }
+    requires base { IsTrue written → rn < 15 }
+    ensures stop { result ≡ (perform B.memory (B.state bus.old) (writes from (map (stored_value s.now bank rn written new_base) (listed list)))).stop }
+    ensures state { B.state bus.new ≡ (perform B.memory (B.state bus.old) (writes from (map (stored_value s.now bank rn written new_base) (listed list)))).state }
+    ensures same { B.identity bus.new ≡ B.identity bus.old }
+{
+    let mut at = from;
+    for r in 0..16_u8 {
+        if has(list, r) {
+            let value = stored_value(s, bank, rn, written, new_base, r);
+            if let Some(stop) = bus.write(at, Width::Word, value) {
+                return Some(stop);
+            }
+            at = at.wrapping_add(4);
+        }
+    }
+    None
 }

@@ -96,25 +96,38 @@ abbrev pub stack_instr : Bool → Bool → ℕ → Instr
 stack_instr false extra list = Multiple Al true false false true false 13 (list + flag 14 extra)
 stack_instr true extra list = Multiple Al false true false true true 13 (list + flag 15 extra)
 
--- the ARM instruction of a Thumb instruction that has one; any other instruction is its own
+-- "ADD (6)"; "ADD (5)", of r15, has a meaning of its own
+abbrev pub address_instr : Bool → ℕ → ℕ → Instr
+address_instr true rd immed = Data Al data_ops.Add false 13 rd (words_immediate immed)
+address_instr false rd immed = ThumbAddress false rd immed
+
+-- the ARM instruction of a Thumb branch or exception that has one; any other instruction is its own
+abbrev pub branch_equivalent : Instr → Instr
+branch_equivalent (ThumbBx rm) = Bx Al rm
+branch_equivalent (ThumbBlxRegister rm) = BlxRegister Al rm
+branch_equivalent (ThumbBkpt immed) = Bkpt immed
+branch_equivalent (ThumbSwi immed) = Swi Al immed
+branch_equivalent instr = instr
+
+-- that of a Thumb load or store too
+abbrev pub transfer_equivalent : Instr → Instr
+transfer_equivalent (ThumbRegisterOffset op rm rn rd) = offset_instr op rm rn rd
+transfer_equivalent (ThumbImmediateOffset byte load immed rn rd) = word_at byte load rn rd (offsets.Number (if byte then immed else 4 * immed))
+transfer_equivalent (ThumbHalfOffset load immed rn rd) =
+    HalfTransfer Al (if load then half_ops.Ldrh else half_ops.Strh) true true false rn rd (short_offsets.ShortNumber (2 * immed))
+transfer_equivalent (ThumbStackOffset load rd immed) = word_at false load 13 rd (offsets.Number (4 * immed))
+transfer_equivalent (ThumbPushPop load extra list) = stack_instr load extra list
+-- LDMIA with its base in the list doesn't write it back
+transfer_equivalent (ThumbMultiple load rn list) = Multiple Al false true false (not (load && bit rn list)) load rn list
+transfer_equivalent instr = branch_equivalent instr
+
+-- the ARM instruction of any Thumb instruction that has one; any other instruction is its own
 abbrev pub equivalent : Instr → Instr
 equivalent (ThumbAddSub subtract operand rn rd) = Data Al (if subtract then data_ops.Sub else data_ops.Add) true rn rd (low_operand operand)
 equivalent (ThumbShift shift amount rm rd) = Move Al move_ops.Mov true rd (Shifted rm shift amount)
 equivalent (ThumbImmediate op rd immed) = immediate_instr op rd immed
 equivalent (ThumbData op rm rd) = register_instr op rm rd
-equivalent (ThumbBx rm) = Bx Al rm
-equivalent (ThumbBlxRegister rm) = BlxRegister Al rm
 equivalent (ThumbHigh op rm rd) = high_instr op rm rd
-equivalent (ThumbRegisterOffset op rm rn rd) = offset_instr op rm rn rd
-equivalent (ThumbImmediateOffset byte load immed rn rd) = word_at byte load rn rd (offsets.Number (if byte then immed else 4 * immed))
-equivalent (ThumbHalfOffset load immed rn rd) =
-    HalfTransfer Al (if load then half_ops.Ldrh else half_ops.Strh) true true false rn rd (short_offsets.ShortNumber (2 * immed))
-equivalent (ThumbStackOffset load rd immed) = word_at false load 13 rd (offsets.Number (4 * immed))
-equivalent (ThumbAddress true rd immed) = Data Al data_ops.Add false 13 rd (words_immediate immed)
+equivalent (ThumbAddress stack rd immed) = address_instr stack rd immed
 equivalent (ThumbAdjustStack subtract immed) = Data Al (if subtract then data_ops.Sub else data_ops.Add) false 13 13 (words_immediate immed)
-equivalent (ThumbPushPop load extra list) = stack_instr load extra list
-equivalent (ThumbBkpt immed) = Bkpt immed
--- LDMIA with its base in the list doesn't write it back
-equivalent (ThumbMultiple load rn list) = Multiple Al false true false (not (load && bit rn list)) load rn list
-equivalent (ThumbSwi immed) = Swi Al immed
-equivalent instr = instr
+equivalent instr = transfer_equivalent instr

@@ -18,6 +18,7 @@ mod registers;
 mod results;
 mod shifter;
 mod statuses;
+mod thumb;
 mod touches;
 
 pub use addresses::Addressed;
@@ -37,4 +38,5 @@ pub use shifter::{
     Shifted32, first_operand, rotated_immediate, shift_by, shift_by_number, shifter_operand,
 };
 pub use statuses::replaced;
+pub use thumb::equivalent;
 pub use touches::Touch;

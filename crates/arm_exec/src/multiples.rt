@@ -5,7 +5,7 @@ ghost use Rattle.ds_base.specs.Accesses.{perform};
 ghost use Rattle.arm_core.specs.Addressing.{listed};
 ghost use Rattle.arm_core.specs.Effects.{carried_out};
 ghost use Rattle.arm_core.specs.Registers.{next};
-ghost use Rattle.arm_core.specs.Multiples.{load_multiple_meaning, loaded, loaded_r15, last_of, reaches_user, reached_bank, reads, store_multiple_meaning, stored_value, writes};
+ghost use Rattle.arm_core.specs.Multiples.{load_multiple_meaning, multiple_meaning, loaded, loaded_r15, last_of, reaches_user, reached_bank, reads, store_multiple_meaning, stored_value, writes};
 
 use crate::branches::exchange_to;
 use arm_core::{
@@ -177,4 +177,67 @@ fn store_list<B: Bus>(
         }
     }
     None
+}
+
+/// STM; registers are User mode's with `user` (ARM manual, A4.1 "STM (1)", "STM (2)").
+#[inline]
+pub fn store_multiple<B: Bus>(
+    arch: Arch,
+    s: &mut Registers,
+    bus: &mut B,
+    pre: bool,
+    up: bool,
+    user: bool,
+    writes_back: bool,
+    rn: u8,
+    list: u16,
+) -> Stepped
+    requires { rn < 16 }
+    ensures registers { s.new ≡ (carried_out B.memory arch s.old (B.state bus.old) (store_multiple_meaning arch s.old pre up user writes_back rn list)).registers }
+    ensures state { B.state bus.new ≡ (carried_out B.memory arch s.old (B.state bus.old) (store_multiple_meaning arch s.old pre up user writes_back rn list)).state }
+    ensures stepped { result ≡ (carried_out B.memory arch s.old (B.state bus.old) (store_multiple_meaning arch s.old pre up user writes_back rn list)).stepped }
+    ensures same { B.identity bus.new ≡ B.identity bus.old }
+{
+    let base = s.get(rn);
+    let bytes = list_bytes(list);
+    let moved = moved_base(up, base, bytes);
+    let written = writes_back && rn != 15;
+    let bank = reached_bank(s, user);
+    let new_base = written && stores_new_base(arch, rn, list);
+    let from = lowest(pre, up, base, bytes);
+    match store_list(s, bus, bank, rn, new_base, moved, from, transferred(arch, list)) {
+        Some(stop) => Stepped::Left(stop),
+        None => {
+            s.go_on();
+            write_back(s, written, rn, moved);
+            Stepped::Cost(Class::StoreMultiple(list.count_ones()).cost(arch, false))
+        }
+    }
+}
+
+/// LDM and STM.
+#[inline]
+pub fn multiple<B: Bus>(
+    arch: Arch,
+    s: &mut Registers,
+    bus: &mut B,
+    pre: bool,
+    up: bool,
+    user: bool,
+    writes_back: bool,
+    load: bool,
+    rn: u8,
+    list: u16,
+) -> Stepped
+    requires { rn < 16 }
+    ensures registers { s.new ≡ (carried_out B.memory arch s.old (B.state bus.old) (multiple_meaning arch s.old pre up user writes_back load rn list)).registers }
+    ensures state { B.state bus.new ≡ (carried_out B.memory arch s.old (B.state bus.old) (multiple_meaning arch s.old pre up user writes_back load rn list)).state }
+    ensures stepped { result ≡ (carried_out B.memory arch s.old (B.state bus.old) (multiple_meaning arch s.old pre up user writes_back load rn list)).stepped }
+    ensures same { B.identity bus.new ≡ B.identity bus.old }
+{
+    if load {
+        load_multiple(arch, s, bus, pre, up, user, writes_back, rn, list)
+    } else {
+        store_multiple(arch, s, bus, pre, up, user, writes_back, rn, list)
+    }
 }

@@ -4,6 +4,7 @@ use Rattle.arm_words.specs.declared.parts.Offset.{Offset}
 use Rattle.arm_words.specs.declared.parts.Offset.TheVariants.{Number, Register}
 use Rattle.arm_words.specs.declared.parts.ShortOffset.{ShortOffset}
 use Rattle.arm_words.specs.declared.parts.ShortOffset.TheVariants.{ShortNumber, ShortRegister}
+use Rattle.arm_core.specs.declared.addresses.Addressed.{Addressed}
 use Rattle.arm_core.specs.Registers.{RegisterState, register, put}
 use Rattle.arm_core.specs.Conditions.{c_flag}
 use Rattle.arm_core.specs.Shifter.{shift_by_number}
@@ -24,12 +25,6 @@ short_offset_value s (ShortRegister rm) = register s rm
 abbrev pub moved_base : Bool → ℕ → ℕ → ℕ
 moved_base true base offset = (base + offset) % 2 ^ 32
 moved_base false base offset = (base + 2 ^ 32 - offset) % 2 ^ 32
-
--- where a transfer goes, and its base after it if that is written back
-pub record Addressed : Type 0 where
-  pub address : ℕ
-  pub base : ℕ
-  pub written : Bool
 
 -- modes 2 and 3: with P the offset is added before the access, and the base is written back with W; otherwise after it, and the base is
 -- written back. r15 isn't written back (our choice)

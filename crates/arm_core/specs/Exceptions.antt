@@ -13,21 +13,21 @@ use Rattle.arm_core.specs.declared.classes.Class.TheVariants.{Entry}
 -- table "Exception processing modes": the vector, the mode, and its bank
 abbrev pub vector : Exception → ℕ
 vector UndefinedInstruction = 0x04
-vector SoftwareInterrupt    = 0x08
-vector Breakpoint           = 0x0C
-vector Interrupt            = 0x18
+vector SoftwareInterrupt = 0x08
+vector Breakpoint = 0x0C
+vector Interrupt = 0x18
 
 abbrev pub entry_mode : Exception → ℕ
 entry_mode UndefinedInstruction = 0x1B
-entry_mode SoftwareInterrupt    = 0x13
-entry_mode Breakpoint           = 0x17
-entry_mode Interrupt            = 0x12
+entry_mode SoftwareInterrupt = 0x13
+entry_mode Breakpoint = 0x17
+entry_mode Interrupt = 0x12
 
 abbrev pub entry_bank : Exception → Bank
 entry_bank UndefinedInstruction = Undefined
-entry_bank SoftwareInterrupt    = Supervisor
-entry_bank Breakpoint           = Abort
-entry_bank Interrupt            = Irq
+entry_bank SoftwareInterrupt = Supervisor
+entry_bank Breakpoint = Abort
+entry_bank Interrupt = Irq
 
 -- a status register in an exception's mode, in ARM state, with I set
 abbrev pub entered_status : ℕ → ℕ → ℕ

@@ -12,8 +12,9 @@ use Rattle.arm_words.specs.declared.parts.ShortOffset.{ShortOffset}
 use Rattle.arm_words.specs.declared.operations.HalfOp.{HalfOp}
 use Rattle.arm_words.specs.declared.operations.HalfOp.TheVariants.{Strh, Ldrh, Ldrsb, Ldrsh}
 use Rattle.arm_core.specs.Registers.{RegisterState, register, late_register, next, put}
-use Rattle.arm_core.specs.Addressing.{Addressed, addressed, offset_value, short_offset_value, with_base}
+use Rattle.arm_core.specs.Addressing.{addressed, offset_value, short_offset_value, with_base}
 use Rattle.arm_core.specs.Branches.{exchanged}
+use Rattle.arm_core.specs.declared.addresses.Addressed.{Addressed}
 use Rattle.arm_core.specs.Effects.{Meaning}
 use Rattle.arm_core.specs.declared.classes.Class.{Class}
 use Rattle.arm_core.specs.declared.classes.Class.TheVariants.{Load, Store}

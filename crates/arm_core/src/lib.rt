@@ -3,6 +3,8 @@
 //! accesses, the registers after it, and its cost.
 #![tactic(auto)]
 
+mod addresses;
+mod addressing;
 mod banks;
 mod buses;
 mod classes;
@@ -17,6 +19,8 @@ mod shifter;
 mod statuses;
 mod touches;
 
+pub use addresses::Addressed;
+pub use addressing::{addressed, moved_base, offset_value, short_offset_value, write_back};
 pub use banks::Bank;
 pub use buses::Bus;
 pub use classes::Class;

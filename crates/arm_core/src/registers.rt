@@ -216,12 +216,20 @@ impl Registers {
         self.get_late_in(self.bank(), r)
     }
 
+    /// The address of the instruction behind the one that is executed next.
+    #[inline(always)]
+    pub fn next_pc(&self) -> u32
+        ensures { result ≡ (next self.now).pc }
+    {
+        self.pc.wrapping_add(if self.is_thumb() { 2 } else { 4 })
+    }
+
     /// r15 goes on to the next instruction.
     #[inline(always)]
     pub fn go_on(&mut self)
         ensures { self.new ≡ next self.old }
     {
-        self.pc = self.pc.wrapping_add(if self.is_thumb() { 2 } else { 4 });
+        self.pc = self.next_pc();
     }
 
     /// Writes r15, aligned for the state.

@@ -205,7 +205,16 @@ pub fn store_multiple<B: Bus>(
     let bank = reached_bank(s, user);
     let new_base = written && stores_new_base(arch, rn, list);
     let from = lowest(pre, up, base, bytes);
-    match store_list(s, bus, bank, rn, new_base, moved, from, transferred(arch, list)) {
+    match store_list(
+        s,
+        bus,
+        bank,
+        rn,
+        new_base,
+        moved,
+        from,
+        transferred(arch, list),
+    ) {
         Some(stop) => Stepped::Left(stop),
         None => {
             s.go_on();

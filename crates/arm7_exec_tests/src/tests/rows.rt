@@ -42,6 +42,8 @@ pub struct Row<'a> {
     pub name: &'a str,
     /// CPSR before it.
     pub cpsr: u32,
+    /// SPSR of its mode before it, where the mode has one.
+    pub spsr: u32,
     /// Where its word or half stands.
     pub at: u32,
     /// The word, in Thumb state the half.
@@ -68,6 +70,7 @@ pub fn arm<'a>(
     Row {
         name,
         cpsr: ARM,
+        spsr: 0,
         at: 0x100,
         code,
         given,
@@ -115,6 +118,7 @@ fn memory(alloc: Global, row: &Row<'_>) -> Result<FlatBus, AllocError> {
 fn core(row: &Row<'_>) -> Core {
     let mut core = Core::boot(Arch::V4, 0x100, [0; 3]);
     core.registers.set_cpsr(row.cpsr);
+    core.registers.write_spsr(0xFFFF_FFFF, row.spsr);
     core.registers.jump(row.at);
     for &(r, value) in row.given {
         if r < 16 {

@@ -1,4 +1,4 @@
 pub mod Layouts
 pub mod Powers
 pub mod ThumbKinds
-pub mod Kinds
+pub mod ClassKinds

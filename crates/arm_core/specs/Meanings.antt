@@ -69,15 +69,6 @@ act_branch arch base s (ThumbBlPrefix offset) = prefix_meaning s offset
 act_branch arch base s (ThumbBlSuffix offset) = suffix_meaning s offset
 act_branch arch base s instr = enhanced_meaning arch base s instr
 
--- what a load, a store or a swap does too
-abbrev pub act_transfer : Arch → ℕ → RegisterState → Instr → Meaning
-act_transfer arch base s (Transfer cond pre up byte write_back load rn rd offset) = transfer_meaning arch s pre up byte write_back load rn rd offset
-act_transfer arch base s (HalfTransfer cond op pre up write_back rn rd offset) = half_transfer_meaning arch s op pre up write_back rn rd offset
-act_transfer arch base s (Multiple cond pre up user write_back load rn list) = multiple_meaning arch s pre up user write_back load rn list
-act_transfer arch base s (Swap cond byte rd rm rn) = swap_meaning s byte rd rm rn
-act_transfer arch base s (ThumbLoadLiteral rd immed) = literal_meaning arch s rd immed
-act_transfer arch base s instr = act_branch arch base s instr
-
 -- what a multiply does too, or an access of a status register
 abbrev pub act_multiply : Arch → ℕ → RegisterState → Instr → Meaning
 act_multiply arch base s (Mul cond set_flags rd rm rs) = multiply_meaning s set_flags rd rm rs 0
@@ -87,15 +78,24 @@ act_multiply arch base s (LongMultiply cond signed accumulate set_flags rd_lo rd
 act_multiply arch base s (Mrs cond spsr rd) = mrs_meaning s spsr rd
 act_multiply arch base s (Msr cond spsr fields rm) = msr_meaning arch s spsr fields (register s rm)
 act_multiply arch base s (MsrImmediate cond spsr fields rotation immed) = msr_meaning arch s spsr fields (rotated_immediate rotation immed false).value
-act_multiply arch base s instr = act_transfer arch base s instr
+act_multiply arch base s instr = act_branch arch base s instr
 
--- what any instruction does where its condition holds, by its kind
+-- what data processing does too
+abbrev pub act_processing : Arch → ℕ → RegisterState → Instr → Meaning
+act_processing arch base s (Data cond op set_flags rn rd operand) = data_meaning s op set_flags rn rd operand
+act_processing arch base s (Compare cond op rn operand) = compare_meaning s op rn operand
+act_processing arch base s (Move cond op set_flags rd operand) = move_meaning s op set_flags rd operand
+act_processing arch base s (ThumbAddress stack rd immed) = address_meaning s rd immed
+act_processing arch base s instr = act_multiply arch base s instr
+
+-- what any instruction does where its condition holds, by its kind: a load, a store, a swap, or another
 abbrev pub act : Arch → ℕ → RegisterState → Instr → Meaning
-act arch base s (Data cond op set_flags rn rd operand) = data_meaning s op set_flags rn rd operand
-act arch base s (Compare cond op rn operand) = compare_meaning s op rn operand
-act arch base s (Move cond op set_flags rd operand) = move_meaning s op set_flags rd operand
-act arch base s (ThumbAddress stack rd immed) = address_meaning s rd immed
-act arch base s instr = act_multiply arch base s instr
+act arch base s (Transfer cond pre up byte write_back load rn rd offset) = transfer_meaning arch s pre up byte write_back load rn rd offset
+act arch base s (HalfTransfer cond op pre up write_back rn rd offset) = half_transfer_meaning arch s op pre up write_back rn rd offset
+act arch base s (Multiple cond pre up user write_back load rn list) = multiple_meaning arch s pre up user write_back load rn list
+act arch base s (Swap cond byte rd rm rn) = swap_meaning s byte rd rm rn
+act arch base s (ThumbLoadLiteral rd immed) = literal_meaning arch s rd immed
+act arch base s instr = act_processing arch base s instr
 
 -- the meaning of an instruction on an architecture, with the base of the vectors, in a state of the registers
 abbrev pub meaning : Arch → ℕ → RegisterState → Instr → Meaning

@@ -3,7 +3,7 @@
 ghost use Rattle.std.specs.Prelude.{◌≡◌, ◌<◌, [], false};
 ghost use Rattle.arm_words.specs.Fields.{HasFields};
 ghost use Rattle.arm_core.specs.Effects.{carried_out, cost_of};
-ghost use Rattle.arm_core.specs.Meanings.{act, act_branch, act_multiply, act_transfer, skipped};
+ghost use Rattle.arm_core.specs.Meanings.{act, act_branch, act_multiply, act_processing, skipped};
 
 use crate::branches::{
     address, branch, distance8, distance11, distance24, exchange, prefix, suffix,
@@ -50,19 +50,109 @@ fn act_branch(arch: Arch, base: u32, s: &mut Registers, instr: &Instr) -> u32
     }
 }
 
-/// A load, a store, a swap, or what isn't one.
+/// A multiply, an access of a status register, or what is neither; the result is its cost.
 #[inline]
-fn act_transfer<B: Bus>(
-    arch: Arch,
-    base: u32,
-    s: &mut Registers,
-    bus: &mut B,
-    instr: &Instr,
-) -> Stepped
+fn act_multiply(arch: Arch, base: u32, s: &mut Registers, instr: &Instr) -> u32
     requires { HasFields instr.now }
-    ensures registers { s.new ≡ (carried_out B.memory arch s.old (B.state bus.old) (act_transfer arch base s.old instr.now)).registers }
-    ensures state { B.state bus.new ≡ (carried_out B.memory arch s.old (B.state bus.old) (act_transfer arch base s.old instr.now)).state }
-    ensures stepped { result ≡ (carried_out B.memory arch s.old (B.state bus.old) (act_transfer arch base s.old instr.now)).stepped }
+    ensures registers { s.new ≡ (act_multiply arch base s.old instr.now).after [] }
+    ensures cost { result ≡ cost_of arch (act_multiply arch base s.old instr.now) }
+    ensures plain { (act_multiply arch base s.old instr.now).accesses ≡ [] }
+{
+    match *instr {
+        Instr::Mul {
+            set_flags,
+            rd,
+            rm,
+            rs,
+            ..
+        } => multiply(arch, s, set_flags, rd, rm, rs, 0),
+        Instr::Mla {
+            set_flags,
+            rd,
+            rm,
+            rs,
+            rn,
+            ..
+        } => {
+            let added = s.get(rn);
+            multiply(arch, s, set_flags, rd, rm, rs, added)
+        }
+        Instr::LongMultiply {
+            signed,
+            accumulate,
+            set_flags,
+            rd_lo,
+            rd_hi,
+            rm,
+            rs,
+            ..
+        } => { long_multiply(arch, s, signed, accumulate, set_flags, rd_lo, rd_hi, rm, rs) }
+        Instr::Mrs { spsr, rd, .. } => mrs(arch, s, spsr, rd),
+        Instr::Msr {
+            spsr,
+            fields,
+            rm,
+            ..
+        } => {
+            let operand = s.get(rm);
+            msr(arch, s, spsr, fields, operand)
+        }
+        Instr::MsrImmediate {
+            spsr,
+            fields,
+            rotate,
+            immed,
+            ..
+        } => {
+            let operand = rotated_immediate(rotate, immed, false).value;
+            msr(arch, s, spsr, fields, operand)
+        }
+        _ => act_branch(arch, base, s, instr),
+    }
+}
+
+/// Data processing, or what isn't it; the result is its cost.
+#[inline]
+fn act_processing(arch: Arch, base: u32, s: &mut Registers, instr: &Instr) -> u32
+    requires { HasFields instr.now }
+    ensures registers { s.new ≡ (act_processing arch base s.old instr.now).after [] }
+    ensures cost { result ≡ cost_of arch (act_processing arch base s.old instr.now) }
+    ensures plain { (act_processing arch base s.old instr.now).accesses ≡ [] }
+{
+    match *instr {
+        Instr::Data {
+            op,
+            set_flags,
+            rn,
+            rd,
+            operand,
+            ..
+        } => { data(arch, s, op, set_flags, rn, rd, operand) }
+        Instr::Compare {
+            op,
+            rn,
+            operand,
+            ..
+        } => compare(arch, s, op, rn, operand),
+        Instr::Move {
+            op,
+            set_flags,
+            rd,
+            operand,
+            ..
+        } => { move_(arch, s, op, set_flags, rd, operand) }
+        Instr::ThumbAddress { rd, immed, .. } => address(arch, s, rd, immed),
+        _ => act_multiply(arch, base, s, instr),
+    }
+}
+
+/// What an instruction does where its condition holds, with the base of the vectors: a load, a store, a swap, or another.
+#[inline]
+pub fn act<B: Bus>(arch: Arch, base: u32, s: &mut Registers, bus: &mut B, instr: &Instr) -> Stepped
+    requires { HasFields instr.now }
+    ensures registers { s.new ≡ (carried_out B.memory arch s.old (B.state bus.old) (act arch base s.old instr.now)).registers }
+    ensures state { B.state bus.new ≡ (carried_out B.memory arch s.old (B.state bus.old) (act arch base s.old instr.now)).state }
+    ensures stepped { result ≡ (carried_out B.memory arch s.old (B.state bus.old) (act arch base s.old instr.now)).stepped }
     ensures same { B.identity bus.new ≡ B.identity bus.old }
 {
     match *instr {
@@ -109,115 +199,6 @@ fn act_transfer<B: Bus>(
             ..
         } => swap(arch, s, bus, byte, rd, rm, rn),
         Instr::ThumbLoadLiteral { rd, immed } => literal(arch, s, bus, rd, immed),
-        _ => Stepped::Cost(act_branch(arch, base, s, instr)),
-    }
-}
-
-/// A multiply, an access of a status register, or what isn't one.
-#[inline]
-fn act_multiply<B: Bus>(
-    arch: Arch,
-    base: u32,
-    s: &mut Registers,
-    bus: &mut B,
-    instr: &Instr,
-) -> Stepped
-    requires { HasFields instr.now }
-    ensures registers { s.new ≡ (carried_out B.memory arch s.old (B.state bus.old) (act_multiply arch base s.old instr.now)).registers }
-    ensures state { B.state bus.new ≡ (carried_out B.memory arch s.old (B.state bus.old) (act_multiply arch base s.old instr.now)).state }
-    ensures stepped { result ≡ (carried_out B.memory arch s.old (B.state bus.old) (act_multiply arch base s.old instr.now)).stepped }
-    ensures same { B.identity bus.new ≡ B.identity bus.old }
-{
-    Stepped::Cost(match *instr {
-        Instr::Mul {
-            set_flags,
-            rd,
-            rm,
-            rs,
-            ..
-        } => multiply(arch, s, set_flags, rd, rm, rs, 0),
-        Instr::Mla {
-            set_flags,
-            rd,
-            rm,
-            rs,
-            rn,
-            ..
-        } => {
-            let added = s.get(rn);
-            multiply(arch, s, set_flags, rd, rm, rs, added)
-        }
-        Instr::LongMultiply {
-            signed,
-            accumulate,
-            set_flags,
-            rd_lo,
-            rd_hi,
-            rm,
-            rs,
-            ..
-        } => { long_multiply(arch, s, signed, accumulate, set_flags, rd_lo, rd_hi, rm, rs) }
-        Instr::Mrs { spsr, rd, .. } => mrs(arch, s, spsr, rd),
-        Instr::Msr {
-            spsr,
-            fields,
-            rm,
-            ..
-        } => {
-            let operand = s.get(rm);
-            msr(arch, s, spsr, fields, operand)
-        }
-        Instr::MsrImmediate {
-            spsr,
-            fields,
-            rotate,
-            immed,
-            ..
-        } => {
-            msr(
-                arch,
-                s,
-                spsr,
-                fields,
-                rotated_immediate(rotate, immed, false).value,
-            )
-        }
-        _ => return act_transfer(arch, base, s, bus, instr),
-    })
-}
-
-/// What an instruction does where its condition holds, with the base of the vectors.
-#[inline]
-pub fn act<B: Bus>(arch: Arch, base: u32, s: &mut Registers, bus: &mut B, instr: &Instr) -> Stepped
-    requires { HasFields instr.now }
-    ensures registers { s.new ≡ (carried_out B.memory arch s.old (B.state bus.old) (act arch base s.old instr.now)).registers }
-    ensures state { B.state bus.new ≡ (carried_out B.memory arch s.old (B.state bus.old) (act arch base s.old instr.now)).state }
-    ensures stepped { result ≡ (carried_out B.memory arch s.old (B.state bus.old) (act arch base s.old instr.now)).stepped }
-    ensures same { B.identity bus.new ≡ B.identity bus.old }
-{
-    match *instr {
-        Instr::Data {
-            op,
-            set_flags,
-            rn,
-            rd,
-            operand,
-            ..
-        } => { Stepped::Cost(data(arch, s, op, set_flags, rn, rd, operand)) }
-        Instr::Compare {
-            op,
-            rn,
-            operand,
-            ..
-        } => Stepped::Cost(compare(arch, s, op, rn, operand)),
-        Instr::Move {
-            op,
-            set_flags,
-            rd,
-            operand,
-            ..
-        } => { Stepped::Cost(move_(arch, s, op, set_flags, rd, operand)) }
-        Instr::ThumbAddress { rd, immed, .. } => Stepped::Cost(address(arch, s, rd, immed)),
-        _ => act_multiply(arch, base, s, bus, instr),
+        _ => Stepped::Cost(act_processing(arch, base, s, instr)),
     }
 }

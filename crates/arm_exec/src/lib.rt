@@ -8,6 +8,7 @@ mod multiples;
 mod multiplies;
 mod processing;
 mod statuses;
+mod steps;
 mod swaps;
 mod transfers;
 
@@ -20,5 +21,6 @@ pub use multiples::{load_multiple, multiple, store_multiple};
 pub use multiplies::{long_multiply, multiply};
 pub use processing::{compare, data, move_};
 pub use statuses::{mrs, msr};
+pub use steps::{execute, step};
 pub use swaps::swap;
 pub use transfers::{half_transfer, literal, transfer};

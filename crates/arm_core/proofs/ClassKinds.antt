@@ -13,7 +13,7 @@ use Rattle.arm_words.specs.declared.parts.Operand.{Operand}
 use Rattle.arm_words.specs.declared.parts.ShortOffset.{ShortOffset}
 use Rattle.arm_core.specs.Registers.{RegisterState}
 use Rattle.arm_core.specs.Enhanced.{enhanced_meaning}
-use Rattle.arm_core.specs.Meanings.{act, act_multiply, act_transfer, act_branch}
+use Rattle.arm_core.specs.Meanings.{act, act_processing, act_multiply, act_branch}
 
 -- An instruction that isn't of a class's kinds is looked for in the next class.
 
@@ -22,7 +22,7 @@ pub processing_else : (arch : Arch) (base : ℕ) (s : RegisterState) (i : Instr)
     → ((cond : Condition) (op : CompareOp) (rn : ℕ) (operand : Operand) → i ≡ Compare cond op rn operand → ⊥)
     → ((cond : Condition) (op : MoveOp) (set_flags : Bool) (rd : ℕ) (operand : Operand) → i ≡ Move cond op set_flags rd operand → ⊥)
     → ((stack : Bool) (rd immed : ℕ) → i ≡ ThumbAddress stack rd immed → ⊥)
-    → act arch base s i ≡ act_multiply arch base s i
+    → act_processing arch base s i ≡ act_multiply arch base s i
 processing_else arch base s (Data cond op set_flags rn rd operand) a b c d = absurd (a cond op set_flags rn rd operand refl)
 processing_else arch base s (Compare cond op rn operand) a b c d = absurd (b cond op rn operand refl)
 processing_else arch base s (Move cond op set_flags rd operand) a b c d = absurd (c cond op set_flags rd operand refl)
@@ -36,7 +36,7 @@ pub multiply_else : (arch : Arch) (base : ℕ) (s : RegisterState) (i : Instr)
     → ((cond : Condition) (spsr : Bool) (rd : ℕ) → i ≡ Mrs cond spsr rd → ⊥)
     → ((cond : Condition) (spsr : Bool) (fields : FieldMask) (rm : ℕ) → i ≡ Msr cond spsr fields rm → ⊥)
     → ((cond : Condition) (spsr : Bool) (fields : FieldMask) (rotation immed : ℕ) → i ≡ MsrImmediate cond spsr fields rotation immed → ⊥)
-    → act_multiply arch base s i ≡ act_transfer arch base s i
+    → act_multiply arch base s i ≡ act_branch arch base s i
 multiply_else arch base s (Mul cond set_flags rd rm rs) a b c d e f = absurd (a cond set_flags rd rm rs refl)
 multiply_else arch base s (Mla cond set_flags rd rm rs rn) a b c d e f = absurd (b cond set_flags rd rm rs rn refl)
 multiply_else arch base s (LongMultiply cond signed accumulate set_flags rd_lo rd_hi rm rs) a b c d e f =
@@ -52,7 +52,7 @@ pub transfer_else : (arch : Arch) (base : ℕ) (s : RegisterState) (i : Instr)
     → ((cond : Condition) (pre up user write_back load : Bool) (rn list : ℕ) → i ≡ Multiple cond pre up user write_back load rn list → ⊥)
     → ((cond : Condition) (byte : Bool) (rd rm rn : ℕ) → i ≡ Swap cond byte rd rm rn → ⊥)
     → ((rd immed : ℕ) → i ≡ ThumbLoadLiteral rd immed → ⊥)
-    → act_transfer arch base s i ≡ act_branch arch base s i
+    → act arch base s i ≡ act_processing arch base s i
 transfer_else arch base s (Transfer cond pre up byte write_back load rn rd offset) a b c d e = absurd (a cond pre up byte write_back load rn rd offset refl)
 transfer_else arch base s (HalfTransfer cond op pre up write_back rn rd offset) a b c d e = absurd (b cond op pre up write_back rn rd offset refl)
 transfer_else arch base s (Multiple cond pre up user write_back load rn list) a b c d e = absurd (c cond pre up user write_back load rn list refl)

@@ -1,0 +1,11 @@
+use Rattle.std.specs.Prelude.{ℕ, ◌≡◌}
+use Rattle.ds_base.specs.declared.left_out.Stop.{Stop}
+use Rattle.arm_core.specs.Registers.{RegisterState}
+use Rattle.arm_core.specs.declared.outcomes.Stepped as stepped
+use Rattle.arm_core.specs.declared.outcomes.Stepped.TheVariants.{Cost, Halted, Left}
+
+-- a step that needs what is left out leaves the registers as they were, and ARM7's step never halts
+abbrev pub KeepsWhereLeft : RegisterState → stepped.Stepped → RegisterState → Type 0
+KeepsWhereLeft old (Cost clocks) new = Unit {0}
+KeepsWhereLeft old (Halted clocks) new = ⊥
+KeepsWhereLeft old (Left stop) new = new ≡ old

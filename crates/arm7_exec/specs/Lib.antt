@@ -1,0 +1,2 @@
+pub mod Arm7
+pub mod Lefts

@@ -1,0 +1,7 @@
+//! ARM7's step: ARMv4T, whose vectors stand at 0, in its boot ROM (GBATEK, "NDS Overview": an ARM7TDMI).
+#![tactic(auto)]
+
+mod steps;
+
+pub use arm_core::Stepped;
+pub use steps::step7;

@@ -1,0 +1,23 @@
+//! A step of ARM7.
+
+ghost use Rattle.std.specs.Prelude.{◌≡◌};
+ghost use Rattle.arm7_exec.specs.Arm7.{step7_of};
+ghost use Rattle.arm7_exec.specs.Lefts.{KeepsWhereLeft};
+
+use arm_core::{Bus, Core, Stepped};
+use arm_exec::step;
+use ds_base::Arch;
+
+/// A step of ARM7: the entry of the interrupt where its line is up and I is clear, and otherwise the instruction at r15, by its meaning on
+/// ARMv4. It answers its cost in bus clocks, or the stop for which it needs what is left out: a write that the bus refused, or a SWI whose
+/// number the boot ROM hasn't. Then the core is as it was, and the accesses before the refused one stand. It never answers a halt.
+#[inline]
+pub fn step7<B: Bus>(core: &mut Core, bus: &mut B, line: bool) -> Stepped
+    ensures core { core.new ≡ record core.old { registers = (step7_of B.memory line core.old.registers (B.state bus.old)).registers } }
+    ensures state { B.state bus.new ≡ (step7_of B.memory line core.old.registers (B.state bus.old)).state }
+    ensures stepped { result ≡ (step7_of B.memory line core.old.registers (B.state bus.old)).stepped }
+    ensures same { B.identity bus.new ≡ B.identity bus.old }
+    ensures left { KeepsWhereLeft core.old.registers result core.new.registers }
+{
+    step(Arch::V4, 0, true, &mut core.registers, bus, line)
+}

@@ -1,0 +1,187 @@
+//! What a row says, and how it is tried.
+
+use arm_core::{Bus, Core, FlatBus, Registers, Stepped};
+use arm7_exec::step7;
+use ds_base::{Arch, Width};
+use std::alloc::{AllocError, Global};
+use std::process::Abort;
+
+/// System mode in ARM state, with no flag set.
+pub const ARM: u32 = 0x1F;
+
+/// System mode in Thumb state.
+pub const THUMB: u32 = 0x3F;
+
+/// Where r15 stands among the 37 words, CPSR, and the SPSRs of Supervisor, IRQ and Undefined mode.
+pub const PC: usize = 30;
+
+pub const CPSR: usize = 31;
+
+pub const SPSR_SVC: usize = 33;
+
+pub const SPSR_IRQ: usize = 35;
+
+pub const SPSR_UND: usize = 36;
+
+/// Words of memory, which the rows read: the address and the word. All others are 0.
+const WORDS: [(u32, u32); 8] = [
+    (0x00, 0x4433_2211),
+    (0x08, 0x8483_8281),
+    (0x40, 7),
+    (0x44, 9),
+    (0x48, 0x183),
+    (0x104, 0x0104_A1A1),
+    (0x108, 0x0108_B2B2),
+    (0x10C, 0x010C_C3C3),
+];
+
+/// A step, worked by hand.
+#[derive(Clone, Copy)]
+pub struct Row<'a> {
+    /// What it shows.
+    pub name: &'a str,
+    /// CPSR before it.
+    pub cpsr: u32,
+    /// SPSR of its mode before it, where the mode has one.
+    pub spsr: u32,
+    /// Where its word or half stands.
+    pub at: u32,
+    /// The word, in Thumb state the half.
+    pub code: u32,
+    /// Registers before it, as the mode sees them. The others are those of a boot at 100h with stacks at 0.
+    pub given: &'a [(u8, u32)],
+    /// What it leaves of the 37 words, where they change: the place of each, and its value. r15 goes on to the next word or half where
+    /// the row doesn't name it.
+    pub left: &'a [(usize, u32)],
+    /// What it leaves of the words in memory, where they change.
+    pub stored: &'a [(u32, u32)],
+    /// What it costs.
+    pub cost: u32,
+}
+
+/// A step in ARM state at 100h that stores nothing: the word, what it costs, registers before it, and what it leaves.
+pub fn arm<'a>(
+    name: &'a str,
+    code: u32,
+    cost: u32,
+    given: &'a [(u8, u32)],
+    left: &'a [(usize, u32)],
+) -> Row<'a> {
+    Row {
+        name,
+        cpsr: ARM,
+        spsr: 0,
+        at: 0x100,
+        code,
+        given,
+        left,
+        stored: &[],
+        cost,
+    }
+}
+
+/// The same in Thumb state.
+pub fn thumb<'a>(
+    name: &'a str,
+    code: u32,
+    cost: u32,
+    given: &'a [(u8, u32)],
+    left: &'a [(usize, u32)],
+) -> Row<'a> {
+    Row {
+        cpsr: THUMB,
+        ..arm(name, code, cost, given, left)
+    }
+}
+
+/// Writes words.
+fn write_words(bus: &mut FlatBus, words: &[(u32, u32)]) {
+    for &(at, word) in words {
+        let _ = bus.write(at, Width::Word, word);
+    }
+}
+
+/// Memory before a row.
+fn memory(alloc: Global, row: &Row<'_>) -> Result<FlatBus, AllocError> {
+    let mut bus = FlatBus::new(vec![in alloc; 0; 0x200]?);
+    write_words(&mut bus, &WORDS);
+    let width = if is_thumb(row) {
+        Width::Half
+    } else {
+        Width::Word
+    };
+    let _ = bus.write(row.at, width, row.code);
+    Ok(bus)
+}
+
+/// The core before a row.
+fn core(row: &Row<'_>) -> Core {
+    let mut core = Core::boot(Arch::V4, 0x100, [0; 3]);
+    core.registers.set_cpsr(row.cpsr);
+    core.registers.write_spsr(0xFFFF_FFFF, row.spsr);
+    core.registers.jump(row.at);
+    for &(r, value) in row.given {
+        if r < 16 {
+            core.registers.set(r, value);
+        }
+    }
+    core
+}
+
+/// Whether a row is in Thumb state.
+fn is_thumb(row: &Row<'_>) -> bool {
+    row.cpsr & 0x20 != 0
+}
+
+/// The words that a row leaves of a core's.
+fn after(row: &Row<'_>, before: [u32; 37]) -> [u32; 37] {
+    let mut words = before;
+    words[PC] = row.at.wrapping_add(if is_thumb(row) { 2 } else { 4 });
+    for &(place, value) in row.left {
+        if let Some(word) = words.get_mut(place) {
+            *word = value;
+        }
+    }
+    words
+}
+
+/// Tries a row whose step comes to `stepped`, with the interrupt line up or not.
+pub fn try_stepped(
+    rt: &impl Abort,
+    alloc: Global,
+    row: &Row<'_>,
+    line: bool,
+    stepped: Stepped,
+) -> Result<(), AllocError> {
+    let name = row.name;
+    let mut core = core(row);
+    let mut bus = memory(alloc, row)?;
+    let mut want = memory(alloc, row)?;
+    write_words(&mut want, row.stored);
+    let words = after(row, core.registers());
+    let found = step7(&mut core, &mut bus, line);
+    assert_eq!(rt; found, stepped, "{name}");
+    for (place, (got, word)) in core.registers().iter().zip(words.iter()).enumerate() {
+        assert_eq!(rt; got, word, "{name}: word {place}");
+    }
+    assert!(rt; bus.bytes() == want.bytes(), "{name}: memory");
+    Ok(())
+}
+
+/// Tries a row that costs what it says, with the interrupt line up or not.
+pub fn try_row(
+    rt: &impl Abort,
+    alloc: Global,
+    row: &Row<'_>,
+    line: bool,
+) -> Result<(), AllocError> {
+    try_stepped(rt, alloc, row, line, Stepped::Cost(row.cost))
+}
+
+/// Tries rows, with the interrupt line down.
+pub fn try_rows(rt: &impl Abort, alloc: Global, rows: &[Row<'_>]) -> Result<(), AllocError> {
+    for row in rows {
+        try_row(rt, alloc, row, false)?;
+    }
+    Ok(())
+}

@@ -1,0 +1,4 @@
+pub mod Layouts
+pub mod Powers
+pub mod ThumbKinds
+pub mod ClassKinds

@@ -1,0 +1,268 @@
+//! The registers.
+
+ghost use Rattle.std.specs.Prelude.{◌≡◌, ◌<◌, ◌^◌, ℕ, Some, None, Option, IfSome};
+ghost use Rattle.arm_core.specs.Registers.{bank, bank_of, is_thumb, jumped, late_r15, late_register, next, place, put, put_in, r15, register, register_in, saved_place, words_of};
+ghost use Rattle.arm_core.specs.Cores.{booted};
+
+use crate::banks::Bank;
+use std::marker::Model;
+
+/// The 37 registers of a processor (ARM manual, A2.3 "Registers"). r15 is the address of the instruction that is executed next.
+#[derive(Drop)]
+pub struct Registers {
+    /// r0 to r12; r8 to r12 of FIQ; r13 and r14 of System, FIQ, Supervisor, Abort, IRQ, Undefined.
+    pub(crate) general: [u32; 30],
+    pub(crate) pc: u32,
+    pub(crate) cpsr: u32,
+    /// SPSR of FIQ, Supervisor, Abort, IRQ, Undefined.
+    pub(crate) saved: [u32; 5],
+}
+
+impl Model for Registers {
+    ghost use Rattle.arm_core.specs.Registers.{RegisterState};
+
+    ghost Value = { RegisterState };
+
+    ghost view = { λ s. record { general = s.general; pc = s.pc; cpsr = s.cpsr; saved = s.saved } };
+}
+
+/// Where r8 to r14 stand in each bank, in the order of the banks.
+const PLACES: [[u8; 7]; 6] = [
+    [8, 9, 10, 11, 12, 18, 19],
+    [13, 14, 15, 16, 17, 20, 21],
+    [8, 9, 10, 11, 12, 22, 23],
+    [8, 9, 10, 11, 12, 24, 25],
+    [8, 9, 10, 11, 12, 26, 27],
+    [8, 9, 10, 11, 12, 28, 29],
+];
+
+/// The bank of a mode.
+#[inline(always)]
+fn bank_by(mode: u32) -> Bank
+    ensures { result ≡ bank_of mode }
+{
+    match mode {
+        0x11 => Bank::Fiq,
+        0x12 => Bank::Irq,
+        0x13 => Bank::Supervisor,
+        0x17 => Bank::Abort,
+        0x1B => Bank::Undefined,
+        _ => Bank::System,
+    }
+}
+
+impl Bank {
+    /// Where a register below r15 stands among the general registers.
+    #[inline(always)]
+    pub fn place(self, r: u8) -> usize
+        requires { r < 15 }
+        ensures place { result ≡ place self r }
+        ensures within { result < 30 }
+    {
+        if r < 8 {
+            return r as usize;
+        }
+        PLACES[self as usize][r as usize - 8] as usize
+    }
+
+    /// Which SPSR it has.
+    #[inline(always)]
+    pub fn saved_place(self) -> Option<usize>
+        ensures place { result ≡ saved_place self }
+        ensures within { IfSome result (λ at. at < 5) }
+    {
+        match self {
+            Bank::System => None,
+            Bank::Fiq => Some(0),
+            Bank::Supervisor => Some(1),
+            Bank::Abort => Some(2),
+            Bank::Irq => Some(3),
+            Bank::Undefined => Some(4),
+        }
+    }
+}
+
+impl Registers {
+    /// The registers at boot, from the entry and the stacks of System, IRQ and Supervisor mode: System mode with interrupts masked, in
+    /// ARM state; r12, r14 and r15 are the entry, and what isn't named is 0.
+    pub fn boot(entry: u32, stacks: [u32; 3]) -> Registers
+        ensures { result ≡ booted entry stacks }
+    {
+        let [system, irq, supervisor] = stacks;
+        let mut general = [0; 30];
+        general[12] = entry;
+        general[18] = system;
+        general[19] = entry;
+        general[22] = supervisor;
+        general[26] = irq;
+        Registers {
+            general,
+            pc: entry,
+            cpsr: 0xDF,
+            saved: [0; 5],
+        }
+    }
+
+    /// All 37 in order: r0 to r12; r8 to r12 of FIQ; r13 and r14 of System, FIQ, Supervisor, Abort, IRQ, Undefined; r15; CPSR; SPSR of
+    /// FIQ, Supervisor, Abort, IRQ, Undefined.
+    pub fn words(&self) -> [u32; 37]
+        ensures { result ≡ words_of self.now }
+    {
+        let mut words = [0; 37];
+        words[..30].copy_from_slice(&self.general);
+        words[30] = self.pc;
+        words[31] = self.cpsr;
+        words[32..].copy_from_slice(&self.saved);
+        words
+    }
+
+    /// The address of the instruction that is executed next.
+    #[inline(always)]
+    pub fn pc(&self) -> u32
+        ensures { result ≡ self.now.pc }
+    {
+        self.pc
+    }
+
+    /// CPSR.
+    #[inline(always)]
+    pub fn cpsr(&self) -> u32
+        ensures { result ≡ self.now.cpsr }
+    {
+        self.cpsr
+    }
+
+    /// Writes CPSR.
+    #[inline(always)]
+    pub fn set_cpsr(&mut self, cpsr: u32)
+        ensures { self.new ≡ record self.old { cpsr = cpsr } }
+    {
+        self.cpsr = cpsr;
+    }
+
+    /// Whether the processor is in Thumb state.
+    #[inline(always)]
+    pub fn is_thumb(&self) -> bool
+        ensures { result ≡ is_thumb self.now }
+    {
+        (self.cpsr >> 5) & 1 == 1
+    }
+
+    /// The bank that the mode sees.
+    #[inline(always)]
+    pub fn bank(&self) -> Bank
+        ensures { result ≡ bank self.now }
+    {
+        bank_by(self.cpsr & 31)
+    }
+
+    /// What r15 reads as.
+    #[inline(always)]
+    pub fn r15(&self) -> u32
+        ensures { result ≡ r15 self.now }
+    {
+        self.pc.wrapping_add(if self.is_thumb() { 4 } else { 8 })
+    }
+
+    /// What r15 reads as where it is stored, and where a register shifts.
+    #[inline(always)]
+    pub fn late_r15(&self) -> u32
+        ensures { result ≡ late_r15 self.now }
+    {
+        self.pc.wrapping_add(if self.is_thumb() { 4 } else { 12 })
+    }
+
+    /// A register of a bank below r15.
+    #[inline(always)]
+    fn low(&self, bank: Bank, r: u8) -> u32
+        requires { r < 15 }
+        ensures { (as_r15 : ℕ) → result ≡ register_in bank as_r15 self.now r }
+    {
+        self.general[bank.place(r)]
+    }
+
+    /// A register as an instruction reads it.
+    #[inline(always)]
+    pub fn get(&self, r: u8) -> u32
+        requires { r < 16 }
+        ensures { result ≡ register self.now r }
+    {
+        if r == 15 {
+            self.r15()
+        } else {
+            self.low(self.bank(), r)
+        }
+    }
+
+    /// A register of a bank, as it is stored, or read where a register shifts.
+    #[inline(always)]
+    pub fn get_late_in(&self, bank: Bank, r: u8) -> u32
+        requires { r < 16 }
+        ensures { result ≡ register_in bank (late_r15 self.now) self.now r }
+    {
+        if r == 15 {
+            self.late_r15()
+        } else {
+            self.low(bank, r)
+        }
+    }
+
+    /// A register as it is stored, or read where a register shifts.
+    #[inline(always)]
+    pub fn get_late(&self, r: u8) -> u32
+        requires { r < 16 }
+        ensures { result ≡ late_register self.now r }
+    {
+        self.get_late_in(self.bank(), r)
+    }
+
+    /// The address of the instruction behind the one that is executed next.
+    #[inline(always)]
+    pub fn next_pc(&self) -> u32
+        ensures { result ≡ (next self.now).pc }
+    {
+        self.pc.wrapping_add(if self.is_thumb() { 2 } else { 4 })
+    }
+
+    /// r15 goes on to the next instruction.
+    #[inline(always)]
+    pub fn go_on(&mut self)
+        ensures { self.new ≡ next self.old }
+    {
+        self.pc = self.next_pc();
+    }
+
+    /// Writes r15, aligned for the state.
+    #[inline(always)]
+    pub fn jump(&mut self, target: u32)
+        ensures { self.new ≡ jumped target self.old }
+    {
+        self.pc = if self.is_thumb() {
+            target - target % 2
+        } else {
+            target - target % 4
+        };
+    }
+
+    /// Writes a register of a bank.
+    #[inline(always)]
+    pub fn set_in(&mut self, bank: Bank, r: u8, value: u32)
+        requires { r < 16 }
+        ensures { self.new ≡ put_in bank r value self.old }
+    {
+        if r == 15 {
+            self.jump(value);
+        } else {
+            self.general[bank.place(r)] = value;
+        }
+    }
+
+    /// Writes a register.
+    #[inline(always)]
+    pub fn set(&mut self, r: u8, value: u32)
+        requires { r < 16 }
+        ensures { self.new ≡ put r value self.old }
+    {
+        self.set_in(self.bank(), r, value);
+    }
+}

@@ -1,0 +1,114 @@
+//! Data processing.
+
+ghost use Rattle.std.specs.Prelude.{◌≡◌, ◌<◌, []};
+ghost use Rattle.arm_words.specs.Fields.{HasOperand};
+ghost use Rattle.arm_core.specs.Costs.{HasClocks};
+ghost use Rattle.arm_core.specs.Effects.{cost_of};
+ghost use Rattle.arm_core.specs.DataProcessing.{compare_meaning, data_meaning, finished, move_meaning, operand_class};
+
+use arm_core::{
+    Class, Computed, Registers, compare_result, data_result, first_operand, move_result,
+    shifter_operand,
+};
+use arm_words::{CompareOp, DataOp, MoveOp, Operand};
+use ds_base::Arch;
+
+/// What data processing with such an operand costs.
+#[inline(always)]
+fn operand_class(operand: Operand) -> Class
+    ensures class { result ≡ operand_class operand }
+    ensures clocks { HasClocks result }
+{
+    match operand {
+        Operand::ShiftedByRegister { .. } => Class::ShiftByRegister,
+        _ => Class::Processing,
+    }
+}
+
+/// The result goes to `rd`. With S the flags are set, or for r15 CPSR is restored.
+#[inline(always)]
+fn finish(s: &mut Registers, set_flags: bool, rd: u8, r: Computed)
+    requires { rd < 16 }
+    ensures { s.new ≡ finished set_flags rd r s.old }
+{
+    if !set_flags {
+        s.set(rd, r.value);
+    } else if rd == 15 {
+        s.restore();
+        s.set(rd, r.value);
+    } else {
+        s.set_flags(r);
+        s.set(rd, r.value);
+    }
+}
+
+/// Data processing with two operands and a result (ARM manual, A4.1 "ADC", "ADD", "AND", "BIC", "EOR", "ORR", "RSB", "RSC", "SBC", "SUB").
+/// Gives what it costs, in the processor's own clocks.
+#[inline]
+pub fn data(
+    arch: Arch,
+    s: &mut Registers,
+    op: DataOp,
+    set_flags: bool,
+    rn: u8,
+    rd: u8,
+    operand: Operand,
+) -> u32
+    requires rn { rn < 16 }
+    requires rd { rd < 16 }
+    requires operand { HasOperand operand }
+    ensures registers { s.new ≡ (data_meaning s.old op set_flags rn rd operand).after [] }
+    ensures cost { result ≡ cost_of arch (data_meaning s.old op set_flags rn rd operand) }
+{
+    let first = first_operand(s, operand, rn);
+    let second = shifter_operand(s, operand);
+    let cpsr = s.cpsr();
+    let r = data_result(
+        op,
+        first,
+        second,
+        (cpsr >> 29) & 1 == 1,
+        (cpsr >> 28) & 1 == 1,
+    );
+    s.go_on();
+    finish(s, set_flags, rd, r);
+    operand_class(operand).cost(arch, rd == 15)
+}
+
+/// Data processing that sets the flags alone (ARM manual, A4.1 "CMN", "CMP", "TEQ", "TST"). Gives its cost in the processor's own clocks.
+#[inline]
+pub fn compare(arch: Arch, s: &mut Registers, op: CompareOp, rn: u8, operand: Operand) -> u32
+    requires rn { rn < 16 }
+    requires operand { HasOperand operand }
+    ensures registers { s.new ≡ (compare_meaning s.old op rn operand).after [] }
+    ensures cost { result ≡ cost_of arch (compare_meaning s.old op rn operand) }
+{
+    let first = first_operand(s, operand, rn);
+    let second = shifter_operand(s, operand);
+    let r = compare_result(op, first, second, (s.cpsr() >> 28) & 1 == 1);
+    s.go_on();
+    s.set_flags(r);
+    operand_class(operand).cost(arch, false)
+}
+
+/// MOV and MVN (ARM manual, A4.1 "MOV", "MVN"). Gives their cost in the processor's own clocks.
+#[inline]
+pub fn move_(
+    arch: Arch,
+    s: &mut Registers,
+    op: MoveOp,
+    set_flags: bool,
+    rd: u8,
+    operand: Operand,
+) -> u32
+    requires rd { rd < 16 }
+    requires operand { HasOperand operand }
+    ensures registers { s.new ≡ (move_meaning s.old op set_flags rd operand).after [] }
+    ensures cost { result ≡ cost_of arch (move_meaning s.old op set_flags rd operand) }
+{
+    let second = shifter_operand(s, operand);
+    let r = move_result(op, second, (s.cpsr() >> 28) & 1 == 1);
+    s.go_on();
+    finish(s, set_flags, rd, r);
+    operand_class(operand).cost(arch, rd == 15)
+}

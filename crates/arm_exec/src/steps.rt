@@ -1,0 +1,268 @@
+//! A processor's step.
+
+ghost use Rattle.std.specs.Prelude.{◌≡◌, ◌<◌, ◌&&◌, not, [], None, if◌then◌else◌, IfSome};
+ghost use Rattle.ds_base.specs.Bits.{bit};
+ghost use Rattle.arm_words.specs.Fields.{HasFields};
+ghost use Rattle.arm_words.specs.Parts.{condition_of};
+ghost use Rattle.arm_core.specs.Conditions.{holds};
+ghost use Rattle.arm_core.specs.Effects.{cost_of};
+ghost use Rattle.arm_core.specs.Exceptions.{undefined_meaning};
+ghost use Rattle.arm_core.specs.Meanings.{condition, skipped};
+ghost use Rattle.arm_core.specs.Steps.{executed, executed_word, fetched_half, fetched_word, step_of, swi_stop, unserved};
+
+use crate::acts::{act, skip};
+use crate::exceptions::{interrupt, undefined};
+use arm_core::{Bus, Registers, Stepped, equivalent, holds};
+use arm_words::{Condition, Instr, decode_arm, decode_thumb};
+use ds_base::{Arch, LeftKind, Stop, Width};
+
+/// The condition under which an instruction takes effect (ARM manual, A3.2); Thumb's have none, but for B.
+#[inline(always)]
+fn condition(instr: &Instr) -> Condition
+    ensures { result ≡ condition instr.now }
+{
+    match *instr {
+        Instr::Bx { cond, .. } => cond,
+        Instr::BlxRegister { cond, .. } => cond,
+        Instr::Clz { cond, .. } => cond,
+        Instr::Saturating { cond, .. } => cond,
+        Instr::Smla { cond, .. } => cond,
+        Instr::Smlaw { cond, .. } => cond,
+        Instr::Smulw { cond, .. } => cond,
+        Instr::Smlal { cond, .. } => cond,
+        Instr::Smul { cond, .. } => cond,
+        Instr::Mul { cond, .. } => cond,
+        Instr::Mla { cond, .. } => cond,
+        Instr::LongMultiply { cond, .. } => cond,
+        Instr::Swap { cond, .. } => cond,
+        Instr::HalfTransfer { cond, .. } => cond,
+        Instr::Mrs { cond, .. } => cond,
+        Instr::Msr { cond, .. } => cond,
+        Instr::MsrImmediate { cond, .. } => cond,
+        Instr::Compare { cond, .. } => cond,
+        Instr::Move { cond, .. } => cond,
+        Instr::Data { cond, .. } => cond,
+        Instr::DoubleTransfer { cond, .. } => cond,
+        Instr::Transfer { cond, .. } => cond,
+        Instr::Multiple { cond, .. } => cond,
+        Instr::Branch { cond, .. } => cond,
+        Instr::Coprocessor { cond, .. } => cond,
+        Instr::Swi { cond, .. } => cond,
+        Instr::ThumbBranchIf { cond, .. } => cond,
+        Instr::Bkpt { .. }
+        | Instr::BlxTarget { .. }
+        | Instr::Pld { .. }
+        | Instr::Never { .. }
+        | Instr::ThumbAddSub { .. }
+        | Instr::ThumbShift { .. }
+        | Instr::ThumbImmediate { .. }
+        | Instr::ThumbData { .. }
+        | Instr::ThumbBx { .. }
+        | Instr::ThumbBlxRegister { .. }
+        | Instr::ThumbHigh { .. }
+        | Instr::ThumbLoadLiteral { .. }
+        | Instr::ThumbRegisterOffset { .. }
+        | Instr::ThumbImmediateOffset { .. }
+        | Instr::ThumbHalfOffset { .. }
+        | Instr::ThumbStackOffset { .. }
+        | Instr::ThumbAddress { .. }
+        | Instr::ThumbAdjustStack { .. }
+        | Instr::ThumbPushPop { .. }
+        | Instr::ThumbBkpt { .. }
+        | Instr::ThumbMultiple { .. }
+        | Instr::ThumbSwi { .. }
+        | Instr::ThumbBranch { .. }
+        | Instr::ThumbBlxSuffix { .. }
+        | Instr::ThumbBlPrefix { .. }
+        | Instr::ThumbBlSuffix { .. } => Condition::Al,
+    }
+}
+
+/// The condition of a number.
+#[inline(always)]
+fn condition_of(number: u32) -> Condition
+    requires { number < 16 }
+    ensures { result ≡ condition_of number }
+{
+    match number {
+        0 => Condition::Eq,
+        1 => Condition::Ne,
+        2 => Condition::Cs,
+        3 => Condition::Cc,
+        4 => Condition::Mi,
+        5 => Condition::Pl,
+        6 => Condition::Vs,
+        7 => Condition::Vc,
+        8 => Condition::Hi,
+        9 => Condition::Ls,
+        10 => Condition::Ge,
+        11 => Condition::Lt,
+        12 => Condition::Gt,
+        13 => Condition::Le,
+        _ => Condition::Al,
+    }
+}
+
+/// The stop that a call of the boot ROM's function of a number needs, where it has none (GBATEK, "BIOS Functions"; our choice of those
+/// that there are).
+#[inline(always)]
+fn unserved(number: u32) -> Option<Stop>
+    ensures { result ≡ unserved number }
+{
+    match number {
+        0x03 | 0x04 | 0x05 | 0x06 | 0x09 | 0x0B => None,
+        _ => Some(Stop {
+            kind: LeftKind::Swi,
+            value: number,
+        }),
+    }
+}
+
+/// The stop that a SWI into the boot ROM needs, if it does.
+#[inline(always)]
+fn swi_stop(instr: &Instr) -> Option<Stop>
+    ensures { result ≡ swi_stop instr.now }
+{
+    match *instr {
+        Instr::Swi { immed, .. } => unserved(immed >> 16),
+        Instr::ThumbSwi { immed } => unserved(immed as u32),
+        _ => None,
+    }
+}
+
+/// The stop that an instruction needs before it makes an access, if it does.
+#[inline(always)]
+fn stop_before(in_rom: bool, instr: &Instr) -> Option<Stop>
+    ensures { result ≡ (if in_rom then swi_stop instr.now else None) }
+{
+    if in_rom { swi_stop(instr) } else { None }
+}
+
+/// Executes an instruction: with the base of the vectors, and whether SWI's lies in the boot ROM.
+#[inline]
+pub fn execute<B: Bus>(
+    arch: Arch,
+    base: u32,
+    in_rom: bool,
+    s: &mut Registers,
+    bus: &mut B,
+    instr: &Instr,
+) -> Stepped
+    requires { HasFields instr.now }
+    ensures registers { s.new ≡ (executed B.memory (record { arch = arch; base = base; in_rom = in_rom }) s.old (B.state bus.old) instr.now).registers }
+    ensures state { B.state bus.new ≡ (executed B.memory (record { arch = arch; base = base; in_rom = in_rom }) s.old (B.state bus.old) instr.now).state }
+    ensures stepped { result ≡ (executed B.memory (record { arch = arch; base = base; in_rom = in_rom }) s.old (B.state bus.old) instr.now).stepped }
+    ensures same { B.identity bus.new ≡ B.identity bus.old }
+{
+    if !holds(condition(instr), s.cpsr()) {
+        return Stepped::Cost(skip(arch, s));
+    }
+    if let Some(stop) = stop_before(in_rom, instr) {
+        return Stepped::Left(stop);
+    }
+    act(arch, base, s, bus, &equivalent(instr))
+}
+
+/// A word or half that has no instruction is undefined, where its condition holds; the result is its cost.
+#[inline]
+fn undefined_word(arch: Arch, base: u32, s: &mut Registers, cond: Condition) -> u32
+    ensures registers { s.new ≡ (if holds cond s.old.cpsr then undefined_meaning base s.old else skipped s.old).after [] }
+    ensures cost { result ≡ cost_of arch (if holds cond s.old.cpsr then undefined_meaning base s.old else skipped s.old) }
+{
+    if holds(cond, s.cpsr()) {
+        undefined(arch, s, base)
+    } else {
+        skip(arch, s)
+    }
+}
+
+/// Executes the instruction of a word or half that was fetched, if it has one.
+#[inline]
+fn execute_word<B: Bus>(
+    arch: Arch,
+    base: u32,
+    in_rom: bool,
+    s: &mut Registers,
+    bus: &mut B,
+    number: u32,
+    instr: Option<Instr>,
+) -> Stepped
+    requires number { number < 16 }
+    requires fields { IfSome instr HasFields }
+    ensures registers { s.new ≡ (executed_word B.memory (record { arch = arch; base = base; in_rom = in_rom }) s.old (B.state bus.old) number instr).registers }
+    ensures state { B.state bus.new ≡ (executed_word B.memory (record { arch = arch; base = base; in_rom = in_rom }) s.old (B.state bus.old) number instr).state }
+    ensures stepped { result ≡ (executed_word B.memory (record { arch = arch; base = base; in_rom = in_rom }) s.old (B.state bus.old) number instr).stepped }
+    ensures same { B.identity bus.new ≡ B.identity bus.old }
+{
+    match instr {
+        Some(instr) => execute(arch, base, in_rom, s, bus, &instr),
+        None => Stepped::Cost(undefined_word(arch, base, s, condition_of(number))),
+    }
+}
+
+/// Fetches a word at r15 and executes it.
+#[inline]
+fn step_word<B: Bus>(arch: Arch, base: u32, in_rom: bool, s: &mut Registers, bus: &mut B) -> Stepped
+    ensures registers { s.new ≡ (fetched_word B.memory (record { arch = arch; base = base; in_rom = in_rom }) s.old (B.state bus.old)).registers }
+    ensures state { B.state bus.new ≡ (fetched_word B.memory (record { arch = arch; base = base; in_rom = in_rom }) s.old (B.state bus.old)).state }
+    ensures stepped { result ≡ (fetched_word B.memory (record { arch = arch; base = base; in_rom = in_rom }) s.old (B.state bus.old)).stepped }
+    ensures same { B.identity bus.new ≡ B.identity bus.old }
+{
+    let word = bus.fetch(s.pc(), Width::Word);
+    execute_word(
+        arch,
+        base,
+        in_rom,
+        s,
+        bus,
+        word >> 28,
+        decode_arm(arch, word),
+    )
+}
+
+/// Fetches a half at r15 and executes it.
+#[inline]
+fn step_half<B: Bus>(arch: Arch, base: u32, in_rom: bool, s: &mut Registers, bus: &mut B) -> Stepped
+    ensures registers { s.new ≡ (fetched_half B.memory (record { arch = arch; base = base; in_rom = in_rom }) s.old (B.state bus.old)).registers }
+    ensures state { B.state bus.new ≡ (fetched_half B.memory (record { arch = arch; base = base; in_rom = in_rom }) s.old (B.state bus.old)).state }
+    ensures stepped { result ≡ (fetched_half B.memory (record { arch = arch; base = base; in_rom = in_rom }) s.old (B.state bus.old)).stepped }
+    ensures same { B.identity bus.new ≡ B.identity bus.old }
+{
+    let half = (bus.fetch(s.pc(), Width::Half) % 0x1_0000) as u16;
+    execute_word(arch, base, in_rom, s, bus, 14, decode_thumb(arch, half))
+}
+
+/// Whether the interrupt is entered: the line is up, and I is clear.
+#[inline(always)]
+fn enters(s: &Registers, line: bool) -> bool
+    ensures { result ≡ (line && not (bit 7 s.now.cpsr)) }
+{
+    line && (s.cpsr() >> 7) & 1 == 0
+}
+
+/// A processor's step: the interrupt's entry where the line is up and I is clear, and otherwise the instruction at r15, of ARM code or in
+/// Thumb state of Thumb code. `base` is that of the vectors, and `in_rom` whether SWI's lies in the boot ROM. (ARM manual, A2.6
+/// "Exceptions".)
+#[inline]
+pub fn step<B: Bus>(
+    arch: Arch,
+    base: u32,
+    in_rom: bool,
+    s: &mut Registers,
+    bus: &mut B,
+    line: bool,
+) -> Stepped
+    ensures registers { s.new ≡ (step_of B.memory (record { arch = arch; base = base; in_rom = in_rom }) line s.old (B.state bus.old)).registers }
+    ensures state { B.state bus.new ≡ (step_of B.memory (record { arch = arch; base = base; in_rom = in_rom }) line s.old (B.state bus.old)).state }
+    ensures stepped { result ≡ (step_of B.memory (record { arch = arch; base = base; in_rom = in_rom }) line s.old (B.state bus.old)).stepped }
+    ensures same { B.identity bus.new ≡ B.identity bus.old }
+{
+    if enters(s, line) {
+        return Stepped::Cost(interrupt(arch, s, base));
+    }
+    if s.is_thumb() {
+        step_half(arch, base, in_rom, s, bus)
+    } else {
+        step_word(arch, base, in_rom, s, bus)
+    }
+}

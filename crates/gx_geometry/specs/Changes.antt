@@ -1,0 +1,95 @@
+use Rattle.std.specs.Prelude.{ℕ, ◌+◌, ◌==◌, ◌&&◌, not, nat_lt, if◌then◌else◌, Bool, ℤ, List, slice_index, slice_set}
+use Rattle.ds_base.specs.Bits.{bits, bit}
+use Rattle.gx_matrix.specs.Algebra.{at}
+use Rattle.gx_matrix.specs.Commands.{commanded}
+use Rattle.gx_geometry.specs.declared.numbers.Light.{Light}
+use Rattle.gx_geometry.specs.declared.numbers.Numbers.{Numbers}
+use Rattle.gx_geometry.specs.declared.numbers.Coordinates.{Coordinates}
+use Rattle.gx_geometry.specs.Numbers.{low_half, high_half, kind_of, point_by_halves, point_after}
+use Rattle.gx_geometry.specs.Lights.{turned, lit_colour, light_at}
+use Rattle.gx_geometry.specs.Coordinates.{transform_mode, by_coordinates, by_normal, by_vertex}
+
+-- What each command leaves of the numbers (GBATEK, "DS 3D Geometry Commands" and the chapters that it leads to)
+
+-- a normal: the colour by the lights, and the texture coordinates in mode 2 (GBATEK, NORMAL)
+unfoldable pub normal_given : ℕ → Numbers → Numbers
+normal_given word s = record s {
+  colour = lit_colour s (turned word s.stacks.pose.vector);
+  coordinates = (if transform_mode s.texture == 2 then by_normal word s.raw s.stacks.texture.current else s.coordinates);
+}
+
+-- texture coordinates, s in the lower half and t in the upper; mode 1 transforms them (GBATEK, TEXCOORD)
+abbrev pub coordinates_of : ℕ → Coordinates
+coordinates_of word = record { s = low_half word; t = high_half word }
+
+unfoldable pub coordinates_given : ℕ → Numbers → Numbers
+coordinates_given word s = record s {
+  raw = coordinates_of word;
+  coordinates = (if transform_mode s.texture == 1 then by_coordinates (coordinates_of word) s.stacks.texture.current else coordinates_of word);
+}
+
+-- a vertex: it becomes the current one and the run's next; mode 3 moves the texture coordinates (GBATEK, VTX_16 and those after it)
+unfoldable pub vertex_given : ℕ → List ℕ → Numbers → Numbers
+vertex_given code params s =
+    let p = point_after code params s.point in
+    record s {
+      point = p;
+      coordinates = (if transform_mode s.texture == 3 then by_vertex p s.raw s.stacks.texture.current else s.coordinates);
+      run = s.run + 1;
+    }
+
+-- reflections: diffuse in bits 0 to 14, which is the colour too where bit 15 is 1, and ambient in 16 to 30 (GBATEK, DIF_AMB); specular in bits 0 to
+-- 14, the table's use in 15, and emission in 16 to 30 (GBATEK, SPE_EMI)
+unfoldable pub diffuse_given : ℕ → Numbers → Numbers
+diffuse_given word s = record s {
+  material = record s.material { diffuse = bits 0 15 word; ambient = bits 16 15 word };
+  colour = (if bit 15 word then bits 0 15 word else s.colour);
+}
+
+unfoldable pub specular_given : ℕ → Numbers → Numbers
+specular_given word s =
+    record s { material = record s.material { specular = bits 0 15 word; emission = bits 16 15 word; by_table = bit 15 word } }
+
+-- a light's vector, turned by the vector matrix, and its colour; bits 30 and 31 name the light (GBATEK, LIGHT_VECTOR and LIGHT_COLOR)
+abbrev pub pointed : List ℤ → Light → Light
+pointed v light = record light { x = at v 0; y = at v 1; z = at v 2 }
+
+unfoldable pub light_pointed : ℕ → Numbers → Numbers
+light_pointed word s = record s {
+  lights = slice_set s.lights (bits 30 2 word) (pointed (turned word s.stacks.pose.vector) (light_at s (bits 30 2 word)));
+}
+
+unfoldable pub light_coloured : ℕ → Numbers → Numbers
+light_coloured word s = record s {
+  lights = slice_set s.lights (bits 30 2 word) (record (light_at s (bits 30 2 word)) { colour = bits 0 15 word });
+}
+
+-- a run begins: its kind, and the attributes that were set come into force (GBATEK, BEGIN_VTXS and POLYGON_ATTR)
+unfoldable pub run_begun : ℕ → Numbers → Numbers
+run_begun word s = record s { kind = kind_of (bits 0 2 word); run = 0; attributes = s.set }
+
+-- whether a command gives a vertex
+abbrev pub gives_vertex : ℕ → Bool
+gives_vertex code = not (nat_lt code 0x23) && nat_lt code 0x29
+
+-- the numbers after a command; 41h, 70h and 72h change none of them
+unfoldable pub numbers_after : ℕ → List ℕ → Numbers → Numbers
+numbers_after code params s =
+    let word = slice_index params 0 in
+    if nat_lt code 0x20 then record s { stacks = commanded code params s.stacks } else (
+    if code == 0x20 then record s { colour = bits 0 15 word } else (
+    if code == 0x21 then normal_given word s else (
+    if code == 0x22 then coordinates_given word s else (
+    if gives_vertex code then vertex_given code params s else (
+    if code == 0x29 then record s { set = word } else (
+    if code == 0x2A then record s { texture = word } else (
+    if code == 0x2B then record s { palette = bits 0 13 word } else (
+    if code == 0x30 then diffuse_given word s else (
+    if code == 0x31 then specular_given word s else (
+    if code == 0x32 then light_pointed word s else (
+    if code == 0x33 then light_coloured word s else (
+    if code == 0x34 then record s { table = params } else (
+    if code == 0x40 then run_begun word s else (
+    if code == 0x50 then record s { parameter = word } else (
+    if code == 0x60 then record s { viewport = word } else (
+    if code == 0x71 then record s { point = point_by_halves params } else s))))))))))))))))

@@ -1,0 +1,83 @@
+use Rattle.std.specs.Prelude.{ℕ, ◌+◌, ◌*◌, ◌/◌, ◌%◌, ◌^◌, ◌==◌, if◌then◌else◌, false, ℤ, pos, ◌+ℤ◌, ◌*ℤ◌, List, [], ◌∷◌, replicate, slice_index}
+use Rattle.std.specs.Int.{cast_signed, int_wrap, w16}
+use Rattle.ds_base.specs.Bits.{bits}
+use Rattle.gx_matrix.specs.Commands.{signed_bits, stacks_at_boot}
+use Rattle.gx_geometry.specs.declared.numbers.Point.{Point}
+use Rattle.gx_geometry.specs.declared.numbers.Coordinates.{Coordinates}
+use Rattle.gx_geometry.specs.declared.numbers.Light.{Light}
+use Rattle.gx_geometry.specs.declared.numbers.Material.{Material}
+use Rattle.gx_geometry.specs.declared.numbers.Kind.{Kind}
+use Rattle.gx_geometry.specs.declared.numbers.Kind.TheVariants.{Triangles, Quads, TriangleStrip, QuadStrip}
+use Rattle.gx_geometry.specs.declared.numbers.Numbers.{Numbers}
+
+-- The fields of parameters (GBATEK, "DS 3D Polygon Definitions by Vertices")
+
+-- the two signed halves of a word
+abbrev pub low_half : ℕ → ℤ
+low_half word = cast_signed w16 (word % 2 ^ 16)
+
+abbrev pub high_half : ℕ → ℤ
+high_half word = cast_signed w16 (word / 2 ^ 16)
+
+-- one of three signed numbers of ten bits
+abbrev pub ten : ℕ → ℕ → ℤ
+ten i word = signed_bits (10 * i) 10 word
+
+-- the kind of the polygons that a run makes (GBATEK, BEGIN_VTXS)
+abbrev pub kind_of : ℕ → Kind
+kind_of n = if n == 0 then Triangles else (if n == 1 then Quads else (if n == 2 then TriangleStrip else QuadStrip))
+
+-- the current vertex's x, y and z after a vertex command; what it doesn't give stays, and sums wrap (GBATEK, VTX_16, VTX_10, VTX_XY, VTX_XZ,
+-- VTX_YZ, VTX_DIFF)
+abbrev pub point_of : ℤ → ℤ → ℤ → Point
+point_of x y z = record { x = x; y = y; z = z }
+
+unfoldable pub point_by_halves : List ℕ → Point
+point_by_halves params = point_of (low_half (slice_index params 0)) (high_half (slice_index params 0)) (low_half (slice_index params 1))
+
+unfoldable pub point_by_tens : ℕ → Point
+point_by_tens word = point_of (ten 0 word *ℤ pos 64) (ten 1 word *ℤ pos 64) (ten 2 word *ℤ pos 64)
+
+unfoldable pub point_moved : ℕ → Point → Point
+point_moved word p =
+    point_of (int_wrap w16 (p.x +ℤ ten 0 word)) (int_wrap w16 (p.y +ℤ ten 1 word)) (int_wrap w16 (p.z +ℤ ten 2 word))
+
+unfoldable pub point_after : ℕ → List ℕ → Point → Point
+point_after code params p =
+    let word = slice_index params 0 in
+    if code == 0x23 then point_by_halves params else (
+    if code == 0x24 then point_by_tens word else (
+    if code == 0x25 then point_of (low_half word) (high_half word) p.z else (
+    if code == 0x26 then point_of (low_half word) p.y (high_half word) else (
+    if code == 0x27 then point_of p.x (low_half word) (high_half word) else
+    point_moved word p))))
+
+-- all is 0 at boot, the matrices are the identity, and the kind is triangles (our choice)
+abbrev pub no_light : Light
+no_light = record { x = pos 0; y = pos 0; z = pos 0; colour = 0 }
+
+abbrev pub no_coordinates : Coordinates
+no_coordinates = record { s = pos 0; t = pos 0 }
+
+unfoldable pub no_table : List ℕ
+no_table = replicate 32 0
+
+unfoldable pub numbers_at_boot : Numbers
+numbers_at_boot = record {
+  stacks = stacks_at_boot;
+  colour = 0;
+  point = point_of (pos 0) (pos 0) (pos 0);
+  raw = no_coordinates;
+  coordinates = no_coordinates;
+  set = 0;
+  attributes = 0;
+  texture = 0;
+  palette = 0;
+  viewport = 0;
+  material = record { diffuse = 0; ambient = 0; specular = 0; emission = 0; by_table = false };
+  table = no_table;
+  lights = no_light ∷ no_light ∷ no_light ∷ no_light ∷ [];
+  kind = Triangles;
+  run = 0;
+  parameter = 0;
+}

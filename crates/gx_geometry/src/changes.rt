@@ -1,0 +1,209 @@
+//! What each command leaves of the numbers.
+
+ghost use Rattle.std.specs.Prelude.{◌≡◌, ◌<◌, ◌≤◌, ◌+◌, ◌^◌, length, slice_index, slice_set, IsTrue};
+ghost use Rattle.ds_base.specs.Bits.{bits, bit};
+ghost use Rattle.gx_geometry.specs.Numbers.{kind_of};
+ghost use Rattle.gx_geometry.specs.Coordinates.{transform_mode};
+ghost use Rattle.gx_geometry.specs.States.{IsCommand};
+ghost use Rattle.gx_geometry.specs.Changes.{numbers_after, normal_given, coordinates_of, coordinates_given, vertex_given, diffuse_given, specular_given, light_pointed, light_coloured, run_begun};
+
+use crate::coordinates::{by_coordinates, by_normal, by_vertex};
+use crate::lights::{lit_colour, turned};
+use crate::numbers::{
+    Coordinates, Light, Numbers, high_half, kind_of, low_half, point_after, point_by_halves,
+};
+
+fn transform_mode(texture: u32) -> u32
+    ensures { result ≡ transform_mode texture }
+{
+    (texture >> 30) & 3
+}
+
+/// Bits 0 to 14 of a word.
+fn low_colour(word: u32) -> u16
+    ensures { result ≡ bits 0 15 word }
+{
+    (word & 0x7FFF) as u16
+}
+
+/// Bits 16 to 30 of a word.
+fn high_colour(word: u32) -> u16
+    ensures { result ≡ bits 16 15 word }
+{
+    ((word >> 16) & 0x7FFF) as u16
+}
+
+fn bit_15(word: u32) -> bool
+    ensures { result ≡ bit 15 word }
+{
+    (word >> 15) & 1 == 1
+}
+
+fn light_number(word: u32) -> u8
+    ensures value { result ≡ bits 30 2 word }
+    ensures within { result < 4 }
+{
+    (word >> 30 & 3) as u8
+}
+
+impl Numbers {
+    #[tactic(auto, unfolding(crate::specs::Changes::normal_given))]
+    pub fn give_normal(&mut self, word: u32)
+        ensures { self.new ≡ normal_given word self.old }
+    {
+        self.colour = lit_colour(self, &turned(word, &self.stacks.vector()));
+        if transform_mode(self.texture) == 2 {
+            self.coordinates = by_normal(word, self.raw, &self.stacks.texture());
+        }
+    }
+
+    #[tactic(auto, using(gx_matrix::proofs::Sums::casts), unfolding(crate::specs::Changes::coordinates_given))]
+    pub fn give_coordinates(&mut self, word: u32)
+        ensures { self.new ≡ coordinates_given word self.old }
+    {
+        let raw = Coordinates {
+            s: low_half(word),
+            t: high_half(word),
+        };
+        self.raw = raw;
+        self.coordinates = if transform_mode(self.texture) == 1 {
+            by_coordinates(raw, &self.stacks.texture())
+        } else {
+            raw
+        };
+    }
+
+    #[tactic(auto, unfolding(crate::specs::Changes::vertex_given))]
+    pub fn give_vertex(&mut self, code: u8, params: &[u32])
+        requires some { 1 ≤ length params.now }
+        requires halves { code ≡ 0x23 → length params.now ≡ 2 }
+        requires run { self.old.run ≤ 2 ^ 56 }
+        ensures { self.new ≡ vertex_given code params.now self.old }
+    {
+        self.point = point_after(code, params, self.point);
+        if transform_mode(self.texture) == 3 {
+            self.coordinates = by_vertex(self.point, self.raw, &self.stacks.texture());
+        }
+        self.run += 1;
+    }
+
+    #[tactic(auto, unfolding(crate::specs::Changes::diffuse_given))]
+    pub fn give_diffuse(&mut self, word: u32)
+        ensures { self.new ≡ diffuse_given word self.old }
+    {
+        self.material.diffuse = low_colour(word);
+        self.material.ambient = high_colour(word);
+        if bit_15(word) {
+            self.colour = low_colour(word);
+        }
+    }
+
+    #[tactic(auto, unfolding(crate::specs::Changes::specular_given))]
+    pub fn give_specular(&mut self, word: u32)
+        ensures { self.new ≡ specular_given word self.old }
+    {
+        self.material.specular = low_colour(word);
+        self.material.emission = high_colour(word);
+        self.material.by_table = bit_15(word);
+    }
+
+    #[tactic(auto, using(gx_matrix::proofs::Sums::casts), unfolding(crate::specs::Changes::light_pointed))]
+    pub fn point_light(&mut self, word: u32)
+        ensures { self.new ≡ light_pointed word self.old }
+    {
+        let i = light_number(word) as usize;
+        let [x, y, z, _] = turned(word, &self.stacks.vector());
+        let light = self.lights[i];
+        self.lights[i] = Light { x, y, z, ..light };
+    }
+
+    #[tactic(auto, using(gx_matrix::proofs::Sums::casts), unfolding(crate::specs::Changes::light_coloured))]
+    pub fn colour_light(&mut self, word: u32)
+        ensures { self.new ≡ light_coloured word self.old }
+    {
+        let i = light_number(word) as usize;
+        let light = self.lights[i];
+        self.lights[i] = Light {
+            colour: low_colour(word),
+            ..light
+        };
+    }
+
+    #[tactic(auto, unfolding(crate::specs::Changes::run_begun))]
+    pub fn begin(&mut self, word: u32)
+        ensures { self.new ≡ run_begun word self.old }
+    {
+        self.kind = kind_of(word & 3);
+        self.run = 0;
+        self.attributes = self.set;
+    }
+
+    #[tactic(auto, using(crate::proofs::Parameters::vertex_some, crate::proofs::Parameters::vertex_halves), unfolding(crate::specs::Changes::numbers_after, crate::specs::States::command_of))]
+    fn change_by_vertices(&mut self, code: u8, params: &[u32])
+        requires command { IsCommand code params.now }
+        requires low { 0x20 ≤ code }
+        requires high { code < 0x2C }
+        requires run { self.old.run ≤ 2 ^ 56 }
+        ensures { self.new ≡ numbers_after code params.now self.old }
+    {
+        match code {
+            0x20 => self.colour = low_colour(params[0]),
+            0x21 => self.give_normal(params[0]),
+            0x22 => self.give_coordinates(params[0]),
+            0x29 => self.set = params[0],
+            0x2A => self.texture = params[0],
+            0x2B => self.palette = params[0] & 0x1FFF,
+            _ => self.give_vertex(code, params),
+        }
+    }
+
+    #[tactic(auto, unfolding(crate::specs::Changes::numbers_after, crate::specs::States::command_of))]
+    fn change_by_lights(&mut self, code: u8, params: &[u32])
+        requires command { IsCommand code params.now }
+        requires low { 0x2C ≤ code }
+        requires high { code < 0x40 }
+        ensures { self.new ≡ numbers_after code params.now self.old }
+    {
+        match code {
+            0x30 => self.give_diffuse(params[0]),
+            0x31 => self.give_specular(params[0]),
+            0x32 => self.point_light(params[0]),
+            0x33 => self.colour_light(params[0]),
+            0x34 => self.table.copy_from_slice(params),
+            _ => (),
+        }
+    }
+
+    #[tactic(auto, unfolding(crate::specs::Changes::numbers_after, crate::specs::States::command_of))]
+    fn change_by_others(&mut self, code: u8, params: &[u32])
+        requires command { IsCommand code params.now }
+        requires low { 0x40 ≤ code }
+        ensures { self.new ≡ numbers_after code params.now self.old }
+    {
+        match code {
+            0x40 => self.begin(params[0]),
+            0x50 => self.parameter = params[0],
+            0x60 => self.viewport = params[0],
+            0x71 => self.point = point_by_halves(params),
+            _ => (),
+        }
+    }
+
+    /// What a command leaves of the numbers.
+    #[tactic(auto, unfolding(crate::specs::Changes::numbers_after, crate::specs::States::command_of))]
+    pub fn change(&mut self, code: u8, params: &[u32])
+        requires command { IsCommand code params.now }
+        requires run { self.old.run ≤ 2 ^ 56 }
+        ensures { self.new ≡ numbers_after code params.now self.old }
+    {
+        if code < 0x20 {
+            self.stacks.command(code, params);
+        } else if code < 0x2C {
+            self.change_by_vertices(code, params);
+        } else if code < 0x40 {
+            self.change_by_lights(code, params);
+        } else {
+            self.change_by_others(code, params);
+        }
+    }
+}

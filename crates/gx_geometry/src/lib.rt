@@ -1,0 +1,29 @@
+//! The geometry engine: commands to vertices and polygons (GBATEK, "DS 3D Geometry Commands" and the chapters that it leads to). It keeps
+//! the matrices, the current vertex, colour and texture coordinates, the material and the lights, and adds to the open lists of
+//! vertices and polygons, which a swap gives out. All memory is taken by `Geometry::new`.
+//!
+//! `specs/` has what each command leaves (Changes), the formulas (Numbers, Lights, Coordinates, Boxes, Polygons), the lists of a swap from all
+//! commands since the one before (Lists), and the engine as a whole (States).
+#![tactic(auto)]
+
+mod boxes;
+mod capped;
+mod changes;
+mod commands;
+mod coordinates;
+mod engine;
+mod exact;
+mod lights;
+mod lists;
+mod numbers;
+mod polygons;
+mod results;
+
+pub use commands::command_row;
+pub use engine::Geometry;
+pub use lists::Lists;
+pub use polygons::{Polygon, Vertex};
+pub use results::Results;
+
+#[cfg(test)]
+mod tests;

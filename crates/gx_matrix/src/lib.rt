@@ -1,0 +1,16 @@
+//! The geometry engine's matrices (GBATEK, "DS 3D Matrix Types", "DS 3D Matrix Stack" and "DS 3D Matrix Load/Multiply"): the four
+//! current ones, their stacks, and the commands 10h to 1Ch that change them. Numbers are signed words with 12 fractional bits,
+//! vectors are rows. Every cell of a product is floor(sum / 4096) of the exact sum of products, wrapped to a signed word. Nothing
+//! here takes memory.
+#![tactic(auto)]
+
+mod algebra;
+mod commands;
+mod stacks;
+
+pub use algebra::{given, identity, product, scaling, times, translation};
+pub use commands::{CommandRow, matrix_row};
+pub use stacks::{Mode, Pose, Single, Stacks};
+
+#[cfg(test)]
+mod tests;

@@ -1,14 +1,14 @@
-use Rattle.std.proofs.Common.{ℕ, ◌≡◌, ◌<◌, ◌≤◌, ◌+◌, ◌⊎◌, inl, inr, Bool, true, false, List, [], ◌∷◌, ◌++◌, length, take, Option, Some, None, refl, sym, ◌∙◌, ap, subst, arith, rules, append_assoc, append-nil, length-append}
-use Rattle.std.specs.Prelude.{if◌then◌else◌, nat_lt, nat_le, ◌&&◌, option_to_list}
+use Rattle.std.proofs.Common.{ℕ, ◌≡◌, ◌<◌, ◌≤◌, ◌⊎◌, inl, inr, Bool, true, false, List, [], ◌∷◌, ◌++◌, length, take, Option, Some, None, refl, sym, ◌∙◌, ap, arith, append_assoc, append-nil, length-append}
+use Rattle.std.specs.Prelude.{if◌then◌else◌, option_to_list}
 use Rattle.std.proofs.lemmas.List.{take-append-le, take_all, length-take-le}
 use Rattle.gx_geometry.specs.declared.numbers.Numbers.{Numbers}
 use Rattle.gx_geometry.specs.declared.polygons.Shape.{Shape}
 use Rattle.gx_geometry.specs.declared.polygons.Vertex.{Vertex}
 use Rattle.gx_geometry.specs.declared.polygons.Polygon.{Polygon}
 use Rattle.gx_geometry.specs.Changes.{numbers_after, gives_vertex}
-use Rattle.gx_geometry.specs.Polygons.{Arrival, arrival_of, polygon_of, polygon_by, polygon_with, stands, seen, most_vertices, most_polygons}
-use Rattle.gx_geometry.specs.Lists.{Command, arrivals, polygons_of, vertices_of, vertex_list, polygon_list, AreLists}
-use Rattle.gx_geometry.specs.States.{GeometryState, IsFresh, AreListsSince, overflown, polygon_added, vertex_added, arrived, numbered, geometry_after, after_all}
+use Rattle.gx_geometry.specs.Polygons.{Arrival, arrival_of, polygon_of, polygon_by, stands, most_vertices, most_polygons}
+use Rattle.gx_geometry.specs.Lists.{Command, arrivals, polygons_of, vertices_of}
+use Rattle.gx_geometry.specs.States.{GeometryState, AreListsSince, overflown, polygon_added, vertex_added, arrived, numbered, geometry_after, after_all}
 
 -- The open lists, which grow command by command, are the lists of all commands since the swap.
 

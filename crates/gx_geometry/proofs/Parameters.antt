@@ -1,7 +1,7 @@
-use Rattle.std.proofs.Common.{ℕ, ◌≡◌, ◌<◌, ◌≤◌, ◌⊎◌, inl, inr, List, length, true, refl, subst, sym, ◌∙◌, ◌+◌, arith, rules}
+use Rattle.std.proofs.Common.{ℕ, ◌≡◌, ◌<◌, ◌≤◌, ◌⊎◌, inl, inr, List, length, refl, subst, sym, ◌∙◌, arith}
 use Rattle.gx_geometry.specs.declared.numbers.Numbers.{Numbers}
-use Rattle.gx_geometry.specs.Changes.{numbers_after, vertex_given, gives_vertex}
-use Rattle.gx_geometry.specs.States.{IsCommand, HasParameters, command_of}
+use Rattle.gx_geometry.specs.Changes.{numbers_after, vertex_given}
+use Rattle.gx_geometry.specs.States.{IsCommand, command_of}
 
 six : (code : ℕ) → 0x23 ≤ code → code < 0x29 → (code ≡ 0x23) ⊎ (code ≡ 0x24) ⊎ (code ≡ 0x25) ⊎ (code ≡ 0x26) ⊎ (code ≡ 0x27) ⊎ (code ≡ 0x28)
 six code l h = grind arith

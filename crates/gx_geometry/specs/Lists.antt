@@ -1,4 +1,4 @@
-use Rattle.std.specs.Prelude.{ℕ, ◌≡◌, ◌+◌, ◌-◌, ◌==◌, ◌||◌, nat_lt, if◌then◌else◌, Bool, true, false, ℤ, pos, List, [], ◌∷◌, ◌++◌, length, take, map, slice_index, Option, Some, None, option_to_list}
+use Rattle.std.specs.Prelude.{ℕ, ◌≡◌, if◌then◌else◌, List, [], ◌∷◌, ◌++◌, take, map, option_to_list}
 use Rattle.gx_geometry.specs.declared.numbers.Numbers.{Numbers}
 use Rattle.gx_geometry.specs.declared.polygons.Vertex.{Vertex}
 use Rattle.gx_geometry.specs.declared.polygons.Polygon.{Polygon}

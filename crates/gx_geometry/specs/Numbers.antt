@@ -1,11 +1,9 @@
-use Rattle.std.specs.Prelude.{ℕ, ◌+◌, ◌*◌, ◌/◌, ◌%◌, ◌^◌, ◌==◌, if◌then◌else◌, false, ℤ, pos, ◌+ℤ◌, ◌*ℤ◌, List, [], ◌∷◌, replicate, slice_index}
+use Rattle.std.specs.Prelude.{ℕ, ◌*◌, ◌/◌, ◌%◌, ◌^◌, ◌==◌, if◌then◌else◌, false, ℤ, pos, ◌+ℤ◌, ◌*ℤ◌, List, [], ◌∷◌, replicate, slice_index}
 use Rattle.std.specs.Int.{cast_signed, int_wrap, w16}
-use Rattle.ds_base.specs.Bits.{bits}
 use Rattle.gx_matrix.specs.Commands.{signed_bits, stacks_at_boot}
 use Rattle.gx_geometry.specs.declared.numbers.Point.{Point}
 use Rattle.gx_geometry.specs.declared.numbers.Coordinates.{Coordinates}
 use Rattle.gx_geometry.specs.declared.numbers.Light.{Light}
-use Rattle.gx_geometry.specs.declared.numbers.Material.{Material}
 use Rattle.gx_geometry.specs.declared.numbers.Kind.{Kind}
 use Rattle.gx_geometry.specs.declared.numbers.Kind.TheVariants.{Triangles, Quads, TriangleStrip, QuadStrip}
 use Rattle.gx_geometry.specs.declared.numbers.Numbers.{Numbers}

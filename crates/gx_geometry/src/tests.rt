@@ -93,14 +93,13 @@ fn runs_make_polygons_of_their_kind(rt: HostRuntime) -> Result<(), AllocError> {
     let quads = [[0, 1, 2, 3]];
     let strip = [[0, 1, 2, 0], [2, 1, 3, 0], [2, 3, 4, 0], [4, 3, 5, 0]];
     let quad_strip = [[0, 1, 3, 2], [2, 3, 5, 4]];
-    let kinds: [(u8, &[[u16; 4]]); 4] = [
-        (3, &triangles),
-        (4, &quads),
-        (3, &strip),
-        (4, &quad_strip),
+    let kinds: [(u32, u8, &[[u16; 4]]); 4] = [
+        (0, 3, &triangles),
+        (1, 4, &quads),
+        (2, 3, &strip),
+        (3, 4, &quad_strip),
     ];
-    let mut kind = 0;
-    for (corners, wanted) in kinds {
+    for (kind, corners, wanted) in kinds {
         let mut g = Geometry::new(rt.alloc())?;
         assert!(rt; begun(&mut g, 0xC0, kind));
         let mut made = 0;
@@ -120,7 +119,6 @@ fn runs_make_polygons_of_their_kind(rt: HostRuntime) -> Result<(), AllocError> {
                 "kind {kind}"
             );
         }
-        kind = (kind + 1) & 3;
     }
     Ok(())
 }
@@ -207,12 +205,8 @@ fn vertex_commands_give_their_numbers_and_keep_the_others(
         (0x25, 0x0005_0004, 0, 4, 5, 3),
     ] {
         let words = [word, second];
-        let params: &[u32] = if code == 0x23 || code == 0x71 {
-            &words
-        } else {
-            &[word]
-        };
-        assert!(rt; run(&mut g, code, params));
+        let count = if code == 0x23 || code == 0x71 { 2 } else { 1 };
+        assert!(rt; run(&mut g, code, &words[..count]));
         match last(&mut g) {
             Some(v) => assert_eq!(rt; (v.x, v.y, v.z, v.w), (x, y, z, 0x1000), "at {code}"),
             None => {

@@ -1,5 +1,5 @@
-use Rattle.std.proofs.Common.{ℕ, ◌≡◌, ◌≤◌, ◌^◌, ℤ, pos, negsuc, ◌*ℤ◌, ◌≤ℤ◌, FitsSigned, arith, rules, sym, subst}
-use Rattle.std.specs.Int.{cast_signed, cast_unsigned, w32, w128}
+use Rattle.std.proofs.Common.{◌^◌, pos, negsuc, ◌*ℤ◌, ◌≤ℤ◌, FitsSigned, arith}
+use Rattle.std.specs.Int.{w128}
 use Rattle.std.proofs.lemmas.Int.{ints, to_z-of_z}
 use Rattle.gx_geometry.proofs.Sides.{product_low, product_high, product_fits}
 use Rattle.gx_geometry.proofs.polygons.wide_product.Goals as goal

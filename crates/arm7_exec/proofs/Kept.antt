@@ -1,9 +1,8 @@
-use Rattle.std.proofs.Common.{ℕ, ◌≡◌, ◌/◌, ◌%◌, ◌^◌, ◌&&◌, not, Bool, true, false, if◌then◌else◌, Option, Some, None, refl}
+use Rattle.std.proofs.Common.{ℕ, ◌/◌, ◌%◌, ◌^◌, ◌&&◌, not, Bool, true, false, if◌then◌else◌, Option, Some, None, refl}
 use Rattle.ds_base.specs.Bits.{bit}
 use Rattle.ds_base.specs.Accesses.{MemoryMachine, Performed, perform}
 use Rattle.ds_base.specs.declared.left_out.Stop.{Stop}
 use Rattle.ds_base.specs.declared.memories.Width.TheVariants.{Half, Word}
-use Rattle.ds_base.specs.declared.processors.Arch.{Arch}
 use Rattle.arm_words.specs.ArmTable.{decoded_arm}
 use Rattle.arm_words.specs.ThumbTable.{decoded_thumb}
 use Rattle.arm_words.specs.Parts.{condition_of}
@@ -13,7 +12,7 @@ use Rattle.arm_core.specs.Effects.{Meaning, Outcome, concluded, carried_out}
 use Rattle.arm_core.specs.Exceptions.{interrupt_meaning, undefined_meaning}
 use Rattle.arm_core.specs.Meanings.{meaning, skipped}
 use Rattle.arm_core.specs.Registers.{RegisterState, is_thumb}
-use Rattle.arm_core.specs.Steps.{Setting, executed, executed_unless, executed_word, fetched_half, fetched_word, step_of, stop_of}
+use Rattle.arm_core.specs.Steps.{Setting, executed_unless, executed_word, fetched_half, fetched_word, step_of, stop_of}
 use Rattle.arm7_exec.specs.Lefts.{KeepsWhereLeft}
 
 module _ {S : Type 0} (memory : MemoryMachine S) (setting : Setting) (s : RegisterState) where

@@ -1,4 +1,4 @@
-use Rattle.std.specs.Prelude.{ℕ, Bool, true}
+use Rattle.std.specs.Prelude.{Bool, true}
 use Rattle.ds_base.specs.Accesses.{MemoryMachine}
 use Rattle.ds_base.specs.declared.processors.Arch.TheVariants.{V4}
 use Rattle.arm_core.specs.Registers.{RegisterState}

@@ -1,5 +1,4 @@
-use Rattle.std.specs.Prelude.{ℕ, ◌≡◌}
-use Rattle.ds_base.specs.declared.left_out.Stop.{Stop}
+use Rattle.std.specs.Prelude.{◌≡◌}
 use Rattle.arm_core.specs.Registers.{RegisterState}
 use Rattle.arm_core.specs.declared.outcomes.Stepped as stepped
 use Rattle.arm_core.specs.declared.outcomes.Stepped.TheVariants.{Cost, Halted, Left}

@@ -1,8 +1,7 @@
-use Rattle.std.specs.Prelude.{ℕ, ◌+◌, ◌-◌, ◌*◌, ◌%◌, ◌^◌, ◌==◌, nat_lt, bit_and, bit_or, Bool, true, false, if◌then◌else◌, List, []}
+use Rattle.std.specs.Prelude.{ℕ, ◌+◌, ◌-◌, ◌*◌, ◌%◌, ◌^◌, nat_lt, bit_and, bit_or, Bool, if◌then◌else◌}
 use Rattle.ds_base.specs.Bits.{bit, flag}
 use Rattle.arm_core.specs.Registers.{RegisterState, register, next, put, jumped}
 use Rattle.arm_core.specs.Effects.{Meaning, plain}
-use Rattle.arm_core.specs.declared.classes.Class.{Class}
 use Rattle.arm_core.specs.declared.classes.Class.TheVariants.{Processing, Branch}
 
 -- Branches (ARM manual, A3.3 "Branch instructions"; Thumb's A6.3).

@@ -1,4 +1,4 @@
-use Rattle.std.specs.Prelude.{ℕ, ◌+◌, ◌-◌, ◌/◌, ◌%◌, ◌^◌, ◌==◌, nat_le, bit_and, bit_or, bit_xor, Bool, true, false, ◌&&◌, not, if◌then◌else◌, List, [], slice_index, Option, Some, None}
+use Rattle.std.specs.Prelude.{ℕ, ◌+◌, ◌-◌, ◌/◌, ◌%◌, ◌^◌, ◌==◌, nat_le, bit_and, bit_or, bit_xor, Bool, true, false, ◌&&◌, not, if◌then◌else◌, [], slice_index, Option, Some, None}
 use Rattle.std.specs.Int.{bit_not, w32}
 use Rattle.ds_base.specs.Bits.{bit, flag}
 use Rattle.arm_words.specs.declared.operations.DataOp.{DataOp}
@@ -8,7 +8,7 @@ use Rattle.arm_words.specs.declared.operations.CompareOp.TheVariants.{Tst, Teq, 
 use Rattle.arm_words.specs.declared.operations.MoveOp.{MoveOp}
 use Rattle.arm_words.specs.declared.operations.MoveOp.TheVariants.{Mov, Mvn}
 use Rattle.arm_words.specs.declared.parts.Operand.{Operand}
-use Rattle.arm_words.specs.declared.parts.Operand.TheVariants.{Immediate, Shifted, ShiftedByRegister}
+use Rattle.arm_words.specs.declared.parts.Operand.TheVariants.{ShiftedByRegister}
 use Rattle.arm_core.specs.Registers.{RegisterState, bank, saved_place, next, put}
 use Rattle.arm_core.specs.Conditions.{c_flag, v_flag}
 use Rattle.arm_core.specs.Shifter.{shifter_operand, first_operand}

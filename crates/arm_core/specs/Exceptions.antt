@@ -1,11 +1,10 @@
-use Rattle.std.specs.Prelude.{ℕ, ◌+◌, ◌-◌, ◌%◌, ◌^◌, bit_and, List, [], slice_set, Option, Some, None}
+use Rattle.std.specs.Prelude.{ℕ, ◌+◌, ◌%◌, ◌^◌, bit_and, List, slice_set, Option, Some, None}
 use Rattle.arm_core.specs.declared.banks.Bank.{Bank}
 use Rattle.arm_core.specs.declared.banks.Bank.TheVariants.{Supervisor, Abort, Irq, Undefined}
 use Rattle.arm_core.specs.declared.exceptions.Exception.{Exception}
 use Rattle.arm_core.specs.declared.exceptions.Exception.TheVariants.{UndefinedInstruction, SoftwareInterrupt, Breakpoint, Interrupt}
 use Rattle.arm_core.specs.Registers.{RegisterState, place, saved_place, next}
 use Rattle.arm_core.specs.Effects.{Meaning, plain}
-use Rattle.arm_core.specs.declared.classes.Class.{Class}
 use Rattle.arm_core.specs.declared.classes.Class.TheVariants.{Entry}
 
 -- Exceptions (ARM manual, A2.6 "Exceptions"). The vectors' base is 0, or FFFF0000h with high vectors.

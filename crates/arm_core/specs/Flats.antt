@@ -1,8 +1,7 @@
-use Rattle.std.specs.Prelude.{ℕ, ◌%◌, List, length, Option, None}
+use Rattle.std.specs.Prelude.{ℕ, ◌%◌, List, length, None}
 use Rattle.ds_base.specs.Accesses.{MemoryMachine}
 use Rattle.ds_base.specs.Numbers.{aligned_down, number_at, with_number}
 use Rattle.ds_base.specs.declared.memories.Width.{Width}
-use Rattle.ds_base.specs.declared.left_out.Stop.{Stop}
 
 -- a memory that is one list of bytes, which stands again and again in all addresses (our choice, for tests)
 abbrev pub flat_place : List ℕ → ℕ → Width → ℕ

@@ -1,7 +1,6 @@
 use Rattle.std.specs.Prelude.{ℕ, zero, suc, ◌+◌, ◌%◌, ◌^◌, ◌↔◌, ◌++◌, Contains, List, [], ◌∷◌}
 use Rattle.ds_base.specs.Accesses.{Access, Fetch, Read, Write}
 use Rattle.ds_base.specs.Numbers.{aligned_down, width_bytes}
-use Rattle.ds_base.specs.declared.memories.Width.{Width}
 use Rattle.arm_core.specs.declared.touches.Touch.{Touch}
 use Rattle.arm_core.specs.declared.touches.Touch.TheVariants.{Nothing, Span}
 

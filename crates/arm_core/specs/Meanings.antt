@@ -1,9 +1,9 @@
-use Rattle.std.specs.Prelude.{ℕ, Bool, true, false, if◌then◌else◌}
+use Rattle.std.specs.Prelude.{ℕ, false, if◌then◌else◌}
 use Rattle.ds_base.specs.declared.processors.Arch.{Arch}
 use Rattle.arm_words.specs.declared.parts.Condition.{Condition}
 use Rattle.arm_words.specs.declared.parts.Condition.TheVariants.{Al}
 use Rattle.arm_words.specs.declared.instructions.Instr.{Instr}
-use Rattle.arm_words.specs.declared.instructions.Instr.TheVariants.{Bx, BlxRegister, Bkpt, Clz, Saturating, Smla, Smlaw, Smulw, Smlal, Smul, Mul, Mla, LongMultiply, Swap, HalfTransfer, Mrs, Msr, MsrImmediate, Compare, Move, Data, DoubleTransfer, Transfer, Multiple, Branch, Coprocessor, Swi, Never, ThumbAddress, ThumbLoadLiteral, ThumbBranchIf, ThumbBranch, ThumbBlPrefix, ThumbBlSuffix}
+use Rattle.arm_words.specs.declared.instructions.Instr.TheVariants.{Bx, BlxRegister, Clz, Saturating, Smla, Smlaw, Smulw, Smlal, Smul, Mul, Mla, LongMultiply, Swap, HalfTransfer, Mrs, Msr, MsrImmediate, Compare, Move, Data, DoubleTransfer, Transfer, Multiple, Branch, Coprocessor, Swi, Never, ThumbAddress, ThumbLoadLiteral, ThumbBranchIf, ThumbBranch, ThumbBlPrefix, ThumbBlSuffix}
 use Rattle.arm_core.specs.Registers.{RegisterState, register, next}
 use Rattle.arm_core.specs.Conditions.{holds}
 use Rattle.arm_core.specs.Shifter.{rotated_immediate}

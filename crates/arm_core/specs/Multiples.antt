@@ -1,18 +1,16 @@
-use Rattle.std.specs.Prelude.{ℕ, zero, suc, ◌+◌, ◌-◌, ◌*◌, ◌/◌, ◌%◌, ◌^◌, ◌==◌, count_ones, Bool, true, false, ◌&&◌, ◌||◌, not, if◌then◌else◌, List, [], ◌∷◌, map, is_some}
+use Rattle.std.specs.Prelude.{ℕ, ◌+◌, ◌/◌, ◌%◌, ◌^◌, ◌==◌, count_ones, Bool, true, false, ◌&&◌, ◌||◌, not, if◌then◌else◌, List, [], ◌∷◌, map, is_some}
 use Rattle.ds_base.specs.Accesses.{Access, Read, Write}
 use Rattle.ds_base.specs.Bits.{bit}
-use Rattle.ds_base.specs.declared.memories.Width.{Width}
 use Rattle.ds_base.specs.declared.memories.Width.TheVariants.{Word}
 use Rattle.ds_base.specs.declared.processors.Arch.{Arch}
 use Rattle.ds_base.specs.declared.processors.Arch.TheVariants.{V4, V5}
 use Rattle.arm_core.specs.declared.banks.Bank.{Bank}
 use Rattle.arm_core.specs.declared.banks.Bank.TheVariants.{System}
-use Rattle.arm_core.specs.Registers.{RegisterState, bank, saved_place, place, register, register_in, late_r15, next, put, put_in, jumped}
+use Rattle.arm_core.specs.Registers.{RegisterState, bank, saved_place, place, register, register_in, late_r15, next, put_in, jumped}
 use Rattle.arm_core.specs.Addressing.{listed, list_bytes, lowest, moved_base, with_base}
 use Rattle.arm_core.specs.Branches.{exchanged}
 use Rattle.arm_core.specs.DataProcessing.{restored}
 use Rattle.arm_core.specs.Effects.{Meaning}
-use Rattle.arm_core.specs.declared.classes.Class.{Class}
 use Rattle.arm_core.specs.declared.classes.Class.TheVariants.{LoadMultiple, StoreMultiple}
 
 -- Loads and stores of several registers (ARM manual, A3.12 "Load and Store Multiple instructions").

@@ -1,8 +1,7 @@
-use Rattle.std.specs.Prelude.{ℕ, ◌+◌, ◌-◌, ◌*◌, ◌/◌, ◌%◌, ◌^◌, ◌==◌, Bool, true, false, ◌&&◌, ◌||◌, if◌then◌else◌, List, []}
+use Rattle.std.specs.Prelude.{ℕ, ◌+◌, ◌-◌, ◌*◌, ◌/◌, ◌%◌, ◌^◌, ◌==◌, Bool, true, false, ◌&&◌, ◌||◌, if◌then◌else◌, []}
 use Rattle.ds_base.specs.Bits.{bit, flag}
 use Rattle.arm_core.specs.Registers.{RegisterState, register, next, put}
 use Rattle.arm_core.specs.Effects.{Meaning}
-use Rattle.arm_core.specs.declared.classes.Class.{Class}
 use Rattle.arm_core.specs.declared.classes.Class.TheVariants.{Multiply, LongMultiply}
 
 -- Multiplies (ARM manual, A3.5 "Multiply instructions"). C and V stay; r15 is an operand or a result like any other (our choice).

@@ -1,4 +1,4 @@
-use Rattle.std.specs.Prelude.{ℕ, ◌+◌, ◌-◌, ◌*◌, ◌/◌, ◌%◌, ◌^◌, ◌==◌, nat_lt, Bool, true, false, if◌then◌else◌}
+use Rattle.std.specs.Prelude.{ℕ, ◌+◌, ◌-◌, ◌*◌, ◌/◌, ◌%◌, ◌^◌, ◌==◌, nat_lt, Bool, false, if◌then◌else◌}
 use Rattle.std.specs.Int.{rotate_right, w32}
 use Rattle.ds_base.specs.Bits.{bit, bits, flag}
 use Rattle.arm_words.specs.declared.parts.Shift.{Shift}

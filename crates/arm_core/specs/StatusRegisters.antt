@@ -1,4 +1,4 @@
-use Rattle.std.specs.Prelude.{ℕ, ◌+◌, ◌==◌, bit_and, bit_or, Bool, true, false, if◌then◌else◌, List, [], slice_index, slice_set, Option, Some, None}
+use Rattle.std.specs.Prelude.{ℕ, ◌+◌, ◌==◌, bit_and, bit_or, Bool, true, false, if◌then◌else◌, [], slice_index, slice_set, Option, Some, None}
 use Rattle.std.specs.Int.{bit_not, w32}
 use Rattle.ds_base.specs.Bits.{bits}
 use Rattle.ds_base.specs.declared.processors.Arch.{Arch}
@@ -6,7 +6,6 @@ use Rattle.ds_base.specs.declared.processors.Arch.TheVariants.{V4, V5}
 use Rattle.arm_words.specs.declared.parts.FieldMask.{FieldMask}
 use Rattle.arm_core.specs.Registers.{RegisterState, bank, saved_place, next, put}
 use Rattle.arm_core.specs.Effects.{Meaning, plain}
-use Rattle.arm_core.specs.declared.classes.Class.{Class}
 use Rattle.arm_core.specs.declared.classes.Class.TheVariants.{Processing}
 
 -- The status registers (ARM manual, A3.6 "Status register access instructions").

@@ -1,6 +1,6 @@
-use Rattle.std.specs.Prelude.{ℕ, ◌/◌, ◌%◌, ◌^◌, ◌==◌, Bool, true, false, ◌&&◌, ◌||◌, not, if◌then◌else◌, Option, Some, None}
+use Rattle.std.specs.Prelude.{ℕ, ◌/◌, ◌%◌, ◌^◌, ◌==◌, Bool, ◌&&◌, ◌||◌, not, if◌then◌else◌, Option, Some, None}
 use Rattle.ds_base.specs.Accesses.{MemoryMachine}
-use Rattle.ds_base.specs.Bits.{bit, bits}
+use Rattle.ds_base.specs.Bits.{bit}
 use Rattle.ds_base.specs.declared.processors.Arch.{Arch}
 use Rattle.ds_base.specs.declared.memories.Width.TheVariants.{Half, Word}
 use Rattle.ds_base.specs.declared.left_out.Stop.{Stop}

@@ -1,12 +1,11 @@
-use Rattle.std.specs.Prelude.{ℕ, ◌%◌, ◌^◌, ◌==◌, Bool, true, false, List, [], ◌∷◌, slice_index}
-use Rattle.ds_base.specs.Accesses.{Access, Read, Write}
+use Rattle.std.specs.Prelude.{ℕ, ◌%◌, ◌^◌, ◌==◌, Bool, true, false, [], ◌∷◌, slice_index}
+use Rattle.ds_base.specs.Accesses.{Read, Write}
 use Rattle.ds_base.specs.Numbers.{cut_to}
 use Rattle.ds_base.specs.declared.memories.Width.{Width}
 use Rattle.ds_base.specs.declared.memories.Width.TheVariants.{Byte, Word}
 use Rattle.arm_core.specs.Registers.{RegisterState, register, late_register, next, put}
 use Rattle.arm_core.specs.Transfers.{rotated_word}
 use Rattle.arm_core.specs.Effects.{Meaning}
-use Rattle.arm_core.specs.declared.classes.Class.{Class}
 use Rattle.arm_core.specs.declared.classes.Class.TheVariants.{Swap}
 
 -- SWP and SWPB (ARM manual, A3.13 "Semaphore instructions"): rd has what was read where rm was then written. The word is rotated as

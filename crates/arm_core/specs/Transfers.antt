@@ -1,7 +1,7 @@
-use Rattle.std.specs.Prelude.{ℕ, ◌+◌, ◌-◌, ◌*◌, ◌/◌, ◌%◌, ◌^◌, ◌==◌, Bool, true, false, ◌&&◌, if◌then◌else◌, List, [], ◌∷◌, slice_index}
+use Rattle.std.specs.Prelude.{ℕ, ◌+◌, ◌-◌, ◌*◌, ◌%◌, ◌^◌, ◌==◌, Bool, true, false, if◌then◌else◌, [], ◌∷◌, slice_index}
 use Rattle.std.specs.Int.{rotate_right, w32}
-use Rattle.ds_base.specs.Accesses.{Access, Read, Write}
-use Rattle.ds_base.specs.Bits.{bit, flag}
+use Rattle.ds_base.specs.Accesses.{Read, Write}
+use Rattle.ds_base.specs.Bits.{bit}
 use Rattle.ds_base.specs.Numbers.{cut_to}
 use Rattle.ds_base.specs.declared.memories.Width.{Width}
 use Rattle.ds_base.specs.declared.memories.Width.TheVariants.{Byte, Half, Word}
@@ -16,7 +16,6 @@ use Rattle.arm_core.specs.Addressing.{addressed, offset_value, short_offset_valu
 use Rattle.arm_core.specs.Branches.{exchanged}
 use Rattle.arm_core.specs.declared.addresses.Addressed.{Addressed}
 use Rattle.arm_core.specs.Effects.{Meaning}
-use Rattle.arm_core.specs.declared.classes.Class.{Class}
 use Rattle.arm_core.specs.declared.classes.Class.TheVariants.{Load, Store}
 
 -- Loads and stores of one register (ARM manual, A3.11 "Load and store instructions").

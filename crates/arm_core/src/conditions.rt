@@ -1,7 +1,6 @@
 //! When instructions take effect.
 
 ghost use Rattle.std.specs.Prelude.{◌≡◌};
-ghost use Rattle.ds_base.specs.Bits.{bit};
 ghost use Rattle.arm_core.specs.Conditions.{holds};
 
 use arm_words::Condition;

@@ -1,6 +1,6 @@
 //! A core.
 
-ghost use Rattle.std.specs.Prelude.{◌≡◌, ℕ};
+ghost use Rattle.std.specs.Prelude.{◌≡◌};
 ghost use Rattle.ds_base.specs.Bits.{bit};
 ghost use Rattle.arm_core.specs.Registers.{words_of};
 ghost use Rattle.arm_core.specs.Cores.{booted};

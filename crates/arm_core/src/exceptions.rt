@@ -1,7 +1,7 @@
 //! Exceptions.
 
 ghost use Rattle.std.specs.Prelude.{◌≡◌};
-ghost use Rattle.arm_core.specs.Exceptions.{entered, entered_status, entry_bank, entry_mode, kept_status, vector};
+ghost use Rattle.arm_core.specs.Exceptions.{entered, entry_bank, entry_mode, kept_status, vector};
 ghost use Rattle.arm_core.specs.Registers.{saved_place};
 
 use crate::banks::Bank;

@@ -1,6 +1,6 @@
 //! The registers.
 
-ghost use Rattle.std.specs.Prelude.{◌≡◌, ◌<◌, ◌^◌, ℕ, Some, None, Option, IfSome};
+ghost use Rattle.std.specs.Prelude.{◌≡◌, ◌<◌, ℕ, Some, None, Option, IfSome};
 ghost use Rattle.arm_core.specs.Registers.{bank, bank_of, is_thumb, jumped, late_r15, late_register, next, place, put, put_in, r15, register, register_in, saved_place, words_of};
 ghost use Rattle.arm_core.specs.Cores.{booted};
 

@@ -1,7 +1,7 @@
 //! The results of data processing.
 
 ghost use Rattle.std.specs.Prelude.{◌≡◌, ◌≤◌};
-ghost use Rattle.arm_core.specs.DataProcessing.{as_one, compare_result, data_result, difference_of, logical, move_result, sum_of};
+ghost use Rattle.arm_core.specs.DataProcessing.{compare_result, data_result, difference_of, logical, move_result, sum_of};
 
 use crate::shifter::Shifted32;
 use arm_words::{CompareOp, DataOp, MoveOp};

@@ -2,7 +2,6 @@
 
 ghost use Rattle.std.specs.Prelude.{◌≡◌, ◌<◌};
 ghost use Rattle.arm_words.specs.Fields.{HasOperand};
-ghost use Rattle.arm_core.specs.Conditions.{c_flag};
 ghost use Rattle.arm_core.specs.Shifter.{arithmetic_shift, first_operand, rotate, rotate_through, rotated_immediate, shift_by, shift_by_number, shift_left, shift_right, shift_right_signed, shifter_operand};
 
 use crate::registers::Registers;

@@ -1,8 +1,8 @@
 //! The status registers.
 
-ghost use Rattle.std.specs.Prelude.{◌≡◌, slice_index, slice_set};
-ghost use Rattle.arm_core.specs.Registers.{bank, bank_of, saved_place};
-ghost use Rattle.arm_core.specs.DataProcessing.{restored, restored_from, with_flags};
+ghost use Rattle.std.specs.Prelude.{◌≡◌};
+ghost use Rattle.arm_core.specs.Registers.{bank, saved_place};
+ghost use Rattle.arm_core.specs.DataProcessing.{restored, with_flags};
 ghost use Rattle.arm_core.specs.StatusRegisters.{replaced, saved_value, with_saved};
 
 use crate::registers::Registers;

@@ -1,8 +1,8 @@
-use Rattle.std.proofs.Common.{ℕ, zero, suc, ◌≡◌, ◌<◌, ◌+◌, ◌-◌, ◌%◌, ◌/◌, ◌^◌, Bool, true, false, if◌then◌else◌, List, [], ◌∷◌, Option, Some, None, refl, sym, ◌∙◌, ap, arith}
+use Rattle.std.proofs.Common.{ℕ, suc, ◌≡◌, ◌<◌, ◌+◌, ◌-◌, ◌%◌, ◌^◌, true, false, List, [], ◌∷◌, Some, None, refl, ◌∙◌, ap, arith}
 use Rattle.ds_base.specs.Bits.{bit}
 use Rattle.ds_base.specs.declared.left_out.Stop.{Stop}
 use Rattle.ds_base.specs.declared.memories.Width.TheVariants.{Word}
-use Rattle.ds_base.specs.Accesses.{MemoryMachine, Access, Write, Performed, perform}
+use Rattle.ds_base.specs.Accesses.{MemoryMachine, Access, Write, perform}
 use Rattle.arm_core.specs.Addressing.{listed_from}
 use Rattle.arm_core.specs.Multiples.{reads, last_of}
 

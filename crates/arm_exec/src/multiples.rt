@@ -1,6 +1,6 @@
 //! LDM and STM (ARM manual, A3.12 "Load and Store Multiple instructions").
 
-ghost use Rattle.std.specs.Prelude.{◌≡◌, ◌<◌, ◌^◌, ◌∷◌, [], map, false, IsTrue};
+ghost use Rattle.std.specs.Prelude.{◌≡◌, ◌<◌, ◌∷◌, [], map, false, IsTrue};
 ghost use Rattle.ds_base.specs.Accesses.{perform};
 ghost use Rattle.arm_core.specs.Addressing.{listed};
 ghost use Rattle.arm_core.specs.Effects.{carried_out};

@@ -3,7 +3,7 @@
 ghost use Rattle.std.specs.Prelude.{◌≡◌, ◌<◌, [], if◌then◌else◌};
 ghost use Rattle.arm_core.specs.Effects.{cost_of};
 ghost use Rattle.arm_core.specs.Registers.{bank, saved_place};
-ghost use Rattle.arm_core.specs.StatusRegisters.{field, field_bits, is_user, kept_bits, mrs_meaning, msr_meaning, saved_value, status_written, writable};
+ghost use Rattle.arm_core.specs.StatusRegisters.{field, field_bits, kept_bits, mrs_meaning, msr_meaning, saved_value, status_written, writable};
 
 use arm_core::{Class, Registers, replaced};
 use arm_words::FieldMask;

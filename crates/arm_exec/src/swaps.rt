@@ -2,8 +2,7 @@
 
 ghost use Rattle.std.specs.Prelude.{◌≡◌, ◌<◌, true, false};
 ghost use Rattle.arm_core.specs.Effects.{carried_out};
-ghost use Rattle.arm_core.specs.Swaps.{swap_meaning, swap_by};
-ghost use Rattle.arm_core.specs.Transfers.{rotated_word};
+ghost use Rattle.arm_core.specs.Swaps.{swap_meaning};
 
 use arm_core::{Bus, Class, Registers, Stepped};
 use ds_base::{Arch, Width};

@@ -9,7 +9,7 @@ ghost use Rattle.arm_core.specs.Addressing.{with_base};
 ghost use Rattle.arm_core.specs.Costs.{clocks, jump_clocks};
 ghost use Rattle.arm_core.specs.Effects.{carried_out};
 ghost use Rattle.arm_core.specs.Registers.{next, put};
-ghost use Rattle.arm_core.specs.Transfers.{half_or_signed_meaning, half_transfer_meaning, literal_meaning, load_meaning, load_word_meaning, put_word, rotated_half, rotated_word, signed_byte, signed_half, signed_half_meaning, store_meaning, transfer_meaning, word_or_byte_meaning};
+ghost use Rattle.arm_core.specs.Transfers.{half_or_signed_meaning, half_transfer_meaning, literal_meaning, load_meaning, load_word_meaning, put_word, rotated_half, signed_byte, signed_half, signed_half_meaning, store_meaning, transfer_meaning, word_or_byte_meaning};
 ghost use Rattle.arm_core.specs.declared.classes.Class.TheVariants.{Load};
 
 use crate::branches::exchange_to;

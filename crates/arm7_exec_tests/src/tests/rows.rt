@@ -1,6 +1,6 @@
 //! What a row says, and how it is tried.
 
-use arm_core::{Bus, Core, FlatBus, Registers, Stepped};
+use arm_core::{Bus, Core, FlatBus, Stepped};
 use arm7_exec::step7;
 use ds_base::{Arch, Width};
 use std::alloc::{AllocError, Global};

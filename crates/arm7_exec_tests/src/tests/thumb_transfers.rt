@@ -1,6 +1,6 @@
 //! Thumb's loads and stores of one register.
 
-use super::rows::{PC, Row, thumb, try_rows};
+use super::rows::{Row, thumb, try_rows};
 use std::alloc::AllocError;
 
 /// What is stored.

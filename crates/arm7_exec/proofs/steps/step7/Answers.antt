@@ -5,4 +5,4 @@ use Rattle.arm7_exec.proofs.steps.step7.Goals as goal
 pub returns-clause-left : goal.returns-clause-left
 returns-clause-left g c =
     rw (c.step.ensures.stepped, c.step.ensures.registers)
-      (step_keeps g.B.Bus.memory arm7 c.args.core.now.registers c.args.line (g.B.Bus.state c.args.bus.now))
+    (step_keeps g.B.Bus.memory arm7 c.args.core.now.registers c.args.line (g.B.Bus.state c.args.bus.now))

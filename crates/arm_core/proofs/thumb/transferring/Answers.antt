@@ -1,4 +1,4 @@
-use Rattle.std.proofs.Common.{◌≡◌, sym, ◌∙◌}
+use Rattle.std.proofs.Common.{sym, ◌∙◌}
 use Rattle.arm_core.proofs.ThumbKinds.{transfer_else}
 use Rattle.arm_core.proofs.thumb.transferring.Goals as goal
 

@@ -1,9 +1,9 @@
-use Rattle.std.proofs.Common.{rules, ◌≡◌, ◌<◌, ℕ, ◌+◌, ◌-◌, true, false, refl, sym, ◌∙◌, ap, arith}
+use Rattle.std.proofs.Common.{◌≡◌, true, false, refl, sym, ◌∙◌, arith}
 use Rattle.ds_base.specs.Bits.{bit}
 use Rattle.ds_base.specs.Accesses.{perform}
 use Rattle.arm_core.specs.Addressing.{listed}
 use Rattle.arm_core.specs.Multiples.{reads}
-use Rattle.arm_exec.proofs.Lists.{left, left_in, left_out, none_left, last_or, last_or_last}
+use Rattle.arm_exec.proofs.Lists.{left_in, left_out, none_left, last_or_last}
 use Rattle.arm_exec.proofs.multiples.load_list.Goals as goal
 use Rattle.arm_exec.proofs.multiples.load_list.Goals.{then-has, else-has}
 

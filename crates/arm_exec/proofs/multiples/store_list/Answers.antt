@@ -1,8 +1,7 @@
-use Rattle.std.proofs.Common.{rules, ◌≡◌, ◌<◌, ℕ, ◌+◌, ◌-◌, ◌%◌, ◌^◌, true, false, List, Option, Some, None, refl, sym, ◌∙◌, ap, arith}
+use Rattle.std.proofs.Common.{◌≡◌, ◌+◌, ◌%◌, ◌^◌, true, false, List, refl, sym, ◌∙◌, arith}
 use Rattle.std.specs.Prelude.{map}
 use Rattle.ds_base.specs.Bits.{bit}
-use Rattle.ds_base.specs.Accesses.{Access, perform}
-use Rattle.ds_base.specs.declared.memories.Width.TheVariants.{Word}
+use Rattle.ds_base.specs.Accesses.{Access}
 use Rattle.arm_core.specs.Multiples.{writes, stored_value}
 use Rattle.arm_exec.proofs.Lists.{left, left_in, left_out, none_left, refused, goes_on}
 use Rattle.arm_exec.proofs.multiples.store_list.Goals as goal

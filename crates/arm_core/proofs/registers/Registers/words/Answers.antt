@@ -1,4 +1,4 @@
-use Rattle.std.proofs.Common.{rules, ◌≡◌, ℕ, List}
+use Rattle.std.proofs.Common.{rules}
 use Rattle.arm_core.proofs.Layouts.{laid}
 use Rattle.arm_core.proofs.registers.Registers.words.Goals as goal
 

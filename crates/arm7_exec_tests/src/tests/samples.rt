@@ -1,0 +1,47 @@
+//! Steps at which the architectures differ.
+
+use super::rows::{Row, arm, try_rows};
+use std::alloc::AllocError;
+
+#[test]
+fn odd_addresses_and_bases_in_lists_are_those_of_armv4(rt: HostRuntime) -> Result<(), AllocError> {
+    let rows = [
+        arm(
+            "ldr r0, [r1]",
+            0xE591_0000,
+            3,
+            &[(1, 1)],
+            &[(0, 0x1144_3322)],
+        ),
+        arm(
+            "ldrh r0, [r1]",
+            0xE1D1_00B0,
+            3,
+            &[(1, 1)],
+            &[(0, 0x1100_0022)],
+        ),
+        arm("ldrsh r0, [r1]", 0xE1D1_00F0, 3, &[(1, 1)], &[(0, 0x22)]),
+        Row {
+            stored: &[(0x40, 5), (0x44, 0x48)],
+            ..arm(
+                "stmia r1!, {r0, r1}",
+                0xE8A1_0003,
+                3,
+                &[(0, 5), (1, 0x40)],
+                &[(1, 0x48)],
+            )
+        },
+        arm(
+            "ldmia r1!, {r1, r2}",
+            0xE8B1_0006,
+            4,
+            &[(1, 0x40)],
+            &[(1, 7), (2, 9)],
+        ),
+        Row {
+            stored: &[(0x40, 0x10C)],
+            ..arm("stmia r1!, {}", 0xE8A1_0000, 1, &[(1, 0x40)], &[(1, 0x80)])
+        },
+    ];
+    try_rows(&rt, rt.alloc(), &rows)
+}

@@ -94,8 +94,8 @@ fn each_failed_call_of_the_output_is_a_write_fault(rt: HostRuntime) -> Result<()
     are_write_faults(&rt, alloc, &RUN, STOP, 4)?;
     let whole = failing(alloc, &["list", "file", "9"], BRANCH, NO_FAILS, ROOM)?;
     assert!(rt; whole.ended(0, b"", b".arm9 0x2000000\nb 0x2000000\n"));
-    is_write_fault(&rt, alloc, &["list", "file", "9"], BRANCH, 1, &whole)?;
-    is_write_fault(&rt, alloc, &["list", "file", "9"], BRANCH, 2, &whole)
+    // a listing that is shorter than a page goes out in one piece
+    are_write_faults(&rt, alloc, &["list", "file", "9"], BRANCH, 1)
 }
 
 #[test]

@@ -58,20 +58,33 @@ executed_word memory setting s state number (Some instr) = executed memory setti
 executed_word memory setting s state number None =
     carried_out memory setting.arch s state (if holds (condition_of number) s.cpsr then undefined_meaning setting.base s else skipped s)
 
--- a word is fetched at r15, in Thumb state a half, and executed
-abbrev pub fetched_word : {S : Type 0} → MemoryMachine S → Setting → RegisterState → S → Outcome S
-fetched_word memory setting s state =
+-- what a fetch comes to: the number of the condition under which what was fetched takes effect, its instruction, if it has one, and the
+-- memory machine's state after it
+pub record FetchOutcome (S : Type 0) : Type 0 where
+  pub number : ℕ
+  pub instr : Option Instr
+  pub state : S
+
+-- a word is fetched at r15, in Thumb state a half, which always takes effect
+abbrev pub fetched_word : {S : Type 0} → MemoryMachine S → Arch → RegisterState → S → FetchOutcome S
+fetched_word memory arch s state =
     let word = memory.fetch_value state s.pc Word in
-    executed_word memory setting s (memory.fetch_next state s.pc Word) (word / 2 ^ 28) (decoded_arm setting.arch word)
+    record { number = word / 2 ^ 28; instr = decoded_arm arch word; state = memory.fetch_next state s.pc Word }
 
-abbrev pub fetched_half : {S : Type 0} → MemoryMachine S → Setting → RegisterState → S → Outcome S
-fetched_half memory setting s state =
+abbrev pub fetched_half : {S : Type 0} → MemoryMachine S → Arch → RegisterState → S → FetchOutcome S
+fetched_half memory arch s state =
     let half = memory.fetch_value state s.pc Half % 2 ^ 16 in
-    executed_word memory setting s (memory.fetch_next state s.pc Half) 14 (decoded_thumb setting.arch half)
+    record { number = 14; instr = decoded_thumb arch half; state = memory.fetch_next state s.pc Half }
 
--- a step: the interrupt's entry where the line is up and I is clear, otherwise the next instruction (ARM manual, A2.6 "Exceptions")
+abbrev pub fetched : {S : Type 0} → MemoryMachine S → Arch → RegisterState → S → FetchOutcome S
+fetched memory arch s state = if is_thumb s then fetched_half memory arch s state else fetched_word memory arch s state
+
+-- the interrupt is entered: its line is up and I is clear (ARM manual, A2.6 "Exceptions")
+abbrev pub enters : Bool → RegisterState → Bool
+enters line s = line && not (bit 7 s.cpsr)
+
+-- a step: the interrupt's entry, or what is fetched
 abbrev pub step_of : {S : Type 0} → MemoryMachine S → Setting → Bool → RegisterState → S → Outcome S
 step_of memory setting line s state =
-    if line && not (bit 7 s.cpsr) then carried_out memory setting.arch s state (interrupt_meaning setting.base s)
-    else if is_thumb s then fetched_half memory setting s state
-    else fetched_word memory setting s state
+    if enters line s then carried_out memory setting.arch s state (interrupt_meaning setting.base s)
+    else let f = fetched memory setting.arch s state in executed_word memory setting s f.state f.number f.instr

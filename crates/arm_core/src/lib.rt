@@ -34,8 +34,8 @@ pub use flats::FlatBus;
 pub use lists::{has, keeps_base, list_bytes, lowest, stores_new_base, transferred};
 pub use outcomes::Stepped;
 pub use registers::Registers;
-pub use results::{Computed, compare_result, data_result, move_result};
-pub use saturating::Saturated;
+pub use results::{Computed, compare_result, data_result, move_result, sum_of};
+pub use saturating::{Saturated, saturating_result};
 pub use shifter::{
     Shifted32, first_operand, rotated_immediate, shift_by, shift_by_number, shifter_operand,
 };

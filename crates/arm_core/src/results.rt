@@ -19,7 +19,7 @@ pub struct Computed {
 
 /// a + b + c, where `c` is 0 or 1, with CarryFrom and OverflowFrom (ARM manual, glossary).
 #[inline(always)]
-fn sum_of(a: u32, b: u32, c: u32) -> Computed
+pub fn sum_of(a: u32, b: u32, c: u32) -> Computed
     requires { c ≤ 1 }
     ensures { result ≡ sum_of a b c }
 {

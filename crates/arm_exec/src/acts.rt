@@ -8,7 +8,9 @@ ghost use Rattle.arm_core.specs.Meanings.{act, act_branch, act_multiply, act_pro
 use crate::branches::{
     address, branch, distance8, distance11, distance24, exchange, prefix, suffix,
 };
-use crate::exceptions::{software, undefined};
+use crate::doubles::double;
+use crate::enhanced::enhanced;
+use crate::exceptions::software;
 use crate::multiples::multiple;
 use crate::multiplies::{long_multiply, multiply};
 use crate::processing::{compare, data, move_};
@@ -29,7 +31,7 @@ pub fn skip(arch: Arch, s: &mut Registers) -> u32
     Class::Nothing.cost(arch, false)
 }
 
-/// A branch, an exception, or an instruction without effect; the result is its cost. What ARMv5 adds is undefined.
+/// A branch, an exception, an instruction without effect, or what ARMv5 adds; the result is its cost.
 #[inline]
 fn act_branch(arch: Arch, base: u32, s: &mut Registers, instr: &Instr) -> u32
     requires { HasFields instr.now }
@@ -46,7 +48,7 @@ fn act_branch(arch: Arch, base: u32, s: &mut Registers, instr: &Instr) -> u32
         Instr::ThumbBranch { offset } => branch(arch, s, false, distance11(offset)),
         Instr::ThumbBlPrefix { offset } => prefix(arch, s, offset),
         Instr::ThumbBlSuffix { offset } => suffix(arch, s, offset),
-        _ => undefined(arch, s, base),
+        _ => enhanced(arch, base, s, instr),
     }
 }
 
@@ -181,6 +183,16 @@ pub fn act<B: Bus>(arch: Arch, base: u32, s: &mut Registers, bus: &mut B, instr:
             offset,
             ..
         } => { half_transfer(arch, s, bus, op, pre, up, write_back, rn, rd, offset) }
+        Instr::DoubleTransfer {
+            store,
+            pre,
+            up,
+            write_back,
+            rn,
+            rd,
+            offset,
+            ..
+        } => { double(arch, s, bus, store, pre, up, write_back, rn, rd, offset) }
         Instr::Multiple {
             pre,
             up,

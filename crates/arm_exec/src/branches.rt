@@ -18,7 +18,7 @@ fn thumb_flag(thumb: bool) -> u32
 
 /// Writes T.
 #[inline(always)]
-fn set_thumb(s: &mut Registers, thumb: bool)
+pub(crate) fn set_thumb(s: &mut Registers, thumb: bool)
     ensures { s.new ≡ with_thumb thumb s.old }
 {
     s.set_cpsr((s.cpsr() & 0xFFFF_FFDF) | thumb_flag(thumb));

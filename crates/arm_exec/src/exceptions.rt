@@ -2,7 +2,7 @@
 
 ghost use Rattle.std.specs.Prelude.{◌≡◌, []};
 ghost use Rattle.arm_core.specs.Effects.{cost_of};
-ghost use Rattle.arm_core.specs.Exceptions.{interrupt_meaning, software_meaning, undefined_meaning};
+ghost use Rattle.arm_core.specs.Exceptions.{breakpoint_meaning, interrupt_meaning, software_meaning, undefined_meaning};
 
 use arm_core::{Class, Exception, Registers};
 use ds_base::Arch;
@@ -26,6 +26,17 @@ pub fn software(arch: Arch, s: &mut Registers, base: u32) -> u32
 {
     let link = s.next_pc();
     s.enter(base, Exception::SoftwareInterrupt, link);
+    Class::Entry.cost(arch, false)
+}
+
+/// BKPT, with the base of the vectors; the result is the entry's cost (ARM manual, A2.6.5 "Prefetch Abort", A4.1 "BKPT").
+#[inline]
+pub fn breakpoint(arch: Arch, s: &mut Registers, base: u32) -> u32
+    ensures registers { s.new ≡ (breakpoint_meaning base s.old).after [] }
+    ensures cost { result ≡ cost_of arch (breakpoint_meaning base s.old) }
+{
+    let link = s.pc().wrapping_add(4);
+    s.enter(base, Exception::Breakpoint, link);
     Class::Entry.cost(arch, false)
 }
 

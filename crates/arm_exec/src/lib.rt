@@ -3,10 +3,15 @@
 
 mod acts;
 mod branches;
+mod doubles;
+mod enhanced;
 mod exceptions;
+mod half_multiplies;
+mod links;
 mod multiples;
 mod multiplies;
 mod processing;
+mod saturating;
 mod statuses;
 mod steps;
 mod swaps;
@@ -16,11 +21,18 @@ pub use acts::{act, skip};
 pub use branches::{
     address, branch, distance8, distance11, distance24, exchange, exchange_to, prefix, suffix,
 };
-pub use exceptions::{interrupt, software, undefined};
+pub use doubles::double;
+pub use enhanced::clz;
+pub use exceptions::{breakpoint, interrupt, software, undefined};
+pub use half_multiplies::{
+    accumulate_product, half_long, half_product, set_product, wide_product,
+};
+pub use links::{link_exchange, link_suffix, link_target};
 pub use multiples::{load_multiple, multiple, store_multiple};
 pub use multiplies::{long_multiply, multiply};
 pub use processing::{compare, data, move_};
+pub use saturating::saturating;
 pub use statuses::{mrs, msr};
-pub use steps::{execute, step};
+pub use steps::{Fetched, enters, execute, execute_word, fetch, step};
 pub use swaps::swap;
 pub use transfers::{half_transfer, literal, transfer};

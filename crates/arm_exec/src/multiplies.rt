@@ -3,7 +3,7 @@
 ghost use Rattle.std.specs.Prelude.{◌≡◌, ◌<◌, ◌+◌, ◌*◌, ◌^◌, ◌%◌, [], if◌then◌else◌};
 ghost use Rattle.arm_core.specs.Effects.{cost_of};
 ghost use Rattle.arm_core.specs.Registers.{register};
-ghost use Rattle.arm_core.specs.Multiplies.{long_multiply_meaning, long_product, multiply_meaning, widened, with_sign};
+ghost use Rattle.arm_core.specs.Multiplies.{long_multiply_meaning, long_product, multiply_meaning, widened, with_long, with_sign};
 
 use arm_core::{Class, Registers};
 use ds_base::Arch;
@@ -64,7 +64,7 @@ fn widened(signed: bool, word: u32) -> u64
 
 /// The product of two words modulo 2^64, with what is added.
 #[inline(always)]
-fn long_product(signed: bool, rm: u32, rs: u32, added: u64) -> u64
+pub(crate) fn long_product(signed: bool, rm: u32, rs: u32, added: u64) -> u64
     ensures { result ≡ long_product signed rm rs added }
 {
     widened(signed, rm)
@@ -74,7 +74,7 @@ fn long_product(signed: bool, rm: u32, rs: u32, added: u64) -> u64
 
 /// What a long multiply adds to.
 #[inline(always)]
-fn accumulated(s: &Registers, accumulate: bool, rd_lo: u8, rd_hi: u8) -> u64
+pub(crate) fn accumulated(s: &Registers, accumulate: bool, rd_lo: u8, rd_hi: u8) -> u64
     requires lo { rd_lo < 16 }
     requires hi { rd_hi < 16 }
     ensures { result ≡ (if accumulate then register s.now rd_lo + 2 ^ 32 * register s.now rd_hi else 0) }
@@ -84,6 +84,17 @@ fn accumulated(s: &Registers, accumulate: bool, rd_lo: u8, rd_hi: u8) -> u64
     } else {
         0
     }
+}
+
+/// The low word of a product goes to `rd_lo`, then the high word to `rd_hi`.
+#[inline(always)]
+pub(crate) fn set_long(s: &mut Registers, rd_lo: u8, rd_hi: u8, product: u64)
+    requires lo { rd_lo < 16 }
+    requires hi { rd_hi < 16 }
+    ensures { s.new ≡ with_long rd_lo rd_hi product s.old }
+{
+    s.set(rd_lo, (product & 0xFFFF_FFFF) as u32);
+    s.set(rd_hi, (product >> 32) as u32);
 }
 
 /// UMULL, UMLAL, SMULL and SMLAL: the low word goes to `rd_lo`, then the high word to `rd_hi` (ARM manual, A4.1 "SMLAL", "SMULL", "UMLAL",
@@ -111,7 +122,6 @@ pub fn long_multiply(
     let product = long_product(signed, s.get(rm), s.get(rs), added);
     s.go_on();
     set_sign(s, set_flags, (product >> 63) & 1 == 1, product == 0);
-    s.set(rd_lo, (product & 0xFFFF_FFFF) as u32);
-    s.set(rd_hi, (product >> 32) as u32);
+    set_long(s, rd_lo, rd_hi, product);
     Class::LongMultiply.cost(arch, rd_lo == 15 || rd_hi == 15)
 }

@@ -1,14 +1,13 @@
 //! A processor's step.
 
-ghost use Rattle.std.specs.Prelude.{◌≡◌, ◌<◌, ◌&&◌, not, [], None, if◌then◌else◌, IfSome};
-ghost use Rattle.ds_base.specs.Bits.{bit};
+ghost use Rattle.std.specs.Prelude.{◌≡◌, ◌<◌, [], None, if◌then◌else◌, IfSome};
 ghost use Rattle.arm_words.specs.Fields.{HasFields};
 ghost use Rattle.arm_words.specs.Parts.{condition_of};
 ghost use Rattle.arm_core.specs.Conditions.{holds};
 ghost use Rattle.arm_core.specs.Effects.{cost_of};
 ghost use Rattle.arm_core.specs.Exceptions.{undefined_meaning};
 ghost use Rattle.arm_core.specs.Meanings.{condition, skipped};
-ghost use Rattle.arm_core.specs.Steps.{executed, executed_word, fetched_half, fetched_word, step_of, swi_stop, unserved};
+ghost use Rattle.arm_core.specs.Steps.{enters, executed, executed_word, fetched, fetched_half, fetched_word, step_of, swi_stop, unserved};
 
 use crate::acts::{act, skip};
 use crate::exceptions::{interrupt, undefined};
@@ -176,9 +175,9 @@ fn undefined_word(arch: Arch, base: u32, s: &mut Registers, cond: Condition) -> 
     }
 }
 
-/// Executes the instruction of a word or half that was fetched, if it has one.
+/// Executes the instruction of a word or half that was fetched, if it has one; `number` is that of its condition.
 #[inline]
-fn execute_word<B: Bus>(
+pub fn execute_word<B: Bus>(
     arch: Arch,
     base: u32,
     in_rom: bool,
@@ -200,42 +199,70 @@ fn execute_word<B: Bus>(
     }
 }
 
-/// Fetches a word at r15 and executes it.
-#[inline]
-fn step_word<B: Bus>(arch: Arch, base: u32, in_rom: bool, s: &mut Registers, bus: &mut B) -> Stepped
-    ensures registers { s.new ≡ (fetched_word B.memory (record { arch = arch; base = base; in_rom = in_rom }) s.old (B.state bus.old)).registers }
-    ensures state { B.state bus.new ≡ (fetched_word B.memory (record { arch = arch; base = base; in_rom = in_rom }) s.old (B.state bus.old)).state }
-    ensures stepped { result ≡ (fetched_word B.memory (record { arch = arch; base = base; in_rom = in_rom }) s.old (B.state bus.old)).stepped }
+/// What was fetched at r15.
+#[derive(Clone, Copy)]
+pub struct Fetched {
+    /// The number of the condition under which it takes effect, below 16.
+    pub number: u32,
+    /// Its instruction, if it has one.
+    pub instr: Option<Instr>,
+}
+
+/// Fetches a word at r15.
+#[inline(always)]
+fn fetch_word<B: Bus>(arch: Arch, s: &Registers, bus: &mut B) -> Fetched
+    ensures number { result.number ≡ (fetched_word B.memory arch s.now (B.state bus.old)).number }
+    ensures instr { result.instr ≡ (fetched_word B.memory arch s.now (B.state bus.old)).instr }
+    ensures state { B.state bus.new ≡ (fetched_word B.memory arch s.now (B.state bus.old)).state }
+    ensures low { result.number < 16 }
+    ensures fields { IfSome result.instr HasFields }
     ensures same { B.identity bus.new ≡ B.identity bus.old }
 {
     let word = bus.fetch(s.pc(), Width::Word);
-    execute_word(
-        arch,
-        base,
-        in_rom,
-        s,
-        bus,
-        word >> 28,
-        decode_arm(arch, word),
-    )
+    Fetched {
+        number: word >> 28,
+        instr: decode_arm(arch, word),
+    }
 }
 
-/// Fetches a half at r15 and executes it.
-#[inline]
-fn step_half<B: Bus>(arch: Arch, base: u32, in_rom: bool, s: &mut Registers, bus: &mut B) -> Stepped
-    ensures registers { s.new ≡ (fetched_half B.memory (record { arch = arch; base = base; in_rom = in_rom }) s.old (B.state bus.old)).registers }
-    ensures state { B.state bus.new ≡ (fetched_half B.memory (record { arch = arch; base = base; in_rom = in_rom }) s.old (B.state bus.old)).state }
-    ensures stepped { result ≡ (fetched_half B.memory (record { arch = arch; base = base; in_rom = in_rom }) s.old (B.state bus.old)).stepped }
+/// Fetches a half at r15.
+#[inline(always)]
+fn fetch_half<B: Bus>(arch: Arch, s: &Registers, bus: &mut B) -> Fetched
+    ensures number { result.number ≡ (fetched_half B.memory arch s.now (B.state bus.old)).number }
+    ensures instr { result.instr ≡ (fetched_half B.memory arch s.now (B.state bus.old)).instr }
+    ensures state { B.state bus.new ≡ (fetched_half B.memory arch s.now (B.state bus.old)).state }
+    ensures low { result.number < 16 }
+    ensures fields { IfSome result.instr HasFields }
     ensures same { B.identity bus.new ≡ B.identity bus.old }
 {
     let half = (bus.fetch(s.pc(), Width::Half) % 0x1_0000) as u16;
-    execute_word(arch, base, in_rom, s, bus, 14, decode_thumb(arch, half))
+    Fetched {
+        number: 14,
+        instr: decode_thumb(arch, half),
+    }
 }
 
-/// Whether the interrupt is entered: the line is up, and I is clear.
+/// Fetches at r15: a word of ARM code, or in Thumb state a half of Thumb code.
 #[inline(always)]
-fn enters(s: &Registers, line: bool) -> bool
-    ensures { result ≡ (line && not (bit 7 s.now.cpsr)) }
+pub fn fetch<B: Bus>(arch: Arch, s: &Registers, bus: &mut B) -> Fetched
+    ensures number { result.number ≡ (fetched B.memory arch s.now (B.state bus.old)).number }
+    ensures instr { result.instr ≡ (fetched B.memory arch s.now (B.state bus.old)).instr }
+    ensures state { B.state bus.new ≡ (fetched B.memory arch s.now (B.state bus.old)).state }
+    ensures low { result.number < 16 }
+    ensures fields { IfSome result.instr HasFields }
+    ensures same { B.identity bus.new ≡ B.identity bus.old }
+{
+    if s.is_thumb() {
+        fetch_half(arch, s, bus)
+    } else {
+        fetch_word(arch, s, bus)
+    }
+}
+
+/// Whether the interrupt is entered: the line is up, and I is clear (ARM manual, A2.6 "Exceptions").
+#[inline(always)]
+pub fn enters(s: &Registers, line: bool) -> bool
+    ensures { result ≡ enters line s.now }
 {
     line && (s.cpsr() >> 7) & 1 == 0
 }
@@ -260,9 +287,6 @@ pub fn step<B: Bus>(
     if enters(s, line) {
         return Stepped::Cost(interrupt(arch, s, base));
     }
-    if s.is_thumb() {
-        step_half(arch, base, in_rom, s, bus)
-    } else {
-        step_word(arch, base, in_rom, s, bus)
-    }
+    let fetched = fetch(arch, s, bus);
+    execute_word(arch, base, in_rom, s, bus, fetched.number, fetched.instr)
 }

@@ -47,7 +47,7 @@ fn signed_byte(value: u32) -> u32
 
 /// The low half with its sign.
 #[inline(always)]
-fn signed_half(value: u32) -> u32
+pub(crate) fn signed_half(value: u32) -> u32
     ensures { result ≡ signed_half value }
 {
     let low = value & 0xFFFF;

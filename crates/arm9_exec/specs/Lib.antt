@@ -1,0 +1,3 @@
+pub mod Arm9
+pub mod Coprocessors
+pub mod Lefts

@@ -1,0 +1,8 @@
+//! ARM9's step: ARMv5TE, whose vectors stand where CP15 says, and the moves to and from CP15 (GBATEK, "NDS Overview": an ARM946E-S).
+#![tactic(auto)]
+
+mod coprocessors;
+mod steps;
+
+pub use arm_core::Stepped;
+pub use steps::step9;

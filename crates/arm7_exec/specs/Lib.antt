@@ -1,2 +1,1 @@
 pub mod Arm7
-pub mod Lefts

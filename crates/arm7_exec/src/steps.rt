@@ -2,7 +2,7 @@
 
 ghost use Rattle.std.specs.Prelude.{◌≡◌};
 ghost use Rattle.arm7_exec.specs.Arm7.{step7_of};
-ghost use Rattle.arm7_exec.specs.Lefts.{KeepsWhereLeft};
+ghost use Rattle.arm_exec.specs.Lefts.{KeepsWhereLeft};
 
 use arm_core::{Bus, Core, Stepped};
 use arm_exec::step;

@@ -1,5 +1,5 @@
 use Rattle.arm7_exec.specs.Arm7.{arm7}
-use Rattle.arm7_exec.proofs.Kept.{step_keeps}
+use Rattle.arm_exec.proofs.Kept.{step_keeps}
 use Rattle.arm7_exec.proofs.steps.step7.Goals as goal
 
 pub returns-clause-left : goal.returns-clause-left

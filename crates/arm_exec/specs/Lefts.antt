@@ -3,7 +3,7 @@ use Rattle.arm_core.specs.Registers.{RegisterState}
 use Rattle.arm_core.specs.declared.outcomes.Stepped as stepped
 use Rattle.arm_core.specs.declared.outcomes.Stepped.TheVariants.{Cost, Halted, Left}
 
--- a step that needs what is left out leaves the registers as they were, and ARM7's step never halts
+-- an entry or an instruction that needs what is left out leaves the registers as they were, and none halts, but for a move to CP15
 abbrev pub KeepsWhereLeft : RegisterState → stepped.Stepped → RegisterState → Type 0
 KeepsWhereLeft old (Cost clocks) new = Unit {0}
 KeepsWhereLeft old (Halted clocks) new = ⊥

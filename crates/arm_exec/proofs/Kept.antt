@@ -1,23 +1,19 @@
-use Rattle.std.proofs.Common.{ℕ, ◌/◌, ◌%◌, ◌^◌, ◌&&◌, not, Bool, true, false, if◌then◌else◌, Option, Some, None, refl}
-use Rattle.ds_base.specs.Bits.{bit}
+use Rattle.std.proofs.Common.{ℕ, Bool, true, false, if◌then◌else◌, Option, Some, None, refl}
 use Rattle.ds_base.specs.Accesses.{MemoryMachine, Performed, perform}
 use Rattle.ds_base.specs.declared.left_out.Stop.{Stop}
-use Rattle.ds_base.specs.declared.memories.Width.TheVariants.{Half, Word}
-use Rattle.arm_words.specs.ArmTable.{decoded_arm}
-use Rattle.arm_words.specs.ThumbTable.{decoded_thumb}
 use Rattle.arm_words.specs.Parts.{condition_of}
 use Rattle.arm_words.specs.declared.instructions.Instr.{Instr}
 use Rattle.arm_core.specs.Conditions.{holds}
 use Rattle.arm_core.specs.Effects.{Meaning, Outcome, concluded, carried_out}
 use Rattle.arm_core.specs.Exceptions.{interrupt_meaning, undefined_meaning}
 use Rattle.arm_core.specs.Meanings.{meaning, skipped}
-use Rattle.arm_core.specs.Registers.{RegisterState, is_thumb}
-use Rattle.arm_core.specs.Steps.{Setting, executed_unless, executed_word, fetched_half, fetched_word, step_of, stop_of}
-use Rattle.arm7_exec.specs.Lefts.{KeepsWhereLeft}
+use Rattle.arm_core.specs.Registers.{RegisterState}
+use Rattle.arm_core.specs.Steps.{Setting, enters, executed_unless, executed_word, fetched, step_of, stop_of}
+use Rattle.arm_exec.specs.Lefts.{KeepsWhereLeft}
 
 module _ {S : Type 0} (memory : MemoryMachine S) (setting : Setting) (s : RegisterState) where
   -- what a step comes to keeps the registers where it needs what is left out
-  abbrev Keeps : Outcome S → Type 0
+  abbrev pub Keeps : Outcome S → Type 0
   Keeps o = KeepsWhereLeft s o.stepped o.registers
 
   one_of : (b : Bool) (x y : Outcome S) → Keeps x → Keeps y → Keeps (if b then x else y)
@@ -28,24 +24,20 @@ module _ {S : Type 0} (memory : MemoryMachine S) (setting : Setting) (s : Regist
   concluded_keeps m done None = tt
   concluded_keeps m done (Some stop) = refl
 
-  carried_keeps : (state : S) (m : Meaning) → Keeps (carried_out memory setting.arch s state m)
+  pub carried_keeps : (state : S) (m : Meaning) → Keeps (carried_out memory setting.arch s state m)
   carried_keeps state m = let done = perform memory state m.accesses in concluded_keeps m done done.stop
 
   executed_keeps : (state : S) (instr : Instr) (stop : Option Stop) → Keeps (executed_unless memory setting s state instr stop)
   executed_keeps state instr None = carried_keeps state (meaning setting.arch setting.base s instr)
   executed_keeps state instr (Some stop) = refl
 
-  word_keeps : (state : S) (number : ℕ) (instr : Option Instr) → Keeps (executed_word memory setting s state number instr)
+  pub word_keeps : (state : S) (number : ℕ) (instr : Option Instr) → Keeps (executed_word memory setting s state number instr)
   word_keeps state number None = carried_keeps state (if holds (condition_of number) s.cpsr then undefined_meaning setting.base s else skipped s)
   word_keeps state number (Some instr) = executed_keeps state instr (stop_of setting s instr)
 
   pub step_keeps : (line : Bool) (state : S) → Keeps (step_of memory setting line s state)
   step_keeps line state =
-      let word = memory.fetch_value state s.pc Word in
-      let half = memory.fetch_value state s.pc Half % 2 ^ 16 in
-      one_of (line && not (bit 7 s.cpsr)) (carried_out memory setting.arch s state (interrupt_meaning setting.base s))
-      (if is_thumb s then fetched_half memory setting s state else fetched_word memory setting s state)
-      (carried_keeps state (interrupt_meaning setting.base s))
-      (one_of (is_thumb s) (fetched_half memory setting s state) (fetched_word memory setting s state)
-      (word_keeps (memory.fetch_next state s.pc Half) 14 (decoded_thumb setting.arch half))
-      (word_keeps (memory.fetch_next state s.pc Word) (word / 2 ^ 28) (decoded_arm setting.arch word)))
+      let f = fetched memory setting.arch s state in
+      one_of (enters line s) (carried_out memory setting.arch s state (interrupt_meaning setting.base s))
+      (executed_word memory setting s f.state f.number f.instr)
+      (carried_keeps state (interrupt_meaning setting.base s)) (word_keeps f.state f.number f.instr)

@@ -13,7 +13,7 @@ use crate::half_multiplies::{
     accumulate_product, half_long, half_product, set_product, wide_product,
 };
 use crate::links::{link_exchange, link_suffix, link_target};
-use crate::saturating::saturating;
+use crate::saturating::saturate;
 use arm_core::{Class, Registers};
 use arm_words::Instr;
 use ds_base::Arch;
@@ -77,7 +77,7 @@ pub(crate) fn enhanced(arch: Arch, base: u32, s: &mut Registers, instr: &Instr) 
             rm,
             rn,
             ..
-        } => saturating(arch, s, double, subtract, rd, rm, rn),
+        } => saturate(arch, s, double, subtract, rd, rm, rn),
         Instr::Smul {
             x,
             y,

@@ -35,8 +35,8 @@ pub fn breakpoint(arch: Arch, s: &mut Registers, base: u32) -> u32
     ensures registers { s.new ≡ (breakpoint_meaning base s.old).after [] }
     ensures cost { result ≡ cost_of arch (breakpoint_meaning base s.old) }
 {
-    let link = s.pc().wrapping_add(4);
-    s.enter(base, Exception::Breakpoint, link);
+    let address = s.pc();
+    s.enter(base, Exception::Breakpoint, address.wrapping_add(4));
     Class::Entry.cost(arch, false)
 }
 

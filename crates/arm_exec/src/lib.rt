@@ -31,7 +31,7 @@ pub use links::{link_exchange, link_suffix, link_target};
 pub use multiples::{load_multiple, multiple, store_multiple};
 pub use multiplies::{long_multiply, multiply};
 pub use processing::{compare, data, move_};
-pub use saturating::saturating;
+pub use saturating::saturate;
 pub use statuses::{mrs, msr};
 pub use steps::{Fetched, enters, execute, execute_word, fetch, step};
 pub use swaps::swap;

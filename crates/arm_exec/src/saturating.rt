@@ -20,7 +20,7 @@ pub(crate) fn set_lost(s: &mut Registers, lost: bool)
 /// QADD, QSUB (`subtract`), QDADD (`double`) and QDSUB (ARM manual, A4.1 "QADD", "QDADD", "QDSUB", "QSUB"). Gives their cost in the
 /// processor's own clocks.
 #[inline]
-pub fn saturating(
+pub fn saturate(
     arch: Arch,
     s: &mut Registers,
     double: bool,

@@ -17,7 +17,7 @@ use Rattle.cp15_tcm.specs.Registers.Register.{Constant, Control, DtcmRegion, Itc
 use Rattle.cp15_tcm.specs.declared.answers.Mcr.{Mcr}
 use Rattle.cp15_tcm.specs.declared.answers.Mcr.TheVariants as mcr
 use Rattle.arm9_exec.specs.Arm9.{arm9, executed_or_moved, step9_of, step_waits}
-use Rattle.arm9_exec.specs.Coprocessors.{carried_over, is_wait, moved, moved_if, register_moved, waits, written, written_by}
+use Rattle.arm9_exec.specs.Coprocessors.{carried_over, is_wait, move_of, moved_if, register_moved, waits, written, written_by}
 use Rattle.arm9_exec.specs.Lefts.{KeepsBothWhereLeft, is_halted}
 use Rattle.arm9_exec.specs.declared.coprocessors.Moved.{Moved}
 
@@ -79,4 +79,4 @@ module _ {S : Type 0} (memory : MemoryMachine S) (s : RegisterState) (cp : Cp15S
     by_entry true h =
         let o = carried_out memory V5 s state (interrupt_meaning (vectors_of cp) s) in
         rw h (beside_ends s cp o.stepped o.registers (carried_keeps memory (arm9 cp) s state (interrupt_meaning (vectors_of cp) s)))
-    by_entry false h = let f = fetched memory V5 s state in rw h (executed_ends f (moved f.instr))
+    by_entry false h = let f = fetched memory V5 s state in rw h (executed_ends f (move_of f.instr))

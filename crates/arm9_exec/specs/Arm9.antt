@@ -8,7 +8,7 @@ use Rattle.arm_core.specs.Steps.{Setting, FetchOutcome, enters, executed_word, f
 use Rattle.arm_core.specs.declared.outcomes.Stepped.{Stepped}
 use Rattle.cp15_tcm.specs.Registers.{Cp15State, vectors_of}
 use Rattle.cp15_tcm.specs.TightlyCoupled.{in_itcm}
-use Rattle.arm9_exec.specs.Coprocessors.{MoveOutcome, moved, moved_if, waits}
+use Rattle.arm9_exec.specs.Coprocessors.{MoveOutcome, move_of, moved_if, waits}
 use Rattle.arm9_exec.specs.declared.coprocessors.Moved.{Moved}
 
 -- ARM9 (GBATEK, "NDS Overview"; an ARM946E-S): ARMv5TE, whose vectors stand where CP15 says. That of SWI lies in the boot ROM where they
@@ -39,8 +39,8 @@ executed_or_moved memory s cp f (Some m) = before f.state (moved_if s cp m)
 abbrev pub step9_of : {S : Type 0} → MemoryMachine S → Bool → RegisterState → Cp15State → S → Outcome9 S
 step9_of memory line s cp state =
     if enters line s then beside cp (carried_out memory V5 s state (interrupt_meaning (vectors_of cp) s))
-    else let f = fetched memory V5 s state in executed_or_moved memory s cp f (moved f.instr)
+    else let f = fetched memory V5 s state in executed_or_moved memory s cp f (move_of f.instr)
 
 -- it writes the wait for an interrupt
 abbrev pub step_waits : {S : Type 0} → MemoryMachine S → Bool → RegisterState → S → Bool
-step_waits memory line s state = not (enters line s) && waits s (moved (fetched memory V5 s state).instr)
+step_waits memory line s state = not (enters line s) && waits s (move_of (fetched memory V5 s state).instr)

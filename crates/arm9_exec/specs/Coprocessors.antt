@@ -25,10 +25,10 @@ pub record MoveOutcome : Type 0 where
   pub stepped : Stepped
 
 -- the move that an instruction makes to or from CP15, if it makes one
-abbrev pub moved : Option Instr → Option Moved
-moved (Some (Coprocessor cond load op1 crn rd cp op2 crm)) =
+abbrev pub move_of : Option Instr → Option Moved
+move_of (Some (Coprocessor cond load op1 crn rd cp op2 crm)) =
     if cp == 15 then Some (record { cond = cond; load = load; op1 = op1; crn = crn; rd = rd; op2 = op2; crm = crm }) else None
-moved _ = None
+move_of _ = None
 
 abbrev pub register_moved : Moved → Register
 register_moved m = register_of m.op1 m.crn m.crm m.op2

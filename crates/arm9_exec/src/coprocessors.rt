@@ -3,7 +3,7 @@
 ghost use Rattle.std.specs.Prelude.{◌≡◌, ◌<◌, IfSome};
 ghost use Rattle.arm_words.specs.Fields.{HasFields};
 ghost use Rattle.arm_core.specs.Registers.{register};
-ghost use Rattle.arm9_exec.specs.Coprocessors.{carried_over, moved, moved_if, read_by, read_into, register_moved, written};
+ghost use Rattle.arm9_exec.specs.Coprocessors.{carried_over, move_of, moved_if, read_by, read_into, register_moved, written};
 
 use arm_core::{Class, Registers, Stepped, holds};
 use arm_exec::skip;
@@ -28,9 +28,9 @@ pub(crate) struct Moved {
 
 /// The move that an instruction makes to or from CP15, if it makes one.
 #[inline(always)]
-pub(crate) fn moved(instr: Option<Instr>) -> Option<Moved>
+pub(crate) fn move_of(instr: Option<Instr>) -> Option<Moved>
     requires { IfSome instr HasFields }
-    ensures moved { result ≡ moved instr }
+    ensures moved { result ≡ move_of instr }
     ensures within { IfSome result (λ m. m.rd < 16) }
 {
     match instr {

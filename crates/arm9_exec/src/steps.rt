@@ -4,8 +4,8 @@ ghost use Rattle.std.specs.Prelude.{◌≡◌};
 ghost use Rattle.arm9_exec.specs.Arm9.{arm9, step9_of, step_waits};
 ghost use Rattle.arm9_exec.specs.Lefts.{KeepsBothWhereLeft, is_halted};
 
-use crate::coprocessors::{move_if, moved};
-use arm_core::{Bus, Core, Stepped};
+use crate::coprocessors::{move_if, move_of};
+use arm_core::{Bus, Core, Registers, Stepped};
 use arm_exec::{enters, execute_word, fetch, interrupt};
 use cp15_tcm::{Cp15, Tcm};
 use ds_base::Arch;
@@ -16,6 +16,33 @@ fn in_rom(cp: &Cp15) -> bool
     ensures { result ≡ (arm9 cp.now).in_rom }
 {
     cp.vectors() == 0xFFFF_0000 && !matches!(cp.tcm_place(0xFFFF_0008, false, true), Tcm::Itcm(_))
+}
+
+/// A step: the interrupt's entry, a move to or from CP15, or another instruction.
+#[inline]
+fn step<B: Bus>(s: &mut Registers, cp: &mut Cp15, bus: &mut B, line: bool) -> Stepped
+    ensures registers { s.new ≡ (step9_of B.memory line s.old cp.old (B.state bus.old)).registers }
+    ensures cp { cp.new ≡ (step9_of B.memory line s.old cp.old (B.state bus.old)).cp }
+    ensures state { B.state bus.new ≡ (step9_of B.memory line s.old cp.old (B.state bus.old)).state }
+    ensures stepped { result ≡ (step9_of B.memory line s.old cp.old (B.state bus.old)).stepped }
+    ensures same { B.identity bus.new ≡ B.identity bus.old }
+{
+    if enters(s, line) {
+        return Stepped::Cost(interrupt(Arch::V5, s, cp.vectors()));
+    }
+    let fetched = fetch(Arch::V5, s, bus);
+    match move_of(fetched.instr) {
+        Some(m) => move_if(s, cp, m),
+        None => execute_word(
+            Arch::V5,
+            cp.vectors(),
+            in_rom(cp),
+            s,
+            bus,
+            fetched.number,
+            fetched.instr,
+        ),
+    }
 }
 
 /// A step of ARM9: the entry of the interrupt where its line is up and I is clear, and otherwise the instruction at r15, by its meaning on
@@ -32,13 +59,5 @@ pub fn step9<B: Bus>(core: &mut Core, cp: &mut Cp15, bus: &mut B, line: bool) ->
     ensures left { KeepsBothWhereLeft core.old.registers cp.old result core.new.registers cp.new }
     ensures halted { is_halted result ≡ step_waits B.memory line core.old.registers (B.state bus.old) }
 {
-    let s = &mut core.registers;
-    if enters(s, line) {
-        return Stepped::Cost(interrupt(Arch::V5, s, cp.vectors()));
-    }
-    let fetched = fetch(Arch::V5, s, bus);
-    match moved(fetched.instr) {
-        Some(m) => move_if(s, cp, m),
-        None => execute_word(Arch::V5, cp.vectors(), in_rom(cp), s, bus, fetched.number, fetched.instr),
-    }
+    step(&mut core.registers, cp, bus, line)
 }

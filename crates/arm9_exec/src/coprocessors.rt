@@ -34,16 +34,18 @@ pub(crate) fn move_of(instr: Option<Instr>) -> Option<Moved>
     ensures within { IfSome result (λ m. m.rd < 16) }
 {
     match instr {
-        Some(Instr::Coprocessor {
-            cond,
-            load,
-            op1,
-            crn,
-            rd,
-            cp: 15,
-            op2,
-            crm,
-        }) => Some(Moved {
+        Some(
+            Instr::Coprocessor {
+                cond,
+                load,
+                op1,
+                crn,
+                rd,
+                cp: 15,
+                op2,
+                crm,
+            },
+        ) => Some(Moved {
             cond,
             load,
             op1,
@@ -112,11 +114,7 @@ fn carry_over(s: &mut Registers, cp: &mut Cp15, m: Moved) -> Stepped
     ensures cp { cp.new ≡ (carried_over s.old cp.old m).cp }
     ensures stepped { result ≡ (carried_over s.old cp.old m).stepped }
 {
-    if m.load {
-        mrc(s, cp, m)
-    } else {
-        mcr(s, cp, m)
-    }
+    if m.load { mrc(s, cp, m) } else { mcr(s, cp, m) }
 }
 
 /// The same, where its condition holds.

@@ -24,9 +24,7 @@ pub use branches::{
 pub use doubles::double;
 pub use enhanced::clz;
 pub use exceptions::{breakpoint, interrupt, software, undefined};
-pub use half_multiplies::{
-    accumulate_product, half_long, half_product, set_product, wide_product,
-};
+pub use half_multiplies::{accumulate_product, half_long, half_product, set_product, wide_product};
 pub use links::{link_exchange, link_suffix, link_target};
 pub use multiples::{load_multiple, multiple, store_multiple};
 pub use multiplies::{long_multiply, multiply};

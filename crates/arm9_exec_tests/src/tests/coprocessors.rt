@@ -42,9 +42,19 @@ fn registers_of_cp15_are_read(rt: HostRuntime) -> Result<(), AllocError> {
 fn registers_of_cp15_are_written(rt: HostRuntime) -> Result<(), AllocError> {
     let [control, dtcm, itcm] = BOOT;
     for (name, word, value, kept) in [
-        ("control", 0xEE01_0F10, 0xFFFF_FF7F, [0x000F_707D, dtcm, itcm]),
+        (
+            "control",
+            0xEE01_0F10,
+            0xFFFF_FF7F,
+            [0x000F_707D, dtcm, itcm],
+        ),
         ("control", 0xEE01_0F10, 0, [0x78, dtcm, itcm]),
-        ("DTCM", 0xEE09_0F11, 0xFFFF_FFFF, [control, 0xFFFF_F03E, itcm]),
+        (
+            "DTCM",
+            0xEE09_0F11,
+            0xFFFF_FFFF,
+            [control, 0xFFFF_F03E, itcm],
+        ),
         ("ITCM", 0xEE09_0F31, 0xFFFF_FFFF, [control, dtcm, 0x3E]),
         ("a cache", 0xEE07_0F15, 0xFFFF_FFFF, BOOT),
         ("another operation", 0xEE29_0F11, 0xFFFF_FFFF, BOOT),
@@ -77,7 +87,13 @@ fn a_write_halts_or_is_left_out(rt: HostRuntime) -> Result<(), AllocError> {
             ..arm("mcr p15, 0, r0, c7, c0, 4", 0xEE07_0F90, 2, &[], &[])
         },
         arm("mcreq p15, 0, r0, c7, c0, 4", 0x0E07_0F90, 1, &[], &[]),
-        arm("mrc p15, 0, r0, c7, c0, 4", 0xEE17_0F90, 2, &[(0, 5)], &[(0, 0)]),
+        arm(
+            "mrc p15, 0, r0, c7, c0, 4",
+            0xEE17_0F90,
+            2,
+            &[(0, 5)],
+            &[(0, 0)],
+        ),
         // the core and CP15 are as they were
         Row {
             stepped: big_endian,
@@ -102,7 +118,13 @@ fn other_coprocessors_are_undefined(rt: HostRuntime) -> Result<(), AllocError> {
         (CPSR, 0x9B),
     ];
     let rows = [
-        arm("mrc p14, 0, r0, c0, c0, 0", 0xEE10_0E10, 3, &[(0, 5)], &left),
+        arm(
+            "mrc p14, 0, r0, c0, c0, 0",
+            0xEE10_0E10,
+            3,
+            &[(0, 5)],
+            &left,
+        ),
         arm("mcr p0, 0, r0, c7, c0, 4", 0xEE07_0090, 3, &[(0, 5)], &left),
         arm("mrceq p14", 0x0E10_0E10, 1, &[(0, 5)], &[]),
         // a data operation

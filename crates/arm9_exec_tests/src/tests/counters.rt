@@ -14,7 +14,13 @@ fn a_load_of_r15_sets_the_state(rt: HostRuntime) -> Result<(), AllocError> {
             &[(PC, 0x182), (CPSR, THUMB)],
         ),
         // bits 1 and 0 that are 10 are ARM state
-        arm("ldr r15, [r1]", 0xE591_F000, 4, &[(1, 0x4C)], &[(PC, 0x1A0)]),
+        arm(
+            "ldr r15, [r1]",
+            0xE591_F000,
+            4,
+            &[(1, 0x4C)],
+            &[(PC, 0x1A0)],
+        ),
         arm(
             "ldrt r15, [r1], #4",
             0xE4B1_F004,
@@ -29,8 +35,20 @@ fn a_load_of_r15_sets_the_state(rt: HostRuntime) -> Result<(), AllocError> {
             &[(1, 0x48)],
             &[(PC, 0x182), (CPSR, THUMB)],
         ),
-        arm("ldmia r1, {r15}", 0xE891_8000, 4, &[(1, 0x4C)], &[(PC, 0x1A0)]),
-        thumb("pop {r15}", 0xBD00, 4, &[(13, 0x48)], &[(18, 0x4C), (PC, 0x182)]),
+        arm(
+            "ldmia r1, {r15}",
+            0xE891_8000,
+            4,
+            &[(1, 0x4C)],
+            &[(PC, 0x1A0)],
+        ),
+        thumb(
+            "pop {r15}",
+            0xBD00,
+            4,
+            &[(13, 0x48)],
+            &[(18, 0x4C), (PC, 0x182)],
+        ),
         thumb(
             "pop {r15}",
             0xBD00,
@@ -40,8 +58,20 @@ fn a_load_of_r15_sets_the_state(rt: HostRuntime) -> Result<(), AllocError> {
         ),
         // other loads keep it
         arm("ldrb r15, [r1]", 0xE5D1_F000, 4, &[(1, 0x40)], &[(PC, 4)]),
-        arm("ldrh r15, [r1]", 0xE1D1_F0B0, 4, &[(1, 0x48)], &[(PC, 0x180)]),
-        arm("ldrsh r15, [r1]", 0xE1D1_F0F0, 4, &[(1, 0x48)], &[(PC, 0x180)]),
+        arm(
+            "ldrh r15, [r1]",
+            0xE1D1_F0B0,
+            4,
+            &[(1, 0x48)],
+            &[(PC, 0x180)],
+        ),
+        arm(
+            "ldrsh r15, [r1]",
+            0xE1D1_F0F0,
+            4,
+            &[(1, 0x48)],
+            &[(PC, 0x180)],
+        ),
         Row {
             stored: &[(0x48, 5)],
             ..arm(
@@ -100,7 +130,13 @@ fn a_load_of_r15_with_a_hat_restores_the_state(rt: HostRuntime) -> Result<(), Al
 fn lists_have_the_bases_of_armv5(rt: HostRuntime) -> Result<(), AllocError> {
     let rows = [
         // the only register, the last, and none of them
-        arm("ldmia r1!, {r1}", 0xE8B1_0002, 2, &[(1, 0x40)], &[(1, 0x44)]),
+        arm(
+            "ldmia r1!, {r1}",
+            0xE8B1_0002,
+            2,
+            &[(1, 0x40)],
+            &[(1, 0x44)],
+        ),
         arm(
             "ldmia r1!, {r0, r1}",
             0xE8B1_0003,

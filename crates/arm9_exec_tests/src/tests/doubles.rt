@@ -6,9 +6,21 @@ use std::alloc::AllocError;
 #[test]
 fn two_registers_are_loaded(rt: HostRuntime) -> Result<(), AllocError> {
     let rows = [
-        arm("ldrd r2, [r1]", 0xE1C1_20D0, 3, &[(1, 0x40)], &[(2, 7), (3, 9)]),
+        arm(
+            "ldrd r2, [r1]",
+            0xE1C1_20D0,
+            3,
+            &[(1, 0x40)],
+            &[(2, 7), (3, 9)],
+        ),
         // at an odd place the aligned word and the next
-        arm("ldrd r2, [r1]", 0xE1C1_20D0, 3, &[(1, 0x43)], &[(2, 7), (3, 9)]),
+        arm(
+            "ldrd r2, [r1]",
+            0xE1C1_20D0,
+            3,
+            &[(1, 0x43)],
+            &[(2, 7), (3, 9)],
+        ),
         arm(
             "ldrd r2, [r1]",
             0xE1C1_20D0,
@@ -16,8 +28,20 @@ fn two_registers_are_loaded(rt: HostRuntime) -> Result<(), AllocError> {
             &[(1, 0x45)],
             &[(2, 9), (3, 0x183)],
         ),
-        arm("ldrd r2, [r1, #8]", 0xE1C1_20D8, 3, &[(1, 0x38)], &[(2, 7), (3, 9)]),
-        arm("ldrd r2, [r1, #-8]", 0xE141_20D8, 3, &[(1, 0x48)], &[(2, 7), (3, 9)]),
+        arm(
+            "ldrd r2, [r1, #8]",
+            0xE1C1_20D8,
+            3,
+            &[(1, 0x38)],
+            &[(2, 7), (3, 9)],
+        ),
+        arm(
+            "ldrd r2, [r1, #-8]",
+            0xE141_20D8,
+            3,
+            &[(1, 0x48)],
+            &[(2, 7), (3, 9)],
+        ),
         arm(
             "ldrd r2, [r1, #8]!",
             0xE1E1_20D8,
@@ -47,7 +71,13 @@ fn two_registers_are_loaded(rt: HostRuntime) -> Result<(), AllocError> {
             &[(2, 7), (3, 9)],
         ),
         // the base that was loaded keeps what was loaded
-        arm("ldrd r0, [r1], #8", 0xE0C1_00D8, 3, &[(1, 0x40)], &[(0, 7), (1, 9)]),
+        arm(
+            "ldrd r0, [r1], #8",
+            0xE0C1_00D8,
+            3,
+            &[(1, 0x40)],
+            &[(0, 7), (1, 9)],
+        ),
         // addresses wrap
         arm(
             "ldrd r2, [r1]",
@@ -65,7 +95,13 @@ fn two_registers_are_loaded(rt: HostRuntime) -> Result<(), AllocError> {
             &[(2, 0x0108_B2B2), (3, 0x010C_C3C3)],
         ),
         // r15 keeps the state, and loses its two low bits
-        arm("ldrd r14, [r1]", 0xE1C1_E0D0, 5, &[(1, 0x40)], &[(19, 7), (PC, 8)]),
+        arm(
+            "ldrd r14, [r1]",
+            0xE1C1_E0D0,
+            5,
+            &[(1, 0x40)],
+            &[(19, 7), (PC, 8)],
+        ),
         // a condition that fails
         arm("ldrdeq r2, [r1]", 0x01C1_20D0, 1, &[(1, 0x40)], &[]),
     ];
@@ -77,11 +113,23 @@ fn two_registers_are_stored(rt: HostRuntime) -> Result<(), AllocError> {
     let rows = [
         Row {
             stored: &[(0x40, 5), (0x44, 6)],
-            ..arm("strd r2, [r1]", 0xE1C1_20F0, 2, &[(1, 0x40), (2, 5), (3, 6)], &[])
+            ..arm(
+                "strd r2, [r1]",
+                0xE1C1_20F0,
+                2,
+                &[(1, 0x40), (2, 5), (3, 6)],
+                &[],
+            )
         },
         Row {
             stored: &[(0x44, 5), (0x48, 6)],
-            ..arm("strd r2, [r1]", 0xE1C1_20F0, 2, &[(1, 0x47), (2, 5), (3, 6)], &[])
+            ..arm(
+                "strd r2, [r1]",
+                0xE1C1_20F0,
+                2,
+                &[(1, 0x47), (2, 5), (3, 6)],
+                &[],
+            )
         },
         Row {
             stored: &[(0x40, 5), (0x44, 6)],

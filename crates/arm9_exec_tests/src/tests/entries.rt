@@ -1,8 +1,8 @@
 //! Exceptions, and calls of the boot ROM.
 
 use super::rows::{
-    ARM, BOOT, CPSR, LINK_IRQ, LINK_SVC, LINK_UND, PC, Row, SPSR_IRQ, SPSR_SVC, SPSR_UND, THUMB,
-    arm, thumb, try_rows,
+    ARM, CPSR, LINK_IRQ, LINK_SVC, LINK_UND, PC, Row, SPSR_IRQ, SPSR_SVC, SPSR_UND, THUMB, arm,
+    thumb, try_rows,
 };
 use arm_core::Stepped;
 use ds_base::{LeftKind, Stop};
@@ -75,26 +75,20 @@ fn calls_of_the_boot_rom_are_taken_or_left_out(rt: HostRuntime) -> Result<(), Al
     try_rows(&rt, rt.alloc(), &rows)
 }
 
+/// What the interrupt's entry leaves, by its vector.
+fn interrupted(vector: u32) -> [(usize, u32); 4] {
+    [
+        (PC, vector),
+        (LINK_IRQ, 0x104),
+        (SPSR_IRQ, ARM),
+        (CPSR, 0x92),
+    ]
+}
+
 #[test]
-fn interrupts_and_undefined_words_have_the_vectors_of_cp15(
-    rt: HostRuntime,
-) -> Result<(), AllocError> {
-    let entered = [(LINK_IRQ, 0x104), (SPSR_IRQ, ARM), (CPSR, 0x92)];
-    let [link, saved, status] = entered;
-    let high = [(PC, 0xFFFF_0018), link, saved, status];
-    let low = [(PC, 0x18), link, saved, status];
-    let undefined = [
-        (PC, 0xFFFF_0004),
-        (LINK_UND, 0x104),
-        (SPSR_UND, ARM),
-        (CPSR, 0x9B),
-    ];
-    let undefined_half = [
-        (PC, 0xFFFF_0004),
-        (LINK_UND, 0x102),
-        (SPSR_UND, THUMB),
-        (CPSR, 0x9B),
-    ];
+fn interrupts_have_the_vectors_of_cp15(rt: HostRuntime) -> Result<(), AllocError> {
+    let high = interrupted(0xFFFF_0018);
+    let low = interrupted(0x18);
     let rows = [
         Row {
             line: true,
@@ -116,22 +110,31 @@ fn interrupts_and_undefined_words_have_the_vectors_of_cp15(
             cpsr: 0x9F,
             ..arm("masked", 0xE3A0_0001, 1, &[], &[(0, 1)])
         },
-        // a word without a row, also with condition 1111
-        arm("undefined", 0xE600_0010, 3, &[], &undefined),
-        arm("undefined, 1111", 0xF000_0000, 3, &[], &undefined),
-        arm("undefined, eq", 0x0600_0010, 1, &[], &[]),
-        thumb("undefined", 0xDE00, 3, &[], &undefined_half),
-        // ldrd of an odd register
-        arm("ldrd r1", 0xE1C2_10D0, 3, &[], &undefined),
     ];
     try_rows(&rt, rt.alloc(), &rows)
 }
 
+/// What an undefined word or half leaves, by the state before it.
+fn refused(cpsr: u32) -> [(usize, u32); 4] {
+    let next = if cpsr == THUMB { 0x102 } else { 0x104 };
+    [
+        (PC, 0xFFFF_0004),
+        (LINK_UND, next),
+        (SPSR_UND, cpsr),
+        (CPSR, 0x9B),
+    ]
+}
+
 #[test]
-fn cp15_is_that_of_the_boot(rt: HostRuntime) -> Result<(), AllocError> {
-    let row = Row {
-        cp: BOOT,
-        ..arm("mov r0, #1", 0xE3A0_0001, 1, &[], &[(0, 1)])
-    };
-    try_rows(&rt, rt.alloc(), &[row])
+fn words_without_a_row_are_undefined(rt: HostRuntime) -> Result<(), AllocError> {
+    let word = refused(ARM);
+    let half = refused(THUMB);
+    let rows = [
+        arm("undefined", 0xE600_0010, 3, &[], &word),
+        arm("undefined, 1111", 0xF000_0000, 3, &[], &word),
+        arm("undefined, eq", 0x0600_0010, 1, &[], &[]),
+        thumb("undefined", 0xDE00, 3, &[], &half),
+        arm("ldrd of an odd register", 0xE1C2_10D0, 3, &[], &word),
+    ];
+    try_rows(&rt, rt.alloc(), &rows)
 }

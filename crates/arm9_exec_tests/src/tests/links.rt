@@ -1,8 +1,6 @@
 //! Branches with link that can change the state, BKPT and PLD.
 
-use super::rows::{
-    ARM, CPSR, LINK, LINK_ABT, PC, Q, Row, SPSR_ABT, THUMB, arm, thumb, try_rows,
-};
+use super::rows::{ARM, CPSR, LINK, LINK_ABT, PC, Q, Row, SPSR_ABT, THUMB, arm, thumb, try_rows};
 use std::alloc::AllocError;
 
 #[test]
@@ -39,7 +37,13 @@ fn blx_goes_to_either_state(rt: HostRuntime) -> Result<(), AllocError> {
             &[(PC, 0x300), (LINK, 0x104), (CPSR, THUMB)],
         ),
         arm("blxeq r1", 0x012F_FF31, 1, &[(1, 0x201)], &[]),
-        arm("bx r1", 0xE12F_FF11, 3, &[(1, 0x201)], &[(PC, 0x200), (CPSR, THUMB)]),
+        arm(
+            "bx r1",
+            0xE12F_FF11,
+            3,
+            &[(1, 0x201)],
+            &[(PC, 0x200), (CPSR, THUMB)],
+        ),
         // to a target, from 108h on
         arm(
             "blx",

@@ -94,13 +94,7 @@ fn q_stays_until_it_is_written(rt: HostRuntime) -> Result<(), AllocError> {
         },
         Row {
             cpsr: Q | ARM,
-            ..arm(
-                "msr cpsr_f, r1",
-                0xE128_F001,
-                1,
-                &[(1, 0)],
-                &[(CPSR, ARM)],
-            )
+            ..arm("msr cpsr_f, r1", 0xE128_F001, 1, &[(1, 0)], &[(CPSR, ARM)])
         },
         arm(
             "msr cpsr_f, r1",

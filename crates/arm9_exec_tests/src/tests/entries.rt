@@ -89,6 +89,7 @@ fn interrupted(vector: u32) -> [(usize, u32); 4] {
 fn interrupts_have_the_vectors_of_cp15(rt: HostRuntime) -> Result<(), AllocError> {
     let high = interrupted(0xFFFF_0018);
     let low = interrupted(0x18);
+    let masked = [(0, 1)];
     let rows = [
         Row {
             line: true,
@@ -108,7 +109,7 @@ fn interrupts_have_the_vectors_of_cp15(rt: HostRuntime) -> Result<(), AllocError
         Row {
             line: true,
             cpsr: 0x9F,
-            ..arm("masked", 0xE3A0_0001, 1, &[], &[(0, 1)])
+            ..arm("masked", 0xE3A0_0001, 1, &[], &masked)
         },
     ];
     try_rows(&rt, rt.alloc(), &rows)

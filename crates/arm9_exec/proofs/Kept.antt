@@ -4,7 +4,7 @@ use Rattle.ds_base.specs.Bits.{bit}
 use Rattle.ds_base.specs.declared.left_out.LeftKind.TheVariants.{BigEndian}
 use Rattle.ds_base.specs.declared.processors.Arch.TheVariants.{V5}
 use Rattle.arm_core.specs.Conditions.{holds}
-use Rattle.arm_core.specs.Effects.{Outcome, carried_out}
+use Rattle.arm_core.specs.Effects.{carried_out}
 use Rattle.arm_core.specs.Exceptions.{interrupt_meaning}
 use Rattle.arm_core.specs.Registers.{RegisterState, register}
 use Rattle.arm_core.specs.Steps.{FetchOutcome, enters, executed_word, fetched}

@@ -1,4 +1,4 @@
-use Rattle.std.specs.Prelude.{ℕ, ◌==◌, Bool, false, ◌&&◌, not, if◌then◌else◌, Option, Some, None}
+use Rattle.std.specs.Prelude.{◌==◌, Bool, false, ◌&&◌, not, if◌then◌else◌, Option, Some, None}
 use Rattle.ds_base.specs.Accesses.{MemoryMachine}
 use Rattle.ds_base.specs.declared.processors.Arch.TheVariants.{V5}
 use Rattle.arm_core.specs.Registers.{RegisterState}

@@ -5,7 +5,6 @@ use Rattle.arm_core.specs.Transfers.{signed_half}
 use Rattle.arm_core.specs.Multiplies.{long_product, with_long}
 use Rattle.arm_core.specs.Saturating.{with_lost}
 use Rattle.arm_core.specs.Effects.{Meaning}
-use Rattle.arm_core.specs.declared.results.Computed.{Computed}
 use Rattle.arm_core.specs.declared.classes.Class.TheVariants.{Multiply, LongMultiply}
 
 -- Multiplies of halves (ARM manual, A4.1 "SMLA<x><y>", "SMLAL<x><y>", "SMLAW<y>", "SMUL<x><y>", "SMULW<y>"). N, Z, C and V stay.

@@ -1,4 +1,4 @@
-use Rattle.std.specs.Prelude.{ℕ, ◌-◌, ◌^◌, ◌==◌, bit_or, Bool, true, false, ◌||◌, if◌then◌else◌, [], ℤ, pos, negsuc, ◌+ℤ◌, ◌-ℤ◌, ◌*ℤ◌, int_lt}
+use Rattle.std.specs.Prelude.{ℕ, ◌-◌, ◌^◌, ◌==◌, bit_or, Bool, true, false, ◌||◌, if◌then◌else◌, [], ℤ, pos, negsuc, ◌+ℤ◌, ◌-ℤ◌, int_lt}
 use Rattle.std.specs.Int.{cast_signed, cast_unsigned, w32}
 use Rattle.arm_core.specs.Registers.{RegisterState, register, next, put}
 use Rattle.arm_core.specs.Effects.{Meaning}

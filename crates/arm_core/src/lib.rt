@@ -26,7 +26,7 @@ pub use addressing::{addressed, moved_base, offset_value, short_offset_value, wr
 pub use banks::Bank;
 pub use buses::Bus;
 pub use classes::Class;
-pub use conditions::holds;
+pub use conditions::{condition, holds};
 pub use cores::Core;
 pub use exceptions::Exception;
 pub use flats::FlatBus;

@@ -1,7 +1,7 @@
 use Rattle.std.proofs.Common.{ℕ, ◌≡◌, Bool, refl}
 use Rattle.ds_base.specs.declared.processors.Arch.{Arch}
 use Rattle.arm_words.specs.declared.instructions.Instr.{Instr}
-use Rattle.arm_words.specs.declared.instructions.Instr.TheVariants.{Data, Compare, Move, Mul, Mla, LongMultiply, Mrs, Msr, MsrImmediate, Transfer, HalfTransfer, Multiple, Swap, Bx, Branch, Swi, Never, ThumbLoadLiteral, ThumbAddress, ThumbBranchIf, ThumbBranch, ThumbBlPrefix, ThumbBlSuffix}
+use Rattle.arm_words.specs.declared.instructions.Instr.TheVariants.{Data, Compare, Move, Mul, Mla, LongMultiply, Mrs, Msr, MsrImmediate, DoubleTransfer, Transfer, HalfTransfer, Multiple, Swap, Bx, Branch, Swi, Never, ThumbLoadLiteral, ThumbAddress, ThumbBranchIf, ThumbBranch, ThumbBlPrefix, ThumbBlSuffix}
 use Rattle.arm_words.specs.declared.operations.DataOp.{DataOp}
 use Rattle.arm_words.specs.declared.operations.CompareOp.{CompareOp}
 use Rattle.arm_words.specs.declared.operations.MoveOp.{MoveOp}
@@ -52,13 +52,15 @@ pub transfer_else : (arch : Arch) (base : ℕ) (s : RegisterState) (i : Instr)
     → ((cond : Condition) (pre up user write_back load : Bool) (rn list : ℕ) → i ≡ Multiple cond pre up user write_back load rn list → ⊥)
     → ((cond : Condition) (byte : Bool) (rd rm rn : ℕ) → i ≡ Swap cond byte rd rm rn → ⊥)
     → ((rd immed : ℕ) → i ≡ ThumbLoadLiteral rd immed → ⊥)
+    → ((cond : Condition) (store pre up write_back : Bool) (rn rd : ℕ) (offset : ShortOffset) → i ≡ DoubleTransfer cond store pre up write_back rn rd offset → ⊥)
     → act arch base s i ≡ act_processing arch base s i
-transfer_else arch base s (Transfer cond pre up byte write_back load rn rd offset) a b c d e = absurd (a cond pre up byte write_back load rn rd offset refl)
-transfer_else arch base s (HalfTransfer cond op pre up write_back rn rd offset) a b c d e = absurd (b cond op pre up write_back rn rd offset refl)
-transfer_else arch base s (Multiple cond pre up user write_back load rn list) a b c d e = absurd (c cond pre up user write_back load rn list refl)
-transfer_else arch base s (Swap cond byte rd rm rn) a b c d e = absurd (d cond byte rd rm rn refl)
-transfer_else arch base s (ThumbLoadLiteral rd immed) a b c d e = absurd (e rd immed refl)
-transfer_else arch base s _ a b c d e = refl
+transfer_else arch base s (Transfer cond pre up byte write_back load rn rd offset) a b c d e f = absurd (a cond pre up byte write_back load rn rd offset refl)
+transfer_else arch base s (HalfTransfer cond op pre up write_back rn rd offset) a b c d e f = absurd (b cond op pre up write_back rn rd offset refl)
+transfer_else arch base s (Multiple cond pre up user write_back load rn list) a b c d e f = absurd (c cond pre up user write_back load rn list refl)
+transfer_else arch base s (Swap cond byte rd rm rn) a b c d e f = absurd (d cond byte rd rm rn refl)
+transfer_else arch base s (ThumbLoadLiteral rd immed) a b c d e f = absurd (e rd immed refl)
+transfer_else arch base s (DoubleTransfer cond store pre up write_back rn rd offset) a b c d e f = absurd (f cond store pre up write_back rn rd offset refl)
+transfer_else arch base s _ a b c d e f = refl
 
 pub branch_else : (arch : Arch) (base : ℕ) (s : RegisterState) (i : Instr)
     → ((cond : Condition) (rm : ℕ) → i ≡ Bx cond rm → ⊥)

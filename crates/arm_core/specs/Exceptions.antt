@@ -52,6 +52,10 @@ undefined_meaning base s = plain (entered base UndefinedInstruction (next s).pc 
 abbrev pub software_meaning : ℕ → RegisterState → Meaning
 software_meaning base s = plain (entered base SoftwareInterrupt (next s).pc s) Entry
 
+-- BKPT: r14 is its address + 4
+abbrev pub breakpoint_meaning : ℕ → RegisterState → Meaning
+breakpoint_meaning base s = plain (entered base Breakpoint ((s.pc + 4) % 2 ^ 32) s) Entry
+
 -- the interrupt line, before an instruction: r14 is that instruction's address + 4
 abbrev pub interrupt_meaning : ℕ → RegisterState → Meaning
 interrupt_meaning base s = plain (entered base Interrupt ((s.pc + 4) % 2 ^ 32) s) Entry

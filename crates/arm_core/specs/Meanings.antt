@@ -13,6 +13,7 @@ use Rattle.arm_core.specs.Multiplies.{multiply_meaning, long_multiply_meaning}
 use Rattle.arm_core.specs.StatusRegisters.{mrs_meaning, msr_meaning}
 use Rattle.arm_core.specs.Transfers.{transfer_meaning, half_transfer_meaning, literal_meaning}
 use Rattle.arm_core.specs.Multiples.{multiple_meaning}
+use Rattle.arm_core.specs.Doubles.{double_meaning}
 use Rattle.arm_core.specs.Swaps.{swap_meaning}
 use Rattle.arm_core.specs.Branches.{exchange_meaning, branch_meaning, distance, prefix_meaning, suffix_meaning, address_meaning}
 use Rattle.arm_core.specs.Exceptions.{software_meaning}
@@ -92,6 +93,7 @@ act_processing arch base s instr = act_multiply arch base s instr
 abbrev pub act : Arch → ℕ → RegisterState → Instr → Meaning
 act arch base s (Transfer cond pre up byte write_back load rn rd offset) = transfer_meaning arch s pre up byte write_back load rn rd offset
 act arch base s (HalfTransfer cond op pre up write_back rn rd offset) = half_transfer_meaning arch s op pre up write_back rn rd offset
+act arch base s (DoubleTransfer cond store pre up write_back rn rd offset) = double_meaning s store pre up write_back rn rd offset
 act arch base s (Multiple cond pre up user write_back load rn list) = multiple_meaning arch s pre up user write_back load rn list
 act arch base s (Swap cond byte rd rm rn) = swap_meaning s byte rd rm rn
 act arch base s (ThumbLoadLiteral rd immed) = literal_meaning arch s rd immed

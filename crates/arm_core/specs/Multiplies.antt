@@ -31,13 +31,16 @@ abbrev pub long_product : Bool → ℕ → ℕ → ℕ → ℕ
 long_product signed rm rs added = (widened signed rm * widened signed rs + added) % 2 ^ 64
 
 -- the low word goes to rd_lo and then the high word to rd_hi
+abbrev pub with_long : ℕ → ℕ → ℕ → RegisterState → RegisterState
+with_long rd_lo rd_hi product s = put rd_hi (product / 2 ^ 32) (put rd_lo (product % 2 ^ 32) s)
+
 abbrev pub long_multiply_meaning : RegisterState → Bool → Bool → Bool → ℕ → ℕ → ℕ → ℕ → Meaning
 long_multiply_meaning s signed accumulate set_flags rd_lo rd_hi rm rs =
     let added = if accumulate then register s rd_lo + 2 ^ 32 * register s rd_hi else 0 in
     let product = long_product signed (register s rm) (register s rs) added in
     record {
       accesses = [];
-      after = λ values. put rd_hi (product / 2 ^ 32) (put rd_lo (product % 2 ^ 32) (with_sign set_flags (bit 63 product) (product == 0) (next s)));
+      after = λ values. with_long rd_lo rd_hi product (with_sign set_flags (bit 63 product) (product == 0) (next s));
       class = LongMultiply;
       jumps = rd_lo == 15 || rd_hi == 15;
     }

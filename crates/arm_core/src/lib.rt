@@ -16,6 +16,7 @@ mod lists;
 mod outcomes;
 mod registers;
 mod results;
+mod saturating;
 mod shifter;
 mod statuses;
 mod thumb;
@@ -34,6 +35,7 @@ pub use lists::{has, keeps_base, list_bytes, lowest, stores_new_base, transferre
 pub use outcomes::Stepped;
 pub use registers::Registers;
 pub use results::{Computed, compare_result, data_result, move_result};
+pub use saturating::Saturated;
 pub use shifter::{
     Shifted32, first_operand, rotated_immediate, shift_by, shift_by_number, shifter_operand,
 };

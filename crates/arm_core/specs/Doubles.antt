@@ -15,7 +15,7 @@ use Rattle.arm_core.specs.declared.classes.Class.TheVariants.{LoadMultiple, Stor
 -- both have what was read, also where one is the base that was written back; r15 keeps the state (our choice)
 abbrev pub load_double_meaning : RegisterState → ℕ → ℕ → Addressed → Meaning
 load_double_meaning s rn rd to = record {
-  accesses = reads (aligned_down Word to.address) (rd ∷ rd + 1 ∷ []);
+  accesses = reads (aligned_down Word to.address) (rd ∷ (rd + 1) ∷ []);
   after = λ values. put (rd + 1) (slice_index values 1) (put rd (slice_index values 0) (with_base to.written rn to.base (next s)));
   class = LoadMultiple 2;
   jumps = rd == 14;

@@ -23,7 +23,9 @@ mod thumb;
 mod touches;
 
 pub use addresses::Addressed;
-pub use addressing::{addressed, moved_base, offset_value, short_offset_value, write_back};
+pub use addressing::{
+    addressed, literal_address, moved_base, offset_value, short_offset_value, write_back,
+};
 pub use banks::Bank;
 pub use buses::Bus;
 pub use classes::Class;
@@ -41,4 +43,4 @@ pub use shifter::{
 };
 pub use statuses::replaced;
 pub use thumb::equivalent;
-pub use touches::Touch;
+pub use touches::{Touch, footprint};

@@ -3,6 +3,7 @@
 mod branches;
 mod counters;
 mod entries;
+mod footprints;
 mod halves;
 mod loads;
 mod multiplies;

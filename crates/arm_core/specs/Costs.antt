@@ -22,7 +22,8 @@ clocks (LoadMultiple n) = costs (n + 1) (n + 2)
 clocks (StoreMultiple n) = costs (max n 1) (n + 1)
 clocks Branch = costs 3 3
 clocks Swap = costs 4 4
-clocks Coprocessor = costs 2 0
+-- on ARM7 there is none: it is undefined, and costs the entry
+clocks Coprocessor = costs 2 3
 clocks Entry = costs 3 3
 clocks Nothing = costs 1 1
 

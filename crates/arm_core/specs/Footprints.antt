@@ -1,4 +1,5 @@
-use Rattle.std.specs.Prelude.{ℕ, zero, suc, ◌+◌, ◌%◌, ◌^◌, ◌↔◌, ◌++◌, Contains, List, [], ◌∷◌}
+use Rattle.std.specs.Prelude.{ℕ, zero, suc, ◌≡◌, ◌+◌, ◌%◌, ◌^◌, ◌↔◌, ◌⊎◌, ◌++◌, Contains, Bool, not, List, [], ◌∷◌, Option}
+use Rattle.std.specs.List.{find}
 use Rattle.ds_base.specs.Accesses.{Access, Fetch, Read, Write}
 use Rattle.ds_base.specs.Numbers.{aligned_down, width_bytes}
 use Rattle.arm_core.specs.declared.touches.Touch.{Touch}
@@ -28,3 +29,13 @@ touched_bytes (Span first length) = span first length
 -- a touch has exactly the bytes of some accesses
 abbrev pub Covers : Touch → List Access → Type 0
 Covers touch accesses = (at : ℕ) → Contains (touched_bytes touch) at ↔ Contains (accessed_bytes accesses) at
+
+-- the first of some addresses that a test leaves out, if it leaves one out: of accesses that are made one after another, the first byte
+-- whose place isn't there
+abbrev pub first_without : (ℕ → Bool) → List ℕ → Option ℕ
+first_without is_there addresses = find (λ at. not (is_there at)) addresses
+
+-- some accesses go over a touch's bytes from its first to its last: once, or twice, as a read and a write of one place do
+abbrev pub GoesOver : Touch → List Access → Type 0
+GoesOver touch accesses =
+    (accessed_bytes accesses ≡ touched_bytes touch) ⊎ (accessed_bytes accesses ≡ touched_bytes touch ++ touched_bytes touch)

@@ -71,10 +71,9 @@ impl Class {
         ensures { result ≡ clocks self V4 }
     {
         match self {
-            Class::Coprocessor => 0,
             Class::Processing | Class::Nothing => 1,
             Class::ShiftByRegister | Class::Store => 2,
-            Class::Load | Class::Branch | Class::Entry => 3,
+            Class::Load | Class::Branch | Class::Entry | Class::Coprocessor => 3,
             Class::Multiply | Class::Swap => 4,
             Class::LongMultiply => 5,
             Class::LoadMultiple(n) => n + 2,

@@ -23,11 +23,13 @@ mod thumb;
 mod touches;
 
 pub use addresses::Addressed;
-pub use addressing::{addressed, moved_base, offset_value, short_offset_value, write_back};
+pub use addressing::{
+    addressed, literal_address, moved_base, offset_value, short_offset_value, write_back,
+};
 pub use banks::Bank;
 pub use buses::Bus;
 pub use classes::Class;
-pub use conditions::holds;
+pub use conditions::{condition, holds};
 pub use cores::Core;
 pub use exceptions::Exception;
 pub use flats::FlatBus;
@@ -41,4 +43,4 @@ pub use shifter::{
 };
 pub use statuses::replaced;
 pub use thumb::equivalent;
-pub use touches::Touch;
+pub use touches::{Touch, footprint};

@@ -1,3 +1,4 @@
 pub mod Executing
 pub mod Kept
 pub mod Lists
+pub mod Costs

@@ -6,76 +6,14 @@ ghost use Rattle.arm_words.specs.Parts.{condition_of};
 ghost use Rattle.arm_core.specs.Conditions.{holds};
 ghost use Rattle.arm_core.specs.Effects.{cost_of};
 ghost use Rattle.arm_core.specs.Exceptions.{undefined_meaning};
-ghost use Rattle.arm_core.specs.Meanings.{condition, skipped};
+ghost use Rattle.arm_core.specs.Meanings.{skipped};
 ghost use Rattle.arm_core.specs.Steps.{enters, executed, executed_word, fetched, fetched_half, fetched_word, step_of, swi_stop, unserved};
 
 use crate::acts::{act, skip};
 use crate::exceptions::{interrupt, undefined};
-use arm_core::{Bus, Registers, Stepped, equivalent, holds};
+use arm_core::{Bus, Registers, Stepped, condition, equivalent, holds};
 use arm_words::{Condition, Instr, decode_arm, decode_thumb};
 use ds_base::{Arch, LeftKind, Stop, Width};
-
-/// The condition under which an instruction takes effect (ARM manual, A3.2); Thumb's have none, but for B.
-#[inline(always)]
-fn condition(instr: &Instr) -> Condition
-    ensures { result ≡ condition instr.now }
-{
-    match *instr {
-        Instr::Bx { cond, .. } => cond,
-        Instr::BlxRegister { cond, .. } => cond,
-        Instr::Clz { cond, .. } => cond,
-        Instr::Saturating { cond, .. } => cond,
-        Instr::Smla { cond, .. } => cond,
-        Instr::Smlaw { cond, .. } => cond,
-        Instr::Smulw { cond, .. } => cond,
-        Instr::Smlal { cond, .. } => cond,
-        Instr::Smul { cond, .. } => cond,
-        Instr::Mul { cond, .. } => cond,
-        Instr::Mla { cond, .. } => cond,
-        Instr::LongMultiply { cond, .. } => cond,
-        Instr::Swap { cond, .. } => cond,
-        Instr::HalfTransfer { cond, .. } => cond,
-        Instr::Mrs { cond, .. } => cond,
-        Instr::Msr { cond, .. } => cond,
-        Instr::MsrImmediate { cond, .. } => cond,
-        Instr::Compare { cond, .. } => cond,
-        Instr::Move { cond, .. } => cond,
-        Instr::Data { cond, .. } => cond,
-        Instr::DoubleTransfer { cond, .. } => cond,
-        Instr::Transfer { cond, .. } => cond,
-        Instr::Multiple { cond, .. } => cond,
-        Instr::Branch { cond, .. } => cond,
-        Instr::Coprocessor { cond, .. } => cond,
-        Instr::Swi { cond, .. } => cond,
-        Instr::ThumbBranchIf { cond, .. } => cond,
-        Instr::Bkpt { .. }
-        | Instr::BlxTarget { .. }
-        | Instr::Pld { .. }
-        | Instr::Never { .. }
-        | Instr::ThumbAddSub { .. }
-        | Instr::ThumbShift { .. }
-        | Instr::ThumbImmediate { .. }
-        | Instr::ThumbData { .. }
-        | Instr::ThumbBx { .. }
-        | Instr::ThumbBlxRegister { .. }
-        | Instr::ThumbHigh { .. }
-        | Instr::ThumbLoadLiteral { .. }
-        | Instr::ThumbRegisterOffset { .. }
-        | Instr::ThumbImmediateOffset { .. }
-        | Instr::ThumbHalfOffset { .. }
-        | Instr::ThumbStackOffset { .. }
-        | Instr::ThumbAddress { .. }
-        | Instr::ThumbAdjustStack { .. }
-        | Instr::ThumbPushPop { .. }
-        | Instr::ThumbBkpt { .. }
-        | Instr::ThumbMultiple { .. }
-        | Instr::ThumbSwi { .. }
-        | Instr::ThumbBranch { .. }
-        | Instr::ThumbBlxSuffix { .. }
-        | Instr::ThumbBlPrefix { .. }
-        | Instr::ThumbBlSuffix { .. } => Condition::Al,
-    }
-}
 
 /// The condition of a number.
 #[inline(always)]

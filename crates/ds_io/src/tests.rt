@@ -39,7 +39,7 @@ fn two(alloc: Global, first: u64, second: u64) -> Result<Calls, AllocError>
     Ok(calls)
 }
 
-/// A stream that takes two bytes at a time at most, and keeps the first eight.
+/// A stream that takes two bytes at a time at most, and eight in all.
 #[derive(Drop)]
 struct Few {
     bytes: [u8; 8],
@@ -48,7 +48,7 @@ struct Few {
 
 impl Write for Few {
     fn write(&mut self, buf: &[u8]) -> io::Result<usize> {
-        let taken = buf.len().min(2);
+        let taken = buf.len().min(2).min(8 - self.taken.min(8));
         for byte in &buf[..taken] {
             if self.taken < 8 {
                 self.bytes[self.taken] = *byte;
@@ -160,6 +160,9 @@ fn a_name_finds_its_first_file(rt: HostRuntime) -> Result<(), AllocError> {
     for (name, found, taken, bytes) in [
         ("cart", true, 2, [1, 2]),
         ("card", false, 1, [3, 2]),
+        ("car", false, 0, [3, 2]),
+        ("carts", false, 0, [3, 2]),
+        ("", false, 0, [3, 2]),
         ("keys", true, 2, [8, 9]),
         ("cart", true, 2, [1, 2]),
     ] {
@@ -180,7 +183,26 @@ fn short_writes_lose_no_byte(rt: HostRuntime) {
     let mut sink = StdSink::new(&mut few);
     assert_eq!(rt; put(&mut sink, &[1, 2, 3]), Ok(2));
     assert_eq!(rt; put_all(&mut sink, &[3, 4, 5, 6, 7]), Ok(()));
-    assert_eq!(rt; few.bytes, [1, 2, 3, 4, 5, 6, 7, 0]);
+    // one byte is taken yet, and then none
+    assert_eq!(rt; put_all(&mut sink, &[8, 9]), Err(Failed));
+    assert_eq!(rt; few.bytes, [1, 2, 3, 4, 5, 6, 7, 8]);
+}
+
+/// A front is kept where a put fails in the middle, and room is used up to its last byte.
+#[test]
+fn a_failed_put_ends_what_is_put(rt: HostRuntime) -> Result<(), AllocError> {
+    let mut sink = MemSink::new(rt.alloc(), two(rt.alloc(), 2, 3)?, 4)?;
+    assert_eq!(rt; put_all(&mut sink, &[1, 2]), Ok(()));
+    assert_eq!(rt; put_all(&mut sink, &[3]), Err(Failed));
+    assert_eq!(rt; put_all(&mut sink, &[4]), Err(Failed));
+    assert_eq!(rt; put_all(&mut sink, &[5, 6]), Ok(()));
+    assert!(rt; sink.is_told());
+    assert_eq!(rt; sink.bytes(), [1, 2, 5, 6].as_slice());
+    assert_eq!(rt; put(&mut sink, &[]), Ok(0));
+    assert!(rt; sink.is_told());
+    assert_eq!(rt; put(&mut sink, &[7]), Ok(1));
+    assert!(rt; !sink.is_told());
+    Ok(())
 }
 
 #[test]
@@ -207,11 +229,52 @@ fn a_failed_read_leaves_the_place(rt: HostRuntime) -> Result<(), AllocError> {
     Ok(())
 }
 
+/// A search that fails leaves the found file and the place.
+#[test]
+fn a_failed_search_leaves_the_place(rt: HostRuntime) -> Result<(), AllocError> {
+    let mut shelf = MemShelf::new(one_file(rt.alloc())?, two(rt.alloc(), 3, 5)?);
+    let mut into = [0; 2];
+    assert_eq!(rt; find(&mut shelf, "cart"), Ok(true));
+    assert_eq!(rt; read(&mut shelf, &mut into), Ok(2));
+    assert_eq!(rt; find(&mut shelf, "cart"), Err(Failed));
+    assert_eq!(rt; read(&mut shelf, &mut into), Ok(1));
+    assert_eq!(rt; into, [3, 2]);
+    Ok(())
+}
+
+/// A file of several buffers: byte i is i modulo 251.
+#[test]
+fn a_long_file_is_read_in_order(rt: HostRuntime) -> Result<(), AllocError> {
+    let mut bytes = vec![in rt.alloc(); 0; 10_000]?;
+    for (i, byte) in bytes.iter_mut().enumerate() {
+        *byte = (i % 251) as u8;
+    }
+    let mut files = Files::new(rt.alloc());
+    files.push(String::from_str(rt.alloc(), "long")?, bytes)?;
+    let mut shelf = QuietShelf::new(files);
+    assert_eq!(rt; find(&mut shelf, "long"), Ok(true));
+    match whole(rt.alloc(), &mut shelf, 20_000) {
+        Ok(bytes) => {
+            assert_eq!(rt; bytes.len(), 10_000);
+            for (i, byte) in bytes.iter().enumerate() {
+                assert_eq!(rt; *byte as usize, i % 251, "byte {i}");
+            }
+        }
+        Err(_) => panic!(rt; "the file has 10,000 bytes"),
+    }
+    Ok(())
+}
+
 #[test]
 fn the_disk_answers_each_cause(rt: HostRuntime) {
     let mut shelf = DiskShelf::new(&rt);
-    let mut into = [0; 4];
+    let mut into = [7; 4];
+    assert_eq!(rt; shelf.read(&mut into), Ok(0));
+    assert_eq!(rt; shelf.find("/dev/zero"), Ok(true));
+    // a name that isn't there leaves the file
     assert_eq!(rt; shelf.find("no such file"), Ok(false));
+    assert_eq!(rt; shelf.read(&mut into), Ok(4));
+    assert_eq!(rt; into, [0; 4]);
     assert_eq!(rt; shelf.find("/dev/null/file"), Err(Failed));
     assert_eq!(rt; shelf.find(LONG_NAME), Err(Failed));
     assert_eq!(rt; shelf.find("/dev/null"), Ok(true));

@@ -1,4 +1,4 @@
-use Rattle.std.specs.Prelude.{ℕ, ◌<◌, ◌≤◌, ◌+◌, ◌*◌, ◌^◌, ◌==◌, ◌&&◌, ◌||◌, not, if◌then◌else◌, Bool, true, false, List, [], ◌∷◌, ◌++◌, length}
+use Rattle.std.specs.Prelude.{ℕ, ◌<◌, ◌≤◌, ◌+◌, ◌*◌, ◌^◌, ◌==◌, ◌&&◌, ◌||◌, not, if◌then◌else◌, Bool, true, false, List, [], ◌∷◌, ◌++◌, length, All}
 use Rattle.ds_base.specs.Bits.{bit, bits, flag}
 use Rattle.ds_base.specs.Interrupts.{interrupt_bit}
 use Rattle.ds_base.specs.declared.interrupts.Interrupt.{Interrupt}
@@ -24,10 +24,15 @@ pub record Side : Type 0 where
   -- IPCFIFOCNT bit 10: interrupt 18 where its receive FIFO stops being empty
   pub filled_raises : Bool
 
+-- numbers of 32 bits
+abbrev pub AreWords : List ℕ → Type 0
+AreWords words = All (λ word. word < 2 ^ 32) words
+
 -- what holds of a side at every time: its FIFO holds at most 16 words, and its numbers have 4 and 32 bits (GBATEK, "DS Inter Process
 -- Communication (IPC)")
 pub record IsSide (s : Side) : Type 0 where
   pub at_most : length s.words ≤ 16
+  pub words : AreWords s.words
   pub passed : s.passed < 2 ^ 4
   pub last : s.last < 2 ^ 32
 

@@ -146,8 +146,9 @@ impl Ipc {
             Proc::Seven => got_across(Proc::Nine, sides::receive(&mut self.seven, &mut self.nine)),
         }
     }
+
     /// Does nothing; its contract states what holds of both sides at every time: neither FIFO holds more than 16 words, and how
-    /// many bits their numbers have.
+    /// many bits their numbers have, those of the words that wait too.
     pub fn laws(&self)
         ensures { AreSides self.now }
     {

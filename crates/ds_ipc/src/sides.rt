@@ -27,13 +27,13 @@ pub struct Side {
 
 impl Model for Side {
     ghost use Rattle.std.specs.Prelude.{◌≡◌, ◌≤◌, ◌<◌, length};
-    ghost use Rattle.ds_ipc.specs.Sides.{Side};
+    ghost use Rattle.ds_ipc.specs.Sides.{AreWords, Side};
 
     ghost Value = { Side };
 
     ghost view = { λ s. record { passed = s.passed; sync_raises = s.sync_raises; words = s.words.items; last = s.last; error = s.error; enabled = s.enabled; empty_raises = s.empty_raises; filled_raises = s.filled_raises } };
 
-    ghost invariant = { λ s. (s.words.capacity ≡ 16) × (length s.words.items ≤ 16) × (s.passed < 16) };
+    ghost invariant = { λ s. (s.words.capacity ≡ 16) × (length s.words.items ≤ 16) × (s.passed < 16) × AreWords s.words.items };
 }
 
 /// What a receive takes, and whether the other side hears of it.

@@ -25,19 +25,27 @@ fn arm9_sees_each_border_on_both_sides(rt: HostRuntime) {
             (0x0500_0800, cell(Memory::Palette, 0)),
             (0x05ff_ffff, cell(Memory::Palette, 0x7ff)),
             (0x0600_0000, banks(Space::ABg, 0)),
+            (0x0608_0000, banks(Space::ABg, 0)),
             (0x061f_ffff, banks(Space::ABg, 0x7_ffff)),
             (0x0620_0000, banks(Space::BBg, 0)),
+            (0x0622_0000, banks(Space::BBg, 0)),
             (0x063f_ffff, banks(Space::BBg, 0x1_ffff)),
             (0x0640_0000, banks(Space::AObj, 0)),
+            (0x0644_0000, banks(Space::AObj, 0)),
             (0x065f_ffff, banks(Space::AObj, 0x3_ffff)),
             (0x0660_0000, banks(Space::BObj, 0)),
+            (0x0662_0000, banks(Space::BObj, 0)),
             (0x067f_ffff, banks(Space::BObj, 0x1_ffff)),
             (0x0680_0000, banks(Space::Lcdc, 0)),
             (0x0690_0000, banks(Space::Lcdc, 0)),
             (0x06ff_ffff, banks(Space::Lcdc, 0xf_ffff)),
             (0x0700_0000, cell(Memory::Oam, 0)),
+            (0x0700_0800, cell(Memory::Oam, 0)),
             (0x07ff_ffff, cell(Memory::Oam, 0x7ff)),
             (0x0800_0000, Place::Nothing),
+            (0x0a00_0000, Place::Nothing),
+            (0x1200_0000, Place::Nothing),
+            (0xff00_0000, Place::Nothing),
             (0xfffe_ffff, Place::Nothing),
             (0xffff_0000, Place::Rom(0)),
             (0xffff_ffff, Place::Rom(0xffff)),
@@ -56,9 +64,11 @@ fn arm7_sees_each_border_on_both_sides(rt: HostRuntime) {
             (0x0000_4000, Place::Nothing),
             (0x01ff_ffff, Place::Nothing),
             (0x0200_0000, cell(Memory::Main, 0)),
+            (0x0240_0000, cell(Memory::Main, 0)),
             (0x02ff_ffff, cell(Memory::Main, 0x3f_ffff)),
             (0x0380_0000, cell(Memory::Own7, 0)),
             (0x0380_8000, cell(Memory::Own7, 0x8000)),
+            (0x0381_0000, cell(Memory::Own7, 0)),
             (0x03ff_ffff, cell(Memory::Own7, 0xffff)),
             (0x0400_0000, Place::Port(0)),
             (0x04ff_ffff, Place::Port(0xff_ffff)),
@@ -68,6 +78,9 @@ fn arm7_sees_each_border_on_both_sides(rt: HostRuntime) {
             (0x0604_0000, banks(Space::Arm7, 0)),
             (0x06ff_ffff, banks(Space::Arm7, 0x3_ffff)),
             (0x0700_0000, Place::Nothing),
+            (0x0800_0000, Place::Nothing),
+            (0x1200_0000, Place::Nothing),
+            (0xffff_0000, Place::Nothing),
             (0xffff_ffff, Place::Nothing),
         ] {
             assert_eq!(rt; place(Proc::Seven, wramcnt, at), want, "at {at}");
@@ -129,5 +142,31 @@ fn wramcnt_shares_out_the_work_ram(rt: HostRuntime) {
             seven_last,
             "ARM7, {wramcnt}"
         );
+    }
+}
+
+/// Where WRAMCNT has a part of the shared work RAM, that part follows itself.
+#[test]
+fn the_shared_work_ram_repeats_by_its_part(rt: HostRuntime) {
+    let shared = Memory::Shared;
+    for (proc, wramcnt, at, want) in [
+        (Proc::Nine, 0, 0x0300_7fff, cell(shared, 0x7fff)),
+        (Proc::Nine, 0, 0x0300_8000, cell(shared, 0)),
+        (Proc::Nine, 1, 0x0300_3fff, cell(shared, 0x7fff)),
+        (Proc::Nine, 1, 0x0300_4000, cell(shared, 0x4000)),
+        (Proc::Nine, 2, 0x0300_3fff, cell(shared, 0x3fff)),
+        (Proc::Nine, 2, 0x0300_4000, cell(shared, 0)),
+        (Proc::Nine, 3, 0x0300_8000, Place::Nothing),
+        (Proc::Seven, 0, 0x0300_8000, cell(Memory::Own7, 0x8000)),
+        (Proc::Seven, 0, 0x0301_0000, cell(Memory::Own7, 0)),
+        (Proc::Seven, 1, 0x0300_3fff, cell(shared, 0x3fff)),
+        (Proc::Seven, 1, 0x0300_4000, cell(shared, 0)),
+        (Proc::Seven, 2, 0x0300_3fff, cell(shared, 0x7fff)),
+        (Proc::Seven, 2, 0x0300_4000, cell(shared, 0x4000)),
+        (Proc::Seven, 3, 0x0300_7fff, cell(shared, 0x7fff)),
+        (Proc::Seven, 3, 0x0300_8000, cell(shared, 0)),
+    ] {
+        let wramcnt = wramcnt % 4;
+        assert_eq!(rt; place(proc, wramcnt, at), want, "{wramcnt}: {at}");
     }
 }

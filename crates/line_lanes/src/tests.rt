@@ -135,16 +135,23 @@ fn masters_by_hand(rt: HostRuntime) {
 
 #[test]
 fn unpacks_low_nibbles_first_at_every_length(rt: HostRuntime) {
+    // the nibbles are 0 to 15 in turn, and from the 32nd on one more, so that no block of sixteen bytes is another
     let packed = [0x10, 0x32, 0x54, 0x76, 0x98, 0xBA, 0xDC, 0xFE];
+    let later = [0x21, 0x43, 0x65, 0x87, 0xA9, 0xCB, 0xED, 0x0F];
     let mut bytes = [0; 40];
     for (place, byte) in bytes.iter_mut().enumerate() {
-        *byte = packed[place % 8];
+        *byte = if place < 16 {
+            packed[place % 8]
+        } else {
+            later[place % 8]
+        };
     }
     for len in [0, 1, 15, 16, 17, 40usize] {
         let mut nibbles = [0xAA; 80];
         unpack4(&bytes[..len], &mut nibbles[..2 * len]);
         for (place, nibble) in nibbles.iter().enumerate() {
-            let wanted = if place < 2 * len { place % 16 } else { 0xAA };
+            let next = if place < 32 { place } else { place + 1 };
+            let wanted = if place < 2 * len { next % 16 } else { 0xAA };
             assert_eq!(rt; *nibble as usize, wanted, "nibble {place} of {len} bytes");
         }
     }

@@ -93,6 +93,19 @@ fn images_are_listed_and_assembled_again(rt: HostRuntime) -> Result<(), AllocErr
             text: b".arm9 0x2000000\n",
             image: b"",
         },
+        // each word's and each half's address is its own
+        Listing {
+            nine: b"\xFE\xFF\xFF\xEA\xFE\xFF\xFF\xEA",
+            word: "9",
+            text: b".arm9 0x2000000\nb 0x2000000\nb 0x2000004\n",
+            image: b"\xFE\xFF\xFF\xEA\xFE\xFF\xFF\xEA",
+        },
+        Listing {
+            nine: b"\xFE\xE7\xFE\xE7",
+            word: "9t",
+            text: b".thumb9 0x2000000\nb 0x2000000\nb 0x2000002\n",
+            image: b"\xFE\xE7\xFE\xE7",
+        },
     ];
     for row in &rows {
         goes_there_and_back(&rt, rt.alloc(), row)?;

@@ -1,0 +1,50 @@
+use Rattle.std.proofs.Common.{ℕ, ◌≡◌, Bool, true, false, if◌then◌else◌, Option, Some, None, refl, arith}
+use Rattle.ds_base.specs.Accesses.{MemoryMachine}
+use Rattle.ds_base.specs.declared.processors.Arch.TheVariants.{V5}
+use Rattle.arm_core.specs.Conditions.{holds}
+use Rattle.arm_core.specs.Effects.{carried_out}
+use Rattle.arm_core.specs.Exceptions.{interrupt_meaning}
+use Rattle.arm_core.specs.Meanings.{skipped}
+use Rattle.arm_core.specs.Registers.{RegisterState, register}
+use Rattle.arm_core.specs.Steps.{FetchOutcome, enters, fetched}
+use Rattle.arm_exec.specs.Costs.{CostsSome}
+use Rattle.arm_exec.proofs.Costs.{some_cost, carried_out_costs, word_costs}
+use Rattle.cp15_tcm.specs.Registers.{Cp15State, Register, vectors_of, write_answer}
+use Rattle.cp15_tcm.specs.declared.answers.Mcr.{Mcr}
+use Rattle.cp15_tcm.specs.declared.answers.Mcr.TheVariants as mcr
+use Rattle.arm9_exec.specs.Arm9.{Outcome9, arm9, beside, executed_or_moved, step9_of}
+use Rattle.arm9_exec.specs.Coprocessors.{carried_over, move_of, moved_if, register_moved, written_by}
+use Rattle.arm9_exec.specs.declared.coprocessors.Moved.{Moved}
+
+-- Every step of ARM9 costs a clock at least.
+
+module _ (s : RegisterState) (cp : Cp15State) where
+  written_costs : (r : Register) (value : ℕ) (answer : Mcr) → CostsSome (written_by s cp r value answer).stepped
+  written_costs r value mcr.Kept = omega arith
+  written_costs r value mcr.Halt = tt
+  written_costs r value (mcr.Left stop) = tt
+
+  over_costs : (m : Moved) (load : Bool) → m.load ≡ load → CostsSome (carried_over s cp m).stepped
+  over_costs m true h = rw h (omega arith)
+  over_costs m false h =
+      let r = register_moved m in let value = register s m.rd in
+      rw h (written_costs r value (write_answer r value))
+
+  moved_costs : (m : Moved) (does : Bool) → holds m.cond s.cpsr ≡ does → CostsSome (moved_if s cp m).stepped
+  moved_costs m true h = rw h (over_costs m m.load refl)
+  moved_costs m false h = rw h (some_cost V5 (skipped s))
+
+  either_costs : {S : Type 0} (memory : MemoryMachine S) (f : FetchOutcome S) (o : Option Moved) → CostsSome (executed_or_moved memory s cp f o).stepped
+  either_costs memory f None = word_costs memory (arm9 cp) s f.state f.number f.instr
+  either_costs memory f (Some m) = moved_costs m (holds m.cond s.cpsr) refl
+
+  one_of : {S : Type 0} (b : Bool) (x y : Outcome9 S) → CostsSome x.stepped → CostsSome y.stepped → CostsSome (if b then x else y).stepped
+  one_of true x y p q = p
+  one_of false x y p q = q
+
+  pub step9_costs : {S : Type 0} (memory : MemoryMachine S) (line : Bool) (state : S) → CostsSome (step9_of memory line s cp state).stepped
+  step9_costs memory line state =
+      let f = fetched memory V5 s state in
+      let entry = carried_out memory V5 s state (interrupt_meaning (vectors_of cp) s) in
+      one_of (enters line s) (beside cp entry) (executed_or_moved memory s cp f (move_of f.instr))
+      (carried_out_costs memory (arm9 cp) s state (interrupt_meaning (vectors_of cp) s)) (either_costs memory f (move_of f.instr))

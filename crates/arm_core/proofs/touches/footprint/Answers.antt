@@ -1,0 +1,11 @@
+use Rattle.arm_core.specs.Meanings.{meaning}
+use Rattle.arm_core.proofs.Footprints.{covers_over, order_over}
+use Rattle.arm_core.proofs.touches.footprint.Goals as goal
+
+pub returns-clause-covers : goal.returns-clause-covers
+returns-clause-covers c = λ base.
+    covers_over c.touched.result (meaning c.args.core.now.arch base c.args.core.now.registers c.args.instr.now).accesses (c.touched.ensures base)
+
+pub returns-clause-order : goal.returns-clause-order
+returns-clause-order c = λ base is_there.
+    order_over c.touched.result (meaning c.args.core.now.arch base c.args.core.now.registers c.args.instr.now).accesses is_there (c.touched.ensures base)

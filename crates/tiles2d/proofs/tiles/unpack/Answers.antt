@@ -1,6 +1,6 @@
 use Rattle.std.proofs.Common.{arith}
-use Rattle.bg2d.proofs.TilingLemmas.{narrow_nibbles}
-use Rattle.bg2d.proofs.texts.unpack.Goals as goal
+use Rattle.tiles2d.proofs.NibbleLemmas.{narrow_nibbles}
+use Rattle.tiles2d.proofs.tiles.unpack.Goals as goal
 
 pub returns-clause-narrow : goal.returns-clause-narrow
 returns-clause-narrow c = λ i lt.

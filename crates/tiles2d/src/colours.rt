@@ -3,8 +3,8 @@
 ghost use Rattle.std.specs.Prelude.{◌≡◌, ◌<◌, ◌≤◌, ◌+◌, ◌*◌, ◌^◌, ℕ, length, slice_index};
 ghost use Rattle.ds_base.specs.declared.memories.Width.TheVariants.{Half};
 ghost use Rattle.vram_banks.specs.Cells.{vram_byte, vram_value};
-ghost use Rattle.bg2d.specs.Colours.{opaque_pixel, indexed_pixel, palette_colour, extended_colour};
-ghost use Rattle.bg2d.specs.Tiles.{flipped};
+ghost use Rattle.tiles2d.specs.Colours.{opaque_pixel, indexed_pixel, palette_colour, extended_colour};
+ghost use Rattle.tiles2d.specs.Tiles.{flipped};
 
 use crate::tiles::flipped;
 use ds_base::{Space, Width};
@@ -44,7 +44,7 @@ pub fn byte(vram: &Vram, space: Space, at: u32) -> u8
 
 /// The pixel of an index by a standard palette whose colours begin at `start`.
 #[inline(always)]
-fn standard_pixel(palette: &[u8], start: usize, index: u8) -> u16
+pub fn standard_pixel(palette: &[u8], start: usize, index: u8) -> u16
     requires colours { length palette.now ≡ 512 }
     requires inside { start + index < 256 }
     ensures { result ≡ indexed_pixel (λ i. palette_colour palette.now (start + i)) index }
@@ -55,7 +55,7 @@ fn standard_pixel(palette: &[u8], start: usize, index: u8) -> u16
 
 /// The pixel of an index by a palette that begins at an address of a space.
 #[inline(always)]
-fn extended_pixel(vram: &Vram, space: Space, at: u32, index: u8) -> u16
+pub fn extended_pixel(vram: &Vram, space: Space, at: u32, index: u8) -> u16
     requires { at < 2 ^ 31 }
     ensures { result ≡ indexed_pixel (extended_colour vram.now space at) index }
 {

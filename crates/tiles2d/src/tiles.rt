@@ -1,10 +1,11 @@
 //! Places in tiles, and the bytes of a tile's row.
 
-ghost use Rattle.std.specs.Prelude.{◌≡◌, ◌<◌, ◌≤◌, ◌+◌, ◌%◌, ◌^◌, ℕ, length, slice_index};
+ghost use Rattle.std.specs.Prelude.{◌≡◌, ◌<◌, ◌≤◌, ◌+◌, ◌*◌, ◌/◌, ◌%◌, ◌^◌, ℕ, length, slice_index};
 ghost use Rattle.vram_banks.specs.Cells.{vram_byte};
-ghost use Rattle.bg2d.specs.Tiles.{flipped};
+ghost use Rattle.tiles2d.specs.Tiles.{flipped};
 
 use ds_base::{Space, Width};
+use line_lanes::unpack4;
 use vram_banks::Vram;
 
 /// A place in a tile's row or column, flipped or not.
@@ -54,4 +55,14 @@ pub fn copy_eight(vram: &Vram, space: Space, at: u32, into: &mut [u8])
     into.copy_from_slice(&[
         low[0], low[1], low[2], low[3], high[0], high[1], high[2], high[3],
     ]);
+}
+
+/// The nibbles of packed bytes, all of which are below 16.
+pub fn unpack(packed: &[u8], into: &mut [u8])
+    requires { length into.old ≡ 2 * length packed.now }
+    ensures low { (i : ℕ) → slice_index into.new (2 * i) ≡ slice_index packed.now i % 16 }
+    ensures high { (i : ℕ) → slice_index into.new (2 * i + 1) ≡ slice_index packed.now i / 16 }
+    ensures narrow { (i : ℕ) → i < length into.new → slice_index into.new i < 16 }
+{
+    unpack4(packed, into);
 }

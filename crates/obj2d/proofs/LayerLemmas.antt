@@ -185,3 +185,10 @@ pixel_below_is seen (suc n) = one_more seen n (pixel_below seen n) (pixel_below_
 pub pixel_below_more : (seen : ℕ → Seen) (n : ℕ) → pixel_below seen (n + 1) ≡ with_object (seen n) (pixel_below seen n)
 unfolding pixel_below
 pixel_below_more seen n = (let e : n + 1 ≡ suc n = omega arith in rw e refl)
+
+pub stands_at : (seen : ℕ → Seen) (n : ℕ) (p : ObjectPixel) → p ≡ pixel_below seen n → n ≡ 128 → IsLayerPixel seen 128 p
+stands_at seen n p e all =
+    let P : ℕ → Type 0 = λ (k : ℕ). p ≡ pixel_below seen k in
+    let Q : ObjectPixel → Type 0 = λ (q : ObjectPixel). IsLayerPixel seen 128 q in
+    let whole : p ≡ pixel_below seen 128 = subst P all e in
+    subst Q (sym whole) (pixel_below_is seen 128)

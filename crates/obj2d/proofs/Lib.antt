@@ -1,3 +1,2 @@
 pub mod LayerLemmas
-pub mod SizeLemmas
 pub mod StripLemmas

@@ -1,6 +1,6 @@
-use Rattle.std.proofs.Common.{ℕ, Bool, true, false, ◌≡◌, ◌≢◌, ◌<◌, ◌≤◌, ◌+◌, ◌-◌, ◌*◌, ◌/◌, ◌%◌, ◌==◌, ◌&&◌, ◌⊎◌, inl, inr, List, get_or, refl, sym, ◌∙◌, ap, subst, arith}
+use Rattle.std.proofs.Common.{ℕ, Bool, true, false, ◌≡◌, ◌≢◌, ◌<◌, ◌≤◌, ◌+◌, ◌-◌, ◌*◌, ◌/◌, ◌%◌, ◌^◌, ◌==◌, ◌&&◌, ◌⊎◌, inl, inr, List, get_or, refl, sym, ◌∙◌, ap, subst, arith}
 use Rattle.std.specs.Prelude.{nat_lt}
-use Rattle.std.proofs.lemmas.Bool.{cases_eq, cases_Bool, ltb-true, lt-ltb, le-ltb}
+use Rattle.std.proofs.lemmas.Bool.{cases_eq, cases_Bool, agree_below_at, eqb-true, ltb-true, lt-ltb, le-ltb}
 use Rattle.vram_banks.specs.Cells.{Banks, vram_byte}
 use Rattle.tiles2d.specs.Colours.{indexed_pixel, palette_colour, extended_colour}
 use Rattle.tiles2d.specs.Tiles.{nibble_at, flipped}
@@ -8,13 +8,32 @@ use Rattle.tiles2d.proofs.NibbleLemmas.{nibble_there}
 use Rattle.obj2d.specs.declared.layers.ObjectPixel.{ObjectPixel}
 use Rattle.obj2d.specs.declared.objects.Display.{Display}
 use Rattle.obj2d.specs.declared.objects.Object.{Object}
-use Rattle.obj2d.specs.Attributes.{object_at, turn_at, group, width, height, left_edge, box_width, has_256, palette_number, priority, mode, flips_across, flips_down, is_affine}
+use Rattle.obj2d.specs.Attributes.{object_at, turn_at, group, widths, shape, size, width, height, left_edge, box_width, has_256, palette_number, priority, mode, flips_across, flips_down, is_affine}
 use Rattle.obj2d.specs.Places.{across, down, covers, mirrored}
 use Rattle.obj2d.specs.ObjectPixels.{object_space, palette_space, object_index, object_colour, point_pixel, flat_pixel, affine_pixel, box_pixel, pixel_of}
 use Rattle.obj2d.specs.ObjectLayer.{Seen, pixel_at, with_object, seen_at}
 use Rattle.obj2d.specs.rows.Strips.{tile_row, mirrored_tile, ArePacked, AreIndices, ArePainted, AreBox, strip_seen, IsLaid}
 use Rattle.obj2d.proofs.LayerLemmas.{unseen}
-use Rattle.obj2d.proofs.SizeLemmas.{width_whole}
+
+-- ---- addresses
+
+whole_product : (t q n : ℕ) → (t * (4 * q) + 32 * n) % 4 ≡ 0
+whole_product t q n = omega arith
+
+pub whole_address : (t b u n : ℕ) → b % 4 ≡ 0 → (t * b + 32 * u * n) % 4 ≡ 0
+whole_address t b u n h =
+    let P : ℕ → ℕ → Type 0 = λ b sum. (t * b + sum) % 4 ≡ 0 in
+    let quarter : 4 * (b / 4) ≡ b = omega (arith, h) in
+    let units : 32 * (u * n) ≡ 32 * u * n = omega arith in
+    let start : P (4 * (b / 4)) (32 * (u * n)) = whole_product t (b / 4) (u * n) in
+    subst (λ (sum : ℕ). P b sum) units (subst (λ (x : ℕ). P x (32 * (u * n))) quarter start)
+
+-- widths are whole tiles
+form_below : (o : Object) → 4 * shape o + size o < 16
+form_below o = omega arith
+
+width_whole : (o : Object) → width o % 8 ≡ 0
+width_whole o = eqb-true (width o % 8) 0 (agree_below_at (λ f. get_or widths f 0 % 8 == 0) (λ f. true) 16 (4 * shape o + size o) refl (form_below o))
 
 -- ---- indices of the object's line
 
@@ -149,19 +168,21 @@ seen_elsewhere o pixels k x h =
     rw same refl
 
 -- one pixel more
-pub laid_more : (o : Object) (pixels : List ℕ) (k place : ℕ) (before between after : List ObjectPixel) → k < 512 → place ≡ (left_edge o + k) % 512 →
-    IsLaid o pixels k before between →
-    (place < 256 → pixel_at after place ≡ with_object (record { colour = get_or pixels k 0; priority = priority o; mode = mode o }) (pixel_at between place)) →
+pub laid_more : (o : Object) (pixels : List ℕ) (k place p m : ℕ) (before between after : List ObjectPixel) → k < 512 → place ≡ (left_edge o + k) % 512 →
+    p ≡ priority o → m ≡ mode o → IsLaid o pixels k before between →
+    (place < 256 → pixel_at after place ≡ with_object (record { colour = get_or pixels k 0; priority = p; mode = m }) (pixel_at between place)) →
     ((i : ℕ) → i ≢ place → pixel_at after i ≡ pixel_at between i) → IsLaid o pixels (k + 1) before after
-laid_more o pixels k place before between after small there laid here others x on_screen =
+laid_more o pixels k place p m before between after small there is_p is_m laid here others x on_screen =
     let left : left_edge o < 512 = omega arith in
     elim (cases_eq x place) [
       | inl same ↦
           (let found : across o x ≡ k = across_at (left_edge o) k x left small on_screen (sym there ∙ sym same) in
           let P : ℕ → Type 0 = λ (i : ℕ). i < 256 →
-            pixel_at after i ≡ with_object (record { colour = get_or pixels k 0; priority = priority o; mode = mode o }) (pixel_at between i) in
+            pixel_at after i ≡ with_object (record { colour = get_or pixels k 0; priority = p; mode = m }) (pixel_at between i) in
           let laid_here : P x = subst P (sym same) here in
           laid_here on_screen
+          ∙ ap (λ (n : ℕ). with_object (record { colour = get_or pixels k 0; priority = n; mode = m }) (pixel_at between x)) is_p
+          ∙ ap (λ (n : ℕ). with_object (record { colour = get_or pixels k 0; priority = priority o; mode = n }) (pixel_at between x)) is_m
           ∙ ap (λ (s : Seen). with_object s (pixel_at between x)) (sym (seen_after o pixels k x found))
           ∙ ap (with_object (strip_seen o pixels (k + 1) x)) (laid x on_screen ∙ seen_before o pixels k x (pixel_at before x) found))
       | inr other ↦
@@ -174,7 +195,7 @@ laid_more o pixels k place before between after small there laid here others x o
 pub strip_is_seen : (v : Banks) (palette oam : List ℕ) (display : Display) (line number x : ℕ) (pixels : List ℕ) → covers display (object_at oam number) line ≡ true →
     AreBox v palette oam display (object_at oam number) (down (object_at oam number) line) pixels →
     strip_seen (object_at oam number) pixels (box_width (object_at oam number)) x ≡ seen_at v palette oam display line x number
-unfolding seen_at, pixel_of
+unfolding seen_at pixel_of
 strip_is_seen v palette oam display line number x pixels on are =
     let o : Object = object_at oam number in
     ap (λ (n : ℕ). record { colour = n; priority = priority o; mode = mode o })
@@ -185,7 +206,7 @@ strip_is_seen v palette oam display line number x pixels on are =
 
 pub nothing_seen : (v : Banks) (palette oam : List ℕ) (display : Display) (line number x : ℕ) (p : ObjectPixel) → covers display (object_at oam number) line ≡ false →
     with_object (seen_at v palette oam display line x number) p ≡ p
-unfolding seen_at, pixel_of
+unfolding seen_at pixel_of
 nothing_seen v palette oam display line number x p off = unseen (seen_at v palette oam display line x number) p (rw off refl)
 
 -- an object whose strip is laid over a row

@@ -5,7 +5,7 @@ ghost use Rattle.std.specs.Int.{cast_signed, w16};
 ghost use Rattle.ds_base.specs.Bits.{bit};
 ghost use Rattle.ds_base.specs.Numbers.{number_at};
 ghost use Rattle.ds_base.specs.declared.memories.Width.TheVariants.{Half};
-ghost use Rattle.obj2d.specs.Attributes.{object_at, turn_at, group, top_edge, left_edge, is_affine, is_double, is_off, has_256, mode, shape, size, priority, flips_across, flips_down, width, height, box_width, box_height};
+ghost use Rattle.obj2d.specs.Attributes.{object_at, turn_at, group, group_number, top_edge, left_edge, is_affine, is_double, is_off, has_256, mode, shape, size, priority, flips_across, flips_down, width, height, box_width, box_height};
 
 use crate::objects::{Object, Turn};
 
@@ -30,6 +30,14 @@ pub fn object_at(oam: &[u8], number: usize) -> Object
     }
 }
 
+/// The number of an affine object's group.
+fn group(object: &Object) -> usize
+    ensures value { result ≡ group object.now }
+    ensures small { result < 32 }
+{
+    ((object.attribute1 >> 9) % 32) as usize
+}
+
 /// A signed half of OAM.
 fn signed_at(oam: &[u8], at: usize) -> i16
     requires { at + 1 < length oam.now }
@@ -38,17 +46,27 @@ fn signed_at(oam: &[u8], at: usize) -> i16
     half_at(oam, at).cast_signed()
 }
 
+/// Number k of a group: 0 is PA, 1 PB, 2 PC, 3 PD.
+fn group_number(oam: &[u8], which: usize, k: usize) -> i16
+    requires long { length oam.now ≡ 1024 }
+    requires known { which < 32 }
+    requires small { k < 4 }
+    ensures { result ≡ group_number oam.now which k }
+{
+    signed_at(oam, 32 * which + 8 * k + 6)
+}
+
 /// The affine numbers of an object's group.
 pub fn turn_of(oam: &[u8], object: &Object) -> Turn
     requires { length oam.now ≡ 1024 }
     ensures { result ≡ turn_at oam.now (group object.now) }
 {
-    let first = 32 * ((object.attribute1 >> 9) % 32) as usize;
+    let which = group(object);
     Turn {
-        pa: signed_at(oam, first + 6),
-        pb: signed_at(oam, first + 14),
-        pc: signed_at(oam, first + 22),
-        pd: signed_at(oam, first + 30),
+        pa: group_number(oam, which, 0),
+        pb: group_number(oam, which, 1),
+        pc: group_number(oam, which, 2),
+        pd: group_number(oam, which, 3),
     }
 }
 

@@ -58,49 +58,43 @@ fn from_middle(size: usize, place: usize) -> i32
 fn steps(step: i16, distance: i32) -> i32
     requires low { negsuc 64 ≤ℤ distance }
     requires high { distance ≤ℤ pos 64 }
-    ensures value { result ≡ step *ℤ distance }
-    ensures low { negsuc (2 ^ 23) ≤ℤ result }
-    ensures high { result ≤ℤ pos (2 ^ 23) }
+    ensures { result ≡ step *ℤ distance }
 {
     step as i32 * distance
 }
 
 /// The sum of the steps across and down.
-fn sum(first: i32, second: i32) -> i32
-    requires first_low { negsuc (2 ^ 23) ≤ℤ first }
-    requires first_high { first ≤ℤ pos (2 ^ 23) }
-    requires second_low { negsuc (2 ^ 23) ≤ℤ second }
-    requires second_high { second ≤ℤ pos (2 ^ 23) }
+fn sum(first: i32, second: i32) -> i64
     ensures value { result ≡ first +ℤ second }
-    ensures low { negsuc (2 ^ 25) ≤ℤ result }
-    ensures high { result ≤ℤ pos (2 ^ 25) }
+    ensures low { negsuc (2 ^ 32) ≤ℤ result }
+    ensures high { result ≤ℤ pos (2 ^ 32) }
 {
-    first + second
+    first as i64 + second as i64
 }
 
 /// A number with 8 fractional bits, which are cut off downwards.
-fn whole(sum: i32) -> i32
-    requires low { negsuc (2 ^ 25) ≤ℤ sum }
-    requires high { sum ≤ℤ pos (2 ^ 25) }
+fn whole(sum: i64) -> i64
+    requires low { negsuc (2 ^ 32) ≤ℤ sum }
+    requires high { sum ≤ℤ pos (2 ^ 32) }
     ensures value { result ≡ int_shr sum 8 }
-    ensures low { negsuc (2 ^ 25) ≤ℤ result }
-    ensures high { result ≤ℤ pos (2 ^ 25) }
+    ensures low { negsuc (2 ^ 32) ≤ℤ result }
+    ensures high { result ≤ℤ pos (2 ^ 32) }
 {
     sum >> 8
 }
 
 /// A distance from the middle of the object, as a coordinate.
-fn from_edge(distance: i32, count: usize) -> i32
-    requires low { negsuc (2 ^ 25) ≤ℤ distance }
-    requires high { distance ≤ℤ pos (2 ^ 25) }
+fn from_edge(distance: i64, count: usize) -> i64
+    requires low { negsuc (2 ^ 32) ≤ℤ distance }
+    requires high { distance ≤ℤ pos (2 ^ 32) }
     requires count { count ≤ 64 }
     ensures { result ≡ distance +ℤ pos (count / 2) }
 {
-    distance + (count / 2) as i32
+    distance + (count / 2) as i64
 }
 
 /// A coordinate of an affine object's point.
-fn affine_coordinate(a: i16, b: i16, dx: i32, dy: i32, count: usize) -> i32
+fn affine_coordinate(a: i16, b: i16, dx: i32, dy: i32, count: usize) -> i64
     requires dx_low { negsuc 64 ≤ℤ dx }
     requires dx_high { dx ≤ℤ pos 64 }
     requires dy_low { negsuc 64 ≤ℤ dy }
@@ -112,7 +106,7 @@ fn affine_coordinate(a: i16, b: i16, dx: i32, dy: i32, count: usize) -> i32
 }
 
 /// A place in the object, or none where a coordinate lies outside.
-fn inside(count: usize, coordinate: i32) -> Option<usize>
+fn inside(count: usize, coordinate: i64) -> Option<usize>
     ensures value { result ≡ inside count coordinate }
     ensures small { IfSome result (λ place. place < count) }
 {

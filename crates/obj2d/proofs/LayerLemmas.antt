@@ -1,7 +1,7 @@
-use Rattle.std.proofs.Common.{ℕ, zero, suc, Bool, true, false, ◌≡◌, ◌≢◌, ◌<◌, ◌≤◌, ◌+◌, ◌⊎◌, ◌==◌, inl, inr, refl, sym, ◌∙◌, ap, subst, arith}
+use Rattle.std.proofs.Common.{ℕ, zero, suc, Bool, true, ◌≡◌, ◌≢◌, ◌<◌, ◌≤◌, ◌+◌, ◌⊎◌, ◌==◌, inl, inr, refl, sym, ◌∙◌, subst, arith}
 use Rattle.std.proofs.lemmas.Bool.{cases_eq, cases_lt, false≢true}
 use Rattle.obj2d.specs.declared.layers.ObjectPixel.{ObjectPixel}
-use Rattle.obj2d.specs.ObjectLayer.{Seen, blank_pixel, IsBefore, IsFirst, IsOf, IsTransparent, IsNone, IsInWindow, IsLayerPixel, with_object, pixel_below}
+use Rattle.obj2d.specs.ObjectLayer.{Seen, IsBefore, IsFirst, IsOf, IsTransparent, IsNone, IsInWindow, IsLayerPixel, with_object, pixel_below}
 
 -- ---- what one more object leaves
 

@@ -1,4 +1,4 @@
-use Rattle.std.proofs.Common.{ℕ, Bool, true, false, ◌≡◌, ◌≢◌, ◌<◌, ◌≤◌, ◌+◌, ◌-◌, ◌*◌, ◌/◌, ◌%◌, ◌^◌, ◌==◌, ◌&&◌, ◌⊎◌, inl, inr, List, get_or, refl, sym, ◌∙◌, ap, subst, arith}
+use Rattle.std.proofs.Common.{ℕ, Bool, true, false, ◌≡◌, ◌≢◌, ◌<◌, ◌+◌, ◌-◌, ◌*◌, ◌/◌, ◌%◌, ◌^◌, ◌==◌, inl, inr, List, get_or, refl, sym, ◌∙◌, ap, subst, arith}
 use Rattle.std.specs.Prelude.{nat_lt}
 use Rattle.std.proofs.lemmas.Bool.{cases_eq, cases_Bool, agree_below_at, eqb-true, ltb-true, lt-ltb, le-ltb}
 use Rattle.vram_banks.specs.Cells.{Banks, vram_byte}
@@ -8,7 +8,7 @@ use Rattle.tiles2d.proofs.NibbleLemmas.{nibble_there}
 use Rattle.obj2d.specs.declared.layers.ObjectPixel.{ObjectPixel}
 use Rattle.obj2d.specs.declared.objects.Display.{Display}
 use Rattle.obj2d.specs.declared.objects.Object.{Object}
-use Rattle.obj2d.specs.Attributes.{object_at, turn_at, group, widths, shape, size, width, height, left_edge, box_width, has_256, palette_number, priority, mode, flips_across, flips_down, is_affine}
+use Rattle.obj2d.specs.Attributes.{object_at, turn_at, group, widths, shape, size, width, left_edge, box_width, has_256, palette_number, priority, mode, flips_across, is_affine}
 use Rattle.obj2d.specs.Places.{across, down, covers, mirrored}
 use Rattle.obj2d.specs.ObjectPixels.{object_space, palette_space, object_index, object_colour, point_pixel, flat_pixel, affine_pixel, box_pixel, pixel_of}
 use Rattle.obj2d.specs.ObjectLayer.{Seen, pixel_at, with_object, seen_at}
@@ -178,7 +178,7 @@ laid_more o pixels k place p m before between after small there is_p is_m laid h
       | inl same ↦
           (let found : across o x ≡ k = across_at (left_edge o) k x left small on_screen (sym there ∙ sym same) in
           let P : ℕ → Type 0 = λ (i : ℕ). i < 256 →
-            pixel_at after i ≡ with_object (record { colour = get_or pixels k 0; priority = p; mode = m }) (pixel_at between i) in
+          pixel_at after i ≡ with_object (record { colour = get_or pixels k 0; priority = p; mode = m }) (pixel_at between i) in
           let laid_here : P x = subst P (sym same) here in
           laid_here on_screen
           ∙ ap (λ (n : ℕ). with_object (record { colour = get_or pixels k 0; priority = n; mode = m }) (pixel_at between x)) is_p
@@ -215,7 +215,7 @@ pub drawn : (v : Banks) (palette oam : List ℕ) (display : Display) (line numbe
     (x : ℕ) → x < 256 → pixel_at after x ≡ with_object (seen_at v palette oam display line x number) (pixel_at before x)
 drawn v palette oam display line number o y pixels before after e on there are laid x small =
     let P : Object → Type 0 = λ (q : Object). covers display q line ≡ true → AreBox v palette oam display q (down q line) pixels →
-      strip_seen q pixels (box_width q) x ≡ seen_at v palette oam display line x number in
+    strip_seen q pixels (box_width q) x ≡ seen_at v palette oam display line x number in
     let Q : ℕ → Type 0 = λ (n : ℕ). AreBox v palette oam display o n pixels in
     let seen : P o = subst P (sym e) (strip_is_seen v palette oam display line number x pixels) in
     laid x small ∙ ap (λ (s : Seen). with_object s (pixel_at before x)) (seen on (subst Q there are))

@@ -1,4 +1,4 @@
-use Rattle.std.specs.Prelude.{ℕ, Bool, ◌+◌, ◌*◌, ◌/◌, ◌%◌, ◌^◌, ◌==◌, ◌&&◌, not, if◌then◌else◌, ℤ, List, [], ◌∷◌, slice_index}
+use Rattle.std.specs.Prelude.{ℕ, Bool, ◌+◌, ◌*◌, ◌&&◌, not, if◌then◌else◌, ℤ, List, [], ◌∷◌, slice_index}
 use Rattle.std.specs.Int.{cast_signed, w16}
 use Rattle.ds_base.specs.Bits.{bits, bit}
 use Rattle.ds_base.specs.Numbers.{number_at}

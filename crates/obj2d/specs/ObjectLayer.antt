@@ -1,4 +1,4 @@
-use Rattle.std.specs.Prelude.{ℕ, zero, suc, Bool, true, false, ◌≡◌, ◌≢◌, ◌<◌, ◌≤◌, ◌↔◌, ◌⊎◌, ◌==◌, ◌||◌, nat_lt, if◌then◌else◌, List, slice_index_or, IsTrue}
+use Rattle.std.specs.Prelude.{ℕ, zero, suc, true, false, ◌≡◌, ◌≢◌, ◌<◌, ◌≤◌, ◌↔◌, ◌⊎◌, ◌==◌, ◌||◌, nat_lt, if◌then◌else◌, List, slice_index_or, IsTrue}
 use Rattle.vram_banks.specs.Cells.{Banks}
 use Rattle.obj2d.specs.declared.objects.Display.{Display}
 use Rattle.obj2d.specs.declared.layers.ObjectPixel.{ObjectPixel}

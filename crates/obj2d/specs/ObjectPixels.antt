@@ -1,4 +1,4 @@
-use Rattle.std.specs.Prelude.{ℕ, Bool, ◌+◌, ◌*◌, ◌/◌, ◌%◌, ◌^◌, ◌==◌, ◌&&◌, nat_lt, if◌then◌else◌, List, Option, Some, None}
+use Rattle.std.specs.Prelude.{ℕ, ◌+◌, ◌*◌, ◌/◌, ◌%◌, ◌^◌, ◌==◌, ◌&&◌, nat_lt, if◌then◌else◌, List, Option, Some, None}
 use Rattle.ds_base.specs.Bits.{bits, bit}
 use Rattle.ds_base.specs.declared.memories.Space.{Space}
 use Rattle.ds_base.specs.declared.memories.Space.TheVariants.{AObj, BObj, AObjPalette, BObjPalette}
@@ -8,7 +8,7 @@ use Rattle.tiles2d.specs.Tiles.{index_of_16, index_of_256}
 use Rattle.obj2d.specs.declared.objects.Display.{Display}
 use Rattle.obj2d.specs.declared.objects.Object.{Object}
 use Rattle.obj2d.specs.declared.objects.Turn.{Turn}
-use Rattle.obj2d.specs.Attributes.{object_at, turn_at, group, is_affine, has_256, tile, palette_number, width, height, box_width, flips_across, flips_down}
+use Rattle.obj2d.specs.Attributes.{turn_at, group, is_affine, has_256, tile, palette_number, width, height, box_width, flips_across, flips_down}
 use Rattle.obj2d.specs.Places.{across, down, covers, mirrored, affine_across, affine_down}
 
 -- The pixel that one object has at a place of a line (GBATEK, "LCD OBJ - VRAM Character (Tile) Mapping", "DS Video OBJs", "DS Video Extended

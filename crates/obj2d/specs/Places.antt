@@ -1,10 +1,10 @@
-use Rattle.std.specs.Prelude.{ℕ, Bool, ◌+◌, ◌-◌, ◌*◌, ◌/◌, ◌%◌, ◌^◌, ◌==◌, ◌&&◌, not, nat_lt, if◌then◌else◌, ℤ, pos, negsuc, ◌+ℤ◌, ◌-ℤ◌, ◌*ℤ◌, Option, Some, None}
+use Rattle.std.specs.Prelude.{ℕ, Bool, ◌+◌, ◌-◌, ◌/◌, ◌%◌, ◌==◌, ◌&&◌, not, nat_lt, if◌then◌else◌, ℤ, pos, negsuc, ◌+ℤ◌, ◌-ℤ◌, ◌*ℤ◌, Option, Some, None}
 use Rattle.std.specs.Int.{int_shr}
 use Rattle.ds_base.specs.Bits.{bit}
 use Rattle.obj2d.specs.declared.objects.Display.{Display}
 use Rattle.obj2d.specs.declared.objects.Object.{Object}
 use Rattle.obj2d.specs.declared.objects.Turn.{Turn}
-use Rattle.obj2d.specs.Attributes.{top_edge, left_edge, is_off, mode, width, height, box_width, box_height, flips_across, flips_down}
+use Rattle.obj2d.specs.Attributes.{top_edge, left_edge, is_off, mode, width, height, box_width, box_height}
 
 -- Which places of the screen an object's box covers, and which point of the object is shown at a place of its box (GBATEK, "LCD OBJ - OAM
 -- Attributes", "LCD OBJ - OAM Rotation/Scaling Parameters").

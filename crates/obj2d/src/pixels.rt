@@ -17,7 +17,11 @@ use vram_banks::Vram;
 pub fn object_space(engine: u8) -> Space
     ensures { result ≡ object_space engine }
 {
-    if engine == 0 { Space::AObj } else { Space::BObj }
+    if engine == 0 {
+        Space::AObj
+    } else {
+        Space::BObj
+    }
 }
 
 /// The space of an engine's extended object palettes.

@@ -1,4 +1,4 @@
-use Rattle.std.proofs.Common.{ℕ, Bool, ◌+◌, ◌*◌, ◌/◌, ◌%◌, ◌^◌, ◌∙◌, ap, sym, get_or, arith}
+use Rattle.std.proofs.Common.{ℕ, Bool, ◌+◌, ◌*◌, ◌/◌, ◌%◌, ◌^◌, ◌∙◌, ap, sym, get_or}
 use Rattle.tiles2d.specs.Colours.{indexed_pixel, palette_colour, extended_colour}
 use Rattle.tiles2d.specs.Tiles.{flipped}
 use Rattle.obj2d.specs.Attributes.{flips_across}

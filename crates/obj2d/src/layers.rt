@@ -39,26 +39,19 @@ const BLANK: ObjectPixel = ObjectPixel {
     window: false,
 };
 
-/// A pixel with one more object, whose number is above those of all before.
-fn with_object(colour: u16, priority: u8, mode: u8, pixel: ObjectPixel) -> ObjectPixel
-    ensures { result ≡ with_object (record { colour = colour; priority = priority; mode = mode }) pixel }
+/// Lays a pixel of one more object, whose number is above those of all before.
+fn cover(colour: u16, priority: u8, mode: u8, pixel: &mut ObjectPixel)
+    ensures { pixel.new ≡ with_object (record { colour = colour; priority = priority; mode = mode }) pixel.old }
 {
     if colour == 0 {
-        pixel
-    } else if mode == 2 {
-        ObjectPixel {
-            window: true,
-            ..pixel
-        }
+        return;
+    }
+    if mode == 2 {
+        pixel.window = true;
     } else if pixel.colour == 0 || priority < pixel.priority {
-        ObjectPixel {
-            colour,
-            priority,
-            blended: mode == 1,
-            ..pixel
-        }
-    } else {
-        pixel
+        pixel.colour = colour;
+        pixel.priority = priority;
+        pixel.blended = mode == 1;
     }
 }
 
@@ -77,7 +70,7 @@ fn put(colour: u16, priority: u8, mode: u8, x: usize, into: &mut ObjectRow)
     ensures others { (i : ℕ) → i ≢ x → pixel_at into.new.pixels i ≡ pixel_at into.old.pixels i }
 {
     if x < 256 {
-        into.pixels[x] = with_object(colour, priority, mode, into.pixels[x]);
+        cover(colour, priority, mode, &mut into.pixels[x]);
     }
 }
 

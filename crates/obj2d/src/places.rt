@@ -46,10 +46,10 @@ pub fn mirrored(flip: bool, count: usize, place: usize) -> usize
 /// The distance of a place of the box from its middle.
 fn from_middle(size: usize, place: usize) -> i32
     requires size { size ≤ 128 }
-    requires place { place < size }
+    requires place { place < 128 }
     ensures value { result ≡ from_middle size place }
     ensures low { negsuc 64 ≤ℤ result }
-    ensures high { result ≤ℤ pos 64 }
+    ensures high { result ≤ℤ pos 128 }
 {
     place as i32 - (size / 2) as i32
 }
@@ -57,7 +57,7 @@ fn from_middle(size: usize, place: usize) -> i32
 /// So many steps.
 fn steps(step: i16, distance: i32) -> i32
     requires low { negsuc 64 ≤ℤ distance }
-    requires high { distance ≤ℤ pos 64 }
+    requires high { distance ≤ℤ pos 128 }
     ensures { result ≡ step *ℤ distance }
 {
     step as i32 * distance
@@ -96,9 +96,9 @@ fn from_edge(distance: i64, count: usize) -> i64
 /// A coordinate of an affine object's point.
 fn affine_coordinate(a: i16, b: i16, dx: i32, dy: i32, count: usize) -> i64
     requires dx_low { negsuc 64 ≤ℤ dx }
-    requires dx_high { dx ≤ℤ pos 64 }
+    requires dx_high { dx ≤ℤ pos 128 }
     requires dy_low { negsuc 64 ≤ℤ dy }
-    requires dy_high { dy ≤ℤ pos 64 }
+    requires dy_high { dy ≤ℤ pos 128 }
     requires count { count ≤ 64 }
     ensures { result ≡ affine_coordinate a b dx dy count }
 {
@@ -125,9 +125,9 @@ fn distances(object: &Object, x: usize, y: usize) -> (i32, i32)
     ensures across { result.0 ≡ from_middle (box_width object.now) x }
     ensures down { result.1 ≡ from_middle (box_height object.now) y }
     ensures across_low { negsuc 64 ≤ℤ result.0 }
-    ensures across_high { result.0 ≤ℤ pos 64 }
+    ensures across_high { result.0 ≤ℤ pos 128 }
     ensures down_low { negsuc 64 ≤ℤ result.1 }
-    ensures down_high { result.1 ≤ℤ pos 64 }
+    ensures down_high { result.1 ≤ℤ pos 128 }
 {
     (
         from_middle(box_width(object), x),

@@ -1,4 +1,4 @@
-use Rattle.std.specs.Prelude.{ℕ, zero, suc, true, false, ◌≡◌, ◌≢◌, ◌<◌, ◌≤◌, ◌↔◌, ◌⊎◌, ◌==◌, ◌||◌, nat_lt, if◌then◌else◌, List, slice_index_or, IsTrue}
+use Rattle.std.specs.Prelude.{ℕ, zero, suc, true, false, ◌≡◌, ◌≢◌, ◌<◌, ◌≤◌, ◌^◌, ◌↔◌, ◌⊎◌, ◌==◌, ◌||◌, nat_lt, if◌then◌else◌, List, slice_index_or, IsTrue}
 use Rattle.vram_banks.specs.Cells.{Banks}
 use Rattle.obj2d.specs.declared.objects.Display.{Display}
 use Rattle.obj2d.specs.declared.layers.ObjectPixel.{ObjectPixel}
@@ -56,6 +56,12 @@ IsInWindow seen count = (n : ℕ) × (n < count) × ((seen n).colour ≢ 0) × (
 pub record IsLayerPixel (seen : ℕ → Seen) (count : ℕ) (p : ObjectPixel) : Type 0 where
   pub top : ((n : ℕ) × IsFirst seen count n × IsOf (seen n) p) ⊎ (IsNone seen count × IsTransparent p)
   pub window : IsTrue p.window ↔ IsInWindow seen count
+
+-- an opaque pixel has bit 15 set; a transparent one has neither priority nor blending
+pub record IsPixel (p : ObjectPixel) : Type 0 where
+  pub opaque : p.colour ≢ 0 → 2 ^ 15 ≤ p.colour
+  pub transparent : p.colour ≡ 0 → (p.priority ≡ 0) × (p.blended ≡ false)
+  pub small : p.priority < 4
 
 -- ---- the same, object by object
 

@@ -2,7 +2,7 @@
 
 ghost use Rattle.std.specs.Prelude.{◌≡◌, ◌≢◌, ◌<◌, ◌≤◌, ◌+◌, ◌*◌, ℕ, length};
 ghost use Rattle.obj2d.specs.Attributes.{object_at, box_width, priority, mode};
-ghost use Rattle.obj2d.specs.ObjectLayer.{Seen, IsLayerPixel, pixel_at, blank_pixel, with_object, seen_at, object_pixel};
+ghost use Rattle.obj2d.specs.ObjectLayer.{Seen, IsLayerPixel, IsPixel, pixel_at, blank_pixel, with_object, seen_at, object_pixel};
 ghost use Rattle.obj2d.specs.rows.Strips.{IsLaid};
 
 use crate::attributes::{box_width, mode, object_at, priority};
@@ -127,6 +127,7 @@ pub fn object_row(
     requires oam { length oam.now ≡ 1024 }
     ensures value { (x : ℕ) → x < 256 → pixel_at into.new.pixels x ≡ object_pixel vram.now palette.now oam.now (record { engine = engine; control = control }) line x }
     ensures stands { (x : ℕ) → x < 256 → IsLayerPixel (seen_at vram.now palette.now oam.now (record { engine = engine; control = control }) line x) 128 (pixel_at into.new.pixels x) }
+    ensures form { (x : ℕ) → x < 256 → IsPixel (pixel_at into.new.pixels x) }
 {
     let display = Display { engine, control };
     clear(into);

@@ -5,34 +5,13 @@ use Rattle.ds_base.specs.Bits.{bits, bit}
 use Rattle.vram_banks.specs.Cells.{Banks, vram_byte}
 use Rattle.bg2d.specs.declared.layers.TextLayer.{TextLayer}
 use Rattle.bg2d.specs.Bases.{background_space}
-use Rattle.bg2d.specs.Colours.{indexed_pixel, palette_colour, extended_colour}
-use Rattle.bg2d.specs.Tiles.{nibble_at, flipped}
+use Rattle.tiles2d.specs.Colours.{indexed_pixel, palette_colour, extended_colour}
+use Rattle.tiles2d.specs.Tiles.{nibble_at, flipped}
+use Rattle.tiles2d.proofs.NibbleLemmas.{nibble_there}
 use Rattle.bg2d.specs.TextPixels.{text_width, text_height, has_256, text_entry, text_index, text_colour, text_entry_pixel, text_pixel, palette_slot, palette_space}
 use Rattle.bg2d.specs.rows.Tiling.{tile_row, tiled_pixel, AreEntries, ArePacked, AreIndices, ArePainted}
 
 -- ---- indices from bytes
-
-even_or_odd : (i : ℕ) → (i % 2 ≡ 0) ⊎ (i % 2 ≡ 1)
-even_or_odd i = grind arith
-
-left_nibble : (i byte : ℕ) → i % 2 ≡ 0 → nibble_at i byte ≡ byte % 16
-left_nibble i byte h = grind (arith, h)
-
-right_nibble : (i byte : ℕ) → i % 2 ≡ 1 → nibble_at i byte ≡ byte / 16
-right_nibble i byte h = grind (arith, h)
-
--- the nibble at place i of a tile's row of four bytes
-nibble_there : (bytes indices : List ℕ) (k i : ℕ) →
-    ((j : ℕ) → get_or indices (2 * j) 0 ≡ get_or bytes j 0 % 16) → ((j : ℕ) → get_or indices (2 * j + 1) 0 ≡ get_or bytes j 0 / 16) →
-    get_or indices (8 * k + i) 0 ≡ nibble_at i (get_or bytes (4 * k + i / 2) 0)
-nibble_there bytes indices k i low high = elim (even_or_odd i) [
-  | inl even ↦
-      (let place : 8 * k + i ≡ 2 * (4 * k + i / 2) = omega arith in
-      ap (λ (j : ℕ). get_or indices j 0) place ∙ low (4 * k + i / 2) ∙ sym (left_nibble i (get_or bytes (4 * k + i / 2) 0) even))
-  | inr odd ↦
-      (let place : 8 * k + i ≡ 2 * (4 * k + i / 2) + 1 = omega arith in
-      ap (λ (j : ℕ). get_or indices j 0) place ∙ high (4 * k + i / 2) ∙ sym (right_nibble i (get_or bytes (4 * k + i / 2) 0) odd))
-]
 
 index_16 : (v : Banks) (layer : TextLayer) (entry i y : ℕ) → has_256 layer ≡ false →
     text_index v layer entry i (flipped (bit 11 entry) (y % 8)) ≡ nibble_at i (vram_byte v (background_space layer.engine) (tile_row layer entry y + i / 2))
@@ -57,20 +36,6 @@ pub indices_of_256 : (v : Banks) (layer : TextLayer) (y : ℕ) (entries indices 
     ArePacked v layer y entries 8 indices 33 → AreIndices v layer y entries indices
 indices_of_256 v layer y entries indices wide packed k i known small =
     packed k i known small ∙ sym (index_256 v layer (get_or entries k 0) i y wide)
-
--- all nibbles of bytes are below 16
-pub narrow_nibbles : (bytes indices : List ℕ) → ((j : ℕ) → get_or bytes j 0 < 256) →
-    ((j : ℕ) → get_or indices (2 * j) 0 ≡ get_or bytes j 0 % 16) → ((j : ℕ) → get_or indices (2 * j + 1) 0 ≡ get_or bytes j 0 / 16) →
-    (i : ℕ) → get_or indices i 0 < 16
-narrow_nibbles bytes indices small low high i = elim (even_or_odd i) [
-  | inl even ↦
-      (let place : i ≡ 2 * (i / 2) = omega arith in
-      let e : get_or indices i 0 ≡ get_or bytes (i / 2) 0 % 16 = ap (λ (j : ℕ). get_or indices j 0) place ∙ low (i / 2) in omega (arith, e))
-  | inr odd ↦
-      (let place : i ≡ 2 * (i / 2) + 1 = omega arith in
-      let e : get_or indices i 0 ≡ get_or bytes (i / 2) 0 / 16 = ap (λ (j : ℕ). get_or indices j 0) place ∙ high (i / 2) in
-      let s = small (i / 2) in omega (arith, e, s))
-]
 
 -- ---- a place of the row is a place in a tile
 

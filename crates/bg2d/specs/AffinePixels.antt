@@ -4,8 +4,8 @@ use Rattle.ds_base.specs.Bits.{bits, bit}
 use Rattle.vram_banks.specs.Cells.{Banks, vram_byte}
 use Rattle.bg2d.specs.declared.layers.AffineLayer.{AffineLayer}
 use Rattle.bg2d.specs.Bases.{background_space, map_base, tile_base}
-use Rattle.bg2d.specs.Colours.{indexed_pixel, palette_colour}
-use Rattle.bg2d.specs.Tiles.{index_of_256}
+use Rattle.tiles2d.specs.Colours.{indexed_pixel, palette_colour}
+use Rattle.tiles2d.specs.Tiles.{index_of_256}
 
 -- The pixel of an affine background (GBATEK, "LCD I/O BG Rotation/Scaling", "LCD VRAM BG Screen Data Format (BG Map)").
 

@@ -1,6 +1,4 @@
 pub mod AffinePixels
 pub mod Bases
-pub mod Colours
 pub mod TextPixels
-pub mod Tiles
 pub mod rows

@@ -6,8 +6,8 @@ use Rattle.ds_base.specs.declared.memories.Width.TheVariants.{Half}
 use Rattle.vram_banks.specs.Cells.{Banks, vram_value}
 use Rattle.bg2d.specs.declared.layers.TextLayer.{TextLayer}
 use Rattle.bg2d.specs.Bases.{background_space, map_base, tile_base}
-use Rattle.bg2d.specs.Colours.{indexed_pixel, palette_colour, extended_colour}
-use Rattle.bg2d.specs.Tiles.{index_of_16, index_of_256, flipped}
+use Rattle.tiles2d.specs.Colours.{indexed_pixel, palette_colour, extended_colour}
+use Rattle.tiles2d.specs.Tiles.{index_of_16, index_of_256, flipped}
 
 -- The pixel of a text background at a place of the screen (GBATEK, "LCD VRAM BG Screen Data Format (BG Map)", "LCD I/O BG Control",
 -- "DS Video Extended Palettes").

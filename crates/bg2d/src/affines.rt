@@ -5,8 +5,8 @@ ghost use Rattle.std.specs.Int.{int_shr};
 ghost use Rattle.bg2d.specs.AffinePixels.{affine_size, affine_coordinate, place_within, affine_point_pixel, affine_place_pixel, affine_pixel};
 
 use crate::bases::{background_space, map_base, tile_base};
-use crate::colours::{byte, opaque_pixel, palette_colour};
 use crate::layers::{AffineLayer, Row};
+use tiles2d::{byte, opaque_pixel, palette_colour};
 use vram_banks::Vram;
 
 /// The size in pixels, the same both ways.

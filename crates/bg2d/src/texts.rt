@@ -3,16 +3,14 @@
 ghost use Rattle.std.specs.Prelude.{◌≡◌, ◌<◌, ◌≤◌, ◌+◌, ◌-◌, ◌*◌, ◌/◌, ◌%◌, ◌^◌, ℕ, Bool, true, false, length, slice_index, slice_range};
 ghost use Rattle.ds_base.specs.Bits.{bits, bit};
 ghost use Rattle.bg2d.specs.TextPixels.{text_width, text_height, has_256, palette_slot, palette_space, text_entry, text_colour, text_pixel};
-ghost use Rattle.bg2d.specs.Colours.{indexed_pixel};
-ghost use Rattle.bg2d.specs.Tiles.{flipped};
+ghost use Rattle.tiles2d.specs.Colours.{indexed_pixel};
+ghost use Rattle.tiles2d.specs.Tiles.{flipped};
 ghost use Rattle.bg2d.specs.rows.Tiling.{tile_row, AreEntries, ArePacked, AreIndices, AreNarrow, ArePainted};
 
 use crate::bases::{background_space, map_base, tile_base};
-use crate::colours::{half, paint_extended, paint_standard};
 use crate::layers::{Row, TextLayer};
-use crate::tiles::{copy_eight, copy_four, flipped};
 use ds_base::Space;
-use line_lanes::unpack4;
+use tiles2d::{copy_eight, copy_four, flipped, half, paint_extended, paint_standard, unpack};
 use vram_banks::Vram;
 
 /// How many tiles a row touches: 256 pixels, and a tile's part at either end.
@@ -108,16 +106,6 @@ fn copy_rows(vram: &Vram, layer: &TextLayer, entries: &[u16; TILES], y: u32, int
         let at = tile_row(layer, entries[k], y);
         copy_eight(vram, space, at, &mut into[8 * k..8 * k + 8]);
     }
-}
-
-/// The nibbles of packed bytes, all of which are below 16.
-fn unpack(packed: &[u8], into: &mut [u8])
-    requires { length into.old ≡ 2 * length packed.now }
-    ensures low { (i : ℕ) → slice_index into.new (2 * i) ≡ slice_index packed.now i % 16 }
-    ensures high { (i : ℕ) → slice_index into.new (2 * i + 1) ≡ slice_index packed.now i / 16 }
-    ensures narrow { (i : ℕ) → i < length into.new → slice_index into.new i < 16 }
-{
-    unpack4(packed, into);
 }
 
 /// The indices of the tiles' rows.

@@ -3,9 +3,9 @@ use Rattle.ds_base.specs.Bits.{bit}
 use Rattle.vram_banks.specs.Cells.{Banks, vram_byte}
 use Rattle.bg2d.specs.declared.layers.TextLayer.{TextLayer}
 use Rattle.bg2d.specs.Bases.{background_space, tile_base}
-use Rattle.bg2d.specs.Colours.{indexed_pixel}
+use Rattle.tiles2d.specs.Colours.{indexed_pixel}
 use Rattle.bg2d.specs.TextPixels.{has_256, text_width, text_entry, text_index, text_colour, text_entry_pixel}
-use Rattle.bg2d.specs.Tiles.{flipped}
+use Rattle.tiles2d.specs.Tiles.{flipped}
 
 -- How the code draws a row: by tiles. No public call speaks of it.
 

@@ -1,7 +1,7 @@
 use Rattle.std.proofs.Common.{ℕ, ◌/◌, ◌%◌, ◌^◌, ◌∙◌, ap, sym, get_or, arith}
 use Rattle.ds_base.specs.Bits.{bit}
-use Rattle.bg2d.specs.Colours.{indexed_pixel, extended_colour}
-use Rattle.bg2d.specs.Tiles.{flipped}
+use Rattle.tiles2d.specs.Colours.{indexed_pixel, extended_colour}
+use Rattle.tiles2d.specs.Tiles.{flipped}
 use Rattle.bg2d.proofs.TilingLemmas.{painted_16, painted_256, painted_extended, on_by, off_by}
 use Rattle.bg2d.proofs.texts.paint_tile.Goals as goal
 

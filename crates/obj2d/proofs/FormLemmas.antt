@@ -1,0 +1,75 @@
+use Rattle.std.proofs.Common.{ℕ, Bool, true, false, ◌≡◌, ◌≢◌, ◌<◌, ◌≤◌, ◌^◌, ◌==◌, ◌&&◌, List, inl, inr, refl, sym, ◌∙◌, arith}
+use Rattle.std.specs.Prelude.{nat_lt, Option, Some, None, if◌then◌else◌}
+use Rattle.vram_banks.specs.Cells.{Banks}
+use Rattle.tiles2d.specs.Colours.{opaque_pixel, indexed_pixel}
+use Rattle.obj2d.specs.declared.layers.ObjectPixel.{ObjectPixel}
+use Rattle.obj2d.specs.declared.objects.Display.{Display}
+use Rattle.obj2d.specs.declared.objects.Object.{Object}
+use Rattle.obj2d.specs.Attributes.{object_at, turn_at, group, width, height, box_width, is_affine, flips_across, flips_down}
+use Rattle.obj2d.specs.Places.{across, down, covers, mirrored, affine_across, affine_down}
+use Rattle.obj2d.specs.ObjectPixels.{object_index, object_colour, place_pixel, affine_pixel, flat_pixel, box_pixel, pixel_of}
+use Rattle.obj2d.specs.ObjectLayer.{Seen, IsLayerPixel, IsPixel, seen_at}
+
+-- A pixel has bit 15 set, or is 0.
+
+abbrev HasForm : ℕ → Type 0
+HasForm n = n ≢ 0 → 2 ^ 15 ≤ n
+
+choice_form : (b : Bool) (m n : ℕ) → HasForm m → HasForm n → HasForm (if b then m else n)
+choice_form true m n p q = p
+choice_form false m n p q = q
+
+zero_form : HasForm 0
+zero_form h = absurd (h refl)
+
+opaque_form : (n : ℕ) → HasForm (opaque_pixel n)
+opaque_form n h = omega arith
+
+indexed_form : (f : ℕ → ℕ) (i : ℕ) → HasForm (indexed_pixel f i)
+indexed_form f i = choice_form (i == 0) 0 (opaque_pixel (f i)) zero_form (opaque_form (f i))
+
+place_form : (v : Banks) (palette : List ℕ) (display : Display) (o : Object) (x y : Option ℕ) → HasForm (place_pixel v palette display o x y)
+place_form v palette display o None y = zero_form
+place_form v palette display o (Some x) None = zero_form
+place_form v palette display o (Some x) (Some y) = indexed_form (object_colour v palette display o) (object_index v display o x y)
+
+box_form : (v : Banks) (palette oam : List ℕ) (display : Display) (o : Object) (x y : ℕ) → HasForm (box_pixel v palette oam display o x y)
+unfolding box_pixel affine_pixel
+box_form v palette oam display o x y =
+    choice_form (is_affine o) (affine_pixel v palette display o (turn_at oam (group o)) x y) (flat_pixel v palette display o x y)
+    (place_form v palette display o (affine_across o (turn_at oam (group o)) x y) (affine_down o (turn_at oam (group o)) x y))
+    (indexed_form (object_colour v palette display o) (object_index v display o (mirrored (flips_across o) (width o) x) (mirrored (flips_down o) (height o) y)))
+
+pub seen_form : (v : Banks) (palette oam : List ℕ) (display : Display) (line x n : ℕ) → (seen_at v palette oam display line x n).colour ≢ 0 →
+    2 ^ 15 ≤ (seen_at v palette oam display line x n).colour
+unfolding seen_at pixel_of
+seen_form v palette oam display line x n =
+    let o : Object = object_at oam n in
+    choice_form (covers display o line && nat_lt (across o x) (box_width o)) (box_pixel v palette oam display o (across o x) (down o line)) 0
+    (box_form v palette oam display o (across o x) (down o line)) zero_form
+
+pub seen_small : (v : Banks) (palette oam : List ℕ) (display : Display) (line x n : ℕ) → (seen_at v palette oam display line x n).priority < 4
+unfolding seen_at
+seen_small v palette oam display line x n = omega arith
+
+pub layer_form : (seen : ℕ → Seen) (count : ℕ) (p : ObjectPixel) → ((n : ℕ) → (seen n).colour ≢ 0 → 2 ^ 15 ≤ (seen n).colour) →
+    ((n : ℕ) → (seen n).priority < 4) → IsLayerPixel seen count p → IsPixel p
+layer_form seen count p forms smalls h = elim h.top [
+  | inl t ↦
+      (let same : p.colour ≡ (seen t.0).colour = t.2.colour in
+      let there : 2 ^ 15 ≤ (seen t.0).colour = forms t.0 t.1.opaque in
+      let rank : p.priority ≡ (seen t.0).priority = t.2.priority in
+      let below : (seen t.0).priority < 4 = smalls t.0 in
+      record {
+        opaque = λ full. omega (arith, same, there);
+        transparent = λ empty. absurd (t.1.opaque (sym same ∙ empty));
+        small = omega (arith, rank, below);
+      })
+  | inr e ↦
+      (let rank : p.priority ≡ 0 = e.1.priority in
+      record {
+        opaque = λ full. absurd (full e.1.colour);
+        transparent = λ empty. (e.1.priority, e.1.blended);
+        small = omega (arith, rank);
+      })
+]

@@ -1,0 +1,5 @@
+pub mod Attributes
+pub mod ObjectLayer
+pub mod ObjectPixels
+pub mod Places
+pub mod rows

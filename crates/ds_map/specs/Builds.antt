@@ -1,0 +1,41 @@
+use Rattle.std.specs.Prelude.{ℕ, Bool, true, false}
+use Rattle.ds_base.specs.declared.processors.Proc.{Proc}
+use Rattle.ds_base.specs.declared.processors.Proc.TheVariants.{Nine, Seven}
+use Rattle.cp15_tcm.specs.Registers.{Cp15State}
+use Rattle.cp15_tcm.specs.TightlyCoupled.{tcm_of}
+use Rattle.cp15_tcm.specs.declared.answers.Tcm.{Tcm}
+use Rattle.cp15_tcm.specs.declared.answers.Tcm.TheVariants.{Itcm, Dtcm, Past}
+use Rattle.ds_places.specs.AddressTables.{place_of}
+use Rattle.ds_places.specs.declared.kinds.Place.{Place}
+use Rattle.ds_places.specs.declared.kinds.Place.TheVariants.{Cell, Banks, Port, Rom, Nothing}
+
+-- Which places are built so far: for data all but ports and the boot ROM, for fetches all but the boot ROM (from a port they give 0).
+
+abbrev pub is_data_built : Place → Bool
+is_data_built (Cell memory at) = true
+is_data_built (Banks space at) = true
+is_data_built (Port at) = false
+is_data_built (Rom at) = false
+is_data_built Nothing = true
+
+abbrev pub is_code_built : Place → Bool
+is_code_built (Cell memory at) = true
+is_code_built (Banks space at) = true
+is_code_built (Port at) = true
+is_code_built (Rom at) = false
+is_code_built Nothing = true
+
+-- where a tightly coupled memory answers all is built
+abbrev pub past_is_built : Tcm → Bool → Bool
+past_is_built (Itcm place) built = true
+past_is_built (Dtcm place) built = true
+past_is_built Past built = built
+
+-- whether a processor's fetch at an address is built, and whether a byte of its data is, by the place that a read of it has
+unfoldable pub fetch_is_built : Proc → Cp15State → ℕ → ℕ → Bool
+fetch_is_built Nine cp15 wramcnt at = past_is_built (tcm_of cp15 at false true) (is_code_built (place_of Nine wramcnt at))
+fetch_is_built Seven cp15 wramcnt at = is_code_built (place_of Seven wramcnt at)
+
+unfoldable pub byte_is_built : Proc → Cp15State → ℕ → ℕ → Bool
+byte_is_built Nine cp15 wramcnt at = past_is_built (tcm_of cp15 at false false) (is_data_built (place_of Nine wramcnt at))
+byte_is_built Seven cp15 wramcnt at = is_data_built (place_of Seven wramcnt at)

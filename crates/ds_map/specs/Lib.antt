@@ -1,0 +1,4 @@
+pub mod Maps
+pub mod Accesses
+pub mod Views
+pub mod Builds

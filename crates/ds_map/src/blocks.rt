@@ -1,0 +1,116 @@
+//! Memories of a fixed size.
+
+ghost use Rattle.std.specs.Prelude.{◌≡◌, ◌<◌, ◌%◌, IfOk, slice_index, slice_set, length};
+ghost use Rattle.ds_base.specs.Numbers.{zeroes, aligned_down, number_at, with_number};
+
+use ds_base::Width;
+use std::alloc::{AllocError, Global};
+use std::marker::Model;
+
+/// N bytes, seen as their list. The size travels with the type, so no access tests it.
+#[derive(Drop)]
+pub struct Block<const N: usize> {
+    bytes: Vec<u8>,
+}
+
+impl<const N: usize> Model for Block<N> {
+    ghost use Rattle.std.specs.Prelude.{◌≡◌, ℕ, List, length};
+
+    ghost Value = { List ℕ };
+
+    ghost view = { λ b. b.bytes.items };
+
+    ghost invariant = { λ b. length b.bytes.items ≡ N };
+}
+
+/// So many zeros.
+#[tactic(auto, unfolding(ds_base::specs::Numbers::zeroes))]
+fn zeroed(alloc: Global, count: usize) -> Result<Vec<u8>, AllocError>
+    ensures zero { IfOk result (λ v. v.items ≡ zeroes count) }
+    ensures long { IfOk result (λ v. length v.items ≡ count) }
+{
+    Ok(vec![in alloc; 0; count]?)
+}
+
+impl<const N: usize> Block<N> {
+    /// N zeros.
+    pub fn new(alloc: Global) -> Result<Block<N>, AllocError>
+        ensures { IfOk result (λ b. b ≡ zeroes N) }
+    {
+        Ok(Block {
+            bytes: zeroed(alloc, N)?,
+        })
+    }
+
+    /// All the bytes, from where they lie.
+    #[inline(always)]
+    pub fn bytes(&self) -> &[u8]
+        ensures { result.now ≡ self.now }
+    {
+        self.bytes.as_slice()
+    }
+
+    /// The byte at a place.
+    #[inline(always)]
+    pub fn byte(&self, at: usize) -> u8
+        requires { at < N }
+        ensures { result ≡ slice_index self.now at }
+    {
+        self.bytes[at]
+    }
+
+    /// Puts a byte at a place.
+    #[inline(always)]
+    pub fn set_byte(&mut self, at: usize, value: u8)
+        requires { at < N }
+        ensures { self.new ≡ slice_set self.old at value }
+    {
+        self.bytes[at] = value;
+    }
+
+    /// The number of a width that stands at a place, aligned down, the least significant byte first.
+    #[inline(always)]
+    pub fn number(&self, at: usize, width: Width) -> u32
+        requires within { at < N }
+        requires words { N % 4 ≡ 0 }
+        ensures { result ≡ number_at width self.now (aligned_down width at) }
+    {
+        let bytes = &self.bytes;
+        match width {
+            Width::Byte => bytes[at] as u32,
+            Width::Half => {
+                let at = at - at % 2;
+                u16::from_le_bytes([bytes[at], bytes[at + 1]]) as u32
+            }
+            Width::Word => {
+                let at = at - at % 4;
+                u32::from_le_bytes([bytes[at], bytes[at + 1], bytes[at + 2], bytes[at + 3]])
+            }
+        }
+    }
+
+    /// Puts a number of a width at a place, aligned down, the least significant byte first.
+    #[inline(always)]
+    pub fn set_number(&mut self, at: usize, width: Width, value: u32)
+        requires within { at < N }
+        requires words { N % 4 ≡ 0 }
+        ensures { self.new ≡ with_number width self.old (aligned_down width at) value }
+    {
+        let [first, second, third, fourth] = value.to_le_bytes();
+        match width {
+            Width::Byte => self.bytes[at] = first,
+            Width::Half => {
+                let at = at - at % 2;
+                self.bytes[at] = first;
+                self.bytes[at + 1] = second;
+            }
+            Width::Word => {
+                let at = at - at % 4;
+                self.bytes[at] = first;
+                self.bytes[at + 1] = second;
+                self.bytes[at + 2] = third;
+                self.bytes[at + 3] = fourth;
+            }
+        }
+    }
+}

@@ -1,1 +1,4 @@
+pub mod Costs
+pub mod Fetches
 pub mod MachineSchedule
+pub mod Spans

@@ -1,11 +1,9 @@
-pub mod Registers
 pub mod States
-pub mod MainMemory
-pub mod Words
-pub mod Fields
+pub mod Needs
 pub mod Steps
 pub mod Videos
 pub mod Boots
 pub mod Booted
 pub mod Reference
 pub mod Observed
+pub mod Processors

@@ -1,41 +1,45 @@
-use Rattle.std.specs.Prelude.{ℕ, List, slice_index}
+use Rattle.std.specs.Prelude.{ℕ, ◌%◌, ◌^◌, if◌then◌else◌, List}
 use Rattle.ds_base.specs.declared.memories.Memory.{Memory}
 use Rattle.ds_base.specs.declared.memories.Memory.TheVariants.{Main, Shared, Own7, Itcm, Dtcm, Palette, Vram, Oam}
+use Rattle.ds_base.specs.declared.memories.Width.{Width}
 use Rattle.ds_base.specs.declared.memories.Width.TheVariants as width
 use Rattle.ds_base.specs.declared.processors.Proc.{Proc}
 use Rattle.ds_base.specs.declared.processors.Proc.TheVariants.{Nine, Seven}
+use Rattle.arm_core.specs.Registers.{is_thumb, words_of}
+use Rattle.ds_map.specs.Views.{nine_memory, seven_memory}
 use Rattle.ds_machine.specs.declared.answers.Seen.{Seen}
-use Rattle.ds_machine.specs.declared.answers.Seen.TheVariants.{Word}
-use Rattle.ds_machine.specs.MainMemory.{main_machine}
+use Rattle.ds_machine.specs.declared.answers.Seen.TheVariants.{Half, Idle, Word}
 use Rattle.ds_machine.specs.States.{MachineState, ProcessorState}
-use Rattle.ds_machine.specs.Words.{r15}
+use Rattle.ds_machine.specs.Steps.{nine_reach, processor_of}
 
 -- What is told of a machine.
 
 -- a memory's bytes
 abbrev pub memory_of : MachineState → Memory → List ℕ
-memory_of s Main = s.main
-memory_of s Shared = s.shared
-memory_of s Own7 = s.seven.own
+memory_of s Main = s.map.main
+memory_of s Shared = s.map.shared
+memory_of s Own7 = s.map.own
 memory_of s Itcm = s.nine.itcm
 memory_of s Dtcm = s.nine.dtcm
-memory_of s Palette = s.palette
-memory_of s Vram = s.vram
-memory_of s Oam = s.oam
+memory_of s Palette = s.map.palette
+memory_of s Vram = s.map.vram.bytes
+memory_of s Oam = s.map.oam
 
--- a processor
-abbrev pub processor_of : MachineState → Proc → ProcessorState
-processor_of s Nine = s.nine.processor
-processor_of s Seven = s.seven.processor
+-- a processor's 37 registers
+abbrev pub registers_of : MachineState → Proc → List ℕ
+registers_of s proc = words_of (processor_of s proc).registers
 
--- the address of the next instruction
-abbrev pub next_address : MachineState → Proc → ℕ
-next_address s proc = slice_index (processor_of s proc).registers r15
+-- what a processor fetches at an address
+abbrev pub fetch_of : MachineState → Proc → ℕ → Width → ℕ
+fetch_of s Nine at width = nine_memory.fetch_value (nine_reach s) at width
+fetch_of s Seven at width = seven_memory.fetch_value s.map at width
 
--- the word that a processor fetches next
-abbrev pub next_word : MachineState → Proc → ℕ
-next_word s proc = (main_machine proc s.wramcnt).fetch_value s.main (next_address s proc) width.Word
+-- what a processor does next: a word or, in Thumb state, a half that it fetches; nothing where it isn't due
+abbrev pub seen_by : ProcessorState → (ℕ → Width → ℕ) → Seen
+seen_by p fetch =
+    if p.halted then Idle
+    else if is_thumb p.registers then Half p.registers.pc (fetch p.registers.pc width.Half % 2 ^ 16)
+    else Word p.registers.pc (fetch p.registers.pc width.Word)
 
--- what a processor does next: so far it always executes the word that it fetches
 abbrev pub seen_of : MachineState → Proc → Seen
-seen_of s proc = Word (next_address s proc) (next_word s proc)
+seen_of s proc = seen_by (processor_of s proc) (fetch_of s proc)

@@ -1,17 +1,13 @@
 use Rattle.std.specs.Prelude.{ℕ, ◌+◌, ◌≡◌, ◌≤◌, ◌^◌, Bool, false, if◌then◌else◌, List, [], ◌∷◌, map, Option, Some, None}
 use Rattle.ds_base.specs.declared.left_out.LeftOut.{LeftOut}
-use Rattle.ds_base.specs.declared.left_out.LeftKind.TheVariants.{NotYet}
-use Rattle.ds_base.specs.declared.processors.Proc.{Proc}
-use Rattle.ds_base.specs.declared.processors.Proc.TheVariants.{Nine, Seven}
 use Rattle.ds_base.specs.declared.ticks.Due.{Due}
 use Rattle.ds_base.specs.declared.ticks.Tick.{Tick}
 use Rattle.ds_runs.specs.Actors.{actors, actor_of}
 use Rattle.ds_runs.specs.Runs.{Machine, Stepped, Makes, Stops, IsLeast}
 use Rattle.ds_runs.specs.declared.actors.Actor as actor
 use Rattle.ds_runs.specs.declared.actors.Actor.TheVariants.{KeyScript, Video, Timer, Divider, SquareRoot, Geometry, Card, Dma, Processor}
-use Rattle.ds_machine.specs.Observed.{processor_of}
 use Rattle.ds_machine.specs.States.{MachineState, ProcessorState}
-use Rattle.ds_machine.specs.Steps.{Outcome, Takes, Needs, outcome}
+use Rattle.ds_machine.specs.Steps.{processor_of, processor_step}
 use Rattle.ds_machine.specs.Videos.{video_due, video_after, makes_whole}
 use Rattle.ds_machine.specs.declared.answers.Done.{Done}
 use Rattle.ds_machine.specs.declared.answers.Done.TheVariants.{Made, Frame, Stopped}
@@ -27,6 +23,10 @@ pub record Shown : Type 0 where
 abbrev pub next_shown : MachineState → Bool → Shown
 next_shown s swapped = record { tick = video_due s.video; swapped = swapped }
 
+-- when a processor is due: never while it is halted
+abbrev pub processor_due : ProcessorState → Option Tick
+processor_due p = if p.halted then None else Some (record { 0 = p.due })
+
 -- when an actor is due
 abbrev pub due_by : actor.Actor → MachineState → Option Tick
 due_by KeyScript s = None
@@ -37,7 +37,7 @@ due_by SquareRoot s = None
 due_by Geometry s = None
 due_by Card s = None
 due_by (Dma proc channel) s = None
-due_by (Processor proc) s = Some (record { 0 = (processor_of s proc).due })
+due_by (Processor proc) s = processor_due (processor_of s proc)
 
 -- when each actor is due, by rank
 unfoldable pub dues_of : MachineState → List (Option Tick)
@@ -50,17 +50,6 @@ after_video s = record s { video = video_after s.video; events = s.events + 1 }
 abbrev pub shown_by_video : MachineState → List Shown
 shown_by_video s = if makes_whole s.video then next_shown s false ∷ [] else []
 
--- a machine with this processor, and with this main memory
-abbrev pub with_processor : Proc → MachineState → ProcessorState → List ℕ → MachineState
-with_processor Nine s processor main = record s { nine = record s.nine { processor = processor }; main = main }
-with_processor Seven s processor main = record s { seven = record s.seven { processor = processor }; main = main }
-
--- a processor's step, by what it comes to: one that needs what isn't built stops, and leaves the machine as it was
-abbrev pub processor_steps : ℕ → Proc → MachineState → Outcome → Stepped MachineState Shown LeftOut
-processor_steps rank proc s (Takes processor main) = Makes (with_processor proc s processor main) []
-processor_steps rank proc s (Needs value) =
-    Stops (record { kind = NotYet; tick = record { 0 = (processor_of s proc).due }; rank = rank; value = value }) s
-
 -- what an actor's step comes to; one that isn't built leaves all as it is
 abbrev pub step_by : ℕ → actor.Actor → MachineState → Stepped MachineState Shown LeftOut
 step_by rank KeyScript s = Makes s []
@@ -71,7 +60,7 @@ step_by rank SquareRoot s = Makes s []
 step_by rank Geometry s = Makes s []
 step_by rank Card s = Makes s []
 step_by rank (Dma proc channel) s = Makes s []
-step_by rank (Processor proc) s = processor_steps rank proc s (outcome proc s.wramcnt s.main (processor_of s proc))
+step_by rank (Processor proc) s = processor_step rank proc s
 
 abbrev pub step_of : ℕ → MachineState → Stepped MachineState Shown LeftOut
 step_of rank s = step_by rank (actor_of rank) s
@@ -101,10 +90,14 @@ IsDue s due = IsLeast (dues_of s) due.tick due.rank
 abbrev pub IsSound : MachineState → Type 0
 IsSound s = Unit {0}
 
+-- a processor took no more steps than there are ticks before its next one, or, where it is halted, up to the one that halted it
+abbrev pub HasCountedSteps : ProcessorState → Type 0
+HasCountedSteps p = p.steps ≤ (if p.halted then p.due + 1 else p.due)
+
 -- no actor took more steps than there are ticks before its next one
 pub record HasCounted (s : MachineState) : Type 0 where
-  pub nine : s.nine.processor.steps ≤ s.nine.processor.due
-  pub seven : s.seven.processor.steps ≤ s.seven.processor.due
+  pub nine : HasCountedSteps s.nine.processor
+  pub seven : HasCountedSteps s.seven.processor
   pub events : s.events ≤ video_due s.video
 
 -- every count of steps is within a limit

@@ -1,54 +1,78 @@
-use Rattle.std.specs.Prelude.{ℕ, ◌+◌, ◌*◌, ◌≡◌, List, slice_index, Option, Some, None}
-use Rattle.ds_base.specs.Accesses.{perform}
+use Rattle.std.specs.Prelude.{ℕ, ◌+◌, ◌*◌, true, []}
 use Rattle.ds_base.specs.Processors.{ticks_per_clock}
-use Rattle.ds_base.specs.declared.memories.Width.TheVariants.{Word}
+use Rattle.ds_base.specs.declared.left_out.LeftOut.{LeftOut}
+use Rattle.ds_base.specs.declared.left_out.Stop.{Stop}
 use Rattle.ds_base.specs.declared.processors.Proc.{Proc}
-use Rattle.ds_machine.specs.MainMemory.{main_place, main_machine, value_in, first_outside}
-use Rattle.ds_machine.specs.States.{ProcessorState}
-use Rattle.ds_machine.specs.Words.{built, accesses_of, registers_after, clocks_of, r15}
-use Rattle.ds_machine.specs.declared.words.Built.{Built}
+use Rattle.ds_base.specs.declared.processors.Proc.TheVariants.{Nine, Seven}
+use Rattle.arm_core.specs.Effects.{Outcome}
+use Rattle.arm_core.specs.declared.outcomes.Stepped as arm
+use Rattle.arm_core.specs.declared.outcomes.Stepped.TheVariants.{Cost, Halted, Left}
+use Rattle.arm9_exec.specs.Arm9.{Outcome9}
+use Rattle.ds_map.specs.Maps.{MapState}
+use Rattle.ds_map.specs.Views.{NineReach}
+use Rattle.ds_runs.specs.Runs.{Stepped, Makes, Stops}
+use Rattle.ds_machine.specs.Needs.{nine_taken, seven_taken}
+use Rattle.ds_machine.specs.States.{MachineState, ProcessorState}
 
--- A processor's step over main memory.
+-- A processor's step in the machine.
 
--- what a step comes to: the processor and main memory after it; or the value that tells what isn't built of what it needs
-pub data Outcome : Type 0 where
-  Takes : (processor : ProcessorState) → (main : List ℕ) → Outcome
-  Needs : (value : ℕ) → Outcome
+abbrev pub processor_of : MachineState → Proc → ProcessorState
+processor_of s Nine = s.nine.processor
+processor_of s Seven = s.seven.processor
 
--- a processor after a step that leaves these registers and costs so many clocks
-abbrev pub processor_after : Proc → ProcessorState → List ℕ → ℕ → ProcessorState
-processor_after proc p registers clocks =
-    record { registers = registers; due = p.due + ticks_per_clock proc * clocks; steps = p.steps + 1 }
+abbrev pub with_processor : Proc → MachineState → ProcessorState → MachineState
+with_processor Nine s p = record s { nine = record s.nine { processor = p } }
+with_processor Seven s p = record s { seven = record s.seven { processor = p } }
 
--- by the first byte of its accesses whose place isn't built: its address
-abbrev pub by_access : Proc → ℕ → List ℕ → ProcessorState → Built → Option ℕ → Outcome
-by_access proc wramcnt main p instruction (Some at) = Needs at
-by_access proc wramcnt main p instruction None =
-    let performed = perform (main_machine proc wramcnt) main (accesses_of p.registers instruction) in
-    Takes (processor_after proc p (registers_after p.registers instruction (slice_index performed.values 0)) (clocks_of proc instruction))
-    performed.state
+-- what ARM9 reaches of the machine
+abbrev pub nine_reach : MachineState → NineReach
+nine_reach s = record { map = s.map; cp15 = s.nine.cp15; itcm = s.nine.itcm; dtcm = s.nine.dtcm }
 
--- by the instruction of the word that was fetched: the word itself, where it isn't built
-abbrev pub by_word : Proc → ℕ → List ℕ → ProcessorState → ℕ → Option Built → Outcome
-by_word proc wramcnt main p word None = Needs word
-by_word proc wramcnt main p word (Some instruction) =
-    by_access proc wramcnt main p instruction (first_outside proc wramcnt (accesses_of p.registers instruction))
+-- the machine with what a step of ARM9's, or of ARM7's, left of registers and memories
+abbrev pub with_nine : MachineState → Outcome9 NineReach → MachineState
+with_nine s o = record s {
+  nine = record {
+    processor = record s.nine.processor { registers = o.registers };
+    cp15 = o.cp;
+    itcm = o.state.itcm;
+    dtcm = o.state.dtcm;
+  };
+  map = o.state.map;
+}
 
--- by the place of the fetch address: the address itself, where it isn't built
-abbrev pub by_fetch : Proc → ℕ → List ℕ → ProcessorState → ℕ → Option ℕ → Outcome
-by_fetch proc wramcnt main p at None = Needs at
-by_fetch proc wramcnt main p at (Some cell) =
-    let word = value_in (Some cell) main Word in
-    by_word proc wramcnt main p word (built word)
+abbrev pub with_seven : MachineState → Outcome MapState → MachineState
+with_seven s o = record s { seven = record s.seven { processor = record s.seven.processor { registers = o.registers } }; map = o.state }
 
--- what the step of a processor comes to, by what WRAMCNT keeps and by main memory
-abbrev pub outcome : Proc → ℕ → List ℕ → ProcessorState → Outcome
-outcome proc wramcnt main p =
-    let at = slice_index p.registers r15 in
-    by_fetch proc wramcnt main p at (main_place proc wramcnt at)
+-- a processor after a step that costs so many of its clocks, or that halts it, whose cost isn't added
+abbrev pub went_on : Proc → ℕ → ProcessorState → ProcessorState
+went_on proc clocks p = record p { due = p.due + ticks_per_clock proc * clocks; steps = p.steps + 1 }
 
--- a step was taken, or it needs what isn't built and left the processor and main memory as they were
-abbrev pub ProcessorSteps : Proc → ℕ → List ℕ → ProcessorState → Option ℕ → ProcessorState → List ℕ → Type 0
-ProcessorSteps proc wramcnt main old None new main_new = outcome proc wramcnt main old ≡ Takes new main_new
-ProcessorSteps proc wramcnt main old (Some value) new main_new =
-    (outcome proc wramcnt main old ≡ Needs value) × (new ≡ old) × (main_new ≡ main)
+abbrev pub halts : ProcessorState → ProcessorState
+halts p = record p { halted = true; steps = p.steps + 1 }
+
+-- what a processor's step needs that is left out
+abbrev pub left_out_by : ℕ → ProcessorState → Stop → LeftOut
+left_out_by rank p stop = record { kind = stop.kind; tick = record { 0 = p.due }; rank = rank; value = stop.value }
+
+-- a processor by what its step came to
+abbrev pub gone_by : Proc → arm.Stepped → ProcessorState → ProcessorState
+gone_by proc (Cost clocks) p = went_on proc clocks p
+gone_by proc (Halted clocks) p = halts p
+gone_by proc (Left stop) p = p
+
+-- the machine's step, by what the processor came to, on the machine that it left
+abbrev pub concluded : {O : Type 0} → ℕ → Proc → MachineState → arm.Stepped → Stepped MachineState O LeftOut
+concluded rank proc s (Cost clocks) = Makes (with_processor proc s (gone_by proc (Cost clocks) (processor_of s proc))) []
+concluded rank proc s (Halted clocks) = Makes (with_processor proc s (gone_by proc (Halted clocks) (processor_of s proc))) []
+concluded rank proc s (Left stop) = Stops (left_out_by rank (processor_of s proc) stop) s
+
+-- what its step comes to
+abbrev pub nine_outcome : MachineState → Outcome9 NineReach
+nine_outcome s = nine_taken s.nine.processor.registers (nine_reach s)
+
+abbrev pub seven_outcome : MachineState → Outcome MapState
+seven_outcome s = seven_taken s.nine.cp15 s.seven.processor.registers s.map
+
+abbrev pub processor_step : {O : Type 0} → ℕ → Proc → MachineState → Stepped MachineState O LeftOut
+processor_step rank Nine s = let o = nine_outcome s in concluded rank Nine (with_nine s o) o.stepped
+processor_step rank Seven s = let o = seven_outcome s in concluded rank Seven (with_seven s o) o.stepped

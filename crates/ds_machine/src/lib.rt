@@ -5,14 +5,13 @@
 #![tactic(auto)]
 
 mod answers;
-mod blocks;
 mod boots;
 mod laws;
 mod machines;
+mod needs;
 mod processors;
-mod registers;
+mod steps;
 mod videos;
-mod words;
 
 pub use answers::{Done, Seen};
 pub use laws::reference_laws;

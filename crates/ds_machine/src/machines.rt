@@ -1,25 +1,26 @@
 //! The machine.
 
-ghost use Rattle.std.specs.Prelude.{◌≡◌, ◌≤◌, ◌<◌, ◌^◌, slice_index, IfOk};
+ghost use Rattle.std.specs.Prelude.{◌≡◌, ◌≤◌, ◌<◌, ◌^◌, slice_index, IfOk, Some};
 ghost use Rattle.ds_base.specs.Memories.{memory_size};
-ghost use Rattle.ds_base.specs.declared.left_out.LeftKind.TheVariants.{NotYet};
 ghost use Rattle.ds_runs.specs.Runs.{due_at};
 ghost use Rattle.ds_machine.specs.Booted.{booted};
-ghost use Rattle.ds_machine.specs.Observed.{memory_of, processor_of, seen_of};
-ghost use Rattle.ds_machine.specs.Reference.{dues_of, due_by, step_by, stepped_of, IsDue, HasCounted, MayStep, Steps};
+ghost use Rattle.ds_machine.specs.Observed.{fetch_of, memory_of, registers_of, seen_of};
+ghost use Rattle.arm_exec.specs.Costs.{CostsSome};
+ghost use Rattle.ds_machine.specs.Processors.{IsFirstWith, state_of};
+ghost use Rattle.ds_machine.specs.Reference.{dues_of, due_by, processor_due, step_by, stepped_of, IsDue, HasCounted, MayStep, Steps};
+ghost use Rattle.ds_machine.specs.Steps.{concluded, nine_outcome, processor_of, seven_outcome, with_nine, with_seven};
 ghost use Rattle.ds_machine.specs.Videos.{video_due};
 
 use crate::answers::{Done, Seen};
-use crate::blocks::Block;
-use crate::boots::{Copied, WRAMCNT_AT_BOOT, memories_at_boot, processor_at_boot};
+use crate::boots::map_at_boot;
 use crate::processors::Processor;
-use crate::registers::Registers;
+use crate::steps::{take_nine, take_seven};
 use crate::videos::Video;
-use ds_base::{
-    DTCM_BYTES, Due, ITCM_BYTES, LeftKind, LeftOut, MAIN_BYTES, Memory, OAM_BYTES, OWN7_BYTES,
-    PALETTE_BYTES, Proc, SHARED_BYTES, Tick, VRAM_BYTES,
-};
+use arm_core::Stepped;
+use cp15_tcm::{Cp15, Tcm};
+use ds_base::{DTCM_BYTES, Due, ITCM_BYTES, LeftOut, Memory, Proc, Tick, Width};
 use ds_header::Cart;
+use ds_map::{Block, Map};
 use ds_runs::{Actor, first_of};
 use std::alloc::{AllocError, Global};
 use std::marker::Model;
@@ -30,21 +31,6 @@ const VIDEO: u8 = 1;
 const NINE: u8 = 22;
 /// The rank of ARM7's steps.
 const SEVEN: u8 = 23;
-
-/// CP15's kept numbers.
-#[derive(Clone, Copy)]
-pub(crate) struct Cp15 {
-    pub(crate) control: u32,
-    pub(crate) dtcm: u32,
-    pub(crate) itcm: u32,
-}
-
-/// CP15 at boot. (Our choice: ITCM is on at 0 with 32 MiB of mirrors, DTCM at 3000000h with 16 KiB.)
-const CP15_AT_BOOT: Cp15 = Cp15 {
-    control: 0x0005_2078,
-    dtcm: 0x0300_000A,
-    itcm: 0x0000_0020,
-};
 
 /// ARM9's own part.
 #[derive(Drop)]
@@ -59,7 +45,6 @@ pub(crate) struct Nine {
 #[derive(Drop)]
 pub(crate) struct Seven {
     pub(crate) processor: Processor,
-    pub(crate) own: Block<OWN7_BYTES>,
 }
 
 /// The whole console but for its outside: memories, processors, units.
@@ -67,43 +52,38 @@ pub(crate) struct Seven {
 pub struct Machine {
     pub(crate) nine: Nine,
     pub(crate) seven: Seven,
-    pub(crate) main: Block<MAIN_BYTES>,
-    pub(crate) shared: Block<SHARED_BYTES>,
-    pub(crate) wramcnt: u8,
-    pub(crate) palette: Block<PALETTE_BYTES>,
-    pub(crate) vram: Block<VRAM_BYTES>,
-    pub(crate) oam: Block<OAM_BYTES>,
+    pub(crate) map: Map,
     pub(crate) video: Video,
     pub(crate) events: u64,
 }
 
 impl Model for Machine {
+    ghost use Rattle.ds_base.specs.declared.processors.Arch.TheVariants.{V4, V5};
+    ghost use Rattle.ds_machine.specs.Processors.{state_of};
+    ghost use Rattle.ds_machine.specs.Reference.{HasCountedSteps};
     ghost use Rattle.ds_machine.specs.States.{MachineState};
     ghost use Rattle.ds_machine.specs.Videos.{video_due};
-    ghost use Rattle.std.specs.Prelude.{◌≤◌, ◌<◌};
+    ghost use Rattle.std.specs.Prelude.{◌≡◌, ◌≤◌};
 
     ghost Value = { MachineState };
 
     ghost view = { λ m. record {
       nine = record {
-        processor = m.nine.processor;
-        cp15 = record { control = m.nine.cp15.control; dtcm = m.nine.cp15.dtcm; itcm = m.nine.cp15.itcm };
+        processor = state_of m.nine.processor;
+        cp15 = m.nine.cp15;
         itcm = m.nine.itcm;
         dtcm = m.nine.dtcm;
       };
-      seven = record { processor = m.seven.processor; own = m.seven.own };
-      main = m.main;
-      shared = m.shared;
-      wramcnt = m.wramcnt;
-      palette = m.palette;
-      vram = m.vram;
-      oam = m.oam;
+      seven = record { processor = state_of m.seven.processor };
+      map = m.map;
       video = m.video;
       events = m.events;
     } };
 
-    // each event has a tick of its own, and WRAMCNT has two bits
-    ghost invariant = { λ m. (m.events ≤ video_due m.video) × (m.wramcnt < 4) };
+    // each event has a tick of its own, as has each step of a processor
+    ghost invariant = { λ m. (m.events ≤ video_due m.video)
+        × HasCountedSteps (state_of m.nine.processor) × HasCountedSteps (state_of m.seven.processor)
+        × (m.nine.processor.core.arch ≡ V5) × (m.seven.processor.core.arch ≡ V4) };
 }
 
 impl Machine {
@@ -112,30 +92,18 @@ impl Machine {
     pub fn new(alloc: Global, cart: &Cart) -> Result<Machine, AllocError>
         ensures { IfOk result (λ machine. machine ≡ booted cart.now) }
     {
-        let Copied {
-            main,
-            shared,
-            own,
-            palette,
-            oam,
-        } = memories_at_boot(alloc, cart)?;
+        let map = map_at_boot(alloc, cart)?;
         Ok(Machine {
             nine: Nine {
-                processor: processor_at_boot(Proc::Nine, cart),
-                cp15: CP15_AT_BOOT,
+                processor: Processor::boot(Proc::Nine, cart),
+                cp15: Cp15::boot(),
                 itcm: Block::new(alloc)?,
                 dtcm: Block::new(alloc)?,
             },
             seven: Seven {
-                processor: processor_at_boot(Proc::Seven, cart),
-                own,
+                processor: Processor::boot(Proc::Seven, cart),
             },
-            main,
-            shared,
-            wramcnt: WRAMCNT_AT_BOOT,
-            palette,
-            vram: Block::new(alloc)?,
-            oam,
+            map,
             video: Video::new(),
             events: 0,
         })
@@ -151,15 +119,8 @@ impl Machine {
             tick: Tick(self.video.due()),
             rank: VIDEO,
         };
-        let nine = Due {
-            tick: Tick(self.nine.processor.due()),
-            rank: NINE,
-        };
-        let seven = Due {
-            tick: Tick(self.seven.processor.due()),
-            rank: SEVEN,
-        };
-        first_of(video, first_of(nine, seven))
+        let nine = first_with(video, self.nine.processor.due(), NINE);
+        first_with(nine, self.seven.processor.due(), SEVEN)
     }
 
     /// When the actor of a rank is due, if it is.
@@ -176,12 +137,13 @@ impl Machine {
     {
         match actor {
             Actor::Video => Some(Tick(self.video.due())),
-            Actor::Processor(proc) => Some(Tick(self.processor(proc).due())),
+            Actor::Processor(proc) => self.processor(proc).due(),
             _ => None,
         }
     }
 
-    /// The step of the actor that is due first. A step that needs what is left out stops, and leaves the machine as it was.
+    /// The step of the actor that is due first. A step that needs what is left out stops; the accesses before the refused one stand, and
+    /// registers and due ticks are as they were.
     #[inline(always)]
     pub fn step(&mut self, rank: u8) -> Done
         requires { MayStep self.old rank }
@@ -208,44 +170,112 @@ impl Machine {
         Done::Made
     }
 
+    /// ARM9's step.
     #[inline(always)]
     fn step_nine(&mut self, rank: u8) -> Done
-        requires { self.old.nine.processor.due ≤ 2 ^ 56 }
+        requires due { processor_due self.old.nine.processor ≡ Some (record { 0 = self.old.nine.processor.due }) }
+        requires early { self.old.nine.processor.due ≤ 2 ^ 56 }
         ensures { step_by rank (Actor.Processor Proc.Nine) self.old ≡ stepped_of self.old result self.new }
     {
-        let wramcnt = self.wramcnt;
-        match self
-            .nine
-            .processor
-            .step(&mut self.main, Proc::Nine, wramcnt)
-        {
-            None => Done::Made,
-            Some(value) => Done::Stopped(not_yet(rank, self.nine.processor.due(), value)),
-        }
+        let stepped = self.take_nine();
+        self.conclude(rank, Proc::Nine, stepped)
     }
 
+    /// ARM7's step.
     #[inline(always)]
     fn step_seven(&mut self, rank: u8) -> Done
-        requires { self.old.seven.processor.due ≤ 2 ^ 56 }
+        requires due { processor_due self.old.seven.processor ≡ Some (record { 0 = self.old.seven.processor.due }) }
+        requires early { self.old.seven.processor.due ≤ 2 ^ 56 }
         ensures { step_by rank (Actor.Processor Proc.Seven) self.old ≡ stepped_of self.old result self.new }
     {
-        let wramcnt = self.wramcnt;
-        match self
-            .seven
-            .processor
-            .step(&mut self.main, Proc::Seven, wramcnt)
-        {
+        let stepped = self.take_seven();
+        self.conclude(rank, Proc::Seven, stepped)
+    }
+
+    /// Takes ARM9's step, but for its cost.
+    #[inline(always)]
+    fn take_nine(&mut self) -> Stepped
+        ensures machine { self.new ≡ with_nine self.old (nine_outcome self.old) }
+        ensures stepped { result ≡ (nine_outcome self.old).stepped }
+    {
+        let nine = &mut self.nine;
+        take_nine(
+            &mut nine.processor.core,
+            &mut nine.cp15,
+            &mut self.map,
+            &mut nine.itcm,
+            &mut nine.dtcm,
+        )
+    }
+
+    /// Takes ARM7's step, but for its cost.
+    #[inline(always)]
+    fn take_seven(&mut self) -> Stepped
+        ensures machine { self.new ≡ with_seven self.old (seven_outcome self.old) }
+        ensures stepped { result ≡ (seven_outcome self.old).stepped }
+    {
+        take_seven(
+            &mut self.seven.processor.core,
+            &self.nine.cp15,
+            &mut self.map,
+        )
+    }
+
+    /// Concludes a processor's step by what it came to.
+    #[inline(always)]
+    fn conclude(&mut self, rank: u8, proc: Proc, stepped: Stepped) -> Done
+        requires due { processor_due (processor_of self.old proc) ≡ Some (record { 0 = (processor_of self.old proc).due }) }
+        requires early { (processor_of self.old proc).due ≤ 2 ^ 56 }
+        requires some { CostsSome stepped }
+        ensures { concluded rank proc self.old stepped ≡ stepped_of self.old result self.new }
+    {
+        let stop = match proc {
+            Proc::Nine => self.nine.processor.go_by(proc, stepped),
+            Proc::Seven => self.seven.processor.go_by(proc, stepped),
+        };
+        match stop {
             None => Done::Made,
-            Some(value) => Done::Stopped(not_yet(rank, self.seven.processor.due(), value)),
+            Some(stop) => Done::Stopped(LeftOut {
+                kind: stop.kind,
+                tick: Tick(self.processor(proc).due),
+                rank,
+                value: stop.value,
+            }),
         }
     }
 
-    /// What a processor does next. So far it always is a word of ARM code, which reads as 0 outside main memory.
+    /// What a processor fetches at an address.
+    fn fetch_of(&self, proc: Proc, at: u32, width: Width) -> u32
+        ensures { result ≡ fetch_of self.now proc at width }
+    {
+        match proc {
+            Proc::Nine => match self.nine.cp15.tcm_place(at, false, true) {
+                Tcm::Itcm(place) => self.nine.itcm.number(place as usize, width),
+                Tcm::Dtcm(place) => self.nine.dtcm.number(place as usize, width),
+                Tcm::Past => self.map.read(proc, at, width),
+            },
+            Proc::Seven => self.map.read(proc, at, width),
+        }
+    }
+
+    /// What a processor does next: a word of ARM code or a half of Thumb code, which reads as 0 in the boot ROM; nothing while it is
+    /// halted.
     pub fn seen(&self, proc: Proc) -> Seen
         ensures { result ≡ seen_of self.now proc }
     {
-        let (at, word) = self.processor(proc).next(&self.main, proc, self.wramcnt);
-        Seen::Word { at, word }
+        let processor = self.processor(proc);
+        if processor.halted {
+            return Seen::Idle;
+        }
+        let at = processor.core.registers.pc();
+        if processor.core.registers.is_thumb() {
+            let half = (self.fetch_of(proc, at, Width::Half) % 0x1_0000) as u16;
+            return Seen::Half { at, half };
+        }
+        Seen::Word {
+            at,
+            word: self.fetch_of(proc, at, Width::Word),
+        }
     }
 
     /// A memory's bytes, from where they lie.
@@ -253,14 +283,14 @@ impl Machine {
         ensures { result.now ≡ memory_of self.now memory }
     {
         match memory {
-            Memory::Main => self.main.bytes(),
-            Memory::Shared => self.shared.bytes(),
-            Memory::Own7 => self.seven.own.bytes(),
             Memory::Itcm => self.nine.itcm.bytes(),
             Memory::Dtcm => self.nine.dtcm.bytes(),
-            Memory::Palette => self.palette.bytes(),
-            Memory::Vram => self.vram.bytes(),
-            Memory::Oam => self.oam.bytes(),
+            Memory::Main
+            | Memory::Shared
+            | Memory::Own7
+            | Memory::Palette
+            | Memory::Vram
+            | Memory::Oam => self.map.bytes(memory),
         }
     }
 
@@ -269,31 +299,30 @@ impl Machine {
         requires { at < memory_size memory }
         ensures { result ≡ slice_index (memory_of self.now memory) at }
     {
-        let at = at as usize;
         match memory {
-            Memory::Main => self.main.byte(at),
-            Memory::Shared => self.shared.byte(at),
-            Memory::Own7 => self.seven.own.byte(at),
-            Memory::Itcm => self.nine.itcm.byte(at),
-            Memory::Dtcm => self.nine.dtcm.byte(at),
-            Memory::Palette => self.palette.byte(at),
-            Memory::Vram => self.vram.byte(at),
-            Memory::Oam => self.oam.byte(at),
+            Memory::Itcm => self.nine.itcm.byte(at as usize),
+            Memory::Dtcm => self.nine.dtcm.byte(at as usize),
+            Memory::Main
+            | Memory::Shared
+            | Memory::Own7
+            | Memory::Palette
+            | Memory::Vram
+            | Memory::Oam => self.map.byte_of(memory, at),
         }
     }
 
     /// A processor's registers, in the order in which they are written out.
-    pub fn registers(&self, proc: Proc) -> Registers
-        ensures { result ≡ (processor_of self.now proc).registers }
+    pub fn registers(&self, proc: Proc) -> [u32; 37]
+        ensures { result ≡ registers_of self.now proc }
     {
-        self.processor(proc).registers()
+        self.processor(proc).core.registers()
     }
 
     /// How many steps a processor took.
     pub fn steps(&self, proc: Proc) -> u64
         ensures { result ≡ (processor_of self.now proc).steps }
     {
-        self.processor(proc).steps()
+        self.processor(proc).steps
     }
 
     /// How many steps the other actors took.
@@ -304,7 +333,7 @@ impl Machine {
     }
 
     fn processor(&self, proc: Proc) -> &Processor
-        ensures { result.now ≡ processor_of self.now proc }
+        ensures { state_of result.now ≡ processor_of self.now proc }
     {
         match proc {
             Proc::Nine => &self.nine.processor,
@@ -313,14 +342,13 @@ impl Machine {
     }
 }
 
-/// A stop for what isn't built yet.
-fn not_yet(rank: u8, due: u64, value: u32) -> LeftOut
-    ensures { result ≡ record { kind = NotYet; tick = record { 0 = due }; rank = rank; value = value } }
+/// The one of two actors that steps first, where the other is due at all.
+#[inline(always)]
+fn first_with(first: Due, other: Option<Tick>, rank: u8) -> Due
+    ensures { IsFirstWith first other rank result }
 {
-    LeftOut {
-        kind: LeftKind::NotYet,
-        tick: Tick(due),
-        rank,
-        value,
+    match other {
+        None => first,
+        Some(tick) => first_of(first, Due { tick, rank }),
     }
 }

@@ -9,7 +9,7 @@ use Rattle.ds_base.specs.declared.memories.Memory.TheVariants.{Main, Shared, Own
 use Rattle.ds_base.specs.declared.processors.Proc.TheVariants.{Nine, Seven}
 use Rattle.ds_runs.specs.Runs.{Ending, At, Stopped}
 use Rattle.ds_machine.specs.States.{MachineState}
-use Rattle.ds_machine.specs.Observed.{memory_of, processor_of}
+use Rattle.ds_machine.specs.Observed.{memory_of, registers_of}
 use Rattle.ds_machine.specs.Reference.{Shown}
 use Rattle.nds_top.specs.declared.commands.Keep.{Keep}
 use Rattle.nds_top.specs.declared.commands.Keep.TheVariants.{Nothing}
@@ -29,7 +29,7 @@ all_memories = Main ∷ Shared ∷ Own7 ∷ Itcm ∷ Dtcm ∷ Palette ∷ Vram �
 
 -- the record of memories: 'M', the eight memories, ARM9's registers, ARM7's registers
 abbrev pub memory_record : MachineState → List (List ℕ)
-memory_record s = codes "M" ∷ map (memory_of s) all_memories ++ (words (processor_of s Nine).registers ∷ words (processor_of s Seven).registers ∷ [])
+memory_record s = codes "M" ∷ map (memory_of s) all_memories ++ (words (registers_of s Nine) ∷ words (registers_of s Seven) ∷ [])
 
 -- the record of the end: 'E', the tick run to, and how many steps ARM9, ARM7 and the other actors took, and in how many turns;
 -- so far each step is a turn

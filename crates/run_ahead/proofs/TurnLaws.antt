@@ -4,7 +4,7 @@ use Rattle.ds_runs.specs.Runs.{over, stops, more}
 use Rattle.ds_runs.proofs.RunExists.{run_exists, fewer_left}
 use Rattle.ds_machine.specs.States.{MachineState}
 use Rattle.ds_machine.specs.Reference.{Shown, next_shown, reference, IsSound}
-use Rattle.ds_machine.proofs.MachineSchedule.{reference_schedules, owes, stop_leaves}
+use Rattle.ds_machine.proofs.MachineSchedule.{reference_schedules, owes, SameCounts, stop_counts}
 use Rattle.run_ahead.specs.Consoles.{ConsoleState}
 use Rattle.run_ahead.specs.Turns.{TakesStep, Turns, RunsOn, GoesOn, HasRuns, turns_of, turns_left, counted_of, turns_in, HasTurned, none, turn, TurnsAddUp}
 use Rattle.run_ahead.specs.declared.turns.Turned as turned
@@ -39,8 +39,14 @@ fewer until old new front step = fewer_left reference 24 IsSound reference_sched
 stayed : (old new : MachineState) → new ≡ old → turns_of new ≡ 0 + turns_of old
 stayed old new e = let g : turns_of new ≡ turns_of old = ap turns_of e in omega (arith, g)
 
+-- a stop leaves the counts as they were
+same_counts : (old new : MachineState) → SameCounts old new → turns_of new ≡ 0 + turns_of old
+same_counts old new same = let nine = same.0 in let seven = same.1 in let events = same.2 in omega (arith, nine, seven, events)
+
 stopped : (until : ℕ) (old new : ConsoleState) (o : Option LeftOut) → old.stopped ≡ o → (left : LeftOut) → Turns until old (answers.Stopped left) new → turns_of new.machine ≡ 0 + turns_of old.machine
-stopped until old new None e left t = let stop = (t.0 e).0 in stayed old.machine new.machine (stop_leaves old.machine new.machine stop.rank left stop.step)
+stopped until old new None e left t =
+    let stop = (t.0 e).0 in
+    same_counts old.machine new.machine (stop_counts old.machine new.machine stop.rank left stop.step)
 stopped until old new (Some l) e left t = stayed old.machine new.machine (ap (λ (x : ConsoleState). x.machine) (t.1 (rw e refl)).1)
 
 pub turn_counts : (until : ℕ) (old : ConsoleState) (answer : turned.Turned) (new : ConsoleState) → Turns until old answer new → turns_of new.machine ≡ counted_of answer + turns_of old.machine

@@ -3,7 +3,7 @@
 ghost use Rattle.std.specs.Prelude.{◌≡◌, ◌≤◌, ◌<◌, ◌+◌, ◌*◌, ◌^◌, None, slice_index, IfOk};
 ghost use Rattle.ds_base.specs.Memories.{memory_size};
 ghost use Rattle.ds_machine.specs.Booted.{booted};
-ghost use Rattle.ds_machine.specs.Observed.{memory_of, processor_of, seen_of};
+ghost use Rattle.ds_machine.specs.Observed.{memory_of, registers_of, seen_of};
 ghost use Rattle.ds_machine.specs.Reference.{IsDue};
 ghost use Rattle.run_ahead.specs.Turns.{Turns, RunsOn, HasRuns, turns_of, turns_left, counted_of};
 
@@ -135,7 +135,7 @@ impl Console {
 
     /// A processor's registers, in the order in which they are written out.
     pub fn registers(&self, proc: Proc) -> [u32; 37]
-        ensures { result ≡ (processor_of self.now.machine proc).registers }
+        ensures { result ≡ registers_of self.now.machine proc }
     {
         self.machine.registers(proc)
     }

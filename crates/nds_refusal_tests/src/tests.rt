@@ -12,11 +12,11 @@ mod words;
 /// The words of a run to tick 9.
 const RUN: [&str; 5] = ["run", "file", "none", "9", "none"];
 
-/// `swi 0`, at which ARM9 stops at once: its vectors stand in the boot ROM.
+/// `swi 0`, at which ARM9 stops at once: the boot ROM has no function 0.
 const STOP: u32 = 0xEF00_0000;
 
 /// The note of that stop.
-const STOPPED: &[u8] = b"left out: NotYet tick 0 actor 22 value 0xef000000\n";
+const STOPPED: &[u8] = b"left out: Swi tick 0 actor 22 value 0x00000000\n";
 
 /// A cartridge of ARM9's one word, with ARM7 branching to itself, and then zeros up to a length.
 fn cart_with(alloc: Global, nine: u32, length: usize) -> Result<Vec<u8>, AllocError> {

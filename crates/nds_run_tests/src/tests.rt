@@ -7,6 +7,7 @@ use std::process::Abort;
 mod boots;
 mod consoles;
 mod instructions;
+mod processors;
 mod records;
 mod stops;
 

@@ -5,8 +5,8 @@ use nds_rows::{BRANCH, Came, Image, bytes_of, call, cart, cart_of_words, set};
 use std::alloc::{AllocError, Global};
 use std::process::Abort;
 
-/// A word that isn't built.
-const NOT_BUILT: u32 = 0xE1A0_0000;
+/// A word that stops its processor: `swi #0xe0000`, a function that the boot ROMs haven't.
+const STOPS: u32 = 0xEF0E_0000;
 
 /// ARM9's registers at boot with the entry 2000004h: r0 to r7; r8 to r12; r8 to r12 of FIQ; r13 and r14 of System, FIQ,
 /// Supervisor, Abort, IRQ, Undefined; r15; CPSR; SPSR of FIQ, Supervisor, Abort, IRQ, Undefined.
@@ -93,7 +93,7 @@ const SEVEN: [u32; 37] = [
 
 /// Runs a cartridge of these words to tick 9, with images that are entered past their first word.
 fn run_entered_later(alloc: Global) -> Result<Came, AllocError> {
-    let mut file = cart_of_words(alloc, &[NOT_BUILT, BRANCH], &[NOT_BUILT, NOT_BUILT, BRANCH])?;
+    let mut file = cart_of_words(alloc, &[STOPS, BRANCH], &[STOPS, STOPS, BRANCH])?;
     set(&mut file, 0x24, 0x0200_0004);
     set(&mut file, 0x34, 0x0210_0008);
     call(alloc, &["run", "file", "none", "9", "none"], file)

@@ -42,14 +42,14 @@ fn a_limit_is_the_greatest_so_far(rt: HostRuntime) -> Result<(), AllocError> {
 
 #[test]
 fn after_a_stop_nothing_changes(rt: HostRuntime) -> Result<(), AllocError> {
-    // mov, then a word that isn't built, at tick 1
-    let words = [0xE3A0_0000, 0xE1A0_0000];
+    // mov, then a function that the boot ROM hasn't, at tick 1
+    let words = [0xE3A0_0000, 0xEF0E_0000];
     let turns = turns_of(&rt, rt.alloc(), &words, &[9, 9, 7, 100, 1])?;
     let left = Turned::Stopped(LeftOut {
-        kind: LeftKind::NotYet,
+        kind: LeftKind::Swi,
         tick: Tick(1),
         rank: 22,
-        value: 0xE1A0_0000,
+        value: 14,
     });
     let answers = [Turned::Ran, Turned::Ran, left, left, left];
     assert!(rt; turns.answers.as_slice() == answers.as_slice());
@@ -61,8 +61,8 @@ fn after_a_stop_nothing_changes(rt: HostRuntime) -> Result<(), AllocError> {
 
 #[test]
 fn what_was_done_before_a_stop_stands(rt: HostRuntime) -> Result<(), AllocError> {
-    // mov r1, #0x2200000; str r1, [r1, #4]; and a word that isn't built. ARM7 steps at tick 0
-    let words = [0xE3A0_1622, 0xE581_1004, 0xE1A0_0000];
+    // mov r1, #0x2200000; str r1, [r1, #4]; and a function that the boot ROM hasn't. ARM7 steps at tick 0
+    let words = [0xE3A0_1622, 0xE581_1004, 0xEF0E_0000];
     let turns = turns_of(&rt, rt.alloc(), &words, &[9, 9, 9, 9])?;
     assert_eq!(rt; turns.told.counts.turns, 3);
     assert_eq!(rt; turns.told.nine[1], 0x0220_0000);

@@ -5,7 +5,10 @@ use nds_rows::{BRANCH, Told, run_words};
 use std::alloc::{AllocError, Global};
 use std::process::Abort;
 
-/// A stop: both processors' words; the tick, the actor's rank and the value; the note; the counts of steps of ARM9, of ARM7 and of
+/// `swi #0xe0000`: the boot ROMs have no function 0Eh.
+const NO_FUNCTION: u32 = 0xEF0E_0000;
+
+/// A stop: both processors' words; the tick, the actor's rank, the kind's number and the value; the note; the counts of steps of ARM9, of ARM7 and of
 /// all others, and of turns; and where ARM9 and ARM7 stand.
 #[derive(Clone, Copy)]
 struct Row<'a> {
@@ -13,19 +16,20 @@ struct Row<'a> {
     seven: &'a [u32],
     tick: u64,
     rank: u8,
+    kind: u8,
     value: u32,
     note: &'a [u8],
     counts: [u64; 4],
     places: [u32; 2],
 }
 
-/// The record of a stop of kind 1, NotYet.
+/// The record of a stop.
 fn stop_record(alloc: Global, row: &Row<'_>) -> Result<Vec<u8>, AllocError> {
     let mut record = Vec::new(alloc);
     record.push(b'X')?;
     record.extend_from_slice(&row.tick.to_le_bytes())?;
     record.push(row.rank)?;
-    record.push(1)?;
+    record.push(row.kind)?;
     record.extend_from_slice(&row.value.to_le_bytes())?;
     Ok(record)
 }
@@ -57,26 +61,28 @@ fn stops(rt: &impl Abort, alloc: Global, row: &Row<'_>) -> Result<(), AllocError
 fn a_stop_tells_its_step_and_takes_it_not(rt: HostRuntime) -> Result<(), AllocError> {
     let alloc = rt.alloc();
     let mut moves = vec![in alloc; 0xE3A0_0000u32; 300]?;
-    moves.push(0xE1A0_0000)?;
+    moves.push(NO_FUNCTION)?;
     let rows = [
         Row {
-            nine: &[0xE1A0_0000],
+            nine: &[NO_FUNCTION],
             seven: &[BRANCH],
             tick: 0,
             rank: 22,
-            value: 0xE1A0_0000,
-            note: b"left out: NotYet tick 0 actor 22 value 0xe1a00000\n",
+            kind: 2,
+            value: 14,
+            note: b"left out: Swi tick 0 actor 22 value 0x0000000e\n",
             counts: [0, 0, 0, 0],
             places: [0x0200_0000, 0x0210_0000],
         },
         // ARM7 after one `mov`, of one of its clocks
         Row {
             nine: &[BRANCH],
-            seven: &[0xE3A0_1001, 0xE1A0_0000],
+            seven: &[0xE3A0_1001, NO_FUNCTION],
             tick: 2,
             rank: 23,
-            value: 0xE1A0_0000,
-            note: b"left out: NotYet tick 2 actor 23 value 0xe1a00000\n",
+            kind: 2,
+            value: 14,
+            note: b"left out: Swi tick 2 actor 23 value 0x0000000e\n",
             counts: [1, 1, 0, 2],
             places: [0x0200_0000, 0x0210_0004],
         },
@@ -86,32 +92,82 @@ fn a_stop_tells_its_step_and_takes_it_not(rt: HostRuntime) -> Result<(), AllocEr
             seven: &[BRANCH],
             tick: 300,
             rank: 22,
-            value: 0xE1A0_0000,
-            note: b"left out: NotYet tick 300 actor 22 value 0xe1a00000\n",
+            kind: 2,
+            value: 14,
+            note: b"left out: Swi tick 300 actor 22 value 0x0000000e\n",
             counts: [300, 50, 0, 350],
             places: [0x0200_04B0, 0x0210_0000],
         },
-        // a branch to 1FFFFFCh, whose fetch isn't built
+        // ARM7 jumps to 0, in its boot ROM, whose fetch isn't built: mov r15, #0, of three of its clocks
         Row {
-            nine: &[0xEAFF_FFFD],
-            seven: &[BRANCH],
-            tick: 3,
-            rank: 22,
-            value: 0x01FF_FFFC,
-            note: b"left out: NotYet tick 3 actor 22 value 0x01fffffc\n",
-            counts: [1, 1, 0, 2],
-            places: [0x01FF_FFFC, 0x0210_0000],
+            nine: &[BRANCH],
+            seven: &[0xE3A0_F000],
+            tick: 6,
+            rank: 23,
+            kind: 1,
+            value: 0,
+            note: b"left out: NotYet tick 6 actor 23 value 0x00000000\n",
+            counts: [3, 1, 0, 4],
+            places: [0x0200_0000, 0x0000_0000],
         },
         // both stop at tick 0: ARM9 is first
         Row {
-            nine: &[0xE3A0_F000],
-            seven: &[0xE1A0_0000],
+            nine: &[NO_FUNCTION],
+            seven: &[0xEF0F_0000],
             tick: 0,
             rank: 22,
-            value: 0xE3A0_F000,
-            note: b"left out: NotYet tick 0 actor 22 value 0xe3a0f000\n",
+            kind: 2,
+            value: 14,
+            note: b"left out: Swi tick 0 actor 22 value 0x0000000e\n",
             counts: [0, 0, 0, 0],
             places: [0x0200_0000, 0x0210_0000],
+        },
+        // ARM7 alone, while ARM9 branches to itself
+        Row {
+            nine: &[BRANCH],
+            seven: &[NO_FUNCTION],
+            tick: 0,
+            rank: 23,
+            kind: 2,
+            value: 14,
+            note: b"left out: Swi tick 0 actor 23 value 0x0000000e\n",
+            counts: [1, 0, 0, 1],
+            places: [0x0200_0000, 0x0210_0000],
+        },
+        // `swi #0x60000` enters its vector, of three clocks, whose fetch from the boot ROM isn't built
+        Row {
+            nine: &[0xEF06_0000],
+            seven: &[BRANCH],
+            tick: 3,
+            rank: 22,
+            kind: 1,
+            value: 0xFFFF_0008,
+            note: b"left out: NotYet tick 3 actor 22 value 0xffff0008\n",
+            counts: [1, 1, 0, 2],
+            places: [0xFFFF_0008, 0x0210_0000],
+        },
+        Row {
+            nine: &[BRANCH],
+            seven: &[0xEF06_0000],
+            tick: 6,
+            rank: 23,
+            kind: 1,
+            value: 8,
+            note: b"left out: NotYet tick 6 actor 23 value 0x00000008\n",
+            counts: [3, 1, 0, 4],
+            places: [0x0200_0000, 0x0000_0008],
+        },
+        // mcr p15, 0, r0, c1, c0, 0 of 80h: big-endian mode
+        Row {
+            nine: &[0xE3A0_0080, 0xEE01_0F10],
+            seven: &[BRANCH],
+            tick: 1,
+            rank: 22,
+            kind: 3,
+            value: 0x80,
+            note: b"left out: BigEndian tick 1 actor 22 value 0x00000080\n",
+            counts: [1, 1, 0, 2],
+            places: [0x0200_0004, 0x0210_0000],
         },
     ];
     for row in &rows {
@@ -138,27 +194,25 @@ fn stops_with(
 }
 
 #[test]
-fn words_and_accesses_that_are_not_built_stop_the_run(rt: HostRuntime) -> Result<(), AllocError> {
-    // the value is the word, or the address of the first byte that isn't in main memory
-    let rows: [(&[u32], u32); 14] = [
-        // movs, moveq, adds, subs; ldrb, ldr with write-back, ldr by a register, bl
-        (&[0xE3B0_0000], 0xE3B0_0000),
-        (&[0x03A0_0000], 0x03A0_0000),
-        (&[0xE290_0000], 0xE290_0000),
-        (&[0xE250_0000], 0xE250_0000),
-        (&[0xE5D1_0000], 0xE5D1_0000),
-        (&[0xE5B1_0004], 0xE5B1_0004),
-        (&[0xE791_0002], 0xE791_0002),
-        (&[0xEB00_0000], 0xEB00_0000),
-        // mov r1, #0x4000000; ldr r2, [r1, #3] and str r2, [r1]
+fn accesses_that_are_not_built_stop_the_run(rt: HostRuntime) -> Result<(), AllocError> {
+    // the value is the address of the first byte that is a port or in the boot ROM
+    let rows: [(&[u32], u32); 10] = [
+        // mov r1, #0x4000000; ldr r2, [r1, #3]; str r2, [r1]; strb r2, [r1, #1]; strh r2, [r1, #3]
         (&[0xE3A0_1301, 0xE591_2003], 0x0400_0000),
         (&[0xE3A0_1301, 0xE581_2000], 0x0400_0000),
-        // the bytes below and above main memory's 16 MiB
-        (&[0xE3A0_1402, 0xE511_2004], 0x01FF_FFFC),
-        (&[0xE3A0_1403, 0xE591_2000], 0x0300_0000),
-        // addresses modulo 2^32: -4 + 8, and 0 - 4
-        (&[0xE3A0_1000, 0xE241_1004, 0xE591_2008], 0x0000_0004),
+        (&[0xE3A0_1301, 0xE5C1_2001], 0x0400_0001),
+        (&[0xE3A0_1301, 0xE1C1_20B3], 0x0400_0002),
+        // ldmdb r1!, {r2, r3} from 3FFFFFCh up, and swp r2, r3, [r1]
+        (&[0xE3A0_1301, 0xE281_1004, 0xE931_000C], 0x0400_0000),
+        (&[0xE3A0_1301, 0xE101_2093], 0x0400_0000),
+        // mov r1, #0x5000000; ldrb r2, [r1, #-1]
+        (&[0xE3A0_1405, 0xE551_2001], 0x04FF_FFFF),
+        // mov r1, #0; ldr r2, [r1, #-4]: addresses modulo 2^32
         (&[0xE3A0_1000, 0xE511_2004], 0xFFFF_FFFC),
+        // mov r1, #0xFF000000; add r1, r1, #0xFF0000; strb r2, [r1]: the first byte of the boot ROM
+        (&[0xE3A0_14FF, 0xE281_18FF, 0xE5C1_2000], 0xFFFF_0000),
+        // mov r1, #0xFF000000; add r1, r1, #0xFF0000; mov r15, r1: its fetch
+        (&[0xE3A0_14FF, 0xE281_18FF, 0xE1A0_F001, 0], 0xFFFF_0000),
     ];
     for (words, value) in rows {
         stops_with(&rt, rt.alloc(), words, value)?;

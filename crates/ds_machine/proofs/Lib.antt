@@ -1,4 +1,5 @@
 pub mod Costs
 pub mod Fetches
 pub mod MachineSchedule
+pub mod Mains
 pub mod Spans

@@ -7,3 +7,4 @@ pub mod Booted
 pub mod Reference
 pub mod Observed
 pub mod Processors
+pub mod Mains

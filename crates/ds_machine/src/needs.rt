@@ -1,6 +1,6 @@
 //! What a step needs and isn't built yet.
 
-ghost use Rattle.std.specs.Prelude.{◌≡◌, ◌<◌, ℕ, IfSome};
+ghost use Rattle.std.specs.Prelude.{◌≡◌, ◌<◌, ◌≤◌, ◌+◌, ℕ, IfSome, IsTrue};
 ghost use Rattle.ds_base.specs.declared.processors.Arch.TheVariants.{V4, V5};
 ghost use Rattle.arm_core.specs.Footprints.{accessed_bytes, first_without, touched_bytes};
 ghost use Rattle.arm_core.specs.Steps.{fetched};
@@ -15,6 +15,14 @@ use arm_words::Instr;
 use cp15_tcm::Cp15;
 use ds_base::{Arch, DTCM_BYTES, ITCM_BYTES, Proc};
 use ds_map::{Block, Map, NineView, SevenView, byte_is_built, fetch_is_built};
+
+/// Whether so many addresses from one on are main memory's, which is built. (GBATEK, "DS Memory Map".)
+#[inline(always)]
+fn lies_in_main(first: u32, length: u32) -> bool
+    ensures { IsTrue result → (0x2000000 ≤ first) × (first + length ≤ 0x3000000) }
+{
+    first >= 0x0200_0000 && first < 0x0300_0000 && length <= 0x0300_0000 - first
+}
 
 /// The first byte of a span of a processor's data whose place isn't built.
 fn byte_in(proc: Proc, cp: &Cp15, wramcnt: u8, first: u32, length: u32) -> Option<u32>
@@ -32,13 +40,19 @@ fn byte_in(proc: Proc, cp: &Cp15, wramcnt: u8, first: u32, length: u32) -> Optio
 
 /// The first byte of a processor's data whose place isn't built.
 #[inline(always)]
+#[tactic(auto, using(crate::proofs::Mains::main_span_built))]
 fn unbuilt_byte(proc: Proc, cp: &Cp15, wramcnt: u8, touch: Touch) -> Option<u32>
     requires kept { wramcnt < 4 }
     ensures { result ≡ first_without (byte_is_built proc cp.now wramcnt) (touched_bytes touch) }
 {
     match touch {
         Touch::Nothing => None,
-        Touch::Span { first, length } => byte_in(proc, cp, wramcnt, first, length),
+        Touch::Span { first, length } => {
+            if lies_in_main(first, length) {
+                return None;
+            }
+            byte_in(proc, cp, wramcnt, first, length)
+        }
     }
 }
 
@@ -64,13 +78,14 @@ fn unbuilt_data(
 /// What a processor's step needs and isn't built yet, by its address: its fetch, or the first byte of the data of the instruction that it
 /// fetches.
 #[inline(always)]
+#[tactic(auto, using(crate::proofs::Mains::main_fetch_built))]
 fn unbuilt(proc: Proc, cp: &Cp15, wramcnt: u8, core: &Core, instr: Option<Instr>) -> Option<u32>
     requires kept { wramcnt < 4 }
     requires fields { IfSome instr HasFields }
     ensures { (base : ℕ) → result ≡ unbuilt proc cp.now wramcnt core.now.registers (accesses_by core.now.arch base core.now.registers instr) }
 {
     let at = core.registers.pc();
-    if !fetch_is_built(proc, cp, wramcnt, at) {
+    if !lies_in_main(at, 1) && !fetch_is_built(proc, cp, wramcnt, at) {
         return Some(at);
     }
     unbuilt_data(proc, cp, wramcnt, core, instr)

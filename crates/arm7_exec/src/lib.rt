@@ -4,4 +4,4 @@
 mod steps;
 
 pub use arm_core::Stepped;
-pub use steps::step7;
+pub use steps::{execute7, step7};

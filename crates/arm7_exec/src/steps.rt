@@ -1,11 +1,13 @@
 //! A step of ARM7.
 
-ghost use Rattle.std.specs.Prelude.{◌≡◌};
-ghost use Rattle.arm7_exec.specs.Arm7.{step7_of};
+ghost use Rattle.std.specs.Prelude.{◌≡◌, ◌<◌, IfSome};
+ghost use Rattle.arm_words.specs.Fields.{HasFields};
+ghost use Rattle.arm_core.specs.Steps.{executed_word};
+ghost use Rattle.arm7_exec.specs.Arm7.{arm7, step7_of};
 ghost use Rattle.arm_exec.specs.Lefts.{KeepsWhereLeft};
 
 use arm_core::{Bus, Core, Stepped};
-use arm_exec::step;
+use arm_exec::{Fetched, execute_word, step};
 use ds_base::Arch;
 
 /// A step of ARM7: the entry of the interrupt where its line is up and I is clear, and otherwise the instruction at r15, by its meaning on
@@ -20,4 +22,25 @@ pub fn step7<B: Bus>(core: &mut Core, bus: &mut B, line: bool) -> Stepped
     ensures left { KeepsWhereLeft core.old.registers result core.new.registers }
 {
     step(Arch::V4, 0, true, &mut core.registers, bus, line)
+}
+
+/// What is left of a step of ARM7 that enters no interrupt, once its word or half is fetched.
+#[inline]
+pub fn execute7<B: Bus>(core: &mut Core, bus: &mut B, next: Fetched) -> Stepped
+    requires low { next.number < 16 }
+    requires fields { IfSome next.instr HasFields }
+    ensures core { core.new ≡ record core.old { registers = (executed_word B.memory arm7 core.old.registers (B.state bus.old) next.number next.instr).registers } }
+    ensures state { B.state bus.new ≡ (executed_word B.memory arm7 core.old.registers (B.state bus.old) next.number next.instr).state }
+    ensures stepped { result ≡ (executed_word B.memory arm7 core.old.registers (B.state bus.old) next.number next.instr).stepped }
+    ensures same { B.identity bus.new ≡ B.identity bus.old }
+{
+    execute_word(
+        Arch::V4,
+        0,
+        true,
+        &mut core.registers,
+        bus,
+        next.number,
+        next.instr,
+    )
 }

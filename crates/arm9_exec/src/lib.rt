@@ -5,4 +5,4 @@ mod coprocessors;
 mod steps;
 
 pub use arm_core::Stepped;
-pub use steps::step9;
+pub use steps::{execute9, step9};

@@ -1,12 +1,14 @@
 //! A step of ARM9.
 
-ghost use Rattle.std.specs.Prelude.{◌≡◌};
-ghost use Rattle.arm9_exec.specs.Arm9.{arm9, step9_of, step_waits};
+ghost use Rattle.std.specs.Prelude.{◌≡◌, ◌<◌, IfSome};
+ghost use Rattle.arm_words.specs.Fields.{HasFields};
+ghost use Rattle.arm9_exec.specs.Coprocessors.{move_of};
+ghost use Rattle.arm9_exec.specs.Arm9.{arm9, executed_or_moved, step9_of, step_waits};
 ghost use Rattle.arm9_exec.specs.Lefts.{KeepsBothWhereLeft, is_halted};
 
 use crate::coprocessors::{move_if, move_of};
 use arm_core::{Bus, Core, Registers, Stepped};
-use arm_exec::{enters, execute_word, fetch, interrupt};
+use arm_exec::{Fetched, enters, execute_word, fetch, interrupt};
 use cp15_tcm::{Cp15, Tcm};
 use ds_base::Arch;
 
@@ -16,6 +18,45 @@ fn in_rom(cp: &Cp15) -> bool
     ensures { result ≡ (arm9 cp.now).in_rom }
 {
     cp.vectors() == 0xFFFF_0000 && !matches!(cp.tcm_place(0xFFFF_0008, false, true), Tcm::Itcm(_))
+}
+
+/// What is left of a step behind its fetch: a move to or from CP15, or another instruction.
+#[inline]
+fn execute<B: Bus>(s: &mut Registers, cp: &mut Cp15, bus: &mut B, fetched: Fetched) -> Stepped
+    requires low { fetched.number < 16 }
+    requires fields { IfSome fetched.instr HasFields }
+    ensures registers { s.new ≡ (executed_or_moved B.memory s.old cp.old (record { number = fetched.number; instr = fetched.instr; state = B.state bus.old }) (move_of fetched.instr)).registers }
+    ensures cp { cp.new ≡ (executed_or_moved B.memory s.old cp.old (record { number = fetched.number; instr = fetched.instr; state = B.state bus.old }) (move_of fetched.instr)).cp }
+    ensures state { B.state bus.new ≡ (executed_or_moved B.memory s.old cp.old (record { number = fetched.number; instr = fetched.instr; state = B.state bus.old }) (move_of fetched.instr)).state }
+    ensures stepped { result ≡ (executed_or_moved B.memory s.old cp.old (record { number = fetched.number; instr = fetched.instr; state = B.state bus.old }) (move_of fetched.instr)).stepped }
+    ensures same { B.identity bus.new ≡ B.identity bus.old }
+{
+    match move_of(fetched.instr) {
+        Some(m) => move_if(s, cp, m),
+        None => execute_word(
+            Arch::V5,
+            cp.vectors(),
+            in_rom(cp),
+            s,
+            bus,
+            fetched.number,
+            fetched.instr,
+        ),
+    }
+}
+
+/// What is left of a step of ARM9 that enters no interrupt, once its word or half is fetched.
+#[inline]
+pub fn execute9<B: Bus>(core: &mut Core, cp: &mut Cp15, bus: &mut B, fetched: Fetched) -> Stepped
+    requires low { fetched.number < 16 }
+    requires fields { IfSome fetched.instr HasFields }
+    ensures core { core.new ≡ record core.old { registers = (executed_or_moved B.memory core.old.registers cp.old (record { number = fetched.number; instr = fetched.instr; state = B.state bus.old }) (move_of fetched.instr)).registers } }
+    ensures cp { cp.new ≡ (executed_or_moved B.memory core.old.registers cp.old (record { number = fetched.number; instr = fetched.instr; state = B.state bus.old }) (move_of fetched.instr)).cp }
+    ensures state { B.state bus.new ≡ (executed_or_moved B.memory core.old.registers cp.old (record { number = fetched.number; instr = fetched.instr; state = B.state bus.old }) (move_of fetched.instr)).state }
+    ensures stepped { result ≡ (executed_or_moved B.memory core.old.registers cp.old (record { number = fetched.number; instr = fetched.instr; state = B.state bus.old }) (move_of fetched.instr)).stepped }
+    ensures same { B.identity bus.new ≡ B.identity bus.old }
+{
+    execute(&mut core.registers, cp, bus, fetched)
 }
 
 /// A step: the interrupt's entry, a move to or from CP15, or another instruction.
@@ -31,18 +72,7 @@ fn step<B: Bus>(s: &mut Registers, cp: &mut Cp15, bus: &mut B, line: bool) -> St
         return Stepped::Cost(interrupt(Arch::V5, s, cp.vectors()));
     }
     let fetched = fetch(Arch::V5, s, bus);
-    match move_of(fetched.instr) {
-        Some(m) => move_if(s, cp, m),
-        None => execute_word(
-            Arch::V5,
-            cp.vectors(),
-            in_rom(cp),
-            s,
-            bus,
-            fetched.number,
-            fetched.instr,
-        ),
-    }
+    execute(s, cp, bus, fetched)
 }
 
 /// A step of ARM9: the entry of the interrupt where its line is up and I is clear, and otherwise the instruction at r15, by its meaning on

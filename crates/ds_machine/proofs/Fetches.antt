@@ -1,12 +1,40 @@
-use Rattle.std.proofs.Common.{◌≡◌, Bool, true, false, if◌then◌else◌, refl}
-use Rattle.ds_base.specs.declared.processors.Arch.TheVariants.{V5}
+use Rattle.std.proofs.Common.{ℕ, ◌≡◌, Bool, true, false, if◌then◌else◌, refl, ap, Option}
+use Rattle.ds_base.specs.declared.processors.Arch.TheVariants.{V4, V5}
+use Rattle.arm_words.specs.declared.instructions.Instr.{Instr}
 use Rattle.arm_core.specs.Registers.{RegisterState, is_thumb}
-use Rattle.arm_core.specs.Steps.{fetched, fetched_half, fetched_word}
-use Rattle.ds_map.specs.Views.{NineReach, nine_memory}
+use Rattle.arm_core.specs.Steps.{executed_word, fetched, fetched_half, fetched_word}
+use Rattle.arm7_exec.specs.Arm7.{arm7}
+use Rattle.arm9_exec.specs.Arm9.{executed_or_moved}
+use Rattle.arm9_exec.specs.Coprocessors.{move_of}
+use Rattle.ds_map.specs.Maps.{MapState}
+use Rattle.ds_map.specs.Views.{NineReach, nine_memory, seven_memory}
+use Rattle.ds_machine.specs.Needs.{nine_step, seven_step}
 
--- a fetch of ARM9 leaves what it reaches as it was
+-- A fetch leaves what a processor reaches as it was, and a step is what is fetched, executed.
+
 pub nine_fetch_stays : (s : RegisterState) (reach : NineReach) → (fetched nine_memory V5 s reach).state ≡ reach
 nine_fetch_stays s reach = by_state (is_thumb s) where
   by_state : (thumb : Bool) → (if thumb then fetched_half nine_memory V5 s reach else fetched_word nine_memory V5 s reach).state ≡ reach
   by_state true = refl
   by_state false = refl
+
+seven_fetch_stays : (s : RegisterState) (map : MapState) → (fetched seven_memory V4 s map).state ≡ map
+seven_fetch_stays s map = by_state (is_thumb s) where
+  by_state : (thumb : Bool) → (if thumb then fetched_half seven_memory V4 s map else fetched_word seven_memory V4 s map).state ≡ map
+  by_state true = refl
+  by_state false = refl
+
+pub seven_step_by : (s : RegisterState) (map : MapState) (number : ℕ) (instr : Option Instr) → number ≡ (fetched seven_memory V4 s map).number
+    → instr ≡ (fetched seven_memory V4 s map).instr → seven_step s map ≡ executed_word seven_memory arm7 s map number instr
+unfolding seven_step
+seven_step_by s map number instr n i =
+    let f = fetched seven_memory V4 s map in
+    rw (n, i) (ap (λ (m : MapState). executed_word seven_memory arm7 s m f.number f.instr) (seven_fetch_stays s map))
+
+pub nine_step_by : (s : RegisterState) (reach : NineReach) (number : ℕ) (instr : Option Instr) → number ≡ (fetched nine_memory V5 s reach).number
+    → instr ≡ (fetched nine_memory V5 s reach).instr
+    → nine_step s reach ≡ executed_or_moved nine_memory s reach.cp15 (record { number = number; instr = instr; state = reach }) (move_of instr)
+unfolding nine_step
+nine_step_by s reach number instr n i =
+    let f = fetched nine_memory V5 s reach in
+    rw (n, i) (ap (λ (r : NineReach). executed_or_moved nine_memory s reach.cp15 (record { number = f.number; instr = f.instr; state = r }) (move_of f.instr)) (nine_fetch_stays s reach))

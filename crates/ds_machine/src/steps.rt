@@ -1,16 +1,22 @@
 //! A processor's step over what it reaches.
 
-ghost use Rattle.std.specs.Prelude.{◌≡◌};
+ghost use Rattle.std.specs.Prelude.{◌≡◌, ◌<◌, IfSome};
 ghost use Rattle.ds_base.specs.declared.left_out.LeftKind.TheVariants.{NotYet};
 ghost use Rattle.ds_base.specs.declared.processors.Arch.TheVariants.{V4, V5};
-ghost use Rattle.ds_machine.specs.Needs.{nine_step, nine_taken, seven_step, seven_taken};
+ghost use Rattle.arm_core.specs.Steps.{fetched};
+ghost use Rattle.arm_words.specs.Fields.{HasFields};
+ghost use Rattle.arm9_exec.specs.Arm9.{executed_or_moved};
+ghost use Rattle.arm9_exec.specs.Coprocessors.{move_of};
+ghost use Rattle.ds_map.specs.Views.{nine_memory, seven_memory};
+ghost use Rattle.ds_machine.specs.Needs.{nine_needs, nine_step, nine_taken, seven_needs, seven_step, seven_taken};
 
-use crate::needs::{nine_needs, seven_needs};
+use crate::needs::unbuilt;
 use arm_core::{Core, Stepped};
-use arm7_exec::step7;
-use arm9_exec::step9;
+use arm_exec::{Fetched, fetch};
+use arm7_exec::execute7;
+use arm9_exec::execute9;
 use cp15_tcm::Cp15;
-use ds_base::{DTCM_BYTES, ITCM_BYTES, LeftKind, Stop};
+use ds_base::{Arch, DTCM_BYTES, ITCM_BYTES, LeftKind, Proc, Stop};
 use ds_map::{Block, Map, NineView, SevenView};
 
 /// What isn't built yet, by its address.
@@ -23,16 +29,45 @@ fn not_yet(value: u32) -> Stop
     }
 }
 
-/// ARM7's step over its view.
+/// What ARM7 fetches next.
 #[inline(always)]
-#[tactic(auto, unfolding(crate::specs::Needs::seven_step))]
-fn seven_step(core: &mut Core, map: &mut Map) -> Stepped
+fn fetch_seven(core: &Core, map: &mut Map) -> Fetched
+    ensures number { result.number ≡ (fetched seven_memory V4 core.now.registers map.old).number }
+    ensures instr { result.instr ≡ (fetched seven_memory V4 core.now.registers map.old).instr }
+    ensures low { result.number < 16 }
+    ensures fields { IfSome result.instr HasFields }
+    ensures map { map.new ≡ map.old }
+{
+    let mut view = SevenView { map };
+    fetch(Arch::V4, &core.registers, &mut view)
+}
+
+/// What ARM7's step needs and isn't built yet, by what it fetches.
+#[inline(always)]
+#[tactic(auto, unfolding(crate::specs::Needs::seven_needs))]
+fn seven_needs(core: &Core, cp: &Cp15, map: &Map, next: &Fetched) -> Option<u32>
+    requires arch { core.now.arch ≡ V4 }
+    requires instr { next.now.instr ≡ (fetched seven_memory V4 core.now.registers map.now).instr }
+    requires fields { IfSome next.now.instr HasFields }
+    ensures { result ≡ seven_needs cp.now core.now.registers map.now }
+{
+    unbuilt(Proc::Seven, cp, map.wramcnt(), core, next.instr)
+}
+
+/// ARM7's step over its view, by what it fetches.
+#[inline(always)]
+#[tactic(auto, using(crate::proofs::Fetches::seven_step_by))]
+fn seven_step(core: &mut Core, map: &mut Map, next: Fetched) -> Stepped
+    requires number { next.number ≡ (fetched seven_memory V4 core.old.registers map.old).number }
+    requires instr { next.instr ≡ (fetched seven_memory V4 core.old.registers map.old).instr }
+    requires low { next.number < 16 }
+    requires fields { IfSome next.instr HasFields }
     ensures core { core.new ≡ record core.old { registers = (seven_step core.old.registers map.old).registers } }
     ensures map { map.new ≡ (seven_step core.old.registers map.old).state }
     ensures stepped { result ≡ (seven_step core.old.registers map.old).stepped }
 {
     let mut view = SevenView { map };
-    step7(core, &mut view, false)
+    execute7(core, &mut view, next)
 }
 
 /// ARM7's step. Where it needs what isn't built it isn't taken.
@@ -43,28 +78,29 @@ pub fn take_seven(core: &mut Core, cp: &Cp15, map: &mut Map) -> Stepped
     ensures map { map.new ≡ (seven_taken cp.now core.old.registers map.old).state }
     ensures stepped { result ≡ (seven_taken cp.now core.old.registers map.old).stepped }
 {
-    match seven_needs(core, cp, map) {
-        None => seven_step(core, map),
+    let next = fetch_seven(core, map);
+    match seven_needs(core, cp, map, &next) {
+        None => seven_step(core, map, next),
         Some(value) => Stepped::Left(not_yet(value)),
     }
 }
 
-/// ARM9's step over its view.
+/// What ARM9 fetches next.
 #[inline(always)]
-#[tactic(auto, unfolding(crate::specs::Needs::nine_step))]
-fn nine_step(
-    core: &mut Core,
-    cp: &mut Cp15,
+fn fetch_nine(
+    core: &Core,
+    cp: &Cp15,
     map: &mut Map,
     itcm: &mut Block<ITCM_BYTES>,
     dtcm: &mut Block<DTCM_BYTES>,
-) -> Stepped
-    ensures core { core.new ≡ record core.old { registers = (nine_step core.old.registers (record { map = map.old; cp15 = cp.old; itcm = itcm.old; dtcm = dtcm.old })).registers } }
-    ensures cp { cp.new ≡ (nine_step core.old.registers (record { map = map.old; cp15 = cp.old; itcm = itcm.old; dtcm = dtcm.old })).cp }
-    ensures map { map.new ≡ (nine_step core.old.registers (record { map = map.old; cp15 = cp.old; itcm = itcm.old; dtcm = dtcm.old })).state.map }
-    ensures itcm { itcm.new ≡ (nine_step core.old.registers (record { map = map.old; cp15 = cp.old; itcm = itcm.old; dtcm = dtcm.old })).state.itcm }
-    ensures dtcm { dtcm.new ≡ (nine_step core.old.registers (record { map = map.old; cp15 = cp.old; itcm = itcm.old; dtcm = dtcm.old })).state.dtcm }
-    ensures stepped { result ≡ (nine_step core.old.registers (record { map = map.old; cp15 = cp.old; itcm = itcm.old; dtcm = dtcm.old })).stepped }
+) -> Fetched
+    ensures number { result.number ≡ (fetched nine_memory V5 core.now.registers (record { map = map.old; cp15 = cp.now; itcm = itcm.old; dtcm = dtcm.old })).number }
+    ensures instr { result.instr ≡ (fetched nine_memory V5 core.now.registers (record { map = map.old; cp15 = cp.now; itcm = itcm.old; dtcm = dtcm.old })).instr }
+    ensures low { result.number < 16 }
+    ensures fields { IfSome result.instr HasFields }
+    ensures map { map.new ≡ (fetched nine_memory V5 core.now.registers (record { map = map.old; cp15 = cp.now; itcm = itcm.old; dtcm = dtcm.old })).state.map }
+    ensures itcm { itcm.new ≡ (fetched nine_memory V5 core.now.registers (record { map = map.old; cp15 = cp.now; itcm = itcm.old; dtcm = dtcm.old })).state.itcm }
+    ensures dtcm { dtcm.new ≡ (fetched nine_memory V5 core.now.registers (record { map = map.old; cp15 = cp.now; itcm = itcm.old; dtcm = dtcm.old })).state.dtcm }
 {
     let mut view = NineView {
         map,
@@ -72,7 +108,100 @@ fn nine_step(
         dtcm,
         cp: *cp,
     };
-    step9(core, cp, &mut view, false)
+    fetch(Arch::V5, &core.registers, &mut view)
+}
+
+/// What ARM9 fetches next; all memories stay.
+#[inline(always)]
+fn next_of_nine(
+    core: &Core,
+    cp: &Cp15,
+    map: &mut Map,
+    itcm: &mut Block<ITCM_BYTES>,
+    dtcm: &mut Block<DTCM_BYTES>,
+) -> Fetched
+    ensures number { result.number ≡ (fetched nine_memory V5 core.now.registers (record { map = map.old; cp15 = cp.now; itcm = itcm.old; dtcm = dtcm.old })).number }
+    ensures instr { result.instr ≡ (fetched nine_memory V5 core.now.registers (record { map = map.old; cp15 = cp.now; itcm = itcm.old; dtcm = dtcm.old })).instr }
+    ensures low { result.number < 16 }
+    ensures fields { IfSome result.instr HasFields }
+    ensures map { map.new ≡ map.old }
+    ensures itcm { itcm.new ≡ itcm.old }
+    ensures dtcm { dtcm.new ≡ dtcm.old }
+{
+    fetch_nine(core, cp, map, itcm, dtcm)
+}
+
+/// What ARM9's step needs and isn't built yet, by what it fetches.
+#[inline(always)]
+#[tactic(auto, unfolding(crate::specs::Needs::nine_needs))]
+fn nine_needs(
+    core: &Core,
+    cp: &Cp15,
+    map: &Map,
+    itcm: &Block<ITCM_BYTES>,
+    dtcm: &Block<DTCM_BYTES>,
+    next: &Fetched,
+) -> Option<u32>
+    requires arch { core.now.arch ≡ V5 }
+    requires instr { next.now.instr ≡ (fetched nine_memory V5 core.now.registers (record { map = map.now; cp15 = cp.now; itcm = itcm.now; dtcm = dtcm.now })).instr }
+    requires fields { IfSome next.now.instr HasFields }
+    ensures { result ≡ nine_needs core.now.registers (record { map = map.now; cp15 = cp.now; itcm = itcm.now; dtcm = dtcm.now }) }
+{
+    let _ = itcm;
+    let _ = dtcm;
+    unbuilt(Proc::Nine, cp, map.wramcnt(), core, next.instr)
+}
+
+/// What is left of ARM9's step over its view, behind its fetch.
+#[inline(always)]
+fn execute_nine(
+    core: &mut Core,
+    cp: &mut Cp15,
+    map: &mut Map,
+    itcm: &mut Block<ITCM_BYTES>,
+    dtcm: &mut Block<DTCM_BYTES>,
+    next: Fetched,
+) -> Stepped
+    requires low { next.number < 16 }
+    requires fields { IfSome next.instr HasFields }
+    ensures core { core.new ≡ record core.old { registers = (executed_or_moved nine_memory core.old.registers cp.old (record { number = next.number; instr = next.instr; state = (record { map = map.old; cp15 = cp.old; itcm = itcm.old; dtcm = dtcm.old }) }) (move_of next.instr)).registers } }
+    ensures cp { cp.new ≡ (executed_or_moved nine_memory core.old.registers cp.old (record { number = next.number; instr = next.instr; state = (record { map = map.old; cp15 = cp.old; itcm = itcm.old; dtcm = dtcm.old }) }) (move_of next.instr)).cp }
+    ensures map { map.new ≡ (executed_or_moved nine_memory core.old.registers cp.old (record { number = next.number; instr = next.instr; state = (record { map = map.old; cp15 = cp.old; itcm = itcm.old; dtcm = dtcm.old }) }) (move_of next.instr)).state.map }
+    ensures itcm { itcm.new ≡ (executed_or_moved nine_memory core.old.registers cp.old (record { number = next.number; instr = next.instr; state = (record { map = map.old; cp15 = cp.old; itcm = itcm.old; dtcm = dtcm.old }) }) (move_of next.instr)).state.itcm }
+    ensures dtcm { dtcm.new ≡ (executed_or_moved nine_memory core.old.registers cp.old (record { number = next.number; instr = next.instr; state = (record { map = map.old; cp15 = cp.old; itcm = itcm.old; dtcm = dtcm.old }) }) (move_of next.instr)).state.dtcm }
+    ensures stepped { result ≡ (executed_or_moved nine_memory core.old.registers cp.old (record { number = next.number; instr = next.instr; state = (record { map = map.old; cp15 = cp.old; itcm = itcm.old; dtcm = dtcm.old }) }) (move_of next.instr)).stepped }
+{
+    let mut view = NineView {
+        map,
+        itcm,
+        dtcm,
+        cp: *cp,
+    };
+    execute9(core, cp, &mut view, next)
+}
+
+/// ARM9's step over its view, by what it fetches.
+#[inline(always)]
+fn nine_step(
+    core: &mut Core,
+    cp: &mut Cp15,
+    map: &mut Map,
+    itcm: &mut Block<ITCM_BYTES>,
+    dtcm: &mut Block<DTCM_BYTES>,
+    next: Fetched,
+) -> Stepped
+    requires number { next.number ≡ (fetched nine_memory V5 core.old.registers (record { map = map.old; cp15 = cp.old; itcm = itcm.old; dtcm = dtcm.old })).number }
+    requires instr { next.instr ≡ (fetched nine_memory V5 core.old.registers (record { map = map.old; cp15 = cp.old; itcm = itcm.old; dtcm = dtcm.old })).instr }
+    requires low { next.number < 16 }
+    requires fields { IfSome next.instr HasFields }
+    ensures core { core.new ≡ record core.old { registers = (nine_step core.old.registers (record { map = map.old; cp15 = cp.old; itcm = itcm.old; dtcm = dtcm.old })).registers } }
+    ensures cp { cp.new ≡ (nine_step core.old.registers (record { map = map.old; cp15 = cp.old; itcm = itcm.old; dtcm = dtcm.old })).cp }
+    ensures map { map.new ≡ (nine_step core.old.registers (record { map = map.old; cp15 = cp.old; itcm = itcm.old; dtcm = dtcm.old })).state.map }
+    ensures itcm { itcm.new ≡ (nine_step core.old.registers (record { map = map.old; cp15 = cp.old; itcm = itcm.old; dtcm = dtcm.old })).state.itcm }
+    ensures dtcm { dtcm.new ≡ (nine_step core.old.registers (record { map = map.old; cp15 = cp.old; itcm = itcm.old; dtcm = dtcm.old })).state.dtcm }
+    ensures stepped { result ≡ (nine_step core.old.registers (record { map = map.old; cp15 = cp.old; itcm = itcm.old; dtcm = dtcm.old })).stepped }
+{
+    execute_nine(core, cp, map, itcm, dtcm, next)
 }
 
 /// ARM9's step. Where it needs what isn't built it isn't taken.
@@ -92,8 +221,9 @@ pub fn take_nine(
     ensures dtcm { dtcm.new ≡ (nine_taken core.old.registers (record { map = map.old; cp15 = cp.old; itcm = itcm.old; dtcm = dtcm.old })).state.dtcm }
     ensures stepped { result ≡ (nine_taken core.old.registers (record { map = map.old; cp15 = cp.old; itcm = itcm.old; dtcm = dtcm.old })).stepped }
 {
-    match nine_needs(core, cp, map, itcm, dtcm) {
-        None => nine_step(core, cp, map, itcm, dtcm),
+    let next = next_of_nine(core, cp, map, itcm, dtcm);
+    match nine_needs(core, cp, map, itcm, dtcm, &next) {
+        None => nine_step(core, cp, map, itcm, dtcm, next),
         Some(value) => Stepped::Left(not_yet(value)),
     }
 }

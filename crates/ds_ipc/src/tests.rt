@@ -188,3 +188,30 @@ fn a_disabled_side_makes_no_error(rt: HostRuntime) -> Result<(), Fail> {
     );
     Ok(())
 }
+
+/// A FIFO is told to be full at sixteen words and not before, an error stays until bit 14 clears it, and a clear leaves the words that wait
+/// for its own side.
+#[test]
+fn full_error_and_clear_each_tell_their_own(rt: HostRuntime) -> Result<(), Fail> {
+    let mut ipc = Ipc::new(rt.alloc())?;
+    ipc.control_write(Proc::Nine, 0x8000);
+    ipc.control_write(Proc::Seven, 0x8000);
+    for word in 0..15u32 {
+        ipc.send(Proc::Nine, word);
+    }
+    assert_eq!(rt; ipc.control_read(Proc::Nine), 0x8100);
+    assert_eq!(rt; ipc.control_read(Proc::Seven), 0x8001);
+    ipc.send(Proc::Nine, 15);
+    assert_eq!(rt; ipc.control_read(Proc::Nine), 0x8102);
+    assert_eq!(rt; ipc.control_read(Proc::Seven), 0x8201);
+    ipc.send(Proc::Nine, 16);
+    ipc.control_write(Proc::Nine, 0x8000);
+    assert_eq!(rt; ipc.control_read(Proc::Nine), 0xC102);
+    ipc.control_write(Proc::Nine, 0xC000);
+    assert_eq!(rt; ipc.control_read(Proc::Nine), 0x8102);
+    ipc.send(Proc::Seven, 5);
+    ipc.control_write(Proc::Nine, 0x8008);
+    assert_eq!(rt; ipc.control_read(Proc::Nine), 0x8001);
+    assert_eq!(rt; ipc.receive(Proc::Nine).word, 5);
+    Ok(())
+}

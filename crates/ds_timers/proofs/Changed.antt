@@ -1,6 +1,6 @@
 use Rattle.std.proofs.Common.{ℕ, ◌≡◌, ◌≢◌, ◌<◌, ◌≤◌, ◌+◌, ◌-◌, ◌*◌, ◌/◌, ◌^◌, ◌⊎◌, inl, inr, List, slice_set, refl, sym, ◌∙◌, subst, ap, arith, Bool, true, false, Option, Some, None, get_or-set_other}
 use Rattle.std.specs.Prelude.{◌&&◌, ◌==◌, if◌then◌else◌, is_some}
-use Rattle.std.proofs.Math.Nat.{div-lt_iff_lt-mul, le-mul_of_pos_right}
+use Rattle.std.proofs.Math.Nat.{le-mul_of_pos_right, mod-lt}
 use Rattle.std.proofs.lemmas.Nat.{and_assoc}
 use Rattle.ds_base.specs.declared.ticks.Tick.{Tick}
 use Rattle.ds_base.specs.Schedules.{IsEarly, IsLater, Reschedules}
@@ -15,16 +15,13 @@ pace_above control = grind arith
 pub full_later : (now : Tick) (count control : ℕ) → count < 2 ^ 16 → now.0 < now.0 + (65536 - count) * pace control
 full_later now count control h = omega (arith, h, le-mul_of_pos_right (65536 - count) (pace_above control))
 
--- before it is due a counter has 16 bits
-counted_below : (since : Option Tick) (count control : ℕ) (now : Tick) → count < 2 ^ 16 → IsLater now (full since count (pace control)) → counted since count (pace control) now < 2 ^ 16
-counted_below None count control now h before = h
-counted_below (Some since) count control now h before =
-    let room : now.0 - since.0 < (65536 - count) * pace control = omega (arith, before, h, le-mul_of_pos_right (65536 - count) (pace_above control)) in
-    let counts : (now.0 - since.0) / pace control < 65536 - count = (div-lt_iff_lt-mul (pace_above control)).1 room in
-    omega (arith, counts, h)
+-- a counter has 16 bits
+counted_below : (since : Option Tick) (count ticks : ℕ) (now : Tick) → count < 2 ^ 16 → counted since count ticks now < 2 ^ 16
+counted_below None count ticks now h = h
+counted_below (Some since) count ticks now h = mod-lt (count + (now.0 - since.0) / ticks) (omega arith)
 
-pub counter_below : (t : TimerState) (now : Tick) → t.count < 2 ^ 16 → IsLater now (timer_due t) → counter_of t now < 2 ^ 16
-counter_below t now h before = counted_below t.since t.count t.control now h before
+pub counter_below : (t : TimerState) (now : Tick) → t.count < 2 ^ 16 → counter_of t now < 2 ^ 16
+counter_below t now h = counted_below t.since t.count (pace t.control) now h
 
 later_where : (free : Bool) (now : Tick) (count control : ℕ) → count < 2 ^ 16 → IsLater now (full (if free then Some now else None) count (pace control))
 later_where true now count control h = full_later now count control h
@@ -43,16 +40,16 @@ pub kept_twice : (value : ℕ) → kept_control (kept_control value) ≡ kept_co
 kept_twice value = and_assoc 0xC7 value 0xC7
 
 -- after a write of its control it is the timer still
-pub controlled_is : (which : ℕ) (t : TimerState) (control : ℕ) (now : Tick) → IsTimer which t → kept_control control ≡ control → IsLater now (timer_due t) → now.0 ≤ 2 ^ 56 → IsTimer which (controlled which t control now)
-controlled_is which t control now is kept before early =
+pub controlled_is : (which : ℕ) (t : TimerState) (control : ℕ) (now : Tick) → IsTimer which t → kept_control control ≡ control → now.0 ≤ 2 ^ 56 → IsTimer which (controlled which t control now)
+controlled_is which t control now is kept early =
     let free = runs_free which control in
     either (IsTimer which) (is_start t.control control) _ _
     (λ e. record { control = kept; reload = is.reload; count = is.reload; anchored = some_where free now; early = early_where free now early })
     (λ e. either (IsTimer which) free _ _
     (λ f. either (IsTimer which) (runs_free which t.control && (pace control == pace t.control)) _ _
     (λ g. record { control = kept; reload = is.reload; count = is.count; anchored = is.anchored ∙ (both (runs_free which t.control) (pace control == pace t.control) g).0 ∙ sym f; early = is.early })
-    (λ g. record { control = kept; reload = is.reload; count = counter_below t now is.count before; anchored = sym f; early = early }))
-    (λ f. record { control = kept; reload = is.reload; count = counter_below t now is.count before; anchored = sym f; early = tt }))
+    (λ g. record { control = kept; reload = is.reload; count = counter_below t now is.count; anchored = sym f; early = early }))
+    (λ f. record { control = kept; reload = is.reload; count = counter_below t now is.count; anchored = sym f; early = tt }))
 
 -- after a write of its control a timer is due later or not at all
 due_controlled : (which : ℕ) (t : TimerState) (control : ℕ) (now : Tick) → IsTimer which t → IsLater now (timer_due t) → IsLater now (timer_due (controlled which t control now))
@@ -65,7 +62,7 @@ due_controlled which t control now is before =
     (λ f. either P (runs_free which t.control && (pace control == pace t.control)) _ _
     (λ g. (let p : pace control ≡ pace t.control = equal_numbers (pace control) (pace t.control) (both (runs_free which t.control) (pace control == pace t.control) g).1 in
     subst (λ n. IsLater now (full t.since t.count n)) (sym p) before))
-    (λ g. full_later now (counter_of t now) control (counter_below t now is.count before)))
+    (λ g. full_later now (counter_of t now) control (counter_below t now is.count)))
     (λ f. tt))
 
 apart : (a : Bool) (x y : ℕ) → (a && (x == y)) ≡ false → (a ≡ false) ⊎ (x ≢ y)

@@ -1,4 +1,4 @@
-use Rattle.std.specs.Prelude.{ℕ, ◌≡◌, ◌≢◌, ◌<◌, ◌+◌, ◌-◌, ◌*◌, ◌/◌, ◌^◌, ◌==◌, ◌&&◌, ◌||◌, ◌⊎◌, not, if◌then◌else◌, Bool, true, false, bit_and, List, [], ◌∷◌, length, slice_index_or, slice_set, Option, Some, None, is_some}
+use Rattle.std.specs.Prelude.{ℕ, ◌≡◌, ◌≢◌, ◌<◌, ◌+◌, ◌-◌, ◌*◌, ◌/◌, ◌%◌, ◌^◌, ◌==◌, ◌&&◌, ◌||◌, ◌⊎◌, not, if◌then◌else◌, Bool, true, false, bit_and, List, [], ◌∷◌, length, slice_index_or, slice_set, Option, Some, None, is_some}
 use Rattle.ds_base.specs.Bits.{bit, bits}
 use Rattle.ds_base.specs.Interrupts.{interrupt_bit}
 use Rattle.ds_base.specs.Schedules.{IsEarly, IsLater}
@@ -51,11 +51,11 @@ timers_at_boot = timer_at_boot ∷ timer_at_boot ∷ timer_at_boot ∷ timer_at_
 abbrev pub timer_at : List TimerState → ℕ → TimerState
 timer_at timers which = slice_index_or timers which timer_at_boot
 
--- the counter at a tick, a number of counts: one more at each whole pace since the anchor (GBATEK, "GBA Timers", TMxCNT_L: the counter
--- counts up; that it is reckoned from an anchor is our choice of form)
+-- the counter at a tick, a number of 16 bits: one more at each whole pace since the anchor (GBATEK, "GBA Timers", TMxCNT_L: the counter
+-- counts up; that it is reckoned from an anchor is our choice of form). At its due tick its overflow starts it again
 abbrev pub counted : Option Tick → ℕ → ℕ → Tick → ℕ
 counted None count ticks now = count
-counted (Some since) count ticks now = count + (now.0 - since.0) / ticks
+counted (Some since) count ticks now = (count + (now.0 - since.0) / ticks) % 2 ^ 16
 
 abbrev pub counter_of : TimerState → Tick → ℕ
 counter_of t now = counted t.since t.count (pace t.control) now
@@ -89,7 +89,7 @@ pub record SchedulesOne (which : ℕ) (now : Tick) (old new : List TimerState) :
 -- From a tick on a timer counts from a number: its counter is that number and one more for each whole pace since then, and it overflows when
 -- the counts that are left to 65,536 are over.
 pub record CountsFrom (t : TimerState) (number : ℕ) (start : Tick) : Type 0 where
-  pub counter : (at : Tick) → counter_of t at ≡ number + (at.0 - start.0) / pace t.control
+  pub counter : (at : Tick) → counter_of t at ≡ (number + (at.0 - start.0) / pace t.control) % 2 ^ 16
   pub overflow : timer_due t ≡ Some (record { 0 = start.0 + (65536 - number) * pace t.control })
 
 -- a reload is written; the counter stays (GBATEK, "GBA Timers", TMxCNT_L)

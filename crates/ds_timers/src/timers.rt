@@ -87,15 +87,14 @@ fn goes_alone(which: u8, control: u16) -> bool
 }
 
 fn counter(timer: Timer, now: Tick) -> u16
-    requires is { timer.count < 2 ^ 16 }
-    requires ahead { IsLater now (timer_due (timer_seen timer)) }
+    requires { timer.count < 2 ^ 16 }
     ensures { result ≡ counter_of (timer_seen timer) now }
 {
     match timer.since {
         None => timer.count,
         Some(since) => {
             let more = now.0.saturating_sub(since.0) / ticks(timer.control);
-            (timer.count as u64 + more) as u16
+            ((timer.count as u64 + more) % 0x1_0000) as u16
         }
     }
 }
@@ -119,7 +118,6 @@ fn anchor(taken: bool, now: Tick) -> Option<Tick>
 
 /// A timer after a write of its control.
 fn with_control(which: u8, timer: Timer, control: u16, now: Tick) -> Timer
-    requires ahead { IsLater now (timer_due (timer_seen timer)) }
     ensures { timer_seen result ≡ controlled which (timer_seen timer) control now }
 {
     let alone = goes_alone(which, control);
@@ -243,10 +241,9 @@ impl Timers {
         self.timer(which).reload
     }
 
-    /// A timer's counter at a tick before it is due.
+    /// A timer's counter at a tick.
     pub fn counter_at(&self, which: u8, now: Tick) -> u16
-        requires which { which < 4 }
-        requires ahead { IsLater now (timer_due (timer_at self.now which)) }
+        requires { which < 4 }
         ensures { result ≡ counter_of (timer_at self.now which) now }
     {
         counter(self.timer(which), now)
@@ -269,18 +266,18 @@ impl Timers {
         );
     }
 
-    /// A write of a timer's control at a tick before it is due. `change` says by which case it changes; `start` what a start
-    /// means for one that counts time: from then on it counts paces from its reload.
+    /// A write of a timer's control at a tick. `change` says by which case it changes; `start` what a start
+    /// means for one that counts time: from then on it counts paces from its reload; `alone` and `schedule` what it does to due ticks, where the
+    /// timer wasn't due by then.
     pub fn set_control(&mut self, which: u8, value: u16, now: Tick)
         requires which { which < 4 }
-        requires ahead { IsLater now (timer_due (timer_at self.old which)) }
         requires early { IsEarly (Some now) }
         ensures timers { self.new ≡ control_set self.old which value now }
         ensures change { ChangesControl which (timer_at self.old which) (kept_control value) now (timer_at self.new which) }
         ensures start { is_start (timer_at self.old which).control (kept_control value) ≡ true → runs_free which (kept_control value) ≡ true
             → CountsFrom (timer_at self.new which) (timer_at self.old which).reload now }
-        ensures alone { SchedulesOne which now self.old self.new }
-        ensures schedule { (each : ℕ) → each < 4 → Reschedules now (timer_due (timer_at self.old each)) (timer_due (timer_at self.new each)) }
+        ensures alone { IsLater now (timer_due (timer_at self.old which)) → SchedulesOne which now self.old self.new }
+        ensures schedule { IsLater now (timer_due (timer_at self.old which)) → (each : ℕ) → each < 4 → Reschedules now (timer_due (timer_at self.old each)) (timer_due (timer_at self.new each)) }
     {
         self.laws();
         let timer = with_control(which, self.timer(which), value & KEPT, now);

@@ -10,9 +10,8 @@ pub put-requires-clause-is : goal.put-requires-clause-is
 put-requires-clause-is c =
     let t = timer_seen c.timer.result in
     let now = c.args.now in
-    let before : IsLater now (timer_due t) = subst (λ x. IsLater now (timer_due x)) (sym c.timer.ensures.seen) c.requires.ahead in
     subst (IsTimer c.args.which) (sym c.with_control-timer.ensures)
-    (controlled_is c.args.which t (kept_control c.args.value) now c.timer.ensures.is (kept_twice c.args.value) before c.requires.early)
+    (controlled_is c.args.which t (kept_control c.args.value) now c.timer.ensures.is (kept_twice c.args.value) c.requires.early)
 
 new_is : (c : goal.After-put) → c.put.new.self ≡ control_set c.args.self.now c.args.which c.args.value c.args.now
 new_is c =
@@ -33,14 +32,14 @@ returns-clause-start c =
     λ starts free. subst (λ new. CountsFrom (timer_at new which) (timer_at old which).reload c.args.now) (sym (new_is c))
     (control_counts old which (kept_control c.args.value) c.args.now c.laws.ensures c.requires.which starts free)
 
-alone : (c : goal.After-put) → SchedulesOne c.args.which c.args.now c.args.self.now c.put.new.self
-alone c =
+alone : (c : goal.After-put) → IsLater c.args.now (timer_due (timer_at c.args.self.now c.args.which)) → SchedulesOne c.args.which c.args.now c.args.self.now c.put.new.self
+alone c ahead =
     let old = c.args.self.now in
     let which = c.args.which in
-    subst (SchedulesOne which c.args.now old) (sym (new_is c)) (control_schedules old which (kept_control c.args.value) c.args.now c.laws.ensures c.requires.which c.requires.ahead)
+    subst (SchedulesOne which c.args.now old) (sym (new_is c)) (control_schedules old which (kept_control c.args.value) c.args.now c.laws.ensures c.requires.which ahead)
 
 pub returns-clause-alone : goal.returns-clause-alone
-returns-clause-alone c = alone c
+returns-clause-alone c ahead = alone c ahead
 
 pub returns-clause-schedule : goal.returns-clause-schedule
-returns-clause-schedule c = one_reschedules c.args.which c.args.now c.args.self.now c.put.new.self (alone c)
+returns-clause-schedule c ahead = one_reschedules c.args.which c.args.now c.args.self.now c.put.new.self (alone c ahead)

@@ -55,6 +55,10 @@ raised_if false interrupt = 0
 abbrev pub sync_word : Side → Side → ℕ
 sync_word own other = other.passed + own.passed * 2 ^ 8 + flag 14 own.sync_raises
 
+-- the bits of it that stay where a write doesn't cover them: those that it passes, and bit 14; bit 13 acts
+abbrev pub sync_kept : Side → ℕ
+sync_kept own = own.passed * 2 ^ 8 + flag 14 own.sync_raises
+
 -- IPCSYNC is written
 abbrev pub sync_written : Side → ℕ → Side
 sync_written own value = record own { passed = bits 8 4 value; sync_raises = bit 14 value }
@@ -69,6 +73,10 @@ control_word own other =
     flag 0 (is_empty own.words) + flag 1 (is_full own.words) + flag 2 own.empty_raises
     + flag 8 (is_empty other.words) + flag 9 (is_full other.words) + flag 10 own.filled_raises
     + flag 14 own.error + flag 15 own.enabled
+
+-- the bits of it that stay where a write doesn't cover them: the three enables; bits 3 and 14 act
+abbrev pub control_kept : Side → ℕ
+control_kept own = flag 2 own.empty_raises + flag 10 own.filled_raises + flag 15 own.enabled
 
 -- IPCFIFOCNT is written: the enables, a 1 in bit 14 takes the error away, and a 1 in bit 3 empties the send FIFO
 abbrev pub control_written : Side → ℕ → Side

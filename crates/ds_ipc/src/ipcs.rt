@@ -1,7 +1,8 @@
 //! Both sides, and the calls of each.
 
 ghost use Rattle.std.specs.Prelude.{◌≡◌, IfOk};
-ghost use Rattle.ds_ipc.specs.Ipcs.{AreSides, ipc_at_boot, raised_at, ipc_sync_word, ipc_sync_written, ipc_sync_raised, ipc_control_word, ipc_control_written, ipc_control_raised, ipc_sent, ipc_send_raised, ipc_received, ipc_received_word, ipc_receive_raised};
+ghost use Rattle.ds_ipc.specs.Sides.{control_kept, sync_kept};
+ghost use Rattle.ds_ipc.specs.Ipcs.{AreSides, side_of, ipc_at_boot, raised_at, ipc_sync_word, ipc_sync_written, ipc_sync_raised, ipc_control_word, ipc_control_written, ipc_control_raised, ipc_sent, ipc_send_raised, ipc_received, ipc_received_word, ipc_receive_raised};
 
 use crate::sides;
 use crate::sides::{Side, Taken};
@@ -79,6 +80,16 @@ impl Ipc {
         }
     }
 
+    /// The bits of IPCSYNC that stay where a side's write doesn't cover them.
+    pub fn sync_kept(&self, side: Proc) -> u16
+        ensures { result ≡ sync_kept (side_of self.now side) }
+    {
+        match side {
+            Proc::Nine => sides::sync_kept(&self.nine),
+            Proc::Seven => sides::sync_kept(&self.seven),
+        }
+    }
+
     /// A side writes IPCSYNC. Bit 13 raises IPC sync on the other side where that side's bit 14 is set.
     pub fn sync_write(&mut self, side: Proc, value: u16) -> Raised
         ensures state { self.new ≡ ipc_sync_written self.old side value }
@@ -103,6 +114,16 @@ impl Ipc {
         match side {
             Proc::Nine => sides::control_read(&self.nine, &self.seven),
             Proc::Seven => sides::control_read(&self.seven, &self.nine),
+        }
+    }
+
+    /// The bits of IPCFIFOCNT that stay where a side's write doesn't cover them.
+    pub fn control_kept(&self, side: Proc) -> u16
+        ensures { result ≡ control_kept (side_of self.now side) }
+    {
+        match side {
+            Proc::Nine => sides::control_kept(&self.nine),
+            Proc::Seven => sides::control_kept(&self.seven),
         }
     }
 
@@ -132,6 +153,16 @@ impl Ipc {
         match side {
             Proc::Nine => raised_at(Proc::Seven, sides::send(&mut self.nine, &self.seven, word)),
             Proc::Seven => raised_at(Proc::Nine, sides::send(&mut self.seven, &self.nine, word)),
+        }
+    }
+
+    /// The word that a side's receive would give.
+    pub fn look(&self, side: Proc) -> u32
+        ensures { result ≡ ipc_received_word self.now side }
+    {
+        match side {
+            Proc::Nine => sides::look(&self.nine, &self.seven),
+            Proc::Seven => sides::look(&self.seven, &self.nine),
         }
     }
 

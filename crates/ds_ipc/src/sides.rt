@@ -2,7 +2,7 @@
 
 ghost use Rattle.std.specs.Prelude.{◌≡◌, ◌≤◌, IfOk};
 ghost use Rattle.ds_base.specs.Bits.{bit, flag};
-ghost use Rattle.ds_ipc.specs.Sides.{IsSide, side_at_boot, raised_if, sync_word, sync_written, sync_raised, control_word, control_written, control_forgotten, control_raised, sent, send_raised, received, received_word, taken, receive_raised};
+ghost use Rattle.ds_ipc.specs.Sides.{IsSide, side_at_boot, raised_if, sync_kept, sync_word, control_kept, sync_written, sync_raised, control_word, control_written, control_forgotten, control_raised, sent, send_raised, received, received_word, taken, receive_raised};
 
 use circular_buffer::HeapCircularBuffer;
 use ds_base::Interrupt;
@@ -94,6 +94,12 @@ pub fn sync_read(own: &Side, other: &Side) -> u16
     other.passed + (own.passed << 8) + mark(14, own.sync_raises)
 }
 
+pub fn sync_kept(own: &Side) -> u16
+    ensures { result ≡ sync_kept own.now }
+{
+    (own.passed << 8) + mark(14, own.sync_raises)
+}
+
 pub fn sync_write(own: &mut Side, other: &Side, value: u16) -> u32
     ensures own { own.new ≡ sync_written own.old value }
     ensures raised { result ≡ sync_raised other.now value }
@@ -114,6 +120,12 @@ pub fn control_read(own: &Side, other: &Side) -> u16
         + mark(10, own.filled_raises)
         + mark(14, own.error)
         + mark(15, own.enabled)
+}
+
+pub fn control_kept(own: &Side) -> u16
+    ensures { result ≡ control_kept own.now }
+{
+    mark(2, own.empty_raises) + mark(10, own.filled_raises) + mark(15, own.enabled)
 }
 
 pub fn control_write(own: &mut Side, other: &mut Side, value: u16) -> u32
@@ -155,6 +167,12 @@ pub fn send(own: &mut Side, other: &Side, word: u32) -> u32
     let first = own.words.is_empty();
     own.words.push_back(word);
     when(first && other.filled_raises, Interrupt::ReceiveFifoNotEmpty)
+}
+
+pub fn look(own: &Side, other: &Side) -> u32
+    ensures { result ≡ received_word own.now other.now }
+{
+    other.words.front().copied().unwrap_or(own.last)
 }
 
 pub fn receive(own: &mut Side, other: &mut Side) -> Taken

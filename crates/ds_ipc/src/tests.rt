@@ -215,3 +215,130 @@ fn full_error_and_clear_each_tell_their_own(rt: HostRuntime) -> Result<(), Fail>
     assert_eq!(rt; ipc.receive(Proc::Nine).word, 5);
     Ok(())
 }
+
+/// At boot all is 0 and empty, and a side that isn't enabled sends and takes nothing.
+#[test]
+fn at_boot_all_is_0_and_empty(rt: HostRuntime) -> Result<(), Fail> {
+    let mut ipc = Ipc::new(rt.alloc())?;
+    for side in [Proc::Nine, Proc::Seven] {
+        assert_eq!(rt; (ipc.sync_read(side), ipc.control_read(side)), (0, 0x0101));
+        assert_eq!(rt;
+            ipc.receive(side),
+            Got {
+                word: 0,
+                raised: NONE
+            }
+        );
+        assert_eq!(rt; ipc.send(side, 5), NONE);
+        assert_eq!(rt; ipc.control_read(side), 0x0101);
+    }
+    Ok(())
+}
+
+/// What the sync interrupt of each side asks for: the other's bit 14 as it was written last.
+#[test]
+fn the_sync_interrupt_is_allowed_by_the_last_write(rt: HostRuntime) -> Result<(), Fail> {
+    for (own, other, raised) in [
+        (
+            Proc::Nine,
+            Proc::Seven,
+            Raised {
+                nine: 0,
+                seven: 0x1_0000,
+            },
+        ),
+        (
+            Proc::Seven,
+            Proc::Nine,
+            Raised {
+                nine: 0x1_0000,
+                seven: 0,
+            },
+        ),
+    ] {
+        let mut ipc = Ipc::new(rt.alloc())?;
+        assert_eq!(rt; ipc.sync_write(other, 0x4500), NONE);
+        assert_eq!(rt; ipc.sync_write(own, 0x2300), raised);
+        assert_eq!(rt; ipc.sync_write(other, 0x0600), NONE);
+        assert_eq!(rt; ipc.sync_read(other), 0x0603);
+        assert_eq!(rt; ipc.sync_write(own, 0x2300), NONE);
+    }
+    Ok(())
+}
+
+/// A clear leaves the error and the word that its own side received last; the other side forgets its own, also where no word waited.
+#[test]
+fn a_clear_leaves_what_its_side_received(rt: HostRuntime) -> Result<(), Fail> {
+    let mut ipc = Ipc::new(rt.alloc())?;
+    ipc.control_write(Proc::Nine, 0x8000);
+    ipc.control_write(Proc::Seven, 0x8000);
+    ipc.send(Proc::Seven, 5);
+    assert_eq!(rt; ipc.receive(Proc::Nine).word, 5);
+    assert_eq!(rt; ipc.receive(Proc::Nine).word, 5);
+    ipc.send(Proc::Nine, 7);
+    assert_eq!(rt; ipc.receive(Proc::Seven).word, 7);
+    ipc.control_write(Proc::Nine, 0x8008);
+    assert_eq!(rt; ipc.control_read(Proc::Nine), 0xC101);
+    assert_eq!(rt; ipc.receive(Proc::Nine).word, 5);
+    assert_eq!(rt; ipc.receive(Proc::Seven).word, 0);
+    Ok(())
+}
+
+/// What one write of IPCFIFOCNT raises on a side that isn't enabled: each enable where it rises, both at once, and beside a clear the
+/// enable that is written with it.
+#[test]
+fn a_write_raises_by_the_enables_that_it_writes(rt: HostRuntime) -> Result<(), Fail> {
+    let mut ipc = Ipc::new(rt.alloc())?;
+    ipc.control_write(Proc::Seven, 0x8000);
+    ipc.send(Proc::Seven, 1);
+    for (value, nine) in [
+        (0x0004, 0x2_0000),
+        (0x0000, 0),
+        (0x000C, 0x2_0000),
+        (0x0000, 0),
+        (0x0400, 0x4_0000),
+        (0x0000, 0),
+        (0x0404, 0x6_0000),
+        (0x8004, 0),
+    ] {
+        assert_eq!(rt;
+            ipc.control_write(Proc::Nine, value),
+            Raised { nine, seven: 0 },
+            "{value}"
+        );
+    }
+    assert_eq!(rt; ipc.send(Proc::Nine, 2), NONE);
+    assert_eq!(rt; ipc.control_write(Proc::Nine, 0x8008), NONE);
+    Ok(())
+}
+
+/// A side that isn't enabled hears that its last word was taken, raises nothing by a send, and reads the word received last.
+#[test]
+fn a_disabled_side_hears_and_is_not_heard(rt: HostRuntime) -> Result<(), Fail> {
+    let mut ipc = Ipc::new(rt.alloc())?;
+    ipc.control_write(Proc::Nine, 0x8004);
+    ipc.control_write(Proc::Seven, 0x8400);
+    ipc.send(Proc::Nine, 7);
+    assert_eq!(rt; ipc.control_write(Proc::Nine, 0x0004), NONE);
+    assert_eq!(rt;
+        ipc.receive(Proc::Seven),
+        Got {
+            word: 7,
+            raised: Raised {
+                nine: 0x2_0000,
+                seven: 0
+            }
+        }
+    );
+    assert_eq!(rt; ipc.send(Proc::Nine, 8), NONE);
+    assert_eq!(rt; ipc.control_write(Proc::Seven, 0x0400), NONE);
+    assert_eq!(rt;
+        ipc.receive(Proc::Seven),
+        Got {
+            word: 7,
+            raised: NONE
+        }
+    );
+    assert_eq!(rt; ipc.control_read(Proc::Seven), 0x0501);
+    Ok(())
+}

@@ -1,1 +1,2 @@
 pub mod AddressTables
+pub mod BootRom

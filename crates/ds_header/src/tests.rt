@@ -72,6 +72,9 @@ fn a_short_file_is_refused_with_its_length(rt: HostRuntime) -> Result<(), AllocE
 fn each_rule_holds_up_to_its_edge(rt: HostRuntime) -> Result<(), AllocError> {
     for (at, word) in [
         (0x010, 0x0002_0000),
+        // the unit code is byte 012h alone
+        (0x010, 0xff00_ffff),
+        (0x010, 0xff02_ffff),
         (0x028, 0x02ff_fffc),
         (0x024, 0x02ff_fffc),
         (0x034, 0x0200_0000),
@@ -103,7 +106,11 @@ fn each_rule_is_broken_past_its_edge(rt: HostRuntime) -> Result<(), AllocError> 
     for (at, word, field, value) in [
         (0x010, 0x0001_0000, UnitCode, 1),
         (0x010, 0x0003_0000, UnitCode, 3),
+        (0x010, 0x0004_0000, UnitCode, 4),
+        (0x010, 0x0080_0000, UnitCode, 0x80),
+        (0x010, 0x0082_0000, UnitCode, 0x82),
         (0x02c, 5, Arm9Rom, 0x1fc),
+        (0x02c, 0x0100_0004, Arm9Rom, 0x1fc),
         (0x020, 0x1fd, Arm9Rom, 0x1fd),
         (0x020, 0xffff_fffc, Arm9Rom, 0xffff_fffc),
         (0x028, 0x01ff_ffff, Arm9Place, 0x01ff_ffff),
@@ -117,11 +124,13 @@ fn each_rule_is_broken_past_its_edge(rt: HostRuntime) -> Result<(), AllocError> 
         (0x030, 0x1fd, Arm7Rom, 0x1fd),
         (0x034, 0x037f_8002, Arm7Entry, 0x037f_8002),
         (0x03c, 5, Arm7Rom, 0x1fc),
+        (0x03c, 0x0100_0004, Arm7Rom, 0x1fc),
         (0x030, 0xffff_fffc, Arm7Rom, 0xffff_fffc),
         (0x038, 0x01ff_ffff, Arm7Place, 0x01ff_ffff),
         (0x038, 0x02ff_fffd, Arm7Place, 0x02ff_fffd),
         (0x038, 0x037f_7fff, Arm7Place, 0x037f_7fff),
         (0x038, 0x0380_fffd, Arm7Place, 0x0380_fffd),
+        (0x034, 0x0300_0000, Arm7Entry, 0x0300_0000),
         (0x034, 0x037f_7ffc, Arm7Entry, 0x037f_7ffc),
         (0x034, 0x0380_0001, Arm7Entry, 0x0380_0001),
         (0x034, 0x0381_0000, Arm7Entry, 0x0381_0000),

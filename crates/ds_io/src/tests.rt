@@ -162,6 +162,7 @@ fn a_name_finds_its_first_file(rt: HostRuntime) -> Result<(), AllocError> {
         ("card", false, 1, [3, 2]),
         ("car", false, 0, [3, 2]),
         ("carts", false, 0, [3, 2]),
+        ("CART", false, 0, [3, 2]),
         ("", false, 0, [3, 2]),
         ("keys", true, 2, [8, 9]),
         ("cart", true, 2, [1, 2]),
@@ -242,16 +243,60 @@ fn a_failed_search_leaves_the_place(rt: HostRuntime) -> Result<(), AllocError> {
     Ok(())
 }
 
-/// A file of several buffers: byte i is i modulo 251.
+/// A read that fails ends the reading of the whole file with that fault, and the place is past what was read.
 #[test]
-fn a_long_file_is_read_in_order(rt: HostRuntime) -> Result<(), AllocError> {
-    let mut bytes = vec![in rt.alloc(); 0; 10_000]?;
+fn a_failed_read_ends_the_whole_file(rt: HostRuntime) -> Result<(), AllocError> {
+    let mut shelf = MemShelf::new(one_file(rt.alloc())?, two(rt.alloc(), 3, 9)?);
+    assert_eq!(rt; find(&mut shelf, "cart"), Ok(true));
+    assert_eq!(rt;
+        whole(rt.alloc(), &mut shelf, 100).err(),
+        Some(ReadFault::Failed)
+    );
+    assert_eq!(rt; read(&mut shelf, &mut [0]), Ok(0));
+    Ok(())
+}
+
+/// The file `long` of several buffers, whose byte i is i modulo 251, and the empty file `none`.
+fn long_file(alloc: Global) -> Result<Files, AllocError> {
+    let mut bytes = vec![in alloc; 0; 10_000]?;
     for (i, byte) in bytes.iter_mut().enumerate() {
         *byte = (i % 251) as u8;
     }
-    let mut files = Files::new(rt.alloc());
-    files.push(String::from_str(rt.alloc(), "long")?, bytes)?;
-    let mut shelf = QuietShelf::new(files);
+    let mut files = Files::new(alloc);
+    files.push(String::from_str(alloc, "long")?, bytes)?;
+    files.push(String::from_str(alloc, "none")?, Vec::new(alloc))?;
+    Ok(files)
+}
+
+/// Of a file that is too long one byte more than the limit is taken; the empty one is never too long.
+#[test]
+fn a_file_too_long_is_left_past_the_limit(rt: HostRuntime) -> Result<(), AllocError> {
+    let mut shelf = QuietShelf::new(long_file(rt.alloc())?);
+    for (limit, next) in [
+        (0, 1),
+        (5, 6),
+        (4_095, 80),
+        (4_096, 81),
+        (5_000, 232),
+        (9_998, 210),
+    ] {
+        assert_eq!(rt; find(&mut shelf, "long"), Ok(true));
+        assert_eq!(rt;
+            whole(rt.alloc(), &mut shelf, limit % 10_000).err(),
+            Some(ReadFault::TooLong)
+        );
+        let mut into = [0];
+        assert_eq!(rt; read(&mut shelf, &mut into), Ok(1));
+        assert_eq!(rt; into, [next], "after {limit}");
+    }
+    assert_eq!(rt; find(&mut shelf, "none"), Ok(true));
+    assert!(rt; whole(rt.alloc(), &mut shelf, 0).is_ok());
+    Ok(())
+}
+
+#[test]
+fn a_long_file_is_read_in_order(rt: HostRuntime) -> Result<(), AllocError> {
+    let mut shelf = QuietShelf::new(long_file(rt.alloc())?);
     assert_eq!(rt; find(&mut shelf, "long"), Ok(true));
     match whole(rt.alloc(), &mut shelf, 20_000) {
         Ok(bytes) => {
@@ -277,6 +322,10 @@ fn the_disk_answers_each_cause(rt: HostRuntime) {
     assert_eq!(rt; into, [0; 4]);
     assert_eq!(rt; shelf.find("/dev/null/file"), Err(Failed));
     assert_eq!(rt; shelf.find(LONG_NAME), Err(Failed));
+    // and so does a search that fails
+    into = [7; 4];
+    assert_eq!(rt; shelf.read(&mut into), Ok(4));
+    assert_eq!(rt; into, [0; 4]);
     assert_eq!(rt; shelf.find("/dev/null"), Ok(true));
     assert_eq!(rt; shelf.read(&mut into), Ok(0));
     assert_eq!(rt; shelf.find("/"), Ok(true));

@@ -46,10 +46,12 @@ fn every_kernel_reaches_every_place_at_every_length(rt: HostRuntime) {
 }
 
 /// Pixel, EVY, and the pixel brightened: red, green and blue c become c + (31 - c) EVY / 16.
-const BRIGHTENED: [(u16, u8, u16); 7] = [
+const BRIGHTENED: [(u16, u8, u16); 8] = [
     (0x1234, 0, 0x1234),
     (0x0010, 8, 0x3DF7),
     (0x0000, 15, 0x77BD),
+    // 31 / 16 is 1
+    (0x0000, 1, 0x0421),
     (0x7FFF, 1, 0x7FFF),
     (0x8000, 16, 0xFFFF),
     (0x0421, 31, 0x7FFF),
@@ -86,7 +88,7 @@ fn darkens_by_hand(rt: HostRuntime) {
 }
 
 /// Pixel over pixel, EVA, EVB, and the pixel blended: min(31, (x EVA + y EVB) / 16) of each channel.
-const BLENDED: [(u16, u16, u8, u8, u16); 9] = [
+const BLENDED: [(u16, u16, u8, u8, u16); 10] = [
     (0x0014, 0x0014, 31, 31, 0x001F),
     (0x0003, 0x0004, 31, 31, 0x0007),
     (0x8014, 0x0014, 31, 31, 0x801F),
@@ -96,6 +98,8 @@ const BLENDED: [(u16, u16, u8, u8, u16); 9] = [
     (0x8000, 0x1234, 0, 255, 0x9234),
     (0x001F, 0x7C00, 4, 12, 0x5C07),
     (0x0003, 0x0005, 5, 5, 0x0002),
+    // 15 / 16 is 0
+    (0x000F, 0x7FFF, 1, 0, 0x0000),
 ];
 
 #[test]
@@ -113,8 +117,12 @@ fn blends_by_hand(rt: HostRuntime) {
 }
 
 /// MASTER_BRIGHT's value, pixel, and the pixel after it: mode 1 is up, mode 2 down, and bits 5 to 13 don't count.
-const MASTERED: [(u16, u16, u16); 8] = [
+const MASTERED: [(u16, u16, u16); 12] = [
     (0x0008, 0x1234, 0x1234),
+    (0x3FFF, 0x1234, 0x1234),
+    (0x4001, 0x0000, 0x0421),
+    (0x8001, 0x7FFF, 0x7BDE),
+    (0xC001, 0x1234, 0x1234),
     (0x4008, 0x0010, 0x3DF7),
     (0x8008, 0x7FFF, 0x4210),
     (0xC008, 0x1234, 0x1234),

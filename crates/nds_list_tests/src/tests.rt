@@ -1,10 +1,12 @@
 //! Images as texts, and texts as images.
 
+mod boot_rom;
+
 use nds_rows::{BRANCH, Came, Image, bytes_of, call, cart};
 use std::alloc::{AllocError, Global};
 use std::process::Abort;
 
-/// A cartridge with this image of ARM9 at 2000000h, entered at its second word, and ARM7's `b` to itself at 2100000h.
+/// A cartridge with this image of ARM9 at 2000000h and ARM7's `b` to itself at 2100000h, each entered at its second word.
 fn file_of(alloc: Global, nine: &[u8]) -> Result<Vec<u8>, AllocError> {
     let seven = bytes_of(alloc, &[BRANCH])?;
     let nine = Image {
@@ -14,7 +16,7 @@ fn file_of(alloc: Global, nine: &[u8]) -> Result<Vec<u8>, AllocError> {
     };
     let seven = Image {
         place: 0x0210_0000,
-        entry: 0x0210_0000,
+        entry: 0x0210_0004,
         bytes: seven.as_slice(),
     };
     cart(alloc, nine, seven)
@@ -113,6 +115,60 @@ fn images_are_listed_and_assembled_again(rt: HostRuntime) -> Result<(), AllocErr
     Ok(())
 }
 
+/// The listing of an image that both processors have, ARM9's in the last mirror of main memory and at an odd address; the file has
+/// one byte more after both.
+fn listed_far(alloc: Global, seven: u32, image: &[u8], word: &str) -> Result<Came, AllocError> {
+    let nine = Image {
+        place: 0x02FF_0001,
+        entry: 0x0200_0000,
+        bytes: image,
+    };
+    let seven = Image {
+        place: seven,
+        entry: 0x0380_0000,
+        bytes: image,
+    };
+    let mut file = cart(alloc, nine, seven)?;
+    file.push(0x12)?;
+    call(alloc, &["list", "file", word], file)
+}
+
+#[test]
+fn an_image_is_listed_at_its_own_address(rt: HostRuntime) -> Result<(), AllocError> {
+    let word = b"\xFE\xFF\xFF\xEA";
+    let halves = b"\xFE\xE7\xFE\xE7";
+    // ARM7's in the last mirror of the shared work RAM and in its own work RAM
+    let (shared, own) = (0x037F_8003, 0x0380_8002);
+    let rows: [(u32, &[u8], &str, &[u8]); 6] = [
+        (shared, word, "9", b".arm9 0x2ff0001\nb 0x2ff0001\n"),
+        (shared, word, "7", b".arm7 0x37f8003\nb 0x37f8003\n"),
+        (own, word, "7", b".arm7 0x3808002\nb 0x3808002\n"),
+        (
+            own,
+            halves,
+            "9t",
+            b".thumb9 0x2ff0001\nb 0x2ff0001\nb 0x2ff0003\n",
+        ),
+        (
+            shared,
+            halves,
+            "7t",
+            b".thumb7 0x37f8003\nb 0x37f8003\nb 0x37f8005\n",
+        ),
+        (
+            own,
+            halves,
+            "7t",
+            b".thumb7 0x3808002\nb 0x3808002\nb 0x3808004\n",
+        ),
+    ];
+    for (seven, image, word, text) in rows {
+        let came = listed_far(rt.alloc(), seven, image, word)?;
+        assert!(rt; came.ended(0, b"", text), "{word} listed");
+    }
+    Ok(())
+}
+
 /// A text is refused so.
 fn is_bad_text(rt: &impl Abort, alloc: Global, text: &[u8], note: &[u8]) -> Result<(), AllocError> {
     let came = assembled(alloc, text)?;
@@ -140,7 +196,14 @@ fn a_text_is_refused_at_its_first_bad_line(rt: HostRuntime) -> Result<(), AllocE
     for (text, note) in rows {
         is_bad_text(&rt, rt.alloc(), text, note)?;
     }
-    Ok(())
+    // the line's number is decimal
+    let mut text = Vec::from_slice(rt.alloc(), b".thumb9 0x0\n")?;
+    for _ in 0..1_000 {
+        text.extend_from_slice(b"bx r14\n")?;
+    }
+    text.extend_from_slice(b"bx\n")?;
+    let note = b"bad text: line 1002\n";
+    is_bad_text(&rt, rt.alloc(), text.as_slice(), note)
 }
 
 /// A text of so many zeros is refused so.

@@ -44,6 +44,8 @@ fn registers_and_multiplies(rt: HostRuntime) {
         (0xE0F2_1493, "smlals r1, r2, r3, r4"),
         (0xE102_1093, "swp r1, r3, [r2]"),
         (0xE142_1093, "swpb r1, r3, [r2]"),
+        (0x0142_1093, "swpbeq r1, r3, [r2]"),
+        (0x1092_1493, "umullsne r1, r2, r3, r4"),
     ];
     lists_words(&rt, Arch::V5, AT, &rows);
 }
@@ -78,6 +80,9 @@ fn conditions_and_operations(rt: HostRuntime) {
         (0xE133_0284, "teq r3, r4, lsl #0x5"),
         (0xE171_0372, "cmn r1, r2, ror r3"),
         (0xE1F0_1332, "mvns r1, r2, lsr r3"),
+        (0x01B0_0001, "movseq r0, r1"),
+        (0x1091_2003, "addsne r2, r1, r3"),
+        (0x0150_0001, "cmpeq r0, r1"),
     ];
     lists_words(&rt, Arch::V4, AT, &rows);
 }
@@ -87,6 +92,8 @@ fn status_and_data_processing(rt: HostRuntime) {
     let rows = [
         (0xE10F_1000, "mrs r1, cpsr"),
         (0xE14F_2000, "mrs r2, spsr"),
+        (0x010F_1000, "mrseq r1, cpsr"),
+        (0x1129_F001, "msrne cpsr_fc, r1"),
         (0xE129_F001, "msr cpsr_fc, r1"),
         (0xE166_F002, "msr spsr_sx, r2"),
         (0xE12F_F001, "msr cpsr_fsxc, r1"),
@@ -137,6 +144,15 @@ fn transfers(rt: HostRuntime) {
         (0xE4A2_1001, "strt r1, [r2], #0x1"),
         (0xE4E2_1001, "strbt r1, [r2], #0x1"),
         (0xE7A2_1103, "str r1, [r2, r3, lsl #0x2]!"),
+        (0xE412_1004, "ldr r1, [r2], #-0x4"),
+        (0xE692_1103, "ldr r1, [r2], r3, lsl #0x2"),
+        (0xE612_1063, "ldr r1, [r2], -r3, rrx"),
+        (0xE712_1023, "ldr r1, [r2, -r3, lsr #0x20]"),
+        (0x05D2_1001, "ldrbeq r1, [r2, #0x1]"),
+        (0x14F2_1001, "ldrbtne r1, [r2], #0x1"),
+        (0x14A2_1001, "strtne r1, [r2], #0x1"),
+        (0x01D0_30B0, "ldrheq r3, [r0, #0x0]"),
+        (0x01C2_40D8, "ldrdeq r4, [r2, #0x8]"),
         (0xE810_0002, "ldmda r0, {r1}"),
         (0xE910_0002, "ldmdb r0, {r1}"),
         (0xE990_0002, "ldmib r0, {r1}"),
@@ -162,14 +178,21 @@ fn branches_and_calls(rt: HostRuntime) {
         (0xEAFF_FFFE, "b 0x2000000"),
         (0xEB00_0000, "bl 0x2000008"),
         (0x0A00_0000, "beq 0x2000008"),
+        (0x0B00_0000, "bleq 0x2000008"),
         (0xEA7F_FFFF, "b 0x4000004"),
         (0xEA80_0000, "b 0x8"),
         (0xFA00_0000, "blx 0x2000008"),
         (0xFB00_0000, "blx 0x200000a"),
+        (0xFA7F_FFFF, "blx 0x4000004"),
+        (0xFB7F_FFFF, "blx 0x4000006"),
+        (0xFA80_0000, "blx 0x8"),
+        (0xFB80_0000, "blx 0xa"),
         (0xEE07_0F90, "mcr p15, 0, r0, c7, c0, 4"),
         (0xEE11_1F10, "mrc p15, 0, r1, c1, c0, 0"),
         (0xEEB3_2ED4, "mrc p14, 5, r2, c3, c4, 6"),
         (0xEF06_0000, "swi 0x60000"),
+        (0x0F06_0000, "swieq 0x60000"),
+        (0x1E07_0F90, "mcrne p15, 0, r0, c7, c0, 4"),
     ];
     lists_words(&rt, Arch::V5, AT, &rows);
     lists_words(&rt, Arch::V4, 0, &[(0xEAFF_FFFD, "b 0xfffffffc")]);

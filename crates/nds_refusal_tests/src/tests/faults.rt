@@ -21,17 +21,25 @@ fn failing(
 /// Enough room for a run's output.
 const ROOM: usize = 6_000_000;
 
-#[test]
-fn each_failed_call_of_the_shelf_is_a_read_fault(rt: HostRuntime) -> Result<(), AllocError> {
-    // the file is looked for, and read in two parts and to its end
+/// Each of the first four calls of the shelf makes a read fault where it fails: the file is looked for, and read in two parts and to
+/// its end.
+fn are_read_faults(rt: &impl Abort, alloc: Global, words: &[&str]) -> Result<(), AllocError> {
     for call in 1..5u64 {
         let fails = Fails {
             shelf: call,
             ..NO_FAILS
         };
-        let came = failing(rt.alloc(), &RUN, BRANCH, fails, ROOM)?;
+        let came = failing(alloc, words, BRANCH, fails, ROOM)?;
         assert!(rt; came.refused(4, b"read fault: file\n"), "{call}");
     }
+    Ok(())
+}
+
+#[test]
+fn each_failed_call_of_the_shelf_is_a_read_fault(rt: HostRuntime) -> Result<(), AllocError> {
+    are_read_faults(&rt, rt.alloc(), &RUN)?;
+    are_read_faults(&rt, rt.alloc(), &["list", "file", "9"])?;
+    are_read_faults(&rt, rt.alloc(), &["asm", "file"])?;
     let fails = Fails {
         shelf: 5,
         ..NO_FAILS
@@ -96,6 +104,17 @@ fn each_failed_call_of_the_output_is_a_write_fault(rt: HostRuntime) -> Result<()
     assert!(rt; whole.ended(0, b"", b".arm9 0x2000000\nb 0x2000000\n"));
     // a listing that is shorter than a page goes out in one piece
     are_write_faults(&rt, alloc, &["list", "file", "9"], BRANCH, 1)
+}
+
+#[test]
+fn an_image_that_is_not_written_is_a_write_fault(rt: HostRuntime) -> Result<(), AllocError> {
+    let alloc = rt.alloc();
+    let text = Vec::from_slice(alloc, b".arm9 0x0\nmov r0, #0x1\n")?;
+    let fails = Fails { out: 1, ..NO_FAILS };
+    let files = file(alloc, "file", text)?;
+    let came = call_over(alloc, &["asm", "file"], files, fails, 100)?;
+    assert!(rt; came.refused(5, b"write fault\n"));
+    Ok(())
 }
 
 #[test]

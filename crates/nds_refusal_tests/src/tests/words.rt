@@ -7,7 +7,7 @@ use std::process::Abort;
 
 #[test]
 fn words_outside_the_rule_are_answered_by_the_usage(rt: HostRuntime) -> Result<(), AllocError> {
-    let rows: [&[&str]; 33] = [
+    let rows: [&[&str]; 35] = [
         &[],
         &[""],
         &["run"],
@@ -40,9 +40,11 @@ fn words_outside_the_rule_are_answered_by_the_usage(rt: HostRuntime) -> Result<(
         &["list", "file", "9T"],
         &["list", "file", ""],
         &["list", "-file", "9"],
+        &["list", "", "9"],
         &["list", "file", "9", "9"],
         &["asm"],
         &["asm", "-file"],
+        &["asm", ""],
         &["asm", "file", "file"],
     ];
     for words in rows {

@@ -1,0 +1,115 @@
+use Rattle.std.proofs.Common.{ℕ, ◌≡◌, ◌<◌, ◌≤◌, ◌+◌, ◌*◌, ◌-◌, ◌/◌, ◌⊎◌, inl, inr, Bool, true, false, ◌&&◌, nat_le, nat_lt, if◌then◌else◌, List, [], ◌∷◌, ◌++◌, Option, Some, None, refl, ◌∙◌, arith}
+use Rattle.std.specs.Prelude.{IfSome}
+use Rattle.std.proofs.Math.Nat.{div-lt_iff_lt-mul, mod-lt}
+use Rattle.ds_base.specs.declared.processors.Proc.{Proc}
+use Rattle.ds_ports.specs.declared.registers.Slot.{Slot}
+use Rattle.ds_base.specs.declared.processors.Proc.TheVariants.{Nine, Seven}
+use Rattle.ds_ports.specs.RegisterMap.{Row, row_bytes, slot_in, slot_by, slot_of, register_map, numbers_of, IsSlot}
+use Rattle.ds_ports.specs.Parts.{Part, whole, slot_among, looked_up, parts_of_nine, parts_of_seven}
+
+-- all rows lie from one offset up to another
+abbrev pub lie : ℕ → ℕ → List Row → Bool
+lie from limit [] = true
+lie from limit (r ∷ rows) = nat_le from r.offset && nat_le (r.offset + row_bytes r) limit && lie from limit rows
+
+abbrev pub in_order : ℕ → List Part → Bool
+in_order from [] = true
+in_order from (p ∷ parts) = nat_le from p.limit && lie from p.limit p.rows && in_order p.limit parts
+
+all_three : (a b c : Bool) → (a && b && c) ≡ true → (a ≡ true) × (b ≡ true) × (c ≡ true)
+all_three true true true h = (refl, refl, refl)
+all_three true true false h = absurd (grind arith)
+all_three true false c h = absurd (grind arith)
+all_three false b c h = absurd (grind arith)
+
+le_of : (a b : ℕ) → nat_le a b ≡ true → a ≤ b
+le_of a b h = grind arith
+
+below_or_not : (a b : ℕ) → ((a < b) × (nat_lt a b ≡ true)) ⊎ ((b ≤ a) × (nat_lt a b ≡ false))
+below_or_not a b = grind arith
+
+-- rows that lie elsewhere have nothing at an offset
+elsewhere : (from limit : ℕ) (rows : List Row) (at : ℕ) → lie from limit rows ≡ true → (at < from) ⊎ (limit ≤ at) → slot_by rows at ≡ None
+elsewhere from limit [] at h out = refl
+elsewhere from limit (r ∷ rows) at h out =
+    let three = all_three (nat_le from r.offset) (nat_le (r.offset + row_bytes r) limit) (lie from limit rows) h in
+    let first = le_of from r.offset three.0 in
+    let last = le_of (r.offset + row_bytes r) limit three.1 in
+    let no : (nat_le r.offset at && nat_lt at (r.offset + row_bytes r)) ≡ false = outside r.offset (row_bytes r) at first last out in
+    rw no (elsewhere from limit rows at three.2 out) where
+      outside : (offset bytes at : ℕ) → from ≤ offset → offset + bytes ≤ limit → (at < from) ⊎ (limit ≤ at) → (nat_le offset at && nat_lt at (offset + bytes)) ≡ false
+      outside offset bytes at f l out = grind (arith, f, l, out)
+
+-- what the first rows have comes first
+appended : (xs ys : List Row) (at : ℕ) → slot_by ys at ≡ None → slot_by (xs ++ ys) at ≡ slot_by xs at
+appended [] ys at h = h
+appended (x ∷ xs) ys at h = rw (appended xs ys at h) refl
+
+past_first : (here : Bool) (slot : Slot) (short long goal : Option Slot) → (if here then Some slot else short) ≡ None → (short ≡ None → long ≡ goal)
+    → (if here then Some slot else long) ≡ goal
+past_first true slot short long goal h k = absurd (grind arith)
+past_first false slot short long goal h k = k h
+
+passed : (xs ys : List Row) (at : ℕ) → slot_by xs at ≡ None → slot_by (xs ++ ys) at ≡ slot_by ys at
+passed [] ys at h = refl
+passed (x ∷ xs) ys at h =
+    past_first (nat_le x.offset at && nat_lt at (x.offset + row_bytes x)) (slot_in x (at - x.offset)) (slot_by xs at) (slot_by (xs ++ ys) at) (slot_by ys at) h
+    (λ none. passed xs ys at none)
+
+-- parts in order that begin later have nothing at an offset
+later : (from : ℕ) (parts : List Part) (at : ℕ) → in_order from parts ≡ true → at < from → slot_by (whole parts) at ≡ None
+later from [] at h lt = refl
+later from (p ∷ parts) at h lt =
+    let three = all_three (nat_le from p.limit) (lie from p.limit p.rows) (in_order p.limit parts) h in
+    let up = le_of from p.limit three.0 in
+    passed p.rows (whole parts) at (elsewhere from p.limit p.rows at three.1 (inl lt)) ∙ later p.limit parts at three.2 (omega (arith, up, lt))
+
+-- an offset is looked up in its part
+pub found : (from : ℕ) (parts : List Part) (at : ℕ) → in_order from parts ≡ true → slot_by (whole parts) at ≡ looked_up parts at
+unfolding slot_among
+found from [] at h = refl
+found from (p ∷ parts) at h =
+    let three = all_three (nat_le from p.limit) (lie from p.limit p.rows) (in_order p.limit parts) h in
+    elim (below_or_not at p.limit) [
+      | inl below ↦ appended p.rows (whole parts) at (later p.limit parts at three.2 below.0) ∙ rw below.1 refl
+      | inr past ↦ passed p.rows (whole parts) at (elsewhere from p.limit p.rows at three.1 (inr past.0)) ∙ found p.limit parts at three.2 ∙ rw past.1 refl
+    ]
+
+pub nine_by_parts : (at : ℕ) → slot_of Nine at ≡ looked_up parts_of_nine at
+unfolding slot_of
+nine_by_parts at = found 0 parts_of_nine at refl
+
+pub seven_by_parts : (at : ℕ) → slot_of Seven at ≡ looked_up parts_of_seven at
+unfolding slot_of
+seven_by_parts at = found 0 parts_of_seven at refl
+
+-- each row has registers of at most four bytes, and no more of a kind than there are
+abbrev pub fit : List Row → Bool
+fit [] = true
+fit (r ∷ rows) = (nat_lt 0 r.bytes && nat_le r.bytes 4) && nat_le r.count (numbers_of r.register) && fit rows
+
+slot_in-is : (r : Row) (offset : ℕ) → 0 < r.bytes → r.bytes ≤ 4 → r.count ≤ numbers_of r.register → offset < row_bytes r → IsSlot (slot_in r offset)
+slot_in-is r offset some small few inside = record {
+  number = (let n : offset / r.bytes < r.count = (div-lt_iff_lt-mul some).1 (omega (arith, inside)) in omega (arith, n, few));
+  byte = mod-lt offset some;
+  bytes = small;
+}
+
+pub slot_by-is : (rows : List Row) (at : ℕ) → fit rows ≡ true → IfSome (slot_by rows at) IsSlot
+slot_by-is [] at h = tt
+slot_by-is (r ∷ rows) at h =
+    let three = all_three (nat_lt 0 r.bytes && nat_le r.bytes 4) (nat_le r.count (numbers_of r.register)) (fit rows) h in
+    elim (inside_or_not r.offset (row_bytes r) at) [
+      | inl inside ↦ rw inside.1 (slot_in-is r (at - r.offset) (sized r.bytes three.0).0 (sized r.bytes three.0).1 (le_of r.count (numbers_of r.register) three.1) inside.0)
+      | inr outside ↦ rw outside (slot_by-is rows at three.2)
+    ] where
+      sized : (n : ℕ) → (nat_lt 0 n && nat_le n 4) ≡ true → (0 < n) × (n ≤ 4)
+      sized n h = grind arith
+
+      inside_or_not : (offset bytes at : ℕ) → ((at - offset < bytes) × ((nat_le offset at && nat_lt at (offset + bytes)) ≡ true)) ⊎ ((nat_le offset at && nat_lt at (offset + bytes)) ≡ false)
+      inside_or_not offset bytes at = grind arith
+
+pub some_slot : (proc : Proc) (at : ℕ) → IfSome (slot_of proc at) IsSlot
+unfolding slot_of
+some_slot Nine at = slot_by-is (register_map Nine) at refl
+some_slot Seven at = slot_by-is (register_map Seven) at refl

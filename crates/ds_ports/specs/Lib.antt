@@ -1,0 +1,6 @@
+pub mod RegisterMap
+pub mod Parts
+pub mod Own
+pub mod Units
+pub mod Registers
+pub mod Ports

@@ -1,0 +1,82 @@
+use Rattle.std.specs.Prelude.{ℕ, ◌+◌, ◌-◌, ◌*◌, ◌/◌, ◌%◌, ◌^◌, ◌==◌, ◌&&◌, not, if◌then◌else◌, Bool, true, false, List, bit_and}
+use Rattle.ds_base.specs.Bits.{bit, bits, flag}
+use Rattle.ds_base.specs.Interrupts.{interrupt_bit}
+use Rattle.ds_base.specs.declared.interrupts.Interrupt.TheVariants.{Keys}
+use Rattle.ds_base.specs.declared.processors.Proc.{Proc}
+use Rattle.ds_base.specs.declared.processors.Proc.TheVariants.{Nine, Seven}
+use Rattle.ds_base.specs.declared.ticks.Tick.{Tick}
+use Rattle.ds_timers.specs.Irqs.{IrqState, irq_acked, irq_at_boot, irq_raised}
+use Rattle.ds_timers.specs.Timing.{TimerState, control_set, counter_of, reload_set, timer_at, timers_at_boot}
+
+-- What each processor has of its own behind the ports: its interrupt words, its timers, KEYCNT, and whether it is halted.
+
+pub record OwnState : Type 0 where
+  pub irq : IrqState
+  pub timers : List TimerState
+  pub keycnt : ℕ
+  pub halted : Bool
+
+-- all is 0 at boot (our choice)
+abbrev pub own_at_boot : OwnState
+own_at_boot = record { irq = irq_at_boot; timers = timers_at_boot; keycnt = 0; halted = false }
+
+-- bits of IF are raised
+abbrev pub own_raised : OwnState → ℕ → OwnState
+own_raised own raised = record own { irq = irq_raised own.irq raised }
+
+-- ---- interrupts (GBATEK, "DS Interrupts")
+
+-- the interrupts that each processor has: IE keeps their bits
+abbrev pub interrupts_of : Proc → ℕ
+interrupts_of Nine = 0x2F1F7F
+interrupts_of Seven = 0x0F1F7F
+
+-- ---- timers (GBATEK, "DS Timers"): of each timer a counter, which is written as its reload, and a control, in turn
+
+abbrev pub is_control : ℕ → Bool
+is_control number = number % 2 == 1
+
+abbrev pub timer_value : OwnState → Tick → ℕ → ℕ
+timer_value own now number =
+    if is_control number then (timer_at own.timers (number / 2)).control else counter_of (timer_at own.timers (number / 2)) now
+
+abbrev pub timer_kept : OwnState → ℕ → ℕ
+timer_kept own number = if is_control number then (timer_at own.timers (number / 2)).control else (timer_at own.timers (number / 2)).reload
+
+abbrev pub timer_written : OwnState → Tick → ℕ → ℕ → OwnState
+timer_written own now number value = record own {
+  timers = if is_control number then control_set own.timers (number / 2) (value % 2 ^ 16) now else reload_set own.timers (number / 2) (value % 2 ^ 16);
+}
+
+-- ---- keys (GBATEK, "DS Keypad"); `pressed` has a bit for each key that is pressed, A to L and then X and Y
+
+-- a 0 tells that a key is pressed
+abbrev pub keyinput_word : ℕ → ℕ
+keyinput_word pressed = 2 ^ 10 - 1 - pressed % 2 ^ 10
+
+-- X and Y in bits 0 and 1; bits 2 to 6 read 1 (our choice, where GBATEK has the pen and the hinge)
+abbrev pub extkeyin_word : ℕ → ℕ
+extkeyin_word pressed = 0x7C + (3 - pressed / 2 ^ 10)
+
+-- what KEYCNT keeps: a bit for each key in 0 to 9, the enable in 14, all instead of any in 15
+abbrev pub kept_keycnt : ℕ → ℕ
+kept_keycnt value = bit_and value 0xC3FF
+
+-- KEYCNT's condition holds: it is enabled, and all of its keys, or any of them, are pressed
+abbrev pub keys_hold : ℕ → ℕ → Bool
+keys_hold keycnt pressed =
+    let chosen = bits 0 10 keycnt in
+    let both = bit_and chosen pressed in
+    bit 14 keycnt && (if bit 15 keycnt then both == chosen else not (both == 0))
+
+-- its interrupt is raised where its condition holds, at each change of the keys and at each write of it
+abbrev pub keys_told : OwnState → ℕ → OwnState
+keys_told own pressed = if keys_hold own.keycnt pressed then own_raised own (interrupt_bit Keys) else own
+
+abbrev pub keycnt_written : OwnState → ℕ → ℕ → OwnState
+keycnt_written own pressed value = keys_told (record own { keycnt = kept_keycnt value }) pressed
+
+-- ---- the halt of ARM7 (GBATEK, "DS Power Control", HALTCNT): mode 2 in bits 6 and 7 halts
+
+abbrev pub haltcnt_written : OwnState → ℕ → OwnState
+haltcnt_written own value = if bits 6 2 value == 2 then record own { halted = true } else own

@@ -1,0 +1,170 @@
+use Rattle.std.specs.Prelude.{ℕ, ◌+◌, ◌*◌, ◌/◌, ◌%◌, ◌^◌, nat_le, ◌&&◌, if◌then◌else◌, Bool, true, false, Option, Some, None}
+use Rattle.ds_base.specs.Numbers.{width_bytes}
+use Rattle.ds_base.specs.declared.memories.Width.{Width}
+use Rattle.ds_base.specs.declared.memories.Width.TheVariants.{Byte, Half, Word}
+use Rattle.ds_base.specs.declared.processors.Proc.{Proc}
+use Rattle.ds_base.specs.declared.left_out.Stop.{Stop}
+use Rattle.ds_base.specs.declared.ticks.Tick.{Tick}
+use Rattle.ds_ports.specs.RegisterMap.{slot_of}
+use Rattle.ds_ports.specs.Registers.{register_kept, register_read, register_refusal, register_value, register_written, takes_words}
+use Rattle.ds_ports.specs.Units.{UnitsState}
+use Rattle.ds_ports.specs.declared.registers.Register.{Register}
+use Rattle.ds_ports.specs.declared.registers.Register.TheVariants.{Later, Tmcnt, Keyinput, Keycnt, Extkeyin, Ipcsync, Ipcfifocnt, Ipcfifosend, Ipcfiforecv, Ime, Ie, If, VramcntAToG, VramcntHToI, Wramcnt, Vramstat, Wramstat, Postflg, Haltcnt}
+use Rattle.ds_ports.specs.declared.registers.Slot.{Slot}
+
+-- What an access of a port reads and leaves. An access that lies in one register is an access of some or all of its bytes. Any other goes
+-- through the registers that it covers in ascending address: it is one of the lower half, and then one of the upper half. Offsets are
+-- aligned down to the access's width. (Our choice, where GBATEK is open.)
+
+-- so many bits of a number from a byte of it on
+abbrev pub part : Width → ℕ → ℕ → ℕ
+part width byte number = number / 2 ^ (8 * byte) % 2 ^ (8 * width_bytes width)
+
+-- a kept number, with some of its bytes from one on written
+abbrev pub joined : Width → ℕ → ℕ → ℕ → ℕ
+joined width byte kept value =
+    kept % 2 ^ (8 * byte) + value % 2 ^ (8 * width_bytes width) * 2 ^ (8 * byte)
+    + kept / 2 ^ (8 * (byte + width_bytes width)) * 2 ^ (8 * (byte + width_bytes width))
+
+-- the register in which an access lies, if it lies in one
+abbrev pub whole_if : Bool → Slot → Option Slot
+whole_if true slot = Some slot
+whole_if false slot = None
+
+abbrev pub whole_in : Width → Option Slot → Option Slot
+whole_in width None = None
+whole_in width (Some slot) = whole_if (nat_le (slot.byte + width_bytes width) slot.bytes) slot
+
+-- an access that a register ignores: one that is narrower than a word, of a register that takes whole words
+abbrev pub is_narrow : Width → Bool
+is_narrow Byte = true
+is_narrow Half = true
+is_narrow Word = false
+
+abbrev pub ignores : Width → Register → Bool
+ignores width register = is_narrow width && takes_words register
+
+-- ---- reads
+
+-- what some bytes of a register read, or the number that is read in its stead
+abbrev pub slot_value : Proc → Tick → UnitsState → Width → Slot → ℕ
+slot_value proc now u width slot = if ignores width slot.register then 0 else part width slot.byte (register_value proc now u slot.register slot.number)
+
+abbrev pub read_or : Proc → Tick → UnitsState → Width → Option Slot → ℕ → ℕ
+read_or proc now u width None other = other
+read_or proc now u width (Some slot) other = slot_value proc now u width slot
+
+abbrev pub port_byte : Proc → Tick → UnitsState → ℕ → ℕ
+port_byte proc now u at = read_or proc now u Byte (slot_of proc at) 0
+
+abbrev pub port_half : Proc → Tick → UnitsState → ℕ → ℕ
+port_half proc now u at = read_or proc now u Half (whole_in Half (slot_of proc at)) (port_byte proc now u at + 2 ^ 8 * port_byte proc now u (at + 1))
+
+abbrev pub port_word : Proc → Tick → UnitsState → ℕ → ℕ
+port_word proc now u at = read_or proc now u Word (whole_in Word (slot_of proc at)) (port_half proc now u at + 2 ^ 16 * port_half proc now u (at + 2))
+
+-- what an access reads at a tick
+unfoldable pub port_value : Proc → Tick → UnitsState → ℕ → Width → ℕ
+port_value proc now u at Byte = port_byte proc now u at
+port_value proc now u at Half = port_half proc now u at
+port_value proc now u at Word = port_word proc now u at
+
+-- what a read leaves: a register that a read changes is one that takes whole words
+abbrev pub read_left : Proc → UnitsState → Option Slot → UnitsState
+read_left proc u None = u
+read_left proc u (Some slot) = register_read proc u slot.register
+
+unfoldable pub port_read : Proc → UnitsState → ℕ → Width → UnitsState
+port_read proc u at Byte = u
+port_read proc u at Half = u
+port_read proc u at Word = read_left proc u (whole_in Word (slot_of proc at))
+
+-- ---- writes
+
+-- the number that a write of some bytes of a register gives it
+abbrev pub slot_joined : Proc → UnitsState → Width → Slot → ℕ → ℕ
+slot_joined proc u width slot value = joined width slot.byte (register_kept proc u slot.register slot.number) value
+
+-- what a write of some bytes of a register leaves, or the state that is left in its stead
+abbrev pub slot_written : Proc → Tick → UnitsState → Width → Slot → ℕ → UnitsState
+slot_written proc now u width slot value =
+    if ignores width slot.register then u else register_written proc now u slot.register slot.number (slot_joined proc u width slot value)
+
+abbrev pub written_or : Proc → Tick → UnitsState → Width → Option Slot → ℕ → UnitsState → UnitsState
+written_or proc now u width None value other = other
+written_or proc now u width (Some slot) value other = slot_written proc now u width slot value
+
+abbrev pub byte_written : Proc → Tick → UnitsState → ℕ → ℕ → UnitsState
+byte_written proc now u at value = written_or proc now u Byte (slot_of proc at) value u
+
+abbrev pub half_written : Proc → Tick → UnitsState → ℕ → ℕ → UnitsState
+half_written proc now u at value =
+    written_or proc now u Half (whole_in Half (slot_of proc at)) value (byte_written proc now (byte_written proc now u at value) (at + 1) (value / 2 ^ 8))
+
+abbrev pub word_written : Proc → Tick → UnitsState → ℕ → ℕ → UnitsState
+word_written proc now u at value =
+    written_or proc now u Word (whole_in Word (slot_of proc at)) value (half_written proc now (half_written proc now u at value) (at + 2) (value / 2 ^ 16))
+
+-- what a write leaves that isn't refused
+unfoldable pub port_written : Proc → Tick → UnitsState → ℕ → Width → ℕ → UnitsState
+port_written proc now u at Byte value = byte_written proc now u at value
+port_written proc now u at Half value = half_written proc now u at value
+port_written proc now u at Word value = word_written proc now u at value
+
+-- ---- refusals: a write is refused whole where it would write a register that refuses it, and then none of its registers is written
+
+abbrev pub first_stop : Option Stop → Option Stop → Option Stop
+first_stop None other = other
+first_stop (Some stop) other = Some stop
+
+abbrev pub slot_refusal : Proc → UnitsState → Width → Slot → ℕ → Option Stop
+slot_refusal proc u width slot value = if ignores width slot.register then None else register_refusal slot.register (slot_joined proc u width slot value)
+
+abbrev pub refusal_or : Proc → UnitsState → Width → Option Slot → ℕ → Option Stop → Option Stop
+refusal_or proc u width None value other = other
+refusal_or proc u width (Some slot) value other = slot_refusal proc u width slot value
+
+abbrev pub byte_refusal : Proc → UnitsState → ℕ → ℕ → Option Stop
+byte_refusal proc u at value = refusal_or proc u Byte (slot_of proc at) value None
+
+abbrev pub half_refusal : Proc → UnitsState → ℕ → ℕ → Option Stop
+half_refusal proc u at value =
+    refusal_or proc u Half (whole_in Half (slot_of proc at)) value (first_stop (byte_refusal proc u at value) (byte_refusal proc u (at + 1) (value / 2 ^ 8)))
+
+abbrev pub word_refusal : Proc → UnitsState → ℕ → ℕ → Option Stop
+word_refusal proc u at value =
+    refusal_or proc u Word (whole_in Word (slot_of proc at)) value (first_stop (half_refusal proc u at value) (half_refusal proc u (at + 2) (value / 2 ^ 16)))
+
+unfoldable pub port_refusal : Proc → UnitsState → ℕ → Width → ℕ → Option Stop
+port_refusal proc u at Byte value = byte_refusal proc u at value
+port_refusal proc u at Half value = half_refusal proc u at value
+port_refusal proc u at Word value = word_refusal proc u at value
+
+-- whether a byte is built: that of each register but those that are to come, and those that are no ports, which read 0
+abbrev pub is_there : Register → Bool
+is_there Later = false
+is_there Tmcnt = true
+is_there Keyinput = true
+is_there Keycnt = true
+is_there Extkeyin = true
+is_there Ipcsync = true
+is_there Ipcfifocnt = true
+is_there Ipcfifosend = true
+is_there Ipcfiforecv = true
+is_there Ime = true
+is_there Ie = true
+is_there If = true
+is_there VramcntAToG = true
+is_there VramcntHToI = true
+is_there Wramcnt = true
+is_there Vramstat = true
+is_there Wramstat = true
+is_there Postflg = true
+is_there Haltcnt = true
+
+abbrev pub is_slot_built : Option Slot → Bool
+is_slot_built None = true
+is_slot_built (Some slot) = is_there slot.register
+
+unfoldable pub port_is_built : Proc → ℕ → Bool
+port_is_built proc at = is_slot_built (slot_of proc at)

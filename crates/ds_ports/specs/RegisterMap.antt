@@ -1,0 +1,219 @@
+use Rattle.std.specs.Prelude.{ℕ, ◌<◌, ◌≤◌, ◌+◌, ◌-◌, ◌*◌, ◌/◌, ◌%◌, nat_le, nat_lt, ◌&&◌, if◌then◌else◌, List, [], ◌∷◌, ◌++◌, Option, Some, None}
+use Rattle.ds_base.specs.declared.processors.Proc.{Proc}
+use Rattle.ds_base.specs.declared.processors.Proc.TheVariants.{Nine, Seven}
+use Rattle.ds_ports.specs.declared.registers.Register.{Register}
+use Rattle.ds_ports.specs.declared.registers.Register.TheVariants.{Later, Tmcnt, Keyinput, Keycnt, Extkeyin, Ipcsync, Ipcfifocnt, Ipcfifosend, Ipcfiforecv, Ime, Ie, If, VramcntAToG, VramcntHToI, Wramcnt, Vramstat, Wramstat, Postflg, Haltcnt}
+use Rattle.ds_ports.specs.declared.registers.Slot.{Slot}
+
+-- The register map of each processor (GBATEK, "DS I/O Maps"): the offset from 4000000h, how many bytes each register of the row has, how
+-- many registers stand there one after another, and what they are; GBATEK's names stand beside. What isn't built yet is `Later`. Offsets
+-- that no row has aren't ports of this console.
+
+pub record Row : Type 0 where
+  pub offset : ℕ
+  pub bytes : ℕ
+  pub count : ℕ
+  pub register : Register
+
+abbrev pub row : ℕ → ℕ → ℕ → Register → Row
+row offset bytes count register = record { offset = offset; bytes = bytes; count = count; register = register }
+
+-- ---- ARM9's
+
+-- a 2D engine's; engine A has four more
+abbrev pub display_rows : List Row
+display_rows =
+    row 0x000 4 1 Later  -- DISPCNT
+    ∷ row 0x004 2 1 Later  -- DISPSTAT
+    ∷ row 0x006 2 1 Later  -- VCOUNT
+    ∷ row 0x008 2 4 Later  -- BG0CNT to BG3CNT
+    ∷ row 0x010 2 8 Later  -- BG0HOFS, BG0VOFS to BG3HOFS, BG3VOFS
+    ∷ row 0x020 2 4 Later  -- BG2PA, BG2PB, BG2PC, BG2PD
+    ∷ row 0x028 4 2 Later  -- BG2X, BG2Y
+    ∷ row 0x030 2 4 Later  -- BG3PA, BG3PB, BG3PC, BG3PD
+    ∷ row 0x038 4 2 Later  -- BG3X, BG3Y
+    ∷ []
+
+abbrev pub effect_rows : List Row
+effect_rows =
+    row 0x040 2 4 Later  -- WIN0H, WIN1H, WIN0V, WIN1V
+    ∷ row 0x048 2 2 Later  -- WININ, WINOUT
+    ∷ row 0x04C 2 1 Later  -- MOSAIC
+    ∷ row 0x050 2 3 Later  -- BLDCNT, BLDALPHA, BLDY
+    ∷ row 0x060 4 1 Later  -- DISP3DCNT
+    ∷ row 0x064 4 1 Later  -- DISPCAPCNT
+    ∷ row 0x06C 2 1 Later  -- MASTER_BRIGHT
+    ∷ []
+
+abbrev pub dma_rows : List Row
+dma_rows =
+    row 0x0B0 4 12 Later  -- DMA0SAD, DMA0DAD, DMA0CNT to DMA3SAD, DMA3DAD, DMA3CNT
+    ∷ row 0x0E0 4 4 Later  -- DMA0FILL to DMA3FILL
+    ∷ []
+
+abbrev pub timer_and_ipc_rows : List Row
+timer_and_ipc_rows =
+    row 0x100 2 8 Later  -- TM0CNT_L, TM0CNT_H to TM3CNT_L, TM3CNT_H
+    ∷ row 0x130 2 1 Keyinput  -- KEYINPUT
+    ∷ row 0x132 2 1 Keycnt  -- KEYCNT
+    ∷ row 0x180 2 1 Ipcsync  -- IPCSYNC
+    ∷ row 0x184 2 1 Ipcfifocnt  -- IPCFIFOCNT
+    ∷ row 0x188 4 1 Ipcfifosend  -- IPCFIFOSEND
+    ∷ row 0x1A4 4 1 Later  -- ROMCTRL
+    ∷ []
+
+abbrev pub control_rows : List Row
+control_rows =
+    row 0x208 4 1 Ime  -- IME
+    ∷ row 0x210 4 1 Ie  -- IE
+    ∷ row 0x214 4 1 If  -- IF
+    ∷ row 0x240 1 7 VramcntAToG  -- VRAMCNT_A to VRAMCNT_G
+    ∷ row 0x247 1 1 Wramcnt  -- WRAMCNT
+    ∷ row 0x248 1 2 VramcntHToI  -- VRAMCNT_H, VRAMCNT_I
+    ∷ []
+
+abbrev pub maths_rows : List Row
+maths_rows =
+    row 0x280 4 1 Later  -- DIVCNT
+    ∷ row 0x290 4 2 Later  -- DIV_NUMER, its low and its high word
+    ∷ row 0x298 4 2 Later  -- DIV_DENOM, the same
+    ∷ row 0x2A0 4 2 Later  -- DIV_RESULT, the same
+    ∷ row 0x2A8 4 2 Later  -- DIVREM_RESULT, the same
+    ∷ row 0x2B0 4 1 Later  -- SQRTCNT
+    ∷ row 0x2B4 4 1 Later  -- SQRT_RESULT
+    ∷ row 0x2B8 4 2 Later  -- SQRT_PARAM, its low and its high word
+    ∷ []
+
+abbrev pub power_rows : List Row
+power_rows =
+    row 0x300 1 1 Postflg  -- POSTFLG
+    ∷ row 0x304 2 1 Later  -- POWCNT1
+    ∷ []
+
+abbrev pub geometry_rows : List Row
+geometry_rows =
+    row 0x400 4 16 Later  -- GXFIFO
+    ∷ row 0x440 4 112 Later  -- MTX_MODE to VEC_TEST, the geometry commands
+    ∷ row 0x600 4 1 Later  -- GXSTAT
+    ∷ row 0x604 4 1 Later  -- RAM_COUNT
+    ∷ row 0x620 4 4 Later  -- POS_RESULT
+    ∷ row 0x630 2 3 Later  -- VEC_RESULT
+    ∷ row 0x640 4 16 Later  -- CLIPMTX_RESULT
+    ∷ row 0x680 4 9 Later  -- VECMTX_RESULT
+    ∷ []
+
+-- engine B's, by the names of engine A's
+abbrev pub second_display_rows : List Row
+second_display_rows =
+    row 0x1000 4 1 Later  -- DISPCNT
+    ∷ row 0x1008 2 4 Later  -- BG0CNT to BG3CNT
+    ∷ row 0x1010 2 8 Later  -- BG0HOFS, BG0VOFS to BG3HOFS, BG3VOFS
+    ∷ row 0x1020 2 4 Later  -- BG2PA, BG2PB, BG2PC, BG2PD
+    ∷ row 0x1028 4 2 Later  -- BG2X, BG2Y
+    ∷ row 0x1030 2 4 Later  -- BG3PA, BG3PB, BG3PC, BG3PD
+    ∷ row 0x1038 4 2 Later  -- BG3X, BG3Y
+    ∷ []
+
+abbrev pub second_effect_rows : List Row
+second_effect_rows =
+    row 0x1040 2 4 Later  -- WIN0H, WIN1H, WIN0V, WIN1V
+    ∷ row 0x1048 2 2 Later  -- WININ, WINOUT
+    ∷ row 0x104C 2 1 Later  -- MOSAIC
+    ∷ row 0x1050 2 3 Later  -- BLDCNT, BLDALPHA, BLDY
+    ∷ row 0x106C 2 1 Later  -- MASTER_BRIGHT
+    ∷ []
+
+abbrev pub receive_rows : List Row
+receive_rows = row 0x100000 4 1 Ipcfiforecv ∷ []  -- IPCFIFORECV
+
+-- ---- ARM7's
+
+abbrev pub seven_early_rows : List Row
+seven_early_rows =
+    row 0x004 2 1 Later  -- DISPSTAT
+    ∷ row 0x006 2 1 Later  -- VCOUNT
+    ∷ row 0x0B0 4 12 Later  -- DMA0SAD, DMA0DAD, DMA0CNT to DMA3SAD, DMA3DAD, DMA3CNT
+    ∷ []
+
+abbrev pub seven_timer_and_ipc_rows : List Row
+seven_timer_and_ipc_rows =
+    row 0x100 2 8 Later  -- TM0CNT_L, TM0CNT_H to TM3CNT_L, TM3CNT_H
+    ∷ row 0x130 2 1 Keyinput  -- KEYINPUT
+    ∷ row 0x132 2 1 Keycnt  -- KEYCNT
+    ∷ row 0x136 2 1 Extkeyin  -- EXTKEYIN
+    ∷ row 0x180 2 1 Ipcsync  -- IPCSYNC
+    ∷ row 0x184 2 1 Ipcfifocnt  -- IPCFIFOCNT
+    ∷ row 0x188 4 1 Ipcfifosend  -- IPCFIFOSEND
+    ∷ row 0x1A4 4 1 Later  -- ROMCTRL
+    ∷ []
+
+abbrev pub seven_control_rows : List Row
+seven_control_rows =
+    row 0x208 4 1 Ime  -- IME
+    ∷ row 0x210 4 1 Ie  -- IE
+    ∷ row 0x214 4 1 If  -- IF
+    ∷ row 0x240 1 1 Vramstat  -- VRAMSTAT
+    ∷ row 0x241 1 1 Wramstat  -- WRAMSTAT
+    ∷ row 0x300 1 1 Postflg  -- POSTFLG
+    ∷ row 0x301 1 1 Haltcnt  -- HALTCNT
+    ∷ []
+
+-- ---- the maps
+
+abbrev pub map_of_nine : List Row
+map_of_nine =
+    display_rows ++ effect_rows ++ dma_rows ++ timer_and_ipc_rows ++ control_rows ++ maths_rows ++ power_rows ++ geometry_rows
+    ++ second_display_rows ++ second_effect_rows ++ receive_rows
+
+abbrev pub map_of_seven : List Row
+map_of_seven = seven_early_rows ++ seven_timer_and_ipc_rows ++ seven_control_rows ++ receive_rows
+
+abbrev pub register_map : Proc → List Row
+register_map Nine = map_of_nine
+register_map Seven = map_of_seven
+
+-- ---- what stands at an offset
+
+-- how many bytes a row has
+abbrev pub row_bytes : Row → ℕ
+row_bytes r = r.count * r.bytes
+
+-- a register of a row, and which of its bytes stands so many bytes into the row
+abbrev pub slot_in : Row → ℕ → Slot
+slot_in r offset = record { register = r.register; number = offset / r.bytes; byte = offset % r.bytes; bytes = r.bytes }
+
+-- the register whose byte stands at an offset, by the row that has it
+abbrev pub slot_by : List Row → ℕ → Option Slot
+slot_by [] at = None
+slot_by (r ∷ rows) at = if nat_le r.offset at && nat_lt at (r.offset + row_bytes r) then Some (slot_in r (at - r.offset)) else slot_by rows at
+
+unfoldable pub slot_of : Proc → ℕ → Option Slot
+slot_of proc at = slot_by (register_map proc) at
+
+-- how many registers of a kind there are, of those that are told apart by a number
+abbrev pub numbers_of : Register → ℕ
+numbers_of Later = 112
+numbers_of Tmcnt = 8
+numbers_of Keyinput = 1
+numbers_of Keycnt = 1
+numbers_of Extkeyin = 1
+numbers_of Ipcsync = 1
+numbers_of Ipcfifocnt = 1
+numbers_of Ipcfifosend = 1
+numbers_of Ipcfiforecv = 1
+numbers_of Ime = 1
+numbers_of Ie = 1
+numbers_of If = 1
+numbers_of VramcntAToG = 7
+numbers_of VramcntHToI = 2
+numbers_of Wramcnt = 1
+numbers_of Vramstat = 1
+numbers_of Wramstat = 1
+numbers_of Postflg = 1
+numbers_of Haltcnt = 1
+
+-- what holds of each byte of a register
+pub record IsSlot (s : Slot) : Type 0 where
+  pub number : s.number < numbers_of s.register
+  pub byte : s.byte < s.bytes
+  pub bytes : s.bytes ≤ 4

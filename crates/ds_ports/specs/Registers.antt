@@ -1,0 +1,209 @@
+use Rattle.std.specs.Prelude.{ℕ, ◌+◌, ◌*◌, ◌%◌, ◌^◌, ◌==◌, ◌||◌, if◌then◌else◌, Bool, true, false, Option, Some, None, bit_and, slice_set}
+use Rattle.ds_base.specs.Bits.{bit, bits, flag}
+use Rattle.ds_base.specs.declared.left_out.LeftKind.TheVariants.{HaltMode}
+use Rattle.ds_base.specs.declared.left_out.Stop.{Stop}
+use Rattle.ds_base.specs.declared.processors.Proc.{Proc}
+use Rattle.ds_base.specs.declared.ticks.Tick.{Tick}
+use Rattle.ds_ipc.specs.Ipcs.{IpcState, ipc_control_raised, ipc_control_word, ipc_control_written, ipc_receive_raised, ipc_received, ipc_received_word, ipc_send_raised, ipc_sent, ipc_sync_raised, ipc_sync_word, ipc_sync_written, side_of}
+use Rattle.ds_ipc.specs.Sides.{control_kept, sync_kept}
+use Rattle.ds_timers.specs.Irqs.{irq_acked}
+use Rattle.ds_ports.specs.Own.{OwnState, extkeyin_word, haltcnt_written, interrupts_of, keycnt_written, keyinput_word, timer_kept, timer_value, timer_written}
+use Rattle.ds_ports.specs.Units.{UnitsState, both_raised, own_of, with_own}
+use Rattle.ds_ports.specs.declared.registers.Register.{Register}
+use Rattle.ds_ports.specs.declared.registers.Register.TheVariants.{Later, Tmcnt, Keyinput, Keycnt, Extkeyin, Ipcsync, Ipcfifocnt, Ipcfifosend, Ipcfiforecv, Ime, Ie, If, VramcntAToG, VramcntHToI, Wramcnt, Vramstat, Wramstat, Postflg, Haltcnt}
+use Rattle.vram_banks.specs.BankMap.{kept_bank_control}
+use Rattle.vram_banks.specs.Cells.{allotted_of}
+
+-- What each register is: what it reads, what a read leaves, what it keeps, and what a write of all its bytes leaves, for a processor at a tick.
+-- `number` tells registers of one kind apart.
+
+-- what it reads; registers that are written alone read 0 (GBATEK, "DS I/O Maps")
+abbrev pub register_value : Proc → Tick → UnitsState → Register → ℕ → ℕ
+register_value proc now u Later number = 0
+register_value proc now u Tmcnt number = timer_value (own_of u proc) now number
+register_value proc now u Keyinput number = keyinput_word u.pressed
+register_value proc now u Keycnt number = (own_of u proc).keycnt
+register_value proc now u Extkeyin number = extkeyin_word u.pressed
+register_value proc now u Ipcsync number = ipc_sync_word u.ipc proc
+register_value proc now u Ipcfifocnt number = ipc_control_word u.ipc proc
+register_value proc now u Ipcfifosend number = 0
+register_value proc now u Ipcfiforecv number = ipc_received_word u.ipc proc
+register_value proc now u Ime number = flag 0 (own_of u proc).irq.master
+register_value proc now u Ie number = (own_of u proc).irq.enabled
+register_value proc now u If number = (own_of u proc).irq.flags
+register_value proc now u VramcntAToG number = 0
+register_value proc now u VramcntHToI number = 0
+-- GBATEK, "DS Memory Control - WRAM"
+register_value proc now u Wramcnt number = u.wramcnt
+register_value proc now u Wramstat number = u.wramcnt
+-- C and D as they are mapped to ARM7 (GBATEK, "DS Memory Control - VRAM")
+register_value proc now u Vramstat number = allotted_of u.vram.controls
+-- the boot is over (GBATEK, "DS Power Control"; that nothing else is kept is our choice)
+register_value proc now u Postflg number = 1
+register_value proc now u Haltcnt number = 0
+
+-- these are reached by whole words alone: narrower reads give 0, and narrower writes are ignored (our choice)
+abbrev pub takes_words : Register → Bool
+takes_words Later = false
+takes_words Tmcnt = false
+takes_words Keyinput = false
+takes_words Keycnt = false
+takes_words Extkeyin = false
+takes_words Ipcsync = false
+takes_words Ipcfifocnt = false
+takes_words Ipcfifosend = true
+takes_words Ipcfiforecv = true
+takes_words Ime = false
+takes_words Ie = false
+takes_words If = false
+takes_words VramcntAToG = false
+takes_words VramcntHToI = false
+takes_words Wramcnt = false
+takes_words Vramstat = false
+takes_words Wramstat = false
+takes_words Postflg = false
+takes_words Haltcnt = false
+
+-- what passes to the other processor is written (GBATEK, "DS Inter Process Communication (IPC)")
+abbrev pub sync_set : Proc → UnitsState → ℕ → UnitsState
+sync_set proc u value = both_raised (record u { ipc = ipc_sync_written u.ipc proc value }) (ipc_sync_raised u.ipc proc value)
+
+abbrev pub fifo_control_set : Proc → UnitsState → ℕ → UnitsState
+fifo_control_set proc u value = both_raised (record u { ipc = ipc_control_written u.ipc proc value }) (ipc_control_raised u.ipc proc value)
+
+abbrev pub word_sent : Proc → UnitsState → ℕ → UnitsState
+word_sent proc u word = both_raised (record u { ipc = ipc_sent u.ipc proc word }) (ipc_send_raised u.ipc proc)
+
+abbrev pub word_received : Proc → UnitsState → UnitsState
+word_received proc u = both_raised (record u { ipc = ipc_received u.ipc proc }) (ipc_receive_raised u.ipc proc)
+
+-- what a read of the whole of it leaves: the word that is received is taken (GBATEK, "DS Inter Process Communication (IPC)")
+abbrev pub register_read : Proc → UnitsState → Register → UnitsState
+register_read proc u Later = u
+register_read proc u Tmcnt = u
+register_read proc u Keyinput = u
+register_read proc u Keycnt = u
+register_read proc u Extkeyin = u
+register_read proc u Ipcsync = u
+register_read proc u Ipcfifocnt = u
+register_read proc u Ipcfifosend = u
+register_read proc u Ipcfiforecv = word_received proc u
+register_read proc u Ime = u
+register_read proc u Ie = u
+register_read proc u If = u
+register_read proc u VramcntAToG = u
+register_read proc u VramcntHToI = u
+register_read proc u Wramcnt = u
+register_read proc u Vramstat = u
+register_read proc u Wramstat = u
+register_read proc u Postflg = u
+register_read proc u Haltcnt = u
+
+-- the bits that a write of some of its bytes leaves as they are in the others; bits that act when they are written have 0 here
+abbrev pub register_kept : Proc → UnitsState → Register → ℕ → ℕ
+register_kept proc u Later number = 0
+register_kept proc u Tmcnt number = timer_kept (own_of u proc) number
+register_kept proc u Keyinput number = 0
+register_kept proc u Keycnt number = (own_of u proc).keycnt
+register_kept proc u Extkeyin number = 0
+register_kept proc u Ipcsync number = sync_kept (side_of u.ipc proc)
+register_kept proc u Ipcfifocnt number = control_kept (side_of u.ipc proc)
+register_kept proc u Ipcfifosend number = 0
+register_kept proc u Ipcfiforecv number = 0
+register_kept proc u Ime number = flag 0 (own_of u proc).irq.master
+register_kept proc u Ie number = (own_of u proc).irq.enabled
+register_kept proc u If number = 0
+register_kept proc u VramcntAToG number = 0
+register_kept proc u VramcntHToI number = 0
+register_kept proc u Wramcnt number = u.wramcnt
+register_kept proc u Wramstat number = 0
+register_kept proc u Vramstat number = 0
+register_kept proc u Postflg number = 0
+register_kept proc u Haltcnt number = 0
+
+-- a bank's control is written (GBATEK, "DS Memory Control - VRAM")
+abbrev pub bank_set : UnitsState → ℕ → ℕ → UnitsState
+bank_set u bank value = record u { vram = record u.vram { controls = slice_set u.vram.controls bank (kept_bank_control bank value) } }
+
+-- the interrupt words (GBATEK, "DS Interrupts")
+abbrev pub ime_set : OwnState → ℕ → OwnState
+ime_set own value = record own { irq = record own.irq { master = bit 0 value } }
+
+abbrev pub ie_set : Proc → OwnState → ℕ → OwnState
+ie_set proc own value = record own { irq = record own.irq { enabled = bit_and value (interrupts_of proc) } }
+
+abbrev pub if_set : OwnState → ℕ → OwnState
+if_set own value = record own { irq = irq_acked own.irq value }
+
+-- what a write of all bytes of a register leaves of what the processor has of its own
+abbrev pub own_written : Proc → Tick → ℕ → OwnState → Register → ℕ → ℕ → OwnState
+own_written proc now pressed own Later number value = own
+own_written proc now pressed own Tmcnt number value = timer_written own now number value
+own_written proc now pressed own Keyinput number value = own
+own_written proc now pressed own Keycnt number value = keycnt_written own pressed (value % 2 ^ 16)
+own_written proc now pressed own Extkeyin number value = own
+own_written proc now pressed own Ipcsync number value = own
+own_written proc now pressed own Ipcfifocnt number value = own
+own_written proc now pressed own Ipcfifosend number value = own
+own_written proc now pressed own Ipcfiforecv number value = own
+own_written proc now pressed own Ime number value = ime_set own value
+own_written proc now pressed own Ie number value = ie_set proc own value
+own_written proc now pressed own If number value = if_set own value
+own_written proc now pressed own VramcntAToG number value = own
+own_written proc now pressed own VramcntHToI number value = own
+own_written proc now pressed own Wramcnt number value = own
+own_written proc now pressed own Vramstat number value = own
+own_written proc now pressed own Wramstat number value = own
+own_written proc now pressed own Postflg number value = own
+own_written proc now pressed own Haltcnt number value = haltcnt_written own (value % 2 ^ 8)
+
+-- what a write of all its bytes leaves; registers that are read alone ignore it
+abbrev pub register_written : Proc → Tick → UnitsState → Register → ℕ → ℕ → UnitsState
+register_written proc now u Later number value = u
+register_written proc now u Tmcnt number value = with_own proc u (own_written proc now u.pressed (own_of u proc) Tmcnt number value)
+register_written proc now u Keyinput number value = u
+register_written proc now u Keycnt number value = with_own proc u (own_written proc now u.pressed (own_of u proc) Keycnt number value)
+register_written proc now u Extkeyin number value = u
+register_written proc now u Ipcsync number value = sync_set proc u (value % 2 ^ 16)
+register_written proc now u Ipcfifocnt number value = fifo_control_set proc u (value % 2 ^ 16)
+register_written proc now u Ipcfifosend number value = word_sent proc u value
+register_written proc now u Ipcfiforecv number value = u
+register_written proc now u Ime number value = with_own proc u (own_written proc now u.pressed (own_of u proc) Ime number value)
+register_written proc now u Ie number value = with_own proc u (own_written proc now u.pressed (own_of u proc) Ie number value)
+register_written proc now u If number value = with_own proc u (own_written proc now u.pressed (own_of u proc) If number value)
+register_written proc now u VramcntAToG number value = bank_set u number (value % 2 ^ 8)
+register_written proc now u VramcntHToI number value = bank_set u (7 + number) (value % 2 ^ 8)
+-- bits 0 and 1 are kept (GBATEK, "DS Memory Control - WRAM")
+register_written proc now u Wramcnt number value = record u { wramcnt = value % 2 ^ 2 }
+register_written proc now u Wramstat number value = u
+register_written proc now u Vramstat number value = u
+register_written proc now u Postflg number value = u
+register_written proc now u Haltcnt number value = with_own proc u (own_written proc now u.pressed (own_of u proc) Haltcnt number value)
+
+-- the stop for which a write is refused: HALTCNT's modes 1 and 3 are left out, GBA mode and sleep (GBATEK, "DS Power Control")
+abbrev pub is_mode_left_out : ℕ → Bool
+is_mode_left_out value = (bits 6 2 value == 1) || (bits 6 2 value == 3)
+
+abbrev pub halt_refusal : ℕ → Option Stop
+halt_refusal value = if is_mode_left_out value then Some (record { kind = HaltMode; value = value }) else None
+
+abbrev pub register_refusal : Register → ℕ → Option Stop
+register_refusal Later value = None
+register_refusal Tmcnt value = None
+register_refusal Keyinput value = None
+register_refusal Keycnt value = None
+register_refusal Extkeyin value = None
+register_refusal Ipcsync value = None
+register_refusal Ipcfifocnt value = None
+register_refusal Ipcfifosend value = None
+register_refusal Ipcfiforecv value = None
+register_refusal Ime value = None
+register_refusal Ie value = None
+register_refusal If value = None
+register_refusal VramcntAToG value = None
+register_refusal VramcntHToI value = None
+register_refusal Wramcnt value = None
+register_refusal Vramstat value = None
+register_refusal Wramstat value = None
+register_refusal Postflg value = None
+register_refusal Haltcnt value = halt_refusal (value % 2 ^ 8)

@@ -1,0 +1,306 @@
+//! Accesses of ports.
+
+ghost use Rattle.std.specs.Prelude.{◌≡◌, ◌<◌, ◌≤◌, ◌+◌, ◌^◌, IfSome, Some};
+ghost use Rattle.ds_base.specs.Numbers.{width_bytes};
+ghost use Rattle.ds_base.specs.Schedules.{IsEarly};
+ghost use Rattle.ds_ports.specs.Ports.{byte_refusal, byte_written, first_stop, half_refusal, half_written, ignores, is_slot_built, joined, part, port_byte, port_half, port_is_built, port_read, port_refusal, port_value, port_word, port_written, slot_refusal, slot_value, slot_written, whole_in, word_refusal, word_written};
+ghost use Rattle.ds_ports.specs.RegisterMap.{IsSlot};
+
+use crate::registers::{Register, Slot, slot_of};
+use crate::units::{Units, refusal_of};
+use ds_base::{Proc, Stop, Tick, Width};
+
+/// How many bytes an access moves.
+#[inline(always)]
+fn bytes_of(width: Width) -> u32
+    ensures { result ≡ width_bytes width }
+{
+    match width {
+        Width::Byte => 1,
+        Width::Half => 2,
+        Width::Word => 4,
+    }
+}
+
+/// So many bits of a number as the width has, from a byte of it on; 0 beyond its end.
+pub fn part(width: Width, byte: u32, number: u32) -> u32
+    requires { byte < 4 }
+    ensures { result ≡ part width byte number }
+{
+    let rest = number >> (8 * byte);
+    match width {
+        Width::Byte => rest % 0x100,
+        Width::Half => rest % 0x1_0000,
+        Width::Word => rest,
+    }
+}
+
+/// A kept number, with some of its bytes written.
+fn joined(width: Width, byte: u32, kept: u32, value: u32) -> u32
+    requires { byte + width_bytes width ≤ 4 }
+    ensures { result ≡ joined width byte kept value }
+{
+    match (width, byte) {
+        (Width::Byte, 0) => value % 0x100 + kept / 0x100 * 0x100,
+        (Width::Byte, 1) => kept % 0x100 + value % 0x100 * 0x100 + kept / 0x1_0000 * 0x1_0000,
+        (Width::Byte, 2) => kept % 0x1_0000
+            + value % 0x100 * 0x1_0000
+            + kept / 0x100_0000 * 0x100_0000,
+        (Width::Byte, _) => kept % 0x100_0000 + value % 0x100 * 0x100_0000,
+        (Width::Half, 0) => value % 0x1_0000 + kept / 0x1_0000 * 0x1_0000,
+        (Width::Half, 1) => kept % 0x100
+            + value % 0x1_0000 * 0x100
+            + kept / 0x100_0000 * 0x100_0000,
+        (Width::Half, _) => kept % 0x1_0000 + value % 0x1_0000 * 0x1_0000,
+        (Width::Word, _) => value,
+    }
+}
+
+/// The register in which an access lies, if it lies in one.
+#[inline(always)]
+fn whole_in(width: Width, slot: Option<Slot>) -> Option<Slot>
+    requires { IfSome slot IsSlot }
+    ensures value { result ≡ whole_in width slot }
+    ensures within { IfSome result (λ s. IsSlot s × (s.byte + width_bytes width ≤ 4)) }
+{
+    match slot {
+        Some(slot) if slot.byte + bytes_of(width) <= slot.bytes => Some(slot),
+        _ => None,
+    }
+}
+
+/// Whether a register ignores an access of a width: it takes whole words, and the access is narrower.
+#[inline(always)]
+fn ignores(width: Width, register: Register) -> bool
+    ensures { result ≡ ignores width register }
+{
+    width != Width::Word && matches!(register, Register::Ipcfifosend | Register::Ipcfiforecv)
+}
+
+/// The first of two stops.
+fn first_stop(first: Option<Stop>, other: Option<Stop>) -> Option<Stop>
+    ensures { result ≡ first_stop first other }
+{
+    match first {
+        Some(stop) => Some(stop),
+        None => other,
+    }
+}
+
+impl Units {
+    /// What some bytes of a register read.
+    fn slot_value(&self, proc: Proc, now: Tick, width: Width, slot: Slot) -> u32
+        requires { IsSlot slot }
+        ensures { result ≡ slot_value proc now self.now width slot }
+    {
+        if ignores(width, slot.register) {
+            return 0;
+        }
+        part(
+            width,
+            slot.byte,
+            self.value_of(proc, now, slot.register, slot.number),
+        )
+    }
+
+    /// What a byte reads.
+    fn read_byte(&self, proc: Proc, now: Tick, at: u32) -> u32
+        ensures value { result ≡ port_byte proc now self.now at }
+        ensures within { result < 2 ^ 8 }
+    {
+        match slot_of(proc, at) {
+            Some(slot) => self.slot_value(proc, now, Width::Byte, slot),
+            None => 0,
+        }
+    }
+
+    /// What a half reads.
+    fn read_half(&self, proc: Proc, now: Tick, at: u32) -> u32
+        requires { at < 2 ^ 31 }
+        ensures value { result ≡ port_half proc now self.now at }
+        ensures within { result < 2 ^ 16 }
+    {
+        match whole_in(Width::Half, slot_of(proc, at)) {
+            Some(slot) => self.slot_value(proc, now, Width::Half, slot),
+            None => self.read_byte(proc, now, at) + 0x100 * self.read_byte(proc, now, at + 1),
+        }
+    }
+
+    /// What a word reads.
+    fn read_word(&self, proc: Proc, now: Tick, at: u32) -> u32
+        requires { at < 2 ^ 30 }
+        ensures { result ≡ port_word proc now self.now at }
+    {
+        match whole_in(Width::Word, slot_of(proc, at)) {
+            Some(slot) => self.slot_value(proc, now, Width::Word, slot),
+            None => self.read_half(proc, now, at) + 0x1_0000 * self.read_half(proc, now, at + 2),
+        }
+    }
+
+    /// What a processor's access reads at an offset from 4000000h, at a tick.
+    #[tactic(auto, unfolding(crate::specs::Ports::port_value))]
+    pub fn value(&self, proc: Proc, now: Tick, at: u32, width: Width) -> u32
+        requires { at < 2 ^ 24 }
+        ensures { result ≡ port_value proc now self.now at width }
+    {
+        match width {
+            Width::Byte => self.read_byte(proc, now, at),
+            Width::Half => self.read_half(proc, now, at),
+            Width::Word => self.read_word(proc, now, at),
+        }
+    }
+
+    /// What a processor's read leaves. Only one of a whole word changes anything: it takes the word that is received.
+    #[tactic(auto, unfolding(crate::specs::Ports::port_read))]
+    pub fn read(&mut self, proc: Proc, at: u32, width: Width)
+        ensures { self.new ≡ port_read proc self.old at width }
+    {
+        if width == Width::Word {
+            if let Some(slot) = whole_in(Width::Word, slot_of(proc, at)) {
+                self.read_register(proc, slot.register);
+            }
+        }
+    }
+
+    /// Writes some bytes of a register.
+    fn write_part(&mut self, proc: Proc, now: Tick, width: Width, slot: Slot, value: u32)
+        requires slot { IsSlot slot }
+        requires whole { slot.byte + width_bytes width ≤ 4 }
+        requires early { IsEarly (Some now) }
+        ensures { self.new ≡ slot_written proc now self.old width slot value }
+    {
+        if !ignores(width, slot.register) {
+            let kept = self.kept_of(proc, slot.register, slot.number);
+            let value = joined(width, slot.byte, kept, value);
+            self.write_register(proc, now, slot.register, slot.number, value);
+        }
+    }
+
+    /// Writes a byte.
+    fn write_byte(&mut self, proc: Proc, now: Tick, at: u32, value: u32)
+        requires { IsEarly (Some now) }
+        ensures { self.new ≡ byte_written proc now self.old at value }
+    {
+        if let Some(slot) = slot_of(proc, at) {
+            self.write_part(proc, now, Width::Byte, slot, value);
+        }
+    }
+
+    /// Writes a half.
+    fn write_half(&mut self, proc: Proc, now: Tick, at: u32, value: u32)
+        requires at { at < 2 ^ 31 }
+        requires early { IsEarly (Some now) }
+        ensures { self.new ≡ half_written proc now self.old at value }
+    {
+        match whole_in(Width::Half, slot_of(proc, at)) {
+            Some(slot) => self.write_part(proc, now, Width::Half, slot, value),
+            None => {
+                self.write_byte(proc, now, at, value);
+                self.write_byte(proc, now, at + 1, value >> 8);
+            }
+        }
+    }
+
+    /// Writes a word.
+    fn write_word(&mut self, proc: Proc, now: Tick, at: u32, value: u32)
+        requires at { at < 2 ^ 30 }
+        requires early { IsEarly (Some now) }
+        ensures { self.new ≡ word_written proc now self.old at value }
+    {
+        match whole_in(Width::Word, slot_of(proc, at)) {
+            Some(slot) => self.write_part(proc, now, Width::Word, slot, value),
+            None => {
+                self.write_half(proc, now, at, value);
+                self.write_half(proc, now, at + 2, value >> 16);
+            }
+        }
+    }
+
+    /// A processor's write at an offset from 4000000h, at a tick, where it isn't refused.
+    #[tactic(auto, unfolding(crate::specs::Ports::port_written))]
+    pub fn write(&mut self, proc: Proc, now: Tick, at: u32, width: Width, value: u32)
+        requires at { at < 2 ^ 24 }
+        requires early { IsEarly (Some now) }
+        ensures { self.new ≡ port_written proc now self.old at width value }
+    {
+        match width {
+            Width::Byte => self.write_byte(proc, now, at, value),
+            Width::Half => self.write_half(proc, now, at, value),
+            Width::Word => self.write_word(proc, now, at, value),
+        }
+    }
+
+    /// The stop for which a write of some bytes of a register is refused.
+    fn part_refusal(&self, proc: Proc, width: Width, slot: Slot, value: u32) -> Option<Stop>
+        requires slot { IsSlot slot }
+        requires whole { slot.byte + width_bytes width ≤ 4 }
+        ensures { result ≡ slot_refusal proc self.now width slot value }
+    {
+        if ignores(width, slot.register) {
+            return None;
+        }
+        let kept = self.kept_of(proc, slot.register, slot.number);
+        refusal_of(slot.register, joined(width, slot.byte, kept, value))
+    }
+
+    fn byte_refusal(&self, proc: Proc, at: u32, value: u32) -> Option<Stop>
+        ensures { result ≡ byte_refusal proc self.now at value }
+    {
+        match slot_of(proc, at) {
+            Some(slot) => self.part_refusal(proc, Width::Byte, slot, value),
+            None => None,
+        }
+    }
+
+    fn half_refusal(&self, proc: Proc, at: u32, value: u32) -> Option<Stop>
+        requires { at < 2 ^ 31 }
+        ensures { result ≡ half_refusal proc self.now at value }
+    {
+        match whole_in(Width::Half, slot_of(proc, at)) {
+            Some(slot) => self.part_refusal(proc, Width::Half, slot, value),
+            None => first_stop(
+                self.byte_refusal(proc, at, value),
+                self.byte_refusal(proc, at + 1, value >> 8),
+            ),
+        }
+    }
+
+    fn word_refusal(&self, proc: Proc, at: u32, value: u32) -> Option<Stop>
+        requires { at < 2 ^ 30 }
+        ensures { result ≡ word_refusal proc self.now at value }
+    {
+        match whole_in(Width::Word, slot_of(proc, at)) {
+            Some(slot) => self.part_refusal(proc, Width::Word, slot, value),
+            None => first_stop(
+                self.half_refusal(proc, at, value),
+                self.half_refusal(proc, at + 2, value >> 16),
+            ),
+        }
+    }
+
+    /// The stop for which a processor's write at an offset from 4000000h is refused, if it is: exactly where it would write HALTCNT's modes 1
+    /// or 3, kind HaltMode with the byte written.
+    #[tactic(auto, unfolding(crate::specs::Ports::port_refusal))]
+    pub fn refusal(&self, proc: Proc, at: u32, width: Width, value: u32) -> Option<Stop>
+        requires { at < 2 ^ 24 }
+        ensures { result ≡ port_refusal proc self.now at width value }
+    {
+        match width {
+            Width::Byte => self.byte_refusal(proc, at, value),
+            Width::Half => self.half_refusal(proc, at, value),
+            Width::Word => self.word_refusal(proc, at, value),
+        }
+    }
+}
+
+/// Whether a byte of the ports is built for a processor: those of each register but those that are to come, and those that are no port,
+/// which read 0.
+#[tactic(auto, unfolding(crate::specs::Ports::port_is_built))]
+pub fn port_is_built(proc: Proc, at: u32) -> bool
+    ensures { result ≡ port_is_built proc at }
+{
+    match slot_of(proc, at) {
+        Some(slot) => slot.register != Register::Later,
+        None => true,
+    }
+}

@@ -1,27 +1,50 @@
-use Rattle.std.specs.Prelude.{ℕ, ◌&&◌, Bool, true, false, if◌then◌else◌}
+use Rattle.std.specs.Prelude.{ℕ, ◌-◌, ◌%◌, ◌&&◌, Bool, true, false, if◌then◌else◌, Option, Some, None}
 use Rattle.ds_base.specs.Numbers.{aligned_down, number_at, with_number}
 use Rattle.ds_base.specs.declared.memories.Memory.{Memory}
 use Rattle.ds_base.specs.declared.memories.Memory.TheVariants.{Main, Shared, Own7, Itcm, Dtcm, Palette, Vram, Oam}
 use Rattle.ds_base.specs.declared.memories.Width.{Width}
 use Rattle.ds_base.specs.declared.memories.Width.TheVariants.{Byte, Half, Word}
+use Rattle.ds_base.specs.declared.left_out.Stop.{Stop}
+use Rattle.ds_base.specs.declared.ticks.Tick.{Tick}
 use Rattle.ds_base.specs.declared.processors.Proc.{Proc}
 use Rattle.ds_base.specs.declared.processors.Proc.TheVariants.{Nine, Seven}
 use Rattle.ds_places.specs.AddressTables.{place_of}
 use Rattle.ds_places.specs.declared.kinds.Place.{Place}
 use Rattle.ds_places.specs.declared.kinds.Place.TheVariants.{Cell, Banks, Port, Rom, Nothing}
+use Rattle.ds_places.specs.BootRom.{boot_word}
+use Rattle.ds_ports.specs.Ports.{part, port_read, port_refusal, port_value, port_written}
 use Rattle.vram_banks.specs.Cells.{vram_value, vram_written}
 use Rattle.ds_map.specs.Maps.{MapState, cells_of, with_cells}
 
 -- What accesses past the tightly coupled memories read and write. They are aligned down to their width (ARM manual, A2.8 "Unaligned
 -- access support").
 
--- what is read at a place; ports and the boot ROM aren't built yet, and read as 0
-abbrev pub value_at : Place → MapState → Width → ℕ
-value_at (Cell memory at) m width = number_at width (cells_of m memory) (aligned_down width at)
-value_at (Banks space at) m width = vram_value m.vram space at width
-value_at (Port at) m width = 0
-value_at (Rom at) m width = 0
-value_at Nothing m width = 0
+-- what is read of the boot ROM: of the word that stands there, the part that the access covers
+abbrev pub rom_value : Proc → ℕ → Width → ℕ
+rom_value proc at width = part width (at % 4) (boot_word proc (at - at % 4))
+
+-- what is read at a place, at a tick, and what the read leaves
+abbrev pub value_at : Proc → Tick → Place → MapState → Width → ℕ
+value_at proc now (Cell memory at) m width = number_at width (cells_of m memory) (aligned_down width at)
+value_at proc now (Banks space at) m width = vram_value m.units.vram space at width
+value_at proc now (Port at) m width = port_value proc now m.units (aligned_down width at) width
+value_at proc now (Rom at) m width = rom_value proc (aligned_down width at) width
+value_at proc now Nothing m width = 0
+
+abbrev pub left_at : Proc → Place → MapState → Width → MapState
+left_at proc (Cell memory at) m width = m
+left_at proc (Banks space at) m width = m
+left_at proc (Port at) m width = record m { units = port_read proc m.units (aligned_down width at) width }
+left_at proc (Rom at) m width = m
+left_at proc Nothing m width = m
+
+-- what is fetched at a place: from a port 0 (our choice)
+abbrev pub fetched_at : Proc → Place → MapState → Width → ℕ
+fetched_at proc (Cell memory at) m width = number_at width (cells_of m memory) (aligned_down width at)
+fetched_at proc (Banks space at) m width = vram_value m.units.vram space at width
+fetched_at proc (Port at) m width = 0
+fetched_at proc (Rom at) m width = rom_value proc (aligned_down width at) width
+fetched_at proc Nothing m width = 0
 
 -- the memories that take no bytes of ARM9, and its byte accesses (GBATEK, "DS Memory Map": palettes, video memory and OAM are written
 -- by halves and words)
@@ -41,21 +64,44 @@ is_byte_of_nine Nine Half = false
 is_byte_of_nine Nine Word = false
 is_byte_of_nine Seven width = false
 
+-- the stop for which a write is refused
+abbrev pub refusal_at : Proc → Place → MapState → Width → ℕ → Option Stop
+refusal_at proc (Cell memory at) m width value = None
+refusal_at proc (Banks space at) m width value = None
+refusal_at proc (Port at) m width value = port_refusal proc m.units (aligned_down width at) width value
+refusal_at proc (Rom at) m width value = None
+refusal_at proc Nothing m width value = None
+
+-- what a write of a port leaves: one that is refused leaves all
+abbrev pub port_put : Proc → Tick → Option Stop → MapState → ℕ → Width → ℕ → MapState
+port_put proc now None m at width value = record m { units = port_written proc now m.units at width value }
+port_put proc now (Some stop) m at width value = m
+
 -- what a write leaves
-abbrev pub put_at : Proc → Place → MapState → Width → ℕ → MapState
-put_at proc (Cell memory at) m width value =
+abbrev pub put_at : Proc → Tick → Place → MapState → Width → ℕ → MapState
+put_at proc now (Cell memory at) m width value =
     if is_byte_of_nine proc width && takes_no_bytes memory then m
     else with_cells memory m (with_number width (cells_of m memory) (aligned_down width at) value)
-put_at proc (Banks space at) m width value =
+put_at proc now (Banks space at) m width value =
     if is_byte_of_nine proc width && takes_no_bytes Vram then m
-    else record m { vram = vram_written m.vram space at width value }
-put_at proc (Port at) m width value = m
-put_at proc (Rom at) m width value = m
-put_at proc Nothing m width value = m
+    else record m { units = record m.units { vram = vram_written m.units.vram space at width value } }
+put_at proc now (Port at) m width value =
+    port_put proc now (port_refusal proc m.units (aligned_down width at) width value) m (aligned_down width at) width value
+put_at proc now (Rom at) m width value = m
+put_at proc now Nothing m width value = m
 
--- what a processor reads and writes at an address, past the tightly coupled memories
-unfoldable pub map_value : Proc → MapState → ℕ → Width → ℕ
-map_value proc m at width = value_at (place_of proc m.wramcnt at) m width
+-- what a processor reads, fetches and writes at an address at a tick, what a read leaves, and why a write is refused, past the tightly coupled memories
+unfoldable pub map_value : Proc → Tick → MapState → ℕ → Width → ℕ
+map_value proc now m at width = value_at proc now (place_of proc m.units.wramcnt at) m width
 
-unfoldable pub map_written : Proc → MapState → ℕ → Width → ℕ → MapState
-map_written proc m at width value = put_at proc (place_of proc m.wramcnt at) m width value
+unfoldable pub map_read : Proc → MapState → ℕ → Width → MapState
+map_read proc m at width = left_at proc (place_of proc m.units.wramcnt at) m width
+
+unfoldable pub map_fetched : Proc → MapState → ℕ → Width → ℕ
+map_fetched proc m at width = fetched_at proc (place_of proc m.units.wramcnt at) m width
+
+unfoldable pub map_refusal : Proc → MapState → ℕ → Width → ℕ → Option Stop
+map_refusal proc m at width value = refusal_at proc (place_of proc m.units.wramcnt at) m width value
+
+unfoldable pub map_written : Proc → Tick → MapState → ℕ → Width → ℕ → MapState
+map_written proc now m at width value = put_at proc now (place_of proc m.units.wramcnt at) m width value

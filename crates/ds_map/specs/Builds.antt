@@ -5,25 +5,19 @@ use Rattle.cp15_tcm.specs.Registers.{Cp15State}
 use Rattle.cp15_tcm.specs.TightlyCoupled.{tcm_of}
 use Rattle.cp15_tcm.specs.declared.answers.Tcm.{Tcm}
 use Rattle.cp15_tcm.specs.declared.answers.Tcm.TheVariants.{Itcm, Dtcm, Past}
+use Rattle.ds_ports.specs.Ports.{port_is_built}
 use Rattle.ds_places.specs.AddressTables.{place_of}
 use Rattle.ds_places.specs.declared.kinds.Place.{Place}
 use Rattle.ds_places.specs.declared.kinds.Place.TheVariants.{Cell, Banks, Port, Rom, Nothing}
 
--- Which places are built so far: for data all but ports and the boot ROM, for fetches all but the boot ROM (from a port they give 0).
+-- Which places are built so far: for data all but some ports; for fetches all (from a port they give 0).
 
-abbrev pub is_data_built : Place → Bool
-is_data_built (Cell memory at) = true
-is_data_built (Banks space at) = true
-is_data_built (Port at) = false
-is_data_built (Rom at) = false
-is_data_built Nothing = true
-
-abbrev pub is_code_built : Place → Bool
-is_code_built (Cell memory at) = true
-is_code_built (Banks space at) = true
-is_code_built (Port at) = true
-is_code_built (Rom at) = false
-is_code_built Nothing = true
+abbrev pub is_data_built : Proc → Place → Bool
+is_data_built proc (Cell memory at) = true
+is_data_built proc (Banks space at) = true
+is_data_built proc (Port at) = port_is_built proc at
+is_data_built proc (Rom at) = true
+is_data_built proc Nothing = true
 
 -- where a tightly coupled memory answers all is built
 abbrev pub past_is_built : Tcm → Bool → Bool
@@ -31,11 +25,7 @@ past_is_built (Itcm place) built = true
 past_is_built (Dtcm place) built = true
 past_is_built Past built = built
 
--- whether a processor's fetch at an address is built, and whether a byte of its data is, by the place that a read of it has
-unfoldable pub fetch_is_built : Proc → Cp15State → ℕ → ℕ → Bool
-fetch_is_built Nine cp15 wramcnt at = past_is_built (tcm_of cp15 at false true) (is_code_built (place_of Nine wramcnt at))
-fetch_is_built Seven cp15 wramcnt at = is_code_built (place_of Seven wramcnt at)
-
+-- whether a byte of a processor's data is built, by the place that a read of it has
 unfoldable pub byte_is_built : Proc → Cp15State → ℕ → ℕ → Bool
-byte_is_built Nine cp15 wramcnt at = past_is_built (tcm_of cp15 at false false) (is_data_built (place_of Nine wramcnt at))
-byte_is_built Seven cp15 wramcnt at = is_data_built (place_of Seven wramcnt at)
+byte_is_built Nine cp15 wramcnt at = past_is_built (tcm_of cp15 at false false) (is_data_built Nine (place_of Nine wramcnt at))
+byte_is_built Seven cp15 wramcnt at = is_data_built Seven (place_of Seven wramcnt at)

@@ -3,23 +3,18 @@ use Rattle.ds_base.specs.Memories.{memory_size}
 use Rattle.ds_base.specs.Numbers.{zeroes}
 use Rattle.ds_base.specs.declared.memories.Memory.{Memory}
 use Rattle.ds_base.specs.declared.memories.Memory.TheVariants.{Main, Shared, Own7, Itcm, Dtcm, Palette, Vram, Oam}
-use Rattle.vram_banks.specs.Cells.{Banks, blank_banks}
+use Rattle.ds_ports.specs.Units.{UnitsState, units_at_boot}
 
 -- What stands behind the addresses past the tightly coupled memories (GBATEK, "DS Memory Map").
 
--- the memories there, and WRAMCNT, the port that shares out the shared work RAM (GBATEK, "DS Memory Control - WRAM")
+-- the memories there, and the units behind the ports, which have video memory and WRAMCNT
 pub record MapState : Type 0 where
   pub main : List ℕ
   pub shared : List ℕ
   pub own : List ℕ
   pub palette : List ℕ
-  pub vram : Banks
   pub oam : List ℕ
-  pub wramcnt : ℕ
-
--- what WRAMCNT keeps at boot: ARM7 has all of the shared work RAM (our choice)
-abbrev pub wramcnt_at_boot : ℕ
-wramcnt_at_boot = 3
+  pub units : UnitsState
 
 -- all memories are zeros
 abbrev pub blank_map : MapState
@@ -28,9 +23,8 @@ blank_map = record {
   shared = zeroes (memory_size Shared);
   own = zeroes (memory_size Own7);
   palette = zeroes (memory_size Palette);
-  vram = blank_banks;
   oam = zeroes (memory_size Oam);
-  wramcnt = wramcnt_at_boot;
+  units = units_at_boot;
 }
 
 -- the bytes of a memory as cells at addresses; the tightly coupled ones aren't there, and video memory is reached by its banks
@@ -63,5 +57,5 @@ memory_bytes m Own7 = m.own
 memory_bytes m Itcm = []
 memory_bytes m Dtcm = []
 memory_bytes m Palette = m.palette
-memory_bytes m Vram = m.vram.bytes
+memory_bytes m Vram = m.units.vram.bytes
 memory_bytes m Oam = m.oam

@@ -1,8 +1,9 @@
 //! The memory map: what both processors reach through their buses, and their views of it.
 //!
-//! A `Map` has the memories past ARM9's tightly coupled ones, and WRAMCNT; it is seen as a `MapState` (specs/Maps.antt). A view lends
-//! its parts to a processor for one step: ARM7's is the map alone, ARM9's has the tightly coupled memories before it. Each view is a
-//! memory machine by definition (specs/Views.antt) and a `Bus` by code. (GBATEK, "DS Memory Map".)
+//! A `Map` has the memories past ARM9's tightly coupled ones, and the units behind the ports; it is seen as a `MapState`
+//! (specs/Maps.antt). A view lends its parts to a processor for one step: ARM7's is the map alone, as is that of a DMA channel; ARM9's
+//! has the tightly coupled memories before it. Each view is a memory machine by definition (specs/Views.antt) and a `Bus` by code.
+//! (GBATEK, "DS Memory Map".)
 #![tactic(auto)]
 
 mod blocks;
@@ -11,6 +12,6 @@ mod maps;
 mod views;
 
 pub use blocks::Block;
-pub use builds::{byte_is_built, fetch_is_built};
+pub use builds::byte_is_built;
 pub use maps::Map;
-pub use views::{NineView, SevenView};
+pub use views::{DmaView, NineView, SevenView};

@@ -1,45 +1,43 @@
 //! The map.
 
-ghost use Rattle.std.specs.Prelude.{◌≡◌, ◌<◌, ◌&&◌, slice_index, IfOk, if◌then◌else◌};
+ghost use Rattle.std.specs.Prelude.{◌≡◌, ◌<◌, ◌^◌, ◌&&◌, slice_index, IfOk, IsSome, Some, if◌then◌else◌};
 ghost use Rattle.ds_base.specs.Memories.{memory_size};
 ghost use Rattle.ds_base.specs.Numbers.{aligned_down, number_at, with_number};
 ghost use Rattle.ds_places.specs.AddressTables.{IsInside};
 ghost use Rattle.ds_map.specs.Maps.{blank_map, cells_of, memory_bytes, with_cells};
-ghost use Rattle.ds_map.specs.Accesses.{is_byte_of_nine, map_value, map_written, put_at, takes_no_bytes, value_at};
+ghost use Rattle.ds_base.specs.Schedules.{IsEarly};
+ghost use Rattle.ds_timers.specs.Irqs.{line_is_up};
+ghost use Rattle.ds_timers.specs.Timing.{timer_at, timer_due};
+ghost use Rattle.ds_ports.specs.Ports.{port_read, port_refusal, port_value};
+ghost use Rattle.ds_ports.specs.Units.{keys_pressed, own_of, timer_overflows, with_halted};
+ghost use Rattle.ds_map.specs.Accesses.{fetched_at, is_byte_of_nine, left_at, map_fetched, map_read, map_refusal, map_value, map_written, port_put, put_at, refusal_at, rom_value, takes_no_bytes, value_at};
 
 use crate::blocks::Block;
 use ds_base::{
-    MAIN_BYTES, Memory, OAM_BYTES, OWN7_BYTES, PALETTE_BYTES, Proc, SHARED_BYTES, Width,
+    MAIN_BYTES, Memory, OAM_BYTES, OWN7_BYTES, PALETTE_BYTES, Proc, SHARED_BYTES, Stop, Tick, Width,
 };
-use ds_places::{Place, place};
+use ds_places::{Place, place, rom_word};
+use ds_ports::{Units, part};
 use std::alloc::{AllocError, Global};
 use std::marker::Model;
-use vram_banks::Vram;
 
-/// What WRAMCNT keeps at boot: ARM7 has all of the shared work RAM. (Our choice; GBATEK, "DS Memory Control - WRAM".)
-const WRAMCNT_AT_BOOT: u8 = 3;
-
-/// The memories past ARM9's tightly coupled ones, and WRAMCNT.
+/// The memories past ARM9's tightly coupled ones, and the units behind the ports, which have video memory and WRAMCNT.
 #[derive(Drop)]
 pub struct Map {
     main: Block<MAIN_BYTES>,
     shared: Block<SHARED_BYTES>,
     own: Block<OWN7_BYTES>,
     palette: Block<PALETTE_BYTES>,
-    vram: Vram,
     oam: Block<OAM_BYTES>,
-    wramcnt: u8,
+    units: Units,
 }
 
 impl Model for Map {
     ghost use Rattle.ds_map.specs.Maps.{MapState};
-    ghost use Rattle.std.specs.Prelude.{◌<◌};
 
     ghost Value = { MapState };
 
-    ghost view = { λ m. record { main = m.main; shared = m.shared; own = m.own; palette = m.palette; vram = m.vram; oam = m.oam; wramcnt = m.wramcnt } };
-
-    ghost invariant = { λ m. m.wramcnt < 4 };
+    ghost view = { λ m. record { main = m.main; shared = m.shared; own = m.own; palette = m.palette; oam = m.oam; units = m.units } };
 }
 
 impl Map {
@@ -52,26 +50,25 @@ impl Map {
             shared: Block::new(alloc)?,
             own: Block::new(alloc)?,
             palette: Block::new(alloc)?,
-            vram: Vram::new(alloc)?,
             oam: Block::new(alloc)?,
-            wramcnt: WRAMCNT_AT_BOOT,
+            units: Units::new(alloc)?,
         })
     }
 
     /// What WRAMCNT keeps.
     #[inline(always)]
     pub fn wramcnt(&self) -> u8
-        ensures value { result ≡ self.now.wramcnt }
+        ensures value { result ≡ self.now.units.wramcnt }
         ensures within { result < 4 }
     {
-        self.wramcnt
+        self.units.wramcnt()
     }
 
     /// The number at a cell of a memory, aligned down.
     #[inline(always)]
     fn cell(&self, memory: Memory, at: u32, width: Width) -> u32
         requires { at < memory_size memory }
-        ensures { result ≡ value_at (Place.Cell memory at) self.now width }
+        ensures { result ≡ number_at width (cells_of self.now memory) (aligned_down width at) }
     {
         let at = at as usize;
         match memory {
@@ -101,24 +98,82 @@ impl Map {
         }
     }
 
-    /// What is read at a place.
+    /// What is read of a port, and the read.
+    fn read_port(&mut self, proc: Proc, now: Tick, at: u32, width: Width) -> u32
+        requires { at < 2 ^ 24 }
+        ensures value { result ≡ port_value proc now self.old.units at width }
+        ensures next { self.new ≡ record self.old { units = port_read proc self.old.units at width } }
+    {
+        let value = self.units.value(proc, now, at, width);
+        self.units.read(proc, at, width);
+        value
+    }
+
+    /// What is read at a place at a tick, and the read.
     #[inline(always)]
-    fn read_at(&self, place: Place, width: Width) -> u32
+    fn read_at(&mut self, proc: Proc, now: Tick, place: Place, width: Width) -> u32
         requires { IsInside place }
-        ensures { result ≡ value_at place self.now width }
+        ensures value { result ≡ value_at proc now place self.old width }
+        ensures next { self.new ≡ left_at proc place self.old width }
     {
         match place {
             Place::Cell { memory, at } => self.cell(memory, at, width),
-            Place::Banks { space, at } => self.vram.read(space, at, width),
-            Place::Port(_) | Place::Rom(_) | Place::Nothing => 0,
+            Place::Banks { space, at } => self.units.vram().read(space, at, width),
+            Place::Port(at) => self.read_port(proc, now, aligned_down(width, at), width),
+            Place::Rom(at) => rom_value(proc, aligned_down(width, at), width),
+            Place::Nothing => 0,
         }
     }
 
-    /// Writes a value at a place, for a processor.
+    /// What is fetched at a place.
     #[inline(always)]
-    fn write_at(&mut self, proc: Proc, place: Place, width: Width, value: u32)
+    fn fetch_at(&self, proc: Proc, place: Place, width: Width) -> u32
         requires { IsInside place }
-        ensures { self.new ≡ put_at proc place self.old width value }
+        ensures { result ≡ fetched_at proc place self.now width }
+    {
+        match place {
+            Place::Cell { memory, at } => self.cell(memory, at, width),
+            Place::Banks { space, at } => self.units.vram().read(space, at, width),
+            Place::Rom(at) => rom_value(proc, aligned_down(width, at), width),
+            Place::Port(_) | Place::Nothing => 0,
+        }
+    }
+
+    /// Writes a port, unless it is refused.
+    fn write_port(
+        &mut self,
+        proc: Proc,
+        now: Tick,
+        at: u32,
+        width: Width,
+        value: u32,
+    ) -> Option<Stop>
+        requires at { at < 2 ^ 24 }
+        requires early { IsEarly (Some now) }
+        ensures refusal { result ≡ port_refusal proc self.old.units at width value }
+        ensures next { self.new ≡ port_put proc now (port_refusal proc self.old.units at width value) self.old at width value }
+    {
+        let refusal = self.units.refusal(proc, at, width, value);
+        if refusal.is_none() {
+            self.units.write(proc, now, at, width, value);
+        }
+        refusal
+    }
+
+    /// Writes a value at a place, for a processor at a tick, unless it is refused.
+    #[inline(always)]
+    fn write_at(
+        &mut self,
+        proc: Proc,
+        now: Tick,
+        place: Place,
+        width: Width,
+        value: u32,
+    ) -> Option<Stop>
+        requires inside { IsInside place }
+        requires early { IsEarly (Some now) }
+        ensures refusal { result ≡ refusal_at proc place self.old width value }
+        ensures next { self.new ≡ put_at proc now place self.old width value }
     {
         let byte = is_byte_of_nine(proc, width);
         match place {
@@ -126,32 +181,99 @@ impl Map {
                 if !(byte && takes_no_bytes(memory)) {
                     self.set_cell(memory, at, width, value);
                 }
+                None
             }
             Place::Banks { space, at } => {
                 if !byte {
-                    self.vram.write(space, at, width, value);
+                    self.units.write_vram(space, at, width, value);
                 }
+                None
             }
-            Place::Port(_) | Place::Rom(_) | Place::Nothing => {}
+            Place::Port(at) => self.write_port(proc, now, aligned_down(width, at), width, value),
+            Place::Rom(_) | Place::Nothing => None,
         }
     }
 
-    /// What a processor reads or fetches at an address, past the tightly coupled memories.
+    /// What a processor reads at an address at a tick, past the tightly coupled memories, and the read: of a port it may change what stands there.
     #[inline(always)]
-    #[tactic(auto, unfolding(crate::specs::Accesses::map_value))]
-    pub fn read(&self, proc: Proc, at: u32, width: Width) -> u32
-        ensures { result ≡ map_value proc self.now at width }
+    #[tactic(auto, unfolding(crate::specs::Accesses::map_value, crate::specs::Accesses::map_read))]
+    pub fn read(&mut self, proc: Proc, now: Tick, at: u32, width: Width) -> u32
+        ensures value { result ≡ map_value proc now self.old at width }
+        ensures next { self.new ≡ map_read proc self.old at width }
     {
-        self.read_at(place(proc, self.wramcnt, at), width)
+        let place = place(proc, self.wramcnt(), at);
+        self.read_at(proc, now, place, width)
     }
 
-    /// Writes a processor's value at an address, past the tightly coupled memories.
+    /// What a processor fetches at an address, past the tightly coupled memories. From a port it is 0.
     #[inline(always)]
-    #[tactic(auto, unfolding(crate::specs::Accesses::map_written))]
-    pub fn write(&mut self, proc: Proc, at: u32, width: Width, value: u32)
-        ensures { self.new ≡ map_written proc self.old at width value }
+    #[tactic(auto, unfolding(crate::specs::Accesses::map_fetched))]
+    pub fn fetch(&self, proc: Proc, at: u32, width: Width) -> u32
+        ensures { result ≡ map_fetched proc self.now at width }
     {
-        self.write_at(proc, place(proc, self.wramcnt, at), width, value);
+        self.fetch_at(proc, place(proc, self.wramcnt(), at), width)
+    }
+
+    /// Writes a processor's value at an address at a tick, past the tightly coupled memories, unless it is refused: exactly where it is a write of
+    /// a port that refuses it. Then nothing is written.
+    #[inline(always)]
+    #[tactic(auto, unfolding(crate::specs::Accesses::map_refusal, crate::specs::Accesses::map_written))]
+    pub fn write(
+        &mut self,
+        proc: Proc,
+        now: Tick,
+        at: u32,
+        width: Width,
+        value: u32,
+    ) -> Option<Stop>
+        requires { IsEarly (Some now) }
+        ensures refusal { result ≡ map_refusal proc self.old at width value }
+        ensures next { self.new ≡ map_written proc now self.old at width value }
+    {
+        let place = place(proc, self.wramcnt(), at);
+        self.write_at(proc, now, place, width, value)
+    }
+
+    /// The units behind the ports.
+    #[inline(always)]
+    pub fn units(&self) -> &Units
+        ensures { result.now ≡ self.now.units }
+    {
+        &self.units
+    }
+
+    /// Whether the interrupt line of a processor is up.
+    #[inline(always)]
+    pub fn line(&self, proc: Proc) -> bool
+        ensures { result ≡ line_is_up (own_of self.now.units proc).irq }
+    {
+        self.units.line(proc)
+    }
+
+    /// Halts a processor, or lets it go on.
+    #[inline(always)]
+    pub fn set_halted(&mut self, proc: Proc, halted: bool)
+        ensures { self.new ≡ record self.old { units = with_halted proc self.old.units halted } }
+    {
+        self.units.set_halted(proc, halted);
+    }
+
+    /// A processor's timer overflows, and its interrupts are raised.
+    pub fn overflow(&mut self, proc: Proc, which: u8)
+        requires which { which < 4 }
+        requires due { IsSome (timer_due (timer_at (own_of self.old.units proc).timers which)) }
+        requires early { IsEarly (timer_due (timer_at (own_of self.old.units proc).timers which)) }
+        ensures { self.new ≡ record self.old { units = timer_overflows proc which self.old.units } }
+    {
+        self.units.overflow(proc, which);
+    }
+
+    /// From now on these keys are pressed, a bit for each of A, B, Select, Start, Right, Left, Up, Down, R, L, X and Y.
+    pub fn press(&mut self, pressed: u16)
+        requires { pressed < 2 ^ 12 }
+        ensures { self.new ≡ record self.old { units = keys_pressed self.old.units pressed } }
+    {
+        self.units.press(pressed);
     }
 
     /// A memory's bytes, from where they lie; none of a tightly coupled one.
@@ -163,7 +285,7 @@ impl Map {
             Memory::Shared => self.shared.bytes(),
             Memory::Own7 => self.own.bytes(),
             Memory::Palette => self.palette.bytes(),
-            Memory::Vram => self.vram.bytes(),
+            Memory::Vram => self.units.vram().bytes(),
             Memory::Oam => self.oam.bytes(),
             Memory::Itcm | Memory::Dtcm => &[],
         }
@@ -179,7 +301,7 @@ impl Map {
             Memory::Shared => self.shared.byte(at as usize),
             Memory::Own7 => self.own.byte(at as usize),
             Memory::Palette => self.palette.byte(at as usize),
-            Memory::Vram => self.vram.byte_of(at),
+            Memory::Vram => self.units.vram().byte_of(at),
             Memory::Oam => self.oam.byte(at as usize),
             Memory::Itcm | Memory::Dtcm => 0,
         }
@@ -200,4 +322,26 @@ fn takes_no_bytes(memory: Memory) -> bool
     ensures { result ≡ takes_no_bytes memory }
 {
     matches!(memory, Memory::Palette | Memory::Vram | Memory::Oam)
+}
+
+/// An offset of a port or into the boot ROM, aligned down to an access's width.
+#[inline(always)]
+fn aligned_down(width: Width, at: u32) -> u32
+    requires { at < 2 ^ 24 }
+    ensures value { result ≡ aligned_down width at }
+    ensures within { result < 2 ^ 24 }
+{
+    match width {
+        Width::Byte => at,
+        Width::Half => at - at % 2,
+        Width::Word => at - at % 4,
+    }
+}
+
+/// What is read of the boot ROM at an offset that is aligned down.
+fn rom_value(proc: Proc, at: u32, width: Width) -> u32
+    ensures { result ≡ rom_value proc at width }
+{
+    let byte = at % 4;
+    part(width, byte, rom_word(proc, at - byte))
 }

@@ -3,3 +3,6 @@ pub mod Fetches
 pub mod MachineSchedule
 pub mod Mains
 pub mod Spans
+pub mod Halts
+pub mod Keeps
+pub mod Others

@@ -6,41 +6,35 @@ use Rattle.cp15_tcm.specs.Registers.{Cp15State}
 use Rattle.cp15_tcm.specs.TightlyCoupled.{tcm_of}
 use Rattle.cp15_tcm.specs.declared.answers.Tcm.{Tcm}
 use Rattle.cp15_tcm.specs.declared.answers.Tcm.TheVariants.{Itcm, Dtcm, Past}
+use Rattle.ds_base.specs.declared.memories.Memory.TheVariants.{Main}
+use Rattle.ds_places.specs.declared.kinds.Place.TheVariants.{Cell}
 use Rattle.ds_places.specs.AddressTables.{place_of}
 use Rattle.ds_places.proofs.Regions.{lies_or_not}
-use Rattle.ds_map.specs.Builds.{byte_is_built, fetch_is_built, is_code_built, is_data_built, past_is_built}
+use Rattle.ds_map.specs.Builds.{byte_is_built, is_data_built, past_is_built}
 use Rattle.ds_machine.specs.Mains.{LiesInMain}
 
--- Main memory is built for both processors, for data and for fetches.
+-- Main memory is built for both processors.
 
 past_built : (t : Tcm) (b : Bool) → b ≡ true → past_is_built t b ≡ true
 past_built (Itcm place) b h = refl
 past_built (Dtcm place) b h = refl
 past_built Past b h = h
 
-data_built : (proc : Proc) (w at : ℕ) → LiesInMain at → is_data_built (place_of proc w at) ≡ true
-data_built Nine w at lies = elim (lies_or_not 0x02000000 0x02FFFFFF at) [ inl in_main ↦ rw in_main.2 refl | inr apart ↦ absurd (apart.0 (lies.0, omega (arith, lies))) ]
-data_built Seven w at lies = elim (lies_or_not 0x00000000 0x00003FFF at) [
+-- an address of main memory is a cell of it
+in_main : (proc : Proc) (w at : ℕ) → LiesInMain at → (cell : ℕ) × (place_of proc w at ≡ Cell Main cell)
+in_main Nine w at lies = elim (lies_or_not 0x02000000 0x02FFFFFF at) [ inl inside ↦ rw inside.2 (_, refl) | inr apart ↦ absurd (apart.0 (lies.0, omega (arith, lies))) ]
+in_main Seven w at lies = elim (lies_or_not 0x00000000 0x00003FFF at) [
   | inl in_rom ↦ absurd (omega (arith, lies, in_rom))
-  | inr past ↦ rw past.1 (elim (lies_or_not 0x02000000 0x02FFFFFF at) [ inl in_main ↦ rw in_main.2 refl | inr apart ↦ absurd (apart.0 (lies.0, omega (arith, lies))) ])
+  | inr past ↦ rw past.1 (elim (lies_or_not 0x02000000 0x02FFFFFF at) [ inl inside ↦ rw inside.2 (_, refl) | inr apart ↦ absurd (apart.0 (lies.0, omega (arith, lies))) ])
 ]
 
-code_built : (proc : Proc) (w at : ℕ) → LiesInMain at → is_code_built (place_of proc w at) ≡ true
-code_built Nine w at lies = elim (lies_or_not 0x02000000 0x02FFFFFF at) [ inl in_main ↦ rw in_main.2 refl | inr apart ↦ absurd (apart.0 (lies.0, omega (arith, lies))) ]
-code_built Seven w at lies = elim (lies_or_not 0x00000000 0x00003FFF at) [
-  | inl in_rom ↦ absurd (omega (arith, lies, in_rom))
-  | inr past ↦ rw past.1 (elim (lies_or_not 0x02000000 0x02FFFFFF at) [ inl in_main ↦ rw in_main.2 refl | inr apart ↦ absurd (apart.0 (lies.0, omega (arith, lies))) ])
-]
+data_built : (proc : Proc) (w at : ℕ) → LiesInMain at → is_data_built proc (place_of proc w at) ≡ true
+data_built proc w at lies = let cell = (in_main proc w at lies).1 in rw cell refl
 
 pub main_byte_built : (proc : Proc) (cp : Cp15State) (w at : ℕ) → LiesInMain at → byte_is_built proc cp w at ≡ true
 unfolding byte_is_built
-main_byte_built Nine cp w at lies = past_built (tcm_of cp at false false) (is_data_built (place_of Nine w at)) (data_built Nine w at lies)
+main_byte_built Nine cp w at lies = past_built (tcm_of cp at false false) (is_data_built Nine (place_of Nine w at)) (data_built Nine w at lies)
 main_byte_built Seven cp w at lies = data_built Seven w at lies
-
-pub main_fetch_built : (proc : Proc) (cp : Cp15State) (w at : ℕ) → LiesInMain at → fetch_is_built proc cp w at ≡ true
-unfolding fetch_is_built
-main_fetch_built Nine cp w at lies = past_built (tcm_of cp at false true) (is_code_built (place_of Nine w at)) (code_built Nine w at lies)
-main_fetch_built Seven cp w at lies = code_built Seven w at lies
 
 -- a span of it has no byte that isn't built
 pub main_span_built : (proc : Proc) (cp : Cp15State) (w first length : ℕ) → 0x02000000 ≤ first → first + length ≤ 0x03000000

@@ -38,7 +38,7 @@ stacks_of Seven = 0x0380FD80 ∷ 0x0380FF80 ∷ 0x0380FFC0 ∷ []
 
 -- a processor: it is due at once
 abbrev pub processor_booted : Proc → List ℕ → ProcessorState
-processor_booted proc file = record { registers = cores.booted (image_entry file proc) (stacks_of proc); due = 0; halted = false; steps = 0 }
+processor_booted proc file = record { registers = cores.booted (image_entry file proc) (stacks_of proc); due = 0; steps = 0 }
 
 -- the boot state, from the cartridge's file
 abbrev pub booted : List ℕ → MachineState

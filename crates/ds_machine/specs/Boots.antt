@@ -7,7 +7,7 @@ use Rattle.ds_map.specs.Accesses.{map_written}
 -- What boot copies: an image goes byte by byte to where its processor sees the addresses, past the tightly coupled memories (our choice
 -- of a direct boot; GBATEK, "DS Memory Map").
 
--- bytes stored one after another from an address on
+-- bytes stored one after another from an address on, at tick 0
 abbrev pub copied : Proc → MapState → ℕ → List ℕ → MapState
 copied proc m at [] = m
-copied proc m at (byte ∷ rest) = copied proc (map_written proc m at Byte byte) (at + 1) rest
+copied proc m at (byte ∷ rest) = copied proc (map_written proc (record { 0 = 0 }) m at Byte byte) (at + 1) rest

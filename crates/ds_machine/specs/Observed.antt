@@ -1,4 +1,4 @@
-use Rattle.std.specs.Prelude.{ℕ, ◌%◌, ◌^◌, if◌then◌else◌, List}
+use Rattle.std.specs.Prelude.{ℕ, ◌%◌, ◌^◌, Bool, if◌then◌else◌, List}
 use Rattle.ds_base.specs.declared.memories.Memory.{Memory}
 use Rattle.ds_base.specs.declared.memories.Memory.TheVariants.{Main, Shared, Own7, Itcm, Dtcm, Palette, Vram, Oam}
 use Rattle.ds_base.specs.declared.memories.Width.{Width}
@@ -6,11 +6,12 @@ use Rattle.ds_base.specs.declared.memories.Width.TheVariants as width
 use Rattle.ds_base.specs.declared.processors.Proc.{Proc}
 use Rattle.ds_base.specs.declared.processors.Proc.TheVariants.{Nine, Seven}
 use Rattle.arm_core.specs.Registers.{is_thumb, words_of}
+use Rattle.arm_core.specs.Steps.{enters}
 use Rattle.ds_map.specs.Views.{nine_memory, seven_memory}
 use Rattle.ds_machine.specs.declared.answers.Seen.{Seen}
-use Rattle.ds_machine.specs.declared.answers.Seen.TheVariants.{Half, Idle, Word}
+use Rattle.ds_machine.specs.declared.answers.Seen.TheVariants.{Half, Idle, Irq, Word}
 use Rattle.ds_machine.specs.States.{MachineState, ProcessorState}
-use Rattle.ds_machine.specs.Steps.{nine_reach, processor_of}
+use Rattle.ds_machine.specs.Steps.{is_halted, line_of, nine_reach, processor_of, seven_reach}
 
 -- What is told of a machine.
 
@@ -22,7 +23,7 @@ memory_of s Own7 = s.map.own
 memory_of s Itcm = s.nine.itcm
 memory_of s Dtcm = s.nine.dtcm
 memory_of s Palette = s.map.palette
-memory_of s Vram = s.map.vram.bytes
+memory_of s Vram = s.map.units.vram.bytes
 memory_of s Oam = s.map.oam
 
 -- a processor's 37 registers
@@ -32,14 +33,16 @@ registers_of s proc = words_of (processor_of s proc).registers
 -- what a processor fetches at an address
 abbrev pub fetch_of : MachineState → Proc → ℕ → Width → ℕ
 fetch_of s Nine at width = nine_memory.fetch_value (nine_reach s) at width
-fetch_of s Seven at width = seven_memory.fetch_value s.map at width
+fetch_of s Seven at width = seven_memory.fetch_value (seven_reach s) at width
 
--- what a processor does next: a word or, in Thumb state, a half that it fetches; nothing where it isn't due
-abbrev pub seen_by : ProcessorState → (ℕ → Width → ℕ) → Seen
-seen_by p fetch =
-    if p.halted then Idle
+-- what a processor does next: the entry of an interrupt at its r15, or a word or, in Thumb state, a half that it fetches; nothing where it isn't
+-- due
+abbrev pub seen_by : Bool → Bool → ProcessorState → (ℕ → Width → ℕ) → Seen
+seen_by halted line p fetch =
+    if halted then Idle
+    else if enters line p.registers then Irq p.registers.pc
     else if is_thumb p.registers then Half p.registers.pc (fetch p.registers.pc width.Half % 2 ^ 16)
     else Word p.registers.pc (fetch p.registers.pc width.Word)
 
 abbrev pub seen_of : MachineState → Proc → Seen
-seen_of s proc = seen_by (processor_of s proc) (fetch_of s proc)
+seen_of s proc = seen_by (is_halted s proc) (line_of s proc) (processor_of s proc) (fetch_of s proc)

@@ -1,17 +1,17 @@
 use Rattle.std.specs.Prelude.{ℕ, ◌≡◌, Option, Some, None}
-use Rattle.ds_base.specs.declared.left_out.Stop.{Stop}
 use Rattle.ds_base.specs.declared.ticks.Due.{Due}
 use Rattle.ds_base.specs.declared.ticks.Tick.{Tick}
-use Rattle.ds_runs.specs.Order.{IsFirst}
 use Rattle.arm_core.specs.declared.outcomes.Stepped as arm
 use Rattle.arm_core.specs.declared.outcomes.Stepped.TheVariants.{Cost, Halted, Left}
+use Rattle.ds_base.specs.declared.left_out.Stop.{Stop}
+use Rattle.ds_runs.specs.Order.{IsFirst}
 use Rattle.ds_machine.specs.States.{ProcessorState}
 use Rattle.ds_machine.specs.declared.processors.Processor.{Processor}
 
 -- The code's processor, and what it needs of a step. No public clause speaks of it.
 
 abbrev pub state_of : Processor → ProcessorState
-state_of p = record { registers = p.core.registers; due = p.due; halted = p.halted; steps = p.steps }
+state_of p = record { registers = p.core.registers; due = p.due; steps = p.steps }
 
 -- the stop that it came to, if it came to one
 abbrev pub stop_in : arm.Stepped → Option Stop

@@ -2,12 +2,14 @@ use Rattle.std.specs.Prelude.{ℕ, ◌+◌, ◌≡◌, ◌≤◌, ◌^◌, Bool,
 use Rattle.ds_base.specs.declared.left_out.LeftOut.{LeftOut}
 use Rattle.ds_base.specs.declared.ticks.Due.{Due}
 use Rattle.ds_base.specs.declared.ticks.Tick.{Tick}
+use Rattle.ds_base.specs.declared.processors.Proc.{Proc}
+use Rattle.ds_base.specs.declared.processors.Proc.TheVariants.{Nine, Seven}
 use Rattle.ds_runs.specs.Actors.{actors, actor_of}
-use Rattle.ds_runs.specs.Runs.{Machine, Stepped, Makes, Stops, IsLeast}
+use Rattle.ds_runs.specs.Runs.{Machine, Stepped, Makes, Stops, IsLeast, due_at}
 use Rattle.ds_runs.specs.declared.actors.Actor as actor
 use Rattle.ds_runs.specs.declared.actors.Actor.TheVariants.{KeyScript, Video, Timer, Divider, SquareRoot, Geometry, Card, Dma, Processor}
 use Rattle.ds_machine.specs.States.{MachineState, ProcessorState}
-use Rattle.ds_machine.specs.Steps.{processor_of, processor_step}
+use Rattle.ds_machine.specs.Steps.{is_halted, processor_of, processor_step, tick_of, woken}
 use Rattle.ds_machine.specs.Videos.{video_due, video_after, makes_whole}
 use Rattle.ds_machine.specs.declared.answers.Done.{Done}
 use Rattle.ds_machine.specs.declared.answers.Done.TheVariants.{Made, Frame, Stopped}
@@ -24,8 +26,11 @@ abbrev pub next_shown : MachineState → Bool → Shown
 next_shown s swapped = record { tick = video_due s.video; swapped = swapped }
 
 -- when a processor is due: never while it is halted
-abbrev pub processor_due : ProcessorState → Option Tick
-processor_due p = if p.halted then None else Some (record { 0 = p.due })
+abbrev pub due_unless : Bool → ProcessorState → Option Tick
+due_unless halted p = if halted then None else Some (tick_of p)
+
+abbrev pub processor_due : MachineState → Proc → Option Tick
+processor_due s proc = due_unless (is_halted s proc) (processor_of s proc)
 
 -- when an actor is due
 abbrev pub due_by : actor.Actor → MachineState → Option Tick
@@ -37,7 +42,7 @@ due_by SquareRoot s = None
 due_by Geometry s = None
 due_by Card s = None
 due_by (Dma proc channel) s = None
-due_by (Processor proc) s = processor_due (processor_of s proc)
+due_by (Processor proc) s = processor_due s proc
 
 -- when each actor is due, by rank
 unfoldable pub dues_of : MachineState → List (Option Tick)
@@ -62,8 +67,14 @@ step_by rank Card s = Makes s []
 step_by rank (Dma proc channel) s = Makes s []
 step_by rank (Processor proc) s = processor_step rank proc s
 
+-- and after a step that is taken halted processors wake that are to
+abbrev pub awake : Option Tick → Stepped MachineState Shown LeftOut → Stepped MachineState Shown LeftOut
+awake None came = came
+awake (Some tick) (Makes next outs) = Makes (woken tick next) outs
+awake (Some tick) (Stops stop left) = Stops stop left
+
 abbrev pub step_of : ℕ → MachineState → Stepped MachineState Shown LeftOut
-step_of rank s = step_by rank (actor_of rank) s
+step_of rank s = awake (due_by (actor_of rank) s) (step_by rank (actor_of rank) s)
 
 abbrev pub reference : Machine MachineState Shown LeftOut
 reference = record { dues = dues_of; step = step_of }
@@ -90,14 +101,20 @@ IsDue s due = IsLeast (dues_of s) due.tick due.rank
 abbrev pub IsSound : MachineState → Type 0
 IsSound s = Unit {0}
 
--- a processor took no more steps than there are ticks before its next one, or, where it is halted, up to the one that halted it
-abbrev pub HasCountedSteps : ProcessorState → Type 0
-HasCountedSteps p = p.steps ≤ (if p.halted then p.due + 1 else p.due)
+-- no actor took more steps than there are ticks before its next one; and a processor, halted or not, took at most one more than there are ticks
+-- before whatever is due
+abbrev pub SoManySteps : MachineState → ProcessorState → Type 0
+SoManySteps s p = (rank : ℕ) → (tick : Tick) → due_at (dues_of s) rank ≡ Some tick → p.steps ≤ tick.0 + 1
 
--- no actor took more steps than there are ticks before its next one
+abbrev pub StepsBefore : Option Tick → ProcessorState → Type 0
+StepsBefore None p = Unit {0}
+StepsBefore (Some tick) p = p.steps ≤ tick.0
+
 pub record HasCounted (s : MachineState) : Type 0 where
-  pub nine : HasCountedSteps s.nine.processor
-  pub seven : HasCountedSteps s.seven.processor
+  pub nine : StepsBefore (processor_due s Nine) s.nine.processor
+  pub seven : StepsBefore (processor_due s Seven) s.seven.processor
+  pub nine_all : SoManySteps s s.nine.processor
+  pub seven_all : SoManySteps s s.seven.processor
   pub events : s.events ≤ video_due s.video
 
 -- every count of steps is within a limit

@@ -6,12 +6,11 @@ use Rattle.ds_map.specs.Maps.{MapState}
 -- The machine's state: one part for each unit, each processor's own part apart, so that an actor's step names the parts that it
 -- uses and leaves the others alone.
 
--- a processor: its registers, the tick at which its next step is due, whether it is halted, and how many steps it took. While it is
--- halted it isn't due, and the tick is that of the step that halted it
+-- a processor: its registers, the tick at which its next step is due, and how many steps it took. While it is halted, which the units
+-- behind the ports tell, it isn't due, and the tick is that of the step that halted it
 pub record ProcessorState : Type 0 where
   pub registers : RegisterState
   pub due : ℕ
-  pub halted : Bool
   pub steps : ℕ
 
 -- ARM9's own part: the processor, CP15, and its two tightly coupled memories

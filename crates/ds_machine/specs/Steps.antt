@@ -1,4 +1,4 @@
-use Rattle.std.specs.Prelude.{ℕ, ◌+◌, ◌*◌, true, []}
+use Rattle.std.specs.Prelude.{ℕ, ◌+◌, ◌*◌, ◌&&◌, Bool, true, false, if◌then◌else◌, []}
 use Rattle.ds_base.specs.Processors.{ticks_per_clock}
 use Rattle.ds_base.specs.declared.left_out.LeftOut.{LeftOut}
 use Rattle.ds_base.specs.declared.left_out.Stop.{Stop}
@@ -8,8 +8,10 @@ use Rattle.arm_core.specs.Effects.{Outcome}
 use Rattle.arm_core.specs.declared.outcomes.Stepped as arm
 use Rattle.arm_core.specs.declared.outcomes.Stepped.TheVariants.{Cost, Halted, Left}
 use Rattle.arm9_exec.specs.Arm9.{Outcome9}
-use Rattle.ds_map.specs.Maps.{MapState}
-use Rattle.ds_map.specs.Views.{NineReach}
+use Rattle.ds_base.specs.declared.ticks.Tick.{Tick}
+use Rattle.ds_map.specs.Views.{NineReach, SevenReach}
+use Rattle.ds_ports.specs.Units.{own_of, with_halted}
+use Rattle.ds_timers.specs.Irqs.{line_is_up, shares_bit}
 use Rattle.ds_runs.specs.Runs.{Stepped, Makes, Stops}
 use Rattle.ds_machine.specs.Needs.{nine_taken, seven_taken}
 use Rattle.ds_machine.specs.States.{MachineState, ProcessorState}
@@ -24,9 +26,23 @@ abbrev pub with_processor : Proc → MachineState → ProcessorState → Machine
 with_processor Nine s p = record s { nine = record s.nine { processor = p } }
 with_processor Seven s p = record s { seven = record s.seven { processor = p } }
 
--- what ARM9 reaches of the machine
+-- the tick at which a processor is due
+abbrev pub tick_of : ProcessorState → Tick
+tick_of p = record { 0 = p.due }
+
+-- whether a processor is halted, and whether its interrupt line is up
+abbrev pub is_halted : MachineState → Proc → Bool
+is_halted s proc = (own_of s.map.units proc).halted
+
+abbrev pub line_of : MachineState → Proc → Bool
+line_of s proc = line_is_up (own_of s.map.units proc).irq
+
+-- what each processor reaches of the machine at its step
 abbrev pub nine_reach : MachineState → NineReach
-nine_reach s = record { map = s.map; cp15 = s.nine.cp15; itcm = s.nine.itcm; dtcm = s.nine.dtcm }
+nine_reach s = record { map = s.map; cp15 = s.nine.cp15; itcm = s.nine.itcm; dtcm = s.nine.dtcm; now = tick_of s.nine.processor }
+
+abbrev pub seven_reach : MachineState → SevenReach
+seven_reach s = record { map = s.map; now = tick_of s.seven.processor }
 
 -- the machine with what a step of ARM9's, or of ARM7's, left of registers and memories
 abbrev pub with_nine : MachineState → Outcome9 NineReach → MachineState
@@ -40,39 +56,54 @@ with_nine s o = record s {
   map = o.state.map;
 }
 
-abbrev pub with_seven : MachineState → Outcome MapState → MachineState
-with_seven s o = record s { seven = record s.seven { processor = record s.seven.processor { registers = o.registers } }; map = o.state }
+abbrev pub with_seven : MachineState → Outcome SevenReach → MachineState
+with_seven s o = record s { seven = record s.seven { processor = record s.seven.processor { registers = o.registers } }; map = o.state.map }
 
--- a processor after a step that costs so many of its clocks, or that halts it, whose cost isn't added
-abbrev pub went_on : Proc → ℕ → ProcessorState → ProcessorState
-went_on proc clocks p = record p { due = p.due + ticks_per_clock proc * clocks; steps = p.steps + 1 }
+-- a processor is halted, or isn't
+abbrev pub with_halt : Proc → MachineState → Bool → MachineState
+with_halt proc s halted = record s { map = record s.map { units = with_halted proc s.map.units halted } }
 
-abbrev pub halts : ProcessorState → ProcessorState
-halts p = record p { halted = true; steps = p.steps + 1 }
+-- a processor after a step that costs so many of its clocks; where it is halted now the cost isn't added
+abbrev pub went_on : Proc → ℕ → Bool → ProcessorState → ProcessorState
+went_on proc clocks halted p = record p { due = if halted then p.due else p.due + ticks_per_clock proc * clocks; steps = p.steps + 1 }
+
+-- the machine by what a processor's step came to
+abbrev pub gone_by : Proc → arm.Stepped → MachineState → MachineState
+gone_by proc (Cost clocks) s = with_processor proc s (went_on proc clocks (is_halted s proc) (processor_of s proc))
+gone_by proc (Halted clocks) s = with_processor proc (with_halt proc s true) (went_on proc clocks true (processor_of s proc))
+gone_by proc (Left stop) s = s
 
 -- what a processor's step needs that is left out
 abbrev pub left_out_by : ℕ → ProcessorState → Stop → LeftOut
-left_out_by rank p stop = record { kind = stop.kind; tick = record { 0 = p.due }; rank = rank; value = stop.value }
-
--- a processor by what its step came to
-abbrev pub gone_by : Proc → arm.Stepped → ProcessorState → ProcessorState
-gone_by proc (Cost clocks) p = went_on proc clocks p
-gone_by proc (Halted clocks) p = halts p
-gone_by proc (Left stop) p = p
+left_out_by rank p stop = record { kind = stop.kind; tick = tick_of p; rank = rank; value = stop.value }
 
 -- the machine's step, by what the processor came to, on the machine that it left
 abbrev pub concluded : {O : Type 0} → ℕ → Proc → MachineState → arm.Stepped → Stepped MachineState O LeftOut
-concluded rank proc s (Cost clocks) = Makes (with_processor proc s (gone_by proc (Cost clocks) (processor_of s proc))) []
-concluded rank proc s (Halted clocks) = Makes (with_processor proc s (gone_by proc (Halted clocks) (processor_of s proc))) []
+concluded rank proc s (Cost clocks) = Makes (gone_by proc (Cost clocks) s) []
+concluded rank proc s (Halted clocks) = Makes (gone_by proc (Halted clocks) s) []
 concluded rank proc s (Left stop) = Stops (left_out_by rank (processor_of s proc) stop) s
 
 -- what its step comes to
 abbrev pub nine_outcome : MachineState → Outcome9 NineReach
-nine_outcome s = nine_taken s.nine.processor.registers (nine_reach s)
+nine_outcome s = nine_taken (line_of s Nine) s.nine.processor.registers (nine_reach s)
 
-abbrev pub seven_outcome : MachineState → Outcome MapState
-seven_outcome s = seven_taken s.nine.cp15 s.seven.processor.registers s.map
+abbrev pub seven_outcome : MachineState → Outcome SevenReach
+seven_outcome s = seven_taken s.nine.cp15 (line_of s Seven) s.seven.processor.registers (seven_reach s)
 
 abbrev pub processor_step : {O : Type 0} → ℕ → Proc → MachineState → Stepped MachineState O LeftOut
 processor_step rank Nine s = let o = nine_outcome s in concluded rank Nine (with_nine s o) o.stepped
 processor_step rank Seven s = let o = seven_outcome s in concluded rank Seven (with_seven s o) o.stepped
+
+-- ---- waking: where a halted processor's IE and IF share a bit after a step at a tick, it is due at the next tick, whatever IME is (our choice)
+
+abbrev pub wakes : MachineState → Proc → Bool
+wakes s proc = is_halted s proc && shares_bit (own_of s.map.units proc).irq
+
+abbrev pub goes_on : Proc → Tick → MachineState → MachineState
+goes_on proc tick s = with_processor proc (with_halt proc s false) (record (processor_of s proc) { due = tick.0 + 1 })
+
+abbrev pub woken_one : Proc → Tick → MachineState → MachineState
+woken_one proc tick s = if wakes s proc then goes_on proc tick s else s
+
+abbrev pub woken : Tick → MachineState → MachineState
+woken tick s = woken_one Seven tick (woken_one Nine tick s)

@@ -5,18 +5,18 @@ ghost use Rattle.ds_header.specs.Fields.{image_place, image_of};
 ghost use Rattle.ds_machine.specs.Boots.{copied};
 ghost use Rattle.ds_machine.specs.Booted.{map_booted, with_header};
 
-use ds_base::{Proc, Width};
+use ds_base::{Proc, Tick, Width};
 use ds_header::Cart;
 use ds_map::Map;
 use std::alloc::{AllocError, Global};
 
-/// Copies bytes to where a processor sees them from an address on.
+/// Copies bytes to where a processor sees them from an address on, at tick 0.
 fn copy(map: &mut Map, proc: Proc, at: u32, bytes: &[u8])
     requires { at + length bytes.now ≤ 2 ^ 32 }
     ensures { map.new ≡ copied proc map.old at bytes.now }
 {
     for (i, byte) in bytes.iter().enumerate() {
-        map.write(proc, at + i as u32, Width::Byte, *byte as u32);
+        let _ = map.write(proc, Tick(0), at + i as u32, Width::Byte, *byte as u32);
     }
 }
 

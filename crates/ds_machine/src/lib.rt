@@ -9,6 +9,7 @@ mod boots;
 mod laws;
 mod machines;
 mod needs;
+mod parts;
 mod processors;
 mod steps;
 mod videos;

@@ -10,7 +10,7 @@ use arm_core::{Core, Touch, footprint};
 use arm_words::Instr;
 use cp15_tcm::Cp15;
 use ds_base::Proc;
-use ds_map::{byte_is_built, fetch_is_built};
+use ds_map::byte_is_built;
 
 /// Whether so many addresses from one on are main memory's, which is built. (GBATEK, "DS Memory Map".)
 #[inline(always)]
@@ -54,13 +54,7 @@ fn unbuilt_byte(proc: Proc, cp: &Cp15, wramcnt: u8, touch: Touch) -> Option<u32>
 
 /// The first byte of an instruction's data whose place isn't built.
 #[inline(always)]
-fn unbuilt_data(
-    proc: Proc,
-    cp: &Cp15,
-    wramcnt: u8,
-    core: &Core,
-    instr: Option<Instr>,
-) -> Option<u32>
+pub fn unbuilt(proc: Proc, cp: &Cp15, wramcnt: u8, core: &Core, instr: Option<Instr>) -> Option<u32>
     requires kept { wramcnt < 4 }
     requires fields { IfSome instr HasFields }
     ensures { (base : ℕ) → result ≡ first_without (byte_is_built proc cp.now wramcnt) (accessed_bytes (accesses_by core.now.arch base core.now.registers instr)) }
@@ -69,20 +63,4 @@ fn unbuilt_data(
         None => None,
         Some(instr) => unbuilt_byte(proc, cp, wramcnt, footprint(core, &instr)),
     }
-}
-
-/// What a processor's step needs and isn't built yet, by its address: its fetch, or the first byte of the data of the instruction that it
-/// fetches.
-#[inline(always)]
-#[tactic(auto, using(crate::proofs::Mains::main_fetch_built))]
-pub fn unbuilt(proc: Proc, cp: &Cp15, wramcnt: u8, core: &Core, instr: Option<Instr>) -> Option<u32>
-    requires kept { wramcnt < 4 }
-    requires fields { IfSome instr HasFields }
-    ensures { (base : ℕ) → result ≡ unbuilt proc cp.now wramcnt core.now.registers (accesses_by core.now.arch base core.now.registers instr) }
-{
-    let at = core.registers.pc();
-    if !lies_in_main(at, 1) && !fetch_is_built(proc, cp, wramcnt, at) {
-        return Some(at);
-    }
-    unbuilt_data(proc, cp, wramcnt, core, instr)
 }

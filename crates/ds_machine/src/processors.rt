@@ -1,25 +1,22 @@
 //! A processor in the machine.
 
-ghost use Rattle.std.specs.Prelude.{◌≡◌, ◌≤◌, ◌^◌, false};
+ghost use Rattle.std.specs.Prelude.{◌≡◌, ◌≤◌, ◌^◌};
 ghost use Rattle.arm_core.specs.Cores as cores;
 ghost use Rattle.ds_base.specs.Processors.{architecture_of};
 ghost use Rattle.ds_header.specs.Fields.{image_entry};
 ghost use Rattle.ds_machine.specs.Booted.{stacks_of};
-ghost use Rattle.arm_exec.specs.Costs.{CostsSome};
-ghost use Rattle.ds_machine.specs.Processors.{state_of, stop_in};
-ghost use Rattle.ds_machine.specs.Reference.{processor_due, HasCountedSteps};
-ghost use Rattle.ds_machine.specs.Steps.{gone_by};
+ghost use Rattle.ds_machine.specs.Processors.{state_of};
+ghost use Rattle.ds_machine.specs.Steps.{went_on};
 
-use arm_core::{Core, Stepped};
-use ds_base::{Proc, Stop, Tick};
+use arm_core::Core;
+use ds_base::Proc;
 use ds_header::Cart;
 
-/// A processor: its core, the tick at which its next step is due, whether it is halted, and how many steps it took.
+/// A processor: its core, the tick at which its next step is due, and how many steps it took.
 #[derive(Drop)]
 pub struct Processor {
     pub core: Core,
     pub due: u64,
-    pub halted: bool,
     pub steps: u64,
 }
 
@@ -39,52 +36,26 @@ impl Processor {
         ensures arch { result.core.arch ≡ architecture_of proc }
         ensures registers { result.core.registers ≡ cores.booted (image_entry cart.now proc) (stacks_of proc) }
         ensures due { result.due ≡ 0 }
-        ensures halted { result.halted ≡ false }
         ensures steps { result.steps ≡ 0 }
     {
         Processor {
             core: Core::boot(proc.architecture(), cart.entry(proc), stacks_at_boot(proc)),
             due: 0,
-            halted: false,
             steps: 0,
         }
     }
 
-    /// When it is due, if it is.
+    /// Took a step that costs so many of its clocks; where it is halted now the cost isn't added.
     #[inline(always)]
-    pub fn due(&self) -> Option<Tick>
-        ensures { result ≡ processor_due (state_of self.now) }
-    {
-        if self.halted {
-            return None;
-        }
-        Some(Tick(self.due))
-    }
-
-    /// Goes on by what a step came to, and answers the stop, where it came to one.
-    #[inline(always)]
-    pub fn go_by(&mut self, proc: Proc, stepped: Stepped) -> Option<Stop>
+    pub fn go_on(&mut self, proc: Proc, clocks: u32, halted: bool)
         requires early { self.old.due ≤ 2 ^ 56 }
-        requires awake { self.old.halted ≡ false }
-        requires counted { HasCountedSteps (state_of self.old) }
-        requires some { CostsSome stepped }
-        ensures stop { result ≡ stop_in stepped }
-        ensures state { state_of self.new ≡ gone_by proc stepped (state_of self.old) }
+        requires counted { self.old.steps ≤ 2 ^ 56 }
+        ensures state { state_of self.new ≡ went_on proc clocks halted (state_of self.old) }
         ensures core { self.new.core ≡ self.old.core }
-        ensures counted { HasCountedSteps (state_of self.new) }
     {
-        match stepped {
-            Stepped::Cost(clocks) => {
-                self.due += proc.ticks_per_clock() * clocks as u64;
-                self.steps += 1;
-                None
-            }
-            Stepped::Halted(_) => {
-                self.halted = true;
-                self.steps += 1;
-                None
-            }
-            Stepped::Left(stop) => Some(stop),
+        if !halted {
+            self.due += proc.ticks_per_clock() * clocks as u64;
         }
+        self.steps += 1;
     }
 }

@@ -1,9 +1,11 @@
 //! A processor's step over what it reaches.
 
-ghost use Rattle.std.specs.Prelude.{◌≡◌, ◌<◌, IfSome};
+ghost use Rattle.std.specs.Prelude.{◌≡◌, ◌<◌, false, IfSome, Some};
 ghost use Rattle.ds_base.specs.declared.left_out.LeftKind.TheVariants.{NotYet};
 ghost use Rattle.ds_base.specs.declared.processors.Arch.TheVariants.{V4, V5};
-ghost use Rattle.arm_core.specs.Steps.{fetched};
+ghost use Rattle.ds_base.specs.Schedules.{IsEarly};
+ghost use Rattle.arm7_exec.specs.Arm7.{arm7};
+ghost use Rattle.arm_core.specs.Steps.{enters, executed_word, fetched};
 ghost use Rattle.arm_words.specs.Fields.{HasFields};
 ghost use Rattle.arm9_exec.specs.Arm9.{executed_or_moved};
 ghost use Rattle.arm9_exec.specs.Coprocessors.{move_of};
@@ -12,11 +14,11 @@ ghost use Rattle.ds_machine.specs.Needs.{nine_needs, nine_step, nine_taken, seve
 
 use crate::needs::unbuilt;
 use arm_core::{Core, Stepped};
-use arm_exec::{Fetched, fetch};
-use arm7_exec::execute7;
-use arm9_exec::execute9;
+use arm_exec::{Fetched, enters, fetch};
+use arm7_exec::{execute7, step7};
+use arm9_exec::{execute9, step9};
 use cp15_tcm::Cp15;
-use ds_base::{Arch, DTCM_BYTES, ITCM_BYTES, LeftKind, Proc, Stop};
+use ds_base::{Arch, DTCM_BYTES, ITCM_BYTES, LeftKind, Proc, Stop, Tick};
 use ds_map::{Block, Map, NineView, SevenView};
 
 /// What isn't built yet, by its address.
@@ -31,56 +33,102 @@ fn not_yet(value: u32) -> Stop
 
 /// What ARM7 fetches next.
 #[inline(always)]
-fn fetch_seven(core: &Core, map: &mut Map) -> Fetched
-    ensures number { result.number ≡ (fetched seven_memory V4 core.now.registers map.old).number }
-    ensures instr { result.instr ≡ (fetched seven_memory V4 core.now.registers map.old).instr }
+fn fetch_seven(core: &Core, map: &mut Map, now: Tick) -> Fetched
+    requires early { IsEarly (Some now) }
+    ensures number { result.number ≡ (fetched seven_memory V4 core.now.registers (record { map = map.old; now = now })).number }
+    ensures instr { result.instr ≡ (fetched seven_memory V4 core.now.registers (record { map = map.old; now = now })).instr }
+    ensures low { result.number < 16 }
+    ensures fields { IfSome result.instr HasFields }
+    ensures map { map.new ≡ (fetched seven_memory V4 core.now.registers (record { map = map.old; now = now })).state.map }
+{
+    let mut view = SevenView { map, now };
+    fetch(Arch::V4, &core.registers, &mut view)
+}
+
+/// What ARM7 fetches next; all memories stay.
+#[inline(always)]
+fn next_of_seven(core: &Core, map: &mut Map, now: Tick) -> Fetched
+    requires early { IsEarly (Some now) }
+    ensures number { result.number ≡ (fetched seven_memory V4 core.now.registers (record { map = map.old; now = now })).number }
+    ensures instr { result.instr ≡ (fetched seven_memory V4 core.now.registers (record { map = map.old; now = now })).instr }
     ensures low { result.number < 16 }
     ensures fields { IfSome result.instr HasFields }
     ensures map { map.new ≡ map.old }
 {
-    let mut view = SevenView { map };
-    fetch(Arch::V4, &core.registers, &mut view)
+    fetch_seven(core, map, now)
 }
 
 /// What ARM7's step needs and isn't built yet, by what it fetches.
 #[inline(always)]
 #[tactic(auto, unfolding(crate::specs::Needs::seven_needs))]
-fn seven_needs(core: &Core, cp: &Cp15, map: &Map, next: &Fetched) -> Option<u32>
+fn seven_needs(core: &Core, cp: &Cp15, map: &Map, now: Tick, next: &Fetched) -> Option<u32>
     requires arch { core.now.arch ≡ V4 }
-    requires instr { next.now.instr ≡ (fetched seven_memory V4 core.now.registers map.now).instr }
+    requires instr { next.now.instr ≡ (fetched seven_memory V4 core.now.registers (record { map = map.now; now = now })).instr }
     requires fields { IfSome next.now.instr HasFields }
-    ensures { result ≡ seven_needs cp.now core.now.registers map.now }
+    ensures { result ≡ seven_needs cp.now core.now.registers (record { map = map.now; now = now }) }
 {
+    let _ = now;
     unbuilt(Proc::Seven, cp, map.wramcnt(), core, next.instr)
 }
 
-/// ARM7's step over its view, by what it fetches.
+/// What is left of ARM7's step over its view, behind its fetch.
 #[inline(always)]
-#[tactic(auto, using(crate::proofs::Fetches::seven_step_by))]
-fn seven_step(core: &mut Core, map: &mut Map, next: Fetched) -> Stepped
-    requires number { next.number ≡ (fetched seven_memory V4 core.old.registers map.old).number }
-    requires instr { next.instr ≡ (fetched seven_memory V4 core.old.registers map.old).instr }
+fn execute_seven(core: &mut Core, map: &mut Map, now: Tick, next: Fetched) -> Stepped
+    requires early { IsEarly (Some now) }
     requires low { next.number < 16 }
     requires fields { IfSome next.instr HasFields }
-    ensures core { core.new ≡ record core.old { registers = (seven_step core.old.registers map.old).registers } }
-    ensures map { map.new ≡ (seven_step core.old.registers map.old).state }
-    ensures stepped { result ≡ (seven_step core.old.registers map.old).stepped }
+    ensures core { core.new ≡ record core.old { registers = (executed_word seven_memory arm7 core.old.registers (record { map = map.old; now = now }) next.number next.instr).registers } }
+    ensures map { map.new ≡ (executed_word seven_memory arm7 core.old.registers (record { map = map.old; now = now }) next.number next.instr).state.map }
+    ensures stepped { result ≡ (executed_word seven_memory arm7 core.old.registers (record { map = map.old; now = now }) next.number next.instr).stepped }
 {
-    let mut view = SevenView { map };
+    let mut view = SevenView { map, now };
     execute7(core, &mut view, next)
+}
+
+/// ARM7's step over its view where it enters no interrupt, by what it fetches.
+#[inline(always)]
+fn seven_step(core: &mut Core, map: &mut Map, now: Tick, line: bool, next: Fetched) -> Stepped
+    requires early { IsEarly (Some now) }
+    requires none { enters line core.old.registers ≡ false }
+    requires number { next.number ≡ (fetched seven_memory V4 core.old.registers (record { map = map.old; now = now })).number }
+    requires instr { next.instr ≡ (fetched seven_memory V4 core.old.registers (record { map = map.old; now = now })).instr }
+    requires low { next.number < 16 }
+    requires fields { IfSome next.instr HasFields }
+    ensures core { core.new ≡ record core.old { registers = (seven_step line core.old.registers (record { map = map.old; now = now })).registers } }
+    ensures map { map.new ≡ (seven_step line core.old.registers (record { map = map.old; now = now })).state.map }
+    ensures stepped { result ≡ (seven_step line core.old.registers (record { map = map.old; now = now })).stepped }
+{
+    let _ = line;
+    execute_seven(core, map, now, next)
+}
+
+/// ARM7's whole step over its view, with its fetch.
+#[tactic(auto, unfolding(crate::specs::Needs::seven_step))]
+fn enter_seven(core: &mut Core, map: &mut Map, now: Tick, line: bool) -> Stepped
+    requires early { IsEarly (Some now) }
+    ensures core { core.new ≡ record core.old { registers = (seven_step line core.old.registers (record { map = map.old; now = now })).registers } }
+    ensures map { map.new ≡ (seven_step line core.old.registers (record { map = map.old; now = now })).state.map }
+    ensures stepped { result ≡ (seven_step line core.old.registers (record { map = map.old; now = now })).stepped }
+{
+    let mut view = SevenView { map, now };
+    step7(core, &mut view, line)
 }
 
 /// ARM7's step. Where it needs what isn't built it isn't taken.
 #[inline(always)]
-pub fn take_seven(core: &mut Core, cp: &Cp15, map: &mut Map) -> Stepped
+pub fn take_seven(core: &mut Core, cp: &Cp15, map: &mut Map, now: Tick, line: bool) -> Stepped
     requires arch { core.old.arch ≡ V4 }
-    ensures core { core.new ≡ record core.old { registers = (seven_taken cp.now core.old.registers map.old).registers } }
-    ensures map { map.new ≡ (seven_taken cp.now core.old.registers map.old).state }
-    ensures stepped { result ≡ (seven_taken cp.now core.old.registers map.old).stepped }
+    requires early { IsEarly (Some now) }
+    ensures core { core.new ≡ record core.old { registers = (seven_taken cp.now line core.old.registers (record { map = map.old; now = now })).registers } }
+    ensures map { map.new ≡ (seven_taken cp.now line core.old.registers (record { map = map.old; now = now })).state.map }
+    ensures stepped { result ≡ (seven_taken cp.now line core.old.registers (record { map = map.old; now = now })).stepped }
 {
-    let next = fetch_seven(core, map);
-    match seven_needs(core, cp, map, &next) {
-        None => seven_step(core, map, next),
+    if enters(&core.registers, line) {
+        return enter_seven(core, map, now, line);
+    }
+    let next = next_of_seven(core, map, now);
+    match seven_needs(core, cp, map, now, &next) {
+        None => seven_step(core, map, now, line, next),
         Some(value) => Stepped::Left(not_yet(value)),
     }
 }
@@ -93,20 +141,23 @@ fn fetch_nine(
     map: &mut Map,
     itcm: &mut Block<ITCM_BYTES>,
     dtcm: &mut Block<DTCM_BYTES>,
+    now: Tick,
 ) -> Fetched
-    ensures number { result.number ≡ (fetched nine_memory V5 core.now.registers (record { map = map.old; cp15 = cp.now; itcm = itcm.old; dtcm = dtcm.old })).number }
-    ensures instr { result.instr ≡ (fetched nine_memory V5 core.now.registers (record { map = map.old; cp15 = cp.now; itcm = itcm.old; dtcm = dtcm.old })).instr }
+    requires early { IsEarly (Some now) }
+    ensures number { result.number ≡ (fetched nine_memory V5 core.now.registers (record { map = map.old; cp15 = cp.now; itcm = itcm.old; dtcm = dtcm.old; now = now })).number }
+    ensures instr { result.instr ≡ (fetched nine_memory V5 core.now.registers (record { map = map.old; cp15 = cp.now; itcm = itcm.old; dtcm = dtcm.old; now = now })).instr }
     ensures low { result.number < 16 }
     ensures fields { IfSome result.instr HasFields }
-    ensures map { map.new ≡ (fetched nine_memory V5 core.now.registers (record { map = map.old; cp15 = cp.now; itcm = itcm.old; dtcm = dtcm.old })).state.map }
-    ensures itcm { itcm.new ≡ (fetched nine_memory V5 core.now.registers (record { map = map.old; cp15 = cp.now; itcm = itcm.old; dtcm = dtcm.old })).state.itcm }
-    ensures dtcm { dtcm.new ≡ (fetched nine_memory V5 core.now.registers (record { map = map.old; cp15 = cp.now; itcm = itcm.old; dtcm = dtcm.old })).state.dtcm }
+    ensures map { map.new ≡ (fetched nine_memory V5 core.now.registers (record { map = map.old; cp15 = cp.now; itcm = itcm.old; dtcm = dtcm.old; now = now })).state.map }
+    ensures itcm { itcm.new ≡ (fetched nine_memory V5 core.now.registers (record { map = map.old; cp15 = cp.now; itcm = itcm.old; dtcm = dtcm.old; now = now })).state.itcm }
+    ensures dtcm { dtcm.new ≡ (fetched nine_memory V5 core.now.registers (record { map = map.old; cp15 = cp.now; itcm = itcm.old; dtcm = dtcm.old; now = now })).state.dtcm }
 {
     let mut view = NineView {
         map,
         itcm,
         dtcm,
         cp: *cp,
+        now,
     };
     fetch(Arch::V5, &core.registers, &mut view)
 }
@@ -119,16 +170,18 @@ fn next_of_nine(
     map: &mut Map,
     itcm: &mut Block<ITCM_BYTES>,
     dtcm: &mut Block<DTCM_BYTES>,
+    now: Tick,
 ) -> Fetched
-    ensures number { result.number ≡ (fetched nine_memory V5 core.now.registers (record { map = map.old; cp15 = cp.now; itcm = itcm.old; dtcm = dtcm.old })).number }
-    ensures instr { result.instr ≡ (fetched nine_memory V5 core.now.registers (record { map = map.old; cp15 = cp.now; itcm = itcm.old; dtcm = dtcm.old })).instr }
+    requires early { IsEarly (Some now) }
+    ensures number { result.number ≡ (fetched nine_memory V5 core.now.registers (record { map = map.old; cp15 = cp.now; itcm = itcm.old; dtcm = dtcm.old; now = now })).number }
+    ensures instr { result.instr ≡ (fetched nine_memory V5 core.now.registers (record { map = map.old; cp15 = cp.now; itcm = itcm.old; dtcm = dtcm.old; now = now })).instr }
     ensures low { result.number < 16 }
     ensures fields { IfSome result.instr HasFields }
     ensures map { map.new ≡ map.old }
     ensures itcm { itcm.new ≡ itcm.old }
     ensures dtcm { dtcm.new ≡ dtcm.old }
 {
-    fetch_nine(core, cp, map, itcm, dtcm)
+    fetch_nine(core, cp, map, itcm, dtcm, now)
 }
 
 /// What ARM9's step needs and isn't built yet, by what it fetches.
@@ -140,15 +193,17 @@ fn nine_needs(
     map: &Map,
     itcm: &Block<ITCM_BYTES>,
     dtcm: &Block<DTCM_BYTES>,
+    now: Tick,
     next: &Fetched,
 ) -> Option<u32>
     requires arch { core.now.arch ≡ V5 }
-    requires instr { next.now.instr ≡ (fetched nine_memory V5 core.now.registers (record { map = map.now; cp15 = cp.now; itcm = itcm.now; dtcm = dtcm.now })).instr }
+    requires instr { next.now.instr ≡ (fetched nine_memory V5 core.now.registers (record { map = map.now; cp15 = cp.now; itcm = itcm.now; dtcm = dtcm.now; now = now })).instr }
     requires fields { IfSome next.now.instr HasFields }
-    ensures { result ≡ nine_needs core.now.registers (record { map = map.now; cp15 = cp.now; itcm = itcm.now; dtcm = dtcm.now }) }
+    ensures { result ≡ nine_needs core.now.registers (record { map = map.now; cp15 = cp.now; itcm = itcm.now; dtcm = dtcm.now; now = now }) }
 {
     let _ = itcm;
     let _ = dtcm;
+    let _ = now;
     unbuilt(Proc::Nine, cp, map.wramcnt(), core, next.instr)
 }
 
@@ -160,27 +215,30 @@ fn execute_nine(
     map: &mut Map,
     itcm: &mut Block<ITCM_BYTES>,
     dtcm: &mut Block<DTCM_BYTES>,
+    now: Tick,
     next: Fetched,
 ) -> Stepped
+    requires early { IsEarly (Some now) }
     requires low { next.number < 16 }
     requires fields { IfSome next.instr HasFields }
-    ensures core { core.new ≡ record core.old { registers = (executed_or_moved nine_memory core.old.registers cp.old (record { number = next.number; instr = next.instr; state = (record { map = map.old; cp15 = cp.old; itcm = itcm.old; dtcm = dtcm.old }) }) (move_of next.instr)).registers } }
-    ensures cp { cp.new ≡ (executed_or_moved nine_memory core.old.registers cp.old (record { number = next.number; instr = next.instr; state = (record { map = map.old; cp15 = cp.old; itcm = itcm.old; dtcm = dtcm.old }) }) (move_of next.instr)).cp }
-    ensures map { map.new ≡ (executed_or_moved nine_memory core.old.registers cp.old (record { number = next.number; instr = next.instr; state = (record { map = map.old; cp15 = cp.old; itcm = itcm.old; dtcm = dtcm.old }) }) (move_of next.instr)).state.map }
-    ensures itcm { itcm.new ≡ (executed_or_moved nine_memory core.old.registers cp.old (record { number = next.number; instr = next.instr; state = (record { map = map.old; cp15 = cp.old; itcm = itcm.old; dtcm = dtcm.old }) }) (move_of next.instr)).state.itcm }
-    ensures dtcm { dtcm.new ≡ (executed_or_moved nine_memory core.old.registers cp.old (record { number = next.number; instr = next.instr; state = (record { map = map.old; cp15 = cp.old; itcm = itcm.old; dtcm = dtcm.old }) }) (move_of next.instr)).state.dtcm }
-    ensures stepped { result ≡ (executed_or_moved nine_memory core.old.registers cp.old (record { number = next.number; instr = next.instr; state = (record { map = map.old; cp15 = cp.old; itcm = itcm.old; dtcm = dtcm.old }) }) (move_of next.instr)).stepped }
+    ensures core { core.new ≡ record core.old { registers = (executed_or_moved nine_memory core.old.registers cp.old (record { number = next.number; instr = next.instr; state = (record { map = map.old; cp15 = cp.old; itcm = itcm.old; dtcm = dtcm.old; now = now }) }) (move_of next.instr)).registers } }
+    ensures cp { cp.new ≡ (executed_or_moved nine_memory core.old.registers cp.old (record { number = next.number; instr = next.instr; state = (record { map = map.old; cp15 = cp.old; itcm = itcm.old; dtcm = dtcm.old; now = now }) }) (move_of next.instr)).cp }
+    ensures map { map.new ≡ (executed_or_moved nine_memory core.old.registers cp.old (record { number = next.number; instr = next.instr; state = (record { map = map.old; cp15 = cp.old; itcm = itcm.old; dtcm = dtcm.old; now = now }) }) (move_of next.instr)).state.map }
+    ensures itcm { itcm.new ≡ (executed_or_moved nine_memory core.old.registers cp.old (record { number = next.number; instr = next.instr; state = (record { map = map.old; cp15 = cp.old; itcm = itcm.old; dtcm = dtcm.old; now = now }) }) (move_of next.instr)).state.itcm }
+    ensures dtcm { dtcm.new ≡ (executed_or_moved nine_memory core.old.registers cp.old (record { number = next.number; instr = next.instr; state = (record { map = map.old; cp15 = cp.old; itcm = itcm.old; dtcm = dtcm.old; now = now }) }) (move_of next.instr)).state.dtcm }
+    ensures stepped { result ≡ (executed_or_moved nine_memory core.old.registers cp.old (record { number = next.number; instr = next.instr; state = (record { map = map.old; cp15 = cp.old; itcm = itcm.old; dtcm = dtcm.old; now = now }) }) (move_of next.instr)).stepped }
 {
     let mut view = NineView {
         map,
         itcm,
         dtcm,
         cp: *cp,
+        now,
     };
     execute9(core, cp, &mut view, next)
 }
 
-/// ARM9's step over its view, by what it fetches.
+/// ARM9's step over its view where it enters no interrupt, by what it fetches.
 #[inline(always)]
 fn nine_step(
     core: &mut Core,
@@ -188,20 +246,54 @@ fn nine_step(
     map: &mut Map,
     itcm: &mut Block<ITCM_BYTES>,
     dtcm: &mut Block<DTCM_BYTES>,
+    now: Tick,
+    line: bool,
     next: Fetched,
 ) -> Stepped
-    requires number { next.number ≡ (fetched nine_memory V5 core.old.registers (record { map = map.old; cp15 = cp.old; itcm = itcm.old; dtcm = dtcm.old })).number }
-    requires instr { next.instr ≡ (fetched nine_memory V5 core.old.registers (record { map = map.old; cp15 = cp.old; itcm = itcm.old; dtcm = dtcm.old })).instr }
+    requires early { IsEarly (Some now) }
+    requires none { enters line core.old.registers ≡ false }
+    requires number { next.number ≡ (fetched nine_memory V5 core.old.registers (record { map = map.old; cp15 = cp.old; itcm = itcm.old; dtcm = dtcm.old; now = now })).number }
+    requires instr { next.instr ≡ (fetched nine_memory V5 core.old.registers (record { map = map.old; cp15 = cp.old; itcm = itcm.old; dtcm = dtcm.old; now = now })).instr }
     requires low { next.number < 16 }
     requires fields { IfSome next.instr HasFields }
-    ensures core { core.new ≡ record core.old { registers = (nine_step core.old.registers (record { map = map.old; cp15 = cp.old; itcm = itcm.old; dtcm = dtcm.old })).registers } }
-    ensures cp { cp.new ≡ (nine_step core.old.registers (record { map = map.old; cp15 = cp.old; itcm = itcm.old; dtcm = dtcm.old })).cp }
-    ensures map { map.new ≡ (nine_step core.old.registers (record { map = map.old; cp15 = cp.old; itcm = itcm.old; dtcm = dtcm.old })).state.map }
-    ensures itcm { itcm.new ≡ (nine_step core.old.registers (record { map = map.old; cp15 = cp.old; itcm = itcm.old; dtcm = dtcm.old })).state.itcm }
-    ensures dtcm { dtcm.new ≡ (nine_step core.old.registers (record { map = map.old; cp15 = cp.old; itcm = itcm.old; dtcm = dtcm.old })).state.dtcm }
-    ensures stepped { result ≡ (nine_step core.old.registers (record { map = map.old; cp15 = cp.old; itcm = itcm.old; dtcm = dtcm.old })).stepped }
+    ensures core { core.new ≡ record core.old { registers = (nine_step line core.old.registers (record { map = map.old; cp15 = cp.old; itcm = itcm.old; dtcm = dtcm.old; now = now })).registers } }
+    ensures cp { cp.new ≡ (nine_step line core.old.registers (record { map = map.old; cp15 = cp.old; itcm = itcm.old; dtcm = dtcm.old; now = now })).cp }
+    ensures map { map.new ≡ (nine_step line core.old.registers (record { map = map.old; cp15 = cp.old; itcm = itcm.old; dtcm = dtcm.old; now = now })).state.map }
+    ensures itcm { itcm.new ≡ (nine_step line core.old.registers (record { map = map.old; cp15 = cp.old; itcm = itcm.old; dtcm = dtcm.old; now = now })).state.itcm }
+    ensures dtcm { dtcm.new ≡ (nine_step line core.old.registers (record { map = map.old; cp15 = cp.old; itcm = itcm.old; dtcm = dtcm.old; now = now })).state.dtcm }
+    ensures stepped { result ≡ (nine_step line core.old.registers (record { map = map.old; cp15 = cp.old; itcm = itcm.old; dtcm = dtcm.old; now = now })).stepped }
 {
-    execute_nine(core, cp, map, itcm, dtcm, next)
+    let _ = line;
+    execute_nine(core, cp, map, itcm, dtcm, now, next)
+}
+
+/// ARM9's whole step over its view, with its fetch.
+#[tactic(auto, unfolding(crate::specs::Needs::nine_step))]
+fn enter_nine(
+    core: &mut Core,
+    cp: &mut Cp15,
+    map: &mut Map,
+    itcm: &mut Block<ITCM_BYTES>,
+    dtcm: &mut Block<DTCM_BYTES>,
+    now: Tick,
+    line: bool,
+) -> Stepped
+    requires early { IsEarly (Some now) }
+    ensures core { core.new ≡ record core.old { registers = (nine_step line core.old.registers (record { map = map.old; cp15 = cp.old; itcm = itcm.old; dtcm = dtcm.old; now = now })).registers } }
+    ensures cp { cp.new ≡ (nine_step line core.old.registers (record { map = map.old; cp15 = cp.old; itcm = itcm.old; dtcm = dtcm.old; now = now })).cp }
+    ensures map { map.new ≡ (nine_step line core.old.registers (record { map = map.old; cp15 = cp.old; itcm = itcm.old; dtcm = dtcm.old; now = now })).state.map }
+    ensures itcm { itcm.new ≡ (nine_step line core.old.registers (record { map = map.old; cp15 = cp.old; itcm = itcm.old; dtcm = dtcm.old; now = now })).state.itcm }
+    ensures dtcm { dtcm.new ≡ (nine_step line core.old.registers (record { map = map.old; cp15 = cp.old; itcm = itcm.old; dtcm = dtcm.old; now = now })).state.dtcm }
+    ensures stepped { result ≡ (nine_step line core.old.registers (record { map = map.old; cp15 = cp.old; itcm = itcm.old; dtcm = dtcm.old; now = now })).stepped }
+{
+    let mut view = NineView {
+        map,
+        itcm,
+        dtcm,
+        cp: *cp,
+        now,
+    };
+    step9(core, cp, &mut view, line)
 }
 
 /// ARM9's step. Where it needs what isn't built it isn't taken.
@@ -212,18 +304,24 @@ pub fn take_nine(
     map: &mut Map,
     itcm: &mut Block<ITCM_BYTES>,
     dtcm: &mut Block<DTCM_BYTES>,
+    now: Tick,
+    line: bool,
 ) -> Stepped
+    requires early { IsEarly (Some now) }
     requires arch { core.old.arch ≡ V5 }
-    ensures core { core.new ≡ record core.old { registers = (nine_taken core.old.registers (record { map = map.old; cp15 = cp.old; itcm = itcm.old; dtcm = dtcm.old })).registers } }
-    ensures cp { cp.new ≡ (nine_taken core.old.registers (record { map = map.old; cp15 = cp.old; itcm = itcm.old; dtcm = dtcm.old })).cp }
-    ensures map { map.new ≡ (nine_taken core.old.registers (record { map = map.old; cp15 = cp.old; itcm = itcm.old; dtcm = dtcm.old })).state.map }
-    ensures itcm { itcm.new ≡ (nine_taken core.old.registers (record { map = map.old; cp15 = cp.old; itcm = itcm.old; dtcm = dtcm.old })).state.itcm }
-    ensures dtcm { dtcm.new ≡ (nine_taken core.old.registers (record { map = map.old; cp15 = cp.old; itcm = itcm.old; dtcm = dtcm.old })).state.dtcm }
-    ensures stepped { result ≡ (nine_taken core.old.registers (record { map = map.old; cp15 = cp.old; itcm = itcm.old; dtcm = dtcm.old })).stepped }
+    ensures core { core.new ≡ record core.old { registers = (nine_taken line core.old.registers (record { map = map.old; cp15 = cp.old; itcm = itcm.old; dtcm = dtcm.old; now = now })).registers } }
+    ensures cp { cp.new ≡ (nine_taken line core.old.registers (record { map = map.old; cp15 = cp.old; itcm = itcm.old; dtcm = dtcm.old; now = now })).cp }
+    ensures map { map.new ≡ (nine_taken line core.old.registers (record { map = map.old; cp15 = cp.old; itcm = itcm.old; dtcm = dtcm.old; now = now })).state.map }
+    ensures itcm { itcm.new ≡ (nine_taken line core.old.registers (record { map = map.old; cp15 = cp.old; itcm = itcm.old; dtcm = dtcm.old; now = now })).state.itcm }
+    ensures dtcm { dtcm.new ≡ (nine_taken line core.old.registers (record { map = map.old; cp15 = cp.old; itcm = itcm.old; dtcm = dtcm.old; now = now })).state.dtcm }
+    ensures stepped { result ≡ (nine_taken line core.old.registers (record { map = map.old; cp15 = cp.old; itcm = itcm.old; dtcm = dtcm.old; now = now })).stepped }
 {
-    let next = next_of_nine(core, cp, map, itcm, dtcm);
-    match nine_needs(core, cp, map, itcm, dtcm, &next) {
-        None => nine_step(core, cp, map, itcm, dtcm, next),
+    if enters(&core.registers, line) {
+        return enter_nine(core, cp, map, itcm, dtcm, now, line);
+    }
+    let next = next_of_nine(core, cp, map, itcm, dtcm, now);
+    match nine_needs(core, cp, map, itcm, dtcm, now, &next) {
+        None => nine_step(core, cp, map, itcm, dtcm, now, line, next),
         Some(value) => Stepped::Left(not_yet(value)),
     }
 }

@@ -1,7 +1,10 @@
 //! What stands in memories and registers at boot, and how it is written out.
 
-use super::{MAIN, NINE_AT, OWN7, SEVEN_AT, SHARED, has_word, told};
-use nds_rows::{BRANCH, Came, Image, bytes_of, call, cart, cart_of_words, set};
+use super::{has_word, told};
+use nds_rows::{
+    BRANCH, Came, Image, MAIN, NINE_AT, OWN7, SEVEN_AT, SHARED, bytes_of, call, cart,
+    cart_of_words, set,
+};
 use std::alloc::{AllocError, Global};
 use std::process::Abort;
 

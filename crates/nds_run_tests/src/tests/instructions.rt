@@ -1,7 +1,7 @@
 //! The words that are built, on worked programs of ARM9 and ARM7.
 
-use super::{MAIN, has_word, told};
-use nds_rows::{BRANCH, Came, Told, run_words};
+use super::{has_word, told};
+use nds_rows::{BRANCH, Came, MAIN, Told, run_words};
 use std::alloc::{AllocError, Global};
 use std::process::Abort;
 

@@ -1,21 +1,11 @@
 //! Both processors whole: tightly coupled memories, the memory map, CP15, Thumb code.
 
-use super::{END_AT, MAIN, end_record, has_word, told};
-use nds_rows::{BRANCH, Came, Told, run_words};
+use super::{has_word, told};
+use nds_rows::{
+    BRANCH, Came, DTCM, END_AT, ITCM, MAIN, OAM, PALETTE, Told, VRAM, end_record, run_words,
+};
 use std::alloc::{AllocError, Global};
 use std::process::Abort;
-
-/// The places of memories as they are written, each behind the one before: ITCM of 32 KiB, DTCM of 16 KiB, palettes of 2 KiB, video memory
-/// of 656 KiB, object attributes.
-const ITCM: usize = 0x41_8000;
-
-const DTCM: usize = 0x42_0000;
-
-const PALETTE: usize = 0x42_4000;
-
-const VRAM: usize = 0x42_4800;
-
-const OAM: usize = 0x4C_8800;
 
 /// A run of these words of ARM9, and then a branch to itself, to tick 60.
 fn after(rt: &impl Abort, alloc: Global, words: &[u32]) -> Result<(Came, Told), AllocError> {

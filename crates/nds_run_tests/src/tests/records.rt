@@ -1,7 +1,7 @@
 //! The record of the end: the tick, and the counts by the time that each step takes.
 
-use super::{END_AT, end_record, told};
-use nds_rows::{BRANCH, run_words};
+use super::told;
+use nds_rows::{BRANCH, END_AT, end_record, run_words};
 use std::alloc::{AllocError, Global};
 use std::process::Abort;
 

@@ -98,17 +98,17 @@ fn a_stop_tells_its_step_and_takes_it_not(rt: HostRuntime) -> Result<(), AllocEr
             counts: [300, 50, 0, 350],
             places: [0x0200_04B0, 0x0210_0000],
         },
-        // ARM7 jumps to 0, in its boot ROM, whose fetch isn't built: mov r15, #0, of three of its clocks
+        // ARM7 reads the first timer's counter, which isn't built: mov r0, #0x4000000; ldr r1, [r0, #0x100]
         Row {
             nine: &[BRANCH],
-            seven: &[0xE3A0_F000],
-            tick: 6,
+            seven: &[0xE3A0_0301, 0xE590_1100],
+            tick: 2,
             rank: 23,
             kind: 1,
-            value: 0,
-            note: b"left out: NotYet tick 6 actor 23 value 0x00000000\n",
-            counts: [3, 1, 0, 4],
-            places: [0x0200_0000, 0x0000_0000],
+            value: 0x0400_0100,
+            note: b"left out: NotYet tick 2 actor 23 value 0x04000100\n",
+            counts: [1, 1, 0, 2],
+            places: [0x0200_0000, 0x0210_0004],
         },
         // both stop at tick 0: ARM9 is first
         Row {
@@ -134,28 +134,17 @@ fn a_stop_tells_its_step_and_takes_it_not(rt: HostRuntime) -> Result<(), AllocEr
             counts: [1, 0, 0, 1],
             places: [0x0200_0000, 0x0210_0000],
         },
-        // `swi #0x60000` enters its vector, of three clocks, whose fetch from the boot ROM isn't built
-        Row {
-            nine: &[0xEF06_0000],
-            seven: &[BRANCH],
-            tick: 3,
-            rank: 22,
-            kind: 1,
-            value: 0xFFFF_0008,
-            note: b"left out: NotYet tick 3 actor 22 value 0xffff0008\n",
-            counts: [1, 1, 0, 2],
-            places: [0xFFFF_0008, 0x0210_0000],
-        },
+        // ARM7 writes a mode of HALTCNT that is left out: mov r0, #0x4000000; mov r1, #0x40; strb r1, [r0, #0x301]
         Row {
             nine: &[BRANCH],
-            seven: &[0xEF06_0000],
-            tick: 6,
+            seven: &[0xE3A0_0301, 0xE3A0_1040, 0xE5C0_1301],
+            tick: 4,
             rank: 23,
-            kind: 1,
-            value: 8,
-            note: b"left out: NotYet tick 6 actor 23 value 0x00000008\n",
-            counts: [3, 1, 0, 4],
-            places: [0x0200_0000, 0x0000_0008],
+            kind: 4,
+            value: 0x40,
+            note: b"left out: HaltMode tick 4 actor 23 value 0x00000040\n",
+            counts: [2, 2, 0, 4],
+            places: [0x0200_0000, 0x0210_0008],
         },
         // mcr p15, 0, r0, c1, c0, 0 of 80h: big-endian mode
         Row {
@@ -195,8 +184,8 @@ fn stops_with(
 
 #[test]
 fn accesses_that_are_not_built_stop_the_run(rt: HostRuntime) -> Result<(), AllocError> {
-    // the value is the address of the first byte that is a port or in the boot ROM
-    let rows: [(&[u32], u32); 10] = [
+    // the value is the address of the first byte that is of a port to come
+    let rows: [(&[u32], u32); 8] = [
         // mov r1, #0x4000000; ldr r2, [r1, #3]; str r2, [r1]; strb r2, [r1, #1]; strh r2, [r1, #3]
         (&[0xE3A0_1301, 0xE591_2003], 0x0400_0000),
         (&[0xE3A0_1301, 0xE581_2000], 0x0400_0000),
@@ -205,14 +194,9 @@ fn accesses_that_are_not_built_stop_the_run(rt: HostRuntime) -> Result<(), Alloc
         // ldmdb r1!, {r2, r3} from 3FFFFFCh up, and swp r2, r3, [r1]
         (&[0xE3A0_1301, 0xE281_1004, 0xE931_000C], 0x0400_0000),
         (&[0xE3A0_1301, 0xE101_2093], 0x0400_0000),
-        // mov r1, #0x5000000; ldrb r2, [r1, #-1]
-        (&[0xE3A0_1405, 0xE551_2001], 0x04FF_FFFF),
-        // mov r1, #0; ldr r2, [r1, #-4]: addresses modulo 2^32
-        (&[0xE3A0_1000, 0xE511_2004], 0xFFFF_FFFC),
-        // mov r1, #0xFF000000; add r1, r1, #0xFF0000; strb r2, [r1]: the first byte of the boot ROM
-        (&[0xE3A0_14FF, 0xE281_18FF, 0xE5C1_2000], 0xFFFF_0000),
-        // mov r1, #0xFF000000; add r1, r1, #0xFF0000; mov r15, r1: its fetch
-        (&[0xE3A0_14FF, 0xE281_18FF, 0xE1A0_F001, 0], 0xFFFF_0000),
+        // ldrb r2, [r1, #5]; ldm r1, {r2, r3} from 400027Ch up, whose first word is no port
+        (&[0xE3A0_1301, 0xE5D1_2005], 0x0400_0005),
+        (&[0xE3A0_1301, 0xE281_1F9F, 0xE891_000C], 0x0400_0280),
     ];
     for (words, value) in rows {
         stops_with(&rt, rt.alloc(), words, value)?;

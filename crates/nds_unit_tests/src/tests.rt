@@ -1,0 +1,20 @@
+//! Runs of worked cartridges, by unit.
+
+use nds_rows::{Came, Told};
+use std::process::Abort;
+
+mod interrupts;
+mod maps;
+
+/// What the console tells that a call left.
+fn told(rt: &impl Abort, came: &Came) -> Told {
+    let Some(told) = came.told else {
+        panic!(rt; "no console is left");
+    };
+    told
+}
+
+/// The memories that a run wrote have this word at a place.
+fn has_word(rt: &impl Abort, came: &Came, at: usize, word: u32) {
+    assert_eq!(rt; came.word(at), word, "at {at}");
+}

@@ -1,0 +1,204 @@
+use Rattle.std.proofs.Common.{ℕ, ◌≡◌, ◌<◌, ◌≤◌, ◌+◌, ◌-◌, ◌%◌, ◌^◌, refl, sym, ◌∙◌, ap, arith, rules, Bool, true, false, bit_and, Option, Some, None}
+use Rattle.std.specs.Prelude.{◌&&◌, not, if◌then◌else◌, is_some}
+use Rattle.std.specs.Int.Bits.{and_self}
+use Rattle.std.proofs.lemmas.Nat.{and_assoc, and_comm, and_mask}
+use Rattle.ds_base.specs.Schedules.{IsEarly}
+use Rattle.ds_base.specs.declared.left_out.Stop.{Stop}
+use Rattle.ds_base.specs.declared.processors.Proc.{Proc}
+use Rattle.ds_base.specs.declared.ticks.Tick.{Tick}
+use Rattle.ds_dma.specs.declared.controls.Cause.{Cause}
+use Rattle.ds_dma.specs.declared.controls.DmaPort.{DmaPort}
+use Rattle.ds_dma.specs.declared.controls.DmaPort.TheVariants.{Source, Target, Control}
+use Rattle.ds_dma.specs.Controls.{kept_control, control_mask, greatest_count, units_counted, is_enabled, is_not_yet, is_left_out, refusal, disabled, starts_at_once, is_armed_again, waits_for, latches_again}
+use Rattle.ds_dma.specs.Channels.{ChannelState, IsChannel, runs, latched, emptied, controlled, port_set, port_refusal, is_triggered, triggered, next_to, taken, is_last}
+use Rattle.ds_dma.proofs.Choices.{either, both, left_false, never, not_true, unequal_numbers}
+
+-- the bits that are kept are kept again
+pub kept_twice : (proc : Proc) (which value : ℕ) → kept_control proc which (kept_control proc which value) ≡ kept_control proc which value
+kept_twice proc which value = (let mask = control_mask proc which in and_assoc mask value mask ∙ ap (bit_and value) (and_self mask))
+
+-- and so are those of a control without its enable
+disabled_kept : (proc : Proc) (which control : ℕ) → kept_control proc which control ≡ control → kept_control proc which (disabled control) ≡ disabled control
+disabled_kept proc which control h =
+    let mask = control_mask proc which in
+    let low = 2 ^ 31 - 1 in
+    ap (λ n. bit_and n mask) (sym (and_mask control 31))
+    ∙ and_assoc mask control low
+    ∙ ap (bit_and control) (and_comm low mask)
+    ∙ sym (and_assoc low control mask)
+    ∙ ap (λ n. bit_and n low) h
+    ∙ and_mask control 31
+
+disabled_is_off : (control : ℕ) → is_enabled (disabled control) ≡ false
+disabled_is_off control = grind (arith, rules)
+
+units_some : (proc : Proc) (which control : ℕ) → 1 ≤ units_counted proc which control
+units_some proc which control = grind (arith, rules)
+
+units_within : (proc : Proc) (which control : ℕ) → units_counted proc which control ≤ greatest_count proc which + 1
+units_within proc which control = grind (arith, rules)
+
+early_where : (now : Tick) (free : Bool) → now.0 ≤ 2 ^ 56 → IsEarly (if free then Some now else None)
+early_where now true h = h
+early_where now false h = tt
+
+-- a source and a target have fewer bits than a running address
+wider : (n : ℕ) → n < 2 ^ 28 → n < 2 ^ 32
+wider n h = omega (arith, h)
+
+emptied_is : (proc : Proc) (which : ℕ) (c : ChannelState) (control : ℕ) → IsChannel proc which c → kept_control proc which control ≡ control
+    → is_enabled control ≡ false → IsChannel proc which (emptied c control)
+emptied_is proc which c control is kept off = record {
+  source = is.source;
+  target = is.target;
+  control = kept;
+  built = left_false (is_enabled control) (is_not_yet proc control) off;
+  from = omega arith;
+  to = omega arith;
+  left = omega arith;
+  some = λ on. never (is_enabled control) on off;
+  none = λ e. (refl, refl, refl, refl);
+  early = tt;
+}
+
+latched_is : (proc : Proc) (which : ℕ) (c : ChannelState) (control : ℕ) (now : Tick) → IsChannel proc which c → kept_control proc which control ≡ control
+    → (is_enabled control && is_not_yet proc control) ≡ false → is_enabled control ≡ true → now.0 ≤ 2 ^ 56 → IsChannel proc which (latched proc which c control now)
+latched_is proc which c control now is kept built on early = record {
+  source = is.source;
+  target = is.target;
+  control = kept;
+  built = built;
+  from = wider c.source is.source;
+  to = wider c.target is.target;
+  left = units_within proc which control;
+  some = λ e. units_some proc which control;
+  none = λ off. never (is_enabled control) on off;
+  early = early_where now (starts_at_once proc control) early;
+}
+
+controlled_is : (proc : Proc) (which : ℕ) (c : ChannelState) (control : ℕ) (now : Tick) → IsChannel proc which c → kept_control proc which control ≡ control
+    → (is_enabled control && is_not_yet proc control) ≡ false → now.0 ≤ 2 ^ 56 → IsChannel proc which (controlled proc which c control now)
+controlled_is proc which c control now is kept built early =
+    let P : ChannelState → Type 0 = IsChannel proc which in
+    either P (is_enabled control) _ _
+    (λ on. either P (is_enabled c.control) _ _
+    (λ was. record {
+      source = is.source;
+      target = is.target;
+      control = kept;
+      built = built;
+      from = is.from;
+      to = is.to;
+      left = is.left;
+      some = λ e. is.some was;
+      none = λ off. never (is_enabled control) on off;
+      early = is.early;
+    })
+    (λ was. latched_is proc which c control now is kept built on early))
+    (λ off. emptied_is proc which c control is kept off)
+
+-- a control that isn't refused isn't enabled with a start that isn't built yet
+not_refused : (a b : Bool) (x y : Stop) → (if a then Some x else (if b then Some y else None)) ≡ None → a ≡ false
+not_refused true b x y h = absurd (grind (arith, h))
+not_refused false b x y h = refl
+
+built_by : (proc : Proc) (old control : ℕ) → refusal proc old control ≡ None → (is_enabled control && is_not_yet proc control) ≡ false
+built_by proc old control h = not_refused (is_enabled control && is_not_yet proc control) (is_enabled control && not (is_enabled old) && is_left_out proc control) _ _ h
+
+-- after a write that is taken it is a channel still
+pub written_is : (proc : Proc) (which : ℕ) (port : DmaPort) (value : ℕ) (now : Tick) (c : ChannelState) → IsChannel proc which c → now.0 ≤ 2 ^ 56
+    → port_refusal proc which port value c ≡ None → IsChannel proc which (port_set proc which port value now c)
+written_is proc which Source value now c is early h = record {
+  source = omega arith;
+  target = is.target;
+  control = is.control;
+  built = is.built;
+  from = is.from;
+  to = is.to;
+  left = is.left;
+  some = is.some;
+  none = is.none;
+  early = is.early;
+}
+written_is proc which Target value now c is early h = record {
+  source = is.source;
+  target = omega arith;
+  control = is.control;
+  built = is.built;
+  from = is.from;
+  to = is.to;
+  left = is.left;
+  some = is.some;
+  none = is.none;
+  early = is.early;
+}
+written_is proc which Control value now c is early h =
+    let control = kept_control proc which value in
+    controlled_is proc which c control now is (kept_twice proc which value) (built_by proc c.control control h) early
+
+-- after an event it is a channel still
+pub triggered_is : (proc : Proc) (which : ℕ) (cause : Cause) (now : Tick) (c : ChannelState) → IsChannel proc which c → now.0 ≤ 2 ^ 56
+    → IsChannel proc which (triggered proc cause now c)
+triggered_is proc which cause now c is early =
+    either (IsChannel proc which) (is_triggered proc cause c) _ _
+    (λ e. (let waits = (both (is_enabled c.control && waits_for proc cause c.control) (not (runs c)) e).0 in
+    let on = (both (is_enabled c.control) (waits_for proc cause c.control) waits).0 in record {
+      source = is.source;
+      target = is.target;
+      control = is.control;
+      built = is.built;
+      from = is.from;
+      to = is.to;
+      left = is.left;
+      some = is.some;
+      none = λ off. never (is_enabled c.control) on off;
+      early = early;
+    }))
+    (λ e. is)
+
+modulo_below : (n : ℕ) → n % 2 ^ 32 < 2 ^ 32
+modulo_below n = omega arith
+
+chosen_below : (b : Bool) (x y : ℕ) → x < 2 ^ 32 → y < 2 ^ 32 → (if b then x else y) < 2 ^ 32
+chosen_below true x y h i = h
+chosen_below false x y h i = i
+
+-- and so it is after its first unit
+pub taken_is : (proc : Proc) (which : ℕ) (c : ChannelState) → IsChannel proc which c → is_enabled c.control ≡ true → IsChannel proc which (taken proc which c)
+taken_is proc which c is on =
+    let P : ChannelState → Type 0 = IsChannel proc which in
+    either P (not (is_last c)) _ _
+    (λ e. (let ne = unequal_numbers c.left 1 (not_true (is_last c) e) in record {
+      source = is.source;
+      target = is.target;
+      control = is.control;
+      built = is.built;
+      from = modulo_below _;
+      to = modulo_below _;
+      left = omega (arith, is.left);
+      some = λ f. omega (arith, ne, is.some f);
+      none = λ off. never (is_enabled c.control) on off;
+      early = is.early;
+    }))
+    (λ e. either P (is_armed_again proc c.control) _ _
+    (λ f. record {
+      source = is.source;
+      target = is.target;
+      control = is.control;
+      built = is.built;
+      from = modulo_below _;
+      to = chosen_below (latches_again c.control) c.target (next_to c) (wider c.target is.target) (modulo_below _);
+      left = units_within proc which c.control;
+      some = λ g. units_some proc which c.control;
+      none = λ off. never (is_enabled c.control) on off;
+      early = tt;
+    })
+    (λ f. emptied_is proc which c (disabled c.control) is (disabled_kept proc which c.control is.control) (disabled_is_off c.control)))
+
+by_enable : (b : Bool) (trigger : Option Tick) → (b ≡ false → trigger ≡ None) → is_some trigger ≡ true → b ≡ true
+by_enable true trigger f r = refl
+by_enable false trigger f r = never (is_some trigger) r (ap is_some (f refl))
+
+-- only a channel that is enabled runs
+pub runs_on : (proc : Proc) (which : ℕ) (c : ChannelState) → IsChannel proc which c → runs c ≡ true → is_enabled c.control ≡ true
+runs_on proc which c is r = by_enable (is_enabled c.control) c.trigger (λ e. (is.none e).3) r

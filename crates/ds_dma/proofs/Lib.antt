@@ -1,0 +1,5 @@
+mod Choices
+pub mod Plans
+pub mod Kept
+pub mod Fours
+pub mod Turns

@@ -1,0 +1,77 @@
+use Rattle.std.proofs.Common.{ℕ, zero, suc, ◌≡◌, ◌<◌, ◌≤◌, ◌+◌, ◌-◌, ◌*◌, ◌%◌, ◌^◌, List, [], ◌∷◌, map, refl, sym, ◌∙◌, ap, arith}
+use Rattle.std.specs.Prelude.{not}
+use Rattle.std.specs.List.{range_with_len}
+use Rattle.std.proofs.Math.Nat.{mod-add-mod, mod-eq_of_lt}
+use Rattle.ds_base.specs.declared.processors.Proc.{Proc}
+use Rattle.ds_dma.specs.declared.channels.Unit.{Unit as DmaUnit}
+use Rattle.ds_dma.specs.Controls.{disabled, is_armed_again}
+use Rattle.ds_dma.specs.Channels.{ChannelState, plan_of, unit_of, address_of, source_step, target_step, next_from, next_to, emptied, TakesUnit, more, again, ends, taken, is_last}
+use Rattle.ds_dma.proofs.Choices.{either, not_false, not_true, equal_numbers, unequal_numbers}
+
+-- the address of the unit after this one, from the first and from the second
+shifted : (first step i : ℕ) → address_of first step (i + 1) ≡ address_of (address_of first step 1) step i
+shifted first step i =
+    let sum : first + step * (i + 1) ≡ (first + step * 1) + step * i = grind arith in
+    ap (λ n. n % 2 ^ 32) sum ∙ sym (mod-add-mod (first + step * 1) (2 ^ 32) (step * i))
+
+-- what is left of a channel but its first unit
+abbrev rest_of : ChannelState → ChannelState
+rest_of c = record c { from = next_from c; to = next_to c; left = c.left - 1 }
+
+unit_shifted : (c : ChannelState) (i : ℕ) → unit_of c (i + 1) ≡ unit_of (rest_of c) i
+unit_shifted c i =
+    ap (λ n. record { from = n; to = address_of c.to (target_step c) (i + 1); width = (unit_of c 0).width }) (shifted c.from (source_step c) i)
+    ∙ ap (λ n. record { from = address_of (next_from c) (source_step c) i; to = n; width = (unit_of c 0).width }) (shifted c.to (target_step c) i)
+
+mapped : (f g : ℕ → DmaUnit) → ((i : ℕ) → f (i + 1) ≡ g i) → (a n : ℕ) → map f (range_with_len (a + 1) n) ≡ map g (range_with_len a n)
+mapped f g h a zero = refl
+mapped f g h a (suc n) = ap (λ x. x ∷ map f (range_with_len (a + 1 + 1) n)) (h a) ∙ ap (λ xs. g a ∷ xs) (mapped f g h (a + 1) n)
+
+first_of : (a n : ℕ) → 1 ≤ n → range_with_len a n ≡ a ∷ range_with_len (a + 1) (n - 1)
+first_of a zero h = absurd (omega (arith, h))
+first_of a (suc n) h = (let one_less : n ≡ suc n - 1 = omega arith in ap (λ k. a ∷ range_with_len (a + 1) k) one_less)
+
+-- A PLAN'S FIRST UNIT AND ITS REST: the rest is the plan of the running addresses one unit on
+pub plan_splits : (c : ChannelState) → 1 ≤ c.left → plan_of c ≡ unit_of c 0 ∷ plan_of (rest_of c)
+unfolding plan_of
+plan_splits c h =
+    ap (map (unit_of c)) (first_of 0 c.left h) ∙ ap (λ xs. unit_of c 0 ∷ xs) (mapped (unit_of c) (unit_of (rest_of c)) (unit_shifted c) 0 (c.left - 1))
+
+plan_ends : (c : ChannelState) → c.left ≡ 0 → plan_of c ≡ []
+unfolding plan_of
+plan_ends c h = ap (λ n. map (unit_of c) (range_with_len 0 n)) h
+
+-- one step on an address is the address itself
+there : (n step : ℕ) → n < 2 ^ 32 → address_of n step 0 ≡ n
+there n step h = (let none : n + step * 0 ≡ n = grind arith in ap (λ k. k % 2 ^ 32) none ∙ mod-eq_of_lt h)
+
+below : (n : ℕ) → n % 2 ^ 32 < 2 ^ 32
+below n = omega arith
+
+took_more : (proc : Proc) (which : ℕ) (c : ChannelState) → 2 ≤ c.left → TakesUnit proc which c (rest_of c)
+took_more proc which c h =
+    let rest = rest_of c in
+    let splits = plan_splits rest (omega (arith, h)) in
+    more (unit_of c 0) (unit_of rest 0) (plan_of (rest_of rest))
+    (plan_splits c (omega (arith, h)) ∙ ap (λ xs. unit_of c 0 ∷ xs) splits)
+    splits
+    (ap (λ n. record c { from = n; to = next_to c; left = c.left - 1 }) (sym (there (next_from c) (source_step c) (below (c.from + source_step c * 1))))
+    ∙ ap (λ n. record c { from = (unit_of rest 0).from; to = n; left = c.left - 1 }) (sym (there (next_to c) (target_step c) (below (c.to + target_step c * 1)))))
+
+only_one : (c : ChannelState) → c.left ≡ 1 → plan_of c ≡ unit_of c 0 ∷ []
+only_one c h = plan_splits c (omega (arith, h)) ∙ ap (λ xs. unit_of c 0 ∷ xs) (plan_ends (rest_of c) (omega (arith, h)))
+
+-- a channel that has units left takes the first one
+pub takes : (proc : Proc) (which : ℕ) (c : ChannelState) → 1 ≤ c.left → TakesUnit proc which c (taken proc which c)
+takes proc which c h =
+    let P : ChannelState → Type 0 = TakesUnit proc which c in
+    either P (not (is_last c)) _ _
+    (λ e. took_more proc which c (let ne = unequal_numbers c.left 1 (not_true (is_last c) e) in omega (arith, h, ne)))
+    (λ e. (let one = equal_numbers c.left 1 (not_false (is_last c) e) in
+    either P (is_armed_again proc c.control) _ _
+    (λ f. again (unit_of c 0) (only_one c one) f refl)
+    (λ f. ends (unit_of c 0) (only_one c one) f (plan_ends (emptied c (disabled c.control)) refl) refl)))
+
+-- and that one is where it stands
+pub has_first : (c : ChannelState) → 1 ≤ c.left → (rest : List DmaUnit) × (plan_of c ≡ unit_of c 0 ∷ rest)
+has_first c h = (plan_of (rest_of c), plan_splits c h)

@@ -1,0 +1,153 @@
+use Rattle.std.proofs.Common.{ℕ, ◌≡◌, ◌<◌, ◌≤◌, inl, inr, List, map, slice_set, refl, sym, ◌∙◌, subst, ap, arith, Bool, true, false, Option, Some, None}
+use Rattle.std.specs.Prelude.{◌==◌, if◌then◌else◌, is_some, IsSome}
+use Rattle.std.proofs.Math.Nat.{le-max_left, le-max_right}
+use Rattle.ds_base.specs.Schedules.{IsLater, Reschedules}
+use Rattle.ds_base.specs.declared.processors.Proc.{Proc}
+use Rattle.ds_base.specs.declared.ticks.Tick.{Tick}
+use Rattle.ds_dma.specs.declared.controls.Cause.{Cause}
+use Rattle.ds_dma.specs.declared.controls.DmaPort.{DmaPort}
+use Rattle.ds_dma.specs.declared.controls.DmaPort.TheVariants.{Source, Target, Control}
+use Rattle.ds_dma.specs.Controls.{kept_control, is_enabled, starts_at_once}
+use Rattle.ds_dma.specs.Channels.{ChannelState, runs, controlled, port_set, is_triggered, triggered, ready, ready_by}
+use Rattle.ds_dma.specs.States.{DmaState, IsDma, AreReadyLater, channel_at, dma_triggered, least_running, channel_due, due_with, dma_due, due_channel, dma_finished}
+use Rattle.ds_dma.proofs.Choices.{either, never, equal_numbers, equal_self}
+use Rattle.ds_dma.proofs.Kept.{runs_on}
+use Rattle.ds_dma.proofs.Fours.{set_holds, at_mapped}
+
+-- a channel that is triggered at a tick is ready later
+triggered_later : (last : Option Tick) (now : Tick) → IsLater now (ready_by last (Some now))
+triggered_later None now = omega arith
+triggered_later (Some last) now = omega (arith, le-max_left now.0 last.0)
+
+-- after a unit at a tick each channel is ready later
+pub later_after_unit : (now : Tick) (trigger : Option Tick) → IsLater now (ready_by (Some now) trigger)
+later_after_unit now None = tt
+later_after_unit now (Some trigger) = omega (arith, le-max_right trigger.0 now.0)
+
+-- where all are ready later, none is due by that tick
+pub all_later : (now : Tick) (s : DmaState) (old : Option Tick) → AreReadyLater now s → (each : ℕ) → each < 4 → Reschedules now old (channel_due s each)
+all_later now s old later each l =
+    inr (either (IsLater now) (each == least_running s.channels) _ _ (λ e. later each l) (λ e. tt))
+
+pub finished_later : (s : DmaState) (now : Tick) → AreReadyLater now (dma_finished s now)
+finished_later s now = λ which l. later_after_unit now (channel_at (dma_finished s now).channels which).trigger
+
+-- a write leaves a channel ready as it was, or later
+controlled_later : (proc : Proc) (which : ℕ) (c : ChannelState) (control : ℕ) (now : Tick) (last : Option Tick) → IsLater now (ready last c)
+    → IsLater now (ready last (controlled proc which c control now))
+controlled_later proc which c control now last h =
+    let P : ChannelState → Type 0 = λ x. IsLater now (ready last x) in
+    either P (is_enabled control) _ _
+    (λ on. either P (is_enabled c.control) _ _ (λ was. h)
+    (λ was. either (λ o. IsLater now (ready_by last o)) (starts_at_once proc control) _ _ (λ e. triggered_later last now) (λ e. tt)))
+    (λ off. tt)
+
+set_later : (proc : Proc) (which : ℕ) (port : DmaPort) (value : ℕ) (now : Tick) (c : ChannelState) (last : Option Tick) → IsLater now (ready last c)
+    → IsLater now (ready last (port_set proc which port value now c))
+set_later proc which Source value now c last h = h
+set_later proc which Target value now c last h = h
+set_later proc which Control value now c last h = controlled_later proc which c (kept_control proc which value) now last h
+
+pub written_later : (s : DmaState) (which : ℕ) (port : DmaPort) (value : ℕ) (now : Tick) → IsDma s → which < 4 → AreReadyLater now s
+    → AreReadyLater now (record s { channels = slice_set s.channels which (port_set s.proc which port value now (channel_at s.channels which)) })
+written_later s which port value now is l later = λ each m.
+    set_holds (λ x. IsLater now (ready s.last x)) s.channels which (port_set s.proc which port value now (channel_at s.channels which)) is.four l
+    (set_later s.proc which port value now (channel_at s.channels which) s.last (later which l)) each (later each m)
+
+-- and so does an event
+one_triggered : (proc : Proc) (cause : Cause) (now : Tick) (c : ChannelState) (last : Option Tick) → IsLater now (ready last c)
+    → IsLater now (ready last (triggered proc cause now c))
+one_triggered proc cause now c last h =
+    either (λ x. IsLater now (ready last x)) (is_triggered proc cause c) _ _ (λ e. triggered_later last now) (λ e. h)
+
+pub event_later : (s : DmaState) (cause : Cause) (now : Tick) → IsDma s → AreReadyLater now s → AreReadyLater now (dma_triggered s cause now)
+event_later s cause now is later = λ each m.
+    subst (λ x. IsLater now (ready s.last x)) (sym (at_mapped (triggered s.proc cause now) s.channels each is.four m))
+    (one_triggered s.proc cause now (channel_at s.channels each) s.last (later each m))
+
+-- the least of three that hold, and 3 where none does
+abbrev least_of : Bool → Bool → Bool → ℕ
+least_of a b c = if a then 0 else (if b then 1 else (if c then 2 else 3))
+
+-- where more hold than before, and the least one held before, it was the least one before
+least_same : (a b c x y z : Bool) → (a ≡ true → x ≡ true) → (b ≡ true → y ≡ true) → (c ≡ true → z ≡ true) → (n : ℕ) → n ≡ least_of x y z
+    → (n ≡ 0 → x ≡ a) → (n ≡ 1 → y ≡ b) → (n ≡ 2 → z ≡ c) → n ≡ least_of a b c
+least_same true b c true y z f g h n e p q r = e
+least_same true b c false y z f g h n e p q r = never false (f refl) refl
+least_same false b c true y z f g h n e p q r = never false (sym (p e)) refl
+least_same false true c false true z f g h n e p q r = e
+least_same false true c false false z f g h n e p q r = never false (g refl) refl
+least_same false false c false true z f g h n e p q r = never false (sym (q e)) refl
+least_same false false true false false true f g h n e p q r = e
+least_same false false true false false false f g h n e p q r = never false (h refl) refl
+least_same false false false false false true f g h n e p q r = never false (sym (r e)) refl
+least_same false false false false false false f g h n e p q r = e
+
+still_runs : (proc : Proc) (cause : Cause) (now : Tick) (c : ChannelState) → runs c ≡ true → runs (triggered proc cause now c) ≡ true
+still_runs proc cause now c h = either (λ x. runs x ≡ true) (is_triggered proc cause c) _ _ (λ e. refl) (λ e. h)
+
+-- a channel that is least after an event, and that it doesn't trigger, was least before
+least_before : (s : DmaState) (cause : Cause) (now : Tick) → IsDma s → (each : ℕ) → each ≡ least_running (map (triggered s.proc cause now) s.channels)
+    → runs (triggered s.proc cause now (channel_at s.channels each)) ≡ runs (channel_at s.channels each) → each ≡ least_running s.channels
+least_before s cause now is each e same =
+    let f = triggered s.proc cause now in
+    let at : ℕ → ChannelState = channel_at s.channels in
+    let P : ℕ → Type 0 = λ k. runs (f (at k)) ≡ runs (at k) in
+    let moved : (k : ℕ) → k < 4 → runs (channel_at (map f s.channels) k) ≡ runs (f (at k)) = λ k l. ap runs (at_mapped f s.channels k is.four l) in
+    let picks : least_running (map f s.channels) ≡ least_of (runs (f (at 0))) (runs (f (at 1))) (runs (f (at 2))) =
+    ap (λ b. least_of b (runs (channel_at (map f s.channels) 1)) (runs (channel_at (map f s.channels) 2))) (moved 0 (omega arith))
+    ∙ ap (λ b. least_of (runs (f (at 0))) b (runs (channel_at (map f s.channels) 2))) (moved 1 (omega arith))
+    ∙ ap (λ b. least_of (runs (f (at 0))) (runs (f (at 1))) b) (moved 2 (omega arith)) in
+    least_same (runs (at 0)) (runs (at 1)) (runs (at 2)) (runs (f (at 0))) (runs (f (at 1))) (runs (f (at 2)))
+    (still_runs s.proc cause now (at 0)) (still_runs s.proc cause now (at 1)) (still_runs s.proc cause now (at 2))
+    each (e ∙ picks)
+    (λ z. subst P z same) (λ z. subst P z same) (λ z. subst P z same)
+
+first : {A : Type 0} (b : Bool) (x y : A) → b ≡ true → (if b then x else y) ≡ x
+first true x y h = refl
+first false x y h = never false h refl
+
+second : {A : Type 0} (b : Bool) (x y : A) → b ≡ false → (if b then x else y) ≡ y
+second true x y h = never true refl h
+second false x y h = refl
+
+equal_of : (m n : ℕ) → m ≡ n → (m == n) ≡ true
+equal_of m n e = subst (λ k. (m == k) ≡ true) e (equal_self m)
+
+-- an event leaves each channel due as it was, or later
+pub event_schedules : (s : DmaState) (cause : Cause) (now : Tick) → IsDma s → (each : ℕ) → each < 4
+    → Reschedules now (channel_due s each) (channel_due (dma_triggered s cause now) each)
+event_schedules s cause now is each m =
+    let f = triggered s.proc cause now in
+    let c = channel_at s.channels each in
+    let there = at_mapped f s.channels each is.four m in
+    let least = least_running (map f s.channels) in
+    let P : Option Tick → Type 0 = λ o. Reschedules now (channel_due s each) o in
+    either P (each == least) _ _
+    (λ e. subst (λ x. P (ready s.last x)) (sym there)
+    (either (λ x. P (ready s.last x)) (is_triggered s.proc cause c) _ _
+    (λ t. inr (triggered_later s.last now))
+    (λ t. (let before = least_before s cause now is each (equal_numbers each least e) (ap runs (second (is_triggered s.proc cause c) _ _ t)) in
+    inl (sym (first (each == least_running s.channels) _ _ (equal_of each (least_running s.channels) before)))))))
+    (λ e. inr tt)
+
+-- the least running channel is below 4
+pub least_below : (channels : List ChannelState) → least_running channels < 4
+least_below channels =
+    let P : ℕ → Type 0 = λ n. n < 4 in
+    either P (runs (channel_at channels 0)) _ _ (λ e. omega arith)
+    (λ e. either P (runs (channel_at channels 1)) _ _ (λ f. omega arith)
+    (λ f. either P (runs (channel_at channels 2)) _ _ (λ g. omega arith) (λ g. omega arith)))
+
+due_runs : (which : ℕ) (last trigger : Option Tick) → IsSome (due_with which (ready_by last trigger)) → is_some trigger ≡ true
+due_runs which last None h = never false h refl
+due_runs which last (Some trigger) h = refl
+
+-- the channel that is due is enabled, and has a unit left
+pub due_is_on : (s : DmaState) → IsDma s → IsSome (dma_due s) → is_enabled (due_channel s).control ≡ true
+due_is_on s is due =
+    let which = least_running s.channels in
+    runs_on s.proc which (due_channel s) (is.each which (least_below s.channels)) (due_runs which s.last (due_channel s).trigger due)
+
+pub due_has_some : (s : DmaState) → IsDma s → IsSome (dma_due s) → 1 ≤ (due_channel s).left
+due_has_some s is due = (is.each (least_running s.channels) (least_below s.channels)).some (due_is_on s is due)

@@ -1,0 +1,88 @@
+use Rattle.std.specs.Prelude.{ℕ, ◌≡◌, ◌<◌, ◌==◌, ◌||◌, if◌then◌else◌, Bool, true, false, List, [], ◌∷◌, length, map, slice_index_or, slice_set, Option, Some, None}
+use Rattle.ds_base.specs.Schedules.{IsEarly, IsLater}
+use Rattle.ds_base.specs.declared.left_out.Stop.{Stop}
+use Rattle.ds_base.specs.declared.processors.Proc.{Proc}
+use Rattle.ds_base.specs.declared.ticks.Tick.{Tick}
+use Rattle.ds_dma.specs.declared.controls.Cause.{Cause}
+use Rattle.ds_dma.specs.declared.controls.DmaPort.{DmaPort}
+use Rattle.ds_dma.specs.declared.dma.DmaDue.{DmaDue}
+use Rattle.ds_dma.specs.Channels.{ChannelState, IsChannel, channel_at_boot, runs, port_set, port_refusal, triggered, taken, taken_bit, ready}
+
+-- the four channels of a processor, and the tick of its last unit, if there was one (GBATEK, "DS DMA Transfers"; the tick is our choice)
+pub record DmaState : Type 0 where
+  pub proc : Proc
+  pub channels : List ChannelState
+  pub last : Option Tick
+
+abbrev pub channel_at : List ChannelState → ℕ → ChannelState
+channel_at channels which = slice_index_or channels which channel_at_boot
+
+-- what holds at every time
+pub record IsDma (s : DmaState) : Type 0 where
+  pub four : length s.channels ≡ 4
+  pub each : (which : ℕ) → which < 4 → IsChannel s.proc which (channel_at s.channels which)
+  pub last : IsEarly s.last
+
+-- all is 0 at boot (our choice)
+abbrev pub dma_at_boot : Proc → DmaState
+dma_at_boot proc = record { proc = proc; channels = channel_at_boot ∷ channel_at_boot ∷ channel_at_boot ∷ channel_at_boot ∷ []; last = None }
+
+-- where a write is refused, all stays (our choice)
+abbrev pub unless : Option Stop → DmaState → DmaState → DmaState
+unless None old new = new
+unless (Some stop) old new = old
+
+-- a whole word is written to a port of a channel, at a tick
+abbrev pub port_written : DmaState → ℕ → DmaPort → ℕ → Tick → DmaState
+port_written s which port value now =
+    unless (port_refusal s.proc which port value (channel_at s.channels which)) s
+    (record s { channels = slice_set s.channels which (port_set s.proc which port value now (channel_at s.channels which)) })
+
+-- an event at a tick triggers the channels that wait for it
+abbrev pub dma_triggered : DmaState → Cause → Tick → DmaState
+dma_triggered s cause now = record s { channels = map (triggered s.proc cause now) s.channels }
+
+-- a channel runs, and then the processor isn't due
+abbrev pub any_runs : List ChannelState → Bool
+any_runs channels = runs (channel_at channels 0) || runs (channel_at channels 1) || runs (channel_at channels 2) || runs (channel_at channels 3)
+
+-- the running channel with the least number (our choice, by GBATEK, "GBA DMA Transfers": channel 0 has the highest priority); 3 where none runs
+abbrev pub least_running : List ChannelState → ℕ
+least_running channels =
+    if runs (channel_at channels 0) then 0
+    else (if runs (channel_at channels 1) then 1
+    else (if runs (channel_at channels 2) then 2 else 3))
+
+-- the same as a relation, of a channel that runs
+pub record IsLeastRunning (channels : List ChannelState) (which : ℕ) : Type 0 where
+  pub below : which < 4
+  pub there : runs (channel_at channels which) ≡ true
+  pub least : (lower : ℕ) → lower < which → runs (channel_at channels lower) ≡ false
+
+-- when a channel is due: of those that run only the one with the least number is
+abbrev pub channel_due : DmaState → ℕ → Option Tick
+channel_due s which = if which == least_running s.channels then ready s.last (channel_at s.channels which) else None
+
+-- what is due of the whole: that channel, and when
+abbrev pub due_with : ℕ → Option Tick → Option DmaDue
+due_with which None = None
+due_with which (Some tick) = Some (record { tick = tick; channel = which })
+
+abbrev pub dma_due : DmaState → Option DmaDue
+dma_due s = due_with (least_running s.channels) (ready s.last (channel_at s.channels (least_running s.channels)))
+
+-- each channel that runs is due later than a tick once it is the least one that runs
+abbrev pub AreReadyLater : Tick → DmaState → Type 0
+AreReadyLater now s = (which : ℕ) → which < 4 → IsLater now (ready s.last (channel_at s.channels which))
+
+-- the channel that is due
+abbrev pub due_channel : DmaState → ChannelState
+due_channel s = channel_at s.channels (least_running s.channels)
+
+-- its first unit is moved at a tick
+abbrev pub dma_finished : DmaState → Tick → DmaState
+dma_finished s now = record s { channels = slice_set s.channels (least_running s.channels) (taken s.proc (least_running s.channels) (due_channel s)); last = Some now }
+
+-- the bits of IF that this raises
+abbrev pub finished_bits : DmaState → ℕ
+finished_bits s = taken_bit (least_running s.channels) (due_channel s)

@@ -1,0 +1,223 @@
+//! One channel, as running addresses and a count of the units that are left.
+
+ghost use Rattle.std.specs.Prelude.{◌≡◌, ◌≤◌, ◌+◌, ◌<◌, ◌^◌, Some, None, if◌then◌else◌};
+ghost use Rattle.ds_base.specs.Schedules.{IsEarly};
+ghost use Rattle.ds_base.specs.declared.ticks.Tick.{Tick};
+ghost use Rattle.ds_dma.specs.Channels.{runs, controlled, latched, emptied, port_word, port_set, port_refusal, triggered, taken, taken_bit, is_last, armed_again, unit_of, ready};
+ghost use Rattle.ds_dma.specs.ChannelsKept.{channel_seen};
+ghost use Rattle.ds_dma.specs.Controls.{units_counted, disabled};
+
+use crate::controls;
+use crate::controls::{Cause, DmaPort};
+use ds_base::{Proc, Stop, Tick, Width};
+
+/// The bits that a source and a target keep.
+const ADDRESS: u32 = 0x0FFF_FFFF;
+
+/// One unit of a transfer: what is read at one address is written at the other.
+#[derive(Clone, Copy, PartialEq, Eq, Debug)]
+pub struct Unit {
+    /// Where it is read.
+    pub from: u32,
+    /// Where it is written.
+    pub to: u32,
+    /// A half or a word.
+    pub width: Width,
+}
+
+/// A channel's kept numbers, what it has left to do where it is enabled, and since when it runs.
+#[derive(Clone, Copy)]
+pub struct Channel {
+    pub source: u32,
+    pub target: u32,
+    pub control: u32,
+    pub from: u32,
+    pub to: u32,
+    pub left: u32,
+    pub trigger: Option<Tick>,
+}
+
+/// Whether it runs.
+pub fn is_running(channel: Channel) -> bool
+    ensures { result ≡ runs (channel_seen channel) }
+{
+    channel.trigger.is_some()
+}
+
+/// A channel that stands for no units, with this control.
+fn without_units(channel: Channel, control: u32) -> Channel
+    ensures { channel_seen result ≡ emptied (channel_seen channel) control }
+{
+    Channel {
+        control,
+        from: 0,
+        to: 0,
+        left: 0,
+        trigger: None,
+        ..channel
+    }
+}
+
+/// A channel that is enabled.
+fn with_units(proc: Proc, which: u8, channel: Channel, control: u32, now: Tick) -> Channel
+    ensures { channel_seen result ≡ latched proc which (channel_seen channel) control now }
+{
+    let at_once = controls::at_once(proc, control);
+    Channel {
+        control,
+        from: channel.source,
+        to: channel.target,
+        left: controls::units(proc, which, control),
+        trigger: if at_once { Some(now) } else { None },
+        ..channel
+    }
+}
+
+/// A channel after a write of its control, of which these bits are kept.
+pub fn with_control(proc: Proc, which: u8, channel: Channel, control: u32, now: Tick) -> Channel
+    ensures { channel_seen result ≡ controlled proc which (channel_seen channel) control now }
+{
+    if !controls::enabled(control) {
+        return without_units(channel, control);
+    }
+    if controls::enabled(channel.control) {
+        return Channel { control, ..channel };
+    }
+    with_units(proc, which, channel, control, now)
+}
+
+/// What a port of a channel keeps.
+pub fn word(channel: Channel, port: DmaPort) -> u32
+    ensures { result ≡ port_word port (channel_seen channel) }
+{
+    match port {
+        DmaPort::Source => channel.source,
+        DmaPort::Target => channel.target,
+        DmaPort::Control => channel.control,
+    }
+}
+
+/// Why a write of a channel's port is refused, if it is.
+pub fn refused(proc: Proc, which: u8, channel: Channel, port: DmaPort, value: u32) -> Option<Stop>
+    ensures { result ≡ port_refusal proc which port value (channel_seen channel) }
+{
+    match port {
+        DmaPort::Source | DmaPort::Target => None,
+        DmaPort::Control => {
+            let control = controls::kept(proc, which, value);
+            controls::refused(proc, channel.control, control)
+        }
+    }
+}
+
+/// A channel after a write of one of its ports.
+pub fn written(
+    proc: Proc,
+    which: u8,
+    channel: Channel,
+    port: DmaPort,
+    value: u32,
+    now: Tick,
+) -> Channel
+    ensures { channel_seen result ≡ port_set proc which port value now (channel_seen channel) }
+{
+    match port {
+        DmaPort::Source => Channel {
+            source: value & ADDRESS,
+            ..channel
+        },
+        DmaPort::Target => Channel {
+            target: value & ADDRESS,
+            ..channel
+        },
+        DmaPort::Control => {
+            let control = controls::kept(proc, which, value);
+            with_control(proc, which, channel, control, now)
+        }
+    }
+}
+
+/// A channel after an event.
+pub fn after(proc: Proc, cause: Cause, now: Tick, channel: Channel) -> Channel
+    ensures { channel_seen result ≡ triggered proc cause now (channel_seen channel) }
+{
+    let waits = controls::enabled(channel.control) && controls::waits(proc, cause, channel.control);
+    if waits && !is_running(channel) {
+        return Channel {
+            trigger: Some(now),
+            ..channel
+        };
+    }
+    channel
+}
+
+/// The first unit that is left.
+pub fn first(channel: Channel) -> Unit
+    requires from { channel.from < 2 ^ 32 }
+    requires to { channel.to < 2 ^ 32 }
+    ensures { result ≡ unit_of (channel_seen channel) 0 }
+{
+    Unit {
+        from: channel.from,
+        to: channel.to,
+        width: controls::width(channel.control),
+    }
+}
+
+/// A channel after its first unit.
+pub fn without_first(proc: Proc, which: u8, channel: Channel) -> Channel
+    requires { 1 ≤ channel.left }
+    ensures { channel_seen result ≡ taken proc which (channel_seen channel) }
+{
+    let control = channel.control;
+    let from = channel.from.wrapping_add(controls::source_step(control));
+    let to = channel.to.wrapping_add(controls::target_step(control));
+    if channel.left != 1 {
+        return Channel {
+            from,
+            to,
+            left: channel.left - 1,
+            ..channel
+        };
+    }
+    if !controls::again(proc, control) {
+        return without_units(channel, controls::without_enable(control));
+    }
+    let count = controls::units(proc, which, control);
+    let to = if controls::target_again(control) {
+        channel.target
+    } else {
+        to
+    };
+    Channel {
+        from,
+        to,
+        left: count,
+        trigger: None,
+        ..channel
+    }
+}
+
+/// The bit of IF that its first unit raises: that of the channel, where this is its last one and its interrupt is enabled.
+pub fn raised(which: u8, channel: Channel) -> u32
+    ensures { result ≡ taken_bit which (channel_seen channel) }
+{
+    if channel.left == 1 && controls::raises(channel.control) {
+        controls::interrupt(which).bit()
+    } else {
+        0
+    }
+}
+
+/// When its next unit is due once no lower channel runs: 4 ticks after its trigger, and 4 after the processor's last unit.
+pub fn ready_at(last: Option<Tick>, channel: Channel) -> Option<Tick>
+    requires last { IsEarly last }
+    requires trigger { IsEarly channel.trigger }
+    ensures { result ≡ ready last (channel_seen channel) }
+{
+    let trigger = channel.trigger?;
+    match last {
+        None => Some(Tick(trigger.0 + 4)),
+        Some(last) => Some(Tick(trigger.0.max(last.0) + 4)),
+    }
+}

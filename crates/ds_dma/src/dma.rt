@@ -1,0 +1,237 @@
+//! The four channels of one processor.
+
+ghost use Rattle.std.specs.Prelude.{◌≡◌, ◌<◌, ◌∷◌, ◌==◌, ℕ, List, Some, None, IsSome, IfSome, true, false, slice_set, map, is_some};
+ghost use Rattle.ds_base.specs.Schedules.{IsEarly, Reschedules};
+ghost use Rattle.ds_base.specs.declared.ticks.Tick.{Tick};
+ghost use Rattle.ds_dma.specs.Channels.{IsChannel, ChangesControl, runs, port_word, port_refusal, plan_of, TakesUnit, unit_of};
+ghost use Rattle.ds_dma.specs.ChannelsKept.{channel_seen};
+ghost use Rattle.ds_dma.specs.Controls.{kept_control};
+ghost use Rattle.ds_dma.specs.declared.channels.Unit.{Unit as DmaUnit};
+ghost use Rattle.ds_dma.specs.declared.controls.DmaPort.TheVariants.{Control};
+ghost use Rattle.ds_dma.specs.States.{DmaState, IsDma, AreReadyLater, IsLeastRunning, channel_at, dma_at_boot, port_written, dma_triggered, any_runs, least_running, channel_due, dma_due, due_channel, dma_finished, finished_bits};
+
+use crate::channels::{Channel, Unit};
+use crate::controls::{Cause, DmaPort};
+use crate::{channels, controls};
+use ds_base::{Proc, Stop, Tick};
+use std::marker::Model;
+
+/// The channel that is due, and when.
+#[derive(Clone, Copy, PartialEq, Eq, Debug)]
+pub struct DmaDue {
+    /// When its first unit is due.
+    pub tick: Tick,
+    /// Its number, below 4.
+    pub channel: u8,
+}
+
+/// The four DMA channels of one processor. Contracts see their words, what each has left to do, and the last unit's tick.
+#[derive(Clone, Copy)]
+pub struct Dma {
+    proc: Proc,
+    channels: [Channel; 4],
+    last: Option<Tick>,
+}
+
+impl Model for Dma {
+    ghost use Rattle.std.specs.Prelude.{map};
+    ghost use Rattle.ds_dma.specs.ChannelsKept.{channel_seen, channel_of};
+    ghost use Rattle.ds_dma.specs.States.{DmaState, IsDma};
+    ghost use Rattle.std.proofs.Common.{◌∙◌};
+    ghost use Rattle.std.proofs.lemmas.Simd.{map-map};
+    ghost use Rattle.std.proofs.lemmas.List.{map-id};
+
+    ghost Value = { DmaState };
+
+    ghost view = { λ d. record { proc = d.proc; channels = map channel_seen d.channels; last = d.last } };
+
+    ghost inverse = { λ s. record { proc = s.proc; channels = map channel_of s.channels; last = s.last } };
+
+    ghost inverse_ok = { λ d h i. record { proc = d.proc; channels = (map-map channel_of channel_seen d.channels ∙ map-id d.channels) i; last = d.last } };
+
+    ghost invariant = { λ d. IsDma (record { proc = d.proc; channels = map channel_seen d.channels; last = d.last }) };
+}
+
+impl Dma {
+    /// The channels of a processor at boot: all 0, and none is enabled.
+    pub fn new(proc: Proc) -> Dma
+        ensures { result ≡ dma_at_boot proc }
+    {
+        let channel = Channel {
+            source: 0,
+            target: 0,
+            control: 0,
+            from: 0,
+            to: 0,
+            left: 0,
+            trigger: None,
+        };
+        Dma {
+            proc,
+            channels: [channel, channel, channel, channel],
+            last: None,
+        }
+    }
+
+    /// A channel as it is kept.
+    fn channel(&self, which: u8) -> Channel
+        requires { which < 4 }
+        ensures seen { channel_seen result ≡ channel_at self.now.channels which }
+        ensures is { IsChannel self.now.proc which (channel_seen result) }
+    {
+        self.channels[which as usize]
+    }
+
+    /// Another channel in its place, and another last unit.
+    fn put(&mut self, which: u8, channel: Channel, last: Option<Tick>)
+        requires which { which < 4 }
+        requires is { IsChannel self.old.proc which (channel_seen channel) }
+        requires early { IsEarly last }
+        ensures { self.new ≡ record self.old { channels = slice_set self.old.channels which (channel_seen channel); last = last } }
+    {
+        self.channels[which as usize] = channel;
+        self.last = last;
+    }
+
+    /// The word that a port of a channel keeps: 28 bits of a source and a target, and of a control the bits that the processor has.
+    pub fn read(&self, channel: u8, port: DmaPort) -> u32
+        requires { channel < 4 }
+        ensures { result ≡ port_word port (channel_at self.now.channels channel) }
+    {
+        channels::word(self.channel(channel), port)
+    }
+
+    /// A write of a whole word to a port of a channel, at a tick. Enabling a channel latches its source, its target and its count; a
+    /// start of 0 triggers it at once. A write that leaves it enabled changes the kept control alone, and one that clears enable
+    /// ends the transfer. Some exactly where the control would be enabled with ARM9's start 7 (not yet), or enables the channel
+    /// with a start that is left out; the value is the control as it would be kept, and all stays.
+    pub fn write(&mut self, channel: u8, port: DmaPort, value: u32, now: Tick) -> Option<Stop>
+        requires channel { channel < 4 }
+        requires early { IsEarly (Some now) }
+        ensures state { self.new ≡ port_written self.old channel port value now }
+        ensures stop { result ≡ port_refusal self.old.proc channel port value (channel_at self.old.channels channel) }
+        ensures change { port ≡ Control → result ≡ None → ChangesControl self.old.proc channel (channel_at self.old.channels channel)
+            (kept_control self.old.proc channel value) now (channel_at self.new.channels channel) }
+        ensures later { AreReadyLater now self.old → AreReadyLater now self.new }
+        ensures schedule { AreReadyLater now self.old → (each : ℕ) → each < 4 → Reschedules now (channel_due self.old each) (channel_due self.new each) }
+    {
+        self.laws();
+        let old = self.channel(channel);
+        let proc = self.proc;
+        match channels::refused(proc, channel, old, port, value) {
+            Some(stop) => Some(stop),
+            None => {
+                let new = channels::written(proc, channel, old, port, value, now);
+                self.put(channel, new, self.last);
+                None
+            }
+        }
+    }
+
+    /// An event at a tick: the channels that are enabled with its start are triggered. One that runs stays as it is.
+    pub fn trigger(&mut self, cause: Cause, now: Tick)
+        requires { IsEarly (Some now) }
+        ensures state { self.new ≡ dma_triggered self.old cause now }
+        ensures later { AreReadyLater now self.old → AreReadyLater now self.new }
+        ensures schedule { (each : ℕ) → each < 4 → Reschedules now (channel_due self.old each) (channel_due self.new each) }
+    {
+        self.laws();
+        let proc = self.proc;
+        self.channels = [
+            channels::after(proc, cause, now, self.channel(0)),
+            channels::after(proc, cause, now, self.channel(1)),
+            channels::after(proc, cause, now, self.channel(2)),
+            channels::after(proc, cause, now, self.channel(3)),
+        ];
+    }
+
+    /// Whether a channel runs.
+    fn runs(&self, which: u8) -> bool
+        requires { which < 4 }
+        ensures { result ≡ runs (channel_at self.now.channels which) }
+    {
+        channels::is_running(self.channel(which))
+    }
+
+    /// The running channel with the least number, and 3 where none runs.
+    fn least(&self) -> u8
+        ensures least { result ≡ least_running self.now.channels }
+        ensures below { result < 4 }
+    {
+        if self.runs(0) {
+            0
+        } else if self.runs(1) {
+            1
+        } else if self.runs(2) {
+            2
+        } else {
+            3
+        }
+    }
+
+    /// The running channel with the least number, and when its first unit is due; None exactly where none runs.
+    pub fn due(&self) -> Option<DmaDue>
+        ensures due { result ≡ dma_due self.now }
+        ensures runs { is_some result ≡ any_runs self.now.channels }
+        ensures least { IfSome result (λ due. IsLeastRunning self.now.channels due.channel) }
+        ensures tick { IfSome result (λ due. channel_due self.now due.channel ≡ Some due.tick) }
+    {
+        let channel = self.least();
+        let tick = channels::ready_at(self.last, self.channel(channel))?;
+        Some(DmaDue { tick, channel })
+    }
+
+    /// The unit that is due: the first one of its channel's plan.
+    pub fn unit(&self) -> Unit
+        requires { IsSome (dma_due self.now) }
+        ensures unit { result ≡ unit_of (due_channel self.now) 0 }
+        ensures first { (rest : List DmaUnit) × (plan_of (due_channel self.now) ≡ result ∷ rest) }
+    {
+        self.laws();
+        channels::first(self.channel(self.least()))
+    }
+
+    /// The unit that is due is moved at a tick. Its channel's plan has it no more. Where it was the last one, the channel is armed again
+    /// or isn't enabled any more; gives the interrupt's bit that this raises, and 0 otherwise.
+    pub fn finish(&mut self, now: Tick) -> u32
+        requires due { IsSome (dma_due self.old) }
+        requires early { IsEarly (Some now) }
+        ensures state { self.new ≡ dma_finished self.old now }
+        ensures bits { result ≡ finished_bits self.old }
+        ensures takes { TakesUnit self.old.proc (least_running self.old.channels) (due_channel self.old)
+            (channel_at self.new.channels (least_running self.old.channels)) }
+        ensures later { AreReadyLater now self.new }
+        ensures schedule { (each : ℕ) → each < 4 → Reschedules now (channel_due self.old each) (channel_due self.new each) }
+    {
+        self.laws();
+        let which = self.least();
+        let channel = self.channel(which);
+        let bits = channels::raised(which, channel);
+        let rest = channels::without_first(self.proc, which, channel);
+        self.put(which, rest, Some(now));
+        bits
+    }
+
+    /// Whether a channel runs; then its processor isn't due. Where none does, none is due by any tick.
+    pub fn running(&self) -> bool
+        ensures runs { result ≡ any_runs self.now.channels }
+        ensures later { result ≡ false → (now : Tick) → AreReadyLater now self.now }
+    {
+        self.runs(0) || self.runs(1) || self.runs(2) || self.runs(3)
+    }
+
+    /// The tick of the last unit that was moved, if one was.
+    pub fn last_unit(&self) -> Option<Tick>
+        ensures { result ≡ self.now.last }
+    {
+        self.last
+    }
+
+    /// Does nothing; its contract states what holds of the channels at every time: that there are four, and of each how many bits its
+    /// numbers have, which bits its control has, and what it stands for where it isn't enabled.
+    pub fn laws(&self)
+        ensures { IsDma self.now }
+    {
+        let _first = self.channels[0];
+    }
+}

@@ -1,0 +1,7 @@
+mod DigitLaws
+mod KeyLaws
+mod LineLaws
+mod LoopLaws
+mod NameLaws
+mod NamesRead
+mod ScriptLaws

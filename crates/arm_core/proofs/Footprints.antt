@@ -12,7 +12,7 @@ use Rattle.ds_base.specs.declared.memories.Width.TheVariants.{Word}
 use Rattle.ds_base.specs.declared.processors.Arch.{Arch}
 use Rattle.ds_base.specs.declared.processors.Arch.TheVariants.{V4, V5}
 use Rattle.arm_core.specs.Registers.{RegisterState, register, late_register}
-use Rattle.arm_core.specs.Addressing.{listed, listed_from, list_bytes, lowest, moved_base}
+use Rattle.arm_core.specs.Addressing.{listed_registers, listed_from, list_bytes, lowest, moved_base}
 use Rattle.arm_core.specs.Multiples.{reads, writes, transferred, reached_bank, stored_value, stores_new_base, multiple_meaning}
 use Rattle.arm_core.specs.Doubles.{double_at}
 use Rattle.arm_core.specs.Footprints.{span, accessed_bytes, touched_bytes, first_without, Covers, GoesOver}
@@ -95,7 +95,7 @@ count_from (suc count) r list h =
           let l = ap (λ (l : List ℕ). length l) (one_out count r list e) in omega (arith, l, rest, all, e))
     ]
 
-pub count_listed : (list : ℕ) → list < 2 ^ 16 → length (listed list) ≡ count_ones list
+pub count_listed : (list : ℕ) → list < 2 ^ 16 → length (listed_registers list) ≡ count_ones list
 count_listed list h =
     let e : list / 2 ^ 0 ≡ list = div-one list in
     count_from 16 0 list (rw e h) ∙ ap count_ones e
@@ -148,12 +148,12 @@ pub multiple_over : (arch : Arch) (s : RegisterState) (pre up user write_back lo
     → GoesOver touch (multiple_meaning arch s pre up user write_back load rn list).accesses
 multiple_over arch s pre up user write_back true rn list touch within h =
     let at = lowest pre up (register s rn) (list_bytes list) in
-    let rs = listed (transferred arch list) in
+    let rs = listed_registers (transferred arch list) in
     let count = count_listed (transferred arch list) (transferred_within arch list within) in
     inl (words_read at rs ∙ ap (λ (n : ℕ). span (aligned_down Word at) (4 * n)) count ∙ sym h)
 multiple_over arch s pre up user write_back false rn list touch within h =
     let at = lowest pre up (register s rn) (list_bytes list) in
-    let rs = listed (transferred arch list) in
+    let rs = listed_registers (transferred arch list) in
     let count = count_listed (transferred arch list) (transferred_within arch list within) in
     let value = stored_value s (reached_bank s user) rn (write_back && not (rn == 15) && stores_new_base arch rn list) (moved_base up (register s rn) (list_bytes list)) in
     inl (words_written at (map value rs) ∙ ap (λ (n : ℕ). span (aligned_down Word at) (4 * n)) (length-map rs value ∙ count) ∙ sym h)

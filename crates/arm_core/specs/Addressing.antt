@@ -45,8 +45,8 @@ unfoldable pub listed_from : ℕ → ℕ → ℕ → List ℕ
 listed_from zero r list = []
 listed_from (suc count) r list = if bit r list then r ∷ listed_from count (r + 1) list else listed_from count (r + 1) list
 
-abbrev pub listed : ℕ → List ℕ
-listed list = listed_from 16 0 list
+abbrev pub listed_registers : ℕ → List ℕ
+listed_registers list = listed_from 16 0 list
 
 -- by how much a list moves its base; an empty one moves it as sixteen registers would (our choice)
 abbrev pub list_bytes : ℕ → ℕ

@@ -7,7 +7,7 @@ use Rattle.ds_base.specs.declared.processors.Arch.TheVariants.{V4, V5}
 use Rattle.arm_core.specs.declared.banks.Bank.{Bank}
 use Rattle.arm_core.specs.declared.banks.Bank.TheVariants.{System}
 use Rattle.arm_core.specs.Registers.{RegisterState, bank, saved_place, place, register, register_in, late_r15, next, put_in, jumped}
-use Rattle.arm_core.specs.Addressing.{listed, list_bytes, lowest, moved_base, with_base}
+use Rattle.arm_core.specs.Addressing.{listed_registers, list_bytes, lowest, moved_base, with_base}
 use Rattle.arm_core.specs.Branches.{exchanged}
 use Rattle.arm_core.specs.DataProcessing.{restored}
 use Rattle.arm_core.specs.Effects.{Meaning}
@@ -73,7 +73,7 @@ store_multiple_meaning arch s pre up user write_back rn list =
     let written = write_back && not (rn == 15) in
     let value = stored_value s (reached_bank s user) rn (written && stores_new_base arch rn list) moved in
     record {
-      accesses = writes (lowest pre up base bytes) (map value (listed (transferred arch list)));
+      accesses = writes (lowest pre up base bytes) (map value (listed_registers (transferred arch list)));
       after = λ values. with_base written rn moved (next s);
       class = StoreMultiple (count_ones list);
       jumps = false;
@@ -111,7 +111,7 @@ load_multiple_meaning arch s pre up user write_back rn list =
     let bytes = list_bytes list in
     let moved = moved_base up base bytes in
     let written = write_back && not (rn == 15) && keeps_base arch rn list in
-    let registers = listed (transferred arch list) in
+    let registers = listed_registers (transferred arch list) in
     let b = reached_bank s (reaches_user user (transferred arch list)) in
     record {
       accesses = reads (lowest pre up base bytes) registers;

@@ -2,7 +2,7 @@
 
 ghost use Rattle.std.specs.Prelude.{◌≡◌, ◌<◌, ◌∷◌, [], map, false, IsTrue};
 ghost use Rattle.ds_base.specs.Accesses.{perform};
-ghost use Rattle.arm_core.specs.Addressing.{listed};
+ghost use Rattle.arm_core.specs.Addressing.{listed_registers};
 ghost use Rattle.arm_core.specs.Effects.{carried_out};
 ghost use Rattle.arm_core.specs.Registers.{next};
 ghost use Rattle.arm_core.specs.Multiples.{load_multiple_meaning, multiple_meaning, loaded, loaded_r15, last_of, reaches_user, reached_bank, reads, store_multiple_meaning, stored_value, writes};
@@ -17,9 +17,9 @@ use ds_base::{Arch, Stop, Width};
 /// Loads the registers of a list from an address up. r15 isn't written; its value, or that of the last register, is the answer.
 #[inline(always)]
 fn load_list<B: Bus>(s: &mut Registers, bus: &mut B, bank: Bank, from: u32, list: u16) -> u32
-    ensures registers { s.new ≡ loaded bank (listed list) (perform B.memory (B.state bus.old) (reads from (listed list))).values s.old }
-    ensures state { B.state bus.new ≡ (perform B.memory (B.state bus.old) (reads from (listed list))).state }
-    ensures last { result ≡ last_of (perform B.memory (B.state bus.old) (reads from (listed list))).values }
+    ensures registers { s.new ≡ loaded bank (listed_registers list) (perform B.memory (B.state bus.old) (reads from (listed_registers list))).values s.old }
+    ensures state { B.state bus.new ≡ (perform B.memory (B.state bus.old) (reads from (listed_registers list))).state }
+    ensures last { result ≡ last_of (perform B.memory (B.state bus.old) (reads from (listed_registers list))).values }
     ensures same { B.identity bus.new ≡ B.identity bus.old }
 {
     let mut at = from;
@@ -88,9 +88,9 @@ fn load_from<B: Bus>(
     from: u32,
     list: u16,
 ) -> u32
-    ensures registers { s.new ≡ loaded (reached_bank s.old (reaches_user user list)) (listed list) (perform B.memory (B.state bus.old) (reads from (listed list))).values (next s.old) }
-    ensures state { B.state bus.new ≡ (perform B.memory (B.state bus.old) (reads from (listed list))).state }
-    ensures last { result ≡ last_of (perform B.memory (B.state bus.old) (reads from (listed list))).values }
+    ensures registers { s.new ≡ loaded (reached_bank s.old (reaches_user user list)) (listed_registers list) (perform B.memory (B.state bus.old) (reads from (listed_registers list))).values (next s.old) }
+    ensures state { B.state bus.new ≡ (perform B.memory (B.state bus.old) (reads from (listed_registers list))).state }
+    ensures last { result ≡ last_of (perform B.memory (B.state bus.old) (reads from (listed_registers list))).values }
     ensures same { B.identity bus.new ≡ B.identity bus.old }
 {
     let _ = arch;
@@ -162,8 +162,8 @@ fn store_list<B: Bus>(
 ) -> Option<Stop>
     requires rn { rn < 16 }
     requires base { IsTrue written → rn < 15 }
-    ensures stop { result ≡ (perform B.memory (B.state bus.old) (writes from (map (stored_value s.now bank rn written new_base) (listed list)))).stop }
-    ensures state { B.state bus.new ≡ (perform B.memory (B.state bus.old) (writes from (map (stored_value s.now bank rn written new_base) (listed list)))).state }
+    ensures stop { result ≡ (perform B.memory (B.state bus.old) (writes from (map (stored_value s.now bank rn written new_base) (listed_registers list)))).stop }
+    ensures state { B.state bus.new ≡ (perform B.memory (B.state bus.old) (writes from (map (stored_value s.now bank rn written new_base) (listed_registers list)))).state }
     ensures same { B.identity bus.new ≡ B.identity bus.old }
 {
     let mut at = from;

@@ -27,17 +27,17 @@ pub data Register : Type 0 where
   Other : Register
 
 -- a row of the table: a register by crn, crm and op2; op1 is 0 in all of them
-pub record Row : Type 0 where
+pub record CodeRow : Type 0 where
   pub crn : ℕ
   pub crm : ℕ
   pub op2 : ℕ
   pub register : Register
 
-abbrev pub at_codes : ℕ → ℕ → ℕ → Register → Row
+abbrev pub at_codes : ℕ → ℕ → ℕ → Register → CodeRow
 at_codes crn crm op2 register = record { crn = crn; crm = crm; op2 = op2; register = register }
 
 -- the table: main ID, cache type, size of the tightly coupled memories, control, wait for an interrupt, both regions
-abbrev pub registers : List Row
+abbrev pub registers : List CodeRow
 registers =
     at_codes 0 0 0 (Constant 0x41059461)
     ∷ at_codes 0 0 1 (Constant 0x0F0D2112)
@@ -49,7 +49,7 @@ registers =
     ∷ []
 
 -- the register of the codes of an MCR or MRC
-abbrev pub register_by : List Row → ℕ → ℕ → ℕ → Register
+abbrev pub register_by : List CodeRow → ℕ → ℕ → ℕ → Register
 register_by [] crn crm op2 = Other
 register_by (r ∷ rs) crn crm op2 = if r.crn == crn && r.crm == crm && r.op2 == op2 then r.register else register_by rs crn crm op2
 

@@ -4,11 +4,11 @@ use Rattle.std.proofs.Math.Nat.{div-lt_iff_lt-mul, mod-lt}
 use Rattle.ds_base.specs.declared.processors.Proc.{Proc}
 use Rattle.ds_ports.specs.declared.registers.Slot.{Slot}
 use Rattle.ds_base.specs.declared.processors.Proc.TheVariants.{Nine, Seven}
-use Rattle.ds_ports.specs.RegisterMap.{Row, row_bytes, slot_in, slot_by, slot_of, register_map, numbers_of, IsSlot}
+use Rattle.ds_ports.specs.RegisterMap.{PortRow, row_bytes, slot_in, slot_by, slot_of, register_map, numbers_of, IsSlot}
 use Rattle.ds_ports.specs.Parts.{Part, whole, slot_among, looked_up, parts_of_nine, parts_of_seven}
 
 -- all rows lie from one offset up to another
-abbrev pub lie : ℕ → ℕ → List Row → Bool
+abbrev pub lie : ℕ → ℕ → List PortRow → Bool
 lie from limit [] = true
 lie from limit (r ∷ rows) = nat_le from r.offset && nat_le (r.offset + row_bytes r) limit && lie from limit rows
 
@@ -29,7 +29,7 @@ below_or_not : (a b : ℕ) → ((a < b) × (nat_lt a b ≡ true)) ⊎ ((b ≤ a)
 below_or_not a b = grind arith
 
 -- rows that lie elsewhere have nothing at an offset
-elsewhere : (from limit : ℕ) (rows : List Row) (at : ℕ) → lie from limit rows ≡ true → (at < from) ⊎ (limit ≤ at) → slot_by rows at ≡ None
+elsewhere : (from limit : ℕ) (rows : List PortRow) (at : ℕ) → lie from limit rows ≡ true → (at < from) ⊎ (limit ≤ at) → slot_by rows at ≡ None
 elsewhere from limit [] at h out = refl
 elsewhere from limit (r ∷ rows) at h out =
     let three = all_three (nat_le from r.offset) (nat_le (r.offset + row_bytes r) limit) (lie from limit rows) h in
@@ -41,7 +41,7 @@ elsewhere from limit (r ∷ rows) at h out =
       outside offset bytes at f l out = grind (arith, f, l, out)
 
 -- what the first rows have comes first
-appended : (xs ys : List Row) (at : ℕ) → slot_by ys at ≡ None → slot_by (xs ++ ys) at ≡ slot_by xs at
+appended : (xs ys : List PortRow) (at : ℕ) → slot_by ys at ≡ None → slot_by (xs ++ ys) at ≡ slot_by xs at
 appended [] ys at h = h
 appended (x ∷ xs) ys at h = rw (appended xs ys at h) refl
 
@@ -50,7 +50,7 @@ past_first : (here : Bool) (slot : Slot) (short long goal : Option Slot) → (if
 past_first true slot short long goal h k = absurd (grind arith)
 past_first false slot short long goal h k = k h
 
-passed : (xs ys : List Row) (at : ℕ) → slot_by xs at ≡ None → slot_by (xs ++ ys) at ≡ slot_by ys at
+passed : (xs ys : List PortRow) (at : ℕ) → slot_by xs at ≡ None → slot_by (xs ++ ys) at ≡ slot_by ys at
 passed [] ys at h = refl
 passed (x ∷ xs) ys at h =
     past_first (nat_le x.offset at && nat_lt at (x.offset + row_bytes x)) (slot_in x (at - x.offset)) (slot_by xs at) (slot_by (xs ++ ys) at) (slot_by ys at) h
@@ -84,18 +84,18 @@ unfolding slot_of
 seven_by_parts at = found 0 parts_of_seven at refl
 
 -- each row has registers of at most four bytes, and no more of a kind than there are
-abbrev pub fit : List Row → Bool
+abbrev pub fit : List PortRow → Bool
 fit [] = true
 fit (r ∷ rows) = (nat_lt 0 r.bytes && nat_le r.bytes 4) && nat_le r.count (numbers_of r.register) && fit rows
 
-slot_in-is : (r : Row) (offset : ℕ) → 0 < r.bytes → r.bytes ≤ 4 → r.count ≤ numbers_of r.register → offset < row_bytes r → IsSlot (slot_in r offset)
+slot_in-is : (r : PortRow) (offset : ℕ) → 0 < r.bytes → r.bytes ≤ 4 → r.count ≤ numbers_of r.register → offset < row_bytes r → IsSlot (slot_in r offset)
 slot_in-is r offset some small few inside = record {
   number = (let n : offset / r.bytes < r.count = (div-lt_iff_lt-mul some).1 (omega (arith, inside)) in omega (arith, n, few));
   byte = mod-lt offset some;
   bytes = small;
 }
 
-pub slot_by-is : (rows : List Row) (at : ℕ) → fit rows ≡ true → IfSome (slot_by rows at) IsSlot
+pub slot_by-is : (rows : List PortRow) (at : ℕ) → fit rows ≡ true → IfSome (slot_by rows at) IsSlot
 slot_by-is [] at h = tt
 slot_by-is (r ∷ rows) at h =
     let three = all_three (nat_lt 0 r.bytes && nat_le r.bytes 4) (nat_le r.count (numbers_of r.register)) (fit rows) h in

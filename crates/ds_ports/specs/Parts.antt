@@ -1,22 +1,22 @@
 use Rattle.std.specs.Prelude.{ℕ, nat_lt, if◌then◌else◌, List, [], ◌∷◌, ◌++◌, Option, None}
 use Rattle.ds_ports.specs.declared.registers.Slot.{Slot}
-use Rattle.ds_ports.specs.RegisterMap.{Row, slot_by, display_rows, effect_rows, dma_rows, timer_and_ipc_rows, control_rows, maths_rows, power_rows, geometry_rows, second_display_rows, second_effect_rows, receive_rows, seven_early_rows, seven_timer_and_ipc_rows, seven_control_rows}
+use Rattle.ds_ports.specs.RegisterMap.{PortRow, slot_by, display_rows, effect_rows, dma_rows, timer_and_ipc_rows, control_rows, maths_rows, power_rows, geometry_rows, second_display_rows, second_effect_rows, receive_rows, seven_early_rows, seven_timer_and_ipc_rows, seven_control_rows}
 
 -- A map is cut into parts, each with the offset at which it ends, so that an offset is looked up in its part alone. No public clause speaks
 -- of them.
 
 -- what some rows have at an offset; it doesn't unfold by itself, since the rows are many
-unfoldable pub slot_among : List Row → ℕ → Option Slot
+unfoldable pub slot_among : List PortRow → ℕ → Option Slot
 slot_among rows at = slot_by rows at
 
 pub record Part : Type 0 where
   pub limit : ℕ
-  pub rows : List Row
+  pub rows : List PortRow
 
-abbrev pub part : ℕ → List Row → Part
+abbrev pub part : ℕ → List PortRow → Part
 part limit rows = record { limit = limit; rows = rows }
 
-abbrev pub whole : List Part → List Row
+abbrev pub whole : List Part → List PortRow
 whole [] = []
 whole (p ∷ parts) = p.rows ++ whole parts
 

@@ -9,19 +9,19 @@ use Rattle.ds_ports.specs.declared.registers.Slot.{Slot}
 -- many registers stand there one after another, and what they are; GBATEK's names stand beside. What isn't built yet is `Later`. Offsets
 -- that no row has aren't ports of this console.
 
-pub record Row : Type 0 where
+pub record PortRow : Type 0 where
   pub offset : ℕ
   pub bytes : ℕ
   pub count : ℕ
   pub register : Register
 
-abbrev pub row : ℕ → ℕ → ℕ → Register → Row
+abbrev pub row : ℕ → ℕ → ℕ → Register → PortRow
 row offset bytes count register = record { offset = offset; bytes = bytes; count = count; register = register }
 
 -- ---- ARM9's
 
 -- a 2D engine's; engine A has four more
-abbrev pub display_rows : List Row
+abbrev pub display_rows : List PortRow
 display_rows =
     row 0x000 4 1 Later  -- DISPCNT
     ∷ row 0x004 2 1 Later  -- DISPSTAT
@@ -34,7 +34,7 @@ display_rows =
     ∷ row 0x038 4 2 Later  -- BG3X, BG3Y
     ∷ []
 
-abbrev pub effect_rows : List Row
+abbrev pub effect_rows : List PortRow
 effect_rows =
     row 0x040 2 4 Later  -- WIN0H, WIN1H, WIN0V, WIN1V
     ∷ row 0x048 2 2 Later  -- WININ, WINOUT
@@ -45,13 +45,13 @@ effect_rows =
     ∷ row 0x06C 2 1 Later  -- MASTER_BRIGHT
     ∷ []
 
-abbrev pub dma_rows : List Row
+abbrev pub dma_rows : List PortRow
 dma_rows =
     row 0x0B0 4 12 Later  -- DMA0SAD, DMA0DAD, DMA0CNT to DMA3SAD, DMA3DAD, DMA3CNT
     ∷ row 0x0E0 4 4 Later  -- DMA0FILL to DMA3FILL
     ∷ []
 
-abbrev pub timer_and_ipc_rows : List Row
+abbrev pub timer_and_ipc_rows : List PortRow
 timer_and_ipc_rows =
     row 0x100 2 8 Later  -- TM0CNT_L, TM0CNT_H to TM3CNT_L, TM3CNT_H
     ∷ row 0x130 2 1 Keyinput  -- KEYINPUT
@@ -62,7 +62,7 @@ timer_and_ipc_rows =
     ∷ row 0x1A4 4 1 Later  -- ROMCTRL
     ∷ []
 
-abbrev pub control_rows : List Row
+abbrev pub control_rows : List PortRow
 control_rows =
     row 0x208 4 1 Ime  -- IME
     ∷ row 0x210 4 1 Ie  -- IE
@@ -72,7 +72,7 @@ control_rows =
     ∷ row 0x248 1 2 VramcntHToI  -- VRAMCNT_H, VRAMCNT_I
     ∷ []
 
-abbrev pub maths_rows : List Row
+abbrev pub maths_rows : List PortRow
 maths_rows =
     row 0x280 4 1 Later  -- DIVCNT
     ∷ row 0x290 4 2 Later  -- DIV_NUMER, its low and its high word
@@ -84,13 +84,13 @@ maths_rows =
     ∷ row 0x2B8 4 2 Later  -- SQRT_PARAM, its low and its high word
     ∷ []
 
-abbrev pub power_rows : List Row
+abbrev pub power_rows : List PortRow
 power_rows =
     row 0x300 1 1 Postflg  -- POSTFLG
     ∷ row 0x304 2 1 Later  -- POWCNT1
     ∷ []
 
-abbrev pub geometry_rows : List Row
+abbrev pub geometry_rows : List PortRow
 geometry_rows =
     row 0x400 4 16 Later  -- GXFIFO
     ∷ row 0x440 4 112 Later  -- MTX_MODE to VEC_TEST, the geometry commands
@@ -103,7 +103,7 @@ geometry_rows =
     ∷ []
 
 -- engine B's, by the names of engine A's
-abbrev pub second_display_rows : List Row
+abbrev pub second_display_rows : List PortRow
 second_display_rows =
     row 0x1000 4 1 Later  -- DISPCNT
     ∷ row 0x1008 2 4 Later  -- BG0CNT to BG3CNT
@@ -114,7 +114,7 @@ second_display_rows =
     ∷ row 0x1038 4 2 Later  -- BG3X, BG3Y
     ∷ []
 
-abbrev pub second_effect_rows : List Row
+abbrev pub second_effect_rows : List PortRow
 second_effect_rows =
     row 0x1040 2 4 Later  -- WIN0H, WIN1H, WIN0V, WIN1V
     ∷ row 0x1048 2 2 Later  -- WININ, WINOUT
@@ -123,19 +123,19 @@ second_effect_rows =
     ∷ row 0x106C 2 1 Later  -- MASTER_BRIGHT
     ∷ []
 
-abbrev pub receive_rows : List Row
+abbrev pub receive_rows : List PortRow
 receive_rows = row 0x100000 4 1 Ipcfiforecv ∷ []  -- IPCFIFORECV
 
 -- ---- ARM7's
 
-abbrev pub seven_early_rows : List Row
+abbrev pub seven_early_rows : List PortRow
 seven_early_rows =
     row 0x004 2 1 Later  -- DISPSTAT
     ∷ row 0x006 2 1 Later  -- VCOUNT
     ∷ row 0x0B0 4 12 Later  -- DMA0SAD, DMA0DAD, DMA0CNT to DMA3SAD, DMA3DAD, DMA3CNT
     ∷ []
 
-abbrev pub seven_timer_and_ipc_rows : List Row
+abbrev pub seven_timer_and_ipc_rows : List PortRow
 seven_timer_and_ipc_rows =
     row 0x100 2 8 Later  -- TM0CNT_L, TM0CNT_H to TM3CNT_L, TM3CNT_H
     ∷ row 0x130 2 1 Keyinput  -- KEYINPUT
@@ -147,7 +147,7 @@ seven_timer_and_ipc_rows =
     ∷ row 0x1A4 4 1 Later  -- ROMCTRL
     ∷ []
 
-abbrev pub seven_control_rows : List Row
+abbrev pub seven_control_rows : List PortRow
 seven_control_rows =
     row 0x208 4 1 Ime  -- IME
     ∷ row 0x210 4 1 Ie  -- IE
@@ -160,30 +160,30 @@ seven_control_rows =
 
 -- ---- the maps
 
-abbrev pub map_of_nine : List Row
+abbrev pub map_of_nine : List PortRow
 map_of_nine =
     display_rows ++ effect_rows ++ dma_rows ++ timer_and_ipc_rows ++ control_rows ++ maths_rows ++ power_rows ++ geometry_rows
     ++ second_display_rows ++ second_effect_rows ++ receive_rows
 
-abbrev pub map_of_seven : List Row
+abbrev pub map_of_seven : List PortRow
 map_of_seven = seven_early_rows ++ seven_timer_and_ipc_rows ++ seven_control_rows ++ receive_rows
 
-abbrev pub register_map : Proc → List Row
+abbrev pub register_map : Proc → List PortRow
 register_map Nine = map_of_nine
 register_map Seven = map_of_seven
 
 -- ---- what stands at an offset
 
 -- how many bytes a row has
-abbrev pub row_bytes : Row → ℕ
+abbrev pub row_bytes : PortRow → ℕ
 row_bytes r = r.count * r.bytes
 
 -- a register of a row, and which of its bytes stands so many bytes into the row
-abbrev pub slot_in : Row → ℕ → Slot
+abbrev pub slot_in : PortRow → ℕ → Slot
 slot_in r offset = record { register = r.register; number = offset / r.bytes; byte = offset % r.bytes; bytes = r.bytes }
 
 -- the register whose byte stands at an offset, by the row that has it
-abbrev pub slot_by : List Row → ℕ → Option Slot
+abbrev pub slot_by : List PortRow → ℕ → Option Slot
 slot_by [] at = None
 slot_by (r ∷ rows) at = if nat_le r.offset at && nat_lt at (r.offset + row_bytes r) then Some (slot_in r (at - r.offset)) else slot_by rows at
 

@@ -1,14 +1,14 @@
 use Rattle.std.proofs.Common.{◌≡◌, true, false, refl, sym, ◌∙◌, arith}
 use Rattle.ds_base.specs.Bits.{bit}
 use Rattle.ds_base.specs.Accesses.{perform}
-use Rattle.arm_core.specs.Addressing.{listed}
+use Rattle.arm_core.specs.Addressing.{listed_registers}
 use Rattle.arm_core.specs.Multiples.{reads}
 use Rattle.arm_exec.proofs.Lists.{left_in, left_out, none_left, last_or_last}
 use Rattle.arm_exec.proofs.multiples.load_list.Goals as goal
 use Rattle.arm_exec.proofs.multiples.load_list.Goals.{then-has, else-has}
 
 pub loop-r-init : goal.loop-r-init
-loop-r-init g c = record { registers = refl; state = refl; last = last_or_last 0 (perform g.B.Bus.memory (g.B.Bus.state c.args.bus.now) (reads c.args.from (listed c.args.list))).values; same = refl }
+loop-r-init g c = record { registers = refl; state = refl; last = last_or_last 0 (perform g.B.Bus.memory (g.B.Bus.state c.args.bus.now) (reads c.args.from (listed_registers c.args.list))).values; same = refl }
 
 pub loop-r-preserved : goal.loop-r-preserved
 loop-r-preserved g c =

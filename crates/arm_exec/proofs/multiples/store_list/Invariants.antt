@@ -1,7 +1,7 @@
 use Rattle.std.proofs.Common.{◌≡◌}
 use Rattle.std.specs.Prelude.{map}
 use Rattle.ds_base.specs.Accesses.{perform}
-use Rattle.arm_core.specs.Addressing.{listed}
+use Rattle.arm_core.specs.Addressing.{listed_registers}
 use Rattle.arm_core.specs.Multiples.{writes, stored_value}
 use Rattle.arm_exec.proofs.Lists.{left}
 use Rattle.arm_exec.proofs.multiples.store_list.Given as goal
@@ -13,7 +13,7 @@ invariant-loop-r g l =
     let s = g.B.Bus.state in
     let value = stored_value l.s l.bank l.rn l.written l.new_base in
     let rest = perform m (s l.bus) (writes l.at (map value (left l.r l.list))) in
-    let all = perform m (s l.initial.bus) (writes l.from (map value (listed l.list))) in
+    let all = perform m (s l.initial.bus) (writes l.from (map value (listed_registers l.list))) in
     record {
       state : rest.state ≡ all.state;
       stop : rest.stop ≡ all.stop;

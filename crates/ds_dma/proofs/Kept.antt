@@ -2,15 +2,14 @@ use Rattle.std.proofs.Common.{ℕ, ◌≡◌, ◌<◌, ◌≤◌, ◌+◌, ◌-�
 use Rattle.std.specs.Prelude.{◌&&◌, not, if◌then◌else◌, is_some}
 use Rattle.std.specs.Int.Bits.{and_self}
 use Rattle.std.proofs.lemmas.Nat.{and_assoc, and_comm, and_mask}
-use Rattle.ds_base.specs.Schedules.{IsEarly}
 use Rattle.ds_base.specs.declared.left_out.Stop.{Stop}
 use Rattle.ds_base.specs.declared.processors.Proc.{Proc}
 use Rattle.ds_base.specs.declared.ticks.Tick.{Tick}
 use Rattle.ds_dma.specs.declared.controls.Cause.{Cause}
 use Rattle.ds_dma.specs.declared.controls.DmaPort.{DmaPort}
 use Rattle.ds_dma.specs.declared.controls.DmaPort.TheVariants.{Source, Target, Control}
-use Rattle.ds_dma.specs.Controls.{kept_control, control_mask, greatest_count, units_counted, is_enabled, is_not_yet, is_left_out, refusal, disabled, starts_at_once, is_armed_again, waits_for, latches_again}
-use Rattle.ds_dma.specs.Channels.{ChannelState, IsChannel, runs, latched, emptied, controlled, port_set, port_refusal, is_triggered, triggered, next_to, taken, is_last}
+use Rattle.ds_dma.specs.Controls.{kept_control, control_mask, greatest_count, units_counted, is_enabled, is_not_yet, is_left_out, refusal, disabled, is_armed_again, waits_for, latches_again}
+use Rattle.ds_dma.specs.Channels.{ChannelState, IsChannel, is_running, latched, emptied, channel_controlled, channel_set, channel_refusal, is_triggered, triggered, next_to, taken, is_last}
 use Rattle.ds_dma.proofs.Choices.{either, both, left_false, never, not_true, unequal_numbers}
 
 -- the bits that are kept are kept again
@@ -38,10 +37,6 @@ units_some proc which control = grind (arith, rules)
 units_within : (proc : Proc) (which control : ℕ) → units_counted proc which control ≤ greatest_count proc which + 1
 units_within proc which control = grind (arith, rules)
 
-early_where : (now : Tick) (free : Bool) → now.0 ≤ 2 ^ 56 → IsEarly (if free then Some now else None)
-early_where now true h = h
-early_where now false h = tt
-
 -- a source and a target have fewer bits than a running address
 wider : (n : ℕ) → n < 2 ^ 28 → n < 2 ^ 32
 wider n h = omega (arith, h)
@@ -58,12 +53,11 @@ emptied_is proc which c control is kept off = record {
   left = omega arith;
   some = λ on. never (is_enabled control) on off;
   none = λ e. (refl, refl, refl, refl);
-  early = tt;
 }
 
 latched_is : (proc : Proc) (which : ℕ) (c : ChannelState) (control : ℕ) (now : Tick) → IsChannel proc which c → kept_control proc which control ≡ control
-    → (is_enabled control && is_not_yet proc control) ≡ false → is_enabled control ≡ true → now.0 ≤ 2 ^ 56 → IsChannel proc which (latched proc which c control now)
-latched_is proc which c control now is kept built on early = record {
+    → (is_enabled control && is_not_yet proc control) ≡ false → is_enabled control ≡ true → IsChannel proc which (latched proc which c control now)
+latched_is proc which c control now is kept built on = record {
   source = is.source;
   target = is.target;
   control = kept;
@@ -73,12 +67,11 @@ latched_is proc which c control now is kept built on early = record {
   left = units_within proc which control;
   some = λ e. units_some proc which control;
   none = λ off. never (is_enabled control) on off;
-  early = early_where now (starts_at_once proc control) early;
 }
 
 controlled_is : (proc : Proc) (which : ℕ) (c : ChannelState) (control : ℕ) (now : Tick) → IsChannel proc which c → kept_control proc which control ≡ control
-    → (is_enabled control && is_not_yet proc control) ≡ false → now.0 ≤ 2 ^ 56 → IsChannel proc which (controlled proc which c control now)
-controlled_is proc which c control now is kept built early =
+    → (is_enabled control && is_not_yet proc control) ≡ false → IsChannel proc which (channel_controlled proc which c control now)
+controlled_is proc which c control now is kept built =
     let P : ChannelState → Type 0 = IsChannel proc which in
     either P (is_enabled control) _ _
     (λ on. either P (is_enabled c.control) _ _
@@ -92,9 +85,8 @@ controlled_is proc which c control now is kept built early =
       left = is.left;
       some = λ e. is.some was;
       none = λ off. never (is_enabled control) on off;
-      early = is.early;
     })
-    (λ was. latched_is proc which c control now is kept built on early))
+    (λ was. latched_is proc which c control now is kept built on))
     (λ off. emptied_is proc which c control is kept off)
 
 -- a control that isn't refused isn't enabled with a start that isn't built yet
@@ -106,9 +98,9 @@ built_by : (proc : Proc) (old control : ℕ) → refusal proc old control ≡ No
 built_by proc old control h = not_refused (is_enabled control && is_not_yet proc control) (is_enabled control && not (is_enabled old) && is_left_out proc control) _ _ h
 
 -- after a write that is taken it is a channel still
-pub written_is : (proc : Proc) (which : ℕ) (port : DmaPort) (value : ℕ) (now : Tick) (c : ChannelState) → IsChannel proc which c → now.0 ≤ 2 ^ 56
-    → port_refusal proc which port value c ≡ None → IsChannel proc which (port_set proc which port value now c)
-written_is proc which Source value now c is early h = record {
+pub written_is : (proc : Proc) (which : ℕ) (port : DmaPort) (value : ℕ) (now : Tick) (c : ChannelState) → IsChannel proc which c
+    → channel_refusal proc which port value c ≡ None → IsChannel proc which (channel_set proc which port value now c)
+written_is proc which Source value now c is h = record {
   source = omega arith;
   target = is.target;
   control = is.control;
@@ -118,9 +110,8 @@ written_is proc which Source value now c is early h = record {
   left = is.left;
   some = is.some;
   none = is.none;
-  early = is.early;
 }
-written_is proc which Target value now c is early h = record {
+written_is proc which Target value now c is h = record {
   source = is.source;
   target = omega arith;
   control = is.control;
@@ -130,18 +121,17 @@ written_is proc which Target value now c is early h = record {
   left = is.left;
   some = is.some;
   none = is.none;
-  early = is.early;
 }
-written_is proc which Control value now c is early h =
+written_is proc which Control value now c is h =
     let control = kept_control proc which value in
-    controlled_is proc which c control now is (kept_twice proc which value) (built_by proc c.control control h) early
+    controlled_is proc which c control now is (kept_twice proc which value) (built_by proc c.control control h)
 
 -- after an event it is a channel still
-pub triggered_is : (proc : Proc) (which : ℕ) (cause : Cause) (now : Tick) (c : ChannelState) → IsChannel proc which c → now.0 ≤ 2 ^ 56
+pub triggered_is : (proc : Proc) (which : ℕ) (cause : Cause) (now : Tick) (c : ChannelState) → IsChannel proc which c
     → IsChannel proc which (triggered proc cause now c)
-triggered_is proc which cause now c is early =
+triggered_is proc which cause now c is =
     either (IsChannel proc which) (is_triggered proc cause c) _ _
-    (λ e. (let waits = (both (is_enabled c.control && waits_for proc cause c.control) (not (runs c)) e).0 in
+    (λ e. (let waits = (both (is_enabled c.control && waits_for proc cause c.control) (not (is_running c)) e).0 in
     let on = (both (is_enabled c.control) (waits_for proc cause c.control) waits).0 in record {
       source = is.source;
       target = is.target;
@@ -152,7 +142,6 @@ triggered_is proc which cause now c is early =
       left = is.left;
       some = is.some;
       none = λ off. never (is_enabled c.control) on off;
-      early = early;
     }))
     (λ e. is)
 
@@ -178,7 +167,6 @@ taken_is proc which c is on =
       left = omega (arith, is.left);
       some = λ f. omega (arith, ne, is.some f);
       none = λ off. never (is_enabled c.control) on off;
-      early = is.early;
     }))
     (λ e. either P (is_armed_again proc c.control) _ _
     (λ f. record {
@@ -191,7 +179,6 @@ taken_is proc which c is on =
       left = units_within proc which c.control;
       some = λ g. units_some proc which c.control;
       none = λ off. never (is_enabled c.control) on off;
-      early = tt;
     })
     (λ f. emptied_is proc which c (disabled c.control) is (disabled_kept proc which c.control is.control) (disabled_is_off c.control)))
 
@@ -200,5 +187,5 @@ by_enable true trigger f r = refl
 by_enable false trigger f r = never (is_some trigger) r (ap is_some (f refl))
 
 -- only a channel that is enabled runs
-pub runs_on : (proc : Proc) (which : ℕ) (c : ChannelState) → IsChannel proc which c → runs c ≡ true → is_enabled c.control ≡ true
+pub runs_on : (proc : Proc) (which : ℕ) (c : ChannelState) → IsChannel proc which c → is_running c ≡ true → is_enabled c.control ≡ true
 runs_on proc which c is r = by_enable (is_enabled c.control) c.trigger (λ e. (is.none e).3) r

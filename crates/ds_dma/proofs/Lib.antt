@@ -2,4 +2,6 @@ mod Choices
 pub mod Plans
 pub mod Kept
 pub mod Fours
+pub mod Early
 pub mod Turns
+pub mod Wholes

@@ -8,7 +8,7 @@ use Rattle.ds_dma.specs.declared.controls.Cause.{Cause}
 use Rattle.ds_dma.specs.declared.controls.DmaPort.{DmaPort}
 use Rattle.ds_dma.specs.declared.controls.DmaPort.TheVariants.{Source, Target, Control}
 use Rattle.ds_dma.specs.Controls.{kept_control, is_enabled, starts_at_once}
-use Rattle.ds_dma.specs.Channels.{ChannelState, runs, controlled, port_set, is_triggered, triggered, ready, ready_by}
+use Rattle.ds_dma.specs.Channels.{ChannelState, is_running, channel_controlled, channel_set, is_triggered, triggered, ready, ready_by}
 use Rattle.ds_dma.specs.States.{DmaState, IsDma, AreReadyLater, channel_at, dma_triggered, least_running, channel_due, due_with, dma_due, due_channel, dma_finished}
 use Rattle.ds_dma.proofs.Choices.{either, never, equal_numbers, equal_self}
 use Rattle.ds_dma.proofs.Kept.{runs_on}
@@ -34,7 +34,7 @@ finished_later s now = λ which l. later_after_unit now (channel_at (dma_finishe
 
 -- a write leaves a channel ready as it was, or later
 controlled_later : (proc : Proc) (which : ℕ) (c : ChannelState) (control : ℕ) (now : Tick) (last : Option Tick) → IsLater now (ready last c)
-    → IsLater now (ready last (controlled proc which c control now))
+    → IsLater now (ready last (channel_controlled proc which c control now))
 controlled_later proc which c control now last h =
     let P : ChannelState → Type 0 = λ x. IsLater now (ready last x) in
     either P (is_enabled control) _ _
@@ -43,15 +43,15 @@ controlled_later proc which c control now last h =
     (λ off. tt)
 
 set_later : (proc : Proc) (which : ℕ) (port : DmaPort) (value : ℕ) (now : Tick) (c : ChannelState) (last : Option Tick) → IsLater now (ready last c)
-    → IsLater now (ready last (port_set proc which port value now c))
+    → IsLater now (ready last (channel_set proc which port value now c))
 set_later proc which Source value now c last h = h
 set_later proc which Target value now c last h = h
 set_later proc which Control value now c last h = controlled_later proc which c (kept_control proc which value) now last h
 
 pub written_later : (s : DmaState) (which : ℕ) (port : DmaPort) (value : ℕ) (now : Tick) → IsDma s → which < 4 → AreReadyLater now s
-    → AreReadyLater now (record s { channels = slice_set s.channels which (port_set s.proc which port value now (channel_at s.channels which)) })
+    → AreReadyLater now (record s { channels = slice_set s.channels which (channel_set s.proc which port value now (channel_at s.channels which)) })
 written_later s which port value now is l later = λ each m.
-    set_holds (λ x. IsLater now (ready s.last x)) s.channels which (port_set s.proc which port value now (channel_at s.channels which)) is.four l
+    set_holds (λ x. IsLater now (ready s.last x)) s.channels which (channel_set s.proc which port value now (channel_at s.channels which)) is.four l
     (set_later s.proc which port value now (channel_at s.channels which) s.last (later which l)) each (later each m)
 
 -- and so does an event
@@ -83,22 +83,22 @@ least_same false false true false false false f g h n e p q r = never false (h r
 least_same false false false false false true f g h n e p q r = never false (sym (r e)) refl
 least_same false false false false false false f g h n e p q r = e
 
-still_runs : (proc : Proc) (cause : Cause) (now : Tick) (c : ChannelState) → runs c ≡ true → runs (triggered proc cause now c) ≡ true
-still_runs proc cause now c h = either (λ x. runs x ≡ true) (is_triggered proc cause c) _ _ (λ e. refl) (λ e. h)
+pub still_runs : (proc : Proc) (cause : Cause) (now : Tick) (c : ChannelState) → is_running c ≡ true → is_running (triggered proc cause now c) ≡ true
+still_runs proc cause now c h = either (λ x. is_running x ≡ true) (is_triggered proc cause c) _ _ (λ e. refl) (λ e. h)
 
 -- a channel that is least after an event, and that it doesn't trigger, was least before
 least_before : (s : DmaState) (cause : Cause) (now : Tick) → IsDma s → (each : ℕ) → each ≡ least_running (map (triggered s.proc cause now) s.channels)
-    → runs (triggered s.proc cause now (channel_at s.channels each)) ≡ runs (channel_at s.channels each) → each ≡ least_running s.channels
+    → is_running (triggered s.proc cause now (channel_at s.channels each)) ≡ is_running (channel_at s.channels each) → each ≡ least_running s.channels
 least_before s cause now is each e same =
     let f = triggered s.proc cause now in
     let at : ℕ → ChannelState = channel_at s.channels in
-    let P : ℕ → Type 0 = λ k. runs (f (at k)) ≡ runs (at k) in
-    let moved : (k : ℕ) → k < 4 → runs (channel_at (map f s.channels) k) ≡ runs (f (at k)) = λ k l. ap runs (at_mapped f s.channels k is.four l) in
-    let picks : least_running (map f s.channels) ≡ least_of (runs (f (at 0))) (runs (f (at 1))) (runs (f (at 2))) =
-    ap (λ b. least_of b (runs (channel_at (map f s.channels) 1)) (runs (channel_at (map f s.channels) 2))) (moved 0 (omega arith))
-    ∙ ap (λ b. least_of (runs (f (at 0))) b (runs (channel_at (map f s.channels) 2))) (moved 1 (omega arith))
-    ∙ ap (λ b. least_of (runs (f (at 0))) (runs (f (at 1))) b) (moved 2 (omega arith)) in
-    least_same (runs (at 0)) (runs (at 1)) (runs (at 2)) (runs (f (at 0))) (runs (f (at 1))) (runs (f (at 2)))
+    let P : ℕ → Type 0 = λ k. is_running (f (at k)) ≡ is_running (at k) in
+    let moved : (k : ℕ) → k < 4 → is_running (channel_at (map f s.channels) k) ≡ is_running (f (at k)) = λ k l. ap is_running (at_mapped f s.channels k is.four l) in
+    let picks : least_running (map f s.channels) ≡ least_of (is_running (f (at 0))) (is_running (f (at 1))) (is_running (f (at 2))) =
+    ap (λ b. least_of b (is_running (channel_at (map f s.channels) 1)) (is_running (channel_at (map f s.channels) 2))) (moved 0 (omega arith))
+    ∙ ap (λ b. least_of (is_running (f (at 0))) b (is_running (channel_at (map f s.channels) 2))) (moved 1 (omega arith))
+    ∙ ap (λ b. least_of (is_running (f (at 0))) (is_running (f (at 1))) b) (moved 2 (omega arith)) in
+    least_same (is_running (at 0)) (is_running (at 1)) (is_running (at 2)) (is_running (f (at 0))) (is_running (f (at 1))) (is_running (f (at 2)))
     (still_runs s.proc cause now (at 0)) (still_runs s.proc cause now (at 1)) (still_runs s.proc cause now (at 2))
     each (e ∙ picks)
     (λ z. subst P z same) (λ z. subst P z same) (λ z. subst P z same)
@@ -127,7 +127,7 @@ event_schedules s cause now is each m =
     (λ e. subst (λ x. P (ready s.last x)) (sym there)
     (either (λ x. P (ready s.last x)) (is_triggered s.proc cause c) _ _
     (λ t. inr (triggered_later s.last now))
-    (λ t. (let before = least_before s cause now is each (equal_numbers each least e) (ap runs (second (is_triggered s.proc cause c) _ _ t)) in
+    (λ t. (let before = least_before s cause now is each (equal_numbers each least e) (ap is_running (second (is_triggered s.proc cause c) _ _ t)) in
     inl (sym (first (each == least_running s.channels) _ _ (equal_of each (least_running s.channels) before)))))))
     (λ e. inr tt)
 
@@ -135,9 +135,9 @@ event_schedules s cause now is each m =
 pub least_below : (channels : List ChannelState) → least_running channels < 4
 least_below channels =
     let P : ℕ → Type 0 = λ n. n < 4 in
-    either P (runs (channel_at channels 0)) _ _ (λ e. omega arith)
-    (λ e. either P (runs (channel_at channels 1)) _ _ (λ f. omega arith)
-    (λ f. either P (runs (channel_at channels 2)) _ _ (λ g. omega arith) (λ g. omega arith)))
+    either P (is_running (channel_at channels 0)) _ _ (λ e. omega arith)
+    (λ e. either P (is_running (channel_at channels 1)) _ _ (λ f. omega arith)
+    (λ f. either P (is_running (channel_at channels 2)) _ _ (λ g. omega arith) (λ g. omega arith)))
 
 due_runs : (which : ℕ) (last trigger : Option Tick) → IsSome (due_with which (ready_by last trigger)) → is_some trigger ≡ true
 due_runs which last None h = never false h refl

@@ -1,7 +1,6 @@
 use Rattle.std.specs.Prelude.{ℕ, ◌≡◌, ◌<◌, ◌≤◌, ◌+◌, ◌-◌, ◌*◌, ◌%◌, ◌^◌, ◌==◌, ◌&&◌, not, if◌then◌else◌, Bool, true, false, List, [], ◌∷◌, map, max, Option, Some, None, is_some}
 use Rattle.std.specs.List.{range_with_len}
 use Rattle.ds_base.specs.Interrupts.{interrupt_bit}
-use Rattle.ds_base.specs.Schedules.{IsEarly}
 use Rattle.ds_base.specs.declared.processors.Proc.{Proc}
 use Rattle.ds_base.specs.declared.ticks.Tick.{Tick}
 use Rattle.ds_dma.specs.declared.channels.Unit.{Unit as DmaUnit}
@@ -28,8 +27,8 @@ abbrev pub channel_at_boot : ChannelState
 channel_at_boot = record { source = 0; target = 0; control = 0; from = 0; to = 0; left = 0; trigger = None }
 
 -- it runs: it was triggered, and its end hasn't come
-abbrev pub runs : ChannelState → Bool
-runs c = is_some c.trigger
+abbrev pub is_running : ChannelState → Bool
+is_running c = is_some c.trigger
 
 -- the address of unit i, counted from 0, of those that begin at an address and go on by steps (GBATEK, "GBA DMA Transfers"; that it is taken
 -- modulo 2 ^ 32 is our choice)
@@ -61,7 +60,6 @@ pub record IsChannel (proc : Proc) (which : ℕ) (c : ChannelState) : Type 0 whe
   pub left : c.left ≤ greatest_count proc which + 1
   pub some : is_enabled c.control ≡ true → 1 ≤ c.left
   pub none : is_enabled c.control ≡ false → (c.from ≡ 0) × (c.to ≡ 0) × (c.left ≡ 0) × (c.trigger ≡ None)
-  pub early : IsEarly c.trigger
 
 -- A channel is enabled at a tick, with this control: it takes its source, its target and its count (GBATEK, "GBA DMA Transfers"), and runs from
 -- that tick on where it starts at once.
@@ -80,43 +78,43 @@ emptied c control = record c { control = control; from = 0; to = 0; left = 0; tr
 
 -- A control is written at a tick, with these kept bits. Three cases, of which one applies (GBATEK, "GBA DMA Transfers", DMAxCNT_H bit 15; that a
 -- channel which stays enabled takes the new control for the units that it has left, and is triggered by none, is our choice):
-pub data ChangesControl (proc : Proc) (which : ℕ) (old : ChannelState) (control : ℕ) (now : Tick) (new : ChannelState) : Type 0 where
+pub data ChangesChannel (proc : Proc) (which : ℕ) (old : ChannelState) (control : ℕ) (now : Tick) (new : ChannelState) : Type 0 where
   -- enable goes from 0 to 1
   latches : is_enabled old.control ≡ false → is_enabled control ≡ true → new ≡ latched proc which old control now
-      → ChangesControl proc which old control now new
+      → ChangesChannel proc which old control now new
   -- enable stays 1: the kept control alone changes
   stays : is_enabled old.control ≡ true → is_enabled control ≡ true → new ≡ record old { control = control }
-      → ChangesControl proc which old control now new
+      → ChangesChannel proc which old control now new
   -- enable is cleared, or stays 0
-  empties : is_enabled control ≡ false → new ≡ emptied old control → ChangesControl proc which old control now new
+  empties : is_enabled control ≡ false → new ≡ emptied old control → ChangesChannel proc which old control now new
 
 -- the same as a function, for those who compute with it
-abbrev pub controlled : Proc → ℕ → ChannelState → ℕ → Tick → ChannelState
-controlled proc which c control now =
+abbrev pub channel_controlled : Proc → ℕ → ChannelState → ℕ → Tick → ChannelState
+channel_controlled proc which c control now =
     if is_enabled control then (if is_enabled c.control then record c { control = control } else latched proc which c control now)
     else emptied c control
 
 -- what a port reads (GBATEK, "DS DMA Transfers": all can be read)
-abbrev pub port_word : DmaPort → ChannelState → ℕ
-port_word Source c = c.source
-port_word Target c = c.target
-port_word Control c = c.control
+abbrev pub channel_word : DmaPort → ChannelState → ℕ
+channel_word Source c = c.source
+channel_word Target c = c.target
+channel_word Control c = c.control
 
 -- a whole word that is written to a port of a channel is taken (GBATEK, "GBA DMA Transfers": a source and a target count from the next enable on)
-abbrev pub port_set : Proc → ℕ → DmaPort → ℕ → Tick → ChannelState → ChannelState
-port_set proc which Source value now c = record c { source = kept_address value }
-port_set proc which Target value now c = record c { target = kept_address value }
-port_set proc which Control value now c = controlled proc which c (kept_control proc which value) now
+abbrev pub channel_set : Proc → ℕ → DmaPort → ℕ → Tick → ChannelState → ChannelState
+channel_set proc which Source value now c = record c { source = kept_address value }
+channel_set proc which Target value now c = record c { target = kept_address value }
+channel_set proc which Control value now c = channel_controlled proc which c (kept_control proc which value) now
 
 -- why it isn't taken
-abbrev pub port_refusal : Proc → ℕ → DmaPort → ℕ → ChannelState → Option Stop
-port_refusal proc which Source value c = None
-port_refusal proc which Target value c = None
-port_refusal proc which Control value c = refusal proc c.control (kept_control proc which value)
+abbrev pub channel_refusal : Proc → ℕ → DmaPort → ℕ → ChannelState → Option Stop
+channel_refusal proc which Source value c = None
+channel_refusal proc which Target value c = None
+channel_refusal proc which Control value c = refusal proc c.control (kept_control proc which value)
 
 -- an event triggers a channel that is enabled with its start; one that runs stays as it is
 abbrev pub is_triggered : Proc → Cause → ChannelState → Bool
-is_triggered proc cause c = is_enabled c.control && waits_for proc cause c.control && not (runs c)
+is_triggered proc cause c = is_enabled c.control && waits_for proc cause c.control && not (is_running c)
 
 abbrev pub triggered : Proc → Cause → Tick → ChannelState → ChannelState
 triggered proc cause now c = if is_triggered proc cause c then record c { trigger = Some now } else c

@@ -6,7 +6,7 @@ use Rattle.ds_base.specs.declared.ticks.Tick.{Tick}
 use Rattle.ds_dma.specs.declared.controls.Cause.{Cause}
 use Rattle.ds_dma.specs.declared.controls.DmaPort.{DmaPort}
 use Rattle.ds_dma.specs.declared.dma.DmaDue.{DmaDue}
-use Rattle.ds_dma.specs.Channels.{ChannelState, IsChannel, channel_at_boot, runs, port_set, port_refusal, triggered, taken, taken_bit, ready}
+use Rattle.ds_dma.specs.Channels.{ChannelState, IsChannel, channel_at_boot, is_running, channel_set, channel_refusal, triggered, taken, taken_bit, ready}
 
 -- the four channels of a processor, and the tick of its last unit, if there was one (GBATEK, "DS DMA Transfers"; the tick is our choice)
 pub record DmaState : Type 0 where
@@ -21,6 +21,11 @@ channel_at channels which = slice_index_or channels which channel_at_boot
 pub record IsDma (s : DmaState) : Type 0 where
   pub four : length s.channels ≡ 4
   pub each : (which : ℕ) → which < 4 → IsChannel s.proc which (channel_at s.channels which)
+
+-- each trigger and the last unit's tick are ticks that callers may hand in, so that the sums of ticks in the code stay in 64 bits (our choice of
+-- form)
+pub record HasEarlyTicks (s : DmaState) : Type 0 where
+  pub trigger : (which : ℕ) → which < 4 → IsEarly (channel_at s.channels which).trigger
   pub last : IsEarly s.last
 
 -- all is 0 at boot (our choice)
@@ -33,10 +38,10 @@ unless None old new = new
 unless (Some stop) old new = old
 
 -- a whole word is written to a port of a channel, at a tick
-abbrev pub port_written : DmaState → ℕ → DmaPort → ℕ → Tick → DmaState
-port_written s which port value now =
-    unless (port_refusal s.proc which port value (channel_at s.channels which)) s
-    (record s { channels = slice_set s.channels which (port_set s.proc which port value now (channel_at s.channels which)) })
+abbrev pub channel_written : DmaState → ℕ → DmaPort → ℕ → Tick → DmaState
+channel_written s which port value now =
+    unless (channel_refusal s.proc which port value (channel_at s.channels which)) s
+    (record s { channels = slice_set s.channels which (channel_set s.proc which port value now (channel_at s.channels which)) })
 
 -- an event at a tick triggers the channels that wait for it
 abbrev pub dma_triggered : DmaState → Cause → Tick → DmaState
@@ -44,20 +49,20 @@ dma_triggered s cause now = record s { channels = map (triggered s.proc cause no
 
 -- a channel runs, and then the processor isn't due
 abbrev pub any_runs : List ChannelState → Bool
-any_runs channels = runs (channel_at channels 0) || runs (channel_at channels 1) || runs (channel_at channels 2) || runs (channel_at channels 3)
+any_runs channels = is_running (channel_at channels 0) || is_running (channel_at channels 1) || is_running (channel_at channels 2) || is_running (channel_at channels 3)
 
 -- the running channel with the least number (our choice, by GBATEK, "GBA DMA Transfers": channel 0 has the highest priority); 3 where none runs
 abbrev pub least_running : List ChannelState → ℕ
 least_running channels =
-    if runs (channel_at channels 0) then 0
-    else (if runs (channel_at channels 1) then 1
-    else (if runs (channel_at channels 2) then 2 else 3))
+    if is_running (channel_at channels 0) then 0
+    else (if is_running (channel_at channels 1) then 1
+    else (if is_running (channel_at channels 2) then 2 else 3))
 
 -- the same as a relation, of a channel that runs
 pub record IsLeastRunning (channels : List ChannelState) (which : ℕ) : Type 0 where
   pub below : which < 4
-  pub there : runs (channel_at channels which) ≡ true
-  pub least : (lower : ℕ) → lower < which → runs (channel_at channels lower) ≡ false
+  pub there : is_running (channel_at channels which) ≡ true
+  pub least : (lower : ℕ) → lower < which → is_running (channel_at channels lower) ≡ false
 
 -- when a channel is due: of those that run only the one with the least number is
 abbrev pub channel_due : DmaState → ℕ → Option Tick

@@ -3,7 +3,7 @@
 ghost use Rattle.std.specs.Prelude.{◌≡◌, ◌≤◌, ◌+◌, ◌<◌, ◌^◌, Some, None, if◌then◌else◌};
 ghost use Rattle.ds_base.specs.Schedules.{IsEarly};
 ghost use Rattle.ds_base.specs.declared.ticks.Tick.{Tick};
-ghost use Rattle.ds_dma.specs.Channels.{runs, controlled, latched, emptied, port_word, port_set, port_refusal, triggered, taken, taken_bit, is_last, armed_again, unit_of, ready};
+ghost use Rattle.ds_dma.specs.Channels.{is_running, channel_controlled, latched, emptied, channel_word, channel_set, channel_refusal, triggered, taken, taken_bit, is_last, armed_again, unit_of, ready};
 ghost use Rattle.ds_dma.specs.ChannelsKept.{channel_seen};
 ghost use Rattle.ds_dma.specs.Controls.{units_counted, disabled};
 
@@ -38,8 +38,8 @@ pub struct Channel {
 }
 
 /// Whether it runs.
-pub fn is_running(channel: Channel) -> bool
-    ensures { result ≡ runs (channel_seen channel) }
+pub fn runs(channel: Channel) -> bool
+    ensures { result ≡ is_running (channel_seen channel) }
 {
     channel.trigger.is_some()
 }
@@ -75,7 +75,7 @@ fn with_units(proc: Proc, which: u8, channel: Channel, control: u32, now: Tick) 
 
 /// A channel after a write of its control, of which these bits are kept.
 pub fn with_control(proc: Proc, which: u8, channel: Channel, control: u32, now: Tick) -> Channel
-    ensures { channel_seen result ≡ controlled proc which (channel_seen channel) control now }
+    ensures { channel_seen result ≡ channel_controlled proc which (channel_seen channel) control now }
 {
     if !controls::enabled(control) {
         return without_units(channel, control);
@@ -88,7 +88,7 @@ pub fn with_control(proc: Proc, which: u8, channel: Channel, control: u32, now: 
 
 /// What a port of a channel keeps.
 pub fn word(channel: Channel, port: DmaPort) -> u32
-    ensures { result ≡ port_word port (channel_seen channel) }
+    ensures { result ≡ channel_word port (channel_seen channel) }
 {
     match port {
         DmaPort::Source => channel.source,
@@ -99,7 +99,7 @@ pub fn word(channel: Channel, port: DmaPort) -> u32
 
 /// Why a write of a channel's port is refused, if it is.
 pub fn refused(proc: Proc, which: u8, channel: Channel, port: DmaPort, value: u32) -> Option<Stop>
-    ensures { result ≡ port_refusal proc which port value (channel_seen channel) }
+    ensures { result ≡ channel_refusal proc which port value (channel_seen channel) }
 {
     match port {
         DmaPort::Source | DmaPort::Target => None,
@@ -119,7 +119,7 @@ pub fn written(
     value: u32,
     now: Tick,
 ) -> Channel
-    ensures { channel_seen result ≡ port_set proc which port value now (channel_seen channel) }
+    ensures { channel_seen result ≡ channel_set proc which port value now (channel_seen channel) }
 {
     match port {
         DmaPort::Source => Channel {
@@ -142,7 +142,7 @@ pub fn after(proc: Proc, cause: Cause, now: Tick, channel: Channel) -> Channel
     ensures { channel_seen result ≡ triggered proc cause now (channel_seen channel) }
 {
     let waits = controls::enabled(channel.control) && controls::waits(proc, cause, channel.control);
-    if waits && !is_running(channel) {
+    if waits && !runs(channel) {
         return Channel {
             trigger: Some(now),
             ..channel

@@ -3,12 +3,12 @@
 ghost use Rattle.std.specs.Prelude.{◌≡◌, ◌<◌, ◌∷◌, ◌==◌, ℕ, List, Some, None, IsSome, IfSome, true, false, slice_set, map, is_some};
 ghost use Rattle.ds_base.specs.Schedules.{IsEarly, Reschedules};
 ghost use Rattle.ds_base.specs.declared.ticks.Tick.{Tick};
-ghost use Rattle.ds_dma.specs.Channels.{IsChannel, ChangesControl, runs, port_word, port_refusal, plan_of, TakesUnit, unit_of};
+ghost use Rattle.ds_dma.specs.Channels.{IsChannel, ChangesChannel, is_running, channel_word, channel_refusal, plan_of, TakesUnit, unit_of};
 ghost use Rattle.ds_dma.specs.ChannelsKept.{channel_seen};
 ghost use Rattle.ds_dma.specs.Controls.{kept_control};
 ghost use Rattle.ds_dma.specs.declared.channels.Unit.{Unit as DmaUnit};
 ghost use Rattle.ds_dma.specs.declared.controls.DmaPort.TheVariants.{Control};
-ghost use Rattle.ds_dma.specs.States.{DmaState, IsDma, AreReadyLater, IsLeastRunning, channel_at, dma_at_boot, port_written, dma_triggered, any_runs, least_running, channel_due, dma_due, due_channel, dma_finished, finished_bits};
+ghost use Rattle.ds_dma.specs.States.{DmaState, IsDma, AreReadyLater, IsLeastRunning, channel_at, dma_at_boot, channel_written, dma_triggered, any_runs, least_running, channel_due, dma_due, due_channel, dma_finished, finished_bits};
 
 use crate::channels::{Channel, Unit};
 use crate::controls::{Cause, DmaPort};
@@ -36,7 +36,7 @@ pub struct Dma {
 impl Model for Dma {
     ghost use Rattle.std.specs.Prelude.{map};
     ghost use Rattle.ds_dma.specs.ChannelsKept.{channel_seen, channel_of};
-    ghost use Rattle.ds_dma.specs.States.{DmaState, IsDma};
+    ghost use Rattle.ds_dma.specs.States.{DmaState, HasEarlyTicks, IsDma};
     ghost use Rattle.std.proofs.Common.{◌∙◌};
     ghost use Rattle.std.proofs.lemmas.Simd.{map-map};
     ghost use Rattle.std.proofs.lemmas.List.{map-id};
@@ -49,7 +49,7 @@ impl Model for Dma {
 
     ghost inverse_ok = { λ d h i. record { proc = d.proc; channels = (map-map channel_of channel_seen d.channels ∙ map-id d.channels) i; last = d.last } };
 
-    ghost invariant = { λ d. IsDma (record { proc = d.proc; channels = map channel_seen d.channels; last = d.last }) };
+    ghost invariant = { λ d. IsDma (record { proc = d.proc; channels = map channel_seen d.channels; last = d.last }) × HasEarlyTicks (record { proc = d.proc; channels = map channel_seen d.channels; last = d.last }) };
 }
 
 impl Dma {
@@ -78,6 +78,7 @@ impl Dma {
         requires { which < 4 }
         ensures seen { channel_seen result ≡ channel_at self.now.channels which }
         ensures is { IsChannel self.now.proc which (channel_seen result) }
+        ensures early { IsEarly result.trigger }
     {
         self.channels[which as usize]
     }
@@ -86,7 +87,8 @@ impl Dma {
     fn put(&mut self, which: u8, channel: Channel, last: Option<Tick>)
         requires which { which < 4 }
         requires is { IsChannel self.old.proc which (channel_seen channel) }
-        requires early { IsEarly last }
+        requires trigger { IsEarly channel.trigger }
+        requires last { IsEarly last }
         ensures { self.new ≡ record self.old { channels = slice_set self.old.channels which (channel_seen channel); last = last } }
     {
         self.channels[which as usize] = channel;
@@ -96,7 +98,7 @@ impl Dma {
     /// The word that a port of a channel keeps: 28 bits of a source and a target, and of a control the bits that the processor has.
     pub fn read(&self, channel: u8, port: DmaPort) -> u32
         requires { channel < 4 }
-        ensures { result ≡ port_word port (channel_at self.now.channels channel) }
+        ensures { result ≡ channel_word port (channel_at self.now.channels channel) }
     {
         channels::word(self.channel(channel), port)
     }
@@ -108,9 +110,9 @@ impl Dma {
     pub fn write(&mut self, channel: u8, port: DmaPort, value: u32, now: Tick) -> Option<Stop>
         requires channel { channel < 4 }
         requires early { IsEarly (Some now) }
-        ensures state { self.new ≡ port_written self.old channel port value now }
-        ensures stop { result ≡ port_refusal self.old.proc channel port value (channel_at self.old.channels channel) }
-        ensures change { port ≡ Control → result ≡ None → ChangesControl self.old.proc channel (channel_at self.old.channels channel)
+        ensures state { self.new ≡ channel_written self.old channel port value now }
+        ensures stop { result ≡ channel_refusal self.old.proc channel port value (channel_at self.old.channels channel) }
+        ensures change { port ≡ Control → result ≡ None → ChangesChannel self.old.proc channel (channel_at self.old.channels channel)
             (kept_control self.old.proc channel value) now (channel_at self.new.channels channel) }
         ensures later { AreReadyLater now self.old → AreReadyLater now self.new }
         ensures schedule { AreReadyLater now self.old → (each : ℕ) → each < 4 → Reschedules now (channel_due self.old each) (channel_due self.new each) }
@@ -148,9 +150,9 @@ impl Dma {
     /// Whether a channel runs.
     fn runs(&self, which: u8) -> bool
         requires { which < 4 }
-        ensures { result ≡ runs (channel_at self.now.channels which) }
+        ensures { result ≡ is_running (channel_at self.now.channels which) }
     {
-        channels::is_running(self.channel(which))
+        channels::runs(self.channel(which))
     }
 
     /// The running channel with the least number, and 3 where none runs.

@@ -4,9 +4,9 @@ use Rattle.std.proofs.Math.Nat.{le-mul_of_pos_right, mod-lt}
 use Rattle.std.proofs.lemmas.Nat.{and_assoc}
 use Rattle.ds_base.specs.declared.ticks.Tick.{Tick}
 use Rattle.ds_base.specs.Schedules.{IsEarly, IsLater, Reschedules}
-use Rattle.ds_timers.specs.Timing.{TimerState, AreTimers, IsTimer, ChangesControl, starts, goes_on, takes_anchor, holds_count, CountsFrom, SchedulesOne, timer_at, pace, runs_free, counted, counter_of, full, timer_due, kept_control, is_start, controlled, reload_set}
+use Rattle.ds_timers.specs.Timing.{TimerState, AreTimers, IsTimer, ChangesControl, starts, goes_on, takes_anchor, holds_count, CountsFrom, SchedulesOne, timer_at, pace, runs_free, counted, counter_of, full, timer_due, kept_control, is_start, controlled, control_set, reload_set}
 use Rattle.ds_timers.proofs.Choices.{either, both, not_both, equal_numbers, unequal_numbers, same_or_not}
-use Rattle.ds_timers.proofs.Four.{set_same, set_schedules}
+use Rattle.ds_timers.proofs.Four.{are_set, set_same, set_schedules}
 
 pub pace_above : (control : ℕ) → 0 < pace control
 pace_above control = grind arith
@@ -40,16 +40,27 @@ pub kept_twice : (value : ℕ) → kept_control (kept_control value) ≡ kept_co
 kept_twice value = and_assoc 0xC7 value 0xC7
 
 -- after a write of its control it is the timer still
-pub controlled_is : (which : ℕ) (t : TimerState) (control : ℕ) (now : Tick) → IsTimer which t → kept_control control ≡ control → now.0 ≤ 2 ^ 56 → IsTimer which (controlled which t control now)
-controlled_is which t control now is kept early =
+pub controlled_is : (which : ℕ) (t : TimerState) (control : ℕ) (now : Tick) → IsTimer which t → kept_control control ≡ control → IsTimer which (controlled which t control now)
+controlled_is which t control now is kept =
     let free = runs_free which control in
     either (IsTimer which) (is_start t.control control) _ _
-    (λ e. record { control = kept; reload = is.reload; count = is.reload; anchored = some_where free now; early = early_where free now early })
+    (λ e. record { control = kept; reload = is.reload; count = is.reload; anchored = some_where free now })
     (λ e. either (IsTimer which) free _ _
     (λ f. either (IsTimer which) (runs_free which t.control && (pace control == pace t.control)) _ _
-    (λ g. record { control = kept; reload = is.reload; count = is.count; anchored = is.anchored ∙ (both (runs_free which t.control) (pace control == pace t.control) g).0 ∙ sym f; early = is.early })
-    (λ g. record { control = kept; reload = is.reload; count = counter_below t now is.count; anchored = sym f; early = early }))
-    (λ f. record { control = kept; reload = is.reload; count = counter_below t now is.count; anchored = sym f; early = tt }))
+    (λ g. record { control = kept; reload = is.reload; count = is.count; anchored = is.anchored ∙ (both (runs_free which t.control) (pace control == pace t.control) g).0 ∙ sym f })
+    (λ g. record { control = kept; reload = is.reload; count = counter_below t now is.count; anchored = sym f }))
+    (λ f. record { control = kept; reload = is.reload; count = counter_below t now is.count; anchored = sym f }))
+
+-- and its anchor is early where that tick is
+pub controlled_early : (which : ℕ) (t : TimerState) (control : ℕ) (now : Tick) → IsEarly t.since → now.0 ≤ 2 ^ 56 → IsEarly (controlled which t control now).since
+controlled_early which t control now was early =
+    let free = runs_free which control in
+    let P : TimerState → Type 0 = λ x. IsEarly x.since in
+    either P (is_start t.control control) _ _
+    (λ e. early_where free now early)
+    (λ e. either P free _ _
+    (λ f. either P (runs_free which t.control && (pace control == pace t.control)) _ _ (λ g. was) (λ g. early))
+    (λ f. tt))
 
 -- after a write of its control a timer is due later or not at all
 due_controlled : (which : ℕ) (t : TimerState) (control : ℕ) (now : Tick) → IsTimer which t → IsLater now (timer_due t) → IsLater now (timer_due (controlled which t control now))
@@ -111,6 +122,19 @@ pub control_schedules : (timers : List TimerState) (which control : ℕ) (now : 
     → SchedulesOne which now timers (slice_set timers which (controlled which (timer_at timers which) control now))
 control_schedules timers which control now h l before = (let t = timer_at timers which in
     set_schedules timers which (controlled which t control now) now h l (due_controlled which t control now (h.each which l) before))
+
+-- after a write of a control they are the timers still
+pub control_set_is : (timers : List TimerState) (which value : ℕ) (now : Tick) → AreTimers timers → which < 4 → AreTimers (control_set timers which value now)
+control_set_is timers which value now h l =
+    let t = timer_at timers which in
+    let kept = kept_control value in
+    are_set timers which (controlled which t kept now) h l (controlled_is which t kept now (h.each which l) (kept_twice value))
+
+-- and after one of a reload
+pub reload_set_is : (timers : List TimerState) (which value : ℕ) → AreTimers timers → which < 4 → value < 2 ^ 16 → AreTimers (reload_set timers which value)
+reload_set_is timers which value h l small =
+    let is = h.each which l in
+    are_set timers which (record (timer_at timers which) { reload = value }) h l (record { control = is.control; reload = small; count = is.count; anchored = is.anchored })
 
 -- a write of a reload leaves every due tick
 pub reload_leaves : (timers : List TimerState) (which value : ℕ) (now : Tick) → AreTimers timers → which < 4

@@ -1,7 +1,7 @@
 use Rattle.std.proofs.Common.{ℕ, zero, suc, ◌≡◌, ◌<◌, inl, inr, List, [], ◌∷◌, length, slice_set, refl, sym, ◌∙◌, subst, arith, get_or-set_same, get_or-set_other, length-set}
 use Rattle.ds_base.specs.declared.ticks.Tick.{Tick}
-use Rattle.ds_base.specs.Schedules.{Reschedules, IsLater}
-use Rattle.ds_timers.specs.Timing.{TimerState, AreTimers, IsTimer, SchedulesOne, timer_at, timer_due}
+use Rattle.ds_base.specs.Schedules.{IsEarly, IsLater, Reschedules}
+use Rattle.ds_timers.specs.Timing.{TimerState, AreEarly, AreTimers, IsTimer, SchedulesOne, timer_at, timer_due}
 use Rattle.ds_timers.proofs.Choices.{same_or_not}
 
 each_of : (a b c d : TimerState) → IsTimer 0 a → IsTimer 1 b → IsTimer 2 c → IsTimer 3 d → (which : ℕ) → which < 4 → IsTimer which (timer_at (a ∷ b ∷ c ∷ d ∷ []) which)
@@ -28,6 +28,13 @@ are_set timers which t h l p = record {
     | inr ne ↦ rw get_or-set_other (h.each i m)
   ];
 }
+
+-- and their anchors are early where the new one's is
+pub early_set : (timers : List TimerState) (which : ℕ) (t : TimerState) → AreTimers timers → AreEarly timers → which < 4 → IsEarly t.since → AreEarly (slice_set timers which t)
+early_set timers which t h was l early = λ i m. elim (same_or_not i which) [
+  | inl e ↦ subst (λ n. IsEarly (timer_at (slice_set timers which t) n).since) (sym e) (subst (λ (x : TimerState). IsEarly x.since) (sym (set_same timers which t h l)) early)
+  | inr ne ↦ rw get_or-set_other (was i m)
+]
 
 -- a timer that is put is due later than a tick, or not at all
 pub set_schedules : (timers : List TimerState) (which : ℕ) (t : TimerState) (now : Tick) → AreTimers timers → which < 4 → IsLater now (timer_due t) → SchedulesOne which now timers (slice_set timers which t)

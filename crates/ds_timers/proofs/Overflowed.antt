@@ -2,7 +2,7 @@ use Rattle.std.proofs.Common.{ℕ, zero, suc, ◌≡◌, ◌≢◌, ◌<◌, ◌
 use Rattle.std.specs.Prelude.{◌&&◌, ◌==◌, not, if◌then◌else◌, is_some}
 use Rattle.ds_base.specs.declared.ticks.Tick.{Tick}
 use Rattle.ds_base.specs.Schedules.{IsEarly, IsLater}
-use Rattle.ds_timers.specs.Timing.{TimerState, AreTimers, IsTimer, CountsFrom, SchedulesOne, timer_at, pace, runs, counts_up, runs_free, full, timer_due, carries, overflows, after_overflow, overflow_of}
+use Rattle.ds_timers.specs.Timing.{TimerState, AreEarly, AreTimers, IsTimer, CountsFrom, SchedulesOne, timer_at, pace, runs, counts_up, runs_free, full, timer_due, carries, overflows, after_overflow, overflow_of}
 use Rattle.ds_timers.proofs.Choices.{either, equal_numbers, equal_self, unequal}
 use Rattle.ds_timers.proofs.Changed.{full_later}
 use Rattle.ds_timers.proofs.Four.{are_four}
@@ -14,26 +14,30 @@ due_where (Some tick) count ticks = refl
 counted_on : (count reload : ℕ) → count < 2 ^ 16 → reload < 2 ^ 16 → (if count == 65535 then reload else count + 1) < 2 ^ 16
 counted_on count reload c r = grind (arith, rules)
 
-after_is : (which i : ℕ) (before : Bool) (t : TimerState) → IsTimer i t → (i ≡ which → IsEarly (timer_due t)) → IsTimer i (after_overflow which i before t)
-after_is which i before t is early =
+after_is : (which i : ℕ) (before : Bool) (t : TimerState) → IsTimer i t → IsTimer i (after_overflow which i before t)
+after_is which i before t is =
     either (IsTimer i) (i == which) _ _
-    (λ e. record { control = is.control; reload = is.reload; count = is.reload; anchored = due_where t.since t.count (pace t.control) ∙ is.anchored; early = early (equal_numbers i which e) })
+    (λ e. record { control = is.control; reload = is.reload; count = is.reload; anchored = due_where t.since t.count (pace t.control) ∙ is.anchored })
     (λ e. either (IsTimer i) (carries i before t) _ _
-    (λ f. record { control = is.control; reload = is.reload; count = counted_on t.count t.reload is.count is.reload; anchored = is.anchored; early = is.early })
+    (λ f. record { control = is.control; reload = is.reload; count = counted_on t.count t.reload is.count is.reload; anchored = is.anchored })
     (λ f. is))
 
+after_early : (which i : ℕ) (before : Bool) (t : TimerState) → IsEarly t.since → (i ≡ which → IsEarly (timer_due t)) → IsEarly (after_overflow which i before t).since
+after_early which i before t was early =
+    let P : TimerState → Type 0 = λ x. IsEarly x.since in
+    either P (i == which) _ _ (λ e. early (equal_numbers i which e)) (λ e. either P (carries i before t) _ _ (λ f. was) (λ f. was))
+
 -- after an overflow they are the timers still
-pub overflow_keeps : (timers : List TimerState) (which : ℕ) → AreTimers timers → IsEarly (timer_due (timer_at timers which)) → AreTimers (overflow_of timers which).timers
-overflow_keeps timers which h early =
-    let at : (i : ℕ) → i ≡ which → IsEarly (timer_due (timer_at timers i)) = λ i e. subst (λ n. IsEarly (timer_due (timer_at timers n))) (sym e) early in
+pub overflow_keeps : (timers : List TimerState) (which : ℕ) → AreTimers timers → AreTimers (overflow_of timers which).timers
+overflow_keeps timers which h =
     let zero = overflows which 0 false (timer_at timers 0) in
     let one = overflows which 1 zero (timer_at timers 1) in
     let two = overflows which 2 one (timer_at timers 2) in
     are_four _ _ _ _
-    (after_is which 0 false (timer_at timers 0) (h.each 0 (omega arith)) (at 0))
-    (after_is which 1 zero (timer_at timers 1) (h.each 1 (omega arith)) (at 1))
-    (after_is which 2 one (timer_at timers 2) (h.each 2 (omega arith)) (at 2))
-    (after_is which 3 two (timer_at timers 3) (h.each 3 (omega arith)) (at 3))
+    (after_is which 0 false (timer_at timers 0) (h.each 0 (omega arith)))
+    (after_is which 1 zero (timer_at timers 1) (h.each 1 (omega arith)))
+    (after_is which 2 one (timer_at timers 2) (h.each 2 (omega arith)))
+    (after_is which 3 two (timer_at timers 3) (h.each 3 (omega arith)))
 
 first : (b : Bool) (x y : TimerState) → b ≡ true → (if b then x else y) ≡ x
 first true x y h = refl
@@ -76,6 +80,12 @@ index_after timers which (suc zero) h = (overflows which 0 false (timer_at timer
 index_after timers which (suc (suc zero)) h = (overflows which 1 (overflows which 0 false (timer_at timers 0)) (timer_at timers 1), refl)
 index_after timers which (suc (suc (suc zero))) h = (overflows which 2 (overflows which 1 (overflows which 0 false (timer_at timers 0)) (timer_at timers 1)) (timer_at timers 2), refl)
 index_after timers which (suc (suc (suc (suc n)))) h = absurd (omega (arith, h))
+
+-- and their anchors are early where the tick of the overflow is
+pub overflow_early : (timers : List TimerState) (which : ℕ) → AreEarly timers → IsEarly (timer_due (timer_at timers which)) → AreEarly (overflow_of timers which).timers
+overflow_early timers which was early = λ i l. (let after = index_after timers which i l in
+    subst (λ (x : TimerState). IsEarly x.since) (sym after.1)
+    (after_early which i after.0 (timer_at timers i) (was i l) (λ e. subst (λ n. IsEarly (timer_due (timer_at timers n))) (sym e) early)))
 
 -- the timer whose overflow it is counts from its reload again
 pub overflow_counts : (timers : List TimerState) (which : ℕ) → which < 4 → (now : Tick) → timer_due (timer_at timers which) ≡ Some now

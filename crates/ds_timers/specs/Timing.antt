@@ -75,11 +75,14 @@ pub record IsTimer (which : ℕ) (t : TimerState) : Type 0 where
   pub reload : t.reload < 2 ^ 16
   pub count : t.count < 2 ^ 16
   pub anchored : is_some t.since ≡ runs_free which t.control
-  pub early : IsEarly t.since
 
 pub record AreTimers (timers : List TimerState) : Type 0 where
   pub four : length timers ≡ 4
   pub each : (which : ℕ) → which < 4 → IsTimer which (timer_at timers which)
+
+-- each anchor is a tick that callers may hand in, so that the sums of ticks in the code stay in 64 bits (our choice of form)
+abbrev pub AreEarly : List TimerState → Type 0
+AreEarly timers = (which : ℕ) → which < 4 → IsEarly (timer_at timers which).since
 
 -- what happens to timer `which` at a tick makes it due later than that tick or not at all, and no other timer due otherwise than before
 pub record SchedulesOne (which : ℕ) (now : Tick) (old new : List TimerState) : Type 0 where

@@ -7,7 +7,7 @@ use ds_base::Interrupt;
 use std::marker::Model;
 
 /// IME, IE and IF of one processor. Contracts see the three.
-#[derive(Drop)]
+#[derive(Clone, Copy)]
 pub struct Irq {
     master: bool,
     enabled: u32,
@@ -20,6 +20,8 @@ impl Model for Irq {
     ghost Value = { IrqState };
 
     ghost view = { λ i. record { master = i.master; enabled = i.enabled; flags = i.flags } };
+
+    ghost inverse = { λ i. record { master = i.master; enabled = i.enabled; flags = i.flags } };
 }
 
 /// The bit of the geometry FIFO's interrupt, which is a level and no event.

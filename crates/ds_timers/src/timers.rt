@@ -40,13 +40,13 @@ pub struct Timers {
 impl Model for Timers {
     ghost use Rattle.std.specs.Prelude.{List, map};
     ghost use Rattle.ds_timers.specs.TimersKept.{timer_seen};
-    ghost use Rattle.ds_timers.specs.Timing.{AreTimers, TimerState};
+    ghost use Rattle.ds_timers.specs.Timing.{AreEarly, AreTimers, TimerState};
 
     ghost Value = { List TimerState };
 
     ghost view = { λ t. map timer_seen t.timers };
 
-    ghost invariant = { λ t. AreTimers (map timer_seen t.timers) };
+    ghost invariant = { λ t. AreTimers (map timer_seen t.timers) × AreEarly (map timer_seen t.timers) };
 }
 
 fn ticks(control: u16) -> u64
@@ -212,6 +212,7 @@ impl Timers {
         requires { which < 4 }
         ensures seen { timer_seen result ≡ timer_at self.now which }
         ensures is { IsTimer which (timer_seen result) }
+        ensures early { IsEarly result.since }
     {
         self.timers[which as usize]
     }
@@ -220,6 +221,7 @@ impl Timers {
     fn put(&mut self, which: u8, timer: Timer)
         requires which { which < 4 }
         requires is { IsTimer which (timer_seen timer) }
+        requires early { IsEarly timer.since }
         ensures { self.new ≡ slice_set self.old which (timer_seen timer) }
     {
         self.timers[which as usize] = timer;

@@ -1,8 +1,10 @@
 use Rattle.std.proofs.Common.{◌≡◌, ◌∙◌, sym, subst, ap, true, slice_set, Some}
+use Rattle.ds_base.specs.Schedules.{IsEarly}
 use Rattle.ds_dma.specs.ChannelsKept.{channel_seen}
 use Rattle.ds_dma.specs.Channels.{ChannelState, IsChannel, TakesUnit, taken}
 use Rattle.ds_dma.specs.Controls.{is_enabled}
 use Rattle.ds_dma.specs.States.{DmaState, channel_at, least_running, due_channel, dma_finished}
+use Rattle.ds_dma.proofs.Early.{taken_early}
 use Rattle.ds_dma.proofs.Fours.{set_same}
 use Rattle.ds_dma.proofs.Kept.{taken_is}
 use Rattle.ds_dma.proofs.Plans.{takes}
@@ -18,6 +20,12 @@ put-requires-clause-is c =
     let rest : channel_seen c.without_first-rest.result ≡ taken s.proc which (channel_seen c.channel-channel.result) =
     c.without_first-rest.ensures ∙ ap (λ (x : DmaState). taken x.proc which (channel_seen c.channel-channel.result)) c.self.view_is in
     subst (IsChannel s.proc which) (sym rest) (taken_is s.proc which (channel_seen c.channel-channel.result) c.channel-channel.ensures.is on)
+
+pub put-requires-clause-trigger : goal.put-requires-clause-trigger
+put-requires-clause-trigger c =
+    let old = channel_seen c.channel-channel.result in
+    subst (λ (x : ChannelState). IsEarly x.trigger) (sym c.without_first-rest.ensures)
+    (taken_early c.self.inside.proc c.least-which.result old c.channel-channel.ensures.early)
 
 pub returns-clause-takes : goal.returns-clause-takes
 returns-clause-takes c =

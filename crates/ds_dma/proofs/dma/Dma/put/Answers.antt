@@ -2,7 +2,8 @@ use Rattle.std.proofs.Common.{sym, subst, ◌∙◌, ap, map, slice_set}
 use Rattle.std.proofs.lemmas.List.{map-set}
 use Rattle.ds_dma.specs.ChannelsKept.{channel_seen}
 use Rattle.ds_dma.specs.Channels.{IsChannel}
-use Rattle.ds_dma.specs.States.{DmaState, IsDma}
+use Rattle.ds_dma.specs.States.{DmaState, HasEarlyTicks, IsDma}
+use Rattle.ds_dma.proofs.Early.{early_set}
 use Rattle.ds_dma.proofs.Fours.{are_set}
 use Rattle.ds_dma.proofs.dma.Dma.put.Goals as goal
 
@@ -12,8 +13,12 @@ invariant_of-self c =
     let which = c.args.which in
     let new = channel_seen c.args.channel in
     let seen : DmaState = record { proc = old.proc; channels = map channel_seen old.channels; last = old.last } in
-    subst (λ xs. IsDma (record { proc = old.proc; channels = xs; last = c.args.last })) (sym (map-set channel_seen old.channels which c.args.channel))
-    (are_set seen which new c.args.last c.self.invariant c.requires.which (subst (λ (s : DmaState). IsChannel s.proc which new) (sym c.self.view_is) c.requires.is) c.requires.early)
+    let is = sym (map-set channel_seen old.channels which c.args.channel) in (
+      subst (λ xs. IsDma (record { proc = old.proc; channels = xs; last = c.args.last })) is
+          (are_set seen which new c.args.last c.self.invariant.0 c.requires.which (subst (λ (s : DmaState). IsChannel s.proc which new) (sym c.self.view_is) c.requires.is)),
+      subst (λ xs. HasEarlyTicks (record { proc = old.proc; channels = xs; last = c.args.last })) is
+          (early_set seen which new c.args.last c.self.invariant.0.four c.self.invariant.1 c.requires.which c.requires.trigger c.requires.last),
+    )
 
 pub returns : goal.returns
 returns c =

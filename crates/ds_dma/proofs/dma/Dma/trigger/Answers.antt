@@ -2,7 +2,8 @@ use Rattle.std.proofs.Common.{◌≡◌, [], ◌∷◌, ◌∙◌, sym, subst, a
 use Rattle.ds_base.specs.Schedules.{Reschedules}
 use Rattle.ds_dma.specs.ChannelsKept.{channel_seen}
 use Rattle.ds_dma.specs.Channels.{triggered}
-use Rattle.ds_dma.specs.States.{DmaState, IsDma, AreReadyLater, channel_at, channel_due, dma_triggered}
+use Rattle.ds_dma.specs.States.{DmaState, HasEarlyTicks, IsDma, AreReadyLater, channel_at, channel_due, dma_triggered}
+use Rattle.ds_dma.proofs.Early.{mapped_early, triggered_early}
 use Rattle.ds_dma.proofs.Fours.{four_are, mapped_is}
 use Rattle.ds_dma.proofs.Kept.{triggered_is}
 use Rattle.ds_dma.proofs.Turns.{event_later, event_schedules}
@@ -33,8 +34,12 @@ new_is c =
 
 pub invariant_of-self : goal.invariant_of-self
 invariant_of-self c =
-    subst IsDma (sym (new_is c)) (mapped_is c.args.self.now (triggered c.args.self.now.proc c.args.cause c.args.now)
-    (λ which x is. triggered_is c.args.self.now.proc which c.args.cause c.args.now x is c.requires) c.laws.ensures)
+    let s = c.args.self.now in
+    let f = triggered s.proc c.args.cause c.args.now in (
+      subst IsDma (sym (new_is c)) (mapped_is s f (λ which x is. triggered_is s.proc which c.args.cause c.args.now x is) c.laws.ensures),
+      subst HasEarlyTicks (sym (new_is c)) (mapped_early s f c.laws.ensures.four (λ x was. triggered_early s.proc c.args.cause c.args.now x was c.requires)
+          (subst HasEarlyTicks c.self.view_is c.self.invariant.1)),
+    )
 
 pub returns-clause-state : goal.returns-clause-state
 returns-clause-state c = new_is c

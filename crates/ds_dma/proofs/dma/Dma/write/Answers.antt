@@ -1,7 +1,9 @@
 use Rattle.std.proofs.Common.{◌≡◌, ◌∙◌, sym, subst, ap, slice_set, None}
+use Rattle.ds_base.specs.Schedules.{IsEarly}
 use Rattle.ds_dma.specs.ChannelsKept.{channel_seen}
-use Rattle.ds_dma.specs.Channels.{ChannelState, IsChannel, port_set, port_refusal}
+use Rattle.ds_dma.specs.Channels.{ChannelState, IsChannel, channel_set, channel_refusal}
 use Rattle.ds_dma.specs.States.{DmaState, channel_at, channel_due, AreReadyLater}
+use Rattle.ds_dma.proofs.Early.{written_early}
 use Rattle.ds_dma.proofs.Kept.{written_is}
 use Rattle.ds_dma.proofs.Turns.{all_later, written_later}
 use Rattle.ds_dma.proofs.dma.Dma.write.Goals as goal
@@ -10,21 +12,27 @@ pub put-requires-clause-is : goal.put-requires-clause-is
 put-requires-clause-is c =
     let s = c.args.self.now in
     let old = channel_seen c.channel-old.result in
-    let taken : port_refusal s.proc c.args.channel c.args.port c.args.value old ≡ None =
-    subst (λ (x : DmaState). port_refusal x.proc c.args.channel c.args.port c.args.value old ≡ None) c.self.view_is (sym c.refused.ensures ∙ c.in-None.is) in
-    let written : channel_seen c.written-new.result ≡ port_set s.proc c.args.channel c.args.port c.args.value c.args.now old =
-    c.written-new.ensures ∙ ap (λ (x : DmaState). port_set x.proc c.args.channel c.args.port c.args.value c.args.now old) c.self.view_is in
+    let taken : channel_refusal s.proc c.args.channel c.args.port c.args.value old ≡ None =
+    subst (λ (x : DmaState). channel_refusal x.proc c.args.channel c.args.port c.args.value old ≡ None) c.self.view_is (sym c.refused.ensures ∙ c.in-None.is) in
+    let written : channel_seen c.written-new.result ≡ channel_set s.proc c.args.channel c.args.port c.args.value c.args.now old =
+    c.written-new.ensures ∙ ap (λ (x : DmaState). channel_set x.proc c.args.channel c.args.port c.args.value c.args.now old) c.self.view_is in
     subst (IsChannel s.proc c.args.channel) (sym written)
-    (written_is s.proc c.args.channel c.args.port c.args.value c.args.now old c.channel-old.ensures.is c.requires.early taken)
+    (written_is s.proc c.args.channel c.args.port c.args.value c.args.now old c.channel-old.ensures.is taken)
+
+pub put-requires-clause-trigger : goal.put-requires-clause-trigger
+put-requires-clause-trigger c =
+    let old = channel_seen c.channel-old.result in
+    subst (λ (x : ChannelState). IsEarly x.trigger) (sym c.written-new.ensures)
+    (written_early c.self.inside.proc c.args.channel c.args.port c.args.value c.args.now old c.channel-old.ensures.early c.requires.early)
 
 pub returns-in-None-clause-schedule : goal.returns-in-None-clause-schedule
 returns-in-None-clause-schedule c =
     let s = c.args.self.now in
     let which = c.args.channel in
-    let set = λ (x : ChannelState). port_set s.proc which c.args.port c.args.value c.args.now x in
+    let set = λ (x : ChannelState). channel_set s.proc which c.args.port c.args.value c.args.now x in
     let old = channel_seen c.channel-old.result in
     let written : channel_seen c.written-new.result ≡ set old =
-    c.written-new.ensures ∙ ap (λ (x : DmaState). port_set x.proc which c.args.port c.args.value c.args.now old) c.self.view_is in
+    c.written-new.ensures ∙ ap (λ (x : DmaState). channel_set x.proc which c.args.port c.args.value c.args.now old) c.self.view_is in
     let new : c.put-in-None.new.self ≡ record s { channels = slice_set s.channels which (set (channel_at s.channels which)) } =
     c.put-in-None.ensures
     ∙ ap (λ (x : DmaState). record s { channels = slice_set s.channels which (channel_seen c.written-new.result); last = x.last }) c.put.view_is

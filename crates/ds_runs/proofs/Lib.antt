@@ -1,5 +1,7 @@
 pub mod Lists
+pub mod Firsts
 pub mod Places
 pub mod ActorTable
 pub mod RunLaws
 pub mod RunExists
+pub mod AllActors

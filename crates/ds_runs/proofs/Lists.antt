@@ -25,7 +25,7 @@ lt_or_same : (x y : ℕ) → x ≤ y → (x < y) ⊎ (x ≡ y)
 lt_or_same x y h = grind (arith, h)
 
 -- the least of a list is the least of a longer one, where what is put before it is due later
-pushed : (due : Option Tick) (dues : List (Option Tick)) (tick : Tick) (rank : ℕ) → IsLeast dues tick rank → ((at : Tick) → due ≡ Some at → tick.0 < at.0)
+pub pushed : (due : Option Tick) (dues : List (Option Tick)) (tick : Tick) (rank : ℕ) → IsLeast dues tick rank → ((at : Tick) → due ≡ Some at → tick.0 < at.0)
     → IsLeast (due ∷ dues) tick (suc rank)
 pushed due dues tick rank l later = record { there = l.there; least = go } where
   go : (other : ℕ) (at : Tick) → due_at (due ∷ dues) other ≡ Some at → (tick.0 < at.0) ⊎ ((tick.0 ≡ at.0) × (suc rank ≤ other))
@@ -33,7 +33,7 @@ pushed due dues tick rank l later = record { there = l.there; least = go } where
   go (suc other) at h = elim (l.least other at h) [ inl a ↦ inl a | inr b ↦ inr (b.0, omega (arith, b.1)) ]
 
 -- the first is the least, where none of the others is due before it
-first_least : (tick : Tick) (dues : List (Option Tick)) → IsOver dues tick.0 → IsLeast (Some tick ∷ dues) tick zero
+pub first_least : (tick : Tick) (dues : List (Option Tick)) → IsOver dues tick.0 → IsLeast (Some tick ∷ dues) tick zero
 first_least tick dues none = record { there = refl; least = go } where
   go : (other : ℕ) (at : Tick) → due_at (Some tick ∷ dues) other ≡ Some at → (tick.0 < at.0) ⊎ ((tick.0 ≡ at.0) × (zero ≤ other))
   go zero at h = inr (ap (λ (x : Tick). x.0) (same_Some tick at h), omega arith)

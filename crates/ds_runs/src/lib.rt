@@ -11,7 +11,7 @@ mod actors;
 mod order;
 
 pub use actors::Actor;
-pub use order::first_of;
+pub use order::{earlier, earlier_than, entry, later_than};
 
 #[cfg(test)]
 mod tests;

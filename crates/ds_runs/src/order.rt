@@ -1,20 +1,51 @@
 //! The order of steps.
 
-ghost use Rattle.ds_runs.specs.Order.{IsFirst};
+ghost use Rattle.std.specs.Prelude.{◌≡◌, Some};
+ghost use Rattle.ds_runs.specs.Order.{due_with_rank, earlier};
 
-use ds_base::Due;
+use ds_base::{Due, Tick};
 
-/// The one of two actors that steps first: that of the lesser due tick, and at equal ticks that of the lesser rank. (Our choice
-/// of order.)
+/// An actor's due tick, if it is due, with its rank.
 #[inline(always)]
-pub fn first_of(one: Due, other: Due) -> Due
-    ensures { IsFirst one other result }
+pub fn entry(rank: u8, tick: Option<Tick>) -> Option<Due>
+    ensures { result ≡ due_with_rank rank tick }
 {
-    if one.tick.0 < other.tick.0 {
-        return one;
+    match tick {
+        Some(tick) => Some(Due { tick, rank }),
+        None => None,
     }
-    if other.tick.0 < one.tick.0 || other.rank < one.rank {
-        return other;
+}
+
+/// The first of two actors that may be due: by tick, and the former at equal ticks. (Our choice of order.)
+#[inline(always)]
+pub fn earlier(one: Option<Due>, other: Option<Due>) -> Option<Due>
+    ensures { result ≡ earlier one other }
+{
+    match (one, other) {
+        (Some(first), Some(last)) if last.tick.0 < first.tick.0 => Some(last),
+        (Some(first), _) => Some(first),
+        (None, last) => last,
     }
-    one
+}
+
+/// The same, where the former is due.
+#[inline(always)]
+pub fn earlier_than(one: Due, other: Option<Due>) -> Due
+    ensures { Some result ≡ earlier (Some one) other }
+{
+    match other {
+        Some(last) if last.tick.0 < one.tick.0 => last,
+        _ => one,
+    }
+}
+
+/// The same, where the latter is due.
+#[inline(always)]
+pub fn later_than(one: Option<Due>, other: Due) -> Due
+    ensures { Some result ≡ earlier one (Some other) }
+{
+    match one {
+        Some(first) if first.tick.0 <= other.tick.0 => first,
+        _ => other,
+    }
 }

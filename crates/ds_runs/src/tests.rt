@@ -1,6 +1,6 @@
 //! The order of steps, on worked pairs, and the ranks of actors.
 
-use crate::{Actor, first_of};
+use crate::{Actor, earlier, earlier_than, entry, later_than};
 use ds_base::{Due, Proc, Tick};
 
 fn due(tick: u64, rank: u8) -> Due {
@@ -11,15 +11,24 @@ fn due(tick: u64, rank: u8) -> Due {
 }
 
 #[test]
-fn the_lesser_tick_and_then_the_lesser_rank_goes_first(rt: HostRuntime) {
+fn the_lesser_tick_and_then_the_former_goes_first(rt: HostRuntime) {
     for (one, other, first) in [
         (due(6, 22), due(6, 23), due(6, 22)),
-        (due(6, 23), due(6, 22), due(6, 22)),
-        (due(5, 23), due(6, 1), due(5, 23)),
+        (due(6, 2), due(6, 1), due(6, 2)),
+        (due(5, 1), due(6, 2), due(5, 1)),
         (due(6, 1), due(5, 23), due(5, 23)),
     ] {
-        assert!(rt; first_of(one, other) == first);
+        assert!(rt; earlier(Some(one), Some(other)) == Some(first));
+        assert!(rt; earlier_than(one, Some(other)) == first);
+        assert!(rt; later_than(Some(one), other) == first);
+        assert!(rt; earlier(None, Some(other)) == Some(other));
+        assert!(rt; earlier(Some(one), None) == Some(one));
+        assert!(rt; earlier_than(one, None) == one);
+        assert!(rt; later_than(None, other) == other);
     }
+    assert!(rt; earlier(None, None) == None);
+    assert!(rt; entry(7, Some(Tick(9))) == Some(due(9, 7)));
+    assert!(rt; entry(7, None) == None);
 }
 
 const fn timer(proc: Proc, number: u8) -> Actor {

@@ -1,1 +1,3 @@
 pub mod RegisterMaps
+pub mod Dues
+pub mod Later

@@ -4,3 +4,4 @@ pub mod Own
 pub mod Units
 pub mod Registers
 pub mod Ports
+pub mod Dues

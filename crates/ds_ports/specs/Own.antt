@@ -1,24 +1,31 @@
-use Rattle.std.specs.Prelude.{ℕ, ◌+◌, ◌-◌, ◌*◌, ◌/◌, ◌%◌, ◌^◌, ◌==◌, ◌&&◌, not, if◌then◌else◌, Bool, true, false, List, bit_and}
-use Rattle.ds_base.specs.Bits.{bit, bits, flag}
+use Rattle.std.specs.Prelude.{ℕ, ◌+◌, ◌-◌, ◌/◌, ◌%◌, ◌^◌, ◌==◌, ◌&&◌, ◌||◌, not, if◌then◌else◌, Bool, true, false, List, Option, bit_and}
+use Rattle.ds_base.specs.Bits.{bit, bits}
 use Rattle.ds_base.specs.Interrupts.{interrupt_bit}
 use Rattle.ds_base.specs.declared.interrupts.Interrupt.TheVariants.{Keys}
 use Rattle.ds_base.specs.declared.processors.Proc.{Proc}
 use Rattle.ds_base.specs.declared.processors.Proc.TheVariants.{Nine, Seven}
+use Rattle.ds_base.specs.declared.left_out.Stop.{Stop}
 use Rattle.ds_base.specs.declared.ticks.Tick.{Tick}
-use Rattle.ds_timers.specs.Irqs.{IrqState, irq_acked, irq_at_boot, irq_raised}
+use Rattle.ds_dma.specs.Channels.{channel_refusal, channel_word}
+use Rattle.ds_dma.specs.States.{DmaState, any_runs, channel_at, channel_written, dma_at_boot, dma_finished, dma_triggered, finished_bits}
+use Rattle.ds_dma.specs.declared.controls.Cause.{Cause}
+use Rattle.ds_dma.specs.declared.controls.DmaPort.{DmaPort}
+use Rattle.ds_dma.specs.declared.controls.DmaPort.TheVariants.{Source, Target, Control}
+use Rattle.ds_timers.specs.Irqs.{IrqState, irq_at_boot, irq_raised}
 use Rattle.ds_timers.specs.Timing.{TimerState, control_set, counter_of, reload_set, timer_at, timers_at_boot}
 
--- What each processor has of its own behind the ports: its interrupt words, its timers, KEYCNT, and whether it is halted.
+-- What each processor has of its own behind the ports: its interrupt words, its timers, KEYCNT, whether it is halted, and its DMA channels.
 
 pub record OwnState : Type 0 where
   pub irq : IrqState
   pub timers : List TimerState
   pub keycnt : ℕ
   pub halted : Bool
+  pub dma : DmaState
 
 -- all is 0 at boot (our choice)
-abbrev pub own_at_boot : OwnState
-own_at_boot = record { irq = irq_at_boot; timers = timers_at_boot; keycnt = 0; halted = false }
+abbrev pub own_at_boot : Proc → OwnState
+own_at_boot proc = record { irq = irq_at_boot; timers = timers_at_boot; keycnt = 0; halted = false; dma = dma_at_boot proc }
 
 -- bits of IF are raised
 abbrev pub own_raised : OwnState → ℕ → OwnState
@@ -80,3 +87,41 @@ keycnt_written own pressed value = keys_told (record own { keycnt = kept_keycnt 
 
 abbrev pub haltcnt_written : OwnState → ℕ → OwnState
 haltcnt_written own value = if bits 6 2 value == 2 then record own { halted = true } else own
+
+-- ---- DMA (GBATEK, "DS DMA Transfers"): of each channel its source, its target and its control, in turn
+
+abbrev pub dma_port : ℕ → DmaPort
+dma_port number = if number % 3 == 0 then Source else (if number % 3 == 1 then Target else Control)
+
+abbrev pub dma_value : OwnState → ℕ → ℕ
+dma_value own number = channel_word (dma_port number) (channel_at own.dma.channels (number / 3))
+
+abbrev pub dma_written : OwnState → Tick → ℕ → ℕ → OwnState
+dma_written own now number value = record own { dma = channel_written own.dma (number / 3) (dma_port number) value now }
+
+abbrev pub dma_refusal : OwnState → ℕ → ℕ → Option Stop
+dma_refusal own number value = channel_refusal own.dma.proc (number / 3) (dma_port number) value (channel_at own.dma.channels (number / 3))
+
+-- an event triggers the channels that wait for it
+abbrev pub own_triggered : OwnState → Cause → Tick → OwnState
+own_triggered own cause now = record own { dma = dma_triggered own.dma cause now }
+
+-- the channel that is due moves its first unit at a tick, and raises its interrupt at its end
+abbrev pub own_moved : OwnState → Tick → OwnState
+own_moved own now = own_raised (record own { dma = dma_finished own.dma now }) (finished_bits own.dma)
+
+-- what that changes, as it was before: the channels and the interrupt words
+pub record BeforeMove : Type 0 where
+  pub dma : DmaState
+  pub irq : IrqState
+
+abbrev pub before_move : OwnState → BeforeMove
+before_move own = record { dma = own.dma; irq = own.irq }
+
+-- these are put back
+abbrev pub own_put_back : BeforeMove → OwnState → OwnState
+own_put_back before own = record own { dma = before.dma; irq = before.irq }
+
+-- the processor isn't due: it is halted, or a channel of it runs (our choice, by GBATEK, "DS DMA Transfers")
+abbrev pub is_held : OwnState → Bool
+is_held own = own.halted || any_runs own.dma.channels

@@ -9,7 +9,7 @@ use Rattle.ds_ports.specs.RegisterMap.{slot_of}
 use Rattle.ds_ports.specs.Registers.{register_kept, register_read, register_refusal, register_value, register_written, takes_words}
 use Rattle.ds_ports.specs.Units.{UnitsState}
 use Rattle.ds_ports.specs.declared.registers.Register.{Register}
-use Rattle.ds_ports.specs.declared.registers.Register.TheVariants.{Later, Tmcnt, Keyinput, Keycnt, Extkeyin, Ipcsync, Ipcfifocnt, Ipcfifosend, Ipcfiforecv, Ime, Ie, If, VramcntAToG, VramcntHToI, Wramcnt, Vramstat, Wramstat, Postflg, Haltcnt}
+use Rattle.ds_ports.specs.declared.registers.Register.TheVariants.{Later, Tmcnt, Keyinput, Keycnt, Extkeyin, Ipcsync, Ipcfifocnt, Ipcfifosend, Ipcfiforecv, Ime, Ie, If, VramcntAToG, VramcntHToI, Wramcnt, Vramstat, Wramstat, Postflg, Haltcnt, DmaSadToCnt, Dmafill, Romctrl, Divcnt, DivNumer, DivDenom, DivResult, DivremResult, Sqrtcnt, SqrtResult, SqrtParam}
 use Rattle.ds_ports.specs.declared.registers.Slot.{Slot}
 
 -- What an access of a port reads and leaves. An access that lies in one register is an access of some or all of its bytes. Any other goes
@@ -118,7 +118,7 @@ first_stop None other = other
 first_stop (Some stop) other = Some stop
 
 abbrev pub slot_refusal : Proc → UnitsState → Width → Slot → ℕ → Option Stop
-slot_refusal proc u width slot value = if ignores width slot.register then None else register_refusal slot.register (slot_joined proc u width slot value)
+slot_refusal proc u width slot value = if ignores width slot.register then None else register_refusal proc u slot.register slot.number (slot_joined proc u width slot value)
 
 abbrev pub refusal_or : Proc → UnitsState → Width → Option Slot → ℕ → Option Stop → Option Stop
 refusal_or proc u width None value other = other
@@ -139,6 +139,11 @@ unfoldable pub port_refusal : Proc → UnitsState → ℕ → Width → ℕ → 
 port_refusal proc u at Byte value = byte_refusal proc u at value
 port_refusal proc u at Half value = half_refusal proc u at value
 port_refusal proc u at Word value = word_refusal proc u at value
+
+-- what a write leaves: where it is refused, all stays
+abbrev pub unless_stopped : Option Stop → UnitsState → UnitsState → UnitsState
+unless_stopped None old new = new
+unless_stopped (Some stop) old new = old
 
 -- whether a byte is built: that of each register but those that are to come, and those that are no ports, which read 0
 abbrev pub is_there : Register → Bool
@@ -161,6 +166,17 @@ is_there Vramstat = true
 is_there Wramstat = true
 is_there Postflg = true
 is_there Haltcnt = true
+is_there DmaSadToCnt = true
+is_there Dmafill = true
+is_there Romctrl = true
+is_there Divcnt = true
+is_there DivNumer = true
+is_there DivDenom = true
+is_there DivResult = true
+is_there DivremResult = true
+is_there Sqrtcnt = true
+is_there SqrtResult = true
+is_there SqrtParam = true
 
 abbrev pub is_slot_built : Option Slot → Bool
 is_slot_built None = true

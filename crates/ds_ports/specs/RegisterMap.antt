@@ -2,7 +2,7 @@ use Rattle.std.specs.Prelude.{ℕ, ◌<◌, ◌≤◌, ◌+◌, ◌-◌, ◌*◌
 use Rattle.ds_base.specs.declared.processors.Proc.{Proc}
 use Rattle.ds_base.specs.declared.processors.Proc.TheVariants.{Nine, Seven}
 use Rattle.ds_ports.specs.declared.registers.Register.{Register}
-use Rattle.ds_ports.specs.declared.registers.Register.TheVariants.{Later, Tmcnt, Keyinput, Keycnt, Extkeyin, Ipcsync, Ipcfifocnt, Ipcfifosend, Ipcfiforecv, Ime, Ie, If, VramcntAToG, VramcntHToI, Wramcnt, Vramstat, Wramstat, Postflg, Haltcnt}
+use Rattle.ds_ports.specs.declared.registers.Register.TheVariants.{Later, Tmcnt, Keyinput, Keycnt, Extkeyin, Ipcsync, Ipcfifocnt, Ipcfifosend, Ipcfiforecv, Ime, Ie, If, VramcntAToG, VramcntHToI, Wramcnt, Vramstat, Wramstat, Postflg, Haltcnt, DmaSadToCnt, Dmafill, Romctrl, Divcnt, DivNumer, DivDenom, DivResult, DivremResult, Sqrtcnt, SqrtResult, SqrtParam}
 use Rattle.ds_ports.specs.declared.registers.Slot.{Slot}
 
 -- The register map of each processor (GBATEK, "DS I/O Maps"): the offset from 4000000h, how many bytes each register of the row has, how
@@ -47,19 +47,19 @@ effect_rows =
 
 abbrev pub dma_rows : List PortRow
 dma_rows =
-    row 0x0B0 4 12 Later  -- DMA0SAD, DMA0DAD, DMA0CNT to DMA3SAD, DMA3DAD, DMA3CNT
-    ∷ row 0x0E0 4 4 Later  -- DMA0FILL to DMA3FILL
+    row 0x0B0 4 12 DmaSadToCnt  -- DMA0SAD, DMA0DAD, DMA0CNT to DMA3SAD, DMA3DAD, DMA3CNT
+    ∷ row 0x0E0 4 4 Dmafill  -- DMA0FILL to DMA3FILL
     ∷ []
 
 abbrev pub timer_and_ipc_rows : List PortRow
 timer_and_ipc_rows =
-    row 0x100 2 8 Later  -- TM0CNT_L, TM0CNT_H to TM3CNT_L, TM3CNT_H
+    row 0x100 2 8 Tmcnt  -- TM0CNT_L, TM0CNT_H to TM3CNT_L, TM3CNT_H
     ∷ row 0x130 2 1 Keyinput  -- KEYINPUT
     ∷ row 0x132 2 1 Keycnt  -- KEYCNT
     ∷ row 0x180 2 1 Ipcsync  -- IPCSYNC
     ∷ row 0x184 2 1 Ipcfifocnt  -- IPCFIFOCNT
     ∷ row 0x188 4 1 Ipcfifosend  -- IPCFIFOSEND
-    ∷ row 0x1A4 4 1 Later  -- ROMCTRL
+    ∷ row 0x1A4 4 1 Romctrl  -- ROMCTRL
     ∷ []
 
 abbrev pub control_rows : List PortRow
@@ -74,14 +74,14 @@ control_rows =
 
 abbrev pub maths_rows : List PortRow
 maths_rows =
-    row 0x280 4 1 Later  -- DIVCNT
-    ∷ row 0x290 4 2 Later  -- DIV_NUMER, its low and its high word
-    ∷ row 0x298 4 2 Later  -- DIV_DENOM, the same
-    ∷ row 0x2A0 4 2 Later  -- DIV_RESULT, the same
-    ∷ row 0x2A8 4 2 Later  -- DIVREM_RESULT, the same
-    ∷ row 0x2B0 4 1 Later  -- SQRTCNT
-    ∷ row 0x2B4 4 1 Later  -- SQRT_RESULT
-    ∷ row 0x2B8 4 2 Later  -- SQRT_PARAM, its low and its high word
+    row 0x280 4 1 Divcnt  -- DIVCNT
+    ∷ row 0x290 4 2 DivNumer  -- DIV_NUMER, its low and its high word
+    ∷ row 0x298 4 2 DivDenom  -- DIV_DENOM, the same
+    ∷ row 0x2A0 4 2 DivResult  -- DIV_RESULT, the same
+    ∷ row 0x2A8 4 2 DivremResult  -- DIVREM_RESULT, the same
+    ∷ row 0x2B0 4 1 Sqrtcnt  -- SQRTCNT
+    ∷ row 0x2B4 4 1 SqrtResult  -- SQRT_RESULT
+    ∷ row 0x2B8 4 2 SqrtParam  -- SQRT_PARAM, its low and its high word
     ∷ []
 
 abbrev pub power_rows : List PortRow
@@ -132,19 +132,19 @@ abbrev pub seven_early_rows : List PortRow
 seven_early_rows =
     row 0x004 2 1 Later  -- DISPSTAT
     ∷ row 0x006 2 1 Later  -- VCOUNT
-    ∷ row 0x0B0 4 12 Later  -- DMA0SAD, DMA0DAD, DMA0CNT to DMA3SAD, DMA3DAD, DMA3CNT
+    ∷ row 0x0B0 4 12 DmaSadToCnt  -- DMA0SAD, DMA0DAD, DMA0CNT to DMA3SAD, DMA3DAD, DMA3CNT
     ∷ []
 
 abbrev pub seven_timer_and_ipc_rows : List PortRow
 seven_timer_and_ipc_rows =
-    row 0x100 2 8 Later  -- TM0CNT_L, TM0CNT_H to TM3CNT_L, TM3CNT_H
+    row 0x100 2 8 Tmcnt  -- TM0CNT_L, TM0CNT_H to TM3CNT_L, TM3CNT_H
     ∷ row 0x130 2 1 Keyinput  -- KEYINPUT
     ∷ row 0x132 2 1 Keycnt  -- KEYCNT
     ∷ row 0x136 2 1 Extkeyin  -- EXTKEYIN
     ∷ row 0x180 2 1 Ipcsync  -- IPCSYNC
     ∷ row 0x184 2 1 Ipcfifocnt  -- IPCFIFOCNT
     ∷ row 0x188 4 1 Ipcfifosend  -- IPCFIFOSEND
-    ∷ row 0x1A4 4 1 Later  -- ROMCTRL
+    ∷ row 0x1A4 4 1 Romctrl  -- ROMCTRL
     ∷ []
 
 abbrev pub seven_control_rows : List PortRow
@@ -211,6 +211,17 @@ numbers_of Vramstat = 1
 numbers_of Wramstat = 1
 numbers_of Postflg = 1
 numbers_of Haltcnt = 1
+numbers_of DmaSadToCnt = 12
+numbers_of Dmafill = 4
+numbers_of Romctrl = 1
+numbers_of Divcnt = 1
+numbers_of DivNumer = 2
+numbers_of DivDenom = 2
+numbers_of DivResult = 2
+numbers_of DivremResult = 2
+numbers_of Sqrtcnt = 1
+numbers_of SqrtResult = 1
+numbers_of SqrtParam = 2
 
 -- what holds of each byte of a register
 pub record IsSlot (s : Slot) : Type 0 where

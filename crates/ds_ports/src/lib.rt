@@ -5,14 +5,13 @@
 //! (specs/Registers.antt), and how an access goes through the registers that it covers is another (specs/Ports.antt).
 #![tactic(auto)]
 
+mod behind;
 mod own;
 mod ports;
 mod registers;
 mod units;
 
+pub use own::Before;
 pub use ports::{part, port_is_built};
 pub use registers::{Register, Slot, slot_of};
 pub use units::Units;
-
-#[cfg(test)]
-mod tests;

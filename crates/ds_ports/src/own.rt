@@ -1,16 +1,22 @@
 //! What each processor has of its own behind the ports.
 
-ghost use Rattle.std.specs.Prelude.{◌≡◌, ◌<◌, ◌%◌, ◌^◌, IsSome, Some};
+ghost use Rattle.std.specs.Prelude.{◌≡◌, ◌<◌, ◌+◌, ◌/◌, ◌%◌, ◌^◌, ◌∷◌, [], IsSome, Some};
 ghost use Rattle.ds_base.specs.Bits.{flag};
 ghost use Rattle.ds_base.specs.Schedules.{IsEarly};
+ghost use Rattle.ds_dma.specs.Channels.{unit_of};
+ghost use Rattle.ds_dma.specs.States.{channel_due, dma_due, due_channel};
+ghost use Rattle.ds_runs.specs.Order.{first_from};
 ghost use Rattle.ds_timers.specs.Irqs.{line_is_up, shares_bit};
 ghost use Rattle.ds_timers.specs.Timing.{overflow_of, timer_at, timer_due};
-ghost use Rattle.ds_ports.specs.Own.{extkeyin_word, haltcnt_written, interrupts_of, keycnt_written, keyinput_word, keys_hold, keys_told, own_at_boot, own_raised, timer_kept, timer_value, timer_written};
+ghost use Rattle.ds_ports.specs.Dues.{IsOwn};
+ghost use Rattle.ds_ports.specs.Own.{before_move, dma_port, dma_refusal, dma_value, dma_written, extkeyin_word, haltcnt_written, interrupts_of, is_held, keycnt_written, keyinput_word, keys_hold, keys_told, own_at_boot, own_moved, own_put_back, own_raised, own_triggered, timer_kept, timer_value, timer_written};
 ghost use Rattle.ds_ports.specs.RegisterMap.{numbers_of};
 ghost use Rattle.ds_ports.specs.Registers.{ie_set, if_set, ime_set, own_written};
 
 use crate::registers::Register;
-use ds_base::{Interrupt, Proc, Tick};
+use ds_base::{Due, Interrupt, Proc, Stop, Tick};
+use ds_dma::{Cause, Dma, DmaPort, Unit};
+use ds_runs::{earlier, entry};
 use ds_timers::{Irq, Timers};
 use std::marker::Model;
 
@@ -23,21 +29,44 @@ const INTERRUPTS_OF_SEVEN: u32 = 0x0F_1F7F;
 /// The bits that KEYCNT keeps. (GBATEK, "DS Keypad".)
 const KEPT_OF_KEYCNT: u16 = 0xC3FF;
 
-/// One processor's interrupt words, timers, KEYCNT and halt.
+/// One processor's interrupt words, timers, KEYCNT, halt and DMA channels, and whether a channel runs.
 #[derive(Drop)]
 pub struct Own {
     irq: Irq,
     timers: Timers,
     keycnt: u16,
     halted: bool,
+    dma: Dma,
+    running: bool,
 }
 
 impl Model for Own {
+    ghost use Rattle.std.specs.Prelude.{◌≡◌};
+    ghost use Rattle.ds_dma.specs.States.{any_runs};
     ghost use Rattle.ds_ports.specs.Own.{OwnState};
 
     ghost Value = { OwnState };
 
-    ghost view = { λ o. record { irq = o.irq; timers = o.timers; keycnt = o.keycnt; halted = o.halted } };
+    ghost view = { λ o. record { irq = o.irq; timers = o.timers; keycnt = o.keycnt; halted = o.halted; dma = o.dma } };
+
+    ghost invariant = { λ o. o.running ≡ any_runs o.dma.channels };
+}
+
+/// What a channel's move changes of a processor's own, as it was before: its DMA channels and interrupt words.
+#[derive(Clone, Copy)]
+pub struct Before {
+    dma: Dma,
+    irq: Irq,
+}
+
+impl Model for Before {
+    ghost use Rattle.ds_ports.specs.Own.{BeforeMove};
+
+    ghost Value = { BeforeMove };
+
+    ghost view = { λ b. record { dma = b.dma; irq = b.irq } };
+
+    ghost inverse = { λ b. record { dma = b.dma; irq = b.irq } };
 }
 
 /// The interrupts that a processor has.
@@ -79,16 +108,29 @@ fn keys_hold(keycnt: u16, pressed: u16) -> bool
         })
 }
 
+/// The port of its channel that a DMA register is.
+fn dma_port(number: u32) -> DmaPort
+    ensures { result ≡ dma_port number }
+{
+    match number % 3 {
+        0 => DmaPort::Source,
+        1 => DmaPort::Target,
+        _ => DmaPort::Control,
+    }
+}
+
 impl Own {
-    /// All at boot: no interrupt, no timer, and the processor runs.
-    pub fn new() -> Own
-        ensures { result ≡ own_at_boot }
+    /// All of a processor's at boot: no interrupt, no timer, no channel, and the processor runs.
+    pub fn new(proc: Proc) -> Own
+        ensures { result ≡ own_at_boot proc }
     {
         Own {
             irq: Irq::new(),
             timers: Timers::new(),
             keycnt: 0,
             halted: false,
+            dma: Dma::new(proc),
+            running: false,
         }
     }
 
@@ -132,6 +174,14 @@ impl Own {
         self.halted = halted;
     }
 
+    /// Whether the processor isn't due: it is halted, or a channel of it runs.
+    #[inline(always)]
+    pub fn is_held(&self) -> bool
+        ensures { result ≡ is_held self.now }
+    {
+        self.halted || self.running
+    }
+
     /// When a timer overflows, if it is due.
     pub fn timer_due(&self, which: u8) -> Option<Tick>
         requires { which < 4 }
@@ -149,6 +199,18 @@ impl Own {
     {
         let bits = self.timers.overflow(which);
         self.irq.raise(bits);
+    }
+
+    /// The first timer that is due; their ranks begin at one and go up.
+    pub fn first_timer(&self, rank: u8) -> Option<Due>
+        requires { rank < 2 ^ 6 }
+        ensures { result ≡ first_from rank (timer_due (timer_at self.now.timers 0) ∷ timer_due (timer_at self.now.timers 1)
+            ∷ timer_due (timer_at self.now.timers 2) ∷ timer_due (timer_at self.now.timers 3) ∷ []) }
+    {
+        let mut first = entry(rank + 3, self.timers.due(3));
+        first = earlier(entry(rank + 2, self.timers.due(2)), first);
+        first = earlier(entry(rank + 1, self.timers.due(1)), first);
+        earlier(entry(rank, self.timers.due(0)), first)
     }
 
     /// A timer's counter or control, as it reads.
@@ -267,6 +329,109 @@ impl Own {
         }
     }
 
+    /// A channel's source, target or control.
+    pub fn channel(&self, number: u32) -> u32
+        requires { number < 12 }
+        ensures { result ≡ dma_value self.now number }
+    {
+        self.dma.read((number / 3) as u8, dma_port(number))
+    }
+
+    /// A write of a channel's source, target or control. One that is refused leaves all.
+    pub fn set_channel(&mut self, now: Tick, number: u32, value: u32)
+        requires number { number < 12 }
+        requires early { IsEarly (Some now) }
+        ensures { self.new ≡ dma_written self.old now number value }
+    {
+        self.dma
+            .write((number / 3) as u8, dma_port(number), value, now);
+        self.running = self.dma.running();
+    }
+
+    /// The stop for which a write of a channel's source, target or control is refused: that of the same write of a copy.
+    pub fn channel_refusal(&self, number: u32, value: u32) -> Option<Stop>
+        requires { number < 12 }
+        ensures { result ≡ dma_refusal self.now number value }
+    {
+        let mut copy = self.dma;
+        copy.write((number / 3) as u8, dma_port(number), value, Tick(0))
+    }
+
+    /// An event at a tick triggers the channels that wait for it.
+    pub fn trigger(&mut self, cause: Cause, now: Tick)
+        requires { IsEarly (Some now) }
+        ensures { self.new ≡ own_triggered self.old cause now }
+    {
+        self.dma.trigger(cause, now);
+        self.running = self.dma.running();
+    }
+
+    /// When a channel is due, if it is: of those that run the one with the least number.
+    pub fn channel_due(&self, which: u8) -> Option<Tick>
+        requires { which < 4 }
+        ensures { result ≡ channel_due self.now.dma which }
+    {
+        match self.dma.due() {
+            Some(due) if due.channel == which => Some(due.tick),
+            _ => None,
+        }
+    }
+
+    /// The channel that is due; their ranks begin at one and go up.
+    #[tactic(auto, using(crate::proofs::Dues::first_channel))]
+    pub fn first_channel(&self, rank: u8) -> Option<Due>
+        requires { rank < 2 ^ 6 }
+        ensures { result ≡ first_from rank (channel_due self.now.dma 0 ∷ channel_due self.now.dma 1 ∷ channel_due self.now.dma 2 ∷ channel_due self.now.dma 3 ∷ []) }
+    {
+        let due = self.dma.due()?;
+        Some(Due {
+            tick: due.tick,
+            rank: rank + due.channel,
+        })
+    }
+
+    /// The unit that is due of the channels.
+    pub fn unit(&self) -> Unit
+        requires { IsSome (dma_due self.now.dma) }
+        ensures { result ≡ unit_of (due_channel self.now.dma) 0 }
+    {
+        self.dma.unit()
+    }
+
+    /// The channel that is due moves its first unit, but for the access itself. Gives what this changes as it was before.
+    pub fn move_channel(&mut self, now: Tick) -> Before
+        requires due { IsSome (dma_due self.old.dma) }
+        requires early { IsEarly (Some now) }
+        ensures state { self.new ≡ own_moved self.old now }
+        ensures before { result ≡ before_move self.old }
+    {
+        let before = Before {
+            dma: self.dma,
+            irq: self.irq,
+        };
+        let bits = self.dma.finish(now);
+        self.irq.raise(bits);
+        self.running = self.dma.running();
+        before
+    }
+
+    /// The channels and the interrupt words are again as they were before a move.
+    pub fn put_back(&mut self, before: Before)
+        ensures { self.new ≡ own_put_back before self.old }
+    {
+        self.irq = before.irq;
+        self.dma = before.dma;
+        self.running = self.dma.running();
+    }
+
+    /// Does nothing; its contract states what holds of a processor's own at every time.
+    pub fn laws(&self)
+        ensures { IsOwn self.now }
+    {
+        self.timers.laws();
+        self.dma.laws();
+    }
+
     /// A write of all bytes of a register, as far as it is the processor's own.
     pub fn write(
         &mut self,
@@ -288,6 +453,7 @@ impl Own {
             Register::Ie => self.set_ie(proc, value),
             Register::If => self.acknowledge(value),
             Register::Haltcnt => self.set_haltcnt(value),
+            Register::DmaSadToCnt => self.set_channel(now, number, value),
             Register::Later
             | Register::Keyinput
             | Register::Extkeyin
@@ -300,7 +466,17 @@ impl Own {
             | Register::Wramcnt
             | Register::Vramstat
             | Register::Wramstat
-            | Register::Postflg => {}
+            | Register::Postflg
+            | Register::Dmafill
+            | Register::Romctrl
+            | Register::Divcnt
+            | Register::DivNumer
+            | Register::DivDenom
+            | Register::DivResult
+            | Register::DivremResult
+            | Register::Sqrtcnt
+            | Register::SqrtResult
+            | Register::SqrtParam => {}
         }
     }
 }

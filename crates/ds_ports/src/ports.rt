@@ -3,11 +3,13 @@
 ghost use Rattle.std.specs.Prelude.{◌≡◌, ◌<◌, ◌≤◌, ◌+◌, ◌^◌, IfSome, Some};
 ghost use Rattle.ds_base.specs.Numbers.{width_bytes};
 ghost use Rattle.ds_base.specs.Schedules.{IsEarly};
-ghost use Rattle.ds_ports.specs.Ports.{byte_refusal, byte_written, first_stop, half_refusal, half_written, ignores, is_slot_built, joined, part, port_byte, port_half, port_is_built, port_read, port_refusal, port_value, port_word, port_written, slot_refusal, slot_value, slot_written, whole_in, word_refusal, word_written};
+ghost use Rattle.ds_ports.specs.Ports.{byte_refusal, byte_written, first_stop, half_refusal, half_written, ignores, is_slot_built, joined, part, port_byte, port_half, port_is_built, port_read, port_refusal, port_value, port_word, port_written, slot_joined, slot_refusal, slot_value, slot_written, unless_stopped, whole_in, word_refusal, word_written};
+ghost use Rattle.ds_ports.specs.Dues.{Goes, IsOwn, IsQuiet};
 ghost use Rattle.ds_ports.specs.RegisterMap.{IsSlot};
+ghost use Rattle.ds_ports.specs.Units.{own_of};
 
 use crate::registers::{Register, Slot, slot_of};
-use crate::units::{Units, refusal_of};
+use crate::units::Units;
 use ds_base::{Proc, Stop, Tick, Width};
 
 /// How many bytes an access moves.
@@ -99,7 +101,8 @@ impl Units {
         part(
             width,
             slot.byte,
-            self.value_of(proc, now, slot.register, slot.number),
+            self.behind()
+                .value_of(proc, now, slot.register, slot.number),
         )
     }
 
@@ -162,6 +165,30 @@ impl Units {
         }
     }
 
+    /// The number that a write of some bytes of a register gives it.
+    fn slot_joined(&self, proc: Proc, width: Width, slot: Slot, value: u32) -> u32
+        requires slot { IsSlot slot }
+        requires whole { slot.byte + width_bytes width ≤ 4 }
+        ensures { result ≡ slot_joined proc self.now width slot value }
+    {
+        let kept = self.behind().kept_of(proc, slot.register, slot.number);
+        joined(width, slot.byte, kept, value)
+    }
+
+    /// The stop for which a write of some bytes of a register is refused.
+    fn part_refusal(&self, proc: Proc, width: Width, slot: Slot, value: u32) -> Option<Stop>
+        requires slot { IsSlot slot }
+        requires whole { slot.byte + width_bytes width ≤ 4 }
+        ensures { result ≡ slot_refusal proc self.now width slot value }
+    {
+        if ignores(width, slot.register) {
+            return None;
+        }
+        let value = self.slot_joined(proc, width, slot, value);
+        self.behind()
+            .refusal_of(proc, slot.register, slot.number, value)
+    }
+
     /// Writes some bytes of a register.
     fn write_part(&mut self, proc: Proc, now: Tick, width: Width, slot: Slot, value: u32)
         requires slot { IsSlot slot }
@@ -170,9 +197,58 @@ impl Units {
         ensures { self.new ≡ slot_written proc now self.old width slot value }
     {
         if !ignores(width, slot.register) {
-            let kept = self.kept_of(proc, slot.register, slot.number);
-            let value = joined(width, slot.byte, kept, value);
+            let value = self.slot_joined(proc, width, slot, value);
             self.write_register(proc, now, slot.register, slot.number, value);
+        }
+    }
+
+    /// Writes some bytes of a register, unless it refuses this.
+    fn put_part(
+        &mut self,
+        proc: Proc,
+        now: Tick,
+        width: Width,
+        slot: Slot,
+        value: u32,
+    ) -> Option<Stop>
+        requires slot { IsSlot slot }
+        requires whole { slot.byte + width_bytes width ≤ 4 }
+        requires early { IsEarly (Some now) }
+        ensures refusal { result ≡ slot_refusal proc self.old width slot value }
+        ensures next { self.new ≡ unless_stopped (slot_refusal proc self.old width slot value) self.old (slot_written proc now self.old width slot value) }
+    {
+        if ignores(width, slot.register) {
+            return None;
+        }
+        let value = self.slot_joined(proc, width, slot, value);
+        let stop = self
+            .behind()
+            .refusal_of(proc, slot.register, slot.number, value);
+        if stop.is_none() {
+            self.write_register(proc, now, slot.register, slot.number, value);
+        }
+        stop
+    }
+
+    fn byte_refusal(&self, proc: Proc, at: u32, value: u32) -> Option<Stop>
+        ensures { result ≡ byte_refusal proc self.now at value }
+    {
+        match slot_of(proc, at) {
+            Some(slot) => self.part_refusal(proc, Width::Byte, slot, value),
+            None => None,
+        }
+    }
+
+    fn half_refusal(&self, proc: Proc, at: u32, value: u32) -> Option<Stop>
+        requires { at < 2 ^ 31 }
+        ensures { result ≡ half_refusal proc self.now at value }
+    {
+        match whole_in(Width::Half, slot_of(proc, at)) {
+            Some(slot) => self.part_refusal(proc, Width::Half, slot, value),
+            None => first_stop(
+                self.byte_refusal(proc, at, value),
+                self.byte_refusal(proc, at + 1, value >> 8),
+            ),
         }
     }
 
@@ -201,95 +277,87 @@ impl Units {
         }
     }
 
-    /// Writes a word.
-    fn write_word(&mut self, proc: Proc, now: Tick, at: u32, value: u32)
+    /// Writes a byte, unless this is refused.
+    fn put_byte(&mut self, proc: Proc, now: Tick, at: u32, value: u32) -> Option<Stop>
+        requires { IsEarly (Some now) }
+        ensures refusal { result ≡ byte_refusal proc self.old at value }
+        ensures next { self.new ≡ unless_stopped (byte_refusal proc self.old at value) self.old (byte_written proc now self.old at value) }
+    {
+        let slot = slot_of(proc, at)?;
+        self.put_part(proc, now, Width::Byte, slot, value)
+    }
+
+    /// Writes a half, unless this is refused.
+    fn put_half(&mut self, proc: Proc, now: Tick, at: u32, value: u32) -> Option<Stop>
+        requires at { at < 2 ^ 31 }
+        requires early { IsEarly (Some now) }
+        ensures refusal { result ≡ half_refusal proc self.old at value }
+        ensures next { self.new ≡ unless_stopped (half_refusal proc self.old at value) self.old (half_written proc now self.old at value) }
+    {
+        if let Some(slot) = whole_in(Width::Half, slot_of(proc, at)) {
+            return self.put_part(proc, now, Width::Half, slot, value);
+        }
+        let stop = first_stop(
+            self.byte_refusal(proc, at, value),
+            self.byte_refusal(proc, at + 1, value >> 8),
+        );
+        if stop.is_none() {
+            self.write_byte(proc, now, at, value);
+            self.write_byte(proc, now, at + 1, value >> 8);
+        }
+        stop
+    }
+
+    /// Writes a word, unless this is refused.
+    fn put_word(&mut self, proc: Proc, now: Tick, at: u32, value: u32) -> Option<Stop>
         requires at { at < 2 ^ 30 }
         requires early { IsEarly (Some now) }
-        ensures { self.new ≡ word_written proc now self.old at value }
+        ensures refusal { result ≡ word_refusal proc self.old at value }
+        ensures next { self.new ≡ unless_stopped (word_refusal proc self.old at value) self.old (word_written proc now self.old at value) }
     {
-        match whole_in(Width::Word, slot_of(proc, at)) {
-            Some(slot) => self.write_part(proc, now, Width::Word, slot, value),
-            None => {
-                self.write_half(proc, now, at, value);
-                self.write_half(proc, now, at + 2, value >> 16);
-            }
+        if let Some(slot) = whole_in(Width::Word, slot_of(proc, at)) {
+            return self.put_part(proc, now, Width::Word, slot, value);
         }
+        let stop = first_stop(
+            self.half_refusal(proc, at, value),
+            self.half_refusal(proc, at + 2, value >> 16),
+        );
+        if stop.is_none() {
+            self.write_half(proc, now, at, value);
+            self.write_half(proc, now, at + 2, value >> 16);
+        }
+        stop
     }
 
-    /// A processor's write at an offset from 4000000h, at a tick, where it isn't refused.
-    #[tactic(auto, unfolding(crate::specs::Ports::port_written))]
-    pub fn write(&mut self, proc: Proc, now: Tick, at: u32, width: Width, value: u32)
+    /// A write of any width, unless it is refused.
+    #[inline(always)]
+    #[tactic(auto, unfolding(crate::specs::Ports::port_refusal, crate::specs::Ports::port_written))]
+    fn put_any(&mut self, proc: Proc, now: Tick, at: u32, width: Width, value: u32) -> Option<Stop>
         requires at { at < 2 ^ 24 }
         requires early { IsEarly (Some now) }
-        ensures { self.new ≡ port_written proc now self.old at width value }
+        ensures refusal { result ≡ port_refusal proc self.old at width value }
+        ensures next { self.new ≡ unless_stopped (port_refusal proc self.old at width value) self.old (port_written proc now self.old at width value) }
     {
         match width {
-            Width::Byte => self.write_byte(proc, now, at, value),
-            Width::Half => self.write_half(proc, now, at, value),
-            Width::Word => self.write_word(proc, now, at, value),
+            Width::Byte => self.put_byte(proc, now, at, value),
+            Width::Half => self.put_half(proc, now, at, value),
+            Width::Word => self.put_word(proc, now, at, value),
         }
     }
 
-    /// The stop for which a write of some bytes of a register is refused.
-    fn part_refusal(&self, proc: Proc, width: Width, slot: Slot, value: u32) -> Option<Stop>
-        requires slot { IsSlot slot }
-        requires whole { slot.byte + width_bytes width ≤ 4 }
-        ensures { result ≡ slot_refusal proc self.now width slot value }
+    /// A processor's write at an offset from 4000000h, at a tick. Where it is refused, it gives the stop and leaves all: exactly where it
+    /// would write HALTCNT's modes 1 or 3, kind HaltMode with the byte written; ROMCTRL's bit 31, kind CardTransfer with the whole word; or a
+    /// DMA control that is refused, kind DmaStart or NotYet with the control as it would be kept. `schedule`: it leaves each due tick as it was, or later than its
+    /// own, where the processor's timers and its running channels come later than that.
+    #[inline(always)]
+    pub fn put(&mut self, proc: Proc, now: Tick, at: u32, width: Width, value: u32) -> Option<Stop>
+        requires at { at < 2 ^ 24 }
+        requires early { IsEarly (Some now) }
+        ensures refusal { result ≡ port_refusal proc self.old at width value }
+        ensures next { self.new ≡ unless_stopped (port_refusal proc self.old at width value) self.old (port_written proc now self.old at width value) }
+        ensures schedule { IsOwn (own_of self.old proc) → IsQuiet now (own_of self.old proc) → Goes proc now self.old self.new }
     {
-        if ignores(width, slot.register) {
-            return None;
-        }
-        let kept = self.kept_of(proc, slot.register, slot.number);
-        refusal_of(slot.register, joined(width, slot.byte, kept, value))
-    }
-
-    fn byte_refusal(&self, proc: Proc, at: u32, value: u32) -> Option<Stop>
-        ensures { result ≡ byte_refusal proc self.now at value }
-    {
-        match slot_of(proc, at) {
-            Some(slot) => self.part_refusal(proc, Width::Byte, slot, value),
-            None => None,
-        }
-    }
-
-    fn half_refusal(&self, proc: Proc, at: u32, value: u32) -> Option<Stop>
-        requires { at < 2 ^ 31 }
-        ensures { result ≡ half_refusal proc self.now at value }
-    {
-        match whole_in(Width::Half, slot_of(proc, at)) {
-            Some(slot) => self.part_refusal(proc, Width::Half, slot, value),
-            None => first_stop(
-                self.byte_refusal(proc, at, value),
-                self.byte_refusal(proc, at + 1, value >> 8),
-            ),
-        }
-    }
-
-    fn word_refusal(&self, proc: Proc, at: u32, value: u32) -> Option<Stop>
-        requires { at < 2 ^ 30 }
-        ensures { result ≡ word_refusal proc self.now at value }
-    {
-        match whole_in(Width::Word, slot_of(proc, at)) {
-            Some(slot) => self.part_refusal(proc, Width::Word, slot, value),
-            None => first_stop(
-                self.half_refusal(proc, at, value),
-                self.half_refusal(proc, at + 2, value >> 16),
-            ),
-        }
-    }
-
-    /// The stop for which a processor's write at an offset from 4000000h is refused, if it is: exactly where it would write HALTCNT's modes 1
-    /// or 3, kind HaltMode with the byte written.
-    #[tactic(auto, unfolding(crate::specs::Ports::port_refusal))]
-    pub fn refusal(&self, proc: Proc, at: u32, width: Width, value: u32) -> Option<Stop>
-        requires { at < 2 ^ 24 }
-        ensures { result ≡ port_refusal proc self.now at width value }
-    {
-        match width {
-            Width::Byte => self.byte_refusal(proc, at, value),
-            Width::Half => self.half_refusal(proc, at, value),
-            Width::Word => self.word_refusal(proc, at, value),
-        }
+        self.put_any(proc, now, at, width, value)
     }
 }
 

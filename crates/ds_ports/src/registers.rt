@@ -49,6 +49,29 @@ pub enum Register {
     Postflg,
     /// HALTCNT. (GBATEK, "DS Power Control".)
     Haltcnt,
+    /// DMA0SAD, DMA0DAD, DMA0CNT to those of channel 3, numbers 0 to 11: of each channel its source, its target and its control.
+    /// (GBATEK, "DS DMA Transfers".)
+    DmaSadToCnt,
+    /// DMA0FILL to DMA3FILL, numbers 0 to 3. (The same chapter.)
+    Dmafill,
+    /// ROMCTRL, which both processors share. (GBATEK, "DS Cartridge I/O Ports".)
+    Romctrl,
+    /// DIVCNT. (GBATEK, "DS Maths".)
+    Divcnt,
+    /// DIV_NUMER, numbers 0 and 1: its low and its high word. (The same chapter.)
+    DivNumer,
+    /// DIV_DENOM, the same. (The same chapter.)
+    DivDenom,
+    /// DIV_RESULT, the same. (The same chapter.)
+    DivResult,
+    /// DIVREM_RESULT, the same. (The same chapter.)
+    DivremResult,
+    /// SQRTCNT. (The same chapter.)
+    Sqrtcnt,
+    /// SQRT_RESULT. (The same chapter.)
+    SqrtResult,
+    /// SQRT_PARAM, numbers 0 and 1: its low and its high word. (The same chapter.)
+    SqrtParam,
 }
 
 /// A byte of a register.
@@ -120,8 +143,8 @@ fn dma(at: u32) -> Option<Slot>
     ensures { result ≡ slot_among dma_rows at }
 {
     match at {
-        0x0B0..=0x0DF => in_row(Register::Later, 4, at - 0x0B0), // DMA0SAD, DMA0DAD, DMA0CNT to DMA3SAD, DMA3DAD, DMA3CNT
-        0x0E0..=0x0EF => in_row(Register::Later, 4, at - 0x0E0), // DMA0FILL to DMA3FILL
+        0x0B0..=0x0DF => in_row(Register::DmaSadToCnt, 4, at - 0x0B0), // DMA0SAD, DMA0DAD, DMA0CNT to DMA3SAD, DMA3DAD, DMA3CNT
+        0x0E0..=0x0EF => in_row(Register::Dmafill, 4, at - 0x0E0), // DMA0FILL to DMA3FILL
         _ => None,
     }
 }
@@ -132,13 +155,13 @@ fn timers_and_ipc(at: u32) -> Option<Slot>
     ensures { result ≡ slot_among timer_and_ipc_rows at }
 {
     match at {
-        0x100..=0x10F => in_row(Register::Later, 2, at - 0x100), // TM0CNT_L, TM0CNT_H to TM3CNT_L, TM3CNT_H
+        0x100..=0x10F => in_row(Register::Tmcnt, 2, at - 0x100), // TM0CNT_L, TM0CNT_H to TM3CNT_L, TM3CNT_H
         0x130..=0x131 => in_row(Register::Keyinput, 2, at - 0x130), // KEYINPUT
         0x132..=0x133 => in_row(Register::Keycnt, 2, at - 0x132), // KEYCNT
         0x180..=0x181 => in_row(Register::Ipcsync, 2, at - 0x180), // IPCSYNC
         0x184..=0x185 => in_row(Register::Ipcfifocnt, 2, at - 0x184), // IPCFIFOCNT
         0x188..=0x18B => in_row(Register::Ipcfifosend, 4, at - 0x188), // IPCFIFOSEND
-        0x1A4..=0x1A7 => in_row(Register::Later, 4, at - 0x1A4), // ROMCTRL
+        0x1A4..=0x1A7 => in_row(Register::Romctrl, 4, at - 0x1A4), // ROMCTRL
         _ => None,
     }
 }
@@ -165,14 +188,14 @@ fn maths(at: u32) -> Option<Slot>
     ensures { result ≡ slot_among maths_rows at }
 {
     match at {
-        0x280..=0x283 => in_row(Register::Later, 4, at - 0x280), // DIVCNT
-        0x290..=0x297 => in_row(Register::Later, 4, at - 0x290), // DIV_NUMER, its low and its high word
-        0x298..=0x29F => in_row(Register::Later, 4, at - 0x298), // DIV_DENOM, its low and its high word
-        0x2A0..=0x2A7 => in_row(Register::Later, 4, at - 0x2A0), // DIV_RESULT, its low and its high word
-        0x2A8..=0x2AF => in_row(Register::Later, 4, at - 0x2A8), // DIVREM_RESULT, its low and its high word
-        0x2B0..=0x2B3 => in_row(Register::Later, 4, at - 0x2B0), // SQRTCNT
-        0x2B4..=0x2B7 => in_row(Register::Later, 4, at - 0x2B4), // SQRT_RESULT
-        0x2B8..=0x2BF => in_row(Register::Later, 4, at - 0x2B8), // SQRT_PARAM, its low and its high word
+        0x280..=0x283 => in_row(Register::Divcnt, 4, at - 0x280), // DIVCNT
+        0x290..=0x297 => in_row(Register::DivNumer, 4, at - 0x290), // DIV_NUMER, its low and its high word
+        0x298..=0x29F => in_row(Register::DivDenom, 4, at - 0x298), // DIV_DENOM, its low and its high word
+        0x2A0..=0x2A7 => in_row(Register::DivResult, 4, at - 0x2A0), // DIV_RESULT, its low and its high word
+        0x2A8..=0x2AF => in_row(Register::DivremResult, 4, at - 0x2A8), // DIVREM_RESULT, its low and its high word
+        0x2B0..=0x2B3 => in_row(Register::Sqrtcnt, 4, at - 0x2B0), // SQRTCNT
+        0x2B4..=0x2B7 => in_row(Register::SqrtResult, 4, at - 0x2B4), // SQRT_RESULT
+        0x2B8..=0x2BF => in_row(Register::SqrtParam, 4, at - 0x2B8), // SQRT_PARAM, its low and its high word
         _ => None,
     }
 }
@@ -258,7 +281,7 @@ fn early_of_seven(at: u32) -> Option<Slot>
     match at {
         0x004..=0x005 => in_row(Register::Later, 2, at - 0x004), // DISPSTAT
         0x006..=0x007 => in_row(Register::Later, 2, at - 0x006), // VCOUNT
-        0x0B0..=0x0DF => in_row(Register::Later, 4, at - 0x0B0), // DMA0SAD, DMA0DAD, DMA0CNT to DMA3SAD, DMA3DAD, DMA3CNT
+        0x0B0..=0x0DF => in_row(Register::DmaSadToCnt, 4, at - 0x0B0), // DMA0SAD, DMA0DAD, DMA0CNT to DMA3SAD, DMA3DAD, DMA3CNT
         _ => None,
     }
 }
@@ -269,14 +292,14 @@ fn timers_and_ipc_of_seven(at: u32) -> Option<Slot>
     ensures { result ≡ slot_among seven_timer_and_ipc_rows at }
 {
     match at {
-        0x100..=0x10F => in_row(Register::Later, 2, at - 0x100), // TM0CNT_L, TM0CNT_H to TM3CNT_L, TM3CNT_H
+        0x100..=0x10F => in_row(Register::Tmcnt, 2, at - 0x100), // TM0CNT_L, TM0CNT_H to TM3CNT_L, TM3CNT_H
         0x130..=0x131 => in_row(Register::Keyinput, 2, at - 0x130), // KEYINPUT
         0x132..=0x133 => in_row(Register::Keycnt, 2, at - 0x132), // KEYCNT
         0x136..=0x137 => in_row(Register::Extkeyin, 2, at - 0x136), // EXTKEYIN
         0x180..=0x181 => in_row(Register::Ipcsync, 2, at - 0x180), // IPCSYNC
         0x184..=0x185 => in_row(Register::Ipcfifocnt, 2, at - 0x184), // IPCFIFOCNT
         0x188..=0x18B => in_row(Register::Ipcfifosend, 4, at - 0x188), // IPCFIFOSEND
-        0x1A4..=0x1A7 => in_row(Register::Later, 4, at - 0x1A4), // ROMCTRL
+        0x1A4..=0x1A7 => in_row(Register::Romctrl, 4, at - 0x1A4), // ROMCTRL
         _ => None,
     }
 }

@@ -1,61 +1,83 @@
-//! The units behind the ports, and what each register is.
+//! The units behind the ports, with the first of them that is due.
 
-ghost use Rattle.std.specs.Prelude.{◌≡◌, ◌<◌, ◌%◌, ◌^◌, IfOk, IsSome, Some};
+ghost use Rattle.std.specs.Prelude.{◌≡◌, ◌<◌, ◌^◌, IfOk, IsSome, Some};
 ghost use Rattle.ds_base.specs.Schedules.{IsEarly};
-ghost use Rattle.ds_ipc.specs.Ipcs.{side_of};
+ghost use Rattle.ds_dma.specs.Channels.{unit_of};
+ghost use Rattle.ds_dma.specs.States.{dma_due, due_channel};
+ghost use Rattle.ds_runs.specs.Actors.{IsNumbered};
+ghost use Rattle.ds_runs.specs.Order.{first_from};
 ghost use Rattle.ds_timers.specs.Irqs.{line_is_up, shares_bit};
 ghost use Rattle.ds_timers.specs.Timing.{timer_at, timer_due};
 ghost use Rattle.vram_banks.specs.Cells.{vram_written};
+ghost use Rattle.ds_ports.specs.Dues.{AreUnits, due_behind, dues_behind, first_behind, moves_dues};
+ghost use Rattle.ds_ports.specs.Own.{before_move, is_held};
 ghost use Rattle.ds_ports.specs.RegisterMap.{numbers_of};
-ghost use Rattle.ds_ports.specs.Registers.{bank_set, fifo_control_set, halt_refusal, own_written, register_kept, register_read, register_refusal, register_value, register_written, sync_set, word_received, word_sent};
-ghost use Rattle.ds_ports.specs.Units.{both_raised, keys_pressed, own_of, timer_overflows, units_at_boot, with_halted, with_own};
+ghost use Rattle.ds_ports.specs.Registers.{register_read, register_written};
+ghost use Rattle.ds_ports.specs.Units.{channel_moved, channel_put_back, channels_triggered, division_done, keys_pressed, own_of, root_done, timer_overflows, units_at_boot, with_halted};
 
-use crate::own::{Own, extkeyin, keyinput};
+use crate::behind::Behind;
+use crate::own::Before;
 use crate::registers::Register;
-use ds_base::{LeftKind, Proc, Raised, Space, Stop, Tick, Width};
-use ds_ipc::Ipc;
+use ds_base::{Due, Proc, Space, Tick, Width};
+use ds_dma::{Cause, Unit};
+use ds_runs::Actor;
 use std::alloc::{AllocError, Global};
 use std::marker::Model;
 use vram_banks::Vram;
 
-/// What WRAMCNT keeps at boot: ARM7 has all of the shared work RAM. (Our choice; GBATEK, "DS Memory Control - WRAM".)
-const WRAMCNT_AT_BOOT: u8 = 3;
-
 /// The units that ports reach.
 #[derive(Drop)]
 pub struct Units {
-    vram: Vram,
-    wramcnt: u8,
-    ipc: Ipc,
-    pressed: u16,
-    nine: Own,
-    seven: Own,
+    behind: Behind,
+    due: Option<Due>,
 }
 
 impl Model for Units {
+    ghost use Rattle.std.specs.Prelude.{◌≡◌};
+    ghost use Rattle.ds_ports.specs.Dues.{first_behind};
     ghost use Rattle.ds_ports.specs.Units.{UnitsState};
-    ghost use Rattle.std.specs.Prelude.{◌<◌, ◌^◌};
 
     ghost Value = { UnitsState };
 
-    ghost view = { λ u. record { vram = u.vram; wramcnt = u.wramcnt; ipc = u.ipc; pressed = u.pressed; nine = u.nine; seven = u.seven } };
+    ghost view = { λ u. u.behind };
 
-    ghost invariant = { λ u. (u.wramcnt < 4) × (u.pressed < 2 ^ 12) };
+    ghost invariant = { λ u. u.due ≡ first_behind u.behind };
+}
+
+/// Whether a write of a register may change when something is due.
+#[inline(always)]
+fn moves_dues(register: Register) -> bool
+    ensures { result ≡ moves_dues register }
+{
+    matches!(
+        register,
+        Register::Tmcnt
+            | Register::DmaSadToCnt
+            | Register::Divcnt
+            | Register::DivNumer
+            | Register::DivDenom
+            | Register::Sqrtcnt
+            | Register::SqrtParam
+    )
 }
 
 impl Units {
-    /// The units at boot: no bank of video memory is enabled, all memory is zeros, no key is pressed, and no interrupt is raised.
+    /// The units at boot: no bank of video memory is enabled, all memory is zeros, no key is pressed, nothing is due, and no interrupt is
+    /// raised.
     pub fn new(alloc: Global) -> Result<Units, AllocError>
         ensures { IfOk result (λ units. units ≡ units_at_boot) }
     {
-        Ok(Units {
-            vram: Vram::new(alloc)?,
-            wramcnt: WRAMCNT_AT_BOOT,
-            ipc: Ipc::new(alloc)?,
-            pressed: 0,
-            nine: Own::new(),
-            seven: Own::new(),
-        })
+        let behind = Behind::new(alloc)?;
+        let due = behind.first_due();
+        Ok(Units { behind, due })
+    }
+
+    /// All of them, but for what is kept of their due ticks.
+    #[inline(always)]
+    pub(crate) fn behind(&self) -> &Behind
+        ensures { result.now ≡ self.now }
+    {
+        &self.behind
     }
 
     /// What WRAMCNT keeps.
@@ -64,7 +86,7 @@ impl Units {
         ensures value { result ≡ self.now.wramcnt }
         ensures within { result < 4 }
     {
-        self.wramcnt
+        self.behind.wramcnt()
     }
 
     /// Video memory.
@@ -72,25 +94,15 @@ impl Units {
     pub fn vram(&self) -> &Vram
         ensures { result.now ≡ self.now.vram }
     {
-        &self.vram
+        self.behind.vram()
     }
 
     /// A write of video memory, at an address of one of its spaces.
+    #[tactic(auto, using(crate::proofs::Dues::vram_moves_none))]
     pub fn write_vram(&mut self, space: Space, at: u32, width: Width, value: u32)
         ensures { self.new ≡ record self.old { vram = vram_written self.old.vram space at width value } }
     {
-        self.vram.write(space, at, width, value);
-    }
-
-    /// What a processor has of its own.
-    #[inline(always)]
-    fn own(&self, proc: Proc) -> &Own
-        ensures { result.now ≡ own_of self.now proc }
-    {
-        match proc {
-            Proc::Nine => &self.nine,
-            Proc::Seven => &self.seven,
-        }
+        self.behind.write_vram(space, at, width, value);
     }
 
     /// Whether the interrupt line of a processor is up.
@@ -98,7 +110,7 @@ impl Units {
     pub fn line(&self, proc: Proc) -> bool
         ensures { result ≡ line_is_up (own_of self.now proc).irq }
     {
-        self.own(proc).line()
+        self.behind.own(proc).line()
     }
 
     /// Whether a processor's IE and IF share a bit, so that it wakes where it is halted.
@@ -106,7 +118,7 @@ impl Units {
     pub fn wakes(&self, proc: Proc) -> bool
         ensures { result ≡ shares_bit (own_of self.now proc).irq }
     {
-        self.own(proc).wakes()
+        self.behind.own(proc).wakes()
     }
 
     /// Whether a processor is halted.
@@ -114,26 +126,42 @@ impl Units {
     pub fn is_halted(&self, proc: Proc) -> bool
         ensures { result ≡ (own_of self.now proc).halted }
     {
-        self.own(proc).is_halted()
+        self.behind.own(proc).is_halted()
+    }
+
+    /// Whether a processor isn't due: it is halted, or a DMA channel of it runs.
+    #[inline(always)]
+    pub fn is_held(&self, proc: Proc) -> bool
+        ensures { result ≡ is_held (own_of self.now proc) }
+    {
+        self.behind.own(proc).is_held()
     }
 
     /// Halts a processor, or lets it go on.
     #[inline(always)]
+    #[tactic(auto, using(crate::proofs::Dues::halts_move_none))]
     pub fn set_halted(&mut self, proc: Proc, halted: bool)
         ensures { self.new ≡ with_halted proc self.old halted }
     {
-        match proc {
-            Proc::Nine => self.nine.set_halted(halted),
-            Proc::Seven => self.seven.set_halted(halted),
-        }
+        self.behind.set_halted(proc, halted);
     }
 
-    /// When a processor's timer overflows, if it is due.
-    pub fn timer_due(&self, proc: Proc, which: u8) -> Option<Tick>
-        requires { which < 4 }
-        ensures { result ≡ timer_due (timer_at (own_of self.now proc).timers which) }
+    /// When an actor behind the ports is due, if it is; those that aren't behind them, or aren't built yet, never are.
+    pub fn due_behind(&self, actor: Actor) -> Option<Tick>
+        requires { IsNumbered actor }
+        ensures { result ≡ due_behind actor self.now }
     {
-        self.own(proc).timer_due(which)
+        self.behind.due_behind(actor)
+    }
+
+    /// The first actor behind the ports that is due, by tick and then by rank, if one is. It is kept, and found again only where a timer, a
+    /// DMA channel, the divider or the square root unit changes.
+    #[inline(always)]
+    #[tactic(auto, unfolding(crate::specs::Dues::first_behind))]
+    pub fn first_due(&self) -> Option<Due>
+        ensures { result ≡ first_from 2 (dues_behind self.now) }
+    {
+        self.due
     }
 
     /// A processor's timer overflows, and its interrupts are raised.
@@ -143,151 +171,93 @@ impl Units {
         requires early { IsEarly (timer_due (timer_at (own_of self.old proc).timers which)) }
         ensures { self.new ≡ timer_overflows proc which self.old }
     {
-        match proc {
-            Proc::Nine => self.nine.overflow(which),
-            Proc::Seven => self.seven.overflow(which),
-        }
+        self.behind.overflow(proc, which);
+        self.due = self.behind.first_due();
+    }
+
+    /// The running division is done: its results stand in the registers, and none is due from then on.
+    pub fn finish_division(&mut self)
+        requires { IsSome self.old.divider.due }
+        ensures { self.new ≡ division_done self.old }
+    {
+        self.behind.finish_division();
+        self.due = self.behind.first_due();
+    }
+
+    /// The running square root is done: it stands in its register, and none is due from then on.
+    pub fn finish_root(&mut self)
+        requires { IsSome self.old.root.due }
+        ensures { self.new ≡ root_done self.old }
+    {
+        self.behind.finish_root();
+        self.due = self.behind.first_due();
+    }
+
+    /// An event at a tick triggers the DMA channels of both processors that wait for it.
+    pub fn trigger(&mut self, cause: Cause, now: Tick)
+        requires { IsEarly (Some now) }
+        ensures { self.new ≡ channels_triggered cause now self.old }
+    {
+        self.behind.trigger(cause, now);
+        self.due = self.behind.first_due();
+    }
+
+    /// The unit of a processor's DMA channel that is due: what it reads, and where it writes it.
+    pub fn unit(&self, proc: Proc) -> Unit
+        requires { IsSome (dma_due (own_of self.now proc).dma) }
+        ensures { result ≡ unit_of (due_channel (own_of self.now proc).dma) 0 }
+    {
+        self.behind.own(proc).unit()
+    }
+
+    /// A processor's DMA channel that is due moves its first unit at a tick, but for the access itself: the unit isn't its plan's any more,
+    /// and at its end its interrupt is raised where it is enabled. Gives what `put_back` takes this back by.
+    pub fn move_channel(&mut self, proc: Proc, now: Tick) -> Before
+        requires due { IsSome (dma_due (own_of self.old proc).dma) }
+        requires early { IsEarly (Some now) }
+        ensures state { self.new ≡ channel_moved proc now self.old }
+        ensures before { result ≡ before_move (own_of self.old proc) }
+    {
+        let before = self.behind.move_channel(proc, now);
+        self.due = self.behind.first_due();
+        before
+    }
+
+    /// Takes a channel's move back: the processor's DMA channels and interrupt words are again as they were before it.
+    pub fn put_back(&mut self, proc: Proc, before: Before)
+        ensures { self.new ≡ channel_put_back proc before self.old }
+    {
+        self.behind.put_back(proc, before);
+        self.due = self.behind.first_due();
+    }
+
+    /// Does nothing; its contract states what holds of the units at every time: what holds of each processor's timers and DMA channels.
+    pub fn laws(&self)
+        ensures { AreUnits self.now }
+    {
+        self.behind.laws();
     }
 
     /// From now on these keys are pressed, a bit for each of A, B, Select, Start, Right, Left, Up, Down, R, L, X and Y. Each processor is told
     /// of it where its KEYCNT asks.
+    #[tactic(auto, using(crate::proofs::Dues::keys_move_none))]
     pub fn press(&mut self, pressed: u16)
         requires { pressed < 2 ^ 12 }
         ensures { self.new ≡ keys_pressed self.old pressed }
     {
-        self.pressed = pressed;
-        self.nine.tell_keys(pressed);
-        self.seven.tell_keys(pressed);
-    }
-
-    /// Raises bits of IF at both processors.
-    fn raise(&mut self, raised: Raised)
-        ensures { self.new ≡ both_raised self.old raised }
-    {
-        self.nine.raise(raised.nine);
-        self.seven.raise(raised.seven);
-    }
-
-    /// What a register reads, for a processor at a tick.
-    pub(crate) fn value_of(&self, proc: Proc, now: Tick, register: Register, number: u32) -> u32
-        requires { number < numbers_of register }
-        ensures { result ≡ register_value proc now self.now register number }
-    {
-        match register {
-            Register::Later
-            | Register::VramcntAToG
-            | Register::VramcntHToI
-            | Register::Ipcfifosend
-            | Register::Haltcnt => 0,
-            Register::Tmcnt => self.own(proc).timer(now, number),
-            Register::Keyinput => keyinput(self.pressed),
-            Register::Keycnt => self.own(proc).keycnt(),
-            Register::Extkeyin => extkeyin(self.pressed),
-            Register::Ipcsync => self.ipc.sync_read(proc) as u32,
-            Register::Ipcfifocnt => self.ipc.control_read(proc) as u32,
-            Register::Ipcfiforecv => self.ipc.look(proc),
-            Register::Ime => self.own(proc).ime(),
-            Register::Ie => self.own(proc).ie(),
-            Register::If => self.own(proc).flags(),
-            Register::Wramcnt | Register::Wramstat => self.wramcnt as u32,
-            Register::Vramstat => self.vram.allotted7() as u32,
-            Register::Postflg => 1,
-        }
+        self.behind.press(pressed);
     }
 
     /// What a read of a whole register leaves.
+    #[tactic(auto, using(crate::proofs::Dues::reads_move_none))]
     pub(crate) fn read_register(&mut self, proc: Proc, register: Register)
         ensures { self.new ≡ register_read proc self.old register }
     {
-        if register == Register::Ipcfiforecv {
-            self.take_word(proc);
-        }
-    }
-
-    /// Takes the word that a processor receives.
-    fn take_word(&mut self, proc: Proc)
-        ensures { self.new ≡ word_received proc self.old }
-    {
-        let got = self.ipc.receive(proc);
-        self.raise(got.raised);
-    }
-
-    /// The bits that a write of some of a register's bytes leaves as they are in the others.
-    pub(crate) fn kept_of(&self, proc: Proc, register: Register, number: u32) -> u32
-        requires { number < numbers_of register }
-        ensures { result ≡ register_kept proc self.now register number }
-    {
-        match register {
-            Register::Tmcnt => self.own(proc).timer_kept(number),
-            Register::Keycnt => self.own(proc).keycnt(),
-            Register::Ipcsync => self.ipc.sync_kept(proc) as u32,
-            Register::Ipcfifocnt => self.ipc.control_kept(proc) as u32,
-            Register::Ime => self.own(proc).ime(),
-            Register::Ie => self.own(proc).ie(),
-            Register::Wramcnt => self.wramcnt as u32,
-            Register::Later
-            | Register::Keyinput
-            | Register::Extkeyin
-            | Register::Ipcfifosend
-            | Register::Ipcfiforecv
-            | Register::If
-            | Register::VramcntAToG
-            | Register::VramcntHToI
-            | Register::Vramstat
-            | Register::Wramstat
-            | Register::Postflg
-            | Register::Haltcnt => 0,
-        }
-    }
-
-    /// A write of a bank's control.
-    fn set_bank(&mut self, bank: u32, value: u32)
-        requires { bank < 9 }
-        ensures { self.new ≡ bank_set self.old bank (value % 2 ^ 8) }
-    {
-        self.vram.set_control(bank as u8, (value % 0x100) as u8);
-    }
-
-    /// A write of IPCSYNC.
-    fn set_sync(&mut self, proc: Proc, value: u32)
-        ensures { self.new ≡ sync_set proc self.old (value % 2 ^ 16) }
-    {
-        let raised = self.ipc.sync_write(proc, (value % 0x1_0000) as u16);
-        self.raise(raised);
-    }
-
-    /// A write of IPCFIFOCNT.
-    fn set_fifo_control(&mut self, proc: Proc, value: u32)
-        ensures { self.new ≡ fifo_control_set proc self.old (value % 2 ^ 16) }
-    {
-        let raised = self.ipc.control_write(proc, (value % 0x1_0000) as u16);
-        self.raise(raised);
-    }
-
-    /// A write of IPCFIFOSEND.
-    fn send(&mut self, proc: Proc, word: u32)
-        ensures { self.new ≡ word_sent proc self.old word }
-    {
-        let raised = self.ipc.send(proc, word);
-        self.raise(raised);
-    }
-
-    /// A write of a register of a processor's own.
-    fn write_own(&mut self, proc: Proc, now: Tick, register: Register, number: u32, value: u32)
-        requires number { number < numbers_of register }
-        requires early { IsEarly (Some now) }
-        ensures { self.new ≡ with_own proc self.old (own_written proc now self.old.pressed (own_of self.old proc) register number value) }
-    {
-        let pressed = self.pressed;
-        match proc {
-            Proc::Nine => self.nine.write(proc, pressed, now, register, number, value),
-            Proc::Seven => self
-                .seven
-                .write(proc, pressed, now, register, number, value),
-        }
+        self.behind.read_register(proc, register);
     }
 
     /// A write of all bytes of a register, for a processor at a tick.
+    #[tactic(auto, using(crate::proofs::Dues::writes_move_none))]
     pub(crate) fn write_register(
         &mut self,
         proc: Proc,
@@ -300,51 +270,10 @@ impl Units {
         requires early { IsEarly (Some now) }
         ensures { self.new ≡ register_written proc now self.old register number value }
     {
-        match register {
-            Register::Ipcsync => self.set_sync(proc, value),
-            Register::Ipcfifocnt => self.set_fifo_control(proc, value),
-            Register::Ipcfifosend => self.send(proc, value),
-            Register::VramcntAToG => self.set_bank(number, value),
-            Register::VramcntHToI => self.set_bank(7 + number, value),
-            Register::Wramcnt => self.wramcnt = (value % 4) as u8,
-            Register::Tmcnt
-            | Register::Keycnt
-            | Register::Ime
-            | Register::Ie
-            | Register::If
-            | Register::Haltcnt => self.write_own(proc, now, register, number, value),
-            Register::Later
-            | Register::Keyinput
-            | Register::Extkeyin
-            | Register::Ipcfiforecv
-            | Register::Vramstat
-            | Register::Wramstat
-            | Register::Postflg => {}
+        self.behind
+            .write_register(proc, now, register, number, value);
+        if moves_dues(register) {
+            self.due = self.behind.first_due();
         }
     }
-}
-
-/// The stop for which a write of HALTCNT is refused.
-fn halt_refusal(value: u32) -> Option<Stop>
-    requires { value < 2 ^ 8 }
-    ensures { result ≡ halt_refusal value }
-{
-    let mode = value >> 6;
-    if mode == 1 || mode == 3 {
-        return Some(Stop {
-            kind: LeftKind::HaltMode,
-            value,
-        });
-    }
-    None
-}
-
-/// The stop for which a write of all bytes of a register is refused.
-pub(crate) fn refusal_of(register: Register, value: u32) -> Option<Stop>
-    ensures { result ≡ register_refusal register value }
-{
-    if register == Register::Haltcnt {
-        return halt_refusal(value % 0x100);
-    }
-    None
 }

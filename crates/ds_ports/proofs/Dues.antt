@@ -1,0 +1,189 @@
+use Rattle.std.proofs.Common.{ℕ, suc, ◌≡◌, ◌+◌, ◌%◌, ◌^◌, ◌==◌, Bool, true, false, if◌then◌else◌, List, [], ◌∷◌, ◌++◌, Option, Some, None, is_some, refl, ◌∙◌, ap, arith, slice_set, bit_and}
+use Rattle.ds_base.specs.Bits.{bits}
+use Rattle.ds_base.specs.declared.processors.Proc.{Proc}
+use Rattle.ds_base.specs.declared.processors.Proc.TheVariants.{Nine, Seven}
+use Rattle.ds_base.specs.declared.ticks.Due.{Due}
+use Rattle.ds_base.specs.declared.ticks.Tick.{Tick}
+use Rattle.ds_dma.specs.Channels.{ready}
+use Rattle.ds_dma.specs.States.{DmaState, channel_at, channel_due, dma_due, due_with}
+use Rattle.ds_dma.specs.declared.dma.DmaDue.{DmaDue}
+use Rattle.ds_runs.specs.Order.{due_with_rank, earlier, first_from}
+use Rattle.ds_runs.proofs.Firsts.{first_of_append}
+use Rattle.ds_timers.specs.Timing.{timer_at, timer_due}
+use Rattle.ds_ports.specs.Dues.{first_behind, moves_dues}
+use Rattle.ds_ports.specs.Own.{OwnState, haltcnt_written, keycnt_written, kept_keycnt, keys_hold, keys_told}
+use Rattle.ds_ports.specs.Registers.{bank_set, fifo_control_set, ie_set, if_set, ime_set, kept_of_romctrl, register_read, register_written, sync_set, word_sent}
+use Rattle.ds_ports.specs.Units.{UnitsState, keys_pressed, own_of, with_halted, with_own}
+use Rattle.ds_ports.specs.declared.registers.Register.{Register}
+use Rattle.ds_ports.specs.declared.registers.Register.TheVariants.{Later, Tmcnt, Keyinput, Keycnt, Extkeyin, Ipcsync, Ipcfifocnt, Ipcfifosend, Ipcfiforecv, Ime, Ie, If, VramcntAToG, VramcntHToI, Wramcnt, Vramstat, Wramstat, Postflg, Haltcnt, DmaSadToCnt, Dmafill, Romctrl, Divcnt, DivNumer, DivDenom, DivResult, DivremResult, Sqrtcnt, SqrtResult, SqrtParam}
+use Rattle.vram_banks.specs.Cells.{Banks}
+
+-- The first of what is due behind the ports: how it is found, and what leaves it as it is.
+
+-- ---- a processor's channels, of which one is due
+
+abbrev ranked : ℕ → Option DmaDue → Option Due
+ranked rank None = None
+ranked rank (Some due) = Some (record { tick = due.tick; rank = rank + due.channel })
+
+abbrev of_number : ℕ → Option DmaDue → Option Tick
+of_number which None = None
+of_number which (Some due) = if due.channel == which then Some due.tick else None
+
+at_first : (rank : ℕ) (d : Option Tick) → first_from rank (d ∷ None ∷ None ∷ None ∷ []) ≡ ranked rank (due_with 0 d)
+at_first rank None = refl
+at_first rank (Some t) = (let e : rank ≡ rank + 0 = omega arith in ap (λ (r : ℕ). due_with_rank r (Some t)) e)
+
+at_second : (rank : ℕ) (d : Option Tick) → first_from rank (None ∷ d ∷ None ∷ None ∷ []) ≡ ranked rank (due_with 1 d)
+at_second rank None = refl
+at_second rank (Some t) = (let e : suc rank ≡ rank + 1 = omega arith in ap (λ (r : ℕ). due_with_rank r (Some t)) e)
+
+at_third : (rank : ℕ) (d : Option Tick) → first_from rank (None ∷ None ∷ d ∷ None ∷ []) ≡ ranked rank (due_with 2 d)
+at_third rank None = refl
+at_third rank (Some t) = (let e : suc (suc rank) ≡ rank + 2 = omega arith in ap (λ (r : ℕ). due_with_rank r (Some t)) e)
+
+at_fourth : (rank : ℕ) (d : Option Tick) → first_from rank (None ∷ None ∷ None ∷ d ∷ []) ≡ ranked rank (due_with 3 d)
+at_fourth rank None = refl
+at_fourth rank (Some t) = (let e : suc (suc (suc rank)) ≡ rank + 3 = omega arith in ap (λ (r : ℕ). due_with_rank r (Some t)) e)
+
+abbrev only : ℕ → (ℕ → Option Tick) → ℕ → Option Tick
+only least f which = if which == least then f which else None
+
+at_least : (rank : ℕ) (f : ℕ → Option Tick) (a b c : Bool)
+    → (let least : ℕ = if a then 0 else (if b then 1 else (if c then 2 else 3)) in
+    first_from rank (only least f 0 ∷ only least f 1 ∷ only least f 2 ∷ only least f 3 ∷ []) ≡ ranked rank (due_with least (f least)))
+at_least rank f true b c = at_first rank (f 0)
+at_least rank f false true c = at_second rank (f 1)
+at_least rank f false false true = at_third rank (f 2)
+at_least rank f false false false = at_fourth rank (f 3)
+
+pub first_channel : (rank : ℕ) (s : DmaState) → first_from rank (channel_due s 0 ∷ channel_due s 1 ∷ channel_due s 2 ∷ channel_due s 3 ∷ []) ≡ ranked rank (dma_due s)
+first_channel rank s =
+    at_least rank (λ which. ready s.last (channel_at s.channels which)) (is_some (channel_at s.channels 0).trigger) (is_some (channel_at s.channels 1).trigger)
+    (is_some (channel_at s.channels 2).trigger)
+
+-- ---- the first of all
+
+pub first_by_parts : (u : UnitsState) → first_behind u
+    ≡ earlier (first_from 2 (timer_due (timer_at u.nine.timers 0) ∷ timer_due (timer_at u.nine.timers 1) ∷ timer_due (timer_at u.nine.timers 2) ∷ timer_due (timer_at u.nine.timers 3) ∷ []))
+    (earlier (first_from 6 (timer_due (timer_at u.seven.timers 0) ∷ timer_due (timer_at u.seven.timers 1) ∷ timer_due (timer_at u.seven.timers 2) ∷ timer_due (timer_at u.seven.timers 3) ∷ []))
+    (earlier (due_with_rank 10 u.divider.due)
+    (earlier (due_with_rank 11 u.root.due)
+    (earlier (first_from 14 (channel_due u.nine.dma 0 ∷ channel_due u.nine.dma 1 ∷ channel_due u.nine.dma 2 ∷ channel_due u.nine.dma 3 ∷ []))
+    (first_from 18 (channel_due u.seven.dma 0 ∷ channel_due u.seven.dma 1 ∷ channel_due u.seven.dma 2 ∷ channel_due u.seven.dma 3 ∷ []))))))
+unfolding first_behind
+first_by_parts u =
+    let n : List (Option Tick) = timer_due (timer_at u.nine.timers 0) ∷ timer_due (timer_at u.nine.timers 1) ∷ timer_due (timer_at u.nine.timers 2) ∷ timer_due (timer_at u.nine.timers 3) ∷ [] in
+    let s : List (Option Tick) = timer_due (timer_at u.seven.timers 0) ∷ timer_due (timer_at u.seven.timers 1) ∷ timer_due (timer_at u.seven.timers 2) ∷ timer_due (timer_at u.seven.timers 3) ∷ [] in
+    let nd : List (Option Tick) = channel_due u.nine.dma 0 ∷ channel_due u.nine.dma 1 ∷ channel_due u.nine.dma 2 ∷ channel_due u.nine.dma 3 ∷ [] in
+    let sd : List (Option Tick) = channel_due u.seven.dma 0 ∷ channel_due u.seven.dma 1 ∷ channel_due u.seven.dma 2 ∷ channel_due u.seven.dma 3 ∷ [] in
+    let maths : List (Option Tick) = u.divider.due ∷ u.root.due ∷ None ∷ None ∷ nd ++ sd in
+    first_of_append 2 n (s ++ maths)
+    ∙ ap (λ (d : Option Due). earlier (first_from 2 n) d) (first_of_append 6 s maths)
+    ∙ ap (λ (d : Option Due). earlier (first_from 2 n) (earlier (first_from 6 s) (earlier (due_with_rank 10 u.divider.due) (earlier (due_with_rank 11 u.root.due) d)))) (first_of_append 14 nd sd)
+
+-- ---- what leaves it
+
+same : (u v : UnitsState) → v.nine.timers ≡ u.nine.timers → v.nine.dma ≡ u.nine.dma → v.seven.timers ≡ u.seven.timers → v.seven.dma ≡ u.seven.dma
+    → v.divider ≡ u.divider → v.root ≡ u.root → first_behind v ≡ first_behind u
+unfolding first_behind
+same u v a b c d e f = rw (a, b, c, d, e, f) refl
+
+-- of a processor's own the timers and the channels stay
+abbrev IsStill : OwnState → OwnState → Type 0
+IsStill old new = (new.timers ≡ old.timers) × (new.dma ≡ old.dma)
+
+told_still : (own : OwnState) (pressed : ℕ) → IsStill own (keys_told own pressed)
+told_still own pressed = go (keys_hold own.keycnt pressed) refl where
+  go : (b : Bool) → keys_hold own.keycnt pressed ≡ b → IsStill own (keys_told own pressed)
+  go true e = rw e (refl, refl)
+  go false e = rw e (refl, refl)
+
+still : (proc : Proc) (u : UnitsState) (own : OwnState) → IsStill (own_of u proc) own → first_behind (with_own proc u own) ≡ first_behind u
+still Nine u own h = same u (with_own Nine u own) h.0 h.1 refl refl refl refl
+still Seven u own h = same u (with_own Seven u own) refl refl h.0 h.1 refl refl
+
+pub vram_moves_none : (u : UnitsState) (vram : Banks) → first_behind (record u { vram = vram }) ≡ first_behind u
+unfolding first_behind
+vram_moves_none u vram = refl
+
+pub halts_move_none : (proc : Proc) (u : UnitsState) (halted : Bool) → first_behind (with_halted proc u halted) ≡ first_behind u
+halts_move_none proc u halted = still proc u (record (own_of u proc) { halted = halted }) (refl, refl)
+
+pub keys_move_none : (u : UnitsState) (pressed : ℕ) → first_behind (keys_pressed u pressed) ≡ first_behind u
+keys_move_none u pressed =
+    let n = told_still u.nine pressed in
+    let s = told_still u.seven pressed in
+    same u (keys_pressed u pressed) n.0 n.1 s.0 s.1 refl refl
+
+pub reads_move_none : (proc : Proc) (u : UnitsState) (register : Register) → first_behind (register_read proc u register) ≡ first_behind u
+unfolding first_behind
+reads_move_none proc u Later = refl
+reads_move_none proc u Tmcnt = refl
+reads_move_none proc u Keyinput = refl
+reads_move_none proc u Keycnt = refl
+reads_move_none proc u Extkeyin = refl
+reads_move_none proc u Ipcsync = refl
+reads_move_none proc u Ipcfifocnt = refl
+reads_move_none proc u Ipcfifosend = refl
+reads_move_none proc u Ipcfiforecv = refl
+reads_move_none proc u Ime = refl
+reads_move_none proc u Ie = refl
+reads_move_none proc u If = refl
+reads_move_none proc u VramcntAToG = refl
+reads_move_none proc u VramcntHToI = refl
+reads_move_none proc u Wramcnt = refl
+reads_move_none proc u Vramstat = refl
+reads_move_none proc u Wramstat = refl
+reads_move_none proc u Postflg = refl
+reads_move_none proc u Haltcnt = refl
+reads_move_none proc u DmaSadToCnt = refl
+reads_move_none proc u Dmafill = refl
+reads_move_none proc u Romctrl = refl
+reads_move_none proc u Divcnt = refl
+reads_move_none proc u DivNumer = refl
+reads_move_none proc u DivDenom = refl
+reads_move_none proc u DivResult = refl
+reads_move_none proc u DivremResult = refl
+reads_move_none proc u Sqrtcnt = refl
+reads_move_none proc u SqrtResult = refl
+reads_move_none proc u SqrtParam = refl
+
+halt_still : (own : OwnState) (value : ℕ) → IsStill own (haltcnt_written own value)
+halt_still own value = go (bits 6 2 value == 2) refl where
+  go : (b : Bool) → (bits 6 2 value == 2) ≡ b → IsStill own (haltcnt_written own value)
+  go true e = rw e (refl, refl)
+  go false e = rw e (refl, refl)
+
+pub writes_move_none : (proc : Proc) (now : Tick) (u : UnitsState) (register : Register) (number value : ℕ) → moves_dues register ≡ false
+    → first_behind (register_written proc now u register number value) ≡ first_behind u
+writes_move_none proc now u Later number value h = refl
+writes_move_none proc now u Tmcnt number value h = absurd (grind (arith, h))
+writes_move_none proc now u Keyinput number value h = refl
+writes_move_none proc now u Keycnt number value h = still proc u (keycnt_written (own_of u proc) u.pressed (value % 2 ^ 16)) (told_still (record (own_of u proc) { keycnt = kept_keycnt (value % 2 ^ 16) }) u.pressed)
+writes_move_none proc now u Extkeyin number value h = refl
+writes_move_none proc now u Ipcsync number value h = same u (sync_set proc u (value % 2 ^ 16)) refl refl refl refl refl refl
+writes_move_none proc now u Ipcfifocnt number value h = same u (fifo_control_set proc u (value % 2 ^ 16)) refl refl refl refl refl refl
+writes_move_none proc now u Ipcfifosend number value h = same u (word_sent proc u value) refl refl refl refl refl refl
+writes_move_none proc now u Ipcfiforecv number value h = refl
+writes_move_none proc now u Ime number value h = still proc u (ime_set (own_of u proc) value) (refl, refl)
+writes_move_none proc now u Ie number value h = still proc u (ie_set proc (own_of u proc) value) (refl, refl)
+writes_move_none proc now u If number value h = still proc u (if_set (own_of u proc) value) (refl, refl)
+writes_move_none proc now u VramcntAToG number value h = same u (bank_set u number (value % 2 ^ 8)) refl refl refl refl refl refl
+writes_move_none proc now u VramcntHToI number value h = same u (bank_set u (7 + number) (value % 2 ^ 8)) refl refl refl refl refl refl
+writes_move_none proc now u Wramcnt number value h = same u (record u { wramcnt = value % 2 ^ 2 }) refl refl refl refl refl refl
+writes_move_none proc now u Vramstat number value h = refl
+writes_move_none proc now u Wramstat number value h = refl
+writes_move_none proc now u Postflg number value h = refl
+writes_move_none proc now u Haltcnt number value h = still proc u (haltcnt_written (own_of u proc) (value % 2 ^ 8)) (halt_still (own_of u proc) (value % 2 ^ 8))
+writes_move_none proc now u DmaSadToCnt number value h = absurd (grind (arith, h))
+writes_move_none proc now u Dmafill number value h = same u (record u { fill = slice_set u.fill number value }) refl refl refl refl refl refl
+writes_move_none proc now u Romctrl number value h = same u (record u { romctrl = bit_and value kept_of_romctrl }) refl refl refl refl refl refl
+writes_move_none proc now u Divcnt number value h = absurd (grind (arith, h))
+writes_move_none proc now u DivNumer number value h = absurd (grind (arith, h))
+writes_move_none proc now u DivDenom number value h = absurd (grind (arith, h))
+writes_move_none proc now u DivResult number value h = refl
+writes_move_none proc now u DivremResult number value h = refl
+writes_move_none proc now u Sqrtcnt number value h = absurd (grind (arith, h))
+writes_move_none proc now u SqrtResult number value h = refl
+writes_move_none proc now u SqrtParam number value h = absurd (grind (arith, h))

@@ -1,0 +1,572 @@
+use Rattle.std.proofs.Common.{ℕ, ◌≡◌, ◌<◌, ◌+◌, ◌/◌, ◌%◌, ◌^◌, inl, inr, Bool, true, false, if◌then◌else◌, List, Option, Some, None, refl, sym, ◌∙◌, ap, subst, arith}
+use Rattle.std.specs.Prelude.{◌==◌, IfSome, IsSome}
+use Rattle.ds_base.specs.Bits.{bits}
+use Rattle.ds_base.specs.Schedules.{IsLater, Reschedules}
+use Rattle.ds_base.specs.declared.left_out.Stop.{Stop}
+use Rattle.ds_base.specs.declared.memories.Width.{Width}
+use Rattle.ds_base.specs.declared.memories.Width.TheVariants.{Byte, Half, Word}
+use Rattle.ds_base.specs.declared.processors.Proc.{Proc}
+use Rattle.ds_base.specs.declared.processors.Proc.TheVariants.{Nine, Seven}
+use Rattle.ds_base.specs.declared.processors.Raised.{Raised}
+use Rattle.ds_base.specs.declared.ticks.Tick.{Tick}
+use Rattle.ds_dma.specs.States.{AreReadyLater, DmaState, IsDma, any_runs, channel_due, dma_due, dma_finished}
+use Rattle.ds_dma.specs.declared.controls.Cause.{Cause}
+use Rattle.ds_dma.proofs.Turns.{all_later, event_schedules, finished_later}
+use Rattle.ds_dma.proofs.Wholes.{channel_written_is, channel_written_later, dma_finished_is, dma_triggered_is, event_runs}
+use Rattle.ds_ipc.specs.Ipcs.{IpcState, across}
+use Rattle.ds_math.specs.Dividers.{division_ticks}
+use Rattle.ds_runs.specs.Actors.{IsNumbered}
+use Rattle.ds_runs.specs.declared.actors.Actor as actor
+use Rattle.ds_runs.specs.declared.actors.Actor.TheVariants.{KeyScript, Video, Timer, Divider, SquareRoot, Geometry, Card, Dma, Processor}
+use Rattle.ds_timers.specs.Timing.{TimerState, AreTimers, control_set, kept_control, overflow_of, reload_set, timer_at, timer_due}
+use Rattle.ds_timers.proofs.Changed.{control_schedules, control_set_is, reload_leaves, reload_set_is}
+use Rattle.ds_timers.proofs.Four.{one_reschedules}
+use Rattle.ds_timers.proofs.Overflowed.{overflow_keeps, overflow_schedules}
+use Rattle.ds_ports.specs.Dues.{AreUnits, Goes, IsLeft, IsOwn, IsQuiet, due_behind}
+use Rattle.ds_ports.specs.Own.{OwnState, dma_port, dma_written, haltcnt_written, is_control, kept_keycnt, keycnt_written, keys_hold, keys_told, own_moved, own_raised, own_triggered, timer_written}
+use Rattle.ds_ports.specs.Ports.{byte_written, half_written, ignores, port_read, port_refusal, port_written, read_left, slot_joined, slot_written, unless_stopped, whole_if, whole_in, word_written, written_or}
+use Rattle.ds_ports.specs.RegisterMap.{IsSlot, numbers_of, slot_of}
+use Rattle.ds_ports.specs.Registers.{register_read, register_written}
+use Rattle.ds_ports.specs.Units.{UnitsState, both_raised, channel_moved, channels_triggered, division_done, keys_pressed, own_of, root_done, timer_overflows, with_own}
+use Rattle.ds_ports.specs.declared.registers.Register.{Register}
+use Rattle.ds_ports.specs.declared.registers.Register.TheVariants.{Later, Tmcnt, Keyinput, Keycnt, Extkeyin, Ipcsync, Ipcfifocnt, Ipcfifosend, Ipcfiforecv, Ime, Ie, If, VramcntAToG, VramcntHToI, Wramcnt, Vramstat, Wramstat, Postflg, Haltcnt, DmaSadToCnt, Dmafill, Romctrl, Divcnt, DivNumer, DivDenom, DivResult, DivremResult, Sqrtcnt, SqrtResult, SqrtParam}
+use Rattle.ds_ports.specs.declared.registers.Slot.{Slot}
+use Rattle.ds_ports.proofs.RegisterMaps.{some_slot}
+
+-- Accesses make no due tick earlier, and leave each at its tick or later.
+
+either : {A : Type 0} (P : A → Type 0) (b : Bool) (x y : A) → P x → P y → P (if b then x else y)
+either P true x y h k = h
+either P false x y h k = k
+
+-- a due tick that is as it was, or later than a tick, is later where it was
+pub still_later : (now : Tick) (old new : Option Tick) → IsLater now old → Reschedules now old new → IsLater now new
+still_later now old new h (inl e) = subst (IsLater now) (sym e) h
+still_later now old new h (inr l) = l
+
+-- and what is due so in turn
+pub in_turn : (now : Tick) (a b c : Option Tick) → Reschedules now a b → Reschedules now b c → Reschedules now a c
+in_turn now a b c h (inl e) = subst (Reschedules now a) (sym e) h
+in_turn now a b c h (inr l) = inr l
+
+-- ---- a processor's own
+
+abbrev AreLater : Tick → List TimerState → Type 0
+AreLater now timers = (which : ℕ) → which < 4 → IsLater now (timer_due (timer_at timers which))
+
+-- what accesses of the processor at a tick keep
+abbrev Stands : Tick → OwnState → Type 0
+Stands now own = IsOwn own × IsQuiet now own
+
+-- nothing changed
+left_same : (own : OwnState) → IsLeft own own
+left_same own = record { timers = refl; keycnt = refl; halted = refl; dma = refl }
+
+-- its timers and channels alone count
+alike : (now : Tick) (a b : OwnState) → b.timers ≡ a.timers → b.dma ≡ a.dma → Stands now a → Stands now b
+alike now a b e f s = (
+  record { timers = subst AreTimers (sym e) s.0.timers; dma = subst IsDma (sym f) s.0.dma },
+  record { timers = subst (AreLater now) (sym e) s.1.timers; dma = subst (AreReadyLater now) (sym f) s.1.dma },
+)
+
+control_stands : (timers : List TimerState) (which value : ℕ) (now : Tick) → AreTimers timers → AreLater now timers → which < 4
+    → AreTimers (control_set timers which value now) × AreLater now (control_set timers which value now)
+control_stands timers which value now is later l =
+    let one = control_schedules timers which (kept_control value) now is l (later which l) in (
+      control_set_is timers which value now is l,
+      λ n m. still_later now (timer_due (timer_at timers n)) (timer_due (timer_at (control_set timers which value now) n)) (later n m)
+          (one_reschedules which now timers (control_set timers which value now) one n m),
+    )
+
+reload_stands : (timers : List TimerState) (which value : ℕ) (now : Tick) → AreTimers timers → AreLater now timers → which < 4 → value < 2 ^ 16
+    → AreTimers (reload_set timers which value) × AreLater now (reload_set timers which value)
+reload_stands timers which value now is later l small = (
+  reload_set_is timers which value is l small,
+  λ n m. still_later now (timer_due (timer_at timers n)) (timer_due (timer_at (reload_set timers which value) n)) (later n m)
+      (reload_leaves timers which value now is l n m),
+)
+
+timer_stands : (own : OwnState) (now : Tick) (number value : ℕ) → Stands now own → number < 8 → Stands now (timer_written own now number value)
+timer_stands own now number value s l =
+    let which : number / 2 < 4 = omega (arith, l) in
+    let small : value % 2 ^ 16 < 2 ^ 16 = omega arith in
+    let P : List TimerState → Type 0 = λ ts. AreTimers ts × AreLater now ts in
+    let new = either P (is_control number) (control_set own.timers (number / 2) (value % 2 ^ 16) now) (reload_set own.timers (number / 2) (value % 2 ^ 16))
+    (control_stands own.timers (number / 2) (value % 2 ^ 16) now s.0.timers s.1.timers which)
+    (reload_stands own.timers (number / 2) (value % 2 ^ 16) now s.0.timers s.1.timers which small) in
+    (record { timers = new.0; dma = s.0.dma }, record { timers = new.1; dma = s.1.dma })
+
+dma_stands : (own : OwnState) (now : Tick) (number value : ℕ) → Stands now own → number < 12 → Stands now (dma_written own now number value)
+dma_stands own now number value s l =
+    let which : number / 3 < 4 = omega (arith, l) in (
+      record { timers = s.0.timers; dma = channel_written_is own.dma (number / 3) (dma_port number) value now s.0.dma which },
+      record { timers = s.1.timers; dma = channel_written_later own.dma (number / 3) (dma_port number) value now s.0.dma which s.1.dma },
+    )
+
+-- a change of the keys raises an interrupt at most
+pub told_left : (own : OwnState) (pressed : ℕ) → IsLeft own (keys_told own pressed)
+told_left own pressed =
+    either (IsLeft own) (keys_hold own.keycnt pressed) _ _ (record { timers = refl; keycnt = refl; halted = refl; dma = refl }) (left_same own)
+
+keycnt_stands : (own : OwnState) (now : Tick) (pressed value : ℕ) → Stands now own → Stands now (keycnt_written own pressed value)
+keycnt_stands own now pressed value s =
+    let left = told_left (record own { keycnt = kept_keycnt value }) pressed in
+    alike now own (keycnt_written own pressed value) left.timers left.dma s
+
+haltcnt_stands : (own : OwnState) (now : Tick) (value : ℕ) → Stands now own → Stands now (haltcnt_written own value)
+haltcnt_stands own now value s =
+    either (Stands now) (bits 6 2 value == 2) _ _ (alike now own (record own { halted = true }) refl refl s) s
+
+-- ---- all units
+
+-- it is enough that the processor's own stands
+goes_of : (proc : Proc) (now : Tick) (old new : UnitsState) → Stands now (own_of new proc)
+    → Reschedules now old.divider.due new.divider.due → Reschedules now old.root.due new.root.due
+    → IsLeft (own_of old (across proc)) (own_of new (across proc)) → Goes proc now old new
+goes_of proc now old new s d r left = record {
+  is = s.0;
+  quiet = s.1;
+  timers = λ which l. inr (s.1.timers which l);
+  divider = d;
+  root = r;
+  dma = λ which l. all_later now (own_of new proc).dma (channel_due (own_of old proc).dma which) s.1.dma which l;
+  other = left;
+}
+
+pub goes_nowhere : (proc : Proc) (now : Tick) (u : UnitsState) → IsOwn (own_of u proc) → IsQuiet now (own_of u proc) → Goes proc now u u
+goes_nowhere proc now u is quiet = goes_of proc now u u (is, quiet) (inl refl) (inl refl) (left_same (own_of u (across proc)))
+
+pub goes_on : (proc : Proc) (now : Tick) (a b c : UnitsState) → Goes proc now a b → Goes proc now b c → Goes proc now a c
+goes_on proc now a b c g h =
+    goes_of proc now a c (h.is, h.quiet)
+    (in_turn now a.divider.due b.divider.due c.divider.due g.divider h.divider)
+    (in_turn now a.root.due b.root.due c.root.due g.root h.root)
+    (record {
+      timers = h.other.timers ∙ g.other.timers;
+      keycnt = h.other.keycnt ∙ g.other.keycnt;
+      halted = h.other.halted ∙ g.other.halted;
+      dma = h.other.dma ∙ g.other.dma;
+    })
+
+-- what changes the processor's own alone
+own_goes : (proc : Proc) (now : Tick) (u : UnitsState) (own : OwnState) → Stands now own → Goes proc now u (with_own proc u own)
+own_goes Nine now u own s = goes_of Nine now u (with_own Nine u own) s (inl refl) (inl refl) (left_same u.seven)
+own_goes Seven now u own s = goes_of Seven now u (with_own Seven u own) s (inl refl) (inl refl) (left_same u.nine)
+
+-- what raises interrupts at both
+raised_left : (own : OwnState) (raised : ℕ) → IsLeft own (own_raised own raised)
+raised_left own raised = record { timers = refl; keycnt = refl; halted = refl; dma = refl }
+
+raised_goes : (proc : Proc) (now : Tick) (u : UnitsState) (ipc_after : IpcState) (raised : Raised) → Stands now (own_of u proc)
+    → Goes proc now u (both_raised (record u { ipc = ipc_after }) raised)
+raised_goes Nine now u ipc_after raised s =
+    goes_of Nine now u (both_raised (record u { ipc = ipc_after }) raised) (alike now u.nine (own_raised u.nine raised.nine) refl refl s)
+    (inl refl) (inl refl) (raised_left u.seven raised.seven)
+raised_goes Seven now u ipc_after raised s =
+    goes_of Seven now u (both_raised (record u { ipc = ipc_after }) raised) (alike now u.seven (own_raised u.seven raised.seven) refl refl s)
+    (inl refl) (inl refl) (raised_left u.nine raised.nine)
+
+-- what changes neither's own
+shared_goes : (proc : Proc) (now : Tick) (u new : UnitsState) → new.nine ≡ u.nine → new.seven ≡ u.seven → Stands now (own_of u proc)
+    → Reschedules now u.divider.due new.divider.due → Reschedules now u.root.due new.root.due → Goes proc now u new
+shared_goes Nine now u new e f s d r =
+    goes_of Nine now u new (subst (Stands now) (sym e) s) d r (subst (IsLeft u.seven) (sym f) (left_same u.seven))
+shared_goes Seven now u new e f s d r =
+    goes_of Seven now u new (subst (Stands now) (sym f) s) d r (subst (IsLeft u.nine) (sym e) (left_same u.nine))
+
+division_later : (now : Tick) (mode : ℕ) → now.0 < now.0 + division_ticks mode
+division_later now mode = either (λ n. now.0 < now.0 + n) (mode == 0) 36 68 (omega arith) (omega arith)
+
+root_later : (now : Tick) → now.0 < now.0 + 26
+root_later now = omega arith
+
+register_goes : (proc : Proc) (now : Tick) (u : UnitsState) → Stands now (own_of u proc) → (register : Register) (number : ℕ)
+    → number < numbers_of register → (value : ℕ) → Goes proc now u (register_written proc now u register number value)
+register_goes proc now u s Later number l value = goes_nowhere proc now u s.0 s.1
+register_goes proc now u s Tmcnt number l value = own_goes proc now u _ (timer_stands (own_of u proc) now number value s l)
+register_goes proc now u s Keyinput number l value = goes_nowhere proc now u s.0 s.1
+register_goes proc now u s Keycnt number l value = own_goes proc now u _ (keycnt_stands (own_of u proc) now u.pressed (value % 2 ^ 16) s)
+register_goes proc now u s Extkeyin number l value = goes_nowhere proc now u s.0 s.1
+register_goes proc now u s Ipcsync number l value = raised_goes proc now u _ _ s
+register_goes proc now u s Ipcfifocnt number l value = raised_goes proc now u _ _ s
+register_goes proc now u s Ipcfifosend number l value = raised_goes proc now u _ _ s
+register_goes proc now u s Ipcfiforecv number l value = goes_nowhere proc now u s.0 s.1
+register_goes proc now u s Ime number l value = own_goes proc now u _ (alike now (own_of u proc) _ refl refl s)
+register_goes proc now u s Ie number l value = own_goes proc now u _ (alike now (own_of u proc) _ refl refl s)
+register_goes proc now u s If number l value = own_goes proc now u _ (alike now (own_of u proc) _ refl refl s)
+register_goes proc now u s VramcntAToG number l value = shared_goes proc now u _ refl refl s (inl refl) (inl refl)
+register_goes proc now u s VramcntHToI number l value = shared_goes proc now u _ refl refl s (inl refl) (inl refl)
+register_goes proc now u s Wramcnt number l value = shared_goes proc now u _ refl refl s (inl refl) (inl refl)
+register_goes proc now u s Vramstat number l value = goes_nowhere proc now u s.0 s.1
+register_goes proc now u s Wramstat number l value = goes_nowhere proc now u s.0 s.1
+register_goes proc now u s Postflg number l value = goes_nowhere proc now u s.0 s.1
+register_goes proc now u s Haltcnt number l value = own_goes proc now u _ (haltcnt_stands (own_of u proc) now (value % 2 ^ 8) s)
+register_goes proc now u s DmaSadToCnt number l value = own_goes proc now u _ (dma_stands (own_of u proc) now number value s l)
+register_goes proc now u s Dmafill number l value = shared_goes proc now u _ refl refl s (inl refl) (inl refl)
+register_goes proc now u s Romctrl number l value = shared_goes proc now u _ refl refl s (inl refl) (inl refl)
+register_goes proc now u s Divcnt number l value = shared_goes proc now u _ refl refl s (inr (division_later now _)) (inl refl)
+register_goes proc now u s DivNumer number l value = shared_goes proc now u _ refl refl s (inr (division_later now _)) (inl refl)
+register_goes proc now u s DivDenom number l value = shared_goes proc now u _ refl refl s (inr (division_later now _)) (inl refl)
+register_goes proc now u s DivResult number l value = goes_nowhere proc now u s.0 s.1
+register_goes proc now u s DivremResult number l value = goes_nowhere proc now u s.0 s.1
+register_goes proc now u s Sqrtcnt number l value = shared_goes proc now u _ refl refl s (inl refl) (inr (root_later now))
+register_goes proc now u s SqrtResult number l value = goes_nowhere proc now u s.0 s.1
+register_goes proc now u s SqrtParam number l value = shared_goes proc now u _ refl refl s (inl refl) (inr (root_later now))
+
+-- ---- accesses
+
+slot_goes : (proc : Proc) (now : Tick) (u : UnitsState) (width : Width) (slot : Slot) (value : ℕ) → IsSlot slot → Stands now (own_of u proc)
+    → Goes proc now u (slot_written proc now u width slot value)
+slot_goes proc now u width slot value is s =
+    either (Goes proc now u) (ignores width slot.register) u _ (goes_nowhere proc now u s.0 s.1)
+    (register_goes proc now u s slot.register slot.number is.number (slot_joined proc u width slot value))
+
+or_goes : (proc : Proc) (now : Tick) (u : UnitsState) (width : Width) (slot : Option Slot) (value : ℕ) (other : UnitsState) → IfSome slot IsSlot
+    → Stands now (own_of u proc) → Goes proc now u other → Goes proc now u (written_or proc now u width slot value other)
+or_goes proc now u width None value other is s g = g
+or_goes proc now u width (Some slot) value other is s g = slot_goes proc now u width slot value is s
+
+whole_if_is : (b : Bool) (slot : Slot) → IsSlot slot → IfSome (whole_if b slot) IsSlot
+whole_if_is true slot is = is
+whole_if_is false slot is = tt
+
+whole_is : (width : Width) (slot : Option Slot) → IfSome slot IsSlot → IfSome (whole_in width slot) IsSlot
+whole_is width None is = tt
+whole_is width (Some slot) is = whole_if_is _ slot is
+
+byte_goes : (proc : Proc) (now : Tick) (u : UnitsState) (at value : ℕ) → Stands now (own_of u proc) → Goes proc now u (byte_written proc now u at value)
+byte_goes proc now u at value s = or_goes proc now u Byte (slot_of proc at) value u (some_slot proc at) s (goes_nowhere proc now u s.0 s.1)
+
+half_goes : (proc : Proc) (now : Tick) (u : UnitsState) (at value : ℕ) → Stands now (own_of u proc) → Goes proc now u (half_written proc now u at value)
+half_goes proc now u at value s =
+    let first = byte_written proc now u at value in
+    let second = byte_written proc now first (at + 1) (value / 2 ^ 8) in
+    let g = byte_goes proc now u at value s in
+    or_goes proc now u Half (whole_in Half (slot_of proc at)) value second (whole_is Half (slot_of proc at) (some_slot proc at)) s
+    (goes_on proc now u first second g (byte_goes proc now first (at + 1) (value / 2 ^ 8) (g.is, g.quiet)))
+
+word_goes : (proc : Proc) (now : Tick) (u : UnitsState) (at value : ℕ) → Stands now (own_of u proc) → Goes proc now u (word_written proc now u at value)
+word_goes proc now u at value s =
+    let first = half_written proc now u at value in
+    let second = half_written proc now first (at + 2) (value / 2 ^ 16) in
+    let g = half_goes proc now u at value s in
+    or_goes proc now u Word (whole_in Word (slot_of proc at)) value second (whole_is Word (slot_of proc at) (some_slot proc at)) s
+    (goes_on proc now u first second g (half_goes proc now first (at + 2) (value / 2 ^ 16) (g.is, g.quiet)))
+
+pub write_goes : (proc : Proc) (now : Tick) (u : UnitsState) (at : ℕ) (width : Width) (value : ℕ) → IsOwn (own_of u proc) → IsQuiet now (own_of u proc)
+    → Goes proc now u (port_written proc now u at width value)
+unfolding port_written
+write_goes proc now u at Byte value is quiet = byte_goes proc now u at value (is, quiet)
+write_goes proc now u at Half value is quiet = half_goes proc now u at value (is, quiet)
+write_goes proc now u at Word value is quiet = word_goes proc now u at value (is, quiet)
+
+-- a write that may be refused, and then leaves all
+unless_goes : (proc : Proc) (now : Tick) (stop : Option Stop) (u v : UnitsState) → IsOwn (own_of u proc) → IsQuiet now (own_of u proc) → Goes proc now u v
+    → Goes proc now u (unless_stopped stop u v)
+unless_goes proc now None u v is quiet goes = goes
+unless_goes proc now (Some stop) u v is quiet goes = goes_nowhere proc now u is quiet
+
+pub put_goes : (proc : Proc) (now : Tick) (old new : UnitsState) (at : ℕ) (width : Width) (value : ℕ)
+    → new ≡ unless_stopped (port_refusal proc old at width value) old (port_written proc now old at width value)
+    → IsOwn (own_of old proc) → IsQuiet now (own_of old proc) → Goes proc now old new
+put_goes proc now old new at width value is_new is quiet =
+    subst (Goes proc now old) (sym is_new)
+    (unless_goes proc now (port_refusal proc old at width value) old (port_written proc now old at width value) is quiet (write_goes proc now old at width value is quiet))
+
+-- ---- reads: nothing is due otherwise than before
+
+-- nothing changed of what is due behind the ports, or holds a processor
+pub record AreLeft (old new : UnitsState) : Type 0 where
+  pub own : (proc : Proc) → IsLeft (own_of old proc) (own_of new proc)
+  pub divider : new.divider ≡ old.divider
+  pub root : new.root ≡ old.root
+
+-- so what holds of a processor's own holds still
+pub left_is : (old new : OwnState) → IsLeft old new → IsOwn old → IsOwn new
+left_is old new l is = record { timers = subst AreTimers (sym l.timers) is.timers; dma = subst IsDma (sym l.dma) is.dma }
+
+pub left_quiet : (now : Tick) (old new : OwnState) → IsLeft old new → IsQuiet now old → IsQuiet now new
+left_quiet now old new l quiet = record {
+  timers = λ which lt. subst (λ (timers : List TimerState). IsLater now (timer_due (timer_at timers which))) (sym l.timers) (quiet.timers which lt);
+  dma = subst (AreReadyLater now) (sym l.dma) quiet.dma;
+}
+
+pub all_left : (u : UnitsState) → AreLeft u u
+all_left u = record { own = λ each. left_same (own_of u each); divider = refl; root = refl }
+
+both_left : (u : UnitsState) (ipc_after : IpcState) (raised : Raised) → AreLeft u (both_raised (record u { ipc = ipc_after }) raised)
+both_left u ipc_after raised = record { own = each; divider = refl; root = refl } where
+  each : (proc : Proc) → IsLeft (own_of u proc) (own_of (both_raised (record u { ipc = ipc_after }) raised) proc)
+  each Nine = raised_left u.nine raised.nine
+  each Seven = raised_left u.seven raised.seven
+
+register_left : (proc : Proc) (u : UnitsState) (register : Register) → AreLeft u (register_read proc u register)
+register_left proc u Later = all_left u
+register_left proc u Tmcnt = all_left u
+register_left proc u Keyinput = all_left u
+register_left proc u Keycnt = all_left u
+register_left proc u Extkeyin = all_left u
+register_left proc u Ipcsync = all_left u
+register_left proc u Ipcfifocnt = all_left u
+register_left proc u Ipcfifosend = all_left u
+register_left proc u Ipcfiforecv = both_left u _ _
+register_left proc u Ime = all_left u
+register_left proc u Ie = all_left u
+register_left proc u If = all_left u
+register_left proc u VramcntAToG = all_left u
+register_left proc u VramcntHToI = all_left u
+register_left proc u Wramcnt = all_left u
+register_left proc u Vramstat = all_left u
+register_left proc u Wramstat = all_left u
+register_left proc u Postflg = all_left u
+register_left proc u Haltcnt = all_left u
+register_left proc u DmaSadToCnt = all_left u
+register_left proc u Dmafill = all_left u
+register_left proc u Romctrl = all_left u
+register_left proc u Divcnt = all_left u
+register_left proc u DivNumer = all_left u
+register_left proc u DivDenom = all_left u
+register_left proc u DivResult = all_left u
+register_left proc u DivremResult = all_left u
+register_left proc u Sqrtcnt = all_left u
+register_left proc u SqrtResult = all_left u
+register_left proc u SqrtParam = all_left u
+
+slot_left : (proc : Proc) (u : UnitsState) (slot : Option Slot) → AreLeft u (read_left proc u slot)
+slot_left proc u None = all_left u
+slot_left proc u (Some slot) = register_left proc u slot.register
+
+pub port_left : (proc : Proc) (u : UnitsState) (at : ℕ) (width : Width) → AreLeft u (port_read proc u at width)
+unfolding port_read
+port_left proc u at Byte = all_left u
+port_left proc u at Half = all_left u
+port_left proc u at Word = slot_left proc u (whole_in Word (slot_of proc at))
+
+pub left_goes : (proc : Proc) (now : Tick) (old new : UnitsState) → IsOwn (own_of old proc) → IsQuiet now (own_of old proc) → AreLeft old new → Goes proc now old new
+left_goes proc now old new is quiet left =
+    goes_of proc now old new (alike now (own_of old proc) (own_of new proc) (left.own proc).timers (left.own proc).dma (is, quiet))
+    (inl (ap (λ d. d.due) left.divider)) (inl (ap (λ r. r.due) left.root)) (left.own (across proc))
+
+-- ---- every actor
+
+-- what is due of all actors is what is due of each kind
+pub dues_of_kinds : (now : Tick) (old new : UnitsState)
+    → ((proc : Proc) (which : ℕ) → which < 4 → Reschedules now (due_behind (Timer proc which) old) (due_behind (Timer proc which) new))
+    → Reschedules now (due_behind Divider old) (due_behind Divider new) → Reschedules now (due_behind SquareRoot old) (due_behind SquareRoot new)
+    → ((proc : Proc) (which : ℕ) → which < 4 → Reschedules now (due_behind (Dma proc which) old) (due_behind (Dma proc which) new))
+    → (a : actor.Actor) → IsNumbered a → Reschedules now (due_behind a old) (due_behind a new)
+dues_of_kinds now old new t d r c KeyScript l = inl refl
+dues_of_kinds now old new t d r c Video l = inl refl
+dues_of_kinds now old new t d r c (Timer proc number) l = t proc number l
+dues_of_kinds now old new t d r c Divider l = d
+dues_of_kinds now old new t d r c SquareRoot l = r
+dues_of_kinds now old new t d r c Geometry l = inl refl
+dues_of_kinds now old new t d r c Card l = inl refl
+dues_of_kinds now old new t d r c (Dma proc channel) l = c proc channel l
+dues_of_kinds now old new t d r c (Processor proc) l = inl refl
+
+-- what holds of one processor and of the other holds of both
+pub of_both : (P : Proc → Type 0) (proc : Proc) → P proc → P (across proc) → (each : Proc) → P each
+of_both P Nine h k Nine = h
+of_both P Nine h k Seven = k
+of_both P Seven h k Nine = k
+of_both P Seven h k Seven = h
+
+-- accesses leave each actor due as it was, or later
+pub all_behind : (proc : Proc) (now : Tick) (old new : UnitsState) → Goes proc now old new → (a : actor.Actor) → IsNumbered a
+    → Reschedules now (due_behind a old) (due_behind a new)
+all_behind proc now old new g =
+    dues_of_kinds now old new
+    (of_both (λ p. (which : ℕ) → which < 4 → Reschedules now (due_behind (Timer p which) old) (due_behind (Timer p which) new)) proc g.timers
+    (λ which l. inl (ap (λ ts. timer_due (timer_at ts which)) g.other.timers)))
+    g.divider
+    g.root
+    (of_both (λ p. (which : ℕ) → which < 4 → Reschedules now (due_behind (Dma p which) old) (due_behind (Dma p which) new)) proc g.dma
+    (λ which l. inl (ap (λ d. channel_due d which) g.other.dma)))
+
+-- each processor's own stands for all units
+pub own_is : (u : UnitsState) → AreUnits u → (proc : Proc) → IsOwn (own_of u proc)
+own_is u h Nine = h.nine
+own_is u h Seven = h.seven
+
+-- the units are the units still
+pub goes_units : (proc : Proc) (now : Tick) (old new : UnitsState) → AreUnits old → Goes proc now old new → AreUnits new
+goes_units proc now old new h g =
+    let other : IsOwn (own_of new (across proc)) = record {
+      timers = subst AreTimers (sym g.other.timers) (own_is old h (across proc)).timers;
+      dma = subst IsDma (sym g.other.dma) (own_is old h (across proc)).dma;
+    } in
+    let each = of_both (λ p. IsOwn (own_of new p)) proc g.is other in
+    record { nine = each Nine; seven = each Seven }
+
+-- ---- the steps of the actors behind the ports
+
+-- what such a step at a tick makes of the units: each due tick is as it was or later, and no processor is halted by it or goes on
+pub record StepsUnits (now : Tick) (old new : UnitsState) : Type 0 where
+  pub units : AreUnits new
+  pub dues : (a : actor.Actor) → IsNumbered a → Reschedules now (due_behind a old) (due_behind a new)
+  pub halted : (proc : Proc) → (own_of new proc).halted ≡ (own_of old proc).halted
+
+pub own_there : (proc : Proc) (u : UnitsState) (own : OwnState) → own_of (with_own proc u own) proc ≡ own
+own_there Nine u own = refl
+own_there Seven u own = refl
+
+own_across : (proc : Proc) (u : UnitsState) (own : OwnState) → own_of (with_own proc u own) (across proc) ≡ own_of u (across proc)
+own_across Nine u own = refl
+own_across Seven u own = refl
+
+-- what holds of the one that changes, and of the other as it was, holds of both
+pub each_own : (P : Proc → OwnState → Type 0) (proc : Proc) (u : UnitsState) (own : OwnState) → P proc own → P (across proc) (own_of u (across proc))
+    → (each : Proc) → P each (own_of (with_own proc u own) each)
+each_own P proc u own h k =
+    of_both (λ p. P p (own_of (with_own proc u own) p)) proc (subst (P proc) (sym (own_there proc u own)) h) (subst (P (across proc)) (sym (own_across proc u own)) k)
+
+pub divider_stays : (proc : Proc) (u : UnitsState) (own : OwnState) → (with_own proc u own).divider ≡ u.divider
+divider_stays Nine u own = refl
+divider_stays Seven u own = refl
+
+pub root_stays : (proc : Proc) (u : UnitsState) (own : OwnState) → (with_own proc u own).root ≡ u.root
+root_stays Nine u own = refl
+root_stays Seven u own = refl
+
+pub units_of : (u : UnitsState) → ((proc : Proc) → IsOwn (own_of u proc)) → AreUnits u
+units_of u h = record { nine = h Nine; seven = h Seven }
+
+-- a step that changes one processor's own
+own_steps : (proc : Proc) (now : Tick) (u : UnitsState) (own : OwnState) → AreUnits u → IsOwn own
+    → ((which : ℕ) → which < 4 → Reschedules now (due_behind (Timer proc which) u) (timer_due (timer_at own.timers which)))
+    → ((which : ℕ) → which < 4 → Reschedules now (due_behind (Dma proc which) u) (channel_due own.dma which))
+    → own.halted ≡ (own_of u proc).halted → StepsUnits now u (with_own proc u own)
+own_steps proc now u own all is t c h = record {
+  units = units_of (with_own proc u own) (each_own (λ p x. IsOwn x) proc u own is (own_is u all (across proc)));
+  dues = dues_of_kinds now u (with_own proc u own)
+      (each_own (λ p x. (which : ℕ) → which < 4 → Reschedules now (due_behind (Timer p which) u) (timer_due (timer_at x.timers which))) proc u own t (λ which l. inl refl))
+      (inl (ap (λ d. d.due) (divider_stays proc u own)))
+      (inl (ap (λ r. r.due) (root_stays proc u own)))
+      (each_own (λ p x. (which : ℕ) → which < 4 → Reschedules now (due_behind (Dma p which) u) (channel_due x.dma which)) proc u own c (λ which l. inl refl));
+  halted = each_own (λ p x. x.halted ≡ (own_of u p).halted) proc u own h refl;
+}
+
+-- a timer overflows at its due tick: it is due later then, and all channels are as they were
+pub record TimerGoes (proc : Proc) (number : ℕ) (now : Tick) (old new : UnitsState) : Type 0 where
+  pub steps : StepsUnits now old new
+  pub later : IsLater now (due_behind (Timer proc number) new)
+  pub dma : (each : Proc) → (own_of new each).dma ≡ (own_of old each).dma
+
+pub timer_goes : (proc : Proc) (number : ℕ) (now : Tick) (u : UnitsState) → AreUnits u → number < 4 → due_behind (Timer proc number) u ≡ Some now
+    → TimerGoes proc number now u (timer_overflows proc number u)
+timer_goes proc number now u all l due =
+    let own = own_of u proc in
+    let is = own_is u all proc in
+    let one = overflow_schedules own.timers number is.timers l now due in
+    let o = overflow_of own.timers number in
+    let new : OwnState = own_raised (record own { timers = o.timers }) o.bits in record {
+      steps = own_steps proc now u new all (record { timers = overflow_keeps own.timers number is.timers; dma = is.dma })
+          (one_reschedules number now own.timers o.timers one) (λ which m. inl refl) refl;
+      later = subst (λ (x : OwnState). IsLater now (timer_due (timer_at x.timers number))) (sym (own_there proc u new)) one.later;
+      dma = each_own (λ p x. x.dma ≡ (own_of u p).dma) proc u new refl refl;
+    }
+
+-- a step that leaves each processor's own but its interrupt words
+pub record LeavesOwn (now : Tick) (old new : UnitsState) : Type 0 where
+  pub steps : StepsUnits now old new
+  pub left : (each : Proc) → IsLeft (own_of old each) (own_of new each)
+
+leaves_own : (now : Tick) (old new : UnitsState) → AreUnits old → ((each : Proc) → IsLeft (own_of old each) (own_of new each))
+    → Reschedules now old.divider.due new.divider.due → Reschedules now old.root.due new.root.due → LeavesOwn now old new
+leaves_own now old new all same d r = record {
+  steps = record {
+    units = units_of new (λ p. record { timers = subst AreTimers (sym (same p).timers) (own_is old all p).timers; dma = subst IsDma (sym (same p).dma) (own_is old all p).dma });
+    dues = dues_of_kinds now old new (λ p which l. inl (ap (λ ts. timer_due (timer_at ts which)) (same p).timers)) d r
+        (λ p which l. inl (ap (λ x. channel_due x which) (same p).dma));
+    halted = λ p. (same p).halted;
+  };
+  left = same;
+}
+
+-- a division is done, and due no more
+division_left : (u : UnitsState) (each : Proc) → IsLeft (own_of u each) (own_of (division_done u) each)
+division_left u Nine = left_same u.nine
+division_left u Seven = left_same u.seven
+
+pub division_goes : (now : Tick) (u : UnitsState) → AreUnits u → LeavesOwn now u (division_done u) × (due_behind Divider (division_done u) ≡ None)
+division_goes now u all = (leaves_own now u (division_done u) all (division_left u) (inr tt) (inl refl), refl)
+
+-- a square root is done, and due no more
+root_left : (u : UnitsState) (each : Proc) → IsLeft (own_of u each) (own_of (root_done u) each)
+root_left u Nine = left_same u.nine
+root_left u Seven = left_same u.seven
+
+pub root_goes : (now : Tick) (u : UnitsState) → AreUnits u → LeavesOwn now u (root_done u) × (due_behind SquareRoot (root_done u) ≡ None)
+root_goes now u all = (leaves_own now u (root_done u) all (root_left u) (inl refl) (inr tt), refl)
+
+-- other keys are pressed
+keys_left : (u : UnitsState) (pressed : ℕ) (each : Proc) → IsLeft (own_of u each) (own_of (keys_pressed u pressed) each)
+keys_left u pressed Nine = told_left u.nine pressed
+keys_left u pressed Seven = told_left u.seven pressed
+
+pub keys_goes : (now : Tick) (u : UnitsState) (pressed : ℕ) → AreUnits u → LeavesOwn now u (keys_pressed u pressed)
+keys_goes now u pressed all = leaves_own now u (keys_pressed u pressed) all (keys_left u pressed) (inl refl) (inl refl)
+
+-- an event triggers channels: no transfer ends
+pub record TriggeredGoes (now : Tick) (old new : UnitsState) : Type 0 where
+  pub steps : StepsUnits now old new
+  pub timers : (each : Proc) → (own_of new each).timers ≡ (own_of old each).timers
+  pub divider : new.divider ≡ old.divider
+  pub root : new.root ≡ old.root
+  pub runs : (each : Proc) → any_runs (own_of old each).dma.channels ≡ true → any_runs (own_of new each).dma.channels ≡ true
+
+triggered_own : (cause : Cause) (now : Tick) (u : UnitsState) (each : Proc) → own_of (channels_triggered cause now u) each ≡ own_triggered (own_of u each) cause now
+triggered_own cause now u Nine = refl
+triggered_own cause now u Seven = refl
+
+each_triggered : (P : Proc → OwnState → Type 0) (cause : Cause) (now : Tick) (u : UnitsState) → ((each : Proc) → P each (own_triggered (own_of u each) cause now))
+    → (each : Proc) → P each (own_of (channels_triggered cause now u) each)
+each_triggered P cause now u h = λ each. subst (P each) (sym (triggered_own cause now u each)) (h each)
+
+pub triggered_goes : (cause : Cause) (now : Tick) (u : UnitsState) → AreUnits u → TriggeredGoes now u (channels_triggered cause now u)
+triggered_goes cause now u all =
+    let new = channels_triggered cause now u in record {
+      steps = record {
+        units = units_of new (each_triggered (λ p x. IsOwn x) cause now u
+            (λ p. record { timers = (own_is u all p).timers; dma = dma_triggered_is (own_of u p).dma cause now (own_is u all p).dma }));
+        dues = dues_of_kinds now u new
+            (each_triggered (λ p x. (which : ℕ) → which < 4 → Reschedules now (due_behind (Timer p which) u) (timer_due (timer_at x.timers which))) cause now u (λ p which l. inl refl))
+            (inl refl)
+            (inl refl)
+            (each_triggered (λ p x. (which : ℕ) → which < 4 → Reschedules now (due_behind (Dma p which) u) (channel_due x.dma which)) cause now u
+            (λ p which l. event_schedules (own_of u p).dma cause now (own_is u all p).dma which l));
+        halted = each_triggered (λ p x. x.halted ≡ (own_of u p).halted) cause now u (λ p. refl);
+      };
+      timers = each_triggered (λ p x. x.timers ≡ (own_of u p).timers) cause now u (λ p. refl);
+      divider = refl;
+      root = refl;
+      runs = each_triggered (λ p x. any_runs (own_of u p).dma.channels ≡ true → any_runs x.dma.channels ≡ true) cause now u
+          (λ p. event_runs (own_of u p).dma cause now (own_is u all p).dma);
+    }
+
+-- the channel that is due moves its first unit, but for the access itself: no channel of its processor is due by then
+pub record MovedGoes (proc : Proc) (now : Tick) (old new : UnitsState) : Type 0 where
+  pub steps : StepsUnits now old new
+  pub later : AreReadyLater now (own_of new proc).dma
+  pub timers : (each : Proc) → (own_of new each).timers ≡ (own_of old each).timers
+  pub divider : new.divider ≡ old.divider
+  pub root : new.root ≡ old.root
+  pub other : own_of new (across proc) ≡ own_of old (across proc)
+
+pub moved_goes : (proc : Proc) (now : Tick) (u : UnitsState) → AreUnits u → IsSome (dma_due (own_of u proc).dma) → MovedGoes proc now u (channel_moved proc now u)
+moved_goes proc now u all due =
+    let own = own_of u proc in
+    let is = own_is u all proc in
+    let new : OwnState = own_moved own now in
+    let later = finished_later own.dma now in record {
+      steps = own_steps proc now u new all (record { timers = is.timers; dma = dma_finished_is own.dma now is.dma due })
+          (λ which l. inl refl) (all_moved own.dma now) refl;
+      later = subst (λ (x : OwnState). AreReadyLater now x.dma) (sym (own_there proc u new)) later;
+      timers = each_own (λ p x. x.timers ≡ (own_of u p).timers) proc u new refl refl;
+      divider = divider_stays proc u new;
+      root = root_stays proc u new;
+      other = own_across proc u new;
+    } where
+      all_moved : (d : DmaState) (tick : Tick) (which : ℕ) → which < 4 → Reschedules tick (channel_due d which) (channel_due (dma_finished d tick) which)
+      all_moved d tick which l = all_later tick (dma_finished d tick) (channel_due d which) (finished_later d tick) which l

@@ -1,0 +1,112 @@
+use Rattle.std.specs.Prelude.{ℕ, ◌≡◌, ◌<◌, List, [], ◌∷◌, Bool, true, false, Option, None}
+use Rattle.ds_base.specs.Schedules.{IsLater, Reschedules}
+use Rattle.ds_base.specs.declared.processors.Proc.{Proc}
+use Rattle.ds_base.specs.declared.processors.Proc.TheVariants.{Nine, Seven}
+use Rattle.ds_base.specs.declared.ticks.Due.{Due}
+use Rattle.ds_base.specs.declared.ticks.Tick.{Tick}
+use Rattle.ds_dma.specs.States.{AreReadyLater, IsDma, channel_due}
+use Rattle.ds_ipc.specs.Ipcs.{across}
+use Rattle.ds_runs.specs.declared.actors.Actor as actor
+use Rattle.ds_runs.specs.declared.actors.Actor.TheVariants.{KeyScript, Video, Timer, Divider, SquareRoot, Geometry, Card, Dma, Processor}
+use Rattle.ds_runs.specs.Order.{first_from}
+use Rattle.ds_timers.specs.Timing.{AreTimers, timer_at, timer_due}
+use Rattle.ds_ports.specs.Own.{OwnState}
+use Rattle.ds_ports.specs.Units.{UnitsState, own_of}
+use Rattle.ds_ports.specs.declared.registers.Register.{Register}
+use Rattle.ds_ports.specs.declared.registers.Register.TheVariants.{Later, Tmcnt, Keyinput, Keycnt, Extkeyin, Ipcsync, Ipcfifocnt, Ipcfifosend, Ipcfiforecv, Ime, Ie, If, VramcntAToG, VramcntHToI, Wramcnt, Vramstat, Wramstat, Postflg, Haltcnt, DmaSadToCnt, Dmafill, Romctrl, Divcnt, DivNumer, DivDenom, DivResult, DivremResult, Sqrtcnt, SqrtResult, SqrtParam}
+
+-- When the units behind the ports are due, and what happens at a tick makes of it.
+
+-- when an actor behind the ports is due; those that aren't, or aren't built yet, never are
+abbrev pub due_behind : actor.Actor → UnitsState → Option Tick
+due_behind KeyScript u = None
+due_behind Video u = None
+due_behind (Timer proc number) u = timer_due (timer_at (own_of u proc).timers number)
+due_behind Divider u = u.divider.due
+due_behind SquareRoot u = u.root.due
+due_behind Geometry u = None
+due_behind Card u = None
+due_behind (Dma proc channel) u = channel_due (own_of u proc).dma channel
+due_behind (Processor proc) u = None
+
+-- those of ranks 2 to 21, in their order
+abbrev pub dues_behind : UnitsState → List (Option Tick)
+dues_behind u =
+    due_behind (Timer Nine 0) u ∷ due_behind (Timer Nine 1) u ∷ due_behind (Timer Nine 2) u ∷ due_behind (Timer Nine 3) u
+    ∷ due_behind (Timer Seven 0) u ∷ due_behind (Timer Seven 1) u ∷ due_behind (Timer Seven 2) u ∷ due_behind (Timer Seven 3) u
+    ∷ due_behind Divider u
+    ∷ due_behind SquareRoot u
+    ∷ due_behind Geometry u
+    ∷ due_behind Card u
+    ∷ due_behind (Dma Nine 0) u ∷ due_behind (Dma Nine 1) u ∷ due_behind (Dma Nine 2) u ∷ due_behind (Dma Nine 3) u
+    ∷ due_behind (Dma Seven 0) u ∷ due_behind (Dma Seven 1) u ∷ due_behind (Dma Seven 2) u ∷ due_behind (Dma Seven 3) u
+    ∷ []
+
+-- the first of them, which is kept; it doesn't unfold by itself
+unfoldable pub first_behind : UnitsState → Option Due
+first_behind u = first_from 2 (dues_behind u)
+
+-- a write of a register may change when something is due
+abbrev pub moves_dues : Register → Bool
+moves_dues Later = false
+moves_dues Tmcnt = true
+moves_dues Keyinput = false
+moves_dues Keycnt = false
+moves_dues Extkeyin = false
+moves_dues Ipcsync = false
+moves_dues Ipcfifocnt = false
+moves_dues Ipcfifosend = false
+moves_dues Ipcfiforecv = false
+moves_dues Ime = false
+moves_dues Ie = false
+moves_dues If = false
+moves_dues VramcntAToG = false
+moves_dues VramcntHToI = false
+moves_dues Wramcnt = false
+moves_dues Vramstat = false
+moves_dues Wramstat = false
+moves_dues Postflg = false
+moves_dues Haltcnt = false
+moves_dues DmaSadToCnt = true
+moves_dues Dmafill = false
+moves_dues Romctrl = false
+moves_dues Divcnt = true
+moves_dues DivNumer = true
+moves_dues DivDenom = true
+moves_dues DivResult = false
+moves_dues DivremResult = false
+moves_dues Sqrtcnt = true
+moves_dues SqrtResult = false
+moves_dues SqrtParam = true
+
+-- what holds of a processor's own, and of the units, at every time
+pub record IsOwn (own : OwnState) : Type 0 where
+  pub timers : AreTimers own.timers
+  pub dma : IsDma own.dma
+
+pub record AreUnits (u : UnitsState) : Type 0 where
+  pub nine : IsOwn u.nine
+  pub seven : IsOwn u.seven
+
+-- a processor's timers, and its channels that run, come later than a tick: so it is where the processor, or a channel of it, makes an access then
+pub record IsQuiet (now : Tick) (own : OwnState) : Type 0 where
+  pub timers : (which : ℕ) → which < 4 → IsLater now (timer_due (timer_at own.timers which))
+  pub dma : AreReadyLater now own.dma
+
+-- nothing changed of a processor's own but its interrupt words
+pub record IsLeft (old new : OwnState) : Type 0 where
+  pub timers : new.timers ≡ old.timers
+  pub keycnt : new.keycnt ≡ old.keycnt
+  pub halted : new.halted ≡ old.halted
+  pub dma : new.dma ≡ old.dma
+
+-- what accesses of a processor, or of a channel of it, at a tick make of the units: each due tick is as it was or later, and the other processor is
+-- told of interrupts and of nothing else
+pub record Goes (proc : Proc) (now : Tick) (old new : UnitsState) : Type 0 where
+  pub is : IsOwn (own_of new proc)
+  pub quiet : IsQuiet now (own_of new proc)
+  pub timers : (which : ℕ) → which < 4 → Reschedules now (due_behind (Timer proc which) old) (due_behind (Timer proc which) new)
+  pub divider : Reschedules now (due_behind Divider old) (due_behind Divider new)
+  pub root : Reschedules now (due_behind SquareRoot old) (due_behind SquareRoot new)
+  pub dma : (which : ℕ) → which < 4 → Reschedules now (due_behind (Dma proc which) old) (due_behind (Dma proc which) new)
+  pub other : IsLeft (own_of old (across proc)) (own_of new (across proc))

@@ -1,0 +1,17 @@
+use Rattle.std.proofs.Common.{ℕ, ◌≡◌, ◌<◌, ◌%◌, ◌^◌, IfSome, arith}
+use Rattle.ds_base.specs.declared.processors.Arch.{Arch}
+use Rattle.arm_words.specs.ArmTable.{decoded_arm}
+use Rattle.arm_words.specs.Fields.{HasFields}
+use Rattle.arm_words.specs.ThumbTable.{decoded_thumb}
+use Rattle.arm_words.proofs.Laws.{decoded_arm_fields, decoded_thumb_fields}
+
+-- an instruction's fields are in their ranges, by the tables
+
+pub word_fields : (arch : Arch) (word : ℕ) → word < 2 ^ 32 → IfSome (decoded_arm arch word) HasFields
+word_fields arch word below = decoded_arm_fields arch word below
+
+pub half_fields : (arch : Arch) (half : ℕ) → half < 2 ^ 16 → IfSome (decoded_thumb arch half) HasFields
+half_fields arch half below = decoded_thumb_fields arch half below
+
+pub half_itself : (half : ℕ) → half < 2 ^ 16 → half % 2 ^ 16 ≡ half
+half_itself half below = omega (arith, below)

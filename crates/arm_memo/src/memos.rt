@@ -1,0 +1,105 @@
+//! A memo of words, or of halves, of one version of the architecture.
+
+ghost use Rattle.std.specs.Prelude.{◌≡◌, ◌<◌};
+ghost use Rattle.std.specs.Coded.{Coded-set};
+ghost use Rattle.arm_memo.specs.Known.{arch_of, known};
+
+use arm_words::{Instr, decode_arm, decode_thumb};
+use ds_base::Arch;
+use std::alloc::{AllocError, Global};
+use std::marker::Model;
+
+/// How many numbers are kept.
+const PLACES: usize = 16_384;
+
+/// A number with its instruction, if it has one.
+#[derive(Clone, Copy)]
+struct Entry<const VERSION: u32, const BITS: u32> {
+    number: u32,
+    instr: Option<Instr>,
+    ghost right: { known VERSION BITS number ≡ instr } by { Coded-set instr-code (known VERSION BITS number) instr },
+}
+
+/// Numbers of so many bits with their instructions.
+#[derive(Drop)]
+pub struct Memo<const VERSION: u32, const BITS: u32> {
+    entries: Vec<Entry<VERSION, BITS>>,
+}
+
+impl<const VERSION: u32, const BITS: u32> Model for Memo<VERSION, BITS> {
+    ghost use Rattle.std.specs.Prelude.{◌≡◌, length};
+
+    ghost Value = { Unit {0} };
+
+    ghost view = { λ m. tt };
+
+    ghost invariant = { λ m. length m.entries.items ≡ 16384 };
+}
+
+/// Where a number is kept.
+#[inline(always)]
+fn place(number: u32) -> usize
+    ensures { result < 16384 }
+{
+    (number.wrapping_mul(0x9E37_79B1) >> 18) as usize
+}
+
+/// The architecture of a version.
+const fn arch_of<const VERSION: u32>() -> Arch
+    ensures { result ≡ arch_of VERSION }
+{
+    if VERSION == 5 { Arch::V5 } else { Arch::V4 }
+}
+
+/// The instruction of a number, by the tables.
+#[tactic(auto, unfolding(crate::specs::Known::known))]
+fn decoded<const VERSION: u32, const BITS: u32>(number: u32) -> Option<Instr>
+    ensures { result ≡ known VERSION BITS number }
+{
+    let arch = arch_of::<VERSION>();
+    if BITS == 16 {
+        decode_thumb(arch, (number % 0x1_0000) as u16)
+    } else {
+        decode_arm(arch, number)
+    }
+}
+
+/// The entry of a number.
+#[inline(never)]
+fn made<const VERSION: u32, const BITS: u32>(number: u32) -> Entry<VERSION, BITS>
+    ensures { result.number ≡ number }
+{
+    let instr = decoded::<VERSION, BITS>(number);
+    Entry { number, instr }
+}
+
+impl<const VERSION: u32, const BITS: u32> Entry<VERSION, BITS> {
+    /// Makes it the entry of a number, if it isn't.
+    #[inline(always)]
+    fn learn(&mut self, number: u32)
+        ensures { self.new.number ≡ number }
+    {
+        if self.number != number {
+            *self = made::<VERSION, BITS>(number);
+        }
+    }
+}
+
+impl<const VERSION: u32, const BITS: u32> Memo<VERSION, BITS> {
+    /// A memo that keeps one number.
+    pub fn new(alloc: Global) -> Result<Memo<VERSION, BITS>, AllocError> {
+        Ok(Memo {
+            entries: vec![in alloc; made::<VERSION, BITS>(0); PLACES]?,
+        })
+    }
+
+    /// The instruction of a number, if it has one.
+    #[inline(always)]
+    pub fn instr(&mut self, number: u32) -> Option<Instr>
+        ensures { result ≡ known VERSION BITS number }
+    {
+        let entry = &mut self.entries[place(number)];
+        entry.learn(number);
+        entry.instr
+    }
+}

@@ -25,6 +25,10 @@ past_is_built (Itcm place) built = true
 past_is_built (Dtcm place) built = true
 past_is_built Past built = built
 
+-- whether a byte that a DMA channel of a processor reads or writes is built: it goes past the tightly coupled memories
+unfoldable pub map_is_built : Proc → ℕ → ℕ → Bool
+map_is_built proc wramcnt at = is_data_built proc (place_of proc wramcnt at)
+
 -- whether a byte of a processor's data is built, by the place that a read of it has
 unfoldable pub byte_is_built : Proc → Cp15State → ℕ → ℕ → Bool
 byte_is_built Nine cp15 wramcnt at = past_is_built (tcm_of cp15 at false false) (is_data_built Nine (place_of Nine wramcnt at))

@@ -1,7 +1,7 @@
 //! Which places are built so far.
 
 ghost use Rattle.std.specs.Prelude.{◌≡◌, ◌<◌};
-ghost use Rattle.ds_map.specs.Builds.{byte_is_built, is_data_built};
+ghost use Rattle.ds_map.specs.Builds.{byte_is_built, is_data_built, map_is_built};
 
 use cp15_tcm::{Cp15, Tcm};
 use ds_base::Proc;
@@ -15,6 +15,15 @@ fn is_data_built(proc: Proc, place: Place) -> bool
         Place::Port(at) => port_is_built(proc, at),
         Place::Cell { .. } | Place::Banks { .. } | Place::Rom(_) | Place::Nothing => true,
     }
+}
+
+/// Whether a byte that a DMA channel of a processor reads or writes is built: all but the ports that are to come.
+#[tactic(auto, unfolding(crate::specs::Builds::map_is_built))]
+pub fn map_is_built(proc: Proc, wramcnt: u8, at: u32) -> bool
+    requires { wramcnt < 4 }
+    ensures { result ≡ map_is_built proc wramcnt at }
+{
+    is_data_built(proc, place(proc, wramcnt, at))
 }
 
 /// Whether a byte of a processor's data is built, by the place that a read of it has: all but the ports that are to come.

@@ -9,9 +9,11 @@
 mod blocks;
 mod builds;
 mod maps;
+mod moves;
 mod views;
 
 pub use blocks::Block;
 pub use builds::byte_is_built;
 pub use maps::Map;
+pub use moves::unit_needs;
 pub use views::{DmaView, NineView, SevenView};

@@ -1,21 +1,25 @@
 //! The map.
 
-ghost use Rattle.std.specs.Prelude.{◌≡◌, ◌<◌, ◌^◌, ◌&&◌, slice_index, IfOk, IsSome, Some, if◌then◌else◌};
+ghost use Rattle.std.specs.Prelude.{◌≡◌, ◌<◌, ◌^◌, ◌&&◌, slice_index, ℕ, IfOk, IfSome, IsSome, Some, if◌then◌else◌};
 ghost use Rattle.ds_base.specs.Memories.{memory_size};
 ghost use Rattle.ds_base.specs.Numbers.{aligned_down, number_at, with_number};
-ghost use Rattle.ds_places.specs.AddressTables.{IsInside};
+ghost use Rattle.ds_base.specs.declared.memories.Memory.TheVariants.{Main};
+ghost use Rattle.ds_base.specs.declared.processors.Proc.{Proc};
+ghost use Rattle.ds_places.specs.AddressTables.{IsInside, place_of};
+ghost use Rattle.ds_places.specs.declared.kinds.Place.TheVariants.{Cell};
 ghost use Rattle.ds_map.specs.Maps.{blank_map, cells_of, memory_bytes, with_cells};
 ghost use Rattle.ds_base.specs.Schedules.{IsEarly};
 ghost use Rattle.ds_timers.specs.Irqs.{line_is_up};
 ghost use Rattle.ds_timers.specs.Timing.{timer_at, timer_due};
 ghost use Rattle.ds_ports.specs.Ports.{port_read, port_refusal, port_value};
-ghost use Rattle.ds_ports.specs.Units.{keys_pressed, own_of, timer_overflows, with_halted};
+ghost use Rattle.ds_ports.specs.Units.{channels_triggered, division_done, keys_pressed, own_of, root_done, timer_overflows, with_halted};
 ghost use Rattle.ds_map.specs.Accesses.{fetched_at, is_byte_of_nine, left_at, map_fetched, map_read, map_refusal, map_value, map_written, port_put, put_at, refusal_at, rom_value, takes_no_bytes, value_at};
 
 use crate::blocks::Block;
 use ds_base::{
     MAIN_BYTES, Memory, OAM_BYTES, OWN7_BYTES, PALETTE_BYTES, Proc, SHARED_BYTES, Stop, Tick, Width,
 };
+use ds_dma::Cause;
 use ds_places::{Place, place, rom_word};
 use ds_ports::{Units, part};
 use std::alloc::{AllocError, Global};
@@ -29,7 +33,7 @@ pub struct Map {
     own: Block<OWN7_BYTES>,
     palette: Block<PALETTE_BYTES>,
     oam: Block<OAM_BYTES>,
-    units: Units,
+    pub(crate) units: Units,
 }
 
 impl Model for Map {
@@ -153,11 +157,7 @@ impl Map {
         ensures refusal { result ≡ port_refusal proc self.old.units at width value }
         ensures next { self.new ≡ port_put proc now (port_refusal proc self.old.units at width value) self.old at width value }
     {
-        let refusal = self.units.refusal(proc, at, width, value);
-        if refusal.is_none() {
-            self.units.write(proc, now, at, width, value);
-        }
-        refusal
+        self.units.put(proc, now, at, width, value)
     }
 
     /// Writes a value at a place, for a processor at a tick, unless it is refused.
@@ -201,6 +201,9 @@ impl Map {
         ensures value { result ≡ map_value proc now self.old at width }
         ensures next { self.new ≡ map_read proc self.old at width }
     {
+        if let Some(cell) = main_cell(at) {
+            return self.main.number(cell as usize, width);
+        }
         let place = place(proc, self.wramcnt(), at);
         self.read_at(proc, now, place, width)
     }
@@ -211,6 +214,9 @@ impl Map {
     pub fn fetch(&self, proc: Proc, at: u32, width: Width) -> u32
         ensures { result ≡ map_fetched proc self.now at width }
     {
+        if let Some(cell) = main_cell(at) {
+            return self.main.number(cell as usize, width);
+        }
         self.fetch_at(proc, place(proc, self.wramcnt(), at), width)
     }
 
@@ -230,6 +236,10 @@ impl Map {
         ensures refusal { result ≡ map_refusal proc self.old at width value }
         ensures next { self.new ≡ map_written proc now self.old at width value }
     {
+        if let Some(cell) = main_cell(at) {
+            self.main.set_number(cell as usize, width, value);
+            return None;
+        }
         let place = place(proc, self.wramcnt(), at);
         self.write_at(proc, now, place, width, value)
     }
@@ -256,6 +266,30 @@ impl Map {
         ensures { self.new ≡ record self.old { units = with_halted proc self.old.units halted } }
     {
         self.units.set_halted(proc, halted);
+    }
+
+    /// A division is done.
+    pub fn finish_division(&mut self)
+        requires { IsSome self.old.units.divider.due }
+        ensures { self.new ≡ record self.old { units = division_done self.old.units } }
+    {
+        self.units.finish_division();
+    }
+
+    /// A square root is done.
+    pub fn finish_root(&mut self)
+        requires { IsSome self.old.units.root.due }
+        ensures { self.new ≡ record self.old { units = root_done self.old.units } }
+    {
+        self.units.finish_root();
+    }
+
+    /// An event triggers the DMA channels of both processors that wait for it.
+    pub fn trigger(&mut self, cause: Cause, now: Tick)
+        requires { IsEarly (Some now) }
+        ensures { self.new ≡ record self.old { units = channels_triggered cause now self.old.units } }
+    {
+        self.units.trigger(cause, now);
     }
 
     /// A processor's timer overflows, and its interrupts are raised.
@@ -306,6 +340,19 @@ impl Map {
             Memory::Itcm | Memory::Dtcm => 0,
         }
     }
+}
+
+/// The cell of main memory at an address, where it is there. It is asked first, since most accesses are of main memory.
+#[inline(always)]
+#[tactic(auto, using(crate::proofs::Mains::main_place))]
+fn main_cell(at: u32) -> Option<u32>
+    ensures place { IfSome result (λ cell. (proc : Proc) → (wramcnt : ℕ) → place_of proc wramcnt at ≡ Cell Main cell) }
+    ensures inside { IfSome result (λ cell. cell < memory_size Main) }
+{
+    if at >= 0x0200_0000 && at < 0x0300_0000 {
+        return Some((at - 0x0200_0000) % MAIN_BYTES as u32);
+    }
+    None
 }
 
 /// Whether an access is of a byte by ARM9.

@@ -1,0 +1,3 @@
+pub mod Mains
+pub mod Later
+pub mod TakenBack

@@ -2,6 +2,7 @@ use Rattle.std.specs.Prelude.{ℕ, false, List, [], ◌∷◌, take}
 use Rattle.ds_base.specs.Memories.{memory_size}
 use Rattle.ds_base.specs.Numbers.{zeroes}
 use Rattle.ds_base.specs.declared.memories.Memory.TheVariants.{Itcm, Dtcm}
+use Rattle.ds_base.specs.declared.keys.KeyLine.{KeyLine}
 use Rattle.ds_base.specs.declared.processors.Proc.{Proc}
 use Rattle.ds_base.specs.declared.processors.Proc.TheVariants.{Nine, Seven}
 use Rattle.arm_core.specs.Cores as cores
@@ -40,12 +41,13 @@ stacks_of Seven = 0x0380FD80 ∷ 0x0380FF80 ∷ 0x0380FFC0 ∷ []
 abbrev pub processor_booted : Proc → List ℕ → ProcessorState
 processor_booted proc file = record { registers = cores.booted (image_entry file proc) (stacks_of proc); due = 0; steps = 0 }
 
--- the boot state, from the cartridge's file
-abbrev pub booted : List ℕ → MachineState
-booted file = record {
+-- the boot state, from the cartridge's file and the lines of the key script
+abbrev pub booted : List ℕ → List KeyLine → MachineState
+booted file keys = record {
   nine = record { processor = processor_booted Nine file; cp15 = cp15_at_boot; itcm = zeroes (memory_size Itcm); dtcm = zeroes (memory_size Dtcm) };
   seven = record { processor = processor_booted Seven file };
   map = map_booted file;
   video = record { frame = 0; line = 0; blanked = false };
+  keys = keys;
   events = 0;
 }

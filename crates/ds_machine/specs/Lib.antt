@@ -2,6 +2,7 @@ pub mod States
 pub mod Needs
 pub mod Steps
 pub mod Videos
+pub mod Channels
 pub mod Boots
 pub mod Booted
 pub mod Reference

@@ -11,7 +11,7 @@ use Rattle.ds_map.specs.Views.{nine_memory, seven_memory}
 use Rattle.ds_machine.specs.declared.answers.Seen.{Seen}
 use Rattle.ds_machine.specs.declared.answers.Seen.TheVariants.{Half, Idle, Irq, Word}
 use Rattle.ds_machine.specs.States.{MachineState, ProcessorState}
-use Rattle.ds_machine.specs.Steps.{is_halted, line_of, nine_reach, processor_of, seven_reach}
+use Rattle.ds_machine.specs.Steps.{is_held, line_of, nine_reach, processor_of, seven_reach}
 
 -- What is told of a machine.
 
@@ -38,11 +38,11 @@ fetch_of s Seven at width = seven_memory.fetch_value (seven_reach s) at width
 -- what a processor does next: the entry of an interrupt at its r15, or a word or, in Thumb state, a half that it fetches; nothing where it isn't
 -- due
 abbrev pub seen_by : Bool → Bool → ProcessorState → (ℕ → Width → ℕ) → Seen
-seen_by halted line p fetch =
-    if halted then Idle
+seen_by held line p fetch =
+    if held then Idle
     else if enters line p.registers then Irq p.registers.pc
     else if is_thumb p.registers then Half p.registers.pc (fetch p.registers.pc width.Half % 2 ^ 16)
     else Word p.registers.pc (fetch p.registers.pc width.Word)
 
 abbrev pub seen_of : MachineState → Proc → Seen
-seen_of s proc = seen_by (is_halted s proc) (line_of s proc) (processor_of s proc) (fetch_of s proc)
+seen_of s proc = seen_by (is_held s proc) (line_of s proc) (processor_of s proc) (fetch_of s proc)

@@ -1,10 +1,7 @@
-use Rattle.std.specs.Prelude.{ℕ, ◌≡◌, Option, Some, None}
-use Rattle.ds_base.specs.declared.ticks.Due.{Due}
-use Rattle.ds_base.specs.declared.ticks.Tick.{Tick}
+use Rattle.std.specs.Prelude.{Option, Some, None}
 use Rattle.arm_core.specs.declared.outcomes.Stepped as arm
 use Rattle.arm_core.specs.declared.outcomes.Stepped.TheVariants.{Cost, Halted, Left}
 use Rattle.ds_base.specs.declared.left_out.Stop.{Stop}
-use Rattle.ds_runs.specs.Order.{IsFirst}
 use Rattle.ds_machine.specs.States.{ProcessorState}
 use Rattle.ds_machine.specs.declared.processors.Processor.{Processor}
 
@@ -18,8 +15,3 @@ abbrev pub stop_in : arm.Stepped → Option Stop
 stop_in (Cost clocks) = None
 stop_in (Halted clocks) = None
 stop_in (Left stop) = Some stop
-
--- the one of two actors that steps first, where the other is due at all
-abbrev pub IsFirstWith : Due → Option Tick → ℕ → Due → Type 0
-IsFirstWith first None rank result = result ≡ first
-IsFirstWith first (Some tick) rank result = IsFirst first (record { tick = tick; rank = rank }) result

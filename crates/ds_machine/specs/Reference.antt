@@ -1,20 +1,25 @@
-use Rattle.std.specs.Prelude.{ℕ, ◌+◌, ◌≡◌, ◌≤◌, ◌^◌, Bool, false, if◌then◌else◌, List, [], ◌∷◌, map, Option, Some, None}
+use Rattle.std.specs.Prelude.{ℕ, ◌+◌, ◌*◌, ◌≡◌, ◌≤◌, ◌^◌, Bool, false, if◌then◌else◌, List, [], ◌∷◌, map, Option, Some, None}
+use Rattle.ds_base.specs.KeyLines.{AreKeyLines}
+use Rattle.ds_base.specs.declared.keys.KeyLine.{KeyLine}
 use Rattle.ds_base.specs.declared.left_out.LeftOut.{LeftOut}
 use Rattle.ds_base.specs.declared.ticks.Due.{Due}
 use Rattle.ds_base.specs.declared.ticks.Tick.{Tick}
 use Rattle.ds_base.specs.declared.processors.Proc.{Proc}
 use Rattle.ds_base.specs.declared.processors.Proc.TheVariants.{Nine, Seven}
+use Rattle.ds_ports.specs.Dues.{AreUnits, due_behind}
+use Rattle.ds_ports.specs.Units.{division_done, keys_pressed, root_done, timer_overflows}
 use Rattle.ds_runs.specs.Actors.{actors, actor_of}
 use Rattle.ds_runs.specs.Runs.{Machine, Stepped, Makes, Stops, IsLeast, due_at}
 use Rattle.ds_runs.specs.declared.actors.Actor as actor
 use Rattle.ds_runs.specs.declared.actors.Actor.TheVariants.{KeyScript, Video, Timer, Divider, SquareRoot, Geometry, Card, Dma, Processor}
-use Rattle.ds_machine.specs.States.{MachineState, ProcessorState}
-use Rattle.ds_machine.specs.Steps.{is_halted, processor_of, processor_step, tick_of, woken}
-use Rattle.ds_machine.specs.Videos.{video_due, video_after, makes_whole}
+use Rattle.ds_machine.specs.Channels.{channel_step, one_event}
+use Rattle.ds_machine.specs.States.{MachineState, ProcessorState, counts_of}
+use Rattle.ds_machine.specs.Steps.{is_held, processor_of, processor_step, tick_of, with_units, woken}
+use Rattle.ds_machine.specs.Videos.{video_due, video_after, makes_whole, triggered_by_video}
 use Rattle.ds_machine.specs.declared.answers.Done.{Done}
 use Rattle.ds_machine.specs.declared.answers.Done.TheVariants.{Made, Frame, Stopped}
 
--- The reference machine. Of its actors the display and the processors are built; the others are never due.
+-- The reference machine. Geometry and the card aren't built yet; they are never due.
 
 -- what a run puts out: a frame became whole at this tick, and waiting lists were swapped there or not
 pub record Shown : Type 0 where
@@ -25,46 +30,66 @@ pub record Shown : Type 0 where
 abbrev pub next_shown : MachineState → Bool → Shown
 next_shown s swapped = record { tick = video_due s.video; swapped = swapped }
 
--- when a processor is due: never while it is halted
+-- when a processor is due: never while it is held
 abbrev pub due_unless : Bool → ProcessorState → Option Tick
-due_unless halted p = if halted then None else Some (tick_of p)
+due_unless held p = if held then None else Some (tick_of p)
 
 abbrev pub processor_due : MachineState → Proc → Option Tick
-processor_due s proc = due_unless (is_halted s proc) (processor_of s proc)
+processor_due s proc = due_unless (is_held s proc) (processor_of s proc)
+
+-- when the key script's next line is due
+abbrev pub keys_due : List KeyLine → Option Tick
+keys_due [] = None
+keys_due (line ∷ lines) = Some line.tick
 
 -- when an actor is due
 abbrev pub due_by : actor.Actor → MachineState → Option Tick
-due_by KeyScript s = None
+due_by KeyScript s = keys_due s.keys
 due_by Video s = Some (record { 0 = video_due s.video })
-due_by (Timer proc number) s = None
-due_by Divider s = None
-due_by SquareRoot s = None
+due_by (Timer proc number) s = due_behind (Timer proc number) s.map.units
+due_by Divider s = due_behind Divider s.map.units
+due_by SquareRoot s = due_behind SquareRoot s.map.units
 due_by Geometry s = None
 due_by Card s = None
-due_by (Dma proc channel) s = None
+due_by (Dma proc channel) s = due_behind (Dma proc channel) s.map.units
 due_by (Processor proc) s = processor_due s proc
 
 -- when each actor is due, by rank
 unfoldable pub dues_of : MachineState → List (Option Tick)
 dues_of s = map (λ (a : actor.Actor). due_by a s) actors
 
--- the display's event, which so far only counts, and what it puts out
+-- a line of the key script: from now on exactly its keys are pressed
+abbrev pub after_line : List KeyLine → MachineState → MachineState
+after_line [] s = s
+after_line (line ∷ lines) s = one_event (record (with_units s (keys_pressed s.map.units line.pressed)) { keys = lines })
+
+-- the display's event, which so far counts and triggers DMA, and what it puts out
 abbrev pub after_video : MachineState → MachineState
-after_video s = record s { video = video_after s.video; events = s.events + 1 }
+after_video s = one_event (record (with_units s (triggered_by_video s.video s.map.units)) { video = video_after s.video })
 
 abbrev pub shown_by_video : MachineState → List Shown
 shown_by_video s = if makes_whole s.video then next_shown s false ∷ [] else []
 
+-- the events of the units behind the ports
+abbrev pub after_timer : Proc → ℕ → MachineState → MachineState
+after_timer proc number s = one_event (with_units s (timer_overflows proc number s.map.units))
+
+abbrev pub after_division : MachineState → MachineState
+after_division s = one_event (with_units s (division_done s.map.units))
+
+abbrev pub after_root : MachineState → MachineState
+after_root s = one_event (with_units s (root_done s.map.units))
+
 -- what an actor's step comes to; one that isn't built leaves all as it is
 abbrev pub step_by : ℕ → actor.Actor → MachineState → Stepped MachineState Shown LeftOut
-step_by rank KeyScript s = Makes s []
+step_by rank KeyScript s = Makes (after_line s.keys s) []
 step_by rank Video s = Makes (after_video s) (shown_by_video s)
-step_by rank (Timer proc number) s = Makes s []
-step_by rank Divider s = Makes s []
-step_by rank SquareRoot s = Makes s []
+step_by rank (Timer proc number) s = Makes (after_timer proc number s) []
+step_by rank Divider s = Makes (after_division s) []
+step_by rank SquareRoot s = Makes (after_root s) []
 step_by rank Geometry s = Makes s []
 step_by rank Card s = Makes s []
-step_by rank (Dma proc channel) s = Makes s []
+step_by rank (Dma proc channel) s = channel_step rank proc (due_behind (Dma proc channel) s.map.units) s
 step_by rank (Processor proc) s = processor_step rank proc s
 
 -- and after a step that is taken halted processors wake that are to
@@ -97,28 +122,16 @@ Steps rank old done new = step_of rank old ≡ stepped_of old done new
 abbrev pub IsDue : MachineState → Due → Type 0
 IsDue s due = IsLeast (dues_of s) due.tick due.rank
 
--- the states that come up: so far nothing is asked of one
-abbrev pub IsSound : MachineState → Type 0
-IsSound s = Unit {0}
+-- the states that come up: each unit's numbers are those that it can have, and the lines of the script that are to come rise
+pub record IsSound (s : MachineState) : Type 0 where
+  pub units : AreUnits s.map.units
+  pub keys : AreKeyLines s.keys
 
--- no actor took more steps than there are ticks before its next one; and a processor, halted or not, took at most one more than there are ticks
--- before whatever is due
-abbrev pub SoManySteps : MachineState → ProcessorState → Type 0
-SoManySteps s p = (rank : ℕ) → (tick : Tick) → due_at (dues_of s) rank ≡ Some tick → p.steps ≤ tick.0 + 1
+-- Each step was taken at a place of its own in the order of steps, which has 24 places for each tick: so there were no more of them than places before
+-- that of whatever is due.
+abbrev pub HasCounted : MachineState → Type 0
+HasCounted s = (rank : ℕ) → (tick : Tick) → due_at (dues_of s) rank ≡ Some tick → counts_of s ≤ 24 * tick.0 + rank
 
-abbrev pub StepsBefore : Option Tick → ProcessorState → Type 0
-StepsBefore None p = Unit {0}
-StepsBefore (Some tick) p = p.steps ≤ tick.0
-
-pub record HasCounted (s : MachineState) : Type 0 where
-  pub nine : StepsBefore (processor_due s Nine) s.nine.processor
-  pub seven : StepsBefore (processor_due s Seven) s.seven.processor
-  pub nine_all : SoManySteps s s.nine.processor
-  pub seven_all : SoManySteps s s.seven.processor
-  pub events : s.events ≤ video_due s.video
-
--- every count of steps is within a limit
-pub record CountsWithin (limit : ℕ) (s : MachineState) : Type 0 where
-  pub nine : s.nine.processor.steps ≤ limit
-  pub seven : s.seven.processor.steps ≤ limit
-  pub events : s.events ≤ limit
+-- all steps were taken below a limit
+abbrev pub CountsWithin : ℕ → MachineState → Type 0
+CountsWithin limit s = counts_of s ≤ 24 * limit

@@ -10,7 +10,8 @@ use Rattle.arm_core.specs.declared.outcomes.Stepped.TheVariants.{Cost, Halted, L
 use Rattle.arm9_exec.specs.Arm9.{Outcome9}
 use Rattle.ds_base.specs.declared.ticks.Tick.{Tick}
 use Rattle.ds_map.specs.Views.{NineReach, SevenReach}
-use Rattle.ds_ports.specs.Units.{own_of, with_halted}
+use Rattle.ds_ports.specs.Own as own
+use Rattle.ds_ports.specs.Units.{UnitsState, own_of, with_halted}
 use Rattle.ds_timers.specs.Irqs.{line_is_up, shares_bit}
 use Rattle.ds_runs.specs.Runs.{Stepped, Makes, Stops}
 use Rattle.ds_machine.specs.Needs.{nine_taken, seven_taken}
@@ -30,9 +31,12 @@ with_processor Seven s p = record s { seven = record s.seven { processor = p } }
 abbrev pub tick_of : ProcessorState → Tick
 tick_of p = record { 0 = p.due }
 
--- whether a processor is halted, and whether its interrupt line is up
+-- whether a processor is halted; whether it is held, so that it isn't due; and whether its interrupt line is up
 abbrev pub is_halted : MachineState → Proc → Bool
 is_halted s proc = (own_of s.map.units proc).halted
+
+abbrev pub is_held : MachineState → Proc → Bool
+is_held s proc = own.is_held (own_of s.map.units proc)
 
 abbrev pub line_of : MachineState → Proc → Bool
 line_of s proc = line_is_up (own_of s.map.units proc).irq
@@ -59,9 +63,13 @@ with_nine s o = record s {
 abbrev pub with_seven : MachineState → Outcome SevenReach → MachineState
 with_seven s o = record s { seven = record s.seven { processor = record s.seven.processor { registers = o.registers } }; map = o.state.map }
 
+-- the machine with other units behind the ports
+abbrev pub with_units : MachineState → UnitsState → MachineState
+with_units s units = record s { map = record s.map { units = units } }
+
 -- a processor is halted, or isn't
 abbrev pub with_halt : Proc → MachineState → Bool → MachineState
-with_halt proc s halted = record s { map = record s.map { units = with_halted proc s.map.units halted } }
+with_halt proc s halted = with_units s (with_halted proc s.map.units halted)
 
 -- a processor after a step that costs so many of its clocks; where it is halted now the cost isn't added
 abbrev pub went_on : Proc → ℕ → Bool → ProcessorState → ProcessorState

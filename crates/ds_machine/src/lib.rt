@@ -6,12 +6,17 @@
 
 mod answers;
 mod boots;
+mod dues;
+mod events;
+mod fetching;
 mod laws;
 mod machines;
 mod needs;
 mod parts;
 mod processors;
+mod scripts;
 mod steps;
+mod turns;
 mod videos;
 
 pub use answers::{Done, Seen};

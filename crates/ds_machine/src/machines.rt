@@ -5,12 +5,12 @@ ghost use Rattle.ds_base.specs.Memories.{memory_size};
 ghost use Rattle.ds_runs.specs.Runs.{due_at};
 ghost use Rattle.ds_machine.specs.Booted.{booted};
 ghost use Rattle.ds_machine.specs.Observed.{memory_of, registers_of, seen_of};
-ghost use Rattle.ds_machine.specs.Reference.{dues_of, IsDue, HasCounted, MayStep, Steps};
+ghost use Rattle.ds_machine.specs.Reference.{dues_of, IsDue, IsSound, HasCounted, MayStep, Steps};
 ghost use Rattle.ds_machine.specs.Steps.{processor_of};
 
 use crate::answers::{Done, Seen};
 use crate::parts::Parts;
-use ds_base::{Due, Memory, Proc, Tick};
+use ds_base::{Due, Keys, Memory, Proc, Tick};
 use ds_header::Cart;
 use std::alloc::{AllocError, Global};
 use std::marker::Model;
@@ -29,21 +29,21 @@ impl Model for Machine {
 
     ghost view = { λ m. m.parts };
 
-    // no actor takes two steps at one tick
+    // each step was taken at a place of its own in the order of steps
     ghost invariant = { λ m. HasCounted m.parts };
 }
 
 impl Machine {
-    /// The machine as it is when it is switched on with a cartridge: ARM9's image is copied to memory, then ARM7's, then the
+    /// The machine as it is when it is switched on with a cartridge and a key script: ARM9's image is copied to memory, then ARM7's, then the
     /// header; both processors are due at once. All memory of a run is taken here.
-    pub fn new(alloc: Global, cart: &Cart) -> Result<Machine, AllocError>
-        ensures { IfOk result (λ machine. machine ≡ booted cart.now) }
+    pub fn new(alloc: Global, cart: &Cart, keys: Keys) -> Result<Machine, AllocError>
+        ensures { IfOk result (λ machine. machine ≡ booted cart.now keys) }
     {
-        let parts = Parts::new(alloc, cart)?;
+        let parts = Parts::new(alloc, cart, keys)?;
         Ok(Machine { parts })
     }
 
-    /// The actor that steps next. No actor took more steps than there are ticks before its next one.
+    /// The actor that steps next. All steps so far were at most as many as places before it in the order of steps.
     #[inline(always)]
     pub fn due(&self) -> Due
         ensures least { IsDue self.now result }
@@ -67,10 +67,20 @@ impl Machine {
         requires { MayStep self.old rank }
         ensures { Steps rank self.old result self.new }
     {
+        self.parts.laws();
         self.parts.step(rank)
     }
 
-    /// What a processor does next: the entry of an interrupt, or a word of ARM code or a half of Thumb code; nothing while it is halted.
+    /// Does nothing; its contract states what holds of every machine: each unit's numbers are those that it can have, and the lines of the key
+    /// script that are to come rise.
+    pub fn laws(&self)
+        ensures { IsSound self.now }
+    {
+        self.parts.laws();
+    }
+
+    /// What a processor does next: the entry of an interrupt, or a word of ARM code or a half of Thumb code; nothing while it isn't due: it is halted, or a DMA channel of it
+    /// runs.
     pub fn seen(&self, proc: Proc) -> Seen
         ensures { result ≡ seen_of self.now proc }
     {

@@ -1,6 +1,6 @@
 //! A processor in the machine.
 
-ghost use Rattle.std.specs.Prelude.{◌≡◌, ◌≤◌, ◌^◌};
+ghost use Rattle.std.specs.Prelude.{◌≡◌, ◌≤◌, ◌+◌, ◌^◌, max};
 ghost use Rattle.arm_core.specs.Cores as cores;
 ghost use Rattle.ds_base.specs.Processors.{architecture_of};
 ghost use Rattle.ds_header.specs.Fields.{image_entry};
@@ -9,7 +9,7 @@ ghost use Rattle.ds_machine.specs.Processors.{state_of};
 ghost use Rattle.ds_machine.specs.Steps.{went_on};
 
 use arm_core::Core;
-use ds_base::Proc;
+use ds_base::{Proc, Tick};
 use ds_header::Cart;
 
 /// A processor: its core, the tick at which its next step is due, and how many steps it took.
@@ -49,7 +49,7 @@ impl Processor {
     #[inline(always)]
     pub fn go_on(&mut self, proc: Proc, clocks: u32, halted: bool)
         requires early { self.old.due ≤ 2 ^ 56 }
-        requires counted { self.old.steps ≤ 2 ^ 56 }
+        requires counted { self.old.steps ≤ 2 ^ 61 }
         ensures state { state_of self.new ≡ went_on proc clocks halted (state_of self.old) }
         ensures core { self.new.core ≡ self.old.core }
     {
@@ -57,5 +57,14 @@ impl Processor {
             self.due += proc.ticks_per_clock() * clocks as u64;
         }
         self.steps += 1;
+    }
+
+    /// It is due after a tick at the earliest.
+    pub fn hold_past(&mut self, tick: Tick)
+        requires { tick.0 ≤ 2 ^ 56 }
+        ensures state { state_of self.new ≡ record (state_of self.old) { due = max self.old.due (tick.0 + 1) } }
+        ensures core { self.new.core ≡ self.old.core }
+    {
+        self.due = self.due.max(tick.0 + 1);
     }
 }

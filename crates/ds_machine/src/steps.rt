@@ -12,13 +12,15 @@ ghost use Rattle.arm9_exec.specs.Coprocessors.{move_of};
 ghost use Rattle.ds_map.specs.Views.{nine_memory, seven_memory};
 ghost use Rattle.ds_machine.specs.Needs.{nine_needs, nine_step, nine_taken, seven_needs, seven_step, seven_taken};
 
+use crate::fetching::{next_of_nine, next_of_seven};
 use crate::needs::unbuilt;
 use arm_core::{Core, Stepped};
-use arm_exec::{Fetched, enters, fetch};
+use arm_exec::{Fetched, enters};
+use arm_memo::Decoder;
 use arm7_exec::{execute7, step7};
 use arm9_exec::{execute9, step9};
 use cp15_tcm::Cp15;
-use ds_base::{Arch, DTCM_BYTES, ITCM_BYTES, LeftKind, Proc, Stop, Tick};
+use ds_base::{DTCM_BYTES, ITCM_BYTES, LeftKind, Proc, Stop, Tick};
 use ds_map::{Block, Map, NineView, SevenView};
 
 /// What isn't built yet, by its address.
@@ -29,33 +31,6 @@ fn not_yet(value: u32) -> Stop
         kind: LeftKind::NotYet,
         value,
     }
-}
-
-/// What ARM7 fetches next.
-#[inline(always)]
-fn fetch_seven(core: &Core, map: &mut Map, now: Tick) -> Fetched
-    requires early { IsEarly (Some now) }
-    ensures number { result.number ≡ (fetched seven_memory V4 core.now.registers (record { map = map.old; now = now })).number }
-    ensures instr { result.instr ≡ (fetched seven_memory V4 core.now.registers (record { map = map.old; now = now })).instr }
-    ensures low { result.number < 16 }
-    ensures fields { IfSome result.instr HasFields }
-    ensures map { map.new ≡ (fetched seven_memory V4 core.now.registers (record { map = map.old; now = now })).state.map }
-{
-    let mut view = SevenView { map, now };
-    fetch(Arch::V4, &core.registers, &mut view)
-}
-
-/// What ARM7 fetches next; all memories stay.
-#[inline(always)]
-fn next_of_seven(core: &Core, map: &mut Map, now: Tick) -> Fetched
-    requires early { IsEarly (Some now) }
-    ensures number { result.number ≡ (fetched seven_memory V4 core.now.registers (record { map = map.old; now = now })).number }
-    ensures instr { result.instr ≡ (fetched seven_memory V4 core.now.registers (record { map = map.old; now = now })).instr }
-    ensures low { result.number < 16 }
-    ensures fields { IfSome result.instr HasFields }
-    ensures map { map.new ≡ map.old }
-{
-    fetch_seven(core, map, now)
 }
 
 /// What ARM7's step needs and isn't built yet, by what it fetches.
@@ -116,7 +91,14 @@ fn enter_seven(core: &mut Core, map: &mut Map, now: Tick, line: bool) -> Stepped
 
 /// ARM7's step. Where it needs what isn't built it isn't taken.
 #[inline(always)]
-pub fn take_seven(core: &mut Core, cp: &Cp15, map: &mut Map, now: Tick, line: bool) -> Stepped
+pub fn take_seven(
+    core: &mut Core,
+    decoder: &mut Decoder<4>,
+    cp: &Cp15,
+    map: &mut Map,
+    now: Tick,
+    line: bool,
+) -> Stepped
     requires arch { core.old.arch ≡ V4 }
     requires early { IsEarly (Some now) }
     ensures core { core.new ≡ record core.old { registers = (seven_taken cp.now line core.old.registers (record { map = map.old; now = now })).registers } }
@@ -126,62 +108,11 @@ pub fn take_seven(core: &mut Core, cp: &Cp15, map: &mut Map, now: Tick, line: bo
     if enters(&core.registers, line) {
         return enter_seven(core, map, now, line);
     }
-    let next = next_of_seven(core, map, now);
+    let next = next_of_seven(core, decoder, map, now);
     match seven_needs(core, cp, map, now, &next) {
         None => seven_step(core, map, now, line, next),
         Some(value) => Stepped::Left(not_yet(value)),
     }
-}
-
-/// What ARM9 fetches next.
-#[inline(always)]
-fn fetch_nine(
-    core: &Core,
-    cp: &Cp15,
-    map: &mut Map,
-    itcm: &mut Block<ITCM_BYTES>,
-    dtcm: &mut Block<DTCM_BYTES>,
-    now: Tick,
-) -> Fetched
-    requires early { IsEarly (Some now) }
-    ensures number { result.number ≡ (fetched nine_memory V5 core.now.registers (record { map = map.old; cp15 = cp.now; itcm = itcm.old; dtcm = dtcm.old; now = now })).number }
-    ensures instr { result.instr ≡ (fetched nine_memory V5 core.now.registers (record { map = map.old; cp15 = cp.now; itcm = itcm.old; dtcm = dtcm.old; now = now })).instr }
-    ensures low { result.number < 16 }
-    ensures fields { IfSome result.instr HasFields }
-    ensures map { map.new ≡ (fetched nine_memory V5 core.now.registers (record { map = map.old; cp15 = cp.now; itcm = itcm.old; dtcm = dtcm.old; now = now })).state.map }
-    ensures itcm { itcm.new ≡ (fetched nine_memory V5 core.now.registers (record { map = map.old; cp15 = cp.now; itcm = itcm.old; dtcm = dtcm.old; now = now })).state.itcm }
-    ensures dtcm { dtcm.new ≡ (fetched nine_memory V5 core.now.registers (record { map = map.old; cp15 = cp.now; itcm = itcm.old; dtcm = dtcm.old; now = now })).state.dtcm }
-{
-    let mut view = NineView {
-        map,
-        itcm,
-        dtcm,
-        cp: *cp,
-        now,
-    };
-    fetch(Arch::V5, &core.registers, &mut view)
-}
-
-/// What ARM9 fetches next; all memories stay.
-#[inline(always)]
-fn next_of_nine(
-    core: &Core,
-    cp: &Cp15,
-    map: &mut Map,
-    itcm: &mut Block<ITCM_BYTES>,
-    dtcm: &mut Block<DTCM_BYTES>,
-    now: Tick,
-) -> Fetched
-    requires early { IsEarly (Some now) }
-    ensures number { result.number ≡ (fetched nine_memory V5 core.now.registers (record { map = map.old; cp15 = cp.now; itcm = itcm.old; dtcm = dtcm.old; now = now })).number }
-    ensures instr { result.instr ≡ (fetched nine_memory V5 core.now.registers (record { map = map.old; cp15 = cp.now; itcm = itcm.old; dtcm = dtcm.old; now = now })).instr }
-    ensures low { result.number < 16 }
-    ensures fields { IfSome result.instr HasFields }
-    ensures map { map.new ≡ map.old }
-    ensures itcm { itcm.new ≡ itcm.old }
-    ensures dtcm { dtcm.new ≡ dtcm.old }
-{
-    fetch_nine(core, cp, map, itcm, dtcm, now)
 }
 
 /// What ARM9's step needs and isn't built yet, by what it fetches.
@@ -300,6 +231,7 @@ fn enter_nine(
 #[inline(always)]
 pub fn take_nine(
     core: &mut Core,
+    decoder: &mut Decoder<5>,
     cp: &mut Cp15,
     map: &mut Map,
     itcm: &mut Block<ITCM_BYTES>,
@@ -319,7 +251,7 @@ pub fn take_nine(
     if enters(&core.registers, line) {
         return enter_nine(core, cp, map, itcm, dtcm, now, line);
     }
-    let next = next_of_nine(core, cp, map, itcm, dtcm, now);
+    let next = next_of_nine(core, decoder, cp, map, itcm, dtcm, now);
     match nine_needs(core, cp, map, itcm, dtcm, now, &next) {
         None => nine_step(core, cp, map, itcm, dtcm, now, line, next),
         Some(value) => Stepped::Left(not_yet(value)),

@@ -1,7 +1,7 @@
 //! The display's events.
 
 ghost use Rattle.std.specs.Prelude.{◌≡◌, ◌≤◌, ◌^◌, false};
-ghost use Rattle.ds_machine.specs.Videos.{video_due, video_after, makes_whole};
+ghost use Rattle.ds_machine.specs.Videos.{video_due, video_after, blanks_drawn, makes_whole};
 
 use std::marker::Model;
 
@@ -54,6 +54,20 @@ impl Video {
         ensures { result ≡ video_due self.now }
     {
         self.due
+    }
+
+    /// Whether the next event makes a frame whole.
+    pub fn makes_whole(&self) -> bool
+        ensures { result ≡ makes_whole self.now }
+    {
+        self.blanked && self.line == VBLANK_LINE - 1
+    }
+
+    /// Whether the next event is the H-blank of a line that is drawn.
+    pub fn blanks_drawn(&self) -> bool
+        ensures { result ≡ blanks_drawn self.now }
+    {
+        !self.blanked && self.line < VBLANK_LINE
     }
 
     /// The next event. The answer is whether it made a frame whole.

@@ -4,7 +4,8 @@ use Rattle.ds_runs.specs.Runs.{over, stops, more}
 use Rattle.ds_runs.proofs.RunExists.{run_exists, fewer_left}
 use Rattle.ds_machine.specs.States.{MachineState}
 use Rattle.ds_machine.specs.Reference.{Shown, next_shown, reference, IsSound}
-use Rattle.ds_machine.proofs.MachineSchedule.{reference_schedules, owes, SameCounts, stop_counts}
+use Rattle.ds_machine.proofs.Counts.{one_more, stop_counts}
+use Rattle.ds_machine.proofs.MachineSchedule.{reference_schedules}
 use Rattle.run_ahead.specs.Consoles.{ConsoleState}
 use Rattle.run_ahead.specs.Turns.{TakesStep, Turns, RunsOn, GoesOn, HasRuns, turns_of, turns_left, counted_of, turns_in, HasTurned, none, turn, TurnsAddUp}
 use Rattle.run_ahead.specs.declared.turns.Turned as turned
@@ -25,28 +26,26 @@ runs_on until old (answers.Stopped left) new t open_ =
     let stop = (t.0 open_).0 in
     stops old.machine new.machine stop.tick stop.rank left stop.least stop.below stop.step
 
--- from every machine there are runs
-pub has_runs : (s : MachineState) → HasRuns s
-has_runs s = λ limit. run_exists reference 24 IsSound reference_schedules limit s tt
+-- from every sound machine there are runs
+pub has_runs : (s : MachineState) → IsSound s → HasRuns s
+has_runs s sound = λ limit. run_exists reference 24 IsSound reference_schedules limit s sound
 
 -- a step is one more turn, and leaves fewer below the limit
 took : (until : ℕ) (old new : MachineState) (front : List Shown) → TakesStep until old front new → turns_of new ≡ 1 + turns_of old
-took until old new front step = let e = (owes old new step.tick step.rank front step.least step.step).counted in omega (arith, e)
+took until old new front step = let e = one_more old new step.tick step.rank front step.least step.step in omega (arith, e)
 
-fewer : (until : ℕ) (old new : MachineState) (front : List Shown) → TakesStep until old front new → turns_left until new < turns_left until old
-fewer until old new front step = fewer_left reference 24 IsSound reference_schedules until old new step.tick step.rank front tt step.least step.below step.step
+fewer : (until : ℕ) (old new : MachineState) (front : List Shown) → IsSound old → TakesStep until old front new → turns_left until new < turns_left until old
+fewer until old new front sound step = fewer_left reference 24 IsSound reference_schedules until old new step.tick step.rank front sound step.least step.below step.step
 
 stayed : (old new : MachineState) → new ≡ old → turns_of new ≡ 0 + turns_of old
 stayed old new e = let g : turns_of new ≡ turns_of old = ap turns_of e in omega (arith, g)
 
 -- a stop leaves the counts as they were
-same_counts : (old new : MachineState) → SameCounts old new → turns_of new ≡ 0 + turns_of old
-same_counts old new same = let nine = same.0 in let seven = same.1 in let events = same.2 in omega (arith, nine, seven, events)
-
 stopped : (until : ℕ) (old new : ConsoleState) (o : Option LeftOut) → old.stopped ≡ o → (left : LeftOut) → Turns until old (answers.Stopped left) new → turns_of new.machine ≡ 0 + turns_of old.machine
 stopped until old new None e left t =
     let stop = (t.0 e).0 in
-    same_counts old.machine new.machine (stop_counts old.machine new.machine stop.rank left stop.step)
+    let same = stop_counts old.machine new.machine stop.rank left stop.step in
+    omega (arith, same)
 stopped until old new (Some l) e left t = stayed old.machine new.machine (ap (λ (x : ConsoleState). x.machine) (t.1 (rw e refl)).1)
 
 pub turn_counts : (until : ℕ) (old : ConsoleState) (answer : turned.Turned) (new : ConsoleState) → Turns until old answer new → turns_of new.machine ≡ counted_of answer + turns_of old.machine
@@ -55,11 +54,12 @@ turn_counts until old (answers.Frame swapped) new t = took until old.machine new
 turn_counts until old answers.AtEnd new t = stayed old.machine new.machine (ap (λ (x : ConsoleState). x.machine) t.2)
 turn_counts until old (answers.Stopped left) new t = stopped until old new old.stopped refl left t
 
-pub turn_falls : (until : ℕ) (old : ConsoleState) (answer : turned.Turned) (new : ConsoleState) → Turns until old answer new → counted_of answer ≡ 1 → turns_left until new.machine < turns_left until old.machine
-turn_falls until old answers.Ran new t counts = fewer until old.machine new.machine [] t.1
-turn_falls until old (answers.Frame swapped) new t counts = fewer until old.machine new.machine (next_shown old.machine swapped ∷ []) t.1
-turn_falls until old answers.AtEnd new t counts = absurd (omega (arith, counts))
-turn_falls until old (answers.Stopped left) new t counts = absurd (omega (arith, counts))
+pub turn_falls : (until : ℕ) (old : ConsoleState) (answer : turned.Turned) (new : ConsoleState) → IsSound old.machine → Turns until old answer new → counted_of answer ≡ 1
+    → turns_left until new.machine < turns_left until old.machine
+turn_falls until old answers.Ran new sound t counts = fewer until old.machine new.machine [] sound t.1
+turn_falls until old (answers.Frame swapped) new sound t counts = fewer until old.machine new.machine (next_shown old.machine swapped ∷ []) sound t.1
+turn_falls until old answers.AtEnd new sound t counts = absurd (omega (arith, counts))
+turn_falls until old (answers.Stopped left) new sound t counts = absurd (omega (arith, counts))
 
 -- all turns together count the steps since the start
 pub turns_add_up : TurnsAddUp

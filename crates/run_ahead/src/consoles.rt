@@ -4,11 +4,11 @@ ghost use Rattle.std.specs.Prelude.{◌≡◌, ◌≤◌, ◌<◌, ◌+◌, ◌*
 ghost use Rattle.ds_base.specs.Memories.{memory_size};
 ghost use Rattle.ds_machine.specs.Booted.{booted};
 ghost use Rattle.ds_machine.specs.Observed.{memory_of, registers_of, seen_of};
-ghost use Rattle.ds_machine.specs.Reference.{IsDue};
+ghost use Rattle.ds_machine.specs.Reference.{IsDue, IsSound};
 ghost use Rattle.run_ahead.specs.Turns.{Turns, RunsOn, HasRuns, turns_of, turns_left, counted_of};
 
 use crate::turns::Turned;
-use ds_base::{Due, LeftOut, Memory, Proc, Tick};
+use ds_base::{Due, Keys, LeftOut, Memory, Proc, Tick};
 use ds_header::Cart;
 use ds_machine::{Done, Machine, Seen};
 use std::alloc::{AllocError, Global};
@@ -50,11 +50,11 @@ impl Model for Console {
 }
 
 impl Console {
-    /// A console that is switched on with a cartridge, and hasn't run. All memory of a run is taken here.
-    pub fn new(alloc: Global, cart: Cart) -> Result<Console, AllocError>
-        ensures { IfOk result (λ console. console ≡ record { machine = booted cart; limit = 0; stopped = None }) }
+    /// A console that is switched on with a cartridge and a key script, and hasn't run. All memory of a run is taken here.
+    pub fn new(alloc: Global, cart: Cart, keys: Keys) -> Result<Console, AllocError>
+        ensures { IfOk result (λ console. console ≡ record { machine = booted cart keys; limit = 0; stopped = None }) }
     {
-        let machine = Machine::new(alloc, &cart)?;
+        let machine = Machine::new(alloc, &cart, keys)?;
         Ok(Console {
             machine,
             limit: 0,
@@ -72,7 +72,15 @@ impl Console {
         ensures counted { turns_of self.new.machine ≡ counted_of result + turns_of self.old.machine }
         ensures falls { counted_of result ≡ 1 → turns_left until.0 self.new.machine < turns_left until.0 self.old.machine }
     {
+        self.laws();
         self.step(until)
+    }
+
+    /// Does nothing; its contract states that the machine is sound.
+    fn laws(&self)
+        ensures { IsSound self.now.machine }
+    {
+        self.machine.laws();
     }
 
     /// A turn, as the one step that it is so far.
@@ -109,7 +117,9 @@ impl Console {
     /// Does nothing; its contract states that the reference run goes on from this machine to every limit.
     pub fn has_runs(&self)
         ensures { HasRuns self.now.machine }
-    {}
+    {
+        self.laws();
+    }
 
     /// What a processor does next.
     pub fn seen(&self, proc: Proc) -> Seen

@@ -1,7 +1,7 @@
 use Rattle.std.proofs.Common.{◌∙◌, sym, ap}
 use Rattle.ds_runs.specs.declared.actors.Actor as actor
 use Rattle.ds_machine.specs.Reference.{due_by}
-use Rattle.ds_machine.proofs.MachineSchedule.{due_of_rank}
+use Rattle.ds_machine.proofs.DueTicks.{due_of_rank}
 use Rattle.ds_machine.proofs.parts.Parts.due_of.Goals as goal
 
 pub returns : goal.returns

@@ -4,13 +4,13 @@ use Rattle.ds_base.specs.declared.left_out.LeftOut.{LeftOut}
 use Rattle.ds_runs.specs.Runs.{IsLeast, Makes, Stops}
 use Rattle.ds_machine.specs.States.{MachineState}
 use Rattle.ds_machine.specs.Reference.{Shown, next_shown, dues_of, step_of, HasCounted, CountsWithin}
-use Rattle.ds_machine.proofs.MachineSchedule.{counts_within, stop_counts}
+use Rattle.ds_machine.proofs.Counts.{counts_within, stop_counts}
 use Rattle.run_ahead.proofs.consoles.Console.step.Goals as goal
 
 still_within : (s next : MachineState) (due : Due) (outs : List Shown) (before until limit : ℕ) → IsLeast (dues_of s) due.tick due.rank → step_of due.rank s ≡ Makes next outs
     → HasCounted s → CountsWithin before s × (before ≤ 2 ^ 56) → due.tick.0 < until → until ≤ 2 ^ 56 → limit ≡ max before until → CountsWithin limit next × (limit ≤ 2 ^ 56)
 still_within s next due outs before until limit least goes has within lt early most =
-    (counts_within s next due.tick due.rank outs before limit least goes has within.0 (omega (arith, most)) (omega (arith, most, lt)), (let k = within.1 in omega (arith, most, k, early)))
+    (counts_within s next due.tick due.rank outs limit least goes has (omega (arith, most, lt)), (let k = within.1 in omega (arith, most, k, early)))
 
 pub invariant_of-self-in-Made : goal.invariant_of-self-in-Made
 invariant_of-self-in-Made c =
@@ -25,14 +25,9 @@ invariant_of-self-in-Frame c =
 stopped_within : (s left : MachineState) (rank : ℕ) (stop : LeftOut) (before until limit : ℕ) → step_of rank s ≡ Stops stop left
     → CountsWithin before s × (before ≤ 2 ^ 56) → until ≤ 2 ^ 56 → limit ≡ max before until → CountsWithin limit left × (limit ≤ 2 ^ 56)
 stopped_within s left rank stop before until limit stops within early most =
-    let same = stop_counts s left rank stop stops in (
-      record {
-        nine = (let k = within.0.nine in let e = same.0 in omega (arith, k, e, most));
-        seven = (let k = within.0.seven in let e = same.1 in omega (arith, k, e, most));
-        events = (let k = within.0.events in let e = same.2 in omega (arith, k, e, most));
-      },
-      (let k = within.1 in omega (arith, most, k, early)),
-    )
+    let same = stop_counts s left rank stop stops in
+    let k = within in
+    (omega (arith, k.0, same, most), omega (arith, most, k.1, early))
 
 pub invariant_of-self-in-Stopped : goal.invariant_of-self-in-Stopped
 invariant_of-self-in-Stopped c =

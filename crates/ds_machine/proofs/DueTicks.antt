@@ -1,0 +1,114 @@
+use Rattle.std.proofs.Common.{ℕ, ◌≡◌, ◌≢◌, ◌<◌, ◌≤◌, ◌^◌, ◌⊎◌, inl, inr, Bool, true, false, List, [], ◌∷◌, ◌++◌, length, Option, Some, None, refl, sym, ◌∙◌, ap, subst, arith}
+use Rattle.std.proofs.lemmas.Option.{same_Some, none-some}
+use Rattle.ds_base.specs.declared.left_out.LeftOut.{LeftOut}
+use Rattle.ds_base.specs.declared.processors.Proc.{Proc}
+use Rattle.ds_base.specs.declared.processors.Proc.TheVariants.{Nine, Seven}
+use Rattle.ds_base.specs.declared.ticks.Due.{Due}
+use Rattle.ds_base.specs.declared.ticks.Tick.{Tick}
+use Rattle.ds_ports.specs.Dues.{dues_behind}
+use Rattle.ds_runs.specs.Actors.{actor_of}
+use Rattle.ds_runs.specs.Order.{due_with_rank, earlier, first_from}
+use Rattle.ds_runs.specs.Runs.{IsLeast, Stepped, due_at}
+use Rattle.ds_runs.specs.Schedules.{AllReschedule}
+use Rattle.ds_runs.specs.declared.actors.Actor as actor
+use Rattle.ds_runs.specs.declared.actors.Actor.TheVariants.{Video}
+use Rattle.ds_runs.proofs.ActorTable.{due_of_actor}
+use Rattle.ds_runs.proofs.Firsts.{first_is_least, first_of_append}
+use Rattle.ds_runs.proofs.Lists.{at_rank, is_later, within}
+use Rattle.ds_machine.specs.Reference.{MayStep, Shown, awake, due_by, due_unless, dues_of, keys_due, processor_due, step_by, step_of}
+use Rattle.ds_machine.specs.States.{MachineState, ProcessorState}
+use Rattle.ds_machine.specs.Steps.{is_held, processor_of, tick_of}
+use Rattle.ds_machine.specs.Videos.{video_due}
+
+-- The machine's due ticks, as a list and by actors.
+
+-- the list has an entry for each actor, and an actor's is at its rank
+pub entries_are : (s : MachineState) → length (dues_of s) ≡ 24
+unfolding dues_of
+entries_are s = refl
+
+pub due_of_rank : (s : MachineState) (rank : ℕ) → rank < 24 → due_at (dues_of s) rank ≡ due_by (actor_of rank) s
+unfolding dues_of
+due_of_rank s rank lt = due_of_actor (λ (a : actor.Actor). due_by a s) rank lt
+
+pub low_rank : (s : MachineState) (rank : ℕ) (tick : Tick) → due_at (dues_of s) rank ≡ Some tick → rank < 24
+low_rank s rank tick h = let k = within (dues_of s) rank tick h in let e = entries_are s in omega (arith, k, e)
+
+-- the list by its parts: the key script and the display, the units behind the ports, and the processors
+pub dues_split : (s : MachineState) → dues_of s ≡ keys_due s.keys ∷ due_by Video s ∷ (dues_behind s.map.units ++ processor_due s Nine ∷ processor_due s Seven ∷ [])
+unfolding dues_of
+dues_split s = refl
+
+alone : (d : Option Due) → earlier d None ≡ d
+alone None = refl
+alone (Some one) = refl
+
+-- the first of its parts is the least
+pub first_found : (s : MachineState) (first : Due)
+    → Some first ≡ earlier (due_with_rank 0 (keys_due s.keys)) (earlier (due_with_rank 1 (due_by Video s)) (earlier (first_from 2 (dues_behind s.map.units))
+    (earlier (due_with_rank 22 (processor_due s Nine)) (due_with_rank 23 (processor_due s Seven)))))
+    → IsLeast (dues_of s) first.tick first.rank
+first_found s first h =
+    let behind = dues_behind s.map.units in
+    let last = due_with_rank 23 (processor_due s Seven) in
+    let nine = due_with_rank 22 (processor_due s Nine) in
+    let rest : first_from 2 (behind ++ processor_due s Nine ∷ processor_due s Seven ∷ []) ≡ earlier (first_from 2 behind) (earlier nine last) =
+    first_of_append 2 behind (processor_due s Nine ∷ processor_due s Seven ∷ []) ∙ ap (λ (d : Option Due). earlier (first_from 2 behind) (earlier nine d)) (alone last) in
+    let all : first_from 0 (dues_of s) ≡ Some first =
+    ap (λ (dues : List (Option Tick)). first_from 0 dues) (dues_split s)
+    ∙ ap (λ (d : Option Due). earlier (due_with_rank 0 (keys_due s.keys)) (earlier (due_with_rank 1 (due_by Video s)) d)) rest ∙ sym h in
+    first_is_least (dues_of s) first all
+
+-- the display is always due
+pub somebody_is : (s : MachineState) → due_at (dues_of s) 1 ≡ Some (record { 0 = video_due s.video })
+unfolding dues_of
+somebody_is s = refl
+
+-- the actor that may step is due then
+pub due_of_least : (s : MachineState) (rank : ℕ) (tick : Tick) → IsLeast (dues_of s) tick rank → due_by (actor_of rank) s ≡ Some tick
+due_of_least s rank tick least = sym (due_of_rank s rank (low_rank s rank tick least.there)) ∙ least.there
+
+pub due_of_step : (s : MachineState) (rank : ℕ) (tick : Tick) (a : actor.Actor) → IsLeast (dues_of s) tick rank → actor_of rank ≡ a → due_by a s ≡ Some tick
+due_of_step s rank tick a least e = subst (λ (x : actor.Actor). due_by x s ≡ Some tick) e (due_of_least s rank tick least)
+
+-- where an actor may step, it is due at an early tick
+pub may_due : (s : MachineState) (rank : ℕ) (a : actor.Actor) → MayStep s rank → actor_of rank ≡ a → due_by a s ≢ None
+may_due s rank a may is none = none-some may.0 (sym none ∙ due_of_step s rank may.0 a may.1 is)
+
+pub may_early : (s : MachineState) (rank : ℕ) (a : actor.Actor) (tick : Tick) → MayStep s rank → actor_of rank ≡ a → due_by a s ≡ Some tick → tick.0 ≤ 2 ^ 56
+may_early s rank a tick may is due =
+    subst (λ (t : Tick). t.0 ≤ 2 ^ 56) (same_Some may.0 tick (sym (due_of_step s rank may.0 a may.1 is) ∙ due)) may.2
+
+pub due_is : (a : ℕ) (tick : Tick) → (let due : Option Tick = Some (record { 0 = a }) in due) ≡ Some tick → a ≡ tick.0
+due_is a tick h = ap (λ (x : Tick). x.0) (same_Some (record { 0 = a }) tick h)
+
+pub early_due : (a : ℕ) (tick : Tick) → (let due : Option Tick = Some (record { 0 = a }) in due) ≡ Some tick → tick.0 ≤ 2 ^ 56 → a ≤ 2 ^ 56
+early_due a tick h early = let e = due_is a tick h in omega (arith, e, early)
+
+-- a processor that is due isn't held, and is due then
+pub due_then : (held : Bool) (p : ProcessorState) (tick : Tick) → due_unless held p ≡ Some tick → (held ≡ false) × (p.due ≡ tick.0)
+due_then true p tick h = absurd (none-some tick h)
+due_then false p tick h = (refl, due_is p.due tick h)
+
+pub early_holds : (s : MachineState) (proc : Proc) (tick : Tick) → processor_due s proc ≡ Some tick → tick.0 ≤ 2 ^ 56 → (processor_of s proc).due ≤ 2 ^ 56
+early_holds s proc tick h early = let e = (due_then (is_held s proc) (processor_of s proc) tick h).1 in omega (arith, e, early)
+
+pub tick_is : (p : ProcessorState) (tick : Tick) → p.due ≡ tick.0 → tick_of p ≡ tick
+tick_is p tick h = ap (λ (n : ℕ). (let t : Tick = record { 0 = n } in t)) h
+
+pub due_tick : (s : MachineState) (proc : Proc) (tick : Tick) → processor_due s proc ≡ Some tick → processor_due s proc ≡ Some (tick_of (processor_of s proc))
+due_tick s proc tick h = h ∙ ap Some (sym (tick_is (processor_of s proc) tick (due_then (is_held s proc) (processor_of s proc) tick h).1))
+
+-- what is due after a step at a tick was due then, or is due later
+pub not_before : (s next : MachineState) (tick : Tick) (rank : ℕ) → IsLeast (dues_of s) tick rank → AllReschedule tick (dues_of s) (dues_of next)
+    → (other : ℕ) (at : Tick) → due_at (dues_of next) other ≡ Some at → (due_at (dues_of s) other ≡ Some at) ⊎ (tick.0 < at.0)
+not_before s next tick rank least all other at h = elim (at_rank tick (dues_of s) (dues_of next) all other) [
+  | inl same ↦ inl (sym same ∙ h)
+  | inr later ↦ inr (is_later tick (due_at (dues_of next) other) at later h)
+]
+
+-- what a step is, by the actor that takes it and the tick at which it is due
+pub steps_as : (s : MachineState) (rank : ℕ) (a : actor.Actor) (due : Option Tick) (came : Stepped MachineState Shown LeftOut) → actor_of rank ≡ a → due_by a s ≡ due
+    → awake due (step_by rank a s) ≡ came → step_of rank s ≡ came
+steps_as s rank a due came e d h =
+    subst (λ (x : actor.Actor). awake (due_by x s) (step_by rank x s) ≡ came) (sym e) (subst (λ (o : Option Tick). awake o (step_by rank a s) ≡ came) (sym d) h)

@@ -1,0 +1,8 @@
+use Rattle.std.proofs.Common.{ℕ, ◌<◌, ◌^◌, List, length}
+use Rattle.ds_base.specs.KeyLines.{AreKeyLines, line_at}
+use Rattle.ds_base.specs.declared.keys.KeyLine.{KeyLine}
+
+-- A line of a key script tells of twelve keys.
+
+pub line_twelve : (lines : List KeyLine) (at : ℕ) → AreKeyLines lines → at < length lines → (line_at lines at).pressed < 2 ^ 12
+line_twelve lines at are below = are.twelve at below

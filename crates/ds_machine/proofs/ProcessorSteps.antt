@@ -1,0 +1,230 @@
+use Rattle.std.proofs.Common.{ℕ, ◌≡◌, ◌<◌, ◌≤◌, ◌+◌, ◌*◌, inl, inr, Bool, true, false, true≢false, List, [], Some, refl, sym, ◌∙◌, ap, subst, arith}
+use Rattle.std.specs.Prelude.{◌||◌}
+use Rattle.std.proofs.Math.Nat.{mul-le-mul_left}
+use Rattle.ds_base.specs.Processors.{ticks_per_clock}
+use Rattle.ds_base.specs.KeyLines.{AreKeyLines}
+use Rattle.ds_base.specs.Schedules.{IsLater, Reschedules}
+use Rattle.ds_base.specs.declared.left_out.LeftOut.{LeftOut}
+use Rattle.ds_base.specs.declared.processors.Proc.{Proc}
+use Rattle.ds_base.specs.declared.processors.Proc.TheVariants.{Nine, Seven}
+use Rattle.ds_base.specs.declared.ticks.Tick.{Tick}
+use Rattle.arm_core.specs.declared.outcomes.Stepped as arm
+use Rattle.arm_core.specs.declared.outcomes.Stepped.TheVariants.{Cost, Halted, Left}
+use Rattle.arm_exec.specs.Costs.{CostsSome}
+use Rattle.ds_dma.specs.States.{any_runs}
+use Rattle.ds_ipc.specs.Ipcs.{across}
+use Rattle.ds_ports.specs.Dues.{AreUnits, Goes, IsOwn, IsQuiet}
+use Rattle.ds_ports.specs.Units.{own_of}
+use Rattle.ds_ports.proofs.Later.{all_behind, goes_units, of_both, own_is}
+use Rattle.ds_runs.specs.Runs.{Stepped, Makes, Stops}
+use Rattle.ds_runs.specs.declared.actors.Actor.TheVariants.{Processor}
+use Rattle.ds_runs.proofs.RunLaws.{same_makes, same_stops, not_both}
+use Rattle.ds_machine.specs.Reference.{IsSound, Shown, due_unless, processor_due, step_by}
+use Rattle.ds_machine.specs.States.{MachineState, ProcessorState, counts_of}
+use Rattle.ds_machine.specs.Steps.{concluded, gone_by, is_halted, is_held, nine_outcome, processor_of, seven_outcome, tick_of, went_on, with_halt, with_nine, with_seven}
+use Rattle.ds_machine.proofs.Costs.{nine_costs, seven_costs}
+use Rattle.ds_machine.proofs.DueTicks.{due_then, tick_is}
+use Rattle.ds_machine.proofs.Moves.{Behind, Moves, held_moves, left_held, moves_of, same_keys, same_video, then_behind}
+use Rattle.ds_machine.proofs.Others.{nine_goes, seven_goes}
+use Rattle.ds_machine.proofs.Wakes.{halt_held, halt_other, halt_steps, halted_behind, halted_units, put_beside, put_counts, put_other, put_own}
+
+-- A processor's step: what its accesses leave, and how it goes on.
+
+-- ---- its accesses
+
+-- the machine after the accesses of a processor's step, and with its registers
+pub record Reaches (proc : Proc) (s m : MachineState) : Type 0 where
+  pub due : (processor_of m proc).due ≡ (processor_of s proc).due
+  pub other : processor_of m (across proc) ≡ processor_of s (across proc)
+  pub keys : m.keys ≡ s.keys
+  pub video : m.video ≡ s.video
+  pub counts : counts_of m ≡ counts_of s
+
+nine_reaches : (s : MachineState) → Reaches Nine s (with_nine s (nine_outcome s))
+nine_reaches s = record { due = refl; other = refl; keys = refl; video = refl; counts = refl }
+
+seven_reaches : (s : MachineState) → Reaches Seven s (with_seven s (seven_outcome s))
+seven_reaches s = record { due = refl; other = refl; keys = refl; video = refl; counts = refl }
+
+-- what a processor's step came to, with what it left
+abbrev pub reached_by : Proc → MachineState → MachineState
+reached_by Nine s = with_nine s (nine_outcome s)
+reached_by Seven s = with_seven s (seven_outcome s)
+
+abbrev pub came_by : Proc → MachineState → arm.Stepped
+came_by Nine s = (nine_outcome s).stepped
+came_by Seven s = (seven_outcome s).stepped
+
+pub step_is : (rank : ℕ) (proc : Proc) (s : MachineState) → step_by rank (Processor proc) s ≡ concluded rank proc (reached_by proc s) (came_by proc s)
+step_is rank Nine s = refl
+step_is rank Seven s = refl
+
+pub reaches : (proc : Proc) (s : MachineState) → Reaches proc s (reached_by proc s)
+reaches Nine s = nine_reaches s
+reaches Seven s = seven_reaches s
+
+pub costs_some : (proc : Proc) (s : MachineState) → CostsSome (came_by proc s)
+costs_some Nine s = nine_costs s
+costs_some Seven s = seven_costs s
+
+pub reach_goes : (proc : Proc) (tick : Tick) (s : MachineState) → tick_of (processor_of s proc) ≡ tick → IsOwn (own_of s.map.units proc) → IsQuiet tick (own_of s.map.units proc)
+    → Goes proc tick s.map.units (reached_by proc s).map.units
+reach_goes Nine tick s e is quiet =
+    let P : Tick → Type 0 = λ t. IsQuiet t (own_of s.map.units Nine) → Goes Nine t s.map.units (with_nine s (nine_outcome s)).map.units in
+    subst P e (nine_goes s is) quiet
+reach_goes Seven tick s e is quiet =
+    let P : Tick → Type 0 = λ t. IsQuiet t (own_of s.map.units Seven) → Goes Seven t s.map.units (with_seven s (seven_outcome s)).map.units in
+    subst P e (seven_goes s is) quiet
+
+-- ---- how it goes on
+
+-- a step was taken, and cost something where it didn't halt
+abbrev pub Took : arm.Stepped → Type 0
+Took (Cost clocks) = 0 < clocks
+Took (Halted clocks) = Unit {0}
+Took (Left stop) = ⊥
+
+-- one more step is counted
+pub gone_counts : (proc : Proc) (m : MachineState) (came : arm.Stepped) → Took came → counts_of (gone_by proc came m) ≡ counts_of m + 1
+gone_counts proc m (Cost clocks) took = let k = put_counts proc m (went_on proc clocks (is_halted m proc) (processor_of m proc)) in omega (arith, k)
+gone_counts proc m (Halted clocks) took =
+    let halt = with_halt proc m true in
+    let k = put_counts proc halt (went_on proc clocks true (processor_of m proc)) in
+    let e = halt_steps proc m true in
+    omega (arith, k, e)
+gone_counts proc m (Left stop) took = absurd took
+
+some_clock : (proc : Proc) → 0 < ticks_per_clock proc
+some_clock Nine = omega arith
+some_clock Seven = omega arith
+
+-- a step that costs something makes a processor due later
+later_by : (proc : Proc) (due clocks : ℕ) → 0 < clocks → due < due + ticks_per_clock proc * clocks
+later_by proc due clocks some =
+    let one : ticks_per_clock proc * 1 ≤ ticks_per_clock proc * clocks = mul-le-mul_left {m = 1} {n = clocks} (ticks_per_clock proc) some in
+    let each = some_clock proc in
+    omega (arith, one, each)
+
+-- a processor that went on is due later, or not at all
+went_later : (proc : Proc) (p : ProcessorState) (tick : Tick) (clocks : ℕ) (halted runs : Bool) → p.due ≡ tick.0 → 0 < clocks
+    → IsLater tick (due_unless (halted || runs) (went_on proc clocks halted p))
+went_later proc p tick clocks true runs e some = tt
+went_later proc p tick clocks false true e some = tt
+went_later proc p tick clocks false false e some = let lt = later_by proc p.due clocks some in omega (arith, e, lt)
+
+gone_later : (proc : Proc) (m : MachineState) (tick : Tick) (came : arm.Stepped) → (processor_of m proc).due ≡ tick.0 → Took came
+    → IsLater tick (processor_due (gone_by proc came m) proc)
+gone_later proc m tick (Cost clocks) e took =
+    let o = own_of m.map.units proc in
+    subst (IsLater tick) (sym (put_own proc m (went_on proc clocks (is_halted m proc) (processor_of m proc))))
+    (went_later proc (processor_of m proc) tick clocks o.halted (any_runs o.dma.channels) e took)
+gone_later proc m tick (Halted clocks) e took =
+    let p = went_on proc clocks true (processor_of m proc) in
+    let halt = with_halt proc m true in
+    subst (IsLater tick) (sym (put_own proc halt p ∙ ap (λ (held : Bool). due_unless held p) (halt_held proc m))) tt
+gone_later proc m tick (Left stop) e took = absurd took
+
+gone_other : (proc : Proc) (m : MachineState) (came : arm.Stepped) → Took came → processor_due (gone_by proc came m) (across proc) ≡ processor_due m (across proc)
+gone_other proc m (Cost clocks) took = put_other proc m (went_on proc clocks (is_halted m proc) (processor_of m proc))
+gone_other proc m (Halted clocks) took = put_other proc (with_halt proc m true) (went_on proc clocks true (processor_of m proc)) ∙ halt_other proc m true
+gone_other proc m (Left stop) took = absurd took
+
+-- the units behind the ports, the key script and the display
+record Stays (tick : Tick) (m n : MachineState) : Type 0 where
+  behind : Behind tick m.map.units n.map.units
+  units : AreUnits m.map.units → AreUnits n.map.units
+  keys : n.keys ≡ m.keys
+  video : n.video ≡ m.video
+
+gone_stays : (proc : Proc) (m : MachineState) (tick : Tick) (came : arm.Stepped) → Took came → Stays tick m (gone_by proc came m)
+gone_stays proc m tick (Cost clocks) took =
+    let b = put_beside proc m (went_on proc clocks (is_halted m proc) (processor_of m proc)) in
+    record {
+      behind = subst (Behind tick m.map.units) (sym b.units) (λ who n. inl refl);
+      units = λ are. subst AreUnits (sym b.units) are;
+      keys = b.keys;
+      video = b.video;
+    }
+gone_stays proc m tick (Halted clocks) took =
+    let b = put_beside proc (with_halt proc m true) (went_on proc clocks true (processor_of m proc)) in
+    record {
+      behind = subst (Behind tick m.map.units) (sym b.units) (halted_behind tick proc m.map.units true);
+      units = λ are. subst AreUnits (sym b.units) (halted_units proc m.map.units true are);
+      keys = b.keys;
+      video = b.video;
+    }
+gone_stays proc m tick (Left stop) took = absurd took
+
+-- ---- the whole step
+
+-- where it makes its accesses
+pub record Ready (proc : Proc) (tick : Tick) (s : MachineState) : Type 0 where
+  pub sound : IsSound s
+  pub quiet : IsQuiet tick (own_of s.map.units proc)
+  pub due : processor_due s proc ≡ Some tick
+
+module _ (proc : Proc) (tick : Tick) (s : MachineState) (r : Ready proc tick s) where
+  is_due : (processor_of s proc).due ≡ tick.0
+  is_due = (due_then (is_held s proc) (processor_of s proc) tick r.due).1
+
+  not_held : is_held s proc ≡ false
+  not_held = (due_then (is_held s proc) (processor_of s proc) tick r.due).0
+
+  goes : Goes proc tick s.map.units (reached_by proc s).map.units
+  goes = reach_goes proc tick s (tick_is (processor_of s proc) tick is_due) (own_is s.map.units r.sound.units proc) r.quiet
+
+  -- the other processor is due as before
+  other_same : processor_due (reached_by proc s) (across proc) ≡ processor_due s (across proc)
+  other_same =
+      let m = reached_by proc s in
+      ap (λ (held : Bool). due_unless held (processor_of m (across proc))) (left_held (own_of s.map.units (across proc)) (own_of m.map.units (across proc)) goes.other)
+      ∙ ap (λ (p : ProcessorState). due_unless (is_held s (across proc)) p) (reaches proc s).other
+
+  -- what a step leaves that is taken
+  pub gone_moves : (came : arm.Stepped) → Took came → Moves tick s (gone_by proc came (reached_by proc s))
+  gone_moves came took =
+      let m = reached_by proc s in
+      let n = gone_by proc came m in
+      let st = gone_stays proc m tick came took in
+      let re = reaches proc s in
+      moves_of tick s n (same_keys tick s.keys n.keys (st.keys ∙ re.keys)) (same_video tick s n (st.video ∙ re.video))
+      (then_behind tick s.map.units m.map.units n.map.units (all_behind proc tick s.map.units m.map.units goes) st.behind)
+      (of_both (λ each. Reschedules tick (processor_due s each) (processor_due n each)) proc (inr (gone_later proc m tick came (re.due ∙ is_due) took))
+      (inl (gone_other proc m came took ∙ other_same)))
+
+  pub own_later : (came : arm.Stepped) → Took came → IsLater tick (processor_due (gone_by proc came (reached_by proc s)) proc)
+  own_later came took = gone_later proc (reached_by proc s) tick came ((reaches proc s).due ∙ is_due) took
+
+  pub reached_sound : IsSound (reached_by proc s)
+  reached_sound = record {
+    units = goes_units proc tick s.map.units (reached_by proc s).map.units r.sound.units goes;
+    keys = subst AreKeyLines (sym (reaches proc s).keys) r.sound.keys;
+  }
+
+  pub gone_sound : (came : arm.Stepped) → Took came → IsSound (gone_by proc came (reached_by proc s))
+  gone_sound came took =
+      let st = gone_stays proc (reached_by proc s) tick came took in
+      record { units = st.units reached_sound.units; keys = subst AreKeyLines (sym st.keys) reached_sound.keys }
+
+  -- what a step leaves that stops: its accesses before the refused one
+  pub reached_moves : Moves tick s (reached_by proc s)
+  reached_moves =
+      let m = reached_by proc s in
+      let re = reaches proc s in
+      moves_of tick s m (same_keys tick s.keys m.keys re.keys) (same_video tick s m re.video) (all_behind proc tick s.map.units m.map.units goes)
+      (of_both (λ each. Reschedules tick (processor_due s each) (processor_due m each)) proc
+      (held_moves tick (is_held s proc) (is_held m proc) (processor_of s proc) (processor_of m proc) re.due (λ h. absurd (true≢false (sym h ∙ not_held))))
+      (inl other_same))
+
+-- what a step comes to
+pub concludes : (rank : ℕ) (proc : Proc) (m next : MachineState) (outs : List Shown) (came : arm.Stepped) → CostsSome came
+    → concluded rank proc m came ≡ Makes next outs → Took came × (gone_by proc came m ≡ next)
+concludes rank proc m next outs (Cost clocks) some h = (some, (same_makes (gone_by proc (Cost clocks) m) next [] outs h).0)
+concludes rank proc m next outs (Halted clocks) some h = (tt, (same_makes (gone_by proc (Halted clocks) m) next [] outs h).0)
+concludes rank proc m next outs (Left stop) some h = absurd (not_both next m outs _ (sym h))
+
+pub concluded_stops : (rank : ℕ) (proc : Proc) (m left : MachineState) (stop : LeftOut) (came : arm.Stepped) → (let step : Stepped MachineState Shown LeftOut = concluded rank proc m came in step ≡ Stops stop left)
+    → m ≡ left
+concluded_stops rank proc m left stop (Cost clocks) h = absurd (not_both (gone_by proc (Cost clocks) m) left [] stop h)
+concluded_stops rank proc m left stop (Halted clocks) h = absurd (not_both (gone_by proc (Halted clocks) m) left [] stop h)
+concluded_stops rank proc m left stop (Left why) h = (same_stops m left _ stop h).1

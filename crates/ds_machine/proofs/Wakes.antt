@@ -1,0 +1,125 @@
+use Rattle.std.proofs.Common.{ℕ, ◌≡◌, ◌<◌, ◌+◌, inl, inr, Bool, true, false, if◌then◌else◌, refl, sym, ◌∙◌, ap, subst, arith}
+use Rattle.ds_base.specs.KeyLines.{AreKeyLines}
+use Rattle.ds_base.specs.Schedules.{Reschedules}
+use Rattle.ds_base.specs.declared.processors.Proc.{Proc}
+use Rattle.ds_base.specs.declared.processors.Proc.TheVariants.{Nine, Seven}
+use Rattle.ds_base.specs.declared.ticks.Tick.{Tick}
+use Rattle.ds_dma.specs.States.{channel_due}
+use Rattle.ds_ipc.specs.Ipcs.{across}
+use Rattle.ds_ports.specs.Dues.{AreUnits, IsOwn, due_behind}
+use Rattle.ds_ports.specs.Own.{OwnState}
+use Rattle.ds_ports.specs.Units.{UnitsState, own_of, with_halted}
+use Rattle.ds_runs.specs.declared.actors.Actor.TheVariants.{Dma, Timer}
+use Rattle.ds_timers.specs.Timing.{timer_at, timer_due}
+use Rattle.ds_machine.specs.Reference.{IsSound, due_unless, keys_due, processor_due}
+use Rattle.ds_machine.specs.States.{MachineState, ProcessorState, counts_of}
+use Rattle.ds_machine.specs.Steps.{goes_on, is_held, processor_of, wakes, with_halt, with_processor, woken, woken_one}
+use Rattle.ds_machine.proofs.Moves.{Behind, Moves, later_unless, moves_of, same_video, then_all}
+use Rattle.ds_ports.proofs.Later.{divider_stays, dues_of_kinds, each_own, of_both, own_is, root_stays, units_of}
+
+-- Processors that are put into the machine with other numbers, that are halted, and that wake.
+
+-- ---- other numbers of a processor
+
+pub put_own : (proc : Proc) (s : MachineState) (p : ProcessorState) → processor_due (with_processor proc s p) proc ≡ due_unless (is_held s proc) p
+put_own Nine s p = refl
+put_own Seven s p = refl
+
+pub put_other : (proc : Proc) (s : MachineState) (p : ProcessorState) → processor_due (with_processor proc s p) (across proc) ≡ processor_due s (across proc)
+put_other Nine s p = refl
+put_other Seven s p = refl
+
+-- all but the processors stays
+pub record Beside (s next : MachineState) : Type 0 where
+  pub units : next.map.units ≡ s.map.units
+  pub keys : next.keys ≡ s.keys
+  pub video : next.video ≡ s.video
+
+pub put_beside : (proc : Proc) (s : MachineState) (p : ProcessorState) → Beside s (with_processor proc s p)
+put_beside Nine s p = record { units = refl; keys = refl; video = refl }
+put_beside Seven s p = record { units = refl; keys = refl; video = refl }
+
+-- a processor's numbers, and its count of steps among all
+pub put_counts : (proc : Proc) (s : MachineState) (p : ProcessorState) → counts_of (with_processor proc s p) + (processor_of s proc).steps ≡ counts_of s + p.steps
+put_counts Nine s p = omega arith
+put_counts Seven s p = omega arith
+
+-- ---- a processor is halted, or goes on
+
+pub halted_behind : (tick : Tick) (proc : Proc) (u : UnitsState) (halted : Bool) → Behind tick u (with_halted proc u halted)
+halted_behind tick proc u halted =
+    let new : OwnState = record (own_of u proc) { halted = halted } in
+    dues_of_kinds tick u (with_halted proc u halted)
+    (each_own (λ p x. (which : ℕ) → which < 4 → Reschedules tick (due_behind (Timer p which) u) (timer_due (timer_at x.timers which))) proc u new (λ which l. inl refl) (λ which l. inl refl))
+    (inl (ap (λ d. d.due) (divider_stays proc u new)))
+    (inl (ap (λ r. r.due) (root_stays proc u new)))
+    (each_own (λ p x. (which : ℕ) → which < 4 → Reschedules tick (due_behind (Dma p which) u) (channel_due x.dma which)) proc u new (λ which l. inl refl) (λ which l. inl refl))
+
+pub halted_units : (proc : Proc) (u : UnitsState) (halted : Bool) → AreUnits u → AreUnits (with_halted proc u halted)
+halted_units proc u halted are =
+    let new : OwnState = record (own_of u proc) { halted = halted } in
+    let is = own_is u are proc in
+    units_of (with_halted proc u halted) (each_own (λ p x. IsOwn x) proc u new (record { timers = is.timers; dma = is.dma }) (own_is u are (across proc)))
+
+-- the other processor is as it was
+pub halt_other : (proc : Proc) (s : MachineState) (halted : Bool) → processor_due (with_halt proc s halted) (across proc) ≡ processor_due s (across proc)
+halt_other Nine s halted = refl
+halt_other Seven s halted = refl
+
+pub halt_held : (proc : Proc) (s : MachineState) → is_held (with_halt proc s true) proc ≡ true
+halt_held Nine s = refl
+halt_held Seven s = refl
+
+-- ---- a processor wakes
+
+-- a processor goes on at the next tick
+on_moves : (proc : Proc) (tick : Tick) (s : MachineState) → Moves tick s (goes_on proc tick s)
+on_moves proc tick s =
+    let halt = with_halt proc s false in
+    let p : ProcessorState = record (processor_of s proc) { due = tick.0 + 1 } in
+    let next = with_processor proc halt p in
+    let b = put_beside proc halt p in
+    let own : Reschedules tick (processor_due s proc) (processor_due next proc) =
+    rw (put_own proc halt p) (inr (later_unless tick (is_held halt proc) p (omega arith))) in
+    let other : Reschedules tick (processor_due s (across proc)) (processor_due next (across proc)) = inl (put_other proc halt p ∙ halt_other proc s false) in
+    moves_of tick s next (inl (ap keys_due b.keys)) (same_video tick s next b.video)
+    (subst (Behind tick s.map.units) (sym b.units) (halted_behind tick proc s.map.units false))
+    (of_both (λ each. Reschedules tick (processor_due s each) (processor_due next each)) proc own other)
+
+on_sound : (proc : Proc) (tick : Tick) (s : MachineState) → IsSound s → IsSound (goes_on proc tick s)
+on_sound proc tick s sound =
+    let halt = with_halt proc s false in
+    let b = put_beside proc halt (record (processor_of s proc) { due = tick.0 + 1 }) in
+    record { units = subst AreUnits (sym b.units) (halted_units proc s.map.units false sound.units); keys = subst AreKeyLines (sym b.keys) sound.keys }
+
+pub halt_steps : (proc : Proc) (s : MachineState) (halted : Bool) → (processor_of (with_halt proc s halted) proc).steps ≡ (processor_of s proc).steps
+halt_steps Nine s halted = refl
+halt_steps Seven s halted = refl
+
+on_counts : (proc : Proc) (tick : Tick) (s : MachineState) → counts_of (goes_on proc tick s) ≡ counts_of s
+on_counts proc tick s =
+    let halt = with_halt proc s false in
+    let k = put_counts proc halt (record (processor_of s proc) { due = tick.0 + 1 }) in
+    let e = halt_steps proc s false in
+    omega (arith, k, e)
+
+-- where it is to
+pub record Wakes (tick : Tick) (s next : MachineState) : Type 0 where
+  pub moves : Moves tick s next
+  pub sound : IsSound s → IsSound next
+  pub counts : counts_of next ≡ counts_of s
+
+wakes_if : (b : Bool) (proc : Proc) (tick : Tick) (s : MachineState) → Wakes tick s (if b then goes_on proc tick s else s)
+wakes_if true proc tick s = record { moves = on_moves proc tick s; sound = on_sound proc tick s; counts = on_counts proc tick s }
+wakes_if false proc tick s = record { moves = λ a n. inl refl; sound = λ sound. sound; counts = refl }
+
+pub wakes_both : (tick : Tick) (s : MachineState) → Wakes tick s (woken tick s)
+wakes_both tick s =
+    let first = woken_one Nine tick s in
+    let a = wakes_if (wakes s Nine) Nine tick s in
+    let b = wakes_if (wakes first Seven) Seven tick first in
+    record {
+      moves = then_all tick s first (woken tick s) a.moves b.moves;
+      sound = λ sound. b.sound (a.sound sound);
+      counts = b.counts ∙ a.counts;
+    }

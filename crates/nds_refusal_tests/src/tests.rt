@@ -7,6 +7,7 @@ use std::process::Abort;
 mod faults;
 mod files;
 mod headers;
+mod scripts;
 mod words;
 
 /// The words of a run to tick 9.

@@ -1,6 +1,6 @@
 //! Calls of the top call.
 
-use ds_base::{Memory, Proc, Tick};
+use ds_base::{Keys, Memory, Proc, Tick};
 use ds_header::Cart;
 use ds_io::{Calls, Files, MemShelf, MemSink};
 use nds_top::{Status, ds_main, number};
@@ -89,6 +89,13 @@ impl Came {
 pub fn file(alloc: Global, name: &str, bytes: Vec<u8>) -> Result<Files, AllocError> {
     let mut files = Files::new(alloc);
     files.push(String::from_str(alloc, name)?, bytes)?;
+    Ok(files)
+}
+
+/// Two files: a cartridge, `file`, and a key script, `keys`.
+pub fn file_and_keys(alloc: Global, cart: Vec<u8>, script: Vec<u8>) -> Result<Files, AllocError> {
+    let mut files = file(alloc, "file", cart)?;
+    files.push(String::from_str(alloc, "keys")?, script)?;
     Ok(files)
 }
 
@@ -198,7 +205,7 @@ pub fn turned(
     let Ok(cart) = Cart::read(bytes) else {
         return Ok(None);
     };
-    let mut console = Console::new(alloc, cart)?;
+    let mut console = Console::new(alloc, cart, Keys::new(alloc))?;
     let mut answers = Vec::new(alloc);
     let mut raised = Vec::new(alloc);
     for limit in limits {
@@ -218,7 +225,7 @@ pub fn turns_to_a_frame(alloc: Global, bytes: Vec<u8>, limit: u64) -> Result<u64
     let Ok(cart) = Cart::read(bytes) else {
         return Ok(0);
     };
-    let mut console = Console::new(alloc, cart)?;
+    let mut console = Console::new(alloc, cart, Keys::new(alloc))?;
     for turn in 0..limit.min(MOST_TICKS) {
         if let Turned::Frame { swapped: _ } = console.turn(Tick(limit.min(MOST_TICKS))) {
             return Ok(turn + 1);

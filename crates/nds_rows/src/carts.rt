@@ -1,6 +1,6 @@
 //! Cartridges made of words.
 
-use crate::calls::{Came, call};
+use crate::calls::{Came, NO_FAILS, call, call_over, file_and_keys};
 use std::alloc::{AllocError, Global};
 
 /// `b` to itself.
@@ -94,4 +94,18 @@ pub fn run_words(
 ) -> Result<Came, AllocError> {
     let file = cart_of_words(alloc, nine, seven)?;
     call(alloc, &["run", "file", "none", ticks, "none"], file)
+}
+
+/// Runs such a cartridge to a tick with this key script.
+pub fn run_words_with_keys(
+    alloc: Global,
+    nine: &[u32],
+    seven: &[u32],
+    script: &[u8],
+    ticks: &str,
+) -> Result<Came, AllocError> {
+    let script = Vec::from_slice(alloc, script)?;
+    let files = file_and_keys(alloc, cart_of_words(alloc, nine, seven)?, script)?;
+    let words = ["run", "file", "keys", ticks, "none"];
+    call_over(alloc, &words, files, NO_FAILS, 6_000_000)
 }

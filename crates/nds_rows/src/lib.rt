@@ -7,9 +7,12 @@ mod carts;
 mod records;
 
 pub use calls::{
-    Came, Fails, NO_FAILS, Told, Turns, call, call_over, file, turned, turns_to_a_frame,
+    Came, Fails, NO_FAILS, Told, Turns, call, call_over, file, file_and_keys, turned,
+    turns_to_a_frame,
 };
-pub use carts::{BRANCH, Image, bytes_of, cart, cart_of_words, run_words, set, set_all};
+pub use carts::{
+    BRANCH, Image, bytes_of, cart, cart_of_words, run_words, run_words_with_keys, set, set_all,
+};
 pub use records::{
     DTCM, END_AT, ITCM, MAIN, NINE_AT, OAM, OWN7, PALETTE, SEVEN_AT, SHARED, VRAM, end_record,
 };

@@ -6,6 +6,7 @@ use std::process::Abort;
 mod boots;
 mod consoles;
 mod instructions;
+mod keys;
 mod processors;
 mod records;
 mod stops;

@@ -1,7 +1,7 @@
-use Rattle.nds_top.specs.Words.{Asked, AskRun, AskList, AskAsm, words_of, file_of_asked}
+use Rattle.nds_top.specs.Words.{IsName, IsScriptName, keys_word}
 use Rattle.std.specs.Str.{bytes_eq}
 use Rattle.std.proofs.lemmas.Slice.Eq.{bytes_eq-Decides}
-use Rattle.std.proofs.Common.{ℕ, ◌≡◌, List, [], ◌∷◌, length, get_or, map, refl, arith, true}
+use Rattle.std.proofs.Common.{ℕ, ◌≡◌, List, [], ◌∷◌, length, get_or, map, refl, arith, true, Option, Some, None}
 
 -- a list of two, three or five is its elements
 pub two_of : {X Y : Type 0} (f : X → Y) (xs : List X) (a b : X) → length xs ≡ 2 → a ≡ get_or xs 0 a → b ≡ get_or xs 1 b → map f xs ≡ f a ∷ f b ∷ []
@@ -31,8 +31,7 @@ five_of f (v ∷ w ∷ x ∷ y ∷ z ∷ u ∷ rest) a b c d e h p q r s t = abs
 pub same_bytes : (a b : List ℕ) → bytes_eq a b ≡ true → a ≡ b
 same_bytes a b h = (bytes_eq-Decides a b).0 h
 
--- the second of the words that ask for something names its file
-pub second_word : (asked : Asked) → get_or (words_of asked) 1 [] ≡ file_of_asked asked
-second_word (AskRun cart ticks keep) = refl
-second_word (AskList cart proc set) = refl
-second_word (AskAsm file) = refl
+-- the word for keys may name a file
+pub keys_named : (keys : Option (List ℕ)) → IsScriptName keys → IsName (keys_word keys)
+keys_named None allowed = (omega arith, omega arith)
+keys_named (Some name) allowed = allowed.0

@@ -1,4 +1,4 @@
-use Rattle.std.specs.Prelude.{ℕ, Bool, List, [], ◌∷◌, ◌++◌, Result, codes, slice_index_or}
+use Rattle.std.specs.Prelude.{ℕ, Bool, List, [], ◌∷◌, ◌++◌, Result, codes}
 use Rattle.std.specs.List.{concat}
 use Rattle.std.specs.Fmt.{decimal}
 use Rattle.ds_base.specs.Digits.{hex_digits}
@@ -46,6 +46,10 @@ kind_word BitmapObject = codes "BitmapObject"
 abbrev pub header_line : HeaderFault → List ℕ
 header_line fault = concat (codes "bad header: " ∷ field_word fault.field ∷ codes " 0x" ∷ hex_digits 8 fault.value ∷ line_feed ∷ [])
 
+-- `bad script: line L column C`
+abbrev pub script_line : ℕ → ℕ → List ℕ
+script_line line column = concat (codes "bad script: line " ∷ decimal line ∷ codes " column " ∷ decimal column ∷ line_feed ∷ [])
+
 -- `left out: KIND tick T actor R value V`
 abbrev pub stop_line : LeftOut → List ℕ
 stop_line left = concat (codes "left out: " ∷ kind_word left.kind ∷ codes " tick " ∷ decimal left.tick.0 ∷ codes " actor " ∷ decimal left.rank
@@ -64,13 +68,10 @@ note_of statuses.ReadFault name = concat (codes "read fault: " ∷ name ∷ line
 note_of statuses.WriteFault name = codes "write fault" ++ line_feed
 note_of statuses.TooLong name = concat (codes "too long: " ∷ name ∷ line_feed ∷ [])
 note_of (statuses.BadHeader fault) name = header_line fault
+note_of (statuses.BadScript line column) name = script_line line column
 note_of (statuses.LeftOut left) name = stop_line left
 note_of (statuses.BadText line) name = text_line line
 note_of statuses.NoMemory name = codes "out of memory" ++ line_feed
-
--- the file that the words name
-abbrev pub file_asked : List (List ℕ) → List ℕ
-file_asked words = slice_index_or words 1 []
 
 -- a sink was to take a line: it took it, or a front of it where its count of faults rose
 pub data Noted {S : Type 0} (tells : S → Bool) (taken : S → List ℕ → Type 0) (faults : S → ℕ) (line : List ℕ) (before after : S) : Type 0 where

@@ -1,4 +1,4 @@
-use Rattle.std.specs.Prelude.{ℕ, ◌≡◌, ◌≢◌, ◌≤◌, ◌<◌, List, [], ◌∷◌, length, codes, slice_index_or}
+use Rattle.std.specs.Prelude.{ℕ, ◌≡◌, ◌≢◌, ◌≤◌, ◌<◌, List, [], ◌∷◌, length, codes, slice_index_or, Option, Some, None}
 use Rattle.std.specs.Fmt.{decimal}
 use Rattle.ds_base.specs.declared.processors.Proc.{Proc}
 use Rattle.ds_base.specs.declared.processors.Proc.TheVariants.{Nine, Seven}
@@ -10,12 +10,17 @@ use Rattle.nds_top.specs.declared.commands.Keep.TheVariants.{Nothing}
 -- Which words a command line may have. The rule is the writer: each thing that may be asked for has its one list of words, and
 -- `decimal` writes a number in digits without a leading zero. (Our choice of commands.)
 
--- what may be asked for: to run a cartridge, with no key script, to a tick, and what to write; to list the image of one of a
--- cartridge's processors in an instruction set; to assemble a listing's file
+-- what may be asked for: to run a cartridge, with the keys of a script's file or with none, to a tick, and what to write; to list the
+-- image of one of a cartridge's processors in an instruction set; to assemble a listing's file
 pub data Asked : Type 0 where
-  AskRun : List ℕ → ℕ → Keep → Asked
+  AskRun : List ℕ → Option (List ℕ) → ℕ → Keep → Asked
   AskList : List ℕ → Proc → Set → Asked
   AskAsm : List ℕ → Asked
+
+-- the word for a run's keys: the script's file, or none
+abbrev pub keys_word : Option (List ℕ) → List ℕ
+keys_word None = codes "none"
+keys_word (Some name) = name
 
 abbrev pub keep_word : Keep → List ℕ
 keep_word Nothing = codes "none"
@@ -29,15 +34,9 @@ image_word Seven Thumb = codes "7t"
 
 -- the words that ask for it: the command, and each of its words
 abbrev pub words_of : Asked → List (List ℕ)
-words_of (AskRun cart ticks keep) = codes "run" ∷ cart ∷ codes "none" ∷ decimal ticks ∷ keep_word keep ∷ []
+words_of (AskRun cart keys ticks keep) = codes "run" ∷ cart ∷ keys_word keys ∷ decimal ticks ∷ keep_word keep ∷ []
 words_of (AskList cart proc set) = codes "list" ∷ cart ∷ image_word proc set ∷ []
 words_of (AskAsm file) = codes "asm" ∷ file ∷ []
-
--- the file that it names
-abbrev pub file_of_asked : Asked → List ℕ
-file_of_asked (AskRun cart ticks keep) = cart
-file_of_asked (AskList cart proc set) = cart
-file_of_asked (AskAsm file) = file
 
 -- a word begins as numbers do
 abbrev pub BeginsNumber : List ℕ → Type 0
@@ -47,9 +46,14 @@ BeginsNumber word = (0 < length word) × (48 ≤ slice_index_or word 0 0) × (sl
 abbrev pub IsName : List ℕ → Type 0
 IsName word = (0 < length word) × (slice_index_or word 0 0 ≢ 45)
 
+-- no key script, or one whose file may have this name: a file called `none` can't be one
+abbrev pub IsScriptName : Option (List ℕ) → Type 0
+IsScriptName None = Unit {0}
+IsScriptName (Some name) = IsName name × (name ≢ codes "none")
+
 -- what is in its range
 abbrev pub IsAllowed : Asked → Type 0
-IsAllowed (AskRun cart ticks keep) = IsName cart × (1 ≤ ticks) × (ticks ≤ 100000000000)
+IsAllowed (AskRun cart keys ticks keep) = IsName cart × IsScriptName keys × (1 ≤ ticks) × (ticks ≤ 100000000000)
 IsAllowed (AskList cart proc set) = IsName cart
 IsAllowed (AskAsm file) = IsName file
 

@@ -1,9 +1,9 @@
 //! What the words of a command line ask for.
 
-ghost use Rattle.std.specs.Prelude.{◌≡◌, ◌≢◌, ◌≤◌, ◌<◌, ◌↔◌, ℕ, IfSome, IfNone, IsTrue, codes, [], ◌∷◌, map};
+ghost use Rattle.std.specs.Prelude.{◌≡◌, ◌≢◌, ◌≤◌, ◌<◌, ◌↔◌, ℕ, IfSome, IfNone, IsTrue, codes, [], ◌∷◌, map, option_map};
 ghost use Rattle.std.specs.String.{string_bytes};
 ghost use Rattle.std.specs.Fmt.{decimal};
-ghost use Rattle.nds_top.specs.Words.{IsName, BeginsNumber, Asks, AskNothing, keep_word, image_word, file_of_asked};
+ghost use Rattle.nds_top.specs.Words.{IsName, IsScriptName, BeginsNumber, Asks, AskNothing, keep_word, keys_word, image_word};
 ghost use Rattle.nds_top.specs.Commands.{asked_by};
 
 use asm_text::Set;
@@ -19,12 +19,21 @@ pub enum Keep {
     Nothing,
 }
 
+/// The files of a run.
+#[derive(Clone, Copy)]
+pub(crate) struct RunFiles<'a> {
+    /// The cartridge's name.
+    pub cart: &'a str,
+    /// The key script's, where there is one.
+    pub keys: Option<&'a str>,
+}
+
 /// What the words ask for.
 #[derive(Clone, Copy)]
 pub(crate) enum Command<'a> {
     /// To run a cartridge to a tick, in ticks, and what to write.
     Run {
-        cart: &'a str,
+        files: RunFiles<'a>,
         ticks: u64,
         keep: Keep,
     },
@@ -73,6 +82,15 @@ fn is_name(word: &str) -> bool
     !bytes.is_empty() && bytes[0] != b'-'
 }
 
+/// The key script that a word for keys names: each names one but `none`.
+fn script_of(keys: &str) -> Option<&str>
+    requires { IsName keys.now }
+    ensures word { keys.entry.now ≡ keys_word (option_map (λ name. name.now) result) }
+    ensures allowed { IsScriptName (option_map (λ name. name.now) result) }
+{
+    if keys == "none" { None } else { Some(keys) }
+}
+
 /// What is kept, by its word.
 fn keep_of(word: &str) -> Option<Keep>
     ensures some { IfSome result (λ keep. word.now ≡ keep_word keep) }
@@ -104,23 +122,26 @@ fn image_of_word(word: &str) -> Option<(Proc, Set)>
 }
 
 /// What the words after `run` ask for.
-fn run_of<'a>(cart: &'a str, keys: &str, ticks: &str, keep: &str) -> Option<Command<'a>>
-    ensures some { IfSome result (λ c. Asks (codes "run" ∷ cart.entry.now ∷ keys.now ∷ ticks.now ∷ keep.now ∷ []) (asked_by c)) }
-    ensures none { IfNone result (AskNothing (codes "run" ∷ cart.entry.now ∷ keys.now ∷ ticks.now ∷ keep.now ∷ [])) }
+#[tactic(auto, using(crate::proofs::WordLists::keys_named))]
+fn run_of<'a>(cart: &'a str, keys: &'a str, ticks: &str, keep: &str) -> Option<Command<'a>>
+    ensures some { IfSome result (λ c. Asks (codes "run" ∷ cart.entry.now ∷ keys.entry.now ∷ ticks.now ∷ keep.now ∷ []) (asked_by c)) }
+    ensures none { IfNone result (AskNothing (codes "run" ∷ cart.entry.now ∷ keys.entry.now ∷ ticks.now ∷ keep.now ∷ [])) }
 {
     if !is_name(cart) {
         return None;
     }
-    if keys != "none" {
+    if !is_name(keys) {
         return None;
     }
+    let keys = script_of(keys);
     let Some(ticks) = number(ticks, 1, MOST_TICKS) else {
         return None;
     };
     let Some(keep) = keep_of(keep) else {
         return None;
     };
-    Some(Command::Run { cart, ticks, keep })
+    let files = RunFiles { cart, keys };
+    Some(Command::Run { files, ticks, keep })
 }
 
 /// What the words after `list` ask for.
@@ -168,15 +189,4 @@ pub(crate) fn read_words(words: &[String]) -> Option<Command<'_>>
         return asm_of(words[1].as_str());
     }
     None
-}
-
-/// The file that a command names.
-pub(crate) fn file_of<'a>(command: &Command<'a>) -> &'a str
-    ensures { result.now ≡ file_of_asked (asked_by command.now) }
-{
-    match command {
-        Command::Run { cart, .. } => cart,
-        Command::List { cart, .. } => cart,
-        Command::Asm { file } => file,
-    }
 }

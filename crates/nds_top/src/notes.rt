@@ -2,7 +2,7 @@
 
 ghost use Rattle.std.specs.Prelude.{◌≡◌};
 ghost use Rattle.nds_top.specs.Puts.{Puts};
-ghost use Rattle.nds_top.specs.Notes.{field_word, kind_word, header_line, stop_line, text_line, note_of, Noted};
+ghost use Rattle.nds_top.specs.Notes.{field_word, kind_word, header_line, script_line, stop_line, text_line, note_of, Noted};
 
 use crate::records::put_parts;
 use crate::statuses::Status;
@@ -56,6 +56,24 @@ fn put_header_line<N: Sink>(notes: &mut N, fault: HeaderFault) -> Result<(), Fai
     put_parts(notes, &[b"bad header: ", field, b" 0x", &value, b"\n"])
 }
 
+/// The line of a key script's first bad line.
+fn put_script_line<N: Sink>(notes: &mut N, line: u32, column: u32) -> Result<(), Failed>
+    ensures { Puts N.tells N.taken N.faults (script_line line column) result notes.old notes.new }
+{
+    let mut number = Buffer::new();
+    let mut place = Buffer::new();
+    put_parts(
+        notes,
+        &[
+            b"bad script: line ",
+            number.format(line).as_bytes(),
+            b" column ",
+            place.format(column).as_bytes(),
+            b"\n",
+        ],
+    )
+}
+
 /// The line of a stop.
 fn put_stop_line<N: Sink>(notes: &mut N, left: LeftOut) -> Result<(), Failed>
     ensures { Puts N.tells N.taken N.faults (stop_line left) result notes.old notes.new }
@@ -100,6 +118,7 @@ fn put_line<N: Sink>(notes: &mut N, status: &Status, name: &[u8]) -> Result<(), 
         Status::WriteFault => put_all(notes, b"write fault\n"),
         Status::TooLong => put_parts(notes, &[b"too long: ", name, b"\n"]),
         Status::BadHeader(fault) => put_header_line(notes, *fault),
+        Status::BadScript { line, column } => put_script_line(notes, *line, *column),
         Status::LeftOut(left) => put_stop_line(notes, *left),
         Status::BadText { line } => put_text_line(notes, *line),
         Status::NoMemory => put_all(notes, b"out of memory\n"),

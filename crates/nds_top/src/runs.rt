@@ -1,44 +1,55 @@
 //! The command that runs a cartridge.
 
-ghost use Rattle.std.specs.Prelude.{◌≡◌, ◌≤◌, None};
+ghost use Rattle.std.specs.Prelude.{◌≡◌, ◌≤◌, None, option_map};
 ghost use Rattle.nds_top.specs.Answers.{around, RunGives};
 
-use crate::commands::Keep;
-use crate::loads::load_cart;
+use crate::commands::{Keep, RunFiles};
+use crate::loads::load_run;
 use crate::plays::{Played, play};
-use crate::statuses::Status;
+use crate::statuses::{Ended, Status};
 use ds_base::Tick;
 use ds_io::{Shelf, Sink};
 use run_ahead::{Console, turn_laws};
 use std::alloc::Global;
 
-/// Runs a cartridge to a tick.
-pub(crate) fn run<F: Shelf, O: Sink>(
+/// Runs a cartridge to a tick, with the keys of its script.
+pub(crate) fn run<'a, F: Shelf, O: Sink>(
     alloc: Global,
-    name: &str,
+    files: RunFiles<'a>,
     ticks: u64,
     keep: Keep,
     shelf: &mut F,
     out: &mut O,
     seat: &mut Option<Console>,
-) -> Status
+) -> Ended<'a>
     requires early { ticks ≤ 100000000000 }
     requires empty { seat.old ≡ None }
-    ensures answer { RunGives (around F.told F.faults O.tells O.taken O.faults shelf.old shelf.new out.old out.new seat.new) name.now ticks keep result }
+    ensures answer { RunGives (around F.told F.faults O.tells O.taken O.faults shelf.old shelf.new out.old out.new seat.new) files.entry.cart.now (option_map (λ name. name.now) files.entry.keys) ticks keep result.file.now result.status }
 {
-    let cart = match load_cart(alloc, shelf, name) {
-        Ok(cart) => cart,
-        Err(status) => return status,
+    let file = files.cart;
+    let (cart, keys) = match load_run(alloc, shelf, files) {
+        Ok(both) => both,
+        Err(ended) => return ended,
     };
-    let Ok(mut console) = Console::new(alloc, cart) else {
-        return Status::NoMemory;
+    let Ok(mut console) = Console::new(alloc, cart, keys) else {
+        let status = Status::NoMemory;
+        return Ended { status, file };
     };
     turn_laws();
     let played = play(&mut console, Tick(ticks), keep, out);
     *seat = Some(console);
     match played {
-        Played::Done => Status::Done,
-        Played::LeftOut(left) => Status::LeftOut(left),
-        Played::WriteFault => Status::WriteFault,
+        Played::Done => Ended {
+            status: Status::Done,
+            file,
+        },
+        Played::LeftOut(left) => Ended {
+            status: Status::LeftOut(left),
+            file,
+        },
+        Played::WriteFault => Ended {
+            status: Status::WriteFault,
+            file,
+        },
     }
 }

@@ -23,6 +23,13 @@ pub enum Status {
     TooLong,
     /// The cartridge's header breaks a rule: the first that it breaks.
     BadHeader(HeaderFault),
+    /// The key script's file is no script: the first bad line, and where it is bad.
+    BadScript {
+        /// The line's number, from 1.
+        line: u32,
+        /// The column at which no line of a script goes on so, from 1; 1 where its tick isn't above that of the line before.
+        column: u32,
+    },
     /// The run came to a step that needs what is left out.
     LeftOut(LeftOut),
     /// A listing's file is no listing: the first line that begins none.
@@ -32,6 +39,15 @@ pub enum Status {
     },
     /// There was no memory; nothing was written.
     NoMemory,
+}
+
+/// How a command ended, and the file that the status speaks of where it speaks of one.
+#[derive(Clone, Copy)]
+pub(crate) struct Ended<'a> {
+    /// How.
+    pub status: Status,
+    /// The file's name.
+    pub file: &'a str,
 }
 
 /// The number that the program ends with.
@@ -46,6 +62,7 @@ pub fn number(status: &Status) -> u8
         Status::WriteFault => 5,
         Status::TooLong => 6,
         Status::BadHeader(_) => 7,
+        Status::BadScript { line: _, column: _ } => 8,
         Status::LeftOut(_) => 9,
         Status::BadText { line: _ } => 10,
         Status::NoMemory => 12,

@@ -7,7 +7,7 @@ use std::process::Abort;
 
 #[test]
 fn words_outside_the_rule_are_answered_by_the_usage(rt: HostRuntime) -> Result<(), AllocError> {
-    let rows: [&[&str]; 35] = [
+    let rows: [&[&str]; 37] = [
         &[],
         &[""],
         &["run"],
@@ -29,8 +29,10 @@ fn words_outside_the_rule_are_answered_by_the_usage(rt: HostRuntime) -> Result<(
         &["run", "", "none", "9", "none"],
         &["run", "-file", "none", "9", "none"],
         &["run", "-", "none", "9", "none"],
-        // no key script, and what is kept
-        &["run", "file", "some", "9", "none"],
+        // the key script, and what is kept
+        &["run", "file", "", "9", "none"],
+        &["run", "file", "-keys", "9", "none"],
+        &["run", "file", "-", "9", "none"],
         &["run", "file", "none", "9", "some"],
         &["run", "file", "none", "9", "None"],
         &["run", "file", "none", "9", ""],
@@ -69,7 +71,7 @@ fn words_at_the_edges_of_the_rule_are_accepted(rt: HostRuntime) -> Result<(), Al
     for ticks in ["1", "10", "99999999999", "100000000000"] {
         runs_to_its_stop(&rt, rt.alloc(), ticks)?;
     }
-    // a name may have `-` after its first byte, and be `none`
+    // a name may have `-` after its first byte; a cartridge's may be `none`
     let absent = b"no file: a-b\n";
     let words = ["run", "a-b", "none", "9", "none"];
     is_refused(&rt, rt.alloc(), &words, Vec::new(rt.alloc()), 3, absent)?;

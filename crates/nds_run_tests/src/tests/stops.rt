@@ -98,15 +98,15 @@ fn a_stop_tells_its_step_and_takes_it_not(rt: HostRuntime) -> Result<(), AllocEr
             counts: [300, 50, 0, 350],
             places: [0x0200_04B0, 0x0210_0000],
         },
-        // ARM7 reads the first timer's counter, which isn't built: mov r0, #0x4000000; ldr r1, [r0, #0x100]
+        // ARM7 reads DISPSTAT, which isn't built: mov r0, #0x4000000; ldr r1, [r0, #4]
         Row {
             nine: &[BRANCH],
-            seven: &[0xE3A0_0301, 0xE590_1100],
+            seven: &[0xE3A0_0301, 0xE590_1004],
             tick: 2,
             rank: 23,
             kind: 1,
-            value: 0x0400_0100,
-            note: b"left out: NotYet tick 2 actor 23 value 0x04000100\n",
+            value: 0x0400_0004,
+            note: b"left out: NotYet tick 2 actor 23 value 0x04000004\n",
             counts: [1, 1, 0, 2],
             places: [0x0200_0000, 0x0210_0004],
         },
@@ -165,6 +165,96 @@ fn a_stop_tells_its_step_and_takes_it_not(rt: HostRuntime) -> Result<(), AllocEr
     Ok(())
 }
 
+#[test]
+fn channels_and_the_card_stop_a_run(rt: HostRuntime) -> Result<(), AllocError> {
+    let alloc = rt.alloc();
+    let rows = [
+        // ARM9 enables a channel with start 3: mov r0, #0x4000000; mov r1, #0x98000000; str r1, [r0, #0xb8]
+        Row {
+            nine: &[0xE3A0_0301, 0xE3A0_1498, 0xE580_10B8],
+            seven: &[BRANCH],
+            tick: 2,
+            rank: 22,
+            kind: 5,
+            value: 0x9800_0000,
+            note: b"left out: DmaStart tick 2 actor 22 value 0x98000000\n",
+            counts: [2, 1, 0, 3],
+            places: [0x0200_0008, 0x0210_0000],
+        },
+        // and with start 7, which is to come: mov r1, #0xb8000000
+        Row {
+            nine: &[0xE3A0_0301, 0xE3A0_14B8, 0xE580_10B8],
+            seven: &[BRANCH],
+            tick: 2,
+            rank: 22,
+            kind: 1,
+            value: 0xB800_0000,
+            note: b"left out: NotYet tick 2 actor 22 value 0xb8000000\n",
+            counts: [2, 1, 0, 3],
+            places: [0x0200_0008, 0x0210_0000],
+        },
+        // ARM7 starts a transfer of the card: mov r0, #0x4000000; mov r1, #0x80000000; str r1, [r0, #0x1a4]
+        Row {
+            nine: &[BRANCH],
+            seven: &[0xE3A0_0301, 0xE3A0_1102, 0xE580_11A4],
+            tick: 4,
+            rank: 23,
+            kind: 6,
+            value: 0x8000_0000,
+            note: b"left out: CardTransfer tick 4 actor 23 value 0x80000000\n",
+            counts: [2, 2, 0, 4],
+            places: [0x0200_0000, 0x0210_0008],
+        },
+        // ARM9's channel 0 moves a word to DISPCNT, which isn't built: 84000001h to its control at tick 6
+        Row {
+            nine: &[
+                0xE3A0_0301,
+                0xE3A0_1402,
+                0xE580_10B0,
+                0xE580_00B4,
+                0xE3A0_1484,
+                0xE381_1001,
+                0xE580_10B8,
+            ],
+            seven: &[BRANCH],
+            tick: 10,
+            rank: 14,
+            kind: 1,
+            value: 0x0400_0000,
+            note: b"left out: NotYet tick 10 actor 14 value 0x04000000\n",
+            counts: [7, 2, 0, 9],
+            places: [0x0200_001C, 0x0210_0000],
+        },
+        // ARM7's channel 0 moves the half C001h behind its program to 4000300h, so mode 3 to HALTCNT: 80000001h to its control at tick 20
+        Row {
+            nine: &[BRANCH],
+            seven: &[
+                0xE3A0_0301,
+                0xE3A0_1621,
+                0xE381_1024,
+                0xE580_10B0,
+                0xE280_1C03,
+                0xE580_10B4,
+                0xE3A0_1102,
+                0xE381_1001,
+                0xE580_10B8,
+                0x0000_C001,
+            ],
+            tick: 24,
+            rank: 18,
+            kind: 4,
+            value: 0xC0,
+            note: b"left out: HaltMode tick 24 actor 18 value 0x000000c0\n",
+            counts: [8, 9, 0, 17],
+            places: [0x0200_0000, 0x0210_0024],
+        },
+    ];
+    for row in &rows {
+        stops(&rt, alloc, row)?;
+    }
+    Ok(())
+}
+
 /// ARM9's words stop at their last, with this value.
 fn stops_with(
     rt: &impl Abort,
@@ -194,9 +284,9 @@ fn accesses_that_are_not_built_stop_the_run(rt: HostRuntime) -> Result<(), Alloc
         // ldmdb r1!, {r2, r3} from 3FFFFFCh up, and swp r2, r3, [r1]
         (&[0xE3A0_1301, 0xE281_1004, 0xE931_000C], 0x0400_0000),
         (&[0xE3A0_1301, 0xE101_2093], 0x0400_0000),
-        // ldrb r2, [r1, #5]; ldm r1, {r2, r3} from 400027Ch up, whose first word is no port
+        // ldrb r2, [r1, #5]; ldm r1, {r2, r3} from 40003FCh up, whose first word is no port
         (&[0xE3A0_1301, 0xE5D1_2005], 0x0400_0005),
-        (&[0xE3A0_1301, 0xE281_1F9F, 0xE891_000C], 0x0400_0280),
+        (&[0xE3A0_1301, 0xE281_1FFF, 0xE891_000C], 0x0400_0400),
     ];
     for (words, value) in rows {
         stops_with(&rt, rt.alloc(), words, value)?;

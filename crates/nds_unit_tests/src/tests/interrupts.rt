@@ -1,41 +1,27 @@
 //! Interrupts, halts, what passes between the processors, and the boot ROM's functions.
 
-use super::{has_word, told};
-use nds_rows::{
-    BRANCH, Came, DTCM, END_AT, Image, MAIN, OWN7, Told, bytes_of, call, cart, end_record,
-    run_words,
-};
+use super::{counted, has_word, run_to, told};
+use nds_rows::{BRANCH, Came, DTCM, Image, MAIN, OWN7, Told, bytes_of, call, cart};
 use std::alloc::{AllocError, Global};
 use std::process::Abort;
 
 /// `mov r0, r0`.
 const NOP: u32 = 0xE1A0_0000;
 
-/// A run of both processors' words to a tick, with no note.
-fn run_to(
-    rt: &impl Abort,
-    alloc: Global,
-    nine: &[u32],
-    seven: &[u32],
-    ticks: &str,
-) -> Result<(Came, Told), AllocError> {
-    let came = run_words(alloc, nine, seven, ticks)?;
-    assert!(rt; came.note.is_empty());
-    let seen = told(rt, &came);
-    Ok((came, seen))
-}
-
-/// The run ended with these numbers: its tick, steps of ARM9 and of ARM7, events, turns.
-fn counted(
-    rt: &impl Abort,
-    alloc: Global,
-    came: &Came,
-    numbers: &[u64; 5],
-) -> Result<(), AllocError> {
-    let end = end_record(alloc, numbers)?;
-    assert!(rt; came.out.get(END_AT..) == Some(end.as_slice()));
-    Ok(())
-}
+/// ARM7 sends sync twice: mov r0, #0x4000000; mov r1, #0x2000; 40 times a loop of sub and bne; str; the loop again; str.
+const SENDS_TWICE: [u32; 11] = [
+    0xE3A0_0301,
+    0xE3A0_1A02,
+    0xE3A0_2028,
+    0xE252_2001,
+    0x1AFF_FFFD,
+    0xE580_1180,
+    0xE3A0_2028,
+    0xE252_2001,
+    0x1AFF_FFFD,
+    0xE580_1180,
+    BRANCH,
+];
 
 #[test]
 fn a_sync_interrupt_is_entered_at_the_next_step(rt: HostRuntime) -> Result<(), AllocError> {
@@ -306,22 +292,54 @@ fn a_handler_is_called_and_comes_back(rt: HostRuntime) -> Result<(), AllocError>
         0xE288_8001,
         0xE12F_FF1E,
     ];
-    // mov r0, #0x4000000; mov r1, #0x2000; 40 times a loop of sub and bne; str; the loop again; str
-    let seven = [
-        0xE3A0_0301,
-        0xE3A0_1A02,
-        0xE3A0_2028,
-        0xE252_2001,
-        0x1AFF_FFFD,
-        0xE580_1180,
-        0xE3A0_2028,
-        0xE252_2001,
-        0x1AFF_FFFD,
-        0xE580_1180,
-        BRANCH,
-    ];
-    let (_, seen) = run_to(&rt, rt.alloc(), &nine, &seven, "2000")?;
+    let (_, seen) = run_to(&rt, rt.alloc(), &nine, &SENDS_TWICE, "2000")?;
     assert_eq!(rt; seen.nine[8], 2);
     assert_eq!(rt; (seen.nine[30], seen.nine[31] % 0x100), (0x0200_0034, 0x1F));
+    Ok(())
+}
+
+#[test]
+fn a_handler_is_interrupted_and_goes_on(rt: HostRuntime) -> Result<(), AllocError> {
+    // ARM9 as above. The first call of its handler keeps SPSR and r14 (mrs r9, spsr; mov r10, lr), clears I in interrupt mode (msr cpsr_c, #0x12) and
+    // waits until r8 is 2, as the second call makes it; then it goes back with both (msr spsr_cxsf, r9; bx r10), and r11 is 2
+    let nine = [
+        0xE3A0_0301,
+        0xE3A0_5403,
+        0xE285_5901,
+        0xE28F_1028,
+        0xE505_1004,
+        0xE3A0_1901,
+        0xE580_1180,
+        0xE3A0_4801,
+        0xE580_4210,
+        0xE3A0_1001,
+        0xE580_1208,
+        0xE3A0_101F,
+        0xE121_F001,
+        BRANCH,
+        NOP,
+        0xE3A0_0301,
+        0xE580_4214,
+        0xE288_8001,
+        0xE358_0001,
+        0x112F_FF1E,
+        0xE14F_9000,
+        0xE1A0_A00E,
+        0xE321_F012,
+        0xE358_0002,
+        0x1AFF_FFFD,
+        0xE321_F092,
+        0xE16F_F009,
+        0xE1A0_B008,
+        0xE12F_FF1A,
+    ];
+    let (_, seen) = run_to(&rt, rt.alloc(), &nine, &SENDS_TWICE, "2000")?;
+    assert_eq!(rt; (seen.nine[8], seen.nine[11]), (2, 2));
+    assert_eq!(rt; (seen.nine[30], seen.nine[31] % 0x100), (0x0200_0034, 0x1F));
+    // without the wait's I it is never interrupted: it waits on
+    let mut deaf = nine;
+    deaf[22] = 0xE321_F092;
+    let (_, seen) = run_to(&rt, rt.alloc(), &deaf, &SENDS_TWICE, "2000")?;
+    assert_eq!(rt; (seen.nine[8], seen.nine[11]), (1, 0));
     Ok(())
 }

@@ -1,5 +1,9 @@
 //! DMA channels, through their ports.
 
+ghost use Rattle.std.specs.Prelude.{◌≡◌, ◌%◌};
+ghost use Rattle.ds_ports.specs.Dues.{due_behind};
+ghost use Rattle.ds_runs.specs.declared.actors.Actor.TheVariants as actors;
+
 use crate::tests::accesses::{put_at, reads, reads_at, write, write_at};
 use ds_base::{LeftKind, Proc, Stop, Tick, Width};
 use ds_dma::{Cause, Unit};
@@ -8,7 +12,9 @@ use ds_runs::Actor;
 use std::alloc::AllocError;
 
 /// When a processor's channel is due.
-fn due(units: &Units, proc: Proc, channel: u8) -> Option<Tick> {
+fn due(units: &Units, proc: Proc, channel: u8) -> Option<Tick>
+    ensures { result ≡ due_behind (actors.Dma proc (channel % 4)) units.now }
+{
     units.due_behind(Actor::Dma {
         proc,
         channel: channel % 4,

@@ -267,32 +267,41 @@ fn the_boot_rom_waits_for_interrupts(rt: HostRuntime) -> Result<(), AllocError> 
     Ok(())
 }
 
+/// ARM9's words: the address of what stands behind them to 3003FFCh (DTCM's end), the sync interrupt on, I clear (msr cpsr_c of 1Fh), and a branch to
+/// itself. Behind them stands a handler, which clears IF (str of 10000h to 214h), counts r8, and goes on by these words.
+fn with_handler(alloc: Global, rest: &[u32]) -> Result<Vec<u32>, AllocError> {
+    let mut words = Vec::from_slice(
+        alloc,
+        &[
+            0xE3A0_0301,
+            0xE3A0_5403,
+            0xE285_5901,
+            0xE28F_1028,
+            0xE505_1004,
+            0xE3A0_1901,
+            0xE580_1180,
+            0xE3A0_4801,
+            0xE580_4210,
+            0xE3A0_1001,
+            0xE580_1208,
+            0xE3A0_101F,
+            0xE121_F001,
+            BRANCH,
+            NOP,
+            0xE3A0_0301,
+            0xE580_4214,
+            0xE288_8001,
+        ],
+    )?;
+    words.extend_from_slice(rest)?;
+    Ok(words)
+}
+
 #[test]
 fn a_handler_is_called_and_comes_back(rt: HostRuntime) -> Result<(), AllocError> {
-    // ARM9: the handler's address to 3003FFCh (DTCM's end), the sync interrupt on, I clear (msr cpsr_c of 1Fh), and then r7 counts in a loop. The
-    // handler clears IF (str of 10000h to 214h), counts r8, and goes back by r14. ARM7 sends sync twice
-    let nine = [
-        0xE3A0_0301,
-        0xE3A0_5403,
-        0xE285_5901,
-        0xE28F_1028,
-        0xE505_1004,
-        0xE3A0_1901,
-        0xE580_1180,
-        0xE3A0_4801,
-        0xE580_4210,
-        0xE3A0_1001,
-        0xE580_1208,
-        0xE3A0_101F,
-        0xE121_F001,
-        BRANCH,
-        NOP,
-        0xE3A0_0301,
-        0xE580_4214,
-        0xE288_8001,
-        0xE12F_FF1E,
-    ];
-    let (_, seen) = run_to(&rt, rt.alloc(), &nine, &SENDS_TWICE, "2000")?;
+    // it goes back by r14; ARM7 sends sync twice
+    let nine = with_handler(rt.alloc(), &[0xE12F_FF1E])?;
+    let (_, seen) = run_to(&rt, rt.alloc(), nine.as_slice(), &SENDS_TWICE, "2000")?;
     assert_eq!(rt; seen.nine[8], 2);
     assert_eq!(rt; (seen.nine[30], seen.nine[31] % 0x100), (0x0200_0034, 0x1F));
     Ok(())
@@ -300,27 +309,10 @@ fn a_handler_is_called_and_comes_back(rt: HostRuntime) -> Result<(), AllocError>
 
 #[test]
 fn a_handler_is_interrupted_and_goes_on(rt: HostRuntime) -> Result<(), AllocError> {
-    // ARM9 as above. The first call of its handler keeps SPSR and r14 (mrs r9, spsr; mov r10, lr), clears I in interrupt mode (msr cpsr_c, #0x12) and
-    // waits until r8 is 2, as the second call makes it; then it goes back with both (msr spsr_cxsf, r9; bx r10), and r11 is 2
-    let nine = [
-        0xE3A0_0301,
-        0xE3A0_5403,
-        0xE285_5901,
-        0xE28F_1028,
-        0xE505_1004,
-        0xE3A0_1901,
-        0xE580_1180,
-        0xE3A0_4801,
-        0xE580_4210,
-        0xE3A0_1001,
-        0xE580_1208,
-        0xE3A0_101F,
-        0xE121_F001,
-        BRANCH,
-        NOP,
-        0xE3A0_0301,
-        0xE580_4214,
-        0xE288_8001,
+    let alloc = rt.alloc();
+    // the second call goes back (cmp r8, #1; bxne r14). The first keeps SPSR and r14 (mrs r9, spsr; mov r10, lr), clears I in interrupt mode (msr
+    // cpsr_c, #0x12) and waits until r8 is 2; then it goes back with both (msr spsr_cxsf, r9; bx r10), and r11 is 2
+    let rest = [
         0xE358_0001,
         0x112F_FF1E,
         0xE14F_9000,
@@ -333,13 +325,15 @@ fn a_handler_is_interrupted_and_goes_on(rt: HostRuntime) -> Result<(), AllocErro
         0xE1A0_B008,
         0xE12F_FF1A,
     ];
-    let (_, seen) = run_to(&rt, rt.alloc(), &nine, &SENDS_TWICE, "2000")?;
+    let nine = with_handler(alloc, &rest)?;
+    let (_, seen) = run_to(&rt, alloc, nine.as_slice(), &SENDS_TWICE, "2000")?;
     assert_eq!(rt; (seen.nine[8], seen.nine[11]), (2, 2));
     assert_eq!(rt; (seen.nine[30], seen.nine[31] % 0x100), (0x0200_0034, 0x1F));
-    // without the wait's I it is never interrupted: it waits on
-    let mut deaf = nine;
-    deaf[22] = 0xE321_F092;
-    let (_, seen) = run_to(&rt, rt.alloc(), &deaf, &SENDS_TWICE, "2000")?;
+    // with I set it is never interrupted, and waits on
+    let mut deaf = rest;
+    deaf[4] = 0xE321_F092;
+    let nine = with_handler(alloc, &deaf)?;
+    let (_, seen) = run_to(&rt, alloc, nine.as_slice(), &SENDS_TWICE, "2000")?;
     assert_eq!(rt; (seen.nine[8], seen.nine[11]), (1, 0));
     Ok(())
 }

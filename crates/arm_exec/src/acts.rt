@@ -115,7 +115,7 @@ fn act_multiply(arch: Arch, base: u32, s: &mut Registers, instr: &Instr) -> u32
 
 /// Data processing, or what isn't it; the result is its cost.
 #[inline]
-fn act_processing(arch: Arch, base: u32, s: &mut Registers, instr: &Instr) -> u32
+pub fn act_processing(arch: Arch, base: u32, s: &mut Registers, instr: &Instr) -> u32
     requires { HasFields instr.now }
     ensures registers { s.new ≡ (act_processing arch base s.old instr.now).after [] }
     ensures cost { result ≡ cost_of arch (act_processing arch base s.old instr.now) }

@@ -17,7 +17,7 @@ mod steps;
 mod swaps;
 mod transfers;
 
-pub use acts::{act, skip};
+pub use acts::{act, act_processing, skip};
 pub use branches::{
     address, branch, distance8, distance11, distance24, exchange, exchange_to, prefix, suffix,
 };
@@ -28,9 +28,9 @@ pub use half_multiplies::{accumulate_product, half_long, half_product, set_produ
 pub use links::{link_exchange, link_suffix, link_target};
 pub use multiples::{load_multiple, multiple, store_multiple};
 pub use multiplies::{long_multiply, multiply};
-pub use processing::{compare, data, move_};
+pub use processing::{compare, compute_compare, compute_data, compute_move, data, move_};
 pub use saturating::saturate;
 pub use statuses::{mrs, msr};
 pub use steps::{Fetched, enters, execute, execute_word, fetch, step};
 pub use swaps::swap;
-pub use transfers::{half_transfer, literal, transfer};
+pub use transfers::{half_transfer, half_transfer_at, literal, transfer, transfer_at};

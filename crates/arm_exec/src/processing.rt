@@ -4,10 +4,13 @@ ghost use Rattle.std.specs.Prelude.{◌≡◌, ◌<◌, []};
 ghost use Rattle.arm_words.specs.Fields.{HasOperand};
 ghost use Rattle.arm_core.specs.Costs.{HasClocks};
 ghost use Rattle.arm_core.specs.Effects.{cost_of};
-ghost use Rattle.arm_core.specs.DataProcessing.{compare_meaning, data_meaning, finished, move_meaning, operand_class};
+ghost use Rattle.arm_core.specs.Conditions.{c_flag, v_flag};
+ghost use Rattle.arm_core.specs.DataProcessing as processing;
+ghost use Rattle.arm_core.specs.DataProcessing.{compare_meaning, data_meaning, finished, move_meaning, operand_class, with_flags};
+ghost use Rattle.arm_core.specs.Registers.{next};
 
 use arm_core::{
-    Class, Computed, Registers, compare_result, data_result, first_operand, move_result,
+    Class, Computed, Registers, Shifted32, compare_result, data_result, first_operand, move_result,
     shifter_operand,
 };
 use arm_words::{CompareOp, DataOp, MoveOp, Operand};
@@ -42,6 +45,52 @@ fn finish(s: &mut Registers, set_flags: bool, rd: u8, r: Computed)
     }
 }
 
+/// Computes from two operands: the result goes to `rd`, and r15 goes on first.
+#[inline(always)]
+pub fn compute_data(
+    s: &mut Registers,
+    op: DataOp,
+    set_flags: bool,
+    rd: u8,
+    first: u32,
+    second: Shifted32,
+)
+    requires { rd < 16 }
+    ensures { s.new ≡ finished set_flags rd (processing.data_result op first second (c_flag s.old.cpsr) (v_flag s.old.cpsr)) (next s.old) }
+{
+    let cpsr = s.cpsr();
+    let r = data_result(
+        op,
+        first,
+        second,
+        (cpsr >> 29) & 1 == 1,
+        (cpsr >> 28) & 1 == 1,
+    );
+    s.go_on();
+    finish(s, set_flags, rd, r);
+}
+
+/// Computes from two operands and sets the flags alone; r15 goes on.
+#[inline(always)]
+pub fn compute_compare(s: &mut Registers, op: CompareOp, first: u32, second: Shifted32)
+    ensures { s.new ≡ with_flags (processing.compare_result op first second (v_flag s.old.cpsr)) (next s.old) }
+{
+    let r = compare_result(op, first, second, (s.cpsr() >> 28) & 1 == 1);
+    s.go_on();
+    s.set_flags(r);
+}
+
+/// Computes from one operand: the result goes to `rd`, and r15 goes on first.
+#[inline(always)]
+pub fn compute_move(s: &mut Registers, op: MoveOp, set_flags: bool, rd: u8, second: Shifted32)
+    requires { rd < 16 }
+    ensures { s.new ≡ finished set_flags rd (processing.move_result op second (v_flag s.old.cpsr)) (next s.old) }
+{
+    let r = move_result(op, second, (s.cpsr() >> 28) & 1 == 1);
+    s.go_on();
+    finish(s, set_flags, rd, r);
+}
+
 /// Data processing with two operands and a result (ARM manual, A4.1 "ADC", "ADD", "AND", "BIC", "EOR", "ORR", "RSB", "RSC", "SBC", "SUB").
 /// Gives what it costs, in the processor's own clocks.
 #[inline]
@@ -62,16 +111,7 @@ pub fn data(
 {
     let first = first_operand(s, operand, rn);
     let second = shifter_operand(s, operand);
-    let cpsr = s.cpsr();
-    let r = data_result(
-        op,
-        first,
-        second,
-        (cpsr >> 29) & 1 == 1,
-        (cpsr >> 28) & 1 == 1,
-    );
-    s.go_on();
-    finish(s, set_flags, rd, r);
+    compute_data(s, op, set_flags, rd, first, second);
     operand_class(operand).cost(arch, rd == 15)
 }
 
@@ -85,9 +125,7 @@ pub fn compare(arch: Arch, s: &mut Registers, op: CompareOp, rn: u8, operand: Op
 {
     let first = first_operand(s, operand, rn);
     let second = shifter_operand(s, operand);
-    let r = compare_result(op, first, second, (s.cpsr() >> 28) & 1 == 1);
-    s.go_on();
-    s.set_flags(r);
+    compute_compare(s, op, first, second);
     operand_class(operand).cost(arch, false)
 }
 
@@ -107,8 +145,6 @@ pub fn move_(
     ensures cost { result ≡ cost_of arch (move_meaning s.old op set_flags rd operand) }
 {
     let second = shifter_operand(s, operand);
-    let r = move_result(op, second, (s.cpsr() >> 28) & 1 == 1);
-    s.go_on();
-    finish(s, set_flags, rd, r);
+    compute_move(s, op, set_flags, rd, second);
     operand_class(operand).cost(arch, rd == 15)
 }

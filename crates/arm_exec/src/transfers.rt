@@ -259,7 +259,7 @@ fn store<B: Bus>(
 
 /// LDR, LDRB, STR and STRB at an address.
 #[inline(always)]
-fn transfer_at<B: Bus>(
+pub fn transfer_at<B: Bus>(
     arch: Arch,
     s: &mut Registers,
     bus: &mut B,
@@ -342,7 +342,7 @@ fn load_signed_half_or_byte<B: Bus>(
 
 /// STRH, LDRH, LDRSB and LDRSH at an address.
 #[inline(always)]
-fn half_transfer_at<B: Bus>(
+pub fn half_transfer_at<B: Bus>(
     arch: Arch,
     s: &mut Registers,
     bus: &mut B,

@@ -1,0 +1,149 @@
+use Rattle.std.proofs.Common.{ℕ, ◌≡◌, ◌<◌, ◌+◌, ◌*◌, ◌^◌, Bool, true, false, if◌then◌else◌, Option, Some, None, IfSome, arith}
+use Rattle.ds_base.specs.Bits.{flag}
+use Rattle.arm_words.specs.Fields.{HasFields, HasOperand, HasThumbOperand}
+use Rattle.arm_words.specs.declared.instructions.Instr.{Instr}
+use Rattle.arm_words.specs.declared.instructions.Instr.TheVariants as instrs
+use Rattle.arm_words.specs.declared.operations.CompareOp.{CompareOp}
+use Rattle.arm_words.specs.declared.operations.DataOp.{DataOp}
+use Rattle.arm_words.specs.declared.operations.HighOp.{HighOp}
+use Rattle.arm_words.specs.declared.operations.HighOp.TheVariants as high_ops
+use Rattle.arm_words.specs.declared.operations.MoveOp.{MoveOp}
+use Rattle.arm_words.specs.declared.operations.ThumbDataOp.{ThumbDataOp}
+use Rattle.arm_words.specs.declared.operations.ThumbDataOp.TheVariants as thumb_ops
+use Rattle.arm_words.specs.declared.operations.ThumbImmediateOp.{ThumbImmediateOp}
+use Rattle.arm_words.specs.declared.operations.ThumbImmediateOp.TheVariants as immediate_ops
+use Rattle.arm_words.specs.declared.operations.ThumbTransferOp.{ThumbTransferOp}
+use Rattle.arm_words.specs.declared.operations.ThumbTransferOp.TheVariants as transfer_ops
+use Rattle.arm_words.specs.declared.parts.Offset.TheVariants as offsets
+use Rattle.arm_words.specs.declared.parts.Operand.{Operand}
+use Rattle.arm_words.specs.declared.parts.Operand.TheVariants.{Immediate, Shifted, ShiftedByRegister}
+use Rattle.arm_words.specs.declared.parts.Shift.{Shift}
+use Rattle.arm_words.specs.declared.parts.ShortOffset.TheVariants.{ShortNumber, ShortRegister}
+use Rattle.arm_words.specs.declared.parts.ThumbOperand.{ThumbOperand}
+use Rattle.arm_words.specs.declared.parts.ThumbOperand.TheVariants.{LowRegister, Small}
+use Rattle.arm_core.specs.Thumb.{equivalent, high_instr, immediate_instr, low_operand, offset_instr, register_instr, transfer_equivalent}
+use Rattle.arm_ops.specs.Operations.{compare_op, data_op, is_plain, move_op, op_of, ready_of, HasOp}
+use Rattle.arm_ops.specs.declared.operations.Op.{Op}
+
+-- What is made ready has its fields in their ranges, where the instruction has.
+
+one_of : (b : Bool) (x y : Op) → HasOp x → HasOp y → HasOp (if b then x else y)
+one_of true x y h k = h
+one_of false x y h k = k
+
+data_fields : (i : Instr) (op : DataOp) (set_flags : Bool) (rn rd : ℕ) (operand : Operand) → HasFields i → rn < 16 → rd < 16 → HasOperand operand
+    → HasOp (data_op i op set_flags rn rd operand)
+data_fields i op set_flags rn rd (Immediate rotate immed) h n d o = (n, d)
+data_fields i op set_flags rn rd (Shifted rm shift amount) h n d o = one_of (is_plain shift amount) _ _ (n, d, o.0) (n, d, o.0, o.1)
+data_fields i op set_flags rn rd (ShiftedByRegister rm shift rs) h n d o = h
+
+compare_fields : (i : Instr) (op : CompareOp) (rn : ℕ) (operand : Operand) → HasFields i → rn < 16 → HasOperand operand → HasOp (compare_op i op rn operand)
+compare_fields i op rn (Immediate rotate immed) h n o = n
+compare_fields i op rn (Shifted rm shift amount) h n o = one_of (is_plain shift amount) _ _ (n, o.0) (n, o.0, o.1)
+compare_fields i op rn (ShiftedByRegister rm shift rs) h n o = h
+
+move_fields : (i : Instr) (op : MoveOp) (set_flags : Bool) (rd : ℕ) (operand : Operand) → HasFields i → rd < 16 → HasOperand operand
+    → HasOp (move_op i op set_flags rd operand)
+move_fields i op set_flags rd (Immediate rotate immed) h d o = d
+move_fields i op set_flags rd (Shifted rm shift amount) h d o = one_of (is_plain shift amount) _ _ (d, o.0) (d, o.0, o.1)
+move_fields i op set_flags rd (ShiftedByRegister rm shift rs) h d o = h
+
+pub op_fields : (i : Instr) → HasFields i → HasOp (op_of i)
+op_fields (instrs.Data cond op set_flags rn rd operand) h = data_fields (instrs.Data cond op set_flags rn rd operand) op set_flags rn rd operand h h.0 h.1 h.2
+op_fields (instrs.Compare cond op rn operand) h = compare_fields (instrs.Compare cond op rn operand) op rn operand h h.0 h.1
+op_fields (instrs.Move cond op set_flags rd operand) h = move_fields (instrs.Move cond op set_flags rd operand) op set_flags rd operand h h.0 h.1
+op_fields (instrs.Transfer cond pre up byte write_back load rn rd (offsets.Number offset)) h = (h.0, h.1)
+op_fields (instrs.Transfer cond pre up byte write_back load rn rd (offsets.Register rm shift amount)) h = (h.0, h.1, h.2.0, h.2.1)
+op_fields (instrs.HalfTransfer cond op pre up write_back rn rd (ShortNumber offset)) h = (h.0, h.1)
+op_fields (instrs.HalfTransfer cond op pre up write_back rn rd (ShortRegister rm)) h = (h.0, h.1, h.2)
+op_fields (instrs.ThumbLoadLiteral rd immed) h = omega (arith, h)
+op_fields (instrs.Mul cond set_flags rd rm rs) h = h
+op_fields (instrs.Mla cond set_flags rd rm rs rn) h = h
+op_fields (instrs.LongMultiply cond signed accumulate set_flags rd_lo rd_hi rm rs) h = h
+op_fields (instrs.Bx cond rm) h = h
+op_fields (instrs.ThumbAddress stack rd immed) h = h
+op_fields (instrs.ThumbBlPrefix offset) h = h
+op_fields (instrs.ThumbBlSuffix offset) h = h
+op_fields _ h = tt
+
+-- ---- and its form of ARM code
+
+low : (r : ℕ) → r < 8 → r < 16
+low r h = omega (arith, h)
+
+operand_fields : (operand : ThumbOperand) → HasThumbOperand operand → HasOperand (low_operand operand)
+operand_fields (LowRegister rm) h = (low rm h, omega arith)
+operand_fields (Small immed) h = (omega arith, omega (arith, h))
+
+immediate_fields : (op : ThumbImmediateOp) (rd immed : ℕ) → rd < 8 → immed < 256 → HasFields (immediate_instr op rd immed)
+immediate_fields immediate_ops.Mov rd immed h k = (low rd h, (omega arith, k))
+immediate_fields immediate_ops.Cmp rd immed h k = (low rd h, (omega arith, k))
+immediate_fields immediate_ops.Add rd immed h k = (low rd h, low rd h, (omega arith, k))
+immediate_fields immediate_ops.Sub rd immed h k = (low rd h, low rd h, (omega arith, k))
+
+register_fields : (op : ThumbDataOp) (rm rd : ℕ) → rm < 8 → rd < 8 → HasFields (register_instr op rm rd)
+register_fields thumb_ops.And rm rd m d = (low rd d, low rd d, (low rm m, omega arith))
+register_fields thumb_ops.Eor rm rd m d = (low rd d, low rd d, (low rm m, omega arith))
+register_fields thumb_ops.Lsl rm rd m d = (low rd d, (low rd d, low rm m))
+register_fields thumb_ops.Lsr rm rd m d = (low rd d, (low rd d, low rm m))
+register_fields thumb_ops.Asr rm rd m d = (low rd d, (low rd d, low rm m))
+register_fields thumb_ops.Adc rm rd m d = (low rd d, low rd d, (low rm m, omega arith))
+register_fields thumb_ops.Sbc rm rd m d = (low rd d, low rd d, (low rm m, omega arith))
+register_fields thumb_ops.Ror rm rd m d = (low rd d, (low rd d, low rm m))
+register_fields thumb_ops.Tst rm rd m d = (low rd d, (low rm m, omega arith))
+register_fields thumb_ops.Neg rm rd m d = (low rm m, low rd d, (omega arith, omega arith))
+register_fields thumb_ops.Cmp rm rd m d = (low rd d, (low rm m, omega arith))
+register_fields thumb_ops.Cmn rm rd m d = (low rd d, (low rm m, omega arith))
+register_fields thumb_ops.Orr rm rd m d = (low rd d, low rd d, (low rm m, omega arith))
+register_fields thumb_ops.Mul rm rd m d = (low rd d, low rm m, low rd d)
+register_fields thumb_ops.Bic rm rd m d = (low rd d, low rd d, (low rm m, omega arith))
+register_fields thumb_ops.Mvn rm rd m d = (low rd d, (low rm m, omega arith))
+
+high_fields : (op : HighOp) (rm rd : ℕ) → rm < 16 → rd < 16 → HasFields (high_instr op rm rd)
+high_fields high_ops.Add rm rd m d = (d, d, (m, omega arith))
+high_fields high_ops.Cmp rm rd m d = (d, (m, omega arith))
+high_fields high_ops.Mov rm rd m d = (d, (m, omega arith))
+
+-- loads and stores, of which the operation alone is told
+offset_fields : (op : ThumbTransferOp) (rm rn rd : ℕ) → rm < 8 → rn < 8 → rd < 8 → HasOp (op_of (offset_instr op rm rn rd))
+offset_fields transfer_ops.Str rm rn rd m n d = (low rn n, low rd d, low rm m, omega arith)
+offset_fields transfer_ops.Strh rm rn rd m n d = (low rn n, low rd d, low rm m)
+offset_fields transfer_ops.Strb rm rn rd m n d = (low rn n, low rd d, low rm m, omega arith)
+offset_fields transfer_ops.Ldrsb rm rn rd m n d = (low rn n, low rd d, low rm m)
+offset_fields transfer_ops.Ldr rm rn rd m n d = (low rn n, low rd d, low rm m, omega arith)
+offset_fields transfer_ops.Ldrh rm rn rd m n d = (low rn n, low rd d, low rm m)
+offset_fields transfer_ops.Ldrb rm rn rd m n d = (low rn n, low rd d, low rm m, omega arith)
+offset_fields transfer_ops.Ldrsh rm rn rd m n d = (low rn n, low rd d, low rm m)
+
+stack_fields : (load extra : Bool) (list : ℕ) → HasOp (op_of (transfer_equivalent (instrs.ThumbPushPop load extra list)))
+stack_fields true extra list = tt
+stack_fields false extra list = tt
+
+address_fields : (stack : Bool) (rd immed : ℕ) → rd < 8 → immed < 256 → HasOp (op_of (equivalent (instrs.ThumbAddress stack rd immed)))
+address_fields true rd immed d k = (omega arith, low rd d)
+address_fields false rd immed d k = (d, k)
+
+instr_fields : (i : Instr) → HasFields i → HasOp (op_of (equivalent i))
+instr_fields (instrs.ThumbAddSub subtract operand rn rd) h =
+    op_fields (equivalent (instrs.ThumbAddSub subtract operand rn rd)) (low rn h.1, low rd h.2, operand_fields operand h.0)
+instr_fields (instrs.ThumbShift shift amount rm rd) h = op_fields (equivalent (instrs.ThumbShift shift amount rm rd)) (low rd h.2, (low rm h.1, h.0))
+instr_fields (instrs.ThumbImmediate op rd immed) h = op_fields (immediate_instr op rd immed) (immediate_fields op rd immed h.0 h.1)
+instr_fields (instrs.ThumbData op rm rd) h = op_fields (register_instr op rm rd) (register_fields op rm rd h.0 h.1)
+instr_fields (instrs.ThumbHigh op rm rd) h = op_fields (high_instr op rm rd) (high_fields op rm rd h.0 h.1)
+instr_fields (instrs.ThumbAddress stack rd immed) h = address_fields stack rd immed h.0 h.1
+instr_fields (instrs.ThumbAdjustStack subtract immed) h = (omega arith, omega arith)
+instr_fields (instrs.ThumbRegisterOffset op rm rn rd) h = offset_fields op rm rn rd h.0 h.1 h.2
+instr_fields (instrs.ThumbImmediateOffset byte load immed rn rd) h = (low rn h.1, low rd h.2)
+instr_fields (instrs.ThumbHalfOffset load immed rn rd) h = (low rn h.1, low rd h.2)
+instr_fields (instrs.ThumbStackOffset load rd immed) h = (omega arith, low rd h.0)
+instr_fields (instrs.ThumbPushPop load extra list) h = stack_fields load extra list
+instr_fields (instrs.ThumbMultiple load rn list) h = tt
+instr_fields (instrs.ThumbBx rm) h = h
+instr_fields (instrs.ThumbBlxRegister rm) h = tt
+instr_fields (instrs.ThumbBkpt immed) h = tt
+instr_fields (instrs.ThumbSwi immed) h = tt
+instr_fields i h = op_fields i h
+
+pub ready_fields : (o : Option Instr) → IfSome o HasFields → HasOp (ready_of o).op
+ready_fields None h = tt
+ready_fields (Some i) h = instr_fields i h

@@ -1,0 +1,15 @@
+//! Operations: the frequent instructions with their operands made ready, and what takes effect where.
+//!
+//! A word is decoded once and made ready once; then it is run as often as it is fetched. What is run is exactly the instruction's meaning. What isn't frequent, needs what
+//! may be left out or reaches past the near memories isn't run here: then nothing is done, and the caller takes the instruction itself.
+#![tactic(auto)]
+
+mod making;
+mod operations;
+mod running;
+#[cfg(test)]
+mod tests;
+
+pub use making::ready;
+pub use operations::{Op, Ready};
+pub use running::run;

@@ -1,9 +1,12 @@
 //! A memo of words, or of halves, of one version of the architecture.
 
-ghost use Rattle.std.specs.Prelude.{◌≡◌, ◌<◌};
+ghost use Rattle.std.specs.Prelude.{◌≡◌, ◌<◌, IfSome};
 ghost use Rattle.std.specs.Coded.{Coded-set};
 ghost use Rattle.arm_memo.specs.Known.{arch_of, known};
+ghost use Rattle.arm_ops.specs.Operations.{ready_of, HasOp};
+ghost use Rattle.arm_words.specs.Fields.{HasFields};
 
+use arm_ops::{Ready, ready};
 use arm_words::{Instr, decode_arm, decode_thumb};
 use ds_base::Arch;
 use std::alloc::{AllocError, Global};
@@ -12,12 +15,14 @@ use std::marker::Model;
 /// How many numbers are kept.
 const PLACES: usize = 16_384;
 
-/// A number with its instruction, if it has one.
+/// A number with its instruction, if it has one, and the instruction made ready.
 #[derive(Clone, Copy)]
 struct Entry<const VERSION: u32, const BITS: u32> {
     number: u32,
     instr: Option<Instr>,
+    ready: Ready,
     ghost right: { known VERSION BITS number ≡ instr } by { Coded-set instr-code (known VERSION BITS number) instr },
+    ghost made: { ready_of (known VERSION BITS number) ≡ ready } by { Coded-set ready-code (ready_of (known VERSION BITS number)) ready },
 }
 
 /// Numbers of so many bits with their instructions.
@@ -54,7 +59,8 @@ const fn arch_of<const VERSION: u32>() -> Arch
 /// The instruction of a number, by the tables.
 #[tactic(auto, unfolding(crate::specs::Known::known))]
 fn decoded<const VERSION: u32, const BITS: u32>(number: u32) -> Option<Instr>
-    ensures { result ≡ known VERSION BITS number }
+    ensures instr { result ≡ known VERSION BITS number }
+    ensures fields { IfSome result HasFields }
 {
     let arch = arch_of::<VERSION>();
     if BITS == 16 {
@@ -70,7 +76,12 @@ fn made<const VERSION: u32, const BITS: u32>(number: u32) -> Entry<VERSION, BITS
     ensures { result.number ≡ number }
 {
     let instr = decoded::<VERSION, BITS>(number);
-    Entry { number, instr }
+    let ready = ready(instr);
+    Entry {
+        number,
+        instr,
+        ready,
+    }
 }
 
 impl<const VERSION: u32, const BITS: u32> Entry<VERSION, BITS> {
@@ -101,5 +112,14 @@ impl<const VERSION: u32, const BITS: u32> Memo<VERSION, BITS> {
         let entry = &mut self.entries[place(number)];
         entry.learn(number);
         entry.instr
+    }
+    /// The instruction of a number, or none, made ready.
+    #[inline(always)]
+    pub fn ready(&mut self, number: u32) -> &Ready
+        ensures { result.now ≡ ready_of (known VERSION BITS number) }
+    {
+        let entry = &mut self.entries[place(number)];
+        entry.learn(number);
+        &entry.ready
     }
 }

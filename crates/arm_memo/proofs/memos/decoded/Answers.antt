@@ -9,5 +9,7 @@ apart a b h = grind (arith, h)
 
 pub returns-else-this-eq16 : goal.returns-else-this-eq16
 unfolding known
-returns-else-this-eq16 g c =
-    rw (apart g.row.BITS 16 c.if-this-eq16.false) (c.decode_arm.ensures.row ∙ ap (λ (arch : Arch). decoded_arm arch c.args.number) c.arch_of-arch.ensures)
+returns-else-this-eq16 g c = record {
+  instr = rw (apart g.row.BITS 16 c.if-this-eq16.false) (c.decode_arm.ensures.row ∙ ap (λ (arch : Arch). decoded_arm arch c.args.number) c.arch_of-arch.ensures);
+  fields = c.decode_arm.ensures.fields;
+}

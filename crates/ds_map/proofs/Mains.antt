@@ -1,13 +1,14 @@
 use Rattle.std.proofs.Common.{ℕ, ◌≡◌, ◌<◌, ◌≤◌, ◌+◌, ◌-◌, ◌%◌, inl, inr, refl, arith}
 use Rattle.ds_base.specs.Memories.{memory_size}
-use Rattle.ds_base.specs.declared.memories.Memory.TheVariants.{Main}
+use Rattle.ds_base.specs.declared.memories.Memory.TheVariants.{Main, Own7}
 use Rattle.ds_base.specs.declared.processors.Proc.{Proc}
 use Rattle.ds_base.specs.declared.processors.Proc.TheVariants.{Nine, Seven}
 use Rattle.ds_places.specs.declared.kinds.Place.TheVariants.{Cell}
 use Rattle.ds_places.specs.AddressTables.{place_of}
 use Rattle.ds_places.proofs.Regions.{lies_or_not}
 
--- An address of main memory is a cell of it, for both processors. The code asks for it first, since most accesses are of it.
+-- An address of main memory is a cell of it, for both processors; one of ARM7's own work RAM is a cell of that. The code asks for them first, since most
+-- accesses are of them.
 
 pub main_place : (proc : Proc) (wramcnt at : ℕ) → 0x02000000 ≤ at → at < 0x03000000
     → place_of proc wramcnt at ≡ Cell Main (0 + (at - 0x02000000) % memory_size Main)
@@ -16,4 +17,19 @@ main_place Nine wramcnt at low high =
 main_place Seven wramcnt at low high = elim (lies_or_not 0x00000000 0x00003FFF at) [
   | inl in_rom ↦ absurd (omega (arith, low, in_rom))
   | inr past ↦ rw past.1 (elim (lies_or_not 0x02000000 0x02FFFFFF at) [ inl inside ↦ rw inside.2 refl | inr apart ↦ absurd (apart.0 (low, omega (arith, high))) ])
+]
+
+pub own_place : (wramcnt at : ℕ) → 0x03800000 ≤ at → at < 0x04000000 → place_of Seven wramcnt at ≡ Cell Own7 (0 + (at - 0x03800000) % memory_size Own7)
+own_place wramcnt at low high = elim (lies_or_not 0x00000000 0x00003FFF at) [
+  | inl in_rom ↦ absurd (omega (arith, low, in_rom))
+  | inr past_rom ↦ rw past_rom.1 (elim (lies_or_not 0x02000000 0x02FFFFFF at) [
+    | inl in_main ↦ absurd (omega (arith, low, in_main))
+    | inr past_main ↦ rw past_main.1 (elim (lies_or_not 0x03000000 0x037FFFFF at) [
+      | inl in_shared ↦ absurd (omega (arith, low, in_shared))
+      | inr past_shared ↦ rw past_shared.1 (elim (lies_or_not 0x03800000 0x03FFFFFF at) [
+        | inl in_own ↦ rw in_own.2 refl
+        | inr apart ↦ absurd (apart.0 (low, omega (arith, high)))
+      ])
+    ])
+  ])
 ]

@@ -80,11 +80,13 @@ impl<const N: usize> Block<N> {
             Width::Byte => bytes[at] as u32,
             Width::Half => {
                 let at = at - at % 2;
-                u16::from_le_bytes([bytes[at], bytes[at + 1]]) as u32
+                let two = &bytes[at..at + 2];
+                u16::from_le_bytes([two[0], two[1]]) as u32
             }
             Width::Word => {
                 let at = at - at % 4;
-                u32::from_le_bytes([bytes[at], bytes[at + 1], bytes[at + 2], bytes[at + 3]])
+                let four = &bytes[at..at + 4];
+                u32::from_le_bytes([four[0], four[1], four[2], four[3]])
             }
         }
     }

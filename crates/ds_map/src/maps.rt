@@ -3,7 +3,7 @@
 ghost use Rattle.std.specs.Prelude.{◌≡◌, ◌<◌, ◌^◌, ◌&&◌, slice_index, ℕ, IfOk, IfSome, IsSome, Some, if◌then◌else◌};
 ghost use Rattle.ds_base.specs.Memories.{memory_size};
 ghost use Rattle.ds_base.specs.Numbers.{aligned_down, number_at, with_number};
-ghost use Rattle.ds_base.specs.declared.memories.Memory.TheVariants.{Main};
+ghost use Rattle.ds_base.specs.declared.memories.Memory.TheVariants.{Main, Own7};
 ghost use Rattle.ds_base.specs.declared.processors.Proc.{Proc};
 ghost use Rattle.ds_places.specs.AddressTables.{IsInside, place_of};
 ghost use Rattle.ds_places.specs.declared.kinds.Place.TheVariants.{Cell};
@@ -194,6 +194,17 @@ impl Map {
         }
     }
 
+    /// What a processor reads at an address at a tick, wherever it is, and the read.
+    #[inline(never)]
+    #[tactic(auto, unfolding(crate::specs::Accesses::map_value, crate::specs::Accesses::map_read))]
+    fn read_any(&mut self, proc: Proc, now: Tick, at: u32, width: Width) -> u32
+        ensures value { result ≡ map_value proc now self.old at width }
+        ensures next { self.new ≡ map_read proc self.old at width }
+    {
+        let place = place(proc, self.wramcnt(), at);
+        self.read_at(proc, now, place, width)
+    }
+
     /// What a processor reads at an address at a tick, past the tightly coupled memories, and the read: of a port it may change what stands there.
     #[inline(always)]
     #[tactic(auto, unfolding(crate::specs::Accesses::map_value, crate::specs::Accesses::map_read))]
@@ -204,8 +215,19 @@ impl Map {
         if let Some(cell) = main_cell(at) {
             return self.main.number(cell as usize, width);
         }
-        let place = place(proc, self.wramcnt(), at);
-        self.read_at(proc, now, place, width)
+        if let Some(cell) = own_cell(proc, at) {
+            return self.own.number(cell as usize, width);
+        }
+        self.read_any(proc, now, at, width)
+    }
+
+    /// What a processor fetches at an address, wherever it is.
+    #[inline(never)]
+    #[tactic(auto, unfolding(crate::specs::Accesses::map_fetched))]
+    fn fetch_any(&self, proc: Proc, at: u32, width: Width) -> u32
+        ensures { result ≡ map_fetched proc self.now at width }
+    {
+        self.fetch_at(proc, place(proc, self.wramcnt(), at), width)
     }
 
     /// What a processor fetches at an address, past the tightly coupled memories. From a port it is 0.
@@ -217,7 +239,29 @@ impl Map {
         if let Some(cell) = main_cell(at) {
             return self.main.number(cell as usize, width);
         }
-        self.fetch_at(proc, place(proc, self.wramcnt(), at), width)
+        if let Some(cell) = own_cell(proc, at) {
+            return self.own.number(cell as usize, width);
+        }
+        self.fetch_any(proc, at, width)
+    }
+
+    /// Writes a processor's value at an address at a tick, wherever it is, unless it is refused.
+    #[inline(never)]
+    #[tactic(auto, unfolding(crate::specs::Accesses::map_refusal, crate::specs::Accesses::map_written))]
+    fn write_any(
+        &mut self,
+        proc: Proc,
+        now: Tick,
+        at: u32,
+        width: Width,
+        value: u32,
+    ) -> Option<Stop>
+        requires { IsEarly (Some now) }
+        ensures refusal { result ≡ map_refusal proc self.old at width value }
+        ensures next { self.new ≡ map_written proc now self.old at width value }
+    {
+        let place = place(proc, self.wramcnt(), at);
+        self.write_at(proc, now, place, width, value)
     }
 
     /// Writes a processor's value at an address at a tick, past the tightly coupled memories, unless it is refused: exactly where it is a write of
@@ -240,8 +284,11 @@ impl Map {
             self.main.set_number(cell as usize, width, value);
             return None;
         }
-        let place = place(proc, self.wramcnt(), at);
-        self.write_at(proc, now, place, width, value)
+        if let Some(cell) = own_cell(proc, at) {
+            self.own.set_number(cell as usize, width, value);
+            return None;
+        }
+        self.write_any(proc, now, at, width, value)
     }
 
     /// The units behind the ports.
@@ -351,6 +398,19 @@ fn main_cell(at: u32) -> Option<u32>
 {
     if at >= 0x0200_0000 && at < 0x0300_0000 {
         return Some((at - 0x0200_0000) % MAIN_BYTES as u32);
+    }
+    None
+}
+
+/// The cell of ARM7's own work RAM at an address, where it is there. It is asked second.
+#[inline(always)]
+#[tactic(auto, using(crate::proofs::Mains::own_place))]
+fn own_cell(proc: Proc, at: u32) -> Option<u32>
+    ensures place { IfSome result (λ cell. (wramcnt : ℕ) → place_of proc wramcnt at ≡ Cell Own7 cell) }
+    ensures inside { IfSome result (λ cell. cell < memory_size Own7) }
+{
+    if proc == Proc::Seven && at >= 0x0380_0000 && at < 0x0400_0000 {
+        return Some((at - 0x0380_0000) % OWN7_BYTES as u32);
     }
     None
 }

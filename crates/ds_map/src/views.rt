@@ -57,7 +57,7 @@ pub struct NineView<'a> {
     /// DTCM.
     pub dtcm: &'a mut Block<DTCM_BYTES>,
     /// CP15 as it is before the step.
-    pub cp: Cp15,
+    pub cp: &'a Cp15,
     /// The tick of the step.
     pub now: Tick,
     ghost early: { IsEarly (Some now) },
@@ -69,7 +69,7 @@ impl Bus for NineView<'_> {
 
     ghost State = { NineReach };
 
-    ghost state = { λ v. record { map = v.map.now; cp15 = v.cp; itcm = v.itcm.now; dtcm = v.dtcm.now; now = v.now } };
+    ghost state = { λ v. record { map = v.map.now; cp15 = v.cp.now; itcm = v.itcm.now; dtcm = v.dtcm.now; now = v.now } };
 
     ghost memory = { nine_memory };
 

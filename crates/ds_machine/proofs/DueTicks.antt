@@ -5,17 +5,16 @@ use Rattle.ds_base.specs.declared.processors.Proc.{Proc}
 use Rattle.ds_base.specs.declared.processors.Proc.TheVariants.{Nine, Seven}
 use Rattle.ds_base.specs.declared.ticks.Due.{Due}
 use Rattle.ds_base.specs.declared.ticks.Tick.{Tick}
-use Rattle.ds_ports.specs.Dues.{dues_behind}
 use Rattle.ds_runs.specs.Actors.{actor_of}
 use Rattle.ds_runs.specs.Order.{due_with_rank, earlier, first_from}
 use Rattle.ds_runs.specs.Runs.{IsLeast, Stepped, due_at}
 use Rattle.ds_runs.specs.Schedules.{AllReschedule}
 use Rattle.ds_runs.specs.declared.actors.Actor as actor
-use Rattle.ds_runs.specs.declared.actors.Actor.TheVariants.{Video}
 use Rattle.ds_runs.proofs.ActorTable.{due_of_actor}
 use Rattle.ds_runs.proofs.Firsts.{first_is_least, first_of_append}
 use Rattle.ds_runs.proofs.Lists.{at_rank, is_later, within}
-use Rattle.ds_machine.specs.Reference.{MayStep, Shown, awake, due_by, due_unless, dues_of, keys_due, processor_due, step_by, step_of}
+use Rattle.ds_machine.specs.Kept.{events_of}
+use Rattle.ds_machine.specs.Reference.{MayStep, Shown, awake, due_by, due_unless, dues_of, processor_due, step_by, step_of}
 use Rattle.ds_machine.specs.States.{MachineState, ProcessorState}
 use Rattle.ds_machine.specs.Steps.{is_held, processor_of, tick_of}
 use Rattle.ds_machine.specs.Videos.{video_due}
@@ -34,8 +33,8 @@ due_of_rank s rank lt = due_of_actor (λ (a : actor.Actor). due_by a s) rank lt
 pub low_rank : (s : MachineState) (rank : ℕ) (tick : Tick) → due_at (dues_of s) rank ≡ Some tick → rank < 24
 low_rank s rank tick h = let k = within (dues_of s) rank tick h in let e = entries_are s in omega (arith, k, e)
 
--- the list by its parts: the key script and the display, the units behind the ports, and the processors
-pub dues_split : (s : MachineState) → dues_of s ≡ keys_due s.keys ∷ due_by Video s ∷ (dues_behind s.map.units ++ processor_due s Nine ∷ processor_due s Seven ∷ [])
+-- the list by its parts: all actors but the processors, and the processors
+pub dues_split : (s : MachineState) → dues_of s ≡ events_of s ++ processor_due s Nine ∷ processor_due s Seven ∷ []
 unfolding dues_of
 dues_split s = refl
 
@@ -45,18 +44,15 @@ alone (Some one) = refl
 
 -- the first of its parts is the least
 pub first_found : (s : MachineState) (first : Due)
-    → Some first ≡ earlier (due_with_rank 0 (keys_due s.keys)) (earlier (due_with_rank 1 (due_by Video s)) (earlier (first_from 2 (dues_behind s.map.units))
-    (earlier (due_with_rank 22 (processor_due s Nine)) (due_with_rank 23 (processor_due s Seven)))))
+    → Some first ≡ earlier (first_from 0 (events_of s)) (earlier (due_with_rank 22 (processor_due s Nine)) (due_with_rank 23 (processor_due s Seven)))
     → IsLeast (dues_of s) first.tick first.rank
 first_found s first h =
-    let behind = dues_behind s.map.units in
-    let last = due_with_rank 23 (processor_due s Seven) in
+    let events = events_of s in
     let nine = due_with_rank 22 (processor_due s Nine) in
-    let rest : first_from 2 (behind ++ processor_due s Nine ∷ processor_due s Seven ∷ []) ≡ earlier (first_from 2 behind) (earlier nine last) =
-    first_of_append 2 behind (processor_due s Nine ∷ processor_due s Seven ∷ []) ∙ ap (λ (d : Option Due). earlier (first_from 2 behind) (earlier nine d)) (alone last) in
     let all : first_from 0 (dues_of s) ≡ Some first =
     ap (λ (dues : List (Option Tick)). first_from 0 dues) (dues_split s)
-    ∙ ap (λ (d : Option Due). earlier (due_with_rank 0 (keys_due s.keys)) (earlier (due_with_rank 1 (due_by Video s)) d)) rest ∙ sym h in
+    ∙ first_of_append 0 events (processor_due s Nine ∷ processor_due s Seven ∷ [])
+    ∙ ap (λ (d : Option Due). earlier (first_from 0 events) (earlier nine d)) (alone (due_with_rank 23 (processor_due s Seven))) ∙ sym h in
     first_is_least (dues_of s) first all
 
 -- the display is always due

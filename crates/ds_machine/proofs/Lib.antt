@@ -1,3 +1,4 @@
+pub mod AtOnce
 pub mod Booting
 pub mod ChannelEvents
 pub mod Costs
@@ -6,8 +7,9 @@ pub mod DueTicks
 pub mod Fetches
 pub mod Keeps
 pub mod MachineSchedule
-pub mod Mains
 pub mod Moves
+pub mod Nears
+pub mod NearSteps
 pub mod Others
 pub mod ProcessorSteps
 pub mod Quiet

@@ -77,7 +77,7 @@ never_ready : (now : Tick) (last trigger : Option Tick) → is_some trigger ≡ 
 never_ready now last None h = tt
 never_ready now last (Some trigger) h = absurd (true≢false h)
 
-neither : (a b : Bool) → (a || b) ≡ false → (a ≡ false) × (b ≡ false)
+pub neither : (a b : Bool) → (a || b) ≡ false → (a ≡ false) × (b ≡ false)
 neither true b h = absurd (true≢false h)
 neither false b h = (refl, h)
 

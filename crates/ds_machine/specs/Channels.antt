@@ -7,7 +7,7 @@ use Rattle.ds_base.specs.declared.ticks.Tick.{Tick}
 use Rattle.ds_dma.specs.declared.channels.Unit.{Unit as DmaUnit}
 use Rattle.ds_map.specs.Moves.{next_unit, unit_moved, unit_needs, unit_refusal}
 use Rattle.ds_runs.specs.Runs.{Stepped, Makes, Stops}
-use Rattle.ds_machine.specs.States.{MachineState, ProcessorState}
+use Rattle.ds_machine.specs.States.{MachineState}
 use Rattle.ds_machine.specs.Steps.{processor_of, with_processor}
 
 -- The event of a DMA channel.

@@ -6,6 +6,6 @@ pub mod Channels
 pub mod Boots
 pub mod Booted
 pub mod Reference
+pub mod Kept
 pub mod Observed
 pub mod Processors
-pub mod Mains

@@ -1,11 +1,10 @@
-use Rattle.std.specs.Prelude.{ℕ, ◌+◌, ◌*◌, ◌≡◌, ◌≤◌, ◌^◌, Bool, false, if◌then◌else◌, List, [], ◌∷◌, map, Option, Some, None}
+use Rattle.std.specs.Prelude.{ℕ, ◌+◌, ◌*◌, ◌≡◌, ◌<◌, ◌≤◌, ◌^◌, Bool, true, false, if◌then◌else◌, List, [], ◌∷◌, map, Option, Some, None}
 use Rattle.ds_base.specs.KeyLines.{AreKeyLines}
 use Rattle.ds_base.specs.declared.keys.KeyLine.{KeyLine}
 use Rattle.ds_base.specs.declared.left_out.LeftOut.{LeftOut}
 use Rattle.ds_base.specs.declared.ticks.Due.{Due}
 use Rattle.ds_base.specs.declared.ticks.Tick.{Tick}
 use Rattle.ds_base.specs.declared.processors.Proc.{Proc}
-use Rattle.ds_base.specs.declared.processors.Proc.TheVariants.{Nine, Seven}
 use Rattle.ds_ports.specs.Dues.{AreUnits, due_behind}
 use Rattle.ds_ports.specs.Units.{division_done, keys_pressed, root_done, timer_overflows}
 use Rattle.ds_runs.specs.Actors.{actors, actor_of}
@@ -121,6 +120,11 @@ Steps rank old done new = step_of rank old ≡ stepped_of old done new
 -- this is the least actor, and it is due then
 abbrev pub IsDue : MachineState → Due → Type 0
 IsDue s due = IsLeast (dues_of s) due.tick due.rank
+
+-- whether a step was taken at once: the least actor, where it was due below a limit, took its step; where none was, nothing is changed
+abbrev pub AtOnce : ℕ → MachineState → Bool → MachineState → Type 0
+AtOnce until old false new = new ≡ old
+AtOnce until old true new = (due : Due) × IsDue old due × (due.tick.0 < until) × Steps due.rank old Made new
 
 -- the states that come up: each unit's numbers are those that it can have, and the lines of the script that are to come rise
 pub record IsSound (s : MachineState) : Type 0 where

@@ -1,8 +1,10 @@
 //! When the machine's actors are due.
 
-ghost use Rattle.std.specs.Prelude.{◌≡◌, ◌<◌};
+ghost use Rattle.std.specs.Prelude.{◌≡◌, ◌<◌, Some};
 ghost use Rattle.ds_runs.specs.Actors.{IsNumbered};
+ghost use Rattle.ds_runs.specs.Order.{first_from};
 ghost use Rattle.ds_runs.specs.Runs.{due_at};
+ghost use Rattle.ds_machine.specs.Kept.{events_of};
 ghost use Rattle.ds_machine.specs.Reference.{dues_of, due_by, keys_due, processor_due, IsDue};
 ghost use Rattle.ds_machine.specs.Videos.{video_due};
 
@@ -47,6 +49,21 @@ impl Parts {
         self.script.due()
     }
 
+    /// The first actor that is due, but for the processors.
+    #[inline(always)]
+    pub fn first_event(&self) -> Due
+        ensures { Some result ≡ first_from 0 (events_of self.now) }
+    {
+        let video = Due {
+            tick: self.video_due(),
+            rank: VIDEO,
+        };
+        later_than(
+            entry(SCRIPT, self.script_due()),
+            earlier_than(video, self.map.units().first_due()),
+        )
+    }
+
     /// The actor that steps next.
     #[inline(always)]
     pub fn due(&self) -> Due
@@ -56,12 +73,7 @@ impl Parts {
             entry(NINE, self.processor_due(Proc::Nine)),
             entry(SEVEN, self.processor_due(Proc::Seven)),
         );
-        let units = earlier(self.map.units().first_due(), processors);
-        let video = Due {
-            tick: self.video_due(),
-            rank: VIDEO,
-        };
-        later_than(entry(SCRIPT, self.script_due()), earlier_than(video, units))
+        earlier_than(self.first_event(), processors)
     }
 
     /// When the actor of a rank is due, if it is.

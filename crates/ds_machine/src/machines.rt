@@ -1,14 +1,15 @@
 //! The machine.
 
-ghost use Rattle.std.specs.Prelude.{◌≡◌, ◌<◌, slice_index, IfOk};
+ghost use Rattle.std.specs.Prelude.{◌≡◌, ◌<◌, ◌≤◌, ◌^◌, slice_index, IfOk};
 ghost use Rattle.ds_base.specs.Memories.{memory_size};
 ghost use Rattle.ds_runs.specs.Runs.{due_at};
 ghost use Rattle.ds_machine.specs.Booted.{booted};
 ghost use Rattle.ds_machine.specs.Observed.{memory_of, registers_of, seen_of};
-ghost use Rattle.ds_machine.specs.Reference.{dues_of, IsDue, IsSound, HasCounted, MayStep, Steps};
+ghost use Rattle.ds_machine.specs.Reference.{dues_of, AtOnce, IsDue, IsSound, HasCounted, MayStep, Steps};
 ghost use Rattle.ds_machine.specs.Steps.{processor_of};
 
 use crate::answers::{Done, Seen};
+use crate::kept::Kept;
 use crate::parts::Parts;
 use ds_base::{Due, Keys, Memory, Proc, Tick};
 use ds_header::Cart;
@@ -19,9 +20,11 @@ use std::marker::Model;
 #[derive(Drop)]
 pub struct Machine {
     parts: Parts,
+    kept: Kept,
 }
 
 impl Model for Machine {
+    ghost use Rattle.ds_machine.specs.Kept.{IsKept};
     ghost use Rattle.ds_machine.specs.Reference.{HasCounted};
     ghost use Rattle.ds_machine.specs.States.{MachineState};
 
@@ -29,8 +32,8 @@ impl Model for Machine {
 
     ghost view = { λ m. m.parts };
 
-    // each step was taken at a place of its own in the order of steps
-    ghost invariant = { λ m. HasCounted m.parts };
+    // each step was taken at a place of its own in the order of steps, and what is kept is so
+    ghost invariant = { λ m. HasCounted m.parts × IsKept m.kept m.parts };
 }
 
 impl Machine {
@@ -40,7 +43,8 @@ impl Machine {
         ensures { IfOk result (λ machine. machine ≡ booted cart.now keys) }
     {
         let parts = Parts::new(alloc, cart, keys)?;
-        Ok(Machine { parts })
+        let kept = parts.kept();
+        Ok(Machine { parts, kept })
     }
 
     /// The actor that steps next. All steps so far were at most as many as places before it in the order of steps.
@@ -68,7 +72,22 @@ impl Machine {
         ensures { Steps rank self.old result self.new }
     {
         self.parts.laws();
-        self.parts.step(rank)
+        let done = self.parts.step(rank);
+        let kept = self.parts.kept();
+        self.kept = kept;
+        done
+    }
+
+    /// One step, where it is one that is taken at once: a processor is due before every other actor and before a tick. The answer is whether it was
+    /// taken; where it wasn't nothing is changed. All steps so far were at most as many as places before it in the order of steps.
+    #[inline(always)]
+    pub fn quick(&mut self, until: Tick) -> bool
+        requires { until.0 ≤ 2 ^ 56 }
+        ensures step { AtOnce until.0 self.old result self.new }
+        ensures counted { HasCounted self.old }
+    {
+        self.parts.laws();
+        self.parts.quick(self.kept, until)
     }
 
     /// Does nothing; its contract states what holds of every machine: each unit's numbers are those that it can have, and the lines of the key

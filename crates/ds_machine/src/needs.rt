@@ -12,12 +12,12 @@ use cp15_tcm::Cp15;
 use ds_base::Proc;
 use ds_map::byte_is_built;
 
-/// Whether so many addresses from one on are main memory's, which is built. (GBATEK, "DS Memory Map".)
+/// Whether so many addresses from one on are those of main memory and of work RAM, which are built. (GBATEK, "DS Memory Map".)
 #[inline(always)]
-fn lies_in_main(first: u32, length: u32) -> bool
-    ensures { IsTrue result → (0x2000000 ≤ first) × (first + length ≤ 0x3000000) }
+fn lies_near(first: u32, length: u32) -> bool
+    ensures { IsTrue result → (0x2000000 ≤ first) × (first + length ≤ 0x4000000) }
 {
-    first >= 0x0200_0000 && first < 0x0300_0000 && length <= 0x0300_0000 - first
+    first >= 0x0200_0000 && first < 0x0400_0000 && length <= 0x0400_0000 - first
 }
 
 /// The first byte of a span of a processor's data whose place isn't built.
@@ -36,7 +36,7 @@ fn byte_in(proc: Proc, cp: &Cp15, wramcnt: u8, first: u32, length: u32) -> Optio
 
 /// The first byte of a processor's data whose place isn't built.
 #[inline(always)]
-#[tactic(auto, using(crate::proofs::Mains::main_span_built))]
+#[tactic(auto, using(crate::proofs::Nears::near_span_built))]
 fn unbuilt_byte(proc: Proc, cp: &Cp15, wramcnt: u8, touch: Touch) -> Option<u32>
     requires kept { wramcnt < 4 }
     ensures { result ≡ first_without (byte_is_built proc cp.now wramcnt) (touched_bytes touch) }
@@ -44,7 +44,7 @@ fn unbuilt_byte(proc: Proc, cp: &Cp15, wramcnt: u8, touch: Touch) -> Option<u32>
     match touch {
         Touch::Nothing => None,
         Touch::Span { first, length } => {
-            if lies_in_main(first, length) {
+            if lies_near(first, length) {
                 return None;
             }
             byte_in(proc, cp, wramcnt, first, length)

@@ -159,11 +159,12 @@ fn execute_nine(
     ensures dtcm { dtcm.new ≡ (executed_or_moved nine_memory core.old.registers cp.old (record { number = next.number; instr = next.instr; state = (record { map = map.old; cp15 = cp.old; itcm = itcm.old; dtcm = dtcm.old; now = now }) }) (move_of next.instr)).state.dtcm }
     ensures stepped { result ≡ (executed_or_moved nine_memory core.old.registers cp.old (record { number = next.number; instr = next.instr; state = (record { map = map.old; cp15 = cp.old; itcm = itcm.old; dtcm = dtcm.old; now = now }) }) (move_of next.instr)).stepped }
 {
+    let before = *cp;
     let mut view = NineView {
         map,
         itcm,
         dtcm,
-        cp: *cp,
+        cp: &before,
         now,
     };
     execute9(core, cp, &mut view, next)
@@ -217,11 +218,12 @@ fn enter_nine(
     ensures dtcm { dtcm.new ≡ (nine_step line core.old.registers (record { map = map.old; cp15 = cp.old; itcm = itcm.old; dtcm = dtcm.old; now = now })).state.dtcm }
     ensures stepped { result ≡ (nine_step line core.old.registers (record { map = map.old; cp15 = cp.old; itcm = itcm.old; dtcm = dtcm.old; now = now })).stepped }
 {
+    let before = *cp;
     let mut view = NineView {
         map,
         itcm,
         dtcm,
-        cp: *cp,
+        cp: &before,
         now,
     };
     step9(core, cp, &mut view, line)

@@ -5,7 +5,7 @@ ghost use Rattle.ds_runs.specs.Actors.{IsNumbered};
 ghost use Rattle.ds_machine.specs.Processors.{stop_in};
 ghost use Rattle.ds_machine.specs.Reference.{awake, due_by, step_by, stepped_of, HasCounted, MayStep, Steps};
 ghost use Rattle.ds_machine.specs.States.{counts_of};
-ghost use Rattle.ds_machine.specs.Steps.{concluded, goes_on, gone_by, is_halted, nine_outcome, processor_of, seven_outcome, tick_of, went_on, with_nine, with_processor, with_seven, woken, woken_one};
+ghost use Rattle.ds_machine.specs.Steps.{concluded, goes_on, gone_by, is_halted, nine_outcome, processor_of, seven_outcome, tick_of, wakes, went_on, with_nine, with_processor, with_seven, woken, woken_one};
 
 use crate::answers::Done;
 use crate::parts::Parts;
@@ -131,7 +131,7 @@ impl Parts {
 
     /// A processor took a step that costs so many of its clocks.
     #[inline(always)]
-    fn go_on(&mut self, proc: Proc, clocks: u32, halted: bool)
+    pub fn go_on(&mut self, proc: Proc, clocks: u32, halted: bool)
         requires early { (processor_of self.old proc).due ≤ 2 ^ 56 }
         requires counted { (processor_of self.old proc).steps ≤ 2 ^ 61 }
         ensures { self.new ≡ with_processor proc self.old (went_on proc clocks halted (processor_of self.old proc)) }
@@ -197,13 +197,21 @@ impl Parts {
         self.wake_one(Proc::Seven, tick);
     }
 
+    /// Whether a processor is halted and its IE and IF share a bit, so that it is to wake.
+    #[inline(always)]
+    pub fn wakes(&self, proc: Proc) -> bool
+        ensures { result ≡ wakes self.now proc }
+    {
+        self.map.units().is_halted(proc) && self.map.units().wakes(proc)
+    }
+
     /// A processor that is halted wakes, where its IE and IF share a bit.
     #[inline(always)]
     fn wake_one(&mut self, proc: Proc, tick: Tick)
         requires { tick.0 ≤ 2 ^ 56 }
         ensures { self.new ≡ woken_one proc tick self.old }
     {
-        if self.map.units().is_halted(proc) && self.map.units().wakes(proc) {
+        if self.wakes(proc) {
             self.go_again(proc, tick);
         }
     }

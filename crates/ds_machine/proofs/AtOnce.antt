@@ -1,0 +1,216 @@
+use Rattle.std.proofs.Common.{ℕ, zero, suc, ◌≡◌, ◌<◌, ◌≤◌, ◌^◌, ◌⊎◌, min, inl, inr, Bool, true, false, true≢false, if◌then◌else◌, List, [], ◌∷◌, ◌++◌, length, Option, Some, refl, sym, ◌∙◌, ap, subst, arith}
+use Rattle.std.specs.Prelude.{◌&&◌}
+use Rattle.std.proofs.lemmas.Option.{same_Some}
+use Rattle.ds_base.specs.declared.keys.KeyLine.{KeyLine}
+use Rattle.ds_base.specs.declared.left_out.LeftOut.{LeftOut}
+use Rattle.ds_base.specs.declared.processors.Proc.{Proc}
+use Rattle.ds_base.specs.declared.processors.Proc.TheVariants.{Nine, Seven}
+use Rattle.ds_base.specs.declared.ticks.Due.{Due}
+use Rattle.ds_base.specs.declared.ticks.Tick.{Tick}
+use Rattle.arm_core.specs.declared.outcomes.Stepped as arm
+use Rattle.arm_core.specs.declared.outcomes.Stepped.TheVariants.{Cost}
+use Rattle.ds_ports.specs.Dues.{dues_behind}
+use Rattle.ds_ports.specs.Own as own
+use Rattle.ds_ports.specs.Units.{UnitsState, own_of}
+use Rattle.ds_runs.specs.Actors.{actor_of}
+use Rattle.ds_runs.specs.Order.{first_from}
+use Rattle.ds_runs.specs.Runs.{IsLeast, IsOver, Makes, Stepped, due_at}
+use Rattle.ds_runs.specs.declared.actors.Actor as actor
+use Rattle.ds_runs.specs.declared.actors.Actor.TheVariants.{Processor, Video}
+use Rattle.ds_runs.proofs.Firsts.{first_is_least}
+use Rattle.ds_timers.specs.Irqs.{line_is_up, shares_bit}
+use Rattle.ds_machine.specs.Kept.{AreAsleep, IsKept, events_of, waits}
+use Rattle.ds_machine.specs.Reference.{AtOnce, HasCounted, IsSound, Shown, awake, due_by, due_unless, dues_of, keys_due, processor_due, step_by, stepped_of}
+use Rattle.ds_machine.specs.States.{MachineState, ProcessorState, VideoState, counts_of}
+use Rattle.ds_machine.specs.Steps.{concluded, goes_on, is_halted, is_held, line_of, nine_outcome, processor_of, seven_outcome, wakes, went_on, with_nine, with_processor, with_seven, woken, woken_one}
+use Rattle.ds_machine.specs.Videos.{video_due}
+use Rattle.ds_machine.specs.declared.answers.Done.TheVariants as answers
+use Rattle.ds_machine.specs.declared.kept.Kept.{Kept}
+use Rattle.ds_machine.proofs.Counts.{counted_done, few}
+use Rattle.ds_machine.proofs.DueTicks.{due_of_rank, due_of_step, due_then, dues_split, low_rank, steps_as, tick_is}
+use Rattle.ds_machine.proofs.Quiet.{neither}
+use Rattle.ds_machine.proofs.Wakes.{Beside, put_beside}
+
+-- A processor that is due before every other actor.
+
+-- no event is due before the first
+pub events_over : (s : MachineState) (first : Due) → Some first ≡ first_from 0 (events_of s) → IsOver (events_of s) first.tick.0
+events_over s first h = λ rank tick due. (let l = (first_is_least (events_of s) first (sym h)).least rank tick due in omega (arith, l))
+
+-- an entry in the former of two lists
+in_front : (xs ys : List (Option Tick)) (rank : ℕ) → rank < length xs → due_at (xs ++ ys) rank ≡ due_at xs rank
+in_front [] ys rank lt = absurd (omega (arith, lt))
+in_front (x ∷ xs) ys zero lt = refl
+in_front (x ∷ xs) ys (suc rank) lt = in_front xs ys rank (omega (arith, lt))
+
+event_there : (s : MachineState) (rank : ℕ) (at : Tick) → rank < 22 → due_at (dues_of s) rank ≡ Some at → due_at (events_of s) rank ≡ Some at
+event_there s rank at lt h =
+    let back = processor_due s Nine ∷ processor_due s Seven ∷ [] in
+    sym (in_front (events_of s) back rank lt) ∙ ap (λ (dues : List (Option Tick)). due_at dues rank) (sym (dues_split s)) ∙ h
+
+-- the last two ranks are the processors'
+sort_rank : (rank : ℕ) → rank < 24 → (rank < 22) ⊎ ((rank ≡ 22) ⊎ (rank ≡ 23))
+sort_rank rank lt = grind (arith, lt)
+
+nine_there : (s : MachineState) (rank : ℕ) (at : Tick) → rank ≡ 22 → due_at (dues_of s) rank ≡ Some at → processor_due s Nine ≡ Some at
+nine_there s rank at e h = sym (due_of_rank s 22 (omega arith)) ∙ subst (λ (r : ℕ). due_at (dues_of s) r ≡ Some at) e h
+
+seven_there : (s : MachineState) (rank : ℕ) (at : Tick) → rank ≡ 23 → due_at (dues_of s) rank ≡ Some at → processor_due s Seven ≡ Some at
+seven_there s rank at e h = sym (due_of_rank s 23 (omega arith)) ∙ subst (λ (r : ℕ). due_at (dues_of s) r ≡ Some at) e h
+
+lt_or_same : (x y : ℕ) → x ≤ y → (x < y) ⊎ (x ≡ y)
+lt_or_same x y h = grind (arith, h)
+
+-- ARM9 is the least, where no event is due at its tick or before it, and ARM7 isn't due before it
+nine_least : (s : MachineState) (until : ℕ) (tick : Tick) → IsOver (events_of s) until → tick.0 < until → processor_due s Nine ≡ Some tick
+    → ((at : Tick) → processor_due s Seven ≡ Some at → tick.0 ≤ at.0) → IsLeast (dues_of s) tick 22
+nine_least s until tick over lt there after = record { there = due_of_rank s 22 (omega arith) ∙ there; least = go } where
+  go : (other : ℕ) (at : Tick) → due_at (dues_of s) other ≡ Some at → (tick.0 < at.0) ⊎ ((tick.0 ≡ at.0) × (22 ≤ other))
+  go other at h = elim (sort_rank other (low_rank s other at h)) [
+    | inl event ↦ inl (let k = over other at (event_there s other at event h) in omega (arith, k, lt))
+    | inr rest ↦ elim rest [
+      | inl e ↦ inr (ap (λ (x : Tick). x.0) (same_Some tick at (sym there ∙ nine_there s other at e h)), omega (arith, e))
+      | inr e ↦ elim (lt_or_same tick.0 at.0 (after at (seven_there s other at e h))) [ inl a ↦ inl a | inr b ↦ inr (b, omega (arith, e)) ]
+    ]
+  ]
+
+-- and ARM7, where ARM9 is due after it
+seven_least : (s : MachineState) (until : ℕ) (tick : Tick) → IsOver (events_of s) until → tick.0 < until → processor_due s Seven ≡ Some tick
+    → ((at : Tick) → processor_due s Nine ≡ Some at → tick.0 < at.0) → IsLeast (dues_of s) tick 23
+seven_least s until tick over lt there after = record { there = due_of_rank s 23 (omega arith) ∙ there; least = go } where
+  go : (other : ℕ) (at : Tick) → due_at (dues_of s) other ≡ Some at → (tick.0 < at.0) ⊎ ((tick.0 ≡ at.0) × (23 ≤ other))
+  go other at h = elim (sort_rank other (low_rank s other at h)) [
+    | inl event ↦ inl (let k = over other at (event_there s other at event h) in omega (arith, k, lt))
+    | inr rest ↦ elim rest [
+      | inl e ↦ inl (after at (nine_there s other at e h))
+      | inr e ↦ inr (ap (λ (x : Tick). x.0) (same_Some tick at (sym there ∙ seven_there s other at e h)), omega (arith, e))
+    ]
+  ]
+
+-- ---- by what is kept
+
+-- a processor that waits for an early tick isn't held, and is due then
+pub wait_ends : (held : Bool) (due : ℕ) → waits held due < 2 ^ 56 → (held ≡ false) × (waits held due ≡ due)
+wait_ends true due lt = absurd (omega (arith, lt))
+wait_ends false due lt = (refl, refl)
+
+-- a processor that is due waits for its tick
+wait_is : (kept held : Bool) (p : ProcessorState) (at : Tick) → kept ≡ held → due_unless held p ≡ Some at → waits kept p.due ≡ at.0
+wait_is kept held p at e h = let k = due_then held p at h in rw (e, k.0) k.1
+
+due_there : (kept held : Bool) (p : ProcessorState) (n : ℕ) → kept ≡ held → n ≡ waits kept p.due → n < 2 ^ 56 → due_unless held p ≡ Some (record { 0 = n })
+due_there kept held p n e w lt =
+    let k = wait_ends kept p.due (omega (arith, w, lt)) in
+    let t = tick_is p (record { 0 = n }) (sym (w ∙ k.1)) in
+    rw (sym e, k.0) (ap Some t)
+
+-- what is waited of a machine's parts is waited of the machine
+pub nine_waits : (kept : Bool) (n : ℕ) (parts s : MachineState) → n ≡ waits kept parts.nine.processor.due → parts ≡ s → n ≡ waits kept s.nine.processor.due
+nine_waits kept n parts s w e = w ∙ ap (λ (m : MachineState). waits kept m.nine.processor.due) e
+
+pub seven_waits : (kept : Bool) (n : ℕ) (parts s : MachineState) → n ≡ waits kept parts.seven.processor.due → parts ≡ s → n ≡ waits kept s.seven.processor.due
+seven_waits kept n parts s w e = w ∙ ap (λ (m : MachineState). waits kept m.seven.processor.due) e
+
+-- so the processor steps for which fewer ticks are waited, ARM9 at equal ones
+pub nine_first : (kept : Kept) (s : MachineState) (nine seven until : ℕ) → IsKept kept s → nine ≡ waits kept.nine_held s.nine.processor.due
+    → seven ≡ waits kept.seven_held s.seven.processor.due → nine ≤ seven → nine < min kept.until.0 until → until ≤ 2 ^ 56
+    → IsLeast (dues_of s) (record { 0 = nine }) 22
+nine_first kept s nine seven until is n m le lt early =
+    nine_least s kept.until.0 (record { 0 = nine }) is.events (omega (arith, lt))
+    (due_there kept.nine_held (is_held s Nine) s.nine.processor nine is.nine_held n (omega (arith, lt, early)))
+    (λ at h. (let k = wait_is kept.seven_held (is_held s Seven) s.seven.processor at is.seven_held h in omega (arith, m, le, k)))
+
+pub seven_first : (kept : Kept) (s : MachineState) (nine seven until : ℕ) → IsKept kept s → nine ≡ waits kept.nine_held s.nine.processor.due
+    → seven ≡ waits kept.seven_held s.seven.processor.due → seven < nine → seven < min kept.until.0 until → until ≤ 2 ^ 56
+    → IsLeast (dues_of s) (record { 0 = seven }) 23
+seven_first kept s nine seven until is n m le lt early =
+    seven_least s kept.until.0 (record { 0 = seven }) is.events (omega (arith, lt))
+    (due_there kept.seven_held (is_held s Seven) s.seven.processor seven is.seven_held m (omega (arith, lt, early)))
+    (λ at h. (let k = wait_is kept.nine_held (is_held s Nine) s.nine.processor at is.nine_held h in omega (arith, n, le, k)))
+
+-- ---- the step
+
+pub taken_at_once : (s next : MachineState) (until rank : ℕ) (tick : Tick) (a : actor.Actor) (taken : Bool) → actor_of rank ≡ a → IsLeast (dues_of s) tick rank
+    → tick.0 < until → (taken ≡ false → next ≡ s) → (taken ≡ true → awake (Some tick) (step_by rank a s) ≡ stepped_of s answers.Made next) → AtOnce until s taken next
+taken_at_once s next until rank tick a false e least lt none made = none refl
+taken_at_once s next until rank tick a true e least lt none made =
+    (record { tick = tick; rank = rank }, least, lt, steps_as s rank a (Some tick) (stepped_of s answers.Made next) e (due_of_step s rank tick a least e) (made refl))
+
+-- what was taken at once is counted
+pub counted_at_once : (s next : MachineState) (until : ℕ) (taken : Bool) → IsSound s → HasCounted s → AtOnce until s taken next → HasCounted next
+counted_at_once s next until false sound has h = subst HasCounted (sym h) has
+counted_at_once s next until true sound has h = counted_done s next h.0.tick h.0.rank answers.Made sound h.1 has h.3
+
+-- before it the steps were few
+pub few_at_once : (s : MachineState) (rank n until more : ℕ) → HasCounted s → IsLeast (dues_of s) (record { 0 = n }) rank → n < min more until → until ≤ 2 ^ 56 → counts_of s ≤ 2 ^ 61
+few_at_once s rank n until more has least lt early =
+    let k = few s (record { 0 = n }) rank has least (omega (arith, lt, early)) in
+    omega (arith, k)
+
+-- ---- what is kept stays so, while the units behind the ports, the script and the display stay
+
+pub kept_stays : (kept : Kept) (s next : MachineState) → IsKept kept s → Beside s next → IsKept kept next
+kept_stays kept s next is b = record {
+  events = subst (λ (u : UnitsState). IsOver (keys_due next.keys ∷ due_by Video next ∷ dues_behind u) kept.until.0) (sym b.units)
+      (subst (λ (v : VideoState). IsOver (keys_due next.keys ∷ Some (record { 0 = video_due v }) ∷ dues_behind s.map.units) kept.until.0) (sym b.video)
+      (subst (λ (lines : List KeyLine). IsOver (keys_due lines ∷ due_by Video s ∷ dues_behind s.map.units) kept.until.0) (sym b.keys) is.events));
+  asleep = λ some proc. wakes_so proc (is.asleep some proc);
+  nine_held = is.nine_held ∙ held Nine;
+  seven_held = is.seven_held ∙ held Seven;
+  nine_line = is.nine_line ∙ line Nine;
+  seven_line = is.seven_line ∙ line Seven;
+} where
+  held : (proc : Proc) → is_held s proc ≡ is_held next proc
+  held proc = ap (λ (u : UnitsState). own.is_held (own_of u proc)) (sym b.units)
+
+  line : (proc : Proc) → line_of s proc ≡ line_of next proc
+  line proc = ap (λ (u : UnitsState). line_is_up (own_of u proc).irq) (sym b.units)
+
+  wakes_so : (proc : Proc) → wakes s proc ≡ false → wakes next proc ≡ false
+  wakes_so proc h = ap (λ (u : UnitsState). (own_of u proc).halted && shares_bit (own_of u proc).irq) b.units ∙ h
+
+-- ---- a step at once that costs and no more: nobody wakes at it
+
+asleep_stays : (tick : Tick) (s : MachineState) → AreAsleep s → woken tick s ≡ s
+asleep_stays tick s asleep = ap (λ (m : MachineState). woken_one Seven tick m) (one Nine (wakes s Nine) (asleep Nine)) ∙ one Seven (wakes s Seven) (asleep Seven) where
+  one : (proc : Proc) (b : Bool) → b ≡ false → (if b then goes_on proc tick s else s) ≡ s
+  one proc true e = absurd (true≢false e)
+  one proc false e = refl
+
+pub cost_at_once : (kept : Kept) (s : MachineState) (rank : ℕ) (proc : Proc) (tick : Tick) (clocks : ℕ) → IsKept kept s → 0 < kept.until.0 → is_held s proc ≡ false
+    → awake (Some tick) (concluded rank proc s (Cost clocks)) ≡ stepped_of s answers.Made (with_processor proc s (went_on proc clocks false (processor_of s proc)))
+cost_at_once kept s rank proc tick clocks is some held =
+    let p = went_on proc clocks false (processor_of s proc) in
+    let next = with_processor proc s p in
+    let asleep = (kept_stays kept s next is (put_beside proc s p)).asleep some in
+    let halted : is_halted s proc ≡ false = (neither _ _ held).0 in
+    let came : Bool → Stepped MachineState Shown LeftOut = λ b. awake (Some tick) (Makes (with_processor proc s (went_on proc clocks b (processor_of s proc))) []) in
+    ap came halted ∙ ap (λ (m : MachineState). stepped_of s answers.Made m) (asleep_stays tick next asleep)
+
+-- what is kept stays at it
+pub cost_keeps : (kept : Kept) (s next : MachineState) (proc : Proc) (p : ProcessorState) → IsKept kept s → next ≡ with_processor proc s p → IsKept kept next
+cost_keeps kept s next proc p is e = subst (IsKept kept) (sym e) (kept_stays kept s (with_processor proc s p) is (put_beside proc s p))
+
+-- and at the accesses before it, which leave the units
+pub nine_keeps : (kept : Kept) (s next : MachineState) → IsKept kept s → next ≡ with_nine s (nine_outcome s) → next.map.units ≡ s.map.units → IsKept kept next
+nine_keeps kept s next is e units = kept_stays kept s next is (record { units = units; keys = ap (λ (m : MachineState). m.keys) e; video = ap (λ (m : MachineState). m.video) e })
+
+pub seven_keeps : (kept : Kept) (s next : MachineState) → IsKept kept s → next ≡ with_seven s (seven_outcome s) → next.map.units ≡ s.map.units → IsKept kept next
+seven_keeps kept s next is e units = kept_stays kept s next is (record { units = units; keys = ap (λ (m : MachineState). m.keys) e; video = ap (λ (m : MachineState). m.video) e })
+
+-- the whole of it
+pub nine_made : (kept : Kept) (s m next : MachineState) (tick : Tick) (clocks : ℕ) → IsKept kept m → 0 < kept.until.0 → is_held m Nine ≡ false → m ≡ with_nine s (nine_outcome s)
+    → Cost clocks ≡ (nine_outcome s).stepped → next ≡ with_processor Nine m (went_on Nine clocks false (processor_of m Nine))
+    → awake (Some tick) (step_by 22 (Processor Nine) s) ≡ stepped_of s answers.Made next
+nine_made kept s m next tick clocks is some held machine stepped e =
+    let came : MachineState → arm.Stepped → Stepped MachineState Shown LeftOut = λ x by. awake (Some tick) (concluded 22 Nine x by) in
+    ap (λ (x : MachineState). came x (nine_outcome s).stepped) (sym machine) ∙ ap (came m) (sym stepped)
+    ∙ cost_at_once kept m 22 Nine tick clocks is some held ∙ ap (λ (x : MachineState). stepped_of s answers.Made x) (sym e)
+
+pub seven_made : (kept : Kept) (s m next : MachineState) (tick : Tick) (clocks : ℕ) → IsKept kept m → 0 < kept.until.0 → is_held m Seven ≡ false → m ≡ with_seven s (seven_outcome s)
+    → Cost clocks ≡ (seven_outcome s).stepped → next ≡ with_processor Seven m (went_on Seven clocks false (processor_of m Seven))
+    → awake (Some tick) (step_by 23 (Processor Seven) s) ≡ stepped_of s answers.Made next
+seven_made kept s m next tick clocks is some held machine stepped e =
+    let came : MachineState → arm.Stepped → Stepped MachineState Shown LeftOut = λ x by. awake (Some tick) (concluded 23 Seven x by) in
+    ap (λ (x : MachineState). came x (seven_outcome s).stepped) (sym machine) ∙ ap (came m) (sym stepped)
+    ∙ cost_at_once kept m 23 Seven tick clocks is some held ∙ ap (λ (x : MachineState). stepped_of s answers.Made x) (sym e)

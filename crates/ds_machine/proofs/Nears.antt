@@ -1,0 +1,261 @@
+use Rattle.std.proofs.Common.{ℕ, zero, suc, ◌≡◌, ◌<◌, ◌≤◌, ◌+◌, ◌-◌, ◌%◌, ◌^◌, ◌==◌, ◌&&◌, ◌⊎◌, ◌++◌, Bool, true, false, true≢false, if◌then◌else◌, List, [], ◌∷◌, Option, Some, None, inl, inr, refl, sym, arith}
+use Rattle.std.proofs.lemmas.List.{append-nil}
+use Rattle.ds_base.specs.Accesses.{Access, Fetch, Read, Write, perform, refused_or}
+use Rattle.ds_base.specs.Memories.{memory_size}
+use Rattle.ds_base.specs.Numbers.{aligned_down, with_number, width_bytes}
+use Rattle.ds_base.specs.declared.left_out.Stop.{Stop}
+use Rattle.ds_base.specs.declared.memories.Memory.{Memory}
+use Rattle.ds_base.specs.declared.memories.Memory.TheVariants.{Main, Shared, Own7, Itcm, Dtcm, Palette, Vram, Oam}
+use Rattle.ds_base.specs.declared.memories.Width.{Width}
+use Rattle.ds_base.specs.declared.memories.Width.TheVariants.{Byte, Half, Word}
+use Rattle.ds_base.specs.declared.processors.Proc.{Proc}
+use Rattle.ds_base.specs.declared.processors.Proc.TheVariants.{Nine, Seven}
+use Rattle.ds_base.specs.declared.ticks.Tick.{Tick}
+use Rattle.arm_core.specs.Footprints.{first_without, span}
+use Rattle.arm_ops.specs.Meanings.{IsNear, is_near}
+use Rattle.cp15_tcm.specs.Registers.{Cp15State}
+use Rattle.cp15_tcm.specs.TightlyCoupled.{tcm_of}
+use Rattle.cp15_tcm.specs.declared.answers.Tcm.{Tcm}
+use Rattle.cp15_tcm.specs.declared.answers.Tcm.TheVariants as tcm
+use Rattle.ds_places.specs.AddressTables.{Cells, Empty, place_at, place_of, shared_for_nine, shared_for_seven}
+use Rattle.ds_places.specs.declared.kinds.Place.{Place}
+use Rattle.ds_places.specs.declared.kinds.Place.TheVariants.{Cell, Banks, Port, Rom, Nothing}
+use Rattle.ds_places.proofs.Regions.{lies_or_not}
+use Rattle.ds_map.specs.Accesses.{is_byte_of_nine, left_at, map_read, map_refusal, map_written, put_at, refusal_at, takes_no_bytes}
+use Rattle.ds_map.specs.Builds.{byte_is_built, is_data_built, past_is_built}
+use Rattle.ds_map.specs.Maps.{MapState, cells_of, with_cells}
+use Rattle.ds_map.specs.Views.{NineReach, SevenReach, nine_memory, seven_memory, tcm_read, tcm_refusal, tcm_written}
+use Rattle.ds_machine.specs.Needs.{unbuilt}
+
+-- The near memories, 2000000h to 3FFFFFFh, are cells for both processors, or nothing is there: they are built, and no access of them changes a unit.
+
+-- ---- what stands there
+
+-- cells of a memory, or nothing
+abbrev is_cells : Place → Bool
+is_cells (Cell memory at) = true
+is_cells (Banks space at) = false
+is_cells (Port at) = false
+is_cells (Rom at) = false
+is_cells Nothing = true
+
+-- shared work RAM, whatever WRAMCNT says
+shared_nine : (w offset : ℕ) → is_cells (place_at (shared_for_nine w) offset) ≡ true
+shared_nine w offset = by_tests (w == 0) (w == 1) (w == 2) where
+  by_tests : (a b c : Bool) → is_cells (place_at (
+      if a then Cells Shared 0 (memory_size Shared) else (if b then Cells Shared 0x4000 0x4000 else (if c then Cells Shared 0 0x4000 else Empty))) offset) ≡ true
+  by_tests true b c = refl
+  by_tests false true c = refl
+  by_tests false false true = refl
+  by_tests false false false = refl
+
+shared_seven : (w offset : ℕ) → is_cells (place_at (shared_for_seven w) offset) ≡ true
+shared_seven w offset = by_tests (w == 0) (w == 1) (w == 2) where
+  by_tests : (a b c : Bool) → is_cells (place_at (
+      if a then Cells Own7 0 (memory_size Own7) else (
+      if b then Cells Shared 0 0x4000 else (if c then Cells Shared 0x4000 0x4000 else Cells Shared 0 (memory_size Shared)))) offset) ≡ true
+  by_tests true b c = refl
+  by_tests false true c = refl
+  by_tests false false true = refl
+  by_tests false false false = refl
+
+below_or_not : (at bound : ℕ) → (at < bound) ⊎ (bound ≤ at)
+below_or_not at bound = grind arith
+
+near_cells : (proc : Proc) (w at : ℕ) → 0x02000000 ≤ at → at < 0x04000000 → is_cells (place_of proc w at) ≡ true
+near_cells Nine w at low high = elim (lies_or_not 0x02000000 0x02FFFFFF at) [
+  | inl in_main ↦ rw in_main.2 refl
+  | inr past_main ↦ rw past_main.1 (elim (lies_or_not 0x03000000 0x03FFFFFF at) [
+    | inl in_shared ↦ rw in_shared.2 (shared_nine w (at - 0x03000000))
+    | inr past ↦ elim (below_or_not at 0x03000000) [
+      | inl below ↦ absurd (past_main.0 (low, omega (arith, below)))
+      | inr above ↦ absurd (past.0 (above, omega (arith, high)))
+    ]
+  ])
+]
+near_cells Seven w at low high = elim (lies_or_not 0x00000000 0x00003FFF at) [
+  | inl in_rom ↦ absurd (omega (arith, low, in_rom))
+  | inr past_rom ↦ rw past_rom.1 (elim (lies_or_not 0x02000000 0x02FFFFFF at) [
+    | inl in_main ↦ rw in_main.2 refl
+    | inr past_main ↦ rw past_main.1 (elim (lies_or_not 0x03000000 0x037FFFFF at) [
+      | inl in_shared ↦ rw in_shared.2 (shared_seven w (at - 0x03000000))
+      | inr past_shared ↦ rw past_shared.1 (elim (lies_or_not 0x03800000 0x03FFFFFF at) [
+        | inl in_own ↦ rw in_own.2 refl
+        | inr past ↦ elim (below_or_not at 0x03000000) [
+          | inl below ↦ absurd (past_main.0 (low, omega (arith, below)))
+          | inr above ↦ elim (below_or_not at 0x03800000) [
+            | inl below ↦ absurd (past_shared.0 (above, omega (arith, below)))
+            | inr higher ↦ absurd (past.0 (higher, omega (arith, high)))
+          ]
+        ]
+      ])
+    ])
+  ])
+]
+
+-- ---- they are built
+
+past_built : (t : Tcm) (b : Bool) → b ≡ true → past_is_built t b ≡ true
+past_built (tcm.Itcm place) b h = refl
+past_built (tcm.Dtcm place) b h = refl
+past_built tcm.Past b h = h
+
+cells_built : (proc : Proc) (place : Place) → is_cells place ≡ true → is_data_built proc place ≡ true
+cells_built proc (Cell memory at) h = refl
+cells_built proc (Banks space at) h = refl
+cells_built proc (Port at) h = absurd (true≢false (sym h))
+cells_built proc (Rom at) h = refl
+cells_built proc Nothing h = refl
+
+near_byte_built : (proc : Proc) (cp : Cp15State) (w at : ℕ) → 0x02000000 ≤ at → at < 0x04000000 → byte_is_built proc cp w at ≡ true
+unfolding byte_is_built
+near_byte_built Nine cp w at low high =
+    past_built (tcm_of cp at false false) (is_data_built Nine (place_of Nine w at)) (cells_built Nine (place_of Nine w at) (near_cells Nine w at low high))
+near_byte_built Seven cp w at low high = cells_built Seven (place_of Seven w at) (near_cells Seven w at low high)
+
+-- a span of them has no byte that isn't built
+pub near_span_built : (proc : Proc) (cp : Cp15State) (w first length : ℕ) → 0x02000000 ≤ first → first + length ≤ 0x04000000
+    → first_without (byte_is_built proc cp w) (span first length) ≡ None
+near_span_built proc cp w first zero low high = refl
+near_span_built proc cp w first (suc length) low high =
+    rw (near_byte_built proc cp w (first % 2 ^ 32) (omega (arith, low, high)) (omega (arith, low, high)))
+    (near_span_built proc cp w (first + 1) length (omega (arith, low)) (omega (arith, high)))
+
+-- an address of them, and one that is aligned down
+near_bounds : (at : ℕ) → is_near at ≡ true → (0x02000000 ≤ at) × (at < 0x04000000)
+near_bounds at h = grind arith
+
+near_aligned : (at : ℕ) (width : Width) → is_near at ≡ true → (0x02000000 ≤ aligned_down width at) × (aligned_down width at + width_bytes width ≤ 0x04000000)
+near_aligned at Byte h = let b = near_bounds at h in (omega (arith, b), omega (arith, b))
+near_aligned at Half h = let b = near_bounds at h in (omega (arith, b), omega (arith, b))
+near_aligned at Word h = let b = near_bounds at h in (omega (arith, b), omega (arith, b))
+
+aligned_built : (proc : Proc) (cp : Cp15State) (w at : ℕ) (width : Width) → is_near at ≡ true
+    → first_without (byte_is_built proc cp w) (span (aligned_down width at) (width_bytes width) ++ []) ≡ None
+aligned_built proc cp w at width h =
+    let b = near_aligned at width h in
+    rw (append-nil (span (aligned_down width at) (width_bytes width))) (near_span_built proc cp w (aligned_down width at) (width_bytes width) b.0 b.1)
+
+-- near accesses need nothing that isn't built
+pub near_needs : (proc : Proc) (cp : Cp15State) (w : ℕ) (accesses : List Access) → IsNear accesses → unbuilt proc cp w accesses ≡ None
+near_needs proc cp w [] near = refl
+near_needs proc cp w (Fetch at width ∷ []) near = aligned_built proc cp w at width near
+near_needs proc cp w (Read at width ∷ []) near = aligned_built proc cp w at width near
+near_needs proc cp w (Write at width value ∷ []) near = aligned_built proc cp w at width near
+near_needs proc cp w (access ∷ other ∷ rest) near = absurd near
+
+-- ---- no access of them changes a unit
+
+put_cells : (memory : Memory) (m : MapState) (bytes : List ℕ) → (with_cells memory m bytes).units ≡ m.units
+put_cells Main m bytes = refl
+put_cells Shared m bytes = refl
+put_cells Own7 m bytes = refl
+put_cells Itcm m bytes = refl
+put_cells Dtcm m bytes = refl
+put_cells Palette m bytes = refl
+put_cells Vram m bytes = refl
+put_cells Oam m bytes = refl
+
+put_units : (proc : Proc) (now : Tick) (place : Place) (m : MapState) (width : Width) (value : ℕ) → is_cells place ≡ true → (put_at proc now place m width value).units ≡ m.units
+put_units proc now (Cell memory at) m width value h = by_byte (is_byte_of_nine proc width && takes_no_bytes memory) where
+  by_byte : (b : Bool) → (if b then m else with_cells memory m (with_number width (cells_of m memory) (aligned_down width at) value)).units ≡ m.units
+  by_byte true = refl
+  by_byte false = put_cells memory m (with_number width (cells_of m memory) (aligned_down width at) value)
+put_units proc now (Banks space at) m width value h = absurd (true≢false (sym h))
+put_units proc now (Port at) m width value h = absurd (true≢false (sym h))
+put_units proc now (Rom at) m width value h = refl
+put_units proc now Nothing m width value h = refl
+
+left_units : (proc : Proc) (place : Place) (m : MapState) (width : Width) → is_cells place ≡ true → (left_at proc place m width).units ≡ m.units
+left_units proc (Cell memory at) m width h = refl
+left_units proc (Banks space at) m width h = refl
+left_units proc (Port at) m width h = absurd (true≢false (sym h))
+left_units proc (Rom at) m width h = refl
+left_units proc Nothing m width h = refl
+
+read_units : (proc : Proc) (m : MapState) (at : ℕ) (width : Width) → is_near at ≡ true → (map_read proc m at width).units ≡ m.units
+unfolding map_read
+read_units proc m at width near =
+    let b = near_bounds at near in
+    left_units proc (place_of proc m.units.wramcnt at) m width (near_cells proc m.units.wramcnt at b.0 b.1)
+
+write_units : (proc : Proc) (now : Tick) (m : MapState) (at : ℕ) (width : Width) (value : ℕ) → is_near at ≡ true → (map_written proc now m at width value).units ≡ m.units
+unfolding map_written
+write_units proc now m at width value near =
+    let b = near_bounds at near in
+    put_units proc now (place_of proc m.units.wramcnt at) m width value (near_cells proc m.units.wramcnt at b.0 b.1)
+
+-- also where a tightly coupled memory answers
+tcm_reads : (t : Tcm) (r : NineReach) (at : ℕ) (width : Width) → is_near at ≡ true → (tcm_read t r at width).map.units ≡ r.map.units
+tcm_reads (tcm.Itcm place) r at width near = refl
+tcm_reads (tcm.Dtcm place) r at width near = refl
+tcm_reads tcm.Past r at width near = read_units Nine r.map at width near
+
+tcm_writes : (t : Tcm) (r : NineReach) (at : ℕ) (width : Width) (value : ℕ) → is_near at ≡ true → (tcm_written t r at width value).map.units ≡ r.map.units
+tcm_writes (tcm.Itcm place) r at width value near = refl
+tcm_writes (tcm.Dtcm place) r at width value near = refl
+tcm_writes tcm.Past r at width value near = write_units Nine r.now r.map at width value near
+
+-- a write leaves what it leaves, refused or not
+write_left : {S : Type 0} (stop : Option Stop) (left : S) → (refused_or stop left (record { values = []; state = left; stop = None })).state ≡ left
+write_left None left = refl
+write_left (Some stop) left = refl
+
+pub nine_units : (r : NineReach) (accesses : List Access) → IsNear accesses → (perform nine_memory r accesses).state.map.units ≡ r.map.units
+nine_units r [] near = refl
+nine_units r (Fetch at width ∷ []) near = refl
+nine_units r (Read at width ∷ []) near = tcm_reads (tcm_of r.cp15 at false false) r at width near
+nine_units r (Write at width value ∷ []) near =
+    let left : NineReach = nine_memory.write_next r at width value in
+    rw (write_left (nine_memory.refusal r at width value) left) (tcm_writes (tcm_of r.cp15 at true false) r at width value near)
+nine_units r (access ∷ other ∷ rest) near = absurd near
+
+pub seven_units : (r : SevenReach) (accesses : List Access) → IsNear accesses → (perform seven_memory r accesses).state.map.units ≡ r.map.units
+seven_units r [] near = refl
+seven_units r (Fetch at width ∷ []) near = refl
+seven_units r (Read at width ∷ []) near = read_units Seven r.map at width near
+seven_units r (Write at width value ∷ []) near =
+    let left : SevenReach = seven_memory.write_next r at width value in
+    rw (write_left (seven_memory.refusal r at width value) left) (write_units Seven r.now r.map at width value near)
+seven_units r (access ∷ other ∷ rest) near = absurd near
+
+-- ---- no access of them is refused
+
+cells_refuse_none : (proc : Proc) (place : Place) (m : MapState) (width : Width) (value : ℕ) → is_cells place ≡ true → refusal_at proc place m width value ≡ None
+cells_refuse_none proc (Cell memory at) m width value h = refl
+cells_refuse_none proc (Banks space at) m width value h = refl
+cells_refuse_none proc (Port at) m width value h = absurd (true≢false (sym h))
+cells_refuse_none proc (Rom at) m width value h = refl
+cells_refuse_none proc Nothing m width value h = refl
+
+refuses_none : (proc : Proc) (m : MapState) (at : ℕ) (width : Width) (value : ℕ) → is_near at ≡ true → map_refusal proc m at width value ≡ None
+unfolding map_refusal
+refuses_none proc m at width value near =
+    let b = near_bounds at near in
+    cells_refuse_none proc (place_of proc m.units.wramcnt at) m width value (near_cells proc m.units.wramcnt at b.0 b.1)
+
+tcm_refuses_none : (t : Tcm) (r : NineReach) (at : ℕ) (width : Width) (value : ℕ) → is_near at ≡ true → tcm_refusal t r at width value ≡ None
+tcm_refuses_none (tcm.Itcm place) r at width value near = refl
+tcm_refuses_none (tcm.Dtcm place) r at width value near = refl
+tcm_refuses_none tcm.Past r at width value near = refuses_none Nine r.map at width value near
+
+-- so nothing stops them
+write_stop : {S : Type 0} (stop : Option Stop) (left : S) → stop ≡ None → (refused_or stop left (record { values = []; state = left; stop = None })).stop ≡ None
+write_stop None left h = refl
+write_stop (Some stop) left h = h
+
+pub nine_unstopped : (r : NineReach) (accesses : List Access) → IsNear accesses → (perform nine_memory r accesses).stop ≡ None
+nine_unstopped r [] near = refl
+nine_unstopped r (Fetch at width ∷ []) near = refl
+nine_unstopped r (Read at width ∷ []) near = refl
+nine_unstopped r (Write at width value ∷ []) near =
+    write_stop (nine_memory.refusal r at width value) (nine_memory.write_next r at width value) (tcm_refuses_none (tcm_of r.cp15 at true false) r at width value near)
+nine_unstopped r (access ∷ other ∷ rest) near = absurd near
+
+pub seven_unstopped : (r : SevenReach) (accesses : List Access) → IsNear accesses → (perform seven_memory r accesses).stop ≡ None
+seven_unstopped r [] near = refl
+seven_unstopped r (Fetch at width ∷ []) near = refl
+seven_unstopped r (Read at width ∷ []) near = refl
+seven_unstopped r (Write at width value ∷ []) near =
+    write_stop (seven_memory.refusal r at width value) (seven_memory.write_next r at width value) (refuses_none Seven r.map at width value near)
+seven_unstopped r (access ∷ other ∷ rest) near = absurd near

@@ -1,0 +1,35 @@
+use Rattle.std.specs.Prelude.{ℕ, ◌-◌, ◌^◌, ◌≡◌, ◌<◌, Bool, false, if◌then◌else◌, List, ◌∷◌, Option}
+use Rattle.ds_base.specs.declared.processors.Proc.{Proc}
+use Rattle.ds_base.specs.declared.processors.Proc.TheVariants.{Nine, Seven}
+use Rattle.ds_base.specs.declared.ticks.Tick.{Tick}
+use Rattle.ds_ports.specs.Dues.{dues_behind}
+use Rattle.ds_runs.specs.Runs.{IsOver}
+use Rattle.ds_runs.specs.declared.actors.Actor.TheVariants.{Video}
+use Rattle.ds_machine.specs.Reference.{due_by, keys_due}
+use Rattle.ds_machine.specs.States.{MachineState}
+use Rattle.ds_machine.specs.Steps.{is_held, line_of, wakes}
+use Rattle.ds_machine.specs.declared.kept.Kept.{Kept}
+
+-- What is kept between steps that are taken at once. No public clause speaks of it.
+
+-- when each actor but the processors is due, by rank
+abbrev pub events_of : MachineState → List (Option Tick)
+events_of s = keys_due s.keys ∷ due_by Video s ∷ dues_behind s.map.units
+
+-- no halted processor is to wake
+abbrev pub AreAsleep : MachineState → Type 0
+AreAsleep s = (proc : Proc) → wakes s proc ≡ false
+
+-- what is kept is so of a machine: no actor but the processors is due before its tick, and no halted processor is to wake unless that is 0; and so
+-- each processor is held or isn't, and its interrupt line is up or isn't
+pub record IsKept (kept : Kept) (s : MachineState) : Type 0 where
+  pub events : IsOver (events_of s) kept.until.0
+  pub asleep : 0 < kept.until.0 → AreAsleep s
+  pub nine_held : kept.nine_held ≡ is_held s Nine
+  pub seven_held : kept.seven_held ≡ is_held s Seven
+  pub nine_line : kept.nine_line ≡ line_of s Nine
+  pub seven_line : kept.seven_line ≡ line_of s Seven
+
+-- when a processor is due; past all ticks of a run while it is held
+abbrev pub waits : Bool → ℕ → ℕ
+waits held due = if held then 2 ^ 64 - 1 else due

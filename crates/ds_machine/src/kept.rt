@@ -1,0 +1,130 @@
+//! What is kept between steps that are taken at once, and those steps.
+
+ghost use Rattle.std.specs.Prelude.{◌≡◌, ◌<◌, ◌≤◌, ◌^◌, Some, false, true};
+ghost use Rattle.ds_runs.specs.Runs.{IsOver};
+ghost use Rattle.ds_machine.specs.Kept.{events_of, waits, AreAsleep, IsKept};
+ghost use Rattle.ds_machine.specs.Reference.{awake, step_by, stepped_of, AtOnce, HasCounted};
+ghost use Rattle.ds_machine.specs.Steps.{tick_of};
+ghost use Rattle.ds_machine.specs.declared.answers.Done.TheVariants.{Made};
+
+use crate::parts::Parts;
+use arm_core::Stepped;
+use ds_base::{Proc, Tick};
+use ds_runs::Actor;
+
+/// What the units behind the ports, the key script and the display tell: it stands still while a processor's steps change none of them.
+#[derive(Clone, Copy)]
+pub struct Kept {
+    /// No actor but the processors is due before this tick; 0 where a halted processor is to wake.
+    pub until: Tick,
+    /// Whether ARM9 is held.
+    pub nine_held: bool,
+    /// Whether ARM7 is held.
+    pub seven_held: bool,
+    /// Whether ARM9's interrupt line is up.
+    pub nine_line: bool,
+    /// Whether ARM7's interrupt line is up.
+    pub seven_line: bool,
+}
+
+/// When a processor is due, in ticks; past all ticks of a run while it is held.
+#[inline(always)]
+fn waits(held: bool, due: u64) -> u64
+    ensures { result ≡ waits held due }
+{
+    if held { u64::MAX } else { due }
+}
+
+impl Parts {
+    /// A tick before which no actor but the processors is due; 0 where a halted processor is to wake.
+    fn still_until(&self) -> Tick
+        ensures events { IsOver (events_of self.now) result.0 }
+        ensures asleep { 0 < result.0 → AreAsleep self.now }
+    {
+        if self.wakes(Proc::Nine) || self.wakes(Proc::Seven) {
+            return Tick(0);
+        }
+        self.first_event().tick
+    }
+
+    /// What is to be kept of them.
+    #[inline(never)]
+    pub fn kept(&self) -> Kept
+        ensures { IsKept result self.now }
+    {
+        Kept {
+            until: self.still_until(),
+            nine_held: self.is_held(Proc::Nine),
+            seven_held: self.is_held(Proc::Seven),
+            nine_line: self.line(Proc::Nine),
+            seven_line: self.line(Proc::Seven),
+        }
+    }
+
+    /// One step, where it is one that is taken at once: a processor is due before every other actor and before a tick. The answer is whether it was
+    /// taken; where it wasn't nothing is changed.
+    #[inline(always)]
+    pub fn quick(&mut self, kept: Kept, until: Tick) -> bool
+        requires kept { IsKept kept self.old }
+        requires early { until.0 ≤ 2 ^ 56 }
+        requires counted { HasCounted self.old }
+        ensures step { AtOnce until.0 self.old result self.new }
+        ensures kept { IsKept kept self.new }
+    {
+        let nine = waits(kept.nine_held, self.nine.processor.due);
+        let seven = waits(kept.seven_held, self.seven.processor.due);
+        let end = kept.until.0.min(until.0);
+        if nine <= seven {
+            if nine < end {
+                return self.nine_at_once(kept, Tick(nine));
+            }
+        } else if seven < end {
+            return self.seven_at_once(kept, Tick(seven));
+        }
+        false
+    }
+
+    /// ARM9's step at its tick, where it is one that is taken at once. It costs, and changes no unit: so no processor wakes, and what is kept stays.
+    #[inline(always)]
+    fn nine_at_once(&mut self, kept: Kept, tick: Tick) -> bool
+        requires kept { IsKept kept self.old }
+        requires before { tick.0 < kept.until.0 }
+        requires held { kept.nine_held ≡ false }
+        requires tick { tick ≡ tick_of self.old.nine.processor }
+        requires early { tick.0 ≤ 2 ^ 56 }
+        requires counted { self.old.nine.processor.steps ≤ 2 ^ 61 }
+        ensures none { result ≡ false → self.new ≡ self.old }
+        ensures made { result ≡ true → awake (Some tick) (step_by 22 (Actor.Processor Proc.Nine) self.old) ≡ stepped_of self.old Made self.new }
+        ensures kept { IsKept kept self.new }
+    {
+        match self.quick_nine(tick, kept.nine_line) {
+            Some(Stepped::Cost(clocks)) => {
+                self.go_on(Proc::Nine, clocks, false);
+                true
+            }
+            _ => false,
+        }
+    }
+
+    /// ARM7's step at its tick, where it is one that is taken at once. It costs, and changes no unit: so no processor wakes, and what is kept stays.
+    #[inline(always)]
+    fn seven_at_once(&mut self, kept: Kept, tick: Tick) -> bool
+        requires kept { IsKept kept self.old }
+        requires before { tick.0 < kept.until.0 }
+        requires held { kept.seven_held ≡ false }
+        requires tick { tick ≡ tick_of self.old.seven.processor }
+        requires early { tick.0 ≤ 2 ^ 56 }
+        requires counted { self.old.seven.processor.steps ≤ 2 ^ 61 }
+        ensures none { result ≡ false → self.new ≡ self.old }
+        ensures made { result ≡ true → awake (Some tick) (step_by 23 (Actor.Processor Proc.Seven) self.old) ≡ stepped_of self.old Made self.new }
+        ensures kept { IsKept kept self.new }
+    {
+        match self.quick_seven(tick, kept.seven_line) {
+            Some(Stepped::Cost(clocks)) => {
+                self.go_on(Proc::Seven, clocks, false);
+                true
+            }
+            _ => false,
+        }
+    }
+}

@@ -48,6 +48,9 @@ fn run_to(console: &mut Console, until: Tick) -> Option<LeftOut>
     ensures { RunsTo until.0 console.old result console.new }
 {
     'turns: loop {
+        if console.turn_at_once(until) {
+            continue 'turns;
+        }
         match console.turn(until) {
             Turned::Ran => {}
             Turned::Frame { swapped: _ } => {}

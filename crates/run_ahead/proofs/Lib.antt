@@ -1,1 +1,2 @@
+pub mod StepTurns
 pub mod TurnLaws

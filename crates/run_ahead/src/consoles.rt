@@ -1,11 +1,12 @@
 //! The console.
 
-ghost use Rattle.std.specs.Prelude.{◌≡◌, ◌≤◌, ◌<◌, ◌+◌, ◌*◌, ◌^◌, None, slice_index, IfOk};
+ghost use Rattle.std.specs.Prelude.{◌≡◌, ◌≤◌, ◌<◌, ◌+◌, ◌*◌, ◌^◌, true, false, None, slice_index, IfOk};
 ghost use Rattle.ds_base.specs.Memories.{memory_size};
 ghost use Rattle.ds_machine.specs.Booted.{booted};
 ghost use Rattle.ds_machine.specs.Observed.{memory_of, registers_of, seen_of};
 ghost use Rattle.ds_machine.specs.Reference.{IsDue, IsSound};
-ghost use Rattle.run_ahead.specs.Turns.{Turns, RunsOn, HasRuns, turns_of, turns_left, counted_of};
+ghost use Rattle.run_ahead.specs.Turns.{Turns, RunsOn, HasRuns, turns_of, turns_left, counted_of, turned_by, stopped_by};
+ghost use Rattle.run_ahead.specs.declared.turns.Turned.TheVariants.{Ran};
 
 use crate::turns::Turned;
 use ds_base::{Due, Keys, LeftOut, Memory, Proc, Tick};
@@ -83,8 +84,35 @@ impl Console {
         self.machine.laws();
     }
 
-    /// A turn, as the one step that it is so far.
+    /// A turn, where it is one whose step is taken at once, which is much faster; the result is whether it was. Where it wasn't nothing is changed, and the
+    /// turn is still to be taken.
     #[inline(always)]
+    pub fn turn_at_once(&mut self, until: Tick) -> bool
+        requires { until.0 ≤ 2 ^ 56 }
+        ensures none { result ≡ false → self.new ≡ self.old }
+        ensures turn { result ≡ true → Turns until.0 self.old Ran self.new }
+        ensures runs { result ≡ true → RunsOn until.0 self.old.machine Ran self.new.machine }
+        ensures falls { result ≡ true → turns_left until.0 self.new.machine < turns_left until.0 self.old.machine }
+    {
+        self.laws();
+        self.step_at_once(until)
+    }
+
+    /// A step that is taken at once, where the console hasn't stopped and it raises no limit; the result is whether it was.
+    #[inline(always)]
+    fn step_at_once(&mut self, until: Tick) -> bool
+        requires { until.0 ≤ 2 ^ 56 }
+        ensures none { result ≡ false → self.new ≡ self.old }
+        ensures turn { result ≡ true → Turns until.0 self.old Ran self.new }
+    {
+        if self.stopped.is_none() && until.0 <= self.limit {
+            return self.machine.quick(until);
+        }
+        false
+    }
+
+    /// A turn, as the one step that it is so far.
+    #[inline(never)]
     fn step(&mut self, until: Tick) -> Turned
         requires { until.0 ≤ 2 ^ 56 }
         ensures { Turns until.0 self.old result self.new }
@@ -97,7 +125,17 @@ impl Console {
         if until.0 <= due.tick.0 {
             return Turned::AtEnd;
         }
-        match self.machine.step(due.rank) {
+        let done = self.machine.step(due.rank);
+        self.answer(done)
+    }
+
+    /// What a turn answers to what its step came to. A stop is kept.
+    #[inline(always)]
+    fn answer(&mut self, done: Done) -> Turned
+        ensures answer { result ≡ turned_by done }
+        ensures state { self.new ≡ stopped_by done self.old }
+    {
+        match done {
             Done::Made => Turned::Ran,
             Done::Frame { swapped } => Turned::Frame { swapped },
             Done::Stopped(left) => {

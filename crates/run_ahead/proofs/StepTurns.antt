@@ -1,0 +1,36 @@
+use Rattle.std.proofs.Common.{ℕ, ◌≡◌, ◌≤◌, ◌<◌, ◌^◌, max, [], ◌∷◌, List, Bool, true, false, sym, subst, arith}
+use Rattle.ds_base.specs.declared.ticks.Due.{Due}
+use Rattle.ds_runs.specs.Runs.{Makes}
+use Rattle.ds_machine.specs.States.{MachineState}
+use Rattle.ds_machine.specs.Reference.{AtOnce, CountsWithin, HasCounted, IsDue, Shown, Steps, next_shown, step_of}
+use Rattle.ds_machine.specs.declared.answers.Done as answer
+use Rattle.ds_machine.specs.declared.answers.Done.TheVariants as answers
+use Rattle.ds_machine.proofs.Counts.{counts_within, stop_counts}
+
+-- What a turn's step leaves, by what it came to.
+
+-- all steps were taken below a limit
+abbrev pub AreWithin : ℕ → MachineState → Type 0
+AreWithin limit s = CountsWithin limit s × (limit ≤ 2 ^ 56)
+
+-- so they were after a step below the limit to which it is raised
+pub within_by : (s next : MachineState) (due : Due) (done : answer.Done) (before until limit : ℕ) → IsDue s due → Steps due.rank s done next → HasCounted s
+    → AreWithin before s → due.tick.0 < until → until ≤ 2 ^ 56 → limit ≡ max before until → AreWithin limit next
+within_by s next due done before until limit least step has within lt early most = (by_done done step, (let k = within.1 in omega (arith, most, k, early))) where
+  made : (outs : List Shown) → step_of due.rank s ≡ Makes next outs → CountsWithin limit next
+  made outs h = counts_within s next due.tick due.rank outs limit least h has (omega (arith, most, lt))
+
+  by_done : (done : answer.Done) → Steps due.rank s done next → CountsWithin limit next
+  by_done answers.Made h = made [] h
+  by_done (answers.Frame swapped) h = made (next_shown s swapped ∷ []) h
+  by_done (answers.Stopped left) h =
+      let same = stop_counts s next due.rank left h in
+      let k = within.0 in
+      omega (arith, k, same, most)
+
+-- the same of a step that is taken at once, which raises no limit
+pub within_at_once : (s next : MachineState) (taken : Bool) (until limit : ℕ) → AtOnce until s taken next → HasCounted s → AreWithin limit s → until ≤ limit → AreWithin limit next
+within_at_once s next false until limit once has within le = subst (AreWithin limit) (sym once) within
+within_at_once s next true until limit once has within le =
+    let early = within.1 in
+    within_by s next once.0 answers.Made limit until limit once.1 once.3 has within once.2 (omega (arith, le, early)) (omega (arith, le))

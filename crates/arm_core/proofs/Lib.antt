@@ -1,4 +1,5 @@
 pub mod Layouts
+pub mod Places
 pub mod Powers
 pub mod ThumbKinds
 pub mod ClassKinds

@@ -81,7 +81,7 @@ impl Registers {
         let bank = exception.bank();
         self.keep_status(bank);
         self.set_in(bank, 14, link);
-        self.cpsr = (self.cpsr & 0xFFFF_FF40) + 0x80 + exception.mode();
+        self.set_cpsr((self.cpsr & 0xFFFF_FF40) + 0x80 + exception.mode());
         self.pc = base.wrapping_add(exception.vector());
     }
 }

@@ -43,4 +43,4 @@ pub use shifter::{
 };
 pub use statuses::replaced;
 pub use thumb::equivalent;
-pub use touches::{Touch, footprint};
+pub use touches::{Touch, access_touch, footprint, half_touch, width_by};

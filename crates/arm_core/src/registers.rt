@@ -1,6 +1,6 @@
 //! The registers.
 
-ghost use Rattle.std.specs.Prelude.{◌≡◌, ◌<◌, ℕ, Some, None, Option, IfSome};
+ghost use Rattle.std.specs.Prelude.{◌≡◌, ◌<◌, ℕ, Some, None, Option, IfSome, if◌then◌else◌};
 ghost use Rattle.arm_core.specs.Registers.{bank, bank_of, is_thumb, jumped, late_r15, late_register, next, place, put, put_in, r15, register, register_in, saved_place, words_of};
 ghost use Rattle.arm_core.specs.Cores.{booted};
 
@@ -16,24 +16,32 @@ pub struct Registers {
     pub(crate) cpsr: u32,
     /// SPSR of FIQ, Supervisor, Abort, IRQ, Undefined.
     pub(crate) saved: [u32; 5],
+    /// The bank of CPSR's mode, made anew where CPSR's mode is written.
+    bank: Bank,
+    /// How many bytes an instruction of CPSR's state has, likewise.
+    size: u32,
 }
 
 impl Model for Registers {
-    ghost use Rattle.arm_core.specs.Registers.{RegisterState};
+    ghost use Rattle.std.specs.Prelude.{◌≡◌, if◌then◌else◌};
+    ghost use Rattle.ds_base.specs.Bits.{bit, bits};
+    ghost use Rattle.arm_core.specs.Registers.{RegisterState, bank_of};
 
     ghost Value = { RegisterState };
 
     ghost view = { λ s. record { general = s.general; pc = s.pc; cpsr = s.cpsr; saved = s.saved } };
+
+    ghost invariant = { λ s. (s.bank ≡ bank_of (bits 0 5 s.cpsr)) × (s.size ≡ (if bit 5 s.cpsr then 2 else 4)) };
 }
 
-/// Where r8 to r14 stand in each bank, in the order of the banks.
-const PLACES: [[u8; 7]; 6] = [
-    [8, 9, 10, 11, 12, 18, 19],
-    [13, 14, 15, 16, 17, 20, 21],
-    [8, 9, 10, 11, 12, 22, 23],
-    [8, 9, 10, 11, 12, 24, 25],
-    [8, 9, 10, 11, 12, 26, 27],
-    [8, 9, 10, 11, 12, 28, 29],
+/// Where r0 to r14 stand in each bank, in the order of the banks. The last of sixteen is r15's, which isn't among them and isn't asked for.
+const PLACES: [[u8; 16]; 6] = [
+    [0, 1, 2, 3, 4, 5, 6, 7, 8, 9, 10, 11, 12, 18, 19, 0],
+    [0, 1, 2, 3, 4, 5, 6, 7, 13, 14, 15, 16, 17, 20, 21, 0],
+    [0, 1, 2, 3, 4, 5, 6, 7, 8, 9, 10, 11, 12, 22, 23, 0],
+    [0, 1, 2, 3, 4, 5, 6, 7, 8, 9, 10, 11, 12, 24, 25, 0],
+    [0, 1, 2, 3, 4, 5, 6, 7, 8, 9, 10, 11, 12, 26, 27, 0],
+    [0, 1, 2, 3, 4, 5, 6, 7, 8, 9, 10, 11, 12, 28, 29, 0],
 ];
 
 /// The bank of a mode.
@@ -51,18 +59,24 @@ fn bank_by(mode: u32) -> Bank
     }
 }
 
+/// How many bytes an instruction has, in Thumb state or in ARM state.
+#[inline(always)]
+fn size_by(thumb: bool) -> u32
+    ensures { result ≡ (if thumb then 2 else 4) }
+{
+    if thumb { 2 } else { 4 }
+}
+
 impl Bank {
     /// Where a register below r15 stands among the general registers.
     #[inline(always)]
+    #[tactic(auto, using(crate::proofs::Places::whole_row))]
     pub fn place(self, r: u8) -> usize
         requires { r < 15 }
         ensures place { result ≡ place self r }
         ensures within { result < 30 }
     {
-        if r < 8 {
-            return r as usize;
-        }
-        PLACES[self as usize][r as usize - 8] as usize
+        PLACES[self as usize][r as usize] as usize
     }
 
     /// Which SPSR it has.
@@ -100,6 +114,8 @@ impl Registers {
             pc: entry,
             cpsr: 0xDF,
             saved: [0; 5],
+            bank: Bank::System,
+            size: 4,
         }
     }
 
@@ -138,6 +154,8 @@ impl Registers {
         ensures { self.new ≡ record self.old { cpsr = cpsr } }
     {
         self.cpsr = cpsr;
+        self.bank = bank_by(cpsr & 31);
+        self.size = size_by((cpsr >> 5) & 1 == 1);
     }
 
     /// Whether the processor is in Thumb state.
@@ -145,7 +163,7 @@ impl Registers {
     pub fn is_thumb(&self) -> bool
         ensures { result ≡ is_thumb self.now }
     {
-        (self.cpsr >> 5) & 1 == 1
+        self.size == 2
     }
 
     /// The bank that the mode sees.
@@ -153,7 +171,7 @@ impl Registers {
     pub fn bank(&self) -> Bank
         ensures { result ≡ bank self.now }
     {
-        bank_by(self.cpsr & 31)
+        self.bank
     }
 
     /// What r15 reads as.
@@ -161,7 +179,7 @@ impl Registers {
     pub fn r15(&self) -> u32
         ensures { result ≡ r15 self.now }
     {
-        self.pc.wrapping_add(if self.is_thumb() { 4 } else { 8 })
+        self.pc.wrapping_add(2 * self.size)
     }
 
     /// What r15 reads as where it is stored, and where a register shifts.
@@ -221,7 +239,7 @@ impl Registers {
     pub fn next_pc(&self) -> u32
         ensures { result ≡ (next self.now).pc }
     {
-        self.pc.wrapping_add(if self.is_thumb() { 2 } else { 4 })
+        self.pc.wrapping_add(self.size)
     }
 
     /// r15 goes on to the next instruction.

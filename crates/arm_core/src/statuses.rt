@@ -44,7 +44,7 @@ impl Registers {
         ensures { self.new ≡ restored self.old }
     {
         if let Some(at) = self.bank().saved_place() {
-            self.cpsr = self.saved[at];
+            self.set_cpsr(self.saved[at]);
         }
     }
 

@@ -35,9 +35,9 @@ pub enum Touch {
     },
 }
 
-/// The bytes of an access, which is aligned.
+/// The bytes of an access, which is aligned (ARM manual, A2.8 "Unaligned access support").
 #[inline(always)]
-fn access_touch(at: u32, width: Width) -> Touch
+pub fn access_touch(at: u32, width: Width) -> Touch
     ensures { touched_bytes result ≡ span (aligned_down width at) (width_bytes width) }
 {
     let length = width.bytes();
@@ -47,18 +47,19 @@ fn access_touch(at: u32, width: Width) -> Touch
     }
 }
 
-/// The width of a transfer, by B.
+/// The width of a transfer, by B (ARM manual, A5.2 "Addressing Mode 2").
 #[inline(always)]
-fn width_by(byte: bool) -> Width
+pub fn width_by(byte: bool) -> Width
     ensures { result ≡ (if byte then Byte else Word) }
 {
     if byte { Width::Byte } else { Width::Word }
 }
 
-/// The bytes of STRH, LDRH, LDRSB or LDRSH: on ARMv4 LDRSH at an odd address reads a byte.
+/// The bytes of STRH, LDRH, LDRSB or LDRSH: on ARMv4 LDRSH at an odd address reads a byte (our choice).
 #[inline(always)]
-fn half_touch(arch: Arch, op: HalfOp, to: Addressed) -> Touch
-    ensures { (s : RegisterState) → (rn : ℕ) → (rd : ℕ) → GoesOver result (half_or_signed_meaning arch s op rn rd to).accesses }
+pub fn half_touch(arch: Arch, op: HalfOp, to: Addressed) -> Touch
+    ensures over { (s : RegisterState) → (rn : ℕ) → (rd : ℕ) → GoesOver result (half_or_signed_meaning arch s op rn rd to).accesses }
+    ensures bytes { (s : RegisterState) → (rn : ℕ) → (rd : ℕ) → touched_bytes result ≡ accessed_bytes (half_or_signed_meaning arch s op rn rd to).accesses }
 {
     let width = match op {
         HalfOp::Strh | HalfOp::Ldrh => Width::Half,

@@ -1,6 +1,6 @@
 //! Data processing.
 
-ghost use Rattle.std.specs.Prelude.{◌≡◌, ◌<◌, []};
+ghost use Rattle.std.specs.Prelude.{◌≡◌, ◌<◌, [], true};
 ghost use Rattle.arm_words.specs.Fields.{HasOperand};
 ghost use Rattle.arm_core.specs.Costs.{HasClocks};
 ghost use Rattle.arm_core.specs.Effects.{cost_of};
@@ -28,21 +28,41 @@ fn operand_class(operand: Operand) -> Class
     }
 }
 
-/// The result goes to `rd`. With S the flags are set, or for r15 CPSR is restored.
+/// The result goes to `rd`, and with S the flags are set, or for r15 CPSR is restored.
 #[inline(always)]
-fn finish(s: &mut Registers, set_flags: bool, rd: u8, r: Computed)
+fn finish_with_flags(s: &mut Registers, rd: u8, r: Computed)
     requires { rd < 16 }
-    ensures { s.new ≡ finished set_flags rd r s.old }
+    ensures { s.new ≡ finished true rd r s.old }
 {
-    if !set_flags {
-        s.set(rd, r.value);
-    } else if rd == 15 {
+    if rd == 15 {
         s.restore();
-        s.set(rd, r.value);
     } else {
         s.set_flags(r);
-        s.set(rd, r.value);
     }
+    s.set(rd, r.value);
+}
+
+/// What is computed from two operands, with the flags before it.
+#[inline(always)]
+fn data_of(s: &Registers, op: DataOp, first: u32, second: Shifted32) -> Computed
+    ensures { result ≡ processing.data_result op first second (c_flag s.now.cpsr) (v_flag s.now.cpsr) }
+{
+    let cpsr = s.cpsr();
+    data_result(
+        op,
+        first,
+        second,
+        (cpsr >> 29) & 1 == 1,
+        (cpsr >> 28) & 1 == 1,
+    )
+}
+
+/// What is computed from one operand, with the flags before it.
+#[inline(always)]
+fn move_of(s: &Registers, op: MoveOp, second: Shifted32) -> Computed
+    ensures { result ≡ processing.move_result op second (v_flag s.now.cpsr) }
+{
+    move_result(op, second, (s.cpsr() >> 28) & 1 == 1)
 }
 
 /// Computes from two operands: the result goes to `rd`, and r15 goes on first.
@@ -58,16 +78,16 @@ pub fn compute_data(
     requires { rd < 16 }
     ensures { s.new ≡ finished set_flags rd (processing.data_result op first second (c_flag s.old.cpsr) (v_flag s.old.cpsr)) (next s.old) }
 {
-    let cpsr = s.cpsr();
-    let r = data_result(
-        op,
-        first,
-        second,
-        (cpsr >> 29) & 1 == 1,
-        (cpsr >> 28) & 1 == 1,
-    );
-    s.go_on();
-    finish(s, set_flags, rd, r);
+    if set_flags {
+        let r = data_of(s, op, first, second);
+        s.go_on();
+        finish_with_flags(s, rd, r);
+    } else {
+        // C and V of the result aren't asked for, nor found
+        let value = data_of(s, op, first, second).value;
+        s.go_on();
+        s.set(rd, value);
+    }
 }
 
 /// Computes from two operands and sets the flags alone; r15 goes on.
@@ -86,9 +106,15 @@ pub fn compute_move(s: &mut Registers, op: MoveOp, set_flags: bool, rd: u8, seco
     requires { rd < 16 }
     ensures { s.new ≡ finished set_flags rd (processing.move_result op second (v_flag s.old.cpsr)) (next s.old) }
 {
-    let r = move_result(op, second, (s.cpsr() >> 28) & 1 == 1);
-    s.go_on();
-    finish(s, set_flags, rd, r);
+    if set_flags {
+        let r = move_of(s, op, second);
+        s.go_on();
+        finish_with_flags(s, rd, r);
+    } else {
+        let value = move_of(s, op, second).value;
+        s.go_on();
+        s.set(rd, value);
+    }
 }
 
 /// Data processing with two operands and a result (ARM manual, A4.1 "ADC", "ADD", "AND", "BIC", "EOR", "ORR", "RSB", "RSC", "SBC", "SUB").

@@ -393,7 +393,7 @@ pub fn half_transfer<B: Bus>(
 }
 
 /// Thumb's LDR of a literal, `immed` words behind r15, whose bits 1 and 0 are cleared (ARM manual, A7.1 "LDR (3)").
-#[inline]
+#[inline(always)]
 pub fn literal<B: Bus>(arch: Arch, s: &mut Registers, bus: &mut B, rd: u8, immed: u8) -> Stepped
     requires { rd < 16 }
     ensures registers { s.new ≡ (carried_out B.memory arch s.old (B.state bus.old) (literal_meaning arch s.old rd immed)).registers }

@@ -10,7 +10,7 @@ use arm_core::{Core, Touch, footprint};
 use arm_words::Instr;
 use cp15_tcm::Cp15;
 use ds_base::Proc;
-use ds_map::byte_is_built;
+use ds_map::first_unbuilt;
 
 /// Whether so many addresses from one on are those of main memory and of work RAM, which are built. (GBATEK, "DS Memory Map".)
 #[inline(always)]
@@ -20,24 +20,10 @@ fn lies_near(first: u32, length: u32) -> bool
     first >= 0x0200_0000 && first < 0x0400_0000 && length <= 0x0400_0000 - first
 }
 
-/// The first byte of a span of a processor's data whose place isn't built.
-fn byte_in(proc: Proc, cp: &Cp15, wramcnt: u8, first: u32, length: u32) -> Option<u32>
-    requires kept { wramcnt < 4 }
-    ensures { result ≡ first_without (byte_is_built proc cp.now wramcnt) (touched_bytes (Touch.Span first length)) }
-{
-    for i in 0..length {
-        let at = first.wrapping_add(i);
-        if !byte_is_built(proc, cp, wramcnt, at) {
-            return Some(at);
-        }
-    }
-    None
-}
-
 /// The first byte of a processor's data whose place isn't built.
 #[inline(always)]
 #[tactic(auto, using(crate::proofs::Nears::near_span_built))]
-fn unbuilt_byte(proc: Proc, cp: &Cp15, wramcnt: u8, touch: Touch) -> Option<u32>
+pub(crate) fn unbuilt_byte(proc: Proc, cp: &Cp15, wramcnt: u8, touch: Touch) -> Option<u32>
     requires kept { wramcnt < 4 }
     ensures { result ≡ first_without (byte_is_built proc cp.now wramcnt) (touched_bytes touch) }
 {
@@ -47,7 +33,7 @@ fn unbuilt_byte(proc: Proc, cp: &Cp15, wramcnt: u8, touch: Touch) -> Option<u32>
             if lies_near(first, length) {
                 return None;
             }
-            byte_in(proc, cp, wramcnt, first, length)
+            first_unbuilt(proc, cp, wramcnt, first, length)
         }
     }
 }

@@ -1,3 +1,4 @@
 pub mod Mains
 pub mod Later
 pub mod TakenBack
+pub mod Built

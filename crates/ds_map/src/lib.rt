@@ -13,7 +13,7 @@ mod moves;
 mod views;
 
 pub use blocks::Block;
-pub use builds::byte_is_built;
+pub use builds::first_unbuilt;
 pub use maps::Map;
 pub use moves::unit_needs;
 pub use views::{DmaView, NineView, SevenView};

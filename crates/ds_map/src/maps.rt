@@ -108,9 +108,7 @@ impl Map {
         ensures value { result ≡ port_value proc now self.old.units at width }
         ensures next { self.new ≡ record self.old { units = port_read proc self.old.units at width } }
     {
-        let value = self.units.value(proc, now, at, width);
-        self.units.read(proc, at, width);
-        value
+        self.units.take(proc, now, at, width)
     }
 
     /// What is read at a place at a tick, and the read.

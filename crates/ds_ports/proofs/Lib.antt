@@ -1,3 +1,4 @@
 pub mod RegisterMaps
 pub mod Dues
 pub mod Later
+pub mod Spans

@@ -22,7 +22,7 @@ all_three true true false h = absurd (grind arith)
 all_three true false c h = absurd (grind arith)
 all_three false b c h = absurd (grind arith)
 
-le_of : (a b : ℕ) → nat_le a b ≡ true → a ≤ b
+pub le_of : (a b : ℕ) → nat_le a b ≡ true → a ≤ b
 le_of a b h = grind arith
 
 below_or_not : (a b : ℕ) → ((a < b) × (nat_lt a b ≡ true)) ⊎ ((b ≤ a) × (nat_lt a b ≡ false))

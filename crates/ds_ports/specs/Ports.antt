@@ -184,3 +184,11 @@ is_slot_built (Some slot) = is_there slot.register
 
 unfoldable pub port_is_built : Proc → ℕ → Bool
 port_is_built proc at = is_slot_built (slot_of proc at)
+
+-- whether so many bytes, of which the first is a register's, lie in that register, and it is built
+abbrev pub in_built : ℕ → Option Slot → Bool
+in_built length None = false
+in_built length (Some slot) = is_there slot.register && nat_le (slot.byte + length) slot.bytes
+
+unfoldable pub lies_in_built : Proc → ℕ → ℕ → Bool
+lies_in_built proc at length = in_built length (slot_of proc at)

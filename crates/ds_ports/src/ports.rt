@@ -3,7 +3,7 @@
 ghost use Rattle.std.specs.Prelude.{◌≡◌, ◌<◌, ◌≤◌, ◌+◌, ◌^◌, IfSome, Some};
 ghost use Rattle.ds_base.specs.Numbers.{width_bytes};
 ghost use Rattle.ds_base.specs.Schedules.{IsEarly};
-ghost use Rattle.ds_ports.specs.Ports.{byte_refusal, byte_written, first_stop, half_refusal, half_written, ignores, is_slot_built, joined, part, port_byte, port_half, port_is_built, port_read, port_refusal, port_value, port_word, port_written, slot_joined, slot_refusal, slot_value, slot_written, unless_stopped, whole_in, word_refusal, word_written};
+ghost use Rattle.ds_ports.specs.Ports.{byte_refusal, byte_written, first_stop, half_refusal, half_written, ignores, in_built, is_slot_built, joined, lies_in_built, part, port_byte, port_half, port_is_built, port_read, port_refusal, port_value, port_word, port_written, slot_joined, slot_refusal, slot_value, slot_written, unless_stopped, whole_in, word_refusal, word_written};
 ghost use Rattle.ds_ports.specs.Dues.{Goes, IsOwn, IsQuiet};
 ghost use Rattle.ds_ports.specs.RegisterMap.{IsSlot};
 ghost use Rattle.ds_ports.specs.Units.{own_of};
@@ -162,6 +162,27 @@ impl Units {
             if let Some(slot) = whole_in(Width::Word, slot_of(proc, at)) {
                 self.read_register(proc, slot.register);
             }
+        }
+    }
+
+    /// What a processor's access reads at an offset from 4000000h, at a tick, and the read. A register in which it lies whole is
+    /// found once.
+    #[tactic(auto, unfolding(crate::specs::Ports::port_value, crate::specs::Ports::port_read))]
+    pub fn take(&mut self, proc: Proc, now: Tick, at: u32, width: Width) -> u32
+        requires { at < 2 ^ 24 }
+        ensures value { result ≡ port_value proc now self.old at width }
+        ensures next { self.new ≡ port_read proc self.old at width }
+    {
+        if width != Width::Word {
+            return self.value(proc, now, at, width);
+        }
+        match whole_in(Width::Word, slot_of(proc, at)) {
+            Some(slot) => {
+                let value = self.slot_value(proc, now, Width::Word, slot);
+                self.read_register(proc, slot.register);
+                value
+            }
+            None => self.read_word(proc, now, at),
         }
     }
 
@@ -370,5 +391,17 @@ pub fn port_is_built(proc: Proc, at: u32) -> bool
     match slot_of(proc, at) {
         Some(slot) => slot.register != Register::Later,
         None => true,
+    }
+}
+
+/// Whether so many bytes of the ports from one on lie in one register of a processor, and it is built. Each of
+/// them is built then.
+#[tactic(auto, unfolding(crate::specs::Ports::lies_in_built))]
+pub fn lies_in_built(proc: Proc, at: u32, length: u32) -> bool
+    ensures { result ≡ lies_in_built proc at length }
+{
+    match slot_of(proc, at) {
+        Some(slot) => slot.register != Register::Later && length <= slot.bytes - slot.byte,
+        None => false,
     }
 }

@@ -1,7 +1,7 @@
 //! What passes between the processors.
 
 use crate::tests::accesses::{reads, write};
-use ds_base::{Proc, Width};
+use ds_base::{Proc, Tick, Width};
 use ds_ports::Units;
 use std::alloc::AllocError;
 
@@ -56,8 +56,8 @@ fn seventeen_words_through_a_fifo(rt: HostRuntime) -> Result<(), AllocError> {
         // the send FIFO is full, and the seventeenth set the error
         reads(&rt, &units, from, (0x184, Width::Half, 0xC102));
         for word in 1..17 {
-            reads(&rt, &units, to, (0x10_0000, Width::Word, word));
-            units.read(to, 0x10_0000, Width::Word);
+            let got = units.take(to, Tick(0), 0x10_0000, Width::Word);
+            assert_eq!(rt; got, word);
         }
         reads(&rt, &units, to, (0x10_0000, Width::Word, 16));
         units.read(to, 0x10_0000, Width::Word);

@@ -1,7 +1,7 @@
 use Rattle.std.proofs.Common.{true, false, sym, ◌∙◌}
 use Rattle.ds_map.specs.Builds.{byte_is_built}
-use Rattle.ds_machine.proofs.Spans.{first_of_rest}
-use Rattle.ds_machine.proofs.needs.byte_in.Goals as goal
+use Rattle.ds_map.proofs.Built.{first_of_rest}
+use Rattle.ds_map.proofs.builds.byte_in.Goals as goal
 
 pub loop-i-preserved : goal.loop-i-preserved
 loop-i-preserved c =

@@ -1,7 +1,7 @@
 use Rattle.std.proofs.Common.{◌≡◌, ◌+◌, ◌-◌}
 use Rattle.arm_core.specs.Footprints.{first_without, span}
 use Rattle.ds_map.specs.Builds.{byte_is_built}
-use Rattle.ds_machine.proofs.needs.byte_in.Given as goal
+use Rattle.ds_map.proofs.builds.byte_in.Given as goal
 
 -- what is left gives what all gives from the start
 abbrev pub invariant-loop-i : goal.invariant-loop-i

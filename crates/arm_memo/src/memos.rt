@@ -3,7 +3,7 @@
 ghost use Rattle.std.specs.Prelude.{◌≡◌, ◌<◌, IfSome};
 ghost use Rattle.std.specs.Coded.{Coded-set};
 ghost use Rattle.arm_memo.specs.Known.{arch_of, known};
-ghost use Rattle.arm_ops.specs.Operations.{ready_of, HasOp};
+ghost use Rattle.arm_ops.specs.Operations.{ready_of};
 ghost use Rattle.arm_words.specs.Fields.{HasFields};
 
 use arm_ops::{Ready, ready};
@@ -15,13 +15,11 @@ use std::marker::Model;
 /// How many numbers are kept.
 const PLACES: usize = 16_384;
 
-/// A number with its instruction, if it has one, and the instruction made ready.
+/// A number with its instruction, or none, made ready.
 #[derive(Clone, Copy)]
 struct Entry<const VERSION: u32, const BITS: u32> {
     number: u32,
-    instr: Option<Instr>,
     ready: Ready,
-    ghost right: { known VERSION BITS number ≡ instr } by { Coded-set instr-code (known VERSION BITS number) instr },
     ghost made: { ready_of (known VERSION BITS number) ≡ ready } by { Coded-set ready-code (ready_of (known VERSION BITS number)) ready },
 }
 
@@ -41,12 +39,12 @@ impl<const VERSION: u32, const BITS: u32> Model for Memo<VERSION, BITS> {
     ghost invariant = { λ m. length m.entries.items ≡ 16384 };
 }
 
-/// Where a number is kept.
+/// Where a number is kept that was found at a place of the code, counted in words or in halves: what lies side by side is kept side by side. (Our choice.)
 #[inline(always)]
-fn place(number: u32) -> usize
+fn place(at: u32) -> usize
     ensures { result < 16384 }
 {
-    (number.wrapping_mul(0x9E37_79B1) >> 18) as usize
+    (at % PLACES as u32) as usize
 }
 
 /// The architecture of a version.
@@ -75,13 +73,8 @@ fn decoded<const VERSION: u32, const BITS: u32>(number: u32) -> Option<Instr>
 fn made<const VERSION: u32, const BITS: u32>(number: u32) -> Entry<VERSION, BITS>
     ensures { result.number ≡ number }
 {
-    let instr = decoded::<VERSION, BITS>(number);
-    let ready = ready(instr);
-    Entry {
-        number,
-        instr,
-        ready,
-    }
+    let ready = ready(decoded::<VERSION, BITS>(number));
+    Entry { number, ready }
 }
 
 impl<const VERSION: u32, const BITS: u32> Entry<VERSION, BITS> {
@@ -104,21 +97,12 @@ impl<const VERSION: u32, const BITS: u32> Memo<VERSION, BITS> {
         })
     }
 
-    /// The instruction of a number, if it has one.
+    /// The instruction of a number that was found at a place of the code, or none, made ready.
     #[inline(always)]
-    pub fn instr(&mut self, number: u32) -> Option<Instr>
-        ensures { result ≡ known VERSION BITS number }
-    {
-        let entry = &mut self.entries[place(number)];
-        entry.learn(number);
-        entry.instr
-    }
-    /// The instruction of a number, or none, made ready.
-    #[inline(always)]
-    pub fn ready(&mut self, number: u32) -> &Ready
+    pub fn ready(&mut self, at: u32, number: u32) -> &Ready
         ensures { result.now ≡ ready_of (known VERSION BITS number) }
     {
-        let entry = &mut self.entries[place(number)];
+        let entry = &mut self.entries[place(at)];
         entry.learn(number);
         &entry.ready
     }

@@ -1,5 +1,4 @@
-use Rattle.std.proofs.Common.{ℕ, ◌≡◌, ◌<◌, ◌+◌, ◌*◌, ◌^◌, Bool, true, false, if◌then◌else◌, Option, Some, None, IfSome, arith}
-use Rattle.ds_base.specs.Bits.{flag}
+use Rattle.std.proofs.Common.{ℕ, refl, ◌<◌, Bool, true, false, if◌then◌else◌, Option, Some, None, IfSome, arith}
 use Rattle.arm_words.specs.Fields.{HasFields, HasOperand, HasThumbOperand}
 use Rattle.arm_words.specs.declared.instructions.Instr.{Instr}
 use Rattle.arm_words.specs.declared.instructions.Instr.TheVariants as instrs
@@ -17,12 +16,11 @@ use Rattle.arm_words.specs.declared.operations.ThumbTransferOp.TheVariants as tr
 use Rattle.arm_words.specs.declared.parts.Offset.TheVariants as offsets
 use Rattle.arm_words.specs.declared.parts.Operand.{Operand}
 use Rattle.arm_words.specs.declared.parts.Operand.TheVariants.{Immediate, Shifted, ShiftedByRegister}
-use Rattle.arm_words.specs.declared.parts.Shift.{Shift}
 use Rattle.arm_words.specs.declared.parts.ShortOffset.TheVariants.{ShortNumber, ShortRegister}
 use Rattle.arm_words.specs.declared.parts.ThumbOperand.{ThumbOperand}
 use Rattle.arm_words.specs.declared.parts.ThumbOperand.TheVariants.{LowRegister, Small}
 use Rattle.arm_core.specs.Thumb.{equivalent, high_instr, immediate_instr, low_operand, offset_instr, register_instr, transfer_equivalent}
-use Rattle.arm_ops.specs.Operations.{compare_op, data_op, is_plain, move_op, op_of, ready_of, HasOp}
+use Rattle.arm_ops.specs.Operations.{compare_op, data_op, is_plain, move_op, op_of, ready_of, HasOp, HasReady}
 use Rattle.arm_ops.specs.declared.operations.Op.{Op}
 
 -- What is made ready has its fields in their ranges, where the instruction has.
@@ -144,6 +142,6 @@ instr_fields (instrs.ThumbBkpt immed) h = tt
 instr_fields (instrs.ThumbSwi immed) h = tt
 instr_fields i h = op_fields i h
 
-pub ready_fields : (o : Option Instr) → IfSome o HasFields → HasOp (ready_of o).op
-ready_fields None h = tt
-ready_fields (Some i) h = instr_fields i h
+pub ready_fields : (o : Option Instr) → IfSome o HasFields → HasReady (ready_of o)
+ready_fields None h = (tt, λ other. refl)
+ready_fields (Some i) h = (instr_fields i h, λ other. rw other refl)

@@ -1,9 +1,16 @@
-use Rattle.std.proofs.Common.{ℕ, ◌≡◌, Bool, true, false, true≢false, if◌then◌else◌, Some, None, refl, sym, ap}
+use Rattle.std.proofs.Common.{ℕ, ◌≡◌, ◌∙◌, ◌<◌, ◌%◌, ◌==◌, subst, arith, length, List, [], ◌∷◌, Option, Bool, true, false, true≢false, if◌then◌else◌, Some, None, refl, sym, ap}
+use Rattle.std.proofs.lemmas.Option.{none-some}
+use Rattle.ds_base.specs.Accesses.{Access, Fetch, MemoryMachine, Performed, Read, Write, perform, refused_or}
+use Rattle.ds_base.specs.declared.left_out.Stop.{Stop}
+use Rattle.ds_base.specs.declared.memories.Width.TheVariants.{Byte, Half}
 use Rattle.ds_base.specs.declared.processors.Arch.{Arch}
+use Rattle.ds_base.specs.declared.processors.Arch.TheVariants.{V4, V5}
 use Rattle.arm_words.specs.declared.instructions.Instr.{Instr}
 use Rattle.arm_words.specs.declared.instructions.Instr.TheVariants as instrs
 use Rattle.arm_words.specs.declared.operations.CompareOp.{CompareOp}
 use Rattle.arm_words.specs.declared.operations.DataOp.{DataOp}
+use Rattle.arm_words.specs.declared.operations.HalfOp.{HalfOp}
+use Rattle.arm_words.specs.declared.operations.HalfOp.TheVariants.{Strh, Ldrh, Ldrsb, Ldrsh}
 use Rattle.arm_words.specs.declared.operations.MoveOp.{MoveOp}
 use Rattle.arm_words.specs.declared.parts.Condition.{Condition}
 use Rattle.arm_words.specs.declared.parts.Offset.TheVariants as offsets
@@ -14,12 +21,17 @@ use Rattle.arm_words.specs.declared.parts.Shift.TheVariants.{Lsl, Lsr, Asr, Ror}
 use Rattle.arm_words.specs.declared.parts.ShortOffset.TheVariants.{ShortNumber, ShortRegister}
 use Rattle.arm_core.specs.Conditions.{holds}
 use Rattle.arm_core.specs.DataProcessing.{compare_meaning, data_meaning, move_meaning}
-use Rattle.arm_core.specs.Effects.{Meaning}
+use Rattle.arm_core.specs.Effects.{Meaning, carried_out, concluded, cost_of}
 use Rattle.arm_core.specs.Meanings.{act, condition, meaning, skipped}
 use Rattle.arm_core.specs.Registers.{RegisterState}
 use Rattle.arm_core.specs.Steps.{swi_stop}
+use Rattle.arm_core.specs.Transfers.{half_or_signed_meaning, load_meaning, signed_byte, signed_half, word_or_byte_meaning}
+use Rattle.arm_core.specs.declared.addresses.Addressed.{Addressed}
+use Rattle.arm_core.specs.declared.outcomes.Stepped.{Stepped}
+use Rattle.arm_core.specs.declared.outcomes.Stepped.TheVariants.{Cost}
+use Rattle.arm_exec.proofs.Costs.{some_cost}
 use Rattle.arm_core.specs.Thumb.{equivalent}
-use Rattle.arm_ops.specs.Meanings.{compare_by, data_by, move_by, op_meaning, ready_meaning, register_operand, shifted_operand}
+use Rattle.arm_ops.specs.Meanings.{compare_by, data_by, is_near, move_by, op_meaning, ready_meaning, register_operand, shifted_operand, IsNear, IsPaid, RefusesNoneNear}
 use Rattle.arm_ops.specs.Operations.{compare_op, data_op, is_other, is_plain, move_op, op_of, ready_of}
 use Rattle.arm_ops.specs.declared.operations.Op.TheVariants.{CompareRegister, CompareShifted, DataRegister, DataShifted, MoveRegister, MoveShifted}
 
@@ -90,10 +102,67 @@ op_means arch base s _ h = absurd (true≢false h)
 pub ready_means : (arch : Arch) (base : ℕ) (s : RegisterState) (instr : Instr) → is_other (ready_of (Some instr)).op ≡ false
     → meaning arch base s instr ≡ ready_meaning arch base s (ready_of (Some instr))
 ready_means arch base s instr h =
-    ap (λ (m : Meaning). if holds (condition instr) s.cpsr then m else skipped s) (sym (op_means arch base s (equivalent instr) h))
+    rw h (ap (λ (m : Meaning). if holds (condition instr) s.cpsr then m else skipped s) (sym (op_means arch base s (equivalent instr) h)))
 
 -- and it needs no stop before its accesses: SWI isn't made ready
 pub ready_needs_none : (instr : Instr) → is_other (ready_of (Some instr)).op ≡ false → swi_stop instr ≡ None
 ready_needs_none (instrs.Swi cond immed) h = absurd (true≢false h)
 ready_needs_none (instrs.ThumbSwi immed) h = absurd (true≢false h)
 ready_needs_none _ h = refl
+
+-- ---- what is carried out
+
+-- what makes no access leaves the memory machine as it was
+after_none : {S : Type 0} (memory : MemoryMachine S) (arch : Arch) (s : RegisterState) (state : S) (m : Meaning) (accesses : List Access) → accesses ≡ []
+    → (let done = perform memory state accesses in concluded arch s m done done.stop) ≡ record { registers = m.after []; state = state; stepped = Cost (cost_of arch m) }
+after_none memory arch s state m [] h = refl
+after_none memory arch s state m (access ∷ rest) h = absurd (let k = ap (λ (xs : List Access). length xs) h in omega (arith, k))
+
+pub computed : {S : Type 0} (memory : MemoryMachine S) (arch : Arch) (s : RegisterState) (state : S) (m : Meaning) → m.accesses ≡ []
+    → carried_out memory arch s state m ≡ record { registers = m.after []; state = state; stepped = Cost (cost_of arch m) }
+computed memory arch s state m h = after_none memory arch s state m m.accesses h
+
+-- a memory machine that refuses no write of the near memories stops none of them
+unstopped : {S : Type 0} (memory : MemoryMachine S) (state : S) (accesses : List Access) → RefusesNoneNear memory → IsNear accesses → (perform memory state accesses).stop ≡ None
+unstopped memory state [] never near = refl
+unstopped memory state (Fetch at width ∷ []) never near = refl
+unstopped memory state (Read at width ∷ []) never near = refl
+unstopped {S} memory state (Write at width value ∷ []) never near = written (memory.refusal state at width value) (never state at width value near) where
+  written : (stop : Option Stop) → stop ≡ None → (refused_or stop (memory.write_next state at width value) (perform memory (memory.write_next state at width value) [])).stop ≡ None
+  written None h = refl
+  written (Some stop) h = h
+unstopped memory state (access ∷ other ∷ rest) never near = absurd near
+
+costs_then : {S : Type 0} (arch : Arch) (s : RegisterState) (m : Meaning) (done : Performed S) (stop : Option Stop) → stop ≡ None → (concluded arch s m done stop).stepped ≡ Cost (cost_of arch m)
+costs_then arch s m done None h = refl
+costs_then arch s m done (Some stop) h = absurd (none-some stop (sym h))
+
+pub near_paid : {S : Type 0} (memory : MemoryMachine S) (arch : Arch) (s : RegisterState) (state : S) (m : Meaning) (stepped : Stepped) → RefusesNoneNear memory → IsNear m.accesses
+    → stepped ≡ (carried_out memory arch s state m).stepped → IsPaid stepped
+near_paid memory arch s state m stepped never near h =
+    let done = perform memory state m.accesses in
+    subst IsPaid (sym (h ∙ costs_then arch s m done done.stop (unstopped memory state m.accesses never near))) (some_cost arch m)
+
+-- an access at a near address is near
+pub word_near : (arch : Arch) (s : RegisterState) (load byte : Bool) (rn rd : ℕ) (to : Addressed) → is_near to.address ≡ true → IsNear (word_or_byte_meaning arch s load byte rn rd to).accesses
+word_near arch s true true rn rd to h = h
+word_near arch s true false rn rd to h = h
+word_near arch s false true rn rd to h = h
+word_near arch s false false rn rd to h = h
+
+pub half_near : (arch : Arch) (s : RegisterState) (op : HalfOp) (rn rd : ℕ) (to : Addressed) → is_near to.address ≡ true → IsNear (half_or_signed_meaning arch s op rn rd to).accesses
+half_near arch s Strh rn rd to h = h
+half_near arch s Ldrh rn rd to h = h
+half_near arch s Ldrsb rn rd to h = h
+half_near V5 s Ldrsh rn rd to h = h
+half_near V4 s Ldrsh rn rd to h = by_half (to.address % 2 == 0) where
+  by_half : (b : Bool) → IsNear (if b then load_meaning s rn rd to Half signed_half else load_meaning s rn rd to Byte signed_byte).accesses
+  by_half true = h
+  by_half false = h
+
+-- what is run costs a clock at least
+pub costs : (arch : Arch) (m : Meaning) (n : ℕ) → n ≡ cost_of arch m → 0 < n
+costs arch m n h = let k = some_cost arch m in omega (arith, k, h)
+
+pub not_none : {A : Type 0} (n : ℕ) (arch : Arch) (m : Meaning) → n ≡ cost_of arch m → n ≡ 0 → A
+not_none n arch m h e = let k = some_cost arch m in absurd (omega (arith, k, h, e))

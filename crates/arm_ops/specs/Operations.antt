@@ -1,19 +1,16 @@
-use Rattle.std.specs.Prelude.{ℕ, ◌<◌, ◌==◌, Bool, true, false, if◌then◌else◌, Option, Some, None}
+use Rattle.std.specs.Prelude.{ℕ, ◌≡◌, ◌<◌, ◌==◌, Bool, true, false, if◌then◌else◌, Option, Some, None}
 use Rattle.arm_words.specs.Fields.{HasFields}
 use Rattle.arm_words.specs.declared.instructions.Instr.{Instr}
 use Rattle.arm_words.specs.declared.instructions.Instr.TheVariants as instrs
 use Rattle.arm_words.specs.declared.operations.CompareOp.{CompareOp}
 use Rattle.arm_words.specs.declared.operations.DataOp.{DataOp}
 use Rattle.arm_words.specs.declared.operations.MoveOp.{MoveOp}
-use Rattle.arm_words.specs.declared.parts.Condition.{Condition}
 use Rattle.arm_words.specs.declared.parts.Condition.TheVariants.{Al}
-use Rattle.arm_words.specs.declared.parts.Offset.{Offset}
 use Rattle.arm_words.specs.declared.parts.Offset.TheVariants as offsets
 use Rattle.arm_words.specs.declared.parts.Operand.{Operand}
 use Rattle.arm_words.specs.declared.parts.Operand.TheVariants.{Immediate, Shifted, ShiftedByRegister}
 use Rattle.arm_words.specs.declared.parts.Shift.{Shift}
 use Rattle.arm_words.specs.declared.parts.Shift.TheVariants.{Lsl, Lsr, Asr, Ror}
-use Rattle.arm_words.specs.declared.parts.ShortOffset.{ShortOffset}
 use Rattle.arm_words.specs.declared.parts.ShortOffset.TheVariants.{ShortNumber, ShortRegister}
 use Rattle.arm_core.specs.Branches.{distance}
 use Rattle.arm_core.specs.Meanings.{condition}
@@ -74,15 +71,15 @@ op_of (instrs.ThumbBlPrefix offset) = Plain (instrs.ThumbBlPrefix offset)
 op_of (instrs.ThumbBlSuffix offset) = Plain (instrs.ThumbBlSuffix offset)
 op_of _ = Other
 
--- an instruction, or none, made ready
-abbrev pub ready_of : Option Instr → Ready
-ready_of None = record { cond = Al; op = Other }
-ready_of (Some instr) = record { cond = condition instr; op = op_of (equivalent instr) }
-
 -- it isn't run here
 abbrev pub is_other : Op → Bool
 is_other Other = true
 is_other _ = false
+
+-- an instruction, or none, made ready; what isn't run here has the condition that always holds, so that its own needn't be asked for
+abbrev pub ready_of : Option Instr → Ready
+ready_of None = record { cond = Al; op = Other }
+ready_of (Some instr) = let op = op_of (equivalent instr) in record { cond = if is_other op then Al else condition instr; op = op }
 
 -- an operation's fields are in their ranges
 abbrev pub HasOp : Op → Type 0
@@ -103,3 +100,17 @@ HasOp (HalfTransfer op pre up write_back rn rd offset) = (rn < 16) × (rd < 16)
 HasOp (HalfTransferBy op pre up write_back rn rd rm) = (rn < 16) × (rd < 16) × (rm < 16)
 HasOp (Literal rd immed) = rd < 16
 HasOp (Plain instr) = HasFields instr
+
+-- and what is made ready keeps to them
+abbrev pub HasReady : Ready → Type 0
+HasReady ready = HasOp ready.op × (is_other ready.op ≡ true → ready.cond ≡ Al)
+
+-- it makes no access, and is run here
+abbrev pub Computes : Op → Type 0
+Computes Other = ⊥
+Computes (Transfer pre up byte write_back load rn rd offset) = ⊥
+Computes (TransferBy pre up byte write_back load rn rd rm shift amount) = ⊥
+Computes (HalfTransfer op pre up write_back rn rd offset) = ⊥
+Computes (HalfTransferBy op pre up write_back rn rd rm) = ⊥
+Computes (Literal rd immed) = ⊥
+Computes _ = Unit {0}

@@ -6,10 +6,12 @@
 
 mod making;
 mod operations;
+mod reaching;
 mod running;
 #[cfg(test)]
 mod tests;
 
 pub use making::ready;
 pub use operations::{Op, Ready};
+pub use reaching::{is_other, run_anywhere, touched};
 pub use running::run;

@@ -1,9 +1,14 @@
 //! Instructions made ready.
 
-ghost use Rattle.std.specs.Prelude.{◌≡◌, ◌<◌, IfSome};
+ghost use Rattle.std.specs.Prelude.{◌≡◌, ◌<◌, ℕ, IfSome, false, if◌then◌else◌};
 ghost use Rattle.arm_words.specs.Fields.{HasFields, HasOperand};
+ghost use Rattle.arm_words.specs.declared.parts.Condition.TheVariants.{Al};
+ghost use Rattle.arm_core.specs.Meanings.{meaning};
+ghost use Rattle.ds_base.specs.declared.processors.Arch.{Arch};
+ghost use Rattle.arm_core.specs.Registers.{RegisterState};
+ghost use Rattle.arm_ops.specs.Meanings.{ready_meaning};
 ghost use Rattle.arm_ops.specs.Operations as ops;
-ghost use Rattle.arm_ops.specs.Operations.{ready_of, HasOp};
+ghost use Rattle.arm_ops.specs.Operations.{is_other, ready_of, HasOp, HasReady};
 
 use crate::operations::{Op, Ready};
 use arm_core::{condition, equivalent, rotated_immediate};
@@ -252,20 +257,34 @@ fn op_of(instr: &Instr) -> Op
     }
 }
 
-/// An instruction, or none, made ready to be run.
+/// An operation with its condition, which for one that isn't run here always holds.
+fn ready_by(cond: Condition, op: Op) -> Ready
+    ensures cond { result.cond ≡ (if is_other op then Al else cond) }
+    ensures op { result.op ≡ op }
+{
+    match op {
+        Op::Other => Ready {
+            cond: Condition::Al,
+            op,
+        },
+        _ => Ready { cond, op },
+    }
+}
+
+/// An instruction, or none, made ready to be run (our choice of forms). What is run of it means what the instruction means, on every architecture, with every base of the vectors and in
+/// every state of the registers.
+#[tactic(auto, using(crate::proofs::Fields::ready_fields, crate::proofs::Laws::ready_means))]
 pub fn ready(instr: Option<Instr>) -> Ready
     requires { IfSome instr HasFields }
     ensures ready { result ≡ ready_of instr }
-    ensures fields { HasOp result.op }
+    ensures fields { HasReady result }
+    ensures means { IfSome instr (λ i. (arch : Arch) → (base : ℕ) → (s : RegisterState) → is_other result.op ≡ false → meaning arch base s i ≡ ready_meaning arch base s result) }
 {
     match instr {
         None => Ready {
             cond: Condition::Al,
             op: Op::Other,
         },
-        Some(instr) => Ready {
-            cond: condition(&instr),
-            op: op_of(&equivalent(&instr)),
-        },
+        Some(instr) => ready_by(condition(&instr), op_of(&equivalent(&instr))),
     }
 }

@@ -1,15 +1,16 @@
 //! Operations that are run.
 
-ghost use Rattle.std.specs.Prelude.{◌≡◌, ◌<◌, [], None, IfSome, false};
+ghost use Rattle.std.specs.Prelude.{◌≡◌, ◌<◌, [], false};
 ghost use Rattle.arm_words.specs.Fields.{HasFields};
 ghost use Rattle.arm_core.specs.Conditions as conditions;
 ghost use Rattle.arm_core.specs.Conditions.{c_flag};
 ghost use Rattle.arm_core.specs.Effects.{carried_out, cost_of};
 ghost use Rattle.arm_core.specs.Meanings as meanings;
+ghost use Rattle.arm_core.specs.declared.outcomes.Stepped.TheVariants.{Cost};
 ghost use Rattle.arm_core.specs.Transfers.{half_or_signed_meaning, literal_meaning, word_or_byte_meaning};
 ghost use Rattle.arm_ops.specs.Meanings as ops;
-ghost use Rattle.arm_ops.specs.Meanings.{is_near, op_meaning, ready_meaning, IsNear};
-ghost use Rattle.arm_ops.specs.Operations.{is_other, HasOp};
+ghost use Rattle.arm_ops.specs.Meanings.{is_near, op_meaning, ready_meaning, IsNear, IsPaid, RefusesNoneNear};
+ghost use Rattle.arm_ops.specs.Operations.{is_other, Computes, HasOp, HasReady};
 
 use crate::operations::{Op, Ready};
 use arm_core::{
@@ -31,17 +32,9 @@ fn is_near(at: u32) -> bool
     at >> 25 == 1
 }
 
-/// Whether it is an operation that isn't run here.
-#[inline(always)]
-fn is_other(op: &Op) -> bool
-    ensures { result ≡ is_other op.now }
-{
-    matches!(*op, Op::Other)
-}
-
 /// Whether a condition holds; what always holds asks for no flags (ARM manual, A3.2 "The condition field").
 #[inline(always)]
-fn takes_effect(cond: Condition, s: &Registers) -> bool
+pub(crate) fn takes_effect(cond: Condition, s: &Registers) -> bool
     ensures { result ≡ conditions.holds cond s.now.cpsr }
 {
     match cond {
@@ -85,7 +78,7 @@ fn register_operand(s: &Registers, rm: u8) -> Shifted32
 
 /// A register that an amount shifts as the second operand (ARM manual, A5.1.5, A5.1.7, A5.1.9, A5.1.11, A5.1.13).
 #[inline(always)]
-fn shifted_operand(s: &Registers, rm: u8, shift: Shift, amount: u8) -> Shifted32
+pub(crate) fn shifted_operand(s: &Registers, rm: u8, shift: Shift, amount: u8) -> Shifted32
     requires rm { rm < 16 }
     requires amount { amount < 32 }
     ensures { result ≡ ops.shifted_operand s.now rm shift amount }
@@ -146,16 +139,31 @@ fn move_by(
 
 /// An instruction as it is; the result is its cost.
 #[inline(never)]
+#[tactic(auto, using(crate::proofs::Laws::costs))]
 fn plain(arch: Arch, base: u32, s: &mut Registers, instr: &Instr) -> u32
     requires { HasFields instr.now }
     ensures registers { s.new ≡ (meanings.act_processing arch base s.old instr.now).after [] }
     ensures cost { result ≡ cost_of arch (meanings.act_processing arch base s.old instr.now) }
     ensures plain { (meanings.act_processing arch base s.old instr.now).accesses ≡ [] }
+    ensures some { 0 < result }
 {
     act_processing(arch, base, s, instr)
 }
 
-/// A load or store of a word or byte, where it is of the near memories.
+/// The cost of a step that was taken.
+#[inline(always)]
+fn paid(stepped: Stepped) -> u32
+    requires { IsPaid stepped }
+    ensures cost { stepped ≡ Cost result }
+    ensures some { 0 < result }
+{
+    match stepped {
+        Stepped::Cost(clocks) => clocks,
+        _ => 0,
+    }
+}
+
+/// A load or store of a word or byte, where it is of the near memories; the result is its cost, and 0 where it isn't.
 #[inline(always)]
 fn near_transfer<B: Bus>(
     arch: Arch,
@@ -166,23 +174,24 @@ fn near_transfer<B: Bus>(
     rn: u8,
     rd: u8,
     to: Addressed,
-) -> Option<Stepped>
+) -> u32
     requires rn { rn < 16 }
     requires rd { rd < 16 }
-    ensures none { result ≡ None → (s.new ≡ s.old) × (B.state bus.new ≡ B.state bus.old) }
-    ensures registers { IfSome result (λ _. s.new ≡ (carried_out B.memory arch s.old (B.state bus.old) (word_or_byte_meaning arch s.old load byte rn rd to)).registers) }
-    ensures state { IfSome result (λ _. B.state bus.new ≡ (carried_out B.memory arch s.old (B.state bus.old) (word_or_byte_meaning arch s.old load byte rn rd to)).state) }
-    ensures stepped { IfSome result (λ stepped. stepped ≡ (carried_out B.memory arch s.old (B.state bus.old) (word_or_byte_meaning arch s.old load byte rn rd to)).stepped) }
-    ensures near { IfSome result (λ _. IsNear (word_or_byte_meaning arch s.old load byte rn rd to).accesses) }
+    requires near { RefusesNoneNear B.memory }
+    ensures none { result ≡ 0 → (s.new ≡ s.old) × (B.state bus.new ≡ B.state bus.old) }
+    ensures registers { 0 < result → s.new ≡ (carried_out B.memory arch s.old (B.state bus.old) (word_or_byte_meaning arch s.old load byte rn rd to)).registers }
+    ensures state { 0 < result → B.state bus.new ≡ (carried_out B.memory arch s.old (B.state bus.old) (word_or_byte_meaning arch s.old load byte rn rd to)).state }
+    ensures stepped { 0 < result → (carried_out B.memory arch s.old (B.state bus.old) (word_or_byte_meaning arch s.old load byte rn rd to)).stepped ≡ Cost result }
+    ensures near { 0 < result → IsNear (word_or_byte_meaning arch s.old load byte rn rd to).accesses }
     ensures same { B.identity bus.new ≡ B.identity bus.old }
 {
     if !is_near(to.address) {
-        return None;
+        return 0;
     }
-    Some(transfer_at(arch, s, bus, load, byte, rn, rd, to))
+    paid(transfer_at(arch, s, bus, load, byte, rn, rd, to))
 }
 
-/// A load or store of a half, or a load of a signed byte or half, where it is of the near memories.
+/// A load or store of a half, or a load of a signed byte or half, where it is of the near memories; the result is its cost, and 0 where it isn't.
 #[inline(always)]
 fn near_half_transfer<B: Bus>(
     arch: Arch,
@@ -192,59 +201,55 @@ fn near_half_transfer<B: Bus>(
     rn: u8,
     rd: u8,
     to: Addressed,
-) -> Option<Stepped>
+) -> u32
     requires rn { rn < 16 }
     requires rd { rd < 16 }
-    ensures none { result ≡ None → (s.new ≡ s.old) × (B.state bus.new ≡ B.state bus.old) }
-    ensures registers { IfSome result (λ _. s.new ≡ (carried_out B.memory arch s.old (B.state bus.old) (half_or_signed_meaning arch s.old op rn rd to)).registers) }
-    ensures state { IfSome result (λ _. B.state bus.new ≡ (carried_out B.memory arch s.old (B.state bus.old) (half_or_signed_meaning arch s.old op rn rd to)).state) }
-    ensures stepped { IfSome result (λ stepped. stepped ≡ (carried_out B.memory arch s.old (B.state bus.old) (half_or_signed_meaning arch s.old op rn rd to)).stepped) }
-    ensures near { IfSome result (λ _. IsNear (half_or_signed_meaning arch s.old op rn rd to).accesses) }
+    requires near { RefusesNoneNear B.memory }
+    ensures none { result ≡ 0 → (s.new ≡ s.old) × (B.state bus.new ≡ B.state bus.old) }
+    ensures registers { 0 < result → s.new ≡ (carried_out B.memory arch s.old (B.state bus.old) (half_or_signed_meaning arch s.old op rn rd to)).registers }
+    ensures state { 0 < result → B.state bus.new ≡ (carried_out B.memory arch s.old (B.state bus.old) (half_or_signed_meaning arch s.old op rn rd to)).state }
+    ensures stepped { 0 < result → (carried_out B.memory arch s.old (B.state bus.old) (half_or_signed_meaning arch s.old op rn rd to)).stepped ≡ Cost result }
+    ensures near { 0 < result → IsNear (half_or_signed_meaning arch s.old op rn rd to).accesses }
     ensures same { B.identity bus.new ≡ B.identity bus.old }
 {
     if !is_near(to.address) {
-        return None;
+        return 0;
     }
-    Some(half_transfer_at(arch, s, bus, op, rn, rd, to))
+    paid(half_transfer_at(arch, s, bus, op, rn, rd, to))
 }
 
-/// Thumb's load of a word behind r15, where it is of the near memories.
+/// Thumb's load of a word behind r15, where it is of the near memories; the result is its cost, and 0 where it isn't.
 #[inline(always)]
-fn near_literal<B: Bus>(
-    arch: Arch,
-    s: &mut Registers,
-    bus: &mut B,
-    rd: u8,
-    immed: u8,
-) -> Option<Stepped>
-    requires { rd < 16 }
-    ensures none { result ≡ None → (s.new ≡ s.old) × (B.state bus.new ≡ B.state bus.old) }
-    ensures registers { IfSome result (λ _. s.new ≡ (carried_out B.memory arch s.old (B.state bus.old) (literal_meaning arch s.old rd immed)).registers) }
-    ensures state { IfSome result (λ _. B.state bus.new ≡ (carried_out B.memory arch s.old (B.state bus.old) (literal_meaning arch s.old rd immed)).state) }
-    ensures stepped { IfSome result (λ stepped. stepped ≡ (carried_out B.memory arch s.old (B.state bus.old) (literal_meaning arch s.old rd immed)).stepped) }
-    ensures near { IfSome result (λ _. IsNear (literal_meaning arch s.old rd immed).accesses) }
+fn near_literal<B: Bus>(arch: Arch, s: &mut Registers, bus: &mut B, rd: u8, immed: u8) -> u32
+    requires rd { rd < 16 }
+    requires near { RefusesNoneNear B.memory }
+    ensures none { result ≡ 0 → (s.new ≡ s.old) × (B.state bus.new ≡ B.state bus.old) }
+    ensures registers { 0 < result → s.new ≡ (carried_out B.memory arch s.old (B.state bus.old) (literal_meaning arch s.old rd immed)).registers }
+    ensures state { 0 < result → B.state bus.new ≡ (carried_out B.memory arch s.old (B.state bus.old) (literal_meaning arch s.old rd immed)).state }
+    ensures stepped { 0 < result → (carried_out B.memory arch s.old (B.state bus.old) (literal_meaning arch s.old rd immed)).stepped ≡ Cost result }
+    ensures near { 0 < result → IsNear (literal_meaning arch s.old rd immed).accesses }
     ensures same { B.identity bus.new ≡ B.identity bus.old }
 {
     if !is_near(literal_address(s, immed)) {
-        return None;
+        return 0;
     }
-    Some(literal(arch, s, bus, rd, immed))
+    paid(literal(arch, s, bus, rd, immed))
 }
 
-/// An operation that takes effect. One match has each kind, so that it is asked for once.
+/// An operation that makes no access; the result is its cost, and 0 where it makes one or isn't run here. The bus and FAR say who calls: each caller has a copy of its own, which stands in
+/// line in the loop over steps.
 #[inline(always)]
-fn run_op<B: Bus>(arch: Arch, base: u32, s: &mut Registers, bus: &mut B, op: &Op) -> Option<Stepped>
+#[tactic(auto, using(crate::proofs::Laws::costs, crate::proofs::Laws::not_none))]
+fn compute<B: Bus, const FAR: u32>(arch: Arch, base: u32, s: &mut Registers, op: &Op) -> u32
     requires { HasOp op.now }
-    ensures none { result ≡ None → (s.new ≡ s.old) × (B.state bus.new ≡ B.state bus.old) }
-    ensures registers { IfSome result (λ _. s.new ≡ (carried_out B.memory arch s.old (B.state bus.old) (op_meaning arch base s.old op.now)).registers) }
-    ensures state { IfSome result (λ _. B.state bus.new ≡ (carried_out B.memory arch s.old (B.state bus.old) (op_meaning arch base s.old op.now)).state) }
-    ensures stepped { IfSome result (λ stepped. stepped ≡ (carried_out B.memory arch s.old (B.state bus.old) (op_meaning arch base s.old op.now)).stepped) }
-    ensures near { IfSome result (λ _. IsNear (op_meaning arch base s.old op.now).accesses) }
-    ensures same { B.identity bus.new ≡ B.identity bus.old }
-    ensures known { IfSome result (λ _. is_other op.now ≡ false) }
+    ensures none { result ≡ 0 → s.new ≡ s.old }
+    ensures all { Computes op.now → 0 < result }
+    ensures computes { 0 < result → Computes op.now }
+    ensures registers { 0 < result → s.new ≡ (op_meaning arch base s.old op.now).after [] }
+    ensures cost { 0 < result → result ≡ cost_of arch (op_meaning arch base s.old op.now) }
+    ensures accesses { 0 < result → (op_meaning arch base s.old op.now).accesses ≡ [] }
 {
     match *op {
-        Op::Other => None,
         Op::DataNumber {
             op,
             set_flags,
@@ -254,7 +259,7 @@ fn run_op<B: Bus>(arch: Arch, base: u32, s: &mut Registers, bus: &mut B, op: &Op
             value,
         } => {
             let operand = number_operand(s, keeps_carry, value);
-            Some(Stepped::Cost(data_by(arch, s, op, set_flags, rn, rd, operand)))
+            data_by(arch, s, op, set_flags, rn, rd, operand)
         }
         Op::DataRegister {
             op,
@@ -264,7 +269,7 @@ fn run_op<B: Bus>(arch: Arch, base: u32, s: &mut Registers, bus: &mut B, op: &Op
             rm,
         } => {
             let operand = register_operand(s, rm);
-            Some(Stepped::Cost(data_by(arch, s, op, set_flags, rn, rd, operand)))
+            data_by(arch, s, op, set_flags, rn, rd, operand)
         }
         Op::DataShifted {
             op,
@@ -276,7 +281,7 @@ fn run_op<B: Bus>(arch: Arch, base: u32, s: &mut Registers, bus: &mut B, op: &Op
             amount,
         } => {
             let operand = shifted_operand(s, rm, shift, amount);
-            Some(Stepped::Cost(data_by(arch, s, op, set_flags, rn, rd, operand)))
+            data_by(arch, s, op, set_flags, rn, rd, operand)
         }
         Op::CompareNumber {
             op,
@@ -285,11 +290,11 @@ fn run_op<B: Bus>(arch: Arch, base: u32, s: &mut Registers, bus: &mut B, op: &Op
             value,
         } => {
             let operand = number_operand(s, keeps_carry, value);
-            Some(Stepped::Cost(compare_by(arch, s, op, rn, operand)))
+            compare_by(arch, s, op, rn, operand)
         }
         Op::CompareRegister { op, rn, rm } => {
             let operand = register_operand(s, rm);
-            Some(Stepped::Cost(compare_by(arch, s, op, rn, operand)))
+            compare_by(arch, s, op, rn, operand)
         }
         Op::CompareShifted {
             op,
@@ -299,7 +304,7 @@ fn run_op<B: Bus>(arch: Arch, base: u32, s: &mut Registers, bus: &mut B, op: &Op
             amount,
         } => {
             let operand = shifted_operand(s, rm, shift, amount);
-            Some(Stepped::Cost(compare_by(arch, s, op, rn, operand)))
+            compare_by(arch, s, op, rn, operand)
         }
         Op::MoveNumber {
             op,
@@ -309,7 +314,7 @@ fn run_op<B: Bus>(arch: Arch, base: u32, s: &mut Registers, bus: &mut B, op: &Op
             value,
         } => {
             let operand = number_operand(s, keeps_carry, value);
-            Some(Stepped::Cost(move_by(arch, s, op, set_flags, rd, operand)))
+            move_by(arch, s, op, set_flags, rd, operand)
         }
         Op::MoveRegister {
             op,
@@ -318,7 +323,7 @@ fn run_op<B: Bus>(arch: Arch, base: u32, s: &mut Registers, bus: &mut B, op: &Op
             rm,
         } => {
             let operand = register_operand(s, rm);
-            Some(Stepped::Cost(move_by(arch, s, op, set_flags, rd, operand)))
+            move_by(arch, s, op, set_flags, rd, operand)
         }
         Op::MoveShifted {
             op,
@@ -329,9 +334,57 @@ fn run_op<B: Bus>(arch: Arch, base: u32, s: &mut Registers, bus: &mut B, op: &Op
             amount,
         } => {
             let operand = shifted_operand(s, rm, shift, amount);
-            Some(Stepped::Cost(move_by(arch, s, op, set_flags, rd, operand)))
+            move_by(arch, s, op, set_flags, rd, operand)
         }
-        Op::Branch { link, far } => Some(Stepped::Cost(branch(arch, s, link, far))),
+        Op::Branch { link, far } => branch(arch, s, link, far),
+        Op::Plain { ref instr } => plain(arch, base, s, instr),
+        Op::Other
+        | Op::Transfer { .. }
+        | Op::TransferBy { .. }
+        | Op::HalfTransfer { .. }
+        | Op::HalfTransferBy { .. }
+        | Op::Literal { .. } => 0,
+    }
+}
+
+/// An operation that makes no access, over a bus; the result is its cost, and 0 where it makes one or isn't run here.
+#[inline(always)]
+pub(crate) fn compute_on<B: Bus, const FAR: u32>(
+    arch: Arch,
+    base: u32,
+    s: &mut Registers,
+    bus: &mut B,
+    op: &Op,
+) -> u32
+    requires { HasOp op.now }
+    ensures all { Computes op.now → 0 < result }
+    ensures none { result ≡ 0 → (s.new ≡ s.old) × (B.state bus.new ≡ B.state bus.old) }
+    ensures known { 0 < result → is_other op.now ≡ false }
+    ensures registers { 0 < result → s.new ≡ (carried_out B.memory arch s.old (B.state bus.old) (op_meaning arch base s.old op.now)).registers }
+    ensures state { 0 < result → B.state bus.new ≡ (carried_out B.memory arch s.old (B.state bus.old) (op_meaning arch base s.old op.now)).state }
+    ensures stepped { 0 < result → (carried_out B.memory arch s.old (B.state bus.old) (op_meaning arch base s.old op.now)).stepped ≡ Cost result }
+    ensures near { 0 < result → IsNear (op_meaning arch base s.old op.now).accesses }
+    ensures same { B.identity bus.new ≡ B.identity bus.old }
+{
+    let _ = bus;
+    compute::<B, FAR>(arch, base, s, op)
+}
+
+/// An operation that makes an access, where that is near; the result is its cost, and 0 where it isn't or none is made.
+#[inline(always)]
+fn access<B: Bus>(arch: Arch, base: u32, s: &mut Registers, bus: &mut B, op: &Op) -> u32
+    requires fields { HasOp op.now }
+    requires near { RefusesNoneNear B.memory }
+    ensures none { result ≡ 0 → (s.new ≡ s.old) × (B.state bus.new ≡ B.state bus.old) }
+    ensures known { 0 < result → is_other op.now ≡ false }
+    ensures registers { 0 < result → s.new ≡ (carried_out B.memory arch s.old (B.state bus.old) (op_meaning arch base s.old op.now)).registers }
+    ensures state { 0 < result → B.state bus.new ≡ (carried_out B.memory arch s.old (B.state bus.old) (op_meaning arch base s.old op.now)).state }
+    ensures stepped { 0 < result → (carried_out B.memory arch s.old (B.state bus.old) (op_meaning arch base s.old op.now)).stepped ≡ Cost result }
+    ensures near { 0 < result → IsNear (op_meaning arch base s.old op.now).accesses }
+    ensures same { B.identity bus.new ≡ B.identity bus.old }
+{
+    let _ = base;
+    match *op {
         Op::Transfer {
             pre,
             up,
@@ -386,34 +439,57 @@ fn run_op<B: Bus>(arch: Arch, base: u32, s: &mut Registers, bus: &mut B, op: &Op
             near_half_transfer(arch, s, bus, op, rn, rd, to)
         }
         Op::Literal { rd, immed } => near_literal(arch, s, bus, rd, immed),
-        Op::Plain { ref instr } => Some(Stepped::Cost(plain(arch, base, s, instr))),
+        Op::Other
+        | Op::DataNumber { .. }
+        | Op::DataRegister { .. }
+        | Op::DataShifted { .. }
+        | Op::CompareNumber { .. }
+        | Op::CompareRegister { .. }
+        | Op::CompareShifted { .. }
+        | Op::MoveNumber { .. }
+        | Op::MoveRegister { .. }
+        | Op::MoveShifted { .. }
+        | Op::Branch { .. }
+        | Op::Plain { .. } => 0,
     }
 }
 
-/// Runs an operation over a bus, with the base of the vectors, where it is one that is run here: another instruction isn't, nor an access that isn't of the near memories. None
-/// where it isn't, and then nothing is changed. The result is the cost, or the stop of a write that the bus refused.
+/// An operation that takes effect, where it is run here; the result is its cost, and 0 where it isn't. What makes no access, which is most, is looked for first, so that one jump finds it.
 #[inline(always)]
-pub fn run<B: Bus>(
-    arch: Arch,
-    base: u32,
-    s: &mut Registers,
-    bus: &mut B,
-    ready: &Ready,
-) -> Option<Stepped>
-    requires { HasOp ready.now.op }
-    ensures none { result ≡ None → (s.new ≡ s.old) × (B.state bus.new ≡ B.state bus.old) }
-    ensures known { IfSome result (λ _. is_other ready.now.op ≡ false) }
-    ensures registers { IfSome result (λ _. s.new ≡ (carried_out B.memory arch s.old (B.state bus.old) (ready_meaning arch base s.old ready.now)).registers) }
-    ensures state { IfSome result (λ _. B.state bus.new ≡ (carried_out B.memory arch s.old (B.state bus.old) (ready_meaning arch base s.old ready.now)).state) }
-    ensures stepped { IfSome result (λ stepped. stepped ≡ (carried_out B.memory arch s.old (B.state bus.old) (ready_meaning arch base s.old ready.now)).stepped) }
-    ensures near { IfSome result (λ _. IsNear (ready_meaning arch base s.old ready.now).accesses) }
+fn run_op<B: Bus>(arch: Arch, base: u32, s: &mut Registers, bus: &mut B, op: &Op) -> u32
+    requires fields { HasOp op.now }
+    requires near { RefusesNoneNear B.memory }
+    ensures none { result ≡ 0 → (s.new ≡ s.old) × (B.state bus.new ≡ B.state bus.old) }
+    ensures known { 0 < result → is_other op.now ≡ false }
+    ensures registers { 0 < result → s.new ≡ (carried_out B.memory arch s.old (B.state bus.old) (op_meaning arch base s.old op.now)).registers }
+    ensures state { 0 < result → B.state bus.new ≡ (carried_out B.memory arch s.old (B.state bus.old) (op_meaning arch base s.old op.now)).state }
+    ensures stepped { 0 < result → (carried_out B.memory arch s.old (B.state bus.old) (op_meaning arch base s.old op.now)).stepped ≡ Cost result }
+    ensures near { 0 < result → IsNear (op_meaning arch base s.old op.now).accesses }
     ensures same { B.identity bus.new ≡ B.identity bus.old }
 {
-    if is_other(&ready.op) {
-        return None;
+    let clocks = compute_on::<B, 0>(arch, base, s, bus, op);
+    if clocks != 0 {
+        return clocks;
     }
+    access(arch, base, s, bus, op)
+}
+
+/// Runs an operation over a bus that refuses no write of the near memories, with the base of the vectors, where it is one that is run here: another instruction isn't, nor an
+/// access that isn't of the near memories. The result is its cost in the processor's own clocks; 0 where it isn't run, and then nothing is changed.
+#[inline(always)]
+pub fn run<B: Bus>(arch: Arch, base: u32, s: &mut Registers, bus: &mut B, ready: &Ready) -> u32
+    requires ready { HasReady ready.now }
+    requires near { RefusesNoneNear B.memory }
+    ensures none { result ≡ 0 → (s.new ≡ s.old) × (B.state bus.new ≡ B.state bus.old) }
+    ensures known { 0 < result → is_other ready.now.op ≡ false }
+    ensures registers { 0 < result → s.new ≡ (carried_out B.memory arch s.old (B.state bus.old) (ready_meaning arch base s.old ready.now)).registers }
+    ensures state { 0 < result → B.state bus.new ≡ (carried_out B.memory arch s.old (B.state bus.old) (ready_meaning arch base s.old ready.now)).state }
+    ensures stepped { 0 < result → (carried_out B.memory arch s.old (B.state bus.old) (ready_meaning arch base s.old ready.now)).stepped ≡ Cost result }
+    ensures near { 0 < result → IsNear (ready_meaning arch base s.old ready.now).accesses }
+    ensures same { B.identity bus.new ≡ B.identity bus.old }
+{
     if !takes_effect(ready.cond, s) {
-        return Some(Stepped::Cost(skip(arch, s)));
+        return skip(arch, s);
     }
     run_op(arch, base, s, bus, &ready.op)
 }

@@ -3,8 +3,8 @@
 ghost use Rattle.std.specs.Prelude.{IfSome};
 ghost use Rattle.arm_words.specs.Fields.{HasFields};
 
-use crate::{ready, run};
-use arm_core::{Bus, Core, FlatBus, Stepped};
+use crate::{is_other, ready, run, run_anywhere, touched};
+use arm_core::{Bus, Core, FlatBus, Stepped, Touch};
 use arm_words::{Instr, decode_arm, decode_thumb};
 use ds_base::{Arch, Width};
 use std::alloc::{AllocError, Global};
@@ -138,21 +138,37 @@ fn after(row: &Row<'_>, before: [u32; 37]) -> [u32; 37] {
     words
 }
 
-/// Runs a row's instruction, of which the rows take what they see and no clause.
-fn run_row(core: &mut Core, bus: &mut FlatBus, row: &Row<'_>) -> Option<Stepped> {
+/// Runs a row's instruction where its access is near, of which the rows take what they see and no clause.
+fn run_near(core: &mut Core, bus: &mut FlatBus, row: &Row<'_>) -> Option<Stepped> {
     let made = ready(instruction(row));
-    run(core.arch, 0, &mut core.registers, bus, &made)
+    match run(core.arch, 0, &mut core.registers, bus, &made) {
+        0 => None,
+        clocks => Some(Stepped::Cost(clocks)),
+    }
 }
 
-/// Tries a row.
-fn try_row(rt: &impl Abort, alloc: Global, row: &Row<'_>) -> Result<(), AllocError> {
+/// Runs a row's instruction wherever its access is.
+fn run_far(core: &mut Core, bus: &mut FlatBus, row: &Row<'_>) -> Option<Stepped> {
+    let made = ready(instruction(row));
+    if is_other(&made) {
+        return None;
+    }
+    Some(run_anywhere(core.arch, 0, &mut core.registers, bus, &made))
+}
+
+/// Tries a row, near alone or wherever its access is.
+fn try_row(rt: &impl Abort, alloc: Global, row: &Row<'_>, far: bool) -> Result<(), AllocError> {
     let name = row.name;
     let mut core = core(row);
     let mut bus = memory(alloc)?;
     let mut want = memory(alloc)?;
     write_words(&mut want, row.stored);
     let words = after(row, core.registers());
-    let found = run_row(&mut core, &mut bus, row);
+    let found = if far {
+        run_far(&mut core, &mut bus, row)
+    } else {
+        run_near(&mut core, &mut bus, row)
+    };
     assert_eq!(rt; found, row.cost.map(Stepped::Cost), "{name}");
     for (place, (got, word)) in core.registers().iter().zip(words.iter()).enumerate() {
         assert_eq!(rt; got, word, "{name}: word {place}");
@@ -161,10 +177,10 @@ fn try_row(rt: &impl Abort, alloc: Global, row: &Row<'_>) -> Result<(), AllocErr
     Ok(())
 }
 
-/// Tries rows.
-fn try_rows(rt: &impl Abort, alloc: Global, rows: &[Row<'_>]) -> Result<(), AllocError> {
+/// Tries rows, near alone or wherever their accesses are.
+fn try_rows(rt: &impl Abort, alloc: Global, rows: &[Row<'_>], far: bool) -> Result<(), AllocError> {
     for row in rows {
-        try_row(rt, alloc, row)?;
+        try_row(rt, alloc, row, far)?;
     }
     Ok(())
 }
@@ -196,7 +212,8 @@ fn flags_go_by_each_form_of_the_operand(rt: HostRuntime) -> Result<(), AllocErro
             cpsr: (flags << 28) | ARM,
             ..arm(name, word, 1, &given, &left)
         };
-        try_row(&rt, rt.alloc(), &row)?;
+        try_row(&rt, rt.alloc(), &row, false)?;
+        try_row(&rt, rt.alloc(), &row, true)?;
     }
     Ok(())
 }
@@ -249,7 +266,8 @@ fn near_memory_is_loaded_and_stored(rt: HostRuntime) -> Result<(), AllocError> {
             ..arm("ldr r0, [pc, #4]", 0x4801, 3, &[], &[(0, 0x0108_B2B2)])
         },
     ];
-    try_rows(&rt, rt.alloc(), &rows)
+    try_rows(&rt, rt.alloc(), &rows, false)?;
+    try_rows(&rt, rt.alloc(), &rows, true)
 }
 
 #[test]
@@ -273,7 +291,8 @@ fn branches_products_and_skips(rt: HostRuntime) -> Result<(), AllocError> {
         // Z is clear
         arm("addeq r0, r0, #1", 0x0280_0001, 1, &[(0, 7)], &[]),
     ];
-    try_rows(&rt, rt.alloc(), &rows)
+    try_rows(&rt, rt.alloc(), &rows, false)?;
+    try_rows(&rt, rt.alloc(), &rows, true)
 }
 
 #[test]
@@ -287,5 +306,66 @@ fn what_is_far_or_another_instruction_is_left(rt: HostRuntime) -> Result<(), All
         unrun("swi", 0xEF00_0000, &[]),
         unrun("ldmia r1, {r0}", 0xE891_0001, &[(1, 0x0200_0040)]),
     ];
-    try_rows(&rt, rt.alloc(), &rows)
+    try_rows(&rt, rt.alloc(), &rows, false)
+}
+
+#[test]
+fn what_is_far_is_run_where_it_may_be(rt: HostRuntime) -> Result<(), AllocError> {
+    let rows = [
+        // the memory of these rows is 200h bytes over and over
+        arm(
+            "ldr r0, [r1]",
+            0xE591_0000,
+            3,
+            &[(1, 0x0400_0044)],
+            &[(0, 9)],
+        ),
+        Row {
+            stored: &[(0x0400_0000, 0x77)],
+            ..arm(
+                "str r0, [r1, #4]!",
+                0xE5A1_0004,
+                2,
+                &[(0, 0x77), (1, 0x03FF_FFFC)],
+                &[(1, 0x0400_0000)],
+            )
+        },
+        arm(
+            "ldrh r0, [r1]",
+            0xE1D1_00B0,
+            3,
+            &[(1, 0x0600_0042)],
+            &[(0, 0x8765)],
+        ),
+        unrun("swi", 0xEF00_0000, &[]),
+        unrun("ldmia r1, {r0}", 0xE891_0001, &[(1, 0x0200_0040)]),
+    ];
+    try_rows(&rt, rt.alloc(), &rows, true)
+}
+
+/// The bytes that an instruction of ARM code touches with r1 at an address, on an architecture.
+fn touch(arch: Arch, code: u32, r1: u32) -> Touch {
+    let core = core(&unrun("", code, &[(1, r1)]));
+    touched(arch, &core.registers, &ready(decode_arm(arch, code)))
+}
+
+#[test]
+fn the_bytes_of_an_access_are_told(rt: HostRuntime) {
+    for (arch, code, at, first, length) in [
+        // ldr, ldrb, strh
+        (Arch::V5, 0xE591_0000, 0x0400_0002, 0x0400_0000, 4),
+        (Arch::V5, 0xE5D1_0000, 0x0400_0003, 0x0400_0003, 1),
+        (Arch::V4, 0xE1C1_00B0, 0x0400_0003, 0x0400_0002, 2),
+        // LDRSH at an odd address reads a byte on ARMv4, and the half on ARMv5
+        (Arch::V4, 0xE1D1_00F0, 0x0400_0003, 0x0400_0003, 1),
+        (Arch::V5, 0xE1D1_00F0, 0x0400_0003, 0x0400_0002, 2),
+    ] {
+        assert!(rt;
+            touch(arch, code, at) == Touch::Span { first, length },
+            "{code}"
+        );
+    }
+    // an addition, and a load whose condition fails
+    assert!(rt; touch(Arch::V5, 0xE281_0001, 0) == Touch::Nothing);
+    assert!(rt; touch(Arch::V5, 0x0591_0000, 0) == Touch::Nothing);
 }

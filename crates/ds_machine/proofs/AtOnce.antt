@@ -19,7 +19,7 @@ use Rattle.ds_runs.specs.declared.actors.Actor as actor
 use Rattle.ds_runs.specs.declared.actors.Actor.TheVariants.{Processor, Video}
 use Rattle.ds_runs.proofs.Firsts.{first_is_least}
 use Rattle.ds_timers.specs.Irqs.{line_is_up, shares_bit}
-use Rattle.ds_machine.specs.Kept.{AreAsleep, IsKept, events_of, waits}
+use Rattle.ds_machine.specs.Kept.{AreAsleep, IsKept, events_of, least_of, waits}
 use Rattle.ds_machine.specs.Reference.{AtOnce, HasCounted, IsSound, Shown, awake, due_by, due_unless, dues_of, keys_due, processor_due, step_by, stepped_of}
 use Rattle.ds_machine.specs.States.{MachineState, ProcessorState, VideoState, counts_of}
 use Rattle.ds_machine.specs.Steps.{concluded, goes_on, is_halted, is_held, line_of, nine_outcome, processor_of, seven_outcome, wakes, went_on, with_nine, with_processor, with_seven, woken, woken_one}
@@ -90,43 +90,47 @@ seven_least s until tick over lt there after = record { there = due_of_rank s 23
 -- ---- by what is kept
 
 -- a processor that waits for an early tick isn't held, and is due then
-pub wait_ends : (held : Bool) (due : ℕ) → waits held due < 2 ^ 56 → (held ≡ false) × (waits held due ≡ due)
-wait_ends true due lt = absurd (omega (arith, lt))
-wait_ends false due lt = (refl, refl)
+wait_ends : (held : Bool) (least due : ℕ) → least ≡ least_of held → waits least due < 2 ^ 56 → (held ≡ false) × (waits least due ≡ due)
+wait_ends true least due e lt = absurd (omega (arith, e, lt))
+wait_ends false least due e lt = (refl, omega (arith, e))
 
 -- a processor that is due waits for its tick
-wait_is : (kept held : Bool) (p : ProcessorState) (at : Tick) → kept ≡ held → due_unless held p ≡ Some at → waits kept p.due ≡ at.0
-wait_is kept held p at e h = let k = due_then held p at h in rw (e, k.0) k.1
+wait_is : (held : Bool) (least : ℕ) (p : ProcessorState) (at : Tick) → least ≡ least_of held → due_unless held p ≡ Some at → waits least p.due ≡ at.0
+wait_is held least p at e h =
+    let k = due_then held p at h in
+    let none : least ≡ 0 = e ∙ ap least_of k.0 in
+    let there = k.1 in
+    omega (arith, none, there)
 
-due_there : (kept held : Bool) (p : ProcessorState) (n : ℕ) → kept ≡ held → n ≡ waits kept p.due → n < 2 ^ 56 → due_unless held p ≡ Some (record { 0 = n })
-due_there kept held p n e w lt =
-    let k = wait_ends kept p.due (omega (arith, w, lt)) in
+due_there : (held : Bool) (least : ℕ) (p : ProcessorState) (n : ℕ) → least ≡ least_of held → n ≡ waits least p.due → n < 2 ^ 56 → due_unless held p ≡ Some (record { 0 = n })
+due_there held least p n e w lt =
+    let k = wait_ends held least p.due e (omega (arith, w, lt)) in
     let t = tick_is p (record { 0 = n }) (sym (w ∙ k.1)) in
-    rw (sym e, k.0) (ap Some t)
+    rw k.0 (ap Some t)
 
 -- what is waited of a machine's parts is waited of the machine
-pub nine_waits : (kept : Bool) (n : ℕ) (parts s : MachineState) → n ≡ waits kept parts.nine.processor.due → parts ≡ s → n ≡ waits kept s.nine.processor.due
-nine_waits kept n parts s w e = w ∙ ap (λ (m : MachineState). waits kept m.nine.processor.due) e
+pub nine_waits : (least n : ℕ) (parts s : MachineState) → n ≡ waits least parts.nine.processor.due → parts ≡ s → n ≡ waits least s.nine.processor.due
+nine_waits least n parts s w e = w ∙ ap (λ (m : MachineState). waits least m.nine.processor.due) e
 
-pub seven_waits : (kept : Bool) (n : ℕ) (parts s : MachineState) → n ≡ waits kept parts.seven.processor.due → parts ≡ s → n ≡ waits kept s.seven.processor.due
-seven_waits kept n parts s w e = w ∙ ap (λ (m : MachineState). waits kept m.seven.processor.due) e
+pub seven_waits : (least n : ℕ) (parts s : MachineState) → n ≡ waits least parts.seven.processor.due → parts ≡ s → n ≡ waits least s.seven.processor.due
+seven_waits least n parts s w e = w ∙ ap (λ (m : MachineState). waits least m.seven.processor.due) e
 
 -- so the processor steps for which fewer ticks are waited, ARM9 at equal ones
-pub nine_first : (kept : Kept) (s : MachineState) (nine seven until : ℕ) → IsKept kept s → nine ≡ waits kept.nine_held s.nine.processor.due
-    → seven ≡ waits kept.seven_held s.seven.processor.due → nine ≤ seven → nine < min kept.until.0 until → until ≤ 2 ^ 56
+pub nine_first : (kept : Kept) (s : MachineState) (nine seven until : ℕ) → IsKept kept s → nine ≡ waits kept.nine_least s.nine.processor.due
+    → seven ≡ waits kept.seven_least s.seven.processor.due → nine ≤ seven → nine < min kept.until.0 until → until ≤ 2 ^ 56
     → IsLeast (dues_of s) (record { 0 = nine }) 22
 nine_first kept s nine seven until is n m le lt early =
     nine_least s kept.until.0 (record { 0 = nine }) is.events (omega (arith, lt))
-    (due_there kept.nine_held (is_held s Nine) s.nine.processor nine is.nine_held n (omega (arith, lt, early)))
-    (λ at h. (let k = wait_is kept.seven_held (is_held s Seven) s.seven.processor at is.seven_held h in omega (arith, m, le, k)))
+    (due_there (is_held s Nine) kept.nine_least s.nine.processor nine is.nine_least n (omega (arith, lt, early)))
+    (λ at h. (let k = wait_is (is_held s Seven) kept.seven_least s.seven.processor at is.seven_least h in omega (arith, m, le, k)))
 
-pub seven_first : (kept : Kept) (s : MachineState) (nine seven until : ℕ) → IsKept kept s → nine ≡ waits kept.nine_held s.nine.processor.due
-    → seven ≡ waits kept.seven_held s.seven.processor.due → seven < nine → seven < min kept.until.0 until → until ≤ 2 ^ 56
+pub seven_first : (kept : Kept) (s : MachineState) (nine seven until : ℕ) → IsKept kept s → nine ≡ waits kept.nine_least s.nine.processor.due
+    → seven ≡ waits kept.seven_least s.seven.processor.due → seven < nine → seven < min kept.until.0 until → until ≤ 2 ^ 56
     → IsLeast (dues_of s) (record { 0 = seven }) 23
 seven_first kept s nine seven until is n m le lt early =
     seven_least s kept.until.0 (record { 0 = seven }) is.events (omega (arith, lt))
-    (due_there kept.seven_held (is_held s Seven) s.seven.processor seven is.seven_held m (omega (arith, lt, early)))
-    (λ at h. (let k = wait_is kept.nine_held (is_held s Nine) s.nine.processor at is.nine_held h in omega (arith, n, le, k)))
+    (due_there (is_held s Seven) kept.seven_least s.seven.processor seven is.seven_least m (omega (arith, lt, early)))
+    (λ at h. (let k = wait_is (is_held s Nine) kept.nine_least s.nine.processor at is.nine_least h in omega (arith, n, le, k)))
 
 -- ---- the step
 
@@ -155,8 +159,8 @@ kept_stays kept s next is b = record {
       (subst (λ (v : VideoState). IsOver (keys_due next.keys ∷ Some (record { 0 = video_due v }) ∷ dues_behind s.map.units) kept.until.0) (sym b.video)
       (subst (λ (lines : List KeyLine). IsOver (keys_due lines ∷ due_by Video s ∷ dues_behind s.map.units) kept.until.0) (sym b.keys) is.events));
   asleep = λ some proc. wakes_so proc (is.asleep some proc);
-  nine_held = is.nine_held ∙ held Nine;
-  seven_held = is.seven_held ∙ held Seven;
+  nine_least = is.nine_least ∙ ap least_of (held Nine);
+  seven_least = is.seven_least ∙ ap least_of (held Seven);
   nine_line = is.nine_line ∙ line Nine;
   seven_line = is.seven_line ∙ line Seven;
 } where
@@ -197,6 +201,10 @@ nine_keeps kept s next is e units = kept_stays kept s next is (record { units = 
 
 pub seven_keeps : (kept : Kept) (s next : MachineState) → IsKept kept s → next ≡ with_seven s (seven_outcome s) → next.map.units ≡ s.map.units → IsKept kept next
 seven_keeps kept s next is e units = kept_stays kept s next is (record { units = units; keys = ap (λ (m : MachineState). m.keys) e; video = ap (λ (m : MachineState). m.video) e })
+
+-- what isn't held before them isn't held after them
+pub free_stays : (proc : Proc) (s next : MachineState) → next.map.units ≡ s.map.units → is_held s proc ≡ false → is_held next proc ≡ false
+free_stays proc s next units free = ap (λ (u : UnitsState). own.is_held (own_of u proc)) units ∙ free
 
 -- the whole of it
 pub nine_made : (kept : Kept) (s m next : MachineState) (tick : Tick) (clocks : ℕ) → IsKept kept m → 0 < kept.until.0 → is_held m Nine ≡ false → m ≡ with_nine s (nine_outcome s)

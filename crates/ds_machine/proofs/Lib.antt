@@ -13,7 +13,6 @@ pub mod NearSteps
 pub mod Others
 pub mod ProcessorSteps
 pub mod Quiet
-pub mod Spans
 pub mod UnitEvents
 pub mod Wakes
 pub mod Lines

@@ -1,4 +1,4 @@
-use Rattle.std.proofs.Common.{ℕ, zero, suc, ◌≡◌, ◌<◌, ◌≤◌, ◌+◌, ◌-◌, ◌%◌, ◌^◌, ◌==◌, ◌&&◌, ◌⊎◌, ◌++◌, Bool, true, false, true≢false, if◌then◌else◌, List, [], ◌∷◌, Option, Some, None, inl, inr, refl, sym, arith}
+use Rattle.std.proofs.Common.{ℕ, ◌≡◌, ◌<◌, ◌≤◌, ◌+◌, ◌-◌, ◌==◌, ◌&&◌, ◌⊎◌, ◌++◌, Bool, true, false, true≢false, if◌then◌else◌, List, [], ◌∷◌, Option, Some, None, inl, inr, refl, sym, arith}
 use Rattle.std.proofs.lemmas.List.{append-nil}
 use Rattle.ds_base.specs.Accesses.{Access, Fetch, Read, Write, perform, refused_or}
 use Rattle.ds_base.specs.Memories.{memory_size}
@@ -12,7 +12,7 @@ use Rattle.ds_base.specs.declared.processors.Proc.{Proc}
 use Rattle.ds_base.specs.declared.processors.Proc.TheVariants.{Nine, Seven}
 use Rattle.ds_base.specs.declared.ticks.Tick.{Tick}
 use Rattle.arm_core.specs.Footprints.{first_without, span}
-use Rattle.arm_ops.specs.Meanings.{IsNear, is_near}
+use Rattle.arm_ops.specs.Meanings.{IsNear, RefusesNoneNear, is_near}
 use Rattle.cp15_tcm.specs.Registers.{Cp15State}
 use Rattle.cp15_tcm.specs.TightlyCoupled.{tcm_of}
 use Rattle.cp15_tcm.specs.declared.answers.Tcm.{Tcm}
@@ -22,8 +22,9 @@ use Rattle.ds_places.specs.declared.kinds.Place.{Place}
 use Rattle.ds_places.specs.declared.kinds.Place.TheVariants.{Cell, Banks, Port, Rom, Nothing}
 use Rattle.ds_places.proofs.Regions.{lies_or_not}
 use Rattle.ds_map.specs.Accesses.{is_byte_of_nine, left_at, map_read, map_refusal, map_written, put_at, refusal_at, takes_no_bytes}
-use Rattle.ds_map.specs.Builds.{byte_is_built, is_data_built, past_is_built}
+use Rattle.ds_map.specs.Builds.{byte_is_built}
 use Rattle.ds_map.specs.Maps.{MapState, cells_of, with_cells}
+use Rattle.ds_map.proofs.Built.{apart_built}
 use Rattle.ds_map.specs.Views.{NineReach, SevenReach, nine_memory, seven_memory, tcm_read, tcm_refusal, tcm_written}
 use Rattle.ds_machine.specs.Needs.{unbuilt}
 
@@ -95,31 +96,10 @@ near_cells Seven w at low high = elim (lies_or_not 0x00000000 0x00003FFF at) [
 
 -- ---- they are built
 
-past_built : (t : Tcm) (b : Bool) → b ≡ true → past_is_built t b ≡ true
-past_built (tcm.Itcm place) b h = refl
-past_built (tcm.Dtcm place) b h = refl
-past_built tcm.Past b h = h
-
-cells_built : (proc : Proc) (place : Place) → is_cells place ≡ true → is_data_built proc place ≡ true
-cells_built proc (Cell memory at) h = refl
-cells_built proc (Banks space at) h = refl
-cells_built proc (Port at) h = absurd (true≢false (sym h))
-cells_built proc (Rom at) h = refl
-cells_built proc Nothing h = refl
-
-near_byte_built : (proc : Proc) (cp : Cp15State) (w at : ℕ) → 0x02000000 ≤ at → at < 0x04000000 → byte_is_built proc cp w at ≡ true
-unfolding byte_is_built
-near_byte_built Nine cp w at low high =
-    past_built (tcm_of cp at false false) (is_data_built Nine (place_of Nine w at)) (cells_built Nine (place_of Nine w at) (near_cells Nine w at low high))
-near_byte_built Seven cp w at low high = cells_built Seven (place_of Seven w at) (near_cells Seven w at low high)
-
 -- a span of them has no byte that isn't built
 pub near_span_built : (proc : Proc) (cp : Cp15State) (w first length : ℕ) → 0x02000000 ≤ first → first + length ≤ 0x04000000
     → first_without (byte_is_built proc cp w) (span first length) ≡ None
-near_span_built proc cp w first zero low high = refl
-near_span_built proc cp w first (suc length) low high =
-    rw (near_byte_built proc cp w (first % 2 ^ 32) (omega (arith, low, high)) (omega (arith, low, high)))
-    (near_span_built proc cp w (first + 1) length (omega (arith, low)) (omega (arith, high)))
+near_span_built proc cp w first length low high = apart_built proc cp w first length (inl high)
 
 -- an address of them, and one that is aligned down
 near_bounds : (at : ℕ) → is_near at ≡ true → (0x02000000 ≤ at) × (at < 0x04000000)
@@ -239,23 +219,8 @@ tcm_refuses_none (tcm.Itcm place) r at width value near = refl
 tcm_refuses_none (tcm.Dtcm place) r at width value near = refl
 tcm_refuses_none tcm.Past r at width value near = refuses_none Nine r.map at width value near
 
--- so nothing stops them
-write_stop : {S : Type 0} (stop : Option Stop) (left : S) → stop ≡ None → (refused_or stop left (record { values = []; state = left; stop = None })).stop ≡ None
-write_stop None left h = refl
-write_stop (Some stop) left h = h
+pub nine_refuses_none : RefusesNoneNear nine_memory
+nine_refuses_none r at width value near = tcm_refuses_none (tcm_of r.cp15 at true false) r at width value near
 
-pub nine_unstopped : (r : NineReach) (accesses : List Access) → IsNear accesses → (perform nine_memory r accesses).stop ≡ None
-nine_unstopped r [] near = refl
-nine_unstopped r (Fetch at width ∷ []) near = refl
-nine_unstopped r (Read at width ∷ []) near = refl
-nine_unstopped r (Write at width value ∷ []) near =
-    write_stop (nine_memory.refusal r at width value) (nine_memory.write_next r at width value) (tcm_refuses_none (tcm_of r.cp15 at true false) r at width value near)
-nine_unstopped r (access ∷ other ∷ rest) near = absurd near
-
-pub seven_unstopped : (r : SevenReach) (accesses : List Access) → IsNear accesses → (perform seven_memory r accesses).stop ≡ None
-seven_unstopped r [] near = refl
-seven_unstopped r (Fetch at width ∷ []) near = refl
-seven_unstopped r (Read at width ∷ []) near = refl
-seven_unstopped r (Write at width value ∷ []) near =
-    write_stop (seven_memory.refusal r at width value) (seven_memory.write_next r at width value) (refuses_none Seven r.map at width value near)
-seven_unstopped r (access ∷ other ∷ rest) near = absurd near
+pub seven_refuses_none : RefusesNoneNear seven_memory
+seven_refuses_none r at width value near = refuses_none Seven r.map at width value near

@@ -1,4 +1,4 @@
-use Rattle.std.specs.Prelude.{ℕ, ◌-◌, ◌^◌, ◌≡◌, ◌<◌, Bool, false, if◌then◌else◌, List, ◌∷◌, Option}
+use Rattle.std.specs.Prelude.{ℕ, ◌-◌, ◌^◌, ◌≡◌, ◌<◌, Bool, false, if◌then◌else◌, List, ◌∷◌, Option, max}
 use Rattle.ds_base.specs.declared.processors.Proc.{Proc}
 use Rattle.ds_base.specs.declared.processors.Proc.TheVariants.{Nine, Seven}
 use Rattle.ds_base.specs.declared.ticks.Tick.{Tick}
@@ -20,16 +20,20 @@ events_of s = keys_due s.keys ∷ due_by Video s ∷ dues_behind s.map.units
 abbrev pub AreAsleep : MachineState → Type 0
 AreAsleep s = (proc : Proc) → wakes s proc ≡ false
 
--- what is kept is so of a machine: no actor but the processors is due before its tick, and no halted processor is to wake unless that is 0; and so
--- each processor is held or isn't, and its interrupt line is up or isn't
+-- the earliest tick at which a processor may be due: past all ticks of a run while it is held
+abbrev pub least_of : Bool → ℕ
+least_of held = if held then 2 ^ 64 - 1 else 0
+
+-- when a processor is due; past all ticks of a run while it is held
+abbrev pub waits : ℕ → ℕ → ℕ
+waits least due = max due least
+
+-- what is kept is so of a machine: no actor but the processors is due before its tick, and no halted processor is to wake unless that is 0; each
+-- processor's least tick says whether it is held; and its interrupt line is up or isn't
 pub record IsKept (kept : Kept) (s : MachineState) : Type 0 where
   pub events : IsOver (events_of s) kept.until.0
   pub asleep : 0 < kept.until.0 → AreAsleep s
-  pub nine_held : kept.nine_held ≡ is_held s Nine
-  pub seven_held : kept.seven_held ≡ is_held s Seven
+  pub nine_least : kept.nine_least ≡ least_of (is_held s Nine)
+  pub seven_least : kept.seven_least ≡ least_of (is_held s Seven)
   pub nine_line : kept.nine_line ≡ line_of s Nine
   pub seven_line : kept.seven_line ≡ line_of s Seven
-
--- when a processor is due; past all ticks of a run while it is held
-abbrev pub waits : Bool → ℕ → ℕ
-waits held due = if held then 2 ^ 64 - 1 else due

@@ -15,9 +15,3 @@ abbrev pub stop_in : arm.Stepped → Option Stop
 stop_in (Cost clocks) = None
 stop_in (Halted clocks) = None
 stop_in (Left stop) = Some stop
-
--- it was taken, cost so many clocks, and did no more
-abbrev pub IsCost : arm.Stepped → Type 0
-IsCost (Cost clocks) = Unit {0}
-IsCost (Halted clocks) = ⊥
-IsCost (Left stop) = ⊥

@@ -2,13 +2,12 @@
 
 ghost use Rattle.std.specs.Prelude.{◌≡◌, ◌<◌, ◌≤◌, ◌^◌, Some, false, true};
 ghost use Rattle.ds_runs.specs.Runs.{IsOver};
-ghost use Rattle.ds_machine.specs.Kept.{events_of, waits, AreAsleep, IsKept};
+ghost use Rattle.ds_machine.specs.Kept.{events_of, least_of, waits, AreAsleep, IsKept};
 ghost use Rattle.ds_machine.specs.Reference.{awake, step_by, stepped_of, AtOnce, HasCounted};
-ghost use Rattle.ds_machine.specs.Steps.{tick_of};
+ghost use Rattle.ds_machine.specs.Steps.{is_held, tick_of};
 ghost use Rattle.ds_machine.specs.declared.answers.Done.TheVariants.{Made};
 
 use crate::parts::Parts;
-use arm_core::Stepped;
 use ds_base::{Proc, Tick};
 use ds_runs::Actor;
 
@@ -17,10 +16,10 @@ use ds_runs::Actor;
 pub struct Kept {
     /// No actor but the processors is due before this tick; 0 where a halted processor is to wake.
     pub until: Tick,
-    /// Whether ARM9 is held.
-    pub nine_held: bool,
-    /// Whether ARM7 is held.
-    pub seven_held: bool,
+    /// ARM9 is due at this tick at the earliest: 0, or past all ticks of a run while it is held.
+    pub nine_least: u64,
+    /// So is ARM7.
+    pub seven_least: u64,
     /// Whether ARM9's interrupt line is up.
     pub nine_line: bool,
     /// Whether ARM7's interrupt line is up.
@@ -29,10 +28,10 @@ pub struct Kept {
 
 /// When a processor is due, in ticks; past all ticks of a run while it is held.
 #[inline(always)]
-fn waits(held: bool, due: u64) -> u64
-    ensures { result ≡ waits held due }
+fn waits(least: u64, due: u64) -> u64
+    ensures { result ≡ waits least due }
 {
-    if held { u64::MAX } else { due }
+    due.max(least)
 }
 
 impl Parts {
@@ -47,6 +46,13 @@ impl Parts {
         self.first_event().tick
     }
 
+    /// The earliest tick at which a processor may be due: 0, or past all ticks of a run while it is held.
+    fn least_of(&self, proc: Proc) -> u64
+        ensures { result ≡ least_of (is_held self.now proc) }
+    {
+        if self.is_held(proc) { u64::MAX } else { 0 }
+    }
+
     /// What is to be kept of them.
     #[inline(never)]
     pub fn kept(&self) -> Kept
@@ -54,8 +60,8 @@ impl Parts {
     {
         Kept {
             until: self.still_until(),
-            nine_held: self.is_held(Proc::Nine),
-            seven_held: self.is_held(Proc::Seven),
+            nine_least: self.least_of(Proc::Nine),
+            seven_least: self.least_of(Proc::Seven),
             nine_line: self.line(Proc::Nine),
             seven_line: self.line(Proc::Seven),
         }
@@ -71,8 +77,8 @@ impl Parts {
         ensures step { AtOnce until.0 self.old result self.new }
         ensures kept { IsKept kept self.new }
     {
-        let nine = waits(kept.nine_held, self.nine.processor.due);
-        let seven = waits(kept.seven_held, self.seven.processor.due);
+        let nine = waits(kept.nine_least, self.nine.processor.due);
+        let seven = waits(kept.seven_least, self.seven.processor.due);
         let end = kept.until.0.min(until.0);
         if nine <= seven {
             if nine < end {
@@ -89,7 +95,7 @@ impl Parts {
     fn nine_at_once(&mut self, kept: Kept, tick: Tick) -> bool
         requires kept { IsKept kept self.old }
         requires before { tick.0 < kept.until.0 }
-        requires held { kept.nine_held ≡ false }
+        requires held { is_held self.old Proc.Nine ≡ false }
         requires tick { tick ≡ tick_of self.old.nine.processor }
         requires early { tick.0 ≤ 2 ^ 56 }
         requires counted { self.old.nine.processor.steps ≤ 2 ^ 61 }
@@ -97,13 +103,12 @@ impl Parts {
         ensures made { result ≡ true → awake (Some tick) (step_by 22 (Actor.Processor Proc.Nine) self.old) ≡ stepped_of self.old Made self.new }
         ensures kept { IsKept kept self.new }
     {
-        match self.quick_nine(tick, kept.nine_line) {
-            Some(Stepped::Cost(clocks)) => {
-                self.go_on(Proc::Nine, clocks, false);
-                true
-            }
-            _ => false,
+        let clocks = self.quick_nine(tick, kept.nine_line);
+        if clocks == 0 {
+            return false;
         }
+        self.go_on(Proc::Nine, clocks, false);
+        true
     }
 
     /// ARM7's step at its tick, where it is one that is taken at once. It costs, and changes no unit: so no processor wakes, and what is kept stays.
@@ -111,7 +116,7 @@ impl Parts {
     fn seven_at_once(&mut self, kept: Kept, tick: Tick) -> bool
         requires kept { IsKept kept self.old }
         requires before { tick.0 < kept.until.0 }
-        requires held { kept.seven_held ≡ false }
+        requires held { is_held self.old Proc.Seven ≡ false }
         requires tick { tick ≡ tick_of self.old.seven.processor }
         requires early { tick.0 ≤ 2 ^ 56 }
         requires counted { self.old.seven.processor.steps ≤ 2 ^ 61 }
@@ -119,12 +124,11 @@ impl Parts {
         ensures made { result ≡ true → awake (Some tick) (step_by 23 (Actor.Processor Proc.Seven) self.old) ≡ stepped_of self.old Made self.new }
         ensures kept { IsKept kept self.new }
     {
-        match self.quick_seven(tick, kept.seven_line) {
-            Some(Stepped::Cost(clocks)) => {
-                self.go_on(Proc::Seven, clocks, false);
-                true
-            }
-            _ => false,
+        let clocks = self.quick_seven(tick, kept.seven_line);
+        if clocks == 0 {
+            return false;
         }
+        self.go_on(Proc::Seven, clocks, false);
+        true
     }
 }

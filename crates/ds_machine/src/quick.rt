@@ -1,65 +1,31 @@
 //! The steps that are taken at once: those of frequent instructions, made ready, which reach the near memories alone.
 
-ghost use Rattle.std.specs.Prelude.{◌≡◌, ◌≤◌, ◌^◌, ◌%◌, false, IfSome, None, Some};
+ghost use Rattle.std.specs.Prelude.{◌≡◌, ◌<◌, ◌≤◌, ◌^◌, false, Some};
 ghost use Rattle.ds_base.specs.Schedules.{IsEarly};
 ghost use Rattle.ds_base.specs.declared.processors.Arch.TheVariants.{V4, V5};
 ghost use Rattle.ds_base.specs.declared.processors.Proc.TheVariants.{Nine, Seven};
 ghost use Rattle.arm_core.specs.Effects.{carried_out};
-ghost use Rattle.arm_core.specs.Steps.{enters, fetched};
-ghost use Rattle.arm_memo.specs.Known.{arch_of};
+ghost use Rattle.arm_core.specs.declared.outcomes.Stepped.TheVariants.{Cost};
 ghost use Rattle.arm_ops.specs.Meanings.{ready_meaning, IsNear};
-ghost use Rattle.arm_ops.specs.Operations.{is_other, ready_of, HasOp};
-ghost use Rattle.arm_words.specs.ArmTable.{decoded_arm};
-ghost use Rattle.arm_words.specs.ThumbTable.{decoded_thumb};
+ghost use Rattle.arm_ops.specs.Operations.{is_other, HasReady};
 ghost use Rattle.cp15_tcm.specs.Registers.{vectors_of};
 ghost use Rattle.ds_map.specs.Views.{nine_memory, seven_memory};
 ghost use Rattle.ds_machine.specs.Needs.{nine_taken, seven_taken};
-ghost use Rattle.ds_machine.specs.Processors.{IsCost};
 ghost use Rattle.ds_machine.specs.Steps.{line_of, nine_outcome, seven_outcome, tick_of, with_nine, with_seven};
 
-use crate::fetching::fetch_of_nine;
+use crate::fetching::{next_of_nine, next_of_seven};
 use crate::parts::Parts;
-use arm_core::{Core, Stepped};
+use arm_core::Core;
 use arm_exec::enters;
 use arm_memo::Decoder;
 use arm_ops::{Ready, run};
 use cp15_tcm::Cp15;
-use ds_base::{Arch, DTCM_BYTES, ITCM_BYTES, Proc, Tick, Width};
+use ds_base::{Arch, DTCM_BYTES, ITCM_BYTES, Tick};
 use ds_map::{Block, Map, NineView, SevenView};
 
-/// A half of Thumb code, made ready.
+/// Runs what ARM9 fetched, made ready, over its view. The result is its cost; 0 where it isn't run.
 #[inline(always)]
-fn half<const VERSION: u32>(decoder: &mut Decoder<VERSION>, half: u32) -> &Ready
-    ensures ready { result.now ≡ ready_of (decoded_thumb (arch_of VERSION) (half % 2 ^ 16)) }
-    ensures fields { HasOp result.now.op }
-{
-    decoder.thumb_ready((half % 0x1_0000) as u16)
-}
-
-/// What ARM9 fetches next, made ready.
-#[inline(always)]
-fn next_of_nine<'a>(
-    core: &Core,
-    decoder: &'a mut Decoder<5>,
-    cp: &Cp15,
-    map: &Map,
-    itcm: &Block<ITCM_BYTES>,
-    dtcm: &Block<DTCM_BYTES>,
-    now: Tick,
-) -> &'a Ready
-    ensures ready { result.now ≡ ready_of (fetched nine_memory V5 core.now.registers (record { map = map.now; cp15 = cp.now; itcm = itcm.now; dtcm = dtcm.now; now = now })).instr }
-    ensures fields { HasOp result.now.op }
-{
-    let _ = now;
-    let at = core.registers.pc();
-    if core.registers.is_thumb() {
-        return half(decoder, fetch_of_nine(cp, map, itcm, dtcm, at, Width::Half));
-    }
-    decoder.arm_ready(fetch_of_nine(cp, map, itcm, dtcm, at, Width::Word))
-}
-
-/// Runs what ARM9 fetched, made ready, over its view.
-#[inline(always)]
+#[tactic(auto, using(crate::proofs::Nears::nine_refuses_none))]
 fn run_nine(
     core: &mut Core,
     cp: &Cp15,
@@ -68,17 +34,17 @@ fn run_nine(
     dtcm: &mut Block<DTCM_BYTES>,
     now: Tick,
     next: &Ready,
-) -> Option<Stepped>
+) -> u32
     requires early { IsEarly (Some now) }
-    requires fields { HasOp next.now.op }
-    ensures none { result ≡ None → (core.new ≡ core.old) × (map.new ≡ map.old) × (itcm.new ≡ itcm.old) × (dtcm.new ≡ dtcm.old) }
-    ensures core { IfSome result (λ _. core.new ≡ record core.old { registers = (carried_out nine_memory V5 core.old.registers (record { map = map.old; cp15 = cp.now; itcm = itcm.old; dtcm = dtcm.old; now = now }) (ready_meaning V5 (vectors_of cp.now) core.old.registers next.now)).registers }) }
-    ensures map { IfSome result (λ _. map.new ≡ (carried_out nine_memory V5 core.old.registers (record { map = map.old; cp15 = cp.now; itcm = itcm.old; dtcm = dtcm.old; now = now }) (ready_meaning V5 (vectors_of cp.now) core.old.registers next.now)).state.map) }
-    ensures itcm { IfSome result (λ _. itcm.new ≡ (carried_out nine_memory V5 core.old.registers (record { map = map.old; cp15 = cp.now; itcm = itcm.old; dtcm = dtcm.old; now = now }) (ready_meaning V5 (vectors_of cp.now) core.old.registers next.now)).state.itcm) }
-    ensures dtcm { IfSome result (λ _. dtcm.new ≡ (carried_out nine_memory V5 core.old.registers (record { map = map.old; cp15 = cp.now; itcm = itcm.old; dtcm = dtcm.old; now = now }) (ready_meaning V5 (vectors_of cp.now) core.old.registers next.now)).state.dtcm) }
-    ensures stepped { IfSome result (λ stepped. stepped ≡ (carried_out nine_memory V5 core.old.registers (record { map = map.old; cp15 = cp.now; itcm = itcm.old; dtcm = dtcm.old; now = now }) (ready_meaning V5 (vectors_of cp.now) core.old.registers next.now)).stepped) }
-    ensures known { IfSome result (λ _. is_other next.now.op ≡ false) }
-    ensures near { IfSome result (λ _. IsNear (ready_meaning V5 (vectors_of cp.now) core.old.registers next.now).accesses) }
+    requires fields { HasReady next.now }
+    ensures none { result ≡ 0 → (core.new ≡ core.old) × (map.new ≡ map.old) × (itcm.new ≡ itcm.old) × (dtcm.new ≡ dtcm.old) }
+    ensures core { 0 < result → core.new ≡ record core.old { registers = (carried_out nine_memory V5 core.old.registers (record { map = map.old; cp15 = cp.now; itcm = itcm.old; dtcm = dtcm.old; now = now }) (ready_meaning V5 (vectors_of cp.now) core.old.registers next.now)).registers } }
+    ensures map { 0 < result → map.new ≡ (carried_out nine_memory V5 core.old.registers (record { map = map.old; cp15 = cp.now; itcm = itcm.old; dtcm = dtcm.old; now = now }) (ready_meaning V5 (vectors_of cp.now) core.old.registers next.now)).state.map }
+    ensures itcm { 0 < result → itcm.new ≡ (carried_out nine_memory V5 core.old.registers (record { map = map.old; cp15 = cp.now; itcm = itcm.old; dtcm = dtcm.old; now = now }) (ready_meaning V5 (vectors_of cp.now) core.old.registers next.now)).state.itcm }
+    ensures dtcm { 0 < result → dtcm.new ≡ (carried_out nine_memory V5 core.old.registers (record { map = map.old; cp15 = cp.now; itcm = itcm.old; dtcm = dtcm.old; now = now }) (ready_meaning V5 (vectors_of cp.now) core.old.registers next.now)).state.dtcm }
+    ensures stepped { 0 < result → (carried_out nine_memory V5 core.old.registers (record { map = map.old; cp15 = cp.now; itcm = itcm.old; dtcm = dtcm.old; now = now }) (ready_meaning V5 (vectors_of cp.now) core.old.registers next.now)).stepped ≡ Cost result }
+    ensures known { 0 < result → is_other next.now.op ≡ false }
+    ensures near { 0 < result → IsNear (ready_meaning V5 (vectors_of cp.now) core.old.registers next.now).accesses }
 {
     let base = cp.vectors();
     let mut view = NineView {
@@ -91,7 +57,7 @@ fn run_nine(
     run(Arch::V5, base, &mut core.registers, &mut view, next)
 }
 
-/// ARM9's step, where it is one that is taken at once.
+/// ARM9's step, where it is one that is taken at once. The result is its cost; 0 where it isn't taken.
 #[inline(always)]
 #[tactic(auto, using(crate::proofs::NearSteps::nine_is))]
 fn quick_nine(
@@ -103,56 +69,42 @@ fn quick_nine(
     dtcm: &mut Block<DTCM_BYTES>,
     now: Tick,
     line: bool,
-) -> Option<Stepped>
+) -> u32
     requires early { IsEarly (Some now) }
-    ensures none { result ≡ None → (core.new ≡ core.old) × (map.new ≡ map.old) × (itcm.new ≡ itcm.old) × (dtcm.new ≡ dtcm.old) }
-    ensures core { IfSome result (λ _. core.new ≡ record core.old { registers = (nine_taken line core.old.registers (record { map = map.old; cp15 = cp.now; itcm = itcm.old; dtcm = dtcm.old; now = now })).registers }) }
-    ensures map { IfSome result (λ _. map.new ≡ (nine_taken line core.old.registers (record { map = map.old; cp15 = cp.now; itcm = itcm.old; dtcm = dtcm.old; now = now })).state.map) }
-    ensures itcm { IfSome result (λ _. itcm.new ≡ (nine_taken line core.old.registers (record { map = map.old; cp15 = cp.now; itcm = itcm.old; dtcm = dtcm.old; now = now })).state.itcm) }
-    ensures dtcm { IfSome result (λ _. dtcm.new ≡ (nine_taken line core.old.registers (record { map = map.old; cp15 = cp.now; itcm = itcm.old; dtcm = dtcm.old; now = now })).state.dtcm) }
-    ensures stepped { IfSome result (λ stepped. stepped ≡ (nine_taken line core.old.registers (record { map = map.old; cp15 = cp.now; itcm = itcm.old; dtcm = dtcm.old; now = now })).stepped) }
-    ensures cost { IfSome result IsCost }
+    ensures none { result ≡ 0 → (core.new ≡ core.old) × (map.new ≡ map.old) × (itcm.new ≡ itcm.old) × (dtcm.new ≡ dtcm.old) }
+    ensures core { 0 < result → core.new ≡ record core.old { registers = (nine_taken line core.old.registers (record { map = map.old; cp15 = cp.now; itcm = itcm.old; dtcm = dtcm.old; now = now })).registers } }
+    ensures map { 0 < result → map.new ≡ (nine_taken line core.old.registers (record { map = map.old; cp15 = cp.now; itcm = itcm.old; dtcm = dtcm.old; now = now })).state.map }
+    ensures itcm { 0 < result → itcm.new ≡ (nine_taken line core.old.registers (record { map = map.old; cp15 = cp.now; itcm = itcm.old; dtcm = dtcm.old; now = now })).state.itcm }
+    ensures dtcm { 0 < result → dtcm.new ≡ (nine_taken line core.old.registers (record { map = map.old; cp15 = cp.now; itcm = itcm.old; dtcm = dtcm.old; now = now })).state.dtcm }
+    ensures stepped { 0 < result → (nine_taken line core.old.registers (record { map = map.old; cp15 = cp.now; itcm = itcm.old; dtcm = dtcm.old; now = now })).stepped ≡ Cost result }
     ensures units { map.new.units ≡ map.old.units }
-    ensures cp { IfSome result (λ _. (nine_taken line core.old.registers (record { map = map.old; cp15 = cp.now; itcm = itcm.old; dtcm = dtcm.old; now = now })).cp ≡ cp.now) }
+    ensures cp { 0 < result → (nine_taken line core.old.registers (record { map = map.old; cp15 = cp.now; itcm = itcm.old; dtcm = dtcm.old; now = now })).cp ≡ cp.now }
 {
     if enters(&core.registers, line) {
-        return None;
+        return 0;
     }
     let next = next_of_nine(core, decoder, cp, map, itcm, dtcm, now);
     run_nine(core, cp, map, itcm, dtcm, now, next)
 }
 
-/// What ARM7 fetches next, made ready.
+/// Runs what ARM7 fetched, made ready, over its view. The result is its cost; 0 where it isn't run.
 #[inline(always)]
-fn next_of_seven<'a>(core: &Core, decoder: &'a mut Decoder<4>, map: &Map, now: Tick) -> &'a Ready
-    ensures ready { result.now ≡ ready_of (fetched seven_memory V4 core.now.registers (record { map = map.now; now = now })).instr }
-    ensures fields { HasOp result.now.op }
-{
-    let _ = now;
-    let at = core.registers.pc();
-    if core.registers.is_thumb() {
-        return half(decoder, map.fetch(Proc::Seven, at, Width::Half));
-    }
-    decoder.arm_ready(map.fetch(Proc::Seven, at, Width::Word))
-}
-
-/// Runs what ARM7 fetched, made ready, over its view.
-#[inline(always)]
-fn run_seven(core: &mut Core, map: &mut Map, now: Tick, next: &Ready) -> Option<Stepped>
+#[tactic(auto, using(crate::proofs::Nears::seven_refuses_none))]
+fn run_seven(core: &mut Core, map: &mut Map, now: Tick, next: &Ready) -> u32
     requires early { IsEarly (Some now) }
-    requires fields { HasOp next.now.op }
-    ensures none { result ≡ None → (core.new ≡ core.old) × (map.new ≡ map.old) }
-    ensures core { IfSome result (λ _. core.new ≡ record core.old { registers = (carried_out seven_memory V4 core.old.registers (record { map = map.old; now = now }) (ready_meaning V4 0 core.old.registers next.now)).registers }) }
-    ensures map { IfSome result (λ _. map.new ≡ (carried_out seven_memory V4 core.old.registers (record { map = map.old; now = now }) (ready_meaning V4 0 core.old.registers next.now)).state.map) }
-    ensures stepped { IfSome result (λ stepped. stepped ≡ (carried_out seven_memory V4 core.old.registers (record { map = map.old; now = now }) (ready_meaning V4 0 core.old.registers next.now)).stepped) }
-    ensures known { IfSome result (λ _. is_other next.now.op ≡ false) }
-    ensures near { IfSome result (λ _. IsNear (ready_meaning V4 0 core.old.registers next.now).accesses) }
+    requires fields { HasReady next.now }
+    ensures none { result ≡ 0 → (core.new ≡ core.old) × (map.new ≡ map.old) }
+    ensures core { 0 < result → core.new ≡ record core.old { registers = (carried_out seven_memory V4 core.old.registers (record { map = map.old; now = now }) (ready_meaning V4 0 core.old.registers next.now)).registers } }
+    ensures map { 0 < result → map.new ≡ (carried_out seven_memory V4 core.old.registers (record { map = map.old; now = now }) (ready_meaning V4 0 core.old.registers next.now)).state.map }
+    ensures stepped { 0 < result → (carried_out seven_memory V4 core.old.registers (record { map = map.old; now = now }) (ready_meaning V4 0 core.old.registers next.now)).stepped ≡ Cost result }
+    ensures known { 0 < result → is_other next.now.op ≡ false }
+    ensures near { 0 < result → IsNear (ready_meaning V4 0 core.old.registers next.now).accesses }
 {
     let mut view = SevenView { map, now };
     run(Arch::V4, 0, &mut core.registers, &mut view, next)
 }
 
-/// ARM7's step, where it is one that is taken at once.
+/// ARM7's step, where it is one that is taken at once. The result is its cost; 0 where it isn't taken.
 #[inline(always)]
 #[tactic(auto, using(crate::proofs::NearSteps::seven_is))]
 fn quick_seven(
@@ -162,35 +114,33 @@ fn quick_seven(
     map: &mut Map,
     now: Tick,
     line: bool,
-) -> Option<Stepped>
+) -> u32
     requires early { IsEarly (Some now) }
-    ensures none { result ≡ None → (core.new ≡ core.old) × (map.new ≡ map.old) }
-    ensures core { IfSome result (λ _. core.new ≡ record core.old { registers = (seven_taken cp.now line core.old.registers (record { map = map.old; now = now })).registers }) }
-    ensures map { IfSome result (λ _. map.new ≡ (seven_taken cp.now line core.old.registers (record { map = map.old; now = now })).state.map) }
-    ensures stepped { IfSome result (λ stepped. stepped ≡ (seven_taken cp.now line core.old.registers (record { map = map.old; now = now })).stepped) }
-    ensures cost { IfSome result IsCost }
+    ensures none { result ≡ 0 → (core.new ≡ core.old) × (map.new ≡ map.old) }
+    ensures core { 0 < result → core.new ≡ record core.old { registers = (seven_taken cp.now line core.old.registers (record { map = map.old; now = now })).registers } }
+    ensures map { 0 < result → map.new ≡ (seven_taken cp.now line core.old.registers (record { map = map.old; now = now })).state.map }
+    ensures stepped { 0 < result → (seven_taken cp.now line core.old.registers (record { map = map.old; now = now })).stepped ≡ Cost result }
     ensures units { map.new.units ≡ map.old.units }
 {
     let _ = cp;
     if enters(&core.registers, line) {
-        return None;
+        return 0;
     }
     let next = next_of_seven(core, decoder, map, now);
     run_seven(core, map, now, next)
 }
 
 impl Parts {
-    /// ARM9's step, but for its cost, where it is one that is taken at once: none where it isn't, and then nothing is changed. A step that is
-    /// taken at once changes no unit.
+    /// ARM9's step, but for its cost, where it is one that is taken at once. The result is its cost in ARM9's clocks; 0 where it isn't taken, and
+    /// then nothing is changed. A step that is taken at once changes no unit.
     #[inline(always)]
-    pub fn quick_nine(&mut self, now: Tick, line: bool) -> Option<Stepped>
+    pub fn quick_nine(&mut self, now: Tick, line: bool) -> u32
         requires now { now ≡ tick_of self.old.nine.processor }
         requires line { line ≡ line_of self.old Nine }
         requires early { self.old.nine.processor.due ≤ 2 ^ 56 }
-        ensures none { result ≡ None → self.new ≡ self.old }
-        ensures machine { IfSome result (λ stepped. self.new ≡ with_nine self.old (nine_outcome self.old)) }
-        ensures stepped { IfSome result (λ stepped. stepped ≡ (nine_outcome self.old).stepped) }
-        ensures cost { IfSome result IsCost }
+        ensures none { result ≡ 0 → self.new ≡ self.old }
+        ensures machine { 0 < result → self.new ≡ with_nine self.old (nine_outcome self.old) }
+        ensures stepped { 0 < result → (nine_outcome self.old).stepped ≡ Cost result }
         ensures units { self.new.map.units ≡ self.old.map.units }
     {
         let nine = &mut self.nine;
@@ -206,17 +156,16 @@ impl Parts {
         )
     }
 
-    /// ARM7's step, but for its cost, where it is one that is taken at once: none where it isn't, and then nothing is changed. A step that is
-    /// taken at once changes no unit.
+    /// ARM7's step, but for its cost, where it is one that is taken at once. The result is its cost in ARM7's clocks; 0 where it isn't taken, and
+    /// then nothing is changed. A step that is taken at once changes no unit.
     #[inline(always)]
-    pub fn quick_seven(&mut self, now: Tick, line: bool) -> Option<Stepped>
+    pub fn quick_seven(&mut self, now: Tick, line: bool) -> u32
         requires now { now ≡ tick_of self.old.seven.processor }
         requires line { line ≡ line_of self.old Seven }
         requires early { self.old.seven.processor.due ≤ 2 ^ 56 }
-        ensures none { result ≡ None → self.new ≡ self.old }
-        ensures machine { IfSome result (λ stepped. self.new ≡ with_seven self.old (seven_outcome self.old)) }
-        ensures stepped { IfSome result (λ stepped. stepped ≡ (seven_outcome self.old).stepped) }
-        ensures cost { IfSome result IsCost }
+        ensures none { result ≡ 0 → self.new ≡ self.old }
+        ensures machine { 0 < result → self.new ≡ with_seven self.old (seven_outcome self.old) }
+        ensures stepped { 0 < result → (seven_outcome self.old).stepped ≡ Cost result }
         ensures units { self.new.map.units ≡ self.old.map.units }
     {
         quick_seven(

@@ -1,0 +1,229 @@
+//! Operations that may reach past the near memories.
+
+ghost use Rattle.std.specs.Prelude.{◌≡◌, ℕ, false};
+ghost use Rattle.arm_core.specs.Effects.{carried_out};
+ghost use Rattle.arm_core.specs.Footprints.{accessed_bytes, touched_bytes};
+ghost use Rattle.arm_ops.specs.Meanings.{op_meaning, ready_meaning};
+ghost use Rattle.arm_ops.specs.Operations as ops;
+ghost use Rattle.arm_ops.specs.Operations.{is_other, Computes, HasOp, HasReady};
+
+use crate::operations::{Op, Ready};
+use crate::running::{compute_on, shifted_operand, takes_effect};
+use arm_core::{
+    Bus, Registers, Stepped, Touch, access_touch, addressed, half_touch, literal_address, width_by,
+};
+use arm_exec::{half_transfer_at, literal, skip, transfer_at};
+use ds_base::{Arch, Width};
+
+/// Whether it is an instruction that isn't run here.
+#[inline(always)]
+pub fn is_other(ready: &Ready) -> bool
+    ensures { result ≡ ops.is_other ready.now.op }
+{
+    matches!(ready.op, Op::Other)
+}
+
+/// The bytes of an operation that takes effect.
+fn op_touch(arch: Arch, s: &Registers, op: &Op) -> Touch
+    requires { HasOp op.now }
+    ensures { (base : ℕ) → touched_bytes result ≡ accessed_bytes (op_meaning arch base s.now op.now).accesses }
+{
+    match *op {
+        Op::Transfer {
+            pre,
+            up,
+            byte,
+            write_back,
+            load,
+            rn,
+            rd,
+            offset,
+        } => {
+            let to = addressed(s, pre, up, write_back, rn, offset as u32);
+            access_touch(to.address, width_by(byte))
+        }
+        Op::TransferBy {
+            pre,
+            up,
+            byte,
+            write_back,
+            load,
+            rn,
+            rd,
+            rm,
+            shift,
+            amount,
+        } => {
+            let offset = shifted_operand(s, rm, shift, amount).value;
+            let to = addressed(s, pre, up, write_back, rn, offset);
+            access_touch(to.address, width_by(byte))
+        }
+        Op::HalfTransfer {
+            op,
+            pre,
+            up,
+            write_back,
+            rn,
+            rd,
+            offset,
+        } => {
+            let to = addressed(s, pre, up, write_back, rn, offset as u32);
+            half_touch(arch, op, to)
+        }
+        Op::HalfTransferBy {
+            op,
+            pre,
+            up,
+            write_back,
+            rn,
+            rd,
+            rm,
+        } => {
+            let to = addressed(s, pre, up, write_back, rn, s.get(rm));
+            half_touch(arch, op, to)
+        }
+        Op::Literal { immed, .. } => access_touch(literal_address(s, immed), Width::Word),
+        Op::Other => Touch::Nothing,
+        Op::DataNumber { .. }
+        | Op::DataRegister { .. }
+        | Op::DataShifted { .. }
+        | Op::CompareNumber { .. }
+        | Op::CompareRegister { .. }
+        | Op::CompareShifted { .. }
+        | Op::MoveNumber { .. }
+        | Op::MoveRegister { .. }
+        | Op::MoveShifted { .. }
+        | Op::Branch { .. }
+        | Op::Plain { .. } => Touch::Nothing,
+    }
+}
+
+/// The bytes that an operation's access reaches, told before it is run: where it makes none, or its condition fails, there are none.
+pub fn touched(arch: Arch, s: &Registers, ready: &Ready) -> Touch
+    requires { HasReady ready.now }
+    ensures { (base : ℕ) → touched_bytes result ≡ accessed_bytes (ready_meaning arch base s.now ready.now).accesses }
+{
+    if !takes_effect(ready.cond, s) {
+        return Touch::Nothing;
+    }
+    op_touch(arch, s, &ready.op)
+}
+
+/// An operation that makes an access, wherever it is.
+fn access<B: Bus>(arch: Arch, base: u32, s: &mut Registers, bus: &mut B, op: &Op) -> Stepped
+    requires fields { HasOp op.now }
+    requires known { is_other op.now ≡ false }
+    requires accesses { Computes op.now → ⊥ }
+    ensures registers { s.new ≡ (carried_out B.memory arch s.old (B.state bus.old) (op_meaning arch base s.old op.now)).registers }
+    ensures state { B.state bus.new ≡ (carried_out B.memory arch s.old (B.state bus.old) (op_meaning arch base s.old op.now)).state }
+    ensures stepped { result ≡ (carried_out B.memory arch s.old (B.state bus.old) (op_meaning arch base s.old op.now)).stepped }
+    ensures same { B.identity bus.new ≡ B.identity bus.old }
+{
+    let _ = base;
+    match *op {
+        Op::Transfer {
+            pre,
+            up,
+            byte,
+            write_back,
+            load,
+            rn,
+            rd,
+            offset,
+        } => {
+            let to = addressed(s, pre, up, write_back, rn, offset as u32);
+            transfer_at(arch, s, bus, load, byte, rn, rd, to)
+        }
+        Op::TransferBy {
+            pre,
+            up,
+            byte,
+            write_back,
+            load,
+            rn,
+            rd,
+            rm,
+            shift,
+            amount,
+        } => {
+            let offset = shifted_operand(s, rm, shift, amount).value;
+            let to = addressed(s, pre, up, write_back, rn, offset);
+            transfer_at(arch, s, bus, load, byte, rn, rd, to)
+        }
+        Op::HalfTransfer {
+            op,
+            pre,
+            up,
+            write_back,
+            rn,
+            rd,
+            offset,
+        } => {
+            let to = addressed(s, pre, up, write_back, rn, offset as u32);
+            half_transfer_at(arch, s, bus, op, rn, rd, to)
+        }
+        Op::HalfTransferBy {
+            op,
+            pre,
+            up,
+            write_back,
+            rn,
+            rd,
+            rm,
+        } => {
+            let to = addressed(s, pre, up, write_back, rn, s.get(rm));
+            half_transfer_at(arch, s, bus, op, rn, rd, to)
+        }
+        Op::Literal { rd, immed } => literal(arch, s, bus, rd, immed),
+        Op::Other
+        | Op::DataNumber { .. }
+        | Op::DataRegister { .. }
+        | Op::DataShifted { .. }
+        | Op::CompareNumber { .. }
+        | Op::CompareRegister { .. }
+        | Op::CompareShifted { .. }
+        | Op::MoveNumber { .. }
+        | Op::MoveRegister { .. }
+        | Op::MoveShifted { .. }
+        | Op::Branch { .. }
+        | Op::Plain { .. } => Stepped::Cost(0),
+    }
+}
+
+/// An operation that takes effect, wherever its access is.
+fn run_op<B: Bus>(arch: Arch, base: u32, s: &mut Registers, bus: &mut B, op: &Op) -> Stepped
+    requires fields { HasOp op.now }
+    requires known { is_other op.now ≡ false }
+    ensures registers { s.new ≡ (carried_out B.memory arch s.old (B.state bus.old) (op_meaning arch base s.old op.now)).registers }
+    ensures state { B.state bus.new ≡ (carried_out B.memory arch s.old (B.state bus.old) (op_meaning arch base s.old op.now)).state }
+    ensures stepped { result ≡ (carried_out B.memory arch s.old (B.state bus.old) (op_meaning arch base s.old op.now)).stepped }
+    ensures same { B.identity bus.new ≡ B.identity bus.old }
+{
+    let clocks = compute_on::<B, 1>(arch, base, s, bus, op);
+    if clocks != 0 {
+        return Stepped::Cost(clocks);
+    }
+    access(arch, base, s, bus, op)
+}
+
+/// Runs an operation over a bus, with the base of the vectors, wherever its access is. The result is the cost, or the stop of a write that the bus refused; then the registers are as they were.
+#[inline(always)]
+pub fn run_anywhere<B: Bus>(
+    arch: Arch,
+    base: u32,
+    s: &mut Registers,
+    bus: &mut B,
+    ready: &Ready,
+) -> Stepped
+    requires ready { HasReady ready.now }
+    requires known { is_other ready.now.op ≡ false }
+    ensures registers { s.new ≡ (carried_out B.memory arch s.old (B.state bus.old) (ready_meaning arch base s.old ready.now)).registers }
+    ensures state { B.state bus.new ≡ (carried_out B.memory arch s.old (B.state bus.old) (ready_meaning arch base s.old ready.now)).state }
+    ensures stepped { result ≡ (carried_out B.memory arch s.old (B.state bus.old) (ready_meaning arch base s.old ready.now)).stepped }
+    ensures same { B.identity bus.new ≡ B.identity bus.old }
+{
+    if !takes_effect(ready.cond, s) {
+        return Stepped::Cost(skip(arch, s));
+    }
+    run_op(arch, base, s, bus, &ready.op)
+}

@@ -1,4 +1,5 @@
-use Rattle.std.proofs.Common.{ℕ, ◌≡◌, ◌≤◌, ◌<◌, ◌^◌, max, [], ◌∷◌, List, Bool, true, false, sym, subst, arith}
+use Rattle.std.proofs.Common.{ℕ, ◌≡◌, ◌≤◌, ◌<◌, ◌^◌, max, [], ◌∷◌, List, Bool, true, false, Option, Some, None, sym, subst, arith}
+use Rattle.ds_base.specs.declared.left_out.LeftOut.{LeftOut}
 use Rattle.ds_base.specs.declared.ticks.Due.{Due}
 use Rattle.ds_runs.specs.Runs.{Makes}
 use Rattle.ds_machine.specs.States.{MachineState}
@@ -6,6 +7,7 @@ use Rattle.ds_machine.specs.Reference.{AtOnce, CountsWithin, HasCounted, IsDue, 
 use Rattle.ds_machine.specs.declared.answers.Done as answer
 use Rattle.ds_machine.specs.declared.answers.Done.TheVariants as answers
 use Rattle.ds_machine.proofs.Counts.{counts_within, stop_counts}
+use Rattle.run_ahead.specs.Consoles.{open_of}
 
 -- What a turn's step leaves, by what it came to.
 
@@ -34,3 +36,8 @@ within_at_once s next false until limit once has within le = subst (AreWithin li
 within_at_once s next true until limit once has within le =
     let early = within.1 in
     within_by s next once.0 answers.Made limit until limit once.1 once.3 has within once.2 (omega (arith, le, early)) (omega (arith, le))
+
+-- up to a limit that is open none is raised
+pub open_within : (stopped : Option LeftOut) (limit open_until until : ℕ) → open_until ≡ open_of limit stopped → until ≤ open_until → until ≤ limit
+open_within None limit open_until until e le = omega (arith, e, le)
+open_within (Some left) limit open_until until e le = omega (arith, e, le)

@@ -34,20 +34,21 @@ pub struct Console {
     machine: Machine,
     limit: u64,
     stopped: Option<LeftOut>,
+    open_until: u64,
 }
 
 impl Model for Console {
-    ghost use Rattle.run_ahead.specs.Consoles.{ConsoleState};
+    ghost use Rattle.run_ahead.specs.Consoles.{ConsoleState, open_of};
     ghost use Rattle.ds_machine.specs.Booted.{booted};
     ghost use Rattle.ds_machine.specs.Reference.{CountsWithin};
-    ghost use Rattle.std.specs.Prelude.{◌≤◌, ◌^◌};
+    ghost use Rattle.std.specs.Prelude.{◌≡◌, ◌≤◌, ◌^◌};
 
     ghost Value = { ConsoleState };
 
     ghost view = { λ c. record { machine = c.machine; limit = c.limit; stopped = c.stopped } };
 
-    // no step was taken at its limit or later
-    ghost invariant = { λ c. CountsWithin c.limit c.machine × (c.limit ≤ 2 ^ 56) };
+    // no step was taken at its limit or later; and a turn whose limit isn't above the open one neither raises its limit nor comes after a stop
+    ghost invariant = { λ c. CountsWithin c.limit c.machine × (c.limit ≤ 2 ^ 56) × (c.open_until ≡ open_of c.limit c.stopped) };
 }
 
 impl Console {
@@ -60,6 +61,7 @@ impl Console {
             machine,
             limit: 0,
             stopped: None,
+            open_until: 0,
         })
     }
 
@@ -105,7 +107,7 @@ impl Console {
         ensures none { result ≡ false → self.new ≡ self.old }
         ensures turn { result ≡ true → Turns until.0 self.old Ran self.new }
     {
-        if self.stopped.is_none() && until.0 <= self.limit {
+        if until.0 <= self.open_until {
             return self.machine.quick(until);
         }
         false
@@ -121,6 +123,7 @@ impl Console {
             return Turned::Stopped(left);
         }
         self.limit = self.limit.max(until.0);
+        self.open_until = self.limit;
         let due = self.machine.due();
         if until.0 <= due.tick.0 {
             return Turned::AtEnd;
@@ -140,6 +143,7 @@ impl Console {
             Done::Frame { swapped } => Turned::Frame { swapped },
             Done::Stopped(left) => {
                 self.stopped = Some(left);
+                self.open_until = 0;
                 Turned::Stopped(left)
             }
         }

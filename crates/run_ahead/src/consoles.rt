@@ -28,7 +28,7 @@ pub struct Counts {
     pub turns: u64,
 }
 
-/// A console. No call but `turn` changes it.
+/// A console. No call but `turn` and `turn_at_once` changes it.
 #[derive(Drop)]
 pub struct Console {
     machine: Machine,
@@ -94,6 +94,7 @@ impl Console {
         ensures none { result ≡ false → self.new ≡ self.old }
         ensures turn { result ≡ true → Turns until.0 self.old Ran self.new }
         ensures runs { result ≡ true → RunsOn until.0 self.old.machine Ran self.new.machine }
+        ensures counted { result ≡ true → turns_of self.new.machine ≡ 1 + turns_of self.old.machine }
         ensures falls { result ≡ true → turns_left until.0 self.new.machine < turns_left until.0 self.old.machine }
     {
         self.laws();

@@ -9,7 +9,7 @@ use Rattle.arm_core.specs.Registers.{RegisterState, register}
 use Rattle.arm_core.specs.Steps.{FetchOutcome, enters, fetched}
 use Rattle.arm_exec.specs.Costs.{CostsSome}
 use Rattle.arm_exec.proofs.Costs.{some_cost, carried_out_costs, word_costs}
-use Rattle.cp15_tcm.specs.Registers.{Cp15State, Register, vectors_of, write_answer}
+use Rattle.cp15_tcm.specs.Registers.{Cp15State, Cp15Register, vectors_of, write_answer}
 use Rattle.cp15_tcm.specs.declared.answers.Mcr.{Mcr}
 use Rattle.cp15_tcm.specs.declared.answers.Mcr.TheVariants as mcr
 use Rattle.arm9_exec.specs.Arm9.{Outcome9, arm9, beside, executed_or_moved, step9_of}
@@ -19,7 +19,7 @@ use Rattle.arm9_exec.specs.declared.coprocessors.Moved.{Moved}
 -- Every step of ARM9 costs a clock at least.
 
 module _ (s : RegisterState) (cp : Cp15State) where
-  written_costs : (r : Register) (value : ℕ) (answer : Mcr) → CostsSome (written_by s cp r value answer).stepped
+  written_costs : (r : Cp15Register) (value : ℕ) (answer : Mcr) → CostsSome (written_by s cp r value answer).stepped
   written_costs r value mcr.Kept = omega arith
   written_costs r value mcr.Halt = tt
   written_costs r value (mcr.Left stop) = tt

@@ -10,8 +10,8 @@ use Rattle.arm_core.specs.Registers.{RegisterState, register, next, put}
 use Rattle.arm_core.specs.declared.classes.Class.TheVariants as classes
 use Rattle.arm_core.specs.declared.outcomes.Stepped.{Stepped}
 use Rattle.arm_core.specs.declared.outcomes.Stepped.TheVariants.{Cost, Halted, Left}
-use Rattle.cp15_tcm.specs.Registers.{Cp15State, Register, register_of, register_read, register_written, write_answer}
-use Rattle.cp15_tcm.specs.Registers.Register.{WaitForInterrupt}
+use Rattle.cp15_tcm.specs.Registers.{Cp15State, Cp15Register, register_of, register_read, register_written, write_answer}
+use Rattle.cp15_tcm.specs.Registers.Cp15Register.{WaitForInterrupt}
 use Rattle.cp15_tcm.specs.declared.answers.Mcr.{Mcr}
 use Rattle.cp15_tcm.specs.declared.answers.Mcr.TheVariants as mcr
 use Rattle.arm9_exec.specs.declared.coprocessors.Moved.{Moved}
@@ -30,7 +30,7 @@ move_of (Some (Coprocessor cond load op1 crn rd cp op2 crm)) =
     if cp == 15 then Some (record { cond = cond; load = load; op1 = op1; crn = crn; rd = rd; op2 = op2; crm = crm }) else None
 move_of _ = None
 
-abbrev pub register_moved : Moved → Register
+abbrev pub register_moved : Moved → Cp15Register
 register_moved m = register_of m.op1 m.crn m.crm m.op2
 
 -- what it costs
@@ -41,16 +41,16 @@ move_clocks = clocks classes.Coprocessor V5
 abbrev pub read_into : ℕ → ℕ → RegisterState → RegisterState
 read_into rd value s = if rd == 15 then record s { cpsr = s.cpsr % 2 ^ 28 + value / 2 ^ 28 * 2 ^ 28 } else put rd value s
 
-abbrev pub read_by : RegisterState → Cp15State → ℕ → Register → MoveOutcome
+abbrev pub read_by : RegisterState → Cp15State → ℕ → Cp15Register → MoveOutcome
 read_by s cp rd r = record { registers = read_into rd (register_read cp r) (next s); cp = cp; stepped = Cost move_clocks }
 
 -- MCR, by what CP15 answers: a halt is taken; what is left out leaves the registers of both as they were
-abbrev pub written_by : RegisterState → Cp15State → Register → ℕ → Mcr → MoveOutcome
+abbrev pub written_by : RegisterState → Cp15State → Cp15Register → ℕ → Mcr → MoveOutcome
 written_by s cp r value mcr.Kept = record { registers = next s; cp = register_written cp r value; stepped = Cost move_clocks }
 written_by s cp r value mcr.Halt = record { registers = next s; cp = register_written cp r value; stepped = Halted move_clocks }
 written_by s cp r value (mcr.Left stop) = record { registers = s; cp = cp; stepped = Left stop }
 
-abbrev pub written : RegisterState → Cp15State → Register → ℕ → MoveOutcome
+abbrev pub written : RegisterState → Cp15State → Cp15Register → ℕ → MoveOutcome
 written s cp r value = written_by s cp r value (write_answer r value)
 
 -- a move takes effect where its condition holds
@@ -63,7 +63,7 @@ moved_if s cp m =
     else record { registers = (skipped s).after []; cp = cp; stepped = Cost (cost_of V5 (skipped s)) }
 
 -- it writes the wait for an interrupt (c7,c0,4)
-abbrev pub is_wait : Register → Bool
+abbrev pub is_wait : Cp15Register → Bool
 is_wait WaitForInterrupt = true
 is_wait _ = false
 

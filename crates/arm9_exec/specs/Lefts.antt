@@ -11,7 +11,7 @@ KeepsBothWhereLeft s cp (Halted clocks) new_s new_cp = Unit {0}
 KeepsBothWhereLeft s cp (Left stop) new_s new_cp = (new_s ≡ s) × (new_cp ≡ cp)
 
 -- a step came to a halt
-abbrev pub is_halted : stepped.Stepped → Bool
-is_halted (Cost clocks) = false
-is_halted (Halted clocks) = true
-is_halted (Left stop) = false
+abbrev pub ends_halted : stepped.Stepped → Bool
+ends_halted (Cost clocks) = false
+ends_halted (Halted clocks) = true
+ends_halted (Left stop) = false

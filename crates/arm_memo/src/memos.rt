@@ -17,7 +17,7 @@ const PLACES: usize = 16_384;
 
 /// A number with its instruction, or none, made ready.
 #[derive(Clone, Copy)]
-struct Entry<const VERSION: u32, const BITS: u32> {
+struct MadeReady<const VERSION: u32, const BITS: u32> {
     number: u32,
     ready: Ready,
     ghost made: { ready_of (known VERSION BITS number) ≡ ready } by { Coded-set ready-code (ready_of (known VERSION BITS number)) ready },
@@ -26,7 +26,7 @@ struct Entry<const VERSION: u32, const BITS: u32> {
 /// Numbers of so many bits with their instructions.
 #[derive(Drop)]
 pub struct Memo<const VERSION: u32, const BITS: u32> {
-    entries: Vec<Entry<VERSION, BITS>>,
+    entries: Vec<MadeReady<VERSION, BITS>>,
 }
 
 impl<const VERSION: u32, const BITS: u32> Model for Memo<VERSION, BITS> {
@@ -70,14 +70,14 @@ fn decoded<const VERSION: u32, const BITS: u32>(number: u32) -> Option<Instr>
 
 /// The entry of a number.
 #[inline(never)]
-fn made<const VERSION: u32, const BITS: u32>(number: u32) -> Entry<VERSION, BITS>
+fn made<const VERSION: u32, const BITS: u32>(number: u32) -> MadeReady<VERSION, BITS>
     ensures { result.number ≡ number }
 {
     let ready = ready(decoded::<VERSION, BITS>(number));
-    Entry { number, ready }
+    MadeReady { number, ready }
 }
 
-impl<const VERSION: u32, const BITS: u32> Entry<VERSION, BITS> {
+impl<const VERSION: u32, const BITS: u32> MadeReady<VERSION, BITS> {
     /// Makes it the entry of a number, if it isn't.
     #[inline(always)]
     fn learn(&mut self, number: u32)

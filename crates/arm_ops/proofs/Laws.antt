@@ -31,7 +31,8 @@ use Rattle.arm_core.specs.declared.outcomes.Stepped.{Stepped}
 use Rattle.arm_core.specs.declared.outcomes.Stepped.TheVariants.{Cost}
 use Rattle.arm_exec.proofs.Costs.{some_cost}
 use Rattle.arm_core.specs.Thumb.{equivalent}
-use Rattle.arm_ops.specs.Meanings.{compare_by, data_by, is_near, move_by, op_meaning, ready_meaning, register_operand, shifted_operand, IsNear, IsPaid, RefusesNoneNear}
+use Rattle.arm_ops.specs.Meanings.{compare_by, data_by, is_near, move_by, op_meaning, ready_meaning, register_operand, shifted_operand, IsNear, RefusesNoneNear}
+use Rattle.arm_ops.specs.Inside.{IsPaid}
 use Rattle.arm_ops.specs.Operations.{compare_op, data_op, is_other, is_plain, move_op, op_of, ready_of}
 use Rattle.arm_ops.specs.declared.operations.Op.TheVariants.{CompareRegister, CompareShifted, DataRegister, DataShifted, MoveRegister, MoveShifted}
 

@@ -1,4 +1,4 @@
-use Rattle.std.specs.Prelude.{ℕ, ◌≡◌, ◌<◌, ◌/◌, ◌^◌, ◌==◌, Bool, true, false, if◌then◌else◌, List, [], ◌∷◌, None}
+use Rattle.std.specs.Prelude.{ℕ, ◌≡◌, ◌/◌, ◌^◌, ◌==◌, Bool, true, false, if◌then◌else◌, List, [], ◌∷◌, None}
 use Rattle.ds_base.specs.Accesses.{Access, Fetch, MemoryMachine, Read, Write}
 use Rattle.ds_base.specs.Bits.{bit}
 use Rattle.ds_base.specs.declared.memories.Width.{Width}
@@ -18,8 +18,6 @@ use Rattle.arm_core.specs.Shifter.{shift_by_number, shifted32}
 use Rattle.arm_core.specs.Transfers.{half_or_signed_meaning, literal_meaning, word_or_byte_meaning}
 use Rattle.arm_core.specs.declared.classes.Class.TheVariants.{Processing}
 use Rattle.arm_core.specs.declared.shifter.Shifted32.{Shifted32}
-use Rattle.arm_core.specs.declared.outcomes.Stepped.{Stepped}
-use Rattle.arm_core.specs.declared.outcomes.Stepped.TheVariants.{Cost, Halted, Left}
 use Rattle.arm_ops.specs.declared.operations.Op.{Op}
 use Rattle.arm_ops.specs.declared.operations.Op.TheVariants.{Other, DataNumber, DataRegister, DataShifted, CompareNumber, CompareRegister, CompareShifted, MoveNumber, MoveRegister, MoveShifted, Branch, Transfer, TransferBy, HalfTransfer, HalfTransferBy, Literal, Plain}
 use Rattle.arm_ops.specs.declared.operations.Ready.{Ready}
@@ -98,9 +96,3 @@ IsNear (access ∷ other ∷ rest) = ⊥
 -- a memory machine refuses no write of the near memories
 abbrev pub RefusesNoneNear : {S : Type 0} → MemoryMachine S → Type 0
 RefusesNoneNear {S} memory = (state : S) (at : ℕ) (width : Width) (value : ℕ) → is_near at ≡ true → memory.refusal state at width value ≡ None
-
--- a step was taken, and costs
-abbrev pub IsPaid : Stepped → Type 0
-IsPaid (Cost clocks) = 0 < clocks
-IsPaid (Halted clocks) = ⊥
-IsPaid (Left stop) = ⊥

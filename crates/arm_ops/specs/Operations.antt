@@ -104,13 +104,3 @@ HasOp (Plain instr) = HasFields instr
 -- and what is made ready keeps to them
 abbrev pub HasReady : Ready → Type 0
 HasReady ready = HasOp ready.op × (is_other ready.op ≡ true → ready.cond ≡ Al)
-
--- it makes no access, and is run here
-abbrev pub Computes : Op → Type 0
-Computes Other = ⊥
-Computes (Transfer pre up byte write_back load rn rd offset) = ⊥
-Computes (TransferBy pre up byte write_back load rn rd rm shift amount) = ⊥
-Computes (HalfTransfer op pre up write_back rn rd offset) = ⊥
-Computes (HalfTransferBy op pre up write_back rn rd rm) = ⊥
-Computes (Literal rd immed) = ⊥
-Computes _ = Unit {0}

@@ -5,7 +5,8 @@ ghost use Rattle.arm_core.specs.Effects.{carried_out};
 ghost use Rattle.arm_core.specs.Footprints.{accessed_bytes, touched_bytes};
 ghost use Rattle.arm_ops.specs.Meanings.{op_meaning, ready_meaning};
 ghost use Rattle.arm_ops.specs.Operations as ops;
-ghost use Rattle.arm_ops.specs.Operations.{is_other, Computes, HasOp, HasReady};
+ghost use Rattle.arm_ops.specs.Operations.{is_other, HasOp, HasReady};
+ghost use Rattle.arm_ops.specs.Inside.{Computes};
 
 use crate::operations::{Op, Ready};
 use crate::running::{compute_on, shifted_operand, takes_effect};

@@ -9,8 +9,10 @@ ghost use Rattle.arm_core.specs.Meanings as meanings;
 ghost use Rattle.arm_core.specs.declared.outcomes.Stepped.TheVariants.{Cost};
 ghost use Rattle.arm_core.specs.Transfers.{half_or_signed_meaning, literal_meaning, word_or_byte_meaning};
 ghost use Rattle.arm_ops.specs.Meanings as ops;
-ghost use Rattle.arm_ops.specs.Meanings.{is_near, op_meaning, ready_meaning, IsNear, IsPaid, RefusesNoneNear};
-ghost use Rattle.arm_ops.specs.Operations.{is_other, Computes, HasOp, HasReady};
+ghost use Rattle.arm_ops.specs.Meanings.{is_near, op_meaning, ready_meaning, IsNear, RefusesNoneNear};
+ghost use Rattle.arm_ops.specs.Inside.{IsPaid};
+ghost use Rattle.arm_ops.specs.Operations.{is_other, HasOp, HasReady};
+ghost use Rattle.arm_ops.specs.Inside.{Computes};
 
 use crate::operations::{Op, Ready};
 use arm_core::{

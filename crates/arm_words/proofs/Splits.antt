@@ -2,14 +2,14 @@ use Rattle.std.proofs.Common.{ℕ, List, [], ◌∷◌, Bool, true, false, ◌&&
 use Rattle.std.proofs.lemmas.Nat.{and_assoc}
 use Rattle.ds_base.specs.declared.processors.Arch.{Arch}
 use Rattle.arm_words.proofs.Facts.{and_parts, equal, if_false, is_equal, true_or_false}
-use Rattle.arm_words.specs.Rows.{Row, agrees, first, or_else}
+use Rattle.arm_words.specs.Rows.{InstructionRow, agrees, first, or_else}
 use Rattle.arm_words.specs.ArmTable.{branch_rows, half_multiply_rows, half_product_rows, multiply_rows, half_transfer_rows, status_rows, immediate_status_rows, data_rows, double_rows, transfer_rows, multiple_rows, coprocessor_rows, conditional_arm}
 use Rattle.arm_words.specs.ThumbTable.{thumb_sum_rows, thumb_register_rows, thumb_literal_rows, thumb_offset_rows, thumb_stack_rows, thumb_multiple_rows, thumb_branch_rows, decoded_thumb}
 use Rattle.arm_words.proofs.Masks.{masked, part}
 use Rattle.arm_words.specs.declared.instructions.Instr.{Instr}
 
 -- each row looks at all bits of m, and none has there what `p` asks for
-abbrev shut : ℕ → (ℕ → Bool) → List Row → Bool
+abbrev shut : ℕ → (ℕ → Bool) → List InstructionRow → Bool
 shut m p [] = true
 shut m p (r ∷ rs) = (bit_and r.mask m == m) && (not (p (bit_and r.value m)) && shut m p rs)
 
@@ -17,7 +17,7 @@ both : (b : Bool) → not b ≡ true → b ≡ true → ⊥
 both true n e = absurd (cc)
 both false n e = absurd (cc)
 
-misses : (m : ℕ) (p : ℕ → Bool) (r : Row) (arch : Arch) (w : ℕ) → bit_and r.mask m ≡ m → not (p (bit_and r.value m)) ≡ true
+misses : (m : ℕ) (p : ℕ → Bool) (r : InstructionRow) (arch : Arch) (w : ℕ) → bit_and r.mask m ≡ m → not (p (bit_and r.value m)) ≡ true
     → p (bit_and w m) ≡ true → agrees r arch w ≡ false
 misses m p r arch w looks other here =
     elim (true_or_false (agrees r arch w)) [
@@ -32,7 +32,7 @@ misses m p r arch w looks other here =
     ]
 
 -- such rows have none of the words that have it
-none_of : (m : ℕ) (p : ℕ → Bool) (rs : List Row) → shut m p rs ≡ true → (arch : Arch) (w : ℕ) → p (bit_and w m) ≡ true → first rs arch w ≡ None
+none_of : (m : ℕ) (p : ℕ → Bool) (rs : List InstructionRow) → shut m p rs ≡ true → (arch : Arch) (w : ℕ) → p (bit_and w m) ≡ true → first rs arch w ≡ None
 none_of m p [] s arch w here = refl
 none_of m p (r ∷ rs) s arch w here =
     let a = and_parts (bit_and r.mask m == m) (not (p (bit_and r.value m)) && shut m p rs) s in
@@ -56,7 +56,7 @@ late a b c d e f g h i rest ea eb ec ed ee ef eg eh ei = rw (ea, eb, ec, ed, ee,
 pub high_rows : (arch : Arch) (w : ℕ) → bit_and w 0x0C000000 ≢ 0
     → conditional_arm arch w ≡ or_else (first transfer_rows arch w) (or_else (first multiple_rows arch w) (first coprocessor_rows arch w))
 high_rows arch w h =
-    let n = λ (rs : List Row) (s : shut 0x0C000000 (λ x. not (x == 0)) rs ≡ true).
+    let n = λ (rs : List InstructionRow) (s : shut 0x0C000000 (λ x. not (x == 0)) rs ≡ true).
     none_of 0x0C000000 (λ x. not (x == 0)) rs s arch w (is_nonzero (bit_and w 0x0C000000) h) in
     late (first branch_rows arch w) (first half_multiply_rows arch w) (first half_product_rows arch w) (first multiply_rows arch w)
     (first half_transfer_rows arch w) (first status_rows arch w) (first immediate_status_rows arch w) (first data_rows arch w)
@@ -136,7 +136,7 @@ coprocessor_leaf arch w h h4 h8 =
 low_rows : (arch : Arch) (w : ℕ) → bit_and w 0x0C000000 ≡ 0
     → or_else (first transfer_rows arch w) (or_else (first multiple_rows arch w) (first coprocessor_rows arch w)) ≡ None
 low_rows arch w h =
-    let n = λ (rs : List Row) (s : shut 0x0C000000 (λ x. x == 0) rs ≡ true).
+    let n = λ (rs : List InstructionRow) (s : shut 0x0C000000 (λ x. x == 0) rs ≡ true).
     none_of 0x0C000000 (λ x. x == 0) rs s arch w (is_equal (bit_and w 0x0C000000) 0 h) in
     no_transfers (first transfer_rows arch w) (first multiple_rows arch w) (first coprocessor_rows arch w)
     (n transfer_rows refl) (n multiple_rows refl) (n coprocessor_rows refl)
@@ -144,7 +144,7 @@ low_rows arch w h =
 pub immediate_leaf : (arch : Arch) (w : ℕ) → bit_and w 0x0C000000 ≡ 0 → bit_and w 0x02000000 ≢ 0
     → conditional_arm arch w ≡ or_else (first immediate_status_rows arch w) (first data_rows arch w)
 immediate_leaf arch w h i =
-    let n = λ (rs : List Row) (s : shut 0x02000000 (λ x. not (x == 0)) rs ≡ true).
+    let n = λ (rs : List InstructionRow) (s : shut 0x02000000 (λ x. not (x == 0)) rs ≡ true).
     none_of 0x02000000 (λ x. not (x == 0)) rs s arch w (is_nonzero (bit_and w 0x02000000) i) in
     only_immediates (first branch_rows arch w) (first half_multiply_rows arch w) (first half_product_rows arch w) (first multiply_rows arch w)
     (first half_transfer_rows arch w) (first status_rows arch w) (first immediate_status_rows arch w) (first data_rows arch w)
@@ -155,7 +155,7 @@ immediate_leaf arch w h i =
 pub extra_leaf : (arch : Arch) (w : ℕ) → bit_and w 0x0C000000 ≡ 0 → bit_and w 0x02000000 ≡ 0 → bit_and w 0x90 ≡ 0x90
     → conditional_arm arch w ≡ or_else (first multiply_rows arch w) (or_else (first half_transfer_rows arch w) (or_else (first data_rows arch w) (first double_rows arch w)))
 extra_leaf arch w h i e =
-    let n = λ (rs : List Row) (s : shut 0x90 (λ x. x == 0x90) rs ≡ true).
+    let n = λ (rs : List InstructionRow) (s : shut 0x90 (λ x. x == 0x90) rs ≡ true).
     none_of 0x90 (λ x. x == 0x90) rs s arch w (is_equal (bit_and w 0x90) 0x90 e) in
     let m = none_of 0x02000000 (λ x. x == 0) immediate_status_rows refl arch w (is_equal (bit_and w 0x02000000) 0 i) in
     only_extras (first branch_rows arch w) (first half_multiply_rows arch w) (first half_product_rows arch w) (first multiply_rows arch w)
@@ -166,7 +166,7 @@ extra_leaf arch w h i e =
 pub miscellaneous_leaf : (arch : Arch) (w : ℕ) → bit_and w 0x0C000000 ≡ 0 → bit_and w 0x02000000 ≡ 0 → bit_and w 0x90 ≢ 0x90
     → conditional_arm arch w ≡ or_else (first branch_rows arch w) (or_else (first half_multiply_rows arch w) (or_else (first half_product_rows arch w) (or_else (first status_rows arch w) (first data_rows arch w))))
 miscellaneous_leaf arch w h i e =
-    let n = λ (rs : List Row) (s : shut 0x90 (λ x. not (x == 0x90)) rs ≡ true).
+    let n = λ (rs : List InstructionRow) (s : shut 0x90 (λ x. not (x == 0x90)) rs ≡ true).
     none_of 0x90 (λ x. not (x == 0x90)) rs s arch w (is_other (bit_and w 0x90) 0x90 e) in
     let m = none_of 0x02000000 (λ x. x == 0) immediate_status_rows refl arch w (is_equal (bit_and w 0x02000000) 0 i) in
     only_miscellaneous (first branch_rows arch w) (first half_multiply_rows arch w) (first half_product_rows arch w) (first multiply_rows arch w)
@@ -177,14 +177,14 @@ miscellaneous_leaf arch w h i e =
 pub data_leaf : (arch : Arch) (w : ℕ) → bit_and w 0x0C000000 ≡ 0 → bit_and w 0x02000000 ≡ 0 → bit_and w 0x90 ≢ 0x90 → bit_and w 0x01900000 ≢ 0x01000000
     → conditional_arm arch w ≡ first data_rows arch w
 data_leaf arch w h i e k =
-    let n = λ (rs : List Row) (s : shut 0x01900000 (λ x. not (x == 0x01000000)) rs ≡ true).
+    let n = λ (rs : List InstructionRow) (s : shut 0x01900000 (λ x. not (x == 0x01000000)) rs ≡ true).
     none_of 0x01900000 (λ x. not (x == 0x01000000)) rs s arch w (is_other (bit_and w 0x01900000) 0x01000000 k) in
     miscellaneous_leaf arch w h i e
     ∙ only_data (first branch_rows arch w) (first half_multiply_rows arch w) (first half_product_rows arch w) (first status_rows arch w) (first data_rows arch w)
     (n branch_rows refl) (n half_multiply_rows refl) (n half_product_rows refl) (n status_rows refl)
 
 -- the rows of halves whose bits 15 to 13 are v alone
-thumb_none : (v : ℕ) (rs : List Row) → shut 0xE000 (λ x. x == v) rs ≡ true → (arch : Arch) (h : ℕ) → bit_and h 0xE000 ≡ v → first rs arch h ≡ None
+thumb_none : (v : ℕ) (rs : List InstructionRow) → shut 0xE000 (λ x. x == v) rs ≡ true → (arch : Arch) (h : ℕ) → bit_and h 0xE000 ≡ v → first rs arch h ≡ None
 thumb_none v rs s arch h e = none_of 0xE000 (λ x. x == v) rs s arch h (is_equal (bit_and h 0xE000) v e)
 
 -- the top three bits as the mask has them
@@ -194,7 +194,7 @@ top_three h v r e = let m = masked h (part 13 3 ∷ []) refl in omega (arith, m,
 pub middle_leaf : (arch : Arch) (h : ℕ) → h < 2 ^ 16 → h / 2 ^ 13 ≡ 2
     → decoded_thumb arch h ≡ or_else (first thumb_register_rows arch h) (first thumb_literal_rows arch h)
 middle_leaf arch h r e =
-    let n = λ (rs : List Row) (s : shut 0xE000 (λ x. x == 0x4000) rs ≡ true). thumb_none 0x4000 rs s arch h (top_three h 2 r e) in
+    let n = λ (rs : List InstructionRow) (s : shut 0xE000 (λ x. x == 0x4000) rs ≡ true). thumb_none 0x4000 rs s arch h (top_three h 2 r e) in
     only_middles (first thumb_sum_rows arch h) (first thumb_register_rows arch h) (first thumb_literal_rows arch h) (first thumb_offset_rows arch h)
     (first thumb_stack_rows arch h) (first thumb_multiple_rows arch h) (first thumb_branch_rows arch h)
     (n thumb_sum_rows refl) (n thumb_offset_rows refl) (n thumb_stack_rows refl) (n thumb_multiple_rows refl) (n thumb_branch_rows refl)
@@ -202,7 +202,7 @@ middle_leaf arch h r e =
 pub sum_leaf : (arch : Arch) (h v : ℕ) → h < 2 ^ 16 → h / 2 ^ 13 ≡ v → v < 2 → decoded_thumb arch h ≡ first thumb_sum_rows arch h
 sum_leaf arch h v r e l =
     let low : bit_and h 0xC000 ≡ 0 = (let m = masked h (part 14 2 ∷ []) refl in omega (arith, m, r, e, l)) in
-    let n = λ (rs : List Row) (s : shut 0xC000 (λ x. x == 0) rs ≡ true). none_of 0xC000 (λ x. x == 0) rs s arch h (is_equal (bit_and h 0xC000) 0 low) in
+    let n = λ (rs : List InstructionRow) (s : shut 0xC000 (λ x. x == 0) rs ≡ true). none_of 0xC000 (λ x. x == 0) rs s arch h (is_equal (bit_and h 0xC000) 0 low) in
     only_sums (first thumb_sum_rows arch h) (first thumb_register_rows arch h) (first thumb_literal_rows arch h) (first thumb_offset_rows arch h)
     (first thumb_stack_rows arch h) (first thumb_multiple_rows arch h) (first thumb_branch_rows arch h)
     (n thumb_register_rows refl) (n thumb_literal_rows refl) (n thumb_offset_rows refl) (n thumb_stack_rows refl) (n thumb_multiple_rows refl) (n thumb_branch_rows refl)
@@ -225,21 +225,21 @@ offset_leaf_4 arch h r e = offset_rows_alone arch h 0x8000 (top_three h 4 r e) r
 
 pub stack_leaf : (arch : Arch) (h : ℕ) → h < 2 ^ 16 → h / 2 ^ 13 ≡ 5 → decoded_thumb arch h ≡ first thumb_stack_rows arch h
 stack_leaf arch h r e =
-    let n = λ (rs : List Row) (s : shut 0xE000 (λ x. x == 0xA000) rs ≡ true). thumb_none 0xA000 rs s arch h (top_three h 5 r e) in
+    let n = λ (rs : List InstructionRow) (s : shut 0xE000 (λ x. x == 0xA000) rs ≡ true). thumb_none 0xA000 rs s arch h (top_three h 5 r e) in
     only_stacks (first thumb_sum_rows arch h) (first thumb_register_rows arch h) (first thumb_literal_rows arch h) (first thumb_offset_rows arch h)
     (first thumb_stack_rows arch h) (first thumb_multiple_rows arch h) (first thumb_branch_rows arch h)
     (n thumb_sum_rows refl) (n thumb_register_rows refl) (n thumb_literal_rows refl) (n thumb_offset_rows refl) (n thumb_multiple_rows refl) (n thumb_branch_rows refl)
 
 pub multiple_half_leaf : (arch : Arch) (h : ℕ) → h < 2 ^ 16 → h / 2 ^ 13 ≡ 6 → decoded_thumb arch h ≡ first thumb_multiple_rows arch h
 multiple_half_leaf arch h r e =
-    let n = λ (rs : List Row) (s : shut 0xE000 (λ x. x == 0xC000) rs ≡ true). thumb_none 0xC000 rs s arch h (top_three h 6 r e) in
+    let n = λ (rs : List InstructionRow) (s : shut 0xE000 (λ x. x == 0xC000) rs ≡ true). thumb_none 0xC000 rs s arch h (top_three h 6 r e) in
     only_multiples (first thumb_sum_rows arch h) (first thumb_register_rows arch h) (first thumb_literal_rows arch h) (first thumb_offset_rows arch h)
     (first thumb_stack_rows arch h) (first thumb_multiple_rows arch h) (first thumb_branch_rows arch h)
     (n thumb_sum_rows refl) (n thumb_register_rows refl) (n thumb_literal_rows refl) (n thumb_offset_rows refl) (n thumb_stack_rows refl) (n thumb_branch_rows refl)
 
 pub branch_leaf : (arch : Arch) (h : ℕ) → h < 2 ^ 16 → h / 2 ^ 13 ≡ 7 → decoded_thumb arch h ≡ first thumb_branch_rows arch h
 branch_leaf arch h r e =
-    let n = λ (rs : List Row) (s : shut 0xE000 (λ x. x == 0xE000) rs ≡ true). thumb_none 0xE000 rs s arch h (top_three h 7 r e) in
+    let n = λ (rs : List InstructionRow) (s : shut 0xE000 (λ x. x == 0xE000) rs ≡ true). thumb_none 0xE000 rs s arch h (top_three h 7 r e) in
     only_branches (first thumb_sum_rows arch h) (first thumb_register_rows arch h) (first thumb_literal_rows arch h) (first thumb_offset_rows arch h)
     (first thumb_stack_rows arch h) (first thumb_multiple_rows arch h) (first thumb_branch_rows arch h)
     (n thumb_sum_rows refl) (n thumb_register_rows refl) (n thumb_literal_rows refl) (n thumb_offset_rows refl) (n thumb_stack_rows refl) (n thumb_multiple_rows refl)

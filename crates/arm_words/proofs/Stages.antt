@@ -1,7 +1,7 @@
 use Rattle.std.proofs.Common.{ℕ, List, [], ◌∷◌, Bool, true, ◌&&◌, ◌≡◌, ◌⊎◌, inl, inr, subst, ◌==◌, bit_and, refl, sym, ◌∙◌, ap, Option, Some, None}
 use Rattle.ds_base.specs.declared.processors.Arch.{Arch}
 use Rattle.arm_words.proofs.Facts.{and_parts, equal, if_false, if_true, some_is, true_or_false}
-use Rattle.arm_words.specs.Rows.{Row, agrees, first, or_else}
+use Rattle.arm_words.specs.Rows.{InstructionRow, agrees, first, or_else}
 use Rattle.arm_words.specs.Fields.{HasFields}
 use Rattle.arm_words.specs.Spellings.{spelled}
 use Rattle.arm_words.specs.declared.instructions.Instr.{Instr}
@@ -24,7 +24,7 @@ pub record Respelt (k : Kind) (instr : ℕ → Instr) (w : ℕ) : Type 0 where
   pub fields : HasFields (instr w)
 
 -- a row whose spellings decode to the same instruction, and whose tests see no difference between near words
-pub record Sound (k : Kind) (r : Row) : Type 0 where
+pub record Sound (k : Kind) (r : InstructionRow) : Type 0 where
   pub parts : List Part
   pub is_mask : mask parts ≡ r.mask
   pub falls : descend parts ≡ true
@@ -33,18 +33,18 @@ pub record Sound (k : Kind) (r : Row) : Type 0 where
   pub law : (w : ℕ) → k.Fits w → under w parts ≡ r.value → r.only w ≡ true → Respelt k r.instr w
 
 -- a row whose spelling is the word itself
-pub record Exact (k : Kind) (r : Row) : Type 0 where
+pub record Exact (k : Kind) (r : InstructionRow) : Type 0 where
   pub parts : List Part
   pub is_mask : mask parts ≡ r.mask
   pub falls : descend parts ≡ true
   pub spelling : (w : ℕ) → k.Fits w → under w parts ≡ r.value → r.only w ≡ true → spelled (r.instr w) ≡ k.make w
   pub fields : (w : ℕ) → k.Fits w → under w parts ≡ r.value → r.only w ≡ true → HasFields (r.instr w)
 
-abbrev pub AllSound : Kind → List Row → Type 0
+abbrev pub AllSound : Kind → List InstructionRow → Type 0
 AllSound k [] = Unit {0}
 AllSound k (r ∷ rs) = Sound k r × AllSound k rs
 
-abbrev pub AllExact : Kind → List Row → Type 0
+abbrev pub AllExact : Kind → List InstructionRow → Type 0
 AllExact k [] = Unit {0}
 AllExact k (r ∷ rs) = Exact k r × AllExact k rs
 
@@ -71,11 +71,11 @@ abbrev pub ExactStage : Kind → (Arch → ℕ → Option Instr) → Type 0
 ExactStage k f = (arch : Arch) (w : ℕ) → k.Fits w → (i : Instr) → f arch w ≡ Some i → Itself k w i
 
 -- what a row that agrees says
-agreed_only : (r : Row) (arch : Arch) (w : ℕ) → agrees r arch w ≡ true → r.only w ≡ true
+agreed_only : (r : InstructionRow) (arch : Arch) (w : ℕ) → agrees r arch w ≡ true → r.only w ≡ true
 agreed_only r arch w e =
     (and_parts (r.only w) (bit_and w r.mask == r.value) (and_parts (r.on arch) (r.only w && (bit_and w r.mask == r.value)) e).1).0
 
-agreed_mask : (r : Row) (arch : Arch) (w : ℕ) → agrees r arch w ≡ true → bit_and w r.mask ≡ r.value
+agreed_mask : (r : InstructionRow) (arch : Arch) (w : ℕ) → agrees r arch w ≡ true → bit_and w r.mask ≡ r.value
 agreed_mask r arch w e =
     equal (bit_and w r.mask) r.value (and_parts (r.only w) (bit_and w r.mask == r.value) (and_parts (r.on arch) (r.only w && (bit_and w r.mask == r.value)) e).1).1
 
@@ -83,7 +83,7 @@ parts_under : (w m v : ℕ) (ps : List Part) → mask ps ≡ m → descend ps �
 parts_under w m v ps e d h = sym (masked w ps d) ∙ ap (λ (x : ℕ). bit_and w x) e ∙ h
 
 -- near words agree with the same rows
-agrees_blind : (k : Kind) (r : Row) → Sound k r → (arch : Arch) (w v : ℕ) → k.Near w v → agrees r arch v ≡ agrees r arch w
+agrees_blind : (k : Kind) (r : InstructionRow) → Sound k r → (arch : Arch) (w v : ℕ) → k.Near w v → agrees r arch v ≡ agrees r arch w
 agrees_blind k r s arch w v n =
     let masks : bit_and v r.mask ≡ bit_and w r.mask =
     ap (λ (x : ℕ). bit_and v x) (sym s.is_mask) ∙ masked v s.parts s.falls ∙ s.blind w v n ∙ sym (masked w s.parts s.falls)
@@ -91,7 +91,7 @@ agrees_blind k r s arch w v n =
     let only : r.only v ≡ r.only w = s.only_blind w v n in
     ap (λ (x : ℕ). r.on arch && (r.only v && (x == r.value))) masks ∙ ap (λ (x : Bool). r.on arch && (x && (bit_and w r.mask == r.value))) only
 
-pub sound_quiet : (k : Kind) (rs : List Row) → AllSound k rs → Quiet k (first rs)
+pub sound_quiet : (k : Kind) (rs : List InstructionRow) → AllSound k rs → Quiet k (first rs)
 sound_quiet k [] s arch w v n e = refl
 sound_quiet k (r ∷ rs) s arch w v n e =
     elim (true_or_false (agrees r arch w)) [
@@ -101,7 +101,7 @@ sound_quiet k (r ∷ rs) s arch w v n e =
           ∙ sound_quiet k rs s.1 arch w v n (sym (if_false (agrees r arch w) (Some (r.instr w)) (first rs arch w) missed) ∙ e)
     ]
 
-pub sound_stage : (k : Kind) (rs : List Row) → AllSound k rs → Stage k (first rs)
+pub sound_stage : (k : Kind) (rs : List InstructionRow) → AllSound k rs → Stage k (first rs)
 sound_stage k [] s arch w h i e = absurd (cc)
 sound_stage k (r ∷ rs) s arch w h i e =
     elim (true_or_false (agrees r arch w)) [
@@ -126,7 +126,7 @@ sound_stage k (r ∷ rs) s arch w h i e =
           }
     ]
 
-pub exact_stage : (k : Kind) (rs : List Row) → AllExact k rs → ExactStage k (first rs)
+pub exact_stage : (k : Kind) (rs : List InstructionRow) → AllExact k rs → ExactStage k (first rs)
 exact_stage k [] s arch w h i e = absurd (cc)
 exact_stage k (r ∷ rs) s arch w h i e =
     elim (true_or_false (agrees r arch w)) [

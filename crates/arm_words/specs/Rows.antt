@@ -5,14 +5,14 @@ use Rattle.arm_words.specs.declared.instructions.Instr.{Instr}
 
 -- a row of a table: the words whose bits under `mask` are `value`, on the architectures that have it, where `only` holds of the
 -- word; and the instruction with its fields
-pub record Row : Type 0 where
+pub record InstructionRow : Type 0 where
   pub mask : ℕ
   pub value : ℕ
   pub on : Arch → Bool
   pub only : ℕ → Bool
   pub instr : ℕ → Instr
 
-abbrev pub row : ℕ → ℕ → (Arch → Bool) → (ℕ → Bool) → (ℕ → Instr) → Row
+abbrev pub row : ℕ → ℕ → (Arch → Bool) → (ℕ → Bool) → (ℕ → Instr) → InstructionRow
 row m v a p f = record { mask = m; value = v; on = a; only = p; instr = f }
 
 -- on which architectures
@@ -31,11 +31,11 @@ v4 V5 = false
 abbrev pub always : ℕ → Bool
 always word = true
 
-abbrev pub agrees : Row → Arch → ℕ → Bool
+abbrev pub agrees : InstructionRow → Arch → ℕ → Bool
 agrees r arch word = r.on arch && (r.only word && (bit_and word r.mask == r.value))
 
 -- the first row that agrees
-abbrev pub first : List Row → Arch → ℕ → Option Instr
+abbrev pub first : List InstructionRow → Arch → ℕ → Option Instr
 first [] arch word = None
 first (r ∷ rs) arch word = if agrees r arch word then Some (r.instr word) else first rs arch word
 

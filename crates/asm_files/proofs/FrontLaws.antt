@@ -1,5 +1,6 @@
 -- Listings, fronts of listings, and first bad lines.
 use Rattle.std.proofs.Common.{ℕ, suc, ◌≡◌, ◌≢◌, ◌<◌, ◌≤◌, ◌+◌, ◌^◌, List, [], ◌∷◌, ◌++◌, length, take, drop, refl, sym, ap, ◌∙◌, arith, inl, inr, ◌⊎◌, subst, append_assoc}
+use Rattle.ds_base.specs.Texts.{text_of}
 use Rattle.std.proofs.lemmas.List.{append-nil, take-append-drop, take-take}
 use Rattle.ds_base.specs.declared.processors.Arch.{Arch}
 use Rattle.ds_base.specs.declared.processors.Arch.TheVariants.{V5}
@@ -8,8 +9,8 @@ use Rattle.asm_text.specs.declared.sets.Set.TheVariants.{Arm}
 use Rattle.asm_text.specs.Starts.{start}
 use Rattle.asm_text.specs.StatementLaws.{StatementLaws}
 use Rattle.asm_text.proofs.StartLaws.{one_start}
-use Rattle.asm_files.specs.declared.places.Place.{Place}
-use Rattle.asm_files.specs.Listings.{text_of, whole_lines, tail, listing_lines, lines_of, IsListing, IsFront, IsFirstBad}
+use Rattle.asm_files.specs.declared.places.LinePlace.{LinePlace}
+use Rattle.asm_files.specs.Listings.{whole_lines, tail, listing_lines, lines_of, IsListing, IsFront, IsFirstBad}
 use Rattle.asm_files.specs.Reader.Lines.{first_place, Path, HasPath, EndsAt}
 use Rattle.asm_files.proofs.PathLaws.{path_of_lines, lines_of_path, path_split, path_once}
 use Rattle.asm_files.proofs.TextLaws.{lines_again, tail_again, text_again, listing_plain}
@@ -21,7 +22,7 @@ head_same a b ls ms e = cc
 rest_same : (a b : List ℕ) (ls ms : List (List ℕ)) → a ∷ ls ≡ b ∷ ms → ls ≡ ms
 rest_same a b ls ms e = cc
 
-moved : (arch arch' : Arch) (set set' : Set) (at at' : ℕ) (ls : List (List ℕ)) (b : List ℕ) (to : Place) → arch ≡ arch' → set ≡ set' → at ≡ at' → Path arch set (first_place at) ls b to → Path arch' set' (first_place at') ls b to
+moved : (arch arch' : Arch) (set set' : Set) (at at' : ℕ) (ls : List (List ℕ)) (b : List ℕ) (to : LinePlace) → arch ≡ arch' → set ≡ set' → at ≡ at' → Path arch set (first_place at) ls b to → Path arch' set' (first_place at') ls b to
 moved arch arch' set set' at at' ls b to ea es et p =
     let A : Arch → Type 0 = λ x. Path x set (first_place at) ls b to in
     let S : Set → Type 0 = λ x. Path arch' x (first_place at) ls b to in

@@ -6,7 +6,7 @@ use Rattle.asm_text.specs.declared.sets.Set.{Set}
 use Rattle.asm_text.specs.StatementLaws.{StatementLaws}
 use Rattle.arm_words.specs.declared.spellings.Spelling.{Spelling}
 use Rattle.arm_words.specs.declared.spellings.Spelling.TheVariants.{Word, Half}
-use Rattle.asm_files.specs.declared.places.Place.{Place}
+use Rattle.asm_files.specs.declared.places.LinePlace.{LinePlace}
 use Rattle.asm_files.specs.Reader.Lines.{spelling_bytes, Leads, Path, HasPath, EndsAt}
 use Rattle.asm_files.proofs.PathLaws.{path_split, path_once, path_more}
 
@@ -34,9 +34,9 @@ next_of (x ∷ xs) (suc count) l more e = later x l xs more count (next_of xs co
 nothing_left : (ls : List (List ℕ)) (count : ℕ) → drop count ls ≡ [] → length ls ≤ count
 nothing_left ls count e = omega (arith, length-drop count ls, ap length e)
 
-module _ (arch : Arch) (set : Set) (from : Place) (ls : List (List ℕ)) (count : ℕ) (bytes : List ℕ) (mid : Place) where
+module _ (arch : Arch) (set : Set) (from : LinePlace) (ls : List (List ℕ)) (count : ℕ) (bytes : List ℕ) (mid : LinePlace) where
   -- a line that can't stand there
-  pub stops : StatementLaws → (l : List ℕ) (more : List (List ℕ)) (tail : List ℕ) → from.at < 2 ^ 32 → Path arch set from (take count ls) bytes mid → drop count ls ≡ l ∷ more → ((b : List ℕ) (to : Place) → Leads arch set mid l b to → ⊥) → EndsAt arch set from ls tail count
+  pub stops : StatementLaws → (l : List ℕ) (more : List (List ℕ)) (tail : List ℕ) → from.at < 2 ^ 32 → Path arch set from (take count ls) bytes mid → drop count ls ≡ l ∷ more → ((b : List ℕ) (to : LinePlace) → Leads arch set mid l b to → ⊥) → EndsAt arch set from ls tail count
   stops laws l more tail h p e never =
       let n = next_of ls count l more e in
       record {
@@ -49,7 +49,7 @@ module _ (arch : Arch) (set : Set) (from : Place) (ls : List (List ℕ)) (count 
               let P : List (List ℕ) → Type 0 = λ x. Path arch set from x b q.to in
               let s = path_split arch set from (take count ls) (l ∷ []) b q.to (subst P n.taken q.path) in
               let o = path_once laws arch set from (take count ls) bytes mid s.first s.mid h p s.before in
-              let L : Place → Type 0 = λ x. Leads arch set x l s.after.0 s.after.1 in
+              let L : LinePlace → Type 0 = λ x. Leads arch set x l s.after.0 s.after.1 in
               never s.after.0 s.after.1 (subst L (sym o.1) s.after.3)),
         );
       }
@@ -65,7 +65,7 @@ module _ (arch : Arch) (set : Set) (from : Place) (ls : List (List ℕ)) (count 
       let P : List (List ℕ) → Type 0 = λ x. Path arch set from x bytes mid in
       record { to = mid; path = subst P (take_all count ls (nothing_left ls count e)) p }
 
-  pub goes_on : (l : List ℕ) (more : List (List ℕ)) (b : List ℕ) (to : Place) → Path arch set from (take count ls) bytes mid → drop count ls ≡ l ∷ more → Leads arch set mid l b to → Path arch set from (take (count + 1) ls) (bytes ++ b) to
+  pub goes_on : (l : List ℕ) (more : List (List ℕ)) (b : List ℕ) (to : LinePlace) → Path arch set from (take count ls) bytes mid → drop count ls ≡ l ∷ more → Leads arch set mid l b to → Path arch set from (take (count + 1) ls) (bytes ++ b) to
   goes_on l more b to p e s =
       let n = next_of ls count l more e in
       let P : List (List ℕ) → Type 0 = λ x. Path arch set from x (bytes ++ b) to in

@@ -1,5 +1,6 @@
 -- Texts that pass through a page to a sink, one after the other.
 use Rattle.std.proofs.Common.{ℕ, ◌≡◌, ◌<◌, ◌≤◌, ◌+◌, ◌-◌, ◌%◌, ◌^◌, List, [], ◌∷◌, ◌++◌, length, map, get_or, take, drop, Bool, refl, sym, ap, ◌∙◌, subst, append_assoc, arith}
+use Rattle.ds_base.specs.Texts.{text_of}
 use Rattle.std.proofs.lemmas.List.{append-nil, take_all}
 use Rattle.ds_base.specs.declared.processors.Arch.{Arch}
 use Rattle.asm_text.specs.declared.sets.Set.{Set}
@@ -8,7 +9,7 @@ use Rattle.asm_text.specs.Listed.{listed}
 use Rattle.asm_text.specs.Starts.{raw_byte}
 use Rattle.ds_io.specs.Sinks.{Appended, AppendedFront}
 use Rattle.ds_io.proofs.SinkLemmas.{append_none, append_twice, front_after, front_of_more}
-use Rattle.asm_files.specs.Listings.{text_of, half_of, word_of, arm_lines, thumb_lines, lines_of}
+use Rattle.asm_files.specs.Listings.{half_from, word_from, arm_lines, thumb_lines, lines_of}
 use Rattle.asm_files.specs.Reader.Lines.{size}
 use Rattle.asm_files.specs.Writer.Pages.{Passing, Passed}
 use Rattle.asm_files.proofs.PathLaws.{few_lines}
@@ -70,7 +71,7 @@ byte_step (b ∷ bs) line h e =
     let t : take (length (b ∷ bs) - 1) bs ≡ bs = take_all (length (b ∷ bs) - 1) bs (omega arith) in
     ap (λ (l : List ℕ). l ++ 10 ∷ text_of (map raw_byte bs)) (sym e) ∙ line_step line (map raw_byte bs) ∙ ap (λ (l : List ℕ). (line ++ 10 ∷ []) ++ text_of (map raw_byte l)) (sym t)
 
-pub word_step : (arch : Arch) (at : ℕ) (rest line : List ℕ) (word : ℕ) → 4 ≤ length rest → word ≡ word_of (get_or rest 0 0) (get_or rest 1 0) (get_or rest 2 0) (get_or rest 3 0) → line ≡ listed arch Arm at word → text_of (arm_lines arch at rest) ≡ (line ++ 10 ∷ []) ++ text_of (arm_lines arch ((at + 4) % 2 ^ 32) (take (length rest - 4) (drop 4 rest)))
+pub word_step : (arch : Arch) (at : ℕ) (rest line : List ℕ) (word : ℕ) → 4 ≤ length rest → word ≡ word_from (get_or rest 0 0) (get_or rest 1 0) (get_or rest 2 0) (get_or rest 3 0) → line ≡ listed arch Arm at word → text_of (arm_lines arch at rest) ≡ (line ++ 10 ∷ []) ++ text_of (arm_lines arch ((at + 4) % 2 ^ 32) (take (length rest - 4) (drop 4 rest)))
 word_step arch at [] line w h n e = absurd (omega arith)
 word_step arch at (a ∷ []) line w h n e = absurd (omega arith)
 word_step arch at (a ∷ b ∷ []) line w h n e = absurd (omega arith)
@@ -79,7 +80,7 @@ word_step arch at (a ∷ b ∷ c ∷ d ∷ rest) line w h n e =
     let t : take (length (a ∷ b ∷ c ∷ d ∷ rest) - 4) rest ≡ rest = take_all (length (a ∷ b ∷ c ∷ d ∷ rest) - 4) rest (omega arith) in
     ap (λ (l : List ℕ). l ++ 10 ∷ text_of (arm_lines arch ((at + 4) % 2 ^ 32) rest)) (sym (e ∙ ap (listed arch Arm at) n)) ∙ line_step line (arm_lines arch ((at + 4) % 2 ^ 32) rest) ∙ ap (λ (l : List ℕ). (line ++ 10 ∷ []) ++ text_of (arm_lines arch ((at + 4) % 2 ^ 32) l)) (sym t)
 
-pub half_step : (arch : Arch) (at : ℕ) (rest line : List ℕ) (half : ℕ) → 2 ≤ length rest → half ≡ half_of (get_or rest 0 0) (get_or rest 1 0) → line ≡ listed arch Thumb at half → text_of (thumb_lines arch at rest) ≡ (line ++ 10 ∷ []) ++ text_of (thumb_lines arch ((at + 2) % 2 ^ 32) (take (length rest - 2) (drop 2 rest)))
+pub half_step : (arch : Arch) (at : ℕ) (rest line : List ℕ) (half : ℕ) → 2 ≤ length rest → half ≡ half_from (get_or rest 0 0) (get_or rest 1 0) → line ≡ listed arch Thumb at half → text_of (thumb_lines arch at rest) ≡ (line ++ 10 ∷ []) ++ text_of (thumb_lines arch ((at + 2) % 2 ^ 32) (take (length rest - 2) (drop 2 rest)))
 half_step arch at [] line w h n e = absurd (omega arith)
 half_step arch at (a ∷ []) line w h n e = absurd (omega arith)
 half_step arch at (a ∷ b ∷ rest) line w h n e =

@@ -1,14 +1,14 @@
 -- Texts and their lines.
 use Rattle.std.proofs.Common.{ℕ, ◌≡◌, ◌≢◌, Bool, true, false, List, [], ◌∷◌, ◌++◌, refl, sym, ap, ◌∙◌, arith, inl, inr, subst, append_assoc}
+use Rattle.ds_base.specs.Texts.{HasNoFeed, text_of}
 use Rattle.std.proofs.lemmas.List.{append-nil}
 use Rattle.std.specs.Prelude.{◌==◌, if◌then◌else◌}
 use Rattle.ds_base.specs.declared.processors.Arch.{Arch}
 use Rattle.asm_text.specs.declared.sets.Set.{Set}
-use Rattle.asm_text.specs.Starts.{HasNoFeed}
 use Rattle.asm_text.specs.StatementLaws.{StatementLaws}
 use Rattle.asm_text.proofs.StartLaws.{byte_plain, start_plain}
-use Rattle.asm_files.specs.declared.places.Place.{Place}
-use Rattle.asm_files.specs.Listings.{text_of, lines_in, tail_in, whole_lines, tail, listing_lines, lines_of, AllBytes}
+use Rattle.asm_files.specs.declared.places.LinePlace.{LinePlace}
+use Rattle.asm_files.specs.Listings.{lines_in, tail_in, whole_lines, tail, listing_lines, lines_of, AllBytes}
 use Rattle.asm_files.specs.Reader.Lines.{first_place, Leads, Path}
 use Rattle.asm_files.proofs.PathLaws.{path_of_lines}
 
@@ -48,11 +48,11 @@ pub text_again : (line text : List ℕ) → text_of (lines_in line text) ++ tail
 text_again line [] = sym (append-nil line)
 text_again line (b ∷ bs) = text_step line b bs (b == 10) refl (text_again [] bs) (text_again (line ++ b ∷ []) bs)
 
-leads_plain : StatementLaws → (arch : Arch) (set : Set) (from : Place) (line b : List ℕ) (to : Place) → Leads arch set from line b to → HasNoFeed line
+leads_plain : StatementLaws → (arch : Arch) (set : Set) (from : LinePlace) (line b : List ℕ) (to : LinePlace) → Leads arch set from line b to → HasNoFeed line
 leads_plain laws arch set from line b to (inl x) = subst HasNoFeed (sym x.text) (laws.plain arch set from.at x.number)
 leads_plain laws arch set from line b to (inr x) = subst HasNoFeed (sym x.text) (byte_plain x.number)
 
-path_plain : StatementLaws → (arch : Arch) (set : Set) (from : Place) (ls : List (List ℕ)) (b : List ℕ) (to : Place) → Path arch set from ls b to → AllPlain ls
+path_plain : StatementLaws → (arch : Arch) (set : Set) (from : LinePlace) (ls : List (List ℕ)) (b : List ℕ) (to : LinePlace) → Path arch set from ls b to → AllPlain ls
 path_plain laws arch set from [] b to p = tt
 path_plain laws arch set from (l ∷ ls) b to p = (leads_plain laws arch set from l p.0 p.1 p.3, path_plain laws arch set p.1 ls p.2 to p.5)
 

@@ -1,5 +1,6 @@
 -- Listings of images (our choice).
 use Rattle.std.specs.Prelude.{ℕ, ◌≡◌, ◌≢◌, ◌<◌, ◌≤◌, ◌+◌, ◌%◌, ◌^◌, ◌==◌, List, [], ◌∷◌, ◌++◌, length, take, map, if◌then◌else◌, ◌⊎◌}
+use Rattle.ds_base.specs.Texts.{text_of}
 use Rattle.ds_base.specs.Numbers.{number_at}
 use Rattle.ds_base.specs.declared.memories.Width.TheVariants.{Half, Word}
 use Rattle.ds_base.specs.declared.processors.Arch.{Arch}
@@ -9,19 +10,19 @@ use Rattle.asm_text.specs.Listed.{listed}
 use Rattle.asm_text.specs.Starts.{start, raw_byte}
 
 -- the number that bytes stand for, the lowest first
-abbrev pub half_of : ℕ → ℕ → ℕ
-half_of a b = number_at Half (a ∷ b ∷ []) 0
+abbrev pub half_from : ℕ → ℕ → ℕ
+half_from a b = number_at Half (a ∷ b ∷ []) 0
 
-abbrev pub word_of : ℕ → ℕ → ℕ → ℕ → ℕ
-word_of a b c d = number_at Word (a ∷ b ∷ c ∷ d ∷ []) 0
+abbrev pub word_from : ℕ → ℕ → ℕ → ℕ → ℕ
+word_from a b c d = number_at Word (a ∷ b ∷ c ∷ d ∷ []) 0
 
 -- the lines of an image at an address: a statement a word or half, at addresses modulo 2^32, and a line for each byte that is left
 abbrev pub arm_lines : Arch → ℕ → List ℕ → List (List ℕ)
-arm_lines arch at (a ∷ b ∷ c ∷ d ∷ rest) = listed arch Arm at (word_of a b c d) ∷ arm_lines arch ((at + 4) % 2 ^ 32) rest
+arm_lines arch at (a ∷ b ∷ c ∷ d ∷ rest) = listed arch Arm at (word_from a b c d) ∷ arm_lines arch ((at + 4) % 2 ^ 32) rest
 arm_lines arch at bytes = map raw_byte bytes
 
 abbrev pub thumb_lines : Arch → ℕ → List ℕ → List (List ℕ)
-thumb_lines arch at (a ∷ b ∷ rest) = listed arch Thumb at (half_of a b) ∷ thumb_lines arch ((at + 2) % 2 ^ 32) rest
+thumb_lines arch at (a ∷ b ∷ rest) = listed arch Thumb at (half_from a b) ∷ thumb_lines arch ((at + 2) % 2 ^ 32) rest
 thumb_lines arch at bytes = map raw_byte bytes
 
 abbrev pub lines_of : Arch → Set → ℕ → List ℕ → List (List ℕ)
@@ -31,11 +32,6 @@ lines_of arch Thumb at image = thumb_lines arch at image
 -- with the first line, which is alone where the image is empty
 abbrev pub listing_lines : Arch → Set → ℕ → List ℕ → List (List ℕ)
 listing_lines arch set at image = start arch set at ∷ lines_of arch set at image
-
--- lines, each ended by a line feed
-abbrev pub text_of : List (List ℕ) → List ℕ
-text_of [] = []
-text_of (l ∷ ls) = l ++ 10 ∷ text_of ls
 
 -- the listing of an image
 abbrev pub listing : Arch → Set → ℕ → List ℕ → List ℕ

@@ -12,11 +12,11 @@ use std::marker::Model;
 
 /// At most 4,096 bytes, which take no memory beside the page itself. Its value in contracts is the list of its bytes.
 #[derive(Drop)]
-pub struct Page {
+pub struct TextPage {
     text: ArrayVec<u8, 4096>,
 }
 
-impl Model for Page {
+impl Model for TextPage {
     ghost use Rattle.std.specs.Prelude.{ℕ, List};
 
     ghost Value = { List ℕ };
@@ -26,12 +26,12 @@ impl Model for Page {
     ghost inverse = { λ p. record { text = record { items = p } } };
 }
 
-impl Page {
+impl TextPage {
     /// An empty page.
-    pub fn new() -> Page
+    pub fn new() -> TextPage
         ensures { result ≡ [] }
     {
-        Page {
+        TextPage {
             text: ArrayVec::new(),
         }
     }
@@ -64,7 +64,7 @@ impl Page {
 }
 
 /// Sends a page on where no line fits any more.
-fn make_room<O: Sink>(page: &mut Page, out: &mut O) -> Result<(), Failed>
+fn make_room<O: Sink>(page: &mut TextPage, out: &mut O) -> Result<(), Failed>
     ensures room { OnOk result (length page.new + 97 ≤ 4096) }
     ensures ok { OnOk result (Passed O.tells O.taken out.old out.new page.old page.new []) }
     ensures err { OnErr result (AppendedFront O.tells O.taken out.old out.new page.old) }
@@ -80,7 +80,7 @@ fn make_room<O: Sink>(page: &mut Page, out: &mut O) -> Result<(), Failed>
 }
 
 /// Puts a line and its line feed on a page, and sends the page on before that where the line doesn't fit.
-pub fn put_line<O: Sink>(line: &Line, page: &mut Page, out: &mut O) -> Result<(), Failed>
+pub fn put_line<O: Sink>(line: &Line, page: &mut TextPage, out: &mut O) -> Result<(), Failed>
     ensures ok { OnOk result (Passed O.tells O.taken out.old out.new page.old page.new (line.now ++ 10 ∷ [])) }
     ensures err { OnErr result (AppendedFront O.tells O.taken out.old out.new (page.old ++ (line.now ++ 10 ∷ []))) }
     ensures cause { OnErr result (Rose (O.faults out.old) (O.faults out.new)) }
@@ -92,7 +92,7 @@ pub fn put_line<O: Sink>(line: &Line, page: &mut Page, out: &mut O) -> Result<()
 }
 
 /// Sends a page on, as it is.
-pub fn send<O: Sink>(page: &Page, out: &mut O) -> Result<(), Failed>
+pub fn send<O: Sink>(page: &TextPage, out: &mut O) -> Result<(), Failed>
     ensures ok { OnOk result (Appended O.tells O.taken out.old out.new page.now) }
     ensures err { OnErr result (AppendedFront O.tells O.taken out.old out.new page.now) }
     ensures cause { OnErr result (Rose (O.faults out.old) (O.faults out.new)) }

@@ -4,7 +4,7 @@ use arm_words::Spelling;
 
 /// Where a line stands.
 #[derive(Clone, Copy)]
-pub struct Place {
+pub struct LinePlace {
     /// The address of a statement here.
     pub at: u32,
     /// How many bytes stand on lines of their own so far.

@@ -4,9 +4,9 @@ ghost use Rattle.std.specs.Prelude.{◌≡◌, ◌≢◌, ◌<◌, ◌≤◌, �
 ghost use Rattle.arm_words.specs.Spellings.{IsInRange};
 ghost use Rattle.asm_files.specs.Reader.Lines.{first_place, piece_bytes, size, EndsAt, HasPath, Leads};
 ghost use Rattle.asm_files.specs.Listings.{tail, whole_lines, IsFirstBad, IsListing};
-ghost use Rattle.asm_files.specs.declared.places.Place.{Place};
+ghost use Rattle.asm_files.specs.declared.places.LinePlace.{LinePlace};
 
-use crate::places::{Piece, Place};
+use crate::places::{LinePlace, Piece};
 use arm_words::Spelling;
 use asm_text::{Set, read_byte, read_bytes, read_start, statement_laws};
 use ds_base::Arch;
@@ -44,16 +44,16 @@ fn find_feed(text: &[u8]) -> Option<usize>
 }
 
 /// What a line at a place stands for, and the place after it.
-fn read_line(arch: Arch, set: Set, place: Place, line: &[u8]) -> Option<(Piece, Place)>
+fn read_line(arch: Arch, set: Set, place: LinePlace, line: &[u8]) -> Option<(Piece, LinePlace)>
     ensures found { IfSome result (λ r. Leads arch set place line.now (piece_bytes r.0) r.1) }
     ensures short { IfSome result (λ r. length (piece_bytes r.0) ≤ length line.now + 1) }
-    ensures none { IfNone result ((bytes : List ℕ) (to : Place) → Leads arch set place line.now bytes to → ⊥) }
+    ensures none { IfNone result ((bytes : List ℕ) (to : LinePlace) → Leads arch set place line.now bytes to → ⊥) }
 {
     statement_laws();
     if place.left == 0 {
         if let Ok(spelling) = read_bytes(arch, set, place.at, line) {
             let at = place.at.wrapping_add(size(set) as u32);
-            return Some((Piece::Number(spelling), Place { at, left: 0 }));
+            return Some((Piece::Number(spelling), LinePlace { at, left: 0 }));
         }
     }
     if place.left >= size(set) - 1 {
@@ -61,7 +61,7 @@ fn read_line(arch: Arch, set: Set, place: Place, line: &[u8]) -> Option<(Piece, 
     }
     let byte = read_byte(line)?;
     let left = place.left + 1;
-    Some((Piece::Byte(byte), Place { at: place.at, left }))
+    Some((Piece::Byte(byte), LinePlace { at: place.at, left }))
 }
 
 /// Writes a piece's bytes at a place, and gives the place after them.
@@ -105,7 +105,7 @@ fn read_lines(
     ensures bad { IfErr result (λ b. (count : ℕ) × (b.line ≡ count + 2) × EndsAt arch set (first_place start) (whole_lines (drop from text.old)) (tail (drop from text.old)) count) }
 {
     statement_laws();
-    let mut place = Place { at: start, left: 0 };
+    let mut place = LinePlace { at: start, left: 0 };
     let mut pos = from;
     let mut n = 0;
     let mut count = 0;

@@ -1,18 +1,19 @@
 //! From an image to its listing.
 
 ghost use Rattle.std.specs.Prelude.{◌≡◌, ◌<◌, ◌≤◌, ◌++◌, ◌∷◌, [], map, OnErr, OnOk};
+ghost use Rattle.ds_base.specs.Texts.{text_of};
 ghost use Rattle.ds_io.specs.Faults.{Rose};
 ghost use Rattle.ds_io.specs.Sinks.{Appended, AppendedFront};
 ghost use Rattle.asm_text.specs.Starts.{raw_byte};
-ghost use Rattle.asm_files.specs.Listings.{arm_lines, lines_of, listing, text_of, thumb_lines};
+ghost use Rattle.asm_files.specs.Listings.{arm_lines, lines_of, listing, thumb_lines};
 ghost use Rattle.asm_files.specs.Writer.Pages.{Passed};
 
-use crate::pages::{Page, put_line, send};
+use crate::pages::{TextPage, put_line, send};
 use asm_text::{Line, Set, list_byte, list_start, list_word};
 use ds_base::Arch;
 use ds_io::{Failed, Sink};
 
-fn write_bytes<O: Sink>(bytes: &[u8], page: &mut Page, out: &mut O) -> Result<(), Failed>
+fn write_bytes<O: Sink>(bytes: &[u8], page: &mut TextPage, out: &mut O) -> Result<(), Failed>
     ensures ok { OnOk result (Passed O.tells O.taken out.old out.new page.old page.new (text_of (map raw_byte bytes.now))) }
     ensures err { OnErr result (AppendedFront O.tells O.taken out.old out.new (page.old ++ text_of (map raw_byte bytes.now))) }
     ensures cause { OnErr result (Rose (O.faults out.old) (O.faults out.new)) }
@@ -32,7 +33,7 @@ fn write_words<O: Sink>(
     arch: Arch,
     start: u32,
     image: &[u8],
-    page: &mut Page,
+    page: &mut TextPage,
     out: &mut O,
 ) -> Result<(), Failed>
     ensures ok { OnOk result (Passed O.tells O.taken out.old out.new page.old page.new (text_of (arm_lines arch start image.now))) }
@@ -58,7 +59,7 @@ fn write_halves<O: Sink>(
     arch: Arch,
     start: u32,
     image: &[u8],
-    page: &mut Page,
+    page: &mut TextPage,
     out: &mut O,
 ) -> Result<(), Failed>
     ensures ok { OnOk result (Passed O.tells O.taken out.old out.new page.old page.new (text_of (thumb_lines arch start image.now))) }
@@ -85,7 +86,7 @@ fn write_lines<O: Sink>(
     set: Set,
     at: u32,
     image: &[u8],
-    page: &mut Page,
+    page: &mut TextPage,
     out: &mut O,
 ) -> Result<(), Failed>
     ensures ok { OnOk result (Passed O.tells O.taken out.old out.new page.old page.new (text_of (lines_of arch set at image.now))) }
@@ -114,7 +115,7 @@ pub fn write_listing<O: Sink>(
     ensures cause { OnErr result (Rose (O.faults out.old) (O.faults out.new)) }
     ensures later { O.faults out.old ≤ O.faults out.new }
 {
-    let mut page = Page::new();
+    let mut page = TextPage::new();
     let mut line = Line::new();
     list_start(arch, set, at, &mut line);
     put_line(&line, &mut page, out)?;

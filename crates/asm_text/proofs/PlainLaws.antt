@@ -1,5 +1,6 @@
 -- Each statement is one line, and with its line feed no shorter than its word.
 use Rattle.std.proofs.Common.{ℕ, zero, suc, ◌≡◌, ◌≢◌, ◌≤◌, ◌+◌, ◌*◌, ◌^◌, Bool, true, false, List, [], ◌∷◌, ◌++◌, length, refl, arith, Option, Some, None, length-append}
+use Rattle.ds_base.specs.Texts.{HasNoFeed}
 use Rattle.std.specs.Prelude.{nat_lt, codes, if◌then◌else◌, ◌==◌, ◌&&◌, not}
 use Rattle.ds_base.specs.declared.processors.Arch.{Arch}
 use Rattle.ds_base.specs.Bits.{bit}
@@ -46,7 +47,6 @@ use Rattle.asm_text.specs.Addresses.{arm_target, half_target, thumb_target}
 use Rattle.asm_text.specs.Statements.{with_operands, on, thumb_amount, statement}
 use Rattle.asm_text.specs.declared.sets.Set.{Set}
 use Rattle.asm_text.specs.Listed.{listed, spelling, raw, stated}
-use Rattle.asm_text.specs.Starts.{HasNoFeed}
 use Rattle.asm_text.proofs.StartLaws.{no_feed, either_plain, plain_of, plain_append, digits_plain, hex_plain}
 
 -- a text without line feeds that isn't empty

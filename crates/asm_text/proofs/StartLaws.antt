@@ -1,5 +1,6 @@
 -- First lines and lines of bytes: each is written for one number alone, and has no line feed.
 use Rattle.std.proofs.Common.{ℕ, zero, suc, ◌≡◌, ◌≢◌, ◌<◌, ◌/◌, ◌%◌, ◌^◌, Bool, true, false, List, [], ◌∷◌, ◌++◌, refl, sym, ap, ◌∙◌, arith}
+use Rattle.ds_base.specs.Texts.{HasNoFeed}
 use Rattle.std.proofs.lemmas.List.{append-nil}
 use Rattle.std.specs.Prelude.{codes, if◌then◌else◌, ◌==◌}
 use Rattle.ds_base.specs.declared.processors.Arch.{Arch}
@@ -11,7 +12,7 @@ use Rattle.asm_text.specs.Text.{trimmed, hex}
 use Rattle.asm_text.specs.Reader.Parts.{hex_at, numeral}
 use Rattle.asm_text.specs.Reader.Starts.{set_at, arch_at, start_address_at, listed_byte_at}
 use Rattle.asm_text.proofs.Again.{byte_again, hex_again}
-use Rattle.asm_text.specs.Starts.{start, start_name, raw_byte, HasNoFeed}
+use Rattle.asm_text.specs.Starts.{start, start_name, raw_byte}
 
 -- no line feed
 pub plain_append : (a b : List ℕ) → HasNoFeed a → HasNoFeed b → HasNoFeed (a ++ b)

@@ -1,4 +1,4 @@
-use Rattle.std.specs.Prelude.{ℕ, List, [], ◌∷◌, ◌++◌, ◌≢◌, codes}
+use Rattle.std.specs.Prelude.{ℕ, List, [], ◌∷◌, ◌++◌, codes}
 use Rattle.ds_base.specs.declared.processors.Arch.{Arch}
 use Rattle.ds_base.specs.declared.processors.Arch.TheVariants.{V4, V5}
 use Rattle.asm_text.specs.declared.sets.Set.{Set}
@@ -20,8 +20,3 @@ start arch set at = start_name arch set ++ hex at
 -- a byte itself, where no word or half is left (our choice)
 abbrev pub raw_byte : ℕ → List ℕ
 raw_byte b = codes ".byte 0x" ++ hex_digits 2 b
-
--- a text without line feeds
-abbrev pub HasNoFeed : List ℕ → Type 0
-HasNoFeed [] = Unit {0}
-HasNoFeed (b ∷ bs) = (b ≢ 10) × HasNoFeed bs

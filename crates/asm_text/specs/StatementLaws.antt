@@ -1,9 +1,10 @@
 use Rattle.std.specs.Prelude.{ℕ, ◌≡◌, ◌≢◌, ◌<◌, ◌≤◌, ◌^◌, length}
+use Rattle.ds_base.specs.Texts.{HasNoFeed}
 use Rattle.ds_base.specs.declared.processors.Arch.{Arch}
 use Rattle.arm_words.specs.Spellings.{IsInRange}
 use Rattle.asm_text.specs.declared.sets.Set.{Set}
 use Rattle.asm_text.specs.Listed.{listed, spelling}
-use Rattle.asm_text.specs.Starts.{raw_byte, HasNoFeed}
+use Rattle.asm_text.specs.Starts.{raw_byte}
 
 -- what holds of all statements
 pub record StatementLaws : Type 0 where

@@ -8,7 +8,7 @@ use Rattle.bg2d.specs.Bases.{background_space}
 use Rattle.tiles2d.specs.Colours.{indexed_pixel, palette_colour, extended_colour}
 use Rattle.tiles2d.specs.Tiles.{nibble_at, flipped}
 use Rattle.tiles2d.proofs.NibbleLemmas.{nibble_there}
-use Rattle.bg2d.specs.TextPixels.{text_width, text_height, has_256, text_entry, text_index, text_colour, text_entry_pixel, text_pixel, palette_slot, palette_space}
+use Rattle.bg2d.specs.TextPixels.{text_width, text_height, has_256, text_entry, text_index, text_colour, text_entry_pixel, text_pixel, palette_slot, background_palette_space}
 use Rattle.bg2d.specs.rows.Tiling.{tile_row, tiled_pixel, AreEntries, ArePacked, AreIndices, ArePainted}
 
 -- ---- indices from bytes
@@ -111,11 +111,11 @@ painted_256 v palette layer entry index h off =
 
 pub painted_extended : (v : Banks) (palette : List ℕ) (layer : TextLayer) (entry at index : ℕ) → has_256 layer ≡ true → bit 30 layer.display ≡ true →
     at ≡ 0x2000 * palette_slot layer + 512 * bits 12 4 entry →
-    indexed_pixel (extended_colour v (palette_space layer.engine) at) index ≡ indexed_pixel (text_colour v palette layer entry) index
+    indexed_pixel (extended_colour v (background_palette_space layer.engine) at) index ≡ indexed_pixel (text_colour v palette layer entry) index
 unfolding text_colour
 painted_extended v palette layer entry at index h on e =
-    same_pixel (extended_colour v (palette_space layer.engine) at) (text_colour v palette layer entry) index
-    (ap (λ (a : ℕ). extended_colour v (palette_space layer.engine) a index) e ∙ (rw (h, on) refl))
+    same_pixel (extended_colour v (background_palette_space layer.engine) at) (text_colour v palette layer entry) index
+    (ap (λ (a : ℕ). extended_colour v (background_palette_space layer.engine) a index) e ∙ (rw (h, on) refl))
 
 pub on_by : (n : ℕ) → n ≡ 1 → (n == 1) ≡ true
 on_by n h = rw h refl

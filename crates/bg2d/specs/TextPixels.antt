@@ -46,15 +46,15 @@ text_index v layer entry x y =
 abbrev pub palette_slot : TextLayer → ℕ
 palette_slot layer = if nat_lt layer.number 2 && bit 13 layer.control then layer.number + 2 else layer.number
 
-abbrev pub palette_space : ℕ → Space
-palette_space engine = if engine == 0 then ABgPalette else BBgPalette
+abbrev pub background_palette_space : ℕ → Space
+background_palette_space engine = if engine == 0 then ABgPalette else BBgPalette
 
 -- the colour of an index, by the entry's palette
 unfoldable pub text_colour : Banks → List ℕ → TextLayer → ℕ → ℕ → ℕ
 text_colour v palette layer entry index =
     if has_256 layer
     then (if bit 30 layer.display
-    then extended_colour v (palette_space layer.engine) (0x2000 * palette_slot layer + 512 * bits 12 4 entry) index
+    then extended_colour v (background_palette_space layer.engine) (0x2000 * palette_slot layer + 512 * bits 12 4 entry) index
     else palette_colour palette index)
     else palette_colour palette (16 * bits 12 4 entry + index)
 

@@ -2,7 +2,7 @@
 
 ghost use Rattle.std.specs.Prelude.{◌≡◌, ◌<◌, ◌≤◌, ◌+◌, ◌-◌, ◌*◌, ◌/◌, ◌%◌, ◌^◌, ℕ, Bool, true, false, length, slice_index, slice_range};
 ghost use Rattle.ds_base.specs.Bits.{bits, bit};
-ghost use Rattle.bg2d.specs.TextPixels.{text_width, text_height, has_256, palette_slot, palette_space, text_entry, text_colour, text_pixel};
+ghost use Rattle.bg2d.specs.TextPixels.{text_width, text_height, has_256, palette_slot, background_palette_space, text_entry, text_colour, text_pixel};
 ghost use Rattle.tiles2d.specs.Colours.{indexed_pixel};
 ghost use Rattle.tiles2d.specs.Tiles.{flipped};
 ghost use Rattle.bg2d.specs.rows.Tiling.{tile_row, AreEntries, ArePacked, AreIndices, AreNarrow, ArePainted};
@@ -140,8 +140,8 @@ fn extended_palette(layer: &TextLayer, entry: u16) -> u32
     0x2000 * slot + 512 * (entry >> 12) as u32
 }
 
-fn palette_space(engine: u8) -> Space
-    ensures { result ≡ palette_space engine }
+fn background_palette_space(engine: u8) -> Space
+    ensures { result ≡ background_palette_space engine }
 {
     if engine == 0 {
         Space::ABgPalette
@@ -169,7 +169,7 @@ fn paint_tile(
     if !has_256(layer) {
         paint_standard(palette, 16 * (entry >> 12) as usize, flip, indices, into);
     } else if (layer.display >> 30) % 2 == 1 {
-        let space = palette_space(layer.engine);
+        let space = background_palette_space(layer.engine);
         paint_extended(
             vram,
             space,

@@ -18,22 +18,22 @@ cp15_at_boot = record { control = 0x00052078; dtcm = 0x0300000A; itcm = 0x000000
 
 -- a register: one that always reads the same, the three that are kept, the wait for an interrupt, and all others, which ignore
 -- writes and read as 0
-pub data Register : Type 0 where
-  Constant : (value : ℕ) → Register
-  Control : Register
-  DtcmRegion : Register
-  ItcmRegion : Register
-  WaitForInterrupt : Register
-  Other : Register
+pub data Cp15Register : Type 0 where
+  Constant : (value : ℕ) → Cp15Register
+  Control : Cp15Register
+  DtcmRegion : Cp15Register
+  ItcmRegion : Cp15Register
+  WaitForInterrupt : Cp15Register
+  Other : Cp15Register
 
 -- a row of the table: a register by crn, crm and op2; op1 is 0 in all of them
 pub record CodeRow : Type 0 where
   pub crn : ℕ
   pub crm : ℕ
   pub op2 : ℕ
-  pub register : Register
+  pub register : Cp15Register
 
-abbrev pub at_codes : ℕ → ℕ → ℕ → Register → CodeRow
+abbrev pub at_codes : ℕ → ℕ → ℕ → Cp15Register → CodeRow
 at_codes crn crm op2 register = record { crn = crn; crm = crm; op2 = op2; register = register }
 
 -- the table: main ID, cache type, size of the tightly coupled memories, control, wait for an interrupt, both regions
@@ -49,15 +49,15 @@ registers =
     ∷ []
 
 -- the register of the codes of an MCR or MRC
-abbrev pub register_by : List CodeRow → ℕ → ℕ → ℕ → Register
+abbrev pub register_by : List CodeRow → ℕ → ℕ → ℕ → Cp15Register
 register_by [] crn crm op2 = Other
 register_by (r ∷ rs) crn crm op2 = if r.crn == crn && r.crm == crm && r.op2 == op2 then r.register else register_by rs crn crm op2
 
-abbrev pub register_of : ℕ → ℕ → ℕ → ℕ → Register
+abbrev pub register_of : ℕ → ℕ → ℕ → ℕ → Cp15Register
 register_of op1 crn crm op2 = if op1 == 0 then register_by registers crn crm op2 else Other
 
 -- what a register reads
-abbrev pub register_read : Cp15State → Register → ℕ
+abbrev pub register_read : Cp15State → Cp15Register → ℕ
 register_read s (Constant value) = value
 register_read s Control = s.control
 register_read s DtcmRegion = s.dtcm
@@ -80,24 +80,24 @@ abbrev pub itcm_mask : ℕ
 itcm_mask = 0x0000003E
 
 -- a write that asks for big-endian mode, bit 7 of the control register, is refused
-abbrev pub asks_big_endian : Register → ℕ → Bool
+abbrev pub asks_big_endian : Cp15Register → ℕ → Bool
 asks_big_endian Control value = bit 7 value
 asks_big_endian register value = 0 == 1
 
 -- what a write leaves
-abbrev pub register_written : Cp15State → Register → ℕ → Cp15State
+abbrev pub register_written : Cp15State → Cp15Register → ℕ → Cp15State
 register_written s Control value = record s { control = bit_or (bit_and value control_mask) control_ones }
 register_written s DtcmRegion value = record s { dtcm = bit_and value dtcm_mask }
 register_written s ItcmRegion value = record s { itcm = bit_and value itcm_mask }
 register_written s register value = s
 
 -- what a write answers
-abbrev pub write_answer : Register → ℕ → Mcr
+abbrev pub write_answer : Cp15Register → ℕ → Mcr
 write_answer WaitForInterrupt value = Halt
 write_answer register value = if asks_big_endian register value then Left (record { kind = BigEndian; value = value }) else Kept
 
 -- a write: it answers so, and a refused one leaves all as it was
-pub record Writes (register : Register) (value : ℕ) (old : Cp15State) (answer : Mcr) (new : Cp15State) : Type 0 where
+pub record Writes (register : Cp15Register) (value : ℕ) (old : Cp15State) (answer : Mcr) (new : Cp15State) : Type 0 where
   pub answered : answer ≡ write_answer register value
   pub left : new ≡ (if asks_big_endian register value then old else register_written old register value)
 

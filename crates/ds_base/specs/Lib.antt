@@ -7,3 +7,4 @@ pub mod Memories
 pub mod Numbers
 pub mod Processors
 pub mod Schedules
+pub mod Texts

@@ -6,8 +6,8 @@ use Rattle.ds_base.specs.declared.ticks.Tick.{Tick}
 use Rattle.ds_dma.specs.declared.controls.Cause.{Cause}
 use Rattle.ds_dma.specs.declared.controls.DmaPort.{DmaPort}
 use Rattle.ds_dma.specs.declared.controls.DmaPort.TheVariants.{Source, Target, Control}
-use Rattle.ds_dma.specs.Controls.{kept_control, is_enabled, is_armed_again, starts_at_once}
-use Rattle.ds_dma.specs.Channels.{ChannelState, channel_controlled, channel_set, is_triggered, triggered, is_last, taken}
+use Rattle.ds_dma.specs.Controls.{kept_channel_control, is_enabled, is_armed_again, starts_at_once}
+use Rattle.ds_dma.specs.Channels.{ChannelState, channel_controlled, channel_set, is_triggered, triggered, is_last_unit, after_unit}
 use Rattle.ds_dma.specs.States.{DmaState, HasEarlyTicks, channel_at}
 use Rattle.ds_dma.proofs.Choices.{either}
 use Rattle.ds_dma.proofs.Fours.{at_mapped, set_holds}
@@ -30,7 +30,7 @@ pub written_early : (proc : Proc) (which : ℕ) (port : DmaPort) (value : ℕ) (
     → IsEarly (channel_set proc which port value now c).trigger
 written_early proc which Source value now c was early = was
 written_early proc which Target value now c was early = was
-written_early proc which Control value now c was early = controlled_early proc which c (kept_control proc which value) now was early
+written_early proc which Control value now c was early = controlled_early proc which c (kept_channel_control proc which value) now was early
 
 -- and after an event at one
 pub triggered_early : (proc : Proc) (cause : Cause) (now : Tick) (c : ChannelState) → IsEarly c.trigger → now.0 ≤ 2 ^ 56
@@ -39,10 +39,10 @@ triggered_early proc cause now c was early =
     either (λ (x : ChannelState). IsEarly x.trigger) (is_triggered proc cause c) _ _ (λ e. early) (λ e. was)
 
 -- and after its first unit
-pub taken_early : (proc : Proc) (which : ℕ) (c : ChannelState) → IsEarly c.trigger → IsEarly (taken proc which c).trigger
+pub taken_early : (proc : Proc) (which : ℕ) (c : ChannelState) → IsEarly c.trigger → IsEarly (after_unit proc which c).trigger
 taken_early proc which c was =
     let P : ChannelState → Type 0 = λ x. IsEarly x.trigger in
-    either P (not (is_last c)) _ _ (λ e. was) (λ e. either P (is_armed_again proc c.control) _ _ (λ f. tt) (λ f. tt))
+    either P (not (is_last_unit c)) _ _ (λ e. was) (λ e. either P (is_armed_again proc c.control) _ _ (λ f. tt) (λ f. tt))
 
 -- with another channel in one place and another last unit, both early, all are early still
 pub early_set : (s : DmaState) (which : ℕ) (c : ChannelState) (last : Option Tick) → length s.channels ≡ 4 → HasEarlyTicks s → which < 4 → IsEarly c.trigger

@@ -8,18 +8,18 @@ use Rattle.ds_base.specs.declared.ticks.Tick.{Tick}
 use Rattle.ds_dma.specs.declared.controls.Cause.{Cause}
 use Rattle.ds_dma.specs.declared.controls.DmaPort.{DmaPort}
 use Rattle.ds_dma.specs.declared.controls.DmaPort.TheVariants.{Source, Target, Control}
-use Rattle.ds_dma.specs.Controls.{kept_control, control_mask, greatest_count, units_counted, is_enabled, is_not_yet, is_left_out, refusal, disabled, is_armed_again, waits_for, latches_again}
-use Rattle.ds_dma.specs.Channels.{ChannelState, IsChannel, is_running, latched, emptied, channel_controlled, channel_set, channel_refusal, is_triggered, triggered, next_to, taken, is_last}
+use Rattle.ds_dma.specs.Controls.{kept_channel_control, channel_control_mask, greatest_count, units_counted, is_enabled, is_not_yet, is_left_out, refusal, disabled, is_armed_again, waits_for, latches_again}
+use Rattle.ds_dma.specs.Channels.{ChannelState, IsChannel, is_running, latched, emptied, channel_controlled, channel_set, channel_refusal, is_triggered, triggered, next_to, after_unit, is_last_unit}
 use Rattle.ds_dma.proofs.Choices.{either, both, left_false, never, not_true, unequal_numbers}
 
 -- the bits that are kept are kept again
-pub kept_twice : (proc : Proc) (which value : ℕ) → kept_control proc which (kept_control proc which value) ≡ kept_control proc which value
-kept_twice proc which value = (let mask = control_mask proc which in and_assoc mask value mask ∙ ap (bit_and value) (and_self mask))
+pub kept_twice : (proc : Proc) (which value : ℕ) → kept_channel_control proc which (kept_channel_control proc which value) ≡ kept_channel_control proc which value
+kept_twice proc which value = (let mask = channel_control_mask proc which in and_assoc mask value mask ∙ ap (bit_and value) (and_self mask))
 
 -- and so are those of a control without its enable
-disabled_kept : (proc : Proc) (which control : ℕ) → kept_control proc which control ≡ control → kept_control proc which (disabled control) ≡ disabled control
+disabled_kept : (proc : Proc) (which control : ℕ) → kept_channel_control proc which control ≡ control → kept_channel_control proc which (disabled control) ≡ disabled control
 disabled_kept proc which control h =
-    let mask = control_mask proc which in
+    let mask = channel_control_mask proc which in
     let low = 2 ^ 31 - 1 in
     ap (λ n. bit_and n mask) (sym (and_mask control 31))
     ∙ and_assoc mask control low
@@ -41,7 +41,7 @@ units_within proc which control = grind (arith, rules)
 wider : (n : ℕ) → n < 2 ^ 28 → n < 2 ^ 32
 wider n h = omega (arith, h)
 
-emptied_is : (proc : Proc) (which : ℕ) (c : ChannelState) (control : ℕ) → IsChannel proc which c → kept_control proc which control ≡ control
+emptied_is : (proc : Proc) (which : ℕ) (c : ChannelState) (control : ℕ) → IsChannel proc which c → kept_channel_control proc which control ≡ control
     → is_enabled control ≡ false → IsChannel proc which (emptied c control)
 emptied_is proc which c control is kept off = record {
   source = is.source;
@@ -55,7 +55,7 @@ emptied_is proc which c control is kept off = record {
   none = λ e. (refl, refl, refl, refl);
 }
 
-latched_is : (proc : Proc) (which : ℕ) (c : ChannelState) (control : ℕ) (now : Tick) → IsChannel proc which c → kept_control proc which control ≡ control
+latched_is : (proc : Proc) (which : ℕ) (c : ChannelState) (control : ℕ) (now : Tick) → IsChannel proc which c → kept_channel_control proc which control ≡ control
     → (is_enabled control && is_not_yet proc control) ≡ false → is_enabled control ≡ true → IsChannel proc which (latched proc which c control now)
 latched_is proc which c control now is kept built on = record {
   source = is.source;
@@ -69,7 +69,7 @@ latched_is proc which c control now is kept built on = record {
   none = λ off. never (is_enabled control) on off;
 }
 
-controlled_is : (proc : Proc) (which : ℕ) (c : ChannelState) (control : ℕ) (now : Tick) → IsChannel proc which c → kept_control proc which control ≡ control
+controlled_is : (proc : Proc) (which : ℕ) (c : ChannelState) (control : ℕ) (now : Tick) → IsChannel proc which c → kept_channel_control proc which control ≡ control
     → (is_enabled control && is_not_yet proc control) ≡ false → IsChannel proc which (channel_controlled proc which c control now)
 controlled_is proc which c control now is kept built =
     let P : ChannelState → Type 0 = IsChannel proc which in
@@ -123,7 +123,7 @@ written_is proc which Target value now c is h = record {
   none = is.none;
 }
 written_is proc which Control value now c is h =
-    let control = kept_control proc which value in
+    let control = kept_channel_control proc which value in
     controlled_is proc which c control now is (kept_twice proc which value) (built_by proc c.control control h)
 
 -- after an event it is a channel still
@@ -153,11 +153,11 @@ chosen_below true x y h i = h
 chosen_below false x y h i = i
 
 -- and so it is after its first unit
-pub taken_is : (proc : Proc) (which : ℕ) (c : ChannelState) → IsChannel proc which c → is_enabled c.control ≡ true → IsChannel proc which (taken proc which c)
+pub taken_is : (proc : Proc) (which : ℕ) (c : ChannelState) → IsChannel proc which c → is_enabled c.control ≡ true → IsChannel proc which (after_unit proc which c)
 taken_is proc which c is on =
     let P : ChannelState → Type 0 = IsChannel proc which in
-    either P (not (is_last c)) _ _
-    (λ e. (let ne = unequal_numbers c.left 1 (not_true (is_last c) e) in record {
+    either P (not (is_last_unit c)) _ _
+    (λ e. (let ne = unequal_numbers c.left 1 (not_true (is_last_unit c) e) in record {
       source = is.source;
       target = is.target;
       control = is.control;

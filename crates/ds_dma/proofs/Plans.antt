@@ -5,7 +5,7 @@ use Rattle.std.proofs.Math.Nat.{mod-add-mod, mod-eq_of_lt}
 use Rattle.ds_base.specs.declared.processors.Proc.{Proc}
 use Rattle.ds_dma.specs.declared.channels.Unit.{Unit as DmaUnit}
 use Rattle.ds_dma.specs.Controls.{disabled, is_armed_again}
-use Rattle.ds_dma.specs.Channels.{ChannelState, plan_of, unit_of, address_of, source_step, target_step, next_from, next_to, emptied, TakesUnit, more, again, ends, taken, is_last}
+use Rattle.ds_dma.specs.Channels.{ChannelState, plan_of, unit_of, address_of, source_step, target_step, next_from, next_to, emptied, TakesUnit, more, again, ends, after_unit, is_last_unit}
 use Rattle.ds_dma.proofs.Choices.{either, not_false, not_true, equal_numbers, unequal_numbers}
 
 -- the address of the unit after this one, from the first and from the second
@@ -62,12 +62,12 @@ only_one : (c : ChannelState) → c.left ≡ 1 → plan_of c ≡ unit_of c 0 ∷
 only_one c h = plan_splits c (omega (arith, h)) ∙ ap (λ xs. unit_of c 0 ∷ xs) (plan_ends (rest_of c) (omega (arith, h)))
 
 -- a channel that has units left takes the first one
-pub takes : (proc : Proc) (which : ℕ) (c : ChannelState) → 1 ≤ c.left → TakesUnit proc which c (taken proc which c)
+pub takes : (proc : Proc) (which : ℕ) (c : ChannelState) → 1 ≤ c.left → TakesUnit proc which c (after_unit proc which c)
 takes proc which c h =
     let P : ChannelState → Type 0 = TakesUnit proc which c in
-    either P (not (is_last c)) _ _
-    (λ e. took_more proc which c (let ne = unequal_numbers c.left 1 (not_true (is_last c) e) in omega (arith, h, ne)))
-    (λ e. (let one = equal_numbers c.left 1 (not_false (is_last c) e) in
+    either P (not (is_last_unit c)) _ _
+    (λ e. took_more proc which c (let ne = unequal_numbers c.left 1 (not_true (is_last_unit c) e) in omega (arith, h, ne)))
+    (λ e. (let one = equal_numbers c.left 1 (not_false (is_last_unit c) e) in
     either P (is_armed_again proc c.control) _ _
     (λ f. again (unit_of c 0) (only_one c one) f refl)
     (λ f. ends (unit_of c 0) (only_one c one) f (plan_ends (emptied c (disabled c.control)) refl) refl)))

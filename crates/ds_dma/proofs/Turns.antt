@@ -7,7 +7,7 @@ use Rattle.ds_base.specs.declared.ticks.Tick.{Tick}
 use Rattle.ds_dma.specs.declared.controls.Cause.{Cause}
 use Rattle.ds_dma.specs.declared.controls.DmaPort.{DmaPort}
 use Rattle.ds_dma.specs.declared.controls.DmaPort.TheVariants.{Source, Target, Control}
-use Rattle.ds_dma.specs.Controls.{kept_control, is_enabled, starts_at_once}
+use Rattle.ds_dma.specs.Controls.{kept_channel_control, is_enabled, starts_at_once}
 use Rattle.ds_dma.specs.Channels.{ChannelState, is_running, channel_controlled, channel_set, is_triggered, triggered, ready, ready_by}
 use Rattle.ds_dma.specs.States.{DmaState, IsDma, AreReadyLater, channel_at, dma_triggered, least_running, channel_due, due_with, dma_due, due_channel, dma_finished}
 use Rattle.ds_dma.proofs.Choices.{either, never, equal_numbers, equal_self}
@@ -46,7 +46,7 @@ set_later : (proc : Proc) (which : ℕ) (port : DmaPort) (value : ℕ) (now : Ti
     → IsLater now (ready last (channel_set proc which port value now c))
 set_later proc which Source value now c last h = h
 set_later proc which Target value now c last h = h
-set_later proc which Control value now c last h = controlled_later proc which c (kept_control proc which value) now last h
+set_later proc which Control value now c last h = controlled_later proc which c (kept_channel_control proc which value) now last h
 
 pub written_later : (s : DmaState) (which : ℕ) (port : DmaPort) (value : ℕ) (now : Tick) → IsDma s → which < 4 → AreReadyLater now s
     → AreReadyLater now (record s { channels = slice_set s.channels which (channel_set s.proc which port value now (channel_at s.channels which)) })

@@ -4,7 +4,7 @@ use Rattle.ds_base.specs.declared.left_out.Stop.{Stop}
 use Rattle.ds_base.specs.declared.ticks.Tick.{Tick}
 use Rattle.ds_dma.specs.declared.controls.Cause.{Cause}
 use Rattle.ds_dma.specs.declared.controls.DmaPort.{DmaPort}
-use Rattle.ds_dma.specs.Channels.{channel_refusal, channel_set, is_running, taken, triggered}
+use Rattle.ds_dma.specs.Channels.{channel_refusal, channel_set, is_running, after_unit, triggered}
 use Rattle.ds_dma.specs.States.{DmaState, IsDma, AreReadyLater, any_runs, channel_at, channel_written, dma_due, dma_finished, dma_triggered, due_channel, least_running, unless}
 use Rattle.ds_dma.proofs.Choices.{never}
 use Rattle.ds_dma.proofs.Fours.{are_set, at_mapped, mapped_is}
@@ -42,7 +42,7 @@ dma_finished_is s now is due =
     let which = least_running s.channels in
     let l = least_below s.channels in
     let c = due_channel s in
-    are_set s which (taken s.proc which c) (Some now) is l (taken_is s.proc which c (is.each which l) (due_is_on s is due))
+    are_set s which (after_unit s.proc which c) (Some now) is l (taken_is s.proc which c (is.each which l) (due_is_on s is due))
 
 or_keeps : (a b x y : Bool) → (a ≡ true → x ≡ true) → (b ≡ true → y ≡ true) → (a || b) ≡ true → (x || y) ≡ true
 or_keeps true b true y f g h = refl

@@ -8,7 +8,7 @@ use Rattle.ds_base.specs.declared.left_out.Stop.{Stop}
 use Rattle.ds_dma.specs.declared.controls.Cause.{Cause}
 use Rattle.ds_dma.specs.declared.controls.DmaPort.{DmaPort}
 use Rattle.ds_dma.specs.declared.controls.DmaPort.TheVariants.{Source, Target, Control}
-use Rattle.ds_dma.specs.Controls.{kept_address, kept_control, refusal, greatest_count, units_counted, is_enabled, interrupts, disabled, unit_width, unit_bytes, target_mode, source_mode, latches_again, step_of, starts_at_once, is_armed_again, waits_for, is_not_yet, channel_interrupt}
+use Rattle.ds_dma.specs.Controls.{kept_address, kept_channel_control, refusal, greatest_count, units_counted, is_enabled, interrupts, disabled, unit_width, unit_bytes, target_mode, source_mode, latches_again, address_step, starts_at_once, is_armed_again, waits_for, is_not_yet, channel_interrupt}
 
 -- A channel (GBATEK, "GBA DMA Transfers" and "DS DMA Transfers"): its source, target and control as they are kept. While it is enabled it also has
 -- the next unit's source and target and the number of units left, and while it runs the tick at which it was triggered. One that isn't enabled has
@@ -36,10 +36,10 @@ abbrev pub address_of : ℕ → ℕ → ℕ → ℕ
 address_of first step i = (first + step * i) % 2 ^ 32
 
 abbrev pub source_step : ChannelState → ℕ
-source_step c = step_of (source_mode c.control) (unit_bytes c.control)
+source_step c = address_step (source_mode c.control) (unit_bytes c.control)
 
 abbrev pub target_step : ChannelState → ℕ
-target_step c = step_of (target_mode c.control) (unit_bytes c.control)
+target_step c = address_step (target_mode c.control) (unit_bytes c.control)
 
 abbrev pub unit_of : ChannelState → ℕ → DmaUnit
 unit_of c i = record { from = address_of c.from (source_step c) i; to = address_of c.to (target_step c) i; width = unit_width c.control }
@@ -53,7 +53,7 @@ plan_of c = map (unit_of c) (range_with_len 0 c.left)
 pub record IsChannel (proc : Proc) (which : ℕ) (c : ChannelState) : Type 0 where
   pub source : c.source < 2 ^ 28
   pub target : c.target < 2 ^ 28
-  pub control : kept_control proc which c.control ≡ c.control
+  pub control : kept_channel_control proc which c.control ≡ c.control
   pub built : is_enabled c.control && is_not_yet proc c.control ≡ false
   pub from : c.from < 2 ^ 32
   pub to : c.to < 2 ^ 32
@@ -104,13 +104,13 @@ channel_word Control c = c.control
 abbrev pub channel_set : Proc → ℕ → DmaPort → ℕ → Tick → ChannelState → ChannelState
 channel_set proc which Source value now c = record c { source = kept_address value }
 channel_set proc which Target value now c = record c { target = kept_address value }
-channel_set proc which Control value now c = channel_controlled proc which c (kept_control proc which value) now
+channel_set proc which Control value now c = channel_controlled proc which c (kept_channel_control proc which value) now
 
 -- why it isn't taken
 abbrev pub channel_refusal : Proc → ℕ → DmaPort → ℕ → ChannelState → Option Stop
 channel_refusal proc which Source value c = None
 channel_refusal proc which Target value c = None
-channel_refusal proc which Control value c = refusal proc c.control (kept_control proc which value)
+channel_refusal proc which Control value c = refusal proc c.control (kept_channel_control proc which value)
 
 -- an event triggers a channel that is enabled with its start; one that runs stays as it is
 abbrev pub is_triggered : Proc → Cause → ChannelState → Bool
@@ -151,17 +151,17 @@ pub data TakesUnit (proc : Proc) (which : ℕ) (old new : ChannelState) : Type 0
       → TakesUnit proc which old new
 
 -- the same as a function, for those who compute with it
-abbrev pub is_last : ChannelState → Bool
-is_last c = c.left == 1
+abbrev pub is_last_unit : ChannelState → Bool
+is_last_unit c = c.left == 1
 
-abbrev pub taken : Proc → ℕ → ChannelState → ChannelState
-taken proc which c =
-    if not (is_last c) then record c { from = next_from c; to = next_to c; left = c.left - 1 }
+abbrev pub after_unit : Proc → ℕ → ChannelState → ChannelState
+after_unit proc which c =
+    if not (is_last_unit c) then record c { from = next_from c; to = next_to c; left = c.left - 1 }
     else (if is_armed_again proc c.control then armed_again proc which c else emptied c (disabled c.control))
 
 -- the bit of IF that the end of a channel raises, where its interrupt is enabled (GBATEK, "DS Interrupts")
 abbrev pub taken_bit : ℕ → ChannelState → ℕ
-taken_bit which c = if is_last c && interrupts c.control then interrupt_bit (channel_interrupt which) else 0
+taken_bit which c = if is_last_unit c && interrupts c.control then interrupt_bit (channel_interrupt which) else 0
 
 -- when its next unit is due where its turn has come: 4 ticks after it was triggered, and 4 after the processor's last unit (our choice)
 abbrev pub after_both : Option Tick → Tick → Tick

@@ -24,12 +24,12 @@ greatest_count Nine which = 0x1FFFFF
 greatest_count Seven which = if which == 3 then 0xFFFF else 0x3FFF
 
 -- what a control keeps: all of it on ARM9; its count and bits 21 to 26 and 28 to 31 on ARM7 (GBATEK, "DS DMA Transfers")
-abbrev pub control_mask : Proc → ℕ → ℕ
-control_mask Nine which = 0xFFFFFFFF
-control_mask Seven which = if which == 3 then 0xF7E0FFFF else 0xF7E03FFF
+abbrev pub channel_control_mask : Proc → ℕ → ℕ
+channel_control_mask Nine which = 0xFFFFFFFF
+channel_control_mask Seven which = if which == 3 then 0xF7E0FFFF else 0xF7E03FFF
 
-abbrev pub kept_control : Proc → ℕ → ℕ → ℕ
-kept_control proc which value = bit_and value (control_mask proc which)
+abbrev pub kept_channel_control : Proc → ℕ → ℕ → ℕ
+kept_channel_control proc which value = bit_and value (channel_control_mask proc which)
 
 -- how many units a channel moves: its count, where 0 stands for the greatest count and one more (GBATEK, "GBA DMA Transfers", DMAxCNT_L)
 abbrev pub units_counted : Proc → ℕ → ℕ → ℕ
@@ -71,8 +71,8 @@ latches_again control = target_mode control == 3
 
 -- from one unit to the next an address goes up by a unit's bytes in mode 0, down in mode 1, stays in mode 2 and goes up in mode 3; as a number
 -- modulo 2 ^ 32, in which down is up by 2 ^ 32 less these bytes. (That a source goes up in mode 3, which GBATEK forbids, is our choice.)
-abbrev pub step_of : ℕ → ℕ → ℕ
-step_of mode size = if mode == 1 then 2 ^ 32 - size else (if mode == 2 then 0 else size)
+abbrev pub address_step : ℕ → ℕ → ℕ
+address_step mode size = if mode == 1 then 2 ^ 32 - size else (if mode == 2 then 0 else size)
 
 -- when it starts: bits 27 to 29 on ARM9, 28 and 29 on ARM7 (GBATEK, "DS DMA Transfers": 0 is at once)
 abbrev pub start_mode : Proc → ℕ → ℕ
@@ -98,12 +98,12 @@ start_of_cause Seven HBlank = None
 start_of_cause Seven Card = Some 2
 start_of_cause Seven Geometry = None
 
-abbrev pub is_start : Option ℕ → ℕ → Bool
-is_start None mode = false
-is_start (Some start) mode = start == mode
+abbrev pub starts_in_mode : Option ℕ → ℕ → Bool
+starts_in_mode None mode = false
+starts_in_mode (Some start) mode = start == mode
 
 abbrev pub waits_for : Proc → Cause → ℕ → Bool
-waits_for proc cause control = is_start (start_of_cause proc cause) (start_mode proc control)
+waits_for proc cause control = starts_in_mode (start_of_cause proc cause) (start_mode proc control)
 
 -- the starts that are left out: 3 (start of display), 4 (main memory display) and 6 (GBA slot) on ARM9; 3 (wireless or GBA slot) on ARM7 (our
 -- choice; the names are GBATEK's, "DS DMA Transfers")

@@ -6,7 +6,7 @@ use Rattle.ds_base.specs.declared.ticks.Tick.{Tick}
 use Rattle.ds_dma.specs.declared.controls.Cause.{Cause}
 use Rattle.ds_dma.specs.declared.controls.DmaPort.{DmaPort}
 use Rattle.ds_dma.specs.declared.dma.DmaDue.{DmaDue}
-use Rattle.ds_dma.specs.Channels.{ChannelState, IsChannel, channel_at_boot, is_running, channel_set, channel_refusal, triggered, taken, taken_bit, ready}
+use Rattle.ds_dma.specs.Channels.{ChannelState, IsChannel, channel_at_boot, is_running, channel_set, channel_refusal, triggered, after_unit, taken_bit, ready}
 
 -- the four channels of a processor, and the tick of its last unit, if there was one (GBATEK, "DS DMA Transfers"; the tick is our choice)
 pub record DmaState : Type 0 where
@@ -86,7 +86,7 @@ due_channel s = channel_at s.channels (least_running s.channels)
 
 -- its first unit is moved at a tick
 abbrev pub dma_finished : DmaState → Tick → DmaState
-dma_finished s now = record s { channels = slice_set s.channels (least_running s.channels) (taken s.proc (least_running s.channels) (due_channel s)); last = Some now }
+dma_finished s now = record s { channels = slice_set s.channels (least_running s.channels) (after_unit s.proc (least_running s.channels) (due_channel s)); last = Some now }
 
 -- the bits of IF that this raises
 abbrev pub finished_bits : DmaState → ℕ

@@ -3,7 +3,7 @@
 ghost use Rattle.std.specs.Prelude.{◌≡◌, ◌≤◌, ◌+◌, ◌<◌, ◌^◌, Some, None, if◌then◌else◌};
 ghost use Rattle.ds_base.specs.Schedules.{IsEarly};
 ghost use Rattle.ds_base.specs.declared.ticks.Tick.{Tick};
-ghost use Rattle.ds_dma.specs.Channels.{is_running, channel_controlled, latched, emptied, channel_word, channel_set, channel_refusal, triggered, taken, taken_bit, is_last, armed_again, unit_of, ready};
+ghost use Rattle.ds_dma.specs.Channels.{is_running, channel_controlled, latched, emptied, channel_word, channel_set, channel_refusal, triggered, after_unit, taken_bit, is_last_unit, armed_again, unit_of, ready};
 ghost use Rattle.ds_dma.specs.ChannelsKept.{channel_seen};
 ghost use Rattle.ds_dma.specs.Controls.{units_counted, disabled};
 
@@ -167,7 +167,7 @@ pub fn first(channel: Channel) -> Unit
 /// A channel after its first unit.
 pub fn without_first(proc: Proc, which: u8, channel: Channel) -> Channel
     requires { 1 ≤ channel.left }
-    ensures { channel_seen result ≡ taken proc which (channel_seen channel) }
+    ensures { channel_seen result ≡ after_unit proc which (channel_seen channel) }
 {
     let control = channel.control;
     let from = channel.from.wrapping_add(controls::source_step(control));

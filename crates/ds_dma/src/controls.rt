@@ -2,7 +2,7 @@
 
 ghost use Rattle.std.specs.Prelude.{◌≡◌, ◌<◌, ◌≤◌, ◌+◌, ◌^◌};
 ghost use Rattle.ds_base.specs.Interrupts.{interrupt_bit};
-ghost use Rattle.ds_dma.specs.Controls.{greatest_count, control_mask, kept_control, units_counted, is_enabled, interrupts, repeats, disabled, unit_width, unit_bytes, target_mode, source_mode, latches_again, step_of, start_mode, starts_at_once, start_of_cause, waits_for, is_left_out, is_not_yet, refusal, is_armed_again, channel_interrupt};
+ghost use Rattle.ds_dma.specs.Controls.{greatest_count, channel_control_mask, kept_channel_control, units_counted, is_enabled, interrupts, repeats, disabled, unit_width, unit_bytes, target_mode, source_mode, latches_again, address_step, start_mode, starts_at_once, start_of_cause, waits_for, is_left_out, is_not_yet, refusal, is_armed_again, channel_interrupt};
 
 use ds_base::{Interrupt, LeftKind, Proc, Stop, Width};
 
@@ -42,7 +42,7 @@ pub fn greatest(proc: Proc, which: u8) -> u32
 }
 
 pub fn mask(proc: Proc, which: u8) -> u32
-    ensures { result ≡ control_mask proc which }
+    ensures { result ≡ channel_control_mask proc which }
 {
     match (proc, which) {
         (Proc::Nine, _) => 0xFFFF_FFFF,
@@ -52,7 +52,7 @@ pub fn mask(proc: Proc, which: u8) -> u32
 }
 
 pub fn kept(proc: Proc, which: u8, value: u32) -> u32
-    ensures { result ≡ kept_control proc which value }
+    ensures { result ≡ kept_channel_control proc which value }
 {
     value & mask(proc, which)
 }
@@ -103,7 +103,7 @@ pub fn width(control: u32) -> Width
 
 /// What is added to an address, modulo 2^32, from one unit to the next.
 fn step(mode: u32, control: u32) -> u32
-    ensures { result ≡ step_of mode (unit_bytes control) }
+    ensures { result ≡ address_step mode (unit_bytes control) }
 {
     let words = (control >> 26) & 1 == 1;
     match (mode, words) {
@@ -116,13 +116,13 @@ fn step(mode: u32, control: u32) -> u32
 }
 
 pub fn source_step(control: u32) -> u32
-    ensures { result ≡ step_of (source_mode control) (unit_bytes control) }
+    ensures { result ≡ address_step (source_mode control) (unit_bytes control) }
 {
     step((control >> 23) & 3, control)
 }
 
 pub fn target_step(control: u32) -> u32
-    ensures { result ≡ step_of (target_mode control) (unit_bytes control) }
+    ensures { result ≡ address_step (target_mode control) (unit_bytes control) }
 {
     step((control >> 21) & 3, control)
 }

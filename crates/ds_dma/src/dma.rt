@@ -5,7 +5,7 @@ ghost use Rattle.ds_base.specs.Schedules.{IsEarly, Reschedules};
 ghost use Rattle.ds_base.specs.declared.ticks.Tick.{Tick};
 ghost use Rattle.ds_dma.specs.Channels.{IsChannel, ChangesChannel, is_running, channel_word, channel_refusal, plan_of, TakesUnit, unit_of};
 ghost use Rattle.ds_dma.specs.ChannelsKept.{channel_seen};
-ghost use Rattle.ds_dma.specs.Controls.{kept_control};
+ghost use Rattle.ds_dma.specs.Controls.{kept_channel_control};
 ghost use Rattle.ds_dma.specs.declared.channels.Unit.{Unit as DmaUnit};
 ghost use Rattle.ds_dma.specs.declared.controls.DmaPort.TheVariants.{Control};
 ghost use Rattle.ds_dma.specs.States.{DmaState, IsDma, AreReadyLater, IsLeastRunning, channel_at, dma_at_boot, channel_written, dma_triggered, any_runs, least_running, channel_due, dma_due, due_channel, dma_finished, finished_bits};
@@ -113,7 +113,7 @@ impl Dma {
         ensures state { self.new ≡ channel_written self.old channel port value now }
         ensures stop { result ≡ channel_refusal self.old.proc channel port value (channel_at self.old.channels channel) }
         ensures change { port ≡ Control → result ≡ None → ChangesChannel self.old.proc channel (channel_at self.old.channels channel)
-            (kept_control self.old.proc channel value) now (channel_at self.new.channels channel) }
+            (kept_channel_control self.old.proc channel value) now (channel_at self.new.channels channel) }
         ensures later { AreReadyLater now self.old → AreReadyLater now self.new }
         ensures schedule { AreReadyLater now self.old → (each : ℕ) → each < 4 → Reschedules now (channel_due self.old each) (channel_due self.new each) }
     {

@@ -17,15 +17,15 @@ pub record ImageFields : Type 0 where
   pub place : Field
   pub length : Field
 
-abbrev pub field : ℕ → ℕ → Field
-field at size = record { at = at; size = size }
+abbrev pub field_at : ℕ → ℕ → Field
+field_at at size = record { at = at; size = size }
 
 -- the table of the header's fields, as far as they are read
 abbrev pub title_field : Field
-title_field = field 0x000 12
+title_field = field_at 0x000 12
 
 abbrev pub unit_code_field : Field
-unit_code_field = field 0x012 1
+unit_code_field = field_at 0x012 1
 
 -- each processor has four words, one after the other
 abbrev pub image_at : Proc → ℕ
@@ -34,10 +34,10 @@ image_at Seven = 0x030
 
 abbrev pub image_fields : Proc → ImageFields
 image_fields proc = record {
-  offset = field (image_at proc) 4;
-  entry = field (image_at proc + 0x4) 4;
-  place = field (image_at proc + 0x8) 4;
-  length = field (image_at proc + 0xC) 4;
+  offset = field_at (image_at proc) 4;
+  entry = field_at (image_at proc + 0x4) 4;
+  place = field_at (image_at proc + 0x8) 4;
+  length = field_at (image_at proc + 0xC) 4;
 }
 
 -- the bytes of a field, and the number that they are, the lowest first

@@ -1,7 +1,7 @@
 //! The numbers of a cartridge's header (GBATEK, "DS Cartridge Header").
 
 ghost use Rattle.std.specs.Prelude.{◌≡◌, ◌≤◌, ◌+◌, length};
-ghost use Rattle.ds_header.specs.Fields.{image_entry, field, image_at, image_length, field_number, image_offset, image_place, unit_code_of};
+ghost use Rattle.ds_header.specs.Fields.{image_entry, field_at, image_at, image_length, field_number, image_offset, image_place, unit_code_of};
 
 use byteorder::{ByteOrder, LittleEndian};
 use ds_base::Proc;
@@ -31,7 +31,7 @@ pub(crate) struct ImageFields {
 #[tactic(auto, unfolding(crate::specs::Fields::field_number))]
 fn word(file: &[u8], at: usize) -> u32
     requires { at + 4 ≤ length file.now }
-    ensures { result ≡ field_number file.now (field at 4) }
+    ensures { result ≡ field_number file.now (field_at at 4) }
 {
     LittleEndian::read_u32(&file[at..])
 }

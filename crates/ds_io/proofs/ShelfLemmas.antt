@@ -7,7 +7,12 @@ use Rattle.std.proofs.Math.Seq.{take-add, drop-cons}
 use Rattle.std.proofs.Math.ListN.{length-map}
 use Rattle.std.proofs.lemmas.List.{drop-drop, length-drop, length-take-le, take-append-le, take-take, drop_all, get_or-map}
 use Rattle.std.proofs.lemmas.Option.{same_Some, none-some}
-use Rattle.ds_io.specs.Shelves.{Named, Told, file_of, left_of, moved, Reads, Took, TookSome}
+use Rattle.ds_io.specs.Shelves.{Named, Told, file_of, left_of, moved, Reads, TookSome}
+
+-- these bytes were taken off the front of what was left
+abbrev pub Took : Option Told → List ℕ → Option Told → Type 0
+Took None bytes new = new ≡ None
+Took (Some s) bytes new = (length bytes ≤ length (left_of s)) × (bytes ≡ take (length bytes) (left_of s)) × (new ≡ Some (moved s (length bytes)))
 
 moved_by : (f : List Named) (l : Option (List ℕ)) (k n : ℕ) → option_map (drop n) (option_map (drop k) l) ≡ option_map (drop (k + n)) l
 moved_by f None k n = refl

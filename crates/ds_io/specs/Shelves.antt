@@ -38,12 +38,7 @@ abbrev pub Reads : Option Told → List ℕ → ℕ → List ℕ → Option Told
 Reads None into n put new = new ≡ None
 Reads (Some s) into n put new = (n ≤ length (left_of s)) × (put ≡ take n (left_of s) ++ drop n into) × (new ≡ Some (moved s n)) × (n ≡ 0 → 0 < length into → left_of s ≡ [])
 
--- these bytes were taken off the front of what was left
-abbrev pub Took : Option Told → List ℕ → Option Told → Type 0
-Took None bytes new = new ≡ None
-Took (Some s) bytes new = (length bytes ≤ length (left_of s)) × (bytes ≡ take (length bytes) (left_of s)) × (new ≡ Some (moved s (length bytes)))
-
--- they are all that was left
+-- these bytes are all that was left
 abbrev pub TookAll : Option Told → List ℕ → Option Told → Type 0
 TookAll None bytes new = new ≡ None
 TookAll (Some s) bytes new = (bytes ≡ left_of s) × (new ≡ Some (moved s (length bytes)))

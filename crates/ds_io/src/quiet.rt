@@ -90,9 +90,9 @@ pub struct QuietSink {
 
 impl Model for QuietSink {
     ghost use Rattle.std.specs.Prelude.{◌≡◌, ◌≤◌, length, vec_len, vec_capacity};
-    ghost use Rattle.ds_io.specs.Kept.{Kept};
+    ghost use Rattle.ds_io.specs.Kept.{KeptBytes};
 
-    ghost Value = { Kept };
+    ghost Value = { KeptBytes };
 
     ghost view = { λ s. record { bytes = s.bytes.items; room = s.room; told = s.told } };
 

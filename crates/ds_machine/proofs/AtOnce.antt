@@ -10,19 +10,19 @@ use Rattle.ds_base.specs.declared.ticks.Tick.{Tick}
 use Rattle.arm_core.specs.declared.outcomes.Stepped as arm
 use Rattle.arm_core.specs.declared.outcomes.Stepped.TheVariants.{Cost}
 use Rattle.ds_ports.specs.Dues.{dues_behind}
-use Rattle.ds_ports.specs.Own as own
+use Rattle.ds_ports.specs.Own.{own_is_held}
 use Rattle.ds_ports.specs.Units.{UnitsState, own_of}
 use Rattle.ds_runs.specs.Actors.{actor_of}
 use Rattle.ds_runs.specs.Order.{first_from}
-use Rattle.ds_runs.specs.Runs.{IsLeast, IsOver, Makes, Stepped, due_at}
+use Rattle.ds_runs.specs.Runs.{IsLeast, IsOver, Makes, MachineStep, due_at}
 use Rattle.ds_runs.specs.declared.actors.Actor as actor
 use Rattle.ds_runs.specs.declared.actors.Actor.TheVariants.{Processor, Video}
 use Rattle.ds_runs.proofs.Firsts.{first_is_least}
 use Rattle.ds_timers.specs.Irqs.{line_is_up, shares_bit}
-use Rattle.ds_machine.specs.Kept.{AreAsleep, IsKept, events_of, least_of, waits}
+use Rattle.ds_machine.specs.Kept.{AreAsleep, IsKept, events_of, least_of, due_at_least}
 use Rattle.ds_machine.specs.Reference.{AtOnce, HasCounted, IsSound, Shown, awake, due_by, due_unless, dues_of, keys_due, processor_due, step_by, stepped_of}
 use Rattle.ds_machine.specs.States.{MachineState, ProcessorState, VideoState, counts_of}
-use Rattle.ds_machine.specs.Steps.{concluded, goes_on, is_halted, is_held, line_of, nine_outcome, processor_of, seven_outcome, wakes, went_on, with_nine, with_processor, with_seven, woken, woken_one}
+use Rattle.ds_machine.specs.Steps.{machine_concluded, goes_on, is_halted, is_held, line_of, nine_outcome, processor_of, seven_outcome, wakes, went_on, with_nine, with_processor, with_seven, woken, woken_one}
 use Rattle.ds_machine.specs.Videos.{video_due}
 use Rattle.ds_machine.specs.declared.answers.Done.TheVariants as answers
 use Rattle.ds_machine.specs.declared.kept.Kept.{Kept}
@@ -90,42 +90,42 @@ seven_least s until tick over lt there after = record { there = due_of_rank s 23
 -- ---- by what is kept
 
 -- a processor that waits for an early tick isn't held, and is due then
-wait_ends : (held : Bool) (least due : ℕ) → least ≡ least_of held → waits least due < 2 ^ 56 → (held ≡ false) × (waits least due ≡ due)
+wait_ends : (held : Bool) (least due : ℕ) → least ≡ least_of held → due_at_least least due < 2 ^ 56 → (held ≡ false) × (due_at_least least due ≡ due)
 wait_ends true least due e lt = absurd (omega (arith, e, lt))
 wait_ends false least due e lt = (refl, omega (arith, e))
 
 -- a processor that is due waits for its tick
-wait_is : (held : Bool) (least : ℕ) (p : ProcessorState) (at : Tick) → least ≡ least_of held → due_unless held p ≡ Some at → waits least p.due ≡ at.0
+wait_is : (held : Bool) (least : ℕ) (p : ProcessorState) (at : Tick) → least ≡ least_of held → due_unless held p ≡ Some at → due_at_least least p.due ≡ at.0
 wait_is held least p at e h =
     let k = due_then held p at h in
     let none : least ≡ 0 = e ∙ ap least_of k.0 in
     let there = k.1 in
     omega (arith, none, there)
 
-due_there : (held : Bool) (least : ℕ) (p : ProcessorState) (n : ℕ) → least ≡ least_of held → n ≡ waits least p.due → n < 2 ^ 56 → due_unless held p ≡ Some (record { 0 = n })
+due_there : (held : Bool) (least : ℕ) (p : ProcessorState) (n : ℕ) → least ≡ least_of held → n ≡ due_at_least least p.due → n < 2 ^ 56 → due_unless held p ≡ Some (record { 0 = n })
 due_there held least p n e w lt =
     let k = wait_ends held least p.due e (omega (arith, w, lt)) in
     let t = tick_is p (record { 0 = n }) (sym (w ∙ k.1)) in
     rw k.0 (ap Some t)
 
 -- what is waited of a machine's parts is waited of the machine
-pub nine_waits : (least n : ℕ) (parts s : MachineState) → n ≡ waits least parts.nine.processor.due → parts ≡ s → n ≡ waits least s.nine.processor.due
-nine_waits least n parts s w e = w ∙ ap (λ (m : MachineState). waits least m.nine.processor.due) e
+pub nine_waits : (least n : ℕ) (parts s : MachineState) → n ≡ due_at_least least parts.nine.processor.due → parts ≡ s → n ≡ due_at_least least s.nine.processor.due
+nine_waits least n parts s w e = w ∙ ap (λ (m : MachineState). due_at_least least m.nine.processor.due) e
 
-pub seven_waits : (least n : ℕ) (parts s : MachineState) → n ≡ waits least parts.seven.processor.due → parts ≡ s → n ≡ waits least s.seven.processor.due
-seven_waits least n parts s w e = w ∙ ap (λ (m : MachineState). waits least m.seven.processor.due) e
+pub seven_waits : (least n : ℕ) (parts s : MachineState) → n ≡ due_at_least least parts.seven.processor.due → parts ≡ s → n ≡ due_at_least least s.seven.processor.due
+seven_waits least n parts s w e = w ∙ ap (λ (m : MachineState). due_at_least least m.seven.processor.due) e
 
 -- so the processor steps for which fewer ticks are waited, ARM9 at equal ones
-pub nine_first : (kept : Kept) (s : MachineState) (nine seven until : ℕ) → IsKept kept s → nine ≡ waits kept.nine_least s.nine.processor.due
-    → seven ≡ waits kept.seven_least s.seven.processor.due → nine ≤ seven → nine < min kept.until.0 until → until ≤ 2 ^ 56
+pub nine_first : (kept : Kept) (s : MachineState) (nine seven until : ℕ) → IsKept kept s → nine ≡ due_at_least kept.nine_least s.nine.processor.due
+    → seven ≡ due_at_least kept.seven_least s.seven.processor.due → nine ≤ seven → nine < min kept.until.0 until → until ≤ 2 ^ 56
     → IsLeast (dues_of s) (record { 0 = nine }) 22
 nine_first kept s nine seven until is n m le lt early =
     nine_least s kept.until.0 (record { 0 = nine }) is.events (omega (arith, lt))
     (due_there (is_held s Nine) kept.nine_least s.nine.processor nine is.nine_least n (omega (arith, lt, early)))
     (λ at h. (let k = wait_is (is_held s Seven) kept.seven_least s.seven.processor at is.seven_least h in omega (arith, m, le, k)))
 
-pub seven_first : (kept : Kept) (s : MachineState) (nine seven until : ℕ) → IsKept kept s → nine ≡ waits kept.nine_least s.nine.processor.due
-    → seven ≡ waits kept.seven_least s.seven.processor.due → seven < nine → seven < min kept.until.0 until → until ≤ 2 ^ 56
+pub seven_first : (kept : Kept) (s : MachineState) (nine seven until : ℕ) → IsKept kept s → nine ≡ due_at_least kept.nine_least s.nine.processor.due
+    → seven ≡ due_at_least kept.seven_least s.seven.processor.due → seven < nine → seven < min kept.until.0 until → until ≤ 2 ^ 56
     → IsLeast (dues_of s) (record { 0 = seven }) 23
 seven_first kept s nine seven until is n m le lt early =
     seven_least s kept.until.0 (record { 0 = seven }) is.events (omega (arith, lt))
@@ -165,7 +165,7 @@ kept_stays kept s next is b = record {
   seven_line = is.seven_line ∙ line Seven;
 } where
   held : (proc : Proc) → is_held s proc ≡ is_held next proc
-  held proc = ap (λ (u : UnitsState). own.is_held (own_of u proc)) (sym b.units)
+  held proc = ap (λ (u : UnitsState). own_is_held (own_of u proc)) (sym b.units)
 
   line : (proc : Proc) → line_of s proc ≡ line_of next proc
   line proc = ap (λ (u : UnitsState). line_is_up (own_of u proc).irq) (sym b.units)
@@ -182,13 +182,13 @@ asleep_stays tick s asleep = ap (λ (m : MachineState). woken_one Seven tick m) 
   one proc false e = refl
 
 pub cost_at_once : (kept : Kept) (s : MachineState) (rank : ℕ) (proc : Proc) (tick : Tick) (clocks : ℕ) → IsKept kept s → 0 < kept.until.0 → is_held s proc ≡ false
-    → awake (Some tick) (concluded rank proc s (Cost clocks)) ≡ stepped_of s answers.Made (with_processor proc s (went_on proc clocks false (processor_of s proc)))
+    → awake (Some tick) (machine_concluded rank proc s (Cost clocks)) ≡ stepped_of s answers.Made (with_processor proc s (went_on proc clocks false (processor_of s proc)))
 cost_at_once kept s rank proc tick clocks is some held =
     let p = went_on proc clocks false (processor_of s proc) in
     let next = with_processor proc s p in
     let asleep = (kept_stays kept s next is (put_beside proc s p)).asleep some in
     let halted : is_halted s proc ≡ false = (neither _ _ held).0 in
-    let came : Bool → Stepped MachineState Shown LeftOut = λ b. awake (Some tick) (Makes (with_processor proc s (went_on proc clocks b (processor_of s proc))) []) in
+    let came : Bool → MachineStep MachineState Shown LeftOut = λ b. awake (Some tick) (Makes (with_processor proc s (went_on proc clocks b (processor_of s proc))) []) in
     ap came halted ∙ ap (λ (m : MachineState). stepped_of s answers.Made m) (asleep_stays tick next asleep)
 
 -- what is kept stays at it
@@ -204,14 +204,14 @@ seven_keeps kept s next is e units = kept_stays kept s next is (record { units =
 
 -- what isn't held before them isn't held after them
 pub free_stays : (proc : Proc) (s next : MachineState) → next.map.units ≡ s.map.units → is_held s proc ≡ false → is_held next proc ≡ false
-free_stays proc s next units free = ap (λ (u : UnitsState). own.is_held (own_of u proc)) units ∙ free
+free_stays proc s next units free = ap (λ (u : UnitsState). own_is_held (own_of u proc)) units ∙ free
 
 -- the whole of it
 pub nine_made : (kept : Kept) (s m next : MachineState) (tick : Tick) (clocks : ℕ) → IsKept kept m → 0 < kept.until.0 → is_held m Nine ≡ false → m ≡ with_nine s (nine_outcome s)
     → Cost clocks ≡ (nine_outcome s).stepped → next ≡ with_processor Nine m (went_on Nine clocks false (processor_of m Nine))
     → awake (Some tick) (step_by 22 (Processor Nine) s) ≡ stepped_of s answers.Made next
 nine_made kept s m next tick clocks is some held machine stepped e =
-    let came : MachineState → arm.Stepped → Stepped MachineState Shown LeftOut = λ x by. awake (Some tick) (concluded 22 Nine x by) in
+    let came : MachineState → arm.Stepped → MachineStep MachineState Shown LeftOut = λ x by. awake (Some tick) (machine_concluded 22 Nine x by) in
     ap (λ (x : MachineState). came x (nine_outcome s).stepped) (sym machine) ∙ ap (came m) (sym stepped)
     ∙ cost_at_once kept m 22 Nine tick clocks is some held ∙ ap (λ (x : MachineState). stepped_of s answers.Made x) (sym e)
 
@@ -219,6 +219,6 @@ pub seven_made : (kept : Kept) (s m next : MachineState) (tick : Tick) (clocks :
     → Cost clocks ≡ (seven_outcome s).stepped → next ≡ with_processor Seven m (went_on Seven clocks false (processor_of m Seven))
     → awake (Some tick) (step_by 23 (Processor Seven) s) ≡ stepped_of s answers.Made next
 seven_made kept s m next tick clocks is some held machine stepped e =
-    let came : MachineState → arm.Stepped → Stepped MachineState Shown LeftOut = λ x by. awake (Some tick) (concluded 23 Seven x by) in
+    let came : MachineState → arm.Stepped → MachineStep MachineState Shown LeftOut = λ x by. awake (Some tick) (machine_concluded 23 Seven x by) in
     ap (λ (x : MachineState). came x (seven_outcome s).stepped) (sym machine) ∙ ap (came m) (sym stepped)
     ∙ cost_at_once kept m 23 Seven tick clocks is some held ∙ ap (λ (x : MachineState). stepped_of s answers.Made x) (sym e)

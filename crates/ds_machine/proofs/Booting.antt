@@ -9,7 +9,7 @@ use Rattle.ds_base.specs.declared.ticks.Tick.{Tick}
 use Rattle.ds_dma.specs.Channels.{IsChannel, channel_at_boot}
 use Rattle.ds_dma.specs.States.{AreReadyLater, IsDma, channel_at, dma_at_boot}
 use Rattle.ds_header.specs.Fields.{image_of, image_place}
-use Rattle.ds_ipc.specs.Ipcs.{across}
+use Rattle.ds_ipc.specs.Ipcs.{other_proc}
 use Rattle.ds_map.specs.Accesses.{map_written}
 use Rattle.ds_map.specs.Maps.{MapState, blank_map}
 use Rattle.ds_map.proofs.Later.{map_write_goes}
@@ -18,7 +18,7 @@ use Rattle.ds_ports.specs.Own.{own_at_boot}
 use Rattle.ds_ports.specs.Units.{UnitsState, own_of}
 use Rattle.ds_ports.proofs.Later.{goes_nowhere, goes_on, left_is, left_quiet, of_both}
 use Rattle.ds_timers.specs.Timing.{AreTimers, IsTimer, timer_at, timer_due, timers_at_boot}
-use Rattle.ds_machine.specs.Booted.{booted, header_bytes, header_place}
+use Rattle.ds_machine.specs.Booted.{machine_booted, header_bytes, header_place}
 use Rattle.ds_machine.specs.Boots.{copied}
 use Rattle.ds_machine.specs.Reference.{IsSound}
 
@@ -96,10 +96,10 @@ copied_ready : (proc : Proc) (m : MapState) (at : ℕ) (bytes : List ℕ) → Ar
 copied_ready proc m at bytes r =
     let new = (copied proc m at bytes).units in
     let g = copied_goes proc m at bytes (r.is proc) (r.quiet proc) in
-    let old = own_of m.units (across proc) in
+    let old = own_of m.units (other_proc proc) in
     record {
-      is = of_both (λ each. IsOwn (own_of new each)) proc g.is (left_is old (own_of new (across proc)) g.other (r.is (across proc)));
-      quiet = of_both (λ each. IsQuiet start (own_of new each)) proc g.quiet (left_quiet start old (own_of new (across proc)) g.other (r.quiet (across proc)));
+      is = of_both (λ each. IsOwn (own_of new each)) proc g.is (left_is old (own_of new (other_proc proc)) g.other (r.is (other_proc proc)));
+      quiet = of_both (λ each. IsQuiet start (own_of new each)) proc g.quiet (left_quiet start old (own_of new (other_proc proc)) g.other (r.quiet (other_proc proc)));
     }
 
 blank_ready : AreReady blank_map.units
@@ -112,7 +112,7 @@ blank_ready = record { is = is; quiet = quiet } where
   quiet Nine = quiet_boots Nine
   quiet Seven = quiet_boots Seven
 
-pub sound_booted : (file : List ℕ) (keys : List KeyLine) → AreKeyLines keys → IsSound (booted file keys)
+pub sound_booted : (file : List ℕ) (keys : List KeyLine) → AreKeyLines keys → IsSound (machine_booted file keys)
 sound_booted file keys are =
     let nine = copied Nine blank_map (image_place file Nine) (image_of file Nine) in
     let seven = copied Seven nine (image_place file Seven) (image_of file Seven) in

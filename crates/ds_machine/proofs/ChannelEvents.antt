@@ -10,7 +10,7 @@ use Rattle.ds_base.specs.declared.ticks.Tick.{Tick}
 use Rattle.ds_dma.specs.States.{DmaState, channel_due}
 use Rattle.ds_dma.specs.declared.channels.Unit.{Unit as DmaUnit}
 use Rattle.ds_dma.proofs.Turns.{all_later}
-use Rattle.ds_ipc.specs.Ipcs.{across}
+use Rattle.ds_ipc.specs.Ipcs.{other_proc}
 use Rattle.ds_map.specs.Accesses.{map_value}
 use Rattle.ds_map.specs.Maps.{MapState}
 use Rattle.ds_map.specs.Moves.{next_unit, unit_left, unit_needs, unit_read, unit_refusal, unit_taken}
@@ -19,7 +19,7 @@ use Rattle.ds_ports.specs.Dues.{AreUnits, Goes, IsLeft, IsQuiet, due_behind}
 use Rattle.ds_ports.specs.Own.{OwnState}
 use Rattle.ds_ports.specs.Units.{UnitsState, own_of}
 use Rattle.ds_ports.proofs.Later.{AreLeft, MovedGoes, all_behind, goes_units, moved_goes, of_both, own_is, still_later}
-use Rattle.ds_runs.specs.Runs.{Stepped, Makes, Stops}
+use Rattle.ds_runs.specs.Runs.{MachineStep, Makes, Stops}
 use Rattle.ds_runs.specs.declared.actors.Actor.TheVariants.{Dma, Timer}
 use Rattle.ds_runs.proofs.RunLaws.{same_makes, same_stops, not_both}
 use Rattle.ds_timers.specs.Timing.{TimerState, timer_at, timer_due}
@@ -73,12 +73,12 @@ module _ (rank : ℕ) (proc : Proc) (now : Tick) (unit : DmaUnit) (s : MachineSt
   made_unless (Some value) made outs h = absurd (not_both made s outs _ (sym h))
 
   left_by : (refusal : Option Stop) (left : MachineState) (stop : LeftOut)
-      → (let step : Stepped MachineState Shown LeftOut = moved_by rank proc now refusal (with_map s (unit_left refusal proc now unit s.map)) in step ≡ Stops stop left)
+      → (let step : MachineStep MachineState Shown LeftOut = moved_by rank proc now refusal (with_map s (unit_left refusal proc now unit s.map)) in step ≡ Stops stop left)
       → with_map s (unit_read proc unit s.map) ≡ left
   left_by None left stop h = absurd (not_both (after_unit proc now unit s) left [] stop h)
   left_by (Some why) left stop h = (same_stops (with_map s (unit_read proc unit s.map)) left _ stop h).1
 
-  left_unless : (needs : Option ℕ) (left : MachineState) (stop : LeftOut) → (let step : Stepped MachineState Shown LeftOut = moved_unless rank proc now needs unit s in step ≡ Stops stop left)
+  left_unless : (needs : Option ℕ) (left : MachineState) (stop : LeftOut) → (let step : MachineStep MachineState Shown LeftOut = moved_unless rank proc now needs unit s in step ≡ Stops stop left)
       → (s ≡ left) ⊎ (with_map s (unit_read proc unit s.map) ≡ left)
   left_unless None left stop h = inr (left_by (unit_refusal proc now unit s.map) left stop h)
   left_unless (Some value) left stop h = inl (same_stops s left _ stop h).1
@@ -91,7 +91,7 @@ channel_made rank proc now s made outs h =
 
 -- one that stops leaves all as it was, or as it was after the read
 pub channel_left : (rank : ℕ) (proc : Proc) (now : Tick) (s left : MachineState) (stop : LeftOut)
-    → (let step : Stepped MachineState Shown LeftOut = channel_step rank proc (Some now) s in step ≡ Stops stop left)
+    → (let step : MachineStep MachineState Shown LeftOut = channel_step rank proc (Some now) s in step ≡ Stops stop left)
     → (s ≡ left) ⊎ (with_map s (unit_read proc (next_unit s.map proc) s.map) ≡ left)
 channel_left rank proc now s left stop h =
     left_unless rank proc now (next_unit s.map proc) s (unit_needs proc s.map.units.wramcnt (next_unit s.map proc)) left stop h
@@ -158,10 +158,10 @@ module _ (proc : Proc) (channel : ℕ) (now : Tick) (unit : DmaUnit) (s : Machin
       then_behind now s.map.units read written.units (left_behind now s.map.units read left)
       (then_behind now read taken.units written.units moves.steps.dues (all_behind proc now taken.units written.units goes))
 
-  other : IsLeft (own_of s.map.units (across proc)) (own_of written.units (across proc))
+  other : IsLeft (own_of s.map.units (other_proc proc)) (own_of written.units (other_proc proc))
   other =
-      left_after (own_of s.map.units (across proc)) (own_of read (across proc)) (own_of written.units (across proc)) (left.own (across proc))
-      (subst (λ (o : OwnState). IsLeft o (own_of written.units (across proc))) moves.other goes.other)
+      left_after (own_of s.map.units (other_proc proc)) (own_of read (other_proc proc)) (own_of written.units (other_proc proc)) (left.own (other_proc proc))
+      (subst (λ (o : OwnState). IsLeft o (own_of written.units (other_proc proc))) moves.other goes.other)
 
   units : AreUnits written.units
   units = goes_units proc now taken.units written.units moves.steps.units goes
@@ -178,7 +178,7 @@ module _ (proc : Proc) (channel : ℕ) (now : Tick) (unit : DmaUnit) (s : Machin
       (of_both (λ each. Reschedules now (processor_due s each) (processor_due next each)) proc
       (inr (subst (IsLater now) (sym (event_due (with_processor proc m past) proc ∙ put_own proc m past))
       (later_unless now (is_held m proc) past (omega (arith, le-max_right (processor_of m proc).due (now.0 + 1))))))
-      (inl (event_due (with_processor proc m past) (across proc) ∙ put_other proc m past ∙ left_due s written (across proc) other)))
+      (inl (event_due (with_processor proc m past) (other_proc proc) ∙ put_other proc m past ∙ left_due s written (other_proc proc) other)))
 
   pub unit_sound : IsSound (after_unit proc now unit s)
   unit_sound =

@@ -6,13 +6,13 @@ use Rattle.ds_base.specs.declared.processors.Proc.{Proc}
 use Rattle.ds_base.specs.declared.ticks.Tick.{Tick}
 use Rattle.ds_map.specs.Moves.{next_unit, unit_read}
 use Rattle.ds_runs.specs.Actors.{actor_of}
-use Rattle.ds_runs.specs.Runs.{IsLeast, Stepped, Makes, Stops}
+use Rattle.ds_runs.specs.Runs.{IsLeast, MachineStep, Makes, Stops}
 use Rattle.ds_runs.specs.declared.actors.Actor as actor
 use Rattle.ds_runs.specs.declared.actors.Actor.TheVariants.{KeyScript, Video, Timer, Divider, SquareRoot, Geometry, Card, Dma, Processor}
 use Rattle.ds_runs.proofs.RunExists.{place_rises}
 use Rattle.ds_runs.proofs.RunLaws.{same_makes, not_both}
 use Rattle.ds_machine.specs.Channels.{channel_step}
-use Rattle.ds_machine.specs.Reference.{CountsWithin, HasCounted, IsSound, MayStep, Shown, after_division, after_line, after_root, after_timer, after_video, due_by, dues_of, keys_due, next_shown, reference, shown_by_video, step_by, step_of, stepped_of}
+use Rattle.ds_machine.specs.Reference.{CountsWithin, HasCounted, IsSound, MayStep, Shown, after_division, after_line, after_root, after_timer, after_video, due_by, dues_of, keys_due, next_shown, reference, shown_by_video, step_by, reference_step, stepped_of}
 use Rattle.ds_machine.specs.States.{MachineState, counts_of}
 use Rattle.ds_machine.specs.declared.answers.Done as answer
 use Rattle.ds_machine.specs.declared.answers.Done.TheVariants as answers
@@ -49,7 +49,7 @@ made_counts (Processor proc) rank tick s made outs due h =
     let k = concludes rank proc m made outs (came_by proc s) (costs_some proc s) (sym (step_is rank proc s) ∙ h) in
     ap counts_of (sym k.1) ∙ gone_counts proc m (came_by proc s) k.0 ∙ ap (λ (n : ℕ). n + 1) (reaches proc s).counts
 
-pub one_more : (s next : MachineState) (tick : Tick) (rank : ℕ) (outs : List Shown) → IsLeast (dues_of s) tick rank → step_of rank s ≡ Makes next outs
+pub one_more : (s next : MachineState) (tick : Tick) (rank : ℕ) (outs : List Shown) → IsLeast (dues_of s) tick rank → reference_step rank s ≡ Makes next outs
     → counts_of next ≡ counts_of s + 1
 one_more s next tick rank outs least h =
     let k = step_made s next tick rank outs least h in
@@ -62,7 +62,7 @@ read_counts proc s left (inl same) = ap counts_of (sym same)
 read_counts proc s left (inr read) = ap counts_of (sym read)
 
 channel_counts : (proc : Proc) (due : Option Tick) (rank : ℕ) (s left : MachineState) (stop : LeftOut)
-    → (let step : Stepped MachineState Shown LeftOut = channel_step rank proc due s in step ≡ Stops stop left) → counts_of left ≡ counts_of s
+    → (let step : MachineStep MachineState Shown LeftOut = channel_step rank proc due s in step ≡ Stops stop left) → counts_of left ≡ counts_of s
 channel_counts proc None rank s left stop h = absurd (not_both s left [] stop h)
 channel_counts proc (Some now) rank s left stop h = read_counts proc s left (channel_left rank proc now s left stop h)
 
@@ -79,14 +79,14 @@ left_counts (Processor proc) rank s left stop h =
     let e = concluded_stops rank proc (reached_by proc s) left stop (came_by proc s) (sym (step_is rank proc s) ∙ h) in
     ap counts_of (sym e) ∙ (reaches proc s).counts
 
-pub stop_counts : (s left : MachineState) (rank : ℕ) (stop : LeftOut) → step_of rank s ≡ Stops stop left → counts_of left ≡ counts_of s
+pub stop_counts : (s left : MachineState) (rank : ℕ) (stop : LeftOut) → reference_step rank s ≡ Stops stop left → counts_of left ≡ counts_of s
 stop_counts s left rank stop h =
     left_counts (actor_of rank) rank s left stop (awake_stops (due_by (actor_of rank) s) (step_by rank (actor_of rank) s) left stop h)
 
 -- ---- the counts stay in their bounds, whatever a step comes to
 
 pub counted_made : (s next : MachineState) (tick : Tick) (rank : ℕ) (outs : List Shown) → IsSound s → IsLeast (dues_of s) tick rank → HasCounted s
-    → step_of rank s ≡ Makes next outs → HasCounted next
+    → reference_step rank s ≡ Makes next outs → HasCounted next
 counted_made s next tick rank outs sound least has h = λ other at due.
     (let k = place_rises reference 24 IsSound reference_schedules s next tick rank outs at other sound least h due in
     let e = one_more s next tick rank outs least h in
@@ -94,7 +94,7 @@ counted_made s next tick rank outs sound least has h = λ other at due.
     omega (arith, k, e, c))
 
 pub counted_left : (s left : MachineState) (tick : Tick) (rank : ℕ) (stop : LeftOut) → IsSound s → IsLeast (dues_of s) tick rank → HasCounted s
-    → step_of rank s ≡ Stops stop left → HasCounted left
+    → reference_step rank s ≡ Stops stop left → HasCounted left
 counted_left s left tick rank stop sound least has h = λ other at due.
     (let e = stop_counts s left rank stop h in
     let all = moves_all tick s left (stopped s left tick rank stop sound least h).moves in
@@ -105,13 +105,13 @@ counted_left s left tick rank stop sound least has h = λ other at due.
 
 -- whatever is answered
 pub counted_done : (s next : MachineState) (tick : Tick) (rank : ℕ) (done : answer.Done) → IsSound s → IsLeast (dues_of s) tick rank → HasCounted s
-    → step_of rank s ≡ stepped_of s done next → HasCounted next
+    → reference_step rank s ≡ stepped_of s done next → HasCounted next
 counted_done s next tick rank answers.Made sound least has h = counted_made s next tick rank [] sound least has h
 counted_done s next tick rank (answers.Frame swapped) sound least has h = counted_made s next tick rank (next_shown s swapped ∷ []) sound least has h
 counted_done s next tick rank (answers.Stopped left) sound least has h = counted_left s next tick rank left sound least has h
 
 pub sound_done : (s next : MachineState) (tick : Tick) (rank : ℕ) (done : answer.Done) → IsSound s → IsLeast (dues_of s) tick rank
-    → step_of rank s ≡ stepped_of s done next → IsSound next
+    → reference_step rank s ≡ stepped_of s done next → IsSound next
 sound_done s next tick rank answers.Made sound least h = (owes s next tick rank [] sound least h).sound
 sound_done s next tick rank (answers.Frame swapped) sound least h = (owes s next tick rank (next_shown s swapped ∷ []) sound least h).sound
 sound_done s next tick rank (answers.Stopped left) sound least h = (stopped s next tick rank left sound least h).sound
@@ -121,7 +121,7 @@ pub counted_none : (s : MachineState) → counts_of s ≡ 0 → HasCounted s
 counted_none s e = λ rank tick due. omega (arith, e)
 
 -- a step below a limit leaves all counts within it
-pub counts_within : (s next : MachineState) (tick : Tick) (rank : ℕ) (outs : List Shown) (limit : ℕ) → IsLeast (dues_of s) tick rank → step_of rank s ≡ Makes next outs
+pub counts_within : (s next : MachineState) (tick : Tick) (rank : ℕ) (outs : List Shown) (limit : ℕ) → IsLeast (dues_of s) tick rank → reference_step rank s ≡ Makes next outs
     → HasCounted s → tick.0 < limit → CountsWithin limit next
 counts_within s next tick rank outs limit least h has lt =
     let e = one_more s next tick rank outs least h in

@@ -7,14 +7,14 @@ use Rattle.ds_base.specs.declared.ticks.Due.{Due}
 use Rattle.ds_base.specs.declared.ticks.Tick.{Tick}
 use Rattle.ds_runs.specs.Actors.{actor_of}
 use Rattle.ds_runs.specs.Order.{due_with_rank, earlier, first_from}
-use Rattle.ds_runs.specs.Runs.{IsLeast, Stepped, due_at}
-use Rattle.ds_runs.specs.Schedules.{AllReschedule}
+use Rattle.ds_runs.specs.Runs.{IsLeast, MachineStep, due_at}
+use Rattle.ds_runs.specs.Owed.{AllReschedule}
 use Rattle.ds_runs.specs.declared.actors.Actor as actor
 use Rattle.ds_runs.proofs.ActorTable.{due_of_actor}
 use Rattle.ds_runs.proofs.Firsts.{first_is_least, first_of_append}
 use Rattle.ds_runs.proofs.Lists.{at_rank, is_later, within}
 use Rattle.ds_machine.specs.Kept.{events_of}
-use Rattle.ds_machine.specs.Reference.{MayStep, Shown, awake, due_by, due_unless, dues_of, processor_due, step_by, step_of}
+use Rattle.ds_machine.specs.Reference.{MayStep, Shown, awake, due_by, due_unless, dues_of, processor_due, step_by, reference_step}
 use Rattle.ds_machine.specs.States.{MachineState, ProcessorState}
 use Rattle.ds_machine.specs.Steps.{is_held, processor_of, tick_of}
 use Rattle.ds_machine.specs.Videos.{video_due}
@@ -104,7 +104,7 @@ not_before s next tick rank least all other at h = elim (at_rank tick (dues_of s
 ]
 
 -- what a step is, by the actor that takes it and the tick at which it is due
-pub steps_as : (s : MachineState) (rank : ℕ) (a : actor.Actor) (due : Option Tick) (came : Stepped MachineState Shown LeftOut) → actor_of rank ≡ a → due_by a s ≡ due
-    → awake due (step_by rank a s) ≡ came → step_of rank s ≡ came
+pub steps_as : (s : MachineState) (rank : ℕ) (a : actor.Actor) (due : Option Tick) (came : MachineStep MachineState Shown LeftOut) → actor_of rank ≡ a → due_by a s ≡ due
+    → awake due (step_by rank a s) ≡ came → reference_step rank s ≡ came
 steps_as s rank a due came e d h =
     subst (λ (x : actor.Actor). awake (due_by x s) (step_by rank x s) ≡ came) (sym e) (subst (λ (o : Option Tick). awake o (step_by rank a s) ≡ came) (sym d) h)

@@ -11,14 +11,14 @@ use Rattle.ds_map.specs.Moves.{next_unit, unit_read}
 use Rattle.ds_ports.specs.Units.{UnitsState, division_done, keys_pressed, root_done, timer_overflows}
 use Rattle.ds_ports.proofs.Later.{still_later, timer_goes}
 use Rattle.ds_runs.specs.Actors.{IsNumbered, actor_of}
-use Rattle.ds_runs.specs.Runs.{IsLeast, Stepped, Makes, Stops}
-use Rattle.ds_runs.specs.Schedules.{Schedules}
+use Rattle.ds_runs.specs.Runs.{IsLeast, MachineStep, Makes, Stops}
+use Rattle.ds_runs.specs.Owed.{Schedules}
 use Rattle.ds_runs.specs.declared.actors.Actor as actor
 use Rattle.ds_runs.specs.declared.actors.Actor.TheVariants.{KeyScript, Video, Timer, Divider, SquareRoot, Geometry, Card, Dma, Processor}
 use Rattle.ds_runs.proofs.AllActors.{is_numbered}
 use Rattle.ds_runs.proofs.RunLaws.{same_makes, not_both}
 use Rattle.ds_machine.specs.Channels.{channel_step, one_event}
-use Rattle.ds_machine.specs.Reference.{IsSound, Shown, after_division, after_line, after_root, after_timer, after_video, awake, due_by, dues_of, keys_due, reference, shown_by_video, step_by, step_of}
+use Rattle.ds_machine.specs.Reference.{IsSound, Shown, after_division, after_line, after_root, after_timer, after_video, awake, due_by, dues_of, keys_due, reference, shown_by_video, step_by, reference_step}
 use Rattle.ds_machine.specs.States.{MachineState, VideoState}
 use Rattle.ds_machine.specs.Steps.{gone_by, is_held, processor_of, with_units, woken}
 use Rattle.ds_machine.specs.Videos.{triggered_by_video, video_after, video_due}
@@ -173,14 +173,14 @@ owes_by (Processor proc) rank tick s made outs st h =
 
 -- ---- and then processors wake
 
-pub awake_makes : (tick : Tick) (came : Stepped MachineState Shown LeftOut) (next : MachineState) (outs : List Shown) → awake (Some tick) came ≡ Makes next outs
+pub awake_makes : (tick : Tick) (came : MachineStep MachineState Shown LeftOut) (next : MachineState) (outs : List Shown) → awake (Some tick) came ≡ Makes next outs
     → (made : MachineState) × (came ≡ Makes made outs) × (woken tick made ≡ next)
 awake_makes tick (Makes made out) next outs h =
     let k = same_makes (woken tick made) next out outs h in
-    (made, ap (λ (o : List Shown). (let came : Stepped MachineState Shown LeftOut = Makes made o in came)) k.1, k.0)
+    (made, ap (λ (o : List Shown). (let came : MachineStep MachineState Shown LeftOut = Makes made o in came)) k.1, k.0)
 awake_makes tick (Stops stop left) next outs h = absurd (not_both next left outs stop (sym h))
 
-pub awake_stops : (due : Option Tick) (came : Stepped MachineState Shown LeftOut) (left : MachineState) (stop : LeftOut) → awake due came ≡ Stops stop left → came ≡ Stops stop left
+pub awake_stops : (due : Option Tick) (came : MachineStep MachineState Shown LeftOut) (left : MachineState) (stop : LeftOut) → awake due came ≡ Stops stop left → came ≡ Stops stop left
 awake_stops None came left stop h = h
 awake_stops (Some tick) (Makes made out) left stop h = absurd (not_both (woken tick made) left out stop h)
 awake_stops (Some tick) (Stops why was) left stop h = h
@@ -195,13 +195,13 @@ steps_here s tick rank sound least = record {
 }
 
 -- what came of the step of the actor that is least
-pub step_made : (s next : MachineState) (tick : Tick) (rank : ℕ) (outs : List Shown) → IsLeast (dues_of s) tick rank → step_of rank s ≡ Makes next outs
+pub step_made : (s next : MachineState) (tick : Tick) (rank : ℕ) (outs : List Shown) → IsLeast (dues_of s) tick rank → reference_step rank s ≡ Makes next outs
     → (made : MachineState) × (step_by rank (actor_of rank) s ≡ Makes made outs) × (woken tick made ≡ next)
 step_made s next tick rank outs least h =
     let came = step_by rank (actor_of rank) s in
     awake_makes tick came next outs (subst (λ (o : Option Tick). awake o came ≡ Makes next outs) (due_of_least s rank tick least) h)
 
-pub owes : (s next : MachineState) (tick : Tick) (rank : ℕ) (outs : List Shown) → IsSound s → IsLeast (dues_of s) tick rank → step_of rank s ≡ Makes next outs
+pub owes : (s next : MachineState) (tick : Tick) (rank : ℕ) (outs : List Shown) → IsSound s → IsLeast (dues_of s) tick rank → reference_step rank s ≡ Makes next outs
     → Owes (actor_of rank) tick s next
 owes s next tick rank outs sound least h =
     let a = actor_of rank in
@@ -249,13 +249,13 @@ leaves_by SquareRoot rank tick s left stop st h = absurd (not_both (after_root s
 leaves_by Geometry rank tick s left stop st h = absurd (not_both s left [] stop h)
 leaves_by Card rank tick s left stop st h = absurd (not_both s left [] stop h)
 leaves_by (Dma proc channel) rank tick s left stop st h =
-    let P : Option Tick → Type 0 = λ o. (let step : Stepped MachineState Shown LeftOut = channel_step rank proc o s in step ≡ Stops stop left) in
+    let P : Option Tick → Type 0 = λ o. (let step : MachineStep MachineState Shown LeftOut = channel_step rank proc o s in step ≡ Stops stop left) in
     leaves_read tick proc s left st.sound (channel_left rank proc tick s left stop (subst P st.due h))
 leaves_by (Processor proc) rank tick s left stop st h =
     let r = ready proc rank tick s st in
     let e = concluded_stops rank proc (reached_by proc s) left stop (came_by proc s) (sym (step_is rank proc s) ∙ h) in
     subst (Leaves tick s) e (record { moves = reached_moves proc tick s r; sound = reached_sound proc tick s r })
 
-pub stopped : (s left : MachineState) (tick : Tick) (rank : ℕ) (stop : LeftOut) → IsSound s → IsLeast (dues_of s) tick rank → step_of rank s ≡ Stops stop left → Leaves tick s left
+pub stopped : (s left : MachineState) (tick : Tick) (rank : ℕ) (stop : LeftOut) → IsSound s → IsLeast (dues_of s) tick rank → reference_step rank s ≡ Stops stop left → Leaves tick s left
 stopped s left tick rank stop sound least h =
     leaves_by (actor_of rank) rank tick s left stop (steps_here s tick rank sound least) (awake_stops (due_by (actor_of rank) s) (step_by rank (actor_of rank) s) left stop h)

@@ -5,12 +5,11 @@ use Rattle.ds_base.specs.declared.processors.Proc.{Proc}
 use Rattle.ds_base.specs.declared.ticks.Tick.{Tick}
 use Rattle.ds_dma.specs.States.{channel_due}
 use Rattle.ds_ports.specs.Dues.{AreUnits, IsLeft, due_behind}
-use Rattle.ds_ports.specs.Own as own
-use Rattle.ds_ports.specs.Own.{OwnState}
+use Rattle.ds_ports.specs.Own.{own_is_held, OwnState}
 use Rattle.ds_ports.specs.Units.{UnitsState, own_of}
 use Rattle.ds_ports.proofs.Later.{AreLeft, dues_of_kinds, in_turn, left_is, own_is, units_of}
 use Rattle.ds_runs.specs.Actors.{IsNumbered}
-use Rattle.ds_runs.specs.Schedules.{AllReschedule}
+use Rattle.ds_runs.specs.Owed.{AllReschedule}
 use Rattle.ds_runs.specs.declared.actors.Actor as actor
 use Rattle.ds_runs.specs.declared.actors.Actor.TheVariants.{KeyScript, Video, Timer, Divider, SquareRoot, Geometry, Card, Dma, Processor}
 use Rattle.ds_runs.proofs.AllActors.{all_of_actors}
@@ -59,7 +58,7 @@ left_behind tick old new l =
 -- ---- a processor's own
 
 -- it is held as before
-pub left_held : (old new : OwnState) → IsLeft old new → own.is_held new ≡ own.is_held old
+pub left_held : (old new : OwnState) → IsLeft old new → own_is_held new ≡ own_is_held old
 left_held old new l = rw (l.halted, l.dma) refl
 
 pub left_after : (a b c : OwnState) → IsLeft a b → IsLeft b c → IsLeft a c

@@ -21,7 +21,7 @@ use Rattle.ds_places.specs.AddressTables.{Cells, Empty, place_at, place_of, shar
 use Rattle.ds_places.specs.declared.kinds.Place.{Place}
 use Rattle.ds_places.specs.declared.kinds.Place.TheVariants.{Cell, Banks, Port, Rom, Nothing}
 use Rattle.ds_places.proofs.Regions.{lies_or_not}
-use Rattle.ds_map.specs.Accesses.{is_byte_of_nine, left_at, map_read, map_refusal, map_written, put_at, refusal_at, takes_no_bytes}
+use Rattle.ds_map.specs.Accesses.{is_byte_of_nine, left_at, map_read, map_refusal, map_written, written_at, refusal_at, takes_no_bytes}
 use Rattle.ds_map.specs.Builds.{byte_is_built}
 use Rattle.ds_map.specs.Maps.{MapState, cells_of, with_cells}
 use Rattle.ds_map.proofs.Built.{apart_built}
@@ -136,7 +136,7 @@ put_cells Palette m bytes = refl
 put_cells Vram m bytes = refl
 put_cells Oam m bytes = refl
 
-put_units : (proc : Proc) (now : Tick) (place : Place) (m : MapState) (width : Width) (value : ℕ) → is_cells place ≡ true → (put_at proc now place m width value).units ≡ m.units
+put_units : (proc : Proc) (now : Tick) (place : Place) (m : MapState) (width : Width) (value : ℕ) → is_cells place ≡ true → (written_at proc now place m width value).units ≡ m.units
 put_units proc now (Cell memory at) m width value h = by_byte (is_byte_of_nine proc width && takes_no_bytes memory) where
   by_byte : (b : Bool) → (if b then m else with_cells memory m (with_number width (cells_of m memory) (aligned_down width at) value)).units ≡ m.units
   by_byte true = refl

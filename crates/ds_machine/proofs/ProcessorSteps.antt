@@ -12,16 +12,16 @@ use Rattle.arm_core.specs.declared.outcomes.Stepped as arm
 use Rattle.arm_core.specs.declared.outcomes.Stepped.TheVariants.{Cost, Halted, Left}
 use Rattle.arm_exec.specs.Costs.{CostsSome}
 use Rattle.ds_dma.specs.States.{any_runs}
-use Rattle.ds_ipc.specs.Ipcs.{across}
+use Rattle.ds_ipc.specs.Ipcs.{other_proc}
 use Rattle.ds_ports.specs.Dues.{AreUnits, Goes, IsOwn, IsQuiet}
 use Rattle.ds_ports.specs.Units.{own_of}
 use Rattle.ds_ports.proofs.Later.{all_behind, goes_units, of_both, own_is}
-use Rattle.ds_runs.specs.Runs.{Stepped, Makes, Stops}
+use Rattle.ds_runs.specs.Runs.{MachineStep, Makes, Stops}
 use Rattle.ds_runs.specs.declared.actors.Actor.TheVariants.{Processor}
 use Rattle.ds_runs.proofs.RunLaws.{same_makes, same_stops, not_both}
 use Rattle.ds_machine.specs.Reference.{IsSound, Shown, due_unless, processor_due, step_by}
 use Rattle.ds_machine.specs.States.{MachineState, ProcessorState, counts_of}
-use Rattle.ds_machine.specs.Steps.{concluded, gone_by, is_halted, is_held, nine_outcome, processor_of, seven_outcome, tick_of, went_on, with_halt, with_nine, with_seven}
+use Rattle.ds_machine.specs.Steps.{machine_concluded, gone_by, is_halted, is_held, nine_outcome, processor_of, seven_outcome, tick_of, went_on, with_halt, with_nine, with_seven}
 use Rattle.ds_machine.proofs.Costs.{nine_costs, seven_costs}
 use Rattle.ds_machine.proofs.DueTicks.{due_then, tick_is}
 use Rattle.ds_machine.proofs.Moves.{Behind, Moves, held_moves, left_held, moves_of, same_keys, same_video, then_behind}
@@ -35,7 +35,7 @@ use Rattle.ds_machine.proofs.Wakes.{halt_held, halt_other, halt_steps, halted_be
 -- the machine after the accesses of a processor's step, and with its registers
 pub record Reaches (proc : Proc) (s m : MachineState) : Type 0 where
   pub due : (processor_of m proc).due ≡ (processor_of s proc).due
-  pub other : processor_of m (across proc) ≡ processor_of s (across proc)
+  pub other : processor_of m (other_proc proc) ≡ processor_of s (other_proc proc)
   pub keys : m.keys ≡ s.keys
   pub video : m.video ≡ s.video
   pub counts : counts_of m ≡ counts_of s
@@ -55,7 +55,7 @@ abbrev pub came_by : Proc → MachineState → arm.Stepped
 came_by Nine s = (nine_outcome s).stepped
 came_by Seven s = (seven_outcome s).stepped
 
-pub step_is : (rank : ℕ) (proc : Proc) (s : MachineState) → step_by rank (Processor proc) s ≡ concluded rank proc (reached_by proc s) (came_by proc s)
+pub step_is : (rank : ℕ) (proc : Proc) (s : MachineState) → step_by rank (Processor proc) s ≡ machine_concluded rank proc (reached_by proc s) (came_by proc s)
 step_is rank Nine s = refl
 step_is rank Seven s = refl
 
@@ -124,7 +124,7 @@ gone_later proc m tick (Halted clocks) e took =
     subst (IsLater tick) (sym (put_own proc halt p ∙ ap (λ (held : Bool). due_unless held p) (halt_held proc m))) tt
 gone_later proc m tick (Left stop) e took = absurd took
 
-gone_other : (proc : Proc) (m : MachineState) (came : arm.Stepped) → Took came → processor_due (gone_by proc came m) (across proc) ≡ processor_due m (across proc)
+gone_other : (proc : Proc) (m : MachineState) (came : arm.Stepped) → Took came → processor_due (gone_by proc came m) (other_proc proc) ≡ processor_due m (other_proc proc)
 gone_other proc m (Cost clocks) took = put_other proc m (went_on proc clocks (is_halted m proc) (processor_of m proc))
 gone_other proc m (Halted clocks) took = put_other proc (with_halt proc m true) (went_on proc clocks true (processor_of m proc)) ∙ halt_other proc m true
 gone_other proc m (Left stop) took = absurd took
@@ -174,11 +174,11 @@ module _ (proc : Proc) (tick : Tick) (s : MachineState) (r : Ready proc tick s) 
   goes = reach_goes proc tick s (tick_is (processor_of s proc) tick is_due) (own_is s.map.units r.sound.units proc) r.quiet
 
   -- the other processor is due as before
-  other_same : processor_due (reached_by proc s) (across proc) ≡ processor_due s (across proc)
+  other_same : processor_due (reached_by proc s) (other_proc proc) ≡ processor_due s (other_proc proc)
   other_same =
       let m = reached_by proc s in
-      ap (λ (held : Bool). due_unless held (processor_of m (across proc))) (left_held (own_of s.map.units (across proc)) (own_of m.map.units (across proc)) goes.other)
-      ∙ ap (λ (p : ProcessorState). due_unless (is_held s (across proc)) p) (reaches proc s).other
+      ap (λ (held : Bool). due_unless held (processor_of m (other_proc proc))) (left_held (own_of s.map.units (other_proc proc)) (own_of m.map.units (other_proc proc)) goes.other)
+      ∙ ap (λ (p : ProcessorState). due_unless (is_held s (other_proc proc)) p) (reaches proc s).other
 
   -- what a step leaves that is taken
   pub gone_moves : (came : arm.Stepped) → Took came → Moves tick s (gone_by proc came (reached_by proc s))
@@ -218,12 +218,12 @@ module _ (proc : Proc) (tick : Tick) (s : MachineState) (r : Ready proc tick s) 
 
 -- what a step comes to
 pub concludes : (rank : ℕ) (proc : Proc) (m next : MachineState) (outs : List Shown) (came : arm.Stepped) → CostsSome came
-    → concluded rank proc m came ≡ Makes next outs → Took came × (gone_by proc came m ≡ next)
+    → machine_concluded rank proc m came ≡ Makes next outs → Took came × (gone_by proc came m ≡ next)
 concludes rank proc m next outs (Cost clocks) some h = (some, (same_makes (gone_by proc (Cost clocks) m) next [] outs h).0)
 concludes rank proc m next outs (Halted clocks) some h = (tt, (same_makes (gone_by proc (Halted clocks) m) next [] outs h).0)
 concludes rank proc m next outs (Left stop) some h = absurd (not_both next m outs _ (sym h))
 
-pub concluded_stops : (rank : ℕ) (proc : Proc) (m left : MachineState) (stop : LeftOut) (came : arm.Stepped) → (let step : Stepped MachineState Shown LeftOut = concluded rank proc m came in step ≡ Stops stop left)
+pub concluded_stops : (rank : ℕ) (proc : Proc) (m left : MachineState) (stop : LeftOut) (came : arm.Stepped) → (let step : MachineStep MachineState Shown LeftOut = machine_concluded rank proc m came in step ≡ Stops stop left)
     → m ≡ left
 concluded_stops rank proc m left stop (Cost clocks) h = absurd (not_both (gone_by proc (Cost clocks) m) left [] stop h)
 concluded_stops rank proc m left stop (Halted clocks) h = absurd (not_both (gone_by proc (Halted clocks) m) left [] stop h)

@@ -7,8 +7,7 @@ use Rattle.ds_base.specs.declared.ticks.Tick.{Tick}
 use Rattle.ds_dma.specs.Channels.{ready_by}
 use Rattle.ds_dma.specs.States.{DmaState, AreReadyLater, any_runs, channel_at}
 use Rattle.ds_ports.specs.Dues.{IsQuiet, due_behind}
-use Rattle.ds_ports.specs.Own.{OwnState}
-use Rattle.ds_ports.specs.Own as own
+use Rattle.ds_ports.specs.Own.{OwnState, own_is_held}
 use Rattle.ds_ports.specs.Units.{own_of}
 use Rattle.ds_runs.specs.Actors.{actor_of}
 use Rattle.ds_runs.specs.Runs.{IsLeast, due_at}
@@ -90,7 +89,7 @@ none_ready now dma none (suc (suc (suc zero))) lt = never_ready now dma.last (ch
 none_ready now dma none (suc (suc (suc (suc n)))) lt = absurd (omega (arith, lt))
 
 -- a processor that isn't held runs alone
-pub none_held : (now : Tick) (o : OwnState) → own.is_held o ≡ false → AreReadyLater now o.dma
+pub none_held : (now : Tick) (o : OwnState) → own_is_held o ≡ false → AreReadyLater now o.dma
 none_held now o h = none_ready now o.dma (neither o.halted (any_runs o.dma.channels) h).1
 
 -- so where a processor takes its step

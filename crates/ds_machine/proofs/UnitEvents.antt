@@ -8,7 +8,7 @@ use Rattle.ds_dma.specs.States.{DmaState, any_runs, channel_at, channel_due, dma
 use Rattle.ds_dma.specs.declared.controls.Cause.{Cause}
 use Rattle.ds_dma.specs.declared.controls.Cause.TheVariants.{VBlank, HBlank}
 use Rattle.ds_ports.specs.Dues.{AreUnits, due_behind}
-use Rattle.ds_ports.specs.Own as own
+use Rattle.ds_ports.specs.Own.{own_is_held}
 use Rattle.ds_ports.specs.Units.{UnitsState, channels_triggered, division_done, keys_pressed, own_of, root_done, timer_overflows}
 use Rattle.ds_ports.proofs.Later.{LeavesOwn, all_left, StepsUnits, division_goes, keys_goes, root_goes, timer_goes, triggered_goes}
 use Rattle.ds_runs.specs.declared.actors.Actor.TheVariants.{Timer}
@@ -22,7 +22,7 @@ use Rattle.ds_machine.proofs.Moves.{Behind, left_behind}
 pub record Happens (now : Tick) (old new : UnitsState) : Type 0 where
   pub units : AreUnits new
   pub behind : Behind now old new
-  pub held : (proc : Proc) → own.is_held (own_of old proc) ≡ true → own.is_held (own_of new proc) ≡ true
+  pub held : (proc : Proc) → own_is_held (own_of old proc) ≡ true → own_is_held (own_of new proc) ≡ true
 
 still_held : (a b c d : Bool) → b ≡ a → (c ≡ true → d ≡ true) → (a || c) ≡ true → (b || d) ≡ true
 still_held true true c d e f h = refl

@@ -5,7 +5,7 @@ use Rattle.ds_base.specs.declared.processors.Proc.{Proc}
 use Rattle.ds_base.specs.declared.processors.Proc.TheVariants.{Nine, Seven}
 use Rattle.ds_base.specs.declared.ticks.Tick.{Tick}
 use Rattle.ds_dma.specs.States.{channel_due}
-use Rattle.ds_ipc.specs.Ipcs.{across}
+use Rattle.ds_ipc.specs.Ipcs.{other_proc}
 use Rattle.ds_ports.specs.Dues.{AreUnits, IsOwn, due_behind}
 use Rattle.ds_ports.specs.Own.{OwnState}
 use Rattle.ds_ports.specs.Units.{UnitsState, own_of, with_halted}
@@ -25,7 +25,7 @@ pub put_own : (proc : Proc) (s : MachineState) (p : ProcessorState) → processo
 put_own Nine s p = refl
 put_own Seven s p = refl
 
-pub put_other : (proc : Proc) (s : MachineState) (p : ProcessorState) → processor_due (with_processor proc s p) (across proc) ≡ processor_due s (across proc)
+pub put_other : (proc : Proc) (s : MachineState) (p : ProcessorState) → processor_due (with_processor proc s p) (other_proc proc) ≡ processor_due s (other_proc proc)
 put_other Nine s p = refl
 put_other Seven s p = refl
 
@@ -59,10 +59,10 @@ pub halted_units : (proc : Proc) (u : UnitsState) (halted : Bool) → AreUnits u
 halted_units proc u halted are =
     let new : OwnState = record (own_of u proc) { halted = halted } in
     let is = own_is u are proc in
-    units_of (with_halted proc u halted) (each_own (λ p x. IsOwn x) proc u new (record { timers = is.timers; dma = is.dma }) (own_is u are (across proc)))
+    units_of (with_halted proc u halted) (each_own (λ p x. IsOwn x) proc u new (record { timers = is.timers; dma = is.dma }) (own_is u are (other_proc proc)))
 
 -- the other processor is as it was
-pub halt_other : (proc : Proc) (s : MachineState) (halted : Bool) → processor_due (with_halt proc s halted) (across proc) ≡ processor_due s (across proc)
+pub halt_other : (proc : Proc) (s : MachineState) (halted : Bool) → processor_due (with_halt proc s halted) (other_proc proc) ≡ processor_due s (other_proc proc)
 halt_other Nine s halted = refl
 halt_other Seven s halted = refl
 
@@ -81,7 +81,7 @@ on_moves proc tick s =
     let b = put_beside proc halt p in
     let own : Reschedules tick (processor_due s proc) (processor_due next proc) =
     rw (put_own proc halt p) (inr (later_unless tick (is_held halt proc) p (omega arith))) in
-    let other : Reschedules tick (processor_due s (across proc)) (processor_due next (across proc)) = inl (put_other proc halt p ∙ halt_other proc s false) in
+    let other : Reschedules tick (processor_due s (other_proc proc)) (processor_due next (other_proc proc)) = inl (put_other proc halt p ∙ halt_other proc s false) in
     moves_of tick s next (inl (ap keys_due b.keys)) (same_video tick s next b.video)
     (subst (Behind tick s.map.units) (sym b.units) (halted_behind tick proc s.map.units false))
     (of_both (λ each. Reschedules tick (processor_due s each) (processor_due next each)) proc own other)

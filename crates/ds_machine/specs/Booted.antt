@@ -42,8 +42,8 @@ abbrev pub processor_booted : Proc → List ℕ → ProcessorState
 processor_booted proc file = record { registers = cores.booted (image_entry file proc) (stacks_of proc); due = 0; steps = 0 }
 
 -- the boot state, from the cartridge's file and the lines of the key script
-abbrev pub booted : List ℕ → List KeyLine → MachineState
-booted file keys = record {
+abbrev pub machine_booted : List ℕ → List KeyLine → MachineState
+machine_booted file keys = record {
   nine = record { processor = processor_booted Nine file; cp15 = cp15_at_boot; itcm = zeroes (memory_size Itcm); dtcm = zeroes (memory_size Dtcm) };
   seven = record { processor = processor_booted Seven file };
   map = map_booted file;

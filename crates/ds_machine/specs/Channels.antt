@@ -6,7 +6,7 @@ use Rattle.ds_base.specs.declared.processors.Proc.{Proc}
 use Rattle.ds_base.specs.declared.ticks.Tick.{Tick}
 use Rattle.ds_dma.specs.declared.channels.Unit.{Unit as DmaUnit}
 use Rattle.ds_map.specs.Moves.{next_unit, unit_moved, unit_needs, unit_refusal}
-use Rattle.ds_runs.specs.Runs.{Stepped, Makes, Stops}
+use Rattle.ds_runs.specs.Runs.{MachineStep, Makes, Stops}
 use Rattle.ds_machine.specs.States.{MachineState}
 use Rattle.ds_machine.specs.Steps.{processor_of, with_processor}
 
@@ -24,16 +24,16 @@ abbrev pub stopped_at : ℕ → Tick → Stop → LeftOut
 stopped_at rank now stop = record { kind = stop.kind; tick = now; rank = rank; value = stop.value }
 
 -- by why the write of its unit is refused, on the machine that this left
-abbrev pub moved_by : {O : Type 0} → ℕ → Proc → Tick → Option Stop → MachineState → Stepped MachineState O LeftOut
+abbrev pub moved_by : {O : Type 0} → ℕ → Proc → Tick → Option Stop → MachineState → MachineStep MachineState O LeftOut
 moved_by rank proc now None s = Makes (one_event (held_past proc now s)) []
 moved_by rank proc now (Some stop) s = Stops (stopped_at rank now stop) s
 
 -- unless it needs what isn't built: that is told before
-abbrev pub moved_unless : {O : Type 0} → ℕ → Proc → Tick → Option ℕ → DmaUnit → MachineState → Stepped MachineState O LeftOut
+abbrev pub moved_unless : {O : Type 0} → ℕ → Proc → Tick → Option ℕ → DmaUnit → MachineState → MachineStep MachineState O LeftOut
 moved_unless rank proc now None unit s = moved_by rank proc now (unit_refusal proc now unit s.map) (record s { map = unit_moved proc now unit s.map })
 moved_unless rank proc now (Some value) unit s = Stops (record { kind = NotYet; tick = now; rank = rank; value = value }) s
 
 -- the event of the channel of a processor that is due, at its tick; a channel that isn't due has none
-abbrev pub channel_step : {O : Type 0} → ℕ → Proc → Option Tick → MachineState → Stepped MachineState O LeftOut
+abbrev pub channel_step : {O : Type 0} → ℕ → Proc → Option Tick → MachineState → MachineStep MachineState O LeftOut
 channel_step rank proc None s = Makes s []
 channel_step rank proc (Some now) s = moved_unless rank proc now (unit_needs proc s.map.units.wramcnt (next_unit s.map proc)) (next_unit s.map proc) s

@@ -25,8 +25,8 @@ abbrev pub least_of : Bool → ℕ
 least_of held = if held then 2 ^ 64 - 1 else 0
 
 -- when a processor is due; past all ticks of a run while it is held
-abbrev pub waits : ℕ → ℕ → ℕ
-waits least due = max due least
+abbrev pub due_at_least : ℕ → ℕ → ℕ
+due_at_least least due = max due least
 
 -- what is kept is so of a machine: no actor but the processors is due before its tick, and no halted processor is to wake unless that is 0; each
 -- processor's least tick says whether it is held; and its interrupt line is up or isn't

@@ -8,7 +8,7 @@ use Rattle.ds_base.specs.declared.processors.Proc.{Proc}
 use Rattle.ds_ports.specs.Dues.{AreUnits, due_behind}
 use Rattle.ds_ports.specs.Units.{division_done, keys_pressed, root_done, timer_overflows}
 use Rattle.ds_runs.specs.Actors.{actors, actor_of}
-use Rattle.ds_runs.specs.Runs.{Machine, Stepped, Makes, Stops, IsLeast, due_at}
+use Rattle.ds_runs.specs.Runs.{TickMachine, MachineStep, Makes, Stops, IsLeast, due_at}
 use Rattle.ds_runs.specs.declared.actors.Actor as actor
 use Rattle.ds_runs.specs.declared.actors.Actor.TheVariants.{KeyScript, Video, Timer, Divider, SquareRoot, Geometry, Card, Dma, Processor}
 use Rattle.ds_machine.specs.Channels.{channel_step, one_event}
@@ -80,7 +80,7 @@ abbrev pub after_root : MachineState → MachineState
 after_root s = one_event (with_units s (root_done s.map.units))
 
 -- what an actor's step comes to; one that isn't built leaves all as it is
-abbrev pub step_by : ℕ → actor.Actor → MachineState → Stepped MachineState Shown LeftOut
+abbrev pub step_by : ℕ → actor.Actor → MachineState → MachineStep MachineState Shown LeftOut
 step_by rank KeyScript s = Makes (after_line s.keys s) []
 step_by rank Video s = Makes (after_video s) (shown_by_video s)
 step_by rank (Timer proc number) s = Makes (after_timer proc number s) []
@@ -92,30 +92,30 @@ step_by rank (Dma proc channel) s = channel_step rank proc (due_behind (Dma proc
 step_by rank (Processor proc) s = processor_step rank proc s
 
 -- and after a step that is taken halted processors wake that are to
-abbrev pub awake : Option Tick → Stepped MachineState Shown LeftOut → Stepped MachineState Shown LeftOut
+abbrev pub awake : Option Tick → MachineStep MachineState Shown LeftOut → MachineStep MachineState Shown LeftOut
 awake None came = came
 awake (Some tick) (Makes next outs) = Makes (woken tick next) outs
 awake (Some tick) (Stops stop left) = Stops stop left
 
-abbrev pub step_of : ℕ → MachineState → Stepped MachineState Shown LeftOut
-step_of rank s = awake (due_by (actor_of rank) s) (step_by rank (actor_of rank) s)
+abbrev pub reference_step : ℕ → MachineState → MachineStep MachineState Shown LeftOut
+reference_step rank s = awake (due_by (actor_of rank) s) (step_by rank (actor_of rank) s)
 
-abbrev pub reference : Machine MachineState Shown LeftOut
-reference = record { dues = dues_of; step = step_of }
+abbrev pub reference : TickMachine MachineState Shown LeftOut
+reference = record { dues = dues_of; step = reference_step }
 
 -- the actor may take the next step: it is the least, and its tick is one of those that a run may come to
 abbrev pub MayStep : MachineState → ℕ → Type 0
 MayStep s rank = (tick : Tick) × IsLeast (dues_of s) tick rank × (tick.0 ≤ 2 ^ 56)
 
 -- what a step came to, by what is answered and by the machine afterwards
-abbrev pub stepped_of : MachineState → Done → MachineState → Stepped MachineState Shown LeftOut
+abbrev pub stepped_of : MachineState → Done → MachineState → MachineStep MachineState Shown LeftOut
 stepped_of old Made new = Makes new []
 stepped_of old (Frame swapped) new = Makes new (next_shown old swapped ∷ [])
 stepped_of old (Stopped left) new = Stops left new
 
 -- the actor of a rank took its step
 abbrev pub Steps : ℕ → MachineState → Done → MachineState → Type 0
-Steps rank old done new = step_of rank old ≡ stepped_of old done new
+Steps rank old done new = reference_step rank old ≡ stepped_of old done new
 
 -- this is the least actor, and it is due then
 abbrev pub IsDue : MachineState → Due → Type 0

@@ -10,10 +10,10 @@ use Rattle.arm_core.specs.declared.outcomes.Stepped.TheVariants.{Cost, Halted, L
 use Rattle.arm9_exec.specs.Arm9.{Outcome9}
 use Rattle.ds_base.specs.declared.ticks.Tick.{Tick}
 use Rattle.ds_map.specs.Views.{NineReach, SevenReach}
-use Rattle.ds_ports.specs.Own as own
+use Rattle.ds_ports.specs.Own.{own_is_held}
 use Rattle.ds_ports.specs.Units.{UnitsState, own_of, with_halted}
 use Rattle.ds_timers.specs.Irqs.{line_is_up, shares_bit}
-use Rattle.ds_runs.specs.Runs.{Stepped, Makes, Stops}
+use Rattle.ds_runs.specs.Runs.{MachineStep, Makes, Stops}
 use Rattle.ds_machine.specs.Needs.{nine_taken, seven_taken}
 use Rattle.ds_machine.specs.States.{MachineState, ProcessorState}
 
@@ -36,7 +36,7 @@ abbrev pub is_halted : MachineState → Proc → Bool
 is_halted s proc = (own_of s.map.units proc).halted
 
 abbrev pub is_held : MachineState → Proc → Bool
-is_held s proc = own.is_held (own_of s.map.units proc)
+is_held s proc = own_is_held (own_of s.map.units proc)
 
 abbrev pub line_of : MachineState → Proc → Bool
 line_of s proc = line_is_up (own_of s.map.units proc).irq
@@ -86,10 +86,10 @@ abbrev pub left_out_by : ℕ → ProcessorState → Stop → LeftOut
 left_out_by rank p stop = record { kind = stop.kind; tick = tick_of p; rank = rank; value = stop.value }
 
 -- the machine's step, by what the processor came to, on the machine that it left
-abbrev pub concluded : {O : Type 0} → ℕ → Proc → MachineState → arm.Stepped → Stepped MachineState O LeftOut
-concluded rank proc s (Cost clocks) = Makes (gone_by proc (Cost clocks) s) []
-concluded rank proc s (Halted clocks) = Makes (gone_by proc (Halted clocks) s) []
-concluded rank proc s (Left stop) = Stops (left_out_by rank (processor_of s proc) stop) s
+abbrev pub machine_concluded : {O : Type 0} → ℕ → Proc → MachineState → arm.Stepped → MachineStep MachineState O LeftOut
+machine_concluded rank proc s (Cost clocks) = Makes (gone_by proc (Cost clocks) s) []
+machine_concluded rank proc s (Halted clocks) = Makes (gone_by proc (Halted clocks) s) []
+machine_concluded rank proc s (Left stop) = Stops (left_out_by rank (processor_of s proc) stop) s
 
 -- what its step comes to
 abbrev pub nine_outcome : MachineState → Outcome9 NineReach
@@ -98,9 +98,9 @@ nine_outcome s = nine_taken (line_of s Nine) s.nine.processor.registers (nine_re
 abbrev pub seven_outcome : MachineState → Outcome SevenReach
 seven_outcome s = seven_taken s.nine.cp15 (line_of s Seven) s.seven.processor.registers (seven_reach s)
 
-abbrev pub processor_step : {O : Type 0} → ℕ → Proc → MachineState → Stepped MachineState O LeftOut
-processor_step rank Nine s = let o = nine_outcome s in concluded rank Nine (with_nine s o) o.stepped
-processor_step rank Seven s = let o = seven_outcome s in concluded rank Seven (with_seven s o) o.stepped
+abbrev pub processor_step : {O : Type 0} → ℕ → Proc → MachineState → MachineStep MachineState O LeftOut
+processor_step rank Nine s = let o = nine_outcome s in machine_concluded rank Nine (with_nine s o) o.stepped
+processor_step rank Seven s = let o = seven_outcome s in machine_concluded rank Seven (with_seven s o) o.stepped
 
 -- ---- waking: where a halted processor's IE and IF share a bit after a step at a tick, it is due at the next tick, whatever IME is (our choice)
 

@@ -2,7 +2,7 @@
 
 ghost use Rattle.std.specs.Prelude.{◌≡◌, ◌<◌, ◌≤◌, ◌^◌, Some, false, true};
 ghost use Rattle.ds_runs.specs.Runs.{IsOver};
-ghost use Rattle.ds_machine.specs.Kept.{events_of, least_of, waits, AreAsleep, IsKept};
+ghost use Rattle.ds_machine.specs.Kept.{events_of, least_of, due_at_least, AreAsleep, IsKept};
 ghost use Rattle.ds_machine.specs.Reference.{awake, step_by, stepped_of, AtOnce, HasCounted};
 ghost use Rattle.ds_machine.specs.Steps.{is_held, tick_of};
 ghost use Rattle.ds_machine.specs.declared.answers.Done.TheVariants.{Made};
@@ -28,8 +28,8 @@ pub struct Kept {
 
 /// When a processor is due, in ticks; past all ticks of a run while it is held.
 #[inline(always)]
-fn waits(least: u64, due: u64) -> u64
-    ensures { result ≡ waits least due }
+fn due_at_least(least: u64, due: u64) -> u64
+    ensures { result ≡ due_at_least least due }
 {
     due.max(least)
 }
@@ -77,8 +77,8 @@ impl Parts {
         ensures step { AtOnce until.0 self.old result self.new }
         ensures kept { IsKept kept self.new }
     {
-        let nine = waits(kept.nine_least, self.nine.processor.due);
-        let seven = waits(kept.seven_least, self.seven.processor.due);
+        let nine = due_at_least(kept.nine_least, self.nine.processor.due);
+        let seven = due_at_least(kept.seven_least, self.seven.processor.due);
         let end = kept.until.0.min(until.0);
         if nine <= seven {
             if nine < end {

@@ -3,7 +3,7 @@
 ghost use Rattle.std.specs.Prelude.{◌≡◌, ◌<◌, ◌≤◌, ◌^◌, slice_index, IfOk};
 ghost use Rattle.ds_base.specs.Memories.{memory_size};
 ghost use Rattle.ds_runs.specs.Runs.{due_at};
-ghost use Rattle.ds_machine.specs.Booted.{booted};
+ghost use Rattle.ds_machine.specs.Booted.{machine_booted};
 ghost use Rattle.ds_machine.specs.Observed.{memory_of, registers_of, seen_of};
 ghost use Rattle.ds_machine.specs.Reference.{dues_of, AtOnce, IsDue, IsSound, HasCounted, MayStep, Steps};
 ghost use Rattle.ds_machine.specs.Steps.{processor_of};
@@ -40,7 +40,7 @@ impl Machine {
     /// The machine as it is when it is switched on with a cartridge and a key script: ARM9's image is copied to memory, then ARM7's, then the
     /// header; both processors are due at once. All memory of a run is taken here.
     pub fn new(alloc: Global, cart: &Cart, keys: Keys) -> Result<Machine, AllocError>
-        ensures { IfOk result (λ machine. machine ≡ booted cart.now keys) }
+        ensures { IfOk result (λ machine. machine ≡ machine_booted cart.now keys) }
     {
         let parts = Parts::new(alloc, cart, keys)?;
         let kept = parts.kept();

@@ -2,7 +2,7 @@
 
 ghost use Rattle.std.specs.Prelude.{◌≡◌, ◌<◌, slice_index, IfOk};
 ghost use Rattle.ds_base.specs.Memories.{memory_size};
-ghost use Rattle.ds_machine.specs.Booted.{booted};
+ghost use Rattle.ds_machine.specs.Booted.{machine_booted};
 ghost use Rattle.ds_machine.specs.Observed.{fetch_of, memory_of, seen_of};
 ghost use Rattle.ds_machine.specs.Processors.{state_of};
 ghost use Rattle.ds_machine.specs.Reference.{IsSound};
@@ -79,7 +79,7 @@ impl Model for Parts {
 impl Parts {
     /// The parts at boot.
     pub fn new(alloc: Global, cart: &Cart, keys: Keys) -> Result<Parts, AllocError>
-        ensures { IfOk result (λ parts. parts ≡ booted cart.now keys) }
+        ensures { IfOk result (λ parts. parts ≡ machine_booted cart.now keys) }
     {
         let map = map_at_boot(alloc, cart)?;
         Ok(Parts {

@@ -5,7 +5,7 @@ ghost use Rattle.ds_runs.specs.Actors.{IsNumbered};
 ghost use Rattle.ds_machine.specs.Processors.{stop_in};
 ghost use Rattle.ds_machine.specs.Reference.{awake, due_by, step_by, stepped_of, HasCounted, MayStep, Steps};
 ghost use Rattle.ds_machine.specs.States.{counts_of};
-ghost use Rattle.ds_machine.specs.Steps.{concluded, goes_on, gone_by, is_halted, nine_outcome, processor_of, seven_outcome, tick_of, wakes, went_on, with_nine, with_processor, with_seven, woken, woken_one};
+ghost use Rattle.ds_machine.specs.Steps.{machine_concluded, goes_on, gone_by, is_halted, nine_outcome, processor_of, seven_outcome, tick_of, wakes, went_on, with_nine, with_processor, with_seven, woken, woken_one};
 
 use crate::answers::Done;
 use crate::parts::Parts;
@@ -171,7 +171,7 @@ impl Parts {
         requires tick { tick.0 ≤ 2 ^ 56 }
         requires early { (processor_of self.old proc).due ≤ 2 ^ 56 }
         requires counted { (processor_of self.old proc).steps ≤ 2 ^ 61 }
-        ensures { awake (Some tick) (concluded rank proc self.old stepped) ≡ stepped_of self.old result self.new }
+        ensures { awake (Some tick) (machine_concluded rank proc self.old stepped) ≡ stepped_of self.old result self.new }
     {
         match self.go_by(proc, stepped) {
             None => {

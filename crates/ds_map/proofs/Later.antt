@@ -16,7 +16,7 @@ use Rattle.ds_ports.specs.Ports.{port_refusal}
 use Rattle.ds_ports.specs.Units.{UnitsState, own_of}
 use Rattle.ds_ports.proofs.Later.{AreLeft, all_left, goes_nowhere, left_goes, port_left, write_goes}
 use Rattle.vram_banks.specs.Cells.{Banks, vram_written}
-use Rattle.ds_map.specs.Accesses.{is_byte_of_nine, left_at, map_read, map_written, port_put, put_at, takes_no_bytes}
+use Rattle.ds_map.specs.Accesses.{is_byte_of_nine, left_at, map_read, map_written, port_put, written_at, takes_no_bytes}
 use Rattle.ds_map.specs.Maps.{MapState, cells_of, with_cells}
 
 -- What accesses past the tightly coupled memories at a tick make of the units behind the ports.
@@ -67,7 +67,7 @@ module _ (proc : Proc) (now : Tick) where
     put_goes None at width value = write_goes proc now m.units at width value is quiet
     put_goes (Some stop) at width value = stays
 
-    place_goes : (where_ : Place) (width : Width) (value : ℕ) → Goes proc now m.units (put_at proc now where_ m width value).units
+    place_goes : (where_ : Place) (width : Width) (value : ℕ) → Goes proc now m.units (written_at proc now where_ m width value).units
     place_goes (place.Cell memory at) width value =
         let bytes = with_number width (cells_of m memory) (aligned_down width at) value in
         either (is_byte_of_nine proc width && takes_no_bytes memory) m.units m (with_cells memory m bytes) stays

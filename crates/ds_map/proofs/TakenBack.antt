@@ -13,7 +13,7 @@ use Rattle.ds_places.specs.declared.kinds.Place.TheVariants as place
 use Rattle.ds_ports.specs.Own.{before_move}
 use Rattle.ds_ports.specs.Ports.{port_refusal}
 use Rattle.ds_ports.specs.Units.{UnitsState, channel_moved, channel_put_back, own_of}
-use Rattle.ds_map.specs.Accesses.{map_read, map_refusal, map_value, map_written, port_put, put_at, refusal_at}
+use Rattle.ds_map.specs.Accesses.{map_read, map_refusal, map_value, map_written, port_put, written_at, refusal_at}
 use Rattle.ds_map.specs.Maps.{MapState}
 use Rattle.ds_map.specs.Moves.{unit_left, unit_read, unit_refusal, unit_taken}
 use Rattle.ds_map.proofs.Later.{map_read_left}
@@ -29,7 +29,7 @@ stop_leaves proc now None m at width value h = absurd (true≢false (sym h))
 stop_leaves proc now (Some stop) m at width value h = refl
 
 place_refuses : (proc : Proc) (now : Tick) (where_ : Place) (m : MapState) (width : Width) (value : ℕ) → IsSome (refusal_at proc where_ m width value)
-    → put_at proc now where_ m width value ≡ m
+    → written_at proc now where_ m width value ≡ m
 place_refuses proc now (place.Cell memory at) m width value h = absurd (true≢false (sym h))
 place_refuses proc now (place.Banks space at) m width value h = absurd (true≢false (sym h))
 place_refuses proc now (place.Port at) m width value h =

@@ -78,17 +78,17 @@ port_put proc now None m at width value = record m { units = port_written proc n
 port_put proc now (Some stop) m at width value = m
 
 -- what a write leaves
-abbrev pub put_at : Proc → Tick → Place → MapState → Width → ℕ → MapState
-put_at proc now (Cell memory at) m width value =
+abbrev pub written_at : Proc → Tick → Place → MapState → Width → ℕ → MapState
+written_at proc now (Cell memory at) m width value =
     if is_byte_of_nine proc width && takes_no_bytes memory then m
     else with_cells memory m (with_number width (cells_of m memory) (aligned_down width at) value)
-put_at proc now (Banks space at) m width value =
+written_at proc now (Banks space at) m width value =
     if is_byte_of_nine proc width && takes_no_bytes Vram then m
     else record m { units = record m.units { vram = vram_written m.units.vram space at width value } }
-put_at proc now (Port at) m width value =
+written_at proc now (Port at) m width value =
     port_put proc now (port_refusal proc m.units (aligned_down width at) width value) m (aligned_down width at) width value
-put_at proc now (Rom at) m width value = m
-put_at proc now Nothing m width value = m
+written_at proc now (Rom at) m width value = m
+written_at proc now Nothing m width value = m
 
 -- what a processor reads, fetches and writes at an address at a tick, what a read leaves, and why a write is refused, past the tightly coupled memories
 unfoldable pub map_value : Proc → Tick → MapState → ℕ → Width → ℕ
@@ -104,4 +104,4 @@ unfoldable pub map_refusal : Proc → MapState → ℕ → Width → ℕ → Opt
 map_refusal proc m at width value = refusal_at proc (place_of proc m.units.wramcnt at) m width value
 
 unfoldable pub map_written : Proc → Tick → MapState → ℕ → Width → ℕ → MapState
-map_written proc now m at width value = put_at proc now (place_of proc m.units.wramcnt at) m width value
+map_written proc now m at width value = written_at proc now (place_of proc m.units.wramcnt at) m width value

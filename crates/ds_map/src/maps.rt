@@ -13,7 +13,7 @@ ghost use Rattle.ds_timers.specs.Irqs.{line_is_up};
 ghost use Rattle.ds_timers.specs.Timing.{timer_at, timer_due};
 ghost use Rattle.ds_ports.specs.Ports.{port_read, port_refusal, port_value};
 ghost use Rattle.ds_ports.specs.Units.{channels_triggered, division_done, keys_pressed, own_of, root_done, timer_overflows, with_halted};
-ghost use Rattle.ds_map.specs.Accesses.{fetched_at, is_byte_of_nine, left_at, map_fetched, map_read, map_refusal, map_value, map_written, port_put, put_at, refusal_at, rom_value, takes_no_bytes, value_at};
+ghost use Rattle.ds_map.specs.Accesses.{fetched_at, is_byte_of_nine, left_at, map_fetched, map_read, map_refusal, map_value, map_written, port_put, written_at, refusal_at, rom_value, takes_no_bytes, value_at};
 
 use crate::blocks::Block;
 use ds_base::{
@@ -171,7 +171,7 @@ impl Map {
         requires inside { IsInside place }
         requires early { IsEarly (Some now) }
         ensures refusal { result ≡ refusal_at proc place self.old width value }
-        ensures next { self.new ≡ put_at proc now place self.old width value }
+        ensures next { self.new ≡ written_at proc now place self.old width value }
     {
         let byte = is_byte_of_nine(proc, width);
         match place {

@@ -10,9 +10,10 @@ use Rattle.ds_dma.specs.declared.dma.DmaDue.{DmaDue}
 use Rattle.ds_runs.specs.Order.{due_with_rank, earlier, first_from}
 use Rattle.ds_runs.proofs.Firsts.{first_of_append}
 use Rattle.ds_timers.specs.Timing.{timer_at, timer_due}
-use Rattle.ds_ports.specs.Dues.{first_behind, moves_dues}
+use Rattle.ds_ports.specs.Dues.{first_behind}
+use Rattle.ds_ports.specs.Inside.{moves_dues}
 use Rattle.ds_ports.specs.Own.{OwnState, haltcnt_written, keycnt_written, kept_keycnt, keys_hold, keys_told}
-use Rattle.ds_ports.specs.Registers.{bank_set, fifo_control_set, ie_set, if_set, ime_set, kept_of_romctrl, register_read, register_written, sync_set, word_sent}
+use Rattle.ds_ports.specs.Registers.{bank_set, fifo_control_set, ie_set, if_set, ime_set, kept_of_romctrl, left_by_read, left_by_write, sync_set, word_sent}
 use Rattle.ds_ports.specs.Units.{UnitsState, keys_pressed, own_of, with_halted, with_own}
 use Rattle.ds_ports.specs.declared.registers.Register.{Register}
 use Rattle.ds_ports.specs.declared.registers.Register.TheVariants.{Later, Tmcnt, Keyinput, Keycnt, Extkeyin, Ipcsync, Ipcfifocnt, Ipcfifosend, Ipcfiforecv, Ime, Ie, If, VramcntAToG, VramcntHToI, Wramcnt, Vramstat, Wramstat, Postflg, Haltcnt, DmaSadToCnt, Dmafill, Romctrl, Divcnt, DivNumer, DivDenom, DivResult, DivremResult, Sqrtcnt, SqrtResult, SqrtParam}
@@ -116,7 +117,7 @@ keys_move_none u pressed =
     let s = told_still u.seven pressed in
     same u (keys_pressed u pressed) n.0 n.1 s.0 s.1 refl refl
 
-pub reads_move_none : (proc : Proc) (u : UnitsState) (register : Register) → first_behind (register_read proc u register) ≡ first_behind u
+pub reads_move_none : (proc : Proc) (u : UnitsState) (register : Register) → first_behind (left_by_read proc u register) ≡ first_behind u
 unfolding first_behind
 reads_move_none proc u Later = refl
 reads_move_none proc u Tmcnt = refl
@@ -156,7 +157,7 @@ halt_still own value = go (bits 6 2 value == 2) refl where
   go false e = rw e (refl, refl)
 
 pub writes_move_none : (proc : Proc) (now : Tick) (u : UnitsState) (register : Register) (number value : ℕ) → moves_dues register ≡ false
-    → first_behind (register_written proc now u register number value) ≡ first_behind u
+    → first_behind (left_by_write proc now u register number value) ≡ first_behind u
 writes_move_none proc now u Later number value h = refl
 writes_move_none proc now u Tmcnt number value h = absurd (grind (arith, h))
 writes_move_none proc now u Keyinput number value h = refl

@@ -13,7 +13,7 @@ use Rattle.ds_dma.specs.States.{AreReadyLater, DmaState, IsDma, any_runs, channe
 use Rattle.ds_dma.specs.declared.controls.Cause.{Cause}
 use Rattle.ds_dma.proofs.Turns.{all_later, event_schedules, finished_later}
 use Rattle.ds_dma.proofs.Wholes.{channel_written_is, channel_written_later, dma_finished_is, dma_triggered_is, event_runs}
-use Rattle.ds_ipc.specs.Ipcs.{IpcState, across}
+use Rattle.ds_ipc.specs.Ipcs.{IpcState, other_proc}
 use Rattle.ds_math.specs.Dividers.{division_ticks}
 use Rattle.ds_runs.specs.Actors.{IsNumbered}
 use Rattle.ds_runs.specs.declared.actors.Actor as actor
@@ -26,7 +26,7 @@ use Rattle.ds_ports.specs.Dues.{AreUnits, Goes, IsLeft, IsOwn, IsQuiet, due_behi
 use Rattle.ds_ports.specs.Own.{OwnState, dma_port, dma_written, haltcnt_written, is_control, kept_keycnt, keycnt_written, keys_hold, keys_told, own_moved, own_raised, own_triggered, timer_written}
 use Rattle.ds_ports.specs.Ports.{byte_written, half_written, ignores, port_read, port_refusal, port_written, read_left, slot_joined, slot_written, unless_stopped, whole_if, whole_in, word_written, written_or}
 use Rattle.ds_ports.specs.RegisterMap.{IsSlot, numbers_of, slot_of}
-use Rattle.ds_ports.specs.Registers.{register_read, register_written}
+use Rattle.ds_ports.specs.Registers.{left_by_read, left_by_write}
 use Rattle.ds_ports.specs.Units.{UnitsState, both_raised, channel_moved, channels_triggered, division_done, keys_pressed, own_of, root_done, timer_overflows, with_own}
 use Rattle.ds_ports.specs.declared.registers.Register.{Register}
 use Rattle.ds_ports.specs.declared.registers.Register.TheVariants.{Later, Tmcnt, Keyinput, Keycnt, Extkeyin, Ipcsync, Ipcfifocnt, Ipcfifosend, Ipcfiforecv, Ime, Ie, If, VramcntAToG, VramcntHToI, Wramcnt, Vramstat, Wramstat, Postflg, Haltcnt, DmaSadToCnt, Dmafill, Romctrl, Divcnt, DivNumer, DivDenom, DivResult, DivremResult, Sqrtcnt, SqrtResult, SqrtParam}
@@ -122,7 +122,7 @@ haltcnt_stands own now value s =
 -- it is enough that the processor's own stands
 goes_of : (proc : Proc) (now : Tick) (old new : UnitsState) → Stands now (own_of new proc)
     → Reschedules now old.divider.due new.divider.due → Reschedules now old.root.due new.root.due
-    → IsLeft (own_of old (across proc)) (own_of new (across proc)) → Goes proc now old new
+    → IsLeft (own_of old (other_proc proc)) (own_of new (other_proc proc)) → Goes proc now old new
 goes_of proc now old new s d r left = record {
   is = s.0;
   quiet = s.1;
@@ -134,7 +134,7 @@ goes_of proc now old new s d r left = record {
 }
 
 pub goes_nowhere : (proc : Proc) (now : Tick) (u : UnitsState) → IsOwn (own_of u proc) → IsQuiet now (own_of u proc) → Goes proc now u u
-goes_nowhere proc now u is quiet = goes_of proc now u u (is, quiet) (inl refl) (inl refl) (left_same (own_of u (across proc)))
+goes_nowhere proc now u is quiet = goes_of proc now u u (is, quiet) (inl refl) (inl refl) (left_same (own_of u (other_proc proc)))
 
 pub goes_on : (proc : Proc) (now : Tick) (a b c : UnitsState) → Goes proc now a b → Goes proc now b c → Goes proc now a c
 goes_on proc now a b c g h =
@@ -181,7 +181,7 @@ root_later : (now : Tick) → now.0 < now.0 + 26
 root_later now = omega arith
 
 register_goes : (proc : Proc) (now : Tick) (u : UnitsState) → Stands now (own_of u proc) → (register : Register) (number : ℕ)
-    → number < numbers_of register → (value : ℕ) → Goes proc now u (register_written proc now u register number value)
+    → number < numbers_of register → (value : ℕ) → Goes proc now u (left_by_write proc now u register number value)
 register_goes proc now u s Later number l value = goes_nowhere proc now u s.0 s.1
 register_goes proc now u s Tmcnt number l value = own_goes proc now u _ (timer_stands (own_of u proc) now number value s l)
 register_goes proc now u s Keyinput number l value = goes_nowhere proc now u s.0 s.1
@@ -300,7 +300,7 @@ both_left u ipc_after raised = record { own = each; divider = refl; root = refl 
   each Nine = raised_left u.nine raised.nine
   each Seven = raised_left u.seven raised.seven
 
-register_left : (proc : Proc) (u : UnitsState) (register : Register) → AreLeft u (register_read proc u register)
+register_left : (proc : Proc) (u : UnitsState) (register : Register) → AreLeft u (left_by_read proc u register)
 register_left proc u Later = all_left u
 register_left proc u Tmcnt = all_left u
 register_left proc u Keyinput = all_left u
@@ -345,7 +345,7 @@ port_left proc u at Word = slot_left proc u (whole_in Word (slot_of proc at))
 pub left_goes : (proc : Proc) (now : Tick) (old new : UnitsState) → IsOwn (own_of old proc) → IsQuiet now (own_of old proc) → AreLeft old new → Goes proc now old new
 left_goes proc now old new is quiet left =
     goes_of proc now old new (alike now (own_of old proc) (own_of new proc) (left.own proc).timers (left.own proc).dma (is, quiet))
-    (inl (ap (λ d. d.due) left.divider)) (inl (ap (λ r. r.due) left.root)) (left.own (across proc))
+    (inl (ap (λ d. d.due) left.divider)) (inl (ap (λ r. r.due) left.root)) (left.own (other_proc proc))
 
 -- ---- every actor
 
@@ -366,7 +366,7 @@ dues_of_kinds now old new t d r c (Dma proc channel) l = c proc channel l
 dues_of_kinds now old new t d r c (Processor proc) l = inl refl
 
 -- what holds of one processor and of the other holds of both
-pub of_both : (P : Proc → Type 0) (proc : Proc) → P proc → P (across proc) → (each : Proc) → P each
+pub of_both : (P : Proc → Type 0) (proc : Proc) → P proc → P (other_proc proc) → (each : Proc) → P each
 of_both P Nine h k Nine = h
 of_both P Nine h k Seven = k
 of_both P Seven h k Nine = k
@@ -392,9 +392,9 @@ own_is u h Seven = h.seven
 -- the units are the units still
 pub goes_units : (proc : Proc) (now : Tick) (old new : UnitsState) → AreUnits old → Goes proc now old new → AreUnits new
 goes_units proc now old new h g =
-    let other : IsOwn (own_of new (across proc)) = record {
-      timers = subst AreTimers (sym g.other.timers) (own_is old h (across proc)).timers;
-      dma = subst IsDma (sym g.other.dma) (own_is old h (across proc)).dma;
+    let other : IsOwn (own_of new (other_proc proc)) = record {
+      timers = subst AreTimers (sym g.other.timers) (own_is old h (other_proc proc)).timers;
+      dma = subst IsDma (sym g.other.dma) (own_is old h (other_proc proc)).dma;
     } in
     let each = of_both (λ p. IsOwn (own_of new p)) proc g.is other in
     record { nine = each Nine; seven = each Seven }
@@ -411,15 +411,15 @@ pub own_there : (proc : Proc) (u : UnitsState) (own : OwnState) → own_of (with
 own_there Nine u own = refl
 own_there Seven u own = refl
 
-own_across : (proc : Proc) (u : UnitsState) (own : OwnState) → own_of (with_own proc u own) (across proc) ≡ own_of u (across proc)
+own_across : (proc : Proc) (u : UnitsState) (own : OwnState) → own_of (with_own proc u own) (other_proc proc) ≡ own_of u (other_proc proc)
 own_across Nine u own = refl
 own_across Seven u own = refl
 
 -- what holds of the one that changes, and of the other as it was, holds of both
-pub each_own : (P : Proc → OwnState → Type 0) (proc : Proc) (u : UnitsState) (own : OwnState) → P proc own → P (across proc) (own_of u (across proc))
+pub each_own : (P : Proc → OwnState → Type 0) (proc : Proc) (u : UnitsState) (own : OwnState) → P proc own → P (other_proc proc) (own_of u (other_proc proc))
     → (each : Proc) → P each (own_of (with_own proc u own) each)
 each_own P proc u own h k =
-    of_both (λ p. P p (own_of (with_own proc u own) p)) proc (subst (P proc) (sym (own_there proc u own)) h) (subst (P (across proc)) (sym (own_across proc u own)) k)
+    of_both (λ p. P p (own_of (with_own proc u own) p)) proc (subst (P proc) (sym (own_there proc u own)) h) (subst (P (other_proc proc)) (sym (own_across proc u own)) k)
 
 pub divider_stays : (proc : Proc) (u : UnitsState) (own : OwnState) → (with_own proc u own).divider ≡ u.divider
 divider_stays Nine u own = refl
@@ -438,7 +438,7 @@ own_steps : (proc : Proc) (now : Tick) (u : UnitsState) (own : OwnState) → Are
     → ((which : ℕ) → which < 4 → Reschedules now (due_behind (Dma proc which) u) (channel_due own.dma which))
     → own.halted ≡ (own_of u proc).halted → StepsUnits now u (with_own proc u own)
 own_steps proc now u own all is t c h = record {
-  units = units_of (with_own proc u own) (each_own (λ p x. IsOwn x) proc u own is (own_is u all (across proc)));
+  units = units_of (with_own proc u own) (each_own (λ p x. IsOwn x) proc u own is (own_is u all (other_proc proc)));
   dues = dues_of_kinds now u (with_own proc u own)
       (each_own (λ p x. (which : ℕ) → which < 4 → Reschedules now (due_behind (Timer p which) u) (timer_due (timer_at x.timers which))) proc u own t (λ which l. inl refl))
       (inl (ap (λ d. d.due) (divider_stays proc u own)))
@@ -552,7 +552,7 @@ pub record MovedGoes (proc : Proc) (now : Tick) (old new : UnitsState) : Type 0 
   pub timers : (each : Proc) → (own_of new each).timers ≡ (own_of old each).timers
   pub divider : new.divider ≡ old.divider
   pub root : new.root ≡ old.root
-  pub other : own_of new (across proc) ≡ own_of old (across proc)
+  pub other : own_of new (other_proc proc) ≡ own_of old (other_proc proc)
 
 pub moved_goes : (proc : Proc) (now : Tick) (u : UnitsState) → AreUnits u → IsSome (dma_due (own_of u proc).dma) → MovedGoes proc now u (channel_moved proc now u)
 moved_goes proc now u all due =

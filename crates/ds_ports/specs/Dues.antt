@@ -1,19 +1,17 @@
-use Rattle.std.specs.Prelude.{ℕ, ◌≡◌, ◌<◌, List, [], ◌∷◌, Bool, true, false, Option, None}
+use Rattle.std.specs.Prelude.{ℕ, ◌≡◌, ◌<◌, List, [], ◌∷◌, Option, None}
 use Rattle.ds_base.specs.Schedules.{IsLater, Reschedules}
 use Rattle.ds_base.specs.declared.processors.Proc.{Proc}
 use Rattle.ds_base.specs.declared.processors.Proc.TheVariants.{Nine, Seven}
 use Rattle.ds_base.specs.declared.ticks.Due.{Due}
 use Rattle.ds_base.specs.declared.ticks.Tick.{Tick}
 use Rattle.ds_dma.specs.States.{AreReadyLater, IsDma, channel_due}
-use Rattle.ds_ipc.specs.Ipcs.{across}
+use Rattle.ds_ipc.specs.Ipcs.{other_proc}
 use Rattle.ds_runs.specs.declared.actors.Actor as actor
 use Rattle.ds_runs.specs.declared.actors.Actor.TheVariants.{KeyScript, Video, Timer, Divider, SquareRoot, Geometry, Card, Dma, Processor}
 use Rattle.ds_runs.specs.Order.{first_from}
 use Rattle.ds_timers.specs.Timing.{AreTimers, timer_at, timer_due}
 use Rattle.ds_ports.specs.Own.{OwnState}
 use Rattle.ds_ports.specs.Units.{UnitsState, own_of}
-use Rattle.ds_ports.specs.declared.registers.Register.{Register}
-use Rattle.ds_ports.specs.declared.registers.Register.TheVariants.{Later, Tmcnt, Keyinput, Keycnt, Extkeyin, Ipcsync, Ipcfifocnt, Ipcfifosend, Ipcfiforecv, Ime, Ie, If, VramcntAToG, VramcntHToI, Wramcnt, Vramstat, Wramstat, Postflg, Haltcnt, DmaSadToCnt, Dmafill, Romctrl, Divcnt, DivNumer, DivDenom, DivResult, DivremResult, Sqrtcnt, SqrtResult, SqrtParam}
 
 -- When the units behind the ports are due, and what happens at a tick makes of it.
 
@@ -46,39 +44,6 @@ dues_behind u =
 unfoldable pub first_behind : UnitsState → Option Due
 first_behind u = first_from 2 (dues_behind u)
 
--- a write of a register may change when something is due
-abbrev pub moves_dues : Register → Bool
-moves_dues Later = false
-moves_dues Tmcnt = true
-moves_dues Keyinput = false
-moves_dues Keycnt = false
-moves_dues Extkeyin = false
-moves_dues Ipcsync = false
-moves_dues Ipcfifocnt = false
-moves_dues Ipcfifosend = false
-moves_dues Ipcfiforecv = false
-moves_dues Ime = false
-moves_dues Ie = false
-moves_dues If = false
-moves_dues VramcntAToG = false
-moves_dues VramcntHToI = false
-moves_dues Wramcnt = false
-moves_dues Vramstat = false
-moves_dues Wramstat = false
-moves_dues Postflg = false
-moves_dues Haltcnt = false
-moves_dues DmaSadToCnt = true
-moves_dues Dmafill = false
-moves_dues Romctrl = false
-moves_dues Divcnt = true
-moves_dues DivNumer = true
-moves_dues DivDenom = true
-moves_dues DivResult = false
-moves_dues DivremResult = false
-moves_dues Sqrtcnt = true
-moves_dues SqrtResult = false
-moves_dues SqrtParam = true
-
 -- what holds of a processor's own, and of the units, at every time
 pub record IsOwn (own : OwnState) : Type 0 where
   pub timers : AreTimers own.timers
@@ -109,4 +74,4 @@ pub record Goes (proc : Proc) (now : Tick) (old new : UnitsState) : Type 0 where
   pub divider : Reschedules now (due_behind Divider old) (due_behind Divider new)
   pub root : Reschedules now (due_behind SquareRoot old) (due_behind SquareRoot new)
   pub dma : (which : ℕ) → which < 4 → Reschedules now (due_behind (Dma proc which) old) (due_behind (Dma proc which) new)
-  pub other : IsLeft (own_of old (across proc)) (own_of new (across proc))
+  pub other : IsLeft (own_of old (other_proc proc)) (own_of new (other_proc proc))

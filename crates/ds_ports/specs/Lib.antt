@@ -1,7 +1,8 @@
-pub mod RegisterMap
-pub mod Parts
-pub mod Own
-pub mod Units
-pub mod Registers
-pub mod Ports
 pub mod Dues
+pub mod Inside
+pub mod Own
+pub mod Parts
+pub mod Ports
+pub mod RegisterMap
+pub mod Registers
+pub mod Units

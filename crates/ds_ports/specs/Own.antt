@@ -123,5 +123,5 @@ abbrev pub own_put_back : BeforeMove → OwnState → OwnState
 own_put_back before own = record own { dma = before.dma; irq = before.irq }
 
 -- the processor isn't due: it is halted, or a channel of it runs (our choice, by GBATEK, "DS DMA Transfers")
-abbrev pub is_held : OwnState → Bool
-is_held own = own.halted || any_runs own.dma.channels
+abbrev pub own_is_held : OwnState → Bool
+own_is_held own = own.halted || any_runs own.dma.channels

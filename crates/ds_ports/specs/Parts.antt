@@ -13,8 +13,8 @@ pub record Part : Type 0 where
   pub limit : ℕ
   pub rows : List PortRow
 
-abbrev pub part : ℕ → List PortRow → Part
-part limit rows = record { limit = limit; rows = rows }
+abbrev pub map_part : ℕ → List PortRow → Part
+map_part limit rows = record { limit = limit; rows = rows }
 
 abbrev pub whole : List Part → List PortRow
 whole [] = []
@@ -26,9 +26,9 @@ looked_up (p ∷ parts) at = if nat_lt at p.limit then slot_among p.rows at else
 
 abbrev pub parts_of_nine : List Part
 parts_of_nine =
-    part 0x040 display_rows ∷ part 0x0B0 effect_rows ∷ part 0x100 dma_rows ∷ part 0x200 timer_and_ipc_rows ∷ part 0x280 control_rows
-    ∷ part 0x300 maths_rows ∷ part 0x400 power_rows ∷ part 0x1000 geometry_rows ∷ part 0x1040 second_display_rows
-    ∷ part 0x100000 second_effect_rows ∷ part 0x100004 receive_rows ∷ []
+    map_part 0x040 display_rows ∷ map_part 0x0B0 effect_rows ∷ map_part 0x100 dma_rows ∷ map_part 0x200 timer_and_ipc_rows ∷ map_part 0x280 control_rows
+    ∷ map_part 0x300 maths_rows ∷ map_part 0x400 power_rows ∷ map_part 0x1000 geometry_rows ∷ map_part 0x1040 second_display_rows
+    ∷ map_part 0x100000 second_effect_rows ∷ map_part 0x100004 receive_rows ∷ []
 
 abbrev pub parts_of_seven : List Part
-parts_of_seven = part 0x100 seven_early_rows ∷ part 0x200 seven_timer_and_ipc_rows ∷ part 0x100000 seven_control_rows ∷ part 0x100004 receive_rows ∷ []
+parts_of_seven = map_part 0x100 seven_early_rows ∷ map_part 0x200 seven_timer_and_ipc_rows ∷ map_part 0x100000 seven_control_rows ∷ map_part 0x100004 receive_rows ∷ []

@@ -6,7 +6,7 @@ use Rattle.ds_base.specs.declared.processors.Proc.{Proc}
 use Rattle.ds_base.specs.declared.left_out.Stop.{Stop}
 use Rattle.ds_base.specs.declared.ticks.Tick.{Tick}
 use Rattle.ds_ports.specs.RegisterMap.{slot_of}
-use Rattle.ds_ports.specs.Registers.{register_kept, register_read, register_refusal, register_value, register_written, takes_words}
+use Rattle.ds_ports.specs.Registers.{register_kept, left_by_read, register_refusal, register_value, left_by_write, takes_words}
 use Rattle.ds_ports.specs.Units.{UnitsState}
 use Rattle.ds_ports.specs.declared.registers.Register.{Register}
 use Rattle.ds_ports.specs.declared.registers.Register.TheVariants.{Later, Tmcnt, Keyinput, Keycnt, Extkeyin, Ipcsync, Ipcfifocnt, Ipcfifosend, Ipcfiforecv, Ime, Ie, If, VramcntAToG, VramcntHToI, Wramcnt, Vramstat, Wramstat, Postflg, Haltcnt, DmaSadToCnt, Dmafill, Romctrl, Divcnt, DivNumer, DivDenom, DivResult, DivremResult, Sqrtcnt, SqrtResult, SqrtParam}
@@ -21,8 +21,8 @@ abbrev pub part : Width → ℕ → ℕ → ℕ
 part width byte number = number / 2 ^ (8 * byte) % 2 ^ (8 * width_bytes width)
 
 -- a kept number, with some of its bytes from one on written
-abbrev pub joined : Width → ℕ → ℕ → ℕ → ℕ
-joined width byte kept value =
+abbrev pub with_bytes_from : Width → ℕ → ℕ → ℕ → ℕ
+with_bytes_from width byte kept value =
     kept % 2 ^ (8 * byte) + value % 2 ^ (8 * width_bytes width) * 2 ^ (8 * byte)
     + kept / 2 ^ (8 * (byte + width_bytes width)) * 2 ^ (8 * (byte + width_bytes width))
 
@@ -72,7 +72,7 @@ port_value proc now u at Word = port_word proc now u at
 -- what a read leaves: a register that a read changes is one that takes whole words
 abbrev pub read_left : Proc → UnitsState → Option Slot → UnitsState
 read_left proc u None = u
-read_left proc u (Some slot) = register_read proc u slot.register
+read_left proc u (Some slot) = left_by_read proc u slot.register
 
 unfoldable pub port_read : Proc → UnitsState → ℕ → Width → UnitsState
 port_read proc u at Byte = u
@@ -83,12 +83,12 @@ port_read proc u at Word = read_left proc u (whole_in Word (slot_of proc at))
 
 -- the number that a write of some bytes of a register gives it
 abbrev pub slot_joined : Proc → UnitsState → Width → Slot → ℕ → ℕ
-slot_joined proc u width slot value = joined width slot.byte (register_kept proc u slot.register slot.number) value
+slot_joined proc u width slot value = with_bytes_from width slot.byte (register_kept proc u slot.register slot.number) value
 
 -- what a write of some bytes of a register leaves, or the state that is left in its stead
 abbrev pub slot_written : Proc → Tick → UnitsState → Width → Slot → ℕ → UnitsState
 slot_written proc now u width slot value =
-    if ignores width slot.register then u else register_written proc now u slot.register slot.number (slot_joined proc u width slot value)
+    if ignores width slot.register then u else left_by_write proc now u slot.register slot.number (slot_joined proc u width slot value)
 
 abbrev pub written_or : Proc → Tick → UnitsState → Width → Option Slot → ℕ → UnitsState → UnitsState
 written_or proc now u width None value other = other

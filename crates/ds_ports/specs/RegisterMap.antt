@@ -15,147 +15,147 @@ pub record PortRow : Type 0 where
   pub count : ℕ
   pub register : Register
 
-abbrev pub row : ℕ → ℕ → ℕ → Register → PortRow
-row offset bytes count register = record { offset = offset; bytes = bytes; count = count; register = register }
+abbrev pub port_row : ℕ → ℕ → ℕ → Register → PortRow
+port_row offset bytes count register = record { offset = offset; bytes = bytes; count = count; register = register }
 
 -- ---- ARM9's
 
 -- a 2D engine's; engine A has four more
 abbrev pub display_rows : List PortRow
 display_rows =
-    row 0x000 4 1 Later  -- DISPCNT
-    ∷ row 0x004 2 1 Later  -- DISPSTAT
-    ∷ row 0x006 2 1 Later  -- VCOUNT
-    ∷ row 0x008 2 4 Later  -- BG0CNT to BG3CNT
-    ∷ row 0x010 2 8 Later  -- BG0HOFS, BG0VOFS to BG3HOFS, BG3VOFS
-    ∷ row 0x020 2 4 Later  -- BG2PA, BG2PB, BG2PC, BG2PD
-    ∷ row 0x028 4 2 Later  -- BG2X, BG2Y
-    ∷ row 0x030 2 4 Later  -- BG3PA, BG3PB, BG3PC, BG3PD
-    ∷ row 0x038 4 2 Later  -- BG3X, BG3Y
+    port_row 0x000 4 1 Later  -- DISPCNT
+    ∷ port_row 0x004 2 1 Later  -- DISPSTAT
+    ∷ port_row 0x006 2 1 Later  -- VCOUNT
+    ∷ port_row 0x008 2 4 Later  -- BG0CNT to BG3CNT
+    ∷ port_row 0x010 2 8 Later  -- BG0HOFS, BG0VOFS to BG3HOFS, BG3VOFS
+    ∷ port_row 0x020 2 4 Later  -- BG2PA, BG2PB, BG2PC, BG2PD
+    ∷ port_row 0x028 4 2 Later  -- BG2X, BG2Y
+    ∷ port_row 0x030 2 4 Later  -- BG3PA, BG3PB, BG3PC, BG3PD
+    ∷ port_row 0x038 4 2 Later  -- BG3X, BG3Y
     ∷ []
 
 abbrev pub effect_rows : List PortRow
 effect_rows =
-    row 0x040 2 4 Later  -- WIN0H, WIN1H, WIN0V, WIN1V
-    ∷ row 0x048 2 2 Later  -- WININ, WINOUT
-    ∷ row 0x04C 2 1 Later  -- MOSAIC
-    ∷ row 0x050 2 3 Later  -- BLDCNT, BLDALPHA, BLDY
-    ∷ row 0x060 4 1 Later  -- DISP3DCNT
-    ∷ row 0x064 4 1 Later  -- DISPCAPCNT
-    ∷ row 0x06C 2 1 Later  -- MASTER_BRIGHT
+    port_row 0x040 2 4 Later  -- WIN0H, WIN1H, WIN0V, WIN1V
+    ∷ port_row 0x048 2 2 Later  -- WININ, WINOUT
+    ∷ port_row 0x04C 2 1 Later  -- MOSAIC
+    ∷ port_row 0x050 2 3 Later  -- BLDCNT, BLDALPHA, BLDY
+    ∷ port_row 0x060 4 1 Later  -- DISP3DCNT
+    ∷ port_row 0x064 4 1 Later  -- DISPCAPCNT
+    ∷ port_row 0x06C 2 1 Later  -- MASTER_BRIGHT
     ∷ []
 
 abbrev pub dma_rows : List PortRow
 dma_rows =
-    row 0x0B0 4 12 DmaSadToCnt  -- DMA0SAD, DMA0DAD, DMA0CNT to DMA3SAD, DMA3DAD, DMA3CNT
-    ∷ row 0x0E0 4 4 Dmafill  -- DMA0FILL to DMA3FILL
+    port_row 0x0B0 4 12 DmaSadToCnt  -- DMA0SAD, DMA0DAD, DMA0CNT to DMA3SAD, DMA3DAD, DMA3CNT
+    ∷ port_row 0x0E0 4 4 Dmafill  -- DMA0FILL to DMA3FILL
     ∷ []
 
 abbrev pub timer_and_ipc_rows : List PortRow
 timer_and_ipc_rows =
-    row 0x100 2 8 Tmcnt  -- TM0CNT_L, TM0CNT_H to TM3CNT_L, TM3CNT_H
-    ∷ row 0x130 2 1 Keyinput  -- KEYINPUT
-    ∷ row 0x132 2 1 Keycnt  -- KEYCNT
-    ∷ row 0x180 2 1 Ipcsync  -- IPCSYNC
-    ∷ row 0x184 2 1 Ipcfifocnt  -- IPCFIFOCNT
-    ∷ row 0x188 4 1 Ipcfifosend  -- IPCFIFOSEND
-    ∷ row 0x1A4 4 1 Romctrl  -- ROMCTRL
+    port_row 0x100 2 8 Tmcnt  -- TM0CNT_L, TM0CNT_H to TM3CNT_L, TM3CNT_H
+    ∷ port_row 0x130 2 1 Keyinput  -- KEYINPUT
+    ∷ port_row 0x132 2 1 Keycnt  -- KEYCNT
+    ∷ port_row 0x180 2 1 Ipcsync  -- IPCSYNC
+    ∷ port_row 0x184 2 1 Ipcfifocnt  -- IPCFIFOCNT
+    ∷ port_row 0x188 4 1 Ipcfifosend  -- IPCFIFOSEND
+    ∷ port_row 0x1A4 4 1 Romctrl  -- ROMCTRL
     ∷ []
 
 abbrev pub control_rows : List PortRow
 control_rows =
-    row 0x208 4 1 Ime  -- IME
-    ∷ row 0x210 4 1 Ie  -- IE
-    ∷ row 0x214 4 1 If  -- IF
-    ∷ row 0x240 1 7 VramcntAToG  -- VRAMCNT_A to VRAMCNT_G
-    ∷ row 0x247 1 1 Wramcnt  -- WRAMCNT
-    ∷ row 0x248 1 2 VramcntHToI  -- VRAMCNT_H, VRAMCNT_I
+    port_row 0x208 4 1 Ime  -- IME
+    ∷ port_row 0x210 4 1 Ie  -- IE
+    ∷ port_row 0x214 4 1 If  -- IF
+    ∷ port_row 0x240 1 7 VramcntAToG  -- VRAMCNT_A to VRAMCNT_G
+    ∷ port_row 0x247 1 1 Wramcnt  -- WRAMCNT
+    ∷ port_row 0x248 1 2 VramcntHToI  -- VRAMCNT_H, VRAMCNT_I
     ∷ []
 
 abbrev pub maths_rows : List PortRow
 maths_rows =
-    row 0x280 4 1 Divcnt  -- DIVCNT
-    ∷ row 0x290 4 2 DivNumer  -- DIV_NUMER, its low and its high word
-    ∷ row 0x298 4 2 DivDenom  -- DIV_DENOM, the same
-    ∷ row 0x2A0 4 2 DivResult  -- DIV_RESULT, the same
-    ∷ row 0x2A8 4 2 DivremResult  -- DIVREM_RESULT, the same
-    ∷ row 0x2B0 4 1 Sqrtcnt  -- SQRTCNT
-    ∷ row 0x2B4 4 1 SqrtResult  -- SQRT_RESULT
-    ∷ row 0x2B8 4 2 SqrtParam  -- SQRT_PARAM, its low and its high word
+    port_row 0x280 4 1 Divcnt  -- DIVCNT
+    ∷ port_row 0x290 4 2 DivNumer  -- DIV_NUMER, its low and its high word
+    ∷ port_row 0x298 4 2 DivDenom  -- DIV_DENOM, the same
+    ∷ port_row 0x2A0 4 2 DivResult  -- DIV_RESULT, the same
+    ∷ port_row 0x2A8 4 2 DivremResult  -- DIVREM_RESULT, the same
+    ∷ port_row 0x2B0 4 1 Sqrtcnt  -- SQRTCNT
+    ∷ port_row 0x2B4 4 1 SqrtResult  -- SQRT_RESULT
+    ∷ port_row 0x2B8 4 2 SqrtParam  -- SQRT_PARAM, its low and its high word
     ∷ []
 
 abbrev pub power_rows : List PortRow
 power_rows =
-    row 0x300 1 1 Postflg  -- POSTFLG
-    ∷ row 0x304 2 1 Later  -- POWCNT1
+    port_row 0x300 1 1 Postflg  -- POSTFLG
+    ∷ port_row 0x304 2 1 Later  -- POWCNT1
     ∷ []
 
 abbrev pub geometry_rows : List PortRow
 geometry_rows =
-    row 0x400 4 16 Later  -- GXFIFO
-    ∷ row 0x440 4 112 Later  -- MTX_MODE to VEC_TEST, the geometry commands
-    ∷ row 0x600 4 1 Later  -- GXSTAT
-    ∷ row 0x604 4 1 Later  -- RAM_COUNT
-    ∷ row 0x620 4 4 Later  -- POS_RESULT
-    ∷ row 0x630 2 3 Later  -- VEC_RESULT
-    ∷ row 0x640 4 16 Later  -- CLIPMTX_RESULT
-    ∷ row 0x680 4 9 Later  -- VECMTX_RESULT
+    port_row 0x400 4 16 Later  -- GXFIFO
+    ∷ port_row 0x440 4 112 Later  -- MTX_MODE to VEC_TEST, the geometry commands
+    ∷ port_row 0x600 4 1 Later  -- GXSTAT
+    ∷ port_row 0x604 4 1 Later  -- RAM_COUNT
+    ∷ port_row 0x620 4 4 Later  -- POS_RESULT
+    ∷ port_row 0x630 2 3 Later  -- VEC_RESULT
+    ∷ port_row 0x640 4 16 Later  -- CLIPMTX_RESULT
+    ∷ port_row 0x680 4 9 Later  -- VECMTX_RESULT
     ∷ []
 
 -- engine B's, by the names of engine A's
 abbrev pub second_display_rows : List PortRow
 second_display_rows =
-    row 0x1000 4 1 Later  -- DISPCNT
-    ∷ row 0x1008 2 4 Later  -- BG0CNT to BG3CNT
-    ∷ row 0x1010 2 8 Later  -- BG0HOFS, BG0VOFS to BG3HOFS, BG3VOFS
-    ∷ row 0x1020 2 4 Later  -- BG2PA, BG2PB, BG2PC, BG2PD
-    ∷ row 0x1028 4 2 Later  -- BG2X, BG2Y
-    ∷ row 0x1030 2 4 Later  -- BG3PA, BG3PB, BG3PC, BG3PD
-    ∷ row 0x1038 4 2 Later  -- BG3X, BG3Y
+    port_row 0x1000 4 1 Later  -- DISPCNT
+    ∷ port_row 0x1008 2 4 Later  -- BG0CNT to BG3CNT
+    ∷ port_row 0x1010 2 8 Later  -- BG0HOFS, BG0VOFS to BG3HOFS, BG3VOFS
+    ∷ port_row 0x1020 2 4 Later  -- BG2PA, BG2PB, BG2PC, BG2PD
+    ∷ port_row 0x1028 4 2 Later  -- BG2X, BG2Y
+    ∷ port_row 0x1030 2 4 Later  -- BG3PA, BG3PB, BG3PC, BG3PD
+    ∷ port_row 0x1038 4 2 Later  -- BG3X, BG3Y
     ∷ []
 
 abbrev pub second_effect_rows : List PortRow
 second_effect_rows =
-    row 0x1040 2 4 Later  -- WIN0H, WIN1H, WIN0V, WIN1V
-    ∷ row 0x1048 2 2 Later  -- WININ, WINOUT
-    ∷ row 0x104C 2 1 Later  -- MOSAIC
-    ∷ row 0x1050 2 3 Later  -- BLDCNT, BLDALPHA, BLDY
-    ∷ row 0x106C 2 1 Later  -- MASTER_BRIGHT
+    port_row 0x1040 2 4 Later  -- WIN0H, WIN1H, WIN0V, WIN1V
+    ∷ port_row 0x1048 2 2 Later  -- WININ, WINOUT
+    ∷ port_row 0x104C 2 1 Later  -- MOSAIC
+    ∷ port_row 0x1050 2 3 Later  -- BLDCNT, BLDALPHA, BLDY
+    ∷ port_row 0x106C 2 1 Later  -- MASTER_BRIGHT
     ∷ []
 
 abbrev pub receive_rows : List PortRow
-receive_rows = row 0x100000 4 1 Ipcfiforecv ∷ []  -- IPCFIFORECV
+receive_rows = port_row 0x100000 4 1 Ipcfiforecv ∷ []  -- IPCFIFORECV
 
 -- ---- ARM7's
 
 abbrev pub seven_early_rows : List PortRow
 seven_early_rows =
-    row 0x004 2 1 Later  -- DISPSTAT
-    ∷ row 0x006 2 1 Later  -- VCOUNT
-    ∷ row 0x0B0 4 12 DmaSadToCnt  -- DMA0SAD, DMA0DAD, DMA0CNT to DMA3SAD, DMA3DAD, DMA3CNT
+    port_row 0x004 2 1 Later  -- DISPSTAT
+    ∷ port_row 0x006 2 1 Later  -- VCOUNT
+    ∷ port_row 0x0B0 4 12 DmaSadToCnt  -- DMA0SAD, DMA0DAD, DMA0CNT to DMA3SAD, DMA3DAD, DMA3CNT
     ∷ []
 
 abbrev pub seven_timer_and_ipc_rows : List PortRow
 seven_timer_and_ipc_rows =
-    row 0x100 2 8 Tmcnt  -- TM0CNT_L, TM0CNT_H to TM3CNT_L, TM3CNT_H
-    ∷ row 0x130 2 1 Keyinput  -- KEYINPUT
-    ∷ row 0x132 2 1 Keycnt  -- KEYCNT
-    ∷ row 0x136 2 1 Extkeyin  -- EXTKEYIN
-    ∷ row 0x180 2 1 Ipcsync  -- IPCSYNC
-    ∷ row 0x184 2 1 Ipcfifocnt  -- IPCFIFOCNT
-    ∷ row 0x188 4 1 Ipcfifosend  -- IPCFIFOSEND
-    ∷ row 0x1A4 4 1 Romctrl  -- ROMCTRL
+    port_row 0x100 2 8 Tmcnt  -- TM0CNT_L, TM0CNT_H to TM3CNT_L, TM3CNT_H
+    ∷ port_row 0x130 2 1 Keyinput  -- KEYINPUT
+    ∷ port_row 0x132 2 1 Keycnt  -- KEYCNT
+    ∷ port_row 0x136 2 1 Extkeyin  -- EXTKEYIN
+    ∷ port_row 0x180 2 1 Ipcsync  -- IPCSYNC
+    ∷ port_row 0x184 2 1 Ipcfifocnt  -- IPCFIFOCNT
+    ∷ port_row 0x188 4 1 Ipcfifosend  -- IPCFIFOSEND
+    ∷ port_row 0x1A4 4 1 Romctrl  -- ROMCTRL
     ∷ []
 
 abbrev pub seven_control_rows : List PortRow
 seven_control_rows =
-    row 0x208 4 1 Ime  -- IME
-    ∷ row 0x210 4 1 Ie  -- IE
-    ∷ row 0x214 4 1 If  -- IF
-    ∷ row 0x240 1 1 Vramstat  -- VRAMSTAT
-    ∷ row 0x241 1 1 Wramstat  -- WRAMSTAT
-    ∷ row 0x300 1 1 Postflg  -- POSTFLG
-    ∷ row 0x301 1 1 Haltcnt  -- HALTCNT
+    port_row 0x208 4 1 Ime  -- IME
+    ∷ port_row 0x210 4 1 Ie  -- IE
+    ∷ port_row 0x214 4 1 If  -- IF
+    ∷ port_row 0x240 1 1 Vramstat  -- VRAMSTAT
+    ∷ port_row 0x241 1 1 Wramstat  -- WRAMSTAT
+    ∷ port_row 0x300 1 1 Postflg  -- POSTFLG
+    ∷ port_row 0x301 1 1 Haltcnt  -- HALTCNT
     ∷ []
 
 -- ---- the maps

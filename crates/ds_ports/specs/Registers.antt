@@ -117,37 +117,37 @@ abbrev pub word_received : Proc → UnitsState → UnitsState
 word_received proc u = both_raised (record u { ipc = ipc_received u.ipc proc }) (ipc_receive_raised u.ipc proc)
 
 -- what a read of the whole of it leaves: the word that is received is taken (GBATEK, "DS Inter Process Communication (IPC)")
-abbrev pub register_read : Proc → UnitsState → Register → UnitsState
-register_read proc u Later = u
-register_read proc u Tmcnt = u
-register_read proc u Keyinput = u
-register_read proc u Keycnt = u
-register_read proc u Extkeyin = u
-register_read proc u Ipcsync = u
-register_read proc u Ipcfifocnt = u
-register_read proc u Ipcfifosend = u
-register_read proc u Ipcfiforecv = word_received proc u
-register_read proc u Ime = u
-register_read proc u Ie = u
-register_read proc u If = u
-register_read proc u VramcntAToG = u
-register_read proc u VramcntHToI = u
-register_read proc u Wramcnt = u
-register_read proc u Vramstat = u
-register_read proc u Wramstat = u
-register_read proc u Postflg = u
-register_read proc u Haltcnt = u
-register_read proc u DmaSadToCnt = u
-register_read proc u Dmafill = u
-register_read proc u Romctrl = u
-register_read proc u Divcnt = u
-register_read proc u DivNumer = u
-register_read proc u DivDenom = u
-register_read proc u DivResult = u
-register_read proc u DivremResult = u
-register_read proc u Sqrtcnt = u
-register_read proc u SqrtResult = u
-register_read proc u SqrtParam = u
+abbrev pub left_by_read : Proc → UnitsState → Register → UnitsState
+left_by_read proc u Later = u
+left_by_read proc u Tmcnt = u
+left_by_read proc u Keyinput = u
+left_by_read proc u Keycnt = u
+left_by_read proc u Extkeyin = u
+left_by_read proc u Ipcsync = u
+left_by_read proc u Ipcfifocnt = u
+left_by_read proc u Ipcfifosend = u
+left_by_read proc u Ipcfiforecv = word_received proc u
+left_by_read proc u Ime = u
+left_by_read proc u Ie = u
+left_by_read proc u If = u
+left_by_read proc u VramcntAToG = u
+left_by_read proc u VramcntHToI = u
+left_by_read proc u Wramcnt = u
+left_by_read proc u Vramstat = u
+left_by_read proc u Wramstat = u
+left_by_read proc u Postflg = u
+left_by_read proc u Haltcnt = u
+left_by_read proc u DmaSadToCnt = u
+left_by_read proc u Dmafill = u
+left_by_read proc u Romctrl = u
+left_by_read proc u Divcnt = u
+left_by_read proc u DivNumer = u
+left_by_read proc u DivDenom = u
+left_by_read proc u DivResult = u
+left_by_read proc u DivremResult = u
+left_by_read proc u Sqrtcnt = u
+left_by_read proc u SqrtResult = u
+left_by_read proc u SqrtParam = u
 
 -- the bits that a write of some of its bytes leaves as they are in the others; bits that act when they are written have 0 here
 abbrev pub register_kept : Proc → UnitsState → Register → ℕ → ℕ
@@ -241,38 +241,38 @@ own_written proc now pressed own SqrtResult number value = own
 own_written proc now pressed own SqrtParam number value = own
 
 -- what a write of all its bytes leaves; registers that are read alone ignore it
-abbrev pub register_written : Proc → Tick → UnitsState → Register → ℕ → ℕ → UnitsState
-register_written proc now u Later number value = u
-register_written proc now u Tmcnt number value = with_own proc u (own_written proc now u.pressed (own_of u proc) Tmcnt number value)
-register_written proc now u Keyinput number value = u
-register_written proc now u Keycnt number value = with_own proc u (own_written proc now u.pressed (own_of u proc) Keycnt number value)
-register_written proc now u Extkeyin number value = u
-register_written proc now u Ipcsync number value = sync_set proc u (value % 2 ^ 16)
-register_written proc now u Ipcfifocnt number value = fifo_control_set proc u (value % 2 ^ 16)
-register_written proc now u Ipcfifosend number value = word_sent proc u value
-register_written proc now u Ipcfiforecv number value = u
-register_written proc now u Ime number value = with_own proc u (own_written proc now u.pressed (own_of u proc) Ime number value)
-register_written proc now u Ie number value = with_own proc u (own_written proc now u.pressed (own_of u proc) Ie number value)
-register_written proc now u If number value = with_own proc u (own_written proc now u.pressed (own_of u proc) If number value)
-register_written proc now u VramcntAToG number value = bank_set u number (value % 2 ^ 8)
-register_written proc now u VramcntHToI number value = bank_set u (7 + number) (value % 2 ^ 8)
+abbrev pub left_by_write : Proc → Tick → UnitsState → Register → ℕ → ℕ → UnitsState
+left_by_write proc now u Later number value = u
+left_by_write proc now u Tmcnt number value = with_own proc u (own_written proc now u.pressed (own_of u proc) Tmcnt number value)
+left_by_write proc now u Keyinput number value = u
+left_by_write proc now u Keycnt number value = with_own proc u (own_written proc now u.pressed (own_of u proc) Keycnt number value)
+left_by_write proc now u Extkeyin number value = u
+left_by_write proc now u Ipcsync number value = sync_set proc u (value % 2 ^ 16)
+left_by_write proc now u Ipcfifocnt number value = fifo_control_set proc u (value % 2 ^ 16)
+left_by_write proc now u Ipcfifosend number value = word_sent proc u value
+left_by_write proc now u Ipcfiforecv number value = u
+left_by_write proc now u Ime number value = with_own proc u (own_written proc now u.pressed (own_of u proc) Ime number value)
+left_by_write proc now u Ie number value = with_own proc u (own_written proc now u.pressed (own_of u proc) Ie number value)
+left_by_write proc now u If number value = with_own proc u (own_written proc now u.pressed (own_of u proc) If number value)
+left_by_write proc now u VramcntAToG number value = bank_set u number (value % 2 ^ 8)
+left_by_write proc now u VramcntHToI number value = bank_set u (7 + number) (value % 2 ^ 8)
 -- bits 0 and 1 are kept (GBATEK, "DS Memory Control - WRAM")
-register_written proc now u Wramcnt number value = record u { wramcnt = value % 2 ^ 2 }
-register_written proc now u Wramstat number value = u
-register_written proc now u Vramstat number value = u
-register_written proc now u Postflg number value = u
-register_written proc now u Haltcnt number value = with_own proc u (own_written proc now u.pressed (own_of u proc) Haltcnt number value)
-register_written proc now u DmaSadToCnt number value = with_own proc u (own_written proc now u.pressed (own_of u proc) DmaSadToCnt number value)
-register_written proc now u Dmafill number value = record u { fill = slice_set u.fill number value }
-register_written proc now u Romctrl number value = record u { romctrl = bit_and value kept_of_romctrl }
-register_written proc now u Divcnt number value = division_set u now (value % 2 ^ 2) u.divider.numerator u.divider.denominator
-register_written proc now u DivNumer number value = division_set u now u.divider.mode (with_word_of_two number u.divider.numerator value) u.divider.denominator
-register_written proc now u DivDenom number value = division_set u now u.divider.mode u.divider.numerator (with_word_of_two number u.divider.denominator value)
-register_written proc now u DivResult number value = u
-register_written proc now u DivremResult number value = u
-register_written proc now u Sqrtcnt number value = root_set u now (bit 0 value) u.root.value
-register_written proc now u SqrtResult number value = u
-register_written proc now u SqrtParam number value = root_set u now u.root.wide (with_word_of_two number u.root.value value)
+left_by_write proc now u Wramcnt number value = record u { wramcnt = value % 2 ^ 2 }
+left_by_write proc now u Wramstat number value = u
+left_by_write proc now u Vramstat number value = u
+left_by_write proc now u Postflg number value = u
+left_by_write proc now u Haltcnt number value = with_own proc u (own_written proc now u.pressed (own_of u proc) Haltcnt number value)
+left_by_write proc now u DmaSadToCnt number value = with_own proc u (own_written proc now u.pressed (own_of u proc) DmaSadToCnt number value)
+left_by_write proc now u Dmafill number value = record u { fill = slice_set u.fill number value }
+left_by_write proc now u Romctrl number value = record u { romctrl = bit_and value kept_of_romctrl }
+left_by_write proc now u Divcnt number value = division_set u now (value % 2 ^ 2) u.divider.numerator u.divider.denominator
+left_by_write proc now u DivNumer number value = division_set u now u.divider.mode (with_word_of_two number u.divider.numerator value) u.divider.denominator
+left_by_write proc now u DivDenom number value = division_set u now u.divider.mode u.divider.numerator (with_word_of_two number u.divider.denominator value)
+left_by_write proc now u DivResult number value = u
+left_by_write proc now u DivremResult number value = u
+left_by_write proc now u Sqrtcnt number value = root_set u now (bit 0 value) u.root.value
+left_by_write proc now u SqrtResult number value = u
+left_by_write proc now u SqrtParam number value = root_set u now u.root.wide (with_word_of_two number u.root.value value)
 
 -- the stop for which a write is refused: HALTCNT's modes 1 and 3 are left out, GBA mode and sleep (GBATEK, "DS Power Control")
 abbrev pub is_mode_left_out : ℕ → Bool

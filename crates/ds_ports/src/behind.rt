@@ -10,7 +10,7 @@ ghost use Rattle.vram_banks.specs.Cells.{vram_written};
 ghost use Rattle.ds_ports.specs.Dues.{AreUnits, due_behind, first_behind};
 ghost use Rattle.ds_ports.specs.Own.{before_move};
 ghost use Rattle.ds_ports.specs.RegisterMap.{numbers_of};
-ghost use Rattle.ds_ports.specs.Registers.{bank_set, card_refusal, division_set, divcnt_word, fifo_control_set, halt_refusal, own_written, register_kept, register_read, register_refusal, register_value, register_written, root_set, sqrtcnt_word, sync_set, with_word_of_two, word_of_two, word_received, word_sent};
+ghost use Rattle.ds_ports.specs.Registers.{bank_set, card_refusal, division_set, divcnt_word, fifo_control_set, halt_refusal, own_written, register_kept, left_by_read, register_refusal, register_value, left_by_write, root_set, sqrtcnt_word, sync_set, with_word_of_two, word_of_two, word_received, word_sent};
 ghost use Rattle.ds_ports.specs.Units.{both_raised, channel_moved, channel_put_back, channels_triggered, division_done, keys_pressed, own_of, root_done, timer_overflows, units_at_boot, with_halted, with_own};
 
 use crate::own::{Before, Own, extkeyin, keyinput};
@@ -361,7 +361,7 @@ impl Behind {
 
     /// What a read of a whole register leaves.
     pub fn read_register(&mut self, proc: Proc, register: Register)
-        ensures { self.new ≡ register_read proc self.old register }
+        ensures { self.new ≡ left_by_read proc self.old register }
     {
         if register == Register::Ipcfiforecv {
             self.take_word(proc);
@@ -524,7 +524,7 @@ impl Behind {
     )
         requires number { number < numbers_of register }
         requires early { IsEarly (Some now) }
-        ensures { self.new ≡ register_written proc now self.old register number value }
+        ensures { self.new ≡ left_by_write proc now self.old register number value }
     {
         match register {
             Register::Ipcsync => self.set_sync(proc, value),

@@ -9,7 +9,7 @@ ghost use Rattle.ds_runs.specs.Order.{first_from};
 ghost use Rattle.ds_timers.specs.Irqs.{line_is_up, shares_bit};
 ghost use Rattle.ds_timers.specs.Timing.{overflow_of, timer_at, timer_due};
 ghost use Rattle.ds_ports.specs.Dues.{IsOwn};
-ghost use Rattle.ds_ports.specs.Own.{before_move, dma_port, dma_refusal, dma_value, dma_written, extkeyin_word, haltcnt_written, interrupts_of, is_held, keycnt_written, keyinput_word, keys_hold, keys_told, own_at_boot, own_moved, own_put_back, own_raised, own_triggered, timer_kept, timer_value, timer_written};
+ghost use Rattle.ds_ports.specs.Own.{before_move, dma_port, dma_refusal, dma_value, dma_written, extkeyin_word, haltcnt_written, interrupts_of, own_is_held, keycnt_written, keyinput_word, keys_hold, keys_told, own_at_boot, own_moved, own_put_back, own_raised, own_triggered, timer_kept, timer_value, timer_written};
 ghost use Rattle.ds_ports.specs.RegisterMap.{numbers_of};
 ghost use Rattle.ds_ports.specs.Registers.{ie_set, if_set, ime_set, own_written};
 
@@ -177,7 +177,7 @@ impl Own {
     /// Whether the processor isn't due: it is halted, or a channel of it runs.
     #[inline(always)]
     pub fn is_held(&self) -> bool
-        ensures { result ≡ is_held self.now }
+        ensures { result ≡ own_is_held self.now }
     {
         self.halted || self.running
     }

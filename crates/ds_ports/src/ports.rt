@@ -3,7 +3,7 @@
 ghost use Rattle.std.specs.Prelude.{◌≡◌, ◌<◌, ◌≤◌, ◌+◌, ◌^◌, IfSome, Some};
 ghost use Rattle.ds_base.specs.Numbers.{width_bytes};
 ghost use Rattle.ds_base.specs.Schedules.{IsEarly};
-ghost use Rattle.ds_ports.specs.Ports.{byte_refusal, byte_written, first_stop, half_refusal, half_written, ignores, in_built, is_slot_built, joined, lies_in_built, part, port_byte, port_half, port_is_built, port_read, port_refusal, port_value, port_word, port_written, slot_joined, slot_refusal, slot_value, slot_written, unless_stopped, whole_in, word_refusal, word_written};
+ghost use Rattle.ds_ports.specs.Ports.{byte_refusal, byte_written, first_stop, half_refusal, half_written, ignores, in_built, is_slot_built, with_bytes_from, lies_in_built, part, port_byte, port_half, port_is_built, port_read, port_refusal, port_value, port_word, port_written, slot_joined, slot_refusal, slot_value, slot_written, unless_stopped, whole_in, word_refusal, word_written};
 ghost use Rattle.ds_ports.specs.Dues.{Goes, IsOwn, IsQuiet};
 ghost use Rattle.ds_ports.specs.RegisterMap.{IsSlot};
 ghost use Rattle.ds_ports.specs.Units.{own_of};
@@ -38,9 +38,9 @@ pub fn part(width: Width, byte: u32, number: u32) -> u32
 }
 
 /// A kept number, with some of its bytes written.
-fn joined(width: Width, byte: u32, kept: u32, value: u32) -> u32
+fn with_bytes_from(width: Width, byte: u32, kept: u32, value: u32) -> u32
     requires { byte + width_bytes width ≤ 4 }
-    ensures { result ≡ joined width byte kept value }
+    ensures { result ≡ with_bytes_from width byte kept value }
 {
     match (width, byte) {
         (Width::Byte, 0) => value % 0x100 + kept / 0x100 * 0x100,
@@ -193,7 +193,7 @@ impl Units {
         ensures { result ≡ slot_joined proc self.now width slot value }
     {
         let kept = self.behind().kept_of(proc, slot.register, slot.number);
-        joined(width, slot.byte, kept, value)
+        with_bytes_from(width, slot.byte, kept, value)
     }
 
     /// The stop for which a write of some bytes of a register is refused.

@@ -9,10 +9,11 @@ ghost use Rattle.ds_runs.specs.Order.{first_from};
 ghost use Rattle.ds_timers.specs.Irqs.{line_is_up, shares_bit};
 ghost use Rattle.ds_timers.specs.Timing.{timer_at, timer_due};
 ghost use Rattle.vram_banks.specs.Cells.{vram_written};
-ghost use Rattle.ds_ports.specs.Dues.{AreUnits, due_behind, dues_behind, first_behind, moves_dues};
-ghost use Rattle.ds_ports.specs.Own.{before_move, is_held};
+ghost use Rattle.ds_ports.specs.Dues.{AreUnits, due_behind, dues_behind, first_behind};
+ghost use Rattle.ds_ports.specs.Inside.{moves_dues};
+ghost use Rattle.ds_ports.specs.Own.{before_move, own_is_held};
 ghost use Rattle.ds_ports.specs.RegisterMap.{numbers_of};
-ghost use Rattle.ds_ports.specs.Registers.{register_read, register_written};
+ghost use Rattle.ds_ports.specs.Registers.{left_by_read, left_by_write};
 ghost use Rattle.ds_ports.specs.Units.{channel_moved, channel_put_back, channels_triggered, division_done, keys_pressed, own_of, root_done, timer_overflows, units_at_boot, with_halted};
 
 use crate::behind::Behind;
@@ -132,7 +133,7 @@ impl Units {
     /// Whether a processor isn't due: it is halted, or a DMA channel of it runs.
     #[inline(always)]
     pub fn is_held(&self, proc: Proc) -> bool
-        ensures { result ≡ is_held (own_of self.now proc) }
+        ensures { result ≡ own_is_held (own_of self.now proc) }
     {
         self.behind.own(proc).is_held()
     }
@@ -251,7 +252,7 @@ impl Units {
     /// What a read of a whole register leaves.
     #[tactic(auto, using(crate::proofs::Dues::reads_move_none))]
     pub(crate) fn read_register(&mut self, proc: Proc, register: Register)
-        ensures { self.new ≡ register_read proc self.old register }
+        ensures { self.new ≡ left_by_read proc self.old register }
     {
         self.behind.read_register(proc, register);
     }
@@ -268,7 +269,7 @@ impl Units {
     )
         requires number { number < numbers_of register }
         requires early { IsEarly (Some now) }
-        ensures { self.new ≡ register_written proc now self.old register number value }
+        ensures { self.new ≡ left_by_write proc now self.old register number value }
     {
         self.behind
             .write_register(proc, now, register, number, value);

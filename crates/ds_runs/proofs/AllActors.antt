@@ -2,7 +2,7 @@ use Rattle.std.proofs.Common.{ℕ, zero, suc, ◌<◌, List, [], ◌∷◌, map,
 use Rattle.ds_base.specs.Schedules.{Reschedules}
 use Rattle.ds_base.specs.declared.ticks.Tick.{Tick}
 use Rattle.ds_runs.specs.Actors.{actors, actor_of, IsNumbered}
-use Rattle.ds_runs.specs.Schedules.{AllReschedule}
+use Rattle.ds_runs.specs.Owed.{AllReschedule}
 use Rattle.ds_runs.specs.declared.actors.Actor as actor
 use Rattle.ds_runs.specs.declared.actors.Actor.TheVariants.{KeyScript}
 

@@ -3,7 +3,7 @@ use Rattle.std.proofs.lemmas.Option.{same_Some, none-some}
 use Rattle.ds_base.specs.declared.ticks.Tick.{Tick}
 use Rattle.ds_base.specs.Schedules.{Reschedules, IsLater}
 use Rattle.ds_runs.specs.Runs.{IsLeast, IsOver, due_at}
-use Rattle.ds_runs.specs.Schedules.{AllReschedule}
+use Rattle.ds_runs.specs.Owed.{AllReschedule}
 
 -- Due ticks as one list.
 

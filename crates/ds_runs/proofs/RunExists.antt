@@ -1,7 +1,8 @@
 use Rattle.std.proofs.Common.{ℕ, zero, suc, ◌≡◌, ◌<◌, ◌≤◌, ◌+◌, ◌-◌, ◌*◌, ◌⊎◌, inl, inr, List, [], ◌++◌, Some, refl, sym, ◌∙◌, ap, subst, arith}
 use Rattle.ds_base.specs.declared.ticks.Tick.{Tick}
-use Rattle.ds_runs.specs.Runs.{IsLeast, due_at, Machine, Stepped, Makes, Stops, Ending, At, Stopped, Runs, over, stops, more, steps_of}
-use Rattle.ds_runs.specs.Schedules.{Schedules, places_left}
+use Rattle.ds_runs.specs.Runs.{IsLeast, due_at, TickMachine, MachineStep, Makes, Stops, Ending, At, Stopped, Runs, over, stops, more, steps_of}
+use Rattle.ds_runs.specs.Schedules.{places_left}
+use Rattle.ds_runs.specs.Owed.{Schedules}
 use Rattle.ds_runs.specs.Laws.{RunsEnd}
 use Rattle.ds_runs.proofs.Lists.{within, has_least, least_unique, at_rank, is_later}
 use Rattle.ds_runs.proofs.Places.{later_place, left_at, left_below}
@@ -13,7 +14,7 @@ le_or_lt x y = grind arith
 same_or_not : (x y : ℕ) → (x ≡ y) ⊎ ((x < y) ⊎ (y < x))
 same_or_not x y = grind arith
 
-module _ {S O L : Type 0} (m : Machine S O L) (ranks : ℕ) (Sound : S → Type 0) (schedules : Schedules m ranks Sound) where
+module _ {S O L : Type 0} (m : TickMachine S O L) (ranks : ℕ) (Sound : S → Type 0) (schedules : Schedules m ranks Sound) where
   -- the least actor is always there
   pub least_is : (s : S) → Sound s → (tick : Tick) × (rank : ℕ) × IsLeast (m.dues s) tick rank
   least_is s sound = let d = schedules.somebody s sound in has_least (m.dues s) d.0 d.1 d.2
@@ -54,7 +55,7 @@ module _ {S O L : Type 0} (m : Machine S O L) (ranks : ℕ) (Sound : S → Type 
   -- every sound state runs to every limit
   pub run_exists : (limit : ℕ) (s : S) → Sound s → (end : Ending S L) × (outs : List O) × Runs m limit end s outs
   run_exists limit s sound = let l = least_is s sound in from (ranks * limit) s sound l.0 l.1 l.2 (omega arith) where
-    goes_to : (s : S) (t : Tick) (r : ℕ) → IsLeast (m.dues s) t r → t.0 < limit → (o : Stepped S O L) → m.step r s ≡ o
+    goes_to : (s : S) (t : Tick) (r : ℕ) → IsLeast (m.dues s) t r → t.0 < limit → (o : MachineStep S O L) → m.step r s ≡ o
         → ((next : S) (outs : List O) → m.step r s ≡ Makes next outs → (end : Ending S L) × (rest : List O) × Runs m limit end next rest)
         → (end : Ending S L) × (outs : List O) × Runs m limit end s outs
     goes_to s t r least lt (Stops stop left) e rec = (Stopped stop, [], stops s left t r stop least lt e)

@@ -1,21 +1,21 @@
 use Rattle.std.proofs.Common.{ℕ, ◌≡◌, ◌<◌, ◌≤◌, inl, inr, List, [], ◌++◌, Option, refl, sym, ◌∙◌, ap, subst, arith, append_assoc}
 use Rattle.ds_base.specs.declared.ticks.Tick.{Tick}
-use Rattle.ds_runs.specs.Runs.{IsLeast, IsOver, Machine, Stepped, Makes, Stops, Ending, At, Stopped, Runs, over, stops, more}
+use Rattle.ds_runs.specs.Runs.{IsLeast, IsOver, TickMachine, MachineStep, Makes, Stops, Ending, At, Stopped, Runs, over, stops, more}
 use Rattle.ds_runs.specs.Laws.{RunsJoin, RunsAreOne}
 use Rattle.ds_runs.proofs.Lists.{least_unique}
 
 -- the parts of what a step comes to
-pub same_makes : {S O L : Type 0} (a b : S) (xs ys : List O) → (let x : Stepped S O L = Makes a xs in x) ≡ Makes b ys → (a ≡ b) × (xs ≡ ys)
+pub same_makes : {S O L : Type 0} (a b : S) (xs ys : List O) → (let x : MachineStep S O L = Makes a xs in x) ≡ Makes b ys → (a ≡ b) × (xs ≡ ys)
 same_makes a b xs ys h = (cc, cc)
 
-pub same_stops : {S O L : Type 0} (a b : S) (x y : L) → (let z : Stepped S O L = Stops x a in z) ≡ Stops y b → (x ≡ y) × (a ≡ b)
+pub same_stops : {S O L : Type 0} (a b : S) (x y : L) → (let z : MachineStep S O L = Stops x a in z) ≡ Stops y b → (x ≡ y) × (a ≡ b)
 same_stops a b x y h = (cc, cc)
 
-pub not_both : {S O L : Type 0} (a b : S) (xs : List O) (y : L) → (let z : Stepped S O L = Makes a xs in z) ≡ Stops y b → ⊥
+pub not_both : {S O L : Type 0} (a b : S) (xs : List O) (y : L) → (let z : MachineStep S O L = Makes a xs in z) ≡ Stops y b → ⊥
 not_both a b xs y h = cc
 
 -- the run to a and then to b is the run to b
-pub runs-append : {S O L : Type 0} (m : Machine S O L) (a b : ℕ) (mid s : S) (end : Ending S L) (xs ys : List O) → a ≤ b → Runs m a (At mid) s xs → Runs m b end mid ys → Runs m b end s (xs ++ ys)
+pub runs-append : {S O L : Type 0} (m : TickMachine S O L) (a b : ℕ) (mid s : S) (end : Ending S L) (xs ys : List O) → a ≤ b → Runs m a (At mid) s xs → Runs m b end mid ys → Runs m b end s (xs ++ ys)
 runs-append {S} {O} {L} m a b mid s end xs ys le first second = go (At mid) s xs first mid refl end ys le second where
   go : (e : Ending S L) (s : S) (xs : List O) → Runs m a e s xs → (mid : S) → e ≡ At mid → (end : Ending S L) (ys : List O) → a ≤ b → Runs m b end mid ys → Runs m b end s (xs ++ ys)
   go e s xs (over s0 h) mid is end ys le second =
@@ -33,7 +33,7 @@ pub over_here : (dues : List (Option Tick)) (limit : ℕ) (t : Tick) (r : ℕ) �
 over_here dues limit t r least le = λ q u h. elim (least.least q u h) [ inl a ↦ omega arith | inr b ↦ omega arith ]
 
 -- what runs on from s is the rest of the run from the start; so is what runs on from the next state
-pub goes_on : {S O L : Type 0} (m : Machine S O L) (limit : ℕ) (start s next : S) (t : Tick) (r : ℕ) (front outs : List O) → IsLeast (m.dues s) t r → t.0 < limit → m.step r s ≡ Makes next outs →
+pub goes_on : {S O L : Type 0} (m : TickMachine S O L) (limit : ℕ) (start s next : S) (t : Tick) (r : ℕ) (front outs : List O) → IsLeast (m.dues s) t r → t.0 < limit → m.step r s ≡ Makes next outs →
     ((end : Ending S L) (rest : List O) → Runs m limit end s rest → Runs m limit end start (front ++ rest)) →
     (end : Ending S L) (rest : List O) → Runs m limit end next rest → Runs m limit end start ((front ++ outs) ++ rest)
 goes_on {S} {O} {L} m limit start s next t r front outs least lt e on end rest run =
@@ -41,7 +41,7 @@ goes_on {S} {O} {L} m limit start s next t r front outs least lt e on end rest r
     subst P (sym (append_assoc front outs rest)) (on end (outs ++ rest) (more end s next t r outs rest least lt e run))
 
 -- the run from a state whose least actor steps goes through that step
-pub first_step : {S O L : Type 0} (m : Machine S O L) (limit : ℕ) (end : Ending S L) (s : S) (all : List O) → Runs m limit end s all →
+pub first_step : {S O L : Type 0} (m : TickMachine S O L) (limit : ℕ) (end : Ending S L) (s : S) (all : List O) → Runs m limit end s all →
     (next : S) (t : Tick) (r : ℕ) (outs : List O) → IsLeast (m.dues s) t r → t.0 < limit → m.step r s ≡ Makes next outs
     → (rest : List O) × Runs m limit end next rest × (all ≡ outs ++ rest)
 first_step {S} {O} {L} m limit end s all (over s0 g) next t r outs least lt e = let le : limit ≤ t.0 = g r t least.there in absurd (omega arith)
@@ -57,7 +57,7 @@ first_step {S} {O} {L} m limit end s all (more e0 s0 next₂ u q outs₂ rest le
     (rest, subst Q joined.0 run, ap (λ (x : List O). x ++ rest) joined.1)
 
 -- the run from a state whose least actor stops, stops there
-pub first_stop : {S O L : Type 0} (m : Machine S O L) (limit : ℕ) (end : Ending S L) (s : S) (all : List O) → Runs m limit end s all →
+pub first_stop : {S O L : Type 0} (m : TickMachine S O L) (limit : ℕ) (end : Ending S L) (s : S) (all : List O) → Runs m limit end s all →
     (left : S) (t : Tick) (r : ℕ) (stop : L) → IsLeast (m.dues s) t r → t.0 < limit → m.step r s ≡ Stops stop left → (end ≡ Stopped stop) × (all ≡ [])
 first_stop {S} {O} {L} m limit end s all (over s0 g) left t r stop least lt halts = let le : limit ≤ t.0 = g r t least.there in absurd (omega arith)
 first_stop {S} {O} {L} m limit end s all (stops s0 left₂ u q stop₂ least₂ lt₂ halts₂) left t r stop least lt halts =
@@ -71,13 +71,13 @@ first_stop {S} {O} {L} m limit end s all (more e0 s0 next u q outs rest least₂
     absurd (not_both next left outs stop (sym (subst P same.1 goes) ∙ halts))
 
 -- a run from a state where nothing is due below the limit ends there
-pub over_only : {S O L : Type 0} (m : Machine S O L) (limit : ℕ) (end : Ending S L) (s : S) (all : List O) → Runs m limit end s all → IsOver (m.dues s) limit → (end ≡ At s) × (all ≡ [])
+pub over_only : {S O L : Type 0} (m : TickMachine S O L) (limit : ℕ) (end : Ending S L) (s : S) (all : List O) → Runs m limit end s all → IsOver (m.dues s) limit → (end ≡ At s) × (all ≡ [])
 over_only {S} {O} {L} m limit end s all (over s0 g) h = (refl, refl)
 over_only {S} {O} {L} m limit end s all (stops s0 left t r stop least lt halts) h = let le : limit ≤ t.0 = h r t least.there in absurd (omega arith)
 over_only {S} {O} {L} m limit end s all (more e0 s0 next t r outs rest least lt goes run) h = let le : limit ≤ t.0 = h r t least.there in absurd (omega arith)
 
 -- a run has one ending and puts out one list
-pub runs_unique : {S O L : Type 0} (m : Machine S O L) (limit : ℕ) (end : Ending S L) (s : S) (all : List O) → Runs m limit end s all →
+pub runs_unique : {S O L : Type 0} (m : TickMachine S O L) (limit : ℕ) (end : Ending S L) (s : S) (all : List O) → Runs m limit end s all →
     (end₂ : Ending S L) (all₂ : List O) → Runs m limit end₂ s all₂ → (end ≡ end₂) × (all ≡ all₂)
 runs_unique {S} {O} {L} m limit end s all (over s0 h) end₂ all₂ second = let k = over_only m limit end₂ s0 all₂ second h in (sym k.0, sym k.1)
 runs_unique {S} {O} {L} m limit end s all (stops s0 left t r stop least lt halts) end₂ all₂ second = let k = first_stop m limit end₂ s0 all₂ second left t r stop least lt halts in (sym k.0, sym k.1)
@@ -86,8 +86,8 @@ runs_unique {S} {O} {L} m limit end s all (more e0 s0 next t r outs rest least l
     let rec = runs_unique m limit e0 next rest run end₂ k.0 k.1 in
     (rec.0, ap (λ (x : List O). outs ++ x) rec.1 ∙ sym k.2)
 
-pub runs_join : {S O L : Type 0} (m : Machine S O L) → RunsJoin m
+pub runs_join : {S O L : Type 0} (m : TickMachine S O L) → RunsJoin m
 runs_join m first later middle start end xs ys le one two = runs-append m first later middle start end xs ys le one two
 
-pub runs_are_one : {S O L : Type 0} (m : Machine S O L) → RunsAreOne m
+pub runs_are_one : {S O L : Type 0} (m : TickMachine S O L) → RunsAreOne m
 runs_are_one m limit start end end₂ outs outs₂ one two = runs_unique m limit end start outs one end₂ outs₂ two

@@ -1,5 +1,6 @@
 pub mod Actors
-pub mod Runs
-pub mod Schedules
 pub mod Laws
 pub mod Order
+pub mod Owed
+pub mod Runs
+pub mod Schedules

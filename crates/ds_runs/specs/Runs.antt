@@ -17,14 +17,14 @@ abbrev pub IsOver : List (Option Tick) → ℕ → Type 0
 IsOver dues limit = (rank : ℕ) (tick : Tick) → due_at dues rank ≡ Some tick → limit ≤ tick.0
 
 -- what a step comes to: it makes the next state and puts out a list; or it stops the machine, and leaves a state behind
-pub data Stepped (S O L : Type 0) : Type 0 where
-  Makes : (next : S) → (outs : List O) → Stepped S O L
-  Stops : (stop : L) → (left : S) → Stepped S O L
+pub data MachineStep (S O L : Type 0) : Type 0 where
+  Makes : (next : S) → (outs : List O) → MachineStep S O L
+  Stops : (stop : L) → (left : S) → MachineStep S O L
 
 -- a machine over states S, which puts out O and stops with L: when each actor is due, by rank, and what its step comes to
-pub record Machine (S O L : Type 0) : Type 0 where
+pub record TickMachine (S O L : Type 0) : Type 0 where
   pub dues : S → List (Option Tick)
-  pub step : ℕ → S → Stepped S O L
+  pub step : ℕ → S → MachineStep S O L
 
 -- how a run ends: in a state, or at a stop
 pub data Ending (S L : Type 0) : Type 0 where
@@ -32,7 +32,7 @@ pub data Ending (S L : Type 0) : Type 0 where
   Stopped : (stop : L) → Ending S L
 
 -- the reference run to a limit from a state ends so, and puts out this list
-pub data Runs {S O L : Type 0} (m : Machine S O L) (limit : ℕ) : Ending S L → S → List O → Type 0 where
+pub data Runs {S O L : Type 0} (m : TickMachine S O L) (limit : ℕ) : Ending S L → S → List O → Type 0 where
   -- no actor is due below the limit
   over : (s : S) → IsOver (m.dues s) limit → Runs m limit (At s) s []
   -- the least actor's step stops the machine
@@ -43,7 +43,7 @@ pub data Runs {S O L : Type 0} (m : Machine S O L) (limit : ℕ) : Ending S L �
       → m.step rank s ≡ Makes next outs → Runs m limit end next rest → Runs m limit end s (outs ++ rest)
 
 -- how many steps a run takes
-abbrev pub steps_of : {S O L : Type 0} {m : Machine S O L} {limit : ℕ} {end : Ending S L} {s : S} {outs : List O} → Runs m limit end s outs → ℕ
+abbrev pub steps_of : {S O L : Type 0} {m : TickMachine S O L} {limit : ℕ} {end : Ending S L} {s : S} {outs : List O} → Runs m limit end s outs → ℕ
 steps_of (over s none) = 0
 steps_of (stops s left tick rank stop least below halts) = 0
 steps_of (more end s next tick rank outs rest least below goes run) = steps_of run + 1

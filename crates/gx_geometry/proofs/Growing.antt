@@ -6,8 +6,8 @@ use Rattle.gx_geometry.specs.declared.polygons.Shape.{Shape}
 use Rattle.gx_geometry.specs.declared.polygons.Vertex.{Vertex}
 use Rattle.gx_geometry.specs.declared.polygons.Polygon.{Polygon}
 use Rattle.gx_geometry.specs.Changes.{numbers_after, gives_vertex}
-use Rattle.gx_geometry.specs.Polygons.{Arrival, arrival_of, polygon_of, polygon_by, stands, most_vertices, most_polygons}
-use Rattle.gx_geometry.specs.Lists.{Command, arrivals, polygons_of, vertices_of}
+use Rattle.gx_geometry.specs.Polygons.{Arrival, arrival_of, polygon_of, polygon_by, has_corners, most_vertices, most_polygons}
+use Rattle.gx_geometry.specs.Lists.{GeometryCommand, arrivals, polygons_of, vertices_of}
 use Rattle.gx_geometry.specs.States.{GeometryState, AreListsSince, overflown, polygon_added, vertex_added, arrived, numbered, geometry_after, after_all}
 
 -- The open lists, which grow command by command, are the lists of all commands since the swap.
@@ -46,7 +46,7 @@ polygon_step (Some p) g made e = elim (below_or_not (length made) most_polygons)
 
 -- past the limit a vertex makes no polygon
 none_dropped : (shape : Option Shape) (came : List Vertex) (a : Arrival) → most_vertices < length came → polygon_by shape came a ≡ None
-unfolding stands
+unfolding has_corners
 none_dropped None came a h = refl
 none_dropped (Some shape) came a h = grind arith
 
@@ -129,7 +129,7 @@ step_polygons true a came made later =
 step_polygons false a came made later = refl
 
 -- a list of commands
-grown : (cs : List Command) (g : GeometryState) (came : List Vertex) (made : List Polygon) → Holds g came made →
+grown : (cs : List GeometryCommand) (g : GeometryState) (came : List Vertex) (made : List Polygon) → Holds g came made →
     Holds (after_all cs g) (came ++ vertices_of (arrivals g.numbers cs)) (made ++ polygons_of came (arrivals g.numbers cs))
 unfolding after_all arrivals geometry_after polygons_of
 grown [] g came made held = record {

@@ -30,21 +30,21 @@ by_coordinates raw m =
     record { s = half_of_sum 4096 (with_coordinates raw m 0); t = half_of_sum 4096 (with_coordinates raw m 1) }
 
 -- modes 2 and 3: three numbers, added to the coordinates
-abbrev pub moved_by : ℕ → ℤ → ℤ → ℤ → Matrix → ℕ → ℤ → ℤ
-moved_by divisor a b c m j base = int_wrap w16 (half_of_sum divisor (with_three a b c m j) +ℤ base)
+abbrev pub coordinate_moved : ℕ → ℤ → ℤ → ℤ → Matrix → ℕ → ℤ → ℤ
+coordinate_moved divisor a b c m j base = int_wrap w16 (half_of_sum divisor (with_three a b c m j) +ℤ base)
 
 -- mode 2: those of the normal, by 2 ^ 17
 unfoldable pub by_normal : ℕ → Coordinates → Matrix → Coordinates
 by_normal word raw m = record {
-  s = moved_by 131072 (ten 0 word) (ten 1 word) (ten 2 word) m 0 raw.s;
-  t = moved_by 131072 (ten 0 word) (ten 1 word) (ten 2 word) m 1 raw.t;
+  s = coordinate_moved 131072 (ten 0 word) (ten 1 word) (ten 2 word) m 0 raw.s;
+  t = coordinate_moved 131072 (ten 0 word) (ten 1 word) (ten 2 word) m 1 raw.t;
 }
 
 -- mode 3: those of the vertex, by 2 ^ 20
 unfoldable pub by_vertex : Point → Coordinates → Matrix → Coordinates
 by_vertex p raw m = record {
-  s = moved_by 1048576 p.x p.y p.z m 0 raw.s;
-  t = moved_by 1048576 p.x p.y p.z m 1 raw.t;
+  s = coordinate_moved 1048576 p.x p.y p.z m 0 raw.s;
+  t = coordinate_moved 1048576 p.x p.y p.z m 1 raw.t;
 }
 
 -- the vector test: floor(sum / 512), wrapped to a signed number of 13 bits (GBATEK, VEC_TEST)

@@ -24,12 +24,12 @@ abbrev pub dot : ℤ → ℤ → ℤ → List ℤ → ℤ
 dot x y z n = ((x *ℤ at n 0) +ℤ (y *ℤ at n 1)) +ℤ (z *ℤ at n 2)
 
 -- how far a direction faces the other: floor(-sum / 512), held to 0 to 511
-abbrev pub held : ℤ → ℕ
-held (pos n) = min n 511
-held (negsuc n) = 0
+abbrev pub held_to_511 : ℤ → ℕ
+held_to_511 (pos n) = min n 511
+held_to_511 (negsuc n) = 0
 
 unfoldable pub facing : ℤ → ℕ
-facing sum = held (int_div_euclid (neg_ℤ sum) (pos 512))
+facing sum = held_to_511 (int_div_euclid (neg_ℤ sum) (pos 512))
 
 -- the half vector is half the light vector and the line of sight, which is 0, 0, -1
 abbrev pub half : ℤ → ℤ
@@ -43,8 +43,8 @@ table_byte table i = slice_index table (i / 4) / 2 ^ (8 * (i % 4)) % 2 ^ 8
 abbrev pub shine : Material → List ℕ → ℕ → ℕ
 shine material table e = if material.by_table then 2 * table_byte table (e * e / 512 / 4) else e * e / 512
 
-unfoldable pub levels_of : Material → List ℕ → Light → List ℤ → Levels
-levels_of material table light n = record {
+unfoldable pub light_levels : Material → List ℕ → Light → List ℤ → Levels
+light_levels material table light n = record {
   diffuse = facing (dot light.x light.y light.z n);
   specular = shine material table (facing (dot (half light.x) (half light.y) (half (light.z -ℤ pos 512)) n));
 }
@@ -66,7 +66,7 @@ light_at s i = slice_index_or s.lights i no_light
 
 unfoldable pub added : Numbers → List ℤ → ℕ → ℕ → ℕ
 added s n i k =
-    if bit i s.attributes then share k s.material (light_at s i).colour (levels_of s.material s.table (light_at s i) n) else 0
+    if bit i s.attributes then share k s.material (light_at s i).colour (light_levels s.material s.table (light_at s i) n) else 0
 
 -- the colour of a vertex with a normal: in each channel the emission and what the four lights add, held to 31
 unfoldable pub lit_channel : Numbers → List ℤ → ℕ → ℕ

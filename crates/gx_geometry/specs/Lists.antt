@@ -6,14 +6,14 @@ use Rattle.gx_geometry.specs.Changes.{numbers_after, gives_vertex}
 use Rattle.gx_geometry.specs.Polygons.{Arrival, arrival_of, polygon_of, most_vertices, most_polygons}
 
 -- a command: its code and its parameters
-pub record Command : Type 0 where
+pub record GeometryCommand : Type 0 where
   pub code : ℕ
   pub params : List ℕ
 
 -- The lists of a swap, from the numbers as they were after the swap before it and the commands since then.
 
 -- the vertices that came, each with what a polygon that it completes has
-unfoldable pub arrivals : Numbers → List Command → List Arrival
+unfoldable pub arrivals : Numbers → List GeometryCommand → List Arrival
 arrivals s [] = []
 arrivals s (c ∷ cs) =
     let after = numbers_after c.code c.params s in
@@ -36,6 +36,6 @@ abbrev pub polygon_list : List Arrival → List Polygon
 polygon_list arrived = take most_polygons (polygons_of [] arrived)
 
 -- both lists, of the numbers after the swap before and the commands since then
-pub record AreLists (start : Numbers) (commands : List Command) (vertices : List Vertex) (polygons : List Polygon) : Type 0 where
+pub record AreLists (start : Numbers) (commands : List GeometryCommand) (vertices : List Vertex) (polygons : List Polygon) : Type 0 where
   pub by_vertices : vertices ≡ vertex_list (arrivals start commands)
   pub by_polygons : polygons ≡ polygon_list (arrivals start commands)

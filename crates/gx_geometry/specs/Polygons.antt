@@ -86,11 +86,11 @@ unfoldable pub vertex_back : List Vertex → ℕ → Vertex
 vertex_back came back = slice_index_or came (index_back came back) no_vertex
 
 -- none of its corners was dropped: they are the last vertices that came, and so many came, within the limit
-unfoldable pub stands : List Vertex → Shape → Bool
-stands came shape = nat_le (length came) most_vertices && nat_le (length (corners_back shape)) (length came)
+unfoldable pub has_corners : List Vertex → Shape → Bool
+has_corners came shape = nat_le (length came) most_vertices && nat_le (length (corners_back shape)) (length came)
 
-unfoldable pub seen : List Vertex → ℕ → Shape → Bool
-seen came attributes shape =
+unfoldable pub may_be_seen : List Vertex → ℕ → Shape → Bool
+may_be_seen came attributes shape =
     let corner = λ (i : ℕ). vertex_back came (slice_index (corners_back shape) i) in
     is_kept attributes (determinant (corner 0) (corner 1) (corner 2))
 
@@ -111,7 +111,7 @@ polygon_with came a shape = record {
 -- the polygon that the last of the vertices that came makes, if it does
 abbrev pub polygon_by : Option Shape → List Vertex → Arrival → Option Polygon
 polygon_by None came a = None
-polygon_by (Some shape) came a = if stands came shape && seen came a.attributes shape then Some (polygon_with came a shape) else None
+polygon_by (Some shape) came a = if has_corners came shape && may_be_seen came a.attributes shape then Some (polygon_with came a shape) else None
 
 unfoldable pub polygon_of : List Vertex → Arrival → Option Polygon
 polygon_of came a = polygon_by a.shape came a

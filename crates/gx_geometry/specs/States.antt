@@ -12,7 +12,7 @@ use Rattle.gx_geometry.specs.Boxes.{through, box_test}
 use Rattle.gx_geometry.specs.Coordinates.{vector_test}
 use Rattle.gx_geometry.specs.Changes.{numbers_after, gives_vertex}
 use Rattle.gx_geometry.specs.Polygons.{Arrival, arrival_of, polygon_of, most_vertices, most_polygons}
-use Rattle.gx_geometry.specs.Lists.{Command, AreLists}
+use Rattle.gx_geometry.specs.Lists.{GeometryCommand, AreLists}
 
 -- The geometry engine: its numbers, the results of tests, the open lists, and the lists that the last swap gave out.
 
@@ -77,13 +77,13 @@ abbrev pub IsCommand : ℕ → List ℕ → Type 0
 IsCommand code params = HasParameters (command_of code) params
 
 -- the results after a command: those of the box, the position and the vector test (GBATEK, BOX_TEST, POS_TEST, VEC_TEST)
-abbrev pub words_of : Clipped → List ℤ
-words_of c = c.x ∷ c.y ∷ c.z ∷ c.w ∷ []
+abbrev pub clip_words : Clipped → List ℤ
+clip_words c = c.x ∷ c.y ∷ c.z ∷ c.w ∷ []
 
 unfoldable pub results_after : ℕ → List ℕ → Numbers → Results → Results
 results_after code params s r =
     if code == 0x70 then record r { inside = box_test params (clip_of s.stacks) } else (
-    if code == 0x71 then record r { position = words_of (through (point_by_halves params) (clip_of s.stacks)) } else (
+    if code == 0x71 then record r { position = clip_words (through (point_by_halves params) (clip_of s.stacks)) } else (
     if code == 0x72 then record r { vector = vector_test (slice_index params 0) s.stacks.pose.vector } else r))
 
 -- A vertex comes: it is added to the open list, and with it the polygon that it completes; what comes past a limit is dropped and sets the overflow
@@ -117,7 +117,7 @@ geometry_after code params g =
     if gives_vertex code then arrived (arrival_of (numbers_after code params g.numbers)) (numbered code params g) else numbered code params g
 
 -- after a list of commands
-unfoldable pub after_all : List Command → GeometryState → GeometryState
+unfoldable pub after_all : List GeometryCommand → GeometryState → GeometryState
 after_all [] g = g
 after_all (c ∷ cs) g = after_all cs (geometry_after c.code c.params g)
 
@@ -139,7 +139,7 @@ pub record IsFresh (g : GeometryState) : Type 0 where
 -- from whatever fresh engine and by whatever commands it came to be as it is, these are the lists of those commands
 abbrev pub AreListsSince : GeometryState → List Vertex → List Polygon → Type 0
 AreListsSince g vertices polygons =
-    (start : GeometryState) → (commands : List Command) → IsFresh start → after_all commands start ≡ g
+    (start : GeometryState) → (commands : List GeometryCommand) → IsFresh start → after_all commands start ≡ g
     → AreLists start.numbers commands vertices polygons
 
 -- the stacks' error is cleared; the lists' overflow is cleared

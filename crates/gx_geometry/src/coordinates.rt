@@ -4,7 +4,7 @@ ghost use Rattle.std.specs.Prelude.{◌≡◌, ◌<◌, ◌≤◌, ◌/◌, ◌%
 ghost use Rattle.std.specs.Int.{int_wrap, w16, w64, cast_signed, cast_unsigned};
 ghost use Rattle.gx_matrix.specs.Algebra.{cell};
 ghost use Rattle.gx_geometry.specs.Numbers.{ten};
-ghost use Rattle.gx_geometry.specs.Coordinates.{with_three, with_coordinates, moved_by, by_coordinates, by_normal, by_vertex, signed_13, tested_cell, vector_test};
+ghost use Rattle.gx_geometry.specs.Coordinates.{with_three, with_coordinates, coordinate_moved, by_coordinates, by_normal, by_vertex, signed_13, tested_cell, vector_test};
 
 use crate::exact::{product, wrapped_sum};
 use crate::numbers::{Coordinates, Point, ten};
@@ -83,7 +83,7 @@ pub fn by_coordinates(raw: Coordinates, m: &Matrix) -> Coordinates
 #[tactic(auto, using(crate::proofs::Halves::halves))]
 fn by_normal_at(word: u32, m: &Matrix, j: usize, base: i16) -> i16
     requires { j < 2 }
-    ensures { result ≡ moved_by 131072 (ten 0 word) (ten 1 word) (ten 2 word) m.now j base }
+    ensures { result ≡ coordinate_moved 131072 (ten 0 word) (ten 1 word) (ten 2 word) m.now j base }
 {
     let sum = with_three(ten(0, word), ten(10, word), ten(20, word), m, j);
     wrapped_sum(half_from(17, sum), base)
@@ -103,7 +103,7 @@ pub fn by_normal(word: u32, raw: Coordinates, m: &Matrix) -> Coordinates
 #[tactic(auto, using(crate::proofs::Halves::halves))]
 fn by_vertex_at(p: Point, m: &Matrix, j: usize, base: i16) -> i16
     requires { j < 2 }
-    ensures { result ≡ moved_by 1048576 p.x p.y p.z m.now j base }
+    ensures { result ≡ coordinate_moved 1048576 p.x p.y p.z m.now j base }
 {
     wrapped_sum(half_from(20, with_three(p.x, p.y, p.z, m, j)), base)
 }

@@ -2,7 +2,7 @@
 
 ghost use Rattle.std.specs.Prelude.{◌≡◌, ◌<◌, ◌≤◌, ◌+◌, ◌*◌, ◌/◌, ◌^◌, [], ◌∷◌, ◌-ℤ◌, ◌≤ℤ◌, pos, negsuc, neg_ℤ, min};
 ghost use Rattle.std.specs.Int.{int_div_euclid};
-ghost use Rattle.gx_geometry.specs.Lights.{direction, turned, dot, facing, half, table_byte, shine, levels_of, channel, share, added, lit_channel, lit_colour};
+ghost use Rattle.gx_geometry.specs.Lights.{direction, turned, dot, facing, half, table_byte, shine, light_levels, channel, share, added, lit_channel, lit_colour};
 
 use crate::exact::{product, sum};
 use crate::numbers::{Light, Material, Numbers, ten};
@@ -107,9 +107,9 @@ fn squared(e: u16) -> u16
     (e as u32 * e as u32 / 512) as u16
 }
 
-#[tactic(auto, using(gx_matrix::proofs::Sums::casts), unfolding(crate::specs::Lights::levels_of))]
-fn levels_of(material: &Material, table: &[u32; 32], light: Light, n: &[i32; 4]) -> Levels
-    ensures value { result ≡ levels_of material.now table.now light n.now }
+#[tactic(auto, using(gx_matrix::proofs::Sums::casts), unfolding(crate::specs::Lights::light_levels))]
+fn light_levels(material: &Material, table: &[u32; 32], light: Light, n: &[i32; 4]) -> Levels
+    ensures value { result ≡ light_levels material.now table.now light n.now }
     ensures diffuse { result.diffuse ≤ 511 }
     ensures specular { result.specular ≤ 510 }
 {
@@ -181,7 +181,7 @@ fn added(s: &Numbers, n: &[i32; 4], i: u8) -> [u16; 3]
         return [0, 0, 0];
     }
     let light = s.lights[i as usize];
-    let levels = levels_of(&s.material, &s.table, light, n);
+    let levels = light_levels(&s.material, &s.table, light, n);
     [
         share(0, &s.material, light.colour, levels),
         share(1, &s.material, light.colour, levels),

@@ -2,7 +2,7 @@
 
 ghost use Rattle.std.specs.Prelude.{◌≡◌, ◌<◌, ◌≤◌, ◌+◌, ◌-◌, ◌^◌, ◌-ℤ◌, ◌+ℤ◌, ◌*ℤ◌, ◌≤ℤ◌, pos, negsuc, length, slice_index, slice_index_or, Option, Some, None};
 ghost use Rattle.ds_base.specs.Bits.{bit};
-ghost use Rattle.gx_geometry.specs.Polygons.{vertex_of, corners_back, arrival_of, most_vertices, minor, times_minor, determinant, is_kept, completed, no_vertex, index_back, vertex_back, stands, seen, indices_of, polygon_with, polygon_of};
+ghost use Rattle.gx_geometry.specs.Polygons.{vertex_of, corners_back, arrival_of, most_vertices, minor, times_minor, determinant, is_kept, completed, no_vertex, index_back, vertex_back, has_corners, may_be_seen, indices_of, polygon_with, polygon_of};
 
 use crate::boxes::through;
 use crate::exact::product;
@@ -242,10 +242,10 @@ fn vertex_back(came: &[Vertex], back: u8) -> Vertex
 }
 
 /// Whether a polygon's side may be seen.
-#[tactic(auto, using(gx_matrix::proofs::Sums::casts), unfolding(crate::specs::Polygons::seen))]
-fn seen(came: &[Vertex], attributes: u32, shape: Shape) -> bool
+#[tactic(auto, using(gx_matrix::proofs::Sums::casts), unfolding(crate::specs::Polygons::may_be_seen))]
+fn may_be_seen(came: &[Vertex], attributes: u32, shape: Shape) -> bool
     requires { length (corners_back shape) ≤ length came.now }
-    ensures { result ≡ seen came.now attributes shape }
+    ensures { result ≡ may_be_seen came.now attributes shape }
 {
     let (a, b, c) = first_corners(shape);
     let (a, b, c) = (
@@ -289,7 +289,7 @@ fn polygon_with(came: &[Vertex], s: &Numbers, shape: Shape) -> Polygon
 }
 
 /// The polygon that the last of these vertices makes, if it does.
-#[tactic(auto, unfolding(crate::specs::Polygons::polygon_of, crate::specs::Polygons::stands))]
+#[tactic(auto, unfolding(crate::specs::Polygons::polygon_of, crate::specs::Polygons::has_corners))]
 pub fn polygon_of(came: &[Vertex], s: &Numbers) -> Option<Polygon>
     requires run { 1 ≤ s.now.run }
     requires within { length came.now ≤ most_vertices }
@@ -297,9 +297,8 @@ pub fn polygon_of(came: &[Vertex], s: &Numbers) -> Option<Polygon>
 {
     match completed(s.kind, s.run - 1) {
         Some(shape)
-            if came.len() >= corner_count(shape) as usize && seen(came, s.attributes, shape) => {
-            Some(polygon_with(came, s, shape))
-        }
+            if came.len() >= corner_count(shape) as usize
+                && may_be_seen(came, s.attributes, shape) => { Some(polygon_with(came, s, shape)) }
         _ => None,
     }
 }

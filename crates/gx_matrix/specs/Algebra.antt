@@ -17,11 +17,11 @@ abbrev pub row_of : Matrix → ℕ → List ℤ
 row_of m r = cell m r 0 ∷ cell m r 1 ∷ cell m r 2 ∷ cell m r 3 ∷ []
 
 -- the matrix whose cells a rule gives by row and column
-abbrev pub row_by : (ℕ → ℕ → ℤ) → ℕ → List ℤ
-row_by rule r = rule r 0 ∷ rule r 1 ∷ rule r 2 ∷ rule r 3 ∷ []
+abbrev pub row_of_rule : (ℕ → ℕ → ℤ) → ℕ → List ℤ
+row_of_rule rule r = rule r 0 ∷ rule r 1 ∷ rule r 2 ∷ rule r 3 ∷ []
 
 abbrev pub matrix_by : (ℕ → ℕ → ℤ) → Matrix
-matrix_by rule = record { cells = row_by rule 0 ++ row_by rule 1 ++ row_by rule 2 ++ row_by rule 3 }
+matrix_by rule = record { cells = row_of_rule rule 0 ++ row_of_rule rule 1 ++ row_of_rule rule 2 ++ row_of_rule rule 3 }
 
 -- an exact sum of products, which has 24 fractional bits, as a cell: floor(sum / 4096), wrapped to a signed word (our choice of rounding)
 unfoldable pub cell_of_sum : ℤ → ℤ
@@ -51,27 +51,27 @@ unfoldable pub identity : Matrix
 identity = matrix_by one
 
 -- a parameter is a signed word
-abbrev pub number : List ℕ → ℕ → ℤ
-number params i = cast_signed w32 (slice_index params i)
+abbrev pub signed_parameter : List ℕ → ℕ → ℤ
+signed_parameter params i = cast_signed w32 (slice_index params i)
 
 -- A matrix whose first rows and columns parameters give, row by row; the other cells are those of the identity. So 4 by 4, 4 by 3 and 3 by 3
 -- (GBATEK, "DS 3D Matrix Types": the last column of 4 by 3 is 0, 0, 0, 1.0).
 unfoldable pub given_cell : ℕ → ℕ → List ℕ → ℕ → ℕ → ℤ
-given_cell rows columns params r c = if nat_lt r rows && nat_lt c columns then number params (columns * r + c) else one r c
+given_cell rows columns params r c = if nat_lt r rows && nat_lt c columns then signed_parameter params (columns * r + c) else one r c
 
 unfoldable pub given : ℕ → ℕ → List ℕ → Matrix
 given rows columns params = matrix_by (given_cell rows columns params)
 
 -- the matrix that scales by three numbers, which stand on its diagonal (GBATEK, "DS 3D Matrix Load/Multiply", MTX_SCALE)
 unfoldable pub scaling_cell : List ℕ → ℕ → ℕ → ℤ
-scaling_cell params r c = if (r == c) && nat_lt r 3 then number params r else one r c
+scaling_cell params r c = if (r == c) && nat_lt r 3 then signed_parameter params r else one r c
 
 unfoldable pub scaling : List ℕ → Matrix
 scaling params = matrix_by (scaling_cell params)
 
 -- the matrix that moves by three numbers, which stand in its last row (GBATEK, "DS 3D Matrix Load/Multiply", MTX_TRANS)
 unfoldable pub translation_cell : List ℕ → ℕ → ℕ → ℤ
-translation_cell params r c = if (r == 3) && nat_lt c 3 then number params c else one r c
+translation_cell params r c = if (r == 3) && nat_lt c 3 then signed_parameter params c else one r c
 
 unfoldable pub translation : List ℕ → Matrix
 translation params = matrix_by (translation_cell params)

@@ -45,11 +45,11 @@ abbrev pub mode_of : ℕ → Mode
 mode_of n = if n == 0 then Projection else (if n == 1 then Position else (if n == 2 then PositionAndVector else Texture))
 
 -- the matrices that are current in a mode: they become a matrix, or are multiplied by one from the left, C = M C
-unfoldable pub loaded : Mode → Matrix → StacksState → StacksState
-loaded Projection m s = record s { projection = record s.projection { current = m } }
-loaded Position m s = record s { pose = record s.pose { position = m } }
-loaded PositionAndVector m s = record s { pose = record { position = m; vector = m } }
-loaded Texture m s = record s { texture = record s.texture { current = m } }
+unfoldable pub matrix_loaded : Mode → Matrix → StacksState → StacksState
+matrix_loaded Projection m s = record s { projection = record s.projection { current = m } }
+matrix_loaded Position m s = record s { pose = record s.pose { position = m } }
+matrix_loaded PositionAndVector m s = record s { pose = record { position = m; vector = m } }
+matrix_loaded Texture m s = record s { texture = record s.texture { current = m } }
 
 unfoldable pub multiplied : Mode → Matrix → StacksState → StacksState
 multiplied Projection m s = record s { projection = record s.projection { current = product m s.projection.current } }
@@ -66,9 +66,9 @@ scaled_mode PositionAndVector = Position
 scaled_mode Texture = Texture
 
 -- a place of the stack of poses, if it has it: 0 to 30
-abbrev pub place : ℤ → Option ℕ
-place (pos n) = if nat_le n 30 then Some n else None
-place (negsuc n) = None
+abbrev pub pose_place : ℤ → Option ℕ
+pose_place (pos n) = if nat_le n 30 then Some n else None
+pose_place (negsuc n) = None
 
 -- what can't be done sets the error and does nothing else (GBATEK, GXSTAT bit 15; the other matrices and levels stay by our choice)
 abbrev pub failed : StacksState → StacksState
@@ -98,8 +98,8 @@ pose_pushed (Some n) s = record s { poses = slice_set s.poses n s.pose; level = 
 unfoldable pub pushed : Mode → StacksState → StacksState
 pushed Projection s =
     if s.projection.pushed then failed s else record s { projection = record (single_stored s.projection) { pushed = true } }
-pushed Position s = pose_pushed (place (pos s.level)) s
-pushed PositionAndVector s = pose_pushed (place (pos s.level)) s
+pushed Position s = pose_pushed (pose_place (pos s.level)) s
+pushed PositionAndVector s = pose_pushed (pose_place (pos s.level)) s
 pushed Texture s =
     if s.texture.pushed then failed s else record s { texture = record (single_stored s.texture) { pushed = true } }
 
@@ -110,7 +110,7 @@ signed_bits from size word =
     if nat_lt (bits from size word) (2 ^ (size - 1)) then pos (bits from size word) else negsuc (2 ^ size - 1 - bits from size word)
 
 unfoldable pub popped_place : ℕ → ℕ → Option ℕ
-popped_place level word = place (pos level -ℤ signed_bits 0 6 word)
+popped_place level word = pose_place (pos level -ℤ signed_bits 0 6 word)
 
 abbrev pub pose_popped : Option ℕ → StacksState → StacksState
 pose_popped None s = failed s
@@ -126,7 +126,7 @@ popped Texture word s =
 
 -- store and restore: the place of the parameter's bits 0 to 4; the levels stay (GBATEK, MTX_STORE and MTX_RESTORE)
 unfoldable pub named_place : ℕ → Option ℕ
-named_place word = place (pos (bits 0 5 word))
+named_place word = pose_place (pos (bits 0 5 word))
 
 unfoldable pub stored : Mode → ℕ → StacksState → StacksState
 stored Projection word s = record s { projection = single_stored s.projection }
@@ -134,11 +134,11 @@ stored Position word s = pose_stored (named_place word) s
 stored PositionAndVector word s = pose_stored (named_place word) s
 stored Texture word s = record s { texture = single_stored s.texture }
 
-unfoldable pub restored : Mode → ℕ → StacksState → StacksState
-restored Projection word s = record s { projection = single_restored s.projection }
-restored Position word s = pose_restored (named_place word) s
-restored PositionAndVector word s = pose_restored (named_place word) s
-restored Texture word s = record s { texture = single_restored s.texture }
+unfoldable pub matrix_restored : Mode → ℕ → StacksState → StacksState
+matrix_restored Projection word s = record s { projection = single_restored s.projection }
+matrix_restored Position word s = pose_restored (named_place word) s
+matrix_restored PositionAndVector word s = pose_restored (named_place word) s
+matrix_restored Texture word s = record s { texture = single_restored s.texture }
 
 -- a row of GBATEK's list of geometry commands: the command's code, its number of parameters, and its bus clocks
 abbrev pub command_row : ℕ → ℕ → ℕ → CommandRow
@@ -167,10 +167,10 @@ commanded code params s =
     if code == 0x11 then pushed s.mode s else (
     if code == 0x12 then popped s.mode first s else (
     if code == 0x13 then stored s.mode first s else (
-    if code == 0x14 then restored s.mode first s else (
-    if code == 0x15 then loaded s.mode identity s else (
-    if code == 0x16 then loaded s.mode (given 4 4 params) s else (
-    if code == 0x17 then loaded s.mode (given 4 3 params) s else (
+    if code == 0x14 then matrix_restored s.mode first s else (
+    if code == 0x15 then matrix_loaded s.mode identity s else (
+    if code == 0x16 then matrix_loaded s.mode (given 4 4 params) s else (
+    if code == 0x17 then matrix_loaded s.mode (given 4 3 params) s else (
     if code == 0x18 then multiplied s.mode (given 4 4 params) s else (
     if code == 0x19 then multiplied s.mode (given 4 3 params) s else (
     if code == 0x1A then multiplied s.mode (given 3 3 params) s else (

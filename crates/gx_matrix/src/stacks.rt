@@ -1,7 +1,7 @@
 //! The current matrices, their stacks, and the commands that change them.
 
 ghost use Rattle.std.specs.Prelude.{◌≡◌, ◌<◌, ◌≤◌, ◌+◌, ◌^◌, length, pos, negsuc, ◌-ℤ◌, ◌≤ℤ◌, IfSome};
-ghost use Rattle.gx_matrix.specs.Commands.{StacksState, stacks_at_boot, mode_of, loaded, multiplied, scaled_mode, place, pose_pushed, pushed, popped_place, pose_popped, popped, signed_bits, named_place, pose_stored, stored, pose_restored, restored, IsMatrixCommand, commanded, clip_of, levels_of, error_cleared};
+ghost use Rattle.gx_matrix.specs.Commands.{StacksState, stacks_at_boot, mode_of, matrix_loaded, multiplied, scaled_mode, pose_place, pose_pushed, pushed, popped_place, pose_popped, popped, signed_bits, named_place, pose_stored, stored, pose_restored, matrix_restored, IsMatrixCommand, commanded, clip_of, levels_of, error_cleared};
 
 use crate::algebra::{given, identity, product, scaling, translation};
 use ds_base::Matrix;
@@ -78,8 +78,8 @@ fn mode_of(n: u32) -> Mode
 }
 
 /// A place of the stack of poses, if the stack has it.
-fn place(n: i32) -> Option<u8>
-    ensures value { result ≡ place n }
+fn pose_place(n: i32) -> Option<u8>
+    ensures value { result ≡ pose_place n }
     ensures within { IfSome result (λ n. n < 31) }
 {
     if 0 <= n && n <= 30 {
@@ -116,7 +116,7 @@ fn popped_place(level: u8, word: u32) -> Option<u8>
     ensures value { result ≡ popped_place level word }
     ensures within { IfSome result (λ n. n < 31) }
 {
-    place(difference(level as i32, pop_count(word)))
+    pose_place(difference(level as i32, pop_count(word)))
 }
 
 /// The place that a parameter names, if the stack has it.
@@ -156,9 +156,9 @@ impl Stacks {
         }
     }
 
-    #[tactic(auto, unfolding(crate::specs::Commands::loaded))]
+    #[tactic(auto, unfolding(crate::specs::Commands::matrix_loaded))]
     fn load(&mut self, m: Matrix)
-        ensures { self.new ≡ loaded self.old.mode m self.old }
+        ensures { self.new ≡ matrix_loaded self.old.mode m self.old }
     {
         match self.mode {
             Mode::Projection => self.projection.current = m,
@@ -210,7 +210,7 @@ impl Stacks {
     }
 
     fn push_pose(&mut self)
-        ensures { self.new ≡ pose_pushed (place (pos self.old.level)) self.old }
+        ensures { self.new ≡ pose_pushed (pose_place (pos self.old.level)) self.old }
     {
         if self.level <= 30 {
             self.poses[self.level as usize] = self.pose;
@@ -270,9 +270,9 @@ impl Stacks {
         }
     }
 
-    #[tactic(auto, unfolding(crate::specs::Commands::restored))]
+    #[tactic(auto, unfolding(crate::specs::Commands::matrix_restored))]
     fn restore(&mut self, word: u32)
-        ensures { self.new ≡ restored self.old.mode word self.old }
+        ensures { self.new ≡ matrix_restored self.old.mode word self.old }
     {
         match self.mode {
             Mode::Projection => self.projection.current = self.projection.stored,

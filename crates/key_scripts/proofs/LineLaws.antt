@@ -6,7 +6,7 @@ use Rattle.std.proofs.lemmas.Fmt.{decimal_nonempty, decimal_injective}
 use Rattle.std.specs.Prelude.{slice_index}
 use Rattle.std.specs.Fmt.{decimal}
 use Rattle.ds_base.specs.declared.keys.KeyLine.{KeyLine}
-use Rattle.key_scripts.specs.Scripts.{keys_text, line_text, IsLine, IsFront, IsLongest, IsNoLine}
+use Rattle.key_scripts.specs.Scripts.{keys_text, line_text, IsLine, IsLineFront, IsLongest, IsNoLine}
 use Rattle.key_scripts.specs.Reader.Ticks.{IsTick}
 use Rattle.key_scripts.specs.Reader.Lines.{keys_from, further}
 use Rattle.std.proofs.Math.Nat.{pow-le-pow_right}
@@ -135,7 +135,7 @@ module _ (text : List ℕ) (tick count : ℕ) (is : IsTick text tick count) wher
         let p = tick_of some line (drop count text) good (sym t ∙ whole some) (λ c y q. ap (take 1) q) in
         ok_no_err line.pressed more (sym (keys_again line.pressed good.twelve) ∙ ap keys_from p.keys ∙ e)
 
-    front : IsFront (take (count + more) text)
+    front : IsLineFront (take (count + more) text)
     front =
         let b : AreBegun (drop count text) more = subst (Fails (AreBegun (drop count text))) e (keys_begun (drop count text)) in
         record {
@@ -153,7 +153,7 @@ module _ (text : List ℕ) (tick count : ℕ) (is : IsTick text tick count) wher
               ∙ ap (λ (z : ℕ). take (z + n) (decimal tick ++ drop count text)) (sym (tick_long some))
               ∙ take_over (decimal tick) (drop count text) n
 
-    long : (f s : List ℕ) → count < length f → Over (decimal tick) (drop count text) f s → IsFront f → length f ≤ count + more
+    long : (f s : List ℕ) → count < length f → Over (decimal tick) (drop count text) f s → IsLineFront f → length f ≤ count + more
     long f s l o i =
         let g : List ℕ = drop (length (decimal tick)) f in
         let n : length g ≡ length f - length (decimal tick) = length-drop (length (decimal tick)) f in
@@ -164,7 +164,7 @@ module _ (text : List ℕ) (tick count : ℕ) (is : IsTick text tick count) wher
         let m : length g ≤ more = subst (Fails (λ n. length g ≤ n)) e k in
         omega arith
 
-    fronts_end : (f s : List ℕ) → text ≡ f ++ s → IsFront f → length f ≤ count + more
+    fronts_end : (f s : List ℕ) → text ≡ f ++ s → IsLineFront f → length f ≤ count + more
     fronts_end f s t i = one (cases_lt count (length f)) where
       one : (count < length f) ⊎ (length f ≤ count) → length f ≤ count + more
       one (inl l) = long f s l (over (decimal tick) (drop count text) f s (sym (whole some) ∙ t) (omega (arith, tick_long some))) i
@@ -200,7 +200,7 @@ module _ (text : List ℕ) (tick count : ℕ) (is : IsTick text tick count) wher
     one (inl h) = absurd (omega arith)
     one (inr h) = absurd (let k : count ≡ 1 = h.0 in omega arith)
 
-  nothing_front : count ≡ 0 → (f s : List ℕ) → text ≡ f ++ s → IsFront f → length f ≤ 0
+  nothing_front : count ≡ 0 → (f s : List ℕ) → text ≡ f ++ s → IsLineFront f → length f ≤ 0
   nothing_front z [] s t i = omega arith
   nothing_front z (b ∷ f) s t i =
       let n : i.line.tick.0 < 10 ^ 11 = i.good.early in
@@ -214,7 +214,7 @@ module _ (text : List ℕ) (tick count : ℕ) (is : IsTick text tick count) wher
   pub line_start : count ≡ 0 → IsNoLine text 1
   line_start z = record {
     none = λ line good t. (
-        let i : IsFront text = record { line = line; good = good; rest = []; is = sym t ∙ sym (append-nil text) } in
+        let i : IsLineFront text = record { line = line; good = good; rest = []; is = sym t ∙ sym (append-nil text) } in
         let l : length text ≤ 0 = nothing_front z text [] (sym (append-nil text)) i in
         let n : line.tick.0 < 10 ^ 11 = good.early in
         let d : 0 < length (decimal line.tick.0) = decimal_nonempty line.tick.0 (omega arith) in

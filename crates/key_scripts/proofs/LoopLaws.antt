@@ -1,5 +1,6 @@
 -- What a step of the loop over names, over digits and over bytes keeps.
 use Rattle.std.proofs.Common.{ℕ, zero, suc, ◌≡◌, ◌≢◌, ◌<◌, ◌≤◌, ◌+◌, ◌-◌, ◌*◌, ◌/◌, ◌%◌, ◌^◌, true, false, List, [], ◌∷◌, ◌++◌, length, take, drop, get_or, length-drop, Result, Ok, Err, refl, sym, ap, ◌∙◌, arith, inl, inr, ◌⊎◌, subst, append_assoc, length-append}
+use Rattle.ds_base.specs.Texts.{HasNoFeed}
 use Rattle.std.proofs.lemmas.Bool.{cases_eq, and_left, and_right, ne_eqb, and_from, eq-eqb}
 use Rattle.std.proofs.lemmas.List.{drop_all, drop-drop, append-nil, take_more, drop_more, take-append-drop, get_or_at, get_or_append_left}
 use Rattle.std.proofs.lemmas.List.Elements.{All-push}
@@ -10,11 +11,11 @@ use Rattle.std.specs.Fmt.{decimal}
 use Prim.Native.Nat.{max}
 use Rattle.ds_base.specs.KeyLines.{no_line, line_at, AreKeyLines, ComesAfter}
 use Rattle.ds_base.specs.declared.keys.KeyLine.{KeyLine}
-use Rattle.key_scripts.specs.Scripts.{key_names, line_text, text_of, HasNoFeed, IsLine, AreLines, IsScript, IsFirstBad, IsNoLine, IsLate}
-use Rattle.key_scripts.specs.Reader.Names.{common, may_end, stands, taken, passed, names_from, outcome}
+use Rattle.key_scripts.specs.Scripts.{key_names, line_text, script_text, IsLine, AreLines, IsScript, IsFirstBadAt, IsNoLine, IsLate}
+use Rattle.key_scripts.specs.Reader.Names.{common, may_end, stands, after_name, passed, names_from, outcome}
 use Rattle.key_scripts.specs.Reader.Lines.{IsNamed}
 use Rattle.key_scripts.specs.Reader.Lines.{some, further}
-use Rattle.key_scripts.specs.Reader.Scripts.{IsRead, IsParted}
+use Rattle.key_scripts.specs.Reader.Scripts.{AreRead, IsParted}
 
 same_ok : (m n : ℕ) → m ≡ n → ◌≡◌ {A = Result ℕ ℕ} (Ok m) (Ok n)
 same_ok m n e = rw e refl
@@ -23,7 +24,7 @@ same_err : (m n : ℕ) → m ≡ n → ◌≡◌ {A = Result ℕ ℕ} (Err m) (E
 same_err m n e = rw e refl
 
 -- a name that was taken, and one that wasn't
-outcome_taken : (bits weight at reached count : ℕ) (r : Result ℕ ℕ) → outcome bits weight at reached (taken count r) ≡ outcome (bits + weight) (2 * weight) (at + count) (max reached (at + count)) r
+outcome_taken : (bits weight at reached count : ℕ) (r : Result ℕ ℕ) → outcome bits weight at reached (after_name count r) ≡ outcome (bits + weight) (2 * weight) (at + count) (max reached (at + count)) r
 outcome_taken bits weight at reached count (Ok b) = same_ok _ _ (omega (arith, mul-add weight 1 (2 * b), mul_left_comm weight 2 b, mul_assoc 2 weight b))
 outcome_taken bits weight at reached count (Err n) = same_err (max reached (at + (count + n))) (max (max reached (at + count)) (at + count + n)) (grind arith)
 
@@ -105,23 +106,23 @@ pub parted_at : (text : List ℕ) (end : ℕ) → end < length text → get_or t
 parted_at text end h e = inl (sym (take-append-drop end text) ∙ ap (λ (z : List ℕ). take end text ++ z) (drop_more text end 0 h ∙ ap (λ (z : ℕ). z ∷ drop (end + 1) text) e))
 
 -- a line more
-text_push : (lines : List KeyLine) (line : KeyLine) → text_of (lines ++ line ∷ []) ≡ text_of lines ++ (line_text line ++ 10 ∷ [])
+text_push : (lines : List KeyLine) (line : KeyLine) → script_text (lines ++ line ∷ []) ≡ script_text lines ++ (line_text line ++ 10 ∷ [])
 text_push [] line = refl
 text_push (k ∷ lines) line =
     ap (λ (z : List ℕ). line_text k ++ 10 ∷ z) (text_push lines line)
-    ∙ sym (append_assoc (line_text k) (10 ∷ text_of lines) (line_text line ++ 10 ∷ []))
+    ∙ sym (append_assoc (line_text k) (10 ∷ script_text lines) (line_text line ++ 10 ∷ []))
 
-pub read_more : (text : List ℕ) (lines : List KeyLine) (rest line more : List ℕ) (k : KeyLine) → rest ≢ [] → IsRead text lines rest → IsParted rest line more → line ≡ line_text k → IsRead text (lines ++ k ∷ []) more
+pub read_more : (text : List ℕ) (lines : List KeyLine) (rest line more : List ℕ) (k : KeyLine) → rest ≢ [] → AreRead text lines rest → IsParted rest line more → line ≡ line_text k → AreRead text (lines ++ k ∷ []) more
 read_more text lines rest line more k some (inr r) p e = absurd (some r.0)
 read_more text lines rest line more k some (inl r) (inl p) e = inl (
     r
-    ∙ ap (λ (z : List ℕ). text_of lines ++ z) (p ∙ ap (λ (z : List ℕ). z ++ 10 ∷ more) e ∙ sym (append_assoc (line_text k) (10 ∷ []) more))
-    ∙ sym (append_assoc (text_of lines) (line_text k ++ 10 ∷ []) more)
+    ∙ ap (λ (z : List ℕ). script_text lines ++ z) (p ∙ ap (λ (z : List ℕ). z ++ 10 ∷ more) e ∙ sym (append_assoc (line_text k) (10 ∷ []) more))
+    ∙ sym (append_assoc (script_text lines) (line_text k ++ 10 ∷ []) more)
     ∙ ap (λ (z : List ℕ). z ++ more) (sym (text_push lines k)))
 read_more text lines rest line more k some (inl r) (inr p) e = inr (
   p.0,
-  ap (λ (z : List ℕ). z ++ 10 ∷ []) (r ∙ ap (λ (z : List ℕ). text_of lines ++ z) (p.1 ∙ e))
-      ∙ append_assoc (text_of lines) (line_text k) (10 ∷ [])
+  ap (λ (z : List ℕ). z ++ 10 ∷ []) (r ∙ ap (λ (z : List ℕ). script_text lines ++ z) (p.1 ∙ e))
+      ∙ append_assoc (script_text lines) (line_text k) (10 ∷ [])
       ∙ sym (text_push lines k),
 )
 
@@ -160,11 +161,11 @@ pub lines_more : (lines : List KeyLine) (line : KeyLine) → AreLines lines → 
 lines_more lines line good own after = record { each = All-push IsLine lines line good.each own; rise = rise_push lines line good.rise after own.twelve }
 
 -- the end of the script, and a bad line
-pub read_all : (text : List ℕ) (lines : List KeyLine) → AreLines lines → IsRead text lines [] → IsScript text lines
-read_all text lines good (inl r) = record { good = good; is = inl (r ∙ append-nil (text_of lines)) }
+pub read_all : (text : List ℕ) (lines : List KeyLine) → AreLines lines → AreRead text lines [] → IsScript text lines
+read_all text lines good (inl r) = record { good = good; is = inl (r ∙ append-nil (script_text lines)) }
 read_all text lines good (inr r) = record { good = good; is = inr r.1 }
 
-pub bad_line : (text : List ℕ) (lines : List KeyLine) (rest line more : List ℕ) (number column : ℕ) → rest ≢ [] → AreLines lines → IsRead text lines rest → IsParted rest line more → HasNoFeed line → number ≡ length lines + 1 → IsNoLine line column ⊎ IsLate lines line column → IsFirstBad text number column
+pub bad_line : (text : List ℕ) (lines : List KeyLine) (rest line more : List ℕ) (number column : ℕ) → rest ≢ [] → AreLines lines → AreRead text lines rest → IsParted rest line more → HasNoFeed line → number ≡ length lines + 1 → IsNoLine line column ⊎ IsLate lines line column → IsFirstBadAt text number column
 bad_line text lines rest line more number column some good (inr r) p n e w = absurd (some r.0)
 bad_line text lines rest line more number column some good (inl r) (inl p) n e w = record {
   before = lines;
@@ -173,7 +174,7 @@ bad_line text lines rest line more number column some good (inl r) (inl p) n e w
   plain = n;
   rest = 10 ∷ more;
   ends = refl;
-  is = r ∙ ap (λ (z : List ℕ). text_of lines ++ z) p;
+  is = r ∙ ap (λ (z : List ℕ). script_text lines ++ z) p;
   number = e;
   why = w;
 }
@@ -184,7 +185,7 @@ bad_line text lines rest line more number column some good (inl r) (inr p) n e w
   plain = n;
   rest = [];
   ends = λ h. some (p.1 ∙ h);
-  is = r ∙ ap (λ (z : List ℕ). text_of lines ++ z) (p.1 ∙ sym (append-nil line));
+  is = r ∙ ap (λ (z : List ℕ). script_text lines ++ z) (p.1 ∙ sym (append-nil line));
   number = e;
   why = w;
 }

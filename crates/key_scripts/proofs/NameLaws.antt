@@ -5,7 +5,7 @@ use Rattle.std.proofs.lemmas.List.{drop_at}
 use Rattle.std.specs.Prelude.{◌==◌, ◌&&◌, ◌||◌, not, if◌then◌else◌}
 use Prim.Native.Nat.{max}
 use Rattle.key_scripts.specs.Scripts.{key_names, chosen, marked}
-use Rattle.key_scripts.specs.Reader.Names.{common, may_end, stands, taken, passed}
+use Rattle.key_scripts.specs.Reader.Names.{common, may_end, stands, after_name, passed}
 
 -- a result's value, or its count
 abbrev pub Gives : (ℕ → Type 0) → Result ℕ ℕ → Type 0
@@ -16,7 +16,7 @@ abbrev pub Fails : (ℕ → Type 0) → Result ℕ ℕ → Type 0
 Fails P (Ok bits) = Unit {0}
 Fails P (Err most) = P most
 
-pub gives_taken : (P Q : ℕ → Type 0) (count : ℕ) (r : Result ℕ ℕ) → ((n : ℕ) → P n → Q (1 + 2 * n)) → Gives P r → Gives Q (taken count r)
+pub gives_taken : (P Q : ℕ → Type 0) (count : ℕ) (r : Result ℕ ℕ) → ((n : ℕ) → P n → Q (1 + 2 * n)) → Gives P r → Gives Q (after_name count r)
 gives_taken P Q count (Ok bits) f h = f bits h
 gives_taken P Q count (Err most) f h = tt
 
@@ -24,7 +24,7 @@ pub gives_passed : (P Q : ℕ → Type 0) (count : ℕ) (r : Result ℕ ℕ) →
 gives_passed P Q count (Ok bits) f h = f bits h
 gives_passed P Q count (Err most) f h = tt
 
-pub fails_taken : (P Q : ℕ → Type 0) (count : ℕ) (r : Result ℕ ℕ) → ((n : ℕ) → P n → Q (count + n)) → Fails P r → Fails Q (taken count r)
+pub fails_taken : (P Q : ℕ → Type 0) (count : ℕ) (r : Result ℕ ℕ) → ((n : ℕ) → P n → Q (count + n)) → Fails P r → Fails Q (after_name count r)
 fails_taken P Q count (Ok bits) f h = tt
 fails_taken P Q count (Err most) f h = f most h
 

@@ -5,7 +5,7 @@ use Rattle.std.proofs.lemmas.List.{take-append-drop, drop_at}
 use Rattle.std.specs.Prelude.{◌==◌}
 use Prim.Native.Nat.{max}
 use Rattle.key_scripts.specs.Scripts.{key_names, chosen, marked}
-use Rattle.key_scripts.specs.Reader.Names.{common, may_end, stands, taken, passed, names_from}
+use Rattle.key_scripts.specs.Reader.Names.{common, may_end, stands, after_name, passed, names_from}
 use Rattle.key_scripts.proofs.NameLaws.{Gives, Fails, gives_taken, gives_passed, fails_taken, fails_passed, fails_any, common_text, common_same, common_most, Over, over, may_end_front, ends_marked, stands_front, stands_whole, all_differ, apart, chosen_odd, chosen_even, with_name, without_name, not_chosen}
 
 -- a number has no bits but those of names
@@ -125,7 +125,7 @@ names_begun mark (name ∷ names) text =
 module _ (mark : ℕ) (name : List ℕ) (names : List (List ℕ)) (text f s r : List ℕ) (bits : ℕ) where
   most_with : all_differ name names ≡ true → stands (mark ∷ name) text ≡ true → text ≡ f ++ s → marked mark (chosen (name ∷ names) bits) ≡ f ++ r →
       ((g q : List ℕ) → drop (length (mark ∷ name)) text ≡ g ++ s → marked 43 (chosen names (bits / 2)) ≡ g ++ q → Fails (λ n. length g ≤ n) (names_from 43 names (drop (length (mark ∷ name)) text))) →
-      Fails (λ n. length f ≤ n) (taken (length (mark ∷ name)) (names_from 43 names (drop (length (mark ∷ name)) text)))
+      Fails (λ n. length f ≤ n) (after_name (length (mark ∷ name)) (names_from 43 names (drop (length (mark ∷ name)) text)))
   most_with d e t i rec = one (cases_lt (length (mark ∷ name)) (length f)) where
     piece : List ℕ
     piece = mark ∷ name
@@ -134,7 +134,7 @@ module _ (mark : ℕ) (name : List ℕ) (names : List (List ℕ)) (text f s r : 
     more = drop (length (mark ∷ name)) text
 
     inside : length (mark ∷ name) < length f → Over (mark ∷ name) (drop (length (mark ∷ name)) text) f s → ((bits % 2 == 1) ≡ true) ⊎ ((bits % 2 == 1) ≡ false) →
-        Fails (λ n. length f ≤ n) (taken (length (mark ∷ name)) (names_from 43 names (drop (length (mark ∷ name)) text)))
+        Fails (λ n. length f ≤ n) (after_name (length (mark ∷ name)) (names_from 43 names (drop (length (mark ∷ name)) text)))
     inside l o (inl b) =
         let g : mark ∷ name ++ marked 43 (chosen names (bits / 2)) ≡ f ++ r = sym (ap (marked mark) (chosen_odd name names bits b)) ∙ i in
         let p = over (mark ∷ name) (marked 43 (chosen names (bits / 2))) f r g (omega arith) in
@@ -146,7 +146,7 @@ module _ (mark : ℕ) (name : List ℕ) (names : List (List ℕ)) (text f s r : 
         sym (append_assoc (mark ∷ name) (drop (length (mark ∷ name)) f) r) ∙ ap (λ (z : List ℕ). z ++ r) (sym o.is) ∙ sym i ∙ ap (marked mark) (chosen_even name names bits b) in
         absurd (not_chosen mark name (drop (length (mark ∷ name)) f ++ r) names (bits / 2) d end g)
 
-    one : (length (mark ∷ name) < length f) ⊎ (length f ≤ length (mark ∷ name)) → Fails (λ n. length f ≤ n) (taken (length (mark ∷ name)) (names_from 43 names (drop (length (mark ∷ name)) text)))
+    one : (length (mark ∷ name) < length f) ⊎ (length f ≤ length (mark ∷ name)) → Fails (λ n. length f ≤ n) (after_name (length (mark ∷ name)) (names_from 43 names (drop (length (mark ∷ name)) text)))
     one (inl l) = inside l (over (mark ∷ name) (drop (length (mark ∷ name)) text) f s (sym (stands_whole (mark ∷ name) text e).is ∙ t) (omega arith)) (cases_Bool (bits % 2 == 1))
     one (inr l) = fails_taken (λ n. Unit {0}) (λ n. length f ≤ n) (length (mark ∷ name)) (names_from 43 names (drop (length (mark ∷ name)) text)) (λ n h. omega arith) (fails_any (λ n. Unit {0}) (names_from 43 names (drop (length (mark ∷ name)) text)) (λ n. tt))
 

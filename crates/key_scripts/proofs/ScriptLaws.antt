@@ -1,5 +1,6 @@
 -- Scripts and first bad lines.
 use Rattle.std.proofs.Common.{ℕ, ◌≡◌, ◌≢◌, ◌<◌, ◌≤◌, ◌+◌, ◌-◌, ◌/◌, ◌%◌, ◌^◌, Bool, true, false, List, [], ◌∷◌, ◌++◌, length, get_or, refl, sym, ap, ◌∙◌, arith, inl, inr, ◌⊎◌, subst, append_assoc, length-append}
+use Rattle.ds_base.specs.Texts.{HasNoFeed}
 use Rattle.std.proofs.lemmas.Bool.{not-true, eqb-false, and_parts, cases_Bool}
 use Rattle.std.proofs.lemmas.List.{append-nil, get_or_at, get_or_append_left}
 use Rattle.std.proofs.lemmas.List.Elements.{All-head, All-tail}
@@ -8,7 +9,7 @@ use Rattle.std.specs.Prelude.{◌==◌, ◌&&◌, not, All}
 use Rattle.std.specs.Fmt.{decimal}
 use Rattle.ds_base.specs.KeyLines.{no_line, AreKeyLines, ComesAfter}
 use Rattle.ds_base.specs.declared.keys.KeyLine.{KeyLine}
-use Rattle.key_scripts.specs.Scripts.{key_names, chosen, marked, keys_text, line_text, text_of, IsLine, AreLines, IsScript, IsLongest, IsNoLine, IsLate, HasNoFeed, EndsBefore, IsFirstBad}
+use Rattle.key_scripts.specs.Scripts.{key_names, chosen, marked, keys_text, line_text, script_text, IsLine, AreLines, IsScript, IsLongest, IsNoLine, IsLate, EndsBefore, IsFirstBadAt}
 use Rattle.key_scripts.proofs.DigitLaws.{AreDigits, decimal_digits}
 use Rattle.key_scripts.proofs.NameLaws.{chosen_odd, chosen_even}
 use Rattle.key_scripts.proofs.LineLaws.{one_line}
@@ -105,22 +106,22 @@ tail_lines : (line : KeyLine) (lines : List KeyLine) → All IsLine (line ∷ li
 tail_lines line lines h = All-tail IsLine line lines h
 
 -- two texts of lines, each with a text and a line feed after them
-fork : (a b : List KeyLine) (bad more bad' more' : List ℕ) → All IsLine a → All IsLine b → HasNoFeed bad → HasNoFeed bad' → text_of a ++ (bad ++ 10 ∷ more) ≡ text_of b ++ (bad' ++ 10 ∷ more') → ((a ≡ b) × (bad ≡ bad')) ⊎ Longer a b bad ⊎ Longer b a bad'
+fork : (a b : List KeyLine) (bad more bad' more' : List ℕ) → All IsLine a → All IsLine b → HasNoFeed bad → HasNoFeed bad' → script_text a ++ (bad ++ 10 ∷ more) ≡ script_text b ++ (bad' ++ 10 ∷ more') → ((a ≡ b) × (bad ≡ bad')) ⊎ Longer a b bad ⊎ Longer b a bad'
 fork [] [] bad more bad' more' ga gb pa pb e = inl (refl, (feed_split bad bad' more more' pa pb e).0)
 fork [] (k ∷ b) bad more bad' more' ga gb pa pb e =
-    let g : bad ++ 10 ∷ more ≡ line_text k ++ 10 ∷ (text_of b ++ (bad' ++ 10 ∷ more')) = e ∙ append_assoc (line_text k) (10 ∷ text_of b) (bad' ++ 10 ∷ more') in
-    let s = feed_split bad (line_text k) more (text_of b ++ (bad' ++ 10 ∷ more')) pa (line_plain k (head_line k b gb)) g in
+    let g : bad ++ 10 ∷ more ≡ line_text k ++ 10 ∷ (script_text b ++ (bad' ++ 10 ∷ more')) = e ∙ append_assoc (line_text k) (10 ∷ script_text b) (bad' ++ 10 ∷ more') in
+    let s = feed_split bad (line_text k) more (script_text b ++ (bad' ++ 10 ∷ more')) pa (line_plain k (head_line k b gb)) g in
     inr (inl (record { line = k; more = b; is = refl; text = s.0 }))
 fork (j ∷ a) [] bad more bad' more' ga gb pa pb e =
-    let g : bad' ++ 10 ∷ more' ≡ line_text j ++ 10 ∷ (text_of a ++ (bad ++ 10 ∷ more)) = sym e ∙ append_assoc (line_text j) (10 ∷ text_of a) (bad ++ 10 ∷ more) in
-    let s = feed_split bad' (line_text j) more' (text_of a ++ (bad ++ 10 ∷ more)) pb (line_plain j (head_line j a ga)) g in
+    let g : bad' ++ 10 ∷ more' ≡ line_text j ++ 10 ∷ (script_text a ++ (bad ++ 10 ∷ more)) = sym e ∙ append_assoc (line_text j) (10 ∷ script_text a) (bad ++ 10 ∷ more) in
+    let s = feed_split bad' (line_text j) more' (script_text a ++ (bad ++ 10 ∷ more)) pb (line_plain j (head_line j a ga)) g in
     inr (inr (record { line = j; more = a; is = refl; text = s.0 }))
 fork (j ∷ a) (k ∷ b) bad more bad' more' ga gb pa pb e = one (fork a b bad more bad' more' (tail_lines j a ga) (tail_lines k b gb) pa pb s.1) where
-  g : line_text j ++ 10 ∷ (text_of a ++ (bad ++ 10 ∷ more)) ≡ line_text k ++ 10 ∷ (text_of b ++ (bad' ++ 10 ∷ more'))
-  g = sym (append_assoc (line_text j) (10 ∷ text_of a) (bad ++ 10 ∷ more)) ∙ e ∙ append_assoc (line_text k) (10 ∷ text_of b) (bad' ++ 10 ∷ more')
+  g : line_text j ++ 10 ∷ (script_text a ++ (bad ++ 10 ∷ more)) ≡ line_text k ++ 10 ∷ (script_text b ++ (bad' ++ 10 ∷ more'))
+  g = sym (append_assoc (line_text j) (10 ∷ script_text a) (bad ++ 10 ∷ more)) ∙ e ∙ append_assoc (line_text k) (10 ∷ script_text b) (bad' ++ 10 ∷ more')
 
-  s : (line_text j ≡ line_text k) × (text_of a ++ (bad ++ 10 ∷ more) ≡ text_of b ++ (bad' ++ 10 ∷ more'))
-  s = feed_split (line_text j) (line_text k) (text_of a ++ (bad ++ 10 ∷ more)) (text_of b ++ (bad' ++ 10 ∷ more')) (line_plain j (head_line j a ga)) (line_plain k (head_line k b gb)) g
+  s : (line_text j ≡ line_text k) × (script_text a ++ (bad ++ 10 ∷ more) ≡ script_text b ++ (bad' ++ 10 ∷ more'))
+  s = feed_split (line_text j) (line_text k) (script_text a ++ (bad ++ 10 ∷ more)) (script_text b ++ (bad' ++ 10 ∷ more')) (line_plain j (head_line j a ga)) (line_plain k (head_line k b gb)) g
 
   same : j ≡ k
   same = one_line j k (head_line j a ga) (head_line k b gb) s.0
@@ -131,27 +132,27 @@ fork (j ∷ a) (k ∷ b) bad more bad' more' ga gb pa pb e = one (fork a b bad m
   one (inr (inr l)) = inr (inr (longer_by k j b a bad' (sym same) l))
 
 -- lines alone are no shorter than those before a text and its line feed
-inside : (a b : List KeyLine) (bad more : List ℕ) → All IsLine a → All IsLine b → HasNoFeed bad → text_of a ++ (bad ++ 10 ∷ more) ≡ text_of b → Longer a b bad
+inside : (a b : List KeyLine) (bad more : List ℕ) → All IsLine a → All IsLine b → HasNoFeed bad → script_text a ++ (bad ++ 10 ∷ more) ≡ script_text b → Longer a b bad
 inside [] [] bad more ga gb p e = absurd (omega (arith, ap length e, length-append bad (10 ∷ more)))
 inside [] (k ∷ b) bad more ga gb p e =
-    let s = feed_split bad (line_text k) more (text_of b) p (line_plain k (head_line k b gb)) e in
+    let s = feed_split bad (line_text k) more (script_text b) p (line_plain k (head_line k b gb)) e in
     record { line = k; more = b; is = refl; text = s.0 }
 inside (j ∷ a) [] bad more ga gb p e =
-    absurd (omega (arith, ap length e, length-append (line_text j ++ 10 ∷ text_of a) (bad ++ 10 ∷ more), length-append (line_text j) (10 ∷ text_of a)))
+    absurd (omega (arith, ap length e, length-append (line_text j ++ 10 ∷ script_text a) (bad ++ 10 ∷ more), length-append (line_text j) (10 ∷ script_text a)))
 inside (j ∷ a) (k ∷ b) bad more ga gb p e =
-    let g = sym (append_assoc (line_text j) (10 ∷ text_of a) (bad ++ 10 ∷ more)) ∙ e in
-    let s = feed_split (line_text j) (line_text k) (text_of a ++ (bad ++ 10 ∷ more)) (text_of b) (line_plain j (head_line j a ga)) (line_plain k (head_line k b gb)) g in
+    let g = sym (append_assoc (line_text j) (10 ∷ script_text a) (bad ++ 10 ∷ more)) ∙ e in
+    let s = feed_split (line_text j) (line_text k) (script_text a ++ (bad ++ 10 ∷ more)) (script_text b) (line_plain j (head_line j a ga)) (line_plain k (head_line k b gb)) g in
     longer_by j k a b bad (one_line j k (head_line j a ga) (head_line k b gb) s.0) (inside a b bad more (tail_lines j a ga) (tail_lines k b gb) p s.1)
 
 -- and no text without a line feed stands after them
-no_tail : (a b : List KeyLine) (bad : List ℕ) → All IsLine a → All IsLine b → HasNoFeed bad → bad ≢ [] → text_of a ++ bad ≡ text_of b → ⊥
+no_tail : (a b : List KeyLine) (bad : List ℕ) → All IsLine a → All IsLine b → HasNoFeed bad → bad ≢ [] → script_text a ++ bad ≡ script_text b → ⊥
 no_tail [] [] bad ga gb p n e = n e
-no_tail [] (k ∷ b) bad ga gb p n e = no_feed_in (line_text k) (text_of b) (subst HasNoFeed e p)
+no_tail [] (k ∷ b) bad ga gb p n e = no_feed_in (line_text k) (script_text b) (subst HasNoFeed e p)
 no_tail (j ∷ a) [] bad ga gb p n e =
-    absurd (omega (arith, ap length e, length-append (line_text j ++ 10 ∷ text_of a) bad, length-append (line_text j) (10 ∷ text_of a)))
+    absurd (omega (arith, ap length e, length-append (line_text j ++ 10 ∷ script_text a) bad, length-append (line_text j) (10 ∷ script_text a)))
 no_tail (j ∷ a) (k ∷ b) bad ga gb p n e =
-    let g = sym (append_assoc (line_text j) (10 ∷ text_of a) bad) ∙ e in
-    let s = feed_split (line_text j) (line_text k) (text_of a ++ bad) (text_of b) (line_plain j (head_line j a ga)) (line_plain k (head_line k b gb)) g in
+    let g = sym (append_assoc (line_text j) (10 ∷ script_text a) bad) ∙ e in
+    let s = feed_split (line_text j) (line_text k) (script_text a ++ bad) (script_text b) (line_plain j (head_line j a ga)) (line_plain k (head_line k b gb)) g in
     no_tail a b bad (tail_lines j a ga) (tail_lines k b gb) p n s.1
 
 -- a line that goes on is no bad one
@@ -179,10 +180,10 @@ not_bad before lines bad column good l (inr n) =
 -- where a bad line's line feed is, or would be
 pub record Closed (text : List ℕ) (before : List KeyLine) (bad : List ℕ) : Type 0 where
   pub more : List ℕ
-  pub is : text ++ 10 ∷ [] ≡ text_of before ++ (bad ++ 10 ∷ more)
+  pub is : text ++ 10 ∷ [] ≡ script_text before ++ (bad ++ 10 ∷ more)
 
-closed : (text : List ℕ) (before : List KeyLine) (bad rest : List ℕ) → EndsBefore bad rest → text ≡ text_of before ++ (bad ++ rest) → Closed text before bad
-closed text before bad rest ends e = record { more = past rest; is = ap (λ (z : List ℕ). z ++ 10 ∷ []) e ∙ append_assoc (text_of before) (bad ++ rest) (10 ∷ []) ∙ ap (λ (z : List ℕ). text_of before ++ z) (append_assoc bad rest (10 ∷ []) ∙ ap (λ (z : List ℕ). bad ++ z) (feed rest ends)) } where
+closed : (text : List ℕ) (before : List KeyLine) (bad rest : List ℕ) → EndsBefore bad rest → text ≡ script_text before ++ (bad ++ rest) → Closed text before bad
+closed text before bad rest ends e = record { more = past rest; is = ap (λ (z : List ℕ). z ++ 10 ∷ []) e ∙ append_assoc (script_text before) (bad ++ rest) (10 ∷ []) ∙ ap (λ (z : List ℕ). script_text before ++ z) (append_assoc bad rest (10 ∷ []) ∙ ap (λ (z : List ℕ). bad ++ z) (feed rest ends)) } where
   past : List ℕ → List ℕ
   past [] = []
   past (b ∷ bs) = bs ++ 10 ∷ []
@@ -209,7 +210,7 @@ one_column a b text c d (inr x) (inl y) = absurd (y.none x.line x.good x.is)
 one_column a b text c d (inr x) (inr y) = x.first ∙ sym y.first
 
 -- the first bad line is one, at one column
-pub one_bad : (text : List ℕ) (l c m d : ℕ) → IsFirstBad text l c → IsFirstBad text m d → (l ≡ m) × (c ≡ d)
+pub one_bad : (text : List ℕ) (l c m d : ℕ) → IsFirstBadAt text l c → IsFirstBadAt text m d → (l ≡ m) × (c ≡ d)
 one_bad text l c m d x y = one (fork x.before y.before x.bad p.more y.bad q.more x.good.each y.good.each x.plain y.plain (sym p.is ∙ q.is)) where
   p : Closed text x.before x.bad
   p = closed text x.before x.bad x.rest x.ends x.is
@@ -225,15 +226,15 @@ one_bad text l c m d x y = one (fork x.before y.before x.bad p.more y.bad q.more
   one (inr (inr s)) = absurd (not_bad y.before x.before y.bad d x.good s y.why)
 
 -- a script has none
-pub none_bad : (text : List ℕ) (lines : List KeyLine) (line column : ℕ) → IsScript text lines → IsFirstBad text line column → ⊥
+pub none_bad : (text : List ℕ) (lines : List KeyLine) (line column : ℕ) → IsScript text lines → IsFirstBadAt text line column → ⊥
 none_bad text lines line column x y = one x.is where
-  ended : (rest : List ℕ) → EndsBefore y.bad rest → text ≡ text_of y.before ++ (y.bad ++ rest) → text ≡ text_of lines → ⊥
-  ended [] h e t = no_tail y.before lines y.bad y.good.each x.good.each y.plain h (ap (λ (z : List ℕ). text_of y.before ++ z) (sym (append-nil y.bad)) ∙ sym e ∙ t)
+  ended : (rest : List ℕ) → EndsBefore y.bad rest → text ≡ script_text y.before ++ (y.bad ++ rest) → text ≡ script_text lines → ⊥
+  ended [] h e t = no_tail y.before lines y.bad y.good.each x.good.each y.plain h (ap (λ (z : List ℕ). script_text y.before ++ z) (sym (append-nil y.bad)) ∙ sym e ∙ t)
   ended (b ∷ bs) h e t =
-      let f : text_of y.before ++ (y.bad ++ 10 ∷ bs) ≡ text_of lines = ap (λ (z : ℕ). text_of y.before ++ (y.bad ++ z ∷ bs)) (sym h) ∙ sym e ∙ t in
+      let f : script_text y.before ++ (y.bad ++ 10 ∷ bs) ≡ script_text lines = ap (λ (z : ℕ). script_text y.before ++ (y.bad ++ z ∷ bs)) (sym h) ∙ sym e ∙ t in
       not_bad y.before lines y.bad column x.good (inside y.before lines y.bad bs y.good.each x.good.each y.plain f) y.why
 
-  one : (text ≡ text_of lines) ⊎ (text ++ 10 ∷ [] ≡ text_of lines) → ⊥
+  one : (text ≡ script_text lines) ⊎ (text ++ 10 ∷ [] ≡ script_text lines) → ⊥
   one (inl t) = ended y.rest y.ends y.is t
   one (inr t) =
       let p = closed text y.before y.bad y.rest y.ends y.is in
@@ -243,19 +244,19 @@ none_bad text lines line column x y = one x.is where
 no_longer : (a b : List KeyLine) → All IsLine b → Longer a b [] → ⊥
 no_longer a b g l = line_some l.line (mid_line a l.line l.more (subst (All IsLine) l.is g)) l.text
 
-text_once : (a b : List KeyLine) → All IsLine a → All IsLine b → text_of a ≡ text_of b → a ≡ b
+text_once : (a b : List KeyLine) → All IsLine a → All IsLine b → script_text a ≡ script_text b → a ≡ b
 text_once a b ga gb e = one (fork a b [] [] [] [] ga gb tt tt (ap (λ (z : List ℕ). z ++ 10 ∷ []) e)) where
   one : ((a ≡ b) × (◌≡◌ {A = List ℕ} [] [])) ⊎ Longer a b [] ⊎ Longer b a [] → a ≡ b
   one (inl r) = r.0
   one (inr (inl l)) = absurd (no_longer a b gb l)
   one (inr (inr l)) = absurd (no_longer b a ga l)
 
-open_once : (text : List ℕ) (a b : List KeyLine) → All IsLine a → All IsLine b → text ≡ text_of a → text ++ 10 ∷ [] ≡ text_of b → ⊥
+open_once : (text : List ℕ) (a b : List KeyLine) → All IsLine a → All IsLine b → text ≡ script_text a → text ++ 10 ∷ [] ≡ script_text b → ⊥
 open_once text a b ga gb e f = no_longer a b gb (inside a b [] [] ga gb tt (ap (λ (z : List ℕ). z ++ 10 ∷ []) (sym e) ∙ f))
 
 pub one_script : (text : List ℕ) (a b : List KeyLine) → IsScript text a → IsScript text b → a ≡ b
 one_script text a b x y = one x.is y.is where
-  one : (text ≡ text_of a) ⊎ (text ++ 10 ∷ [] ≡ text_of a) → (text ≡ text_of b) ⊎ (text ++ 10 ∷ [] ≡ text_of b) → a ≡ b
+  one : (text ≡ script_text a) ⊎ (text ++ 10 ∷ [] ≡ script_text a) → (text ≡ script_text b) ⊎ (text ++ 10 ∷ [] ≡ script_text b) → a ≡ b
   one (inl e) (inl f) = text_once a b x.good.each y.good.each (sym e ∙ f)
   one (inl e) (inr f) = absurd (open_once text a b x.good.each y.good.each e f)
   one (inr e) (inl f) = absurd (open_once text b a y.good.each x.good.each f e)

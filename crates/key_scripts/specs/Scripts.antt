@@ -1,6 +1,7 @@
 -- Key scripts (our choice of form; the keys are those of GBATEK, "DS Keypad").
-use Rattle.std.specs.Prelude.{ℕ, ◌≡◌, ◌≢◌, ◌<◌, ◌≤◌, ◌+◌, ◌/◌, ◌%◌, ◌^◌, ◌==◌, List, [], ◌∷◌, ◌++◌, length, take, codes, All, if◌then◌else◌, ◌⊎◌}
+use Rattle.std.specs.Prelude.{ℕ, ◌≡◌, ◌≢◌, ◌<◌, ◌≤◌, ◌+◌, ◌/◌, ◌%◌, ◌^◌, ◌==◌, List, [], ◌∷◌, ◌++◌, length, map, take, codes, All, if◌then◌else◌, ◌⊎◌}
 use Rattle.std.specs.Fmt.{decimal}
+use Rattle.ds_base.specs.Texts.{HasNoFeed, text_of}
 use Rattle.ds_base.specs.KeyLines.{AreKeyLines, ComesAfter}
 use Rattle.ds_base.specs.declared.keys.KeyLine.{KeyLine}
 use Rattle.key_scripts.specs.declared.faults.ScriptFault.{ScriptFault}
@@ -30,10 +31,9 @@ keys_text pressed = if pressed == 0 then codes " -" else marked 32 (chosen key_n
 abbrev pub line_text : KeyLine → List ℕ
 line_text line = decimal line.tick.0 ++ keys_text line.pressed
 
--- lines, each ended by a line feed
-abbrev pub text_of : List KeyLine → List ℕ
-text_of [] = []
-text_of (line ∷ lines) = line_text line ++ 10 ∷ text_of lines
+-- a script: its lines, each ended by a line feed
+abbrev pub script_text : List KeyLine → List ℕ
+script_text lines = text_of (map line_text lines)
 
 -- what a line can tell: a tick of at most eleven digits, and twelve keys
 pub record IsLine (line : KeyLine) : Type 0 where
@@ -48,10 +48,10 @@ pub record AreLines (lines : List KeyLine) : Type 0 where
 -- a text is the script of these lines; the last line may lack its line feed
 pub record IsScript (text : List ℕ) (lines : List KeyLine) : Type 0 where
   pub good : AreLines lines
-  pub is : (text ≡ text_of lines) ⊎ (text ++ 10 ∷ [] ≡ text_of lines)
+  pub is : (text ≡ script_text lines) ⊎ (text ++ 10 ∷ [] ≡ script_text lines)
 
 -- some line begins so
-pub record IsFront (front : List ℕ) : Type 0 where
+pub record IsLineFront (front : List ℕ) : Type 0 where
   pub line : KeyLine
   pub good : IsLine line
   pub rest : List ℕ
@@ -60,8 +60,8 @@ pub record IsFront (front : List ℕ) : Type 0 where
 -- so many bytes of a text are its longest front with which some line begins
 pub record IsLongest (text : List ℕ) (count : ℕ) : Type 0 where
   pub within : count ≤ length text
-  pub front : IsFront (take count text)
-  pub longest : (more : ℕ) → more ≤ length text → IsFront (take more text) → more ≤ count
+  pub front : IsLineFront (take count text)
+  pub longest : (more : ℕ) → more ≤ length text → IsLineFront (take more text) → more ≤ count
 
 -- a text is no line; it is bad at the column after its longest front, counted from 1
 pub record IsNoLine (text : List ℕ) (column : ℕ) : Type 0 where
@@ -78,29 +78,24 @@ pub record IsLate (before : List KeyLine) (text : List ℕ) (column : ℕ) : Typ
   pub late : ComesAfter before line → ⊥
   pub first : column ≡ 1
 
--- a text without line feeds
-abbrev pub HasNoFeed : List ℕ → Type 0
-HasNoFeed [] = Unit {0}
-HasNoFeed (b ∷ bs) = (b ≢ 10) × HasNoFeed bs
-
 -- a line ends before a line feed, and at the end of the script where anything stands on it
 abbrev pub EndsBefore : List ℕ → List ℕ → Type 0
 EndsBefore line [] = line ≢ []
 EndsBefore line (b ∷ bs) = b ≡ 10
 
 -- Lines are counted from 1. The first bad line is no line, or its tick doesn't rise; the lines before it are those of a script.
-pub record IsFirstBad (text : List ℕ) (line column : ℕ) : Type 0 where
+pub record IsFirstBadAt (text : List ℕ) (line column : ℕ) : Type 0 where
   pub before : List KeyLine
   pub good : AreLines before
   pub bad : List ℕ
   pub plain : HasNoFeed bad
   pub rest : List ℕ
   pub ends : EndsBefore bad rest
-  pub is : text ≡ text_of before ++ (bad ++ rest)
+  pub is : text ≡ script_text before ++ (bad ++ rest)
   pub number : line ≡ length before + 1
   pub why : IsNoLine bad column ⊎ IsLate before bad column
 
 -- why a text isn't read as a script
 abbrev pub IsCause : List ℕ → ScriptFault → Type 0
 IsCause text NoMemory = Unit {0}
-IsCause text (Bad line column) = IsFirstBad text line column
+IsCause text (Bad line column) = IsFirstBadAt text line column

@@ -2,12 +2,12 @@
 
 ghost use Rattle.std.specs.Prelude.{◌≡◌, ℕ, List};
 ghost use Rattle.ds_base.specs.declared.keys.KeyLine.{KeyLine};
-ghost use Rattle.key_scripts.specs.Scripts.{IsFirstBad, IsScript};
+ghost use Rattle.key_scripts.specs.Scripts.{IsFirstBadAt, IsScript};
 
 /// A text is the script of one list of lines at most; a script has no bad line, and any other text has one first bad line and one column
 /// of it at most.
 pub fn script_laws()
     ensures one { (text : List ℕ) (a b : List KeyLine) → IsScript text a → IsScript text b → a ≡ b }
-    ensures good { (text : List ℕ) (lines : List KeyLine) (line column : ℕ) → IsScript text lines → IsFirstBad text line column → ⊥ }
-    ensures first { (text : List ℕ) (l c m d : ℕ) → IsFirstBad text l c → IsFirstBad text m d → (l ≡ m) × (c ≡ d) }
+    ensures good { (text : List ℕ) (lines : List KeyLine) (line column : ℕ) → IsScript text lines → IsFirstBadAt text line column → ⊥ }
+    ensures first { (text : List ℕ) (l c m d : ℕ) → IsFirstBadAt text l c → IsFirstBadAt text m d → (l ≡ m) × (c ≡ d) }
 {}

@@ -1,7 +1,8 @@
 //! A line of a script.
 
 ghost use Rattle.std.specs.Prelude.{◌≡◌, ◌≤◌, ◌+◌, ◌<◌, drop, length, IfErr, IfOk};
-ghost use Rattle.key_scripts.specs.Scripts.{line_text, HasNoFeed, IsLine, IsNoLine};
+ghost use Rattle.ds_base.specs.Texts.{HasNoFeed};
+ghost use Rattle.key_scripts.specs.Scripts.{line_text, IsLine, IsNoLine};
 ghost use Rattle.key_scripts.specs.Reader.Lines.{further, keys_from};
 ghost use Rattle.key_scripts.specs.Reader.Scripts.{IsParted};
 

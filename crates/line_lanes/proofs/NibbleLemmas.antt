@@ -3,7 +3,8 @@ use Rattle.std.specs.Simd.Lanes.{put_chunk}
 use Rattle.std.proofs.lemmas.Nat.{and_mask}
 use Rattle.std.proofs.lemmas.Simd.{put_chunk_whole}
 use Rattle.std.proofs.lemmas.List.{get_or_append_left, get_or-append_right, drop_more, take_all, drop_all, append-nil, take_at, drop_at, length-take, take-map, drop-map}
-use Rattle.line_lanes.specs.Nibbles.{nibbles, woven}
+use Rattle.line_lanes.specs.Nibbles.{nibbles}
+use Rattle.line_lanes.specs.Lanes.{woven}
 
 pub map-low_nibble : (bs : List ℕ) → map (λ b. bit_and b 15) bs ≡ map (λ b. b % 16) bs
 map-low_nibble [] = refl

@@ -2,6 +2,8 @@ use Rattle.std.specs.Prelude.{◌≡◌, ◌≤◌, ℕ, List, length, replicate
 use Rattle.line_lanes.specs.declared.seconds.Second.{Second}
 use Rattle.line_lanes.specs.declared.seconds.Second.TheVariants.{Row, Colour}
 
+-- How the kernels take their second targets. No public clause speaks of it.
+
 -- the second target's first n pixels
 abbrev pub pixels_of : Second → ℕ → List ℕ
 pixels_of (Row row) n = row.now

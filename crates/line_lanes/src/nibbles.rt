@@ -1,6 +1,7 @@
 //! Packed nibbles.
 ghost use Rattle.std.specs.Prelude.{◌≡◌, ℕ, ◌+◌, ◌*◌, ◌/◌, ◌%◌, length, map, slice_index, take, drop};
-ghost use Rattle.line_lanes.specs.Nibbles.{nibbles, woven};
+ghost use Rattle.line_lanes.specs.Nibbles.{nibbles};
+ghost use Rattle.line_lanes.specs.Lanes.{woven};
 
 use std::simd::prelude::*;
 

@@ -30,7 +30,7 @@ pub const NO_FAILS: Fails = Fails {
 
 /// What the console tells that a call left.
 #[derive(Clone, Copy)]
-pub struct Told {
+pub struct ConsoleTold {
     /// The limit of its turns.
     pub limit: u64,
     /// How many steps it took.
@@ -57,7 +57,7 @@ pub struct Came {
     /// Whether that is all that was put.
     pub is_told: bool,
     /// What the console tells that it left, where it left one.
-    pub told: Option<Told>,
+    pub told: Option<ConsoleTold>,
 }
 
 impl Came {
@@ -118,9 +118,9 @@ fn owned(alloc: Global, words: &[&str]) -> Result<Vec<String>, AllocError> {
 }
 
 /// What a console tells.
-fn told_by(console: &Console) -> Told {
+fn told_by(console: &Console) -> ConsoleTold {
     let due = console.due();
-    Told {
+    ConsoleTold {
         limit: console.limit().0,
         counts: console.counts(),
         tick: due.tick.0,
@@ -183,13 +183,13 @@ pub fn call_over(
 
 /// What turns of a console came to: the answers, the console's limit after each turn, and what it tells at the end.
 #[derive(Drop)]
-pub struct Turns {
+pub struct TurnsTaken {
     /// The answers.
     pub answers: Vec<Turned>,
     /// The limits.
     pub limits: Vec<u64>,
     /// What it tells after the last.
-    pub told: Told,
+    pub told: ConsoleTold,
     /// The word of main memory that was asked for, after the last.
     pub word: u32,
 }
@@ -201,7 +201,7 @@ pub fn turned(
     bytes: Vec<u8>,
     limits: &[u64],
     at: usize,
-) -> Result<Option<Turns>, AllocError> {
+) -> Result<Option<TurnsTaken>, AllocError> {
     let Ok(cart) = Cart::read(bytes) else {
         return Ok(None);
     };
@@ -212,7 +212,7 @@ pub fn turned(
         answers.push(console.turn(Tick((*limit).min(MOST_TICKS))))?;
         raised.push(console.limit().0)?;
     }
-    Ok(Some(Turns {
+    Ok(Some(TurnsTaken {
         answers,
         limits: raised,
         told: told_by(&console),

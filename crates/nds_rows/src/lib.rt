@@ -7,7 +7,7 @@ mod carts;
 mod records;
 
 pub use calls::{
-    Came, Fails, NO_FAILS, Told, Turns, call, call_over, file, file_and_keys, turned,
+    Came, ConsoleTold, Fails, NO_FAILS, TurnsTaken, call, call_over, file, file_and_keys, turned,
     turns_to_a_frame,
 };
 pub use carts::{

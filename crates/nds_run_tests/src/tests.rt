@@ -1,6 +1,6 @@
 //! Runs of worked cartridges.
 
-use nds_rows::{Came, Told};
+use nds_rows::{Came, ConsoleTold};
 use std::process::Abort;
 
 mod boots;
@@ -12,7 +12,7 @@ mod records;
 mod stops;
 
 /// What the console tells that a call left.
-fn told(rt: &impl Abort, came: &Came) -> Told {
+fn told(rt: &impl Abort, came: &Came) -> ConsoleTold {
     let Some(told) = came.told else {
         panic!(rt; "no console is left");
     };

@@ -6,7 +6,7 @@ use Rattle.ds_machine.specs.Reference.{Shown, reference}
 use Rattle.run_ahead.specs.Consoles.{ConsoleState}
 use Rattle.run_ahead.specs.Turns.{GoesOn, Turns, HasTurned, run_to, none, turn}
 use Rattle.run_ahead.specs.declared.turns.Turned.{Turned}
-use Rattle.nds_top.specs.Plays.{ending, RunsTo}
+use Rattle.nds_top.specs.Inside.{ending, RunsTo}
 
 -- one stretch and then another
 pub goes_twice : (until : ℕ) (a b c : MachineState) (xs ys : List Shown) → GoesOn until a b xs → GoesOn until b c ys → GoesOn until a c (xs ++ ys)

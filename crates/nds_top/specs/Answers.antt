@@ -7,14 +7,14 @@ use Rattle.ds_io.specs.Faults.{Rose}
 use Rattle.ds_io.specs.Shelves.{Named, Told, files_of}
 use Rattle.ds_io.specs.Sinks.{Appended, AppendedFront}
 use Rattle.ds_runs.specs.Runs.{At, Stopped}
-use Rattle.ds_machine.specs.Booted.{booted}
+use Rattle.ds_machine.specs.Booted.{machine_booted}
 use Rattle.ds_machine.specs.States.{MachineState}
 use Rattle.run_ahead.specs.Consoles.{ConsoleState}
 use Rattle.run_ahead.specs.Turns.{IsAfterItsTurns}
 use Rattle.asm_text.specs.declared.sets.Set.{Set}
 use Rattle.asm_files.specs.Listings.{listing, IsListing, IsFirstBad}
 use Rattle.nds_top.specs.Words.{Asked, AskRun, AskList, AskAsm, Asks, AskNothing}
-use Rattle.nds_top.specs.Loads.{IsCart, IsRead, AreKeys, Refuses, RefusesCart, RefusesRun, most_text}
+use Rattle.nds_top.specs.Loads.{IsCart, IsFileRead, AreKeys, Refuses, RefusesCart, RefusesRun, most_text}
 use Rattle.nds_top.specs.Notes.{note_of}
 use Rattle.nds_top.specs.Plays.{Wrote, WroteFront}
 use Rattle.nds_top.specs.declared.commands.Keep.{Keep}
@@ -59,7 +59,7 @@ IsUntouched c = (c.new ≡ c.old) × (c.seat ≡ None)
 
 -- this holds of the machine at boot, from the cartridge's file with the key script's lines
 abbrev pub FromBoot : {S : Type 0} → Call S → List ℕ → Option (List ℕ) → (MachineState → Type 0) → Type 0
-FromBoot c cart keys holds = (file : List ℕ) × (lines : List KeyLine) × IsCart c.files cart file × AreKeys c.files keys lines × holds (booted file lines)
+FromBoot c cart keys holds = (file : List ℕ) × (lines : List KeyLine) × IsCart c.files cart file × AreKeys c.files keys lines × holds (machine_booted file lines)
 
 -- a console that is switched on, with its machine at boot
 abbrev pub switched_on : MachineState → ConsoleState
@@ -101,13 +101,13 @@ ListGives c name proc set other = IsUntouched c × RefusesCart c.files (Rose c.s
 -- when each answer to `asm` comes
 abbrev pub AsmGives : {S : Type 0} → Call S → List ℕ → Status → Type 0
 -- the text is a listing, and the whole image was written whose listing it is
-AsmGives c name Done = (text : List ℕ) × (image : List ℕ) × IsRead c.files name most_text text × IsListing text image
+AsmGives c name Done = (text : List ℕ) × (image : List ℕ) × IsFileRead c.files name most_text text × IsListing text image
     × Appended c.tells c.taken c.old c.new image × (c.seat ≡ None)
 -- a front of it was written
-AsmGives c name WriteFault = Rose c.out_before c.out_after × ((text : List ℕ) × (image : List ℕ) × IsRead c.files name most_text text × IsListing text image
+AsmGives c name WriteFault = Rose c.out_before c.out_after × ((text : List ℕ) × (image : List ℕ) × IsFileRead c.files name most_text text × IsListing text image
     × AppendedFront c.tells c.taken c.old c.new image) × (c.seat ≡ None)
 -- the text is no listing, and this is its first bad line
-AsmGives c name (BadText line) = IsUntouched c × ((text : List ℕ) × IsRead c.files name most_text text × IsFirstBad text line)
+AsmGives c name (BadText line) = IsUntouched c × ((text : List ℕ) × IsFileRead c.files name most_text text × IsFirstBad text line)
 AsmGives c name other = IsUntouched c × Refuses c.files (Rose c.shelf_before c.shelf_after) name most_text other
 
 -- when each answer to what is asked for comes, and of which file it speaks

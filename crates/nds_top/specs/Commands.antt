@@ -3,6 +3,8 @@ use Rattle.nds_top.specs.Words.{Asked, AskRun, AskList, AskAsm}
 use Rattle.nds_top.specs.declared.commands.Command.{Command}
 use Rattle.nds_top.specs.declared.commands.Command.TheVariants.{Run, List, Asm}
 
+-- What the code's commands stand for. No public clause speaks of it.
+
 -- what a command asks for
 abbrev pub asked_by : Command → Asked
 asked_by (Run files ticks keep) = AskRun files.cart.now (option_map (λ name. name.now) files.keys) ticks keep

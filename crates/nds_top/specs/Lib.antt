@@ -1,9 +1,10 @@
-pub mod Words
+pub mod Answers
 pub mod Commands
-pub mod Statuses
-pub mod Notes
+pub mod Inside
 pub mod Loads
+pub mod Notes
+pub mod Plays
 pub mod Puts
 pub mod Records
-pub mod Plays
-pub mod Answers
+pub mod Statuses
+pub mod Words

@@ -2,7 +2,7 @@ use Rattle.std.specs.Prelude.{ℕ, ◌≡◌, ◌≤◌, ◌<◌, List, [], leng
 use Rattle.ds_base.specs.declared.keys.KeyLine.{KeyLine}
 use Rattle.ds_header.specs.Rules.{IsAccepted, fault_of}
 use Rattle.ds_io.specs.Shelves.{Named, file_of}
-use Rattle.key_scripts.specs.Scripts.{IsScript, IsFirstBad}
+use Rattle.key_scripts.specs.Scripts.{IsScript, IsFirstBadAt}
 use Rattle.nds_top.specs.declared.statuses.Status.{Status}
 use Rattle.nds_top.specs.declared.statuses.Status.TheVariants.{NoFile, ReadFault, TooLong, BadHeader, BadScript, NoMemory}
 
@@ -21,7 +21,7 @@ abbrev pub IsLong : Option (List Named) → List ℕ → ℕ → Type 0
 IsLong files name limit = IfSome files (λ fs. (bytes : List ℕ) × (file_of fs name ≡ Some bytes) × (limit < length bytes))
 
 -- the file of a name is found, read and not too long, and its bytes are these
-pub record IsRead (files : Option (List Named)) (name : List ℕ) (limit : ℕ) (bytes : List ℕ) : Type 0 where
+pub record IsFileRead (files : Option (List Named)) (name : List ℕ) (limit : ℕ) (bytes : List ℕ) : Type 0 where
   pub read : IsFile files name bytes
   pub short : length bytes ≤ limit
 
@@ -45,22 +45,22 @@ most_text = 134217728
 
 -- the words' cartridge is read and accepted, and its bytes are these
 pub record IsCart (files : Option (List Named)) (name file : List ℕ) : Type 0 where
-  pub whole : IsRead files name most_bytes file
+  pub whole : IsFileRead files name most_bytes file
   pub accepted : IsAccepted file
 
 -- when each refusal of a cartridge comes
 abbrev pub RefusesCart : Option (List Named) → Type 0 → List ℕ → Status → Type 0
-RefusesCart files rose name (BadHeader fault) = (file : List ℕ) × IsRead files name most_bytes file × (fault_of file ≡ Some fault)
+RefusesCart files rose name (BadHeader fault) = (file : List ℕ) × IsFileRead files name most_bytes file × (fault_of file ≡ Some fault)
 RefusesCart files rose name other = Refuses files rose name most_bytes other
 
 -- the words' key script is read, and its lines are these; no script has none
 abbrev pub AreKeys : Option (List Named) → Option (List ℕ) → List KeyLine → Type 0
 AreKeys files None lines = lines ≡ []
-AreKeys files (Some name) lines = (text : List ℕ) × IsRead files name most_script text × IsScript text lines
+AreKeys files (Some name) lines = (text : List ℕ) × IsFileRead files name most_script text × IsScript text lines
 
 -- when each refusal of a key script comes
 abbrev pub RefusesScript : Option (List Named) → Type 0 → List ℕ → Status → Type 0
-RefusesScript files rose name (BadScript line column) = (text : List ℕ) × IsRead files name most_script text × IsFirstBad text line column
+RefusesScript files rose name (BadScript line column) = (text : List ℕ) × IsFileRead files name most_script text × IsFirstBadAt text line column
 RefusesScript files rose name other = Refuses files rose name most_script other
 
 -- when each refusal of a run's files comes, and of which file it speaks: of the cartridge; or, where that is accepted, of the key script

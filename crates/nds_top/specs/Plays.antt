@@ -1,4 +1,4 @@
-use Rattle.std.specs.Prelude.{ℕ, ◌≡◌, Bool, List, Option, Some, None, max}
+use Rattle.std.specs.Prelude.{ℕ, ◌≡◌, Bool, List, Some, None, max}
 use Rattle.ds_base.specs.declared.left_out.LeftOut.{LeftOut}
 use Rattle.ds_io.specs.Faults.{Rose}
 use Rattle.ds_io.specs.Sinks.{Appended, AppendedFront}
@@ -26,19 +26,6 @@ pub record WroteFront {S : Type 0} (tells : S → Bool) (taken : S → List ℕ 
   pub outs : List Shown
   pub ran : Runs reference until end start outs
   pub written : AppendedFront tells taken old new (output_of until keep end outs)
-
--- how a run ends, by the stop that it came to and its last state
-abbrev pub ending : Option LeftOut → MachineState → Ending MachineState LeftOut
-ending None s = At s
-ending (Some left) s = Stopped left
-
--- a console was turned to a tick or to a stop: it is what the reference run comes to
-pub record RunsTo (until : ℕ) (old : ConsoleState) (stop : Option LeftOut) (new : ConsoleState) : Type 0 where
-  pub outs : List Shown
-  pub ran : Runs reference until (ending stop new.machine) old.machine outs
-  pub stopped : new.stopped ≡ stop
-  pub limit : new.limit ≡ max old.limit until
-  pub turned : HasTurned until old new
 
 -- by the answer: the whole output of the run, or a front of it where the sink's count of faults rose; and the console is as after
 -- turns with that limit

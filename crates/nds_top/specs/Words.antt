@@ -13,9 +13,9 @@ use Rattle.nds_top.specs.declared.commands.Keep.TheVariants.{Nothing}
 -- what may be asked for: to run a cartridge, with the keys of a script's file or with none, to a tick, and what to write; to list the
 -- image of one of a cartridge's processors in an instruction set; to assemble a listing's file
 pub data Asked : Type 0 where
-  AskRun : List ℕ → Option (List ℕ) → ℕ → Keep → Asked
-  AskList : List ℕ → Proc → Set → Asked
-  AskAsm : List ℕ → Asked
+  AskRun : (cart : List ℕ) → (keys : Option (List ℕ)) → (ticks : ℕ) → (keep : Keep) → Asked
+  AskList : (cart : List ℕ) → (proc : Proc) → (set : Set) → Asked
+  AskAsm : (file : List ℕ) → Asked
 
 -- the word for a run's keys: the script's file, or none
 abbrev pub keys_word : Option (List ℕ) → List ℕ
@@ -33,14 +33,10 @@ image_word Nine Thumb = codes "9t"
 image_word Seven Thumb = codes "7t"
 
 -- the words that ask for it: the command, and each of its words
-abbrev pub words_of : Asked → List (List ℕ)
-words_of (AskRun cart keys ticks keep) = codes "run" ∷ cart ∷ keys_word keys ∷ decimal ticks ∷ keep_word keep ∷ []
-words_of (AskList cart proc set) = codes "list" ∷ cart ∷ image_word proc set ∷ []
-words_of (AskAsm file) = codes "asm" ∷ file ∷ []
-
--- a word begins as numbers do
-abbrev pub BeginsNumber : List ℕ → Type 0
-BeginsNumber word = (0 < length word) × (48 ≤ slice_index_or word 0 0) × (slice_index_or word 0 0 ≡ 48 → length word ≤ 1)
+abbrev pub asked_words : Asked → List (List ℕ)
+asked_words (AskRun cart keys ticks keep) = codes "run" ∷ cart ∷ keys_word keys ∷ decimal ticks ∷ keep_word keep ∷ []
+asked_words (AskList cart proc set) = codes "list" ∷ cart ∷ image_word proc set ∷ []
+asked_words (AskAsm file) = codes "asm" ∷ file ∷ []
 
 -- a word that may name a file: it isn't empty and doesn't begin with '-'
 abbrev pub IsName : List ℕ → Type 0
@@ -59,7 +55,7 @@ IsAllowed (AskAsm file) = IsName file
 
 -- the words ask for this
 abbrev pub Asks : List (List ℕ) → Asked → Type 0
-Asks words asked = (words ≡ words_of asked) × IsAllowed asked
+Asks words asked = (words ≡ asked_words asked) × IsAllowed asked
 
 -- they ask for nothing
 abbrev pub AskNothing : List (List ℕ) → Type 0

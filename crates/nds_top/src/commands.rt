@@ -3,7 +3,8 @@
 ghost use Rattle.std.specs.Prelude.{◌≡◌, ◌≢◌, ◌≤◌, ◌<◌, ◌↔◌, ℕ, IfSome, IfNone, IsTrue, codes, [], ◌∷◌, map, option_map};
 ghost use Rattle.std.specs.String.{string_bytes};
 ghost use Rattle.std.specs.Fmt.{decimal};
-ghost use Rattle.nds_top.specs.Words.{IsName, IsScriptName, BeginsNumber, Asks, AskNothing, keep_word, keys_word, image_word};
+ghost use Rattle.nds_top.specs.Words.{IsName, IsScriptName, Asks, AskNothing, keep_word, keys_word, image_word};
+ghost use Rattle.nds_top.specs.Inside.{BeginsNumber};
 ghost use Rattle.nds_top.specs.Commands.{asked_by};
 
 use asm_text::Set;

@@ -3,7 +3,7 @@
 ghost use Rattle.std.specs.Prelude.{◌≡◌, ◌≤◌, ◌<◌, ◌^◌, IfOk, IfErr, Some, option_map};
 ghost use Rattle.ds_io.specs.Faults.{Rose};
 ghost use Rattle.ds_io.specs.Shelves.{files_of};
-ghost use Rattle.nds_top.specs.Loads.{IsCart, IsRead, AreKeys, Refuses, RefusesCart, RefusesRun, RefusesScript};
+ghost use Rattle.nds_top.specs.Loads.{IsCart, IsFileRead, AreKeys, Refuses, RefusesCart, RefusesRun, RefusesScript};
 
 use crate::commands::RunFiles;
 use crate::statuses::{Ended, Status};
@@ -28,7 +28,7 @@ pub(crate) fn load<F: Shelf>(
     limit: usize,
 ) -> Result<Vec<u8>, Status>
     requires { limit < 2 ^ 62 }
-    ensures ok { IfOk result (λ v. IsRead (files_of (F.told shelf.old)) name.now limit v.items) }
+    ensures ok { IfOk result (λ v. IsFileRead (files_of (F.told shelf.old)) name.now limit v.items) }
     ensures err { IfErr result (Refuses (files_of (F.told shelf.old)) (Rose (F.faults shelf.old) (F.faults shelf.new)) name.now limit) }
     ensures later { F.faults shelf.old ≤ F.faults shelf.new }
     ensures files { files_of (F.told shelf.new) ≡ files_of (F.told shelf.old) }

@@ -1,7 +1,8 @@
 //! Playing a console: a run, and what it writes.
 
 ghost use Rattle.std.specs.Prelude.{◌≡◌, ◌≤◌, ◌^◌, None};
-ghost use Rattle.nds_top.specs.Plays.{Plays, RunsTo, ending};
+ghost use Rattle.nds_top.specs.Plays.{Plays};
+ghost use Rattle.nds_top.specs.Inside.{RunsTo, ending};
 ghost use Rattle.nds_top.specs.Puts.{Puts};
 ghost use Rattle.nds_top.specs.Records.{last_records};
 

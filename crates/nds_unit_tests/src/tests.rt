@@ -1,6 +1,6 @@
 //! Runs of worked cartridges, by unit.
 
-use nds_rows::{Came, END_AT, Told, end_record, run_words};
+use nds_rows::{Came, ConsoleTold, END_AT, end_record, run_words};
 use std::alloc::{AllocError, Global};
 use std::process::Abort;
 
@@ -11,7 +11,7 @@ mod maths;
 mod timers;
 
 /// What the console tells that a call left.
-fn told(rt: &impl Abort, came: &Came) -> Told {
+fn told(rt: &impl Abort, came: &Came) -> ConsoleTold {
     let Some(told) = came.told else {
         panic!(rt; "no console is left");
     };
@@ -30,7 +30,7 @@ fn run_to(
     nine: &[u32],
     seven: &[u32],
     ticks: &str,
-) -> Result<(Came, Told), AllocError> {
+) -> Result<(Came, ConsoleTold), AllocError> {
     let came = run_words(alloc, nine, seven, ticks)?;
     assert!(rt; came.note.is_empty());
     let seen = told(rt, &came);

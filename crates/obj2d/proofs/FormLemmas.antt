@@ -7,8 +7,8 @@ use Rattle.obj2d.specs.declared.objects.Display.{Display}
 use Rattle.obj2d.specs.declared.objects.Object.{Object}
 use Rattle.obj2d.specs.Attributes.{object_at, turn_at, group, width, height, box_width, is_affine, flips_across, flips_down}
 use Rattle.obj2d.specs.Places.{across, down, covers, mirrored, affine_across, affine_down}
-use Rattle.obj2d.specs.ObjectPixels.{object_index, object_colour, place_pixel, affine_pixel, flat_pixel, box_pixel, pixel_of}
-use Rattle.obj2d.specs.ObjectLayer.{Seen, IsLayerPixel, IsPixel, seen_at}
+use Rattle.obj2d.specs.ObjectPixels.{object_index, object_colour, place_pixel, turned_pixel, flat_pixel, box_pixel, pixel_of}
+use Rattle.obj2d.specs.ObjectLayer.{SeenObject, IsLayerPixel, IsPixel, seen_at}
 
 -- A pixel has bit 15 set, or is 0.
 
@@ -34,9 +34,9 @@ place_form v palette display o (Some x) None = zero_form
 place_form v palette display o (Some x) (Some y) = indexed_form (object_colour v palette display o) (object_index v display o x y)
 
 box_form : (v : Banks) (palette oam : List ℕ) (display : Display) (o : Object) (x y : ℕ) → HasForm (box_pixel v palette oam display o x y)
-unfolding box_pixel affine_pixel
+unfolding box_pixel turned_pixel
 box_form v palette oam display o x y =
-    choice_form (is_affine o) (affine_pixel v palette display o (turn_at oam (group o)) x y) (flat_pixel v palette display o x y)
+    choice_form (is_affine o) (turned_pixel v palette display o (turn_at oam (group o)) x y) (flat_pixel v palette display o x y)
     (place_form v palette display o (affine_across o (turn_at oam (group o)) x y) (affine_down o (turn_at oam (group o)) x y))
     (indexed_form (object_colour v palette display o) (object_index v display o (mirrored (flips_across o) (width o) x) (mirrored (flips_down o) (height o) y)))
 
@@ -52,7 +52,7 @@ pub seen_small : (v : Banks) (palette oam : List ℕ) (display : Display) (line 
 unfolding seen_at
 seen_small v palette oam display line x n = omega arith
 
-pub layer_form : (seen : ℕ → Seen) (count : ℕ) (p : ObjectPixel) → ((n : ℕ) → (seen n).colour ≢ 0 → 2 ^ 15 ≤ (seen n).colour) →
+pub layer_form : (seen : ℕ → SeenObject) (count : ℕ) (p : ObjectPixel) → ((n : ℕ) → (seen n).colour ≢ 0 → 2 ^ 15 ≤ (seen n).colour) →
     ((n : ℕ) → (seen n).priority < 4) → IsLayerPixel seen count p → IsPixel p
 layer_form seen count p forms smalls h = elim h.top [
   | inl t ↦

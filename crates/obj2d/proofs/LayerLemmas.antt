@@ -1,26 +1,26 @@
 use Rattle.std.proofs.Common.{ℕ, zero, suc, Bool, true, ◌≡◌, ◌≢◌, ◌<◌, ◌≤◌, ◌+◌, ◌⊎◌, ◌==◌, inl, inr, refl, sym, ◌∙◌, subst, arith}
 use Rattle.std.proofs.lemmas.Bool.{cases_eq, cases_lt, false≢true}
 use Rattle.obj2d.specs.declared.layers.ObjectPixel.{ObjectPixel}
-use Rattle.obj2d.specs.ObjectLayer.{Seen, IsBefore, IsFirst, IsOf, IsTransparent, IsNone, IsInWindow, IsLayerPixel, with_object, pixel_below}
+use Rattle.obj2d.specs.ObjectLayer.{SeenObject, IsBefore, IsFirst, IsOf, IsTransparent, IsNone, IsInWindow, IsLayerPixel, with_object, pixel_below}
 
 -- ---- what one more object leaves
 
-pub unseen : (s : Seen) (p : ObjectPixel) → s.colour ≡ 0 → with_object s p ≡ p
+pub unseen : (s : SeenObject) (p : ObjectPixel) → s.colour ≡ 0 → with_object s p ≡ p
 unseen s p h = grind (arith, h)
 
-marked : (s : Seen) (p : ObjectPixel) → s.colour ≢ 0 → s.mode ≡ 2 → with_object s p ≡ record p { window = true }
+marked : (s : SeenObject) (p : ObjectPixel) → s.colour ≢ 0 → s.mode ≡ 2 → with_object s p ≡ record p { window = true }
 marked s p opaque h = grind (arith, opaque, h)
 
-abbrev shown_over : Seen → ObjectPixel → ObjectPixel
+abbrev shown_over : SeenObject → ObjectPixel → ObjectPixel
 shown_over s p = record p { colour = s.colour; priority = s.priority; blended = s.mode == 1 }
 
-placed_first : (s : Seen) (p : ObjectPixel) → s.colour ≢ 0 → s.mode ≢ 2 → p.colour ≡ 0 → with_object s p ≡ shown_over s p
+placed_first : (s : SeenObject) (p : ObjectPixel) → s.colour ≢ 0 → s.mode ≢ 2 → p.colour ≡ 0 → with_object s p ≡ shown_over s p
 placed_first s p opaque shown h = grind (arith, opaque, shown, h)
 
-placed_before : (s : Seen) (p : ObjectPixel) → s.colour ≢ 0 → s.mode ≢ 2 → s.priority < p.priority → with_object s p ≡ shown_over s p
+placed_before : (s : SeenObject) (p : ObjectPixel) → s.colour ≢ 0 → s.mode ≢ 2 → s.priority < p.priority → with_object s p ≡ shown_over s p
 placed_before s p opaque shown h = grind (arith, opaque, shown, h)
 
-placed_behind : (s : Seen) (p : ObjectPixel) → s.colour ≢ 0 → s.mode ≢ 2 → p.colour ≢ 0 → p.priority ≤ s.priority → with_object s p ≡ p
+placed_behind : (s : SeenObject) (p : ObjectPixel) → s.colour ≢ 0 → s.mode ≢ 2 → p.colour ≢ 0 → p.priority ≤ s.priority → with_object s p ≡ p
 placed_behind s p opaque shown full h = grind (arith, opaque, shown, full, h)
 
 -- ---- the first object of one more
@@ -31,7 +31,7 @@ below_suc m n h = elim (cases_eq m n) [
   | inr other ↦ inl (omega arith)
 ]
 
-stays_first : (seen : ℕ → Seen) (n m : ℕ) → IsFirst seen n m → ((seen n).colour ≢ 0 → (seen n).mode ≢ 2 → IsBefore seen m n) → IsFirst seen (suc n) m
+stays_first : (seen : ℕ → SeenObject) (n m : ℕ) → IsFirst seen n m → ((seen n).colour ≢ 0 → (seen n).mode ≢ 2 → IsBefore seen m n) → IsFirst seen (suc n) m
 stays_first seen n m h fresh = record {
   known = (let k = h.known in omega arith);
   opaque = h.opaque;
@@ -45,7 +45,7 @@ stays_first seen n m h fresh = record {
   ];
 }
 
-becomes_first : (seen : ℕ → Seen) (n : ℕ) → (seen n).colour ≢ 0 → (seen n).mode ≢ 2 →
+becomes_first : (seen : ℕ → SeenObject) (n : ℕ) → (seen n).colour ≢ 0 → (seen n).mode ≢ 2 →
     ((k : ℕ) → k < n → (seen k).colour ≢ 0 → (seen k).mode ≢ 2 → IsBefore seen n k) → IsFirst seen (suc n) n
 becomes_first seen n opaque_n shown_n before = record {
   known = omega arith;
@@ -60,7 +60,7 @@ becomes_first seen n opaque_n shown_n before = record {
   ];
 }
 
-none_more : (seen : ℕ → Seen) (n : ℕ) → IsNone seen n → ((seen n).colour ≢ 0 → (seen n).mode ≡ 2) → IsNone seen (suc n)
+none_more : (seen : ℕ → SeenObject) (n : ℕ) → IsNone seen n → ((seen n).colour ≢ 0 → (seen n).mode ≡ 2) → IsNone seen (suc n)
 none_more seen n h fresh k lt opaque = elim (below_suc k n lt) [
   | inl below ↦ h k below opaque
   | inr same ↦
@@ -69,7 +69,7 @@ none_more seen n h fresh k lt opaque = elim (below_suc k n lt) [
       there opaque)
 ]
 
-same_window : (seen : ℕ → Seen) (n : ℕ) (w : Bool) → (w ≡ true → IsInWindow seen n) × (IsInWindow seen n → w ≡ true) →
+same_window : (seen : ℕ → SeenObject) (n : ℕ) (w : Bool) → (w ≡ true → IsInWindow seen n) × (IsInWindow seen n → w ≡ true) →
     ((seen n).colour ≢ 0 → (seen n).mode ≢ 2) → (w ≡ true → IsInWindow seen (suc n)) × (IsInWindow seen (suc n) → w ≡ true)
 same_window seen n w h fresh = (
   λ e. (let i = h.0 e in let k = i.1 in (i.0, omega arith, i.2, i.3)),
@@ -85,7 +85,7 @@ same_window seen n w h fresh = (
 -- ---- the pixel with one more object
 
 -- an object that isn't there, or goes behind, changes nothing
-unchanged : (seen : ℕ → Seen) (n : ℕ) (p : ObjectPixel) → IsLayerPixel seen n p →
+unchanged : (seen : ℕ → SeenObject) (n : ℕ) (p : ObjectPixel) → IsLayerPixel seen n p →
     ((m : ℕ) → IsFirst seen n m → IsOf (seen m) p → (seen n).colour ≢ 0 → (seen n).mode ≢ 2 → IsBefore seen m n) →
     (IsTransparent p → (seen n).colour ≢ 0 → (seen n).mode ≡ 2) → ((seen n).colour ≢ 0 → (seen n).mode ≢ 2) → IsLayerPixel seen (suc n) p
 unchanged seen n p h before empty other = record {
@@ -97,7 +97,7 @@ unchanged seen n p h before empty other = record {
 }
 
 -- an object of mode 2 changes the window alone
-in_window : (seen : ℕ → Seen) (n : ℕ) (p : ObjectPixel) → IsLayerPixel seen n p → (seen n).colour ≢ 0 → (seen n).mode ≡ 2 →
+in_window : (seen : ℕ → SeenObject) (n : ℕ) (p : ObjectPixel) → IsLayerPixel seen n p → (seen n).colour ≢ 0 → (seen n).mode ≡ 2 →
     IsLayerPixel seen (suc n) (record p { window = true })
 in_window seen n p h opaque_n window_n = record {
   top = elim h.top [
@@ -110,7 +110,7 @@ in_window seen n p h opaque_n window_n = record {
 }
 
 -- an object that goes before all others is shown
-on_top : (seen : ℕ → Seen) (n : ℕ) (p : ObjectPixel) → IsLayerPixel seen n p → (seen n).colour ≢ 0 → (seen n).mode ≢ 2 →
+on_top : (seen : ℕ → SeenObject) (n : ℕ) (p : ObjectPixel) → IsLayerPixel seen n p → (seen n).colour ≢ 0 → (seen n).mode ≢ 2 →
     ((k : ℕ) → k < n → (seen k).colour ≢ 0 → (seen k).mode ≢ 2 → IsBefore seen n k) → IsLayerPixel seen (suc n) (shown_over (seen n) p)
 on_top seen n p h opaque_n shown_n before = record {
   top = inl (n, becomes_first seen n opaque_n shown_n before, record { colour = refl; priority = refl; blended = refl });
@@ -118,7 +118,7 @@ on_top seen n p h opaque_n shown_n before = record {
 }
 
 -- where the pixel was transparent, no object was there
-before_none : (seen : ℕ → Seen) (n : ℕ) (p : ObjectPixel) → IsLayerPixel seen n p → p.colour ≡ 0 →
+before_none : (seen : ℕ → SeenObject) (n : ℕ) (p : ObjectPixel) → IsLayerPixel seen n p → p.colour ≡ 0 →
     (k : ℕ) → k < n → (seen k).colour ≢ 0 → (seen k).mode ≢ 2 → IsBefore seen n k
 before_none seen n p h empty k lt opaque shown = elim h.top [
   | inl t ↦ absurd (t.1.opaque (sym t.2.colour ∙ empty))
@@ -126,7 +126,7 @@ before_none seen n p h empty k lt opaque shown = elim h.top [
 ]
 
 -- with a lower number of priority than the pixel's, an object goes before all others
-before_lower : (seen : ℕ → Seen) (n : ℕ) (p : ObjectPixel) → IsLayerPixel seen n p → (seen n).priority < p.priority →
+before_lower : (seen : ℕ → SeenObject) (n : ℕ) (p : ObjectPixel) → IsLayerPixel seen n p → (seen n).priority < p.priority →
     (k : ℕ) → k < n → (seen k).colour ≢ 0 → (seen k).mode ≢ 2 → IsBefore seen n k
 before_lower seen n p h lower k lt opaque shown = elim h.top [
   | inl t ↦
@@ -139,7 +139,7 @@ before_lower seen n p h lower k lt opaque shown = elim h.top [
 ]
 
 -- an object with no lower number of priority goes behind the one that is shown
-behind : (seen : ℕ → Seen) (n m : ℕ) (p : ObjectPixel) → IsFirst seen n m → IsOf (seen m) p → p.priority ≤ (seen n).priority → IsBefore seen m n
+behind : (seen : ℕ → SeenObject) (n m : ℕ) (p : ObjectPixel) → IsFirst seen n m → IsOf (seen m) p → p.priority ≤ (seen n).priority → IsBefore seen m n
 behind seen n m p first of le =
     let same : p.priority ≡ (seen m).priority = of.priority in
     let known = first.known in
@@ -148,7 +148,7 @@ behind seen n m p first of le =
       | inr more ↦ inr (omega (arith, same, le, more), omega arith)
     ]
 
-one_more : (seen : ℕ → Seen) (n : ℕ) (p : ObjectPixel) → IsLayerPixel seen n p → IsLayerPixel seen (suc n) (with_object (seen n) p)
+one_more : (seen : ℕ → SeenObject) (n : ℕ) (p : ObjectPixel) → IsLayerPixel seen n p → IsLayerPixel seen (suc n) (with_object (seen n) p)
 one_more seen n p h =
     let P : ObjectPixel → Type 0 = λ q. IsLayerPixel seen (suc n) q in
     elim (cases_eq (seen n).colour 0) [
@@ -173,7 +173,7 @@ one_more seen n p h =
     ]
 
 -- the pixel by all objects below a number is theirs
-pub pixel_below_is : (seen : ℕ → Seen) (count : ℕ) → IsLayerPixel seen count (pixel_below seen count)
+pub pixel_below_is : (seen : ℕ → SeenObject) (count : ℕ) → IsLayerPixel seen count (pixel_below seen count)
 unfolding pixel_below
 pixel_below_is seen zero = record {
   top = inr (λ n lt opaque. absurd (omega arith), record { colour = refl; priority = refl; blended = refl });
@@ -182,11 +182,11 @@ pixel_below_is seen zero = record {
 pixel_below_is seen (suc n) = one_more seen n (pixel_below seen n) (pixel_below_is seen n)
 
 -- one more, as a loop has it
-pub pixel_below_more : (seen : ℕ → Seen) (n : ℕ) → pixel_below seen (n + 1) ≡ with_object (seen n) (pixel_below seen n)
+pub pixel_below_more : (seen : ℕ → SeenObject) (n : ℕ) → pixel_below seen (n + 1) ≡ with_object (seen n) (pixel_below seen n)
 unfolding pixel_below
 pixel_below_more seen n = (let e : n + 1 ≡ suc n = omega arith in rw e refl)
 
-pub stands_at : (seen : ℕ → Seen) (n : ℕ) (p : ObjectPixel) → p ≡ pixel_below seen n → n ≡ 128 → IsLayerPixel seen 128 p
+pub stands_at : (seen : ℕ → SeenObject) (n : ℕ) (p : ObjectPixel) → p ≡ pixel_below seen n → n ≡ 128 → IsLayerPixel seen 128 p
 stands_at seen n p e all =
     let P : ℕ → Type 0 = λ (k : ℕ). p ≡ pixel_below seen k in
     let Q : ObjectPixel → Type 0 = λ (q : ObjectPixel). IsLayerPixel seen 128 q in

@@ -8,11 +8,11 @@ use Rattle.tiles2d.proofs.NibbleLemmas.{nibble_there}
 use Rattle.obj2d.specs.declared.layers.ObjectPixel.{ObjectPixel}
 use Rattle.obj2d.specs.declared.objects.Display.{Display}
 use Rattle.obj2d.specs.declared.objects.Object.{Object}
-use Rattle.obj2d.specs.Attributes.{object_at, turn_at, group, widths, shape, size, width, left_edge, box_width, has_256, palette_number, priority, mode, flips_across, is_affine}
+use Rattle.obj2d.specs.Attributes.{object_at, turn_at, group, widths, shape, object_size, width, left_edge, box_width, object_has_256, palette_number, priority, mode, flips_across, is_affine}
 use Rattle.obj2d.specs.Places.{across, down, covers, mirrored}
-use Rattle.obj2d.specs.ObjectPixels.{object_space, palette_space, object_index, object_colour, point_pixel, flat_pixel, affine_pixel, box_pixel, pixel_of}
-use Rattle.obj2d.specs.ObjectLayer.{Seen, pixel_at, with_object, seen_at}
-use Rattle.obj2d.specs.rows.Strips.{tile_row, mirrored_tile, ArePacked, AreIndices, ArePainted, AreBox, strip_seen, IsLaid}
+use Rattle.obj2d.specs.ObjectPixels.{object_space, object_palette_space, object_index, object_colour, point_pixel, flat_pixel, turned_pixel, box_pixel, pixel_of}
+use Rattle.obj2d.specs.ObjectLayer.{SeenObject, pixel_at, with_object, seen_at}
+use Rattle.obj2d.specs.rows.Strips.{object_tile_row, mirrored_tile, AreTileRows, AreLineIndices, AreObjectPixels, AreBox, strip_seen, IsLaid}
 use Rattle.obj2d.proofs.LayerLemmas.{unseen}
 
 -- ---- addresses
@@ -29,28 +29,28 @@ whole_address t b u n h =
     subst (λ (sum : ℕ). P b sum) units (subst (λ (x : ℕ). P x (32 * (u * n))) quarter start)
 
 -- widths are whole tiles
-form_below : (o : Object) → 4 * shape o + size o < 16
+form_below : (o : Object) → 4 * shape o + object_size o < 16
 form_below o = omega arith
 
 width_whole : (o : Object) → width o % 8 ≡ 0
-width_whole o = eqb-true (width o % 8) 0 (agree_below_at (λ f. get_or widths f 0 % 8 == 0) (λ f. true) 16 (4 * shape o + size o) refl (form_below o))
+width_whole o = eqb-true (width o % 8) 0 (agree_below_at (λ f. get_or widths f 0 % 8 == 0) (λ f. true) 16 (4 * shape o + object_size o) refl (form_below o))
 
 -- ---- indices of the object's line
 
-index_16 : (v : Banks) (display : Display) (o : Object) (x y : ℕ) → has_256 o ≡ false →
-    object_index v display o x y ≡ nibble_at (x % 8) (vram_byte v (object_space display.engine) (tile_row display o y (x / 8) + x % 8 / 2))
+index_16 : (v : Banks) (display : Display) (o : Object) (x y : ℕ) → object_has_256 o ≡ false →
+    object_index v display o x y ≡ nibble_at (x % 8) (vram_byte v (object_space display.engine) (object_tile_row display o y (x / 8) + x % 8 / 2))
 unfolding object_index
 index_16 v display o x y h = rw h refl
 
-index_256 : (v : Banks) (display : Display) (o : Object) (x y : ℕ) → has_256 o ≡ true →
-    object_index v display o x y ≡ vram_byte v (object_space display.engine) (tile_row display o y (x / 8) + x % 8)
+index_256 : (v : Banks) (display : Display) (o : Object) (x y : ℕ) → object_has_256 o ≡ true →
+    object_index v display o x y ≡ vram_byte v (object_space display.engine) (object_tile_row display o y (x / 8) + x % 8)
 unfolding object_index
 index_256 v display o x y h = rw h refl
 
-pub indices_of_16 : (v : Banks) (display : Display) (o : Object) (y : ℕ) (bytes indices : List ℕ) → has_256 o ≡ false →
-    ArePacked v display o y 4 bytes (width o / 8) →
+pub indices_of_16 : (v : Banks) (display : Display) (o : Object) (y : ℕ) (bytes indices : List ℕ) → object_has_256 o ≡ false →
+    AreTileRows v display o y 4 bytes (width o / 8) →
     ((j : ℕ) → get_or indices (2 * j) 0 ≡ get_or bytes j 0 % 16) → ((j : ℕ) → get_or indices (2 * j + 1) 0 ≡ get_or bytes j 0 / 16) →
-    AreIndices v display o y indices
+    AreLineIndices v display o y indices
 indices_of_16 v display o y bytes indices narrow packed low high x small =
     let whole = width_whole o in
     let place : x ≡ 8 * (x / 8) + x % 8 = omega arith in
@@ -60,8 +60,8 @@ indices_of_16 v display o y bytes indices narrow packed low high x small =
     ∙ ap (nibble_at (x % 8)) (packed (x / 8) (x % 8 / 2) known (omega arith))
     ∙ sym (index_16 v display o x y narrow)
 
-pub indices_of_256 : (v : Banks) (display : Display) (o : Object) (y : ℕ) (indices : List ℕ) → has_256 o ≡ true →
-    ArePacked v display o y 8 indices (width o / 8) → AreIndices v display o y indices
+pub indices_of_256 : (v : Banks) (display : Display) (o : Object) (y : ℕ) (indices : List ℕ) → object_has_256 o ≡ true →
+    AreTileRows v display o y 8 indices (width o / 8) → AreLineIndices v display o y indices
 indices_of_256 v display o y indices wide packed x small =
     let whole = width_whole o in
     let place : x ≡ 8 * (x / 8) + x % 8 = omega arith in
@@ -75,14 +75,14 @@ indices_of_256 v display o y indices wide packed x small =
 same_pixel : (f g : ℕ → ℕ) (index : ℕ) → f index ≡ g index → indexed_pixel f index ≡ indexed_pixel g index
 same_pixel f g index e = rw e refl
 
-pub painted_16 : (v : Banks) (palette : List ℕ) (display : Display) (o : Object) (start index : ℕ) → has_256 o ≡ false → start ≡ 16 * palette_number o →
+pub painted_16 : (v : Banks) (palette : List ℕ) (display : Display) (o : Object) (start index : ℕ) → object_has_256 o ≡ false → start ≡ 16 * palette_number o →
     indexed_pixel (λ c. palette_colour palette (start + c)) index ≡ indexed_pixel (object_colour v palette display o) index
 unfolding object_colour
 painted_16 v palette display o start index h e =
     same_pixel (λ c. palette_colour palette (start + c)) (object_colour v palette display o) index
     (ap (λ (s : ℕ). palette_colour palette (s + index)) e ∙ (rw h refl))
 
-pub painted_256 : (v : Banks) (palette : List ℕ) (display : Display) (o : Object) (index : ℕ) → has_256 o ≡ true → (display.control / 2 ^ 31 % 2 == 1) ≡ false →
+pub painted_256 : (v : Banks) (palette : List ℕ) (display : Display) (o : Object) (index : ℕ) → object_has_256 o ≡ true → (display.control / 2 ^ 31 % 2 == 1) ≡ false →
     indexed_pixel (λ c. palette_colour palette (0 + c)) index ≡ indexed_pixel (object_colour v palette display o) index
 unfolding object_colour
 painted_256 v palette display o index h off =
@@ -90,13 +90,13 @@ painted_256 v palette display o index h off =
     same_pixel (λ c. palette_colour palette (0 + c)) (object_colour v palette display o) index
     (ap (palette_colour palette) none ∙ (rw (h, off) refl))
 
-pub painted_extended : (v : Banks) (palette : List ℕ) (display : Display) (o : Object) (at index : ℕ) → has_256 o ≡ true →
+pub painted_extended : (v : Banks) (palette : List ℕ) (display : Display) (o : Object) (at index : ℕ) → object_has_256 o ≡ true →
     (display.control / 2 ^ 31 % 2 == 1) ≡ true → at ≡ 512 * palette_number o →
-    indexed_pixel (extended_colour v (palette_space display.engine) at) index ≡ indexed_pixel (object_colour v palette display o) index
+    indexed_pixel (extended_colour v (object_palette_space display.engine) at) index ≡ indexed_pixel (object_colour v palette display o) index
 unfolding object_colour
 painted_extended v palette display o at index h on e =
-    same_pixel (extended_colour v (palette_space display.engine) at) (object_colour v palette display o) index
-    (ap (λ (a : ℕ). extended_colour v (palette_space display.engine) a index) e ∙ (rw (h, on) refl))
+    same_pixel (extended_colour v (object_palette_space display.engine) at) (object_colour v palette display o) index
+    (ap (λ (a : ℕ). extended_colour v (object_palette_space display.engine) a index) e ∙ (rw (h, on) refl))
 
 pub on_by : (n : ℕ) → n ≡ 1 → (n == 1) ≡ true
 on_by n h = rw h refl
@@ -114,8 +114,8 @@ mirrored_below : (flip : Bool) (count x : ℕ) → x < count → mirrored flip c
 mirrored_below true count x small = omega arith
 mirrored_below false count x small = small
 
-pub painted_is_flat : (v : Banks) (palette : List ℕ) (display : Display) (o : Object) (line : ℕ) (indices pixels : List ℕ) → AreIndices v display o line indices →
-    ArePainted v palette display o indices pixels (width o / 8) → (x : ℕ) → x < width o →
+pub painted_is_flat : (v : Banks) (palette : List ℕ) (display : Display) (o : Object) (line : ℕ) (indices pixels : List ℕ) → AreLineIndices v display o line indices →
+    AreObjectPixels v palette display o indices pixels (width o / 8) → (x : ℕ) → x < width o →
     get_or pixels x 0 ≡ point_pixel v palette display o (mirrored (flips_across o) (width o) x) line
 painted_is_flat v palette display o line indices pixels are painted x small =
     let whole = width_whole o in
@@ -130,7 +130,7 @@ painted_is_flat v palette display o line indices pixels are painted x small =
 -- ---- the box
 
 pub box_affine : (v : Banks) (palette oam : List ℕ) (display : Display) (o : Object) (y : ℕ) (pixels : List ℕ) → is_affine o ≡ true →
-    ((x : ℕ) → x < box_width o → get_or pixels x 0 ≡ affine_pixel v palette display o (turn_at oam (group o)) x y) → AreBox v palette oam display o y pixels
+    ((x : ℕ) → x < box_width o → get_or pixels x 0 ≡ turned_pixel v palette display o (turn_at oam (group o)) x y) → AreBox v palette oam display o y pixels
 unfolding box_pixel
 box_affine v palette oam display o y pixels h each x small = each x small ∙ (rw h refl)
 
@@ -183,11 +183,11 @@ laid_more o pixels k place p m before between after small there is_p is_m laid h
           laid_here on_screen
           ∙ ap (λ (n : ℕ). with_object (record { colour = get_or pixels k 0; priority = n; mode = m }) (pixel_at between x)) is_p
           ∙ ap (λ (n : ℕ). with_object (record { colour = get_or pixels k 0; priority = priority o; mode = n }) (pixel_at between x)) is_m
-          ∙ ap (λ (s : Seen). with_object s (pixel_at between x)) (sym (seen_after o pixels k x found))
+          ∙ ap (λ (s : SeenObject). with_object s (pixel_at between x)) (sym (seen_after o pixels k x found))
           ∙ ap (with_object (strip_seen o pixels (k + 1) x)) (laid x on_screen ∙ seen_before o pixels k x (pixel_at before x) found))
       | inr other ↦
           (let elsewhere : across o x ≢ k = across_other (left_edge o) k x left small on_screen (λ e. other (sym e ∙ sym there)) in
-          others x other ∙ laid x on_screen ∙ ap (λ (s : Seen). with_object s (pixel_at before x)) (sym (seen_elsewhere o pixels k x elsewhere)))
+          others x other ∙ laid x on_screen ∙ ap (λ (s : SeenObject). with_object s (pixel_at before x)) (sym (seen_elsewhere o pixels k x elsewhere)))
     ]
 
 -- ---- what one object has at a place
@@ -218,7 +218,7 @@ drawn v palette oam display line number o y pixels before after e on there are l
     strip_seen q pixels (box_width q) x ≡ seen_at v palette oam display line x number in
     let Q : ℕ → Type 0 = λ (n : ℕ). AreBox v palette oam display o n pixels in
     let seen : P o = subst P (sym e) (strip_is_seen v palette oam display line number x pixels) in
-    laid x small ∙ ap (λ (s : Seen). with_object s (pixel_at before x)) (seen on (subst Q there are))
+    laid x small ∙ ap (λ (s : SeenObject). with_object s (pixel_at before x)) (seen on (subst Q there are))
 
 -- and one that covers no part of the line
 pub not_drawn : (v : Banks) (palette oam : List ℕ) (display : Display) (line number : ℕ) (o : Object) (before : List ObjectPixel) →

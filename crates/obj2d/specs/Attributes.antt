@@ -34,8 +34,8 @@ is_off o = not (is_affine o) && bit 9 o.attribute0
 abbrev pub mode : Object → ℕ
 mode o = bits 10 2 o.attribute0
 
-abbrev pub has_256 : Object → Bool
-has_256 o = bit 13 o.attribute0
+abbrev pub object_has_256 : Object → Bool
+object_has_256 o = bit 13 o.attribute0
 
 abbrev pub shape : Object → ℕ
 shape o = bits 14 2 o.attribute0
@@ -54,8 +54,8 @@ flips_across o = bit 12 o.attribute1
 abbrev pub flips_down : Object → Bool
 flips_down o = bit 13 o.attribute1
 
-abbrev pub size : Object → ℕ
-size o = bits 14 2 o.attribute1
+abbrev pub object_size : Object → ℕ
+object_size o = bits 14 2 o.attribute1
 
 -- attribute 2: the tile in bits 0 to 9, the priority in bits 10 and 11, the palette in bits 12 to 15
 abbrev pub tile : Object → ℕ
@@ -75,10 +75,10 @@ abbrev pub heights : List ℕ
 heights = 8 ∷ 16 ∷ 32 ∷ 64 ∷ 8 ∷ 8 ∷ 16 ∷ 32 ∷ 16 ∷ 32 ∷ 32 ∷ 64 ∷ 8 ∷ 8 ∷ 8 ∷ 8 ∷ []
 
 abbrev pub width : Object → ℕ
-width o = slice_index widths (4 * shape o + size o)
+width o = slice_index widths (4 * shape o + object_size o)
 
 abbrev pub height : Object → ℕ
-height o = slice_index heights (4 * shape o + size o)
+height o = slice_index heights (4 * shape o + object_size o)
 
 -- the shown box is the object's size, and twice that both ways for an affine object of double size
 abbrev pub box_width : Object → ℕ

@@ -8,7 +8,7 @@ use Rattle.obj2d.specs.ObjectPixels.{pixel_of}
 -- The pixel of all objects together (GBATEK, "LCD OBJ - OAM Attributes", "LCD I/O Window Feature").
 
 -- what an object has at a place: its pixel, which is 0 where it is transparent, its priority and its mode
-pub record Seen : Type 0 where
+pub record SeenObject : Type 0 where
   pub colour : ℕ
   pub priority : ℕ
   pub mode : ℕ
@@ -22,18 +22,18 @@ pixel_at pixels x = slice_index_or pixels x blank_pixel
 -- ---- as a relation
 
 -- object n goes before object m: its priority is a lower number; or it is the same, and n is no higher
-abbrev pub IsBefore : (ℕ → Seen) → ℕ → ℕ → Type 0
+abbrev pub IsBefore : (ℕ → SeenObject) → ℕ → ℕ → Type 0
 IsBefore seen n m = ((seen n).priority < (seen m).priority) ⊎ (((seen n).priority ≡ (seen m).priority) × (n ≤ m))
 
 -- of the objects of numbers below `count` that are opaque and not of mode 2, object n goes before all
-pub record IsFirst (seen : ℕ → Seen) (count n : ℕ) : Type 0 where
+pub record IsFirst (seen : ℕ → SeenObject) (count n : ℕ) : Type 0 where
   pub known : n < count
   pub opaque : (seen n).colour ≢ 0
   pub shown : (seen n).mode ≢ 2
   pub least : (m : ℕ) → m < count → (seen m).colour ≢ 0 → (seen m).mode ≢ 2 → IsBefore seen n m
 
 -- the pixel shows an object, which is blended where its mode is 1
-pub record IsOf (s : Seen) (p : ObjectPixel) : Type 0 where
+pub record IsOf (s : SeenObject) (p : ObjectPixel) : Type 0 where
   pub colour : p.colour ≡ s.colour
   pub priority : p.priority ≡ s.priority
   pub blended : p.blended ≡ (s.mode == 1)
@@ -45,15 +45,15 @@ pub record IsTransparent (p : ObjectPixel) : Type 0 where
   pub blended : p.blended ≡ false
 
 -- no object of a number below `count` is opaque but those of mode 2
-abbrev pub IsNone : (ℕ → Seen) → ℕ → Type 0
+abbrev pub IsNone : (ℕ → SeenObject) → ℕ → Type 0
 IsNone seen count = (n : ℕ) → n < count → (seen n).colour ≢ 0 → (seen n).mode ≡ 2
 
 -- one of mode 2 is opaque
-abbrev pub IsInWindow : (ℕ → Seen) → ℕ → Type 0
+abbrev pub IsInWindow : (ℕ → SeenObject) → ℕ → Type 0
 IsInWindow seen count = (n : ℕ) × (n < count) × ((seen n).colour ≢ 0) × ((seen n).mode ≡ 2)
 
 -- the pixel shows the first object, if there is one, and lies in the object window exactly where an object of mode 2 is opaque
-pub record IsLayerPixel (seen : ℕ → Seen) (count : ℕ) (p : ObjectPixel) : Type 0 where
+pub record IsLayerPixel (seen : ℕ → SeenObject) (count : ℕ) (p : ObjectPixel) : Type 0 where
   pub top : ((n : ℕ) × IsFirst seen count n × IsOf (seen n) p) ⊎ (IsNone seen count × IsTransparent p)
   pub window : IsTrue p.window ↔ IsInWindow seen count
 
@@ -66,19 +66,19 @@ pub record IsPixel (p : ObjectPixel) : Type 0 where
 -- ---- the same, object by object
 
 -- the pixel with one more object, of a number above those of all before: it is shown where none was, or one of a higher number of priority
-abbrev pub with_object : Seen → ObjectPixel → ObjectPixel
+abbrev pub with_object : SeenObject → ObjectPixel → ObjectPixel
 with_object s p =
     if s.colour == 0 then p
     else (if s.mode == 2 then record p { window = true }
     else (if p.colour == 0 || nat_lt s.priority p.priority
     then record p { colour = s.colour; priority = s.priority; blended = s.mode == 1 } else p))
 
-unfoldable pub pixel_below : (ℕ → Seen) → ℕ → ObjectPixel
+unfoldable pub pixel_below : (ℕ → SeenObject) → ℕ → ObjectPixel
 pixel_below seen zero = blank_pixel
 pixel_below seen (suc n) = with_object (seen n) (pixel_below seen n)
 
 -- what the object of a number has at place x of a line
-unfoldable pub seen_at : Banks → List ℕ → List ℕ → Display → ℕ → ℕ → ℕ → Seen
+unfoldable pub seen_at : Banks → List ℕ → List ℕ → Display → ℕ → ℕ → ℕ → SeenObject
 seen_at v palette oam display line x n =
     let o = object_at oam n in record { colour = pixel_of v palette oam display line o x; priority = priority o; mode = mode o }
 

@@ -32,8 +32,8 @@ from_middle box place = pos place -ℤ pos (box / 2)
 
 -- a coordinate of an affine object's point: (a dx + b dy) with 8 fractional bits, which are cut off downwards, from the object's middle. The sum
 -- is exact
-abbrev pub affine_coordinate : ℤ → ℤ → ℤ → ℤ → ℕ → ℤ
-affine_coordinate a b dx dy count = int_shr ((a *ℤ dx) +ℤ (b *ℤ dy)) 8 +ℤ pos (count / 2)
+abbrev pub box_coordinate : ℤ → ℤ → ℤ → ℤ → ℕ → ℤ
+box_coordinate a b dx dy count = int_shr ((a *ℤ dx) +ℤ (b *ℤ dy)) 8 +ℤ pos (count / 2)
 
 -- a place in the object, or none where a coordinate lies outside
 abbrev pub inside : ℕ → ℤ → Option ℕ
@@ -43,8 +43,8 @@ inside count (negsuc n) = None
 -- the point of an affine object at a place of its box
 abbrev pub affine_across : Object → Turn → ℕ → ℕ → Option ℕ
 affine_across o turn x y =
-    inside (width o) (affine_coordinate turn.pa turn.pb (from_middle (box_width o) x) (from_middle (box_height o) y) (width o))
+    inside (width o) (box_coordinate turn.pa turn.pb (from_middle (box_width o) x) (from_middle (box_height o) y) (width o))
 
 abbrev pub affine_down : Object → Turn → ℕ → ℕ → Option ℕ
 affine_down o turn x y =
-    inside (height o) (affine_coordinate turn.pc turn.pd (from_middle (box_width o) x) (from_middle (box_height o) y) (height o))
+    inside (height o) (box_coordinate turn.pc turn.pd (from_middle (box_width o) x) (from_middle (box_height o) y) (height o))

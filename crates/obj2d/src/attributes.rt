@@ -5,7 +5,7 @@ ghost use Rattle.std.specs.Int.{cast_signed, w16};
 ghost use Rattle.ds_base.specs.Bits.{bit};
 ghost use Rattle.ds_base.specs.Numbers.{number_at};
 ghost use Rattle.ds_base.specs.declared.memories.Width.TheVariants.{Half};
-ghost use Rattle.obj2d.specs.Attributes.{object_at, turn_at, group, group_number, top_edge, left_edge, is_affine, is_double, is_off, has_256, mode, shape, size, priority, flips_across, flips_down, width, height, box_width, box_height};
+ghost use Rattle.obj2d.specs.Attributes.{object_at, turn_at, group, group_number, top_edge, left_edge, is_affine, is_double, is_off, object_has_256, mode, shape, object_size, priority, flips_across, flips_down, width, height, box_width, box_height};
 
 use crate::objects::{Object, Turn};
 
@@ -100,8 +100,8 @@ pub fn mode(object: &Object) -> u8
     ((object.attribute0 >> 10) % 4) as u8
 }
 
-pub fn has_256(object: &Object) -> bool
-    ensures { result ≡ has_256 object.now }
+pub fn object_has_256(object: &Object) -> bool
+    ensures { result ≡ object_has_256 object.now }
 {
     (object.attribute0 >> 13) % 2 == 1
 }
@@ -132,7 +132,7 @@ const HEIGHTS: [usize; 16] = [8, 16, 32, 64, 8, 8, 16, 32, 16, 32, 32, 64, 8, 8,
 
 /// Which of the sixteen shapes and sizes the object has.
 fn form(object: &Object) -> usize
-    ensures value { result ≡ 4 * shape object.now + size object.now }
+    ensures value { result ≡ 4 * shape object.now + object_size object.now }
     ensures small { result < 16 }
 {
     4 * (object.attribute0 >> 14) as usize + (object.attribute1 >> 14) as usize

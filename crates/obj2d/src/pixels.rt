@@ -3,10 +3,10 @@
 ghost use Rattle.std.specs.Prelude.{◌≡◌, ◌<◌, ◌≤◌, ◌+◌, ◌*◌, ◌/◌, ◌%◌, ◌^◌, Bool, false, length};
 ghost use Rattle.ds_base.specs.Bits.{bits};
 ghost use Rattle.tiles2d.specs.Tiles.{nibble_at};
-ghost use Rattle.obj2d.specs.Attributes.{has_256, tile, palette_number, width, height, box_width, box_height};
-ghost use Rattle.obj2d.specs.ObjectPixels.{object_space, palette_space, tile_units, tile_address, object_index, point_pixel, affine_pixel};
+ghost use Rattle.obj2d.specs.Attributes.{object_has_256, tile, palette_number, width, height, box_width, box_height};
+ghost use Rattle.obj2d.specs.ObjectPixels.{object_space, object_palette_space, tile_units, tile_address, object_index, point_pixel, turned_pixel};
 
-use crate::attributes::{has_256, width};
+use crate::attributes::{object_has_256, width};
 use crate::objects::{Display, Object, Turn};
 use crate::places::{affine_across, affine_down};
 use ds_base::Space;
@@ -25,8 +25,8 @@ pub fn object_space(engine: u8) -> Space
 }
 
 /// The space of an engine's extended object palettes.
-pub fn palette_space(engine: u8) -> Space
-    ensures { result ≡ palette_space engine }
+pub fn object_palette_space(engine: u8) -> Space
+    ensures { result ≡ object_palette_space engine }
 {
     if engine == 0 {
         Space::AObjPalette
@@ -40,7 +40,7 @@ fn tile_units(object: &Object) -> u32
     ensures value { result ≡ tile_units object.now }
     ensures small { result ≤ 2 }
 {
-    if has_256(object) { 2 } else { 1 }
+    if object_has_256(object) { 2 } else { 1 }
 }
 
 /// How many bytes the tiles' numbers count, where tiles have one dimension.
@@ -104,11 +104,11 @@ fn object_index(vram: &Vram, display: &Display, object: &Object, x: u32, y: u32)
     requires across { x < 64 }
     requires down { y < 64 }
     ensures value { result ≡ object_index vram.now display.now object.now x y }
-    ensures small { has_256 object.now ≡ false → result < 16 }
+    ensures small { object_has_256 object.now ≡ false → result < 16 }
 {
     let space = object_space(display.engine);
     let at = tile_address(display, object, x / 8, y / 8);
-    if has_256(object) {
+    if object_has_256(object) {
         byte(vram, space, at + 8 * (y % 8) + x % 8)
     } else {
         nibble(x % 8, byte(vram, space, at + 4 * (y % 8) + x % 8 / 2))
@@ -131,10 +131,10 @@ fn point_pixel(
     ensures { result ≡ point_pixel vram.now palette.now display.now object.now x y }
 {
     let index = object_index(vram, display, object, x, y);
-    if !has_256(object) {
+    if !object_has_256(object) {
         standard_pixel(palette, 16 * palette_number(object) as usize, index)
     } else if (display.control >> 31) % 2 == 1 {
-        let space = palette_space(display.engine);
+        let space = object_palette_space(display.engine);
         extended_pixel(vram, space, 512 * palette_number(object) as u32, index)
     } else {
         standard_pixel(palette, 0, index)
@@ -142,8 +142,8 @@ fn point_pixel(
 }
 
 /// The pixel at a place of an affine object's box.
-#[tactic(auto, unfolding(crate::specs::ObjectPixels::affine_pixel))]
-pub fn affine_pixel(
+#[tactic(auto, unfolding(crate::specs::ObjectPixels::turned_pixel))]
+pub fn turned_pixel(
     vram: &Vram,
     palette: &[u8],
     display: &Display,
@@ -155,7 +155,7 @@ pub fn affine_pixel(
     requires colours { length palette.now ≡ 512 }
     requires across { x < box_width object.now }
     requires down { y < box_height object.now }
-    ensures { result ≡ affine_pixel vram.now palette.now display.now object.now turn.now x y }
+    ensures { result ≡ turned_pixel vram.now palette.now display.now object.now turn.now x y }
 {
     match affine_across(object, turn, x, y) {
         None => 0,

@@ -3,7 +3,7 @@
 ghost use Rattle.std.specs.Prelude.{◌≡◌, ◌<◌, ◌≤◌, ◌+◌, ◌*◌, ◌/◌, ◌^◌, ◌+ℤ◌, ◌*ℤ◌, ◌≤ℤ◌, ℤ, pos, negsuc, Option, Some, None, IfSome};
 ghost use Rattle.std.specs.Int.{int_shr};
 ghost use Rattle.obj2d.specs.Attributes.{left_edge, width, height, box_width, box_height};
-ghost use Rattle.obj2d.specs.Places.{down, covers, mirrored, from_middle, affine_coordinate, inside, affine_across, affine_down};
+ghost use Rattle.obj2d.specs.Places.{down, covers, mirrored, from_middle, box_coordinate, inside, affine_across, affine_down};
 
 use crate::attributes::{box_height, box_width, height, is_off, mode, width};
 use crate::objects::{Display, Object, Turn};
@@ -94,13 +94,13 @@ fn from_edge(distance: i64, count: usize) -> i64
 }
 
 /// A coordinate of an affine object's point.
-fn affine_coordinate(a: i16, b: i16, dx: i32, dy: i32, count: usize) -> i64
+fn box_coordinate(a: i16, b: i16, dx: i32, dy: i32, count: usize) -> i64
     requires dx_low { negsuc 64 ≤ℤ dx }
     requires dx_high { dx ≤ℤ pos 128 }
     requires dy_low { negsuc 64 ≤ℤ dy }
     requires dy_high { dy ≤ℤ pos 128 }
     requires count { count ≤ 64 }
-    ensures { result ≡ affine_coordinate a b dx dy count }
+    ensures { result ≡ box_coordinate a b dx dy count }
 {
     from_edge(whole(sum(steps(a, dx), steps(b, dy))), count)
 }
@@ -144,7 +144,7 @@ pub fn affine_across(object: &Object, turn: &Turn, x: usize, y: usize) -> Option
 {
     let (dx, dy) = distances(object, x, y);
     let count = width(object);
-    inside(count, affine_coordinate(turn.pa, turn.pb, dx, dy, count))
+    inside(count, box_coordinate(turn.pa, turn.pb, dx, dy, count))
 }
 
 /// The place down of an affine object's point.
@@ -156,5 +156,5 @@ pub fn affine_down(object: &Object, turn: &Turn, x: usize, y: usize) -> Option<u
 {
     let (dx, dy) = distances(object, x, y);
     let count = height(object);
-    inside(count, affine_coordinate(turn.pc, turn.pd, dx, dy, count))
+    inside(count, box_coordinate(turn.pc, turn.pd, dx, dy, count))
 }

@@ -3,30 +3,32 @@
 ghost use Rattle.std.specs.Prelude.{◌≡◌, ◌<◌, ◌≤◌, ◌+◌, ◌*◌, ◌/◌, ◌%◌, ◌^◌, ℕ, Bool, true, false, length, slice_index};
 ghost use Rattle.tiles2d.specs.Colours.{indexed_pixel};
 ghost use Rattle.tiles2d.specs.Tiles.{flipped};
-ghost use Rattle.obj2d.specs.Attributes.{turn_at, group, has_256, is_affine, width, height, box_width, box_height, flips_across, flips_down};
+ghost use Rattle.obj2d.specs.Attributes.{turn_at, group, object_has_256, is_affine, width, height, box_width, box_height, flips_across, flips_down};
 ghost use Rattle.obj2d.specs.Places.{mirrored};
-ghost use Rattle.obj2d.specs.ObjectPixels.{object_index, object_colour, affine_pixel, flat_pixel, box_pixel};
-ghost use Rattle.obj2d.specs.rows.Strips.{tile_row, mirrored_tile, ArePacked, AreIndices, ArePainted, AreBox};
+ghost use Rattle.obj2d.specs.ObjectPixels.{object_index, object_colour, turned_pixel, flat_pixel, box_pixel};
+ghost use Rattle.obj2d.specs.rows.Strips.{object_tile_row, mirrored_tile, AreTileRows, AreLineIndices, AreObjectPixels, AreBox};
 
 use crate::attributes::{
-    box_width, flips_across, flips_down, has_256, height, is_affine, turn_of, width,
+    box_width, flips_across, flips_down, height, is_affine, object_has_256, turn_of, width,
 };
 use crate::objects::{Display, Object};
-use crate::pixels::{affine_pixel, object_space, palette_number, palette_space, tile_address};
+use crate::pixels::{
+    object_palette_space, object_space, palette_number, tile_address, turned_pixel,
+};
 use crate::places::mirrored;
 use tiles2d::{copy_eight, copy_four, paint_extended, paint_standard, unpack};
 use vram_banks::Vram;
 
 /// Where the row of one of the object's tiles begins that shows line y of the object.
-fn tile_row(display: &Display, object: &Object, y: u32, tx: u32) -> u32
+fn object_tile_row(display: &Display, object: &Object, y: u32, tx: u32) -> u32
     requires down { y < 64 }
     requires across { tx < 8 }
-    ensures value { result ≡ tile_row display.now object.now y tx }
+    ensures value { result ≡ object_tile_row display.now object.now y tx }
     ensures whole { result % 4 ≡ 0 }
     ensures small { result < 0x200000 }
 {
     let at = tile_address(display, object, tx, y / 8);
-    if has_256(object) {
+    if object_has_256(object) {
         at + 8 * (y % 8)
     } else {
         at + 4 * (y % 8)
@@ -36,11 +38,11 @@ fn tile_row(display: &Display, object: &Object, y: u32, tx: u32) -> u32
 /// The rows of tiles of 16 colours, four bytes each.
 fn pack(vram: &Vram, display: &Display, object: &Object, y: u32, into: &mut [u8; 32])
     requires { y < 64 }
-    ensures { ArePacked vram.now display.now object.now y 4 into.new (width object.now / 8) }
+    ensures { AreTileRows vram.now display.now object.now y 4 into.new (width object.now / 8) }
 {
     let space = object_space(display.engine);
     for k in 0..width(object) / 8 {
-        let at = tile_row(display, object, y, k as u32);
+        let at = object_tile_row(display, object, y, k as u32);
         copy_four(vram, space, at, &mut into[4 * k..4 * k + 4]);
     }
 }
@@ -48,11 +50,11 @@ fn pack(vram: &Vram, display: &Display, object: &Object, y: u32, into: &mut [u8;
 /// The rows of tiles of 256 colours, eight bytes each, which are their indices.
 fn copy_rows(vram: &Vram, display: &Display, object: &Object, y: u32, into: &mut [u8; 64])
     requires { y < 64 }
-    ensures { ArePacked vram.now display.now object.now y 8 into.new (width object.now / 8) }
+    ensures { AreTileRows vram.now display.now object.now y 8 into.new (width object.now / 8) }
 {
     let space = object_space(display.engine);
     for k in 0..width(object) / 8 {
-        let at = tile_row(display, object, y, k as u32);
+        let at = object_tile_row(display, object, y, k as u32);
         copy_eight(vram, space, at, &mut into[8 * k..8 * k + 8]);
     }
 }
@@ -60,10 +62,10 @@ fn copy_rows(vram: &Vram, display: &Display, object: &Object, y: u32, into: &mut
 /// The indices of the object's line y.
 fn indices_of(vram: &Vram, display: &Display, object: &Object, y: u32, into: &mut [u8; 64])
     requires { y < 64 }
-    ensures value { AreIndices vram.now display.now object.now y into.new }
-    ensures narrow { has_256 object.now ≡ false → (i : ℕ) → i < 64 → slice_index into.new i < 16 }
+    ensures value { AreLineIndices vram.now display.now object.now y into.new }
+    ensures narrow { object_has_256 object.now ≡ false → (i : ℕ) → i < 64 → slice_index into.new i < 16 }
 {
-    if has_256(object) {
+    if object_has_256(object) {
         copy_rows(vram, display, object, y, into);
     } else {
         let mut packed = [0; 32];
@@ -84,15 +86,15 @@ fn paint_tile(
     requires colours { length palette.now ≡ 512 }
     requires indices { length indices.now ≡ 8 }
     requires room { length into.old ≡ 8 }
-    requires narrow { has_256 object.now ≡ false → (i : ℕ) → i < 8 → slice_index indices.now i < 16 }
+    requires narrow { object_has_256 object.now ≡ false → (i : ℕ) → i < 8 → slice_index indices.now i < 16 }
     ensures { (i : ℕ) → i < 8 → slice_index into.new i ≡ indexed_pixel (object_colour vram.now palette.now display.now object.now) (slice_index indices.now (flipped (flips_across object.now) i)) }
 {
     let flip = flips_across(object);
     let number = palette_number(object);
-    if !has_256(object) {
+    if !object_has_256(object) {
         paint_standard(palette, 16 * number as usize, flip, indices, into);
     } else if (display.control >> 31) % 2 == 1 {
-        let space = palette_space(display.engine);
+        let space = object_palette_space(display.engine);
         paint_extended(vram, space, 512 * number as u32, flip, indices, into);
     } else {
         paint_standard(palette, 0, flip, indices, into);
@@ -118,8 +120,8 @@ fn paint(
     into: &mut [u16; 128],
 )
     requires colours { length palette.now ≡ 512 }
-    requires narrow { has_256 object.now ≡ false → (i : ℕ) → i < 64 → slice_index indices.now i < 16 }
-    ensures { ArePainted vram.now palette.now display.now object.now indices.now into.new (width object.now / 8) }
+    requires narrow { object_has_256 object.now ≡ false → (i : ℕ) → i < 64 → slice_index indices.now i < 16 }
+    ensures { AreObjectPixels vram.now palette.now display.now object.now indices.now into.new (width object.now / 8) }
 {
     let count = width(object) / 8;
     for k in 0..count {
@@ -167,11 +169,11 @@ fn affine_strip(
     requires colours { length palette.now ≡ 512 }
     requires oam { length oam.now ≡ 1024 }
     requires down { y < box_height object.now }
-    ensures { (x : ℕ) → x < box_width object.now → slice_index into.new x ≡ affine_pixel vram.now palette.now display.now object.now (turn_at oam.now (group object.now)) x y }
+    ensures { (x : ℕ) → x < box_width object.now → slice_index into.new x ≡ turned_pixel vram.now palette.now display.now object.now (turn_at oam.now (group object.now)) x y }
 {
     let turn = turn_of(oam, object);
     for x in 0..box_width(object) {
-        into[x] = affine_pixel(vram, palette, display, object, &turn, x, y);
+        into[x] = turned_pixel(vram, palette, display, object, &turn, x, y);
     }
 }
 

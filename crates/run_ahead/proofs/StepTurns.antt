@@ -3,7 +3,7 @@ use Rattle.ds_base.specs.declared.left_out.LeftOut.{LeftOut}
 use Rattle.ds_base.specs.declared.ticks.Due.{Due}
 use Rattle.ds_runs.specs.Runs.{Makes}
 use Rattle.ds_machine.specs.States.{MachineState}
-use Rattle.ds_machine.specs.Reference.{AtOnce, CountsWithin, HasCounted, IsDue, Shown, Steps, next_shown, step_of}
+use Rattle.ds_machine.specs.Reference.{AtOnce, CountsWithin, HasCounted, IsDue, Shown, Steps, next_shown, reference_step}
 use Rattle.ds_machine.specs.declared.answers.Done as answer
 use Rattle.ds_machine.specs.declared.answers.Done.TheVariants as answers
 use Rattle.ds_machine.proofs.Counts.{counts_within, stop_counts}
@@ -19,7 +19,7 @@ AreWithin limit s = CountsWithin limit s × (limit ≤ 2 ^ 56)
 pub within_by : (s next : MachineState) (due : Due) (done : answer.Done) (before until limit : ℕ) → IsDue s due → Steps due.rank s done next → HasCounted s
     → AreWithin before s → due.tick.0 < until → until ≤ 2 ^ 56 → limit ≡ max before until → AreWithin limit next
 within_by s next due done before until limit least step has within lt early most = (by_done done step, (let k = within.1 in omega (arith, most, k, early))) where
-  made : (outs : List Shown) → step_of due.rank s ≡ Makes next outs → CountsWithin limit next
+  made : (outs : List Shown) → reference_step due.rank s ≡ Makes next outs → CountsWithin limit next
   made outs h = counts_within s next due.tick due.rank outs limit least h has (omega (arith, most, lt))
 
   by_done : (done : answer.Done) → Steps due.rank s done next → CountsWithin limit next

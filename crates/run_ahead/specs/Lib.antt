@@ -1,2 +1,3 @@
 pub mod Consoles
+pub mod Inside
 pub mod Turns

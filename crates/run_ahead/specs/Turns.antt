@@ -5,10 +5,7 @@ use Rattle.ds_runs.specs.Runs.{IsLeast, IsOver, Makes, Stops, Ending, At, Runs}
 use Rattle.ds_runs.specs.Runs as runs
 use Rattle.ds_runs.specs.Schedules.{places_left}
 use Rattle.ds_machine.specs.States.{MachineState}
-use Rattle.ds_machine.specs.Reference.{Shown, next_shown, dues_of, step_of, reference}
-use Rattle.ds_machine.specs.declared.answers.Done.{Done}
-use Rattle.ds_machine.specs.declared.answers.Done.TheVariants.{Made}
-use Rattle.ds_machine.specs.declared.answers.Done.TheVariants as done
+use Rattle.ds_machine.specs.Reference.{Shown, next_shown, dues_of, reference_step, reference}
 use Rattle.run_ahead.specs.Consoles.{ConsoleState}
 use Rattle.run_ahead.specs.declared.turns.Turned.{Turned}
 use Rattle.run_ahead.specs.declared.turns.Turned.TheVariants.{Ran, Frame, AtEnd, Stopped}
@@ -21,7 +18,7 @@ pub record TakesStep (until : ℕ) (old : MachineState) (outs : List Shown) (new
   pub rank : ℕ
   pub least : IsLeast (dues_of old) tick rank
   pub below : tick.0 < until
-  pub step : step_of rank old ≡ Makes new outs
+  pub step : reference_step rank old ≡ Makes new outs
 
 -- its step stops the machine, and leaves this state
 pub record MeetsStop (until : ℕ) (old : MachineState) (left : LeftOut) (new : MachineState) : Type 0 where
@@ -29,23 +26,11 @@ pub record MeetsStop (until : ℕ) (old : MachineState) (left : LeftOut) (new : 
   pub rank : ℕ
   pub least : IsLeast (dues_of old) tick rank
   pub below : tick.0 < until
-  pub step : step_of rank old ≡ Stops left new
+  pub step : reference_step rank old ≡ Stops left new
 
 -- the machine is this now, and the limit was raised
 abbrev pub run_to : ConsoleState → ℕ → MachineState → ConsoleState
 run_to old until machine = record old { machine = machine; limit = max old.limit until }
-
--- what a turn answers to what its step came to
-abbrev pub turned_by : Done → Turned
-turned_by Made = Ran
-turned_by (done.Frame swapped) = Frame swapped
-turned_by (done.Stopped left) = Stopped left
-
--- and the console after it: a stop is kept
-abbrev pub stopped_by : Done → ConsoleState → ConsoleState
-stopped_by Made console = console
-stopped_by (done.Frame swapped) console = console
-stopped_by (done.Stopped left) console = record console { stopped = Some left }
 
 -- what a turn with a limit does to a console, by its answer: one step of the reference machine; after a stop nothing any more
 abbrev pub Turns : ℕ → ConsoleState → Turned → ConsoleState → Type 0

@@ -2,10 +2,11 @@
 
 ghost use Rattle.std.specs.Prelude.{◌≡◌, ◌≤◌, ◌<◌, ◌+◌, ◌*◌, ◌^◌, true, false, None, slice_index, IfOk};
 ghost use Rattle.ds_base.specs.Memories.{memory_size};
-ghost use Rattle.ds_machine.specs.Booted.{booted};
+ghost use Rattle.ds_machine.specs.Booted.{machine_booted};
 ghost use Rattle.ds_machine.specs.Observed.{memory_of, registers_of, seen_of};
 ghost use Rattle.ds_machine.specs.Reference.{IsDue, IsSound};
-ghost use Rattle.run_ahead.specs.Turns.{Turns, RunsOn, HasRuns, turns_of, turns_left, counted_of, turned_by, stopped_by};
+ghost use Rattle.run_ahead.specs.Turns.{Turns, RunsOn, HasRuns, turns_of, turns_left, counted_of};
+ghost use Rattle.run_ahead.specs.Inside.{turned_by, stopped_by};
 ghost use Rattle.run_ahead.specs.declared.turns.Turned.TheVariants.{Ran};
 
 use crate::turns::Turned;
@@ -39,7 +40,7 @@ pub struct Console {
 
 impl Model for Console {
     ghost use Rattle.run_ahead.specs.Consoles.{ConsoleState, open_of};
-    ghost use Rattle.ds_machine.specs.Booted.{booted};
+    ghost use Rattle.ds_machine.specs.Booted.{machine_booted};
     ghost use Rattle.ds_machine.specs.Reference.{CountsWithin};
     ghost use Rattle.std.specs.Prelude.{◌≡◌, ◌≤◌, ◌^◌};
 
@@ -54,7 +55,7 @@ impl Model for Console {
 impl Console {
     /// A console that is switched on with a cartridge and a key script, and hasn't run. All memory of a run is taken here.
     pub fn new(alloc: Global, cart: Cart, keys: Keys) -> Result<Console, AllocError>
-        ensures { IfOk result (λ console. console ≡ record { machine = booted cart keys; limit = 0; stopped = None }) }
+        ensures { IfOk result (λ console. console ≡ record { machine = machine_booted cart keys; limit = 0; stopped = None }) }
     {
         let machine = Machine::new(alloc, &cart, keys)?;
         Ok(Console {

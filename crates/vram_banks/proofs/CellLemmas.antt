@@ -6,7 +6,7 @@ use Rattle.ds_base.specs.declared.memories.Width.{Width}
 use Rattle.ds_base.specs.declared.memories.Width.TheVariants.{Byte, Half, Word}
 use Rattle.vram_banks.specs.declared.maps.Page.TheVariants.{Empty, One}
 use Rattle.ds_base.specs.Numbers.{width_bytes, value_by, put_by}
-use Rattle.vram_banks.specs.paging.Flat.{cell_of, or_at, put_at}
+use Rattle.vram_banks.specs.paging.Flat.{cell_of, or_at, put_in_cells}
 use Rattle.vram_banks.specs.paging.Pages.{NoneBelow, OneBelow, IsFound}
 use Rattle.vram_banks.specs.Cells.{Banks, byte_or_0, or_below, put_there, put_below}
 use Rattle.vram_banks.proofs.Cases.{same_or_not}
@@ -77,12 +77,12 @@ pub or_at-one : (controls bytes : List ℕ) (x cell : ℕ) → OneBelow (λ bank
 unfolding or_at
 or_at-one controls bytes x cell h = or_one_below 9 (λ bank. cell_of controls bank x) bytes h.bank cell h.known h.there h.others
 
-pub put_at-empty : (controls : List ℕ) (x value : ℕ) (bytes : List ℕ) → NoneBelow (λ bank. cell_of controls bank x) 9 → put_at controls x value bytes ≡ bytes
-unfolding put_at
+pub put_at-empty : (controls : List ℕ) (x value : ℕ) (bytes : List ℕ) → NoneBelow (λ bank. cell_of controls bank x) 9 → put_in_cells controls x value bytes ≡ bytes
+unfolding put_in_cells
 put_at-empty controls x value bytes h = put_none_below 9 (λ bank. cell_of controls bank x) value bytes h
 
-pub put_at-one : (controls : List ℕ) (x value : ℕ) (bytes : List ℕ) (cell : ℕ) → OneBelow (λ bank. cell_of controls bank x) 9 cell → put_at controls x value bytes ≡ set bytes cell value
-unfolding put_at
+pub put_at-one : (controls : List ℕ) (x value : ℕ) (bytes : List ℕ) (cell : ℕ) → OneBelow (λ bank. cell_of controls bank x) 9 cell → put_in_cells controls x value bytes ≡ set bytes cell value
+unfolding put_in_cells
 put_at-one controls x value bytes cell h = put_one_below 9 (λ bank. cell_of controls bank x) value bytes h.bank cell h.known h.there h.others
 
 -- what stands at each byte of an aligned access, where its page has no bank or one alone
@@ -127,7 +127,7 @@ value_of_one Word controls bytes x cell h whole =
     ) refl
 
 pub put_to_empty : (width : Width) (controls : List ℕ) (x value : ℕ) (bytes : List ℕ) → IsFound controls x Empty → x % width_bytes width ≡ 0 →
-    put_by width (put_at controls) x value bytes ≡ bytes
+    put_by width (put_in_cells controls) x value bytes ≡ bytes
 put_to_empty Byte controls x value bytes h whole = put_at-empty controls x (value % 256) bytes (empty_at controls x 0 x h (omega arith) (omega arith))
 put_to_empty Half controls x value bytes h whole =
     let b0 = put_at-empty controls x (value % 256) bytes (empty_at controls x 0 x h (omega arith) (omega arith)) in
@@ -141,7 +141,7 @@ put_to_empty Word controls x value bytes h whole =
     rw (b0, b1, b2, b3) refl
 
 pub put_to_one : (width : Width) (controls : List ℕ) (x value : ℕ) (bytes : List ℕ) (cell : ℕ) → IsFound controls x (One cell) → x % width_bytes width ≡ 0 →
-    put_by width (put_at controls) x value bytes ≡ put_by width (λ a v bs. slice_set bs a v) cell value bytes
+    put_by width (put_in_cells controls) x value bytes ≡ put_by width (λ a v bs. slice_set bs a v) cell value bytes
 put_to_one Byte controls x value bytes cell h whole = put_at-one controls x (value % 256) bytes cell (one_at controls x cell 0 x cell h (omega arith) (omega arith) (omega arith))
 put_to_one Half controls x value bytes cell h whole =
     let b0 = put_at-one controls x (value % 256) bytes cell (one_at controls x cell 0 x cell h (omega arith) (omega arith) (omega arith)) in

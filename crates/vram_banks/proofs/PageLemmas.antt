@@ -7,7 +7,7 @@ use Rattle.vram_banks.specs.declared.windows.Window.{Window}
 use Rattle.vram_banks.specs.BankMap.{first_cell, mst_bits, kept_bank_control}
 use Rattle.vram_banks.specs.Cells.{IsControl}
 use Rattle.vram_banks.specs.paging.Flat.{no_window, window_of, cell_in, cell_of, IsRoomy}
-use Rattle.vram_banks.specs.paging.Pages.{NoneBelow, IsPageBelow, IsFound, AreWindows, ArePages, window_at, cell_by, page_at, with_cell}
+use Rattle.vram_banks.specs.paging.Pages.{NoneBelow, IsPageBelow, IsFound, AreWindows, ArePages, window_at, cell_among, page_at, with_cell}
 use Rattle.vram_banks.proofs.Cases.{same_or_not}
 
 -- where the banks below n have none, and bank n has this
@@ -77,19 +77,19 @@ moved Empty d = Empty
 moved (One cell) d = One (cell + d)
 moved Several d = Several
 
-cell_of-by : (controls : List ℕ) (windows : List Window) (bank x : ℕ) → AreWindows controls windows → bank < 9 → cell_of controls bank x ≡ cell_by windows x bank
+cell_of-by : (controls : List ℕ) (windows : List Window) (bank x : ℕ) → AreWindows controls windows → bank < 9 → cell_of controls bank x ≡ cell_among windows x bank
 unfolding cell_of
 cell_of-by controls windows bank x are h = ap (λ (w : Window). cell_in w (first_cell bank) x) (sym (are.each bank h))
 
 none_moved : (controls : List ℕ) (windows : List Window) (x j bank : ℕ) → AreWindows controls windows → bank < 9 → x % 8192 + j < 8192 →
-    cell_by windows (x / 8192 * 8192) bank ≡ None → cell_of controls bank (x + j) ≡ None
+    cell_among windows (x / 8192 * 8192) bank ≡ None → cell_of controls bank (x + j) ≡ None
 none_moved controls windows x j bank are h small e =
     let whole : x / 8192 * 8192 % 8192 ≡ 0 = omega arith in
     cell_of-by controls windows bank (x + j) are h ∙ rw (page_start x j)
     (none_in_page (window_at windows bank) (first_cell bank) (0xA4000 - first_cell bank) (x / 8192 * 8192) (x % 8192 + j) (are.roomy bank h) whole small e)
 
 some_moved : (controls : List ℕ) (windows : List Window) (x j bank cell : ℕ) → AreWindows controls windows → bank < 9 → x % 8192 + j < 8192 →
-    cell_by windows (x / 8192 * 8192) bank ≡ Some cell → cell_of controls bank (x + j) ≡ Some (cell + (x % 8192 + j))
+    cell_among windows (x / 8192 * 8192) bank ≡ Some cell → cell_of controls bank (x + j) ≡ Some (cell + (x % 8192 + j))
 some_moved controls windows x j bank cell are h small e =
     let whole : x / 8192 * 8192 % 8192 ≡ 0 = omega arith in
     cell_of-by controls windows bank (x + j) are h ∙ rw (page_start x j)
@@ -97,7 +97,7 @@ some_moved controls windows x j bank cell are h small e =
 
 -- what a page says of an address of it
 pub found_by : (controls : List ℕ) (windows : List Window) (x : ℕ) (page : Page) → AreWindows controls windows →
-    IsPageBelow (cell_by windows (x / 8192 * 8192)) 9 page → IsFound controls x (moved page (x % 8192))
+    IsPageBelow (cell_among windows (x / 8192 * 8192)) 9 page → IsFound controls x (moved page (x % 8192))
 found_by controls windows x Empty are h = λ j small bank known. none_moved controls windows x j bank are known small (h bank known)
 found_by controls windows x (One cell) are h =
     let whole : x / 8192 * 8192 % 8192 ≡ 0 = omega arith in
@@ -143,7 +143,7 @@ found_at controls windows pages x page long are these small e =
     let k : x / 8192 < 298 = omega arith in
     let in_pages : x / 8192 < length pages = omega (arith, long) in
     let same : page_at pages (x / 8192) ≡ page = get_or_default pages (x / 8192) Several Empty in_pages ∙ e in
-    let P : Page → Type 0 = λ p. IsPageBelow (cell_by windows (x / 8192 * 8192)) 9 p in
+    let P : Page → Type 0 = λ p. IsPageBelow (cell_among windows (x / 8192 * 8192)) 9 p in
     found_by controls windows x page are (subst P same (these (x / 8192) k))
 
 -- ---- what controls keep

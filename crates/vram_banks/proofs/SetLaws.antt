@@ -11,7 +11,7 @@ use Rattle.ds_base.specs.declared.memories.Space.TheVariants.{ABg, BBg, AObj, BO
 use Rattle.ds_base.specs.declared.memories.Width.{Width}
 use Rattle.ds_base.specs.declared.memories.Width.TheVariants.{Byte, Half, Word}
 use Rattle.vram_banks.specs.BankMap.{BankRow, chosen_row, row_start, first_cell, IsThere}
-use Rattle.vram_banks.specs.paging.Flat.{origin_of, window_of, cell_of, or_at, put_at}
+use Rattle.vram_banks.specs.paging.Flat.{origin_of, window_of, cell_of, or_at, put_in_cells}
 use Rattle.vram_banks.specs.Cells.{Banks, byte_or_0, or_below, put_there, put_below, cell_there, vram_byte, with_vram_byte, vram_value, vram_written, IsOr, IsCellAt, IsRead, IsWritten}
 use Rattle.vram_banks.proofs.MapLaws.{stands_cell, cell_stands, there_flat, Found, found_window, one_cell, fits_of, first_cell-inside}
 use Rattle.vram_banks.proofs.Cases.{same_or_not}
@@ -266,16 +266,16 @@ unfolding put_below
 put_others zero f x bytes i none = refl
 put_others (suc n) f x bytes i none = put_elsewhere (f n) x (put_below n f x bytes) i (none n (omega arith)) ∙ put_others n f x bytes i (λ b lt. none b (omega arith))
 
-put_at-length : (controls : List ℕ) (x value : ℕ) (bytes : List ℕ) → length (put_at controls x value bytes) ≡ length bytes
-unfolding put_at
+put_at-length : (controls : List ℕ) (x value : ℕ) (bytes : List ℕ) → length (put_in_cells controls x value bytes) ≡ length bytes
+unfolding put_in_cells
 put_at-length controls x value bytes = put_below-length 9 (λ b. cell_of controls b x) value bytes
 
-put_at-in : (controls : List ℕ) (x value : ℕ) (bytes : List ℕ) (cell : ℕ) → Hit controls x cell → cell < length bytes → get_or (put_at controls x value bytes) cell 0 ≡ value
-unfolding put_at
+put_at-in : (controls : List ℕ) (x value : ℕ) (bytes : List ℕ) (cell : ℕ) → Hit controls x cell → cell < length bytes → get_or (put_in_cells controls x value bytes) cell 0 ≡ value
+unfolding put_in_cells
 put_at-in controls x value bytes cell h small = put_in 9 (λ b. cell_of controls b x) value bytes h.bank cell h.known h.there small
 
-put_at-others : (controls : List ℕ) (x value : ℕ) (bytes : List ℕ) (cell : ℕ) → ¬ Hit controls x cell → get_or (put_at controls x value bytes) cell 0 ≡ get_or bytes cell 0
-unfolding put_at
+put_at-others : (controls : List ℕ) (x value : ℕ) (bytes : List ℕ) (cell : ℕ) → ¬ Hit controls x cell → get_or (put_in_cells controls x value bytes) cell 0 ≡ get_or bytes cell 0
+unfolding put_in_cells
 put_at-others controls x value bytes cell none = put_others 9 (λ b. cell_of controls b x) value bytes cell (λ b known e. none (record { bank = b; known = known; there = e }))
 
 -- what is known of a cell that stands at a flat address
@@ -316,7 +316,7 @@ one_address controls x y cell h k =
 -- the first n bytes of a value are put at the flat addresses from x on
 abbrev puts : ℕ → List ℕ → ℕ → ℕ → List ℕ → List ℕ
 puts zero controls x value bytes = bytes
-puts (suc n) controls x value bytes = put_at controls (x + n) (value / 256 ^ n % 256) (puts n controls x value bytes)
+puts (suc n) controls x value bytes = put_in_cells controls (x + n) (value / 256 ^ n % 256) (puts n controls x value bytes)
 
 puts-length : (n : ℕ) (controls : List ℕ) (x value : ℕ) (bytes : List ℕ) → length (puts n controls x value bytes) ≡ length bytes
 puts-length zero controls x value bytes = refl
@@ -346,17 +346,17 @@ puts-others (suc n) controls x value bytes cell none =
     put_at-others controls (x + n) (value / 256 ^ n % 256) (puts n controls x value bytes) cell (none n (omega arith))
     ∙ puts-others n controls x value bytes cell (λ k lt. none k (omega arith))
 
-put_first : (controls : List ℕ) (x value : ℕ) (bytes : List ℕ) → put_at controls x (value % 256) bytes ≡ put_at controls (x + 0) (value / 1 % 256) bytes
+put_first : (controls : List ℕ) (x value : ℕ) (bytes : List ℕ) → put_in_cells controls x (value % 256) bytes ≡ put_in_cells controls (x + 0) (value / 1 % 256) bytes
 put_first controls x value bytes =
     let e : x ≡ x + 0 = omega arith in
     let f : value % 256 ≡ value / 1 % 256 = omega arith in
-    ap (λ (y : ℕ). put_at controls y (value % 256) bytes) e ∙ ap (λ (y : ℕ). put_at controls (x + 0) y bytes) f
+    ap (λ (y : ℕ). put_in_cells controls y (value % 256) bytes) e ∙ ap (λ (y : ℕ). put_in_cells controls (x + 0) y bytes) f
 
-put_by-puts : (width : Width) (controls : List ℕ) (x value : ℕ) (bytes : List ℕ) → put_by width (put_at controls) x value bytes ≡ puts (width_bytes width) controls x value bytes
+put_by-puts : (width : Width) (controls : List ℕ) (x value : ℕ) (bytes : List ℕ) → put_by width (put_in_cells controls) x value bytes ≡ puts (width_bytes width) controls x value bytes
 put_by-puts Byte controls x value bytes = put_first controls x value bytes
-put_by-puts Half controls x value bytes = ap (λ (b : List ℕ). put_at controls (x + 1) (value / 256 % 256) b) (put_first controls x value bytes)
+put_by-puts Half controls x value bytes = ap (λ (b : List ℕ). put_in_cells controls (x + 1) (value / 256 % 256) b) (put_first controls x value bytes)
 put_by-puts Word controls x value bytes =
-    ap (λ (b : List ℕ). put_at controls (x + 3) (value / 16777216 % 256) (put_at controls (x + 2) (value / 65536 % 256) (put_at controls (x + 1) (value / 256 % 256) b))) (put_first controls x value bytes)
+    ap (λ (b : List ℕ). put_in_cells controls (x + 3) (value / 16777216 % 256) (put_in_cells controls (x + 2) (value / 65536 % 256) (put_in_cells controls (x + 1) (value / 256 % 256) b))) (put_first controls x value bytes)
 
 put_below-same : (n : ℕ) (f g : ℕ → Option ℕ) (value : ℕ) (bytes : List ℕ) → ((b : ℕ) → b < n → f b ≡ g b) → put_below n f value bytes ≡ put_below n g value bytes
 unfolding put_below
@@ -365,8 +365,8 @@ put_below-same (suc n) f g value bytes h = rw (put_below-same n f g value bytes 
 
 -- a byte is put at an address of a space as it is at the flat address
 put_flat : (v : Banks) (bytes : List ℕ) (space : Space) (at value x : ℕ) → x ≡ origin_of space + at % space_size space →
-    with_vram_byte space at value (record v { bytes = bytes }) ≡ record v { bytes = put_at v.controls x value bytes }
-unfolding with_vram_byte put_at
+    with_vram_byte space at value (record v { bytes = bytes }) ≡ record v { bytes = put_in_cells v.controls x value bytes }
+unfolding with_vram_byte put_in_cells
 put_flat v bytes space at value x e =
     let small = mod_below at (space_size space) (space_size-whole space).some in
     ap (λ (b : List ℕ). record v { bytes = b })
@@ -375,20 +375,20 @@ put_flat v bytes space at value x e =
 
 -- an access's bytes are
 pub written_flat : (v : Banks) (space : Space) (at : ℕ) (width : Width) (value : ℕ) →
-    vram_written v space at width value ≡ record v { bytes = put_by width (put_at v.controls) (aligned_down width (origin_of space + at % space_size space)) value v.bytes }
+    vram_written v space at width value ≡ record v { bytes = put_by width (put_in_cells v.controls) (aligned_down width (origin_of space + at % space_size space)) value v.bytes }
 written_flat v space at Byte value =
     put_flat v v.bytes space (aligned_down Byte at) (value % 256) (aligned_down Byte (origin_of space + at % space_size space)) (flat_first space at Byte (omega arith))
 written_flat v space at Half value =
     let x : ℕ = aligned_down Half (origin_of space + at % space_size space) in
-    let b0 : List ℕ = put_at v.controls x (value % 256) v.bytes in
+    let b0 : List ℕ = put_in_cells v.controls x (value % 256) v.bytes in
     ap (with_vram_byte space (aligned_down Half at + 1) (value / 256 % 256)) (put_flat v v.bytes space (aligned_down Half at) (value % 256) x (flat_first space at Half (omega arith)))
     ∙ put_flat v b0 space (aligned_down Half at + 1) (value / 256 % 256) (x + 1) (flat_aligned space at Half 1 (omega arith))
 written_flat v space at Word value =
     let x : ℕ = aligned_down Word (origin_of space + at % space_size space) in
     let y : ℕ = aligned_down Word at in
-    let b0 : List ℕ = put_at v.controls x (value % 256) v.bytes in
-    let b1 : List ℕ = put_at v.controls (x + 1) (value / 256 % 256) b0 in
-    let b2 : List ℕ = put_at v.controls (x + 2) (value / 65536 % 256) b1 in
+    let b0 : List ℕ = put_in_cells v.controls x (value % 256) v.bytes in
+    let b1 : List ℕ = put_in_cells v.controls (x + 1) (value / 256 % 256) b0 in
+    let b2 : List ℕ = put_in_cells v.controls (x + 2) (value / 65536 % 256) b1 in
     let p0 = put_flat v v.bytes space y (value % 256) x (flat_first space at Word (omega arith)) in
     let p1 = put_flat v b0 space (y + 1) (value / 256 % 256) (x + 1) (flat_aligned space at Word 1 (omega arith)) in
     let p2 = put_flat v b1 space (y + 2) (value / 65536 % 256) (x + 2) (flat_aligned space at Word 2 (omega arith)) in

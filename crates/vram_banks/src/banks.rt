@@ -6,10 +6,10 @@ ghost use Rattle.ds_base.specs.declared.memories.Space.TheVariants.{Arm7};
 ghost use Rattle.ds_base.specs.Numbers.{width_bytes, aligned_down, value_by, put_by};
 ghost use Rattle.vram_banks.specs.BankMap.{kept_bank_control, StandsIn};
 ghost use Rattle.vram_banks.specs.Cells.{Banks, AreBanks, blank_banks, byte_or_0, put_there, vram_byte, vram_value, vram_written, allotted_bit, allotted_of, IsCellAt, IsOr, IsRead, IsWritten};
-ghost use Rattle.vram_banks.specs.paging.Flat.{or_at, put_at};
+ghost use Rattle.vram_banks.specs.paging.Flat.{or_at, put_in_cells};
 
 use crate::cells::Cells;
-use crate::maps::{Map, PAGE, Page};
+use crate::maps::{BankMap, PAGE, Page};
 use crate::windows::{LARGEST, flat};
 use ds_base::{Space, Width};
 use std::alloc::{AllocError, Global};
@@ -20,7 +20,7 @@ use std::marker::Model;
 #[derive(Drop)]
 pub struct Vram {
     cells: Cells,
-    map: Map,
+    map: BankMap,
 }
 
 impl Model for Vram {
@@ -53,7 +53,7 @@ impl Vram {
         let cells = Cells::new(alloc)?;
         Ok(Vram {
             cells,
-            map: Map::new(),
+            map: BankMap::new(),
         })
     }
 
@@ -165,9 +165,9 @@ impl Vram {
     }
 
     /// Writes all cells at a flat address, bank by bank.
-    #[tactic(auto, using(crate::proofs::CellLemmas::put_none, crate::proofs::CellLemmas::put_more), unfolding(crate::specs::paging::Flat::put_at))]
+    #[tactic(auto, using(crate::proofs::CellLemmas::put_none, crate::proofs::CellLemmas::put_more), unfolding(crate::specs::paging::Flat::put_in_cells))]
     fn put_several(&mut self, x: u32, value: u8)
-        ensures { self.new ≡ record self.old { bytes = put_at self.old.controls x value self.old.bytes } }
+        ensures { self.new ≡ record self.old { bytes = put_in_cells self.old.controls x value self.old.bytes } }
     {
         for bank in 0..9u8 {
             let cell = self.map.cell(bank, x);
@@ -177,7 +177,7 @@ impl Vram {
 
     fn put_byte(&mut self, x: u32, value: u8)
         requires { x < 0x254000 }
-        ensures { self.new ≡ record self.old { bytes = put_by Byte (put_at self.old.controls) x value self.old.bytes } }
+        ensures { self.new ≡ record self.old { bytes = put_by Byte (put_in_cells self.old.controls) x value self.old.bytes } }
     {
         match self.map.found(x) {
             Page::Empty => {}
@@ -189,7 +189,7 @@ impl Vram {
     fn put_half(&mut self, x: u32, value: u16)
         requires even { x % 2 ≡ 0 }
         requires small { x < 0x254000 }
-        ensures { self.new ≡ record self.old { bytes = put_by Half (put_at self.old.controls) x value self.old.bytes } }
+        ensures { self.new ≡ record self.old { bytes = put_by Half (put_in_cells self.old.controls) x value self.old.bytes } }
     {
         match self.map.found(x) {
             Page::Empty => {}
@@ -205,7 +205,7 @@ impl Vram {
     fn put_word(&mut self, x: u32, value: u32)
         requires whole { x % 4 ≡ 0 }
         requires small { x < 0x254000 }
-        ensures { self.new ≡ record self.old { bytes = put_by Word (put_at self.old.controls) x value self.old.bytes } }
+        ensures { self.new ≡ record self.old { bytes = put_by Word (put_in_cells self.old.controls) x value self.old.bytes } }
     {
         match self.map.found(x) {
             Page::Empty => {}
@@ -223,7 +223,7 @@ impl Vram {
     /// An access at a flat address.
     fn write_flat(&mut self, x: u32, width: Width, value: u32)
         requires { x < 0x254000 }
-        ensures { self.new ≡ record self.old { bytes = put_by width (put_at self.old.controls) (aligned_down width x) value self.old.bytes } }
+        ensures { self.new ≡ record self.old { bytes = put_by width (put_in_cells self.old.controls) (aligned_down width x) value self.old.bytes } }
     {
         match width {
             Width::Byte => self.put_byte(x, (value % 0x100) as u8),

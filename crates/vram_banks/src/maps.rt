@@ -4,7 +4,7 @@ ghost use Rattle.std.specs.Prelude.{◌≡◌, length, ◌<◌, ◌≤◌, ◌+�
 ghost use Rattle.vram_banks.specs.BankMap.{first_cell, kept_bank_control};
 ghost use Rattle.vram_banks.specs.Cells.{IsControl};
 ghost use Rattle.vram_banks.specs.paging.Flat.{cell_in, cell_of, no_window, IsRoomy};
-ghost use Rattle.vram_banks.specs.paging.Pages.{window_at, cell_by, with_cell, IsPageBelow, AreWindows, ArePages, IsFound};
+ghost use Rattle.vram_banks.specs.paging.Pages.{window_at, cell_among, with_cell, IsPageBelow, AreWindows, ArePages, IsFound};
 
 use crate::windows::{Window, bank_window, first_cell, kept_bank_control, nowhere};
 use std::marker::Model;
@@ -58,7 +58,7 @@ fn with_cell(page: Page, cell: Option<u32>) -> Page
 #[tactic(auto, using(crate::proofs::PageLemmas::page_more))]
 fn page_at(windows: &[Window; 9], x: u32) -> Page
     requires { (bank : ℕ) → bank < 9 → IsRoomy (0xA4000 - first_cell bank) (window_at windows.now bank) }
-    ensures { IsPageBelow (cell_by windows.now x) 9 result }
+    ensures { IsPageBelow (cell_among windows.now x) 9 result }
 {
     let mut page = Page::Empty;
     for bank in 0..9u8 {
@@ -82,13 +82,13 @@ fn fill(windows: &[Window; 9], pages: &mut [Page; PAGES])
 /// The bank map: the nine controls, with where each bank stands by them and what stands in each page. Contracts see it as the
 /// list of the controls.
 #[derive(Drop)]
-pub struct Map {
+pub struct BankMap {
     controls: [u8; 9],
     windows: [Window; 9],
     pages: [Page; PAGES],
 }
 
-impl Model for Map {
+impl Model for BankMap {
     ghost use Rattle.std.specs.Prelude.{List, ℕ, ◌≡◌, ◌<◌, length, slice_index};
     ghost use Rattle.vram_banks.specs.Cells.{IsControl};
     ghost use Rattle.vram_banks.specs.paging.Pages.{AreWindows, ArePages};
@@ -100,15 +100,15 @@ impl Model for Map {
     ghost invariant = { λ m. (length m.pages ≡ 298) × AreWindows m.controls m.windows × ArePages m.windows m.pages 298 × ((bank : ℕ) → bank < 9 → IsControl bank (slice_index m.controls bank)) };
 }
 
-impl Map {
+impl BankMap {
     /// No bank is enabled.
-    pub fn new() -> Map
+    pub fn new() -> BankMap
         ensures { result ≡ 0 ∷ 0 ∷ 0 ∷ 0 ∷ 0 ∷ 0 ∷ 0 ∷ 0 ∷ 0 ∷ [] }
     {
         let windows = [nowhere(); 9];
         let mut pages = [Page::Empty; PAGES];
         fill(&windows, &mut pages);
-        Map {
+        BankMap {
             controls: [0; 9],
             windows,
             pages,

@@ -8,12 +8,12 @@ use Rattle.asm_text.specs.declared.sets.Set.{Set}
 use Rattle.asm_text.specs.declared.sets.Set.TheVariants.{Arm, Thumb}
 use Rattle.asm_text.specs.Listed.{listed, spelling}
 use Rattle.asm_text.specs.Starts.{raw_byte}
-use Rattle.asm_files.specs.declared.places.Place.{Place}
+use Rattle.asm_files.specs.declared.places.LinePlace.{LinePlace}
 use Rattle.asm_files.specs.declared.places.Piece.{Piece}
 use Rattle.asm_files.specs.declared.places.Piece.TheVariants.{Number, Byte}
 
 -- where the lines after the first begin
-abbrev pub first_place : ℕ → Place
+abbrev pub first_place : ℕ → LinePlace
 first_place at = record { at = at; left = 0 }
 
 -- how many bytes a word or half has
@@ -32,7 +32,7 @@ piece_bytes (Number s) = spelling_bytes s
 piece_bytes (Byte b) = b ∷ []
 
 -- a line is the statement of a word or half, after which comes the next; after a byte's line there is none
-pub record IsStatement (arch : Arch) (set : Set) (from : Place) (line bytes : List ℕ) (to : Place) : Type 0 where
+pub record IsStatement (arch : Arch) (set : Set) (from : LinePlace) (line bytes : List ℕ) (to : LinePlace) : Type 0 where
   pub whole : from.left ≡ 0
   pub number : ℕ
   pub in_range : IsInRange (spelling set number)
@@ -41,7 +41,7 @@ pub record IsStatement (arch : Arch) (set : Set) (from : Place) (line bytes : Li
   pub next : to ≡ record { at = (from.at + size set) % 2 ^ 32; left = 0 }
 
 -- a line is that of a byte: fewer than a word or half has are left
-pub record IsByteLine (set : Set) (from : Place) (line bytes : List ℕ) (to : Place) : Type 0 where
+pub record IsByteLine (set : Set) (from : LinePlace) (line bytes : List ℕ) (to : LinePlace) : Type 0 where
   pub few : from.left + 1 < size set
   pub number : ℕ
   pub in_range : number < 2 ^ 8
@@ -50,22 +50,22 @@ pub record IsByteLine (set : Set) (from : Place) (line bytes : List ℕ) (to : P
   pub next : to ≡ record { at = from.at; left = from.left + 1 }
 
 -- a line may stand at a place, has these bytes, and leads to the next place
-abbrev pub Leads : Arch → Set → Place → List ℕ → List ℕ → Place → Type 0
+abbrev pub Leads : Arch → Set → LinePlace → List ℕ → List ℕ → LinePlace → Type 0
 Leads arch set from line bytes to = IsStatement arch set from line bytes to ⊎ IsByteLine set from line bytes to
 
 -- so do lines, one after the other
-abbrev pub Path : Arch → Set → Place → List (List ℕ) → List ℕ → Place → Type 0
+abbrev pub Path : Arch → Set → LinePlace → List (List ℕ) → List ℕ → LinePlace → Type 0
 Path arch set from [] bytes to = (bytes ≡ []) × (to ≡ from)
 Path arch set from (line ∷ lines) bytes to =
-    (first : List ℕ) × (mid : Place) × (rest : List ℕ) × (Leads arch set from line first mid) × (bytes ≡ first ++ rest) × (Path arch set mid lines rest to)
+    (first : List ℕ) × (mid : LinePlace) × (rest : List ℕ) × (Leads arch set from line first mid) × (bytes ≡ first ++ rest) × (Path arch set mid lines rest to)
 
 -- lines can stand after a listing's first line
-pub record HasPath (arch : Arch) (set : Set) (from : Place) (lines : List (List ℕ)) (bytes : List ℕ) : Type 0 where
-  pub to : Place
+pub record HasPath (arch : Arch) (set : Set) (from : LinePlace) (lines : List (List ℕ)) (bytes : List ℕ) : Type 0 where
+  pub to : LinePlace
   pub path : Path arch set from lines bytes to
 
 -- how many lines can stand there before one that can't, or that lacks its line feed
-pub record EndsAt (arch : Arch) (set : Set) (from : Place) (lines : List (List ℕ)) (tail : List ℕ) (count : ℕ) : Type 0 where
+pub record EndsAt (arch : Arch) (set : Set) (from : LinePlace) (lines : List (List ℕ)) (tail : List ℕ) (count : ℕ) : Type 0 where
   pub within : count ≤ length lines
   pub bytes : List ℕ
   pub front : HasPath arch set from (take count lines) bytes

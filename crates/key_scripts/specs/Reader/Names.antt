@@ -18,9 +18,9 @@ unfoldable pub stands : List ℕ → List ℕ → Bool
 stands piece text = (common piece text == length piece) && may_end (drop (length piece) text)
 
 -- what the names after one tell, with that name, which has so many bytes with its mark
-abbrev pub taken : ℕ → Result ℕ ℕ → Result ℕ ℕ
-taken count (Ok bits) = Ok (1 + 2 * bits)
-taken count (Err most) = Err (count + most)
+abbrev pub after_name : ℕ → Result ℕ ℕ → Result ℕ ℕ
+after_name count (Ok bits) = Ok (1 + 2 * bits)
+after_name count (Err most) = Err (count + most)
 
 -- the same without it, where so many bytes of it stand there
 abbrev pub passed : ℕ → Result ℕ ℕ → Result ℕ ℕ
@@ -32,7 +32,7 @@ abbrev pub names_from : ℕ → List (List ℕ) → List ℕ → Result ℕ ℕ
 names_from mark [] [] = Ok 0
 names_from mark [] (b ∷ bs) = Err 0
 names_from mark (name ∷ names) text =
-    if stands (mark ∷ name) text then taken (length (mark ∷ name)) (names_from 43 names (drop (length (mark ∷ name)) text))
+    if stands (mark ∷ name) text then after_name (length (mark ∷ name)) (names_from 43 names (drop (length (mark ∷ name)) text))
     else passed (common (mark ∷ name) text) (names_from mark names text)
 
 -- what a loop over the names has at its end: the bits so far, the weight of the next name's bit, where the next mark would stand, and how

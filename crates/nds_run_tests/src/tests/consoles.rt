@@ -1,7 +1,7 @@
 //! Turns of a console: what each answers, and what it leaves.
 
 use ds_base::{LeftKind, LeftOut, Tick};
-use nds_rows::{BRANCH, Turns, cart_of_words, turned, turns_to_a_frame};
+use nds_rows::{BRANCH, TurnsTaken, cart_of_words, turned, turns_to_a_frame};
 use run_ahead::Turned;
 use std::alloc::{AllocError, Global};
 use std::process::Abort;
@@ -12,7 +12,7 @@ fn turns_of(
     alloc: Global,
     words: &[u32],
     limits: &[u64],
-) -> Result<Turns, AllocError> {
+) -> Result<TurnsTaken, AllocError> {
     let file = cart_of_words(alloc, words, &[BRANCH])?;
     let Some(turns) = turned(alloc, file, limits, 0x20_0004)? else {
         panic!(rt; "the cartridge is refused");

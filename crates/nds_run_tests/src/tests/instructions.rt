@@ -1,7 +1,7 @@
 //! The words that are built, on worked programs of ARM9 and ARM7.
 
 use super::{has_word, told};
-use nds_rows::{BRANCH, Came, MAIN, Told, run_words};
+use nds_rows::{BRANCH, Came, ConsoleTold, MAIN, run_words};
 use std::alloc::{AllocError, Global};
 use std::process::Abort;
 
@@ -12,7 +12,7 @@ fn after(
     nine: &[u32],
     seven: &[u32],
     ticks: &str,
-) -> Result<(Came, Told), AllocError> {
+) -> Result<(Came, ConsoleTold), AllocError> {
     let came = run_words(alloc, nine, seven, ticks)?;
     assert!(rt; came.note.is_empty());
     let seen = told(rt, &came);

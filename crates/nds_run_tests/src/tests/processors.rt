@@ -2,13 +2,13 @@
 
 use super::{has_word, told};
 use nds_rows::{
-    BRANCH, Came, DTCM, END_AT, ITCM, MAIN, OAM, PALETTE, Told, VRAM, end_record, run_words,
+    BRANCH, Came, ConsoleTold, DTCM, END_AT, ITCM, MAIN, OAM, PALETTE, VRAM, end_record, run_words,
 };
 use std::alloc::{AllocError, Global};
 use std::process::Abort;
 
 /// A run of these words of ARM9, and then a branch to itself, to tick 60.
-fn after(rt: &impl Abort, alloc: Global, words: &[u32]) -> Result<(Came, Told), AllocError> {
+fn after(rt: &impl Abort, alloc: Global, words: &[u32]) -> Result<(Came, ConsoleTold), AllocError> {
     let mut program = Vec::from_slice(alloc, words)?;
     program.push(BRANCH)?;
     let came = run_words(alloc, program.as_slice(), &[BRANCH], "60")?;

@@ -1,7 +1,7 @@
 //! Runs that stop: the record, the note, and what the console tells afterwards.
 
 use super::told;
-use nds_rows::{BRANCH, Told, run_words};
+use nds_rows::{BRANCH, ConsoleTold, run_words};
 use std::alloc::{AllocError, Global};
 use std::process::Abort;
 
@@ -35,7 +35,7 @@ fn stop_record(alloc: Global, row: &Row<'_>) -> Result<Vec<u8>, AllocError> {
 }
 
 /// The counts that a console tells.
-fn counts_of(told: &Told) -> [u64; 4] {
+fn counts_of(told: &ConsoleTold) -> [u64; 4] {
     let counts = told.counts;
     [counts.nine, counts.seven, counts.events, counts.turns]
 }
@@ -261,7 +261,7 @@ fn stops_with(
     alloc: Global,
     words: &[u32],
     value: u32,
-) -> Result<Told, AllocError> {
+) -> Result<ConsoleTold, AllocError> {
     let came = run_words(alloc, words, &[BRANCH], "9")?;
     let out = came.out.as_slice();
     assert!(rt; out.ends_with(&value.to_le_bytes()), "{value}");

@@ -1,7 +1,7 @@
 //! Interrupts, halts, what passes between the processors, and the boot ROM's functions.
 
 use super::{counted, has_word, run_to, told};
-use nds_rows::{BRANCH, Came, DTCM, Image, MAIN, OWN7, Told, bytes_of, call, cart};
+use nds_rows::{BRANCH, Came, ConsoleTold, DTCM, Image, MAIN, OWN7, bytes_of, call, cart};
 use std::alloc::{AllocError, Global};
 use std::process::Abort;
 
@@ -151,7 +151,7 @@ fn words_go_through_the_fifos(rt: HostRuntime) -> Result<(), AllocError> {
 }
 
 /// ARM9's words, and then a branch to itself, to tick 2000.
-fn long(rt: &impl Abort, alloc: Global, words: &[u32]) -> Result<(Came, Told), AllocError> {
+fn long(rt: &impl Abort, alloc: Global, words: &[u32]) -> Result<(Came, ConsoleTold), AllocError> {
     let mut program = Vec::from_slice(alloc, words)?;
     program.push(BRANCH)?;
     run_to(rt, alloc, program.as_slice(), &[BRANCH], "2000")
@@ -162,7 +162,7 @@ fn long_of_seven(
     rt: &impl Abort,
     alloc: Global,
     words: &[u32],
-) -> Result<(Came, Told), AllocError> {
+) -> Result<(Came, ConsoleTold), AllocError> {
     let mut program = Vec::from_slice(alloc, words)?;
     program.push(BRANCH)?;
     run_to(rt, alloc, &[BRANCH], program.as_slice(), "4000")

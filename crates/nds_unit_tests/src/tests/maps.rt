@@ -2,7 +2,8 @@
 
 use super::{has_word, told};
 use nds_rows::{
-    BRANCH, Came, DTCM, Image, MAIN, OWN7, SHARED, Told, VRAM, bytes_of, call, cart, run_words,
+    BRANCH, Came, ConsoleTold, DTCM, Image, MAIN, OWN7, SHARED, VRAM, bytes_of, call, cart,
+    run_words,
 };
 use std::alloc::{AllocError, Global};
 use std::process::Abort;
@@ -16,7 +17,7 @@ fn beside(
     alloc: Global,
     nine: &[u32],
     seven: &[u32],
-) -> Result<(Came, Told), AllocError> {
+) -> Result<(Came, ConsoleTold), AllocError> {
     let mut program = Vec::from_slice(alloc, nine)?;
     program.push(BRANCH)?;
     let mut other = Vec::from_slice(alloc, seven)?;

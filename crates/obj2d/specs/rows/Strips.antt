@@ -5,33 +5,33 @@ use Rattle.tiles2d.specs.Tiles.{flipped}
 use Rattle.obj2d.specs.declared.layers.ObjectPixel.{ObjectPixel}
 use Rattle.obj2d.specs.declared.objects.Display.{Display}
 use Rattle.obj2d.specs.declared.objects.Object.{Object}
-use Rattle.obj2d.specs.Attributes.{has_256, width, box_width, priority, mode, flips_across}
+use Rattle.obj2d.specs.Attributes.{object_has_256, width, box_width, priority, mode, flips_across}
 use Rattle.obj2d.specs.Places.{across}
-use Rattle.obj2d.specs.ObjectLayer.{Seen, pixel_at, with_object}
+use Rattle.obj2d.specs.ObjectLayer.{SeenObject, pixel_at, with_object}
 use Rattle.obj2d.specs.ObjectPixels.{object_space, object_index, object_colour, tile_address, box_pixel}
 
 -- How the code draws a row: an object's box has a strip of pixels, and strips are laid over one another. No public call speaks of it.
 
 -- where the row of the object's tile begins that is tx tiles right, and shows line y of the object
-abbrev pub tile_row : Display → Object → ℕ → ℕ → ℕ
-tile_row display o y tx = tile_address display o tx (y / 8) + (if has_256 o then 8 else 4) * (y % 8)
+abbrev pub object_tile_row : Display → Object → ℕ → ℕ → ℕ
+object_tile_row display o y tx = tile_address display o tx (y / 8) + (if object_has_256 o then 8 else 4) * (y % 8)
 
 -- the first n tiles' rows of bytes, `count` bytes each
-abbrev pub ArePacked : Banks → Display → Object → ℕ → ℕ → List ℕ → ℕ → Type 0
-ArePacked v display o y count bytes n =
-    (k i : ℕ) → k < n → i < count → slice_index bytes (count * k + i) ≡ vram_byte v (object_space display.engine) (tile_row display o y k + i)
+abbrev pub AreTileRows : Banks → Display → Object → ℕ → ℕ → List ℕ → ℕ → Type 0
+AreTileRows v display o y count bytes n =
+    (k i : ℕ) → k < n → i < count → slice_index bytes (count * k + i) ≡ vram_byte v (object_space display.engine) (object_tile_row display o y k + i)
 
 -- the indices of the object's line y
-abbrev pub AreIndices : Banks → Display → Object → ℕ → List ℕ → Type 0
-AreIndices v display o y indices = (x : ℕ) → x < width o → slice_index indices x ≡ object_index v display o x y
+abbrev pub AreLineIndices : Banks → Display → Object → ℕ → List ℕ → Type 0
+AreLineIndices v display o y indices = (x : ℕ) → x < width o → slice_index indices x ≡ object_index v display o x y
 
 -- which tile of so many stands at place k of a row, flipped or not
 abbrev pub mirrored_tile : Bool → ℕ → ℕ → ℕ
 mirrored_tile flip count k = if flip then count - 1 - k else k
 
 -- the pixels of the first n tiles of the strip, eight each, from the object's indices
-abbrev pub ArePainted : Banks → List ℕ → Display → Object → List ℕ → List ℕ → ℕ → Type 0
-ArePainted v palette display o indices pixels n =
+abbrev pub AreObjectPixels : Banks → List ℕ → Display → Object → List ℕ → List ℕ → ℕ → Type 0
+AreObjectPixels v palette display o indices pixels n =
     (k i : ℕ) → k < n → i < 8 →
     slice_index pixels (8 * k + i)
     ≡ indexed_pixel (object_colour v palette display o)
@@ -42,7 +42,7 @@ abbrev pub AreBox : Banks → List ℕ → List ℕ → Display → Object → �
 AreBox v palette oam display o y pixels = (x : ℕ) → x < box_width o → slice_index pixels x ≡ box_pixel v palette oam display o x y
 
 -- what an object has at place x of the line, of whose strip the first n pixels count
-abbrev pub strip_seen : Object → List ℕ → ℕ → ℕ → Seen
+abbrev pub strip_seen : Object → List ℕ → ℕ → ℕ → SeenObject
 strip_seen o pixels n x =
     record { colour = if nat_lt (across o x) n then slice_index pixels (across o x) else 0; priority = priority o; mode = mode o }
 

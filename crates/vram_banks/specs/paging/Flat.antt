@@ -53,5 +53,5 @@ unfoldable pub or_at : List ℕ → List ℕ → ℕ → ℕ
 or_at controls bytes x = or_below 9 (λ bank. byte_or_0 bytes (cell_of controls bank x))
 
 -- a value is put into all cells at a flat address
-unfoldable pub put_at : List ℕ → ℕ → ℕ → List ℕ → List ℕ
-put_at controls x value bytes = put_below 9 (λ bank. cell_of controls bank x) value bytes
+unfoldable pub put_in_cells : List ℕ → ℕ → ℕ → List ℕ → List ℕ
+put_in_cells controls x value bytes = put_below 9 (λ bank. cell_of controls bank x) value bytes

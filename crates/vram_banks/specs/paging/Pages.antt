@@ -15,8 +15,8 @@ pub record AreWindows (controls : List ℕ) (windows : List Window) : Type 0 whe
   pub each : (bank : ℕ) → bank < 9 → window_at windows bank ≡ window_of bank (slice_index controls bank)
   pub roomy : (bank : ℕ) → bank < 9 → IsRoomy (0xA4000 - first_cell bank) (window_at windows bank)
 
-abbrev pub cell_by : List Window → ℕ → ℕ → Option ℕ
-cell_by windows x bank = cell_in (window_at windows bank) (first_cell bank) x
+abbrev pub cell_among : List Window → ℕ → ℕ → Option ℕ
+cell_among windows x bank = cell_in (window_at windows bank) (first_cell bank) x
 
 -- of the banks below n, of which f tells the cell that stands somewhere, none has one
 abbrev pub NoneBelow : (ℕ → Option ℕ) → ℕ → Type 0
@@ -46,7 +46,7 @@ page_at pages k = slice_index_or pages k Several
 
 -- the first n pages say what stands at their first addresses
 abbrev pub ArePages : List Window → List Page → ℕ → Type 0
-ArePages windows pages n = (k : ℕ) → k < n → IsPageBelow (cell_by windows (k * 8192)) 9 (page_at pages k)
+ArePages windows pages n = (k : ℕ) → k < n → IsPageBelow (cell_among windows (k * 8192)) 9 (page_at pages k)
 
 -- what stands at a flat address and from there on to the end of its page
 abbrev pub IsFound : List ℕ → ℕ → Page → Type 0

@@ -1,6 +1,6 @@
 use Rattle.std.proofs.Common.{◌≤◌, length, map}
+use Rattle.ds_base.specs.Texts.{text_of}
 use Rattle.asm_text.specs.Starts.{raw_byte}
-use Rattle.asm_files.specs.Listings.{text_of}
 use Rattle.asm_files.specs.Writer.Pages.{Passing}
 use Rattle.asm_files.proofs.writing.write_bytes.Given as goal
 

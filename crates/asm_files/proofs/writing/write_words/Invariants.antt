@@ -1,5 +1,6 @@
 use Rattle.std.proofs.Common.{◌≤◌, length}
-use Rattle.asm_files.specs.Listings.{text_of, arm_lines}
+use Rattle.ds_base.specs.Texts.{text_of}
+use Rattle.asm_files.specs.Listings.{arm_lines}
 use Rattle.asm_files.specs.Writer.Pages.{Passing}
 use Rattle.asm_files.proofs.writing.write_words.Given as goal
 

@@ -15,7 +15,7 @@ pub returns-then-layer-eq1 : goal.returns-then-layer-eq1
 returns-then-layer-eq1 c = λ i lt.
     let index : ℕ = get_or c.args.indices.now (flipped (bit 10 c.args.entry) i) 0 in
     c.paint_extended.ensures i lt
-    ∙ ap (λ space. indexed_pixel (extended_colour c.args.vram.now space c.extended_palette.result) index) c.palette_space-space.ensures
+    ∙ ap (λ space. indexed_pixel (extended_colour c.args.vram.now space c.extended_palette.result) index) c.background_palette_space-space.ensures
     ∙ painted_extended c.args.vram.now c.args.palette.now c.args.layer.now c.args.entry c.extended_palette.result index
     (sym c.has_256.ensures ∙ c.if-not-has_256.false) (on_by (c.args.layer.now.display / 2 ^ 30 % 2) c.if-layer-eq1.true) c.extended_palette.ensures
 

@@ -1,5 +1,5 @@
 use Rattle.std.proofs.Common.{◌≡◌, ◌≤◌, vec_len, ◌+◌, ◌-◌, length}
-use Rattle.ds_io.specs.Shelves.{Took}
+use Rattle.ds_io.proofs.ShelfLemmas.{Took}
 use Rattle.ds_io.proofs.reads.read_all.Given as goal
 
 abbrev pub invariant-loop-buffer : goal.invariant-loop-buffer

@@ -1,5 +1,5 @@
 use Rattle.std.proofs.Common.{length, ◌-◌, ◌≤◌, take}
-use Rattle.key_scripts.specs.Scripts.{HasNoFeed}
+use Rattle.ds_base.specs.Texts.{HasNoFeed}
 use Rattle.key_scripts.proofs.lines.first_line.Given as goal
 
 abbrev pub invariant-loop-end : goal.invariant-loop-end

@@ -1,12 +1,12 @@
 use Rattle.std.proofs.Common.{◌≤◌, ◌+◌, length}
 use Rattle.key_scripts.specs.Scripts.{AreLines}
-use Rattle.key_scripts.specs.Reader.Scripts.{IsRead}
+use Rattle.key_scripts.specs.Reader.Scripts.{AreRead}
 use Rattle.key_scripts.proofs.scripts.read_script.Given as goal
 
 abbrev pub invariant-loop-rest : goal.invariant-loop-rest
 invariant-loop-rest l = record {
   good : AreLines l.keys;
-  read : IsRead l.bytes l.keys l.rest;
+  read : AreRead l.bytes l.keys l.rest;
   few : length l.keys + length l.rest ≤ length l.bytes;
 }
 

@@ -1,6 +1,6 @@
 use Rattle.std.proofs.Common.{ℕ, ◌≡◌, ◌<◌, get_or}
-use Rattle.obj2d.specs.ObjectPixels.{affine_pixel}
+use Rattle.obj2d.specs.ObjectPixels.{turned_pixel}
 use Rattle.obj2d.proofs.strips.affine_strip.Given as goal
 
 abbrev pub invariant-loop-x : goal.invariant-loop-x
-invariant-loop-x l = (x : ℕ) → x < l.x → get_or l.into x 0 ≡ affine_pixel l.vram l.palette l.display l.object l.turn x l.y
+invariant-loop-x l = (x : ℕ) → x < l.x → get_or l.into x 0 ≡ turned_pixel l.vram l.palette l.display l.object l.turn x l.y

@@ -1,6 +1,6 @@
 use Rattle.std.proofs.Common.{◌≡◌, ◌∙◌, ap, sym, subst, arith}
 use Rattle.ds_base.specs.declared.memories.Width.TheVariants.{Word}
-use Rattle.vram_banks.specs.paging.Flat.{put_at}
+use Rattle.vram_banks.specs.paging.Flat.{put_in_cells}
 use Rattle.vram_banks.specs.Cells.{Banks}
 use Rattle.ds_base.specs.Numbers.{put_by}
 use Rattle.vram_banks.proofs.CellLemmas.{with_bytes, put_to_empty, put_to_one}
@@ -9,11 +9,11 @@ use Rattle.vram_banks.proofs.banks.Vram.put_word.Goals as goal
 pub returns-in-Empty : goal.returns-in-Empty
 returns-in-Empty c =
     let v = c.self.inside in
-    let P : Banks → Type 0 = λ s. s ≡ record s { bytes = put_by Word (put_at s.controls) c.args.x c.args.value s.bytes } in
+    let P : Banks → Type 0 = λ s. s ≡ record s { bytes = put_by Word (put_in_cells s.controls) c.args.x c.args.value s.bytes } in
     subst P c.self.view_is (ap (with_bytes v.map) (sym (put_to_empty Word v.map c.args.x c.args.value v.cells c.in-Empty.ensures (omega arith))))
 
 pub returns-in-One : goal.returns-in-One
 returns-in-One c =
     let v = c.self.inside in
-    let P : Banks → Type 0 = λ s. with_bytes v.map c.put_word.new.self ≡ record s { bytes = put_by Word (put_at s.controls) c.args.x c.args.value s.bytes } in
+    let P : Banks → Type 0 = λ s. with_bytes v.map c.put_word.new.self ≡ record s { bytes = put_by Word (put_in_cells s.controls) c.args.x c.args.value s.bytes } in
     subst P c.self.view_is (ap (with_bytes v.map) (c.put_word.ensures ∙ sym (put_to_one Word v.map c.args.x c.args.value v.cells c.in-One.cell c.in-One.ensures (omega arith))))

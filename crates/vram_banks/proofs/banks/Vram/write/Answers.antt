@@ -1,6 +1,6 @@
 use Rattle.std.proofs.Common.{ℕ, ◌≡◌, ◌∙◌, ap, sym, subst, length}
 use Rattle.ds_base.specs.Numbers.{aligned_down, put_by}
-use Rattle.vram_banks.specs.paging.Flat.{put_at}
+use Rattle.vram_banks.specs.paging.Flat.{put_in_cells}
 use Rattle.vram_banks.specs.Cells.{Banks, vram_written, IsWritten}
 use Rattle.vram_banks.proofs.SetLaws.{written_flat, is_written}
 use Rattle.vram_banks.proofs.banks.Vram.write.Goals as goal
@@ -10,7 +10,7 @@ returns c =
     let v : Banks = c.args.self.now in
     let place = ap (aligned_down c.args.width) c.flat.ensures.value in
     let same : c.write_flat.new.self ≡ vram_written v c.args.space c.args.at c.args.width c.args.value =
-    c.write_flat.ensures ∙ ap (λ (x : ℕ). record v { bytes = put_by c.args.width (put_at v.controls) x c.args.value v.bytes }) place
+    c.write_flat.ensures ∙ ap (λ (x : ℕ). record v { bytes = put_by c.args.width (put_in_cells v.controls) x c.args.value v.bytes }) place
     ∙ sym (written_flat v c.args.space c.args.at c.args.width c.args.value) in
     let L : Banks → Type 0 = λ s. length s.bytes ≡ 0xA4000 in
     let P : Banks → Type 0 = λ s. IsWritten v s c.args.space c.args.at c.args.width c.args.value in

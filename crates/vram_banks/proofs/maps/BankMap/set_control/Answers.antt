@@ -1,7 +1,7 @@
 use Rattle.std.proofs.Common.{ℕ, ◌≡◌, sym, subst, rules, arith, length, get_or, set}
 use Rattle.vram_banks.specs.Cells.{IsControl}
 use Rattle.vram_banks.proofs.PageLemmas.{controls_set}
-use Rattle.vram_banks.proofs.maps.Map.set_control.Goals as goal
+use Rattle.vram_banks.proofs.maps.BankMap.set_control.Goals as goal
 
 pub invariant_of-self : goal.invariant_of-self
 invariant_of-self c = (

@@ -2,7 +2,7 @@ use Rattle.std.proofs.Common.{ℕ, List, ◌%◌, subst}
 use Rattle.vram_banks.specs.declared.maps.Page.TheVariants.{Empty, One}
 use Rattle.vram_banks.specs.paging.Pages.{IsFound}
 use Rattle.vram_banks.proofs.PageLemmas.{found_at, moved}
-use Rattle.vram_banks.proofs.maps.Map.found.Goals as goal
+use Rattle.vram_banks.proofs.maps.BankMap.found.Goals as goal
 
 pub returns-in-Empty : goal.returns-in-Empty
 returns-in-Empty c =

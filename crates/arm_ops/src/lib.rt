@@ -8,8 +8,6 @@ mod making;
 mod operations;
 mod reaching;
 mod running;
-#[cfg(test)]
-mod tests;
 
 pub use making::ready;
 pub use operations::{Op, Ready};

@@ -10,6 +10,3 @@ mod dma;
 pub use channels::Unit;
 pub use controls::{Cause, DmaPort};
 pub use dma::{Dma, DmaDue};
-
-#[cfg(test)]
-mod tests;

@@ -5,8 +5,6 @@ mod carts;
 mod faults;
 mod fields;
 mod rules;
-#[cfg(test)]
-mod tests;
 
 pub use carts::Cart;
 pub use faults::{HeaderFault, HeaderField};

@@ -12,8 +12,6 @@ mod quiet;
 mod reads;
 mod shelves;
 mod sinks;
-#[cfg(test)]
-mod tests;
 
 pub use calls::Calls;
 pub use edge::{DiskShelf, StdSink};

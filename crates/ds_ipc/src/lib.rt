@@ -6,6 +6,3 @@ mod ipcs;
 mod sides;
 
 pub use ipcs::{Got, Ipc};
-
-#[cfg(test)]
-mod tests;

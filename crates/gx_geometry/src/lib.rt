@@ -24,6 +24,3 @@ pub use engine::Geometry;
 pub use lists::Lists;
 pub use polygons::{Polygon, Vertex};
 pub use results::Results;
-
-#[cfg(test)]
-mod tests;

@@ -11,6 +11,3 @@ mod stacks;
 pub use algebra::{given, identity, product, scaling, times, translation};
 pub use commands::{CommandRow, matrix_row};
 pub use stacks::{Mode, Pose, Single, Stacks};
-
-#[cfg(test)]
-mod tests;

@@ -3,8 +3,8 @@
 ghost use Rattle.std.specs.Prelude.{IfSome};
 ghost use Rattle.arm_words.specs.Fields.{HasFields};
 
-use crate::{is_other, ready, run, run_anywhere, touched};
 use arm_core::{Bus, Core, FlatBus, Stepped, Touch};
+use arm_ops::{is_other, ready, run, run_anywhere, touched};
 use arm_words::{Instr, decode_arm, decode_thumb};
 use ds_base::{Arch, Width};
 use std::alloc::{AllocError, Global};

@@ -3,8 +3,8 @@
 
 ghost use Rattle.std.specs.Prelude.{◌<◌, ◌≤◌, ◌^◌};
 
-use crate::{Cause, Dma, DmaDue, DmaPort, Unit};
 use ds_base::{LeftKind, Proc, Stop, Tick, Width};
+use ds_dma::{Cause, Dma, DmaDue, DmaPort, Unit};
 
 /// Where the units of the tests are read and written.
 const FROM: u32 = 0x0200_0000;

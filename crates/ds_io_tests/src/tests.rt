@@ -2,7 +2,7 @@
 
 ghost use Rattle.std.specs.Prelude.{◌<◌, ◌-◌, ◌^◌, IfOk, IsTrue};
 
-use crate::{
+use ds_io::{
     Calls, DiskShelf, Failed, Files, MemShelf, MemSink, QuietShelf, QuietSink, ReadFault, Shelf,
     Sink, StdSink, put_all, read_all,
 };

@@ -1,10 +1,10 @@
 //! Cartridges at the edges of each rule. The expected faults are worked by hand from the rules.
 
-use crate::HeaderField::{
+use ds_base::Proc;
+use ds_header::HeaderField::{
     Arm7Entry, Arm7Place, Arm7Rom, Arm9Entry, Arm9Place, Arm9Rom, Short, UnitCode,
 };
-use crate::{Cart, HeaderFault, HeaderField};
-use ds_base::Proc;
+use ds_header::{Cart, HeaderFault, HeaderField};
 use std::alloc::{AllocError, Global};
 
 /// Both images are the last word of the shortest cartridge, and begin to run where they are put.

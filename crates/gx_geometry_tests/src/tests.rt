@@ -1,7 +1,7 @@
 //! Commands worked by hand from GBATEK's formulas and the limits of the lists.
 
-use crate::{Geometry, Polygon, Vertex, command_row};
 use ds_base::Tick;
+use gx_geometry::{Geometry, Polygon, Vertex, command_row};
 use std::alloc::AllocError;
 
 /// A command, where it has its number of parameters.

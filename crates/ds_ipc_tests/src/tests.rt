@@ -1,7 +1,7 @@
 //! What no clause says: the walk of a full FIFO, and each interrupt raised once and not raised once.
 
-use crate::{Got, Ipc};
 use ds_base::{Proc, Raised};
+use ds_ipc::{Got, Ipc};
 use std::test::Fail;
 
 const NONE: Raised = Raised { nine: 0, seven: 0 };

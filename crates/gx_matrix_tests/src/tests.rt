@@ -1,7 +1,7 @@
 //! Matrices worked by hand from GBATEK's formulas, and both ends of each stack.
 
-use crate::{Stacks, matrix_row, times};
 use ds_base::Matrix;
+use gx_matrix::{Stacks, matrix_row, times};
 
 /// The numbers 1 to 12 row by row, as 4 by 3 gives them.
 const TWELVE: [u32; 12] = [1, 2, 3, 4, 5, 6, 7, 8, 9, 10, 11, 12];

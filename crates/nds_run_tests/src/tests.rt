@@ -4,7 +4,6 @@ use nds_rows::{Came, ConsoleTold};
 use std::process::Abort;
 
 mod boots;
-mod consoles;
 mod instructions;
 mod keys;
 mod processors;

@@ -1,12 +1,12 @@
 //! Each rule of the ports on worked rows, from GBATEK.
 
-mod accesses;
 mod controls;
 mod dma;
 mod dues;
 mod interrupts;
 mod ipc;
 mod keys;
+mod lines;
 mod map;
 mod maths;
 mod timers;

@@ -1,249 +1,300 @@
 //! DMA channels, through their ports.
 
-ghost use Rattle.std.specs.Prelude.{◌≡◌, ◌%◌};
-ghost use Rattle.ds_ports.specs.Dues.{due_behind};
-ghost use Rattle.ds_runs.specs.declared.actors.Actor.TheVariants as actors;
-
-use crate::tests::accesses::{put_at, reads, reads_at, write, write_at};
-use ds_base::{LeftKind, Proc, Stop, Tick, Width};
-use ds_dma::{Cause, Unit};
-use ds_ports::{Before, Units};
-use ds_runs::Actor;
+use crate::tests::lines::Line::{
+    At, Boot, ChannelDue, Event, First, Is, Moves, NoneDue, PutsBack, Reads, Refused, Takes, Write,
+};
+use crate::tests::lines::{NEVER, try_lines};
+use ds_base::LeftKind::{DmaStart, NotYet};
+use ds_base::Proc::{Nine, Seven};
+use ds_base::Width::{Byte, Half, Word};
+use ds_dma::Cause::{HBlank, VBlank};
 use std::alloc::AllocError;
 
-/// When a processor's channel is due.
-fn due(units: &Units, proc: Proc, channel: u8) -> Option<Tick>
-    ensures { result ≡ due_behind (actors.Dma proc (channel % 4)) units.now }
-{
-    units.due_behind(Actor::Dma {
-        proc,
-        channel: channel % 4,
-    })
-}
-
-/// A processor's channel moves a unit when it is due, if it is.
-fn moved(units: &mut Units, proc: Proc, channel: u8) -> Option<(Unit, Before)> {
-    match due(units, proc, channel) {
-        Some(due) if due.0 <= 1 << 56 => {
-            let unit = units.unit(proc);
-            Some((unit, units.move_channel(proc, due)))
-        }
-        _ => None,
-    }
-}
-
-/// The unit of a move.
-fn unit_of(step: Option<(Unit, Before)>) -> Option<Unit> {
-    step.map(|step| step.0)
-}
-
-/// A unit of a word.
-fn word(from: u32, to: u32) -> Option<Unit> {
-    Some(Unit {
-        from,
-        to,
-        width: Width::Word,
-    })
-}
-
+/// Each processor, and the rank of its channel 0.
 #[test]
 fn a_channel_moves_its_units_four_ticks_apart(rt: HostRuntime) -> Result<(), AllocError> {
-    for (proc, first) in [(Proc::Nine, 14), (Proc::Seven, 18)] {
-        let mut units = Units::new(rt.alloc())?;
-        write(&rt, &mut units, proc, (0x0B0, Width::Word, 0x0200_0000));
-        write(&rt, &mut units, proc, (0x0B4, Width::Word, 0x0200_1000));
-        write_at(
+    for (proc, rank) in [(Nine, 14), (Seven, 18)] {
+        try_lines(
             &rt,
-            &mut units,
-            proc,
-            100,
-            (0x0B8, Width::Word, 0xC400_0002),
-        );
-        assert!(rt; units.is_held(proc) && !units.is_halted(proc));
-        assert_eq!(rt; due(&units, proc, 0), Some(Tick(104)));
-        assert_eq!(rt; units.first_due().map(|due| due.rank), Some(first));
-        let step = moved(&mut units, proc, 0);
-        assert_eq!(rt; unit_of(step), word(0x0200_0000, 0x0200_1000));
-        assert_eq!(rt; due(&units, proc, 0), Some(Tick(108)));
-        reads(&rt, &units, proc, (0x0B8, Width::Word, 0xC400_0002));
-        reads(&rt, &units, proc, (0x214, Width::Word, 0));
-        let step = moved(&mut units, proc, 0);
-        assert_eq!(rt; unit_of(step), word(0x0200_0004, 0x0200_1004));
-        assert_eq!(rt; (due(&units, proc, 0), units.first_due()), (None, None));
-        assert!(rt; !units.is_held(proc));
-        reads(&rt, &units, proc, (0x0B8, Width::Word, 0x4400_0002));
-        reads(&rt, &units, proc, (0x214, Width::Word, 0x100));
+            rt.alloc(),
+            &[
+                Write(proc, 0x0B0, Word, 0x0200_0000),
+                Write(proc, 0x0B4, Word, 0x0200_1000),
+                At(100),
+                Write(proc, 0x0B8, Word, 0xC400_0002),
+                Is(proc, false, true),
+                ChannelDue(proc, 0, 104),
+                First(104, rank),
+                Moves(proc, 0, 0x0200_0000, 0x0200_1000, Word),
+                ChannelDue(proc, 0, 108),
+                Reads(proc, 0x0B8, Word, 0xC400_0002),
+                Reads(proc, 0x214, Word, 0),
+                Moves(proc, 0, 0x0200_0004, 0x0200_1004, Word),
+                ChannelDue(proc, 0, NEVER),
+                NoneDue,
+                Is(proc, false, false),
+                Reads(proc, 0x0B8, Word, 0x4400_0002),
+                Reads(proc, 0x214, Word, 0x100),
+            ],
+        )?;
     }
     Ok(())
 }
 
 #[test]
 fn a_move_is_taken_back(rt: HostRuntime) -> Result<(), AllocError> {
-    let mut units = Units::new(rt.alloc())?;
-    for row in [
-        (0x0BC, Width::Word, 0x0100),
-        (0x0C0, Width::Word, 0x0200),
-        (0x0C4, Width::Word, 0xC400_0001),
-    ] {
-        write(&rt, &mut units, Proc::Seven, row);
-    }
-    let first = units.first_due();
-    let step = moved(&mut units, Proc::Seven, 1);
-    assert_eq!(rt; unit_of(step), word(0x0100, 0x0200));
-    reads(&rt, &units, Proc::Seven, (0x214, Width::Word, 0x200));
-    assert!(rt; !units.is_held(Proc::Seven) && units.first_due().is_none());
-    if let Some((_, before)) = step {
-        units.put_back(Proc::Seven, before);
-    }
-    reads(&rt, &units, Proc::Seven, (0x214, Width::Word, 0));
-    reads(&rt, &units, Proc::Seven, (0x0C4, Width::Word, 0xC400_0001));
-    assert!(rt; units.is_held(Proc::Seven) && units.first_due() == first);
-    // and it moves the same unit again
-    let again = moved(&mut units, Proc::Seven, 1);
-    assert_eq!(rt; unit_of(again), word(0x0100, 0x0200));
-    Ok(())
+    try_lines(
+        &rt,
+        rt.alloc(),
+        &[
+            Write(Seven, 0x0BC, Word, 0x0100),
+            Write(Seven, 0x0C0, Word, 0x0200),
+            Write(Seven, 0x0C4, Word, 0xC400_0001),
+            First(4, 19),
+            Moves(Seven, 1, 0x0100, 0x0200, Word),
+            Reads(Seven, 0x214, Word, 0x200),
+            Is(Seven, false, false),
+            NoneDue,
+            PutsBack(Seven),
+            Reads(Seven, 0x214, Word, 0),
+            Reads(Seven, 0x0C4, Word, 0xC400_0001),
+            Is(Seven, false, true),
+            First(4, 19),
+            // and it moves the same unit again
+            Moves(Seven, 1, 0x0100, 0x0200, Word),
+        ],
+    )
+}
+
+/// The end of a channel comes with its last unit and before that unit's write, here one of the channel's own ports or of IF.
+#[test]
+fn the_last_unit_writes_after_the_end(rt: HostRuntime) -> Result<(), AllocError> {
+    try_lines(
+        &rt,
+        rt.alloc(),
+        &[
+            // its own control: disabled by the end and enabled by what is written, it begins anew, four ticks after that
+            Write(Nine, 0x0B0, Word, 0x0200_0000),
+            Write(Nine, 0x0B4, Word, 0x0400_00B8),
+            At(100),
+            Write(Nine, 0x0B8, Word, 0xC400_0001),
+            At(104),
+            Moves(Nine, 0, 0x0200_0000, 0x0400_00B8, Word),
+            Write(Nine, 0x0B8, Word, 0x8400_0002),
+            Reads(Nine, 0x0B8, Word, 0x8400_0002),
+            Reads(Nine, 0x214, Word, 0x100),
+            ChannelDue(Nine, 0, 108),
+            Moves(Nine, 0, 0x0200_0000, 0x0400_00B8, Word),
+            ChannelDue(Nine, 0, 112),
+            // IF: the end raised its bit, and the write clears it
+            Boot,
+            At(100),
+            Write(Nine, 0x0B4, Word, 0x0400_0214),
+            Write(Nine, 0x0B8, Word, 0xC400_0001),
+            At(104),
+            Moves(Nine, 0, 0, 0x0400_0214, Word),
+            Write(Nine, 0x214, Word, 0x100),
+            Reads(Nine, 0x214, Word, 0),
+            // its own control with a start that is left out: the channel isn't enabled then, so the write is refused, and all is taken back
+            Boot,
+            At(100),
+            Write(Nine, 0x0B4, Word, 0x0400_00B8),
+            Write(Nine, 0x0B8, Word, 0xC400_0001),
+            At(104),
+            Moves(Nine, 0, 0, 0x0400_00B8, Word),
+            Refused(Nine, 0x0B8, Word, 0x9800_0001, DmaStart, 0x9800_0001),
+            PutsBack(Nine),
+            Reads(Nine, 0x0B8, Word, 0xC400_0001),
+            Reads(Nine, 0x214, Word, 0),
+            ChannelDue(Nine, 0, 104),
+            // a unit that isn't the last one leaves the channel enabled, and then such a start is kept
+            Boot,
+            At(100),
+            Write(Nine, 0x0B4, Word, 0x0400_00B8),
+            Write(Nine, 0x0B8, Word, 0xC400_0002),
+            At(104),
+            Moves(Nine, 0, 0, 0x0400_00B8, Word),
+            Write(Nine, 0x0B8, Word, 0x9C00_0001),
+            Reads(Nine, 0x0B8, Word, 0x9C00_0001),
+            ChannelDue(Nine, 0, 108),
+        ],
+    )
+}
+
+/// A channel whose source stays at 4100000h empties the receive FIFO, a word a unit.
+#[test]
+fn a_channel_receives_from_the_fifo(rt: HostRuntime) -> Result<(), AllocError> {
+    try_lines(
+        &rt,
+        rt.alloc(),
+        &[
+            Write(Nine, 0x184, Half, 0x8000),
+            Write(Seven, 0x184, Half, 0x8000),
+            Write(Seven, 0x188, Word, 7),
+            Write(Seven, 0x188, Word, 8),
+            Write(Nine, 0x0B0, Word, 0x0410_0000),
+            Write(Nine, 0x0B4, Word, 0x0200_0000),
+            Write(Nine, 0x0B8, Word, 0x8500_0002),
+            Moves(Nine, 0, 0x0410_0000, 0x0200_0000, Word),
+            Takes(Nine, 0x10_0000, Word, 7),
+            Moves(Nine, 0, 0x0410_0000, 0x0200_0004, Word),
+            Takes(Nine, 0x10_0000, Word, 8),
+            Reads(Nine, 0x184, Half, 0x8101),
+            Reads(Seven, 0x184, Half, 0x8101),
+        ],
+    )
 }
 
 #[test]
 fn addresses_and_controls_keep_the_bits_that_a_processor_has(
     rt: HostRuntime,
 ) -> Result<(), AllocError> {
-    let rows = [
-        (Proc::Nine, 0x0B8, 0x8FFF_FFFF, 0x8FFF_FFFF),
-        (Proc::Nine, 0x0DC, 0x77FF_FFFF, 0x77FF_FFFF),
-        (Proc::Seven, 0x0B8, 0x9FFF_FFFF, 0x97E0_3FFF),
-        (Proc::Seven, 0x0D0, 0x7FFF_FFFF, 0x77E0_3FFF),
-        (Proc::Seven, 0x0DC, 0x9FFF_FFFF, 0x97E0_FFFF),
-    ];
-    for (proc, at, value, kept) in rows {
-        let mut units = Units::new(rt.alloc())?;
-        write(&rt, &mut units, proc, (at, Width::Word, value));
-        reads(&rt, &units, proc, (at, Width::Word, kept));
-    }
-    for (proc, at) in [
-        (Proc::Nine, 0x0B0),
-        (Proc::Nine, 0x0D8),
-        (Proc::Seven, 0x0B4),
-        (Proc::Seven, 0x0D4),
-    ] {
-        let mut units = Units::new(rt.alloc())?;
-        write(&rt, &mut units, proc, (at, Width::Word, 0xFFFF_FFFF));
-        reads(&rt, &units, proc, (at, Width::Word, 0x0FFF_FFFF));
-    }
-    Ok(())
+    try_lines(
+        &rt,
+        rt.alloc(),
+        &[
+            Write(Nine, 0x0B8, Word, 0x8FFF_FFFF),
+            Reads(Nine, 0x0B8, Word, 0x8FFF_FFFF),
+            Write(Nine, 0x0DC, Word, 0x77FF_FFFF),
+            Reads(Nine, 0x0DC, Word, 0x77FF_FFFF),
+            Write(Seven, 0x0B8, Word, 0x9FFF_FFFF),
+            Reads(Seven, 0x0B8, Word, 0x97E0_3FFF),
+            Write(Seven, 0x0D0, Word, 0x7FFF_FFFF),
+            Reads(Seven, 0x0D0, Word, 0x77E0_3FFF),
+            Write(Seven, 0x0DC, Word, 0x9FFF_FFFF),
+            Reads(Seven, 0x0DC, Word, 0x97E0_FFFF),
+            Write(Nine, 0x0B0, Word, 0xFFFF_FFFF),
+            Reads(Nine, 0x0B0, Word, 0x0FFF_FFFF),
+            Write(Nine, 0x0D8, Word, 0xFFFF_FFFF),
+            Reads(Nine, 0x0D8, Word, 0x0FFF_FFFF),
+            Write(Seven, 0x0B4, Word, 0xFFFF_FFFF),
+            Reads(Seven, 0x0B4, Word, 0x0FFF_FFFF),
+            Write(Seven, 0x0D4, Word, 0xFFFF_FFFF),
+            Reads(Seven, 0x0D4, Word, 0x0FFF_FFFF),
+        ],
+    )
 }
 
 #[test]
 fn parts_of_a_control_are_written_beside_kept_ones(rt: HostRuntime) -> Result<(), AllocError> {
-    let mut units = Units::new(rt.alloc())?;
-    write(
+    try_lines(
         &rt,
-        &mut units,
-        Proc::Nine,
-        (0x0B0, Width::Word, 0x0234_5678),
-    );
-    write(&rt, &mut units, Proc::Nine, (0x0B2, Width::Byte, 0xAA));
-    reads(&rt, &units, Proc::Nine, (0x0B0, Width::Word, 0x02AA_5678));
-    write(&rt, &mut units, Proc::Nine, (0x0B8, Width::Half, 0x0002));
-    write_at(&rt, &mut units, Proc::Nine, 60, (0x0BA, Width::Byte, 0x40));
-    assert_eq!(rt; due(&units, Proc::Nine, 0), None);
-    write_at(&rt, &mut units, Proc::Nine, 70, (0x0BB, Width::Byte, 0x84));
-    reads_at(
-        &rt,
-        &units,
-        Proc::Nine,
-        70,
-        (0x0B8, Width::Word, 0x8440_0002),
-    );
-    assert_eq!(rt; due(&units, Proc::Nine, 0), Some(Tick(74)));
-    Ok(())
+        rt.alloc(),
+        &[
+            Write(Nine, 0x0B0, Word, 0x0234_5678),
+            Write(Nine, 0x0B2, Byte, 0xAA),
+            Reads(Nine, 0x0B0, Word, 0x02AA_5678),
+            Write(Nine, 0x0B8, Half, 0x0002),
+            At(60),
+            Write(Nine, 0x0BA, Byte, 0x40),
+            ChannelDue(Nine, 0, NEVER),
+            At(70),
+            Write(Nine, 0x0BB, Byte, 0x84),
+            Reads(Nine, 0x0B8, Word, 0x8440_0002),
+            ChannelDue(Nine, 0, 74),
+        ],
+    )
 }
 
 #[test]
 fn fill_words_are_those_of_arm9_alone(rt: HostRuntime) -> Result<(), AllocError> {
-    let mut units = Units::new(rt.alloc())?;
-    let rows = [
-        (0x0E0, 0x0E1, 0x89AB_CD01, 0x89AB_1101),
-        (0x0E4, 0x0E5, 0x89AB_CD02, 0x89AB_1102),
-        (0x0E8, 0x0E9, 0x89AB_CD03, 0x89AB_1103),
-        (0x0EC, 0x0ED, 0x89AB_CD04, 0x89AB_1104),
-    ];
-    for (at, second, value, _) in rows {
-        write(&rt, &mut units, Proc::Seven, (at, Width::Word, 0xFFFF_FFFF));
-        reads(&rt, &units, Proc::Nine, (at, Width::Word, 0));
-        write(&rt, &mut units, Proc::Nine, (at, Width::Word, value));
-        write(&rt, &mut units, Proc::Nine, (second, Width::Byte, 0x11));
-    }
-    for (at, _, _, kept) in rows {
-        reads(&rt, &units, Proc::Nine, (at, Width::Word, kept));
-        reads(&rt, &units, Proc::Seven, (at, Width::Word, 0));
-    }
-    Ok(())
+    try_lines(
+        &rt,
+        rt.alloc(),
+        &[
+            Write(Seven, 0x0E0, Word, 0xFFFF_FFFF),
+            Reads(Nine, 0x0E0, Word, 0),
+            Write(Nine, 0x0E0, Word, 0x89AB_CD01),
+            Write(Nine, 0x0E1, Byte, 0x11),
+            Write(Seven, 0x0E4, Word, 0xFFFF_FFFF),
+            Reads(Nine, 0x0E4, Word, 0),
+            Write(Nine, 0x0E4, Word, 0x89AB_CD02),
+            Write(Nine, 0x0E5, Byte, 0x11),
+            Write(Seven, 0x0E8, Word, 0xFFFF_FFFF),
+            Reads(Nine, 0x0E8, Word, 0),
+            Write(Nine, 0x0E8, Word, 0x89AB_CD03),
+            Write(Nine, 0x0E9, Byte, 0x11),
+            Write(Seven, 0x0EC, Word, 0xFFFF_FFFF),
+            Reads(Nine, 0x0EC, Word, 0),
+            Write(Nine, 0x0EC, Word, 0x89AB_CD04),
+            Write(Nine, 0x0ED, Byte, 0x11),
+            Reads(Nine, 0x0E0, Word, 0x89AB_1101),
+            Reads(Seven, 0x0E0, Word, 0),
+            Reads(Nine, 0x0E4, Word, 0x89AB_1102),
+            Reads(Seven, 0x0E4, Word, 0),
+            Reads(Nine, 0x0E8, Word, 0x89AB_1103),
+            Reads(Seven, 0x0E8, Word, 0),
+            Reads(Nine, 0x0EC, Word, 0x89AB_1104),
+            Reads(Seven, 0x0EC, Word, 0),
+        ],
+    )
 }
 
+/// Each start by a byte, a word and a half of the control: its highest byte, the whole word, and the upper half, and the control that is
+/// refused.
 #[test]
 fn starts_that_are_left_out_are_refused_with_the_kept_control(
     rt: HostRuntime,
 ) -> Result<(), AllocError> {
-    let rows = [
-        (Proc::Nine, LeftKind::DmaStart, 0x98, 0x9800_1234),
-        (Proc::Nine, LeftKind::DmaStart, 0xA0, 0xA000_1234),
-        (Proc::Nine, LeftKind::DmaStart, 0xB0, 0xB000_1234),
-        (Proc::Nine, LeftKind::NotYet, 0xB8, 0xB800_1234),
+    for (proc, kind, byte, value) in [
+        (Nine, DmaStart, 0x98, 0x9800_1234),
+        (Nine, DmaStart, 0xA0, 0xA000_1234),
+        (Nine, DmaStart, 0xB0, 0xB000_1234),
+        (Nine, NotYet, 0xB8, 0xB800_1234),
         // ARM7 has no bit 27
-        (Proc::Seven, LeftKind::DmaStart, 0xB8, 0xB000_1234),
-    ];
-    for (proc, kind, byte, value) in rows {
-        let mut units = Units::new(rt.alloc())?;
-        write(&rt, &mut units, proc, (0x0D0, Width::Word, 0x0000_1234));
-        let stop = Some(Stop { kind, value });
-        let wide = (byte % 0x100) * 0x100_0000 + 0x1234;
-        for row in [
-            (0x0D3, Width::Byte, byte),
-            (0x0D0, Width::Word, wide),
-            (0x0D2, Width::Half, (byte % 0x100) * 0x100),
-        ] {
-            assert_eq!(rt; put_at(&mut units, proc, 9, row), stop);
-            reads(&rt, &units, proc, (0x0D0, Width::Word, 0x0000_1234));
-            assert!(rt; !units.is_held(proc) && units.first_due().is_none());
-        }
+        (Seven, DmaStart, 0xB8, 0xB000_1234),
+    ] {
+        try_lines(
+            &rt,
+            rt.alloc(),
+            &[
+                Write(proc, 0x0D0, Word, 0x0000_1234),
+                At(9),
+                Refused(proc, 0x0D3, Byte, byte, kind, value),
+                Reads(proc, 0x0D0, Word, 0x0000_1234),
+                Is(proc, false, false),
+                NoneDue,
+                Refused(proc, 0x0D0, Word, byte << 24 | 0x1234, kind, value),
+                Reads(proc, 0x0D0, Word, 0x0000_1234),
+                Is(proc, false, false),
+                NoneDue,
+                Refused(proc, 0x0D2, Half, byte << 8, kind, value),
+                Reads(proc, 0x0D0, Word, 0x0000_1234),
+                Is(proc, false, false),
+                NoneDue,
+            ],
+        )?;
     }
     Ok(())
 }
 
 #[test]
 fn an_event_triggers_channels_of_both(rt: HostRuntime) -> Result<(), AllocError> {
-    let mut units = Units::new(rt.alloc())?;
-    // V-blank is start 1 of both, H-blank start 2 of ARM9
-    write(
+    try_lines(
         &rt,
-        &mut units,
-        Proc::Nine,
-        (0x0C4, Width::Word, 0x8800_0001),
-    );
-    write(
-        &rt,
-        &mut units,
-        Proc::Nine,
-        (0x0D0, Width::Word, 0x9000_0001),
-    );
-    write(
-        &rt,
-        &mut units,
-        Proc::Seven,
-        (0x0B8, Width::Word, 0x9000_0001),
-    );
-    assert!(rt; !units.is_held(Proc::Nine) && !units.is_held(Proc::Seven));
-    units.trigger(Cause::HBlank, Tick(40));
-    assert_eq!(rt; due(&units, Proc::Nine, 2), Some(Tick(44)));
-    assert_eq!(rt; units.first_due().map(|due| due.rank), Some(16));
-    assert!(rt; units.is_held(Proc::Nine) && !units.is_held(Proc::Seven));
-    units.trigger(Cause::VBlank, Tick(42));
-    // the channel with the least number of those that run
-    assert_eq!(rt; due(&units, Proc::Nine, 1), Some(Tick(46)));
-    assert_eq!(rt; due(&units, Proc::Nine, 2), None);
-    assert_eq!(rt; due(&units, Proc::Seven, 0), Some(Tick(46)));
-    assert_eq!(rt; units.first_due().map(|due| due.rank), Some(15));
-    assert!(rt; units.is_held(Proc::Nine) && units.is_held(Proc::Seven));
-    Ok(())
+        rt.alloc(),
+        &[
+            // V-blank is start 1 of both, H-blank start 2 of ARM9
+            Write(Nine, 0x0C4, Word, 0x8800_0001),
+            Write(Nine, 0x0D0, Word, 0x9000_0001),
+            Write(Seven, 0x0B8, Word, 0x9000_0001),
+            Is(Nine, false, false),
+            Is(Seven, false, false),
+            At(40),
+            Event(HBlank),
+            ChannelDue(Nine, 2, 44),
+            First(44, 16),
+            Is(Nine, false, true),
+            Is(Seven, false, false),
+            At(42),
+            Event(VBlank),
+            // the channel with the least number of those that run
+            ChannelDue(Nine, 1, 46),
+            ChannelDue(Nine, 2, NEVER),
+            ChannelDue(Seven, 0, 46),
+            First(46, 15),
+            Is(Nine, false, true),
+            Is(Seven, false, true),
+        ],
+    )
 }

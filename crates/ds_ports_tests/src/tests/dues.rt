@@ -1,23 +1,13 @@
 //! The first of what is due behind the ports, right after each change.
 
-use crate::tests::accesses::{Row, divide, overflow, put_at, root, write_at};
-use ds_base::{Due, Proc, Tick, Width};
-use ds_ports::Units;
+use crate::tests::lines::Line::{
+    At, Divides, First, Halt, NoneDue, Overflows, Press, Read, Refused, Roots, TimerDue, Write,
+};
+use crate::tests::lines::try_lines;
+use ds_base::LeftKind::DmaStart;
+use ds_base::Proc::{Nine, Seven};
+use ds_base::Width::{Byte, Word};
 use std::alloc::AllocError;
-use std::process::Abort;
-
-/// A write at a tick, after which this rank is the first that is due, at tick 136.
-fn comes_first(rt: &impl Abort, units: &mut Units, proc: Proc, now: u32, row: Row, rank: u8) {
-    write_at(rt, units, proc, now, row);
-    assert_eq!(rt; units.first_due(), at_136(rank), "{rank}");
-}
-
-fn at_136(rank: u8) -> Option<Due> {
-    Some(Due {
-        tick: Tick(136),
-        rank,
-    })
-}
 
 /// Timers that overflow 36 ticks after their start.
 const TIMER: u32 = 0x0080_FFEE;
@@ -27,76 +17,83 @@ const CHANNEL: u32 = 0x8400_0001;
 
 #[test]
 fn at_one_tick_the_least_rank_is_first(rt: HostRuntime) -> Result<(), AllocError> {
-    let mut units = Units::new(rt.alloc())?;
-    assert_eq!(rt; units.first_due(), None);
-    // ever lower ranks: channels of ARM7 and of ARM9, the square root, the divider, timers of ARM7 and of ARM9
-    for (proc, now, at, value, rank) in [
-        (Proc::Seven, 132, 0x0DC, CHANNEL, 21),
-        (Proc::Seven, 132, 0x0B8, CHANNEL, 18),
-        (Proc::Nine, 132, 0x0DC, CHANNEL, 17),
-        (Proc::Nine, 132, 0x0C4, CHANNEL, 15),
-        (Proc::Nine, 110, 0x2B8, 9, 11),
-        (Proc::Nine, 100, 0x298, 9, 10),
-        (Proc::Seven, 100, 0x10C, TIMER, 9),
-        (Proc::Seven, 100, 0x100, TIMER, 6),
-        (Proc::Nine, 100, 0x108, TIMER, 4),
-        (Proc::Nine, 100, 0x104, TIMER, 3),
-    ] {
-        comes_first(&rt, &mut units, proc, now, (at, Width::Word, value), rank);
-    }
-    // each stops in turn
-    for (proc, at, rank) in [
-        (Proc::Nine, 0x104, 4),
-        (Proc::Nine, 0x108, 6),
-        (Proc::Seven, 0x100, 9),
-        (Proc::Seven, 0x10C, 10),
-    ] {
-        comes_first(&rt, &mut units, proc, 120, (at, Width::Word, 0), rank);
-    }
-    assert!(rt; divide(&mut units));
-    assert_eq!(rt; units.first_due(), at_136(11));
-    assert!(rt; root(&mut units));
-    assert_eq!(rt; units.first_due(), at_136(15));
-    for (proc, at, rank) in [
-        (Proc::Nine, 0x0C4, 17),
-        (Proc::Nine, 0x0DC, 18),
-        (Proc::Seven, 0x0B8, 21),
-    ] {
-        comes_first(&rt, &mut units, proc, 134, (at, Width::Word, 0), rank);
-    }
-    write_at(&rt, &mut units, Proc::Seven, 134, (0x0DF, Width::Byte, 0));
-    assert_eq!(rt; units.first_due(), None);
-    Ok(())
+    try_lines(
+        &rt,
+        rt.alloc(),
+        &[
+            NoneDue,
+            // ever lower ranks: channels of ARM7 and of ARM9, the square root, the divider, timers of ARM7 and of ARM9
+            At(132),
+            Write(Seven, 0x0DC, Word, CHANNEL),
+            First(136, 21),
+            Write(Seven, 0x0B8, Word, CHANNEL),
+            First(136, 18),
+            Write(Nine, 0x0DC, Word, CHANNEL),
+            First(136, 17),
+            Write(Nine, 0x0C4, Word, CHANNEL),
+            First(136, 15),
+            At(110),
+            Write(Nine, 0x2B8, Word, 9),
+            First(136, 11),
+            At(100),
+            Write(Nine, 0x298, Word, 9),
+            First(136, 10),
+            Write(Seven, 0x10C, Word, TIMER),
+            First(136, 9),
+            Write(Seven, 0x100, Word, TIMER),
+            First(136, 6),
+            Write(Nine, 0x108, Word, TIMER),
+            First(136, 4),
+            Write(Nine, 0x104, Word, TIMER),
+            First(136, 3),
+            // each stops in turn
+            At(120),
+            Write(Nine, 0x104, Word, 0),
+            First(136, 4),
+            Write(Nine, 0x108, Word, 0),
+            First(136, 6),
+            Write(Seven, 0x100, Word, 0),
+            First(136, 9),
+            Write(Seven, 0x10C, Word, 0),
+            First(136, 10),
+            Divides,
+            First(136, 11),
+            Roots,
+            First(136, 15),
+            At(134),
+            Write(Nine, 0x0C4, Word, 0),
+            First(136, 17),
+            Write(Nine, 0x0DC, Word, 0),
+            First(136, 18),
+            Write(Seven, 0x0B8, Word, 0),
+            First(136, 21),
+            Write(Seven, 0x0DF, Byte, 0),
+            NoneDue,
+        ],
+    )
 }
 
 #[test]
 fn the_first_is_found_again_after_each_change(rt: HostRuntime) -> Result<(), AllocError> {
-    let mut units = Units::new(rt.alloc())?;
-    write_at(
+    try_lines(
         &rt,
-        &mut units,
-        Proc::Nine,
-        100,
-        (0x100, Width::Word, TIMER),
-    );
-    assert!(rt; overflow(&mut units, Proc::Nine, 0));
-    assert_eq!(rt; units.first_due().map(|due| due.tick), Some(Tick(172)));
-    // what is not due by a register leaves it
-    write_at(&rt, &mut units, Proc::Nine, 140, (0x208, Width::Word, 1));
-    units.press(1);
-    units.read(Proc::Nine, 0x100000, Width::Word);
-    units.set_halted(Proc::Seven, true);
-    assert_eq!(rt; units.first_due().map(|due| due.rank), Some(2));
-    // nor does a write that is refused change it
-    assert!(rt;
-        put_at(
-            &mut units,
-            Proc::Nine,
-            140,
-            (0x0B8, Width::Word, 0x9800_0001)
-        )
-        .is_some()
-    );
-    assert_eq!(rt; units.first_due().map(|due| due.tick), Some(Tick(172)));
-    Ok(())
+        rt.alloc(),
+        &[
+            At(100),
+            Write(Nine, 0x100, Word, TIMER),
+            Overflows(Nine, 0),
+            First(172, 2),
+            TimerDue(Nine, 0, 172),
+            // what is not due by a register leaves it
+            At(140),
+            Write(Nine, 0x208, Word, 1),
+            Press(1),
+            Read(Nine, 0x10_0000, Word),
+            Halt(Seven),
+            First(172, 2),
+            // nor does a write that is refused change it
+            Refused(Nine, 0x0B8, Word, 0x9800_0001, DmaStart, 0x9800_0001),
+            First(172, 2),
+        ],
+    )
 }

@@ -1,151 +1,184 @@
 //! Rows of the register map, by GBATEK's list.
 
+use Proc::{Nine, Seven};
+use Register::{
+    DivDenom, DivNumer, DivResult, Divcnt, DivremResult, DmaSadToCnt, Dmafill, Extkeyin, Haltcnt,
+    Ie, If, Ime, Ipcfifocnt, Ipcfiforecv, Ipcfifosend, Ipcsync, Keycnt, Keyinput, Postflg, Romctrl,
+    SqrtParam, SqrtResult, Sqrtcnt, Tmcnt, VramcntAToG, VramcntHToI, Vramstat, Wramcnt, Wramstat,
+};
 use ds_base::Proc;
 use ds_ports::{Register, port_is_built, slot_of};
 use std::process::Abort;
 
+/// A line of a table: a processor, the offset of a byte, and what stands there.
+#[derive(Clone, Copy)]
+enum Line {
+    /// A register, and its number in its row.
+    Slot(Proc, u32, Register, u32),
+    /// A register's number in its row, and which byte of it.
+    Part(Proc, u32, u32, u32),
+    /// No port.
+    No(Proc, u32),
+    /// Ports to come from a first to a last byte, and none before and after them.
+    ToCome(Proc, u32, u32),
+}
+
+use Line::{No, Part, Slot, ToCome};
+
+/// Whether what stands at an offset is what a line says.
+fn holds(line: Line) -> bool {
+    match line {
+        Slot(proc, at, register, number) => match slot_of(proc, at) {
+            Some(slot) => slot.register == register && slot.number == number,
+            None => false,
+        },
+        Part(proc, at, number, byte) => match slot_of(proc, at) {
+            Some(slot) => slot.number == number && slot.byte == byte,
+            None => false,
+        },
+        No(proc, at) => slot_of(proc, at).is_none(),
+        ToCome(proc, first, last) => {
+            let within = !port_is_built(proc, first) && !port_is_built(proc, last);
+            let before = first == 0 || port_is_built(proc, first.saturating_sub(1));
+            within && before && port_is_built(proc, last.saturating_add(1))
+        }
+    }
+}
+
+/// The map, line by line.
+fn try_lines(rt: &impl Abort, lines: &[Line]) {
+    for (number, line) in lines.iter().enumerate() {
+        assert!(rt; holds(*line), "line {number}");
+    }
+}
+
 #[test]
 fn each_control_stands_where_the_list_has_it(rt: HostRuntime) {
-    let rows = [
-        (Proc::Nine, 0x240, Some((Register::VramcntAToG, 0))),
-        (Proc::Nine, 0x246, Some((Register::VramcntAToG, 6))),
-        (Proc::Nine, 0x247, Some((Register::Wramcnt, 0))),
-        (Proc::Nine, 0x248, Some((Register::VramcntHToI, 0))),
-        (Proc::Nine, 0x249, Some((Register::VramcntHToI, 1))),
-        (Proc::Nine, 0x24A, None),
-        (Proc::Nine, 0x23F, None),
-        (Proc::Nine, 0x300, Some((Register::Postflg, 0))),
-        (Proc::Nine, 0x301, None),
-        (Proc::Seven, 0x240, Some((Register::Vramstat, 0))),
-        (Proc::Seven, 0x241, Some((Register::Wramstat, 0))),
-        (Proc::Seven, 0x242, None),
-        (Proc::Seven, 0x300, Some((Register::Postflg, 0))),
-        (Proc::Seven, 0x301, Some((Register::Haltcnt, 0))),
-        (Proc::Seven, 0x302, None),
-        (Proc::Nine, 0x130, Some((Register::Keyinput, 0))),
-        (Proc::Nine, 0x133, Some((Register::Keycnt, 0))),
-        (Proc::Nine, 0x136, None),
-        (Proc::Seven, 0x136, Some((Register::Extkeyin, 0))),
-        (Proc::Seven, 0x138, None),
-        (Proc::Nine, 0x181, Some((Register::Ipcsync, 0))),
-        (Proc::Nine, 0x182, None),
-        (Proc::Nine, 0x184, Some((Register::Ipcfifocnt, 0))),
-        (Proc::Nine, 0x186, None),
-        (Proc::Nine, 0x18B, Some((Register::Ipcfifosend, 0))),
-        (Proc::Nine, 0x18C, None),
-        (Proc::Nine, 0x208, Some((Register::Ime, 0))),
-        (Proc::Nine, 0x20B, Some((Register::Ime, 0))),
-        (Proc::Nine, 0x20C, None),
-        (Proc::Nine, 0x210, Some((Register::Ie, 0))),
-        (Proc::Nine, 0x217, Some((Register::If, 0))),
-        (Proc::Nine, 0x10_0003, Some((Register::Ipcfiforecv, 0))),
-        (Proc::Nine, 0x10_0004, None),
-        (Proc::Seven, 0x180, Some((Register::Ipcsync, 0))),
-        (Proc::Seven, 0x185, Some((Register::Ipcfifocnt, 0))),
-        (Proc::Seven, 0x188, Some((Register::Ipcfifosend, 0))),
-        (Proc::Seven, 0x209, Some((Register::Ime, 0))),
-        (Proc::Seven, 0x213, Some((Register::Ie, 0))),
-        (Proc::Seven, 0x214, Some((Register::If, 0))),
-        (Proc::Seven, 0x10_0000, Some((Register::Ipcfiforecv, 0))),
-        (Proc::Nine, 0x0AF, None),
-        (Proc::Nine, 0x0B0, Some((Register::DmaSadToCnt, 0))),
-        (Proc::Nine, 0x0DF, Some((Register::DmaSadToCnt, 11))),
-        (Proc::Nine, 0x0E0, Some((Register::Dmafill, 0))),
-        (Proc::Nine, 0x0EF, Some((Register::Dmafill, 3))),
-        (Proc::Nine, 0x0F0, None),
-        (Proc::Seven, 0x0B8, Some((Register::DmaSadToCnt, 2))),
-        (Proc::Seven, 0x0DC, Some((Register::DmaSadToCnt, 11))),
-        (Proc::Seven, 0x0E0, None),
-        (Proc::Nine, 0x100, Some((Register::Tmcnt, 0))),
-        (Proc::Nine, 0x10F, Some((Register::Tmcnt, 7))),
-        (Proc::Nine, 0x110, None),
-        (Proc::Seven, 0x0FF, None),
-        (Proc::Seven, 0x106, Some((Register::Tmcnt, 3))),
-        (Proc::Nine, 0x1A3, None),
-        (Proc::Nine, 0x1A4, Some((Register::Romctrl, 0))),
-        (Proc::Seven, 0x1A7, Some((Register::Romctrl, 0))),
-        (Proc::Seven, 0x1A8, None),
-        (Proc::Nine, 0x283, Some((Register::Divcnt, 0))),
-        (Proc::Nine, 0x284, None),
-        (Proc::Nine, 0x290, Some((Register::DivNumer, 0))),
-        (Proc::Nine, 0x294, Some((Register::DivNumer, 1))),
-        (Proc::Nine, 0x29F, Some((Register::DivDenom, 1))),
-        (Proc::Nine, 0x2A0, Some((Register::DivResult, 0))),
-        (Proc::Nine, 0x2AC, Some((Register::DivremResult, 1))),
-        (Proc::Nine, 0x2B0, Some((Register::Sqrtcnt, 0))),
-        (Proc::Nine, 0x2B4, Some((Register::SqrtResult, 0))),
-        (Proc::Nine, 0x2BC, Some((Register::SqrtParam, 1))),
-        (Proc::Nine, 0x2C0, None),
-        (Proc::Seven, 0x280, None),
-        (Proc::Seven, 0x2B0, None),
-    ];
-    for (proc, at, register) in rows {
-        let seen = slot_of(proc, at).map(|slot| (slot.register, slot.number));
-        assert!(rt; seen == register, "at {at}");
-    }
+    try_lines(
+        &rt,
+        &[
+            Slot(Nine, 0x240, VramcntAToG, 0),
+            Slot(Nine, 0x246, VramcntAToG, 6),
+            Slot(Nine, 0x247, Wramcnt, 0),
+            Slot(Nine, 0x248, VramcntHToI, 0),
+            Slot(Nine, 0x249, VramcntHToI, 1),
+            No(Nine, 0x24A),
+            No(Nine, 0x23F),
+            Slot(Nine, 0x300, Postflg, 0),
+            No(Nine, 0x301),
+            Slot(Seven, 0x240, Vramstat, 0),
+            Slot(Seven, 0x241, Wramstat, 0),
+            No(Seven, 0x242),
+            Slot(Seven, 0x300, Postflg, 0),
+            Slot(Seven, 0x301, Haltcnt, 0),
+            No(Seven, 0x302),
+            Slot(Nine, 0x130, Keyinput, 0),
+            Slot(Nine, 0x133, Keycnt, 0),
+            No(Nine, 0x136),
+            Slot(Seven, 0x136, Extkeyin, 0),
+            No(Seven, 0x138),
+            Slot(Nine, 0x181, Ipcsync, 0),
+            No(Nine, 0x182),
+            Slot(Nine, 0x184, Ipcfifocnt, 0),
+            No(Nine, 0x186),
+            Slot(Nine, 0x18B, Ipcfifosend, 0),
+            No(Nine, 0x18C),
+            Slot(Nine, 0x208, Ime, 0),
+            Slot(Nine, 0x20B, Ime, 0),
+            No(Nine, 0x20C),
+            Slot(Nine, 0x210, Ie, 0),
+            Slot(Nine, 0x217, If, 0),
+            Slot(Nine, 0x10_0003, Ipcfiforecv, 0),
+            No(Nine, 0x10_0004),
+            Slot(Seven, 0x180, Ipcsync, 0),
+            Slot(Seven, 0x185, Ipcfifocnt, 0),
+            Slot(Seven, 0x188, Ipcfifosend, 0),
+            Slot(Seven, 0x209, Ime, 0),
+            Slot(Seven, 0x213, Ie, 0),
+            Slot(Seven, 0x214, If, 0),
+            Slot(Seven, 0x10_0000, Ipcfiforecv, 0),
+            No(Nine, 0x0AF),
+            Slot(Nine, 0x0B0, DmaSadToCnt, 0),
+            Slot(Nine, 0x0DF, DmaSadToCnt, 11),
+            Slot(Nine, 0x0E0, Dmafill, 0),
+            Slot(Nine, 0x0EF, Dmafill, 3),
+            No(Nine, 0x0F0),
+            Slot(Seven, 0x0B8, DmaSadToCnt, 2),
+            Slot(Seven, 0x0DC, DmaSadToCnt, 11),
+            No(Seven, 0x0E0),
+            Slot(Nine, 0x100, Tmcnt, 0),
+            Slot(Nine, 0x10F, Tmcnt, 7),
+            No(Nine, 0x110),
+            No(Seven, 0x0FF),
+            Slot(Seven, 0x106, Tmcnt, 3),
+            No(Nine, 0x1A3),
+            Slot(Nine, 0x1A4, Romctrl, 0),
+            Slot(Seven, 0x1A7, Romctrl, 0),
+            No(Seven, 0x1A8),
+            Slot(Nine, 0x283, Divcnt, 0),
+            No(Nine, 0x284),
+            Slot(Nine, 0x290, DivNumer, 0),
+            Slot(Nine, 0x294, DivNumer, 1),
+            Slot(Nine, 0x29F, DivDenom, 1),
+            Slot(Nine, 0x2A0, DivResult, 0),
+            Slot(Nine, 0x2AC, DivremResult, 1),
+            Slot(Nine, 0x2B0, Sqrtcnt, 0),
+            Slot(Nine, 0x2B4, SqrtResult, 0),
+            Slot(Nine, 0x2BC, SqrtParam, 1),
+            No(Nine, 0x2C0),
+            No(Seven, 0x280),
+            No(Seven, 0x2B0),
+        ],
+    );
 }
 
+/// The first and the last byte of what stands side by side, and the offsets before and after that aren't ports.
 #[test]
 fn ports_to_come_are_told_byte_by_byte(rt: HostRuntime) {
-    // the first and the last byte of what stands side by side, and the offsets before and after that aren't ports
-    let nine = [
-        (0x000, 0x055),
-        (0x060, 0x067),
-        (0x06C, 0x06D),
-        (0x304, 0x305),
-        (0x400, 0x607),
-        (0x620, 0x635),
-        (0x640, 0x6A3),
-        (0x1000, 0x1003),
-        (0x1008, 0x1055),
-        (0x106C, 0x106D),
-    ];
-    for (first, last) in nine {
-        is_apart(&rt, Proc::Nine, first, last);
-    }
-    is_apart(&rt, Proc::Seven, 0x004, 0x007);
+    try_lines(
+        &rt,
+        &[
+            ToCome(Nine, 0x000, 0x055),
+            ToCome(Nine, 0x060, 0x067),
+            ToCome(Nine, 0x06C, 0x06D),
+            ToCome(Nine, 0x304, 0x305),
+            ToCome(Nine, 0x400, 0x607),
+            ToCome(Nine, 0x620, 0x635),
+            ToCome(Nine, 0x640, 0x6A3),
+            ToCome(Nine, 0x1000, 0x1003),
+            ToCome(Nine, 0x1008, 0x1055),
+            ToCome(Nine, 0x106C, 0x106D),
+            ToCome(Seven, 0x004, 0x007),
+        ],
+    );
 }
 
-/// The ports from a first to a last byte aren't built, and neither neighbour is a port.
-fn is_apart(rt: &impl Abort, proc: Proc, first: u32, last: u32) {
-    assert!(rt; !port_is_built(proc, first), "{first}");
-    assert!(rt; !port_is_built(proc, last), "{last}");
-    if first != 0 {
-        assert!(rt;
-            port_is_built(proc, first.saturating_sub(1)),
-            "before {first}"
-        );
-    }
-    assert!(rt; port_is_built(proc, last.saturating_add(1)), "after {last}");
-}
-
+/// Of each kind of several: the offset of a byte, its register's number in the row, and which byte it is.
 #[test]
 fn rows_of_the_map_have_their_registers(rt: HostRuntime) {
-    // of each kind of several: the offset of a byte, its register's number in the row, and which byte it is
-    let rows = [
-        (0x00E, 3, 0),
-        (0x01F, 7, 1),
-        (0x02E, 1, 2),
-        (0x036, 3, 0),
-        (0x046, 3, 0),
-        (0x04B, 1, 1),
-        (0x054, 2, 0),
-        (0x0DE, 11, 2),
-        (0x0EC, 3, 0),
-        (0x10E, 7, 0),
-        (0x297, 1, 3),
-        (0x2BC, 1, 0),
-        (0x43C, 15, 0),
-        (0x5FF, 111, 3),
-        (0x62C, 3, 0),
-        (0x634, 2, 0),
-        (0x67C, 15, 0),
-        (0x6A0, 8, 0),
-        (0x100E, 3, 0),
-        (0x1054, 2, 0),
-    ];
-    for (at, number, byte) in rows {
-        let seen = slot_of(Proc::Nine, at).map(|slot| (slot.number, slot.byte));
-        assert!(rt; seen == Some((number, byte)), "at {at}");
-    }
+    try_lines(
+        &rt,
+        &[
+            Part(Nine, 0x00E, 3, 0),
+            Part(Nine, 0x01F, 7, 1),
+            Part(Nine, 0x02E, 1, 2),
+            Part(Nine, 0x036, 3, 0),
+            Part(Nine, 0x046, 3, 0),
+            Part(Nine, 0x04B, 1, 1),
+            Part(Nine, 0x054, 2, 0),
+            Part(Nine, 0x0DE, 11, 2),
+            Part(Nine, 0x0EC, 3, 0),
+            Part(Nine, 0x10E, 7, 0),
+            Part(Nine, 0x297, 1, 3),
+            Part(Nine, 0x2BC, 1, 0),
+            Part(Nine, 0x43C, 15, 0),
+            Part(Nine, 0x5FF, 111, 3),
+            Part(Nine, 0x62C, 3, 0),
+            Part(Nine, 0x634, 2, 0),
+            Part(Nine, 0x67C, 15, 0),
+            Part(Nine, 0x6A0, 8, 0),
+            Part(Nine, 0x100E, 3, 0),
+            Part(Nine, 0x1054, 2, 0),
+        ],
+    );
 }

@@ -1,83 +1,116 @@
 //! Timers, through their ports.
 
-use crate::tests::accesses::{Row, overflow, reads, reads_at, write, write_at};
-use ds_base::{Proc, Tick, Width};
-use ds_ports::Units;
-use ds_runs::Actor;
+use crate::tests::lines::Line::{At, Boot, Overflows, Reads, TimerDue, Write};
+use crate::tests::lines::try_lines;
+use ds_base::Proc::{Nine, Seven};
+use ds_base::Width::{Byte, Half, Word};
 use std::alloc::AllocError;
-use std::process::Abort;
 
-const TIMER_0: u32 = 0x100;
-
-/// When a processor's timer 0 is due.
-fn due(units: &Units, proc: Proc) -> Option<Tick> {
-    units.due_behind(Actor::Timer { proc, number: 0 })
-}
-
-/// Timer 0 starts at tick 100 from FFFEh, a count each 2 ticks, by these writes.
-fn starts(rt: &impl Abort, units: &mut Units, proc: Proc, writes: &[Row]) {
-    for row in writes {
-        write_at(rt, units, proc, 100, *row);
-    }
-    reads_at(rt, units, proc, 101, (TIMER_0, Width::Half, 0xFFFE));
-    reads_at(rt, units, proc, 102, (TIMER_0, Width::Half, 0xFFFF));
-    reads_at(rt, units, proc, 103, (TIMER_0, Width::Word, 0x0080_FFFF));
-    assert_eq!(rt; due(units, proc), Some(Tick(104)));
-    assert!(rt; overflow(units, proc, 0));
-    reads_at(rt, units, proc, 104, (TIMER_0, Width::Half, 0xFFFE));
-    assert_eq!(rt; due(units, proc), Some(Tick(108)));
-    reads(rt, units, proc, (0x214, Width::Word, 0));
-}
-
+/// Timer 0 starts at tick 100 from FFFEh, a count each 2 ticks: by a word, by halves and by bytes.
 #[test]
 fn a_timer_starts_by_writes_of_any_width(rt: HostRuntime) -> Result<(), AllocError> {
-    for proc in [Proc::Nine, Proc::Seven] {
-        let mut units = Units::new(rt.alloc())?;
-        starts(&rt, &mut units, proc, &[(0x100, Width::Word, 0x0080_FFFE)]);
-        let mut units = Units::new(rt.alloc())?;
-        let halves = [(0x100, Width::Half, 0xFFFE), (0x102, Width::Half, 0x0080)];
-        starts(&rt, &mut units, proc, &halves);
-        let mut units = Units::new(rt.alloc())?;
-        let bytes = [
-            (0x100, Width::Byte, 0xFE),
-            (0x101, Width::Byte, 0xFF),
-            (0x102, Width::Byte, 0x80),
-            (0x103, Width::Byte, 0xFF),
-        ];
-        starts(&rt, &mut units, proc, &bytes);
+    for proc in [Nine, Seven] {
+        try_lines(
+            &rt,
+            rt.alloc(),
+            &[
+                At(100),
+                Write(proc, 0x100, Word, 0x0080_FFFE),
+                At(101),
+                Reads(proc, 0x100, Half, 0xFFFE),
+                At(102),
+                Reads(proc, 0x100, Half, 0xFFFF),
+                At(103),
+                Reads(proc, 0x100, Word, 0x0080_FFFF),
+                TimerDue(proc, 0, 104),
+                Overflows(proc, 0),
+                At(104),
+                Reads(proc, 0x100, Half, 0xFFFE),
+                TimerDue(proc, 0, 108),
+                Reads(proc, 0x214, Word, 0),
+                Boot,
+                At(100),
+                Write(proc, 0x100, Half, 0xFFFE),
+                Write(proc, 0x102, Half, 0x0080),
+                At(101),
+                Reads(proc, 0x100, Half, 0xFFFE),
+                At(102),
+                Reads(proc, 0x100, Half, 0xFFFF),
+                At(103),
+                Reads(proc, 0x100, Word, 0x0080_FFFF),
+                TimerDue(proc, 0, 104),
+                Overflows(proc, 0),
+                At(104),
+                Reads(proc, 0x100, Half, 0xFFFE),
+                TimerDue(proc, 0, 108),
+                Reads(proc, 0x214, Word, 0),
+                Boot,
+                At(100),
+                Write(proc, 0x100, Byte, 0xFE),
+                Write(proc, 0x101, Byte, 0xFF),
+                Write(proc, 0x102, Byte, 0x80),
+                Write(proc, 0x103, Byte, 0xFF),
+                At(101),
+                Reads(proc, 0x100, Half, 0xFFFE),
+                At(102),
+                Reads(proc, 0x100, Half, 0xFFFF),
+                At(103),
+                Reads(proc, 0x100, Word, 0x0080_FFFF),
+                TimerDue(proc, 0, 104),
+                Overflows(proc, 0),
+                At(104),
+                Reads(proc, 0x100, Half, 0xFFFE),
+                TimerDue(proc, 0, 108),
+                Reads(proc, 0x214, Word, 0),
+            ],
+        )?;
     }
     Ok(())
 }
 
 #[test]
 fn the_counter_is_read_and_the_reload_is_kept(rt: HostRuntime) -> Result<(), AllocError> {
-    let mut units = Units::new(rt.alloc())?;
-    // the reload isn't read, and a byte of it is written beside what is kept of it
-    write(&rt, &mut units, Proc::Nine, (0x104, Width::Half, 0x1234));
-    reads(&rt, &units, Proc::Nine, (0x104, Width::Half, 0));
-    write(&rt, &mut units, Proc::Nine, (0x105, Width::Byte, 0x56));
-    // all bits of a control that are kept: C7h
-    write(&rt, &mut units, Proc::Nine, (0x106, Width::Half, 0xFFFB));
-    reads(&rt, &units, Proc::Nine, (0x104, Width::Word, 0x00C3_5634));
-    write(&rt, &mut units, Proc::Nine, (0x106, Width::Half, 0xFFFF));
-    reads(&rt, &units, Proc::Nine, (0x106, Width::Half, 0x00C7));
-    // ARM7 has its own
-    reads(&rt, &units, Proc::Seven, (0x104, Width::Word, 0));
-    Ok(())
+    try_lines(
+        &rt,
+        rt.alloc(),
+        &[
+            // the reload isn't read, and a byte of it is written beside what is kept of it
+            Write(Nine, 0x104, Half, 0x1234),
+            Reads(Nine, 0x104, Half, 0),
+            Write(Nine, 0x105, Byte, 0x56),
+            // all bits of a control that are kept: C7h
+            Write(Nine, 0x106, Half, 0xFFFB),
+            Reads(Nine, 0x104, Word, 0x00C3_5634),
+            Write(Nine, 0x106, Half, 0xFFFF),
+            Reads(Nine, 0x106, Half, 0x00C7),
+            // ARM7 has its own
+            Reads(Seven, 0x104, Word, 0),
+        ],
+    )
 }
 
 #[test]
 fn an_overflow_raises_its_bit_of_if(rt: HostRuntime) -> Result<(), AllocError> {
-    let mut units = Units::new(rt.alloc())?;
-    write_at(
+    try_lines(
         &rt,
-        &mut units,
-        Proc::Seven,
-        7,
-        (0x10C, Width::Word, 0x00C0_FFFF),
-    );
-    assert!(rt; overflow(&mut units, Proc::Seven, 3));
-    reads(&rt, &units, Proc::Seven, (0x214, Width::Word, 0x40));
-    reads(&rt, &units, Proc::Nine, (0x214, Width::Word, 0));
-    Ok(())
+        rt.alloc(),
+        &[
+            At(7),
+            Write(Seven, 0x10C, Word, 0x00C0_FFFF),
+            Overflows(Seven, 3),
+            Reads(Seven, 0x214, Word, 0x40),
+            Reads(Nine, 0x214, Word, 0),
+            // and so do the others, each by its own
+            Write(Nine, 0x100, Word, 0x00C0_FFFF),
+            Overflows(Nine, 0),
+            Reads(Nine, 0x214, Word, 0x08),
+            Write(Nine, 0x104, Word, 0x00C0_FFFF),
+            Overflows(Nine, 1),
+            Reads(Nine, 0x214, Word, 0x18),
+            Write(Nine, 0x108, Word, 0x00C0_FFFF),
+            Overflows(Nine, 2),
+            Reads(Nine, 0x214, Word, 0x38),
+            Reads(Seven, 0x214, Word, 0x40),
+        ],
+    )
 }

@@ -1,0 +1,327 @@
+//! Lines of the tables: accesses of ports, what happens behind them at its due tick, and what is seen of it.
+
+ghost use Rattle.std.specs.Prelude.{◌≡◌, ◌%◌};
+ghost use Rattle.ds_ports.specs.Dues.{due_behind};
+ghost use Rattle.ds_runs.specs.declared.actors.Actor.TheVariants as actors;
+
+use ds_base::{LeftKind, Proc, Space, Stop, Tick, Width};
+use ds_dma::Cause;
+use ds_ports::{Before, Units};
+use ds_runs::Actor;
+use std::alloc::{AllocError, Global};
+use std::process::Abort;
+
+/// A line of a table. An access has its processor, its offset from 4000000h, its width, and the value that is read or written.
+#[derive(Clone, Copy)]
+pub enum Line {
+    /// The units as at boot again.
+    Boot,
+    /// The tick of the lines from here on; 0 before.
+    At(u32),
+    /// A write that isn't refused.
+    Write(Proc, u32, Width, u32),
+    /// A write that is refused with this kind and value.
+    Refused(Proc, u32, Width, u32, LeftKind, u32),
+    /// What a read gives. It changes nothing.
+    Reads(Proc, u32, Width, u32),
+    /// A read is made.
+    Read(Proc, u32, Width),
+    /// A read is made, and gives this.
+    Takes(Proc, u32, Width, u32),
+    /// From now on these keys are pressed, a bit each.
+    Press(u16),
+    /// An event triggers channels.
+    Event(Cause),
+    /// A processor halts.
+    Halt(Proc),
+    /// A halted processor goes on.
+    Wake(Proc),
+    /// Whether a processor is halted, and whether it is held by its halt or by a channel.
+    Is(Proc, bool, bool),
+    /// Whether a processor's interrupt line is up, and whether it wakes where it is halted.
+    Asks(Proc, bool, bool),
+    /// When a processor's timer is due.
+    TimerDue(Proc, u8, u64),
+    /// When a processor's channel is due.
+    ChannelDue(Proc, u8, u64),
+    /// When the running division is done.
+    DivisionDue(u64),
+    /// When the running square root is done.
+    RootDue(u64),
+    /// What is due first: its tick and its rank.
+    First(u64, u8),
+    /// Nothing is due.
+    NoneDue,
+    /// A processor's timer overflows when it is due.
+    Overflows(Proc, u8),
+    /// The running division is done.
+    Divides,
+    /// The running square root is done.
+    Roots,
+    /// A processor's channel moves a unit when it is due: where it reads and where it writes, and its width.
+    Moves(Proc, u8, u32, u32, Width),
+    /// A processor's last move is taken back.
+    PutsBack(Proc),
+    /// A word of video memory is written.
+    WriteVram(Space, u32, u32),
+    /// A word of video memory is this.
+    Vram(Space, u32, u32),
+    /// What WRAMCNT keeps.
+    Wramcnt(u32),
+}
+
+/// The due tick of what isn't due.
+pub const NEVER: u64 = u64::MAX;
+
+/// What a line shows: three numbers, as its kind has them.
+type Seen = (u64, u64, u64);
+
+/// What a line shows that asks nothing.
+const DONE: Seen = (0, 0, 0);
+
+/// What is shown where what a line asks can't be done.
+const NOTHING: Seen = (NEVER, NEVER, NEVER);
+
+/// The units of a table, the tick of its lines, and the last channel's move.
+#[derive(Drop)]
+struct Bench {
+    units: Units,
+    now: u32,
+    before: Option<Before>,
+}
+
+/// What a refusal tells: a number for each kind that ports have, and its value.
+fn told(kind: LeftKind, value: u32) -> Seen {
+    let kind = match kind {
+        LeftKind::NotYet => 1,
+        LeftKind::HaltMode => 2,
+        LeftKind::DmaStart => 3,
+        LeftKind::CardTransfer => 4,
+        _ => 5,
+    };
+    (kind, value.into(), 0)
+}
+
+/// A tick, if it is one.
+fn tick_of(due: Option<Tick>) -> Seen {
+    (due.map_or(NEVER, |due| due.0), 0, 0)
+}
+
+/// An actor that numbers name, as its tick.
+fn timer_due(units: &Units, proc: Proc, number: u8) -> Option<Tick> {
+    units.due_behind(Actor::Timer {
+        proc,
+        number: number % 4,
+    })
+}
+
+/// When a processor's channel is due.
+fn channel_due(units: &Units, proc: Proc, channel: u8) -> Option<Tick>
+    ensures { result ≡ due_behind (actors.Dma proc (channel % 4)) units.now }
+{
+    units.due_behind(Actor::Dma {
+        proc,
+        channel: channel % 4,
+    })
+}
+
+impl Bench {
+    /// What a read gives.
+    fn value(&self, proc: Proc, at: u32, width: Width) -> Seen {
+        let now = Tick(self.now.into());
+        (
+            self.units.value(proc, now, at % 0x100_0000, width).into(),
+            0,
+            0,
+        )
+    }
+
+    /// A read and what it gives.
+    fn take(&mut self, proc: Proc, at: u32, width: Width) -> Seen {
+        let now = Tick(self.now.into());
+        (
+            self.units.take(proc, now, at % 0x100_0000, width).into(),
+            0,
+            0,
+        )
+    }
+
+    /// A write, and why it is refused, if it is.
+    fn put(&mut self, proc: Proc, at: u32, width: Width, value: u32) -> Seen {
+        let now = Tick(self.now.into());
+        match self.units.put(proc, now, at % 0x100_0000, width, value) {
+            Some(Stop { kind, value }) => told(kind, value),
+            None => DONE,
+        }
+    }
+
+    /// What is due first.
+    fn first(&self) -> Seen {
+        match self.units.first_due() {
+            Some(due) => (due.tick.0, due.rank.into(), 0),
+            None => NOTHING,
+        }
+    }
+
+    /// A processor's timer overflows, where it is due.
+    fn overflow(&mut self, proc: Proc, number: u8) -> Seen {
+        let number = number % 4;
+        match self.units.due_behind(Actor::Timer { proc, number }) {
+            Some(due) if due.0 <= 1 << 56 => {
+                self.units.overflow(proc, number);
+                DONE
+            }
+            _ => NOTHING,
+        }
+    }
+
+    /// The running division is done, where one runs.
+    fn divide(&mut self) -> Seen {
+        if self.units.due_behind(Actor::Divider).is_none() {
+            return NOTHING;
+        }
+        self.units.finish_division();
+        DONE
+    }
+
+    /// The running square root is done, where one runs.
+    fn root(&mut self) -> Seen {
+        if self.units.due_behind(Actor::SquareRoot).is_none() {
+            return NOTHING;
+        }
+        self.units.finish_root();
+        DONE
+    }
+
+    /// A processor's channel moves a unit when it is due, if it is.
+    fn moved(&mut self, proc: Proc, channel: u8) -> Seen {
+        match channel_due(&self.units, proc, channel) {
+            Some(due) if due.0 <= 1 << 56 => {
+                let unit = self.units.unit(proc);
+                self.before = Some(self.units.move_channel(proc, due));
+                (unit.from.into(), unit.to.into(), unit.width.bytes().into())
+            }
+            _ => NOTHING,
+        }
+    }
+
+    /// A processor's last move is taken back.
+    fn put_back(&mut self, proc: Proc) -> Seen {
+        match self.before {
+            Some(before) => {
+                self.units.put_back(proc, before);
+                DONE
+            }
+            None => NOTHING,
+        }
+    }
+
+    /// What a line of due ticks or of what is due says: what was seen, and what is wanted.
+    fn behind(&mut self, line: Line) -> (Seen, Seen) {
+        match line {
+            Line::TimerDue(proc, number, tick) => {
+                (tick_of(timer_due(&self.units, proc, number)), (tick, 0, 0))
+            }
+            Line::ChannelDue(proc, channel, tick) => {
+                (
+                    tick_of(channel_due(&self.units, proc, channel)),
+                    (tick, 0, 0),
+                )
+            }
+            Line::DivisionDue(tick) => {
+                (tick_of(self.units.due_behind(Actor::Divider)), (tick, 0, 0))
+            }
+            Line::RootDue(tick) => {
+                (
+                    tick_of(self.units.due_behind(Actor::SquareRoot)),
+                    (tick, 0, 0),
+                )
+            }
+            Line::First(tick, rank) => (self.first(), (tick, rank.into(), 0)),
+            Line::NoneDue => (self.first(), NOTHING),
+            Line::Overflows(proc, number) => (self.overflow(proc, number), DONE),
+            Line::Divides => (self.divide(), DONE),
+            Line::Roots => (self.root(), DONE),
+            Line::Moves(proc, channel, from, to, width) => (
+                self.moved(proc, channel),
+                (from.into(), to.into(), width.bytes().into()),
+            ),
+            Line::PutsBack(proc) => (self.put_back(proc), DONE),
+            _ => (DONE, DONE),
+        }
+    }
+
+    /// What a line changes that shows nothing.
+    fn change(&mut self, line: Line) {
+        match line {
+            Line::At(now) => self.now = now,
+            Line::Read(proc, at, width) => self.units.read(proc, at % 0x100_0000, width),
+            Line::Press(keys) => self.units.press(keys % 0x1000),
+            Line::Event(cause) => self.units.trigger(cause, Tick(self.now.into())),
+            Line::Halt(proc) => self.units.set_halted(proc, true),
+            Line::Wake(proc) => self.units.set_halted(proc, false),
+            Line::WriteVram(space, at, value) => {
+                self.units.write_vram(space, at, Width::Word, value);
+            }
+            _ => {}
+        }
+    }
+
+    /// Does what a line says: what was seen, and what is wanted.
+    fn seen(&mut self, line: Line) -> (Seen, Seen) {
+        self.change(line);
+        match line {
+            Line::Write(proc, at, width, value) => (self.put(proc, at, width, value), DONE),
+            Line::Refused(proc, at, width, value, kind, with) => {
+                (self.put(proc, at, width, value), told(kind, with))
+            }
+            Line::Reads(proc, at, width, value) => {
+                (self.value(proc, at, width), (value.into(), 0, 0))
+            }
+            Line::Takes(proc, at, width, value) => {
+                (self.take(proc, at, width), (value.into(), 0, 0))
+            }
+            Line::Is(proc, halted, held) => (
+                (
+                    self.units.is_halted(proc).into(),
+                    self.units.is_held(proc).into(),
+                    0,
+                ),
+                (halted.into(), held.into(), 0),
+            ),
+            Line::Asks(proc, up, wakes) => (
+                (
+                    self.units.line(proc).into(),
+                    self.units.wakes(proc).into(),
+                    0,
+                ),
+                (up.into(), wakes.into(), 0),
+            ),
+            Line::Vram(space, at, value) => (
+                (self.units.vram().read(space, at, Width::Word).into(), 0, 0),
+                (value.into(), 0, 0),
+            ),
+            Line::Wramcnt(value) => ((self.units.wramcnt().into(), 0, 0), (value.into(), 0, 0)),
+            _ => self.behind(line),
+        }
+    }
+}
+
+/// The units from boot on, line by line.
+pub fn try_lines(rt: &impl Abort, alloc: Global, lines: &[Line]) -> Result<(), AllocError> {
+    let mut bench = Bench {
+        units: Units::new(alloc)?,
+        now: 0,
+        before: None,
+    };
+    for (number, line) in lines.iter().enumerate() {
+        if let Line::Boot = line {
+            bench.units = Units::new(alloc)?;
+        }
+        bench.units.laws();
+        let (got, wanted) = bench.seen(*line);
+        let (one, two, three) = got;
+        assert!(rt; got == wanted, "line {number}: {one:x}, {two:x}, {three:x}");
+    }
+    Ok(())
+}

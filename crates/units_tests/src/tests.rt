@@ -1,0 +1,12 @@
+//! Each unit's rules on worked rows, from GBATEK and the manuals.
+
+mod base;
+mod boot_roms;
+mod coprocessors;
+mod dma;
+mod ipc;
+mod irqs;
+mod maths;
+mod places;
+mod runs;
+mod timers;

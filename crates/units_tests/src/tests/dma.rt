@@ -1,0 +1,654 @@
+//! A processor's DMA channels, by GBATEK's "DS DMA Transfers" and by the choices of this console.
+
+use Cause::{Card, Geometry, HBlank, VBlank};
+use DmaPort::{Control, Source, Target};
+use LeftKind::{DmaStart, NotYet};
+use Proc::{Nine, Seven};
+use ds_base::{LeftKind, Proc, Stop, Tick, Width};
+use ds_dma::{Cause, Dma, DmaPort};
+use std::process::Abort;
+
+/// Where the units of the tests are read and written.
+const FROM: u32 = 0x0200_0000;
+
+const TO: u32 = 0x0300_0000;
+
+/// A line of a table.
+#[derive(Clone, Copy)]
+enum Line {
+    /// The channels as at boot again.
+    Boot,
+    /// A write of a channel's control at a tick is taken.
+    Write(u8, u32, u32),
+    /// Writes of a channel's source, target and control at a tick are taken.
+    Enable(u8, u32, u32, u32, u32),
+    /// A write of a channel's control at a tick is refused with this kind and value.
+    Refused(u8, u32, u32, LeftKind, u32),
+    /// A port of a channel reads this.
+    Reads(u8, DmaPort, u32),
+    /// An event at a tick.
+    Event(Cause, u32),
+    /// This channel is due at this tick; a channel runs.
+    Due(u8, u64),
+    /// No channel is due, and none runs.
+    Idle,
+    /// The unit that is due moves words, or halves.
+    Unit(Width),
+    /// The unit that is due is moved at its tick: where it is read, where it is written, and the bits of IF that it raises.
+    Moves(u32, u32, u32),
+    /// So many units are moved until none is due.
+    MovesAll(u64),
+    /// The last unit was moved at this tick.
+    Last(u64),
+    /// None was moved yet.
+    NoLast,
+}
+
+use Line::{
+    Boot, Due, Enable, Event, Idle, Last, Moves, MovesAll, NoLast, Reads, Refused, Unit, Write,
+};
+
+/// What a line shows: three numbers, as its kind has them.
+type Seen = (u64, u64, u64);
+
+/// What is shown where there is nothing.
+const NOTHING: Seen = (0, 0, u64::MAX);
+
+/// A refusal: its kind by its place in the list of kinds that DMA has, and its value.
+fn told(kind: LeftKind, value: u32) -> Seen {
+    let kind = match kind {
+        LeftKind::DmaStart => 1,
+        LeftKind::NotYet => 2,
+        _ => 3,
+    };
+    (kind, value.into(), 0)
+}
+
+/// What an answer of a write shows.
+fn answer(stop: Option<Stop>) -> Seen {
+    match stop {
+        Some(stop) => told(stop.kind, stop.value),
+        None => NOTHING,
+    }
+}
+
+/// Writes a channel's control at a tick.
+fn write(dma: &mut Dma, channel: u8, control: u32, now: u32) -> Seen {
+    answer(dma.write(channel % 4, Control, control, Tick(now.into())))
+}
+
+/// Writes a channel's source, target and control at a tick.
+fn enable(dma: &mut Dma, channel: u8, from: u32, to: u32, control: u32, now: u32) -> Seen {
+    let now = Tick(now.into());
+    let source = dma.write(channel % 4, Source, from, now);
+    let target = dma.write(channel % 4, Target, to, now);
+    let control = dma.write(channel % 4, Control, control, now);
+    answer(source.or(target).or(control))
+}
+
+/// The channel that is due and its tick, and whether a channel runs.
+fn due(dma: &Dma) -> Seen {
+    let runs = dma.running().into();
+    match dma.due() {
+        Some(due) => (due.channel.into(), due.tick.0, runs),
+        None => (0, u64::MAX, runs),
+    }
+}
+
+/// How many bytes the unit that is due moves.
+fn bytes(dma: &Dma) -> Seen {
+    match dma.due() {
+        Some(_) => (dma.unit().width.bytes().into(), 0, 0),
+        None => NOTHING,
+    }
+}
+
+/// Moves the unit that is due at its tick: where it is read and written, and the bits that it raises.
+fn moved(dma: &mut Dma) -> Seen {
+    match dma.due() {
+        Some(due) if due.tick.0 <= 1 << 56 => {
+            let unit = dma.unit();
+            let raised = dma.finish(due.tick);
+            (unit.from.into(), unit.to.into(), raised.into())
+        }
+        _ => NOTHING,
+    }
+}
+
+/// How many units are moved until none is due, up to 4001h.
+fn moves(dma: &mut Dma) -> Seen {
+    for done in 0..0x4001u32 {
+        if moved(dma) == NOTHING {
+            return (done.into(), 0, 0);
+        }
+    }
+    (0x4001, 0, 0)
+}
+
+/// When the last unit was moved.
+fn last(dma: &Dma) -> Seen {
+    match dma.last_unit() {
+        Some(tick) => (tick.0, 0, 0),
+        None => NOTHING,
+    }
+}
+
+/// Does what a line says: what was seen, and what is wanted.
+fn seen(dma: &mut Dma, proc: Proc, line: Line) -> (Seen, Seen) {
+    match line {
+        Boot => {
+            *dma = Dma::new(proc);
+            (NOTHING, NOTHING)
+        }
+        Write(channel, control, now) => (write(dma, channel, control, now), NOTHING),
+        Enable(channel, from, to, control, now) => {
+            (enable(dma, channel, from, to, control, now), NOTHING)
+        }
+        Refused(channel, control, now, kind, value) => {
+            (write(dma, channel, control, now), told(kind, value))
+        }
+        Reads(channel, port, value) => {
+            (
+                (dma.read(channel % 4, port).into(), 0, 0),
+                (value.into(), 0, 0),
+            )
+        }
+        Event(cause, now) => {
+            dma.trigger(cause, Tick(now.into()));
+            (NOTHING, NOTHING)
+        }
+        Due(channel, tick) => (due(dma), (channel.into(), tick, 1)),
+        Idle => (due(dma), (0, u64::MAX, 0)),
+        Unit(width) => (bytes(dma), (width.bytes().into(), 0, 0)),
+        Moves(from, to, raised) => (moved(dma), (from.into(), to.into(), raised.into())),
+        MovesAll(units) => (moves(dma), (units, 0, 0)),
+        Last(tick) => (last(dma), (tick, 0, 0)),
+        NoLast => (last(dma), NOTHING),
+    }
+}
+
+/// A processor's channels from boot on, line by line.
+fn try_lines(rt: &impl Abort, proc: Proc, lines: &[Line]) {
+    let mut dma = Dma::new(proc);
+    dma.laws();
+    for (number, line) in lines.iter().enumerate() {
+        let (got, wanted) = seen(&mut dma, proc, *line);
+        let (one, two, three) = got;
+        assert!(rt; got == wanted, "line {number}: {one:x}, {two:x}, {three:x}");
+    }
+}
+
+#[test]
+fn two_words_at_once_and_an_interrupt_at_the_end(rt: HostRuntime) {
+    try_lines(
+        &rt,
+        Nine,
+        &[
+            Idle,
+            NoLast,
+            Enable(0, FROM, TO, 0xC400_0002, 100),
+            Due(0, 104),
+            Unit(Width::Word),
+            Moves(FROM, TO, 0),
+            Due(0, 108),
+            Last(104),
+            Moves(FROM + 4, TO + 4, 0x100),
+            Reads(0, Control, 0x4400_0002),
+            Idle,
+            Last(108),
+        ],
+    );
+}
+
+#[test]
+fn each_channel_raises_its_own_interrupt(rt: HostRuntime) {
+    for proc in [Nine, Seven] {
+        try_lines(
+            &rt,
+            proc,
+            &[
+                Enable(0, FROM, TO, 0xC400_0001, 0),
+                Moves(FROM, TO, 0x100),
+                Enable(0, FROM, TO, 0x8400_0001, 10),
+                Moves(FROM, TO, 0),
+                Enable(1, FROM, TO, 0xC400_0001, 0),
+                Moves(FROM, TO, 0x200),
+                Enable(1, FROM, TO, 0x8400_0001, 10),
+                Moves(FROM, TO, 0),
+                Enable(2, FROM, TO, 0xC400_0001, 0),
+                Moves(FROM, TO, 0x400),
+                Enable(2, FROM, TO, 0x8400_0001, 10),
+                Moves(FROM, TO, 0),
+                Enable(3, FROM, TO, 0xC400_0001, 0),
+                Moves(FROM, TO, 0x800),
+                Enable(3, FROM, TO, 0x8400_0001, 10),
+                Moves(FROM, TO, 0),
+            ],
+        );
+    }
+}
+
+#[test]
+fn addresses_of_words_move_by_their_modes(rt: HostRuntime) {
+    for proc in [Nine, Seven] {
+        try_lines(
+            &rt,
+            proc,
+            &[
+                // up and up, and past 28 bits
+                Enable(2, 0x0FFF_FFF8, 0x10, 0x8400_0003, 0),
+                Moves(0x0FFF_FFF8, 0x10, 0),
+                Moves(0x0FFF_FFFC, 0x14, 0),
+                Moves(0x1000_0000, 0x18, 0),
+                Idle,
+                Reads(2, Source, 0x0FFF_FFF8),
+                // down and down, and below 0
+                Enable(2, 4, 0, 0x84A0_0003, 0),
+                Moves(4, 0, 0),
+                Moves(0, 0xFFFF_FFFC, 0),
+                Moves(0xFFFF_FFFC, 0xFFFF_FFF8, 0),
+                Idle,
+                Reads(2, Source, 4),
+                // a source that stays and a target that goes up, and the reverse
+                Enable(2, 0x40, 0x80, 0x8500_0003, 0),
+                Moves(0x40, 0x80, 0),
+                Moves(0x40, 0x84, 0),
+                Moves(0x40, 0x88, 0),
+                Idle,
+                Reads(2, Source, 0x40),
+                Enable(2, 0x40, 0x80, 0x8440_0003, 0),
+                Moves(0x40, 0x80, 0),
+                Moves(0x44, 0x80, 0),
+                Moves(0x48, 0x80, 0),
+                Idle,
+                Reads(2, Source, 0x40),
+                // mode 3 goes up
+                Enable(2, 0x40, 0x80, 0x85E0_0003, 0),
+                Moves(0x40, 0x80, 0),
+                Moves(0x44, 0x84, 0),
+                Moves(0x48, 0x88, 0),
+                Idle,
+                Reads(2, Source, 0x40),
+            ],
+        );
+    }
+}
+
+#[test]
+fn addresses_of_halves_move_by_their_modes(rt: HostRuntime) {
+    for proc in [Nine, Seven] {
+        try_lines(
+            &rt,
+            proc,
+            &[
+                // up and down
+                Enable(2, 0x40, 0x80, 0x8020_0003, 0),
+                Unit(Width::Half),
+                Moves(0x40, 0x80, 0),
+                Moves(0x42, 0x7E, 0),
+                Moves(0x44, 0x7C, 0),
+                Idle,
+                Reads(2, Source, 0x40),
+                // down and up
+                Enable(2, 2, 0x80, 0x8080_0003, 0),
+                Moves(2, 0x80, 0),
+                Moves(0, 0x82, 0),
+                Moves(0xFFFF_FFFE, 0x84, 0),
+                Idle,
+                Reads(2, Source, 2),
+                // mode 3 goes up
+                Enable(2, 0x40, 0x80, 0x81E0_0003, 0),
+                Moves(0x40, 0x80, 0),
+                Moves(0x42, 0x82, 0),
+                Moves(0x44, 0x84, 0),
+                Idle,
+                Reads(2, Source, 0x40),
+            ],
+        );
+    }
+}
+
+#[test]
+fn a_count_of_zero_is_the_greatest_and_one_more(rt: HostRuntime) {
+    try_lines(
+        &rt,
+        Seven,
+        &[Enable(0, FROM, TO, 0x8000_0000, 0), MovesAll(0x4000)],
+    );
+}
+
+/// A count of 0, or of 1 and one bit more: the first unit is the only one where that bit isn't one of the channel's count.
+#[test]
+fn a_count_has_the_bits_of_its_channel(rt: HostRuntime) {
+    try_lines(
+        &rt,
+        Nine,
+        &[
+            Enable(0, FROM, TO, 0x8000_0000, 0),
+            Moves(FROM, TO, 0),
+            Due(0, 8),
+            Boot,
+            Enable(0, FROM, TO, 0x8010_0001, 0),
+            Moves(FROM, TO, 0),
+            Due(0, 8),
+            Boot,
+            Enable(3, FROM, TO, 0x8010_0001, 0),
+            Moves(FROM, TO, 0),
+            Due(3, 8),
+            Boot,
+            Enable(3, FROM, TO, 0x8020_0001, 0),
+            Moves(FROM, TO, 0),
+            Idle,
+        ],
+    );
+    try_lines(
+        &rt,
+        Seven,
+        &[
+            Enable(2, FROM, TO, 0x8000_2001, 0),
+            Moves(FROM, TO, 0),
+            Due(2, 8),
+            Boot,
+            Enable(2, FROM, TO, 0x8000_4001, 0),
+            Moves(FROM, TO, 0),
+            Idle,
+            Boot,
+            Enable(3, FROM, TO, 0x8000_0000, 0),
+            Moves(FROM, TO, 0),
+            Due(3, 8),
+            Boot,
+            Enable(3, FROM, TO, 0x8000_8001, 0),
+            Moves(FROM, TO, 0),
+            Due(3, 8),
+            Boot,
+            Enable(3, FROM, TO, 0x8001_0001, 0),
+            Moves(FROM, TO, 0),
+            Idle,
+        ],
+    );
+}
+
+#[test]
+fn each_processor_keeps_its_bits(rt: HostRuntime) {
+    try_lines(
+        &rt,
+        Nine,
+        &[
+            Enable(0, 0xFFFF_FFFF, 0xF123_4567, 0x4FFF_FFFF, 0),
+            Reads(0, Source, 0x0FFF_FFFF),
+            Reads(0, Target, 0x0123_4567),
+            Reads(0, Control, 0x4FFF_FFFF),
+            Enable(3, 0xFFFF_FFFF, 0xF123_4567, 0x4FFF_FFFF, 0),
+            Reads(3, Source, 0x0FFF_FFFF),
+            Reads(3, Target, 0x0123_4567),
+            Reads(3, Control, 0x4FFF_FFFF),
+            Idle,
+        ],
+    );
+    try_lines(
+        &rt,
+        Seven,
+        &[
+            Enable(0, 0xFFFF_FFFF, 0xF123_4567, 0x4FFF_FFFF, 0),
+            Reads(0, Source, 0x0FFF_FFFF),
+            Reads(0, Target, 0x0123_4567),
+            Reads(0, Control, 0x47E0_3FFF),
+            Enable(2, 0xFFFF_FFFF, 0xF123_4567, 0x4FFF_FFFF, 0),
+            Reads(2, Source, 0x0FFF_FFFF),
+            Reads(2, Target, 0x0123_4567),
+            Reads(2, Control, 0x47E0_3FFF),
+            Enable(3, 0xFFFF_FFFF, 0xF123_4567, 0x4FFF_FFFF, 0),
+            Reads(3, Source, 0x0FFF_FFFF),
+            Reads(3, Target, 0x0123_4567),
+            Reads(3, Control, 0x47E0_FFFF),
+            Idle,
+        ],
+    );
+}
+
+/// The bits of the target's mode, and where the second unit of the first turn and the first one of the second turn are written.
+const AGAIN: [(u32, u32, u32); 4] = [
+    (0x0000_0000, TO + 4, TO + 8),
+    (0x0020_0000, TO - 4, TO - 8),
+    (0x0040_0000, TO, TO),
+    (0x0060_0000, TO + 4, 0x0100_0000),
+];
+
+#[test]
+fn a_channel_that_repeats_is_armed_again_with_the_count_that_stands(rt: HostRuntime) {
+    for (mode, second, third) in AGAIN {
+        try_lines(
+            &rt,
+            Nine,
+            &[
+                Enable(1, FROM, TO, 0xCE00_0002 | mode, 0),
+                Idle,
+                Event(VBlank, 10),
+                Due(1, 14),
+                Moves(FROM, TO, 0),
+                // another count, source and target while it runs: none counts before its end
+                Enable(1, 0x0400_0000, 0x0100_0000, 0xCE00_0003 | mode, 15),
+                Due(1, 18),
+                Moves(FROM + 4, second, 0x200),
+                // it waits for the next event, and then moves three
+                Idle,
+                Reads(1, Control, 0xCE00_0003 | mode),
+                Event(VBlank, 100),
+                Due(1, 104),
+                Moves(FROM + 8, third, 0),
+                MovesAll(2),
+            ],
+        );
+    }
+}
+
+#[test]
+fn a_channel_that_starts_at_once_or_does_not_repeat_ends_disabled(rt: HostRuntime) {
+    try_lines(
+        &rt,
+        Nine,
+        &[
+            // it repeats, but starts at once
+            Enable(0, FROM, TO, 0x8600_0001, 0),
+            Moves(FROM, TO, 0),
+            Idle,
+            Reads(0, Control, 0x0600_0001),
+            // it starts at V-blank, and doesn't repeat
+            Enable(0, FROM, TO, 0x8C00_0001, 10),
+            Event(VBlank, 20),
+            Moves(FROM, TO, 0),
+            Reads(0, Control, 0x0C00_0001),
+            Event(VBlank, 40),
+            Idle,
+        ],
+    );
+}
+
+#[test]
+fn the_least_running_channel_goes_first(rt: HostRuntime) {
+    try_lines(
+        &rt,
+        Seven,
+        &[
+            Enable(3, FROM, TO, 0x8400_0002, 100),
+            Due(3, 104),
+            Enable(1, FROM + 0x100, TO, 0x8400_0001, 102),
+            Enable(2, FROM + 0x200, TO, 0x8400_0001, 102),
+            Due(1, 106),
+            Moves(FROM + 0x100, TO, 0),
+            Due(2, 110),
+            Moves(FROM + 0x200, TO, 0),
+            Due(3, 114),
+            // one that is triggered later than the last unit
+            Enable(0, FROM, TO, 0x8400_0001, 113),
+            Due(0, 117),
+            MovesAll(3),
+            Last(125),
+        ],
+    );
+}
+
+#[test]
+fn a_write_that_clears_enable_ends_a_transfer(rt: HostRuntime) {
+    try_lines(
+        &rt,
+        Nine,
+        &[
+            Enable(0, FROM, TO, 0xC400_0003, 0),
+            Moves(FROM, TO, 0),
+            Write(0, 0x4400_0003, 5),
+            Idle,
+            Reads(0, Control, 0x4400_0003),
+            // enabled again, it begins from its source
+            Write(0, 0xC400_0001, 6),
+            Due(0, 10),
+            Moves(FROM, TO, 0x100),
+        ],
+    );
+}
+
+#[test]
+fn a_write_that_leaves_it_enabled_triggers_nothing(rt: HostRuntime) {
+    try_lines(
+        &rt,
+        Nine,
+        &[
+            Enable(0, FROM, TO, 0x8C00_0002, 0),
+            Write(0, 0x8400_0002, 5),
+            Event(VBlank, 10),
+            Idle,
+            // from words that go up to halves that go down, in the middle of a transfer
+            Write(0, 0x8C00_0002, 11),
+            Event(VBlank, 20),
+            Moves(FROM, TO, 0),
+            Write(0, 0xC8A0_0001, 25),
+            Due(0, 28),
+            Unit(Width::Half),
+            Moves(FROM + 4, TO + 4, 0x100),
+        ],
+    );
+}
+
+#[test]
+fn starts_that_are_left_out_are_refused(rt: HostRuntime) {
+    try_lines(
+        &rt,
+        Nine,
+        &[
+            // a control that isn't enabled stays where one is refused
+            Enable(1, FROM, TO, 0x1234, 0),
+            Refused(1, 0x9800_0001, 0, DmaStart, 0x9800_0001),
+            Idle,
+            Reads(1, Control, 0x1234),
+            Refused(1, 0xA000_0001, 0, DmaStart, 0xA000_0001),
+            Idle,
+            Reads(1, Control, 0x1234),
+            Refused(1, 0xB000_0001, 0, DmaStart, 0xB000_0001),
+            Idle,
+            Reads(1, Control, 0x1234),
+            Refused(1, 0xB800_0001, 0, NotYet, 0xB800_0001),
+            Idle,
+            Reads(1, Control, 0x1234),
+            // and these are taken
+            Write(1, 0x8000_0001, 0),
+            Boot,
+            Enable(1, FROM, TO, 0x1234, 0),
+            Write(1, 0x8800_0001, 0),
+            Boot,
+            Enable(1, FROM, TO, 0x1234, 0),
+            Write(1, 0x9000_0001, 0),
+            Boot,
+            Enable(1, FROM, TO, 0x1234, 0),
+            Write(1, 0xA800_0001, 0),
+        ],
+    );
+    try_lines(
+        &rt,
+        Seven,
+        &[
+            Enable(1, FROM, TO, 0x1234, 0),
+            // ARM7's control has neither bit 27 nor bits 14 to 20 of a count
+            Refused(1, 0xB81F_C001, 0, DmaStart, 0xB000_0001),
+            Idle,
+            Reads(1, Control, 0x1234),
+            Write(1, 0x8800_0001, 0),
+            Boot,
+            Enable(1, FROM, TO, 0x1234, 0),
+            Write(1, 0x9800_0001, 0),
+            Boot,
+            Enable(1, FROM, TO, 0x1234, 0),
+            Write(1, 0xA800_0001, 0),
+        ],
+    );
+}
+
+#[test]
+fn only_what_enables_a_channel_is_refused(rt: HostRuntime) {
+    try_lines(
+        &rt,
+        Nine,
+        &[
+            // not enabled: every start is kept
+            Write(0, 0x1800_0001, 0),
+            Write(0, 0x3800_0001, 0),
+            // enabled already: a start that is left out is kept, and the one that isn't built yet refused
+            Enable(0, FROM, TO, 0x8800_0001, 0),
+            Write(0, 0x9800_0001, 0),
+            Reads(0, Control, 0x9800_0001),
+            Refused(0, 0xB800_0001, 0, NotYet, 0xB800_0001),
+            Reads(0, Control, 0x9800_0001),
+        ],
+    );
+}
+
+/// Channel 3 enabled with a start, and channel 2 beside it not enabled; then each event.
+fn try_start(rt: &impl Abort, proc: Proc, control: u32, starting: Cause, others: [Cause; 3]) {
+    try_lines(
+        rt,
+        proc,
+        &[
+            Enable(3, FROM, TO, control, 0),
+            Enable(2, FROM, TO, control & 0x7FFF_FFFF, 0),
+            Event(others[0], 50),
+            Idle,
+            Event(others[1], 50),
+            Idle,
+            Event(others[2], 50),
+            Idle,
+            Event(starting, 50),
+            Due(3, 54),
+        ],
+    );
+}
+
+#[test]
+fn an_event_triggers_the_channels_that_wait_for_it(rt: HostRuntime) {
+    for (proc, control, starting, others) in [
+        (Nine, 0x8800_0001, VBlank, [HBlank, Card, Geometry]),
+        (Nine, 0x9000_0001, HBlank, [VBlank, Card, Geometry]),
+        (Nine, 0xA800_0001, Card, [VBlank, HBlank, Geometry]),
+        (Seven, 0x9000_0001, VBlank, [HBlank, Card, Geometry]),
+        (Seven, 0xA000_0001, Card, [VBlank, HBlank, Geometry]),
+    ] {
+        try_start(&rt, proc, control, starting, others);
+    }
+}
+
+#[test]
+fn an_event_leaves_a_running_channel(rt: HostRuntime) {
+    try_lines(
+        &rt,
+        Nine,
+        &[
+            Enable(0, FROM, TO, 0x8A00_0002, 0),
+            Enable(1, FROM, TO, 0x8A00_0001, 0),
+            Event(VBlank, 10),
+            Event(VBlank, 13),
+            Due(0, 14),
+            Moves(FROM, TO, 0),
+            Event(VBlank, 16),
+            Due(0, 18),
+            MovesAll(2),
+        ],
+    );
+}

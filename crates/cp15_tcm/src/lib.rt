@@ -9,6 +9,3 @@ mod windows;
 
 pub use answers::{Mcr, Tcm};
 pub use coprocessors::Cp15;
-
-#[cfg(test)]
-mod tests;

@@ -25,6 +25,3 @@ pub use memories::{
 };
 pub use processors::{Arch, Proc, Raised};
 pub use ticks::{Due, Tick};
-
-#[cfg(test)]
-mod tests;

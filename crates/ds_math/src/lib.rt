@@ -7,6 +7,3 @@ mod roots;
 
 pub use dividers::{Divider, Quotient};
 pub use roots::{Root, RootSeen};
-
-#[cfg(test)]
-mod tests;

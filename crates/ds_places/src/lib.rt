@@ -9,6 +9,3 @@ mod tables;
 pub use boot_roms::rom_word;
 pub use kinds::Place;
 pub use tables::place;
-
-#[cfg(test)]
-mod tests;

@@ -12,6 +12,3 @@ mod order;
 
 pub use actors::Actor;
 pub use order::{earlier, earlier_than, entry, later_than};
-
-#[cfg(test)]
-mod tests;

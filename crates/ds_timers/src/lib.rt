@@ -7,6 +7,3 @@ mod timers;
 
 pub use irqs::Irq;
 pub use timers::Timers;
-
-#[cfg(test)]
-mod tests;

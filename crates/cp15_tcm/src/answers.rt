@@ -3,7 +3,7 @@
 use ds_base::Stop;
 
 /// What a write of a CP15 register came to.
-#[derive(Clone, Copy, PartialEq, Eq, Debug)]
+#[derive(Clone, Copy, PartialEq, Eq)]
 pub enum Mcr {
     /// The register took the bits that it keeps, or ignored the write.
     Kept,
@@ -14,7 +14,7 @@ pub enum Mcr {
 }
 
 /// Where a tightly coupled memory stands at an address.
-#[derive(Clone, Copy, PartialEq, Eq, Debug)]
+#[derive(Clone, Copy, PartialEq, Eq)]
 pub enum Tcm {
     /// The byte of ITCM at this place, below 32 KiB.
     Itcm(u32),

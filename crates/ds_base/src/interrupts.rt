@@ -5,7 +5,7 @@ ghost use Rattle.ds_base.specs.Interrupts.{interrupt_bit};
 
 /// An interrupt of either processor (GBATEK, "DS Interrupts", 4000210h and 4000214h). Those that nothing here raises aren't listed:
 /// 7 SIO, 13 GBA slot, 20 card line, 22 to 24 hinge, SPI and wireless.
-#[derive(Clone, Copy, PartialEq, Eq, Debug)]
+#[derive(Clone, Copy, PartialEq, Eq)]
 pub enum Interrupt {
     /// Bit 0: line 192 begins.
     VBlank,

@@ -46,7 +46,7 @@ impl Proc {
 }
 
 /// The bits of each processor's interrupt flags (IF) that an event raises (GBATEK, "DS Interrupts").
-#[derive(Clone, Copy, PartialEq, Eq, Debug)]
+#[derive(Clone, Copy, PartialEq, Eq)]
 pub struct Raised {
     /// The bits raised in ARM9's IF.
     pub nine: u32,

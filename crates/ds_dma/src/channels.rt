@@ -15,7 +15,7 @@ use ds_base::{Proc, Stop, Tick, Width};
 const ADDRESS: u32 = 0x0FFF_FFFF;
 
 /// One unit of a transfer: what is read at one address is written at the other.
-#[derive(Clone, Copy, PartialEq, Eq, Debug)]
+#[derive(Clone, Copy, PartialEq, Eq)]
 pub struct Unit {
     /// Where it is read.
     pub from: u32,

@@ -7,7 +7,7 @@ ghost use Rattle.ds_dma.specs.Controls.{greatest_count, channel_control_mask, ke
 use ds_base::{Interrupt, LeftKind, Proc, Stop, Width};
 
 /// A port of a channel (GBATEK, "DS DMA Transfers").
-#[derive(Clone, Copy, PartialEq, Eq, Debug)]
+#[derive(Clone, Copy, PartialEq, Eq)]
 pub enum DmaPort {
     /// DMAxSAD: where the units are read, 28 bits.
     Source,
@@ -18,7 +18,7 @@ pub enum DmaPort {
 }
 
 /// What triggers channels that are enabled and wait for it (GBATEK, "DS DMA Transfers", start modes).
-#[derive(Clone, Copy, PartialEq, Eq, Debug)]
+#[derive(Clone, Copy, PartialEq, Eq)]
 pub enum Cause {
     /// Line 192 begins: start 1 of both processors.
     VBlank,

@@ -17,7 +17,7 @@ use ds_base::{Proc, Stop, Tick};
 use std::marker::Model;
 
 /// The channel that is due, and when.
-#[derive(Clone, Copy, PartialEq, Eq, Debug)]
+#[derive(Clone, Copy, PartialEq, Eq)]
 pub struct DmaDue {
     /// When its first unit is due.
     pub tick: Tick,

@@ -11,7 +11,7 @@ use std::alloc::{AllocError, Global};
 use std::marker::Model;
 
 /// What a receive gives.
-#[derive(Clone, Copy, PartialEq, Eq, Debug)]
+#[derive(Clone, Copy, PartialEq, Eq)]
 pub struct Got {
     /// The word: the oldest that waits, or the last one received where none waits (0 at first and after a clear).
     pub word: u32,

@@ -10,7 +10,7 @@ use ds_base::Tick;
 use std::marker::Model;
 
 /// What the divider's registers show (GBATEK, "DS Maths").
-#[derive(Clone, Copy, PartialEq, Eq, Debug)]
+#[derive(Clone, Copy, PartialEq, Eq)]
 pub struct Quotient {
     /// The mode of the last start, below 4: 0 is 32 bits by 32, 1 is 64 by 32, 2 is 64 by 64, and 3 acts as 1. 0 before.
     pub mode: u8,

@@ -9,7 +9,7 @@ use ds_base::Tick;
 use std::marker::Model;
 
 /// What the square root unit's registers show (GBATEK, "DS Maths").
-#[derive(Clone, Copy, PartialEq, Eq, Debug)]
+#[derive(Clone, Copy, PartialEq, Eq)]
 pub struct RootSeen {
     /// Whether the last start took all 64 bits of the value, not the lower 32 alone; false before.
     pub wide: bool,

@@ -3,7 +3,7 @@
 use ds_base::{Memory, Space};
 
 /// The place that an address names, past ARM9's tightly coupled memories (GBATEK, "DS Memory Map").
-#[derive(Clone, Copy, PartialEq, Eq, Debug)]
+#[derive(Clone, Copy, PartialEq, Eq)]
 pub enum Place {
     /// A byte of a memory.
     Cell {

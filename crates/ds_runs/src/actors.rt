@@ -7,7 +7,7 @@ ghost use Rattle.ds_runs.specs.declared.actors.Actor.TheVariants.{Timer, Dma};
 use ds_base::Proc;
 
 /// One of the console's 24 actors: whatever takes steps at due ticks. (Our choice of actors and of their ranks.)
-#[derive(Clone, Copy, PartialEq, Eq, Debug)]
+#[derive(Clone, Copy, PartialEq, Eq)]
 pub enum Actor {
     /// The lines of the key script.
     KeyScript,

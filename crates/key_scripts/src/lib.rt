@@ -12,6 +12,3 @@ mod ticks;
 pub use faults::ScriptFault;
 pub use laws::script_laws;
 pub use scripts::read_script;
-
-#[cfg(test)]
-mod tests;

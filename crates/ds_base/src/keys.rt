@@ -9,7 +9,7 @@ use std::marker::Model;
 
 /// A line of a key script: from this tick on exactly these keys are pressed. (Our choice of form; the keys are those of
 /// GBATEK, "DS Keypad".)
-#[derive(Clone, Copy, PartialEq, Eq, Debug)]
+#[derive(Clone, Copy, PartialEq, Eq)]
 pub struct KeyLine {
     /// From when on.
     pub tick: Tick,

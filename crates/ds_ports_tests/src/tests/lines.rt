@@ -305,6 +305,14 @@ impl Bench {
             _ => self.behind(line),
         }
     }
+
+    /// The same of every line, also of one that boots.
+    fn step(&mut self, alloc: Global, line: Line) -> Result<(Seen, Seen), AllocError> {
+        if let Line::Boot = line {
+            self.units = Units::new(alloc)?;
+        }
+        Ok(self.seen(line))
+    }
 }
 
 /// The units from boot on, line by line.
@@ -314,12 +322,9 @@ pub fn try_lines(rt: &impl Abort, alloc: Global, lines: &[Line]) -> Result<(), A
         now: 0,
         before: None,
     };
+    bench.units.laws();
     for (number, line) in lines.iter().enumerate() {
-        if let Line::Boot = line {
-            bench.units = Units::new(alloc)?;
-        }
-        bench.units.laws();
-        let (got, wanted) = bench.seen(*line);
+        let (got, wanted) = bench.step(alloc, *line)?;
         let (one, two, three) = got;
         assert!(rt; got == wanted, "line {number}: {one:x}, {two:x}, {three:x}");
     }

@@ -11,7 +11,8 @@ use Rattle.ds_base.specs.declared.processors.Proc.TheVariants.{Nine, Seven}
 use Rattle.ds_places.specs.AddressTables.{Content, Region, Cells, Video, Ports, BootRom, Empty, place_at, place_by, place_of, regions_of, shared_for_nine, shared_for_seven}
 use Rattle.ds_places.proofs.Regions.{lies_or_not}
 use Rattle.ds_ports.specs.Ports.{lies_in_built, port_is_built}
-use Rattle.ds_ports.proofs.Spans.{both, built_together, no_more_than_four}
+use Rattle.ds_ports.proofs.RegisterMaps.{both}
+use Rattle.ds_ports.proofs.Spans.{built_together, no_more_than_four}
 use Rattle.ds_map.specs.Builds.{byte_is_built, is_data_built, past_is_built}
 
 -- Spans that are built whole: those without ports, and those in one register that is built.

@@ -12,11 +12,11 @@ use Rattle.ds_runs.proofs.Firsts.{first_of_append}
 use Rattle.ds_timers.specs.Timing.{timer_at, timer_due}
 use Rattle.ds_ports.specs.Dues.{first_behind}
 use Rattle.ds_ports.specs.Inside.{moves_dues}
-use Rattle.ds_ports.specs.Own.{OwnState, haltcnt_written, keycnt_written, kept_keycnt, keys_hold, keys_told}
-use Rattle.ds_ports.specs.Registers.{bank_set, fifo_control_set, ie_set, if_set, ime_set, kept_of_romctrl, left_by_read, left_by_write, sync_set, word_sent}
+use Rattle.ds_ports.specs.Own.{OwnState, haltcnt_written, ie_written, if_written, ime_written, keycnt_written, kept_keycnt, keys_hold, keys_told}
+use Rattle.ds_ports.specs.Registers.{left_by_write, meaning_of}
 use Rattle.ds_ports.specs.Units.{UnitsState, keys_pressed, own_of, with_halted, with_own}
 use Rattle.ds_ports.specs.declared.registers.Register.{Register}
-use Rattle.ds_ports.specs.declared.registers.Register.TheVariants.{Later, Tmcnt, Keyinput, Keycnt, Extkeyin, Ipcsync, Ipcfifocnt, Ipcfifosend, Ipcfiforecv, Ime, Ie, If, VramcntAToG, VramcntHToI, Wramcnt, Vramstat, Wramstat, Postflg, Haltcnt, DmaSadToCnt, Dmafill, Romctrl, Divcnt, DivNumer, DivDenom, DivResult, DivremResult, Sqrtcnt, SqrtResult, SqrtParam}
+use Rattle.ds_ports.specs.declared.registers.Register.TheVariants.{Dmasad, Dmadad, Dmacnt, TmcntL, TmcntH, Keycnt, Ipcfiforecv, Ime, Ie, If, Divcnt, DivNumer, DivDenom, Sqrtcnt, SqrtParam, Haltcnt}
 use Rattle.vram_banks.specs.Cells.{Banks}
 
 -- The first of what is due behind the ports: how it is found, and what leaves it as it is.
@@ -117,38 +117,10 @@ keys_move_none u pressed =
     let s = told_still u.seven pressed in
     same u (keys_pressed u pressed) n.0 n.1 s.0 s.1 refl refl
 
-pub reads_move_none : (proc : Proc) (u : UnitsState) (register : Register) → first_behind (left_by_read proc u register) ≡ first_behind u
+pub reads_move_none : (proc : Proc) (u : UnitsState) (register : Register) → first_behind ((meaning_of register).left_by_read proc u) ≡ first_behind u
 unfolding first_behind
-reads_move_none proc u Later = refl
-reads_move_none proc u Tmcnt = refl
-reads_move_none proc u Keyinput = refl
-reads_move_none proc u Keycnt = refl
-reads_move_none proc u Extkeyin = refl
-reads_move_none proc u Ipcsync = refl
-reads_move_none proc u Ipcfifocnt = refl
-reads_move_none proc u Ipcfifosend = refl
 reads_move_none proc u Ipcfiforecv = refl
-reads_move_none proc u Ime = refl
-reads_move_none proc u Ie = refl
-reads_move_none proc u If = refl
-reads_move_none proc u VramcntAToG = refl
-reads_move_none proc u VramcntHToI = refl
-reads_move_none proc u Wramcnt = refl
-reads_move_none proc u Vramstat = refl
-reads_move_none proc u Wramstat = refl
-reads_move_none proc u Postflg = refl
-reads_move_none proc u Haltcnt = refl
-reads_move_none proc u DmaSadToCnt = refl
-reads_move_none proc u Dmafill = refl
-reads_move_none proc u Romctrl = refl
-reads_move_none proc u Divcnt = refl
-reads_move_none proc u DivNumer = refl
-reads_move_none proc u DivDenom = refl
-reads_move_none proc u DivResult = refl
-reads_move_none proc u DivremResult = refl
-reads_move_none proc u Sqrtcnt = refl
-reads_move_none proc u SqrtResult = refl
-reads_move_none proc u SqrtParam = refl
+reads_move_none proc u _ = refl
 
 halt_still : (own : OwnState) (value : ℕ) → IsStill own (haltcnt_written own value)
 halt_still own value = go (bits 6 2 value == 2) refl where
@@ -158,33 +130,20 @@ halt_still own value = go (bits 6 2 value == 2) refl where
 
 pub writes_move_none : (proc : Proc) (now : Tick) (u : UnitsState) (register : Register) (number value : ℕ) → moves_dues register ≡ false
     → first_behind (left_by_write proc now u register number value) ≡ first_behind u
-writes_move_none proc now u Later number value h = refl
-writes_move_none proc now u Tmcnt number value h = absurd (grind (arith, h))
-writes_move_none proc now u Keyinput number value h = refl
-writes_move_none proc now u Keycnt number value h = still proc u (keycnt_written (own_of u proc) u.pressed (value % 2 ^ 16)) (told_still (record (own_of u proc) { keycnt = kept_keycnt (value % 2 ^ 16) }) u.pressed)
-writes_move_none proc now u Extkeyin number value h = refl
-writes_move_none proc now u Ipcsync number value h = same u (sync_set proc u (value % 2 ^ 16)) refl refl refl refl refl refl
-writes_move_none proc now u Ipcfifocnt number value h = same u (fifo_control_set proc u (value % 2 ^ 16)) refl refl refl refl refl refl
-writes_move_none proc now u Ipcfifosend number value h = same u (word_sent proc u value) refl refl refl refl refl refl
-writes_move_none proc now u Ipcfiforecv number value h = refl
-writes_move_none proc now u Ime number value h = still proc u (ime_set (own_of u proc) value) (refl, refl)
-writes_move_none proc now u Ie number value h = still proc u (ie_set proc (own_of u proc) value) (refl, refl)
-writes_move_none proc now u If number value h = still proc u (if_set (own_of u proc) value) (refl, refl)
-writes_move_none proc now u VramcntAToG number value h = same u (bank_set u number (value % 2 ^ 8)) refl refl refl refl refl refl
-writes_move_none proc now u VramcntHToI number value h = same u (bank_set u (7 + number) (value % 2 ^ 8)) refl refl refl refl refl refl
-writes_move_none proc now u Wramcnt number value h = same u (record u { wramcnt = value % 2 ^ 2 }) refl refl refl refl refl refl
-writes_move_none proc now u Vramstat number value h = refl
-writes_move_none proc now u Wramstat number value h = refl
-writes_move_none proc now u Postflg number value h = refl
-writes_move_none proc now u Haltcnt number value h = still proc u (haltcnt_written (own_of u proc) (value % 2 ^ 8)) (halt_still (own_of u proc) (value % 2 ^ 8))
-writes_move_none proc now u DmaSadToCnt number value h = absurd (grind (arith, h))
-writes_move_none proc now u Dmafill number value h = same u (record u { fill = slice_set u.fill number value }) refl refl refl refl refl refl
-writes_move_none proc now u Romctrl number value h = same u (record u { romctrl = bit_and value kept_of_romctrl }) refl refl refl refl refl refl
+writes_move_none proc now u Dmasad number value h = absurd (grind (arith, h))
+writes_move_none proc now u Dmadad number value h = absurd (grind (arith, h))
+writes_move_none proc now u Dmacnt number value h = absurd (grind (arith, h))
+writes_move_none proc now u TmcntL number value h = absurd (grind (arith, h))
+writes_move_none proc now u TmcntH number value h = absurd (grind (arith, h))
 writes_move_none proc now u Divcnt number value h = absurd (grind (arith, h))
 writes_move_none proc now u DivNumer number value h = absurd (grind (arith, h))
 writes_move_none proc now u DivDenom number value h = absurd (grind (arith, h))
-writes_move_none proc now u DivResult number value h = refl
-writes_move_none proc now u DivremResult number value h = refl
 writes_move_none proc now u Sqrtcnt number value h = absurd (grind (arith, h))
-writes_move_none proc now u SqrtResult number value h = refl
 writes_move_none proc now u SqrtParam number value h = absurd (grind (arith, h))
+writes_move_none proc now u Keycnt number value h =
+    still proc u (keycnt_written (own_of u proc) u.pressed (value % 2 ^ 16)) (told_still (record (own_of u proc) { keycnt = kept_keycnt (value % 2 ^ 16) }) u.pressed)
+writes_move_none proc now u Ime number value h = still proc u (ime_written (own_of u proc) value) (refl, refl)
+writes_move_none proc now u Ie number value h = still proc u (ie_written proc (own_of u proc) value) (refl, refl)
+writes_move_none proc now u If number value h = still proc u (if_written (own_of u proc) value) (refl, refl)
+writes_move_none proc now u Haltcnt number value h = still proc u (haltcnt_written (own_of u proc) (value % 2 ^ 8)) (halt_still (own_of u proc) (value % 2 ^ 8))
+writes_move_none proc now u register number value h = same u (left_by_write proc now u register number value) refl refl refl refl refl refl

@@ -11,6 +11,8 @@ use Rattle.ds_base.specs.declared.processors.Raised.{Raised}
 use Rattle.ds_base.specs.declared.ticks.Tick.{Tick}
 use Rattle.ds_dma.specs.States.{AreReadyLater, DmaState, IsDma, any_runs, channel_due, dma_due, dma_finished}
 use Rattle.ds_dma.specs.declared.controls.Cause.{Cause}
+use Rattle.ds_dma.specs.declared.controls.DmaPort.{DmaPort}
+use Rattle.ds_dma.specs.declared.controls.DmaPort.TheVariants.{Source, Target, Control}
 use Rattle.ds_dma.proofs.Turns.{all_later, event_schedules, finished_later}
 use Rattle.ds_dma.proofs.Wholes.{channel_written_is, channel_written_later, dma_finished_is, dma_triggered_is, event_runs}
 use Rattle.ds_ipc.specs.Ipcs.{IpcState, other_proc}
@@ -23,13 +25,13 @@ use Rattle.ds_timers.proofs.Changed.{control_schedules, control_set_is, reload_l
 use Rattle.ds_timers.proofs.Four.{one_reschedules}
 use Rattle.ds_timers.proofs.Overflowed.{overflow_keeps, overflow_schedules}
 use Rattle.ds_ports.specs.Dues.{AreUnits, Goes, IsLeft, IsOwn, IsQuiet, due_behind}
-use Rattle.ds_ports.specs.Own.{OwnState, dma_port, dma_written, haltcnt_written, is_control, kept_keycnt, keycnt_written, keys_hold, keys_told, own_moved, own_raised, own_triggered, timer_written}
+use Rattle.ds_ports.specs.Own.{OwnState, dma_written, haltcnt_written, kept_keycnt, keycnt_written, keys_hold, keys_told, own_moved, own_raised, own_triggered}
 use Rattle.ds_ports.specs.Ports.{byte_written, half_written, ignores, port_read, port_refusal, port_written, read_left, slot_joined, slot_written, unless_stopped, whole_if, whole_in, word_written, written_or}
-use Rattle.ds_ports.specs.RegisterMap.{IsSlot, numbers_of, slot_of}
-use Rattle.ds_ports.specs.Registers.{left_by_read, left_by_write}
+use Rattle.ds_ports.specs.RegisterMap.{IsSlot, slot_of}
+use Rattle.ds_ports.specs.Registers.{left_by_write, meaning_of}
 use Rattle.ds_ports.specs.Units.{UnitsState, both_raised, channel_moved, channels_triggered, division_done, keys_pressed, own_of, root_done, timer_overflows, with_own}
 use Rattle.ds_ports.specs.declared.registers.Register.{Register}
-use Rattle.ds_ports.specs.declared.registers.Register.TheVariants.{Later, Tmcnt, Keyinput, Keycnt, Extkeyin, Ipcsync, Ipcfifocnt, Ipcfifosend, Ipcfiforecv, Ime, Ie, If, VramcntAToG, VramcntHToI, Wramcnt, Vramstat, Wramstat, Postflg, Haltcnt, DmaSadToCnt, Dmafill, Romctrl, Divcnt, DivNumer, DivDenom, DivResult, DivremResult, Sqrtcnt, SqrtResult, SqrtParam}
+use Rattle.ds_ports.specs.declared.registers.Register.TheVariants.{Dmasad, Dmadad, Dmacnt, TmcntL, TmcntH, Keycnt, Ipcsync, Ipcfifocnt, Ipcfifosend, Ipcfiforecv, Ime, Ie, If, Divcnt, DivNumer, DivDenom, Sqrtcnt, SqrtParam, Haltcnt}
 use Rattle.ds_ports.specs.declared.registers.Slot.{Slot}
 use Rattle.ds_ports.proofs.RegisterMaps.{some_slot}
 
@@ -86,22 +88,16 @@ reload_stands timers which value now is later l small = (
       (reload_leaves timers which value now is l n m),
 )
 
-timer_stands : (own : OwnState) (now : Tick) (number value : ℕ) → Stands now own → number < 8 → Stands now (timer_written own now number value)
-timer_stands own now number value s l =
-    let which : number / 2 < 4 = omega (arith, l) in
-    let small : value % 2 ^ 16 < 2 ^ 16 = omega arith in
-    let P : List TimerState → Type 0 = λ ts. AreTimers ts × AreLater now ts in
-    let new = either P (is_control number) (control_set own.timers (number / 2) (value % 2 ^ 16) now) (reload_set own.timers (number / 2) (value % 2 ^ 16))
-    (control_stands own.timers (number / 2) (value % 2 ^ 16) now s.0.timers s.1.timers which)
-    (reload_stands own.timers (number / 2) (value % 2 ^ 16) now s.0.timers s.1.timers which small) in
-    (record { timers = new.0; dma = s.0.dma }, record { timers = new.1; dma = s.1.dma })
+-- other timers
+timers_stand : (own : OwnState) (now : Tick) (timers : List TimerState) → Stands now own → AreTimers timers × AreLater now timers
+    → Stands now (record own { timers = timers })
+timers_stand own now timers s new = (record { timers = new.0; dma = s.0.dma }, record { timers = new.1; dma = s.1.dma })
 
-dma_stands : (own : OwnState) (now : Tick) (number value : ℕ) → Stands now own → number < 12 → Stands now (dma_written own now number value)
-dma_stands own now number value s l =
-    let which : number / 3 < 4 = omega (arith, l) in (
-      record { timers = s.0.timers; dma = channel_written_is own.dma (number / 3) (dma_port number) value now s.0.dma which },
-      record { timers = s.1.timers; dma = channel_written_later own.dma (number / 3) (dma_port number) value now s.0.dma which s.1.dma },
-    )
+dma_stands : (own : OwnState) (now : Tick) (port : DmaPort) (which value : ℕ) → Stands now own → which < 4 → Stands now (dma_written own now port which value)
+dma_stands own now port which value s l = (
+  record { timers = s.0.timers; dma = channel_written_is own.dma which port value now s.0.dma l },
+  record { timers = s.1.timers; dma = channel_written_later own.dma which port value now s.0.dma l s.1.dma },
+)
 
 -- a change of the keys raises an interrupt at most
 pub told_left : (own : OwnState) (pressed : ℕ) → IsLeft own (keys_told own pressed)
@@ -181,37 +177,29 @@ root_later : (now : Tick) → now.0 < now.0 + 26
 root_later now = omega arith
 
 register_goes : (proc : Proc) (now : Tick) (u : UnitsState) → Stands now (own_of u proc) → (register : Register) (number : ℕ)
-    → number < numbers_of register → (value : ℕ) → Goes proc now u (left_by_write proc now u register number value)
-register_goes proc now u s Later number l value = goes_nowhere proc now u s.0 s.1
-register_goes proc now u s Tmcnt number l value = own_goes proc now u _ (timer_stands (own_of u proc) now number value s l)
-register_goes proc now u s Keyinput number l value = goes_nowhere proc now u s.0 s.1
+    → number < (meaning_of register).count → (value : ℕ) → Goes proc now u (left_by_write proc now u register number value)
+register_goes proc now u s Dmasad number l value = own_goes proc now u _ (dma_stands (own_of u proc) now Source number value s l)
+register_goes proc now u s Dmadad number l value = own_goes proc now u _ (dma_stands (own_of u proc) now Target number value s l)
+register_goes proc now u s Dmacnt number l value = own_goes proc now u _ (dma_stands (own_of u proc) now Control number value s l)
+register_goes proc now u s TmcntL number l value =
+    own_goes proc now u _ (timers_stand (own_of u proc) now _ s
+    (reload_stands (own_of u proc).timers number (value % 2 ^ 16) now s.0.timers s.1.timers l (omega arith)))
+register_goes proc now u s TmcntH number l value =
+    own_goes proc now u _ (timers_stand (own_of u proc) now _ s (control_stands (own_of u proc).timers number (value % 2 ^ 16) now s.0.timers s.1.timers l))
 register_goes proc now u s Keycnt number l value = own_goes proc now u _ (keycnt_stands (own_of u proc) now u.pressed (value % 2 ^ 16) s)
-register_goes proc now u s Extkeyin number l value = goes_nowhere proc now u s.0 s.1
-register_goes proc now u s Ipcsync number l value = raised_goes proc now u _ _ s
-register_goes proc now u s Ipcfifocnt number l value = raised_goes proc now u _ _ s
-register_goes proc now u s Ipcfifosend number l value = raised_goes proc now u _ _ s
-register_goes proc now u s Ipcfiforecv number l value = goes_nowhere proc now u s.0 s.1
 register_goes proc now u s Ime number l value = own_goes proc now u _ (alike now (own_of u proc) _ refl refl s)
 register_goes proc now u s Ie number l value = own_goes proc now u _ (alike now (own_of u proc) _ refl refl s)
 register_goes proc now u s If number l value = own_goes proc now u _ (alike now (own_of u proc) _ refl refl s)
-register_goes proc now u s VramcntAToG number l value = shared_goes proc now u _ refl refl s (inl refl) (inl refl)
-register_goes proc now u s VramcntHToI number l value = shared_goes proc now u _ refl refl s (inl refl) (inl refl)
-register_goes proc now u s Wramcnt number l value = shared_goes proc now u _ refl refl s (inl refl) (inl refl)
-register_goes proc now u s Vramstat number l value = goes_nowhere proc now u s.0 s.1
-register_goes proc now u s Wramstat number l value = goes_nowhere proc now u s.0 s.1
-register_goes proc now u s Postflg number l value = goes_nowhere proc now u s.0 s.1
 register_goes proc now u s Haltcnt number l value = own_goes proc now u _ (haltcnt_stands (own_of u proc) now (value % 2 ^ 8) s)
-register_goes proc now u s DmaSadToCnt number l value = own_goes proc now u _ (dma_stands (own_of u proc) now number value s l)
-register_goes proc now u s Dmafill number l value = shared_goes proc now u _ refl refl s (inl refl) (inl refl)
-register_goes proc now u s Romctrl number l value = shared_goes proc now u _ refl refl s (inl refl) (inl refl)
+register_goes proc now u s Ipcsync number l value = raised_goes proc now u _ _ s
+register_goes proc now u s Ipcfifocnt number l value = raised_goes proc now u _ _ s
+register_goes proc now u s Ipcfifosend number l value = raised_goes proc now u _ _ s
 register_goes proc now u s Divcnt number l value = shared_goes proc now u _ refl refl s (inr (division_later now _)) (inl refl)
 register_goes proc now u s DivNumer number l value = shared_goes proc now u _ refl refl s (inr (division_later now _)) (inl refl)
 register_goes proc now u s DivDenom number l value = shared_goes proc now u _ refl refl s (inr (division_later now _)) (inl refl)
-register_goes proc now u s DivResult number l value = goes_nowhere proc now u s.0 s.1
-register_goes proc now u s DivremResult number l value = goes_nowhere proc now u s.0 s.1
 register_goes proc now u s Sqrtcnt number l value = shared_goes proc now u _ refl refl s (inl refl) (inr (root_later now))
-register_goes proc now u s SqrtResult number l value = goes_nowhere proc now u s.0 s.1
 register_goes proc now u s SqrtParam number l value = shared_goes proc now u _ refl refl s (inl refl) (inr (root_later now))
+register_goes proc now u s _ number l value = shared_goes proc now u _ refl refl s (inl refl) (inl refl)
 
 -- ---- accesses
 
@@ -300,37 +288,9 @@ both_left u ipc_after raised = record { own = each; divider = refl; root = refl 
   each Nine = raised_left u.nine raised.nine
   each Seven = raised_left u.seven raised.seven
 
-register_left : (proc : Proc) (u : UnitsState) (register : Register) → AreLeft u (left_by_read proc u register)
-register_left proc u Later = all_left u
-register_left proc u Tmcnt = all_left u
-register_left proc u Keyinput = all_left u
-register_left proc u Keycnt = all_left u
-register_left proc u Extkeyin = all_left u
-register_left proc u Ipcsync = all_left u
-register_left proc u Ipcfifocnt = all_left u
-register_left proc u Ipcfifosend = all_left u
+register_left : (proc : Proc) (u : UnitsState) (register : Register) → AreLeft u ((meaning_of register).left_by_read proc u)
 register_left proc u Ipcfiforecv = both_left u _ _
-register_left proc u Ime = all_left u
-register_left proc u Ie = all_left u
-register_left proc u If = all_left u
-register_left proc u VramcntAToG = all_left u
-register_left proc u VramcntHToI = all_left u
-register_left proc u Wramcnt = all_left u
-register_left proc u Vramstat = all_left u
-register_left proc u Wramstat = all_left u
-register_left proc u Postflg = all_left u
-register_left proc u Haltcnt = all_left u
-register_left proc u DmaSadToCnt = all_left u
-register_left proc u Dmafill = all_left u
-register_left proc u Romctrl = all_left u
-register_left proc u Divcnt = all_left u
-register_left proc u DivNumer = all_left u
-register_left proc u DivDenom = all_left u
-register_left proc u DivResult = all_left u
-register_left proc u DivremResult = all_left u
-register_left proc u Sqrtcnt = all_left u
-register_left proc u SqrtResult = all_left u
-register_left proc u SqrtParam = all_left u
+register_left proc u _ = all_left u
 
 slot_left : (proc : Proc) (u : UnitsState) (slot : Option Slot) → AreLeft u (read_left proc u slot)
 slot_left proc u None = all_left u

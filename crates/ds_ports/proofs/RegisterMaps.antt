@@ -1,10 +1,11 @@
-use Rattle.std.proofs.Common.{ℕ, ◌≡◌, ◌<◌, ◌≤◌, ◌+◌, ◌-◌, ◌/◌, ◌⊎◌, inl, inr, Bool, true, false, ◌&&◌, nat_le, nat_lt, if◌then◌else◌, List, [], ◌∷◌, ◌++◌, Option, Some, None, refl, ◌∙◌, arith}
+use Rattle.std.proofs.Common.{ℕ, zero, suc, ◌≡◌, ◌<◌, ◌≤◌, ◌+◌, ◌-◌, ◌/◌, ◌⊎◌, inl, inr, Bool, true, false, true≢false, ◌&&◌, nat_le, nat_lt, if◌then◌else◌, List, [], ◌∷◌, ◌++◌, Option, Some, None, refl, sym, ◌∙◌, subst, arith}
 use Rattle.std.specs.Prelude.{IfSome}
 use Rattle.std.proofs.Math.Nat.{div-lt_iff_lt-mul, mod-lt}
 use Rattle.ds_base.specs.declared.processors.Proc.{Proc}
 use Rattle.ds_ports.specs.declared.registers.Slot.{Slot}
 use Rattle.ds_base.specs.declared.processors.Proc.TheVariants.{Nine, Seven}
-use Rattle.ds_ports.specs.RegisterMap.{PortRow, row_bytes, slot_in, slot_by, slot_of, register_map, numbers_of, IsSlot}
+use Rattle.ds_ports.specs.RegisterMap.{PortRow, row_bytes, slot_in, slot_by, slot_of, register_map, IsSlot}
+use Rattle.ds_ports.specs.Registers.{meaning_of}
 use Rattle.ds_ports.specs.Parts.{Part, whole, slot_among, looked_up, parts_of_nine, parts_of_seven}
 
 -- all rows lie from one offset up to another
@@ -21,6 +22,14 @@ all_three true true true h = (refl, refl, refl)
 all_three true true false h = absurd (grind arith)
 all_three true false c h = absurd (grind arith)
 all_three false b c h = absurd (grind arith)
+
+pub both : (a b : Bool) → (a && b) ≡ true → (a ≡ true) × (b ≡ true)
+both true true h = (refl, refl)
+both true false h = absurd (true≢false (sym h))
+both false b h = absurd (true≢false (sym h))
+
+last_or_not : (i n : ℕ) → i < suc n → (i ≡ n) ⊎ (i < n)
+last_or_not i n l = grind (arith, l)
 
 pub le_of : (a b : ℕ) → nat_le a b ≡ true → a ≤ b
 le_of a b h = grind arith
@@ -83,14 +92,35 @@ pub seven_by_parts : (at : ℕ) → slot_of Seven at ≡ looked_up parts_of_seve
 unfolding slot_of
 seven_by_parts at = found 0 parts_of_seven at refl
 
--- each row has registers of at most four bytes, and no more of a kind than there are
+-- what holds of each place below one
+abbrev pub each_below : ℕ → (ℕ → Bool) → Bool
+each_below zero p = true
+each_below (suc n) p = p n && each_below n p
+
+of_each : (n : ℕ) (p : ℕ → Bool) (i : ℕ) → each_below n p ≡ true → i < n → p i ≡ true
+of_each zero p i h l = absurd (omega (arith, l))
+of_each (suc n) p i h l =
+    let two = both (p n) (each_below n p) h in
+    elim (last_or_not i n l) [
+      | inl e ↦ subst (λ (k : ℕ). p k ≡ true) (sym e) two.0
+      | inr before ↦ of_each n p i two.1 before
+    ]
+
+-- each row has registers of at most four bytes, and no more of a name than there are
+abbrev pub is_of_its_name : PortRow → ℕ → Bool
+is_of_its_name r place = nat_lt (r.number place) (meaning_of (r.register place)).count
+
 abbrev pub fit : List PortRow → Bool
 fit [] = true
-fit (r ∷ rows) = (nat_lt 0 r.bytes && nat_le r.bytes 4) && nat_le r.count (numbers_of r.register) && fit rows
+fit (r ∷ rows) = (nat_lt 0 r.bytes && nat_le r.bytes 4) && each_below r.count (is_of_its_name r) && fit rows
 
-slot_in-is : (r : PortRow) (offset : ℕ) → 0 < r.bytes → r.bytes ≤ 4 → r.count ≤ numbers_of r.register → offset < row_bytes r → IsSlot (slot_in r offset)
+lt_of : (a b : ℕ) → nat_lt a b ≡ true → a < b
+lt_of a b h = grind arith
+
+slot_in-is : (r : PortRow) (offset : ℕ) → 0 < r.bytes → r.bytes ≤ 4 → each_below r.count (is_of_its_name r) ≡ true → offset < row_bytes r → IsSlot (slot_in r offset)
 slot_in-is r offset some small few inside = record {
-  number = (let n : offset / r.bytes < r.count = (div-lt_iff_lt-mul some).1 (omega (arith, inside)) in omega (arith, n, few));
+  number = lt_of (r.number (offset / r.bytes)) (meaning_of (r.register (offset / r.bytes))).count
+      (of_each r.count (is_of_its_name r) (offset / r.bytes) few ((div-lt_iff_lt-mul some).1 (omega (arith, inside))));
   byte = mod-lt offset some;
   bytes = small;
 }
@@ -98,9 +128,9 @@ slot_in-is r offset some small few inside = record {
 pub slot_by-is : (rows : List PortRow) (at : ℕ) → fit rows ≡ true → IfSome (slot_by rows at) IsSlot
 slot_by-is [] at h = tt
 slot_by-is (r ∷ rows) at h =
-    let three = all_three (nat_lt 0 r.bytes && nat_le r.bytes 4) (nat_le r.count (numbers_of r.register)) (fit rows) h in
+    let three = all_three (nat_lt 0 r.bytes && nat_le r.bytes 4) (each_below r.count (is_of_its_name r)) (fit rows) h in
     elim (inside_or_not r.offset (row_bytes r) at) [
-      | inl inside ↦ rw inside.1 (slot_in-is r (at - r.offset) (sized r.bytes three.0).0 (sized r.bytes three.0).1 (le_of r.count (numbers_of r.register) three.1) inside.0)
+      | inl inside ↦ rw inside.1 (slot_in-is r (at - r.offset) (sized r.bytes three.0).0 (sized r.bytes three.0).1 three.1 inside.0)
       | inr outside ↦ rw outside (slot_by-is rows at three.2)
     ] where
       sized : (n : ℕ) → (nat_lt 0 n && nat_le n 4) ≡ true → (0 < n) × (n ≤ 4)

@@ -1,13 +1,14 @@
-use Rattle.std.proofs.Common.{ℕ, ◌≡◌, ◌<◌, ◌≤◌, ◌+◌, ◌-◌, ◌*◌, ◌/◌, ◌%◌, ◌⊎◌, inl, inr, Bool, true, false, true≢false, ◌&&◌, nat_le, nat_lt, List, [], ◌∷◌, Option, Some, None, refl, sym, arith}
+use Rattle.std.proofs.Common.{ℕ, ◌≡◌, ◌<◌, ◌≤◌, ◌+◌, ◌-◌, ◌*◌, ◌/◌, ◌%◌, ◌⊎◌, inl, inr, Bool, true, false, true≢false, ◌&&◌, nat_le, nat_lt, List, [], ◌∷◌, Option, Some, None, refl, sym, ◌∙◌, ap, subst, arith}
 use Rattle.std.specs.Prelude.{IfSome}
 use Rattle.std.proofs.Math.Nat.{div-lt_iff_lt-mul, mul-le-mul_right}
-use Rattle.std.proofs.lemmas.Nat.{div-add-mod'}
+use Rattle.std.proofs.lemmas.Nat.{div-add-mod', div-mul-add}
 use Rattle.ds_base.specs.declared.processors.Proc.{Proc}
 use Rattle.ds_base.specs.declared.processors.Proc.TheVariants.{Nine, Seven}
-use Rattle.ds_ports.specs.Ports.{in_built, is_slot_built, is_there, lies_in_built, port_is_built}
+use Rattle.ds_ports.specs.Ports.{in_built, is_slot_built, lies_in_built, port_is_built}
 use Rattle.ds_ports.specs.RegisterMap.{IsSlot, PortRow, register_map, row_bytes, slot_by, slot_of}
+use Rattle.ds_ports.specs.Registers.{meaning_of}
 use Rattle.ds_ports.specs.declared.registers.Slot.{Slot}
-use Rattle.ds_ports.proofs.RegisterMaps.{le_of, some_slot}
+use Rattle.ds_ports.proofs.RegisterMaps.{both, le_of, some_slot}
 
 -- Bytes that lie in one register that is built are all built.
 
@@ -15,11 +16,6 @@ use Rattle.ds_ports.proofs.RegisterMaps.{le_of, some_slot}
 abbrev rise : ℕ → List PortRow → Bool
 rise from [] = true
 rise from (r ∷ rows) = nat_le from r.offset && rise (r.offset + row_bytes r) rows
-
-pub both : (a b : Bool) → (a && b) ≡ true → (a ≡ true) × (b ≡ true)
-both true true h = (refl, refl)
-both true false h = absurd (true≢false (sym h))
-both false b h = absurd (true≢false (sym h))
 
 -- an offset lies before a row, in it, or past it, and so the test goes
 lies : (offset bytes at : ℕ) → ((at < offset) × ((nat_le offset at && nat_lt at (offset + bytes)) ≡ false))
@@ -49,6 +45,13 @@ same_row count bytes offset i inside h =
     let d : offset / bytes * bytes + offset % bytes ≡ offset = div-add-mod' offset bytes in
     omega (arith, m, e, d, h)
 
+-- and they are of one place in it
+same_place : (offset bytes at i : ℕ) → offset ≤ at → (at - offset) % bytes + i < bytes → (at + i - offset) / bytes ≡ (at - offset) / bytes
+same_place offset bytes at i low within =
+    let d : (at - offset) / bytes * bytes + (at - offset) % bytes ≡ at - offset = div-add-mod' (at - offset) bytes in
+    let e : at + i - offset ≡ (at - offset) / bytes * bytes + ((at - offset) % bytes + i) = omega (arith, d, low) in
+    ap (λ (n : ℕ). n / bytes) e ∙ div-mul-add ((at - offset) / bytes) bytes ((at - offset) % bytes + i) within
+
 built_on : (from : ℕ) (rows : List PortRow) (at length i : ℕ) → rise from rows ≡ true → in_built length (slot_by rows at) ≡ true → i < length
     → is_slot_built (slot_by rows (at + i)) ≡ true
 built_on from [] at length i up h lt = refl
@@ -58,10 +61,12 @@ built_on from (r ∷ rows) at length i up h lt =
       | inl before ↦ refute (rw before.1 at h) (none_before (r.offset + row_bytes r) rows at two.1 (further r.offset (row_bytes r) before.0))
       | inr rest ↦ elim rest [
         | inl inside ↦
-            (let there = both (is_there r.register) (nat_le ((at - r.offset) % r.bytes + length) r.bytes) (rw inside.2 at h) in
+            (let there = both ((meaning_of (r.register ((at - r.offset) / r.bytes))).is_built) (nat_le ((at - r.offset) % r.bytes + length) r.bytes) (rw inside.2 at h) in
             let short = le_of ((at - r.offset) % r.bytes + length) r.bytes there.1 in
-            let within = same_row r.count r.bytes (at - r.offset) i inside.1 (omega (arith, short, lt)) in
-            rw (stays r.offset (row_bytes r) inside.0 within) there.0)
+            let bytes : (at - r.offset) % r.bytes + i < r.bytes = omega (arith, short, lt) in
+            let within = same_row r.count r.bytes (at - r.offset) i inside.1 bytes in
+            let place = same_place r.offset r.bytes at i inside.0 bytes in
+            rw (stays r.offset (row_bytes r) inside.0 within) (subst (λ (n : ℕ). (meaning_of (r.register n)).is_built ≡ true) (sym place) there.0))
         | inr past ↦ rw (beyond r.offset (row_bytes r) past.0) (built_on (r.offset + row_bytes r) rows at length i two.1 (rw past.1 at h) lt)
       ]
     ] where
@@ -86,7 +91,7 @@ built_together Seven at length i h lt = built_on 0 (register_map Seven) at lengt
 short_in : (slot : Option Slot) (length : ℕ) → IfSome slot IsSlot → in_built length slot ≡ true → length ≤ 4
 short_in None length is h = absurd (true≢false (sym h))
 short_in (Some slot) length is h =
-    let two = both (is_there slot.register) (nat_le (slot.byte + length) slot.bytes) h in
+    let two = both ((meaning_of slot.register).is_built) (nat_le (slot.byte + length) slot.bytes) h in
     let within = le_of (slot.byte + length) slot.bytes two.1 in
     omega (arith, within, is.bytes)
 

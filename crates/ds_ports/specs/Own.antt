@@ -1,18 +1,15 @@
-use Rattle.std.specs.Prelude.{ℕ, ◌+◌, ◌-◌, ◌/◌, ◌%◌, ◌^◌, ◌==◌, ◌&&◌, ◌||◌, not, if◌then◌else◌, Bool, true, false, List, Option, bit_and}
+use Rattle.std.specs.Prelude.{ℕ, ◌+◌, ◌-◌, ◌/◌, ◌%◌, ◌^◌, ◌==◌, ◌&&◌, ◌||◌, not, if◌then◌else◌, Bool, true, false, List, bit_and}
 use Rattle.ds_base.specs.Bits.{bit, bits}
 use Rattle.ds_base.specs.Interrupts.{interrupt_bit}
 use Rattle.ds_base.specs.declared.interrupts.Interrupt.TheVariants.{Keys}
 use Rattle.ds_base.specs.declared.processors.Proc.{Proc}
 use Rattle.ds_base.specs.declared.processors.Proc.TheVariants.{Nine, Seven}
-use Rattle.ds_base.specs.declared.left_out.Stop.{Stop}
 use Rattle.ds_base.specs.declared.ticks.Tick.{Tick}
-use Rattle.ds_dma.specs.Channels.{channel_refusal, channel_word}
-use Rattle.ds_dma.specs.States.{DmaState, any_runs, channel_at, channel_written, dma_at_boot, dma_finished, dma_triggered, finished_bits}
+use Rattle.ds_dma.specs.States.{DmaState, any_runs, channel_written, dma_at_boot, dma_finished, dma_triggered, finished_bits}
 use Rattle.ds_dma.specs.declared.controls.Cause.{Cause}
 use Rattle.ds_dma.specs.declared.controls.DmaPort.{DmaPort}
-use Rattle.ds_dma.specs.declared.controls.DmaPort.TheVariants.{Source, Target, Control}
-use Rattle.ds_timers.specs.Irqs.{IrqState, irq_at_boot, irq_raised}
-use Rattle.ds_timers.specs.Timing.{TimerState, control_set, counter_of, reload_set, timer_at, timers_at_boot}
+use Rattle.ds_timers.specs.Irqs.{IrqState, irq_acked, irq_at_boot, irq_raised}
+use Rattle.ds_timers.specs.Timing.{TimerState, control_set, reload_set, timers_at_boot}
 
 -- What each processor has of its own behind the ports: its interrupt words, its timers, KEYCNT, whether it is halted, and its DMA channels.
 
@@ -38,22 +35,23 @@ abbrev pub interrupts_of : Proc → ℕ
 interrupts_of Nine = 0x2F1F7F
 interrupts_of Seven = 0x0F1F7F
 
--- ---- timers (GBATEK, "DS Timers"): of each timer a counter, which is written as its reload, and a control, in turn
+-- IME keeps bit 0, IE the bits of the interrupts that the processor has, and a 1 that is written to IF clears its bit
+abbrev pub ime_written : OwnState → ℕ → OwnState
+ime_written own word = record own { irq = record own.irq { master = bit 0 word } }
 
-abbrev pub is_control : ℕ → Bool
-is_control number = number % 2 == 1
+abbrev pub ie_written : Proc → OwnState → ℕ → OwnState
+ie_written proc own word = record own { irq = record own.irq { enabled = bit_and word (interrupts_of proc) } }
 
-abbrev pub timer_value : OwnState → Tick → ℕ → ℕ
-timer_value own now number =
-    if is_control number then (timer_at own.timers (number / 2)).control else counter_of (timer_at own.timers (number / 2)) now
+abbrev pub if_written : OwnState → ℕ → OwnState
+if_written own word = record own { irq = irq_acked own.irq word }
 
-abbrev pub timer_kept : OwnState → ℕ → ℕ
-timer_kept own number = if is_control number then (timer_at own.timers (number / 2)).control else (timer_at own.timers (number / 2)).reload
+-- ---- timers (GBATEK, "DS Timers"): TMxCNT_L is written as the reload, and TMxCNT_H is the control
 
-abbrev pub timer_written : OwnState → Tick → ℕ → ℕ → OwnState
-timer_written own now number value = record own {
-  timers = if is_control number then control_set own.timers (number / 2) (value % 2 ^ 16) now else reload_set own.timers (number / 2) (value % 2 ^ 16);
-}
+abbrev pub reload_written : OwnState → ℕ → ℕ → OwnState
+reload_written own which value = record own { timers = reload_set own.timers which value }
+
+abbrev pub control_written : OwnState → ℕ → ℕ → Tick → OwnState
+control_written own which value now = record own { timers = control_set own.timers which value now }
 
 -- ---- keys (GBATEK, "DS Keypad"); `pressed` has a bit for each key that is pressed, A to L and then X and Y
 
@@ -88,19 +86,11 @@ keycnt_written own pressed value = keys_told (record own { keycnt = kept_keycnt 
 abbrev pub haltcnt_written : OwnState → ℕ → OwnState
 haltcnt_written own value = if bits 6 2 value == 2 then record own { halted = true } else own
 
--- ---- DMA (GBATEK, "DS DMA Transfers"): of each channel its source, its target and its control, in turn
+-- ---- DMA (GBATEK, "DS DMA Transfers")
 
-abbrev pub dma_port : ℕ → DmaPort
-dma_port number = if number % 3 == 0 then Source else (if number % 3 == 1 then Target else Control)
-
-abbrev pub dma_value : OwnState → ℕ → ℕ
-dma_value own number = channel_word (dma_port number) (channel_at own.dma.channels (number / 3))
-
-abbrev pub dma_written : OwnState → Tick → ℕ → ℕ → OwnState
-dma_written own now number value = record own { dma = channel_written own.dma (number / 3) (dma_port number) value now }
-
-abbrev pub dma_refusal : OwnState → ℕ → ℕ → Option Stop
-dma_refusal own number value = channel_refusal own.dma.proc (number / 3) (dma_port number) value (channel_at own.dma.channels (number / 3))
+-- a channel's DMAxSAD, DMAxDAD or DMAxCNT is written
+abbrev pub dma_written : OwnState → Tick → DmaPort → ℕ → ℕ → OwnState
+dma_written own now port which word = record own { dma = channel_written own.dma which port word now }
 
 -- an event triggers the channels that wait for it
 abbrev pub own_triggered : OwnState → Cause → Tick → OwnState

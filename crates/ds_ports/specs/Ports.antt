@@ -6,10 +6,9 @@ use Rattle.ds_base.specs.declared.processors.Proc.{Proc}
 use Rattle.ds_base.specs.declared.left_out.Stop.{Stop}
 use Rattle.ds_base.specs.declared.ticks.Tick.{Tick}
 use Rattle.ds_ports.specs.RegisterMap.{slot_of}
-use Rattle.ds_ports.specs.Registers.{register_kept, left_by_read, register_refusal, register_value, left_by_write, takes_words}
+use Rattle.ds_ports.specs.Registers.{left_by_write, meaning_of}
 use Rattle.ds_ports.specs.Units.{UnitsState}
 use Rattle.ds_ports.specs.declared.registers.Register.{Register}
-use Rattle.ds_ports.specs.declared.registers.Register.TheVariants.{Later, Tmcnt, Keyinput, Keycnt, Extkeyin, Ipcsync, Ipcfifocnt, Ipcfifosend, Ipcfiforecv, Ime, Ie, If, VramcntAToG, VramcntHToI, Wramcnt, Vramstat, Wramstat, Postflg, Haltcnt, DmaSadToCnt, Dmafill, Romctrl, Divcnt, DivNumer, DivDenom, DivResult, DivremResult, Sqrtcnt, SqrtResult, SqrtParam}
 use Rattle.ds_ports.specs.declared.registers.Slot.{Slot}
 
 -- What an access of a port reads and leaves. An access that lies in one register is an access of some or all of its bytes. Any other goes
@@ -42,13 +41,13 @@ is_narrow Half = true
 is_narrow Word = false
 
 abbrev pub ignores : Width → Register → Bool
-ignores width register = is_narrow width && takes_words register
+ignores width register = is_narrow width && (meaning_of register).takes_words
 
 -- ---- reads
 
 -- what some bytes of a register read, or the number that is read in its stead
 abbrev pub slot_value : Proc → Tick → UnitsState → Width → Slot → ℕ
-slot_value proc now u width slot = if ignores width slot.register then 0 else part width slot.byte (register_value proc now u slot.register slot.number)
+slot_value proc now u width slot = if ignores width slot.register then 0 else part width slot.byte ((meaning_of slot.register).value proc now u slot.number)
 
 abbrev pub read_or : Proc → Tick → UnitsState → Width → Option Slot → ℕ → ℕ
 read_or proc now u width None other = other
@@ -72,7 +71,7 @@ port_value proc now u at Word = port_word proc now u at
 -- what a read leaves: a register that a read changes is one that takes whole words
 abbrev pub read_left : Proc → UnitsState → Option Slot → UnitsState
 read_left proc u None = u
-read_left proc u (Some slot) = left_by_read proc u slot.register
+read_left proc u (Some slot) = (meaning_of slot.register).left_by_read proc u
 
 unfoldable pub port_read : Proc → UnitsState → ℕ → Width → UnitsState
 port_read proc u at Byte = u
@@ -83,7 +82,7 @@ port_read proc u at Word = read_left proc u (whole_in Word (slot_of proc at))
 
 -- the number that a write of some bytes of a register gives it
 abbrev pub slot_joined : Proc → UnitsState → Width → Slot → ℕ → ℕ
-slot_joined proc u width slot value = with_bytes_from width slot.byte (register_kept proc u slot.register slot.number) value
+slot_joined proc u width slot value = with_bytes_from width slot.byte ((meaning_of slot.register).kept proc u slot.number) value
 
 -- what a write of some bytes of a register leaves, or the state that is left in its stead
 abbrev pub slot_written : Proc → Tick → UnitsState → Width → Slot → ℕ → UnitsState
@@ -118,7 +117,7 @@ first_stop None other = other
 first_stop (Some stop) other = Some stop
 
 abbrev pub slot_refusal : Proc → UnitsState → Width → Slot → ℕ → Option Stop
-slot_refusal proc u width slot value = if ignores width slot.register then None else register_refusal proc u slot.register slot.number (slot_joined proc u width slot value)
+slot_refusal proc u width slot value = if ignores width slot.register then None else (meaning_of slot.register).refusal proc u slot.number (slot_joined proc u width slot value)
 
 abbrev pub refusal_or : Proc → UnitsState → Width → Option Slot → ℕ → Option Stop → Option Stop
 refusal_or proc u width None value other = other
@@ -146,41 +145,9 @@ unless_stopped None old new = new
 unless_stopped (Some stop) old new = old
 
 -- whether a byte is built: that of each register but those that are to come, and those that are no ports, which read 0
-abbrev pub is_there : Register → Bool
-is_there Later = false
-is_there Tmcnt = true
-is_there Keyinput = true
-is_there Keycnt = true
-is_there Extkeyin = true
-is_there Ipcsync = true
-is_there Ipcfifocnt = true
-is_there Ipcfifosend = true
-is_there Ipcfiforecv = true
-is_there Ime = true
-is_there Ie = true
-is_there If = true
-is_there VramcntAToG = true
-is_there VramcntHToI = true
-is_there Wramcnt = true
-is_there Vramstat = true
-is_there Wramstat = true
-is_there Postflg = true
-is_there Haltcnt = true
-is_there DmaSadToCnt = true
-is_there Dmafill = true
-is_there Romctrl = true
-is_there Divcnt = true
-is_there DivNumer = true
-is_there DivDenom = true
-is_there DivResult = true
-is_there DivremResult = true
-is_there Sqrtcnt = true
-is_there SqrtResult = true
-is_there SqrtParam = true
-
 abbrev pub is_slot_built : Option Slot → Bool
 is_slot_built None = true
-is_slot_built (Some slot) = is_there slot.register
+is_slot_built (Some slot) = (meaning_of slot.register).is_built
 
 unfoldable pub port_is_built : Proc → ℕ → Bool
 port_is_built proc at = is_slot_built (slot_of proc at)
@@ -188,7 +155,7 @@ port_is_built proc at = is_slot_built (slot_of proc at)
 -- whether so many bytes, of which the first is a register's, lie in that register, and it is built
 abbrev pub in_built : ℕ → Option Slot → Bool
 in_built length None = false
-in_built length (Some slot) = is_there slot.register && nat_le (slot.byte + length) slot.bytes
+in_built length (Some slot) = (meaning_of slot.register).is_built && nat_le (slot.byte + length) slot.bytes
 
 unfoldable pub lies_in_built : Proc → ℕ → ℕ → Bool
 lies_in_built proc at length = in_built length (slot_of proc at)

@@ -1,22 +1,47 @@
-use Rattle.std.specs.Prelude.{ℕ, ◌<◌, ◌≤◌, ◌+◌, ◌-◌, ◌*◌, ◌/◌, ◌%◌, nat_le, nat_lt, ◌&&◌, if◌then◌else◌, List, [], ◌∷◌, ◌++◌, Option, Some, None}
+use Rattle.std.specs.Prelude.{ℕ, ◌<◌, ◌≤◌, ◌+◌, ◌-◌, ◌*◌, ◌/◌, ◌%◌, ◌==◌, nat_le, nat_lt, ◌&&◌, if◌then◌else◌, List, [], ◌∷◌, ◌++◌, Option, Some, None}
 use Rattle.ds_base.specs.declared.processors.Proc.{Proc}
 use Rattle.ds_base.specs.declared.processors.Proc.TheVariants.{Nine, Seven}
 use Rattle.ds_ports.specs.declared.registers.Register.{Register}
-use Rattle.ds_ports.specs.declared.registers.Register.TheVariants.{Later, Tmcnt, Keyinput, Keycnt, Extkeyin, Ipcsync, Ipcfifocnt, Ipcfifosend, Ipcfiforecv, Ime, Ie, If, VramcntAToG, VramcntHToI, Wramcnt, Vramstat, Wramstat, Postflg, Haltcnt, DmaSadToCnt, Dmafill, Romctrl, Divcnt, DivNumer, DivDenom, DivResult, DivremResult, Sqrtcnt, SqrtResult, SqrtParam}
+use Rattle.ds_ports.specs.declared.registers.Register.TheVariants.{Later, Dmasad, Dmadad, Dmacnt, Dmafill, TmcntL, TmcntH, Keyinput, Keycnt, Extkeyin, Ipcsync, Ipcfifocnt, Ipcfifosend, Ipcfiforecv, Romctrl, Ime, Ie, If, Vramcnt, Wramcnt, Vramstat, Wramstat, Divcnt, DivNumer, DivDenom, DivResult, DivremResult, Sqrtcnt, SqrtResult, SqrtParam, Postflg, Haltcnt}
 use Rattle.ds_ports.specs.declared.registers.Slot.{Slot}
+use Rattle.ds_ports.specs.Registers.{meaning_of}
 
--- The register map of each processor (GBATEK, "DS I/O Maps"): the offset from 4000000h, how many bytes each register of the row has, how
--- many registers stand there one after another, and what they are; GBATEK's names stand beside. What isn't built yet is `Later`. Offsets
--- that no row has aren't ports of this console.
+-- The register map of each processor (GBATEK, "DS I/O Maps"): the offset from 4000000h, how many bytes each register of the row has, and what
+-- they are; GBATEK's names stand beside. What isn't built yet is `Later`. Offsets that no row has aren't ports of this console.
 
+-- how many registers stand there one after another, and by their place among them, counted from 0, which register each is, and which of its name
 pub record PortRow : Type 0 where
   pub offset : ℕ
   pub bytes : ℕ
   pub count : ℕ
-  pub register : Register
+  pub register : ℕ → Register
+  pub number : ℕ → ℕ
 
+-- registers of one name, and those whose numbers begin further on
 abbrev pub port_row : ℕ → ℕ → ℕ → Register → PortRow
-port_row offset bytes count register = record { offset = offset; bytes = bytes; count = count; register = register }
+port_row offset bytes count register = record { offset = offset; bytes = bytes; count = count; register = λ place. register; number = λ place. place }
+
+abbrev pub row_from : ℕ → ℕ → ℕ → ℕ → Register → PortRow
+row_from first offset bytes count register = record (port_row offset bytes count register) { number = λ place. first + place }
+
+-- so many times two registers, or three, in turn
+abbrev pub two_in_turn : ℕ → ℕ → ℕ → Register → Register → PortRow
+two_in_turn offset bytes times first second = record {
+  offset = offset;
+  bytes = bytes;
+  count = 2 * times;
+  register = λ place. if place % 2 == 0 then first else second;
+  number = λ place. place / 2;
+}
+
+abbrev pub three_in_turn : ℕ → ℕ → ℕ → Register → Register → Register → PortRow
+three_in_turn offset bytes times first second third = record {
+  offset = offset;
+  bytes = bytes;
+  count = 3 * times;
+  register = λ place. if place % 3 == 0 then first else (if place % 3 == 1 then second else third);
+  number = λ place. place / 3;
+}
 
 -- ---- ARM9's
 
@@ -47,13 +72,13 @@ effect_rows =
 
 abbrev pub dma_rows : List PortRow
 dma_rows =
-    port_row 0x0B0 4 12 DmaSadToCnt  -- DMA0SAD, DMA0DAD, DMA0CNT to DMA3SAD, DMA3DAD, DMA3CNT
+    three_in_turn 0x0B0 4 4 Dmasad Dmadad Dmacnt  -- DMA0SAD, DMA0DAD, DMA0CNT to DMA3SAD, DMA3DAD, DMA3CNT
     ∷ port_row 0x0E0 4 4 Dmafill  -- DMA0FILL to DMA3FILL
     ∷ []
 
 abbrev pub timer_and_ipc_rows : List PortRow
 timer_and_ipc_rows =
-    port_row 0x100 2 8 Tmcnt  -- TM0CNT_L, TM0CNT_H to TM3CNT_L, TM3CNT_H
+    two_in_turn 0x100 2 4 TmcntL TmcntH  -- TM0CNT_L, TM0CNT_H to TM3CNT_L, TM3CNT_H
     ∷ port_row 0x130 2 1 Keyinput  -- KEYINPUT
     ∷ port_row 0x132 2 1 Keycnt  -- KEYCNT
     ∷ port_row 0x180 2 1 Ipcsync  -- IPCSYNC
@@ -67,9 +92,9 @@ control_rows =
     port_row 0x208 4 1 Ime  -- IME
     ∷ port_row 0x210 4 1 Ie  -- IE
     ∷ port_row 0x214 4 1 If  -- IF
-    ∷ port_row 0x240 1 7 VramcntAToG  -- VRAMCNT_A to VRAMCNT_G
+    ∷ port_row 0x240 1 7 Vramcnt  -- VRAMCNT_A to VRAMCNT_G
     ∷ port_row 0x247 1 1 Wramcnt  -- WRAMCNT
-    ∷ port_row 0x248 1 2 VramcntHToI  -- VRAMCNT_H, VRAMCNT_I
+    ∷ row_from 7 0x248 1 2 Vramcnt  -- VRAMCNT_H, VRAMCNT_I
     ∷ []
 
 abbrev pub maths_rows : List PortRow
@@ -132,12 +157,12 @@ abbrev pub seven_early_rows : List PortRow
 seven_early_rows =
     port_row 0x004 2 1 Later  -- DISPSTAT
     ∷ port_row 0x006 2 1 Later  -- VCOUNT
-    ∷ port_row 0x0B0 4 12 DmaSadToCnt  -- DMA0SAD, DMA0DAD, DMA0CNT to DMA3SAD, DMA3DAD, DMA3CNT
+    ∷ three_in_turn 0x0B0 4 4 Dmasad Dmadad Dmacnt  -- DMA0SAD, DMA0DAD, DMA0CNT to DMA3SAD, DMA3DAD, DMA3CNT
     ∷ []
 
 abbrev pub seven_timer_and_ipc_rows : List PortRow
 seven_timer_and_ipc_rows =
-    port_row 0x100 2 8 Tmcnt  -- TM0CNT_L, TM0CNT_H to TM3CNT_L, TM3CNT_H
+    two_in_turn 0x100 2 4 TmcntL TmcntH  -- TM0CNT_L, TM0CNT_H to TM3CNT_L, TM3CNT_H
     ∷ port_row 0x130 2 1 Keyinput  -- KEYINPUT
     ∷ port_row 0x132 2 1 Keycnt  -- KEYCNT
     ∷ port_row 0x136 2 1 Extkeyin  -- EXTKEYIN
@@ -180,7 +205,7 @@ row_bytes r = r.count * r.bytes
 
 -- a register of a row, and which of its bytes stands so many bytes into the row
 abbrev pub slot_in : PortRow → ℕ → Slot
-slot_in r offset = record { register = r.register; number = offset / r.bytes; byte = offset % r.bytes; bytes = r.bytes }
+slot_in r offset = record { register = r.register (offset / r.bytes); number = r.number (offset / r.bytes); byte = offset % r.bytes; bytes = r.bytes }
 
 -- the register whose byte stands at an offset, by the row that has it
 abbrev pub slot_by : List PortRow → ℕ → Option Slot
@@ -190,41 +215,8 @@ slot_by (r ∷ rows) at = if nat_le r.offset at && nat_lt at (r.offset + row_byt
 unfoldable pub slot_of : Proc → ℕ → Option Slot
 slot_of proc at = slot_by (register_map proc) at
 
--- how many registers of a kind there are, of those that are told apart by a number
-abbrev pub numbers_of : Register → ℕ
-numbers_of Later = 112
-numbers_of Tmcnt = 8
-numbers_of Keyinput = 1
-numbers_of Keycnt = 1
-numbers_of Extkeyin = 1
-numbers_of Ipcsync = 1
-numbers_of Ipcfifocnt = 1
-numbers_of Ipcfifosend = 1
-numbers_of Ipcfiforecv = 1
-numbers_of Ime = 1
-numbers_of Ie = 1
-numbers_of If = 1
-numbers_of VramcntAToG = 7
-numbers_of VramcntHToI = 2
-numbers_of Wramcnt = 1
-numbers_of Vramstat = 1
-numbers_of Wramstat = 1
-numbers_of Postflg = 1
-numbers_of Haltcnt = 1
-numbers_of DmaSadToCnt = 12
-numbers_of Dmafill = 4
-numbers_of Romctrl = 1
-numbers_of Divcnt = 1
-numbers_of DivNumer = 2
-numbers_of DivDenom = 2
-numbers_of DivResult = 2
-numbers_of DivremResult = 2
-numbers_of Sqrtcnt = 1
-numbers_of SqrtResult = 1
-numbers_of SqrtParam = 2
-
 -- what holds of each byte of a register
 pub record IsSlot (s : Slot) : Type 0 where
-  pub number : s.number < numbers_of s.register
+  pub number : s.number < (meaning_of s.register).count
   pub byte : s.byte < s.bytes
   pub bytes : s.bytes ≤ 4

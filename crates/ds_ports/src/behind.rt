@@ -9,14 +9,13 @@ ghost use Rattle.ds_timers.specs.Timing.{timer_at, timer_due};
 ghost use Rattle.vram_banks.specs.Cells.{vram_written};
 ghost use Rattle.ds_ports.specs.Dues.{AreUnits, due_behind, first_behind};
 ghost use Rattle.ds_ports.specs.Own.{before_move};
-ghost use Rattle.ds_ports.specs.RegisterMap.{numbers_of};
-ghost use Rattle.ds_ports.specs.Registers.{bank_set, card_refusal, division_set, divcnt_word, fifo_control_set, halt_refusal, own_written, register_kept, left_by_read, register_refusal, register_value, left_by_write, root_set, sqrtcnt_word, sync_set, with_word_of_two, word_of_two, word_received, word_sent};
+ghost use Rattle.ds_ports.specs.Registers.{bank_set, card_refusal, division_set, divcnt_word, fifo_control_set, halt_refusal, left_by_write, meaning_of, own_after, root_set, sqrtcnt_word, sync_set, with_word_of_two, word_of_two, word_received, word_sent};
 ghost use Rattle.ds_ports.specs.Units.{both_raised, channel_moved, channel_put_back, channels_triggered, division_done, keys_pressed, own_of, root_done, timer_overflows, units_at_boot, with_halted, with_own};
 
 use crate::own::{Before, Own, extkeyin, keyinput};
 use crate::registers::Register;
 use ds_base::{Due, LeftKind, Proc, Raised, Space, Stop, Tick, Width};
-use ds_dma::Cause;
+use ds_dma::{Cause, DmaPort};
 use ds_ipc::Ipc;
 use ds_math::{Divider, Root};
 use ds_runs::{Actor, earlier, entry};
@@ -323,31 +322,28 @@ impl Behind {
 
     /// What a register reads, for a processor at a tick.
     pub fn value_of(&self, proc: Proc, now: Tick, register: Register, number: u32) -> u32
-        requires { number < numbers_of register }
-        ensures { result ≡ register_value proc now self.now register number }
+        requires { number < (meaning_of register).count }
+        ensures { result ≡ (meaning_of register).value proc now self.now number }
     {
         match register {
-            Register::Later
-            | Register::VramcntAToG
-            | Register::VramcntHToI
-            | Register::Ipcfifosend
-            | Register::Haltcnt => 0,
-            Register::Tmcnt => self.own(proc).timer(now, number),
+            Register::Dmasad => self.own(proc).channel(DmaPort::Source, number),
+            Register::Dmadad => self.own(proc).channel(DmaPort::Target, number),
+            Register::Dmacnt => self.own(proc).channel(DmaPort::Control, number),
+            Register::Dmafill => self.fill[number as usize],
+            Register::TmcntL => self.own(proc).counter(number, now),
+            Register::TmcntH => self.own(proc).control(number),
             Register::Keyinput => keyinput(self.pressed),
             Register::Keycnt => self.own(proc).keycnt(),
             Register::Extkeyin => extkeyin(self.pressed),
             Register::Ipcsync => self.ipc.sync_read(proc) as u32,
             Register::Ipcfifocnt => self.ipc.control_read(proc) as u32,
             Register::Ipcfiforecv => self.ipc.look(proc),
+            Register::Romctrl => self.romctrl,
             Register::Ime => self.own(proc).ime(),
             Register::Ie => self.own(proc).ie(),
             Register::If => self.own(proc).flags(),
             Register::Wramcnt | Register::Wramstat => self.wramcnt as u32,
             Register::Vramstat => self.vram.allotted7() as u32,
-            Register::Postflg => 1,
-            Register::DmaSadToCnt => self.own(proc).channel(number),
-            Register::Dmafill => self.fill[number as usize],
-            Register::Romctrl => self.romctrl,
             Register::Divcnt => divcnt(&self.divider),
             Register::DivNumer => word_of_two(number, self.divider.read().numerator),
             Register::DivDenom => word_of_two(number, self.divider.read().denominator),
@@ -356,12 +352,14 @@ impl Behind {
             Register::Sqrtcnt => sqrtcnt(&self.root),
             Register::SqrtResult => self.root.read().root,
             Register::SqrtParam => word_of_two(number, self.root.read().value),
+            Register::Postflg => 1,
+            _ => 0,
         }
     }
 
     /// What a read of a whole register leaves.
     pub fn read_register(&mut self, proc: Proc, register: Register)
-        ensures { self.new ≡ left_by_read proc self.old register }
+        ensures { self.new ≡ (meaning_of register).left_by_read proc self.old }
     {
         if register == Register::Ipcfiforecv {
             self.take_word(proc);
@@ -378,40 +376,29 @@ impl Behind {
 
     /// The bits that a write of some of a register's bytes leaves as they are in the others.
     pub fn kept_of(&self, proc: Proc, register: Register, number: u32) -> u32
-        requires { number < numbers_of register }
-        ensures { result ≡ register_kept proc self.now register number }
+        requires { number < (meaning_of register).count }
+        ensures { result ≡ (meaning_of register).kept proc self.now number }
     {
         match register {
-            Register::Tmcnt => self.own(proc).timer_kept(number),
+            Register::Dmasad => self.own(proc).channel(DmaPort::Source, number),
+            Register::Dmadad => self.own(proc).channel(DmaPort::Target, number),
+            Register::Dmacnt => self.own(proc).channel(DmaPort::Control, number),
+            Register::Dmafill => self.fill[number as usize],
+            Register::TmcntL => self.own(proc).reload(number),
+            Register::TmcntH => self.own(proc).control(number),
             Register::Keycnt => self.own(proc).keycnt(),
             Register::Ipcsync => self.ipc.sync_kept(proc) as u32,
             Register::Ipcfifocnt => self.ipc.control_kept(proc) as u32,
+            Register::Romctrl => self.romctrl,
             Register::Ime => self.own(proc).ime(),
             Register::Ie => self.own(proc).ie(),
             Register::Wramcnt => self.wramcnt as u32,
-            Register::DmaSadToCnt => self.own(proc).channel(number),
-            Register::Dmafill => self.fill[number as usize],
-            Register::Romctrl => self.romctrl,
             Register::Divcnt => self.divider.read().mode as u32,
             Register::DivNumer => word_of_two(number, self.divider.read().numerator),
             Register::DivDenom => word_of_two(number, self.divider.read().denominator),
             Register::Sqrtcnt => is_wide(&self.root),
             Register::SqrtParam => word_of_two(number, self.root.read().value),
-            Register::Later
-            | Register::Keyinput
-            | Register::Extkeyin
-            | Register::Ipcfifosend
-            | Register::Ipcfiforecv
-            | Register::If
-            | Register::VramcntAToG
-            | Register::VramcntHToI
-            | Register::Vramstat
-            | Register::Wramstat
-            | Register::Postflg
-            | Register::Haltcnt
-            | Register::DivResult
-            | Register::DivremResult
-            | Register::SqrtResult => 0,
+            _ => 0,
         }
     }
 
@@ -500,9 +487,9 @@ impl Behind {
 
     /// A write of a register of a processor's own.
     fn write_own(&mut self, proc: Proc, now: Tick, register: Register, number: u32, value: u32)
-        requires number { number < numbers_of register }
+        requires number { number < (meaning_of register).count }
         requires early { IsEarly (Some now) }
-        ensures { self.new ≡ with_own proc self.old (own_written proc now self.old.pressed (own_of self.old proc) register number value) }
+        ensures { self.new ≡ with_own proc self.old (own_after (meaning_of register).written proc now self.old.pressed (own_of self.old proc) number value) }
     {
         let pressed = self.pressed;
         match proc {
@@ -522,41 +509,34 @@ impl Behind {
         number: u32,
         value: u32,
     )
-        requires number { number < numbers_of register }
+        requires number { number < (meaning_of register).count }
         requires early { IsEarly (Some now) }
         ensures { self.new ≡ left_by_write proc now self.old register number value }
     {
         match register {
+            Register::Dmasad
+            | Register::Dmadad
+            | Register::Dmacnt
+            | Register::TmcntL
+            | Register::TmcntH
+            | Register::Keycnt
+            | Register::Ime
+            | Register::Ie
+            | Register::If
+            | Register::Haltcnt => self.write_own(proc, now, register, number, value),
+            Register::Dmafill => self.fill[number as usize] = value,
             Register::Ipcsync => self.set_sync(proc, value),
             Register::Ipcfifocnt => self.set_fifo_control(proc, value),
             Register::Ipcfifosend => self.send(proc, value),
-            Register::VramcntAToG => self.set_bank(number, value),
-            Register::VramcntHToI => self.set_bank(7 + number, value),
-            Register::Wramcnt => self.wramcnt = (value % 4) as u8,
-            Register::Dmafill => self.fill[number as usize] = value,
             Register::Romctrl => self.romctrl = value & KEPT_OF_ROMCTRL,
+            Register::Vramcnt => self.set_bank(number, value),
+            Register::Wramcnt => self.wramcnt = (value % 4) as u8,
             Register::Divcnt => self.set_divcnt(now, value),
             Register::DivNumer => self.set_numerator(now, number, value),
             Register::DivDenom => self.set_denominator(now, number, value),
             Register::Sqrtcnt => self.set_sqrtcnt(now, value),
             Register::SqrtParam => self.set_radicand(now, number, value),
-            Register::Tmcnt
-            | Register::Keycnt
-            | Register::Ime
-            | Register::Ie
-            | Register::If
-            | Register::DmaSadToCnt
-            | Register::Haltcnt => self.write_own(proc, now, register, number, value),
-            Register::Later
-            | Register::Keyinput
-            | Register::Extkeyin
-            | Register::Ipcfiforecv
-            | Register::Vramstat
-            | Register::Wramstat
-            | Register::Postflg
-            | Register::DivResult
-            | Register::DivremResult
-            | Register::SqrtResult => {}
+            _ => {}
         }
     }
 
@@ -568,13 +548,13 @@ impl Behind {
         number: u32,
         value: u32,
     ) -> Option<Stop>
-        requires { number < numbers_of register }
-        ensures { result ≡ register_refusal proc self.now register number value }
+        requires { number < (meaning_of register).count }
+        ensures { result ≡ (meaning_of register).refusal proc self.now number value }
     {
         match register {
-            Register::Haltcnt => halt_refusal(value % 0x100),
-            Register::DmaSadToCnt => self.own(proc).channel_refusal(number, value),
+            Register::Dmacnt => self.own(proc).control_refusal(number, value),
             Register::Romctrl => card_refusal(value),
+            Register::Haltcnt => halt_refusal(value % 0x100),
             _ => None,
         }
     }

@@ -3,15 +3,15 @@
 ghost use Rattle.std.specs.Prelude.{◌≡◌, ◌<◌, ◌+◌, ◌/◌, ◌%◌, ◌^◌, ◌∷◌, [], IsSome, Some};
 ghost use Rattle.ds_base.specs.Bits.{flag};
 ghost use Rattle.ds_base.specs.Schedules.{IsEarly};
-ghost use Rattle.ds_dma.specs.Channels.{unit_of};
-ghost use Rattle.ds_dma.specs.States.{channel_due, dma_due, due_channel};
+ghost use Rattle.ds_dma.specs.Channels.{channel_refusal, channel_word, unit_of};
+ghost use Rattle.ds_dma.specs.States.{channel_at, channel_due, dma_due, due_channel};
+ghost use Rattle.ds_dma.specs.declared.controls.DmaPort.TheVariants.{Control};
 ghost use Rattle.ds_runs.specs.Order.{first_from};
 ghost use Rattle.ds_timers.specs.Irqs.{line_is_up, shares_bit};
-ghost use Rattle.ds_timers.specs.Timing.{overflow_of, timer_at, timer_due};
+ghost use Rattle.ds_timers.specs.Timing.{counter_of, overflow_of, timer_at, timer_due};
 ghost use Rattle.ds_ports.specs.Dues.{IsOwn};
-ghost use Rattle.ds_ports.specs.Own.{before_move, dma_port, dma_refusal, dma_value, dma_written, extkeyin_word, haltcnt_written, interrupts_of, own_is_held, keycnt_written, keyinput_word, keys_hold, keys_told, own_at_boot, own_moved, own_put_back, own_raised, own_triggered, timer_kept, timer_value, timer_written};
-ghost use Rattle.ds_ports.specs.RegisterMap.{numbers_of};
-ghost use Rattle.ds_ports.specs.Registers.{ie_set, if_set, ime_set, own_written};
+ghost use Rattle.ds_ports.specs.Own.{before_move, control_written, dma_written, extkeyin_word, haltcnt_written, ie_written, if_written, ime_written, interrupts_of, own_is_held, keycnt_written, keyinput_word, keys_hold, keys_told, own_at_boot, own_moved, own_put_back, own_raised, own_triggered, reload_written};
+ghost use Rattle.ds_ports.specs.Registers.{meaning_of, own_after};
 
 use crate::registers::Register;
 use ds_base::{Due, Interrupt, Proc, Stop, Tick};
@@ -108,17 +108,6 @@ fn keys_hold(keycnt: u16, pressed: u16) -> bool
         })
 }
 
-/// The port of its channel that a DMA register is.
-fn dma_port(number: u32) -> DmaPort
-    ensures { result ≡ dma_port number }
-{
-    match number % 3 {
-        0 => DmaPort::Source,
-        1 => DmaPort::Target,
-        _ => DmaPort::Control,
-    }
-}
-
 impl Own {
     /// All of a processor's at boot: no interrupt, no timer, no channel, and the processor runs.
     pub fn new(proc: Proc) -> Own
@@ -213,45 +202,47 @@ impl Own {
         earlier(entry(rank, self.timers.due(0)), first)
     }
 
-    /// A timer's counter or control, as it reads.
-    pub fn timer(&self, now: Tick, number: u32) -> u32
-        requires { number < 8 }
-        ensures { result ≡ timer_value self.now now number }
+    /// A timer's counter.
+    pub fn counter(&self, which: u32, now: Tick) -> u32
+        requires { which < 4 }
+        ensures { result ≡ counter_of (timer_at self.now.timers which) now }
     {
-        let which = (number / 2) as u8;
-        if number % 2 == 1 {
-            self.timers.control(which) as u32
-        } else {
-            self.timers.counter_at(which, now) as u32
-        }
+        self.timers.counter_at(which as u8, now) as u32
     }
 
-    /// A timer's reload or control, as it is kept.
-    pub fn timer_kept(&self, number: u32) -> u32
-        requires { number < 8 }
-        ensures { result ≡ timer_kept self.now number }
+    /// A timer's reload.
+    pub fn reload(&self, which: u32) -> u32
+        requires { which < 4 }
+        ensures { result ≡ (timer_at self.now.timers which).reload }
     {
-        let which = (number / 2) as u8;
-        if number % 2 == 1 {
-            self.timers.control(which) as u32
-        } else {
-            self.timers.reload(which) as u32
-        }
+        self.timers.reload(which as u8) as u32
     }
 
-    /// A write of a timer's reload or control.
-    pub fn set_timer(&mut self, now: Tick, number: u32, value: u32)
-        requires number { number < 8 }
+    /// A timer's control.
+    pub fn control(&self, which: u32) -> u32
+        requires { which < 4 }
+        ensures { result ≡ (timer_at self.now.timers which).control }
+    {
+        self.timers.control(which as u8) as u32
+    }
+
+    /// A write of a timer's reload.
+    pub fn set_reload(&mut self, which: u32, value: u32)
+        requires { which < 4 }
+        ensures { self.new ≡ reload_written self.old which (value % 2 ^ 16) }
+    {
+        self.timers
+            .set_reload(which as u8, (value % 0x1_0000) as u16);
+    }
+
+    /// A write of a timer's control.
+    pub fn set_control(&mut self, which: u32, value: u32, now: Tick)
+        requires which { which < 4 }
         requires early { IsEarly (Some now) }
-        ensures { self.new ≡ timer_written self.old now number value }
+        ensures { self.new ≡ control_written self.old which (value % 2 ^ 16) now }
     {
-        let which = (number / 2) as u8;
-        let value = (value % 0x1_0000) as u16;
-        if number % 2 == 1 {
-            self.timers.set_control(which, value, now);
-        } else {
-            self.timers.set_reload(which, value);
-        }
+        self.timers
+            .set_control(which as u8, (value % 0x1_0000) as u16, now);
     }
 
     /// KEYCNT.
@@ -301,21 +292,21 @@ impl Own {
 
     /// A write of IME.
     pub fn set_ime(&mut self, value: u32)
-        ensures { self.new ≡ ime_set self.old value }
+        ensures { self.new ≡ ime_written self.old value }
     {
         self.irq.set_master(value % 2 == 1);
     }
 
     /// A write of IE, of which a processor keeps the interrupts that it has.
     pub fn set_ie(&mut self, proc: Proc, value: u32)
-        ensures { self.new ≡ ie_set proc self.old value }
+        ensures { self.new ≡ ie_written proc self.old value }
     {
         self.irq.set_enabled(value & interrupts_of(proc));
     }
 
     /// A write of IF.
     pub fn acknowledge(&mut self, value: u32)
-        ensures { self.new ≡ if_set self.old value }
+        ensures { self.new ≡ if_written self.old value }
     {
         self.irq.ack(value);
     }
@@ -330,31 +321,30 @@ impl Own {
     }
 
     /// A channel's source, target or control.
-    pub fn channel(&self, number: u32) -> u32
-        requires { number < 12 }
-        ensures { result ≡ dma_value self.now number }
+    pub fn channel(&self, port: DmaPort, which: u32) -> u32
+        requires { which < 4 }
+        ensures { result ≡ channel_word port (channel_at self.now.dma.channels which) }
     {
-        self.dma.read((number / 3) as u8, dma_port(number))
+        self.dma.read(which as u8, port)
     }
 
     /// A write of a channel's source, target or control. One that is refused leaves all.
-    pub fn set_channel(&mut self, now: Tick, number: u32, value: u32)
-        requires number { number < 12 }
+    pub fn set_channel(&mut self, now: Tick, port: DmaPort, which: u32, value: u32)
+        requires which { which < 4 }
         requires early { IsEarly (Some now) }
-        ensures { self.new ≡ dma_written self.old now number value }
+        ensures { self.new ≡ dma_written self.old now port which value }
     {
-        self.dma
-            .write((number / 3) as u8, dma_port(number), value, now);
+        self.dma.write(which as u8, port, value, now);
         self.running = self.dma.running();
     }
 
-    /// The stop for which a write of a channel's source, target or control is refused: that of the same write of a copy.
-    pub fn channel_refusal(&self, number: u32, value: u32) -> Option<Stop>
-        requires { number < 12 }
-        ensures { result ≡ dma_refusal self.now number value }
+    /// The stop for which a write of a channel's control is refused: that of the same write of a copy.
+    pub fn control_refusal(&self, which: u32, value: u32) -> Option<Stop>
+        requires { which < 4 }
+        ensures { result ≡ channel_refusal self.now.dma.proc which Control value (channel_at self.now.dma.channels which) }
     {
         let mut copy = self.dma;
-        copy.write((number / 3) as u8, dma_port(number), value, Tick(0))
+        copy.write(which as u8, DmaPort::Control, value, Tick(0))
     }
 
     /// An event at a tick triggers the channels that wait for it.
@@ -442,41 +432,22 @@ impl Own {
         number: u32,
         value: u32,
     )
-        requires number { number < numbers_of register }
+        requires number { number < (meaning_of register).count }
         requires early { IsEarly (Some now) }
-        ensures { self.new ≡ own_written proc now pressed self.old register number value }
+        ensures { self.new ≡ own_after (meaning_of register).written proc now pressed self.old number value }
     {
         match register {
-            Register::Tmcnt => self.set_timer(now, number, value),
+            Register::Dmasad => self.set_channel(now, DmaPort::Source, number, value),
+            Register::Dmadad => self.set_channel(now, DmaPort::Target, number, value),
+            Register::Dmacnt => self.set_channel(now, DmaPort::Control, number, value),
+            Register::TmcntL => self.set_reload(number, value),
+            Register::TmcntH => self.set_control(number, value, now),
             Register::Keycnt => self.set_keycnt(pressed, value),
             Register::Ime => self.set_ime(value),
             Register::Ie => self.set_ie(proc, value),
             Register::If => self.acknowledge(value),
             Register::Haltcnt => self.set_haltcnt(value),
-            Register::DmaSadToCnt => self.set_channel(now, number, value),
-            Register::Later
-            | Register::Keyinput
-            | Register::Extkeyin
-            | Register::Ipcsync
-            | Register::Ipcfifocnt
-            | Register::Ipcfifosend
-            | Register::Ipcfiforecv
-            | Register::VramcntAToG
-            | Register::VramcntHToI
-            | Register::Wramcnt
-            | Register::Vramstat
-            | Register::Wramstat
-            | Register::Postflg
-            | Register::Dmafill
-            | Register::Romctrl
-            | Register::Divcnt
-            | Register::DivNumer
-            | Register::DivDenom
-            | Register::DivResult
-            | Register::DivremResult
-            | Register::Sqrtcnt
-            | Register::SqrtResult
-            | Register::SqrtParam => {}
+            _ => {}
         }
     }
 }

@@ -1,20 +1,28 @@
 //! The register map: which register stands at an offset.
 
-ghost use Rattle.std.specs.Prelude.{◌≡◌, ◌<◌, ◌/◌, ◌%◌, Some, IfSome};
+ghost use Rattle.std.specs.Prelude.{◌≡◌, ◌<◌, ◌+◌, ◌/◌, ◌%◌, ◌^◌, ◌==◌, if◌then◌else◌, Some, IfSome};
 ghost use Rattle.ds_ports.specs.Parts.{looked_up, slot_among, parts_of_nine, parts_of_seven};
 ghost use Rattle.ds_ports.specs.RegisterMap.{slot_of, IsSlot, display_rows, effect_rows, dma_rows, timer_and_ipc_rows, control_rows, maths_rows, power_rows, geometry_rows, second_display_rows, second_effect_rows, receive_rows, seven_early_rows, seven_timer_and_ipc_rows, seven_control_rows};
 
 use ds_base::Proc;
 
-/// A register, by GBATEK's name ("DS I/O Maps"). Several of one kind that stand one after another are one here, and are told apart by
-/// a `Slot`'s number.
+/// A register, by GBATEK's name ("DS I/O Maps"). Those of one name are told apart by a `Slot`'s number.
 #[derive(Clone, Copy, PartialEq, Eq, Debug)]
 pub enum Register {
     /// One that isn't built yet.
     Later,
-    /// TM0CNT_L, TM0CNT_H to those of timer 3, numbers 0 to 7: of each timer its counter, which is written as its reload, and its control.
-    /// (GBATEK, "DS Timers".)
-    Tmcnt,
+    /// DMA0SAD to DMA3SAD, a channel's source. (GBATEK, "DS DMA Transfers".)
+    Dmasad,
+    /// DMA0DAD to DMA3DAD, its target. (The same chapter.)
+    Dmadad,
+    /// DMA0CNT to DMA3CNT, its control. (The same chapter.)
+    Dmacnt,
+    /// DMA0FILL to DMA3FILL. (The same chapter.)
+    Dmafill,
+    /// TM0CNT_L to TM3CNT_L, a timer's counter, which is written as its reload. (GBATEK, "DS Timers".)
+    TmcntL,
+    /// TM0CNT_H to TM3CNT_H, its control. (The same chapter.)
+    TmcntH,
     /// KEYINPUT. (GBATEK, "DS Keypad".)
     Keyinput,
     /// KEYCNT. (The same chapter.)
@@ -29,33 +37,22 @@ pub enum Register {
     Ipcfifosend,
     /// IPCFIFORECV. (The same chapter.)
     Ipcfiforecv,
+    /// ROMCTRL, which both processors share. (GBATEK, "DS Cartridge I/O Ports".)
+    Romctrl,
     /// IME. (GBATEK, "DS Interrupts".)
     Ime,
     /// IE. (The same chapter.)
     Ie,
     /// IF. (The same chapter.)
     If,
-    /// VRAMCNT_A to VRAMCNT_G, numbers 0 to 6. (GBATEK, "DS Memory Control - VRAM".)
-    VramcntAToG,
-    /// VRAMCNT_H and VRAMCNT_I, numbers 0 and 1. (The same chapter.)
-    VramcntHToI,
+    /// VRAMCNT_A to VRAMCNT_I, numbers 0 to 8. (GBATEK, "DS Memory Control - VRAM".)
+    Vramcnt,
     /// WRAMCNT. (GBATEK, "DS Memory Control - WRAM".)
     Wramcnt,
     /// VRAMSTAT. (GBATEK, "DS Memory Control - VRAM".)
     Vramstat,
     /// WRAMSTAT. (GBATEK, "DS Memory Control - WRAM".)
     Wramstat,
-    /// POSTFLG. (GBATEK, "DS Power Control".)
-    Postflg,
-    /// HALTCNT. (GBATEK, "DS Power Control".)
-    Haltcnt,
-    /// DMA0SAD, DMA0DAD, DMA0CNT to those of channel 3, numbers 0 to 11: of each channel its source, its target and its control.
-    /// (GBATEK, "DS DMA Transfers".)
-    DmaSadToCnt,
-    /// DMA0FILL to DMA3FILL, numbers 0 to 3. (The same chapter.)
-    Dmafill,
-    /// ROMCTRL, which both processors share. (GBATEK, "DS Cartridge I/O Ports".)
-    Romctrl,
     /// DIVCNT. (GBATEK, "DS Maths".)
     Divcnt,
     /// DIV_NUMER, numbers 0 and 1: its low and its high word. (The same chapter.)
@@ -72,6 +69,10 @@ pub enum Register {
     SqrtResult,
     /// SQRT_PARAM, numbers 0 and 1: its low and its high word. (The same chapter.)
     SqrtParam,
+    /// POSTFLG. (GBATEK, "DS Power Control".)
+    Postflg,
+    /// HALTCNT. (The same chapter.)
+    Haltcnt,
 }
 
 /// A byte of a register.
@@ -79,7 +80,7 @@ pub enum Register {
 pub struct Slot {
     /// The register.
     pub register: Register,
-    /// Which of several of its kind, counted from 0.
+    /// Which of those of its name, counted from 0.
     pub number: u32,
     /// Which byte, the lowest being 0.
     pub byte: u32,
@@ -96,6 +97,73 @@ fn in_row(register: Register, bytes: u32, offset: u32) -> Option<Slot>
     Some(Slot {
         register,
         number: offset / bytes,
+        byte: offset % bytes,
+        bytes,
+    })
+}
+
+/// The byte so many bytes into a row of registers whose numbers begin further on.
+#[inline(always)]
+fn in_row_from(first: u32, register: Register, bytes: u32, offset: u32) -> Option<Slot>
+    requires few { first < 2 ^ 8 }
+    requires some { 0 < bytes }
+    requires near { offset < 2 ^ 24 }
+    ensures { result ≡ Some (record { register = register; number = first + offset / bytes; byte = offset % bytes; bytes = bytes }) }
+{
+    Some(Slot {
+        register,
+        number: first + offset / bytes,
+        byte: offset % bytes,
+        bytes,
+    })
+}
+
+/// The byte so many bytes into a row of two registers in turn.
+#[inline(always)]
+fn in_two(first: Register, second: Register, bytes: u32, offset: u32) -> Option<Slot>
+    requires { 0 < bytes }
+    ensures { result ≡ Some (record {
+      register = if offset / bytes % 2 == 0 then first else second;
+      number = offset / bytes / 2;
+      byte = offset % bytes;
+      bytes = bytes;
+    }) }
+{
+    let place = offset / bytes;
+    Some(Slot {
+        register: if place % 2 == 0 { first } else { second },
+        number: place / 2,
+        byte: offset % bytes,
+        bytes,
+    })
+}
+
+/// The byte so many bytes into a row of three registers in turn.
+#[inline(always)]
+fn in_three(
+    first: Register,
+    second: Register,
+    third: Register,
+    bytes: u32,
+    offset: u32,
+) -> Option<Slot>
+    requires { 0 < bytes }
+    ensures { result ≡ Some (record {
+      register = if offset / bytes % 3 == 0 then first else (if offset / bytes % 3 == 1 then second else third);
+      number = offset / bytes / 3;
+      byte = offset % bytes;
+      bytes = bytes;
+    }) }
+{
+    let place = offset / bytes;
+    let register = match place % 3 {
+        0 => first,
+        1 => second,
+        _ => third,
+    };
+    Some(Slot {
+        register,
+        number: place / 3,
         byte: offset % bytes,
         bytes,
     })
@@ -143,7 +211,13 @@ fn dma(at: u32) -> Option<Slot>
     ensures { result ≡ slot_among dma_rows at }
 {
     match at {
-        0x0B0..=0x0DF => in_row(Register::DmaSadToCnt, 4, at - 0x0B0), // DMA0SAD, DMA0DAD, DMA0CNT to DMA3SAD, DMA3DAD, DMA3CNT
+        0x0B0..=0x0DF => in_three(
+            Register::Dmasad,
+            Register::Dmadad,
+            Register::Dmacnt,
+            4,
+            at - 0x0B0,
+        ), // DMA0SAD, DMA0DAD, DMA0CNT to DMA3SAD, DMA3DAD, DMA3CNT
         0x0E0..=0x0EF => in_row(Register::Dmafill, 4, at - 0x0E0), // DMA0FILL to DMA3FILL
         _ => None,
     }
@@ -155,7 +229,7 @@ fn timers_and_ipc(at: u32) -> Option<Slot>
     ensures { result ≡ slot_among timer_and_ipc_rows at }
 {
     match at {
-        0x100..=0x10F => in_row(Register::Tmcnt, 2, at - 0x100), // TM0CNT_L, TM0CNT_H to TM3CNT_L, TM3CNT_H
+        0x100..=0x10F => in_two(Register::TmcntL, Register::TmcntH, 2, at - 0x100), // TM0CNT_L, TM0CNT_H to TM3CNT_L, TM3CNT_H
         0x130..=0x131 => in_row(Register::Keyinput, 2, at - 0x130), // KEYINPUT
         0x132..=0x133 => in_row(Register::Keycnt, 2, at - 0x132), // KEYCNT
         0x180..=0x181 => in_row(Register::Ipcsync, 2, at - 0x180), // IPCSYNC
@@ -175,9 +249,9 @@ fn controls(at: u32) -> Option<Slot>
         0x208..=0x20B => in_row(Register::Ime, 4, at - 0x208), // IME
         0x210..=0x213 => in_row(Register::Ie, 4, at - 0x210), // IE
         0x214..=0x217 => in_row(Register::If, 4, at - 0x214), // IF
-        0x240..=0x246 => in_row(Register::VramcntAToG, 1, at - 0x240), // VRAMCNT_A to VRAMCNT_G
+        0x240..=0x246 => in_row(Register::Vramcnt, 1, at - 0x240), // VRAMCNT_A to VRAMCNT_G
         0x247..=0x247 => in_row(Register::Wramcnt, 1, at - 0x247), // WRAMCNT
-        0x248..=0x249 => in_row(Register::VramcntHToI, 1, at - 0x248), // VRAMCNT_H, VRAMCNT_I
+        0x248..=0x249 => in_row_from(7, Register::Vramcnt, 1, at - 0x248), // VRAMCNT_H, VRAMCNT_I
         _ => None,
     }
 }
@@ -281,7 +355,13 @@ fn early_of_seven(at: u32) -> Option<Slot>
     match at {
         0x004..=0x005 => in_row(Register::Later, 2, at - 0x004), // DISPSTAT
         0x006..=0x007 => in_row(Register::Later, 2, at - 0x006), // VCOUNT
-        0x0B0..=0x0DF => in_row(Register::DmaSadToCnt, 4, at - 0x0B0), // DMA0SAD, DMA0DAD, DMA0CNT to DMA3SAD, DMA3DAD, DMA3CNT
+        0x0B0..=0x0DF => in_three(
+            Register::Dmasad,
+            Register::Dmadad,
+            Register::Dmacnt,
+            4,
+            at - 0x0B0,
+        ), // DMA0SAD, DMA0DAD, DMA0CNT to DMA3SAD, DMA3DAD, DMA3CNT
         _ => None,
     }
 }
@@ -292,7 +372,7 @@ fn timers_and_ipc_of_seven(at: u32) -> Option<Slot>
     ensures { result ≡ slot_among seven_timer_and_ipc_rows at }
 {
     match at {
-        0x100..=0x10F => in_row(Register::Tmcnt, 2, at - 0x100), // TM0CNT_L, TM0CNT_H to TM3CNT_L, TM3CNT_H
+        0x100..=0x10F => in_two(Register::TmcntL, Register::TmcntH, 2, at - 0x100), // TM0CNT_L, TM0CNT_H to TM3CNT_L, TM3CNT_H
         0x130..=0x131 => in_row(Register::Keyinput, 2, at - 0x130), // KEYINPUT
         0x132..=0x133 => in_row(Register::Keycnt, 2, at - 0x132), // KEYCNT
         0x136..=0x137 => in_row(Register::Extkeyin, 2, at - 0x136), // EXTKEYIN

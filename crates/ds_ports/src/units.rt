@@ -12,8 +12,7 @@ ghost use Rattle.vram_banks.specs.Cells.{vram_written};
 ghost use Rattle.ds_ports.specs.Dues.{AreUnits, due_behind, dues_behind, first_behind};
 ghost use Rattle.ds_ports.specs.Inside.{moves_dues};
 ghost use Rattle.ds_ports.specs.Own.{before_move, own_is_held};
-ghost use Rattle.ds_ports.specs.RegisterMap.{numbers_of};
-ghost use Rattle.ds_ports.specs.Registers.{left_by_read, left_by_write};
+ghost use Rattle.ds_ports.specs.Registers.{left_by_write, meaning_of};
 ghost use Rattle.ds_ports.specs.Units.{channel_moved, channel_put_back, channels_triggered, division_done, keys_pressed, own_of, root_done, timer_overflows, units_at_boot, with_halted};
 
 use crate::behind::Behind;
@@ -52,8 +51,11 @@ fn moves_dues(register: Register) -> bool
 {
     matches!(
         register,
-        Register::Tmcnt
-            | Register::DmaSadToCnt
+        Register::Dmasad
+            | Register::Dmadad
+            | Register::Dmacnt
+            | Register::TmcntL
+            | Register::TmcntH
             | Register::Divcnt
             | Register::DivNumer
             | Register::DivDenom
@@ -252,7 +254,7 @@ impl Units {
     /// What a read of a whole register leaves.
     #[tactic(auto, using(crate::proofs::Dues::reads_move_none))]
     pub(crate) fn read_register(&mut self, proc: Proc, register: Register)
-        ensures { self.new ≡ left_by_read proc self.old register }
+        ensures { self.new ≡ (meaning_of register).left_by_read proc self.old }
     {
         self.behind.read_register(proc, register);
     }
@@ -267,7 +269,7 @@ impl Units {
         number: u32,
         value: u32,
     )
-        requires number { number < numbers_of register }
+        requires number { number < (meaning_of register).count }
         requires early { IsEarly (Some now) }
         ensures { self.new ≡ left_by_write proc now self.old register number value }
     {

@@ -16,7 +16,7 @@ use Rattle.ds_timers.specs.Timing.{counter_of, timer_at}
 use Rattle.ds_ports.specs.Own.{OwnState, control_written, dma_written, extkeyin_word, haltcnt_written, ie_written, if_written, ime_written, keycnt_written, keyinput_word, reload_written}
 use Rattle.ds_ports.specs.Units.{UnitsState, both_raised, own_of, with_own}
 use Rattle.ds_ports.specs.declared.registers.Register.{Register}
-use Rattle.ds_ports.specs.declared.registers.Register.TheVariants.{Later, Dmasad, Dmadad, Dmacnt, Dmafill, TmcntL, TmcntH, Keyinput, Keycnt, Extkeyin, Ipcsync, Ipcfifocnt, Ipcfifosend, Ipcfiforecv, Romctrl, Ime, Ie, If, Vramcnt, Wramcnt, Vramstat, Wramstat, Divcnt, DivNumer, DivDenom, DivResult, DivremResult, Sqrtcnt, SqrtResult, SqrtParam, Postflg, Haltcnt}
+use Rattle.ds_ports.specs.declared.registers.Register.TheVariants.{Dmasad, Dmadad, Dmacnt, Dmafill, TmcntL, TmcntH, Keyinput, Keycnt, Extkeyin, Ipcsync, Ipcfifocnt, Ipcfifosend, Ipcfiforecv, Romctrl, Ime, Ie, If, Vramcnt, Wramcnt, Vramstat, Wramstat, Divcnt, DivNumer, DivDenom, DivResult, DivremResult, Sqrtcnt, SqrtResult, SqrtParam, Postflg, Haltcnt}
 use Rattle.vram_banks.specs.BankMap.{kept_bank_control}
 use Rattle.vram_banks.specs.Cells.{allotted_of}
 

@@ -19,15 +19,21 @@ pub record StacksState : Type 0 where
   pub level : ℕ
   pub error : Bool
 
--- all matrices are the identity at boot, and all else is 0 (our choice)
+-- at boot the four current matrices are the identity, and all else is 0, what the stacks store too until something is stored there (our choice)
+unfoldable pub zero_matrix : Matrix
+zero_matrix = record { cells = replicate 16 (pos 0) }
+
 abbrev pub single_at_boot : Single
-single_at_boot = record { current = identity; stored = identity; pushed = false }
+single_at_boot = record { current = identity; stored = zero_matrix; pushed = false }
 
 abbrev pub pose_at_boot : Pose
 pose_at_boot = record { position = identity; vector = identity }
 
+abbrev pub zero_pose : Pose
+zero_pose = record { position = zero_matrix; vector = zero_matrix }
+
 unfoldable pub poses_at_boot : List Pose
-poses_at_boot = replicate 31 pose_at_boot
+poses_at_boot = replicate 31 zero_pose
 
 unfoldable pub stacks_at_boot : StacksState
 stacks_at_boot = record {
@@ -88,7 +94,7 @@ pose_stored (Some n) s = record s { poses = slice_set s.poses n s.pose }
 
 abbrev pub pose_restored : Option ℕ → StacksState → StacksState
 pose_restored None s = failed s
-pose_restored (Some n) s = record s { pose = slice_index_or s.poses n pose_at_boot }
+pose_restored (Some n) s = record s { pose = slice_index_or s.poses n zero_pose }
 
 -- push: the place at the level takes the current matrices, and the level goes up (GBATEK, MTX_PUSH)
 abbrev pub pose_pushed : Option ℕ → StacksState → StacksState
@@ -114,7 +120,7 @@ popped_place level word = pose_place (pos level -ℤ signed_bits 0 6 word)
 
 abbrev pub pose_popped : Option ℕ → StacksState → StacksState
 pose_popped None s = failed s
-pose_popped (Some n) s = record s { pose = slice_index_or s.poses n pose_at_boot; level = n }
+pose_popped (Some n) s = record s { pose = slice_index_or s.poses n zero_pose; level = n }
 
 unfoldable pub popped : Mode → ℕ → StacksState → StacksState
 popped Projection word s =

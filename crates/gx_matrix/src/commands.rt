@@ -4,7 +4,7 @@ ghost use Rattle.std.specs.Prelude.{◌≡◌, ◌≤◌, ◌-◌, slice_index_o
 ghost use Rattle.gx_matrix.specs.Commands.{matrix_rows, no_command};
 
 /// A row of the list of geometry commands (GBATEK, "DS 3D Geometry Commands").
-#[derive(Clone, Copy, PartialEq, Eq, Debug)]
+#[derive(Clone, Copy, PartialEq, Eq)]
 pub struct CommandRow {
     /// The command's code.
     pub code: u8,
@@ -18,7 +18,10 @@ pub struct CommandRow {
 pub fn matrix_row(code: u8) -> CommandRow
     requires low { 0x10 ≤ code }
     requires high { code ≤ 0x1C }
-    ensures { result ≡ slice_index_or matrix_rows (code - 0x10) no_command }
+    ensures value { result ≡ slice_index_or matrix_rows (code - 0x10) no_command }
+    ensures code { result.code ≡ code }
+    ensures parameters { result.parameters ≤ 16 }
+    ensures clocks { 1 ≤ result.clocks }
 {
     let (parameters, clocks) = match code {
         0x10 => (1, 1),

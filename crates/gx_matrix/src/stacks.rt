@@ -11,7 +11,7 @@ use std::marker::Model;
 const PLACES: usize = 31;
 
 /// Which matrices a command acts on (GBATEK, "DS 3D Matrix Stack", MTX_MODE).
-#[derive(Clone, Copy, PartialEq, Eq, Debug)]
+#[derive(Clone, Copy, PartialEq, Eq)]
 pub enum Mode {
     /// The projection matrix.
     Projection,
@@ -130,27 +130,32 @@ fn named_place(word: u32) -> Option<u8>
 }
 
 impl Stacks {
-    /// All matrices and places are the identity, the mode is that of the projection matrix, and all else is 0.
-    #[tactic(auto, unfolding(crate::specs::Commands::stacks_at_boot, crate::specs::Commands::poses_at_boot))]
+    /// The four current matrices are the identity, the mode is that of the projection matrix, and all else is 0, what the stacks store too.
+    #[tactic(auto, unfolding(crate::specs::Commands::stacks_at_boot, crate::specs::Commands::poses_at_boot, crate::specs::Commands::zero_matrix))]
     pub fn boot() -> Stacks
         ensures { result ≡ stacks_at_boot }
     {
         let one = identity();
+        let zero = Matrix { cells: [0; 16] };
         let single = Single {
             current: one,
-            stored: one,
+            stored: zero,
             pushed: false,
         };
         let pose = Pose {
             position: one,
             vector: one,
         };
+        let stored = Pose {
+            position: zero,
+            vector: zero,
+        };
         Stacks {
             mode: Mode::Projection,
             projection: single,
             texture: single,
             pose,
-            poses: [pose; PLACES],
+            poses: [stored; PLACES],
             level: 0,
             error: false,
         }

@@ -140,18 +140,18 @@ fn both_matrices_go_together_but_for_scaling(rt: HostRuntime) {
 #[test]
 fn the_stack_of_poses_has_31_places(rt: HostRuntime) {
     let mut stacks = stacks_in(1);
-    for (code, word, level, error) in [
-        (0x12, 1, 0, true),
-        (0x12, 0x3F, 1, false),
-        (0x12, 0x3F, 2, false),
-        (0x12, 0xC2, 0, false),
-        (0x12, 0x21, 0, true),
-        (0x12, 0x22, 30, false),
-        (0x12, 0x1F, 30, true),
-        (0x13, 30, 30, false),
-        (0x13, 31, 30, true),
-        (0x14, 31, 30, true),
-        (0x14, 30, 30, false),
+    for (code, word, level, error, n) in [
+        (0x12, 1, 0, true, 0x1000),
+        (0x12, 0x3F, 1, false, 0),
+        (0x12, 0x3F, 2, false, 0),
+        (0x12, 0xC2, 0, false, 0),
+        (0x12, 0x21, 0, true, 0),
+        (0x12, 0x22, 30, false, 0),
+        (0x12, 0x1F, 30, true, 0),
+        (0x13, 30, 30, false, 0),
+        (0x13, 31, 30, true, 0),
+        (0x14, 31, 30, true, 0),
+        (0x14, 30, 30, false, 0),
     ] {
         assert!(rt; run(&mut stacks, code, &[word]));
         assert_eq!(rt;
@@ -159,7 +159,8 @@ fn the_stack_of_poses_has_31_places(rt: HostRuntime) {
             (level << 8, error),
             "at {word}"
         );
-        assert!(rt; stacks.clip().cells == one());
+        let shown = [n, 0, 0, 0, 0, n, 0, 0, 0, 0, n, 0, 0, 0, 0, n];
+        assert!(rt; stacks.clip().cells == shown);
         stacks.clear_error();
     }
     assert!(rt; run(&mut stacks, 0x11, &[]));

@@ -3,3 +3,4 @@ pub mod LaneLemmas
 pub mod NibbleLemmas
 pub mod RowLemmas
 pub mod SecondLemmas
+pub mod ClearLemmas

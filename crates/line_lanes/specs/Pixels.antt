@@ -1,4 +1,4 @@
-use Rattle.std.specs.Prelude.{ℕ, ◌+◌, ◌-◌, ◌*◌, ◌/◌, ◌%◌, ◌==◌, min, if◌then◌else◌}
+use Rattle.std.specs.Prelude.{ℕ, ◌<◌, ◌+◌, ◌-◌, ◌*◌, ◌/◌, ◌%◌, ◌^◌, ◌==◌, min, if◌then◌else◌, List, slice_index}
 
 -- red, green and blue of a pixel (GBATEK, "LCD Color Palettes")
 abbrev pub red : ℕ → ℕ
@@ -44,3 +44,7 @@ abbrev pub mastered : ℕ → ℕ → ℕ
 mastered value p =
     if value / 16384 % 4 == 1 then brightened (value % 32) p
     else (if value / 16384 % 4 == 2 then darkened (value % 32) p else p)
+
+-- each pixel whose bit 15 is clear keeps it clear
+abbrev pub StaysClear : List ℕ → List ℕ → Type 0
+StaysClear old new = (i : ℕ) → slice_index old i < 2 ^ 15 → slice_index new i < 2 ^ 15

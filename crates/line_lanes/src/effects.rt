@@ -1,7 +1,7 @@
 //! The effects of the 2D engines on a row of pixels.
 ghost use Rattle.std.specs.Prelude.{◌≡◌, length, map};
 ghost use Rattle.std.specs.Simd.Lanes.{zip2};
-ghost use Rattle.line_lanes.specs.Pixels.{blended, brightened, darkened, mastered, held};
+ghost use Rattle.line_lanes.specs.Pixels.{blended, brightened, darkened, mastered, held, StaysClear};
 
 use crate::mixes::Mix;
 use crate::seconds::Second;
@@ -23,7 +23,8 @@ fn held_factor(factor: u8) -> u16
 /// Bit 15 of `next` is ignored, and that of `top` stays. A factor above 16 acts as 16.
 pub fn blend(top: &mut [u16], next: &[u16], eva: u8, evb: u8)
     requires { length top.old ≡ length next.now }
-    ensures { top.new ≡ zip2 (blended eva evb) top.old next.now }
+    ensures row { top.new ≡ zip2 (blended eva evb) top.old next.now }
+    ensures clear { StaysClear top.old top.new }
 {
     let mix = Mix {
         eva: held_factor(eva),
@@ -37,7 +38,8 @@ pub fn blend(top: &mut [u16], next: &[u16], eva: u8, evb: u8)
 /// Brightness increase (GBATEK, "LCD I/O Color Special Effects"): each channel c becomes c + (31 - c) EVY / 16. Bit 15 stays. A
 /// factor above 16 acts as 16.
 pub fn brighten(row: &mut [u16], evy: u8)
-    ensures { row.new ≡ map (brightened evy) row.old }
+    ensures row { row.new ≡ map (brightened evy) row.old }
+    ensures clear { StaysClear row.old row.new }
 {
     let evb = held_factor(evy);
     let mix = Mix {
@@ -52,7 +54,8 @@ pub fn brighten(row: &mut [u16], evy: u8)
 /// Brightness decrease (GBATEK, "LCD I/O Color Special Effects"): each channel c becomes c - c EVY / 16. Bit 15 stays. A factor
 /// above 16 acts as 16.
 pub fn darken(row: &mut [u16], evy: u8)
-    ensures { row.new ≡ map (darkened evy) row.old }
+    ensures row { row.new ≡ map (darkened evy) row.old }
+    ensures clear { StaysClear row.old row.new }
 {
     // What is taken away is rounded down, so what is left is rounded up.
     let evb = held_factor(evy);
@@ -69,7 +72,8 @@ pub fn darken(row: &mut [u16], evy: u8)
 /// in bits 14 to 15. Mode 1 brightens and mode 2 darkens; modes 0 and 3 leave the row as it is. Its channels have five bits
 /// (our choice).
 pub fn master(row: &mut [u16], value: u16)
-    ensures { row.new ≡ map (mastered value) row.old }
+    ensures row { row.new ≡ map (mastered value) row.old }
+    ensures clear { StaysClear row.old row.new }
 {
     let factor = (value % 32) as u8;
     match value / 16384 {

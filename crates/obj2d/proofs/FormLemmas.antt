@@ -1,32 +1,17 @@
 use Rattle.std.proofs.Common.{ℕ, Bool, true, false, ◌≡◌, ◌≢◌, ◌<◌, ◌≤◌, ◌^◌, ◌==◌, ◌&&◌, List, inl, inr, refl, sym, ◌∙◌, arith}
 use Rattle.std.specs.Prelude.{nat_lt, Option, Some, None, if◌then◌else◌}
 use Rattle.vram_banks.specs.Cells.{Banks}
-use Rattle.tiles2d.specs.Colours.{opaque_pixel, indexed_pixel}
+use Rattle.tiles2d.specs.Colours.{HasForm}
+use Rattle.tiles2d.proofs.FormLemmas.{choice_form, zero_form, indexed_form}
 use Rattle.obj2d.specs.declared.layers.ObjectPixel.{ObjectPixel}
 use Rattle.obj2d.specs.declared.objects.Display.{Display}
 use Rattle.obj2d.specs.declared.objects.Object.{Object}
 use Rattle.obj2d.specs.Attributes.{object_at, turn_at, group, width, height, box_width, is_affine, flips_across, flips_down}
-use Rattle.obj2d.specs.Places.{across, down, covers, mirrored, affine_across, affine_down}
+use Rattle.obj2d.specs.Places.{across, down, is_drawn, mirrored, affine_across, affine_down}
 use Rattle.obj2d.specs.ObjectPixels.{object_index, object_colour, place_pixel, turned_pixel, flat_pixel, box_pixel, pixel_of}
 use Rattle.obj2d.specs.ObjectLayer.{SeenObject, IsLayerPixel, IsPixel, seen_at}
 
 -- A pixel has bit 15 set, or is 0.
-
-abbrev HasForm : ℕ → Type 0
-HasForm n = n ≢ 0 → 2 ^ 15 ≤ n
-
-choice_form : (b : Bool) (m n : ℕ) → HasForm m → HasForm n → HasForm (if b then m else n)
-choice_form true m n p q = p
-choice_form false m n p q = q
-
-zero_form : HasForm 0
-zero_form h = absurd (h refl)
-
-opaque_form : (n : ℕ) → HasForm (opaque_pixel n)
-opaque_form n h = omega arith
-
-indexed_form : (f : ℕ → ℕ) (i : ℕ) → HasForm (indexed_pixel f i)
-indexed_form f i = choice_form (i == 0) 0 (opaque_pixel (f i)) zero_form (opaque_form (f i))
 
 place_form : (v : Banks) (palette : List ℕ) (display : Display) (o : Object) (x y : Option ℕ) → HasForm (place_pixel v palette display o x y)
 place_form v palette display o None y = zero_form
@@ -45,7 +30,7 @@ pub seen_form : (v : Banks) (palette oam : List ℕ) (display : Display) (line x
 unfolding seen_at pixel_of
 seen_form v palette oam display line x n =
     let o : Object = object_at oam n in
-    choice_form (covers display o line && nat_lt (across o x) (box_width o)) (box_pixel v palette oam display o (across o x) (down o line)) 0
+    choice_form (is_drawn display.control o line && nat_lt (across o x) (box_width o)) (box_pixel v palette oam display o (across o x) (down o line)) 0
     (box_form v palette oam display o (across o x) (down o line)) zero_form
 
 pub seen_small : (v : Banks) (palette oam : List ℕ) (display : Display) (line x n : ℕ) → (seen_at v palette oam display line x n).priority < 4

@@ -9,7 +9,7 @@ use Rattle.obj2d.specs.declared.layers.ObjectPixel.{ObjectPixel}
 use Rattle.obj2d.specs.declared.objects.Display.{Display}
 use Rattle.obj2d.specs.declared.objects.Object.{Object}
 use Rattle.obj2d.specs.Attributes.{object_at, turn_at, group, widths, shape, object_size, width, left_edge, box_width, object_has_256, palette_number, priority, mode, flips_across, is_affine}
-use Rattle.obj2d.specs.Places.{across, down, covers, mirrored}
+use Rattle.obj2d.specs.Places.{across, down, is_drawn, mirrored}
 use Rattle.obj2d.specs.ObjectPixels.{object_space, object_palette_space, object_index, object_colour, point_pixel, flat_pixel, turned_pixel, box_pixel, pixel_of}
 use Rattle.obj2d.specs.ObjectLayer.{SeenObject, pixel_at, with_object, seen_at}
 use Rattle.obj2d.specs.rows.Strips.{object_tile_row, mirrored_tile, AreTileRows, AreLineIndices, AreObjectPixels, AreBox, strip_seen, IsLaid}
@@ -192,7 +192,7 @@ laid_more o pixels k place p m before between after small there is_p is_m laid h
 
 -- ---- what one object has at a place
 
-pub strip_is_seen : (v : Banks) (palette oam : List ℕ) (display : Display) (line number x : ℕ) (pixels : List ℕ) → covers display (object_at oam number) line ≡ true →
+pub strip_is_seen : (v : Banks) (palette oam : List ℕ) (display : Display) (line number x : ℕ) (pixels : List ℕ) → is_drawn display.control (object_at oam number) line ≡ true →
     AreBox v palette oam display (object_at oam number) (down (object_at oam number) line) pixels →
     strip_seen (object_at oam number) pixels (box_width (object_at oam number)) x ≡ seen_at v palette oam display line x number
 unfolding seen_at pixel_of
@@ -204,26 +204,26 @@ strip_is_seen v palette oam display line number x pixels on are =
       | inr outside ↦ rw (on, outside) refl
     ])
 
-pub nothing_seen : (v : Banks) (palette oam : List ℕ) (display : Display) (line number x : ℕ) (p : ObjectPixel) → covers display (object_at oam number) line ≡ false →
+pub nothing_seen : (v : Banks) (palette oam : List ℕ) (display : Display) (line number x : ℕ) (p : ObjectPixel) → is_drawn display.control (object_at oam number) line ≡ false →
     with_object (seen_at v palette oam display line x number) p ≡ p
 unfolding seen_at pixel_of
 nothing_seen v palette oam display line number x p off = unseen (seen_at v palette oam display line x number) p (rw off refl)
 
 -- an object whose strip is laid over a row
 pub drawn : (v : Banks) (palette oam : List ℕ) (display : Display) (line number : ℕ) (o : Object) (y : ℕ) (pixels : List ℕ) (before after : List ObjectPixel) →
-    o ≡ object_at oam number → covers display o line ≡ true → y ≡ down o line → AreBox v palette oam display o y pixels → IsLaid o pixels (box_width o) before after →
+    o ≡ object_at oam number → is_drawn display.control o line ≡ true → y ≡ down o line → AreBox v palette oam display o y pixels → IsLaid o pixels (box_width o) before after →
     (x : ℕ) → x < 256 → pixel_at after x ≡ with_object (seen_at v palette oam display line x number) (pixel_at before x)
 drawn v palette oam display line number o y pixels before after e on there are laid x small =
-    let P : Object → Type 0 = λ (q : Object). covers display q line ≡ true → AreBox v palette oam display q (down q line) pixels →
+    let P : Object → Type 0 = λ (q : Object). is_drawn display.control q line ≡ true → AreBox v palette oam display q (down q line) pixels →
     strip_seen q pixels (box_width q) x ≡ seen_at v palette oam display line x number in
     let Q : ℕ → Type 0 = λ (n : ℕ). AreBox v palette oam display o n pixels in
     let seen : P o = subst P (sym e) (strip_is_seen v palette oam display line number x pixels) in
     laid x small ∙ ap (λ (s : SeenObject). with_object s (pixel_at before x)) (seen on (subst Q there are))
 
--- and one that covers no part of the line
+-- and one that isn't drawn on the line
 pub not_drawn : (v : Banks) (palette oam : List ℕ) (display : Display) (line number : ℕ) (o : Object) (before : List ObjectPixel) →
-    o ≡ object_at oam number → covers display o line ≡ false →
+    o ≡ object_at oam number → is_drawn display.control o line ≡ false →
     (x : ℕ) → x < 256 → pixel_at before x ≡ with_object (seen_at v palette oam display line x number) (pixel_at before x)
 not_drawn v palette oam display line number o before e off x small =
-    let P : Object → Type 0 = λ (q : Object). covers display q line ≡ false in
+    let P : Object → Type 0 = λ (q : Object). is_drawn display.control q line ≡ false in
     sym (nothing_seen v palette oam display line number x (pixel_at before x) (subst P e off))

@@ -9,7 +9,7 @@ use Rattle.obj2d.specs.declared.objects.Display.{Display}
 use Rattle.obj2d.specs.declared.objects.Object.{Object}
 use Rattle.obj2d.specs.declared.objects.Turn.{Turn}
 use Rattle.obj2d.specs.Attributes.{turn_at, group, is_affine, object_has_256, tile, palette_number, width, height, box_width, flips_across, flips_down}
-use Rattle.obj2d.specs.Places.{across, down, covers, mirrored, affine_across, affine_down}
+use Rattle.obj2d.specs.Places.{across, down, is_drawn, mirrored, affine_across, affine_down}
 
 -- The pixel that one object has at a place of a line (GBATEK, "LCD OBJ - VRAM Character (Tile) Mapping", "DS Video OBJs", "DS Video Extended
 -- Palettes").
@@ -75,7 +75,7 @@ unfoldable pub box_pixel : Banks → List ℕ → List ℕ → Display → Objec
 box_pixel v palette oam display o x y =
     if is_affine o then turned_pixel v palette display o (turn_at oam (group o)) x y else flat_pixel v palette display o x y
 
--- the pixel that an object has at place x of a line: transparent where its box isn't
+-- the pixel that an object has at place x of a line: transparent where its box isn't, or isn't drawn
 unfoldable pub pixel_of : Banks → List ℕ → List ℕ → Display → ℕ → Object → ℕ → ℕ
 pixel_of v palette oam display line o x =
-    if covers display o line && nat_lt (across o x) (box_width o) then box_pixel v palette oam display o (across o x) (down o line) else 0
+    if is_drawn display.control o line && nat_lt (across o x) (box_width o) then box_pixel v palette oam display o (across o x) (down o line) else 0

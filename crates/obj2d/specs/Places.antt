@@ -1,7 +1,6 @@
 use Rattle.std.specs.Prelude.{ℕ, Bool, ◌+◌, ◌-◌, ◌/◌, ◌%◌, ◌==◌, ◌&&◌, not, nat_lt, if◌then◌else◌, ℤ, pos, negsuc, ◌+ℤ◌, ◌-ℤ◌, ◌*ℤ◌, Option, Some, None}
 use Rattle.std.specs.Int.{int_shr}
 use Rattle.ds_base.specs.Bits.{bit}
-use Rattle.obj2d.specs.declared.objects.Display.{Display}
 use Rattle.obj2d.specs.declared.objects.Object.{Object}
 use Rattle.obj2d.specs.declared.objects.Turn.{Turn}
 use Rattle.obj2d.specs.Attributes.{top_edge, left_edge, is_off, mode, width, height, box_width, box_height}
@@ -17,10 +16,14 @@ across o x = (x + 512 - left_edge o) % 512
 abbrev pub down : Object → ℕ → ℕ
 down o line = (line + 256 - top_edge o) % 256
 
--- Without DISPCNT bit 12 no object covers a line, nor does an object that is off. An object of mode 3, a bitmap, isn't drawn, and so covers
--- none here (our choice)
-abbrev pub covers : Display → Object → ℕ → Bool
-covers display o line = bit 12 display.control && (not (is_off o) && (not (mode o == 3) && nat_lt (down o line) (box_height o)))
+-- A box covers the lines from its top edge on, as many as it is high, whatever the object's mode is; that of an object which is off covers
+-- none, and without bit 12 of the engine's DISPCNT none does
+abbrev pub covers : ℕ → Object → ℕ → Bool
+covers control o line = bit 12 control && (not (is_off o) && nat_lt (down o line) (box_height o))
+
+-- an object of mode 3, a bitmap, isn't drawn on the lines that it covers (our choice)
+abbrev pub is_drawn : ℕ → Object → ℕ → Bool
+is_drawn control o line = not (mode o == 3) && covers control o line
 
 -- a place in a row or column of so many pixels, flipped or not
 abbrev pub mirrored : Bool → ℕ → ℕ → ℕ

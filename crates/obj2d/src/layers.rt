@@ -2,12 +2,13 @@
 
 ghost use Rattle.std.specs.Prelude.{◌≡◌, ◌≢◌, ◌<◌, ◌≤◌, ◌+◌, ◌*◌, ℕ, length};
 ghost use Rattle.obj2d.specs.Attributes.{object_at, box_width, priority, mode};
+ghost use Rattle.obj2d.specs.Places.{covers};
 ghost use Rattle.obj2d.specs.ObjectLayer.{SeenObject, IsLayerPixel, IsPixel, pixel_at, blank_pixel, with_object, seen_at, object_pixel};
 ghost use Rattle.obj2d.specs.rows.Strips.{IsLaid};
 
 use crate::attributes::{box_width, mode, object_at, priority};
 use crate::objects::{Display, Object};
-use crate::places::{covers, down, left_edge};
+use crate::places::{covers, down, is_drawn, left_edge};
 use crate::strips::strip;
 use vram_banks::Vram;
 
@@ -102,12 +103,22 @@ fn draw(
     ensures { (x : ℕ) → x < 256 → pixel_at into.new.pixels x ≡ with_object (seen_at vram.now palette.now oam.now display.now line x number) (pixel_at into.old.pixels x) }
 {
     let object = object_at(oam, number);
-    if covers(display, &object, line) {
+    if is_drawn(display.control, &object, line) {
         let mut pixels = [0; 128];
         let y = down(&object, line);
         strip(vram, palette, oam, display, &object, y, &mut pixels);
         lay(&object, &pixels, into);
     }
+}
+
+/// Whether the object of a number covers a line of the screen: its box does, and it isn't off, and bit 12 of `control`, the engine's DISPCNT, is
+/// set. Its mode counts for nothing: an object of mode 3, a bitmap, covers lines too, though it isn't drawn. `oam` is as for `object_row`.
+pub fn covers_line(oam: &[u8], control: u32, number: usize, line: u8) -> bool
+    requires oam { length oam.now ≡ 1024 }
+    requires known { number < 128 }
+    ensures { result ≡ covers control (object_at oam.now number) line }
+{
+    covers(control, &object_at(oam, number), line)
 }
 
 /// Draws the row of an engine's objects at a line of the screen: at each place the colour of the object that is opaque there with the

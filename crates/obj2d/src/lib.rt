@@ -12,4 +12,4 @@ mod pixels;
 mod places;
 mod strips;
 
-pub use layers::{ObjectPixel, ObjectRow, object_row};
+pub use layers::{ObjectPixel, ObjectRow, covers_line, object_row};

@@ -3,10 +3,10 @@
 ghost use Rattle.std.specs.Prelude.{◌≡◌, ◌<◌, ◌≤◌, ◌+◌, ◌*◌, ◌/◌, ◌^◌, ◌+ℤ◌, ◌*ℤ◌, ◌≤ℤ◌, ℤ, pos, negsuc, Option, Some, None, IfSome};
 ghost use Rattle.std.specs.Int.{int_shr};
 ghost use Rattle.obj2d.specs.Attributes.{left_edge, width, height, box_width, box_height};
-ghost use Rattle.obj2d.specs.Places.{down, covers, mirrored, from_middle, box_coordinate, inside, affine_across, affine_down};
+ghost use Rattle.obj2d.specs.Places.{down, covers, is_drawn, mirrored, from_middle, box_coordinate, inside, affine_across, affine_down};
 
 use crate::attributes::{box_height, box_width, height, is_off, mode, width};
-use crate::objects::{Display, Object, Turn};
+use crate::objects::{Object, Turn};
 
 /// The object's X, of nine bits.
 pub fn left_edge(object: &Object) -> usize
@@ -25,13 +25,17 @@ pub fn down(object: &Object, line: u8) -> usize
 }
 
 /// Whether the object's box covers the line.
-pub fn covers(display: &Display, object: &Object, line: u8) -> bool
-    ensures { result ≡ covers display.now object.now line }
+pub fn covers(control: u32, object: &Object, line: u8) -> bool
+    ensures { result ≡ covers control object.now line }
 {
-    (display.control >> 12) % 2 == 1
-        && !is_off(object)
-        && mode(object) != 3
-        && down(object, line) < box_height(object)
+    (control >> 12) % 2 == 1 && !is_off(object) && down(object, line) < box_height(object)
+}
+
+/// Whether the object is drawn on the line.
+pub fn is_drawn(control: u32, object: &Object, line: u8) -> bool
+    ensures { result ≡ is_drawn control object.now line }
+{
+    mode(object) != 3 && covers(control, object, line)
 }
 
 /// A place in a row or column of so many pixels, flipped or not.

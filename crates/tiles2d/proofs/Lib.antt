@@ -1,1 +1,2 @@
 pub mod NibbleLemmas
+pub mod FormLemmas

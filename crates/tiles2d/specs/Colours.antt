@@ -1,4 +1,4 @@
-use Rattle.std.specs.Prelude.{ℕ, ◌+◌, ◌*◌, ◌%◌, ◌^◌, ◌==◌, if◌then◌else◌, List}
+use Rattle.std.specs.Prelude.{ℕ, ◌≢◌, ◌≤◌, ◌+◌, ◌*◌, ◌%◌, ◌^◌, ◌==◌, if◌then◌else◌, List}
 use Rattle.ds_base.specs.Numbers.{number_at}
 use Rattle.ds_base.specs.declared.memories.Space.{Space}
 use Rattle.ds_base.specs.declared.memories.Width.TheVariants.{Half}
@@ -10,6 +10,10 @@ use Rattle.vram_banks.specs.Cells.{Banks, vram_value}
 -- where a palette's bit 15 is unused). A transparent pixel is 0
 abbrev pub opaque_pixel : ℕ → ℕ
 opaque_pixel colour = colour % 2 ^ 15 + 2 ^ 15
+
+-- so a pixel is 0, or has bit 15 set
+abbrev pub HasForm : ℕ → Type 0
+HasForm pixel = pixel ≢ 0 → 2 ^ 15 ≤ pixel
 
 -- the pixel of a colour's index in a palette: index 0 is transparent, whatever the palette has there (GBATEK, "LCD Color Palettes")
 abbrev pub indexed_pixel : (ℕ → ℕ) → ℕ → ℕ

@@ -2,6 +2,7 @@
 
 ghost use Rattle.std.specs.Prelude.{◌≡◌, ◌<◌, ◌≤◌, ◌+◌, ◌*◌, ◌^◌, ◌⊎◌, ◌+ℤ◌, ◌*ℤ◌, ◌≤ℤ◌, ℤ, pos, negsuc, ℕ, Option, Some, None, IfSome, length, slice_index};
 ghost use Rattle.std.specs.Int.{int_shr};
+ghost use Rattle.tiles2d.specs.Colours.{HasForm};
 ghost use Rattle.bg2d.specs.AffinePixels.{affine_size, affine_coordinate, place_within, affine_point_pixel, affine_place_pixel, affine_pixel};
 
 use crate::bases::{background_space, map_base, tile_base};
@@ -126,7 +127,8 @@ fn affine_pixel(vram: &Vram, palette: &[u8], layer: &AffineLayer, x: u8) -> u16
 /// BG Rotation/Scaling"). `palette` has the 512 bytes of the engine's background palette.
 pub fn affine_row(vram: &Vram, palette: &[u8], layer: &AffineLayer, into: &mut Row)
     requires { length palette.now ≡ 512 }
-    ensures { (x : ℕ) → x < 256 → slice_index into.new.pixels x ≡ affine_pixel vram.now palette.now layer.now x }
+    ensures row { (x : ℕ) → x < 256 → slice_index into.new.pixels x ≡ affine_pixel vram.now palette.now layer.now x }
+    ensures form { (x : ℕ) → x < 256 → HasForm (slice_index into.new.pixels x) }
 {
     for x in 0..256usize {
         into.pixels[x] = affine_pixel(vram, palette, layer, x as u8);

@@ -9,7 +9,7 @@ pub struct Row {
 }
 
 /// A text background, by its ports (GBATEK, "LCD I/O BG Control", "LCD I/O BG Scrolling").
-#[derive(Clone, Copy, PartialEq, Eq, Debug)]
+#[derive(Clone, Copy, PartialEq, Eq)]
 pub struct TextLayer {
     /// 0 for engine A; any other number is engine B.
     pub engine: u8,
@@ -26,7 +26,7 @@ pub struct TextLayer {
 }
 
 /// An affine background, by its ports (GBATEK, "LCD I/O BG Control", "LCD I/O BG Rotation/Scaling").
-#[derive(Clone, Copy, PartialEq, Eq, Debug)]
+#[derive(Clone, Copy, PartialEq, Eq)]
 pub struct AffineLayer {
     /// 0 for engine A; any other number is engine B.
     pub engine: u8,

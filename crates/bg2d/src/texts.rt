@@ -3,7 +3,7 @@
 ghost use Rattle.std.specs.Prelude.{◌≡◌, ◌<◌, ◌≤◌, ◌+◌, ◌-◌, ◌*◌, ◌/◌, ◌%◌, ◌^◌, ℕ, Bool, true, false, length, slice_index, slice_range};
 ghost use Rattle.ds_base.specs.Bits.{bits, bit};
 ghost use Rattle.bg2d.specs.TextPixels.{text_width, text_height, has_256, palette_slot, background_palette_space, text_entry, text_colour, text_pixel};
-ghost use Rattle.tiles2d.specs.Colours.{indexed_pixel};
+ghost use Rattle.tiles2d.specs.Colours.{indexed_pixel, HasForm};
 ghost use Rattle.tiles2d.specs.Tiles.{flipped};
 ghost use Rattle.bg2d.specs.rows.Tiling.{tile_row, AreEntries, ArePacked, AreIndices, AreNarrow, ArePainted};
 
@@ -221,7 +221,8 @@ fn clip(pixels: &[u16; 264], fine: usize, into: &mut [u16; 256])
 /// engine's background palette.
 pub fn text_row(vram: &Vram, palette: &[u8], layer: &TextLayer, line: u8, into: &mut Row)
     requires { length palette.now ≡ 512 }
-    ensures { (x : ℕ) → x < 256 → slice_index into.new.pixels x ≡ text_pixel vram.now palette.now layer.now line x }
+    ensures row { (x : ℕ) → x < 256 → slice_index into.new.pixels x ≡ text_pixel vram.now palette.now layer.now line x }
+    ensures form { (x : ℕ) → x < 256 → HasForm (slice_index into.new.pixels x) }
 {
     let y = (line as u32 + layer.down as u32) % text_height(layer);
     let first = layer.across as u32 % text_width(layer) / 8 * 8;

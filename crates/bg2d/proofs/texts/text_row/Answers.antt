@@ -1,13 +1,15 @@
-use Rattle.std.proofs.Common.{ℕ, List, ◌+◌, ◌*◌, ◌/◌, ◌%◌, ap, ◌∙◌, get_or, arith}
+use Rattle.std.proofs.Common.{ℕ, List, ◌+◌, ◌*◌, ◌/◌, ◌%◌, ap, sym, subst, ◌∙◌, get_or, arith}
 use Rattle.vram_banks.specs.Cells.{Banks}
 use Rattle.bg2d.specs.declared.layers.TextLayer.{TextLayer}
 use Rattle.bg2d.specs.TextPixels.{text_width, text_height, text_entry}
 use Rattle.bg2d.specs.rows.Tiling.{tiled_pixel, AreEntries}
+use Rattle.tiles2d.specs.Colours.{HasForm}
+use Rattle.bg2d.proofs.FormLemmas.{text_form}
 use Rattle.bg2d.proofs.TilingLemmas.{painted_is_tiled, tiled_is_text, index_of_range}
 use Rattle.bg2d.proofs.texts.text_row.Goals as goal
 
-pub returns : goal.returns
-returns c = λ x lt.
+pub returns-clause-row : goal.returns-clause-row
+returns-clause-row c = λ x lt.
     let v : Banks = c.args.vram.now in
     let palette : List ℕ = c.args.palette.now in
     let layer : TextLayer = c.args.layer.now in
@@ -25,3 +27,7 @@ returns c = λ x lt.
     ∙ painted_is_tiled v palette layer (down % c.text_height.result) fine x entries indices pixels (omega arith) c.text_indices.ensures.value c.paint.ensures
     ∙ ap (λ (height : ℕ). tiled_pixel v palette layer (down % height) entries fine x) c.text_height.ensures
     ∙ tiled_is_text v palette layer c.args.line x entries lt are
+
+pub returns-clause-form : goal.returns-clause-form
+returns-clause-form c = λ x lt.
+    subst HasForm (sym (returns-clause-row c x lt)) (text_form c.args.vram.now c.args.palette.now c.args.layer.now c.args.line x)

@@ -1,0 +1,32 @@
+use Rattle.std.proofs.Common.{ℕ, ◌≡◌, ◌≤◌, ◌^◌, ◌/◌, ◌+◌, ◌*◌, ◌%◌, List}
+use Rattle.std.specs.Prelude.{Option, Some, None}
+use Rattle.ds_base.specs.Bits.{bit}
+use Rattle.vram_banks.specs.Cells.{Banks, vram_byte}
+use Rattle.tiles2d.specs.Colours.{palette_colour, HasForm}
+use Rattle.tiles2d.specs.Tiles.{index_of_256, flipped}
+use Rattle.tiles2d.proofs.FormLemmas.{zero_form, indexed_form}
+use Rattle.bg2d.specs.declared.layers.TextLayer.{TextLayer}
+use Rattle.bg2d.specs.declared.layers.AffineLayer.{AffineLayer}
+use Rattle.bg2d.specs.Bases.{background_space, map_base, tile_base}
+use Rattle.bg2d.specs.TextPixels.{text_width, text_height, text_entry, text_index, text_colour, text_pixel}
+use Rattle.bg2d.specs.AffinePixels.{affine_size, affine_coordinate, place_within, affine_point_pixel, affine_place_pixel, affine_pixel}
+
+-- A pixel has bit 15 set, or is 0.
+
+pub text_form : (v : Banks) (palette : List ℕ) (layer : TextLayer) (line x : ℕ) → HasForm (text_pixel v palette layer line x)
+unfolding text_pixel
+text_form v palette layer line x =
+    indexed_form (text_colour v palette layer (text_entry v layer ((x + layer.across) % text_width layer) ((line + layer.down) % text_height layer))) _
+
+point_form : (v : Banks) (palette : List ℕ) (layer : AffineLayer) (x y : ℕ) → HasForm (affine_point_pixel v palette layer x y)
+unfolding affine_point_pixel
+point_form v palette layer x y = indexed_form (palette_colour palette) _
+
+place_form : (v : Banks) (palette : List ℕ) (layer : AffineLayer) (x y : Option ℕ) → HasForm (affine_place_pixel v palette layer x y)
+place_form v palette layer None y = zero_form
+place_form v palette layer (Some x) None = zero_form
+place_form v palette layer (Some x) (Some y) = point_form v palette layer x y
+
+pub affine_form : (v : Banks) (palette : List ℕ) (layer : AffineLayer) (x : ℕ) → HasForm (affine_pixel v palette layer x)
+unfolding affine_pixel
+affine_form v palette layer x = place_form v palette layer _ _

@@ -13,6 +13,3 @@ mod seconds;
 
 pub use effects::{blend, brighten, darken, master};
 pub use nibbles::unpack4;
-
-#[cfg(test)]
-mod tests;

@@ -13,7 +13,7 @@ use crate::strips::strip;
 use vram_banks::Vram;
 
 /// What all objects together have at a pixel.
-#[derive(Clone, Copy, PartialEq, Eq, Debug)]
+#[derive(Clone, Copy, PartialEq, Eq)]
 pub struct ObjectPixel {
     /// Red, green and blue in bits 0 to 4, 5 to 9 and 10 to 14, and bit 15 set where an object is opaque; 0 where none is.
     pub colour: u16,

@@ -1,6 +1,0 @@
-//! Tests of ARM9's step on rows that were worked by hand from the ARM Architecture Reference Manual and the ARM946E-S manual. Nothing
-//! stands on this crate.
-#![tactic(auto)]
-
-#[cfg(test)]
-mod tests;

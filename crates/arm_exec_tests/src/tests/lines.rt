@@ -1,0 +1,409 @@
+//! What a line of a table says, and how it is tried.
+
+use super::buses::RefusingBus;
+use arm_core::{Bus, Core, FlatBus, Stepped, Touch, footprint};
+use arm_words::{Instr, decode_arm, decode_thumb};
+use arm7_exec::step7;
+use arm9_exec::step9;
+use cp15_tcm::Cp15;
+use ds_base::{LeftKind, Proc, Stop, Width};
+use std::alloc::{AllocError, Global};
+use std::process::Abort;
+
+/// Places among the 37 words beside r0 to r12 of System mode: r8 to r12 of FIQ; r13 and r14 of each bank, System's without a name; CPSR;
+/// the SPSRs.
+pub const R8_FIQ: usize = 13;
+
+pub const R12_FIQ: usize = 17;
+
+pub const SP: usize = 18;
+
+pub const LR: usize = 19;
+
+pub const LR_FIQ: usize = 21;
+
+pub const SP_SVC: usize = 22;
+
+pub const LR_SVC: usize = 23;
+
+pub const LR_ABT: usize = 25;
+
+pub const SP_IRQ: usize = 26;
+
+pub const LR_IRQ: usize = 27;
+
+pub const SP_UND: usize = 28;
+
+pub const LR_UND: usize = 29;
+
+pub const PC: usize = 30;
+
+pub const CPSR: usize = 31;
+
+pub const SPSR_SVC: usize = 33;
+
+pub const SPSR_ABT: usize = 34;
+
+pub const SPSR_IRQ: usize = 35;
+
+pub const SPSR_UND: usize = 36;
+
+/// Words of memory, which the rows read: the address and the word. All others of its 200h bytes, which stand again and again, are 0.
+const WORDS: [(u32, u32); 9] = [
+    (0x00, 0x4433_2211),
+    (0x08, 0x8483_8281),
+    (0x40, 7),
+    (0x44, 9),
+    (0x48, 0x183),
+    (0x4C, 0x1A2),
+    (0x104, 0x0104_A1A1),
+    (0x108, 0x0108_B2B2),
+    (0x10C, 0x010C_C3C3),
+];
+
+/// CP15's numbers at boot: the control register, DTCM's and ITCM's.
+const BOOT: [u32; 3] = [0x0005_2078, 0x0300_000A, 0x20];
+
+/// What a step may leave wrong beside its words, whose numbers are 1 and their places.
+const WRONG_END: u32 = 40;
+
+const WRONG_MEMORY: u32 = 41;
+
+const WRONG_CP15: u32 = 42;
+
+const WRONG_REACH: u32 = 43;
+
+/// A line of a table. Lines of a row stand in this order: the state before, the instruction, what the step leaves, and what it comes to.
+#[derive(Clone, Copy)]
+pub enum Line {
+    /// CPSR before the step, which is System mode in ARM state or, for a half, Thumb state without flags where no line says another.
+    Cpsr(u32),
+    /// N, Z, C and V before it, beside System mode.
+    Nzcv(u32),
+    /// The SPSR of its mode before it, 0 where no line says another.
+    Spsr(u32),
+    /// CP15's control register, and DTCM's and ITCM's, before it, which are those of boot where no line says others.
+    Cp15(u32, u32, u32),
+    /// The interrupt line is up.
+    Irq,
+    /// Where the instruction stands, 100h where no line says another place.
+    At(u32),
+    /// The word to which the bus refuses writes.
+    Refuses(u32),
+    /// A register before it, as the mode sees it. All others are those of a boot at 100h with stacks at 0.
+    R(u8, u32),
+    /// The word that is stepped.
+    Arm(u32),
+    /// The half that is stepped.
+    Thumb(u32),
+    /// What the step leaves of a word of the 37, by its place. Words that no line names stay, and r15 goes on to the next instruction.
+    To(usize, u32),
+    /// The same of ARM7's step alone.
+    To7(usize, u32),
+    /// The same of ARM9's step alone.
+    To9(usize, u32),
+    /// N, Z, C and V after it, beside the rest of CPSR before it.
+    Flags(u32),
+    /// r15 after it.
+    Pc(u32),
+    /// r15 after an exception's entry, from the base of the vectors: 0 on ARM7, FFFF0000h on ARM9.
+    Vector(u32),
+    /// A word of memory after it. Words that no line names stay.
+    Mem(u32, u32),
+    /// The same of ARM7's step alone.
+    Mem7(u32, u32),
+    /// The same of ARM9's step alone.
+    Mem9(u32, u32),
+    /// CP15's numbers after it, which stay where no line says others.
+    Kept(u32, u32, u32),
+    /// What it costs on ARM7 and on ARM9.
+    Both(u32, u32),
+    /// What it costs on ARM7; the row isn't ARM9's.
+    Seven(u32),
+    /// What it costs on ARM9; the row isn't ARM7's.
+    Nine(u32),
+    /// It halts, on ARM9 alone, and costs so much.
+    Halts(u32),
+    /// It is left out on both, with this value.
+    Stops(LeftKind, u32),
+    /// The same on ARM9 alone.
+    Stops9(LeftKind, u32),
+    /// The first byte that its accesses of data reach, and how many there are, which is told before the step. The row asks nothing else.
+    Reaches(u32, u32),
+    /// The same on ARM7 alone.
+    Reaches7(u32, u32),
+    /// The same on ARM9 alone.
+    Reaches9(u32, u32),
+}
+
+/// A step that is tried.
+#[derive(Drop)]
+struct Case {
+    proc: Proc,
+    core: Core,
+    cp: Cp15,
+    bus: RefusingBus,
+    at: u32,
+    irq: bool,
+    /// What it came to, and the bytes that it was to reach, where it is an instruction.
+    found: Stepped,
+    touch: Option<Touch>,
+    /// What it must leave: the 37 words, memory, and CP15's numbers.
+    words: [u32; 37],
+    memory: FlatBus,
+    kept: [u32; 3],
+}
+
+/// Memory before a step.
+fn memory(alloc: Global) -> Result<FlatBus, AllocError> {
+    let mut bus = FlatBus::new(vec![in alloc; 0; 0x200]?);
+    for (at, word) in WORDS {
+        let _ = bus.write(at, Width::Word, word);
+    }
+    Ok(bus)
+}
+
+/// CP15's numbers.
+fn numbers(cp: &Cp15) -> [u32; 3] {
+    [cp.mrc(0, 1, 0, 0), cp.mrc(0, 9, 1, 0), cp.mrc(0, 9, 1, 1)]
+}
+
+/// A step of a processor, of which the rows take what they see and no clause.
+fn step(proc: Proc, core: &mut Core, cp: &mut Cp15, bus: &mut RefusingBus, irq: bool) -> Stepped {
+    match proc {
+        Proc::Seven => step7(core, bus, irq),
+        Proc::Nine => step9(core, cp, bus, irq),
+    }
+}
+
+/// The bytes that a word or a half of a processor's architecture reaches, of which the rows take what they see and no clause; none where
+/// it has no instruction.
+fn touched(proc: Proc, core: &Core, code: u32, width: Width) -> Option<Touch> {
+    let arch = proc.architecture();
+    let instr: Instr = match width {
+        Width::Half => decode_thumb(arch, (code % 0x1_0000) as u16)?,
+        _ => decode_arm(arch, code)?,
+    };
+    Some(footprint(core, &instr))
+}
+
+impl Case {
+    fn new(alloc: Global, proc: Proc) -> Result<Case, AllocError> {
+        let mut core = Core::boot(proc.architecture(), 0x100, [0; 3]);
+        core.registers.set_cpsr(0x1F);
+        let flat = memory(alloc)?;
+        Ok(Case {
+            proc,
+            core,
+            cp: Cp15::boot(),
+            bus: RefusingBus { flat, refused: 1 },
+            at: 0x100,
+            irq: false,
+            found: Stepped::Cost(0),
+            touch: None,
+            words: [0; 37],
+            memory: memory(alloc)?,
+            kept: BOOT,
+        })
+    }
+
+    /// The state before.
+    fn prepare(&mut self, line: Line) {
+        match line {
+            Line::Cpsr(cpsr) => self.core.registers.set_cpsr(cpsr),
+            Line::Nzcv(flags) => self.core.registers.set_cpsr(
+                ((flags % 16) << 28) + self.core.registers.cpsr() % 0x1000_0000,
+            ),
+            Line::Spsr(spsr) => self.core.registers.write_spsr(0xFFFF_FFFF, spsr),
+            Line::Cp15(control, dtcm, itcm) => {
+                let _ = self.cp.mcr(0, 1, 0, 0, control);
+                let _ = self.cp.mcr(0, 9, 1, 0, dtcm);
+                let _ = self.cp.mcr(0, 9, 1, 1, itcm);
+                self.kept = [control, dtcm, itcm];
+            }
+            Line::Irq => self.irq = true,
+            Line::At(at) => self.at = at,
+            Line::Refuses(at) => self.bus.refused = at,
+            Line::R(r, value) => {
+                if r < 16 {
+                    self.core.registers.set(r, value);
+                }
+            }
+            _ => {}
+        }
+    }
+
+    /// The instruction, which is stepped.
+    fn instruct(&mut self, line: Line) {
+        match line {
+            Line::Arm(word) => self.go(word, Width::Word),
+            Line::Thumb(half) => {
+                if !self.core.registers.is_thumb() {
+                    let cpsr = self.core.registers.cpsr();
+                    self.core.registers.set_cpsr(cpsr | 0x20);
+                }
+                self.go(half, Width::Half);
+            }
+            _ => {}
+        }
+    }
+
+    fn go(&mut self, code: u32, width: Width) {
+        let _ = self.bus.flat.write(self.at, width, code);
+        let _ = self.memory.write(self.at, width, code);
+        self.core.registers.jump(self.at);
+        self.words = self.core.registers();
+        self.words[PC] = self.at.wrapping_add(width.bytes());
+        self.touch = touched(self.proc, &self.core, code, width);
+        self.found = step(
+            self.proc,
+            &mut self.core,
+            &mut self.cp,
+            &mut self.bus,
+            self.irq,
+        );
+    }
+
+    fn put(&mut self, place: usize, value: u32) {
+        if let Some(word) = self.words.get_mut(place) {
+            *word = value;
+        }
+    }
+
+    /// What it must leave of the words.
+    fn expect(&mut self, line: Line) {
+        let seven = self.proc == Proc::Seven;
+        match line {
+            Line::To(place, value) => self.put(place, value),
+            Line::To7(place, value) if seven => self.put(place, value),
+            Line::To9(place, value) if !seven => self.put(place, value),
+            Line::Flags(flags) => {
+                self.words[CPSR] = ((flags % 16) << 28) + self.words[CPSR] % 0x1000_0000;
+            }
+            Line::Pc(pc) => self.words[PC] = pc,
+            Line::Vector(vector) => {
+                self.words[PC] = if seven { vector } else { vector | 0xFFFF_0000 };
+            }
+            _ => {}
+        }
+    }
+
+    /// What it must leave of memory and CP15.
+    fn expect_memory(&mut self, line: Line) {
+        let seven = self.proc == Proc::Seven;
+        match line {
+            Line::Mem(at, value) => {
+                let _ = self.memory.write(at, Width::Word, value);
+            }
+            Line::Mem7(at, value) if seven => {
+                let _ = self.memory.write(at, Width::Word, value);
+            }
+            Line::Mem9(at, value) if !seven => {
+                let _ = self.memory.write(at, Width::Word, value);
+            }
+            Line::Kept(control, dtcm, itcm) => self.kept = [control, dtcm, itcm],
+            _ => {}
+        }
+    }
+
+    /// What is wrong where a step was to come to this: 0 where nothing is.
+    fn fault(&self, wanted: Stepped) -> u32 {
+        let mut place = 0u32;
+        for (got, word) in self.core.registers().iter().zip(self.words.iter()) {
+            place = place.wrapping_add(1);
+            if got != word {
+                return place;
+            }
+        }
+        if self.found != wanted {
+            return WRONG_END;
+        }
+        if self.bus.flat.bytes() != self.memory.bytes() {
+            return WRONG_MEMORY;
+        }
+        if numbers(&self.cp) != self.kept {
+            return WRONG_CP15;
+        }
+        0
+    }
+
+    /// What is wrong where these bytes were to be reached.
+    fn reach_fault(&self, wanted: Option<Touch>) -> u32 {
+        if wanted.is_some() && self.touch != wanted {
+            WRONG_REACH
+        } else {
+            0
+        }
+    }
+}
+
+/// What a row's last line wants of a processor's step, if it is the last and the row is the processor's.
+fn wanted(line: Line, proc: Proc) -> Option<Stepped> {
+    let stop = |kind, value| Some(Stepped::Left(Stop { kind, value }));
+    match (line, proc) {
+        (Line::Both(clocks, _) | Line::Seven(clocks), Proc::Seven) => Some(Stepped::Cost(clocks)),
+        (Line::Both(_, ticks) | Line::Nine(ticks), Proc::Nine) => Some(Stepped::Cost(ticks)),
+        (Line::Halts(ticks), Proc::Nine) => Some(Stepped::Halted(ticks)),
+        (Line::Stops(kind, value), _) => stop(kind, value),
+        (Line::Stops9(kind, value), Proc::Nine) => stop(kind, value),
+        _ => None,
+    }
+}
+
+/// What a row's last line wants of the bytes that are reached, if it is the last and the row is the processor's.
+fn wanted_touch(line: Line, proc: Proc) -> Option<Touch> {
+    let (first, length) = match (line, proc) {
+        (Line::Reaches(first, length), _) => (first, length),
+        (Line::Reaches7(first, length), Proc::Seven) => (first, length),
+        (Line::Reaches9(first, length), Proc::Nine) => (first, length),
+        _ => return None,
+    };
+    if length == 0 {
+        Some(Touch::Nothing)
+    } else {
+        Some(Touch::Span { first, length })
+    }
+}
+
+/// Whether a line is a row's last.
+fn is_last(line: Line) -> bool {
+    matches!(
+        line,
+        Line::Both(..)
+            | Line::Seven(..)
+            | Line::Nine(..)
+            | Line::Halts(..)
+            | Line::Stops(..)
+            | Line::Stops9(..)
+            | Line::Reaches(..)
+            | Line::Reaches7(..)
+            | Line::Reaches9(..)
+    )
+}
+
+/// Tries rows on a processor.
+fn try_on(rt: &impl Abort, alloc: Global, proc: Proc, lines: &[Line]) -> Result<(), AllocError> {
+    let name = if proc == Proc::Seven { 7 } else { 9 };
+    let mut case = Case::new(alloc, proc)?;
+    for (number, &line) in lines.iter().enumerate() {
+        case.prepare(line);
+        case.instruct(line);
+        case.expect(line);
+        case.expect_memory(line);
+        let fault = match wanted(line, proc) {
+            Some(stepped) => case.fault(stepped),
+            None => case.reach_fault(wanted_touch(line, proc)),
+        };
+        assert!(rt; fault == 0, "ARM{name}, line {number}: {fault}");
+        if is_last(line) {
+            case = Case::new(alloc, proc)?;
+        }
+    }
+    Ok(())
+}
+
+/// Tries rows on both processors.
+pub fn try_lines(rt: &impl Abort, alloc: Global, lines: &[Line]) -> Result<(), AllocError> {
+    try_on(rt, alloc, Proc::Seven, lines)?;
+    try_on(rt, alloc, Proc::Nine, lines)
+}

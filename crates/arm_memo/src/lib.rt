@@ -8,6 +8,3 @@ mod decoders;
 mod memos;
 
 pub use decoders::Decoder;
-
-#[cfg(test)]
-mod tests;

@@ -6,8 +6,9 @@ use std::alloc::AllocError;
 
 #[test]
 #[rattlefmt::skip]
-fn branches_go_from_r15(rt: HostRuntime) -> Result<(), AllocError> {
+fn branches_set_r15_and_the_state(rt: HostRuntime) -> Result<(), AllocError> {
     try_lines(&rt, rt.alloc(), &[
+        // branches go from r15
                       Arm(0xEA00_0010), Pc(0x148),                    Both(3, 3), // b forward
                       Arm(0xEAFF_FFFE), Pc(0x100),                    Both(3, 3), // b to itself
                       Arm(0xEA80_0000), Pc(0xFE00_0108),              Both(3, 3), // b as far back as it goes
@@ -21,13 +22,8 @@ fn branches_go_from_r15(rt: HostRuntime) -> Result<(), AllocError> {
         Nzcv(0b0100), Thumb(0xD010),    Pc(0x124),                    Both(3, 3), // beq forward
         Nzcv(0b0100), Thumb(0xD080),    Pc(4),                        Both(3, 3), // beq as far back as it goes
                       Thumb(0xD010),                                  Both(1, 1), // beq without Z
-    ])
-}
 
-#[test]
-#[rattlefmt::skip]
-fn bx_takes_the_state_from_bit_0(rt: HostRuntime) -> Result<(), AllocError> {
-    try_lines(&rt, rt.alloc(), &[
+        // bx takes the state from bit 0
         R(1, 0x148), Arm(0xE12F_FF11), Pc(0x148),                 Both(3, 3), // bx to ARM
         R(1, 0x14B), Arm(0xE12F_FF11), Pc(0x14A), To(CPSR, 0x3F), Both(3, 3), // bx to Thumb
         // bits 1 and 0 are 10
@@ -37,13 +33,8 @@ fn bx_takes_the_state_from_bit_0(rt: HostRuntime) -> Result<(), AllocError> {
         R(1, 0x14B), Thumb(0x4708),    Pc(0x14A),                 Both(3, 3), // bx from Thumb to Thumb
         // r15 reads as 106h
         At(0x102),   Thumb(0x4778),    Pc(0x104), To(CPSR, 0x1F), Both(3, 3), // bx r15 from Thumb
-    ])
-}
 
-#[test]
-#[rattlefmt::skip]
-fn the_halves_of_bl_go_by_r14(rt: HostRuntime) -> Result<(), AllocError> {
-    try_lines(&rt, rt.alloc(), &[
+        // the halves of bl go by r14
                                   Thumb(0xF001), To(LR, 0x1104),            Both(1, 1), // blh by 1,000h
                                   Thumb(0xF7FF), To(LR, 0xFFFF_F104),       Both(1, 1), // blh by -1,000h
                                   Thumb(0xF400), To(LR, 0xFFC0_0104),       Both(1, 1), // blh by -400,000h
@@ -51,26 +42,16 @@ fn the_halves_of_bl_go_by_r14(rt: HostRuntime) -> Result<(), AllocError> {
         R(14, 0x104),             Thumb(0xFFFF), To(LR, 0x103), Pc(0x1102), Both(3, 3), // bll by FFEh
         // Thumb stays, and bit 0 is cleared
         R(14, 0x1105),            Thumb(0xF800), To(LR, 0x103), Pc(0x1104), Both(3, 3), // bll from an odd r14
-    ])
-}
 
-#[test]
-#[rattlefmt::skip]
-fn literals_and_addresses_go_from_r15_aligned(rt: HostRuntime) -> Result<(), AllocError> {
-    try_lines(&rt, rt.alloc(), &[
+        // literals and addresses go from r15 aligned
                    Thumb(0x4801), To(0, 0x108_B2B2), Both(3, 2), // ldr r0, [r15, #0x4] at 100h
         At(0x10A), Thumb(0x4F00), To(7, 0x10C_C3C3), Both(3, 2), // ldr r7, [r15, #0x0] at 10Ah
         // 500h stands where 100h does
                    Thumb(0x48FF), To(0, 0x48FF),     Both(3, 2), // ldr r0, [r15, #0x3fc]
                    Thumb(0xA001), To(0, 0x108),      Both(1, 1), // add r0, r15, #0x4 at 100h
         At(0x102), Thumb(0xA7FF), To(7, 0x500),      Both(1, 1), // add r7, r15, #0x3fc at 102h
-    ])
-}
 
-#[test]
-#[rattlefmt::skip]
-fn blx_goes_to_either_state(rt: HostRuntime) -> Result<(), AllocError> {
-    try_lines(&rt, rt.alloc(), &[
+        // blx goes to either state
         R(1, 0x200),  Arm(0xE12F_FF31), Pc(0x200), To(LR, 0x104),                       Nine(3), // blx r1
         R(1, 0x201),  Arm(0xE12F_FF31), Pc(0x200), To(LR, 0x104), To(CPSR, 0x3F),       Nine(3), // blx r1
         R(1, 0x202),  Arm(0xE12F_FF31), Pc(0x200), To(LR, 0x104),                       Nine(3), // blx r1
@@ -83,13 +64,8 @@ fn blx_goes_to_either_state(rt: HostRuntime) -> Result<(), AllocError> {
                       Arm(0xFB00_003E), Pc(0x202), To(LR, 0x104), To(CPSR, 0x3F),       Nine(3), // blx, H
                       Arm(0xFAFF_FFFE), Pc(0x100), To(LR, 0x104), To(CPSR, 0x3F),       Nine(3), // blx back
                       Arm(0xFBFF_FFBD), Pc(0xFFFF_FFFE), To(LR, 0x104), To(CPSR, 0x3F), Nine(3), // blx back, H
-    ])
-}
 
-#[test]
-#[rattlefmt::skip]
-fn thumb_code_links_with_bit_0(rt: HostRuntime) -> Result<(), AllocError> {
-    try_lines(&rt, rt.alloc(), &[
+        // thumb code links with bit 0
         R(1, 0x200),        Thumb(0x4788), Pc(0x200), To(LR, 0x103), To(CPSR, 0x1F), Nine(3), // blx r1
         R(1, 0x201),        Thumb(0x4788), Pc(0x200), To(LR, 0x103),                 Nine(3), // blx r1
         R(14, 0x301),       Thumb(0x47F0), Pc(0x300), To(LR, 0x103),                 Nine(3), // blx r14
@@ -98,13 +74,8 @@ fn thumb_code_links_with_bit_0(rt: HostRuntime) -> Result<(), AllocError> {
         R(14, 0xFFFF_F010), Thumb(0xEFFE), Pc(0xC), To(LR, 0x103), To(CPSR, 0x1F),   Nine(3), // blxl #0x7fe
         // the second half of BL stays in Thumb state
         R(14, 0x1E2),       Thumb(0xF810), Pc(0x202), To(LR, 0x103),                 Both(3, 3), // bll #0x10
-    ])
-}
 
-#[test]
-#[rattlefmt::skip]
-fn a_load_of_r15_sets_the_state_on_armv5(rt: HostRuntime) -> Result<(), AllocError> {
-    try_lines(&rt, rt.alloc(), &[
+        // a load of r15 sets the state on armv5
         R(1, 0x48),          Arm(0xE591_F000), To7(PC, 0x180), To9(PC, 0x182), To9(CPSR, 0x3F),              Both(5, 4), // ldr r15, [r1]
         R(1, 0x4C),          Arm(0xE591_F000), Pc(0x1A0),                                                    Both(5, 4), // ldr r15, [r1]
         R(1, 0x48),          Arm(0xE4B1_F004), To(1, 0x4C), To7(PC, 0x180), To9(PC, 0x182), To9(CPSR, 0x3F), Both(5, 4), // ldrt r15, [r1], #4
@@ -118,13 +89,8 @@ fn a_load_of_r15_sets_the_state_on_armv5(rt: HostRuntime) -> Result<(), AllocErr
         // so does data processing
         R(1, 0x183),         Arm(0xE1A0_F001), Pc(0x180),                                                    Both(3, 3), // mov r15, r1
         R(1, 0x182),         Thumb(0x468F),    Pc(0x182),                                                    Both(3, 3), // movh r15, r1
-    ])
-}
 
-#[test]
-#[rattlefmt::skip]
-fn a_load_of_r15_with_a_hat_restores_the_state(rt: HostRuntime) -> Result<(), AllocError> {
-    try_lines(&rt, rt.alloc(), &[
+        // a load of r15 with a hat restores the state
         Cpsr(0x13), Spsr(0x3F), R(1, 0x4C), Arm(0xE8D1_8000), Pc(0x1A2), To(CPSR, 0x3F),                       Both(5, 4), // ldmia r1, {r15}^
         Cpsr(0x13), Spsr(0x1F), R(1, 0x48), Arm(0xE8D1_8000), Pc(0x180), To(CPSR, 0x1F),                       Both(5, 4), // ldmia r1, {r15}^
         // a mode without SPSR restores nothing, and on ARMv5 bit 0 sets T

@@ -6,8 +6,9 @@ use std::alloc::AllocError;
 
 #[test]
 #[rattlefmt::skip]
-fn operations_give_their_results_and_flags(rt: HostRuntime) -> Result<(), AllocError> {
+fn data_processing_gives_results_and_flags(rt: HostRuntime) -> Result<(), AllocError> {
     try_lines(&rt, rt.alloc(), &[
+        // operations give their results and flags
         Nzcv(0b0011), R(0, 7), R(1, 0xF0F0_F0F0), R(2, 0x8000_00FF), Arm(0xE011_0002), To(0, 0x8000_00F0), Flags(0b1011), Both(1, 1), // ands
         Nzcv(0b0000), R(0, 7), R(1, 0xFF), R(2, 0xFF),               Arm(0xE031_0002), To(0, 0), Flags(0b0100),           Both(1, 1), // eors
         Nzcv(0b0000), R(0, 7), R(1, 5), R(2, 5),                     Arm(0xE051_0002), To(0, 0), Flags(0b0110),           Both(1, 1), // subs
@@ -49,13 +50,28 @@ fn operations_give_their_results_and_flags(rt: HostRuntime) -> Result<(), AllocE
         // an immediate's carry goes to logical results alone
         Nzcv(0b0000), R(0, 7), R(1, 0xFFFF_FFFF), R(2, 0),           Arm(0xE211_04FF), To(0, 0xFF00_0000), Flags(0b1010), Both(1, 1), // ands #0xff000000
         Nzcv(0b0010), R(0, 7), R(1, 1), R(2, 0),                     Arm(0xE291_04FF), To(0, 0xFF00_0001), Flags(0b1000), Both(1, 1), // adds #0xff000000
+
+        // a comparison writes no r15 and costs 1
+        // bits 15 to 12 of a comparison aren't asked for
+        Nzcv(0b0000), R(1, 5), R(2, 5),     Arm(0xE151_F002), Flags(0b0110), Both(1, 1), // cmp r1, r2
+        Nzcv(0b0000), R(1, 5), R(2, 5),     Arm(0xE171_F002), Flags(0b0000), Both(1, 1), // cmn r1, r2
+        Nzcv(0b1011), R(1, 5), R(2, 2),     Arm(0xE111_F002), Flags(0b0111), Both(1, 1), // tst r1, r2
+        Nzcv(0b1011), R(1, 5), R(2, 5),     Arm(0xE131_F002), Flags(0b0111), Both(1, 1), // teq r1, r2
+        // r15 reads as 108h, in Thumb state as 104h
+        Nzcv(0b0000), R(1, 0x109),          Arm(0xE15F_0001), Flags(0b1000), Both(1, 1), // cmp r15, r1
+        Nzcv(0b0000),                       Arm(0xE31F_0001), Flags(0b0100), Both(1, 1), // tst r15, #1
+        Nzcv(0b0000), R(0, 0x104),          Thumb(0x4587),    Flags(0b0110), Both(1, 1), // cmph r15, r0
+        Nzcv(0b0000), R(0, 0x105),          Thumb(0x4578),    Flags(0b0010), Both(1, 1), // cmph r0, r15
+        // in Supervisor mode nothing is restored
+        Cpsr(0x13), Spsr(0x12), R(1, 5), R(2, 5), Arm(0xE151_F002), To(CPSR, 0x6000_0013), Both(1, 1), // cmp r1, r2
     ])
 }
 
 #[test]
 #[rattlefmt::skip]
-fn shifts_by_a_number_give_their_carry(rt: HostRuntime) -> Result<(), AllocError> {
+fn shifts_give_operands_and_their_carry(rt: HostRuntime) -> Result<(), AllocError> {
     try_lines(&rt, rt.alloc(), &[
+        // shifts by a number give their carry
         // V stays
         Nzcv(0b0011), R(0, 0x77), R(1, 0x8000_0001), Arm(0xE1B0_0001), To(0, 0x8000_0001), Flags(0b1011), Both(1, 1), // lsl #0
         Nzcv(0b0000), R(0, 0x77), R(1, 0),           Arm(0xE1B0_0001), To(0, 0), Flags(0b0100),           Both(1, 1), // lsl #0
@@ -90,13 +106,8 @@ fn shifts_by_a_number_give_their_carry(rt: HostRuntime) -> Result<(), AllocError
         // without S the flags stay
         Nzcv(0b1011), R(0, 0x77), R(1, 0),           Arm(0xE3A0_0000), To(0, 0), Flags(0b1011),           Both(1, 1), // mov #0
         Nzcv(0b0100), R(0, 0x77), R(1, 0x8000_0000), Arm(0xE1A0_0041), To(0, 0xFFFF_FFFF), Flags(0b0100), Both(1, 1), // mov asr #32
-    ])
-}
 
-#[test]
-#[rattlefmt::skip]
-fn shifts_by_a_register_go_by_its_least_byte(rt: HostRuntime) -> Result<(), AllocError> {
-    try_lines(&rt, rt.alloc(), &[
+        // shifts by a register go by its least byte
         Nzcv(0b0010), R(0, 0x77), R(1, 0x8000_0001), R(2, 0),    Arm(0xE1B0_0211), To(0, 0x8000_0001), Flags(0b1010), Both(2, 2), // lsl 0
         Nzcv(0b0010), R(0, 0x77), R(1, 1), R(2, 0x100),          Arm(0xE1B0_0211), To(0, 1), Flags(0b0010),           Both(2, 2), // lsl 100h
         Nzcv(0b0000), R(0, 0x77), R(1, 0x8000_0001), R(2, 1),    Arm(0xE1B0_0211), To(0, 2), Flags(0b0010),           Both(2, 2), // lsl 1
@@ -125,8 +136,9 @@ fn shifts_by_a_register_go_by_its_least_byte(rt: HostRuntime) -> Result<(), Allo
 
 #[test]
 #[rattlefmt::skip]
-fn r15_is_read_as_108_where_a_register_shifts_as_10c(rt: HostRuntime) -> Result<(), AllocError> {
+fn r15_is_an_operand_and_a_result(rt: HostRuntime) -> Result<(), AllocError> {
     try_lines(&rt, rt.alloc(), &[
+        // r15 is read as 108 where a register shifts as 10c
         R(1, 0), R(2, 0),                   Arm(0xE1A0_000F), To(0, 0x108),            Both(1, 1), // mov r0, r15
         R(1, 0), R(2, 0),                   Arm(0xE1A0_008F), To(0, 0x210),            Both(1, 1), // mov r0, r15, lsl #1
         R(1, 0), R(2, 0),                   Arm(0xE28F_0000), To(0, 0x108),            Both(1, 1), // add r0, r15, #0
@@ -142,13 +154,8 @@ fn r15_is_read_as_108_where_a_register_shifts_as_10c(rt: HostRuntime) -> Result<
         Nzcv(0b0000), R(0, 7),              Arm(0xE13F_000F), Flags(0b0100),           Both(1, 1), // teq r15, r15
         Nzcv(0b0000), R(0, 7), R(1, 0x10C), Arm(0xE15F_0211), To(0, 7), Flags(0b0110), Both(2, 2), // cmp r15, r1, lsl r2
         Nzcv(0b1111),                       Arm(0xE128_F00F), Flags(0b0000),           Both(1, 1), // msr cpsr_f, r15
-    ])
-}
 
-#[test]
-#[rattlefmt::skip]
-fn r15_is_written_with_bits_1_and_0_cleared(rt: HostRuntime) -> Result<(), AllocError> {
-    try_lines(&rt, rt.alloc(), &[
+        // r15 is written with bits 1 and 0 cleared
         R(1, 0x203), R(2, 0),                    Arm(0xE1A0_F001), Pc(0x200),           Both(3, 3), // mov r15, r1
         R(1, 0xFFFF_FDFC), R(2, 0),              Arm(0xE1E0_F001), Pc(0x200),           Both(3, 3), // mvn r15, r1
         R(1, 0x11), R(2, 0),                     Arm(0xE08F_F001), Pc(0x118),           Both(3, 3), // add r15, r15, r1
@@ -161,13 +168,8 @@ fn r15_is_written_with_bits_1_and_0_cleared(rt: HostRuntime) -> Result<(), Alloc
         // r15 reads as 108h
         R(0, 7), R(1, 8), R(2, 2),               Arm(0xE0A0_F291), To(0, 7), Pc(0x118), Both(7, 5), // umlal r15, r0, r1, r2
         R(0, 7),                                 Arm(0xE0AF_0291), To(0, 7), Pc(0x108), Both(7, 5), // umlal r0, r15, r1, r2
-    ])
-}
 
-#[test]
-#[rattlefmt::skip]
-fn an_s_with_r15_restores_cpsr(rt: HostRuntime) -> Result<(), AllocError> {
-    try_lines(&rt, rt.alloc(), &[
+        // an s with r15 restores cpsr
         Cpsr(0x6000_0092), Spsr(0x8000_001F), R(1, 0x206), R(2, 2), Arm(0xE1B0_F001), To(CPSR, 0x8000_001F), Pc(0x204), Both(3, 3), // movs from IRQ
         Cpsr(0xD1), Spsr(0x13), R(1, 0x204), R(2, 2),               Arm(0xE1B0_F001), To(CPSR, 0x13), Pc(0x204),        Both(3, 3), // movs from FIQ
         Cpsr(0x13), Spsr(0x12), R(1, 0x204), R(2, 2),               Arm(0xE1B0_F001), To(CPSR, 0x12), Pc(0x204),        Both(3, 3), // movs from Supervisor
@@ -186,24 +188,5 @@ fn an_s_with_r15_restores_cpsr(rt: HostRuntime) -> Result<(), AllocError> {
         Nzcv(0b0110), R(1, 0x206), R(2, 2),                         Arm(0xE1B0_F001), Flags(0b0110), Pc(0x204),         Both(3, 3), // movs from System
         Cpsr(0xB000_0010), R(1, 0), R(2, 2),                        Arm(0xE1B0_F001), To(CPSR, 0xB000_0010), Pc(0),     Both(3, 3), // movs from User
         Cpsr(0xD4), R(1, 0x204), R(2, 2),                           Arm(0xE1B0_F001), To(CPSR, 0xD4), Pc(0x204),        Both(3, 3), // movs from mode 14h
-    ])
-}
-
-#[test]
-#[rattlefmt::skip]
-fn a_comparison_writes_no_r15_and_costs_1(rt: HostRuntime) -> Result<(), AllocError> {
-    try_lines(&rt, rt.alloc(), &[
-        // bits 15 to 12 of a comparison aren't asked for
-        Nzcv(0b0000), R(1, 5), R(2, 5),     Arm(0xE151_F002), Flags(0b0110), Both(1, 1), // cmp r1, r2
-        Nzcv(0b0000), R(1, 5), R(2, 5),     Arm(0xE171_F002), Flags(0b0000), Both(1, 1), // cmn r1, r2
-        Nzcv(0b1011), R(1, 5), R(2, 2),     Arm(0xE111_F002), Flags(0b0111), Both(1, 1), // tst r1, r2
-        Nzcv(0b1011), R(1, 5), R(2, 5),     Arm(0xE131_F002), Flags(0b0111), Both(1, 1), // teq r1, r2
-        // r15 reads as 108h, in Thumb state as 104h
-        Nzcv(0b0000), R(1, 0x109),          Arm(0xE15F_0001), Flags(0b1000), Both(1, 1), // cmp r15, r1
-        Nzcv(0b0000),                       Arm(0xE31F_0001), Flags(0b0100), Both(1, 1), // tst r15, #1
-        Nzcv(0b0000), R(0, 0x104),          Thumb(0x4587),    Flags(0b0110), Both(1, 1), // cmph r15, r0
-        Nzcv(0b0000), R(0, 0x105),          Thumb(0x4578),    Flags(0b0010), Both(1, 1), // cmph r0, r15
-        // in Supervisor mode nothing is restored
-        Cpsr(0x13), Spsr(0x12), R(1, 5), R(2, 5), Arm(0xE151_F002), To(CPSR, 0x6000_0013), Both(1, 1), // cmp r1, r2
     ])
 }

@@ -6,8 +6,9 @@ use std::alloc::AllocError;
 
 #[test]
 #[rattlefmt::skip]
-fn one_register_s_bytes_are_aligned(rt: HostRuntime) -> Result<(), AllocError> {
+fn instructions_reach_their_bytes(rt: HostRuntime) -> Result<(), AllocError> {
     try_lines(&rt, rt.alloc(), &[
+        // one register's bytes are aligned
         R(1, 1),             Arm(0xE591_0000), Reaches(0, 4), // ldr r0, [r1]
         R(1, 3),             Arm(0xE5D1_0000), Reaches(3, 1), // ldrb r0, [r1]
         R(1, 3),             Arm(0xE5C1_0000), Reaches(3, 1), // strb r0, [r1]
@@ -27,13 +28,8 @@ fn one_register_s_bytes_are_aligned(rt: HostRuntime) -> Result<(), AllocError> {
         // a swap reads and writes one place
         R(1, 0x41),          Arm(0xE101_0092), Reaches(0x40, 4), // swp r0, r2, [r1]
         R(1, 0x43),          Arm(0xE141_0092), Reaches(0x43, 1), // swpb r0, r2, [r1]
-    ])
-}
 
-#[test]
-#[rattlefmt::skip]
-fn lists_reach_a_word_a_register_from_the_lowest_up(rt: HostRuntime) -> Result<(), AllocError> {
-    try_lines(&rt, rt.alloc(), &[
+        // lists reach a word a register from the lowest up
         // beyond FFFFFFFFh stands 0
         R(1, 0xFFFF_FFFC),        Arm(0xE8B1_0006), Reaches(0xFFFF_FFFC, 8), // ldmia r1!, {r1, r2}
         R(13, 0x200),             Arm(0xE92D_4010), Reaches(0x1F8, 8), // stmdb r13!, {r4, r14}
@@ -43,13 +39,8 @@ fn lists_reach_a_word_a_register_from_the_lowest_up(rt: HostRuntime) -> Result<(
         // with ^ too the base is the mode's
         Cpsr(0x12), R(13, 0x300), Arm(0xE8CD_6000), Reaches(0x300, 8), // stmia r13, {r13, r14}^
         R(0, 0x40),               Arm(0xE890_FFFF), Reaches(0x40, 64), // ldmia r0, {r0 to r15}
-    ])
-}
 
-#[test]
-#[rattlefmt::skip]
-fn thumb_reaches_what_its_equivalent_does(rt: HostRuntime) -> Result<(), AllocError> {
-    try_lines(&rt, rt.alloc(), &[
+        // thumb reaches what its equivalent does
         // r15 is 106h here, and its bits 1 and 0 are cleared
         At(0x102),                      Thumb(0x4802), Reaches(0x10C, 4), // ldr r0, [r15, #0x8]
         At(0x102), R(1, 0x40), R(2, 6), Thumb(0x5088), Reaches(0x44, 4), // str r0, [r1, r2]
@@ -63,13 +54,8 @@ fn thumb_reaches_what_its_equivalent_does(rt: HostRuntime) -> Result<(), AllocEr
         At(0x102), R(1, 0x40),          Thumb(0xC105), Reaches(0x40, 8), // stmia r1!, {r0, r2}
         At(0x102),                      Thumb(0xA002), Reaches(0, 0), // add r0, r15, #0x8
         At(0x102),                      Thumb(0xE000), Reaches(0, 0), // b
-    ])
-}
 
-#[test]
-#[rattlefmt::skip]
-fn what_makes_no_access_reaches_nothing(rt: HostRuntime) -> Result<(), AllocError> {
-    try_lines(&rt, rt.alloc(), &[
+        // what makes no access reaches nothing
         // eq without Z, and with it
         R(1, 0x40),               Arm(0x0591_0000), Reaches(0, 0), // ldreq r0, [r1]
         Nzcv(0b0100), R(1, 0x40), Arm(0x0591_0000), Reaches(0x40, 4), // ldreq r0, [r1]
@@ -85,13 +71,8 @@ fn what_makes_no_access_reaches_nothing(rt: HostRuntime) -> Result<(), AllocErro
         R(1, 0x40),               Arm(0x01C1_00D0), Reaches9(0, 0), // ldreqd r0, [r1]
         R(1, 0x40),               Arm(0xF5D1_F000), Reaches9(0, 0), // pld [r1]
                                   Arm(0xEE07_0F90), Reaches9(0, 0), // mcr
-    ])
-}
 
-#[test]
-#[rattlefmt::skip]
-fn odd_halves_and_empty_lists_differ_by_architecture(rt: HostRuntime) -> Result<(), AllocError> {
-    try_lines(&rt, rt.alloc(), &[
+        // odd halves and empty lists differ by architecture
         R(1, 1),    Arm(0xE1D1_00F0), Reaches7(1, 1), // ldrsh r0, [r1]
         R(1, 1),    Arm(0xE1D1_00F0), Reaches9(0, 2), // ldrsh r0, [r1]
         // of an empty list ARMv4 transfers r15, and its base moves as by sixteen registers
@@ -105,17 +86,23 @@ fn odd_halves_and_empty_lists_differ_by_architecture(rt: HostRuntime) -> Result<
         R(1, 0x80), Arm(0xE821_0000), Reaches9(0, 0), // stmda r1!, {}
         R(1, 0x80), Arm(0xE921_0000), Reaches7(0x40, 4), // stmdb r1!, {}
         R(1, 0x80), Arm(0xE921_0000), Reaches9(0, 0), // stmdb r1!, {}
-    ])
-}
 
-#[test]
-#[rattlefmt::skip]
-fn two_registers_reach_two_words(rt: HostRuntime) -> Result<(), AllocError> {
-    try_lines(&rt, rt.alloc(), &[
+        // two registers reach two words
         R(1, 0x48),          Arm(0xE1C1_00D0), Reaches9(0x48, 8), // ldrd r0, [r1]
         R(1, 0x47),          Arm(0xE1C1_00D0), Reaches9(0x44, 8), // ldrd r0, [r1]
         R(1, 0xFFFF_FFFC),   Arm(0xE1C1_00D0), Reaches9(0xFFFF_FFFC, 8), // ldrd r0, [r1]
         R(1, 0x40), R(2, 8), Arm(0xE081_00D2), Reaches9(0x40, 8), // ldrd r0, [r1], r2
         R(1, 0x50),          Arm(0xE161_20F8), Reaches9(0x48, 8), // strd r2, [r1, #-0x8]!
+
+        // the bytes of an access to ports are told
+        R(1, 0x400_0002), Arm(0xE591_0000), Reaches(0x400_0000, 4), // ldr r0, [r1]
+        R(1, 0x400_0003), Arm(0xE5D1_0000), Reaches(0x400_0003, 1), // ldrb r0, [r1]
+        R(1, 0x400_0003), Arm(0xE1C1_00B0), Reaches(0x400_0002, 2), // strh r0, [r1]
+        // LDRSH at an odd address reads a byte on ARMv4, and the half on ARMv5
+        R(1, 0x400_0003), Arm(0xE1D1_00F0), Reaches7(0x400_0003, 1), // ldrsh r0, [r1]
+        R(1, 0x400_0003), Arm(0xE1D1_00F0), Reaches9(0x400_0002, 2), // ldrsh r0, [r1]
+        // an addition, and a load whose condition fails
+                          Arm(0xE281_0001), Reaches(0, 0), // add r0, r1, #1
+                          Arm(0x0591_0000), Reaches(0, 0), // ldreq r0, [r1]
     ])
 }

@@ -1,12 +1,16 @@
 //! What a line of a table says, and how it is tried.
 
+ghost use Rattle.std.specs.Prelude.{IfSome};
+ghost use Rattle.arm_words.specs.Fields.{HasFields};
+
 use super::buses::RefusingBus;
-use arm_core::{Bus, Core, FlatBus, Stepped, Touch, footprint};
+use arm_core::{Bus, Core, FlatBus, Registers, Stepped, Touch, footprint};
+use arm_ops::{Ready, is_other, ready, run, run_anywhere, touched};
 use arm_words::{Instr, decode_arm, decode_thumb};
 use arm7_exec::step7;
 use arm9_exec::step9;
 use cp15_tcm::Cp15;
-use ds_base::{LeftKind, Proc, Stop, Width};
+use ds_base::{Arch, LeftKind, Proc, Stop, Width};
 use std::alloc::{AllocError, Global};
 use std::process::Abort;
 
@@ -49,13 +53,15 @@ pub const SPSR_IRQ: usize = 35;
 pub const SPSR_UND: usize = 36;
 
 /// Words of memory, which the rows read: the address and the word. All others of its 200h bytes, which stand again and again, are 0.
-const WORDS: [(u32, u32); 9] = [
+const WORDS: [(u32, u32); 11] = [
     (0x00, 0x4433_2211),
     (0x08, 0x8483_8281),
     (0x40, 7),
     (0x44, 9),
     (0x48, 0x183),
     (0x4C, 0x1A2),
+    (0x60, 0x8765_4321),
+    (0x64, 9),
     (0x104, 0x0104_A1A1),
     (0x108, 0x0108_B2B2),
     (0x10C, 0x010C_C3C3),
@@ -72,6 +78,8 @@ const WRONG_MEMORY: u32 = 41;
 const WRONG_CP15: u32 = 42;
 
 const WRONG_REACH: u32 = 43;
+
+const WRONG_WAY: u32 = 44;
 
 /// A line of a table. Lines of a row stand in this order: the state before, the instruction, what the step leaves, and what it comes to.
 #[derive(Clone, Copy)]
@@ -116,6 +124,12 @@ pub enum Line {
     Mem9(u32, u32),
     /// CP15's numbers after it, which stay where no line says others.
     Kept(u32, u32, u32),
+    /// It is an operation that is made ready, and is run where its accesses must be near.
+    Near,
+    /// It is such an operation, and isn't run there.
+    Far,
+    /// It is none.
+    Other,
     /// What it costs on ARM7 and on ARM9.
     Both(u32, u32),
     /// What it costs on ARM7; the row isn't ARM9's.
@@ -136,18 +150,32 @@ pub enum Line {
     Reaches9(u32, u32),
 }
 
+/// How an instruction is tried.
+#[derive(Clone, Copy, PartialEq, Eq)]
+enum Way {
+    /// By the processor's step.
+    Step,
+    /// As an operation that was made ready, where it is one, wherever its accesses are.
+    Anywhere,
+    /// The same, where they are near.
+    Near,
+}
+
 /// A step that is tried.
 #[derive(Drop)]
 struct Case {
     proc: Proc,
+    way: Way,
     core: Core,
     cp: Cp15,
     bus: RefusingBus,
     at: u32,
     irq: bool,
-    /// What it came to, and the bytes that it was to reach, where it is an instruction.
-    found: Stepped,
+    /// What it came to, if it was taken, and the bytes that it was to reach, where it is an instruction or an operation.
+    found: Option<Stepped>,
     touch: Option<Touch>,
+    /// Which of `Near`, `Far` and `Other` it is, if a line says it.
+    kind: Option<Line>,
     /// What it must leave: the 37 words, memory, and CP15's numbers.
     words: [u32; 37],
     memory: FlatBus,
@@ -176,31 +204,79 @@ fn step(proc: Proc, core: &mut Core, cp: &mut Cp15, bus: &mut RefusingBus, irq: 
     }
 }
 
-/// The bytes that a word or a half of a processor's architecture reaches, of which the rows take what they see and no clause; none where
-/// it has no instruction.
-fn touched(proc: Proc, core: &Core, code: u32, width: Width) -> Option<Touch> {
-    let arch = proc.architecture();
-    let instr: Instr = match width {
-        Width::Half => decode_thumb(arch, (code % 0x1_0000) as u16)?,
-        _ => decode_arm(arch, code)?,
-    };
-    Some(footprint(core, &instr))
+/// An operation that is run wherever its accesses are, if it is one, likewise.
+fn run_op(
+    arch: Arch,
+    s: &mut Registers,
+    bus: &mut RefusingBus,
+    instr: Option<Instr>,
+) -> Option<Stepped>
+    requires { IfSome instr HasFields }
+{
+    let made: Ready = ready(instr);
+    if is_other(&made) {
+        return None;
+    }
+    Some(run_anywhere(arch, 0, s, bus, &made))
+}
+
+/// The same where they must be near.
+fn run_near(
+    arch: Arch,
+    s: &mut Registers,
+    bus: &mut FlatBus,
+    instr: Option<Instr>,
+) -> Option<Stepped>
+    requires { IfSome instr HasFields }
+{
+    match run(arch, 0, s, bus, &ready(instr)) {
+        0 => None,
+        clocks => Some(Stepped::Cost(clocks)),
+    }
+}
+
+/// The instruction of a word or a half, if it has one.
+fn instruction(arch: Arch, code: u32, width: Width) -> Option<Instr>
+    ensures { IfSome result HasFields }
+{
+    match width {
+        Width::Half => decode_thumb(arch, (code % 0x1_0000) as u16),
+        _ => decode_arm(arch, code),
+    }
+}
+
+/// The bytes that an instruction or an operation reaches, likewise.
+fn reached(core: &Core, way: Way, instr: Option<Instr>) -> Option<Touch>
+    requires { IfSome instr HasFields }
+{
+    let instr = instr?;
+    if way == Way::Step {
+        return Some(footprint(core, &instr));
+    }
+    let made = ready(Some(instr));
+    if is_other(&made) {
+        None
+    } else {
+        Some(touched(core.arch, &core.registers, &made))
+    }
 }
 
 impl Case {
-    fn new(alloc: Global, proc: Proc) -> Result<Case, AllocError> {
+    fn new(alloc: Global, proc: Proc, way: Way) -> Result<Case, AllocError> {
         let mut core = Core::boot(proc.architecture(), 0x100, [0; 3]);
         core.registers.set_cpsr(0x1F);
         let flat = memory(alloc)?;
         Ok(Case {
             proc,
+            way,
             core,
             cp: Cp15::boot(),
             bus: RefusingBus { flat, refused: 1 },
             at: 0x100,
             irq: false,
-            found: Stepped::Cost(0),
+            found: None,
             touch: None,
+            kind: None,
             words: [0; 37],
             memory: memory(alloc)?,
             kept: BOOT,
@@ -224,6 +300,7 @@ impl Case {
             Line::Irq => self.irq = true,
             Line::At(at) => self.at = at,
             Line::Refuses(at) => self.bus.refused = at,
+            Line::Near | Line::Far | Line::Other => self.kind = Some(line),
             Line::R(r, value) => {
                 if r < 16 {
                     self.core.registers.set(r, value);
@@ -253,15 +330,32 @@ impl Case {
         let _ = self.memory.write(self.at, width, code);
         self.core.registers.jump(self.at);
         self.words = self.core.registers();
-        self.words[PC] = self.at.wrapping_add(width.bytes());
-        self.touch = touched(self.proc, &self.core, code, width);
-        self.found = step(
-            self.proc,
-            &mut self.core,
-            &mut self.cp,
-            &mut self.bus,
-            self.irq,
-        );
+        let instr = instruction(self.core.arch, code, width);
+        self.touch = reached(&self.core, self.way, instr);
+        self.found = self.taken(instr);
+        if self.found.is_some() {
+            self.words[PC] = self.at.wrapping_add(width.bytes());
+        }
+    }
+
+    /// What it comes to, if it is taken. No operation is an interrupt's entry.
+    fn taken(&mut self, instr: Option<Instr>) -> Option<Stepped>
+        requires { IfSome instr HasFields }
+    {
+        let arch = self.core.arch;
+        match self.way {
+            Way::Step => Some(step(
+                self.proc,
+                &mut self.core,
+                &mut self.cp,
+                &mut self.bus,
+                self.irq,
+            )),
+            _ if self.irq => None,
+            Way::Anywhere => run_op(arch, &mut self.core.registers, &mut self.bus, instr),
+            Way::Near if self.bus.refused != 1 => None,
+            Way::Near => run_near(arch, &mut self.core.registers, &mut self.bus.flat, instr),
+        }
     }
 
     fn put(&mut self, place: usize, value: u32) {
@@ -270,8 +364,11 @@ impl Case {
         }
     }
 
-    /// What it must leave of the words.
+    /// What it must leave of the words, where it is taken.
     fn expect(&mut self, line: Line) {
+        if self.found.is_none() {
+            return;
+        }
         let seven = self.proc == Proc::Seven;
         match line {
             Line::To(place, value) => self.put(place, value),
@@ -288,8 +385,11 @@ impl Case {
         }
     }
 
-    /// What it must leave of memory and CP15.
+    /// What it must leave of memory and CP15, likewise.
     fn expect_memory(&mut self, line: Line) {
+        if self.found.is_none() {
+            return;
+        }
         let seven = self.proc == Proc::Seven;
         match line {
             Line::Mem(at, value) => {
@@ -315,7 +415,7 @@ impl Case {
                 return place;
             }
         }
-        if self.found != wanted {
+        if self.found.is_some() && self.found != Some(wanted) {
             return WRONG_END;
         }
         if self.bus.flat.bytes() != self.memory.bytes() {
@@ -324,12 +424,23 @@ impl Case {
         if numbers(&self.cp) != self.kept {
             return WRONG_CP15;
         }
-        0
+        if self.is_right_way() { 0 } else { WRONG_WAY }
+    }
+
+    /// Whether it was taken where the row says it.
+    fn is_right_way(&self) -> bool {
+        match (self.way, self.kind) {
+            (Way::Step, _) => self.found.is_some(),
+            (_, None) => true,
+            (_, Some(Line::Near)) | (Way::Anywhere, Some(Line::Far)) => self.found.is_some(),
+            _ => self.found.is_none(),
+        }
     }
 
     /// What is wrong where these bytes were to be reached.
     fn reach_fault(&self, wanted: Option<Touch>) -> u32 {
-        if wanted.is_some() && self.touch != wanted {
+        let asked = self.way == Way::Step || self.touch.is_some();
+        if wanted.is_some() && asked && self.touch != wanted {
             WRONG_REACH
         } else {
             0
@@ -381,10 +492,15 @@ fn is_last(line: Line) -> bool {
     )
 }
 
-/// Tries rows on a processor.
-fn try_on(rt: &impl Abort, alloc: Global, proc: Proc, lines: &[Line]) -> Result<(), AllocError> {
-    let name = if proc == Proc::Seven { 7 } else { 9 };
-    let mut case = Case::new(alloc, proc)?;
+/// Tries rows on a processor in a way.
+fn try_on(
+    rt: &impl Abort,
+    alloc: Global,
+    proc: Proc,
+    way: Way,
+    lines: &[Line],
+) -> Result<(), AllocError> {
+    let mut case = Case::new(alloc, proc, way)?;
     for (number, &line) in lines.iter().enumerate() {
         case.prepare(line);
         case.instruct(line);
@@ -394,16 +510,23 @@ fn try_on(rt: &impl Abort, alloc: Global, proc: Proc, lines: &[Line]) -> Result<
             Some(stepped) => case.fault(stepped),
             None => case.reach_fault(wanted_touch(line, proc)),
         };
-        assert!(rt; fault == 0, "ARM{name}, line {number}: {fault}");
+        let [name, by] = [proc as u32, way as u32];
+        assert!(rt;
+            fault == 0,
+            "processor {name}, way {by}, line {number}: {fault}"
+        );
         if is_last(line) {
-            case = Case::new(alloc, proc)?;
+            case = Case::new(alloc, proc, way)?;
         }
     }
     Ok(())
 }
 
-/// Tries rows on both processors.
+/// Tries rows on both processors, by their steps and as operations that were made ready.
 pub fn try_lines(rt: &impl Abort, alloc: Global, lines: &[Line]) -> Result<(), AllocError> {
-    try_on(rt, alloc, Proc::Seven, lines)?;
-    try_on(rt, alloc, Proc::Nine, lines)
+    for way in [Way::Step, Way::Anywhere, Way::Near] {
+        try_on(rt, alloc, Proc::Seven, way, lines)?;
+        try_on(rt, alloc, Proc::Nine, way, lines)?;
+    }
+    Ok(())
 }

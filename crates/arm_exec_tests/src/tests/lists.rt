@@ -10,8 +10,9 @@ use std::alloc::AllocError;
 
 #[test]
 #[rattlefmt::skip]
-fn lists_are_loaded_in_four_modes(rt: HostRuntime) -> Result<(), AllocError> {
+fn lists_are_loaded(rt: HostRuntime) -> Result<(), AllocError> {
     try_lines(&rt, rt.alloc(), &[
+        // lists are loaded in four modes
         R(1, 0x40), Arm(0xE8B1_000D), To(0, 7), To(1, 0x4C), To(2, 9), To(3, 0x183), Both(5, 4), // ia!
         R(1, 0x3C), Arm(0xE9B1_000D), To(0, 7), To(1, 0x48), To(2, 9), To(3, 0x183), Both(5, 4), // ib!
         R(1, 0x48), Arm(0xE831_000D), To(0, 7), To(1, 0x3C), To(2, 9), To(3, 0x183), Both(5, 4), // da!
@@ -22,13 +23,8 @@ fn lists_are_loaded_in_four_modes(rt: HostRuntime) -> Result<(), AllocError> {
         R(1, 0x4C), Arm(0xE911_000D), To(0, 7), To(1, 0x4C), To(2, 9), To(3, 0x183), Both(5, 4), // db
         // a word is read aligned, and isn't rotated
         R(1, 0x43), Arm(0xE8B1_000D), To(0, 7), To(1, 0x4F), To(2, 9), To(3, 0x183), Both(5, 4), // ia! at 43h
-    ])
-}
 
-#[test]
-#[rattlefmt::skip]
-fn a_base_in_a_loaded_list_goes_by_the_architecture(rt: HostRuntime) -> Result<(), AllocError> {
-    try_lines(&rt, rt.alloc(), &[
+        // a base in a loaded list goes by the architecture
         // neither first nor last
         R(1, 0x40), Arm(0xE8B1_0007), To(0, 7), To(2, 0x183), To7(1, 9), To9(1, 0x4C), Both(5, 4), // ia!
         R(1, 0x3C), Arm(0xE9B1_0007), To(0, 7), To(2, 0x183), To7(1, 9), To9(1, 0x48), Both(5, 4), // ib!
@@ -49,13 +45,8 @@ fn a_base_in_a_loaded_list_goes_by_the_architecture(rt: HostRuntime) -> Result<(
         R(1, 0x40), Arm(0xE9B1_0002), To7(1, 9), To9(1, 0x44),                         Both(3, 2), // ib! alone
         R(1, 0x44), Arm(0xE831_0002), To7(1, 9), To9(1, 0x40),                         Both(3, 2), // da! alone
         R(1, 0x44), Arm(0xE931_0002), To7(1, 7), To9(1, 0x40),                         Both(3, 2), // db! alone
-    ])
-}
 
-#[test]
-#[rattlefmt::skip]
-fn r15_is_loaded_and_an_empty_list_loads_it(rt: HostRuntime) -> Result<(), AllocError> {
-    try_lines(&rt, rt.alloc(), &[
+        // r15 is loaded and an empty list loads it
         // ARMv4 stays in ARM state, and bits 1 and 0 are cleared; ARMv5 goes by bit 0, and loads nothing by an empty list
         R(1, 0x44), Arm(0xE8B1_8001), To(0, 9), To(1, 0x4C), To7(PC, 0x180), To9(PC, 0x182), To9(CPSR, 0x3F), Both(6, 5), // with r15
         R(1, 0x4C), Arm(0xE911_8000), To7(PC, 0x180), To9(PC, 0x182), To9(CPSR, 0x3F),              Both(5, 4), // r15 alone
@@ -68,13 +59,8 @@ fn r15_is_loaded_and_an_empty_list_loads_it(rt: HostRuntime) -> Result<(), Alloc
         // r15 as base
                     Arm(0xE8BF_0001), To(0, 0x108_B2B2),                                            Both(3, 2), // ia! at r15
                     Arm(0xE99F_0001), To(0, 0x10C_C3C3),                                            Both(3, 2), // ib at r15
-    ])
-}
 
-#[test]
-#[rattlefmt::skip]
-fn user_registers_are_loaded_from_each_mode(rt: HostRuntime) -> Result<(), AllocError> {
-    try_lines(&rt, rt.alloc(), &[
+        // user registers are loaded from each mode
         // r13, r14
         Cpsr(0x11), R(1, 0x40),  Arm(0xE8D1_6000), To(SP, 7), To(LR, 9),                             Both(4, 3), // ldm ^
         Cpsr(0x12), R(1, 0x40),  Arm(0xE8D1_6000), To(SP, 7), To(LR, 9),                             Both(4, 3), // ldm ^
@@ -92,13 +78,8 @@ fn user_registers_are_loaded_from_each_mode(rt: HostRuntime) -> Result<(), Alloc
         // the mode's r13 is the base: it is written back, but where its number is in the list
         Cpsr(0x12), R(13, 0x40), Arm(0xE8FD_4000), To(LR, 7), To(SP_IRQ, 0x44),                      Both(3, 2), // ldm ^
         Cpsr(0x12), R(13, 0x40), Arm(0xE8FD_2001), To(0, 7), To(SP, 9),                              Both(4, 3), // ldm ^
-    ])
-}
 
-#[test]
-#[rattlefmt::skip]
-fn r15_with_the_hat_restores_cpsr(rt: HostRuntime) -> Result<(), AllocError> {
-    try_lines(&rt, rt.alloc(), &[
+        // r15 with the hat restores cpsr
         Cpsr(0x11), Spsr(0x13), R(1, 0x44),               Arm(0xE8F1_C000), To(1, 0x4C), To(LR_FIQ, 9), Pc(0x180), To(CPSR, 0x13),        Both(6, 5), // FIQ
         Cpsr(0x6000_0092), Spsr(0x8000_001F), R(1, 0x44), Arm(0xE8F1_C000), To(1, 0x4C), To(LR_IRQ, 9), Pc(0x180), To(CPSR, 0x8000_001F), Both(6, 5), // IRQ
         Cpsr(0x13), Spsr(0x12), R(1, 0x44),               Arm(0xE8F1_C000), To(1, 0x4C), To(LR_SVC, 9), Pc(0x180), To(CPSR, 0x12),        Both(6, 5), // Supervisor
@@ -117,8 +98,9 @@ fn r15_with_the_hat_restores_cpsr(rt: HostRuntime) -> Result<(), AllocError> {
 
 #[test]
 #[rattlefmt::skip]
-fn lists_are_stored_in_four_modes(rt: HostRuntime) -> Result<(), AllocError> {
+fn lists_are_stored(rt: HostRuntime) -> Result<(), AllocError> {
     try_lines(&rt, rt.alloc(), &[
+        // lists are stored in four modes
         R(0, 5), R(1, 0x40), R(2, 6), R(3, 8), Arm(0xE8A1_000D), To(1, 0x4C), Mem(0x40, 5), Mem(0x44, 6), Mem(0x48, 8), Both(4, 3), // ia!
         R(0, 5), R(1, 0x40), R(2, 6), R(3, 8), Arm(0xE9A1_000D), To(1, 0x4C), Mem(0x44, 5), Mem(0x48, 6), Mem(0x4C, 8), Both(4, 3), // ib!
         R(0, 5), R(1, 0x40), R(2, 6), R(3, 8), Arm(0xE821_000D), To(1, 0x34), Mem(0x38, 5), Mem(0x3C, 6), Mem(0x40, 8), Both(4, 3), // da!
@@ -138,13 +120,8 @@ fn lists_are_stored_in_four_modes(rt: HostRuntime) -> Result<(), AllocError> {
         R(0, 5), R(1, 0x40), R(2, 6), R(3, 8), Arm(0xE8A1_8001), To(1, 0x48), Mem(0x40, 5), Mem(0x44, 0x10C),           Both(3, 2), // ia! with r15
         R(0, 5), R(1, 0x40), R(2, 6), R(3, 8), Arm(0xE8AF_0001), Mem(0x108, 5),                                         Both(2, 1), // ia! at r15
         R(0, 5), R(1, 0x40), R(2, 6), R(3, 8), Arm(0xE92F_8001), Mem(0x100, 5), Mem(0x104, 0x10C),                      Both(3, 2), // db! at r15 with r15
-    ])
-}
 
-#[test]
-#[rattlefmt::skip]
-fn a_stored_base_is_the_old_one_on_armv5_and_on_armv4_where_it_is_first(rt: HostRuntime) -> Result<(), AllocError> {
-    try_lines(&rt, rt.alloc(), &[
+        // a stored base is the old one on armv5 and on armv4 where it is first
         // neither first nor last
         R(0, 5), R(1, 0x40), R(2, 6), R(3, 8), Arm(0xE8A1_0007), To(1, 0x4C), Mem(0x40, 5), Mem(0x48, 6), Mem7(0x44, 0x4C), Mem9(0x44, 0x40), Both(4, 3), // ia!
         R(0, 5), R(1, 0x40), R(2, 6), R(3, 8), Arm(0xE9A1_0007), To(1, 0x4C), Mem(0x44, 5), Mem(0x4C, 6), Mem7(0x48, 0x4C), Mem9(0x48, 0x40), Both(4, 3), // ib!
@@ -166,13 +143,8 @@ fn a_stored_base_is_the_old_one_on_armv5_and_on_armv4_where_it_is_first(rt: Host
         R(0, 5), R(1, 0x40), R(2, 6), R(3, 8), Arm(0xE9A1_0002), To(1, 0x44), Mem(0x44, 0x40),                                 Both(2, 1), // ib! alone
         R(0, 5), R(1, 0x40), R(2, 6), R(3, 8), Arm(0xE821_0002), To(1, 0x3C), Mem(0x40, 0x40),                                 Both(2, 1), // da! alone
         R(0, 5), R(1, 0x40), R(2, 6), R(3, 8), Arm(0xE921_0002), To(1, 0x3C), Mem(0x3C, 0x40),                                 Both(2, 1), // db! alone
-    ])
-}
 
-#[test]
-#[rattlefmt::skip]
-fn user_registers_are_stored_from_each_mode(rt: HostRuntime) -> Result<(), AllocError> {
-    try_lines(&rt, rt.alloc(), &[
+        // user registers are stored from each mode
         // User mode's r8 and r13 are 0, and its r12 and r14 100h, unless the mode sees them
         // r0, r13, r14
         Cpsr(0x11), R(0, 5), R(1, 0x40), R(8, 1), R(13, 0x40), R(14, 0xB), Arm(0xE8C1_6001), Mem(0x40, 5), Mem(0x44, 0), Mem(0x48, 0x100),                 Both(4, 3), // stm ^
@@ -194,23 +166,13 @@ fn user_registers_are_stored_from_each_mode(rt: HostRuntime) -> Result<(), Alloc
         Cpsr(0x12), R(0, 5), R(1, 0x40), R(8, 1), R(13, 0x40), R(14, 0xB), Arm(0xE8ED_6000), To(SP_IRQ, 0x48), Mem(0x40, 0), Mem(0x44, 0x100),             Both(3, 2), // stm ^
         Cpsr(0x12), R(0, 5), R(1, 0x40), R(8, 1), R(13, 0x40), R(14, 0xB), Arm(0xE8ED_2001), To(SP_IRQ, 0x48), Mem(0x40, 5), Mem(0x44, 0),                 Both(3, 2), // stm ^
         R(0, 5), R(1, 0x40), R(8, 1), R(13, 0x40), R(14, 0xB),        Arm(0xE8ED_2001), To(SP, 0x48), Mem(0x40, 5), Mem7(0x44, 0x48), Mem9(0x44, 0x40), Both(3, 2), // stm ^
-    ])
-}
 
-#[test]
-#[rattlefmt::skip]
-fn the_addresses_of_a_list_align_and_wrap(rt: HostRuntime) -> Result<(), AllocError> {
-    try_lines(&rt, rt.alloc(), &[
+        // the addresses of a list align and wrap
         R(0, 5), R(1, 0x43),                 Arm(0xE8A1_0001), To(1, 0x47), Mem(0x40, 5),                    Both(2, 1), // at 43h
         R(0, 5), R(1, 0xFFFF_FFFC), R(2, 6), Arm(0xE8A1_0005), To(1, 4), Mem(0x1FC, 5), Mem(0, 6),           Both(3, 2), // at the last word
         R(0, 5), R(1, 4), R(2, 6),           Arm(0xE921_0005), To(1, 0xFFFF_FFFC), Mem(0x1FC, 5), Mem(0, 6), Both(3, 2), // down from 4
-    ])
-}
 
-#[test]
-#[rattlefmt::skip]
-fn other_lists_go_by_the_architecture_too(rt: HostRuntime) -> Result<(), AllocError> {
-    try_lines(&rt, rt.alloc(), &[
+        // other lists go by the architecture too
         R(1, 0x40),          Arm(0xE8B1_0005), To(0, 7), To(1, 0x48), To(2, 9),                              Both(4, 3), // ldmia r1!, {r0, r2}
         R(1, 0x40),          Arm(0xE8B1_0000), To(1, 0x80), To7(PC, 4),                                      Both(4, 1), // ldmia r1!, {}
         R(1, 0x80),          Arm(0xE931_0000), To(1, 0x40), To7(PC, 4),                                      Both(4, 1), // ldmdb r1!, {}

@@ -6,8 +6,9 @@ use std::alloc::AllocError;
 
 #[test]
 #[rattlefmt::skip]
-fn words_are_multiplied(rt: HostRuntime) -> Result<(), AllocError> {
+fn words_and_halves_are_multiplied(rt: HostRuntime) -> Result<(), AllocError> {
     try_lines(&rt, rt.alloc(), &[
+        // words are multiplied
         // C and V stay
         Nzcv(0b0110), R(0, 9), R(1, 3), R(2, 5), R(3, 0),             Arm(0xE000_0291), To(0, 0xF), Flags(0b0110),         Both(4, 2), // mul
         Nzcv(0b0011), R(0, 9), R(1, 0x1_0000), R(2, 0x1_0000), R(3, 0), Arm(0xE010_0291), To(0, 0), Flags(0b0111),           Both(4, 2), // muls
@@ -16,13 +17,8 @@ fn words_are_multiplied(rt: HostRuntime) -> Result<(), AllocError> {
         Nzcv(0b1010), R(0, 9), R(1, 0xFFFF_FFFF), R(2, 5), R(3, 5),   Arm(0xE030_3291), To(0, 0), Flags(0b0110),           Both(4, 2), // mlas
         Nzcv(0b0100), R(0, 9), R(1, 3), R(2, 5), R(3, 0xA),           Arm(0xE030_3291), To(0, 0x19), Flags(0b0000),        Both(4, 2), // mlas
         Nzcv(0b0000), R(0, 9), R(1, 0), R(2, 0), R(3, 0),             Arm(0xE000_0090), To(0, 0x51), Flags(0b0000),        Both(4, 2), // mul r0, r0, r0
-    ])
-}
 
-#[test]
-#[rattlefmt::skip]
-fn long_products_have_64_bits(rt: HostRuntime) -> Result<(), AllocError> {
-    try_lines(&rt, rt.alloc(), &[
+        // long products have 64 bits
         // C and V stay
         Nzcv(0b0011), R(0, 7), R(1, 7), R(2, 0xFFFF_FFFF), R(3, 0xFFFF_FFFF), Arm(0xE081_0392), To(0, 1), To(1, 0xFFFF_FFFE), To(2, 0xFFFF_FFFF), To(3, 0xFFFF_FFFF), Flags(0b0011), Both(5, 3), // umull
         Nzcv(0b0111), R(0, 7), R(1, 7), R(2, 0xFFFF_FFFF), R(3, 0xFFFF_FFFF), Arm(0xE091_0392), To(0, 1), To(1, 0xFFFF_FFFE), To(2, 0xFFFF_FFFF), To(3, 0xFFFF_FFFF), Flags(0b1011), Both(5, 3), // umulls
@@ -43,13 +39,8 @@ fn long_products_have_64_bits(rt: HostRuntime) -> Result<(), AllocError> {
         // the operands are read before a result is written
         Nzcv(0b0000), R(0, 7), R(1, 7), R(2, 0xFFFF_FFFF), R(3, 2),   Arm(0xE083_2392), To(0, 7), To(1, 7), To(2, 0xFFFF_FFFE), To(3, 1), Flags(0b0000), Both(5, 3), // umull r2, r3, r2, r3
         Nzcv(0b0000), R(0, 7), R(1, 7), R(2, 2), R(3, 0xFFFF_FFFF),   Arm(0xE0E3_2392), To(0, 7), To(1, 7), To(2, 0), To(3, 0xFFFF_FFFF), Flags(0b0000), Both(5, 3), // smlal r2, r3, r2, r3
-    ])
-}
 
-#[test]
-#[rattlefmt::skip]
-fn halves_are_multiplied(rt: HostRuntime) -> Result<(), AllocError> {
-    try_lines(&rt, rt.alloc(), &[
+        // halves are multiplied
         Nzcv(0b0110), R(0, 9), R(1, 0x3_FFFE), R(2, 0x5_0007), R(3, 0), Arm(0xE160_0281), To(0, 0xFFFF_FFF2), Flags(0b0110), Nine(2), // smulbb
         Nzcv(0b0110), R(0, 9), R(1, 0x3_FFFE), R(2, 0x5_0007), R(3, 0), Arm(0xE160_02A1), To(0, 0x15), Flags(0b0110),        Nine(2), // smultb
         Nzcv(0b0110), R(0, 9), R(1, 0x3_FFFE), R(2, 0x5_0007), R(3, 0), Arm(0xE160_02C1), To(0, 0xFFFF_FFF6), Flags(0b0110), Nine(2), // smulbt
@@ -62,13 +53,8 @@ fn halves_are_multiplied(rt: HostRuntime) -> Result<(), AllocError> {
         Nzcv(0b0110), R(0, 9), R(1, 0x8000_0000), R(2, 0x8000_8000), R(3, 0), Arm(0xE120_02A1), To(0, 0x4000_0000), Flags(0b0110), Nine(2), // smulwb
         Nzcv(0b0110), R(0, 9), R(1, 1), R(2, 0xFFFF), R(3, 0),        Arm(0xE120_02A1), To(0, 0xFFFF_FFFF), Flags(0b0110), Nine(2), // smulwb
         Nzcv(0b0110), R(0, 9), R(1, 0x1234_5678), R(2, 0x100), R(3, 0), Arm(0xE120_02A1), To(0, 0x12_3456), Flags(0b0110),   Nine(2), // smulwb
-    ])
-}
 
-#[test]
-#[rattlefmt::skip]
-fn products_are_accumulated(rt: HostRuntime) -> Result<(), AllocError> {
-    try_lines(&rt, rt.alloc(), &[
+        // products are accumulated
         Nzcv(0b0110), R(0, 9), R(1, 0x3_FFFE), R(2, 0x5_0007), R(3, 0x14), Arm(0xE100_3281), To(0, 6), Flags(0b0110),                   Nine(2), // smlabb
         Nzcv(0b0110), R(0, 9), R(1, 0x3_FFFE), R(2, 0x5_0007), R(3, 0x64), Arm(0xE100_32A1), To(0, 0x79), Flags(0b0110),                Nine(2), // smlatb
         Nzcv(0b0110), R(0, 9), R(1, 0x3_FFFE), R(2, 0x5_0007), R(3, 4), Arm(0xE100_32C1), To(0, 0xFFFF_FFFA), Flags(0b0110),         Nine(2), // smlabt
@@ -81,13 +67,8 @@ fn products_are_accumulated(rt: HostRuntime) -> Result<(), AllocError> {
         Nzcv(0b0110), R(0, 9), R(1, 0x1_0000), R(2, 0x5_FFFE), R(3, 2), Arm(0xE120_32C1), To(0, 7), Flags(0b0110),                   Nine(2), // smlawt
         Nzcv(0b0110), R(0, 9), R(1, 0x8000_0000), R(2, 0x8000_8000), R(3, 0x4000_0000), Arm(0xE120_3281), To(0, 0x8000_0000), To(CPSR, 0x6800_001F), Nine(2), // smlawb
         Nzcv(0b0110), R(0, 9), R(1, 0x1_0000), R(2, 0xFFFE), R(3, 0x7FFF_FFFF), Arm(0xE120_3281), To(0, 0x7FFF_FFFD), Flags(0b0110),         Nine(2), // smlawb
-    ])
-}
 
-#[test]
-#[rattlefmt::skip]
-fn products_are_accumulated_in_64_bits(rt: HostRuntime) -> Result<(), AllocError> {
-    try_lines(&rt, rt.alloc(), &[
+        // products are accumulated in 64 bits
         Nzcv(0b0110), R(0, 0), R(1, 0), R(2, 0x3_FFFE), R(3, 0x5_0007), Arm(0xE141_0382), To(0, 0xFFFF_FFF2), To(1, 0xFFFF_FFFF), Nine(3), // smlalbb
         Nzcv(0b0110), R(0, 0xFFFF_FFFF), R(1, 0), R(2, 0x3_FFFE), R(3, 0x5_0007), Arm(0xE141_03A2), To(0, 0x14), To(1, 1),                  Nine(3), // smlaltb
         Nzcv(0b0110), R(0, 0xA), R(1, 0), R(2, 0x3_FFFE), R(3, 0x5_0007), Arm(0xE141_03C2), To(0, 0), To(1, 0),                     Nine(3), // smlalbt
@@ -95,13 +76,8 @@ fn products_are_accumulated_in_64_bits(rt: HostRuntime) -> Result<(), AllocError
         // both results go to r1: it has the high word
         Nzcv(0b0110), R(0, 9), R(1, 0), R(2, 0x3_FFFE), R(3, 0x5_0007), Arm(0xE141_1382), To(0, 9), To(1, 0xFFFF_FFFF),           Nine(3), // smlalbb r1, r1
         Nzcv(0b0110), R(0, 9), R(1, 1), R(2, 0x3_FFFE), R(3, 0x5_0007), Arm(0xE141_13A2), To(0, 9), To(1, 1),                     Nine(3), // smlaltb r1, r1
-    ])
-}
 
-#[test]
-#[rattlefmt::skip]
-fn products_go_to_r15_without_its_low_bits(rt: HostRuntime) -> Result<(), AllocError> {
-    try_lines(&rt, rt.alloc(), &[
+        // products go to r15 without its low bits
         R(1, 0x3_FFFE), R(2, 0x5_0007), R(3, 0x100), Arm(0xE16F_02A1), Pc(0x14),               Nine(4), // smultb r15
         R(1, 0x3_FFFE), R(2, 0x5_0007), R(3, 0x100), Arm(0xE10F_32E1), Pc(0x10C),              Nine(4), // smlatt r15
         // r15 reads as 108h, and the high word goes to it
@@ -111,8 +87,9 @@ fn products_go_to_r15_without_its_low_bits(rt: HostRuntime) -> Result<(), AllocE
 
 #[test]
 #[rattlefmt::skip]
-fn zeros_above_the_highest_one_are_counted(rt: HostRuntime) -> Result<(), AllocError> {
+fn zeros_are_counted_and_sums_are_held(rt: HostRuntime) -> Result<(), AllocError> {
     try_lines(&rt, rt.alloc(), &[
+        // zeros above the highest one are counted
         Nzcv(0b1111), R(1, 0),           Arm(0xE16F_0F11), To(0, 0x20), Nine(1), // clz r0, r1
         Nzcv(0b1111), R(1, 1),           Arm(0xE16F_0F11), To(0, 0x1F), Nine(1), // clz r0, r1
         Nzcv(0b1111), R(1, 0x100),       Arm(0xE16F_0F11), To(0, 0x17), Nine(1), // clz r0, r1
@@ -123,13 +100,8 @@ fn zeros_above_the_highest_one_are_counted(rt: HostRuntime) -> Result<(), AllocE
         // r15 reads as 108h
                                          Arm(0xE16F_0F1F), To(0, 0x17), Nine(1), // clz r0, r15
         R(1, 1),                         Arm(0xE16F_FF11), Pc(0x1C),    Nine(3), // clz r15, r1
-    ])
-}
 
-#[test]
-#[rattlefmt::skip]
-fn sums_are_held_to_signed_words(rt: HostRuntime) -> Result<(), AllocError> {
-    try_lines(&rt, rt.alloc(), &[
+        // sums are held to signed words
         Nzcv(0b1010), R(0, 9), R(1, 0x7FFF_FFFF), R(2, 1),           Arm(0xE102_0051), To(0, 0x7FFF_FFFF), To(CPSR, 0xA800_001F), Nine(1), // qadd
         Nzcv(0b1010), R(0, 9), R(1, 0x7FFF_FFFE), R(2, 1),           Arm(0xE102_0051), To(0, 0x7FFF_FFFF), Flags(0b1010),         Nine(1), // qadd
         Nzcv(0b1010), R(0, 9), R(1, 0x8000_0000), R(2, 0xFFFF_FFFF), Arm(0xE102_0051), To(0, 0x8000_0000), To(CPSR, 0xA800_001F), Nine(1), // qadd
@@ -152,13 +124,8 @@ fn sums_are_held_to_signed_words(rt: HostRuntime) -> Result<(), AllocError> {
         Nzcv(0b1010), R(0, 9), R(1, 0), R(2, 0x4000_0000),           Arm(0xE162_0051), To(0, 0x8000_0001), To(CPSR, 0xA800_001F), Nine(1), // qdsub
         Nzcv(0b1010), R(0, 9), R(1, 0xFFFF_FFFF), R(2, 0x8000_0000), Arm(0xE162_0051), To(0, 0x7FFF_FFFF), To(CPSR, 0xA800_001F), Nine(1), // qdsub
         Nzcv(0b1010), R(0, 9), R(1, 0), R(2, 0xC000_0000),           Arm(0xE162_0051), To(0, 0x7FFF_FFFF), To(CPSR, 0xA800_001F), Nine(1), // qdsub
-    ])
-}
 
-#[test]
-#[rattlefmt::skip]
-fn q_stays_until_it_is_written_and_is_no_bit_of_armv4(rt: HostRuntime) -> Result<(), AllocError> {
-    try_lines(&rt, rt.alloc(), &[
+        // q stays until it is written and is no bit of armv4
         Cpsr(0x800_001F), R(1, 1), R(2, 1), Arm(0xE102_0051), To(0, 2),                                       Nine(1), // qadd
         Cpsr(0x800_001F), R(1, 1), R(2, 1), Arm(0xE091_0002), To(0, 2),                                       Nine(1), // adds r0, r1, r2
         Cpsr(0x800_001F), R(1, 0),          Arm(0xE128_F001), To(CPSR, 0x1F),                                 Nine(1), // msr cpsr_f, r1

@@ -9,8 +9,9 @@ use std::alloc::AllocError;
 
 #[test]
 #[rattlefmt::skip]
-fn msr_writes_its_fields_of_cpsr(rt: HostRuntime) -> Result<(), AllocError> {
+fn status_registers_are_read_and_written(rt: HostRuntime) -> Result<(), AllocError> {
     try_lines(&rt, rt.alloc(), &[
+        // msr writes its fields of cpsr
         Cpsr(0xDF), R(1, 0x13),               Arm(0xE121_F001), To(CPSR, 0x13),                                 Both(1, 1), // c from System
         Cpsr(0xD3), R(1, 0x32),               Arm(0xE121_F001), To(CPSR, 0x12),                                 Both(1, 1), // c with T
         Cpsr(0xF000_00D3), R(1, 0x1F),        Arm(0xE121_F001), To(CPSR, 0xF000_001F),                          Both(1, 1), // c keeps the flags
@@ -34,13 +35,8 @@ fn msr_writes_its_fields_of_cpsr(rt: HostRuntime) -> Result<(), AllocError> {
         // spsr, in modes without one
         Nzcv(0b0000), R(1, 0xFFFF_FFFF),      Arm(0xE16F_F001), Flags(0b0000),                                  Both(1, 1), // spsr in System
         Cpsr(0x10), R(1, 0xFFFF_FFFF),        Arm(0xE16F_F001), To(CPSR, 0x10),                                 Both(1, 1), // spsr in User
-    ])
-}
 
-#[test]
-#[rattlefmt::skip]
-fn msr_writes_its_fields_of_spsr(rt: HostRuntime) -> Result<(), AllocError> {
-    try_lines(&rt, rt.alloc(), &[
+        // msr writes its fields of spsr
         Cpsr(0x12), R(1, 0xFFFF_FFFF),                    Arm(0xE161_F001), To(SPSR_IRQ, 0xFF),                                     Both(1, 1), // c
         Cpsr(0x12), Spsr(0xF000_001F), R(1, 0x30),        Arm(0xE161_F001), To(SPSR_IRQ, 0xF000_0030),                              Both(1, 1), // c keeps the flags
         Cpsr(0x12), Spsr(0x13), R(1, 0xFFFF_FFFF),        Arm(0xE162_F001), To(SPSR_IRQ, 0x13),                                     Both(1, 1), // x
@@ -49,26 +45,39 @@ fn msr_writes_its_fields_of_spsr(rt: HostRuntime) -> Result<(), AllocError> {
         Cpsr(0x12), Spsr(0x6000_0013), R(1, 0x9FFF_FF30), Arm(0xE16F_F001), To7(SPSR_IRQ, 0x9000_0030), To9(SPSR_IRQ, 0x9800_0030), Both(1, 1), // fsxc
         Cpsr(0x12), Spsr(0xF000_0010), R(1, 0),           Arm(0xE369_F01F), To(SPSR_IRQ, 0x1F),                                     Both(1, 1), // fc, #0x1f
         Cpsr(0x12), Spsr(0x13), R(1, 0x12),               Arm(0xE12F_F001), To(SPSR_IRQ, 0x13),                                     Both(1, 1), // cpsr
-    ])
-}
 
-#[test]
-#[rattlefmt::skip]
-fn mrs_reads_a_status_register(rt: HostRuntime) -> Result<(), AllocError> {
-    try_lines(&rt, rt.alloc(), &[
+        // mrs reads a status register
         Cpsr(0xA000_00D2), Spsr(0x13), R(0, 7), Arm(0xE10F_0000), To(0, 0xA000_00D2), Both(1, 1), // cpsr
         Cpsr(0x6000_0010), R(0, 7),             Arm(0xE10F_0000), To(0, 0x6000_0010), Both(1, 1), // cpsr in User
         Cpsr(0xD2), Spsr(0x6000_0030), R(0, 7), Arm(0xE14F_0000), To(0, 0x6000_0030), Both(1, 1), // spsr of IRQ
         Cpsr(0xD1), Spsr(0x1F), R(0, 7),        Arm(0xE14F_0000), To(0, 0x1F),        Both(1, 1), // spsr of FIQ
         Cpsr(0xDF), R(0, 7),                    Arm(0xE14F_0000), To(0, 0),           Both(1, 1), // spsr of System
         Cpsr(0x6000_0010), R(0, 7),             Arm(0xE14F_0000), To(0, 0),           Both(1, 1), // spsr of User
+
+        // status registers of a mode that there is not
+        // there is no SPSR: it reads as 0, and isn't written
+        Cpsr(0x14), R(0, 7),           Arm(0xE14F_0000), To(0, 0),                                       Both(1, 1), // mrs r0, spsr
+        Cpsr(0x14), R(0, 7),           Arm(0xE10F_0000), To(0, 0x14),                                    Both(1, 1), // mrs r0, cpsr
+        Cpsr(0x14), R(1, 0xFFFF_FFFF), Arm(0xE16F_F001), To(CPSR, 0x14),                                 Both(1, 1), // msr spsr_fsxc, r1
+        Cpsr(0x14), R(1, 0xFFFF_FFFF), Arm(0xE128_F001), To7(CPSR, 0xF000_0014), To9(CPSR, 0xF800_0014), Both(1, 1), // msr cpsr_f, r1
+        Cpsr(0x14), R(1, 0xD3),        Arm(0xE12F_F001), To(CPSR, 0xD3),                                 Both(1, 1), // msr cpsr_fsxc, r1
+        // and it can be entered
+        Cpsr(0xDF), R(1, 0x14),        Arm(0xE121_F001), To(CPSR, 0x14),                                 Both(1, 1), // msr cpsr_c, r1
+
+        // q is a bit of each status register of armv5
+        Cpsr(0xD2), Spsr(0x6800_0030), R(0, 7),  Arm(0xE14F_0000), To(0, 0x6800_0030),              Nine(1), // mrs r0, spsr
+        Cpsr(0x12), Spsr(0xF800_0013), R(1, 0),  Arm(0xE168_F001), To(SPSR_IRQ, 0x13),              Nine(1), // msr spsr_f, r1
+        Cpsr(0xF800_0010), R(1, 0),              Arm(0xE128_F001), To(CPSR, 0x10),                  Nine(1), // msr cpsr_f, r1 in User mode
+        Cpsr(0x10), R(1, 0x0800_0000),           Arm(0xE12F_F001), To(CPSR, 0x0800_0010),           Nine(1), // msr cpsr_fsxc, r1 in User mode
+        Cpsr(0x92), Spsr(0xF800_001F), R(1, 0x204), Arm(0xE1B0_F001), Pc(0x204), To(CPSR, 0xF800_001F), Nine(3), // movs r15, r1
     ])
 }
 
 #[test]
 #[rattlefmt::skip]
-fn registers_of_cp15_are_read(rt: HostRuntime) -> Result<(), AllocError> {
+fn cp15_is_read_and_written(rt: HostRuntime) -> Result<(), AllocError> {
     try_lines(&rt, rt.alloc(), &[
+        // registers of cp15 are read
         R(0, 5),           Arm(0xEE10_0F10), To(0, 0x4105_9461),    Nine(2), // main ID
         R(0, 5),           Arm(0xEE10_0F30), To(0, 0xF0D_2112),     Nine(2), // cache type
         R(0, 5),           Arm(0xEE10_0F50), To(0, 0x14_0180),      Nine(2), // size of the memories
@@ -80,13 +89,8 @@ fn registers_of_cp15_are_read(rt: HostRuntime) -> Result<(), AllocError> {
         // r15 stands for N, Z, C and V
         Cpsr(0xB800_001F), Arm(0xEE10_FF10), To(CPSR, 0x4800_001F), Nine(2), // mrc p15, 0, r15, c0, c0, 0
         R(0, 5),           Arm(0x0E10_0F10),                        Nine(1), // mrceq
-    ])
-}
 
-#[test]
-#[rattlefmt::skip]
-fn registers_of_cp15_are_written(rt: HostRuntime) -> Result<(), AllocError> {
-    try_lines(&rt, rt.alloc(), &[
+        // registers of cp15 are written
         R(0, 0xFFFF_FF7F), Arm(0xEE01_0F10), Kept(0xF_707D, 0x300_000A, 0x20),  Nine(2), // control
         R(0, 0),           Arm(0xEE01_0F10), Kept(0x78, 0x300_000A, 0x20),      Nine(2), // control
         R(0, 0xFFFF_FFFF), Arm(0xEE09_0F11), Kept(0x5_2078, 0xFFFF_F03E, 0x20), Nine(2), // DTCM
@@ -96,56 +100,19 @@ fn registers_of_cp15_are_written(rt: HostRuntime) -> Result<(), AllocError> {
         R(0, 0),           Arm(0xEE27_0F90),                                    Nine(2), // a halt by another operation
         // r15 gives 108h
                            Arm(0xEE09_FF11), Kept(0x5_2078, 8, 0x20),           Nine(2), // mcr p15, 0, r15, c9, c1, 0
-    ])
-}
 
-#[test]
-#[rattlefmt::skip]
-fn a_write_halts_or_is_left_out(rt: HostRuntime) -> Result<(), AllocError> {
-    try_lines(&rt, rt.alloc(), &[
+        // a write halts or is left out
                         Arm(0xEE07_0F90),            Halts(2), // mcr p15, 0, r0, c7, c0, 4
                         Arm(0x0E07_0F90),            Nine(1), // mcreq p15, 0, r0, c7, c0, 4
         R(0, 5),        Arm(0xEE17_0F90), To(0, 0),  Nine(2), // mrc p15, 0, r0, c7, c0, 4
         // the core and CP15 are as they were
         R(0, 0x5_20F8), Arm(0xEE01_0F10), Pc(0x100), Stops9(BigEndian, 0x5_20F8), // mcr p15, 0, r0, c1, c0, 0
-    ])
-}
 
-#[test]
-#[rattlefmt::skip]
-fn other_coprocessors_are_undefined(rt: HostRuntime) -> Result<(), AllocError> {
-    try_lines(&rt, rt.alloc(), &[
+        // other coprocessors are undefined
         R(0, 5), Arm(0xEE10_0E10), Vector(4), To(LR_UND, 0x104), To(SPSR_UND, 0x1F), To(CPSR, 0x9B), Nine(3), // mrc p14, 0, r0, c0, c0, 0
         R(0, 5), Arm(0xEE07_0090), Vector(4), To(LR_UND, 0x104), To(SPSR_UND, 0x1F), To(CPSR, 0x9B), Nine(3), // mcr p0, 0, r0, c7, c0, 4
         R(0, 5), Arm(0x0E10_0E10),                                                               Nine(1), // mrceq p14
         // a data operation
                  Arm(0xEE00_0F00), Vector(4), To(LR_UND, 0x104), To(SPSR_UND, 0x1F), To(CPSR, 0x9B), Both(3, 3), // cdp p15
-    ])
-}
-
-#[test]
-#[rattlefmt::skip]
-fn status_registers_of_a_mode_that_there_is_not(rt: HostRuntime) -> Result<(), AllocError> {
-    try_lines(&rt, rt.alloc(), &[
-        // there is no SPSR: it reads as 0, and isn't written
-        Cpsr(0x14), R(0, 7),           Arm(0xE14F_0000), To(0, 0),                                       Both(1, 1), // mrs r0, spsr
-        Cpsr(0x14), R(0, 7),           Arm(0xE10F_0000), To(0, 0x14),                                    Both(1, 1), // mrs r0, cpsr
-        Cpsr(0x14), R(1, 0xFFFF_FFFF), Arm(0xE16F_F001), To(CPSR, 0x14),                                 Both(1, 1), // msr spsr_fsxc, r1
-        Cpsr(0x14), R(1, 0xFFFF_FFFF), Arm(0xE128_F001), To7(CPSR, 0xF000_0014), To9(CPSR, 0xF800_0014), Both(1, 1), // msr cpsr_f, r1
-        Cpsr(0x14), R(1, 0xD3),        Arm(0xE12F_F001), To(CPSR, 0xD3),                                 Both(1, 1), // msr cpsr_fsxc, r1
-        // and it can be entered
-        Cpsr(0xDF), R(1, 0x14),        Arm(0xE121_F001), To(CPSR, 0x14),                                 Both(1, 1), // msr cpsr_c, r1
-    ])
-}
-
-#[test]
-#[rattlefmt::skip]
-fn q_is_a_bit_of_each_status_register_of_armv5(rt: HostRuntime) -> Result<(), AllocError> {
-    try_lines(&rt, rt.alloc(), &[
-        Cpsr(0xD2), Spsr(0x6800_0030), R(0, 7),  Arm(0xE14F_0000), To(0, 0x6800_0030),              Nine(1), // mrs r0, spsr
-        Cpsr(0x12), Spsr(0xF800_0013), R(1, 0),  Arm(0xE168_F001), To(SPSR_IRQ, 0x13),              Nine(1), // msr spsr_f, r1
-        Cpsr(0xF800_0010), R(1, 0),              Arm(0xE128_F001), To(CPSR, 0x10),                  Nine(1), // msr cpsr_f, r1 in User mode
-        Cpsr(0x10), R(1, 0x0800_0000),           Arm(0xE12F_F001), To(CPSR, 0x0800_0010),           Nine(1), // msr cpsr_fsxc, r1 in User mode
-        Cpsr(0x92), Spsr(0xF800_001F), R(1, 0x204), Arm(0xE1B0_F001), Pc(0x204), To(CPSR, 0xF800_001F), Nine(3), // movs r15, r1
     ])
 }

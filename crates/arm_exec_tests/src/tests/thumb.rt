@@ -8,8 +8,9 @@ use std::alloc::AllocError;
 
 #[test]
 #[rattlefmt::skip]
-fn thumb_shifts_sums_and_immediates(rt: HostRuntime) -> Result<(), AllocError> {
+fn thumb_processes_data(rt: HostRuntime) -> Result<(), AllocError> {
     try_lines(&rt, rt.alloc(), &[
+        // thumb shifts sums and immediates
         Nzcv(0b0011), R(0, 7), R(1, 0x8000_0001), R(2, 0), Thumb(0x0008), To(0, 0x8000_0001), Flags(0b1011), Both(1, 1), // lsl r0, r1, #0
         Nzcv(0b0000), R(0, 7), R(1, 0x8000_0001), R(2, 0), Thumb(0x0048), To(0, 2), Flags(0b0010),           Both(1, 1), // lsl r0, r1, #1
         Nzcv(0b0000), R(0, 7), R(1, 3), R(2, 0),           Thumb(0x07C8), To(0, 0x8000_0000), Flags(0b1010), Both(1, 1), // lsl r0, r1, #31
@@ -32,13 +33,8 @@ fn thumb_shifts_sums_and_immediates(rt: HostRuntime) -> Result<(), AllocError> {
         Nzcv(0b1111), R(0, 7), R(1, 0), R(2, 0),           Thumb(0x30FF), To(0, 0x106), Flags(0b0000),       Both(1, 1), // add r0, #0xff
         Nzcv(0b1001), R(0, 7), R(1, 0), R(2, 0),           Thumb(0x3807), To(0, 0), Flags(0b0110),           Both(1, 1), // sub r0, #7
         Nzcv(0b0110), R(0, 7), R(1, 0), R(2, 0),           Thumb(0x3808), To(0, 0xFFFF_FFFF), Flags(0b1000), Both(1, 1), // sub r0, #8
-    ])
-}
 
-#[test]
-#[rattlefmt::skip]
-fn thumb_operations_of_two_registers(rt: HostRuntime) -> Result<(), AllocError> {
-    try_lines(&rt, rt.alloc(), &[
+        // thumb operations of two registers
         Nzcv(0b0011), R(0, 0xF0F0_F0F0), R(1, 0x8000_00FF), Thumb(0x4008), To(0, 0x8000_00F0), Flags(0b1011), Both(1, 1), // and
         Nzcv(0b0010), R(0, 0xFF), R(1, 0xFF),               Thumb(0x4048), To(0, 0), Flags(0b0110),           Both(1, 1), // eor
         Nzcv(0b0000), R(0, 0x8000_0001), R(1, 1),           Thumb(0x4088), To(0, 2), Flags(0b0010),           Both(2, 2), // lsl by 1
@@ -68,13 +64,8 @@ fn thumb_operations_of_two_registers(rt: HostRuntime) -> Result<(), AllocError> 
         Nzcv(0b0100), R(0, 0xFFFF_FFFF), R(1, 2),           Thumb(0x4348), To(0, 0xFFFF_FFFE), Flags(0b1000), Both(4, 2), // mul
         Nzcv(0b0010), R(0, 0xFF), R(1, 0xF),                Thumb(0x4388), To(0, 0xF0), Flags(0b0010),        Both(1, 1), // bic
         Nzcv(0b0011), R(0, 5), R(1, 0),                     Thumb(0x43C8), To(0, 0xFFFF_FFFF), Flags(0b1011), Both(1, 1), // mvn
-    ])
-}
 
-#[test]
-#[rattlefmt::skip]
-fn thumb_reaches_high_registers(rt: HostRuntime) -> Result<(), AllocError> {
-    try_lines(&rt, rt.alloc(), &[
+        // thumb reaches high registers
         Nzcv(0b1111), R(0, 5), R(1, 0x205), R(8, 6), R(14, 0x185), Thumb(0x4488), To(8, 0x20B),  Both(1, 1), // add r8, r1
         Nzcv(0b1111), R(0, 5), R(1, 0x205), R(8, 6), R(14, 0x185), Thumb(0x4440), To(0, 0xB),    Both(1, 1), // add r0, r8
         Nzcv(0b1111), R(0, 5), R(1, 0x205), R(8, 6), R(14, 0x185), Thumb(0x44F5), To(SP, 0x185), Both(1, 1), // add r13, r14
@@ -91,13 +82,8 @@ fn thumb_reaches_high_registers(rt: HostRuntime) -> Result<(), AllocError> {
         // r15 isn't aligned
         At(0x102), R(0, 5),                                        Thumb(0x4478), To(0, 0x10B),  Both(1, 1), // add r0, r15 at 102h
         Cpsr(0x31), R(1, 3),                                       Thumb(0x4688), To(R8_FIQ, 3), Both(1, 1), // mov r8, r1 in FIQ mode
-    ])
-}
 
-#[test]
-#[rattlefmt::skip]
-fn thumb_sums_of_r13_keep_the_flags(rt: HostRuntime) -> Result<(), AllocError> {
-    try_lines(&rt, rt.alloc(), &[
+        // thumb sums of r13 keep the flags
         Nzcv(0b1111), R(13, 0x40), Thumb(0xA801), To(0, 0x44),         Both(1, 1), // add r0, r13, #0x4
         R(13, 0x40),               Thumb(0xAFFF), To(7, 0x43C),        Both(1, 1), // add r7, r13, #0x3fc
         Nzcv(0b1111), R(13, 0x40), Thumb(0xB001), To(SP, 0x44),        Both(1, 1), // add r13, #0x4
@@ -111,8 +97,9 @@ fn thumb_sums_of_r13_keep_the_flags(rt: HostRuntime) -> Result<(), AllocError> {
 
 #[test]
 #[rattlefmt::skip]
-fn thumb_loads(rt: HostRuntime) -> Result<(), AllocError> {
+fn thumb_loads_and_stores(rt: HostRuntime) -> Result<(), AllocError> {
     try_lines(&rt, rt.alloc(), &[
+        // thumb loads
         R(1, 0x40), R(2, 4), Thumb(0x5888), To(0, 9),                                 Both(3, 2), // ldr r0, [r1, r2]
         R(2, 1),             Thumb(0x5888), To(0, 0x1144_3322),                       Both(3, 2), // ldr at 1
         R(1, 8), R(2, 2),    Thumb(0x5A88), To(0, 0x8483),                            Both(3, 2), // ldrh r0, [r1, r2]
@@ -125,13 +112,8 @@ fn thumb_loads(rt: HostRuntime) -> Result<(), AllocError> {
                              Thumb(0x7848), To(0, 0x22),                              Both(3, 2), // ldrb r0, [r1, #0x1]
                              Thumb(0x8848), To(0, 0x4433),                            Both(3, 2), // ldrh r0, [r1, #0x2]
         R(13, 0x40),         Thumb(0x9801), To(0, 9),                                 Both(3, 2), // ldr r0, [r13, #0x4]
-    ])
-}
 
-#[test]
-#[rattlefmt::skip]
-fn thumb_stores(rt: HostRuntime) -> Result<(), AllocError> {
-    try_lines(&rt, rt.alloc(), &[
+        // thumb stores
         R(0, 0x1234_5678), R(1, 0x40), R(2, 4), Thumb(0x5088), Mem(0x44, 0x1234_5678), Both(2, 1), // str r0, [r1, r2]
         R(0, 0x1234_5678), R(1, 0x40), R(2, 2), Thumb(0x5288), Mem(0x40, 0x5678_0007), Both(2, 1), // strh r0, [r1, r2]
         R(0, 0x1234_5678), R(1, 0x40), R(2, 1), Thumb(0x5488), Mem(0x40, 0x7807),      Both(2, 1), // strb r0, [r1, r2]
@@ -139,13 +121,8 @@ fn thumb_stores(rt: HostRuntime) -> Result<(), AllocError> {
         R(0, 0x1234_5678), R(1, 0x40),          Thumb(0x7048), Mem(0x40, 0x7807),      Both(2, 1), // strb r0, [r1, #0x1]
         R(0, 0x1234_5678), R(1, 0x40),          Thumb(0x8048), Mem(0x40, 0x5678_0007), Both(2, 1), // strh r0, [r1, #0x2]
         R(0, 0x1234_5678), R(13, 0x40),         Thumb(0x9001), Mem(0x44, 0x1234_5678), Both(2, 1), // str r0, [r13, #0x4]
-    ])
-}
 
-#[test]
-#[rattlefmt::skip]
-fn thumb_lists_are_stored(rt: HostRuntime) -> Result<(), AllocError> {
-    try_lines(&rt, rt.alloc(), &[
+        // thumb lists are stored
         R(0, 5), R(1, 0x40), R(2, 6), R(13, 0x80), R(14, 0x77),       Thumb(0xB405), To(SP, 0x78), Mem(0x78, 5), Mem(0x7C, 6),                     Both(3, 2), // push {r0, r2}
         R(0, 5), R(1, 0x40), R(2, 6), R(13, 0x80), R(14, 0x77),       Thumb(0xB501), To(SP, 0x78), Mem(0x78, 5), Mem(0x7C, 0x77),                  Both(3, 2), // push {r0, r14}
         R(0, 5), R(1, 0x40), R(2, 6), R(13, 0x80), R(14, 0x77),       Thumb(0xB500), To(SP, 0x7C), Mem(0x7C, 0x77),                                Both(2, 1), // push {r14}
@@ -159,13 +136,8 @@ fn thumb_lists_are_stored(rt: HostRuntime) -> Result<(), AllocError> {
         R(0, 5), R(1, 0x40), R(2, 6), R(13, 0x80), R(14, 0x77),       Thumb(0xC107), To(1, 0x4C), Mem(0x40, 5), Mem(0x48, 6), Mem7(0x44, 0x4C), Mem9(0x44, 0x40), Both(4, 3), // stmia r1!, {r0, r1, r2}
         R(0, 5), R(1, 0x40), R(2, 6), R(13, 0x80), R(14, 0x77),       Thumb(0xC100), To(1, 0x80), Mem7(0x40, 0x104),                               Both(1, 1), // stmia r1!, {}
         Cpsr(0x32), R(0, 5), R(1, 0x40), R(2, 6), R(13, 0x80), R(14, 0x77), Thumb(0xB500), To(SP_IRQ, 0x7C), Mem(0x7C, 0x77),                            Both(2, 1), // push {r14} in IRQ mode
-    ])
-}
 
-#[test]
-#[rattlefmt::skip]
-fn thumb_lists_are_loaded(rt: HostRuntime) -> Result<(), AllocError> {
-    try_lines(&rt, rt.alloc(), &[
+        // thumb lists are loaded
         R(13, 0x40),             Thumb(0xBC03), To(0, 7), To(1, 9), To(SP, 0x48),  Both(4, 3), // pop {r0, r1}
         // bit 0 is cleared
         R(13, 0x44),             Thumb(0xBD01), To(0, 9), To(SP, 0x4C), Pc(0x182), Both(6, 5), // pop {r0, r15}

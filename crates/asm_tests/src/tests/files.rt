@@ -19,7 +19,7 @@ fn both_ways(
 ) -> Result<(), AllocError> {
     let mut sink = QuietSink::new(alloc, 6_000)?;
     assert!(rt; write_listing(arch, set, at, image, &mut sink).is_ok());
-    assert_eq!(rt; sink.bytes(), text.as_bytes());
+    assert!(rt; sink.bytes() == text.as_bytes());
     reads(rt, alloc, text, image)
 }
 
@@ -27,19 +27,16 @@ fn reads(rt: &impl Abort, alloc: Global, text: &str, image: &[u8]) -> Result<(),
     let mut place = Vec::from_slice(alloc, text.as_bytes())?;
     assert!(rt; place.len() < 0x1_0000_0000);
     let read = assemble(place.as_mut_slice());
-    assert_eq!(rt; read, Ok(image.len()));
-    assert_eq!(rt; &place.as_slice()[..image.len()], image);
+    assert!(rt; read == Ok(image.len()));
+    assert!(rt; &place.as_slice()[..image.len()] == image);
     Ok(())
 }
 
 fn is_bad(rt: &impl Abort, alloc: Global, text: &str, line: u32) -> Result<(), AllocError> {
     let mut place = Vec::from_slice(alloc, text.as_bytes())?;
     assert!(rt; place.len() < 0x1_0000_0000);
-    assert_eq!(rt;
-        assemble(place.as_mut_slice()),
-        Err(BadLine { line }),
-        "{text}"
-    );
+    let read = assemble(place.as_mut_slice());
+    assert!(rt; read == Err(BadLine { line }), "{text}");
     Ok(())
 }
 
@@ -174,7 +171,7 @@ fn a_page_that_is_not_taken_ends_a_listing(rt: HostRuntime) -> Result<(), AllocE
         assert!(rt; written.is_err(), "{call}");
         assert!(rt; text.as_bytes().starts_with(sink.bytes()), "{call}");
         assert!(rt; sink.bytes().len() < 5_110, "{call}");
-        assert_eq!(rt; sink.bytes().is_empty(), call == 1, "{call}");
+        assert!(rt; sink.bytes().is_empty() == (call == 1), "{call}");
     }
     Ok(())
 }

@@ -1,5 +1,0 @@
-//! Tests of whole listings, written by hand from the ARM manual's encodings. Nothing stands on this crate.
-#![tactic(auto)]
-
-#[cfg(test)]
-mod tests;

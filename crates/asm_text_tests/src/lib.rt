@@ -1,6 +1,0 @@
-//! Tests of the statements: words and halves with their texts, written by hand from the ARM manual's encodings. Nothing stands on
-//! this crate.
-#![tactic(auto)]
-
-#[cfg(test)]
-mod tests;

@@ -6,18 +6,19 @@ use Rattle.std.proofs.lemmas.List.Elements.{Contains-append_left, Contains-appen
 use Rattle.std.proofs.lemmas.List.Folds.{find-append}
 use Rattle.std.proofs.lemmas.Nat.{shr-shr, shr_below, ones-le}
 use lib.Count.{ones_step}
-use Rattle.ds_base.specs.Accesses.{Access}
+use Rattle.ds_base.specs.Accesses.{Access, Fetch, Read, Write}
 use Rattle.ds_base.specs.Numbers.{aligned_down}
-use Rattle.ds_base.specs.declared.memories.Width.TheVariants.{Word}
+use Rattle.ds_base.specs.declared.memories.Width.TheVariants.{Byte, Half, Word}
 use Rattle.ds_base.specs.declared.processors.Arch.{Arch}
 use Rattle.ds_base.specs.declared.processors.Arch.TheVariants.{V4, V5}
 use Rattle.arm_core.specs.Registers.{RegisterState, register, late_register}
 use Rattle.arm_core.specs.Addressing.{listed_registers, listed_from, list_bytes, lowest, moved_base}
 use Rattle.arm_core.specs.Multiples.{reads, writes, transferred, reached_bank, stored_value, stores_new_base, multiple_meaning}
 use Rattle.arm_core.specs.Doubles.{double_at}
-use Rattle.arm_core.specs.Footprints.{span, accessed_bytes, touched_bytes, first_without, Covers, GoesOver}
+use Rattle.arm_core.specs.Footprints.{span, access_bytes, accessed_bytes, touched_bytes, first_without, Covers, GoesOver, HasBytes, TellsNothing}
 use Rattle.arm_core.specs.declared.addresses.Addressed.{Addressed}
 use Rattle.arm_core.specs.declared.touches.Touch.{Touch}
+use Rattle.arm_core.specs.declared.touches.Touch.TheVariants.{Nothing, Span}
 
 -- Spans
 
@@ -157,3 +158,45 @@ multiple_over arch s pre up user write_back false rn list touch within h =
     let count = count_listed (transferred arch list) (transferred_within arch list within) in
     let value = stored_value s (reached_bank s user) rn (write_back && not (rn == 15) && stores_new_base arch rn list) (moved_base up (register s rn) (list_bytes list)) in
     inl (words_written at (map value rs) ∙ ap (λ (n : ℕ). span (aligned_down Word at) (4 * n)) (length-map rs value ∙ count) ∙ sym h)
+
+-- Where there is nothing
+
+abbrev IsSome : List ℕ → Type 0
+IsSome [] = ⊥
+IsSome (at ∷ rest) = Unit {0}
+
+-- an access has a byte
+access_some : (access : Access) (rest : List ℕ) → IsSome (access_bytes access ++ rest)
+access_some (Fetch at Byte) rest = tt
+access_some (Fetch at Half) rest = tt
+access_some (Fetch at Word) rest = tt
+access_some (Read at Byte) rest = tt
+access_some (Read at Half) rest = tt
+access_some (Read at Word) rest = tt
+access_some (Write at Byte value) rest = tt
+access_some (Write at Half value) rest = tt
+access_some (Write at Word value) rest = tt
+
+-- accesses of no byte are none
+none_accessed : (accesses : List Access) → accessed_bytes accesses ≡ [] → accesses ≡ []
+none_accessed [] h = refl
+none_accessed (access ∷ rest) h = absurd (subst IsSome h (access_some access (accessed_bytes rest)))
+
+-- so a touch that has bytes tells where there are none, gone over once
+pub nothing_once : (touch : Touch) (accesses : List Access) → HasBytes touch → touched_bytes touch ≡ accessed_bytes accesses → TellsNothing touch accesses
+nothing_once Nothing accesses some h = (λ e. none_accessed accesses (sym h), λ e. refl)
+nothing_once (Span first (suc length)) [] some h = (λ e. refl, λ e. absurd (subst IsSome h tt))
+nothing_once (Span first (suc length)) (access ∷ rest) some h = (λ e. cc e, λ e. cc e)
+nothing_once (Span first zero) accesses some h = absurd (omega (arith, some))
+
+-- or twice
+nothing_twice : (touch : Touch) (accesses : List Access) → HasBytes touch → accessed_bytes accesses ≡ touched_bytes touch ++ touched_bytes touch
+    → TellsNothing touch accesses
+nothing_twice Nothing accesses some h = (λ e. none_accessed accesses h, λ e. refl)
+nothing_twice (Span first (suc length)) [] some h = (λ e. refl, λ e. absurd (subst IsSome (sym h) tt))
+nothing_twice (Span first (suc length)) (access ∷ rest) some h = (λ e. cc e, λ e. cc e)
+nothing_twice (Span first zero) accesses some h = absurd (omega (arith, some))
+
+pub nothing_over : (touch : Touch) (accesses : List Access) → HasBytes touch → GoesOver touch accesses → TellsNothing touch accesses
+nothing_over touch accesses some (inl once) = nothing_once touch accesses some (sym once)
+nothing_over touch accesses some (inr twice) = nothing_twice touch accesses some twice

@@ -1,4 +1,4 @@
-use Rattle.std.specs.Prelude.{ℕ, zero, suc, ◌≡◌, ◌+◌, ◌%◌, ◌^◌, ◌↔◌, ◌⊎◌, ◌++◌, Contains, Bool, not, List, [], ◌∷◌, Option}
+use Rattle.std.specs.Prelude.{ℕ, zero, suc, ◌≡◌, ◌<◌, ◌+◌, ◌%◌, ◌^◌, ◌↔◌, ◌⊎◌, ◌++◌, Contains, Bool, not, List, [], ◌∷◌, Option}
 use Rattle.std.specs.List.{find}
 use Rattle.ds_base.specs.Accesses.{Access, Fetch, Read, Write}
 use Rattle.ds_base.specs.Numbers.{aligned_down, width_bytes}
@@ -25,6 +25,15 @@ accessed_bytes (access ∷ rest) = access_bytes access ++ accessed_bytes rest
 abbrev pub touched_bytes : Touch → List ℕ
 touched_bytes Nothing = []
 touched_bytes (Span first length) = span first length
+
+-- a span has a byte at least
+abbrev pub HasBytes : Touch → Type 0
+HasBytes Nothing = Unit {0}
+HasBytes (Span first length) = 0 < length
+
+-- a touch says that there is nothing exactly where there is no access
+abbrev pub TellsNothing : Touch → List Access → Type 0
+TellsNothing touch accesses = (touch ≡ Nothing) ↔ (accesses ≡ [])
 
 -- a touch has exactly the bytes of some accesses
 abbrev pub Covers : Touch → List Access → Type 0

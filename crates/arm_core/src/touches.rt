@@ -5,7 +5,7 @@ ghost use Rattle.ds_base.specs.Numbers.{aligned_down, width_bytes};
 ghost use Rattle.ds_base.specs.declared.memories.Width.TheVariants.{Byte, Word};
 ghost use Rattle.arm_words.specs.Fields.{HasFields};
 ghost use Rattle.arm_core.specs.Doubles.{double_at};
-ghost use Rattle.arm_core.specs.Footprints.{Covers, GoesOver, accessed_bytes, first_without, span, touched_bytes};
+ghost use Rattle.arm_core.specs.Footprints.{Covers, GoesOver, HasBytes, TellsNothing, accessed_bytes, first_without, span, touched_bytes};
 ghost use Rattle.arm_core.specs.Meanings.{act, meaning};
 ghost use Rattle.arm_core.specs.Multiples.{multiple_meaning};
 ghost use Rattle.arm_core.specs.Registers.{RegisterState};
@@ -30,7 +30,7 @@ pub enum Touch {
     Span {
         /// The first byte's address.
         first: u32,
-        /// How many bytes there are.
+        /// How many bytes there are, of which there is one at least.
         length: u32,
     },
 }
@@ -38,7 +38,8 @@ pub enum Touch {
 /// The bytes of an access, which is aligned (ARM manual, A2.8 "Unaligned access support").
 #[inline(always)]
 pub fn access_touch(at: u32, width: Width) -> Touch
-    ensures { touched_bytes result ≡ span (aligned_down width at) (width_bytes width) }
+    ensures bytes { touched_bytes result ≡ span (aligned_down width at) (width_bytes width) }
+    ensures some { HasBytes result }
 {
     let length = width.bytes();
     Touch::Span {
@@ -60,6 +61,7 @@ pub fn width_by(byte: bool) -> Width
 pub fn half_touch(arch: Arch, op: HalfOp, to: Addressed) -> Touch
     ensures over { (s : RegisterState) → (rn : ℕ) → (rd : ℕ) → GoesOver result (half_or_signed_meaning arch s op rn rd to).accesses }
     ensures bytes { (s : RegisterState) → (rn : ℕ) → (rd : ℕ) → touched_bytes result ≡ accessed_bytes (half_or_signed_meaning arch s op rn rd to).accesses }
+    ensures some { HasBytes result }
 {
     let width = match op {
         HalfOp::Strh | HalfOp::Ldrh => Width::Half,
@@ -76,7 +78,8 @@ pub fn half_touch(arch: Arch, op: HalfOp, to: Addressed) -> Touch
 #[inline(always)]
 fn words_touch(at: u32, count: u32) -> Touch
     requires { count ≤ 16 }
-    ensures { touched_bytes result ≡ span (aligned_down Word at) (4 * count) }
+    ensures bytes { touched_bytes result ≡ span (aligned_down Word at) (4 * count) }
+    ensures some { HasBytes result }
 {
     if count == 0 {
         return Touch::Nothing;
@@ -91,7 +94,8 @@ fn words_touch(at: u32, count: u32) -> Touch
 #[tactic(auto, using(crate::proofs::Footprints::double_over))]
 #[inline(always)]
 fn double_touch(to: Addressed) -> Touch
-    ensures { (s : RegisterState) → (store : Bool) → (rn : ℕ) → (rd : ℕ) → GoesOver result (double_at s store rn rd to).accesses }
+    ensures over { (s : RegisterState) → (store : Bool) → (rn : ℕ) → (rd : ℕ) → GoesOver result (double_at s store rn rd to).accesses }
+    ensures some { HasBytes result }
 {
     words_touch(to.address, 2)
 }
@@ -100,7 +104,8 @@ fn double_touch(to: Addressed) -> Touch
 #[inline(always)]
 fn list_touch(arch: Arch, s: &Registers, pre: bool, up: bool, rn: u8, list: u16) -> Touch
     requires { rn < 16 }
-    ensures { (user : Bool) → (write_back : Bool) → (load : Bool) → GoesOver result (multiple_meaning arch s.now pre up user write_back load rn list).accesses }
+    ensures over { (user : Bool) → (write_back : Bool) → (load : Bool) → GoesOver result (multiple_meaning arch s.now pre up user write_back load rn list).accesses }
+    ensures some { HasBytes result }
 {
     let at = lowest(pre, up, s.get(rn), list_bytes(list));
     words_touch(at, transferred(arch, list).count_ones())
@@ -110,7 +115,8 @@ fn list_touch(arch: Arch, s: &Registers, pre: bool, up: bool, rn: u8, list: u16)
 #[inline]
 fn act_touch(arch: Arch, s: &Registers, instr: &Instr) -> Touch
     requires { HasFields instr.now }
-    ensures { (base : ℕ) → GoesOver result (act arch base s.now instr.now).accesses }
+    ensures over { (base : ℕ) → GoesOver result (act arch base s.now instr.now).accesses }
+    ensures some { HasBytes result }
 {
     match *instr {
         Instr::Transfer {
@@ -167,7 +173,8 @@ fn act_touch(arch: Arch, s: &Registers, instr: &Instr) -> Touch
 #[inline]
 fn touched(arch: Arch, s: &Registers, instr: &Instr) -> Touch
     requires { HasFields instr.now }
-    ensures { (base : ℕ) → GoesOver result (meaning arch base s.now instr.now).accesses }
+    ensures over { (base : ℕ) → GoesOver result (meaning arch base s.now instr.now).accesses }
+    ensures some { HasBytes result }
 {
     if holds(condition(instr), s.cpsr()) {
         act_touch(arch, s, &equivalent(instr))
@@ -177,12 +184,13 @@ fn touched(arch: Arch, s: &Registers, instr: &Instr) -> Touch
 }
 
 /// The bytes that an instruction's accesses of data reach, told before it is executed: exactly those, and in the order in which they are
-/// first reached. Where its condition fails it reaches none.
+/// first reached. It is `Nothing` exactly where there is no access of data, as where its condition fails.
 #[inline]
 pub fn footprint(core: &Core, instr: &Instr) -> Touch
     requires fields { HasFields instr.now }
     ensures covers { (base : ℕ) → Covers result (meaning core.now.arch base core.now.registers instr.now).accesses }
     ensures order { (base : ℕ) → (is_there : ℕ → Bool) → first_without is_there (touched_bytes result) ≡ first_without is_there (accessed_bytes (meaning core.now.arch base core.now.registers instr.now).accesses) }
+    ensures nothing { (base : ℕ) → TellsNothing result (meaning core.now.arch base core.now.registers instr.now).accesses }
 {
     touched(core.arch, &core.registers, instr)
 }

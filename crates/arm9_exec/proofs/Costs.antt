@@ -30,7 +30,7 @@ module _ (s : RegisterState) (cp : Cp15State) where
       let r = register_moved m in let value = register s m.rd in
       rw h (written_costs r value (write_answer r value))
 
-  moved_costs : (m : Moved) (does : Bool) → holds m.cond s.cpsr ≡ does → CostsSome (moved_if s cp m).stepped
+  pub moved_costs : (m : Moved) (does : Bool) → holds m.cond s.cpsr ≡ does → CostsSome (moved_if s cp m).stepped
   moved_costs m true h = rw h (over_costs m m.load refl)
   moved_costs m false h = rw h (some_cost V5 (skipped s))
 

@@ -13,22 +13,26 @@ use ds_base::Arch;
 
 /// A move between a register and one of CP15's (ARM manual, A4.1 "MCR", "MRC"). Registers are numbers below 16, operations below 8.
 #[derive(Clone, Copy)]
-pub(crate) struct Moved {
+pub struct Moved {
     /// The condition under which it takes effect.
-    pub(crate) cond: Condition,
+    pub cond: Condition,
     /// MRC, which reads CP15; otherwise MCR, which writes it.
-    pub(crate) load: bool,
-    pub(crate) op1: u8,
-    pub(crate) crn: u8,
-    /// The register.
-    pub(crate) rd: u8,
-    pub(crate) op2: u8,
-    pub(crate) crm: u8,
+    pub load: bool,
+    /// The first operation, opcode_1.
+    pub op1: u8,
+    /// CP15's register.
+    pub crn: u8,
+    /// The processor's register.
+    pub rd: u8,
+    /// The second operation, opcode_2.
+    pub op2: u8,
+    /// CP15's further register.
+    pub crm: u8,
 }
 
 /// The move that an instruction makes to or from CP15, if it makes one.
 #[inline(always)]
-pub(crate) fn move_of(instr: Option<Instr>) -> Option<Moved>
+pub fn move_of(instr: Option<Instr>) -> Option<Moved>
     requires { IfSome instr HasFields }
     ensures moved { result ≡ move_of instr }
     ensures within { IfSome result (λ m. m.rd < 16) }
@@ -117,9 +121,10 @@ fn carry_over(s: &mut Registers, cp: &mut Cp15, m: Moved) -> Stepped
     if m.load { mrc(s, cp, m) } else { mcr(s, cp, m) }
 }
 
-/// The same, where its condition holds.
+/// A move to or from CP15, after its fetch, where its condition holds. It answers its cost in ticks, with a halt where it wrote the wait for an interrupt
+/// (c7,c0,4), or the stop for big-endian mode; then the registers and CP15 are as they were.
 #[inline]
-pub(crate) fn move_if(s: &mut Registers, cp: &mut Cp15, m: Moved) -> Stepped
+pub fn move_if(s: &mut Registers, cp: &mut Cp15, m: Moved) -> Stepped
     requires { m.rd < 16 }
     ensures registers { s.new ≡ (moved_if s.old cp.old m).registers }
     ensures cp { cp.new ≡ (moved_if s.old cp.old m).cp }

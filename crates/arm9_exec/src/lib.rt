@@ -5,4 +5,5 @@ mod coprocessors;
 mod steps;
 
 pub use arm_core::Stepped;
-pub use steps::{execute9, step9};
+pub use coprocessors::{Moved, move_if, move_of};
+pub use steps::{in_rom, step9};

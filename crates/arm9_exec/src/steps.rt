@@ -14,7 +14,7 @@ use ds_base::Arch;
 
 /// Whether SWI's vector lies in the boot ROM: the vectors are high, and ITCM doesn't answer the fetch there.
 #[inline(always)]
-fn in_rom(cp: &Cp15) -> bool
+pub fn in_rom(cp: &Cp15) -> bool
     ensures { result ≡ (arm9 cp.now).in_rom }
 {
     cp.vectors() == 0xFFFF_0000 && !matches!(cp.tcm_place(0xFFFF_0008, false, true), Tcm::Itcm(_))
@@ -43,20 +43,6 @@ fn execute<B: Bus>(s: &mut Registers, cp: &mut Cp15, bus: &mut B, fetched: Fetch
             fetched.instr,
         ),
     }
-}
-
-/// What is left of a step of ARM9 that enters no interrupt, once its word or half is fetched.
-#[inline]
-pub fn execute9<B: Bus>(core: &mut Core, cp: &mut Cp15, bus: &mut B, fetched: Fetched) -> Stepped
-    requires low { fetched.number < 16 }
-    requires fields { IfSome fetched.instr HasFields }
-    ensures core { core.new ≡ record core.old { registers = (executed_or_moved B.memory core.old.registers cp.old (record { number = fetched.number; instr = fetched.instr; state = B.state bus.old }) (move_of fetched.instr)).registers } }
-    ensures cp { cp.new ≡ (executed_or_moved B.memory core.old.registers cp.old (record { number = fetched.number; instr = fetched.instr; state = B.state bus.old }) (move_of fetched.instr)).cp }
-    ensures state { B.state bus.new ≡ (executed_or_moved B.memory core.old.registers cp.old (record { number = fetched.number; instr = fetched.instr; state = B.state bus.old }) (move_of fetched.instr)).state }
-    ensures stepped { result ≡ (executed_or_moved B.memory core.old.registers cp.old (record { number = fetched.number; instr = fetched.instr; state = B.state bus.old }) (move_of fetched.instr)).stepped }
-    ensures same { B.identity bus.new ≡ B.identity bus.old }
-{
-    execute(&mut core.registers, cp, bus, fetched)
 }
 
 /// A step: the interrupt's entry, a move to or from CP15, or another instruction.

@@ -22,12 +22,13 @@ use Rattle.ds_timers.specs.Irqs.{line_is_up, shares_bit}
 use Rattle.ds_machine.specs.Kept.{AreAsleep, IsKept, events_of, least_of, due_at_least}
 use Rattle.ds_machine.specs.Reference.{AtOnce, HasCounted, IsSound, Shown, awake, due_by, due_unless, dues_of, keys_due, processor_due, step_by, stepped_of}
 use Rattle.ds_machine.specs.States.{MachineState, ProcessorState, VideoState, counts_of}
-use Rattle.ds_machine.specs.Steps.{machine_concluded, goes_on, is_halted, is_held, line_of, nine_outcome, processor_of, seven_outcome, wakes, went_on, with_nine, with_processor, with_seven, woken, woken_one}
+use Rattle.ds_machine.specs.Steps.{machine_concluded, goes_on, is_halted, is_held, line_of, outcome_of, processor_of, tick_of, wakes, went_on, with_processor, woken, woken_one}
 use Rattle.ds_machine.specs.Videos.{video_due}
 use Rattle.ds_machine.specs.declared.answers.Done.TheVariants as answers
 use Rattle.ds_machine.specs.declared.kept.Kept.{Kept}
 use Rattle.ds_machine.proofs.Counts.{counted_done, few}
 use Rattle.ds_machine.proofs.DueTicks.{due_of_rank, due_of_step, due_then, dues_split, low_rank, steps_as, tick_is}
+use Rattle.ds_machine.proofs.ProcessorSteps.{step_concluded}
 use Rattle.ds_machine.proofs.Quiet.{neither}
 use Rattle.ds_machine.proofs.Wakes.{Beside, put_beside}
 
@@ -196,29 +197,26 @@ pub cost_keeps : (kept : Kept) (s next : MachineState) (proc : Proc) (p : Proces
 cost_keeps kept s next proc p is e = subst (IsKept kept) (sym e) (kept_stays kept s (with_processor proc s p) is (put_beside proc s p))
 
 -- and at the accesses before it, which leave the units
-pub nine_keeps : (kept : Kept) (s next : MachineState) → IsKept kept s → next ≡ with_nine s (nine_outcome s) → next.map.units ≡ s.map.units → IsKept kept next
-nine_keeps kept s next is e units = kept_stays kept s next is (record { units = units; keys = ap (λ (m : MachineState). m.keys) e; video = ap (λ (m : MachineState). m.video) e })
+pub reach_keeps : (kept : Kept) (s next : MachineState) (proc : Proc) (now : Tick) → IsKept kept s → next ≡ (outcome_of proc now s).machine → next.map.units ≡ s.map.units → IsKept kept next
+reach_keeps kept s next proc now is e units =
+    kept_stays kept s next is (record { units = units; keys = ap (λ (m : MachineState). m.keys) e ∙ same_keys proc; video = ap (λ (m : MachineState). m.video) e ∙ same_video proc }) where
+      same_keys : (proc : Proc) → (outcome_of proc now s).machine.keys ≡ s.keys
+      same_keys Nine = refl
+      same_keys Seven = refl
 
-pub seven_keeps : (kept : Kept) (s next : MachineState) → IsKept kept s → next ≡ with_seven s (seven_outcome s) → next.map.units ≡ s.map.units → IsKept kept next
-seven_keeps kept s next is e units = kept_stays kept s next is (record { units = units; keys = ap (λ (m : MachineState). m.keys) e; video = ap (λ (m : MachineState). m.video) e })
+      same_video : (proc : Proc) → (outcome_of proc now s).machine.video ≡ s.video
+      same_video Nine = refl
+      same_video Seven = refl
 
 -- what isn't held before them isn't held after them
 pub free_stays : (proc : Proc) (s next : MachineState) → next.map.units ≡ s.map.units → is_held s proc ≡ false → is_held next proc ≡ false
 free_stays proc s next units free = ap (λ (u : UnitsState). own_is_held (own_of u proc)) units ∙ free
 
 -- the whole of it
-pub nine_made : (kept : Kept) (s m next : MachineState) (tick : Tick) (clocks : ℕ) → IsKept kept m → 0 < kept.until.0 → is_held m Nine ≡ false → m ≡ with_nine s (nine_outcome s)
-    → Cost clocks ≡ (nine_outcome s).stepped → next ≡ with_processor Nine m (went_on Nine clocks false (processor_of m Nine))
-    → awake (Some tick) (step_by 22 (Processor Nine) s) ≡ stepped_of s answers.Made next
-nine_made kept s m next tick clocks is some held machine stepped e =
-    let came : MachineState → arm.Stepped → MachineStep MachineState Shown LeftOut = λ x by. awake (Some tick) (machine_concluded 22 Nine x by) in
-    ap (λ (x : MachineState). came x (nine_outcome s).stepped) (sym machine) ∙ ap (came m) (sym stepped)
-    ∙ cost_at_once kept m 22 Nine tick clocks is some held ∙ ap (λ (x : MachineState). stepped_of s answers.Made x) (sym e)
-
-pub seven_made : (kept : Kept) (s m next : MachineState) (tick : Tick) (clocks : ℕ) → IsKept kept m → 0 < kept.until.0 → is_held m Seven ≡ false → m ≡ with_seven s (seven_outcome s)
-    → Cost clocks ≡ (seven_outcome s).stepped → next ≡ with_processor Seven m (went_on Seven clocks false (processor_of m Seven))
-    → awake (Some tick) (step_by 23 (Processor Seven) s) ≡ stepped_of s answers.Made next
-seven_made kept s m next tick clocks is some held machine stepped e =
-    let came : MachineState → arm.Stepped → MachineStep MachineState Shown LeftOut = λ x by. awake (Some tick) (machine_concluded 23 Seven x by) in
-    ap (λ (x : MachineState). came x (seven_outcome s).stepped) (sym machine) ∙ ap (came m) (sym stepped)
-    ∙ cost_at_once kept m 23 Seven tick clocks is some held ∙ ap (λ (x : MachineState). stepped_of s answers.Made x) (sym e)
+pub made_at_once : (kept : Kept) (s m next : MachineState) (rank : ℕ) (proc : Proc) (tick : Tick) (clocks : ℕ) → IsKept kept m → 0 < kept.until.0 → is_held m proc ≡ false
+    → tick ≡ tick_of (processor_of s proc) → m ≡ (outcome_of proc tick s).machine → Cost clocks ≡ (outcome_of proc tick s).stepped
+    → next ≡ with_processor proc m (went_on proc clocks false (processor_of m proc))
+    → awake (Some tick) (step_by rank (Processor proc) s) ≡ stepped_of s answers.Made next
+made_at_once kept s m next rank proc tick clocks is some held at machine stepped e =
+    step_concluded rank proc tick s m next (Cost clocks) answers.Made at machine stepped
+    (cost_at_once kept m rank proc tick clocks is some held ∙ ap (λ (x : MachineState). stepped_of m answers.Made x) (sym e))

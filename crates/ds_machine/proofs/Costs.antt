@@ -1,40 +1,49 @@
-use Rattle.std.proofs.Common.{ℕ, Bool, if◌then◌else◌, Option, Some, None}
+use Rattle.std.proofs.Common.{ℕ, Bool, true, false, if◌then◌else◌, Option, Some, None, refl}
+use Rattle.ds_base.specs.Accesses.{MemoryMachine}
+use Rattle.ds_base.specs.declared.processors.Proc.{Proc}
 use Rattle.ds_base.specs.declared.processors.Proc.TheVariants.{Nine, Seven}
+use Rattle.ds_base.specs.declared.ticks.Tick.{Tick}
+use Rattle.arm_words.specs.declared.instructions.Instr.{Instr}
+use Rattle.arm_core.specs.Conditions.{holds}
+use Rattle.arm_core.specs.Effects.{carried_out}
+use Rattle.arm_core.specs.Exceptions.{interrupt_meaning}
 use Rattle.arm_core.specs.Registers.{RegisterState}
-use Rattle.arm_core.specs.Steps.{enters}
+use Rattle.arm_core.specs.Steps.{FetchOutcome, Setting, enters, fetched}
 use Rattle.arm_exec.specs.Costs.{CostsSome}
-use Rattle.arm_exec.proofs.Costs.{step_costs}
+use Rattle.arm_exec.proofs.Costs.{carried_out_costs, word_costs}
 use Rattle.arm7_exec.specs.Arm7.{arm7}
-use Rattle.arm9_exec.proofs.Costs.{step9_costs}
+use Rattle.arm9_exec.specs.Arm9.{arm9}
+use Rattle.arm9_exec.specs.Coprocessors.{move_of}
+use Rattle.arm9_exec.specs.declared.coprocessors.Moved.{Moved}
+use Rattle.arm9_exec.proofs.Costs.{moved_costs}
 use Rattle.ds_map.specs.Views.{NineReach, SevenReach, nine_memory, seven_memory}
-use Rattle.ds_machine.specs.Needs.{nine_needs, nine_step, nine_unless, seven_needs, seven_step, seven_unless}
+use Rattle.ds_machine.specs.Sides.{SideOf, executed_unless, needs, nine_executed, nine_side, seven_side, taken}
 use Rattle.ds_machine.specs.States.{MachineState}
-use Rattle.ds_machine.specs.Steps.{line_of, nine_outcome, nine_reach, seven_outcome, seven_reach}
+use Rattle.ds_machine.specs.Steps.{line_of, nine_reach, outcome_of, seven_reach}
 
--- Every step of a processor costs a clock at least.
+-- Every step of a processor costs a clock at least, since what it executes does.
 
-nine_step_costs : (line : Bool) (s : RegisterState) (reach : NineReach) → CostsSome (nine_step line s reach).stepped
-unfolding nine_step
-nine_step_costs line s reach = step9_costs s reach.cp15 nine_memory line reach
+taken_costs : {S : Type 0} (memory : MemoryMachine S) (side : SideOf S)
+    → ((s : RegisterState) (state : S) (number : ℕ) (instr : Option Instr) → CostsSome (side.executed s state number instr).stepped)
+    → (line : Bool) (s : RegisterState) (state : S) → CostsSome (taken memory side line s state).stepped
+unfolding taken
+taken_costs {S} memory side executed line s state = by_entry (enters line s) where
+  unless : (f : FetchOutcome S) (needed : Option ℕ) → CostsSome (executed_unless side s state f needed).stepped
+  unless f None = executed s state f.number f.instr
+  unless f (Some value) = tt
 
-seven_step_costs : (line : Bool) (s : RegisterState) (reach : SevenReach) → CostsSome (seven_step line s reach).stepped
-unfolding seven_step
-seven_step_costs line s reach = step_costs seven_memory arm7 s line reach
+  by_entry : (b : Bool) → CostsSome (if b then carried_out memory side.arch s state (interrupt_meaning (side.base state) s)
+      else let f = fetched memory side.arch s state in executed_unless side s state f (needs side s state f.instr)).stepped
+  by_entry true =
+      let setting : Setting = record { arch = side.arch; base = side.base state; in_rom = false } in carried_out_costs memory setting s state (interrupt_meaning (side.base state) s)
+  by_entry false = let f = fetched memory side.arch s state in unless f (needs side s state f.instr)
 
-nine_unless_costs : (needs : Option ℕ) (line : Bool) (s : RegisterState) (reach : NineReach) → CostsSome (nine_unless needs line s reach).stepped
-nine_unless_costs None line s reach = nine_step_costs line s reach
-nine_unless_costs (Some value) line s reach = tt
+nine_costs : (s : RegisterState) (r : NineReach) (number : ℕ) (instr : Option Instr) (move : Option Moved) → CostsSome (nine_executed s r number instr move).stepped
+nine_costs s r number instr None = word_costs nine_memory (arm9 r.cp15) s r number instr
+nine_costs s r number instr (Some move) = moved_costs s r.cp15 move (holds move.cond s.cpsr) refl
 
-seven_unless_costs : (needs : Option ℕ) (line : Bool) (s : RegisterState) (reach : SevenReach) → CostsSome (seven_unless needs line s reach).stepped
-seven_unless_costs None line s reach = seven_step_costs line s reach
-seven_unless_costs (Some value) line s reach = tt
-
-pub nine_costs : (s : MachineState) → CostsSome (nine_outcome s).stepped
-nine_costs s =
-    let r = s.nine.processor.registers in
-    nine_unless_costs (if enters (line_of s Nine) r then None else nine_needs r (nine_reach s)) (line_of s Nine) r (nine_reach s)
-
-pub seven_costs : (s : MachineState) → CostsSome (seven_outcome s).stepped
-seven_costs s =
-    let r = s.seven.processor.registers in
-    seven_unless_costs (if enters (line_of s Seven) r then None else seven_needs s.nine.cp15 r (seven_reach s)) (line_of s Seven) r (seven_reach s)
+pub step_costs : (proc : Proc) (now : Tick) (s : MachineState) → CostsSome (outcome_of proc now s).stepped
+step_costs Nine now s =
+    taken_costs nine_memory nine_side (λ old r number instr. nine_costs old r number instr (move_of instr)) (line_of s Nine) s.nine.processor.registers (nine_reach now s)
+step_costs Seven now s =
+    taken_costs seven_memory seven_side (λ old r number instr. word_costs seven_memory arm7 old r number instr) (line_of s Seven) s.seven.processor.registers (seven_reach now s)

@@ -92,6 +92,9 @@ early_holds s proc tick h early = let e = (due_then (is_held s proc) (processor_
 pub tick_is : (p : ProcessorState) (tick : Tick) → p.due ≡ tick.0 → tick_of p ≡ tick
 tick_is p tick h = ap (λ (n : ℕ). (let t : Tick = record { 0 = n } in t)) h
 
+pub own_tick : (s : MachineState) (proc : Proc) (tick : Tick) → processor_due s proc ≡ Some tick → tick ≡ tick_of (processor_of s proc)
+own_tick s proc tick h = sym (tick_is (processor_of s proc) tick (due_then (is_held s proc) (processor_of s proc) tick h).1)
+
 pub due_tick : (s : MachineState) (proc : Proc) (tick : Tick) → processor_due s proc ≡ Some tick → processor_due s proc ≡ Some (tick_of (processor_of s proc))
 due_tick s proc tick h = h ∙ ap Some (sym (tick_is (processor_of s proc) tick (due_then (is_held s proc) (processor_of s proc) tick h).1))
 

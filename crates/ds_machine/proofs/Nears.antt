@@ -1,6 +1,6 @@
-use Rattle.std.proofs.Common.{ℕ, ◌≡◌, ◌<◌, ◌≤◌, ◌+◌, ◌-◌, ◌==◌, ◌&&◌, ◌⊎◌, ◌++◌, Bool, true, false, true≢false, if◌then◌else◌, List, [], ◌∷◌, Option, Some, None, inl, inr, refl, sym, arith}
+use Rattle.std.proofs.Common.{ℕ, zero, suc, ◌≡◌, ◌<◌, ◌≤◌, ◌+◌, ◌-◌, ◌==◌, ◌&&◌, ◌⊎◌, ◌++◌, Bool, true, false, true≢false, if◌then◌else◌, List, [], ◌∷◌, Option, Some, None, inl, inr, refl, sym, ◌∙◌, ap, arith}
 use Rattle.std.proofs.lemmas.List.{append-nil}
-use Rattle.ds_base.specs.Accesses.{Access, Fetch, Read, Write, perform, refused_or}
+use Rattle.ds_base.specs.Accesses.{Access, Fetch, Performed, Read, Write, perform, refused_or}
 use Rattle.ds_base.specs.Memories.{memory_size}
 use Rattle.ds_base.specs.Numbers.{aligned_down, with_number, width_bytes}
 use Rattle.ds_base.specs.declared.left_out.Stop.{Stop}
@@ -8,10 +8,14 @@ use Rattle.ds_base.specs.declared.memories.Memory.{Memory}
 use Rattle.ds_base.specs.declared.memories.Memory.TheVariants.{Main, Shared, Own7, Itcm, Dtcm, Palette, Vram, Oam}
 use Rattle.ds_base.specs.declared.memories.Width.{Width}
 use Rattle.ds_base.specs.declared.memories.Width.TheVariants.{Byte, Half, Word}
+use Rattle.ds_base.specs.declared.processors.Arch.{Arch}
+use Rattle.ds_base.specs.declared.processors.Arch.TheVariants.{V4, V5}
 use Rattle.ds_base.specs.declared.processors.Proc.{Proc}
 use Rattle.ds_base.specs.declared.processors.Proc.TheVariants.{Nine, Seven}
 use Rattle.ds_base.specs.declared.ticks.Tick.{Tick}
-use Rattle.arm_core.specs.Footprints.{first_without, span}
+use Rattle.arm_core.specs.Effects.{Meaning, carried_out, concluded}
+use Rattle.arm_core.specs.Footprints.{accessed_bytes, first_without, span}
+use Rattle.arm_core.specs.Registers.{RegisterState}
 use Rattle.arm_ops.specs.Meanings.{IsNear, RefusesNoneNear, is_near}
 use Rattle.cp15_tcm.specs.Registers.{Cp15State}
 use Rattle.cp15_tcm.specs.TightlyCoupled.{tcm_of}
@@ -22,11 +26,11 @@ use Rattle.ds_places.specs.declared.kinds.Place.{Place}
 use Rattle.ds_places.specs.declared.kinds.Place.TheVariants.{Cell, Banks, Port, Rom, Nothing}
 use Rattle.ds_places.proofs.Regions.{lies_or_not}
 use Rattle.ds_map.specs.Accesses.{is_byte_of_nine, left_at, map_read, map_refusal, map_written, written_at, refusal_at, takes_no_bytes}
-use Rattle.ds_map.specs.Builds.{byte_is_built}
+use Rattle.ds_map.specs.Builds.{map_is_built, nine_is_built}
 use Rattle.ds_map.specs.Maps.{MapState, cells_of, with_cells}
-use Rattle.ds_map.proofs.Built.{apart_built}
+use Rattle.ds_map.proofs.Built.{apart_built, apart_nine}
 use Rattle.ds_map.specs.Views.{NineReach, SevenReach, nine_memory, seven_memory, tcm_read, tcm_refusal, tcm_written}
-use Rattle.ds_machine.specs.Needs.{unbuilt}
+use Rattle.ds_machine.specs.Sides.{nine_side, seven_side, unbuilt}
 
 -- The near memories, 2000000h to 3FFFFFFh, are cells for both processors, or nothing is there: they are built, and no access of them changes a unit.
 
@@ -97,9 +101,14 @@ near_cells Seven w at low high = elim (lies_or_not 0x00000000 0x00003FFF at) [
 -- ---- they are built
 
 -- a span of them has no byte that isn't built
-pub near_span_built : (proc : Proc) (cp : Cp15State) (w first length : ℕ) → 0x02000000 ≤ first → first + length ≤ 0x04000000
-    → first_without (byte_is_built proc cp w) (span first length) ≡ None
-near_span_built proc cp w first length low high = apart_built proc cp w first length (inl high)
+abbrev NearBuilt : (ℕ → Bool) → Type 0
+NearBuilt p = (first length : ℕ) → 0x02000000 ≤ first → first + length ≤ 0x04000000 → first_without p (span first length) ≡ None
+
+pub near_span_nine : (cp : Cp15State) (w first length : ℕ) → 0x02000000 ≤ first → first + length ≤ 0x04000000 → first_without (nine_is_built cp w) (span first length) ≡ None
+near_span_nine cp w first length low high = apart_nine cp w first length (inl high)
+
+pub near_span_seven : (w first length : ℕ) → 0x02000000 ≤ first → first + length ≤ 0x04000000 → first_without (map_is_built Seven w) (span first length) ≡ None
+near_span_seven w first length low high = apart_built Seven w first length (inl high)
 
 -- an address of them, and one that is aligned down
 near_bounds : (at : ℕ) → is_near at ≡ true → (0x02000000 ≤ at) × (at < 0x04000000)
@@ -110,19 +119,26 @@ near_aligned at Byte h = let b = near_bounds at h in (omega (arith, b), omega (a
 near_aligned at Half h = let b = near_bounds at h in (omega (arith, b), omega (arith, b))
 near_aligned at Word h = let b = near_bounds at h in (omega (arith, b), omega (arith, b))
 
-aligned_built : (proc : Proc) (cp : Cp15State) (w at : ℕ) (width : Width) → is_near at ≡ true
-    → first_without (byte_is_built proc cp w) (span (aligned_down width at) (width_bytes width) ++ []) ≡ None
-aligned_built proc cp w at width h =
+aligned_built : (p : ℕ → Bool) → NearBuilt p → (at : ℕ) (width : Width) → is_near at ≡ true
+    → first_without p (span (aligned_down width at) (width_bytes width) ++ []) ≡ None
+aligned_built p is at width h =
     let b = near_aligned at width h in
-    rw (append-nil (span (aligned_down width at) (width_bytes width))) (near_span_built proc cp w (aligned_down width at) (width_bytes width) b.0 b.1)
+    rw (append-nil (span (aligned_down width at) (width_bytes width))) (is (aligned_down width at) (width_bytes width) b.0 b.1)
 
 -- near accesses need nothing that isn't built
-pub near_needs : (proc : Proc) (cp : Cp15State) (w : ℕ) (accesses : List Access) → IsNear accesses → unbuilt proc cp w accesses ≡ None
-near_needs proc cp w [] near = refl
-near_needs proc cp w (Fetch at width ∷ []) near = aligned_built proc cp w at width near
-near_needs proc cp w (Read at width ∷ []) near = aligned_built proc cp w at width near
-near_needs proc cp w (Write at width value ∷ []) near = aligned_built proc cp w at width near
-near_needs proc cp w (access ∷ other ∷ rest) near = absurd near
+near_needs : (p : ℕ → Bool) → NearBuilt p → (accesses : List Access) → IsNear accesses → first_without p (accessed_bytes accesses) ≡ None
+near_needs p is [] near = refl
+near_needs p is (Fetch at width ∷ []) near = aligned_built p is at width near
+near_needs p is (Read at width ∷ []) near = aligned_built p is at width near
+near_needs p is (Write at width value ∷ []) near = aligned_built p is at width near
+near_needs p is (access ∷ other ∷ rest) near = absurd near
+
+pub nine_needs_none : (r : NineReach) (accesses : List Access) → IsNear accesses → unbuilt nine_side r accesses ≡ None
+nine_needs_none r accesses near =
+    near_needs (nine_is_built r.cp15 r.map.units.wramcnt) (near_span_nine r.cp15 r.map.units.wramcnt) accesses near
+
+pub seven_needs_none : (r : SevenReach) (accesses : List Access) → IsNear accesses → unbuilt seven_side r accesses ≡ None
+seven_needs_none r accesses near = near_needs (map_is_built Seven r.map.units.wramcnt) (near_span_seven r.map.units.wramcnt) accesses near
 
 -- ---- no access of them changes a unit
 
@@ -181,7 +197,7 @@ write_left : {S : Type 0} (stop : Option Stop) (left : S) → (refused_or stop l
 write_left None left = refl
 write_left (Some stop) left = refl
 
-pub nine_units : (r : NineReach) (accesses : List Access) → IsNear accesses → (perform nine_memory r accesses).state.map.units ≡ r.map.units
+nine_units : (r : NineReach) (accesses : List Access) → IsNear accesses → (perform nine_memory r accesses).state.map.units ≡ r.map.units
 nine_units r [] near = refl
 nine_units r (Fetch at width ∷ []) near = refl
 nine_units r (Read at width ∷ []) near = tcm_reads (tcm_of r.cp15 at false false) r at width near
@@ -190,7 +206,7 @@ nine_units r (Write at width value ∷ []) near =
     rw (write_left (nine_memory.refusal r at width value) left) (tcm_writes (tcm_of r.cp15 at true false) r at width value near)
 nine_units r (access ∷ other ∷ rest) near = absurd near
 
-pub seven_units : (r : SevenReach) (accesses : List Access) → IsNear accesses → (perform seven_memory r accesses).state.map.units ≡ r.map.units
+seven_units : (r : SevenReach) (accesses : List Access) → IsNear accesses → (perform seven_memory r accesses).state.map.units ≡ r.map.units
 seven_units r [] near = refl
 seven_units r (Fetch at width ∷ []) near = refl
 seven_units r (Read at width ∷ []) near = read_units Seven r.map at width near
@@ -198,6 +214,26 @@ seven_units r (Write at width value ∷ []) near =
     let left : SevenReach = seven_memory.write_next r at width value in
     rw (write_left (seven_memory.refusal r at width value) left) (write_units Seven r.now r.map at width value near)
 seven_units r (access ∷ other ∷ rest) near = absurd near
+
+-- so none does that an operation makes
+state_left : {S : Type 0} (arch : Arch) (old : RegisterState) (m : Meaning) (done : Performed S) (stop : Option Stop) → (concluded arch old m done stop).state ≡ done.state
+state_left arch old m done None = refl
+state_left arch old m done (Some stop) = refl
+
+-- where it is run, by its cost, and where it isn't
+pub nine_stays : (cost : ℕ) (s : RegisterState) (r after : NineReach) (m : Meaning) → (cost ≡ 0 → after ≡ r)
+    → (0 < cost → after ≡ (carried_out nine_memory V5 s r m).state) → (0 < cost → IsNear m.accesses) → after.map.units ≡ r.map.units
+nine_stays zero s r after m none some near = ap (λ (x : NineReach). x.map.units) (none refl)
+nine_stays (suc cost) s r after m none some near =
+    let done : Performed NineReach = perform nine_memory r m.accesses in
+    ap (λ (x : NineReach). x.map.units) (some (omega arith) ∙ state_left V5 s m done done.stop) ∙ nine_units r m.accesses (near (omega arith))
+
+pub seven_stays : (cost : ℕ) (s : RegisterState) (r after : SevenReach) (m : Meaning) → (cost ≡ 0 → after ≡ r)
+    → (0 < cost → after ≡ (carried_out seven_memory V4 s r m).state) → (0 < cost → IsNear m.accesses) → after.map.units ≡ r.map.units
+seven_stays zero s r after m none some near = ap (λ (x : SevenReach). x.map.units) (none refl)
+seven_stays (suc cost) s r after m none some near =
+    let done : Performed SevenReach = perform seven_memory r m.accesses in
+    ap (λ (x : SevenReach). x.map.units) (some (omega arith) ∙ state_left V4 s m done done.stop) ∙ seven_units r m.accesses (near (omega arith))
 
 -- ---- no access of them is refused
 

@@ -4,8 +4,11 @@ use Rattle.ds_base.specs.declared.processors.Proc.{Proc}
 use Rattle.ds_base.specs.declared.processors.Proc.TheVariants.{Nine, Seven}
 use Rattle.ds_base.specs.declared.ticks.Tick.{Tick}
 use Rattle.arm_core.specs.Registers.{RegisterState}
-use Rattle.arm_core.specs.Steps.{enters}
+use Rattle.arm_words.specs.declared.instructions.Instr.{Instr}
 use Rattle.arm7_exec.specs.Arm7.{arm7}
+use Rattle.arm9_exec.specs.Arm9.{arm9}
+use Rattle.arm9_exec.specs.Coprocessors.{move_of}
+use Rattle.arm9_exec.specs.declared.coprocessors.Moved.{Moved}
 use Rattle.cp15_tcm.specs.TightlyCoupled.{tcm_of}
 use Rattle.cp15_tcm.specs.declared.answers.Tcm.{Tcm}
 use Rattle.cp15_tcm.specs.declared.answers.Tcm.TheVariants.{Itcm, Dtcm, Past}
@@ -14,10 +17,10 @@ use Rattle.ds_map.proofs.Later.{map_read_goes, map_write_goes}
 use Rattle.ds_ports.specs.Dues.{Goes, IsOwn, IsQuiet}
 use Rattle.ds_ports.specs.Units.{UnitsState, own_of}
 use Rattle.ds_ports.proofs.Later.{goes_nowhere, goes_on}
-use Rattle.ds_machine.specs.Needs.{nine_needs, nine_step, nine_unless, seven_needs, seven_step, seven_unless}
+use Rattle.ds_machine.specs.Sides.{nine_executed, nine_side, seven_side}
 use Rattle.ds_machine.specs.States.{MachineState}
-use Rattle.ds_machine.specs.Steps.{line_of, nine_outcome, nine_reach, seven_outcome, seven_reach, tick_of, with_nine, with_seven}
-use Rattle.ds_machine.proofs.Keeps.{Follows, step9_follows, step_follows}
+use Rattle.ds_machine.specs.Steps.{line_of, nine_reach, outcome_of, seven_reach}
+use Rattle.ds_machine.proofs.Keeps.{Follows, taken_follows, word_follows}
 
 -- What a processor's step at a tick makes of the units behind the ports.
 
@@ -68,36 +71,27 @@ nine_follows = record {
   writes = λ r at width value i. nine_writes (tcm_of r.cp15 at true false) r at width value i;
 }
 
-seven_step_goes : (line : Bool) (s : RegisterState) (r : SevenReach) → IsReady Seven r.now r.map.units → Goes Seven r.now r.map.units (seven_step line s r).state.map.units
-unfolding seven_step
-seven_step_goes line s r i =
-    (step_follows seven_memory (λ (r : SevenReach). IsReady Seven r.now r.map.units) (λ (r t : SevenReach). Leads Seven r.now r.map.units t.now t.map.units)
-    seven_follows arm7 line s r i).1
+nine_executes : (s : RegisterState) (r : NineReach) (number : ℕ) (instr : Option Instr) (move : Option Moved) → IsReady Nine r.now r.map.units
+    → (let t : NineReach = (nine_executed s r number instr move).state in Leads Nine r.now r.map.units t.now t.map.units)
+nine_executes s r number instr None i =
+    word_follows nine_memory (λ (r : NineReach). IsReady Nine r.now r.map.units) (λ (r t : NineReach). Leads Nine r.now r.map.units t.now t.map.units)
+    nine_follows (arm9 r.cp15) s r number instr i
+nine_executes s r number instr (Some move) i = (refl, goes_nowhere Nine r.now r.map.units i.0 i.1)
 
-nine_step_goes : (line : Bool) (s : RegisterState) (r : NineReach) → IsReady Nine r.now r.map.units → Goes Nine r.now r.map.units (nine_step line s r).state.map.units
-unfolding nine_step
-nine_step_goes line s r i =
-    (step9_follows nine_memory (λ (r : NineReach). IsReady Nine r.now r.map.units) (λ (r t : NineReach). Leads Nine r.now r.map.units t.now t.map.units)
-    nine_follows line s r.cp15 r i).1
+nine_goes : (now : Tick) (s : MachineState) → IsReady Nine now s.map.units → Goes Nine now s.map.units (outcome_of Nine now s).machine.map.units
+nine_goes now s i =
+    (taken_follows nine_memory (λ (r : NineReach). IsReady Nine r.now r.map.units) (λ (r t : NineReach). Leads Nine r.now r.map.units t.now t.map.units)
+    nine_follows nine_side (λ old r number instr i. nine_executes old r number instr (move_of instr) i) (line_of s Nine) s.nine.processor.registers (nine_reach now s) i).1
 
-seven_unless_goes : (needs : Option ℕ) (line : Bool) (s : RegisterState) (r : SevenReach) → IsReady Seven r.now r.map.units
-    → Goes Seven r.now r.map.units (seven_unless needs line s r).state.map.units
-seven_unless_goes None line s r i = seven_step_goes line s r i
-seven_unless_goes (Some value) line s r i = goes_nowhere Seven r.now r.map.units i.0 i.1
+seven_goes : (now : Tick) (s : MachineState) → IsReady Seven now s.map.units → Goes Seven now s.map.units (outcome_of Seven now s).machine.map.units
+seven_goes now s i =
+    (taken_follows seven_memory (λ (r : SevenReach). IsReady Seven r.now r.map.units) (λ (r t : SevenReach). Leads Seven r.now r.map.units t.now t.map.units)
+    seven_follows seven_side
+    (λ old r number instr i. word_follows seven_memory (λ (r : SevenReach). IsReady Seven r.now r.map.units)
+    (λ (r t : SevenReach). Leads Seven r.now r.map.units t.now t.map.units) seven_follows arm7 old r number instr i)
+    (line_of s Seven) s.seven.processor.registers (seven_reach now s) i).1
 
-nine_unless_goes : (needs : Option ℕ) (line : Bool) (s : RegisterState) (r : NineReach) → IsReady Nine r.now r.map.units
-    → Goes Nine r.now r.map.units (nine_unless needs line s r).state.map.units
-nine_unless_goes None line s r i = nine_step_goes line s r i
-nine_unless_goes (Some value) line s r i = goes_nowhere Nine r.now r.map.units i.0 i.1
-
-pub nine_goes : (s : MachineState) → (let now = tick_of s.nine.processor in IsOwn (own_of s.map.units Nine) → IsQuiet now (own_of s.map.units Nine)
-    → Goes Nine now s.map.units (with_nine s (nine_outcome s)).map.units)
-nine_goes s is quiet =
-    let r = s.nine.processor.registers in
-    nine_unless_goes (if enters (line_of s Nine) r then None else nine_needs r (nine_reach s)) (line_of s Nine) r (nine_reach s) (is, quiet)
-
-pub seven_goes : (s : MachineState) → (let now = tick_of s.seven.processor in IsOwn (own_of s.map.units Seven) → IsQuiet now (own_of s.map.units Seven)
-    → Goes Seven now s.map.units (with_seven s (seven_outcome s)).map.units)
-seven_goes s is quiet =
-    let r = s.seven.processor.registers in
-    seven_unless_goes (if enters (line_of s Seven) r then None else seven_needs s.nine.cp15 r (seven_reach s)) (line_of s Seven) r (seven_reach s) (is, quiet)
+pub step_goes : (proc : Proc) (now : Tick) (s : MachineState) → IsOwn (own_of s.map.units proc) → IsQuiet now (own_of s.map.units proc)
+    → Goes proc now s.map.units (outcome_of proc now s).machine.map.units
+step_goes Nine now s is quiet = nine_goes now s (is, quiet)
+step_goes Seven now s is quiet = seven_goes now s (is, quiet)

@@ -1,4 +1,4 @@
-use Rattle.std.proofs.Common.{ℕ, ◌≡◌, ◌<◌, ◌≤◌, ◌+◌, ◌*◌, inl, inr, Bool, true, false, true≢false, List, [], Some, refl, sym, ◌∙◌, ap, subst, arith}
+use Rattle.std.proofs.Common.{ℕ, ◌≡◌, ◌<◌, ◌≤◌, ◌+◌, ◌*◌, ◌^◌, inl, inr, Bool, true, false, true≢false, List, [], ◌∷◌, Some, refl, sym, ◌∙◌, ap, subst, arith}
 use Rattle.std.specs.Prelude.{◌||◌}
 use Rattle.std.proofs.Math.Nat.{mul-le-mul_left}
 use Rattle.ds_base.specs.Processors.{ticks_per_clock}
@@ -19,13 +19,16 @@ use Rattle.ds_ports.proofs.Later.{all_behind, goes_units, of_both, own_is}
 use Rattle.ds_runs.specs.Runs.{MachineStep, Makes, Stops}
 use Rattle.ds_runs.specs.declared.actors.Actor.TheVariants.{Processor}
 use Rattle.ds_runs.proofs.RunLaws.{same_makes, same_stops, not_both}
-use Rattle.ds_machine.specs.Reference.{IsSound, Shown, due_unless, processor_due, step_by}
-use Rattle.ds_machine.specs.States.{MachineState, ProcessorState, counts_of}
-use Rattle.ds_machine.specs.Steps.{machine_concluded, gone_by, is_halted, is_held, nine_outcome, processor_of, seven_outcome, tick_of, went_on, with_halt, with_nine, with_seven}
-use Rattle.ds_machine.proofs.Costs.{nine_costs, seven_costs}
+use Rattle.ds_machine.specs.Reference.{IsSound, Shown, awake, due_unless, processor_due, step_by, stepped_of}
+use Rattle.ds_machine.specs.States.{MachineState, ProcessorState, VideoState, counts_of}
+use Rattle.ds_machine.specs.Steps.{machine_concluded, gone_by, is_halted, is_held, outcome_of, processor_of, tick_of, went_on, with_halt}
+use Rattle.ds_machine.specs.Videos.{video_due}
+use Rattle.ds_machine.specs.declared.answers.Done as answer
+use Rattle.ds_machine.specs.declared.answers.Done.TheVariants as answers
+use Rattle.ds_machine.proofs.Costs.{step_costs}
 use Rattle.ds_machine.proofs.DueTicks.{due_then, tick_is}
 use Rattle.ds_machine.proofs.Moves.{Behind, Moves, held_moves, left_held, moves_of, same_keys, same_video, then_behind}
-use Rattle.ds_machine.proofs.Others.{nine_goes, seven_goes}
+use Rattle.ds_machine.proofs.Others.{step_goes}
 use Rattle.ds_machine.proofs.Wakes.{halt_held, halt_other, halt_steps, halted_behind, halted_units, put_beside, put_counts, put_other, put_own}
 
 -- A processor's step: what its accesses leave, and how it goes on.
@@ -40,41 +43,65 @@ pub record Reaches (proc : Proc) (s m : MachineState) : Type 0 where
   pub video : m.video ≡ s.video
   pub counts : counts_of m ≡ counts_of s
 
-nine_reaches : (s : MachineState) → Reaches Nine s (with_nine s (nine_outcome s))
-nine_reaches s = record { due = refl; other = refl; keys = refl; video = refl; counts = refl }
-
-seven_reaches : (s : MachineState) → Reaches Seven s (with_seven s (seven_outcome s))
-seven_reaches s = record { due = refl; other = refl; keys = refl; video = refl; counts = refl }
-
--- what a processor's step came to, with what it left
+-- what a processor's step at its tick came to, with what it left
 abbrev pub reached_by : Proc → MachineState → MachineState
-reached_by Nine s = with_nine s (nine_outcome s)
-reached_by Seven s = with_seven s (seven_outcome s)
+reached_by proc s = (outcome_of proc (tick_of (processor_of s proc)) s).machine
 
 abbrev pub came_by : Proc → MachineState → arm.Stepped
-came_by Nine s = (nine_outcome s).stepped
-came_by Seven s = (seven_outcome s).stepped
+came_by proc s = (outcome_of proc (tick_of (processor_of s proc)) s).stepped
 
 pub step_is : (rank : ℕ) (proc : Proc) (s : MachineState) → step_by rank (Processor proc) s ≡ machine_concluded rank proc (reached_by proc s) (came_by proc s)
-step_is rank Nine s = refl
-step_is rank Seven s = refl
+step_is rank proc s = refl
+
+left_reaches : (proc : Proc) (now : Tick) (s : MachineState) → Reaches proc s (outcome_of proc now s).machine
+left_reaches Nine now s = record { due = refl; other = refl; keys = refl; video = refl; counts = refl }
+left_reaches Seven now s = record { due = refl; other = refl; keys = refl; video = refl; counts = refl }
 
 pub reaches : (proc : Proc) (s : MachineState) → Reaches proc s (reached_by proc s)
-reaches Nine s = nine_reaches s
-reaches Seven s = seven_reaches s
+reaches proc s = left_reaches proc (tick_of (processor_of s proc)) s
 
 pub costs_some : (proc : Proc) (s : MachineState) → CostsSome (came_by proc s)
-costs_some Nine s = nine_costs s
-costs_some Seven s = seven_costs s
+costs_some proc s = step_costs proc (tick_of (processor_of s proc)) s
 
-pub reach_goes : (proc : Proc) (tick : Tick) (s : MachineState) → tick_of (processor_of s proc) ≡ tick → IsOwn (own_of s.map.units proc) → IsQuiet tick (own_of s.map.units proc)
+-- a processor is due as before, and its steps are as before
+pub reached_early : (proc : Proc) (tick : Tick) (s m : MachineState) → m ≡ (outcome_of proc tick s).machine → tick ≡ tick_of (processor_of s proc) → tick.0 ≤ 2 ^ 56
+    → (processor_of m proc).due ≤ 2 ^ 56
+reached_early proc tick s m machine at early =
+    let e = (left_reaches proc tick s).due in
+    let t : tick.0 ≡ (processor_of s proc).due = ap (λ (x : Tick). x.0) at in
+    let due : (processor_of (outcome_of proc tick s).machine proc).due ≤ 2 ^ 56 = omega (arith, e, t, early) in
+    subst (λ (x : MachineState). (processor_of x proc).due ≤ 2 ^ 56) (sym machine) due
+
+pub reached_few : (proc : Proc) (tick : Tick) (s m : MachineState) → m ≡ (outcome_of proc tick s).machine → (processor_of s proc).steps ≤ 2 ^ 61
+    → (processor_of m proc).steps ≤ 2 ^ 61
+reached_few proc tick s m machine few = subst (λ (x : MachineState). (processor_of x proc).steps ≤ 2 ^ 61) (sym machine) (by_proc proc few) where
+  by_proc : (proc : Proc) → (processor_of s proc).steps ≤ 2 ^ 61 → (processor_of (outcome_of proc tick s).machine proc).steps ≤ 2 ^ 61
+  by_proc Nine few = few
+  by_proc Seven few = few
+
+-- the step is what it came to, concluded
+same_shown : (m s next : MachineState) (done : answer.Done) → m.video ≡ s.video → stepped_of m done next ≡ stepped_of s done next
+same_shown m s next answers.Made e = refl
+same_shown m s next (answers.Frame swapped) e =
+    ap (λ (v : VideoState). (let step : MachineStep MachineState Shown LeftOut = Makes next (record { tick = video_due v; swapped = swapped } ∷ []) in step)) e
+same_shown m s next (answers.Stopped left) e = refl
+
+pub step_concluded : (rank : ℕ) (proc : Proc) (tick : Tick) (s m next : MachineState) (came : arm.Stepped) (done : answer.Done) → tick ≡ tick_of (processor_of s proc)
+    → m ≡ (outcome_of proc tick s).machine → came ≡ (outcome_of proc tick s).stepped → awake (Some tick) (machine_concluded rank proc m came) ≡ stepped_of m done next
+    → awake (Some tick) (step_by rank (Processor proc) s) ≡ stepped_of s done next
+step_concluded rank proc tick s m next came done at machine stepped h =
+    let step : MachineState → arm.Stepped → MachineStep MachineState Shown LeftOut = λ x by. awake (Some tick) (machine_concluded rank proc x by) in
+    ap (λ (t : Tick). step (outcome_of proc t s).machine (outcome_of proc t s).stepped) (sym at)
+    ∙ ap (λ (x : MachineState). step x (outcome_of proc tick s).stepped) (sym machine)
+    ∙ ap (step m) (sym stepped)
+    ∙ h
+    ∙ same_shown m s next done (ap (λ (x : MachineState). x.video) machine ∙ (left_reaches proc tick s).video)
+
+reach_goes : (proc : Proc) (tick : Tick) (s : MachineState) → tick_of (processor_of s proc) ≡ tick → IsOwn (own_of s.map.units proc) → IsQuiet tick (own_of s.map.units proc)
     → Goes proc tick s.map.units (reached_by proc s).map.units
-reach_goes Nine tick s e is quiet =
-    let P : Tick → Type 0 = λ t. IsQuiet t (own_of s.map.units Nine) → Goes Nine t s.map.units (with_nine s (nine_outcome s)).map.units in
-    subst P e (nine_goes s is) quiet
-reach_goes Seven tick s e is quiet =
-    let P : Tick → Type 0 = λ t. IsQuiet t (own_of s.map.units Seven) → Goes Seven t s.map.units (with_seven s (seven_outcome s)).map.units in
-    subst P e (seven_goes s is) quiet
+reach_goes proc tick s e is quiet =
+    subst (λ (t : Tick). Goes proc t s.map.units (reached_by proc s).map.units) e
+    (step_goes proc (tick_of (processor_of s proc)) s is (subst (λ (t : Tick). IsQuiet t (own_of s.map.units proc)) (sym e) quiet))
 
 -- ---- how it goes on
 

@@ -1,5 +1,5 @@
 pub mod States
-pub mod Needs
+pub mod Sides
 pub mod Steps
 pub mod Videos
 pub mod Channels
@@ -8,4 +8,5 @@ pub mod Booted
 pub mod Reference
 pub mod Kept
 pub mod Observed
+pub mod Apart
 pub mod Processors

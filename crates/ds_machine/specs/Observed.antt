@@ -11,7 +11,7 @@ use Rattle.ds_map.specs.Views.{nine_memory, seven_memory}
 use Rattle.ds_machine.specs.declared.answers.Seen.{Seen}
 use Rattle.ds_machine.specs.declared.answers.Seen.TheVariants.{Half, Idle, Irq, Word}
 use Rattle.ds_machine.specs.States.{MachineState, ProcessorState}
-use Rattle.ds_machine.specs.Steps.{is_held, line_of, nine_reach, processor_of, seven_reach}
+use Rattle.ds_machine.specs.Steps.{is_held, line_of, nine_reach, processor_of, seven_reach, tick_of}
 
 -- What is told of a machine.
 
@@ -32,8 +32,8 @@ registers_of s proc = words_of (processor_of s proc).registers
 
 -- what a processor fetches at an address
 abbrev pub fetch_of : MachineState → Proc → ℕ → Width → ℕ
-fetch_of s Nine at width = nine_memory.fetch_value (nine_reach s) at width
-fetch_of s Seven at width = seven_memory.fetch_value (seven_reach s) at width
+fetch_of s Nine at width = nine_memory.fetch_value (nine_reach (tick_of s.nine.processor) s) at width
+fetch_of s Seven at width = seven_memory.fetch_value (seven_reach (tick_of s.seven.processor) s) at width
 
 -- what a processor does next: the entry of an interrupt at its r15, or a word or, in Thumb state, a half that it fetches; nothing where it isn't
 -- due

@@ -7,14 +7,13 @@ use Rattle.ds_base.specs.declared.processors.Proc.TheVariants.{Nine, Seven}
 use Rattle.arm_core.specs.Effects.{Outcome}
 use Rattle.arm_core.specs.declared.outcomes.Stepped as arm
 use Rattle.arm_core.specs.declared.outcomes.Stepped.TheVariants.{Cost, Halted, Left}
-use Rattle.arm9_exec.specs.Arm9.{Outcome9}
 use Rattle.ds_base.specs.declared.ticks.Tick.{Tick}
-use Rattle.ds_map.specs.Views.{NineReach, SevenReach}
+use Rattle.ds_map.specs.Views.{NineReach, SevenReach, nine_memory, seven_memory}
 use Rattle.ds_ports.specs.Own.{own_is_held}
 use Rattle.ds_ports.specs.Units.{UnitsState, own_of, with_halted}
 use Rattle.ds_timers.specs.Irqs.{line_is_up, shares_bit}
 use Rattle.ds_runs.specs.Runs.{MachineStep, Makes, Stops}
-use Rattle.ds_machine.specs.Needs.{nine_taken, seven_taken}
+use Rattle.ds_machine.specs.Sides.{nine_side, seven_side, taken}
 use Rattle.ds_machine.specs.States.{MachineState, ProcessorState}
 
 -- A processor's step in the machine.
@@ -41,19 +40,19 @@ is_held s proc = own_is_held (own_of s.map.units proc)
 abbrev pub line_of : MachineState → Proc → Bool
 line_of s proc = line_is_up (own_of s.map.units proc).irq
 
--- what each processor reaches of the machine at its step
-abbrev pub nine_reach : MachineState → NineReach
-nine_reach s = record { map = s.map; cp15 = s.nine.cp15; itcm = s.nine.itcm; dtcm = s.nine.dtcm; now = tick_of s.nine.processor }
+-- what each processor reaches of the machine at a tick
+abbrev pub nine_reach : Tick → MachineState → NineReach
+nine_reach now s = record { map = s.map; cp15 = s.nine.cp15; itcm = s.nine.itcm; dtcm = s.nine.dtcm; now = now }
 
-abbrev pub seven_reach : MachineState → SevenReach
-seven_reach s = record { map = s.map; now = tick_of s.seven.processor }
+abbrev pub seven_reach : Tick → MachineState → SevenReach
+seven_reach now s = record { map = s.map; now = now }
 
--- the machine with what a step of ARM9's, or of ARM7's, left of registers and memories
-abbrev pub with_nine : MachineState → Outcome9 NineReach → MachineState
+-- the machine with what a step of ARM9's, or of ARM7's, left of registers and of what it reaches
+abbrev pub with_nine : MachineState → Outcome NineReach → MachineState
 with_nine s o = record s {
   nine = record {
     processor = record s.nine.processor { registers = o.registers };
-    cp15 = o.cp;
+    cp15 = o.state.cp15;
     itcm = o.state.itcm;
     dtcm = o.state.dtcm;
   };
@@ -62,6 +61,17 @@ with_nine s o = record s {
 
 abbrev pub with_seven : MachineState → Outcome SevenReach → MachineState
 with_seven s o = record s { seven = record s.seven { processor = record s.seven.processor { registers = o.registers } }; map = o.state.map }
+
+-- what a processor's step at a tick comes to, and the machine with what it left
+pub record StepOutcome : Type 0 where
+  pub machine : MachineState
+  pub stepped : arm.Stepped
+
+abbrev pub outcome_of : Proc → Tick → MachineState → StepOutcome
+outcome_of Nine now s =
+    let o = taken nine_memory nine_side (line_of s Nine) s.nine.processor.registers (nine_reach now s) in record { machine = with_nine s o; stepped = o.stepped }
+outcome_of Seven now s =
+    let o = taken seven_memory seven_side (line_of s Seven) s.seven.processor.registers (seven_reach now s) in record { machine = with_seven s o; stepped = o.stepped }
 
 -- the machine with other units behind the ports
 abbrev pub with_units : MachineState → UnitsState → MachineState
@@ -91,16 +101,9 @@ machine_concluded rank proc s (Cost clocks) = Makes (gone_by proc (Cost clocks) 
 machine_concluded rank proc s (Halted clocks) = Makes (gone_by proc (Halted clocks) s) []
 machine_concluded rank proc s (Left stop) = Stops (left_out_by rank (processor_of s proc) stop) s
 
--- what its step comes to
-abbrev pub nine_outcome : MachineState → Outcome9 NineReach
-nine_outcome s = nine_taken (line_of s Nine) s.nine.processor.registers (nine_reach s)
-
-abbrev pub seven_outcome : MachineState → Outcome SevenReach
-seven_outcome s = seven_taken s.nine.cp15 (line_of s Seven) s.seven.processor.registers (seven_reach s)
-
+-- its step, at the tick at which it is due
 abbrev pub processor_step : {O : Type 0} → ℕ → Proc → MachineState → MachineStep MachineState O LeftOut
-processor_step rank Nine s = let o = nine_outcome s in machine_concluded rank Nine (with_nine s o) o.stepped
-processor_step rank Seven s = let o = seven_outcome s in machine_concluded rank Seven (with_seven s o) o.stepped
+processor_step rank proc s = let o = outcome_of proc (tick_of (processor_of s proc)) s in machine_concluded rank proc o.machine o.stepped
 
 -- ---- waking: where a halted processor's IE and IF share a bit after a step at a tick, it is due at the next tick, whatever IME is (our choice)
 

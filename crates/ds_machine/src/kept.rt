@@ -1,10 +1,10 @@
 //! What is kept between steps that are taken at once, and those steps.
 
-ghost use Rattle.std.specs.Prelude.{◌≡◌, ◌<◌, ◌≤◌, ◌^◌, Some, false, true};
+ghost use Rattle.std.specs.Prelude.{◌≡◌, ◌<◌, ◌≤◌, ◌^◌, ℕ, Some, false, true};
 ghost use Rattle.ds_runs.specs.Runs.{IsOver};
 ghost use Rattle.ds_machine.specs.Kept.{events_of, least_of, due_at_least, AreAsleep, IsKept};
 ghost use Rattle.ds_machine.specs.Reference.{awake, step_by, stepped_of, AtOnce, HasCounted};
-ghost use Rattle.ds_machine.specs.Steps.{is_held, tick_of};
+ghost use Rattle.ds_machine.specs.Steps.{is_held, line_of, processor_of, tick_of};
 ghost use Rattle.ds_machine.specs.declared.answers.Done.TheVariants.{Made};
 
 use crate::parts::Parts;
@@ -82,53 +82,33 @@ impl Parts {
         let end = kept.until.0.min(until.0);
         if nine <= seven {
             if nine < end {
-                return self.nine_at_once(kept, Tick(nine));
+                return self.at_once(kept, Proc::Nine, kept.nine_line, Tick(nine));
             }
         } else if seven < end {
-            return self.seven_at_once(kept, Tick(seven));
+            return self.at_once(kept, Proc::Seven, kept.seven_line, Tick(seven));
         }
         false
     }
 
-    /// ARM9's step at its tick, where it is one that is taken at once. It costs, and changes no unit: so no processor wakes, and what is kept stays.
+    /// A processor's step at its tick, where it is one that is taken at once. It costs, and changes no unit: so no processor wakes, and what is kept stays.
     #[inline(always)]
-    fn nine_at_once(&mut self, kept: Kept, tick: Tick) -> bool
+    fn at_once(&mut self, kept: Kept, proc: Proc, line: bool, tick: Tick) -> bool
         requires kept { IsKept kept self.old }
         requires before { tick.0 < kept.until.0 }
-        requires held { is_held self.old Proc.Nine ≡ false }
-        requires tick { tick ≡ tick_of self.old.nine.processor }
+        requires line { line ≡ line_of self.old proc }
+        requires held { is_held self.old proc ≡ false }
+        requires tick { tick ≡ tick_of (processor_of self.old proc) }
         requires early { tick.0 ≤ 2 ^ 56 }
-        requires counted { self.old.nine.processor.steps ≤ 2 ^ 61 }
+        requires counted { (processor_of self.old proc).steps ≤ 2 ^ 61 }
         ensures none { result ≡ false → self.new ≡ self.old }
-        ensures made { result ≡ true → awake (Some tick) (step_by 22 (Actor.Processor Proc.Nine) self.old) ≡ stepped_of self.old Made self.new }
+        ensures made { (rank : ℕ) → result ≡ true → awake (Some tick) (step_by rank (Actor.Processor proc) self.old) ≡ stepped_of self.old Made self.new }
         ensures kept { IsKept kept self.new }
     {
-        let clocks = self.quick_nine(tick, kept.nine_line);
+        let clocks = self.take_fast(proc, tick, line);
         if clocks == 0 {
             return false;
         }
-        self.go_on(Proc::Nine, clocks, false);
-        true
-    }
-
-    /// ARM7's step at its tick, where it is one that is taken at once. It costs, and changes no unit: so no processor wakes, and what is kept stays.
-    #[inline(always)]
-    fn seven_at_once(&mut self, kept: Kept, tick: Tick) -> bool
-        requires kept { IsKept kept self.old }
-        requires before { tick.0 < kept.until.0 }
-        requires held { is_held self.old Proc.Seven ≡ false }
-        requires tick { tick ≡ tick_of self.old.seven.processor }
-        requires early { tick.0 ≤ 2 ^ 56 }
-        requires counted { self.old.seven.processor.steps ≤ 2 ^ 61 }
-        ensures none { result ≡ false → self.new ≡ self.old }
-        ensures made { result ≡ true → awake (Some tick) (step_by 23 (Actor.Processor Proc.Seven) self.old) ≡ stepped_of self.old Made self.new }
-        ensures kept { IsKept kept self.new }
-    {
-        let clocks = self.quick_seven(tick, kept.seven_line);
-        if clocks == 0 {
-            return false;
-        }
-        self.go_on(Proc::Seven, clocks, false);
+        self.go_on(proc, clocks, false);
         true
     }
 }

@@ -1,6 +1,7 @@
 //! The laws of the reference run.
 
 ghost use Rattle.ds_runs.specs.Laws.{RunsJoin, RunsAreOne, RunsExist, RunsEnd};
+ghost use Rattle.ds_machine.specs.Apart.{LeaveNine, LeaveSeven};
 ghost use Rattle.ds_machine.specs.Reference.{reference, IsSound};
 
 /// Does nothing; its contract states the laws of the reference run, which hold for every state and every limit: the run to a
@@ -11,4 +12,12 @@ pub fn reference_laws()
     ensures one { RunsAreOne reference }
     ensures exist { RunsExist reference IsSound }
     ensures end { RunsEnd reference 24 IsSound }
+{}
+
+/// Does nothing; its contract states that a step neither changes a processor's own part nor depends on it, but for that processor's steps and those of its
+/// DMA channels.
+#[tactic(auto, using(crate::proofs::Apart::leave_nine, crate::proofs::Apart::leave_seven))]
+pub fn own_part_laws()
+    ensures nine { LeaveNine }
+    ensures seven { LeaveSeven }
 {}

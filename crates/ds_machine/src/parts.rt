@@ -10,7 +10,6 @@ ghost use Rattle.ds_machine.specs.Steps.{is_held, line_of, processor_of};
 
 use crate::answers::Seen;
 use crate::boots::map_at_boot;
-use crate::fetching::fetch_of_nine;
 use crate::processors::Processor;
 use crate::scripts::Script;
 use crate::videos::Video;
@@ -19,7 +18,7 @@ use arm_memo::Decoder;
 use cp15_tcm::Cp15;
 use ds_base::{DTCM_BYTES, ITCM_BYTES, Keys, Memory, Proc, Width};
 use ds_header::Cart;
-use ds_map::{Block, Map};
+use ds_map::{Block, Map, fetched_by_nine};
 use std::alloc::{AllocError, Global};
 use std::marker::Model;
 
@@ -141,14 +140,10 @@ impl Parts {
         ensures { result ≡ fetch_of self.now proc at width }
     {
         match proc {
-            Proc::Nine => fetch_of_nine(
-                &self.nine.cp15,
-                &self.map,
-                &self.nine.itcm,
-                &self.nine.dtcm,
-                at,
-                width,
-            ),
+            Proc::Nine => {
+                let nine = &self.nine;
+                fetched_by_nine(&nine.cp15, &self.map, &nine.itcm, &nine.dtcm, at, width)
+            }
             Proc::Seven => self.map.fetch(proc, at, width),
         }
     }

@@ -1,32 +1,23 @@
-//! A processor's step over what it reaches.
+//! The step of a processor over what it reaches, and of it what is fast: one function each for both processors.
 
-ghost use Rattle.std.specs.Prelude.{◌≡◌, ◌<◌, false, IfSome, Some};
+ghost use Rattle.std.specs.Prelude.{◌≡◌, ◌<◌, ◌%◌, ◌/◌, ◌^◌, false, IfSome};
 ghost use Rattle.ds_base.specs.declared.left_out.LeftKind.TheVariants.{NotYet};
-ghost use Rattle.ds_base.specs.declared.processors.Arch.TheVariants.{V4, V5};
-ghost use Rattle.ds_base.specs.Schedules.{IsEarly};
-ghost use Rattle.arm7_exec.specs.Arm7.{arm7};
-ghost use Rattle.arm_core.specs.Effects.{carried_out};
-ghost use Rattle.arm_core.specs.Steps.{enters, executed_word, fetched};
-ghost use Rattle.arm_ops.specs.Meanings.{ready_meaning};
+ghost use Rattle.arm_core.specs.Steps.{enters, fetched};
+ghost use Rattle.arm_core.specs.declared.outcomes.Stepped.TheVariants.{Cost};
+ghost use Rattle.arm_memo.specs.Known.{arch_of};
 ghost use Rattle.arm_ops.specs.Operations.{is_other, ready_of, HasReady};
+ghost use Rattle.arm_words.specs.ArmTable.{decoded_arm};
 ghost use Rattle.arm_words.specs.Fields.{HasFields};
-ghost use Rattle.arm9_exec.specs.Arm9.{executed_or_moved};
-ghost use Rattle.arm9_exec.specs.Coprocessors.{move_of};
-ghost use Rattle.cp15_tcm.specs.Registers.{vectors_of};
-ghost use Rattle.ds_map.specs.Views.{nine_memory, seven_memory};
-ghost use Rattle.ds_machine.specs.Needs.{nine_needs, nine_step, nine_taken, seven_needs, seven_step, seven_taken};
+ghost use Rattle.arm_words.specs.ThumbTable.{decoded_thumb};
+ghost use Rattle.ds_machine.specs.Sides.{needs, ready_accesses, taken, unbuilt};
 
-use crate::fetching::{decoded_of_nine, decoded_of_seven, next_of_nine, next_of_seven};
-use crate::needs::{unbuilt, unbuilt_byte};
-use arm_core::{Core, Stepped};
-use arm_exec::{Fetched, enters};
+use crate::sides::Side;
+use arm_core::{Core, Registers, Stepped, Touch, footprint};
+use arm_exec::{Fetched, enters, interrupt};
 use arm_memo::Decoder;
-use arm_ops::{Ready, is_other, run_anywhere, touched};
-use arm7_exec::{execute7, step7};
-use arm9_exec::{execute9, step9};
-use cp15_tcm::Cp15;
-use ds_base::{Arch, DTCM_BYTES, ITCM_BYTES, LeftKind, Proc, Stop, Tick};
-use ds_map::{Block, Map, NineView, SevenView};
+use arm_ops::{Ready, is_other, touched};
+use arm_words::{decode_arm, decode_thumb};
+use ds_base::{Arch, LeftKind, Stop, Width};
 
 /// What isn't built yet, by its address.
 fn not_yet(value: u32) -> Stop
@@ -38,414 +29,179 @@ fn not_yet(value: u32) -> Stop
     }
 }
 
-/// What ARM7's step needs and isn't built yet, by what it fetches.
+/// A half of Thumb code at an address, made ready.
 #[inline(always)]
-#[tactic(auto, unfolding(crate::specs::Needs::seven_needs))]
-fn seven_needs(core: &Core, cp: &Cp15, map: &Map, now: Tick, next: &Fetched) -> Option<u32>
-    requires arch { core.now.arch ≡ V4 }
-    requires instr { next.now.instr ≡ (fetched seven_memory V4 core.now.registers (record { map = map.now; now = now })).instr }
+fn half_at<const VERSION: u32>(decoder: &mut Decoder<VERSION>, at: u32, half: u32) -> &Ready
+    ensures ready { result.now ≡ ready_of (decoded_thumb (arch_of VERSION) (half % 2 ^ 16)) }
+    ensures fields { HasReady result.now }
+{
+    decoder.thumb_ready(at, (half % 0x1_0000) as u16)
+}
+
+/// What is fetched at r15, made ready.
+#[inline(always)]
+fn next_ready<'a, V: Side, const VERSION: u32>(
+    s: &Registers,
+    decoder: &'a mut Decoder<VERSION>,
+    view: &V,
+) -> &'a Ready
+    requires version { arch_of VERSION ≡ V.side.arch }
+    ensures ready { result.now ≡ ready_of (fetched V.memory V.side.arch s.now (V.state view.now)).instr }
+    ensures fields { HasReady result.now }
+{
+    let at = s.pc();
+    if s.is_thumb() {
+        return half_at(decoder, at, view.fetched(at, Width::Half));
+    }
+    decoder.arm_ready(at, view.fetched(at, Width::Word))
+}
+
+/// A word of ARM code, decoded: it takes effect under the condition of its upper four bits.
+fn decoded_word(arch: Arch, word: u32) -> Fetched
+    ensures number { result.number ≡ word / 2 ^ 28 }
+    ensures instr { result.instr ≡ decoded_arm arch word }
+    ensures low { result.number < 16 }
+    ensures fields { IfSome result.instr HasFields }
+{
+    Fetched {
+        number: word >> 28,
+        instr: decode_arm(arch, word),
+    }
+}
+
+/// A half of Thumb code, decoded: it always takes effect.
+fn decoded_half(arch: Arch, half: u32) -> Fetched
+    ensures number { result.number ≡ 14 }
+    ensures instr { result.instr ≡ decoded_thumb arch (half % 2 ^ 16) }
+    ensures low { result.number < 16 }
+    ensures fields { IfSome result.instr HasFields }
+{
+    Fetched {
+        number: 14,
+        instr: decode_thumb(arch, (half % 0x1_0000) as u16),
+    }
+}
+
+/// What is fetched at r15, decoded.
+fn next_decoded<V: Side>(s: &Registers, view: &V) -> Fetched
+    ensures number { result.number ≡ (fetched V.memory V.side.arch s.now (V.state view.now)).number }
+    ensures instr { result.instr ≡ (fetched V.memory V.side.arch s.now (V.state view.now)).instr }
+    ensures low { result.number < 16 }
+    ensures fields { IfSome result.instr HasFields }
+{
+    let at = s.pc();
+    let arch = view.arch();
+    if s.is_thumb() {
+        return decoded_half(arch, view.fetched(at, Width::Half));
+    }
+    decoded_word(arch, view.fetched(at, Width::Word))
+}
+
+/// What an instruction needs that isn't built yet.
+fn needs_of<V: Side>(core: &Core, view: &V, next: &Fetched) -> Option<u32>
+    requires arch { core.now.arch ≡ V.side.arch }
     requires fields { IfSome next.now.instr HasFields }
-    ensures { result ≡ seven_needs cp.now core.now.registers (record { map = map.now; now = now }) }
+    ensures { result ≡ needs V.side core.now.registers (V.state view.now) next.now.instr }
 {
-    let _ = now;
-    unbuilt(Proc::Seven, cp, map.wramcnt(), core, next.instr)
-}
-
-/// What is left of ARM7's step over its view, behind its fetch.
-#[inline(always)]
-fn execute_seven(core: &mut Core, map: &mut Map, now: Tick, next: Fetched) -> Stepped
-    requires early { IsEarly (Some now) }
-    requires low { next.number < 16 }
-    requires fields { IfSome next.instr HasFields }
-    ensures core { core.new ≡ record core.old { registers = (executed_word seven_memory arm7 core.old.registers (record { map = map.old; now = now }) next.number next.instr).registers } }
-    ensures map { map.new ≡ (executed_word seven_memory arm7 core.old.registers (record { map = map.old; now = now }) next.number next.instr).state.map }
-    ensures stepped { result ≡ (executed_word seven_memory arm7 core.old.registers (record { map = map.old; now = now }) next.number next.instr).stepped }
-{
-    let mut view = SevenView { map, now };
-    execute7(core, &mut view, next)
-}
-
-/// ARM7's step over its view where it enters no interrupt, by what it fetches.
-#[inline(always)]
-fn seven_step(core: &mut Core, map: &mut Map, now: Tick, line: bool, next: Fetched) -> Stepped
-    requires early { IsEarly (Some now) }
-    requires none { enters line core.old.registers ≡ false }
-    requires number { next.number ≡ (fetched seven_memory V4 core.old.registers (record { map = map.old; now = now })).number }
-    requires instr { next.instr ≡ (fetched seven_memory V4 core.old.registers (record { map = map.old; now = now })).instr }
-    requires low { next.number < 16 }
-    requires fields { IfSome next.instr HasFields }
-    ensures core { core.new ≡ record core.old { registers = (seven_step line core.old.registers (record { map = map.old; now = now })).registers } }
-    ensures map { map.new ≡ (seven_step line core.old.registers (record { map = map.old; now = now })).state.map }
-    ensures stepped { result ≡ (seven_step line core.old.registers (record { map = map.old; now = now })).stepped }
-{
-    let _ = line;
-    execute_seven(core, map, now, next)
-}
-
-/// ARM7's whole step over its view, with its fetch.
-#[tactic(auto, unfolding(crate::specs::Needs::seven_step))]
-fn enter_seven(core: &mut Core, map: &mut Map, now: Tick, line: bool) -> Stepped
-    requires early { IsEarly (Some now) }
-    ensures core { core.new ≡ record core.old { registers = (seven_step line core.old.registers (record { map = map.old; now = now })).registers } }
-    ensures map { map.new ≡ (seven_step line core.old.registers (record { map = map.old; now = now })).state.map }
-    ensures stepped { result ≡ (seven_step line core.old.registers (record { map = map.old; now = now })).stepped }
-{
-    let mut view = SevenView { map, now };
-    step7(core, &mut view, line)
-}
-
-/// What is needed by ARM7's step of an instruction that was made ready, and isn't built yet.
-#[inline(always)]
-fn seven_ready_needs(core: &Core, cp: &Cp15, map: &Map, now: Tick, next: &Ready) -> Option<u32>
-    requires ready { next.now ≡ ready_of (fetched seven_memory V4 core.now.registers (record { map = map.now; now = now })).instr }
-    requires fields { HasReady next.now }
-    requires known { is_other next.now.op ≡ false }
-    ensures { result ≡ seven_needs cp.now core.now.registers (record { map = map.now; now = now }) }
-{
-    let _ = now;
-    let touch = touched(Arch::V4, &core.registers, next);
-    unbuilt_byte(Proc::Seven, cp, map.wramcnt(), touch)
-}
-
-/// Runs what ARM7 fetched, made ready, over its view, wherever its access is.
-#[inline(always)]
-fn execute_ready_seven(core: &mut Core, map: &mut Map, now: Tick, next: &Ready) -> Stepped
-    requires early { IsEarly (Some now) }
-    requires fields { HasReady next.now }
-    requires known { is_other next.now.op ≡ false }
-    ensures core { core.new ≡ record core.old { registers = (carried_out seven_memory V4 core.old.registers (record { map = map.old; now = now }) (ready_meaning V4 0 core.old.registers next.now)).registers } }
-    ensures map { map.new ≡ (carried_out seven_memory V4 core.old.registers (record { map = map.old; now = now }) (ready_meaning V4 0 core.old.registers next.now)).state.map }
-    ensures stepped { result ≡ (carried_out seven_memory V4 core.old.registers (record { map = map.old; now = now }) (ready_meaning V4 0 core.old.registers next.now)).stepped }
-{
-    let mut view = SevenView { map, now };
-    run_anywhere(Arch::V4, 0, &mut core.registers, &mut view, next)
-}
-
-/// ARM7's step of an instruction that was made ready. Where it needs what isn't built it isn't taken.
-#[inline(always)]
-#[tactic(auto, using(crate::proofs::NearSteps::seven_ready_is))]
-fn take_ready_seven(
-    core: &mut Core,
-    cp: &Cp15,
-    map: &mut Map,
-    now: Tick,
-    line: bool,
-    next: &Ready,
-) -> Stepped
-    requires early { IsEarly (Some now) }
-    requires none { enters line core.old.registers ≡ false }
-    requires ready { next.now ≡ ready_of (fetched seven_memory V4 core.old.registers (record { map = map.old; now = now })).instr }
-    requires fields { HasReady next.now }
-    requires known { is_other next.now.op ≡ false }
-    ensures core { core.new ≡ record core.old { registers = (seven_taken cp.now line core.old.registers (record { map = map.old; now = now })).registers } }
-    ensures map { map.new ≡ (seven_taken cp.now line core.old.registers (record { map = map.old; now = now })).state.map }
-    ensures stepped { result ≡ (seven_taken cp.now line core.old.registers (record { map = map.old; now = now })).stepped }
-{
-    let _ = line;
-    match seven_ready_needs(core, cp, map, now, next) {
-        None => execute_ready_seven(core, map, now, next),
-        Some(value) => Stepped::Left(not_yet(value)),
+    match next.instr {
+        None => view.unbuilt(Touch::Nothing),
+        Some(instr) => view.unbuilt(footprint(core, &instr)),
     }
 }
 
-/// ARM7's step of an instruction that isn't made ready. Where it needs what isn't built it isn't taken.
+/// The step of an instruction that isn't made ready, where no interrupt is entered.
 #[inline(never)]
-fn take_other_seven(core: &mut Core, cp: &Cp15, map: &mut Map, now: Tick, line: bool) -> Stepped
-    requires arch { core.old.arch ≡ V4 }
-    requires early { IsEarly (Some now) }
+fn take_other<V: Side>(core: &mut Core, view: &mut V, line: bool) -> Stepped
+    requires arch { core.old.arch ≡ V.side.arch }
     requires none { enters line core.old.registers ≡ false }
-    ensures core { core.new ≡ record core.old { registers = (seven_taken cp.now line core.old.registers (record { map = map.old; now = now })).registers } }
-    ensures map { map.new ≡ (seven_taken cp.now line core.old.registers (record { map = map.old; now = now })).state.map }
-    ensures stepped { result ≡ (seven_taken cp.now line core.old.registers (record { map = map.old; now = now })).stepped }
+    ensures core { core.new ≡ record core.old { registers = (taken V.memory V.side line core.old.registers (V.state view.old)).registers } }
+    ensures state { V.state view.new ≡ (taken V.memory V.side line core.old.registers (V.state view.old)).state }
+    ensures stepped { result ≡ (taken V.memory V.side line core.old.registers (V.state view.old)).stepped }
+    ensures same { V.identity view.new ≡ V.identity view.old }
 {
-    let next = decoded_of_seven(core, map, now);
-    match seven_needs(core, cp, map, now, &next) {
-        None => seven_step(core, map, now, line, next),
+    let _ = line;
+    let next = next_decoded(&core.registers, view);
+    match needs_of(core, view, &next) {
+        None => view.execute(core, next),
         Some(value) => Stepped::Left(not_yet(value)),
     }
 }
 
-/// ARM7's step. Where it needs what isn't built it isn't taken.
+/// What an operation needs that isn't built yet.
 #[inline(always)]
-pub fn take_seven(
+fn ready_needs<V: Side>(s: &Registers, view: &V, next: &Ready) -> Option<u32>
+    requires { HasReady next.now }
+    ensures { result ≡ unbuilt V.side (V.state view.now) (ready_accesses V.side s.now (V.state view.now) next.now) }
+{
+    view.unbuilt(touched(view.arch(), s, next))
+}
+
+/// The step of an instruction that was made ready, where no interrupt is entered.
+#[inline(always)]
+fn take_ready<V: Side>(s: &mut Registers, view: &mut V, line: bool, next: &Ready) -> Stepped
+    requires none { enters line s.old ≡ false }
+    requires ready { next.now ≡ ready_of (fetched V.memory V.side.arch s.old (V.state view.old)).instr }
+    requires fields { HasReady next.now }
+    requires known { is_other next.now.op ≡ false }
+    ensures registers { s.new ≡ (taken V.memory V.side line s.old (V.state view.old)).registers }
+    ensures state { V.state view.new ≡ (taken V.memory V.side line s.old (V.state view.old)).state }
+    ensures stepped { result ≡ (taken V.memory V.side line s.old (V.state view.old)).stepped }
+    ensures same { V.identity view.new ≡ V.identity view.old }
+{
+    let _ = line;
+    match ready_needs(s, view, next) {
+        None => view.run(s, next),
+        Some(value) => Stepped::Left(not_yet(value)),
+    }
+}
+
+/// The step. Where it needs what isn't built it isn't taken.
+#[inline(always)]
+#[tactic(auto, using(crate::proofs::Taken::taken_entered))]
+pub fn take<V: Side, const VERSION: u32>(
     core: &mut Core,
-    decoder: &mut Decoder<4>,
-    cp: &Cp15,
-    map: &mut Map,
-    now: Tick,
+    decoder: &mut Decoder<VERSION>,
+    view: &mut V,
     line: bool,
 ) -> Stepped
-    requires arch { core.old.arch ≡ V4 }
-    requires early { IsEarly (Some now) }
-    ensures core { core.new ≡ record core.old { registers = (seven_taken cp.now line core.old.registers (record { map = map.old; now = now })).registers } }
-    ensures map { map.new ≡ (seven_taken cp.now line core.old.registers (record { map = map.old; now = now })).state.map }
-    ensures stepped { result ≡ (seven_taken cp.now line core.old.registers (record { map = map.old; now = now })).stepped }
+    requires version { arch_of VERSION ≡ V.side.arch }
+    requires arch { core.old.arch ≡ V.side.arch }
+    ensures core { core.new ≡ record core.old { registers = (taken V.memory V.side line core.old.registers (V.state view.old)).registers } }
+    ensures state { V.state view.new ≡ (taken V.memory V.side line core.old.registers (V.state view.old)).state }
+    ensures stepped { result ≡ (taken V.memory V.side line core.old.registers (V.state view.old)).stepped }
+    ensures same { V.identity view.new ≡ V.identity view.old }
 {
     if enters(&core.registers, line) {
-        return enter_seven(core, map, now, line);
+        let base = view.base();
+        return Stepped::Cost(interrupt(view.arch(), &mut core.registers, base));
     }
-    let next = next_of_seven(core, decoder, map, now);
+    let next = next_ready(&core.registers, decoder, view);
     if is_other(next) {
-        return take_other_seven(core, cp, map, now, line);
+        return take_other(core, view, line);
     }
-    take_ready_seven(core, cp, map, now, line, next)
+    take_ready(&mut core.registers, view, line, next)
 }
 
-/// What ARM9's step needs and isn't built yet, by what it fetches.
+/// The step, where it is fast: a frequent instruction, which reaches RAM alone. The result is its cost; 0 where it isn't taken, and then nothing is
+/// changed. No unit changes.
 #[inline(always)]
-#[tactic(auto, unfolding(crate::specs::Needs::nine_needs))]
-fn nine_needs(
-    core: &Core,
-    cp: &Cp15,
-    map: &Map,
-    itcm: &Block<ITCM_BYTES>,
-    dtcm: &Block<DTCM_BYTES>,
-    now: Tick,
-    next: &Fetched,
-) -> Option<u32>
-    requires arch { core.now.arch ≡ V5 }
-    requires instr { next.now.instr ≡ (fetched nine_memory V5 core.now.registers (record { map = map.now; cp15 = cp.now; itcm = itcm.now; dtcm = dtcm.now; now = now })).instr }
-    requires fields { IfSome next.now.instr HasFields }
-    ensures { result ≡ nine_needs core.now.registers (record { map = map.now; cp15 = cp.now; itcm = itcm.now; dtcm = dtcm.now; now = now }) }
-{
-    let _ = itcm;
-    let _ = dtcm;
-    let _ = now;
-    unbuilt(Proc::Nine, cp, map.wramcnt(), core, next.instr)
-}
-
-/// What is left of ARM9's step over its view, behind its fetch.
-#[inline(always)]
-fn execute_nine(
-    core: &mut Core,
-    cp: &mut Cp15,
-    map: &mut Map,
-    itcm: &mut Block<ITCM_BYTES>,
-    dtcm: &mut Block<DTCM_BYTES>,
-    now: Tick,
-    next: Fetched,
-) -> Stepped
-    requires early { IsEarly (Some now) }
-    requires low { next.number < 16 }
-    requires fields { IfSome next.instr HasFields }
-    ensures core { core.new ≡ record core.old { registers = (executed_or_moved nine_memory core.old.registers cp.old (record { number = next.number; instr = next.instr; state = (record { map = map.old; cp15 = cp.old; itcm = itcm.old; dtcm = dtcm.old; now = now }) }) (move_of next.instr)).registers } }
-    ensures cp { cp.new ≡ (executed_or_moved nine_memory core.old.registers cp.old (record { number = next.number; instr = next.instr; state = (record { map = map.old; cp15 = cp.old; itcm = itcm.old; dtcm = dtcm.old; now = now }) }) (move_of next.instr)).cp }
-    ensures map { map.new ≡ (executed_or_moved nine_memory core.old.registers cp.old (record { number = next.number; instr = next.instr; state = (record { map = map.old; cp15 = cp.old; itcm = itcm.old; dtcm = dtcm.old; now = now }) }) (move_of next.instr)).state.map }
-    ensures itcm { itcm.new ≡ (executed_or_moved nine_memory core.old.registers cp.old (record { number = next.number; instr = next.instr; state = (record { map = map.old; cp15 = cp.old; itcm = itcm.old; dtcm = dtcm.old; now = now }) }) (move_of next.instr)).state.itcm }
-    ensures dtcm { dtcm.new ≡ (executed_or_moved nine_memory core.old.registers cp.old (record { number = next.number; instr = next.instr; state = (record { map = map.old; cp15 = cp.old; itcm = itcm.old; dtcm = dtcm.old; now = now }) }) (move_of next.instr)).state.dtcm }
-    ensures stepped { result ≡ (executed_or_moved nine_memory core.old.registers cp.old (record { number = next.number; instr = next.instr; state = (record { map = map.old; cp15 = cp.old; itcm = itcm.old; dtcm = dtcm.old; now = now }) }) (move_of next.instr)).stepped }
-{
-    let before = *cp;
-    let mut view = NineView {
-        map,
-        itcm,
-        dtcm,
-        cp: &before,
-        now,
-    };
-    execute9(core, cp, &mut view, next)
-}
-
-/// ARM9's step over its view where it enters no interrupt, by what it fetches.
-#[inline(always)]
-fn nine_step(
-    core: &mut Core,
-    cp: &mut Cp15,
-    map: &mut Map,
-    itcm: &mut Block<ITCM_BYTES>,
-    dtcm: &mut Block<DTCM_BYTES>,
-    now: Tick,
+pub fn take_fast<V: Side, const VERSION: u32>(
+    s: &mut Registers,
+    decoder: &mut Decoder<VERSION>,
+    view: &mut V,
     line: bool,
-    next: Fetched,
-) -> Stepped
-    requires early { IsEarly (Some now) }
-    requires none { enters line core.old.registers ≡ false }
-    requires number { next.number ≡ (fetched nine_memory V5 core.old.registers (record { map = map.old; cp15 = cp.old; itcm = itcm.old; dtcm = dtcm.old; now = now })).number }
-    requires instr { next.instr ≡ (fetched nine_memory V5 core.old.registers (record { map = map.old; cp15 = cp.old; itcm = itcm.old; dtcm = dtcm.old; now = now })).instr }
-    requires low { next.number < 16 }
-    requires fields { IfSome next.instr HasFields }
-    ensures core { core.new ≡ record core.old { registers = (nine_step line core.old.registers (record { map = map.old; cp15 = cp.old; itcm = itcm.old; dtcm = dtcm.old; now = now })).registers } }
-    ensures cp { cp.new ≡ (nine_step line core.old.registers (record { map = map.old; cp15 = cp.old; itcm = itcm.old; dtcm = dtcm.old; now = now })).cp }
-    ensures map { map.new ≡ (nine_step line core.old.registers (record { map = map.old; cp15 = cp.old; itcm = itcm.old; dtcm = dtcm.old; now = now })).state.map }
-    ensures itcm { itcm.new ≡ (nine_step line core.old.registers (record { map = map.old; cp15 = cp.old; itcm = itcm.old; dtcm = dtcm.old; now = now })).state.itcm }
-    ensures dtcm { dtcm.new ≡ (nine_step line core.old.registers (record { map = map.old; cp15 = cp.old; itcm = itcm.old; dtcm = dtcm.old; now = now })).state.dtcm }
-    ensures stepped { result ≡ (nine_step line core.old.registers (record { map = map.old; cp15 = cp.old; itcm = itcm.old; dtcm = dtcm.old; now = now })).stepped }
+) -> u32
+    requires version { arch_of VERSION ≡ V.side.arch }
+    ensures none { result ≡ 0 → (s.new ≡ s.old) × (V.state view.new ≡ V.state view.old) }
+    ensures registers { 0 < result → s.new ≡ (taken V.memory V.side line s.old (V.state view.old)).registers }
+    ensures state { 0 < result → V.state view.new ≡ (taken V.memory V.side line s.old (V.state view.old)).state }
+    ensures stepped { 0 < result → (taken V.memory V.side line s.old (V.state view.old)).stepped ≡ Cost result }
+    ensures units { V.units (V.state view.new) ≡ V.units (V.state view.old) }
+    ensures same { V.identity view.new ≡ V.identity view.old }
 {
-    let _ = line;
-    execute_nine(core, cp, map, itcm, dtcm, now, next)
-}
-
-/// ARM9's whole step over its view, with its fetch.
-#[tactic(auto, unfolding(crate::specs::Needs::nine_step))]
-fn enter_nine(
-    core: &mut Core,
-    cp: &mut Cp15,
-    map: &mut Map,
-    itcm: &mut Block<ITCM_BYTES>,
-    dtcm: &mut Block<DTCM_BYTES>,
-    now: Tick,
-    line: bool,
-) -> Stepped
-    requires early { IsEarly (Some now) }
-    ensures core { core.new ≡ record core.old { registers = (nine_step line core.old.registers (record { map = map.old; cp15 = cp.old; itcm = itcm.old; dtcm = dtcm.old; now = now })).registers } }
-    ensures cp { cp.new ≡ (nine_step line core.old.registers (record { map = map.old; cp15 = cp.old; itcm = itcm.old; dtcm = dtcm.old; now = now })).cp }
-    ensures map { map.new ≡ (nine_step line core.old.registers (record { map = map.old; cp15 = cp.old; itcm = itcm.old; dtcm = dtcm.old; now = now })).state.map }
-    ensures itcm { itcm.new ≡ (nine_step line core.old.registers (record { map = map.old; cp15 = cp.old; itcm = itcm.old; dtcm = dtcm.old; now = now })).state.itcm }
-    ensures dtcm { dtcm.new ≡ (nine_step line core.old.registers (record { map = map.old; cp15 = cp.old; itcm = itcm.old; dtcm = dtcm.old; now = now })).state.dtcm }
-    ensures stepped { result ≡ (nine_step line core.old.registers (record { map = map.old; cp15 = cp.old; itcm = itcm.old; dtcm = dtcm.old; now = now })).stepped }
-{
-    let before = *cp;
-    let mut view = NineView {
-        map,
-        itcm,
-        dtcm,
-        cp: &before,
-        now,
-    };
-    step9(core, cp, &mut view, line)
-}
-
-/// What is needed by ARM9's step of an instruction that was made ready, and isn't built yet.
-#[inline(always)]
-fn nine_ready_needs(
-    core: &Core,
-    cp: &Cp15,
-    map: &Map,
-    itcm: &Block<ITCM_BYTES>,
-    dtcm: &Block<DTCM_BYTES>,
-    now: Tick,
-    next: &Ready,
-) -> Option<u32>
-    requires ready { next.now ≡ ready_of (fetched nine_memory V5 core.now.registers (record { map = map.now; cp15 = cp.now; itcm = itcm.now; dtcm = dtcm.now; now = now })).instr }
-    requires fields { HasReady next.now }
-    requires known { is_other next.now.op ≡ false }
-    ensures { result ≡ nine_needs core.now.registers (record { map = map.now; cp15 = cp.now; itcm = itcm.now; dtcm = dtcm.now; now = now }) }
-{
-    let _ = itcm;
-    let _ = dtcm;
-    let _ = now;
-    let touch = touched(Arch::V5, &core.registers, next);
-    unbuilt_byte(Proc::Nine, cp, map.wramcnt(), touch)
-}
-
-/// Runs what ARM9 fetched, made ready, over its view, wherever its access is.
-#[inline(always)]
-fn execute_ready_nine(
-    core: &mut Core,
-    cp: &Cp15,
-    map: &mut Map,
-    itcm: &mut Block<ITCM_BYTES>,
-    dtcm: &mut Block<DTCM_BYTES>,
-    now: Tick,
-    next: &Ready,
-) -> Stepped
-    requires early { IsEarly (Some now) }
-    requires fields { HasReady next.now }
-    requires known { is_other next.now.op ≡ false }
-    ensures core { core.new ≡ record core.old { registers = (carried_out nine_memory V5 core.old.registers (record { map = map.old; cp15 = cp.now; itcm = itcm.old; dtcm = dtcm.old; now = now }) (ready_meaning V5 (vectors_of cp.now) core.old.registers next.now)).registers } }
-    ensures map { map.new ≡ (carried_out nine_memory V5 core.old.registers (record { map = map.old; cp15 = cp.now; itcm = itcm.old; dtcm = dtcm.old; now = now }) (ready_meaning V5 (vectors_of cp.now) core.old.registers next.now)).state.map }
-    ensures itcm { itcm.new ≡ (carried_out nine_memory V5 core.old.registers (record { map = map.old; cp15 = cp.now; itcm = itcm.old; dtcm = dtcm.old; now = now }) (ready_meaning V5 (vectors_of cp.now) core.old.registers next.now)).state.itcm }
-    ensures dtcm { dtcm.new ≡ (carried_out nine_memory V5 core.old.registers (record { map = map.old; cp15 = cp.now; itcm = itcm.old; dtcm = dtcm.old; now = now }) (ready_meaning V5 (vectors_of cp.now) core.old.registers next.now)).state.dtcm }
-    ensures stepped { result ≡ (carried_out nine_memory V5 core.old.registers (record { map = map.old; cp15 = cp.now; itcm = itcm.old; dtcm = dtcm.old; now = now }) (ready_meaning V5 (vectors_of cp.now) core.old.registers next.now)).stepped }
-{
-    let base = cp.vectors();
-    let mut view = NineView {
-        map,
-        itcm,
-        dtcm,
-        cp,
-        now,
-    };
-    run_anywhere(Arch::V5, base, &mut core.registers, &mut view, next)
-}
-
-/// ARM9's step of an instruction that was made ready, which changes nothing of CP15. Where it needs what isn't built it isn't taken.
-#[inline(always)]
-#[tactic(auto, using(crate::proofs::NearSteps::nine_ready_is))]
-fn take_ready_nine(
-    core: &mut Core,
-    cp: &Cp15,
-    map: &mut Map,
-    itcm: &mut Block<ITCM_BYTES>,
-    dtcm: &mut Block<DTCM_BYTES>,
-    now: Tick,
-    line: bool,
-    next: &Ready,
-) -> Stepped
-    requires early { IsEarly (Some now) }
-    requires none { enters line core.old.registers ≡ false }
-    requires ready { next.now ≡ ready_of (fetched nine_memory V5 core.old.registers (record { map = map.old; cp15 = cp.now; itcm = itcm.old; dtcm = dtcm.old; now = now })).instr }
-    requires fields { HasReady next.now }
-    requires known { is_other next.now.op ≡ false }
-    ensures core { core.new ≡ record core.old { registers = (nine_taken line core.old.registers (record { map = map.old; cp15 = cp.now; itcm = itcm.old; dtcm = dtcm.old; now = now })).registers } }
-    ensures cp { (nine_taken line core.old.registers (record { map = map.old; cp15 = cp.now; itcm = itcm.old; dtcm = dtcm.old; now = now })).cp ≡ cp.now }
-    ensures map { map.new ≡ (nine_taken line core.old.registers (record { map = map.old; cp15 = cp.now; itcm = itcm.old; dtcm = dtcm.old; now = now })).state.map }
-    ensures itcm { itcm.new ≡ (nine_taken line core.old.registers (record { map = map.old; cp15 = cp.now; itcm = itcm.old; dtcm = dtcm.old; now = now })).state.itcm }
-    ensures dtcm { dtcm.new ≡ (nine_taken line core.old.registers (record { map = map.old; cp15 = cp.now; itcm = itcm.old; dtcm = dtcm.old; now = now })).state.dtcm }
-    ensures stepped { result ≡ (nine_taken line core.old.registers (record { map = map.old; cp15 = cp.now; itcm = itcm.old; dtcm = dtcm.old; now = now })).stepped }
-{
-    let _ = line;
-    match nine_ready_needs(core, cp, map, itcm, dtcm, now, next) {
-        None => execute_ready_nine(core, cp, map, itcm, dtcm, now, next),
-        Some(value) => Stepped::Left(not_yet(value)),
+    if enters(s, line) {
+        return 0;
     }
-}
-
-/// ARM9's step of an instruction that isn't made ready. Where it needs what isn't built it isn't taken.
-#[inline(never)]
-fn take_other_nine(
-    core: &mut Core,
-    cp: &mut Cp15,
-    map: &mut Map,
-    itcm: &mut Block<ITCM_BYTES>,
-    dtcm: &mut Block<DTCM_BYTES>,
-    now: Tick,
-    line: bool,
-) -> Stepped
-    requires arch { core.old.arch ≡ V5 }
-    requires early { IsEarly (Some now) }
-    requires none { enters line core.old.registers ≡ false }
-    ensures core { core.new ≡ record core.old { registers = (nine_taken line core.old.registers (record { map = map.old; cp15 = cp.old; itcm = itcm.old; dtcm = dtcm.old; now = now })).registers } }
-    ensures cp { cp.new ≡ (nine_taken line core.old.registers (record { map = map.old; cp15 = cp.old; itcm = itcm.old; dtcm = dtcm.old; now = now })).cp }
-    ensures map { map.new ≡ (nine_taken line core.old.registers (record { map = map.old; cp15 = cp.old; itcm = itcm.old; dtcm = dtcm.old; now = now })).state.map }
-    ensures itcm { itcm.new ≡ (nine_taken line core.old.registers (record { map = map.old; cp15 = cp.old; itcm = itcm.old; dtcm = dtcm.old; now = now })).state.itcm }
-    ensures dtcm { dtcm.new ≡ (nine_taken line core.old.registers (record { map = map.old; cp15 = cp.old; itcm = itcm.old; dtcm = dtcm.old; now = now })).state.dtcm }
-    ensures stepped { result ≡ (nine_taken line core.old.registers (record { map = map.old; cp15 = cp.old; itcm = itcm.old; dtcm = dtcm.old; now = now })).stepped }
-{
-    let next = decoded_of_nine(core, cp, map, itcm, dtcm, now);
-    match nine_needs(core, cp, map, itcm, dtcm, now, &next) {
-        None => nine_step(core, cp, map, itcm, dtcm, now, line, next),
-        Some(value) => Stepped::Left(not_yet(value)),
-    }
-}
-
-/// ARM9's step. Where it needs what isn't built it isn't taken.
-#[inline(always)]
-pub fn take_nine(
-    core: &mut Core,
-    decoder: &mut Decoder<5>,
-    cp: &mut Cp15,
-    map: &mut Map,
-    itcm: &mut Block<ITCM_BYTES>,
-    dtcm: &mut Block<DTCM_BYTES>,
-    now: Tick,
-    line: bool,
-) -> Stepped
-    requires early { IsEarly (Some now) }
-    requires arch { core.old.arch ≡ V5 }
-    ensures core { core.new ≡ record core.old { registers = (nine_taken line core.old.registers (record { map = map.old; cp15 = cp.old; itcm = itcm.old; dtcm = dtcm.old; now = now })).registers } }
-    ensures cp { cp.new ≡ (nine_taken line core.old.registers (record { map = map.old; cp15 = cp.old; itcm = itcm.old; dtcm = dtcm.old; now = now })).cp }
-    ensures map { map.new ≡ (nine_taken line core.old.registers (record { map = map.old; cp15 = cp.old; itcm = itcm.old; dtcm = dtcm.old; now = now })).state.map }
-    ensures itcm { itcm.new ≡ (nine_taken line core.old.registers (record { map = map.old; cp15 = cp.old; itcm = itcm.old; dtcm = dtcm.old; now = now })).state.itcm }
-    ensures dtcm { dtcm.new ≡ (nine_taken line core.old.registers (record { map = map.old; cp15 = cp.old; itcm = itcm.old; dtcm = dtcm.old; now = now })).state.dtcm }
-    ensures stepped { result ≡ (nine_taken line core.old.registers (record { map = map.old; cp15 = cp.old; itcm = itcm.old; dtcm = dtcm.old; now = now })).stepped }
-{
-    if enters(&core.registers, line) {
-        return enter_nine(core, cp, map, itcm, dtcm, now, line);
-    }
-    let next = next_of_nine(core, decoder, cp, map, itcm, dtcm, now);
-    if is_other(next) {
-        return take_other_nine(core, cp, map, itcm, dtcm, now, line);
-    }
-    take_ready_nine(core, cp, map, itcm, dtcm, now, line, next)
+    let next = next_ready(s, decoder, view);
+    view.run_fast(s, next)
 }

@@ -1,17 +1,19 @@
 //! The step of the actor that is due, and those of the processors.
 
-ghost use Rattle.std.specs.Prelude.{◌≡◌, ◌≤◌, ◌^◌, Some};
+ghost use Rattle.std.specs.Prelude.{◌≡◌, ◌<◌, ◌≤◌, ◌^◌, Some};
+ghost use Rattle.arm_core.specs.declared.outcomes.Stepped.TheVariants.{Cost};
 ghost use Rattle.ds_runs.specs.Actors.{IsNumbered};
 ghost use Rattle.ds_machine.specs.Processors.{stop_in};
 ghost use Rattle.ds_machine.specs.Reference.{awake, due_by, step_by, stepped_of, HasCounted, MayStep, Steps};
 ghost use Rattle.ds_machine.specs.States.{counts_of};
-ghost use Rattle.ds_machine.specs.Steps.{machine_concluded, goes_on, gone_by, is_halted, nine_outcome, processor_of, seven_outcome, tick_of, wakes, went_on, with_nine, with_processor, with_seven, woken, woken_one};
+ghost use Rattle.ds_machine.specs.Steps.{machine_concluded, goes_on, gone_by, is_halted, line_of, outcome_of, processor_of, tick_of, wakes, went_on, with_processor, woken, woken_one};
 
 use crate::answers::Done;
 use crate::parts::Parts;
-use crate::steps::{take_nine, take_seven};
+use crate::steps::{take, take_fast};
 use arm_core::Stepped;
 use ds_base::{LeftOut, Proc, Stop, Tick};
+use ds_map::{NineView, SevenView};
 use ds_runs::Actor;
 
 impl Parts {
@@ -58,75 +60,89 @@ impl Parts {
         requires counted { (processor_of self.old proc).steps ≤ 2 ^ 61 }
         ensures { awake (Some tick) (step_by rank (Actor.Processor proc) self.old) ≡ stepped_of self.old result self.new }
     {
+        let line = self.line(proc);
+        let stepped = self.take(proc, tick, line);
+        self.conclude(rank, proc, tick, stepped)
+    }
+
+    /// Takes a processor's step at a tick, but for its cost.
+    #[inline(always)]
+    fn take(&mut self, proc: Proc, now: Tick, line: bool) -> Stepped
+        requires early { now.0 ≤ 2 ^ 56 }
+        requires line { line ≡ line_of self.old proc }
+        ensures machine { self.new ≡ (outcome_of proc now self.old).machine }
+        ensures stepped { result ≡ (outcome_of proc now self.old).stepped }
+    {
         match proc {
-            Proc::Nine => self.step_nine(rank, tick),
-            Proc::Seven => self.step_seven(rank, tick),
+            Proc::Nine => {
+                let mut view = NineView {
+                    map: &mut self.map,
+                    itcm: &mut self.nine.itcm,
+                    dtcm: &mut self.nine.dtcm,
+                    cp: &mut self.nine.cp15,
+                    now,
+                };
+                take(
+                    &mut self.nine.processor.core,
+                    &mut self.nine.decoder,
+                    &mut view,
+                    line,
+                )
+            }
+            Proc::Seven => {
+                let mut view = SevenView {
+                    map: &mut self.map,
+                    now,
+                };
+                take(
+                    &mut self.seven.processor.core,
+                    &mut self.seven.decoder,
+                    &mut view,
+                    line,
+                )
+            }
         }
     }
 
-    /// ARM9's step.
+    /// Takes it where it is fast: its cost in the processor's clocks. Where it isn't taken that is 0, and nothing is changed. No unit changes.
     #[inline(always)]
-    fn step_nine(&mut self, rank: u8, tick: Tick) -> Done
-        requires due { self.old.nine.processor.due ≡ tick.0 }
-        requires early { tick.0 ≤ 2 ^ 56 }
-        requires counted { self.old.nine.processor.steps ≤ 2 ^ 61 }
-        ensures { awake (Some tick) (step_by rank (Actor.Processor Proc.Nine) self.old) ≡ stepped_of self.old result self.new }
+    pub fn take_fast(&mut self, proc: Proc, now: Tick, line: bool) -> u32
+        requires early { now.0 ≤ 2 ^ 56 }
+        requires line { line ≡ line_of self.old proc }
+        ensures none { result ≡ 0 → self.new ≡ self.old }
+        ensures machine { 0 < result → self.new ≡ (outcome_of proc now self.old).machine }
+        ensures stepped { 0 < result → (outcome_of proc now self.old).stepped ≡ Cost result }
+        ensures units { self.new.map.units ≡ self.old.map.units }
     {
-        let stepped = self.take_nine(tick);
-        self.conclude(rank, Proc::Nine, tick, stepped)
-    }
-
-    /// ARM7's step.
-    #[inline(always)]
-    fn step_seven(&mut self, rank: u8, tick: Tick) -> Done
-        requires due { self.old.seven.processor.due ≡ tick.0 }
-        requires early { tick.0 ≤ 2 ^ 56 }
-        requires counted { self.old.seven.processor.steps ≤ 2 ^ 61 }
-        ensures { awake (Some tick) (step_by rank (Actor.Processor Proc.Seven) self.old) ≡ stepped_of self.old result self.new }
-    {
-        let stepped = self.take_seven(tick);
-        self.conclude(rank, Proc::Seven, tick, stepped)
-    }
-
-    /// Takes ARM9's step, but for its cost.
-    #[inline(always)]
-    fn take_nine(&mut self, now: Tick) -> Stepped
-        requires now { now ≡ tick_of self.old.nine.processor }
-        requires early { self.old.nine.processor.due ≤ 2 ^ 56 }
-        ensures machine { self.new ≡ with_nine self.old (nine_outcome self.old) }
-        ensures stepped { result ≡ (nine_outcome self.old).stepped }
-    {
-        let line = self.line(Proc::Nine);
-        let nine = &mut self.nine;
-        take_nine(
-            &mut nine.processor.core,
-            &mut nine.decoder,
-            &mut nine.cp15,
-            &mut self.map,
-            &mut nine.itcm,
-            &mut nine.dtcm,
-            now,
-            line,
-        )
-    }
-
-    /// Takes ARM7's step, but for its cost.
-    #[inline(always)]
-    fn take_seven(&mut self, now: Tick) -> Stepped
-        requires now { now ≡ tick_of self.old.seven.processor }
-        requires early { self.old.seven.processor.due ≤ 2 ^ 56 }
-        ensures machine { self.new ≡ with_seven self.old (seven_outcome self.old) }
-        ensures stepped { result ≡ (seven_outcome self.old).stepped }
-    {
-        let line = self.line(Proc::Seven);
-        take_seven(
-            &mut self.seven.processor.core,
-            &mut self.seven.decoder,
-            &self.nine.cp15,
-            &mut self.map,
-            now,
-            line,
-        )
+        match proc {
+            Proc::Nine => {
+                let mut view = NineView {
+                    map: &mut self.map,
+                    itcm: &mut self.nine.itcm,
+                    dtcm: &mut self.nine.dtcm,
+                    cp: &mut self.nine.cp15,
+                    now,
+                };
+                take_fast(
+                    &mut self.nine.processor.core.registers,
+                    &mut self.nine.decoder,
+                    &mut view,
+                    line,
+                )
+            }
+            Proc::Seven => {
+                let mut view = SevenView {
+                    map: &mut self.map,
+                    now,
+                };
+                take_fast(
+                    &mut self.seven.processor.core.registers,
+                    &mut self.seven.decoder,
+                    &mut view,
+                    line,
+                )
+            }
+        }
     }
 
     /// A processor took a step that costs so many of its clocks.

@@ -8,12 +8,12 @@ use Rattle.ds_base.specs.Memories.{memory_size}
 use Rattle.ds_base.specs.declared.memories.Memory.TheVariants.{Shared, Own7}
 use Rattle.ds_base.specs.declared.processors.Proc.{Proc}
 use Rattle.ds_base.specs.declared.processors.Proc.TheVariants.{Nine, Seven}
-use Rattle.ds_places.specs.AddressTables.{Content, Region, Cells, Video, Ports, BootRom, Empty, place_at, place_by, place_of, regions_of, shared_for_nine, shared_for_seven}
+use Rattle.ds_places.specs.AddressTables.{Content, Region, Cells, Video, Ports, BootRom, Empty, place_at, place_by, regions_of, shared_for_nine, shared_for_seven}
 use Rattle.ds_places.proofs.Regions.{lies_or_not}
 use Rattle.ds_ports.specs.Ports.{lies_in_built, port_is_built}
 use Rattle.ds_ports.proofs.RegisterMaps.{both}
 use Rattle.ds_ports.proofs.Spans.{built_together, no_more_than_four}
-use Rattle.ds_map.specs.Builds.{byte_is_built, is_data_built, past_is_built}
+use Rattle.ds_map.specs.Builds.{is_data_built, map_is_built, nine_is_built, past_is_built}
 
 -- Spans that are built whole: those without ports, and those in one register that is built.
 
@@ -102,28 +102,48 @@ past_built (tcm.Itcm place) b h = refl
 past_built (tcm.Dtcm place) b h = refl
 past_built tcm.Past b h = h
 
-byte_built : (proc : Proc) (cp : Cp15State) (w at : ℕ) → PortBuilt proc at → byte_is_built proc cp w at ≡ true
-unfolding byte_is_built
-byte_built Nine cp w at built =
-    past_built (tcm_of cp at false false) (is_data_built Nine (place_of Nine w at)) (by_table Nine (regions_of Nine w) at (regions_lie_there Nine w) built)
-byte_built Seven cp w at built = by_table Seven (regions_of Seven w) at (regions_lie_there Seven w) built
+map_built : (proc : Proc) (w at : ℕ) → PortBuilt proc at → map_is_built proc w at ≡ true
+unfolding map_is_built
+map_built proc w at built = by_table proc (regions_of proc w) at (regions_lie_there proc w) built
+
+nine_built : (cp : Cp15State) (w at : ℕ) → PortBuilt Nine at → nine_is_built cp w at ≡ true
+unfolding nine_is_built
+nine_built cp w at built = past_built (tcm_of cp at false false) (map_is_built Nine w at) (map_built Nine w at built)
 
 -- ---- the spans
 
--- one that has no port
-pub apart_built : (proc : Proc) (cp : Cp15State) (w first length : ℕ) → (first + length ≤ 0x04000000) ⊎ ((0x05000000 ≤ first) × (first + length ≤ 2 ^ 32))
-    → first_without (byte_is_built proc cp w) (span first length) ≡ None
-apart_built proc cp w first length apart =
-    all_there (byte_is_built proc cp w) first length (λ i lt. byte_built proc cp w ((first + i) % 2 ^ 32) (λ low high. elim apart [
+-- one that has no port, by any test that leaves out ports alone
+apart_whole : (proc : Proc) (p : ℕ → Bool) → ((at : ℕ) → PortBuilt proc at → p at ≡ true) → (first length : ℕ)
+    → (first + length ≤ 0x04000000) ⊎ ((0x05000000 ≤ first) × (first + length ≤ 2 ^ 32)) → first_without p (span first length) ≡ None
+apart_whole proc p is first length apart =
+    all_there p first length (λ i lt. is ((first + i) % 2 ^ 32) (λ low high. elim apart [
       | inl before ↦ absurd (omega (arith, before, lt, low))
       | inr past ↦ absurd (omega (arith, past, lt, high))
     ]))
 
 -- one in a register that is built
-pub register_built : (proc : Proc) (cp : Cp15State) (w first length : ℕ) → 0x04000000 ≤ first → first < 0x05000000
-    → lies_in_built proc (first - 0x04000000) length ≡ true → first_without (byte_is_built proc cp w) (span first length) ≡ None
-register_built proc cp w first length low high h =
-    all_there (byte_is_built proc cp w) first length (λ i lt. byte_built proc cp w ((first + i) % 2 ^ 32) (λ from to.
+register_whole : (proc : Proc) (p : ℕ → Bool) → ((at : ℕ) → PortBuilt proc at → p at ≡ true) → (first length : ℕ) → 0x04000000 ≤ first → first < 0x05000000
+    → lies_in_built proc (first - 0x04000000) length ≡ true → first_without p (span first length) ≡ None
+register_whole proc p is first length low high h =
+    all_there p first length (λ i lt. is ((first + i) % 2 ^ 32) (λ from to.
     (let four = no_more_than_four proc (first - 0x04000000) length h in
     let e : first - 0x04000000 + i ≡ (first + i) % 2 ^ 32 - 0x04000000 = omega (arith, low, high, four, lt) in
     subst (λ (x : ℕ). port_is_built proc x ≡ true) e (built_together proc (first - 0x04000000) length i h lt))))
+
+pub apart_built : (proc : Proc) (w first length : ℕ) → (first + length ≤ 0x04000000) ⊎ ((0x05000000 ≤ first) × (first + length ≤ 2 ^ 32))
+    → first_without (map_is_built proc w) (span first length) ≡ None
+apart_built proc w first length apart = apart_whole proc (map_is_built proc w) (map_built proc w) first length apart
+
+pub register_built : (proc : Proc) (w first length : ℕ) → 0x04000000 ≤ first → first < 0x05000000
+    → lies_in_built proc (first - 0x04000000) length ≡ true → first_without (map_is_built proc w) (span first length) ≡ None
+register_built proc w first length low high h = register_whole proc (map_is_built proc w) (map_built proc w) first length low high h
+
+-- of ARM9's data
+pub apart_nine : (cp : Cp15State) (w first length : ℕ) → (first + length ≤ 0x04000000) ⊎ ((0x05000000 ≤ first) × (first + length ≤ 2 ^ 32))
+    → first_without (nine_is_built cp w) (span first length) ≡ None
+apart_nine cp w first length apart = apart_whole Nine (nine_is_built cp w) (nine_built cp w) first length apart
+
+pub register_nine : (proc : Proc) (cp : Cp15State) (w first length : ℕ) → proc ≡ Nine → 0x04000000 ≤ first → first < 0x05000000
+    → lies_in_built proc (first - 0x04000000) length ≡ true → first_without (nine_is_built cp w) (span first length) ≡ None
+register_nine proc cp w first length e low high h =
+    register_whole Nine (nine_is_built cp w) (nine_built cp w) first length low high (subst (λ (x : Proc). lies_in_built x (first - 0x04000000) length ≡ true) e h)

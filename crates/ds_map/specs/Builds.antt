@@ -1,6 +1,6 @@
 use Rattle.std.specs.Prelude.{ℕ, Bool, true, false}
 use Rattle.ds_base.specs.declared.processors.Proc.{Proc}
-use Rattle.ds_base.specs.declared.processors.Proc.TheVariants.{Nine, Seven}
+use Rattle.ds_base.specs.declared.processors.Proc.TheVariants.{Nine}
 use Rattle.cp15_tcm.specs.Registers.{Cp15State}
 use Rattle.cp15_tcm.specs.TightlyCoupled.{tcm_of}
 use Rattle.cp15_tcm.specs.declared.answers.Tcm.{Tcm}
@@ -25,11 +25,10 @@ past_is_built (Itcm place) built = true
 past_is_built (Dtcm place) built = true
 past_is_built Past built = built
 
--- whether a byte that a DMA channel of a processor reads or writes is built: it goes past the tightly coupled memories
+-- whether a byte past the tightly coupled memories is built, as a processor sees it: so go ARM7's data, and what a DMA channel of either reads or writes
 unfoldable pub map_is_built : Proc → ℕ → ℕ → Bool
 map_is_built proc wramcnt at = is_data_built proc (place_of proc wramcnt at)
 
--- whether a byte of a processor's data is built, by the place that a read of it has
-unfoldable pub byte_is_built : Proc → Cp15State → ℕ → ℕ → Bool
-byte_is_built Nine cp15 wramcnt at = past_is_built (tcm_of cp15 at false false) (is_data_built Nine (place_of Nine wramcnt at))
-byte_is_built Seven cp15 wramcnt at = is_data_built Seven (place_of Seven wramcnt at)
+-- whether a byte of ARM9's data is built, by the place that a read of it has
+unfoldable pub nine_is_built : Cp15State → ℕ → ℕ → Bool
+nine_is_built cp15 wramcnt at = past_is_built (tcm_of cp15 at false false) (map_is_built Nine wramcnt at)

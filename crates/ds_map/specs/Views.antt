@@ -13,7 +13,7 @@ use Rattle.cp15_tcm.specs.declared.answers.Tcm.TheVariants.{Itcm, Dtcm, Past}
 use Rattle.ds_map.specs.Maps.{MapState}
 use Rattle.ds_map.specs.Accesses.{map_fetched, map_read, map_refusal, map_value, map_written}
 
--- The memory machines of the processors and of their DMA channels.
+-- The memory machines of the processors.
 
 -- what ARM7 reaches: the map, at the tick of its step
 pub record SevenReach : Type 0 where
@@ -31,7 +31,7 @@ seven_memory = record {
   write_next = λ r at width value. record r { map = map_written Seven r.now r.map at width value };
 }
 
--- what ARM9 reaches at the tick of its step: the map behind its tightly coupled memories, which stand where CP15's numbers say
+-- what ARM9 reaches at the tick of its step: the map behind its tightly coupled memories, which stand where CP15's numbers say; no access changes CP15
 pub record NineReach : Type 0 where
   pub map : MapState
   pub cp15 : Cp15State
@@ -75,20 +75,4 @@ nine_memory = record {
   read_next = λ r at width. tcm_read (tcm_of r.cp15 at false false) r at width;
   refusal = λ r at width value. tcm_refusal (tcm_of r.cp15 at true false) r at width value;
   write_next = λ r at width value. tcm_written (tcm_of r.cp15 at true false) r at width value;
-}
-
--- what a DMA channel of a processor reaches at the tick of its unit: the map alone, as the processor sees it
-pub record DmaReach : Type 0 where
-  pub map : MapState
-  pub proc : Proc
-  pub now : Tick
-
-abbrev pub dma_memory : MemoryMachine DmaReach
-dma_memory = record {
-  fetch_value = λ r at width. map_fetched r.proc r.map at width;
-  fetch_next = λ r at width. r;
-  read_value = λ r at width. map_value r.proc r.now r.map at width;
-  read_next = λ r at width. record r { map = map_read r.proc r.map at width };
-  refusal = λ r at width value. map_refusal r.proc r.map at width value;
-  write_next = λ r at width value. record r { map = map_written r.proc r.now r.map at width value };
 }

@@ -1,7 +1,9 @@
-//! The views of the processors and of their DMA channels.
+//! The views of the processors.
 
-ghost use Rattle.std.specs.Prelude.{Some};
+ghost use Rattle.std.specs.Prelude.{◌≡◌, Some};
 ghost use Rattle.ds_base.specs.Schedules.{IsEarly};
+ghost use Rattle.ds_base.specs.declared.ticks.Tick.{Tick};
+ghost use Rattle.ds_map.specs.Views.{nine_memory};
 
 use crate::blocks::Block;
 use crate::maps::Map;
@@ -47,7 +49,26 @@ impl Bus for SevenView<'_> {
     }
 }
 
-/// What ARM9 reaches: its tightly coupled memories, where CP15 says, and behind them the map.
+/// What ARM9 fetches at an address, whatever the tick.
+#[inline(always)]
+pub fn fetched_by_nine(
+    cp: &Cp15,
+    map: &Map,
+    itcm: &Block<ITCM_BYTES>,
+    dtcm: &Block<DTCM_BYTES>,
+    at: u32,
+    width: Width,
+) -> u32
+    ensures { (now : Tick) → result ≡ nine_memory.fetch_value (record { map = map.now; cp15 = cp.now; itcm = itcm.now; dtcm = dtcm.now; now = now }) at width }
+{
+    match cp.tcm_place(at, false, true) {
+        Tcm::Itcm(place) => itcm.number(place as usize, width),
+        Tcm::Dtcm(place) => dtcm.number(place as usize, width),
+        Tcm::Past => map.fetch(Proc::Nine, at, width),
+    }
+}
+
+/// What ARM9 reaches: CP15, its tightly coupled memories, where CP15 says, and behind them the map.
 #[derive(Drop)]
 pub struct NineView<'a> {
     /// The map.
@@ -56,8 +77,8 @@ pub struct NineView<'a> {
     pub itcm: &'a mut Block<ITCM_BYTES>,
     /// DTCM.
     pub dtcm: &'a mut Block<DTCM_BYTES>,
-    /// CP15 as it is before the step.
-    pub cp: &'a Cp15,
+    /// CP15.
+    pub cp: &'a mut Cp15,
     /// The tick of the step.
     pub now: Tick,
     ghost early: { IsEarly (Some now) },
@@ -73,15 +94,11 @@ impl Bus for NineView<'_> {
 
     ghost memory = { nine_memory };
 
-    ghost identity = { λ v. v.map.ghost_name ∷ v.itcm.ghost_name ∷ v.dtcm.ghost_name ∷ [] };
+    ghost identity = { λ v. v.map.ghost_name ∷ v.cp.ghost_name ∷ v.itcm.ghost_name ∷ v.dtcm.ghost_name ∷ [] };
 
     #[inline(always)]
     fn fetch(&mut self, at: u32, width: Width) -> u32 {
-        match self.cp.tcm_place(at, false, true) {
-            Tcm::Itcm(place) => self.itcm.number(place as usize, width),
-            Tcm::Dtcm(place) => self.dtcm.number(place as usize, width),
-            Tcm::Past => self.map.fetch(Proc::Nine, at, width),
-        }
+        fetched_by_nine(self.cp, self.map, self.itcm, self.dtcm, at, width)
     }
 
     #[inline(always)]
@@ -101,45 +118,5 @@ impl Bus for NineView<'_> {
             Tcm::Past => return self.map.write(Proc::Nine, self.now, at, width, value),
         }
         None
-    }
-}
-
-/// What a DMA channel of a processor reaches at the tick of its unit: the map alone, as the processor sees it.
-#[derive(Drop)]
-pub struct DmaView<'a> {
-    /// The map.
-    pub map: &'a mut Map,
-    /// The processor.
-    pub proc: Proc,
-    /// The tick of the unit.
-    pub now: Tick,
-    ghost early: { IsEarly (Some now) },
-}
-
-impl Bus for DmaView<'_> {
-    ghost use Rattle.std.specs.Prelude.{◌∷◌, []};
-    ghost use Rattle.ds_map.specs.Views.{DmaReach, dma_memory};
-
-    ghost State = { DmaReach };
-
-    ghost state = { λ v. record { map = v.map.now; proc = v.proc; now = v.now } };
-
-    ghost memory = { dma_memory };
-
-    ghost identity = { λ v. v.map.ghost_name ∷ [] };
-
-    #[inline(always)]
-    fn fetch(&mut self, at: u32, width: Width) -> u32 {
-        self.map.fetch(self.proc, at, width)
-    }
-
-    #[inline(always)]
-    fn read(&mut self, at: u32, width: Width) -> u32 {
-        self.map.read(self.proc, self.now, at, width)
-    }
-
-    #[inline(always)]
-    fn write(&mut self, at: u32, width: Width, value: u32) -> Option<Stop> {
-        self.map.write(self.proc, self.now, at, width, value)
     }
 }

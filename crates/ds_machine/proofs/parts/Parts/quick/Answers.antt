@@ -4,8 +4,8 @@ use Rattle.ds_runs.specs.declared.actors.Actor.TheVariants.{Processor}
 use Rattle.ds_machine.proofs.AtOnce.{few_at_once, nine_first, nine_waits, seven_first, seven_waits, taken_at_once}
 use Rattle.ds_machine.proofs.parts.Parts.quick.Goals as goal
 
-pub nine_at_once-requires-clause-counted : goal.nine_at_once-requires-clause-counted
-nine_at_once-requires-clause-counted c =
+pub at_once-requires-clause-counted : goal.at_once-requires-clause-counted
+at_once-requires-clause-counted c =
     let s = c.args.self.now in
     let nine = nine_waits c.args.kept.nine_least c.due_at_least-nine.result _ s c.due_at_least-nine.ensures c.self.view_is in
     let seven = seven_waits c.args.kept.seven_least c.due_at_least-seven.result _ s c.due_at_least-seven.ensures c.self.view_is in
@@ -21,11 +21,11 @@ returns-then-nine-end-clause-step c =
     let seven = seven_waits c.args.kept.seven_least c.due_at_least-seven.result _ s c.due_at_least-seven.ensures c.self.view_is in
     let early : c.due_at_least-nine.result < min c.args.kept.until.0 c.args.until.0 = (let lt = c.if-nine-end.true in let end = c.min-end.ensures in omega (arith, lt, end)) in
     let least = nine_first c.args.kept s c.due_at_least-nine.result c.due_at_least-seven.result c.args.until.0 c.requires.kept nine seven c.if-nine-seven.true early c.requires.early in
-    taken_at_once s c.nine_at_once.new.self c.args.until.0 22 (record { 0 = c.due_at_least-nine.result }) (Processor Nine) c.nine_at_once.result refl least (omega (arith, early))
-    c.nine_at_once.ensures.none c.nine_at_once.ensures.made
+    taken_at_once s c.at_once.new.self c.args.until.0 22 (record { 0 = c.due_at_least-nine.result }) (Processor Nine) c.at_once.result refl least (omega (arith, early))
+    c.at_once.ensures.none (c.at_once.ensures.made 22)
 
-pub seven_at_once-requires-clause-counted : goal.seven_at_once-requires-clause-counted
-seven_at_once-requires-clause-counted c =
+pub at_once-requires-then-seven-end-clause-counted : goal.at_once-requires-then-seven-end-clause-counted
+at_once-requires-then-seven-end-clause-counted c =
     let s = c.args.self.now in
     let nine = nine_waits c.args.kept.nine_least c.due_at_least-nine.result _ s c.due_at_least-nine.ensures c.self.view_is in
     let seven = seven_waits c.args.kept.seven_least c.due_at_least-seven.result _ s c.due_at_least-seven.ensures c.self.view_is in
@@ -41,5 +41,5 @@ returns-then-seven-end-clause-step c =
     let seven = seven_waits c.args.kept.seven_least c.due_at_least-seven.result _ s c.due_at_least-seven.ensures c.self.view_is in
     let early : c.due_at_least-seven.result < min c.args.kept.until.0 c.args.until.0 = (let lt = c.if-seven-end.true in let end = c.min-end.ensures in omega (arith, lt, end)) in
     let least = seven_first c.args.kept s c.due_at_least-nine.result c.due_at_least-seven.result c.args.until.0 c.requires.kept nine seven c.if-nine-seven.false early c.requires.early in
-    taken_at_once s c.seven_at_once.new.self c.args.until.0 23 (record { 0 = c.due_at_least-seven.result }) (Processor Seven) c.seven_at_once.result refl least (omega (arith, early))
-    c.seven_at_once.ensures.none c.seven_at_once.ensures.made
+    taken_at_once s c.at_once-then-seven-end.new.self c.args.until.0 23 (record { 0 = c.due_at_least-seven.result }) (Processor Seven) c.at_once-then-seven-end.result refl least (omega (arith, early))
+    c.at_once-then-seven-end.ensures.none (c.at_once-then-seven-end.ensures.made 23)

@@ -1,0 +1,98 @@
+use Rattle.std.specs.Prelude.{ℕ, ◌≡◌, Bool, if◌then◌else◌, List, [], Option, Some, None}
+use Rattle.ds_base.specs.Accesses.{Access, MemoryMachine}
+use Rattle.ds_base.specs.declared.left_out.LeftKind.TheVariants.{NotYet}
+use Rattle.ds_base.specs.declared.processors.Arch.{Arch}
+use Rattle.ds_base.specs.declared.processors.Arch.TheVariants.{V4, V5}
+use Rattle.ds_base.specs.declared.processors.Proc.TheVariants.{Seven}
+use Rattle.arm_words.specs.declared.instructions.Instr.{Instr}
+use Rattle.arm_core.specs.Effects.{Outcome, carried_out}
+use Rattle.arm_core.specs.Exceptions.{interrupt_meaning}
+use Rattle.arm_core.specs.Footprints.{accessed_bytes, first_without}
+use Rattle.arm_core.specs.Meanings.{meaning}
+use Rattle.arm_core.specs.Registers.{RegisterState}
+use Rattle.arm_core.specs.Steps.{FetchOutcome, enters, executed_word, fetched}
+use Rattle.arm_core.specs.declared.outcomes.Stepped.TheVariants.{Left}
+use Rattle.arm_ops.specs.Meanings.{ready_meaning}
+use Rattle.arm_ops.specs.Operations.{ready_of}
+use Rattle.arm_ops.specs.declared.operations.Ready.{Ready}
+use Rattle.arm7_exec.specs.Arm7.{arm7}
+use Rattle.arm9_exec.specs.Arm9.{arm9}
+use Rattle.arm9_exec.specs.Coprocessors.{move_of, moved_if}
+use Rattle.arm9_exec.specs.declared.coprocessors.Moved.{Moved}
+use Rattle.cp15_tcm.specs.Registers.{vectors_of}
+use Rattle.ds_map.specs.Builds.{map_is_built, nine_is_built}
+use Rattle.ds_map.specs.Views.{NineReach, SevenReach, nine_memory, seven_memory}
+
+-- A processor's step over what it reaches, said once for both, and what parts one from the other.
+
+-- what parts one processor from the other, over the states of what it reaches
+pub record SideOf (S : Type 0) : Type 0 where
+  pub arch : Arch
+  -- where the exception vectors begin
+  pub base : S → ℕ
+  -- whether the place of a byte of data is built, by its address
+  pub is_built : S → ℕ → Bool
+  -- what a word or half comes to that was fetched: by the number of its condition and its instruction, if it has one
+  pub executed : RegisterState → S → ℕ → Option Instr → Outcome S
+
+-- the accesses of data that an instruction makes; what has no instruction makes none
+abbrev pub accesses_by : Arch → ℕ → RegisterState → Option Instr → List Access
+accesses_by arch base s None = []
+accesses_by arch base s (Some instr) = (meaning arch base s instr).accesses
+
+-- what isn't built yet that accesses need: the address of their first byte whose place isn't built
+abbrev pub unbuilt : {S : Type 0} → SideOf S → S → List Access → Option ℕ
+unbuilt side state accesses = first_without (side.is_built state) (accessed_bytes accesses)
+
+abbrev pub needs : {S : Type 0} → SideOf S → RegisterState → S → Option Instr → Option ℕ
+needs side s state instr = unbuilt side state (accesses_by side.arch (side.base state) s instr)
+
+-- what was fetched is executed, unless it needs what isn't built: that is told before, and then the step isn't taken
+abbrev pub executed_unless : {S : Type 0} → SideOf S → RegisterState → S → FetchOutcome S → Option ℕ → Outcome S
+executed_unless side s state f None = side.executed s state f.number f.instr
+executed_unless side s state f (Some value) = record { registers = s; state = state; stepped = Left (record { kind = NotYet; value = value }) }
+
+-- The step, by the interrupt line: the interrupt's entry, which needs nothing, or what is fetched at r15. A fetch leaves all as it is.
+unfoldable pub taken : {S : Type 0} → MemoryMachine S → SideOf S → Bool → RegisterState → S → Outcome S
+taken memory side line s state =
+    if enters line s then carried_out memory side.arch s state (interrupt_meaning (side.base state) s)
+    else let f = fetched memory side.arch s state in executed_unless side s state f (needs side s state f.instr)
+
+-- ---- the two processors
+
+-- ARM9 makes moves to and from CP15, which stands in what it reaches; all else goes by its memories
+abbrev pub nine_executed : RegisterState → NineReach → ℕ → Option Instr → Option Moved → Outcome NineReach
+nine_executed s r number instr None = executed_word nine_memory (arm9 r.cp15) s r number instr
+nine_executed s r number instr (Some move) =
+    let o = moved_if s r.cp15 move in record { registers = o.registers; state = record r { cp15 = o.cp }; stepped = o.stepped }
+
+abbrev pub nine_side : SideOf NineReach
+nine_side = record {
+  arch = V5;
+  base = λ r. vectors_of r.cp15;
+  is_built = λ r. nine_is_built r.cp15 r.map.units.wramcnt;
+  executed = λ s r number instr. nine_executed s r number instr (move_of instr);
+}
+
+abbrev pub seven_side : SideOf SevenReach
+seven_side = record {
+  arch = V4;
+  base = λ r. 0;
+  is_built = λ r. map_is_built Seven r.map.units.wramcnt;
+  executed = λ s r number instr. executed_word seven_memory arm7 s r number instr;
+}
+
+-- ---- operations that were made ready
+
+-- one is carried out
+abbrev pub ready_outcome : {S : Type 0} → MemoryMachine S → SideOf S → RegisterState → S → Ready → Outcome S
+ready_outcome memory side s state ready = carried_out memory side.arch s state (ready_meaning side.arch (side.base state) s ready)
+
+-- the accesses of one
+abbrev pub ready_accesses : {S : Type 0} → SideOf S → RegisterState → S → Ready → List Access
+ready_accesses side s state ready = (ready_meaning side.arch (side.base state) s ready).accesses
+
+-- it is what any instruction comes to that it was made ready from
+abbrev pub RunsAs : {S : Type 0} → MemoryMachine S → SideOf S → RegisterState → S → Ready → Type 0
+RunsAs memory side s state ready =
+    (number : ℕ) (instr : Option Instr) → ready ≡ ready_of instr → side.executed s state number instr ≡ ready_outcome memory side s state ready

@@ -1,0 +1,212 @@
+//! What a processor reaches at its step, and what parts it from the other.
+
+ghost use Rattle.std.specs.Prelude.{◌≡◌, ◌<◌, ℕ, List, false, None, IfSome};
+ghost use Rattle.ds_base.specs.Accesses.{MemoryMachine};
+ghost use Rattle.arm_core.specs.Footprints.{first_without, touched_bytes};
+ghost use Rattle.arm_core.specs.declared.outcomes.Stepped.TheVariants.{Cost};
+ghost use Rattle.arm_ops.specs.Operations.{is_other, HasReady};
+ghost use Rattle.arm_words.specs.Fields.{HasFields};
+ghost use Rattle.ds_ports.specs.Units.{UnitsState};
+ghost use Rattle.ds_machine.specs.Sides.{ready_accesses, ready_outcome, unbuilt, RunsAs, SideOf};
+
+use crate::needs::{unbuilt_nine, unbuilt_seven};
+use arm_core::{Core, Registers, Stepped, Touch};
+use arm_exec::{Fetched, execute_word};
+use arm_ops::{Ready, run, run_anywhere};
+use arm7_exec::execute7;
+use arm9_exec::{in_rom, move_if, move_of};
+use ds_base::{Arch, Proc, Width};
+use ds_map::{NineView, SevenView, fetched_by_nine};
+
+/// What a processor reaches at its step: a memory machine, with what parts it from what the other reaches.
+pub trait Side {
+    /// The states of what it reaches.
+    ghost State: { Type 0 };
+
+    /// The present state.
+    ghost state: { Self → State };
+
+    /// What each access gives and leaves.
+    ghost memory: { MemoryMachine State };
+
+    /// What parts the processor from the other.
+    ghost side: { SideOf State };
+
+    /// The units behind the ports.
+    ghost units: { State → UnitsState };
+
+    /// Which references it holds, which no call changes.
+    ghost identity: { Self → List ℕ };
+
+    /// The architecture.
+    fn arch(&self) -> Arch
+        ensures { result ≡ side.arch };
+
+    /// What is fetched at an address; all stays as it is.
+    fn fetched(&self, at: u32, width: Width) -> u32
+        ensures { result ≡ memory.fetch_value (state self.now) at width };
+
+    /// Where the exception vectors begin.
+    fn base(&self) -> u32
+        ensures { result ≡ side.base (state self.now) };
+
+    /// The first byte of data whose place isn't built.
+    fn unbuilt(&self, touch: Touch) -> Option<u32>
+        ensures { result ≡ first_without (side.is_built (state self.now)) (touched_bytes touch) };
+
+    /// Executes what was fetched.
+    fn execute(&mut self, core: &mut Core, next: Fetched) -> Stepped
+        requires low { next.number < 16 }
+        requires fields { IfSome next.instr HasFields }
+        ensures core { core.new ≡ record core.old { registers = (side.executed core.old.registers (state self.old) next.number next.instr).registers } }
+        ensures state { state self.new ≡ (side.executed core.old.registers (state self.old) next.number next.instr).state }
+        ensures stepped { result ≡ (side.executed core.old.registers (state self.old) next.number next.instr).stepped }
+        ensures same { identity self.new ≡ identity self.old };
+
+    /// Runs an operation, wherever its access is: it is what its instruction comes to.
+    fn run(&mut self, s: &mut Registers, ready: &Ready) -> Stepped
+        requires fields { HasReady ready.now }
+        requires known { is_other ready.now.op ≡ false }
+        ensures registers { s.new ≡ (ready_outcome memory side s.old (state self.old) ready.now).registers }
+        ensures state { state self.new ≡ (ready_outcome memory side s.old (state self.old) ready.now).state }
+        ensures stepped { result ≡ (ready_outcome memory side s.old (state self.old) ready.now).stepped }
+        ensures executes { RunsAs memory side s.old (state self.old) ready.now }
+        ensures same { identity self.new ≡ identity self.old };
+
+    /// Runs an operation, where it is frequent and reaches RAM alone; so all that it reaches is built, and no unit changes. The result is its cost; 0 where
+    /// it isn't run, and then nothing is changed.
+    fn run_fast(&mut self, s: &mut Registers, ready: &Ready) -> u32
+        requires { HasReady ready.now }
+        ensures none { result ≡ 0 → (s.new ≡ s.old) × (state self.new ≡ state self.old) }
+        ensures known { 0 < result → is_other ready.now.op ≡ false }
+        ensures registers { 0 < result → s.new ≡ (ready_outcome memory side s.old (state self.old) ready.now).registers }
+        ensures state { 0 < result → state self.new ≡ (ready_outcome memory side s.old (state self.old) ready.now).state }
+        ensures stepped { 0 < result → (ready_outcome memory side s.old (state self.old) ready.now).stepped ≡ Cost result }
+        ensures executes { 0 < result → RunsAs memory side s.old (state self.old) ready.now }
+        ensures built { 0 < result → unbuilt side (state self.old) (ready_accesses side s.old (state self.old) ready.now) ≡ None }
+        ensures units { units (state self.new) ≡ units (state self.old) }
+        ensures same { identity self.new ≡ identity self.old };
+}
+
+impl Side for NineView<'_> {
+    ghost use Rattle.std.specs.Prelude.{◌∷◌, []};
+    ghost use Rattle.ds_map.specs.Views.{NineReach, nine_memory};
+    ghost use Rattle.ds_machine.specs.Sides.{nine_side};
+
+    ghost State = { NineReach };
+
+    ghost state = { λ v. record { map = v.map.now; cp15 = v.cp.now; itcm = v.itcm.now; dtcm = v.dtcm.now; now = v.now } };
+
+    ghost memory = { nine_memory };
+
+    ghost side = { nine_side };
+
+    ghost units = { λ r. r.map.units };
+
+    ghost identity = { λ v. v.map.ghost_name ∷ v.cp.ghost_name ∷ v.itcm.ghost_name ∷ v.dtcm.ghost_name ∷ [] };
+
+    #[inline(always)]
+    fn arch(&self) -> Arch {
+        Arch::V5
+    }
+
+    #[inline(always)]
+    fn fetched(&self, at: u32, width: Width) -> u32 {
+        fetched_by_nine(self.cp, self.map, self.itcm, self.dtcm, at, width)
+    }
+
+    #[inline(always)]
+    fn base(&self) -> u32 {
+        self.cp.vectors()
+    }
+
+    #[inline(always)]
+    fn unbuilt(&self, touch: Touch) -> Option<u32> {
+        unbuilt_nine(self.cp, self.map.wramcnt(), touch)
+    }
+
+    #[inline(always)]
+    fn execute(&mut self, core: &mut Core, next: Fetched) -> Stepped {
+        if let Some(move_) = move_of(next.instr) {
+            return move_if(&mut core.registers, self.cp, move_);
+        }
+        let base = self.cp.vectors();
+        let rom = in_rom(self.cp);
+        execute_word(
+            Arch::V5,
+            base,
+            rom,
+            &mut core.registers,
+            self,
+            next.number,
+            next.instr,
+        )
+    }
+
+    #[inline(always)]
+    fn run(&mut self, s: &mut Registers, ready: &Ready) -> Stepped {
+        let base = self.cp.vectors();
+        run_anywhere(Arch::V5, base, s, self, ready)
+    }
+
+    #[inline(always)]
+    #[tactic(auto, using(crate::proofs::Nears::nine_refuses_none))]
+    fn run_fast(&mut self, s: &mut Registers, ready: &Ready) -> u32 {
+        let base = self.cp.vectors();
+        run(Arch::V5, base, s, self, ready)
+    }
+}
+
+impl Side for SevenView<'_> {
+    ghost use Rattle.std.specs.Prelude.{◌∷◌, []};
+    ghost use Rattle.ds_map.specs.Views.{SevenReach, seven_memory};
+    ghost use Rattle.ds_machine.specs.Sides.{seven_side};
+
+    ghost State = { SevenReach };
+
+    ghost state = { λ v. record { map = v.map.now; now = v.now } };
+
+    ghost memory = { seven_memory };
+
+    ghost side = { seven_side };
+
+    ghost units = { λ r. r.map.units };
+
+    ghost identity = { λ v. v.map.ghost_name ∷ [] };
+
+    #[inline(always)]
+    fn arch(&self) -> Arch {
+        Arch::V4
+    }
+
+    #[inline(always)]
+    fn fetched(&self, at: u32, width: Width) -> u32 {
+        self.map.fetch(Proc::Seven, at, width)
+    }
+
+    #[inline(always)]
+    fn base(&self) -> u32 {
+        0
+    }
+
+    #[inline(always)]
+    fn unbuilt(&self, touch: Touch) -> Option<u32> {
+        unbuilt_seven(self.map.wramcnt(), touch)
+    }
+
+    #[inline(always)]
+    fn execute(&mut self, core: &mut Core, next: Fetched) -> Stepped {
+        execute7(core, self, next)
+    }
+
+    #[inline(always)]
+    fn run(&mut self, s: &mut Registers, ready: &Ready) -> Stepped {
+        run_anywhere(Arch::V4, 0, s, self, ready)
+    }
+
+    #[inline(always)]
+    #[tactic(auto, using(crate::proofs::Nears::seven_refuses_none))]
+    fn run_fast(&mut self, s: &mut Registers, ready: &Ready) -> u32 {
+        run(Arch::V4, 0, s, self, ready)
+    }
+}

@@ -137,7 +137,7 @@ fn last(dma: &Dma) -> Seen {
 fn seen(dma: &mut Dma, proc: Proc, line: Line) -> (Seen, Seen) {
     match line {
         Boot => {
-            *dma = Dma::new(proc);
+            *dma = booted(proc);
             (NOTHING, NOTHING)
         }
         Write(channel, control, now) => (write(dma, channel, control, now), NOTHING),
@@ -167,10 +167,16 @@ fn seen(dma: &mut Dma, proc: Proc, line: Line) -> (Seen, Seen) {
     }
 }
 
+/// A processor's channels as at boot.
+fn booted(proc: Proc) -> Dma {
+    let dma = Dma::new(proc);
+    dma.laws();
+    dma
+}
+
 /// A processor's channels from boot on, line by line.
 fn try_lines(rt: &impl Abort, proc: Proc, lines: &[Line]) {
-    let mut dma = Dma::new(proc);
-    dma.laws();
+    let mut dma = booted(proc);
     for (number, line) in lines.iter().enumerate() {
         let (got, wanted) = seen(&mut dma, proc, *line);
         let (one, two, three) = got;

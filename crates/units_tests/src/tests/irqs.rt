@@ -43,10 +43,16 @@ fn seen(irq: &mut Irq, line: Line) -> (Seen, Seen) {
     (DONE, DONE)
 }
 
+/// Interrupt words as at boot.
+fn booted() -> Irq {
+    let irq = Irq::new();
+    irq.laws();
+    irq
+}
+
 /// Interrupt words from boot on, line by line.
 fn try_lines(rt: &impl Abort, lines: &[Line]) {
-    let mut irq = Irq::new();
-    irq.laws();
+    let mut irq = booted();
     for (number, line) in lines.iter().enumerate() {
         let (got, wanted) = seen(&mut irq, *line);
         let (one, two, word) = got;

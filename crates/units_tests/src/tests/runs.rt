@@ -18,23 +18,19 @@ const PAIRS: [(u64, u8, u64, u8, bool); 4] = [
     (6, 1, 5, 23, false),
 ];
 
-/// The tick and the rank of what goes first, by each way to ask of two that are due.
-fn firsts(one: Due, other: Due) -> [Option<Due>; 3] {
-    [
-        earlier(Some(one), Some(other)),
-        Some(earlier_than(one, Some(other))),
-        Some(later_than(Some(one), other)),
-    ]
+/// Whether this goes first of two that are due, by each way to ask.
+fn goes_first(one: Due, other: Due, first: Due) -> bool {
+    earlier(Some(one), Some(other)) == Some(first)
+        && earlier_than(one, Some(other)) == first
+        && later_than(Some(one), other) == first
 }
 
-/// The same of one that is due alone, as the former and as the latter.
-fn alone(one: Due) -> [Option<Due>; 4] {
-    [
-        earlier(Some(one), None),
-        earlier(None, Some(one)),
-        Some(earlier_than(one, None)),
-        Some(later_than(None, one)),
-    ]
+/// Whether one that is due alone goes first, as the former and as the latter.
+fn goes_alone(one: Due) -> bool {
+    earlier(Some(one), None) == Some(one)
+        && earlier(None, Some(one)) == Some(one)
+        && earlier_than(one, None) == one
+        && later_than(None, one) == one
 }
 
 #[test]
@@ -42,19 +38,17 @@ fn the_lesser_tick_and_then_the_former_goes_first(rt: HostRuntime) {
     for (tick, rank, later, other, former) in PAIRS {
         let one = due(tick, rank);
         let other = due(later, other);
-        let first = Some(if former { one } else { other });
+        let first = if former { one } else { other };
+        assert!(rt; goes_first(one, other, first), "{tick} and {later}");
         assert!(rt;
-            firsts(one, other) == [first, first, first],
-            "{tick} and {later}"
+            goes_alone(one) && goes_alone(other),
+            "{tick} and {later}, alone"
         );
-        for due in [one, other] {
-            let wanted = Some(due);
-            assert!(rt;
-                alone(due) == [wanted, wanted, wanted, wanted],
-                "{tick} and {later}"
-            );
-        }
     }
+}
+
+#[test]
+fn what_is_not_due_has_no_entry(rt: HostRuntime) {
     assert!(rt; earlier(None, None) == None);
     assert!(rt; entry(7, Some(Tick(9))) == Some(due(9, 7)));
     assert!(rt; entry(7, None) == None);

@@ -88,10 +88,16 @@ fn seen(timers: &mut Timers, line: Line) -> (Seen, Seen) {
     }
 }
 
+/// Timers as at boot.
+fn booted() -> Timers {
+    let timers = Timers::new();
+    timers.laws();
+    timers
+}
+
 /// Timers from boot on, line by line.
 fn try_lines(rt: &impl Abort, lines: &[Line]) {
-    let mut timers = Timers::new();
-    timers.laws();
+    let mut timers = booted();
     for (number, line) in lines.iter().enumerate() {
         let (got, wanted) = seen(&mut timers, *line);
         let (one, two, three) = got;
@@ -162,37 +168,32 @@ const CHAINS: [(u16, u16, u16, u64, u16, u16, u16); 6] = [
     (0xC4, 0xC4, 0x04, 0x30, 0xFFFF, 0xFFFF, 0),
 ];
 
-/// Timer 0 overflows at tick 2, and the others are at their last counts, with these controls: the bits that it raises.
-fn overflowed(timers: &mut Timers, one: u16, two: u16, three: u16) -> u64 {
+/// Timers with these controls at their last counts, timer 0 of which overflows: the bits that it raises, and the counters after it.
+fn overflowed(one: u16, two: u16, three: u16) -> (u64, [u64; 3]) {
+    let mut timers = booted();
     for which in 0..4u8 {
         timers.set_reload(which, 0xFFFF);
     }
-    write(timers, 3, three, 0);
-    write(timers, 2, two, 0);
-    write(timers, 1, one, 0);
-    write(timers, 0, 0x80, 0);
-    overflow(timers, 0).0
+    write(&mut timers, 3, three, 0);
+    write(&mut timers, 2, two, 0);
+    write(&mut timers, 1, one, 0);
+    write(&mut timers, 0, 0x80, 0);
+    let raised = overflow(&mut timers, 0).0;
+    let counts = [
+        counter(&timers, 1, 2),
+        counter(&timers, 2, 2),
+        counter(&timers, 3, 2),
+    ];
+    (raised, counts)
 }
 
 #[test]
 fn a_chain_ends_at_a_timer_that_does_not_count_up(rt: HostRuntime) {
     for (one, two, three, bits, first, second, third) in CHAINS {
-        let mut timers = Timers::new();
-        let raised = overflowed(&mut timers, one, two, three);
-        let got = (
-            counter(&timers, 1, 2),
-            counter(&timers, 2, 2),
-            counter(&timers, 3, 2),
-        );
-        let wanted = (first.into(), second.into(), third.into());
-        assert!(rt;
-            got == wanted,
-            "{one:x}, {two:x}, {three:x}: {}, {}, {}",
-            got.0,
-            got.1,
-            got.2
-        );
-        assert!(rt; raised == bits, "{one:x}, {two:x}, {three:x}: {raised:x}");
+        let (raised, counts) = overflowed(one, two, three);
+        let wanted = [first.into(), second.into(), third.into()];
+        let holds = raised == bits && counts == wanted;
+        assert!(rt; holds, "{one:x}, {two:x}, {three:x}: {raised:x}");
     }
 }
 

@@ -4,5 +4,7 @@ pub mod Coordinates
 pub mod Boxes
 pub mod Changes
 pub mod Polygons
+pub mod Backs
 pub mod Lists
 pub mod States
+pub mod Bounds

@@ -1,11 +1,10 @@
-use Rattle.std.specs.Prelude.{ℕ, zero, suc, ◌-◌, ◌%◌, ◌==◌, ◌&&◌, ◌||◌, nat_lt, nat_le, if◌then◌else◌, Bool, ℤ, pos, negsuc, ◌+ℤ◌, ◌-ℤ◌, ◌*ℤ◌, List, [], ◌∷◌, ◌++◌, length, map, replicate, slice_index, slice_index_or, Option, Some, None}
+use Rattle.std.specs.Prelude.{ℕ, zero, suc, ◌+◌, ◌-◌, ◌*◌, ◌/◌, ◌%◌, ◌==◌, ◌&&◌, ◌||◌, nat_lt, nat_le, if◌then◌else◌, Bool, ℤ, pos, negsuc, ◌+ℤ◌, ◌-ℤ◌, ◌*ℤ◌, List, [], ◌∷◌, ◌++◌, length, map, replicate, slice_index, slice_index_or, Option, Some, None}
+use Rattle.std.specs.List.{list_all}
 use Rattle.ds_base.specs.Bits.{bit}
 use Rattle.gx_matrix.specs.Commands.{clip_of}
 use Rattle.gx_geometry.specs.declared.numbers.Kind.{Kind}
 use Rattle.gx_geometry.specs.declared.numbers.Kind.TheVariants.{Triangles, Quads, TriangleStrip, QuadStrip}
 use Rattle.gx_geometry.specs.declared.numbers.Numbers.{Numbers}
-use Rattle.gx_geometry.specs.declared.polygons.Shape.{Shape}
-use Rattle.gx_geometry.specs.declared.polygons.Shape.TheVariants.{Triangle, TurnedTriangle, Quad, StripQuad}
 use Rattle.gx_geometry.specs.declared.polygons.Vertex.{Vertex}
 use Rattle.gx_geometry.specs.declared.polygons.Polygon.{Polygon}
 use Rattle.gx_geometry.specs.Boxes.{through}
@@ -18,25 +17,26 @@ vertex_of s =
     let c = through s.point (clip_of s.stacks) in
     record { x = c.x; y = c.y; z = c.z; w = c.w; colour = s.colour; s = s.coordinates.s; t = s.coordinates.t }
 
--- The shape of the polygon that a run's vertex of a place, counted from 0, completes, if it does
-unfoldable pub completed : Kind → ℕ → Option Shape
-completed Triangles place = if place % 3 == 2 then Some Triangle else None
-completed Quads place = if place % 4 == 3 then Some Quad else None
-completed TriangleStrip place = if nat_lt place 2 then None else (if place % 2 == 0 then Some Triangle else Some TurnedTriangle)
-completed QuadStrip place = if nat_lt place 3 || (place % 2 == 0) then None else Some StripQuad
+-- The corners of polygon k of a run, each by its place in the run, counted from 0: a strip's triangle k has the vertices k, k + 1, k + 2, or
+-- k + 1, k, k + 2 where k is odd, and a strip's quad k has 2k, 2k + 1, 2k + 3, 2k + 2
+abbrev pub corners : Kind → ℕ → List ℕ
+corners Triangles k = (3 * k) ∷ (3 * k + 1) ∷ (3 * k + 2) ∷ []
+corners Quads k = (4 * k) ∷ (4 * k + 1) ∷ (4 * k + 2) ∷ (4 * k + 3) ∷ []
+corners TriangleStrip k = if k % 2 == 0 then k ∷ (k + 1) ∷ (k + 2) ∷ [] else (k + 1) ∷ k ∷ (k + 2) ∷ []
+corners QuadStrip k = (2 * k) ∷ (2 * k + 1) ∷ (2 * k + 3) ∷ (2 * k + 2) ∷ []
 
--- Its corners, each by how many vertices before the last one it came. A strip's triangle k has the vertices k, k + 1, k + 2, or k + 1, k, k + 2 where
--- k is odd, and a strip's quad k has 2k, 2k + 1, 2k + 3, 2k + 2.
-abbrev pub corners_back : Shape → List ℕ
-corners_back Triangle = 2 ∷ 1 ∷ 0 ∷ []
-corners_back TurnedTriangle = 1 ∷ 2 ∷ 0 ∷ []
-corners_back Quad = 3 ∷ 2 ∷ 1 ∷ 0 ∷ []
-corners_back StripQuad = 3 ∷ 2 ∷ 0 ∷ 1 ∷ []
+-- which polygon a run's vertex of a place completes, if it does: the one of whose corners it is the last that comes
+unfoldable pub completed : Kind → ℕ → Option ℕ
+completed Triangles place = if place % 3 == 2 then Some (place / 3) else None
+completed Quads place = if place % 4 == 3 then Some (place / 4) else None
+completed TriangleStrip place = if nat_lt place 2 then None else Some (place - 2)
+completed QuadStrip place = if nat_lt place 3 || (place % 2 == 0) then None else Some ((place - 3) / 2)
 
--- a vertex that comes, and what a polygon that it completes has
+-- a vertex that comes, its run's kind, its place in the run, and what a polygon that it completes has
 pub record Arrival : Type 0 where
   pub vertex : Vertex
-  pub shape : Option Shape
+  pub kind : Kind
+  pub place : ℕ
   pub attributes : ℕ
   pub texture : ℕ
   pub palette : ℕ
@@ -45,7 +45,8 @@ pub record Arrival : Type 0 where
 abbrev pub arrival_of : Numbers → Arrival
 arrival_of s = record {
   vertex = vertex_of s;
-  shape = completed s.kind (s.run - 1);
+  kind = s.kind;
+  place = s.run - 1;
   attributes = s.attributes;
   texture = s.texture;
   palette = s.palette;
@@ -75,43 +76,50 @@ is_kept attributes (pos zero) = bit 6 attributes || bit 7 attributes
 is_kept attributes (pos (suc n)) = bit 7 attributes
 is_kept attributes (negsuc n) = bit 6 attributes
 
--- Of the vertices that came since the swap, the last one completes the polygon
+-- Of the vertices that came since the swap, the last one completes the polygon. A vertex of a place in its run stands as many places before it as
+-- it came before it, unless it came before the swap.
 abbrev pub no_vertex : Vertex
 no_vertex = record { x = pos 0; y = pos 0; z = pos 0; w = pos 0; colour = 0; s = pos 0; t = pos 0 }
 
-abbrev pub index_back : List Vertex → ℕ → ℕ
-index_back came back = length came - 1 - back
+abbrev pub has_come : List Vertex → Arrival → ℕ → Bool
+has_come came a place = nat_lt a.place (length came + place)
 
-unfoldable pub vertex_back : List Vertex → ℕ → Vertex
-vertex_back came back = slice_index_or came (index_back came back) no_vertex
+abbrev pub index_of : List Vertex → Arrival → ℕ → ℕ
+index_of came a place = length came + place - (a.place + 1)
 
--- none of its corners was dropped: they are the last vertices that came, and so many came, within the limit
-unfoldable pub has_corners : List Vertex → Shape → Bool
-has_corners came shape = nat_le (length came) most_vertices && nat_le (length (corners_back shape)) (length came)
+abbrev pub vertex_at : List Vertex → Arrival → ℕ → Vertex
+vertex_at came a place = slice_index_or came (index_of came a place) no_vertex
 
-unfoldable pub may_be_seen : List Vertex → ℕ → Shape → Bool
-may_be_seen came attributes shape =
-    let corner = λ (i : ℕ). vertex_back came (slice_index (corners_back shape) i) in
-    is_kept attributes (determinant (corner 0) (corner 1) (corner 2))
+-- none of a polygon's corners was dropped: they came since the swap, and all that came then are within the limit
+unfoldable pub has_corners : List Vertex → Arrival → List ℕ → Bool
+has_corners came a places = nat_le (length came) most_vertices && list_all (has_come came a) places
+
+unfoldable pub may_be_seen : List Vertex → Arrival → List ℕ → Bool
+may_be_seen came a places =
+    let corner = λ (i : ℕ). vertex_at came a (slice_index places i) in
+    is_kept a.attributes (determinant (corner 0) (corner 1) (corner 2))
 
 -- its corners by their places in the list of vertices; an unused one is 0
-unfoldable pub indices_of : List Vertex → Shape → List ℕ
-indices_of came shape = map (index_back came) (corners_back shape) ++ replicate (4 - length (corners_back shape)) 0
+unfoldable pub indices_of : List Vertex → Arrival → List ℕ → List ℕ
+indices_of came a places = map (index_of came a) places ++ replicate (4 - length places) 0
 
-unfoldable pub polygon_with : List Vertex → Arrival → Shape → Polygon
-polygon_with came a shape = record {
+unfoldable pub polygon_with : List Vertex → Arrival → List ℕ → Polygon
+polygon_with came a places = record {
   attributes = a.attributes;
   texture = a.texture;
   palette = a.palette;
   viewport = a.viewport;
-  corners = length (corners_back shape);
-  indices = indices_of came shape;
+  corners = length places;
+  indices = indices_of came a places;
 }
 
 -- the polygon that the last of the vertices that came makes, if it does
-abbrev pub polygon_by : Option Shape → List Vertex → Arrival → Option Polygon
+abbrev pub polygon_at : List Vertex → Arrival → List ℕ → Option Polygon
+polygon_at came a places = if has_corners came a places && may_be_seen came a places then Some (polygon_with came a places) else None
+
+abbrev pub polygon_by : Option ℕ → List Vertex → Arrival → Option Polygon
 polygon_by None came a = None
-polygon_by (Some shape) came a = if has_corners came shape && may_be_seen came a.attributes shape then Some (polygon_with came a shape) else None
+polygon_by (Some k) came a = polygon_at came a (corners a.kind k)
 
 unfoldable pub polygon_of : List Vertex → Arrival → Option Polygon
-polygon_of came a = polygon_by a.shape came a
+polygon_of came a = polygon_by (completed a.kind a.place) came a

@@ -1,6 +1,6 @@
-use Rattle.std.specs.Prelude.{ℕ, ◌≡◌, ◌+◌, ◌-◌, ◌==◌, ◌&&◌, nat_lt, nat_le, if◌then◌else◌, true, false, ℤ, pos, List, [], ◌∷◌, ◌++◌, length, slice_index, slice_index_or, Option, Some, None}
+use Rattle.std.specs.Prelude.{ℕ, ◌≡◌, ◌+◌, ◌-◌, ◌==◌, ◌&&◌, nat_lt, nat_le, if◌then◌else◌, Bool, true, false, ℤ, pos, List, [], ◌∷◌, ◌++◌, length, slice_index, slice_index_or, Option, Some, None}
 use Rattle.ds_base.specs.declared.ticks.Tick.{Tick}
-use Rattle.gx_matrix.specs.Commands.{error_cleared, clip_of, matrix_rows, command_row, no_command}
+use Rattle.gx_matrix.specs.Commands.{clip_of, matrix_rows, command_row, no_command}
 use Rattle.gx_matrix.specs.declared.commands.CommandRow.{CommandRow}
 use Rattle.gx_geometry.specs.declared.boxes.Clipped.{Clipped}
 use Rattle.gx_geometry.specs.declared.numbers.Numbers.{Numbers}
@@ -12,7 +12,7 @@ use Rattle.gx_geometry.specs.Boxes.{through, box_test}
 use Rattle.gx_geometry.specs.Coordinates.{vector_test}
 use Rattle.gx_geometry.specs.Changes.{numbers_after, gives_vertex}
 use Rattle.gx_geometry.specs.Polygons.{Arrival, arrival_of, polygon_of, most_vertices, most_polygons}
-use Rattle.gx_geometry.specs.Lists.{GeometryCommand, AreLists}
+use Rattle.gx_geometry.specs.Lists.{GeometryAct, Command, ClearError, ClearOverflow, numbers_cleared, AreLists, IsOverflow}
 
 -- The geometry engine: its numbers, the results of tests, the open lists, and the lists that the last swap gave out.
 
@@ -116,10 +116,22 @@ unfoldable pub geometry_after : ℕ → List ℕ → GeometryState → GeometryS
 geometry_after code params g =
     if gives_vertex code then arrived (arrival_of (numbers_after code params g.numbers)) (numbered code params g) else numbered code params g
 
--- after a list of commands
-unfoldable pub after_all : List GeometryCommand → GeometryState → GeometryState
+-- the stacks' error is cleared; the lists' overflow is cleared
+abbrev pub geometry_error_cleared : GeometryState → GeometryState
+geometry_error_cleared g = record g { numbers = numbers_cleared g.numbers }
+
+abbrev pub overflow_cleared : GeometryState → GeometryState
+overflow_cleared g = record g { results = record g.results { overflow = false } }
+
+-- after all that was done
+abbrev pub after_act : GeometryAct → GeometryState → GeometryState
+after_act (Command code params) g = geometry_after code params g
+after_act ClearError g = geometry_error_cleared g
+after_act ClearOverflow g = overflow_cleared g
+
+unfoldable pub after_all : List GeometryAct → GeometryState → GeometryState
 after_all [] g = g
-after_all (c ∷ cs) g = after_all cs (geometry_after c.code c.params g)
+after_all (act ∷ acts) g = after_all acts (after_act act g)
 
 -- a swap at a tick gives out both lists and empties them; all else stays but the parameter, which is used up
 unfoldable pub swapped : Tick → GeometryState → GeometryState
@@ -136,15 +148,13 @@ pub record IsFresh (g : GeometryState) : Type 0 where
   pub no_vertex : g.vertices ≡ []
   pub no_polygon : g.polygons ≡ []
 
--- from whatever fresh engine and by whatever commands it came to be as it is, these are the lists of those commands
+-- from whatever fresh engine and by whatever acts it came to be as it is, these are the lists of those acts
 abbrev pub AreListsSince : GeometryState → List Vertex → List Polygon → Type 0
 AreListsSince g vertices polygons =
-    (start : GeometryState) → (commands : List GeometryCommand) → IsFresh start → after_all commands start ≡ g
-    → AreLists start.numbers commands vertices polygons
+    (start : GeometryState) → (acts : List GeometryAct) → IsFresh start → after_all acts start ≡ g → AreLists start.numbers acts vertices polygons
 
--- the stacks' error is cleared; the lists' overflow is cleared
-abbrev pub geometry_error_cleared : GeometryState → GeometryState
-geometry_error_cleared g = record g { numbers = record g.numbers { stacks = error_cleared g.numbers.stacks } }
-
-abbrev pub overflow_cleared : GeometryState → GeometryState
-overflow_cleared g = record g { results = record g.results { overflow = false } }
+-- and this is the overflow by them
+abbrev pub IsOverflowSince : GeometryState → Bool → Type 0
+IsOverflowSince g overflow =
+    (start : GeometryState) → (acts : List GeometryAct) → IsFresh start → after_all acts start ≡ g
+    → IsOverflow start.numbers start.results.overflow acts overflow

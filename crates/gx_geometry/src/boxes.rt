@@ -9,7 +9,7 @@ use ds_base::Matrix;
 use gx_matrix::times;
 
 /// A vertex in clip space: signed words with 12 fractional bits.
-#[derive(Clone, Copy, PartialEq, Eq, Debug)]
+#[derive(Clone, Copy)]
 pub struct Clipped {
     /// Across.
     pub x: i32,
@@ -22,7 +22,7 @@ pub struct Clipped {
 }
 
 /// A plane that bounds the view volume.
-#[derive(Clone, Copy, PartialEq, Eq, Debug)]
+#[derive(Clone, Copy)]
 pub enum Plane {
     /// x = w.
     Right,

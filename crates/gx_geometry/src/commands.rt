@@ -1,12 +1,14 @@
 //! The list of the geometry commands.
 
-ghost use Rattle.std.specs.Prelude.{◌≡◌, ◌<◌, ◌≤◌};
+ghost use Rattle.std.specs.Prelude.{◌≡◌, ◌<◌, ◌≤◌, IfSome};
+ghost use Rattle.gx_geometry.specs.Bounds.{IsRow};
 ghost use Rattle.gx_geometry.specs.States.{command_of, row_with, other_rows};
 
 use gx_matrix::{CommandRow, matrix_row};
 
 fn other_row(code: u8) -> Option<CommandRow>
-    ensures { result ≡ row_with other_rows code }
+    ensures value { result ≡ row_with other_rows code }
+    ensures row { IfSome result (IsRow code) }
 {
     let (parameters, clocks) = match code {
         0x20 | 0x22 | 0x29 | 0x2A | 0x2B | 0x33 | 0x40 | 0x60 => (1, 1),
@@ -33,7 +35,8 @@ fn other_row(code: u8) -> Option<CommandRow>
 /// takes (GBATEK, "DS 3D Geometry Commands").
 #[tactic(auto, unfolding(crate::specs::States::command_of))]
 pub fn command_row(code: u8) -> Option<CommandRow>
-    ensures { result ≡ command_of code }
+    ensures value { result ≡ command_of code }
+    ensures row { IfSome result (IsRow code) }
 {
     match code {
         0x10..=0x1C => Some(matrix_row(code)),

@@ -5,7 +5,7 @@ ghost use Rattle.ds_base.specs.declared.ticks.Tick.{Tick};
 ghost use Rattle.gx_geometry.specs.Numbers.{numbers_at_boot};
 ghost use Rattle.gx_geometry.specs.Changes.{numbers_after, gives_vertex};
 ghost use Rattle.gx_geometry.specs.Polygons.{arrival_of, polygon_of, most_vertices, most_polygons};
-ghost use Rattle.gx_geometry.specs.States.{GeometryState, geometry_at_boot, IsCommand, results_after, polygon_added, vertex_added, arrived, overflown, numbered, geometry_after, swapped, AreListsSince, geometry_error_cleared, overflow_cleared};
+ghost use Rattle.gx_geometry.specs.States.{GeometryState, geometry_at_boot, IsCommand, results_after, polygon_added, vertex_added, arrived, overflown, numbered, geometry_after, swapped, AreListsSince, IsOverflowSince, geometry_error_cleared, overflow_cleared};
 
 use crate::boxes::{box_test, through};
 use crate::capped::Capped;
@@ -233,7 +233,16 @@ impl Geometry {
         ensures vertices { result.now.vertices ≡ length self.now.vertices }
         ensures polygons { result.now.polygons ≡ length self.now.polygons }
         ensures lists { AreListsSince self.now self.now.vertices self.now.polygons }
+        ensures overflow { IsOverflowSince self.now result.now.overflow }
     {
         &self.results
+    }
+
+    /// Does nothing; its contract states what holds of the engine at every time: how long its open lists are at most.
+    pub fn laws(&self)
+        ensures vertices { length self.now.vertices ≤ most_vertices }
+        ensures polygons { length self.now.polygons ≤ most_polygons }
+    {
+        let _count = self.results.vertices;
     }
 }

@@ -3,7 +3,8 @@
 //! vertices and polygons, which a swap gives out. All memory is taken by `Geometry::new`.
 //!
 //! `specs/` has what each command leaves (Changes), the formulas (Numbers, Lights, Coordinates, Boxes, Polygons), the lists of a swap from all
-//! commands since the one before (Lists), and the engine as a whole (States).
+//! that was done since the one before (Lists), the engine as a whole (States), and what holds at every time (Bounds). How the code finds a
+//! polygon's corners stands apart (Backs).
 #![tactic(auto)]
 
 mod boxes;

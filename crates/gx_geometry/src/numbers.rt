@@ -9,7 +9,7 @@ use crate::exact::wrapped_sum;
 use gx_matrix::Stacks;
 
 /// The kind of the polygons that a run of vertices makes (GBATEK, BEGIN_VTXS).
-#[derive(Clone, Copy, PartialEq, Eq, Debug)]
+#[derive(Clone, Copy)]
 pub enum Kind {
     /// Three vertices each.
     Triangles,
@@ -22,7 +22,7 @@ pub enum Kind {
 }
 
 /// A vertex as it is given: signed numbers with 12 fractional bits.
-#[derive(Clone, Copy, PartialEq, Eq, Debug)]
+#[derive(Clone, Copy)]
 pub struct Point {
     /// Across.
     pub x: i16,
@@ -33,7 +33,7 @@ pub struct Point {
 }
 
 /// Texture coordinates: signed numbers with 4 fractional bits.
-#[derive(Clone, Copy, PartialEq, Eq, Debug)]
+#[derive(Clone, Copy)]
 pub struct Coordinates {
     /// Across the texture.
     pub s: i16,
@@ -42,7 +42,7 @@ pub struct Coordinates {
 }
 
 /// One of the four lights: its vector, already turned by the vector matrix, with 9 fractional bits, and its colour.
-#[derive(Clone, Copy, PartialEq, Eq, Debug)]
+#[derive(Clone, Copy)]
 pub struct Light {
     /// The vector's x.
     pub x: i32,
@@ -55,7 +55,7 @@ pub struct Light {
 }
 
 /// How surfaces reflect light: colours in bits 0 to 14.
-#[derive(Clone, Copy, PartialEq, Eq, Debug)]
+#[derive(Clone, Copy)]
 pub struct Material {
     /// The diffuse reflection.
     pub diffuse: u16,

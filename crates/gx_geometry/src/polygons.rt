@@ -1,15 +1,16 @@
 //! Vertices and polygons, as the lists of a swap have them.
 
-ghost use Rattle.std.specs.Prelude.{◌≡◌, ◌<◌, ◌≤◌, ◌+◌, ◌-◌, ◌^◌, ◌-ℤ◌, ◌+ℤ◌, ◌*ℤ◌, ◌≤ℤ◌, pos, negsuc, length, slice_index, slice_index_or, Option, Some, None};
+ghost use Rattle.std.specs.Prelude.{◌≡◌, ◌<◌, ◌≤◌, ◌+◌, ◌-◌, ◌^◌, ◌-ℤ◌, ◌+ℤ◌, ◌*ℤ◌, ◌≤ℤ◌, pos, negsuc, length, slice_index, slice_index_or, Option, Some, None, IfSome};
 ghost use Rattle.ds_base.specs.Bits.{bit};
-ghost use Rattle.gx_geometry.specs.Polygons.{vertex_of, corners_back, arrival_of, most_vertices, minor, times_minor, determinant, is_kept, completed, no_vertex, index_back, vertex_back, has_corners, may_be_seen, indices_of, polygon_with, polygon_of};
+ghost use Rattle.gx_geometry.specs.Polygons.{vertex_of, arrival_of, most_vertices, minor, times_minor, determinant, is_kept, polygon_of};
+ghost use Rattle.gx_geometry.specs.Backs.{shape_of, corners_back, vertex_back, reaches_back, seen_back, indices_back, polygon_back, polygon_by_shape};
 
 use crate::boxes::through;
 use crate::exact::product;
 use crate::numbers::{Kind, Numbers};
 
 /// A vertex in clip space: x, y, z and w are signed words with 12 fractional bits (GBATEK, "DS 3D Polygon Definitions by Vertices").
-#[derive(Clone, Copy, PartialEq, Eq, Debug)]
+#[derive(Clone, Copy, PartialEq, Eq)]
 pub struct Vertex {
     /// Across.
     pub x: i32,
@@ -28,7 +29,7 @@ pub struct Vertex {
 }
 
 /// A polygon of three or four vertices.
-#[derive(Clone, Copy, PartialEq, Eq, Debug)]
+#[derive(Clone, Copy, PartialEq, Eq)]
 pub struct Polygon {
     /// The attributes (GBATEK, POLYGON_ATTR).
     pub attributes: u32,
@@ -45,7 +46,7 @@ pub struct Polygon {
 }
 
 /// The shape of a polygon that a run completes.
-#[derive(Clone, Copy, PartialEq, Eq, Debug)]
+#[derive(Clone, Copy)]
 pub enum Shape {
     /// Three vertices in their order.
     Triangle,
@@ -60,7 +61,8 @@ pub enum Shape {
 /// The vertex that a vertex command gives.
 #[tactic(auto, using(gx_matrix::proofs::Sums::casts), unfolding(crate::specs::Polygons::vertex_of))]
 pub fn vertex_of(s: &Numbers) -> Vertex
-    ensures { result ≡ vertex_of s.now }
+    ensures value { result ≡ vertex_of s.now }
+    ensures colour { result.colour ≡ s.now.colour }
 {
     let c = through(s.point, &s.stacks.clip());
     Vertex {
@@ -190,9 +192,9 @@ fn is_kept(attributes: u32, determinant: i128) -> bool
 }
 
 /// The shape that a run's vertex of a place, counted from 0, completes.
-#[tactic(auto, unfolding(crate::specs::Polygons::completed))]
-fn completed(kind: Kind, place: u64) -> Option<Shape>
-    ensures { result ≡ completed kind place }
+#[tactic(auto, unfolding(crate::specs::Backs::shape_of))]
+fn shape_of(kind: Kind, place: u64) -> Option<Shape>
+    ensures { result ≡ shape_of kind place }
 {
     match kind {
         Kind::Triangles if place % 3 == 2 => Some(Shape::Triangle),
@@ -233,7 +235,7 @@ fn first_corners(shape: Shape) -> (u8, u8, u8)
     }
 }
 
-#[tactic(auto, unfolding(crate::specs::Polygons::vertex_back))]
+#[tactic(auto, unfolding(crate::specs::Backs::vertex_back))]
 fn vertex_back(came: &[Vertex], back: u8) -> Vertex
     requires { back < length came.now }
     ensures { result ≡ vertex_back came.now back }
@@ -242,10 +244,10 @@ fn vertex_back(came: &[Vertex], back: u8) -> Vertex
 }
 
 /// Whether a polygon's side may be seen.
-#[tactic(auto, using(gx_matrix::proofs::Sums::casts), unfolding(crate::specs::Polygons::may_be_seen))]
+#[tactic(auto, using(gx_matrix::proofs::Sums::casts), unfolding(crate::specs::Backs::seen_back))]
 fn may_be_seen(came: &[Vertex], attributes: u32, shape: Shape) -> bool
     requires { length (corners_back shape) ≤ length came.now }
-    ensures { result ≡ may_be_seen came.now attributes shape }
+    ensures { result ≡ seen_back came.now attributes shape }
 {
     let (a, b, c) = first_corners(shape);
     let (a, b, c) = (
@@ -257,11 +259,11 @@ fn may_be_seen(came: &[Vertex], attributes: u32, shape: Shape) -> bool
 }
 
 /// The places of a polygon's corners in the list of vertices.
-#[tactic(auto, unfolding(crate::specs::Polygons::indices_of))]
+#[tactic(auto, unfolding(crate::specs::Backs::indices_back))]
 fn indices_of(came: &[Vertex], shape: Shape) -> [u16; 4]
     requires some { length (corners_back shape) ≤ length came.now }
     requires within { length came.now ≤ most_vertices }
-    ensures { result ≡ indices_of came.now shape }
+    ensures { result ≡ indices_back came.now shape }
 {
     let last = came.len() as u16 - 1;
     match shape {
@@ -272,11 +274,12 @@ fn indices_of(came: &[Vertex], shape: Shape) -> [u16; 4]
     }
 }
 
-#[tactic(auto, unfolding(crate::specs::Polygons::polygon_with))]
+#[tactic(auto, unfolding(crate::specs::Backs::polygon_back))]
 fn polygon_with(came: &[Vertex], s: &Numbers, shape: Shape) -> Polygon
     requires some { length (corners_back shape) ≤ length came.now }
     requires within { length came.now ≤ most_vertices }
-    ensures { result ≡ polygon_with came.now (arrival_of s.now) shape }
+    ensures value { result ≡ polygon_back came.now (arrival_of s.now) shape }
+    ensures palette { result.palette ≡ s.now.palette }
 {
     Polygon {
         attributes: s.attributes,
@@ -288,17 +291,28 @@ fn polygon_with(came: &[Vertex], s: &Numbers, shape: Shape) -> Polygon
     }
 }
 
-/// The polygon that the last of these vertices makes, if it does.
-#[tactic(auto, unfolding(crate::specs::Polygons::polygon_of, crate::specs::Polygons::has_corners))]
-pub fn polygon_of(came: &[Vertex], s: &Numbers) -> Option<Polygon>
+#[tactic(auto, unfolding(crate::specs::Backs::reaches_back))]
+fn polygon_by_shape(came: &[Vertex], s: &Numbers) -> Option<Polygon>
     requires run { 1 ≤ s.now.run }
     requires within { length came.now ≤ most_vertices }
-    ensures { result ≡ polygon_of came.now (arrival_of s.now) }
+    ensures value { result ≡ polygon_by_shape (shape_of s.now.kind (s.now.run - 1)) came.now (arrival_of s.now) }
+    ensures palette { IfSome result (λ p. p.palette ≡ s.now.palette) }
 {
-    match completed(s.kind, s.run - 1) {
+    match shape_of(s.kind, s.run - 1) {
         Some(shape)
             if came.len() >= corner_count(shape) as usize
                 && may_be_seen(came, s.attributes, shape) => { Some(polygon_with(came, s, shape)) }
         _ => None,
     }
+}
+
+/// The polygon that the last of these vertices makes, if it does.
+#[tactic(auto, using(crate::proofs::Backs::by_shape))]
+pub fn polygon_of(came: &[Vertex], s: &Numbers) -> Option<Polygon>
+    requires run { 1 ≤ s.now.run }
+    requires within { length came.now ≤ most_vertices }
+    ensures value { result ≡ polygon_of came.now (arrival_of s.now) }
+    ensures palette { IfSome result (λ p. p.palette ≡ s.now.palette) }
+{
+    polygon_by_shape(came, s)
 }

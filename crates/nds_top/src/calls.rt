@@ -2,6 +2,7 @@
 
 ghost use Rattle.std.specs.Prelude.{◌≡◌, None, map};
 ghost use Rattle.std.specs.String.{string_bytes};
+ghost use Rattle.ds_io.specs.Shelves.{files_of};
 ghost use Rattle.nds_top.specs.Answers.{around, Answered, CommandGives};
 ghost use Rattle.nds_top.specs.Commands.{asked_by};
 ghost use Rattle.nds_top.specs.Notes.{Noted};
@@ -27,7 +28,8 @@ use std::alloc::Global;
 /// - `asm FILE` writes the bytes whose listing the file is. All of it is read before the first byte is written.
 ///
 /// A file's name isn't empty and doesn't begin with `-`. A cartridge has 33,554,432 bytes at most, a key script 4,194,304, a
-/// listing 134,217,728. The script is looked for once the cartridge is accepted; of both files' refusals the first is told.
+/// listing 134,217,728. The script is looked for once the cartridge is accepted; of both files' refusals the first is told. The shelf's files stay as
+/// they were.
 pub fn ds_main<F: Shelf, O: Sink, N: Sink>(
     alloc: Global,
     words: &[String],
@@ -38,6 +40,7 @@ pub fn ds_main<F: Shelf, O: Sink, N: Sink>(
 ) -> Status
     requires { seat.old ≡ None }
     ensures answer { Answered (around F.told F.faults O.tells O.taken O.faults shelf.old shelf.new out.old out.new seat.new) (map string_bytes words.now) result (λ line. Noted N.tells N.taken N.faults line notes.old notes.new) }
+    ensures files { files_of (F.told shelf.new) ≡ files_of (F.told shelf.old) }
 {
     match read_words(words) {
         None => {
@@ -63,6 +66,7 @@ fn carry_out<'a, F: Shelf, O: Sink>(
     requires allowed { IsAllowed (asked_by command) }
     requires empty { seat.old ≡ None }
     ensures answer { CommandGives (around F.told F.faults O.tells O.taken O.faults shelf.old shelf.new out.old out.new seat.new) (asked_by command.entry) result.file.now result.status }
+    ensures files { files_of (F.told shelf.new) ≡ files_of (F.told shelf.old) }
 {
     match command {
         Command::Run { files, ticks, keep } => run(alloc, files, ticks, keep, shelf, out, seat),

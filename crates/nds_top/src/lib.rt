@@ -22,5 +22,6 @@ mod statuses;
 
 pub use calls::ds_main;
 pub use commands::Keep;
+pub use key_scripts::{ScriptFault, read_script};
 pub use plays::{Played, play};
 pub use statuses::{Status, number};

@@ -1,6 +1,7 @@
 //! The commands on listings: an image as text, and text as an image.
 
 ghost use Rattle.std.specs.Prelude.{◌≡◌, None};
+ghost use Rattle.ds_io.specs.Shelves.{files_of};
 ghost use Rattle.nds_top.specs.Answers.{around, ListGives, AsmGives};
 
 use crate::loads::{load, load_cart};
@@ -24,6 +25,7 @@ pub(crate) fn list<F: Shelf, O: Sink>(
     out: &mut O,
 ) -> Status
     ensures answer { ListGives (around F.told F.faults O.tells O.taken O.faults shelf.old shelf.new out.old out.new None) name.now proc set result }
+    ensures files { files_of (F.told shelf.new) ≡ files_of (F.told shelf.old) }
 {
     let cart = match load_cart(alloc, shelf, name) {
         Ok(cart) => cart,
@@ -49,6 +51,7 @@ pub(crate) fn assemble<F: Shelf, O: Sink>(
     out: &mut O,
 ) -> Status
     ensures answer { AsmGives (around F.told F.faults O.tells O.taken O.faults shelf.old shelf.new out.old out.new None) name.now result }
+    ensures files { files_of (F.told shelf.new) ≡ files_of (F.told shelf.old) }
 {
     let mut text = match load(alloc, shelf, name, MOST_TEXT) {
         Ok(text) => text,

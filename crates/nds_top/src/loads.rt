@@ -65,6 +65,7 @@ fn load_script<F: Shelf>(alloc: Global, shelf: &mut F, name: &str) -> Result<Key
     ensures ok { IfOk result (AreKeys (files_of (F.told shelf.old)) (Some name.now)) }
     ensures err { IfErr result (RefusesScript (files_of (F.told shelf.old)) (Rose (F.faults shelf.old) (F.faults shelf.new)) name.now) }
     ensures later { F.faults shelf.old ≤ F.faults shelf.new }
+    ensures files { files_of (F.told shelf.new) ≡ files_of (F.told shelf.old) }
 {
     let text = load(alloc, shelf, name, MOST_SCRIPT)?;
     match read_script(alloc, text.as_slice()) {
@@ -83,6 +84,7 @@ pub(crate) fn load_run<'a, F: Shelf>(
     ensures cart { IfOk result (λ both. IsCart (files_of (F.told shelf.old)) files.entry.cart.now both.0) }
     ensures keys { IfOk result (λ both. AreKeys (files_of (F.told shelf.old)) (option_map (λ name. name.now) files.entry.keys) both.1) }
     ensures err { IfErr result (λ ended. RefusesRun (files_of (F.told shelf.old)) (Rose (F.faults shelf.old) (F.faults shelf.new)) files.entry.cart.now (option_map (λ name. name.now) files.entry.keys) ended.status ended.file.now) }
+    ensures files { files_of (F.told shelf.new) ≡ files_of (F.told shelf.old) }
 {
     let cart = match load_cart(alloc, shelf, files.cart) {
         Ok(cart) => cart,

@@ -1,6 +1,7 @@
 //! The command that runs a cartridge.
 
 ghost use Rattle.std.specs.Prelude.{◌≡◌, ◌≤◌, None, option_map};
+ghost use Rattle.ds_io.specs.Shelves.{files_of};
 ghost use Rattle.nds_top.specs.Answers.{around, RunGives};
 
 use crate::commands::{Keep, RunFiles};
@@ -25,6 +26,7 @@ pub(crate) fn run<'a, F: Shelf, O: Sink>(
     requires early { ticks ≤ 100000000000 }
     requires empty { seat.old ≡ None }
     ensures answer { RunGives (around F.told F.faults O.tells O.taken O.faults shelf.old shelf.new out.old out.new seat.new) files.entry.cart.now (option_map (λ name. name.now) files.entry.keys) ticks keep result.file.now result.status }
+    ensures files { files_of (F.told shelf.new) ≡ files_of (F.told shelf.old) }
 {
     let file = files.cart;
     let (cart, keys) = match load_run(alloc, shelf, files) {

@@ -16,7 +16,7 @@ use Rattle.arm9_exec.specs.Arm9.{arm9}
 use Rattle.arm9_exec.specs.Coprocessors.{move_of}
 use Rattle.arm9_exec.specs.declared.coprocessors.Moved.{Moved}
 use Rattle.arm9_exec.proofs.Costs.{moved_costs}
-use Rattle.ds_map.specs.Views.{NineReach, SevenReach, nine_memory, seven_memory}
+use Rattle.ds_map.specs.Views.{NineReach, nine_memory, seven_memory}
 use Rattle.ds_machine.specs.Sides.{SideOf, executed_unless, needs, nine_executed, nine_side, seven_side, taken}
 use Rattle.ds_machine.specs.States.{MachineState}
 use Rattle.ds_machine.specs.Steps.{line_of, nine_reach, outcome_of, seven_reach}

@@ -10,6 +10,7 @@ pub mod MachineSchedule
 pub mod Moves
 pub mod Nears
 pub mod Others
+pub mod OwnSteps
 pub mod ProcessorSteps
 pub mod Quiet
 pub mod Readies

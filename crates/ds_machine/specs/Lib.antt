@@ -9,4 +9,5 @@ pub mod Reference
 pub mod Kept
 pub mod Observed
 pub mod Apart
+pub mod OwnSteps
 pub mod Processors

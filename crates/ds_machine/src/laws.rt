@@ -2,6 +2,7 @@
 
 ghost use Rattle.ds_runs.specs.Laws.{RunsJoin, RunsAreOne, RunsExist, RunsEnd};
 ghost use Rattle.ds_machine.specs.Apart.{LeaveNine, LeaveSeven};
+ghost use Rattle.ds_machine.specs.OwnSteps.{IsStep7, IsStep9};
 ghost use Rattle.ds_machine.specs.Reference.{reference, IsSound};
 
 /// Does nothing; its contract states the laws of the reference run, which hold for every state and every limit: the run to a
@@ -20,4 +21,12 @@ pub fn reference_laws()
 pub fn own_part_laws()
     ensures nine { LeaveNine }
     ensures seven { LeaveSeven }
+{}
+
+/// Does nothing; its contract states that a processor's step that needs nothing that isn't built is that of the processor's own crate: ARM9's that of `step9`, with CP15
+/// in what it reaches, and ARM7's that of `step7`.
+#[tactic(auto, using(crate::proofs::OwnSteps::is_step9, crate::proofs::OwnSteps::is_step7))]
+pub fn own_step_laws()
+    ensures nine { IsStep9 }
+    ensures seven { IsStep7 }
 {}

@@ -1,0 +1,93 @@
+use Rattle.std.proofs.Common.{ℕ, ◌≡◌, Bool, true, false, if◌then◌else◌, Option, Some, None, refl, sym, ◌∙◌, ap}
+use Rattle.ds_base.specs.declared.memories.Width.{Width}
+use Rattle.ds_base.specs.declared.processors.Arch.TheVariants.{V4, V5}
+use Rattle.arm_words.specs.declared.instructions.Instr.{Instr}
+use Rattle.arm_core.specs.Effects.{Outcome}
+use Rattle.arm_core.specs.Registers.{RegisterState, is_thumb}
+use Rattle.arm_core.specs.Steps.{enters, executed_word, fetched, fetched_half, fetched_word}
+use Rattle.arm7_exec.specs.Arm7.{arm7, step7_of}
+use Rattle.arm9_exec.specs.Arm9.{arm9, executed_or_moved, step9_of}
+use Rattle.arm9_exec.specs.Coprocessors.{move_of}
+use Rattle.arm9_exec.specs.declared.coprocessors.Moved.{Moved}
+use Rattle.cp15_tcm.specs.Registers.{Cp15State}
+use Rattle.cp15_tcm.specs.TightlyCoupled.{tcm_of}
+use Rattle.cp15_tcm.specs.declared.answers.Tcm.{Tcm}
+use Rattle.cp15_tcm.specs.declared.answers.Tcm.TheVariants.{Itcm, Dtcm, Past}
+use Rattle.ds_map.specs.Views.{NineReach, SevenReach, nine_memory, seven_memory, tcm_read, tcm_written}
+use Rattle.ds_machine.specs.OwnSteps.{IsStep7, IsStep9, step_needs, with_cp15}
+use Rattle.ds_machine.specs.Sides.{needs, nine_executed, nine_side, seven_side, taken}
+use Rattle.ds_machine.proofs.Keeps.{Follows, word_follows}
+use Rattle.ds_machine.proofs.Taken.{taken_entered, taken_executed}
+
+-- ---- a fetch leaves what a processor reaches
+
+nine_fetch_stays : (s : RegisterState) (r : NineReach) → (fetched nine_memory V5 s r).state ≡ r
+nine_fetch_stays s r = by_state (is_thumb s) where
+  by_state : (thumb : Bool) → (if thumb then fetched_half nine_memory V5 s r else fetched_word nine_memory V5 s r).state ≡ r
+  by_state true = refl
+  by_state false = refl
+
+seven_fetch_stays : (s : RegisterState) (r : SevenReach) → (fetched seven_memory V4 s r).state ≡ r
+seven_fetch_stays s r = by_state (is_thumb s) where
+  by_state : (thumb : Bool) → (if thumb then fetched_half seven_memory V4 s r else fetched_word seven_memory V4 s r).state ≡ r
+  by_state true = refl
+  by_state false = refl
+
+-- ---- no access changes CP15
+
+tcm_reads : (t : Tcm) (r : NineReach) (at : ℕ) (width : Width) → (tcm_read t r at width).cp15 ≡ r.cp15
+tcm_reads (Itcm place) r at width = refl
+tcm_reads (Dtcm place) r at width = refl
+tcm_reads Past r at width = refl
+
+tcm_writes : (t : Tcm) (r : NineReach) (at : ℕ) (width : Width) (value : ℕ) → (tcm_written t r at width value).cp15 ≡ r.cp15
+tcm_writes (Itcm place) r at width value = refl
+tcm_writes (Dtcm place) r at width value = refl
+tcm_writes Past r at width value = refl
+
+cp15_follows : Follows nine_memory (λ (r : NineReach). Unit {0}) (λ (r t : NineReach). t.cp15 ≡ r.cp15)
+cp15_follows = record {
+  stays = λ r i. refl;
+  joins = λ r t u one two. two ∙ one;
+  ends = λ r t one. tt;
+  fetches = λ r at width i. refl;
+  reads = λ r at width i. tcm_reads (tcm_of r.cp15 at false false) r at width;
+  writes = λ r at width value i. tcm_writes (tcm_of r.cp15 at true false) r at width value;
+}
+
+same_cp15 : (o : Outcome NineReach) (r : NineReach) → o.state.cp15 ≡ r.cp15 → o ≡ record o { state = record o.state { cp15 = r.cp15 } }
+same_cp15 o r e = ap (λ (c : Cp15State). (let t : Outcome NineReach = record o { state = record o.state { cp15 = c } } in t)) e
+
+executed_by : (s : RegisterState) (r : NineReach) (number : ℕ) (instr : Option Instr) (move : Option Moved)
+    → nine_executed s r number instr move ≡ with_cp15 (executed_or_moved nine_memory s r.cp15 (record { number = number; instr = instr; state = r }) move)
+executed_by s r number instr None =
+    same_cp15 (executed_word nine_memory (arm9 r.cp15) s r number instr) r
+    (word_follows nine_memory (λ (r : NineReach). Unit {0}) (λ (r t : NineReach). t.cp15 ≡ r.cp15) cp15_follows (arm9 r.cp15) s r number instr tt)
+executed_by s r number instr (Some move) = refl
+
+-- ---- the steps
+
+nine_by : (line : Bool) (s : RegisterState) (r : NineReach) (b : Bool) → enters line s ≡ b → step_needs nine_memory nine_side line s r ≡ None
+    → taken nine_memory nine_side line s r ≡ with_cp15 (step9_of nine_memory line s r.cp15 r)
+nine_by line s r true e none = taken_entered nine_memory nine_side line s r e ∙ rw e refl
+nine_by line s r false e none =
+    let f = fetched nine_memory V5 s r in
+    let needed : needs nine_side s r f.instr ≡ None = rw e at none in
+    taken_executed nine_memory nine_side line s r f.number f.instr e refl refl needed
+    ∙ executed_by s r f.number f.instr (move_of f.instr)
+    ∙ rw e (ap (λ (x : NineReach). with_cp15 (executed_or_moved nine_memory s r.cp15 (record { number = f.number; instr = f.instr; state = x }) (move_of f.instr))) (sym (nine_fetch_stays s r)))
+
+seven_by : (line : Bool) (s : RegisterState) (r : SevenReach) (b : Bool) → enters line s ≡ b → step_needs seven_memory seven_side line s r ≡ None
+    → taken seven_memory seven_side line s r ≡ step7_of seven_memory line s r
+seven_by line s r true e none = taken_entered seven_memory seven_side line s r e ∙ rw e refl
+seven_by line s r false e none =
+    let f = fetched seven_memory V4 s r in
+    let needed : needs seven_side s r f.instr ≡ None = rw e at none in
+    taken_executed seven_memory seven_side line s r f.number f.instr e refl refl needed
+    ∙ rw e (ap (λ (x : SevenReach). executed_word seven_memory arm7 s x f.number f.instr) (sym (seven_fetch_stays s r)))
+
+pub is_step9 : IsStep9
+is_step9 line s r none = nine_by line s r (enters line s) refl none
+
+pub is_step7 : IsStep7
+is_step7 line s r none = seven_by line s r (enters line s) refl none

@@ -1,0 +1,56 @@
+//! Plays tables of rows over the top call, and tells how many rows of each table hold. Each word of the command line is a file of rows; `data/README.md` has
+//! their language. In short:
+//!
+//!     table a limit is the greatest so far   ; a heading, and then what is said of all rows of the table
+//!     both EAFFFFFE                          ; what calls go over: here both processors' images
+//!     is note ""                             ; what is seen after the row's call: here no note
+//!     row run 9 | is end 9 3 2 0 5           ; a row: what its call goes over, the call, and what is seen
+//!
+//! A line goes through `tokens` (its words and texts), `cursors` (numbers and bytes), and `lines` (what is said) with its kinds: `setups` (what a call goes over) and
+//! `facts` (what is seen). `scenes` puts the former together, `calls` makes the call, `views` looks at what it came to, `checks` holds that beside
+//! the fact, `rows` keeps a row, and `tables` goes over a file. A further word of the language is a variant and a line in its kind, and what plays it.
+//!
+//! Its functions promise nothing beside being safe: what is known of shelves, sinks and consoles stands in their own crates.
+#![tactic(auto)]
+
+mod calls;
+mod checks;
+mod cursors;
+mod facts;
+mod faults;
+mod lines;
+mod rows;
+mod scenes;
+mod setups;
+mod tables;
+mod tokens;
+mod views;
+
+use crate::tables::play_file;
+use std::process::ExitCode;
+use std::{env, fs, io};
+
+/// Plays the file of a name, prints what is told of it, and says whether all its rows held.
+fn play(rt: &HostRuntime, name: &str) -> io::Result<bool> {
+    let text = fs::read_to_string(rt, name)?;
+    let told = play_file(rt.alloc(), name, text.as_str())?;
+    print!(rt; "{}", told.report.as_str())?;
+    Ok(told.holds)
+}
+
+/// Plays all files, and says whether all rows held.
+fn play_all(rt: &HostRuntime) -> io::Result<bool> {
+    let mut holds = true;
+    for name in env::args(rt)?.skip(1) {
+        holds = play(rt, name.as_str())? && holds;
+    }
+    Ok(holds)
+}
+
+fn main(rt: HostRuntime) -> io::Result<ExitCode> {
+    if play_all(&rt)? {
+        Ok(ExitCode::SUCCESS)
+    } else {
+        Ok(ExitCode::from(1))
+    }
+}

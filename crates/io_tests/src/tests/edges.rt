@@ -52,23 +52,23 @@ fn short_writes_lose_no_byte(rt: HostRuntime) {
     assert!(rt; few.bytes == [1, 2, 3, 4, 5, 6, 7, 8]);
 }
 
-/// What a search of the disk answers, and then how many of four bytes a read gives, and the last of them, which was 7: 0 and 1 for
-/// false and true, 9 where it fails.
-const SEARCHES: [(&str, usize, usize, u8); 6] = [
-    ("/dev/zero", 1, 4, 0),
+/// Whether a search of the disk finds a name, how many of four bytes a read gives after it, and the bytes then, which were 7. None where it
+/// fails.
+const SEARCHES: [(&str, Option<bool>, Option<usize>, u8); 6] = [
+    ("/dev/zero", Some(true), Some(4), 0),
     // a name that isn't there leaves the file, and so does a search that fails
-    ("no such file", 0, 4, 0),
-    ("/dev/null/file", 9, 4, 0),
-    (LONG_NAME, 9, 4, 0),
-    ("/dev/null", 1, 0, 7),
-    ("/", 1, 9, 7),
+    ("no such file", Some(false), Some(4), 0),
+    ("/dev/null/file", None, Some(4), 0),
+    (LONG_NAME, None, Some(4), 0),
+    ("/dev/null", Some(true), Some(0), 7),
+    ("/", Some(true), None, 7),
 ];
 
 /// A search and a read after it.
-fn searched<F: Shelf>(shelf: &mut F, name: &str) -> (usize, usize, [u8; 4]) {
-    let found = shelf.find(name).map_or(9, |found| found as usize);
+fn searched<F: Shelf>(shelf: &mut F, name: &str) -> (Option<bool>, Option<usize>, [u8; 4]) {
+    let found = shelf.find(name).ok();
     let mut into = [7; 4];
-    let read = shelf.read(&mut into).unwrap_or(9);
+    let read = shelf.read(&mut into).ok();
     (found, read, into)
 }
 
@@ -78,12 +78,7 @@ fn the_disk_answers_each_cause(rt: HostRuntime) {
     assert!(rt; shelf.read(&mut [7; 4]) == Ok(0));
     for (name, found, read, byte) in SEARCHES {
         let seen = searched(&mut shelf, name);
-        assert!(rt;
-            seen == (found, read, [byte; 4]),
-            "{name}: {}, {}",
-            seen.0,
-            seen.1
-        );
+        assert!(rt; seen == (found, read, [byte; 4]), "{name}: {}", seen.2[3]);
     }
 }
 

@@ -2,7 +2,7 @@
 
 ghost use Rattle.std.specs.Prelude.{◌≡◌, ℕ, false};
 ghost use Rattle.arm_core.specs.Effects.{carried_out};
-ghost use Rattle.arm_core.specs.Footprints.{accessed_bytes, touched_bytes};
+ghost use Rattle.arm_core.specs.Footprints.{HasBytes, TellsNothing, accessed_bytes, touched_bytes};
 ghost use Rattle.arm_ops.specs.Meanings.{op_meaning, ready_meaning};
 ghost use Rattle.arm_ops.specs.Operations as ops;
 ghost use Rattle.arm_ops.specs.Operations.{is_other, HasOp, HasReady};
@@ -27,7 +27,8 @@ pub fn is_other(ready: &Ready) -> bool
 /// The bytes of an operation that takes effect.
 fn op_touch(arch: Arch, s: &Registers, op: &Op) -> Touch
     requires { HasOp op.now }
-    ensures { (base : ℕ) → touched_bytes result ≡ accessed_bytes (op_meaning arch base s.now op.now).accesses }
+    ensures bytes { (base : ℕ) → touched_bytes result ≡ accessed_bytes (op_meaning arch base s.now op.now).accesses }
+    ensures some { HasBytes result }
 {
     match *op {
         Op::Transfer {
@@ -99,10 +100,12 @@ fn op_touch(arch: Arch, s: &Registers, op: &Op) -> Touch
     }
 }
 
-/// The bytes that an operation's access reaches, told before it is run: where it makes none, or its condition fails, there are none.
+/// The bytes that an operation's access reaches, told before it is run. It is `Nothing` exactly where there is no access, as where its
+/// condition fails.
 pub fn touched(arch: Arch, s: &Registers, ready: &Ready) -> Touch
     requires { HasReady ready.now }
-    ensures { (base : ℕ) → touched_bytes result ≡ accessed_bytes (ready_meaning arch base s.now ready.now).accesses }
+    ensures bytes { (base : ℕ) → touched_bytes result ≡ accessed_bytes (ready_meaning arch base s.now ready.now).accesses }
+    ensures nothing { (base : ℕ) → TellsNothing result (ready_meaning arch base s.now ready.now).accesses }
 {
     if !takes_effect(ready.cond, s) {
         return Touch::Nothing;

@@ -12,5 +12,5 @@ returns g c =
     let base = g.V.Side.side.base state in
     let first = λ (bytes : List ℕ). first_without (g.V.Side.side.is_built state) bytes in
     c.unbuilt.ensures
-    ∙ ap first (c.touched.ensures base)
+    ∙ ap first (c.touched.ensures.bytes base)
     ∙ ap (λ (a : Arch). first (accessed_bytes (ready_meaning a base s ready).accesses)) c.arch.ensures

@@ -1,3 +1,4 @@
+pub mod Bounds
 pub mod Backs
 pub mod Parameters
 pub mod Facing

@@ -1,5 +1,44 @@
-use Rattle.std.specs.Prelude.{ℕ, ◌≡◌, ◌≤◌}
+use Rattle.std.specs.Prelude.{ℕ, ◌≡◌, ◌<◌, ◌≤◌, ◌^◌, ◌∷◌, [], List, length, slice_index_or, Option, Some, None}
 use Rattle.gx_matrix.specs.declared.commands.CommandRow.{CommandRow}
+use Rattle.gx_geometry.specs.declared.numbers.Numbers.{Numbers}
+use Rattle.gx_geometry.specs.declared.polygons.Vertex.{Vertex}
+use Rattle.gx_geometry.specs.declared.polygons.Polygon.{Polygon}
+use Rattle.gx_geometry.specs.Lights.{light_at}
+use Rattle.gx_geometry.specs.Polygons.{most_vertices, most_polygons, no_vertex}
+use Rattle.gx_geometry.specs.States.{GeometryState}
+
+-- What holds of the engine at every time, by which those who hold it know the sizes of what it gives out.
+
+-- colours have fifteen bits, the base of a texture's palette thirteen (GBATEK, COLOR, DIF_AMB, SPE_EMI, LIGHT_COLOR, PLTT_BASE)
+pub record AreSmall (s : Numbers) : Type 0 where
+  pub colour : s.colour < 2 ^ 15
+  pub diffuse : s.material.diffuse < 2 ^ 15
+  pub ambient : s.material.ambient < 2 ^ 15
+  pub specular : s.material.specular < 2 ^ 15
+  pub emission : s.material.emission < 2 ^ 15
+  pub lights : (i : ℕ) → (light_at s i).colour < 2 ^ 15
+  pub palette : s.palette < 2 ^ 13
+
+abbrev pub no_polygon : Polygon
+no_polygon = record { attributes = 0; texture = 0; palette = 0; viewport = 0; corners = 0; indices = [] }
+
+abbrev pub HaveColours : List Vertex → Type 0
+HaveColours vertices = (i : ℕ) → (slice_index_or vertices i no_vertex).colour < 2 ^ 15
+
+abbrev pub HavePalettes : List Polygon → Type 0
+HavePalettes polygons = (i : ℕ) → (slice_index_or polygons i no_polygon).palette < 2 ^ 13
+
+-- two lists, of vertices and of polygons, are as long as a swap takes them at most, with colours and palettes so
+pub record AreLimited (vertices : List Vertex) (polygons : List Polygon) : Type 0 where
+  pub vertices_within : length vertices ≤ most_vertices
+  pub polygons_within : length polygons ≤ most_polygons
+  pub colours : HaveColours vertices
+  pub palettes : HavePalettes polygons
+
+pub record IsGeometry (g : GeometryState) : Type 0 where
+  pub numbers : AreSmall g.numbers
+  pub now : AreLimited g.vertices g.polygons
+  pub last : AreLimited g.last.vertices g.last.polygons
 
 -- a row of the list of commands has its code; no command has more than 32 parameters or takes less than a clock
 pub record IsRow (n : ℕ) (row : CommandRow) : Type 0 where

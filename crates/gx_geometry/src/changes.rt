@@ -5,6 +5,7 @@ ghost use Rattle.ds_base.specs.Bits.{bits, bit};
 ghost use Rattle.gx_geometry.specs.Numbers.{kind_of};
 ghost use Rattle.gx_geometry.specs.Coordinates.{transform_mode};
 ghost use Rattle.gx_geometry.specs.States.{IsCommand};
+ghost use Rattle.gx_geometry.specs.Bounds.{AreSmall};
 ghost use Rattle.gx_geometry.specs.Changes.{numbers_after, normal_given, coordinates_of, coordinates_given, vertex_given, diffuse_given, specular_given, light_pointed, light_coloured, run_begun};
 
 use crate::coordinates::{by_coordinates, by_normal, by_vertex};
@@ -205,5 +206,15 @@ impl Numbers {
         } else {
             self.change_by_others(code, params);
         }
+    }
+
+    /// The same, which keeps what holds of the numbers at every time.
+    pub fn renew(&mut self, code: u8, params: &[u32])
+        requires command { IsCommand code params.now }
+        requires run { self.old.run ≤ 2 ^ 56 }
+        ensures value { self.new ≡ numbers_after code params.now self.old }
+        ensures small { AreSmall self.old → AreSmall self.new }
+    {
+        self.change(code, params);
     }
 }

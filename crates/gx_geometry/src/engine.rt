@@ -1,11 +1,12 @@
 //! The geometry engine: commands to vertices and polygons.
 
-ghost use Rattle.std.specs.Prelude.{◌≡◌, ◌<◌, ◌≤◌, ◌^◌, length, List, IfOk};
+ghost use Rattle.std.specs.Prelude.{◌≡◌, ◌<◌, ◌≤◌, ◌+◌, ◌^◌, ℕ, length, List, IfOk, IfSome};
 ghost use Rattle.ds_base.specs.declared.ticks.Tick.{Tick};
 ghost use Rattle.gx_geometry.specs.Numbers.{numbers_at_boot};
 ghost use Rattle.gx_geometry.specs.Changes.{numbers_after, gives_vertex};
 ghost use Rattle.gx_geometry.specs.Polygons.{arrival_of, polygon_of, most_vertices, most_polygons};
 ghost use Rattle.gx_geometry.specs.States.{GeometryState, geometry_at_boot, IsCommand, results_after, polygon_added, vertex_added, arrived, overflown, numbered, geometry_after, swapped, AreListsSince, IsOverflowSince, geometry_error_cleared, overflow_cleared};
+ghost use Rattle.gx_geometry.specs.Bounds.{AreSmall, AreLimited, HaveColours, HavePalettes, IsGeometry};
 
 use crate::boxes::{box_test, through};
 use crate::capped::Capped;
@@ -32,13 +33,14 @@ pub struct Geometry {
 impl Model for Geometry {
     ghost use Rattle.std.specs.Prelude.{◌≡◌, ◌≤◌, length};
     ghost use Rattle.gx_geometry.specs.Polygons.{most_vertices, most_polygons};
+    ghost use Rattle.gx_geometry.specs.Bounds.{AreSmall, HaveColours, HavePalettes, AreLimited};
     ghost use Rattle.gx_geometry.specs.States.{GeometryState};
 
     ghost Value = { GeometryState };
 
     ghost view = { λ g. record { numbers = g.numbers; results = g.results; vertices = g.vertices; polygons = g.polygons; last = g.last } };
 
-    ghost invariant = { λ g. (g.results.vertices ≡ length g.vertices) × (g.results.polygons ≡ length g.polygons) × (length g.vertices ≤ most_vertices) × (length g.polygons ≤ most_polygons) };
+    ghost invariant = { λ g. (g.results.vertices ≡ length g.vertices) × (g.results.polygons ≡ length g.polygons) × (length g.vertices ≤ most_vertices) × (length g.polygons ≤ most_polygons) × AreSmall g.numbers × HaveColours g.vertices × HavePalettes g.polygons × AreLimited g.last.vertices g.last.polygons };
 }
 
 #[tactic(auto, unfolding(crate::specs::Numbers::numbers_at_boot, crate::specs::Numbers::no_table))]
@@ -80,6 +82,7 @@ fn numbers_at_boot() -> Numbers
 
 impl Geometry {
     /// The engine at boot. This alone takes memory, all that its commands need.
+    #[tactic(auto, using(crate::proofs::Bounds::boot_small, crate::proofs::Bounds::none_limited))]
     pub fn new(alloc: Global) -> Result<Geometry, AllocError>
         ensures { IfOk result (λ g. g ≡ geometry_at_boot) }
     {
@@ -102,7 +105,9 @@ impl Geometry {
         })
     }
 
+    #[tactic(auto, using(crate::proofs::Bounds::palette_added))]
     fn add_polygon(&mut self, polygon: Option<Polygon>)
+        requires { IfSome polygon (λ p. p.palette < 2 ^ 13) }
         ensures { self.new ≡ polygon_added polygon self.old }
     {
         if let Some(polygon) = polygon {
@@ -115,8 +120,10 @@ impl Geometry {
         }
     }
 
+    #[tactic(auto, using(crate::proofs::Bounds::colour_added))]
     fn add_vertex(&mut self, vertex: Vertex)
-        requires { length self.old.vertices < most_vertices }
+        requires room { length self.old.vertices < most_vertices }
+        requires colour { vertex.colour < 2 ^ 15 }
         ensures { self.new ≡ vertex_added vertex self.old }
     {
         self.vertices.push(vertex);
@@ -126,7 +133,8 @@ impl Geometry {
     /// The polygon that the last vertex of the open list makes, if it does.
     fn completed(&self) -> Option<Polygon>
         requires { 1 ≤ self.now.numbers.run }
-        ensures { result ≡ polygon_of self.now.vertices (arrival_of self.now.numbers) }
+        ensures value { result ≡ polygon_of self.now.vertices (arrival_of self.now.numbers) }
+        ensures palette { IfSome result (λ p. p.palette < 2 ^ 13) }
     {
         polygon_of(self.vertices.as_slice(), &self.numbers)
     }
@@ -179,7 +187,7 @@ impl Geometry {
         ensures { self.new ≡ geometry_after code params.now self.old }
     {
         self.test(code, params);
-        self.numbers.change(code, params);
+        self.numbers.renew(code, params);
         if code >= 0x23 && code < 0x29 {
             self.arrive();
         }
@@ -238,10 +246,11 @@ impl Geometry {
         &self.results
     }
 
-    /// Does nothing; its contract states what holds of the engine at every time: how long its open lists are at most.
+    /// Does nothing; its contract states what holds of the engine at every time: how long its lists are at most, how many bits colours and
+    /// palettes' bases have, and that a command adds at most one vertex to a run.
     pub fn laws(&self)
-        ensures vertices { length self.now.vertices ≤ most_vertices }
-        ensures polygons { length self.now.polygons ≤ most_polygons }
+        ensures bounds { IsGeometry self.now }
+        ensures run { (code : ℕ) (params : List ℕ) → (geometry_after code params self.now).numbers.run ≤ self.now.numbers.run + 1 }
     {
         let _count = self.results.vertices;
     }

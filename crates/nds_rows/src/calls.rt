@@ -62,13 +62,27 @@ fn call_over(
     (number(&status), seat)
 }
 
-/// The top call over what a scene has, with room for 200 bytes of notes.
-pub fn call(alloc: Global, scene: &Scene) -> Result<Came, AllocError> {
-    let mut shelf = MemShelf::new(scene.shelf(alloc)?, only(alloc, scene.fails.shelf)?);
-    let mut out = MemSink::new(alloc, only(alloc, scene.fails.out)?, scene.room)?;
-    let mut notes = MemSink::new(alloc, only(alloc, scene.fails.notes)?, 200)?;
-    let words = scene.words.as_slice();
-    let (status, console) = call_over(alloc, words, &mut shelf, &mut out, &mut notes);
+/// The shelf that a scene has.
+fn shelf_of(alloc: Global, scene: &Scene) -> Result<MemShelf, AllocError> {
+    let files = scene.shelf(alloc)?;
+    let fails = only(alloc, scene.fails.shelf)?;
+    Ok(MemShelf::new(files, fails))
+}
+
+/// A sink with room for so many bytes, of which this call fails.
+fn sink_of(alloc: Global, fails: u64, room: usize) -> Result<MemSink, AllocError> {
+    let fails = only(alloc, fails)?;
+    MemSink::new(alloc, fails, room)
+}
+
+/// What a call came to, by its status's number, the console that it left, and its sinks.
+fn gathered(
+    alloc: Global,
+    status: u8,
+    console: Option<Console>,
+    out: &MemSink,
+    notes: &MemSink,
+) -> Result<Came, AllocError> {
     Ok(Came {
         status: Some(status),
         note: Vec::from_slice(alloc, notes.bytes())?,
@@ -76,6 +90,16 @@ pub fn call(alloc: Global, scene: &Scene) -> Result<Came, AllocError> {
         is_told: out.is_told(),
         console,
     })
+}
+
+/// The top call over what a scene has, with room for 200 bytes of notes.
+pub fn call(alloc: Global, scene: &Scene) -> Result<Came, AllocError> {
+    let mut shelf = shelf_of(alloc, scene)?;
+    let mut out = sink_of(alloc, scene.fails.out, scene.room)?;
+    let mut notes = sink_of(alloc, scene.fails.notes, 200)?;
+    let words = scene.words.as_slice();
+    let (status, console) = call_over(alloc, words, &mut shelf, &mut out, &mut notes);
+    gathered(alloc, status, console, &out, &notes)
 }
 
 /// A console of a scene's cartridge, without keys, that hasn't run; nothing where the cartridge is refused.

@@ -3,17 +3,15 @@ use Rattle.ds_base.specs.Schedules.{IsLater, Reschedules}
 use Rattle.ds_base.specs.declared.keys.KeyLine.{KeyLine}
 use Rattle.ds_base.specs.declared.processors.Proc.{Proc}
 use Rattle.ds_base.specs.declared.ticks.Tick.{Tick}
-use Rattle.ds_dma.specs.States.{channel_due}
 use Rattle.ds_ports.specs.Dues.{AreUnits, IsLeft, due_behind}
 use Rattle.ds_ports.specs.Own.{own_is_held, OwnState}
 use Rattle.ds_ports.specs.Units.{UnitsState, own_of}
-use Rattle.ds_ports.proofs.Later.{AreLeft, dues_of_kinds, in_turn, left_is, own_is, units_of}
+use Rattle.ds_ports.proofs.Later.{AreLeft, in_turn, left_is, own_is, units_of}
 use Rattle.ds_runs.specs.Actors.{IsNumbered}
 use Rattle.ds_runs.specs.Owed.{AllReschedule}
 use Rattle.ds_runs.specs.declared.actors.Actor as actor
 use Rattle.ds_runs.specs.declared.actors.Actor.TheVariants.{KeyScript, Video, Timer, Divider, SquareRoot, Geometry, Card, Dma, Processor}
 use Rattle.ds_runs.proofs.AllActors.{all_of_actors}
-use Rattle.ds_timers.specs.Timing.{timer_at, timer_due}
 use Rattle.ds_machine.specs.Reference.{due_by, due_unless, dues_of, keys_due, processor_due}
 use Rattle.ds_machine.specs.States.{MachineState, ProcessorState, VideoState}
 use Rattle.ds_machine.specs.Videos.{video_due}
@@ -48,12 +46,7 @@ then_behind tick a b c one two = λ who n. in_turn tick (due_behind who a) (due_
 
 -- nothing but interrupt words changed
 pub left_behind : (tick : Tick) (old new : UnitsState) → AreLeft old new → Behind tick old new
-left_behind tick old new l =
-    dues_of_kinds tick old new
-    (λ proc which lt. inl (ap (λ timers. timer_due (timer_at timers which)) (l.own proc).timers))
-    (inl (ap (λ d. d.due) l.divider))
-    (inl (ap (λ r. r.due) l.root))
-    (λ proc which lt. inl (ap (λ dma. channel_due dma which) (l.own proc).dma))
+left_behind tick old new l = λ who n. inl (l.dues who)
 
 -- ---- a processor's own
 

@@ -1,21 +1,18 @@
-use Rattle.std.proofs.Common.{ℕ, ◌≡◌, ◌<◌, ◌+◌, inl, inr, Bool, true, false, if◌then◌else◌, refl, sym, ◌∙◌, ap, subst, arith}
+use Rattle.std.proofs.Common.{◌≡◌, ◌+◌, inl, inr, Bool, true, false, if◌then◌else◌, refl, sym, ◌∙◌, ap, subst, arith}
 use Rattle.ds_base.specs.KeyLines.{AreKeyLines}
 use Rattle.ds_base.specs.Schedules.{Reschedules}
 use Rattle.ds_base.specs.declared.processors.Proc.{Proc}
 use Rattle.ds_base.specs.declared.processors.Proc.TheVariants.{Nine, Seven}
 use Rattle.ds_base.specs.declared.ticks.Tick.{Tick}
-use Rattle.ds_dma.specs.States.{channel_due}
 use Rattle.ds_ipc.specs.Ipcs.{other_proc}
-use Rattle.ds_ports.specs.Dues.{AreUnits, IsOwn, due_behind}
+use Rattle.ds_ports.specs.Dues.{AreUnits, IsOwn}
 use Rattle.ds_ports.specs.Own.{OwnState}
 use Rattle.ds_ports.specs.Units.{UnitsState, own_of, with_halted}
-use Rattle.ds_runs.specs.declared.actors.Actor.TheVariants.{Dma, Timer}
-use Rattle.ds_timers.specs.Timing.{timer_at, timer_due}
 use Rattle.ds_machine.specs.Reference.{IsSound, due_unless, keys_due, processor_due}
 use Rattle.ds_machine.specs.States.{MachineState, ProcessorState, counts_of}
 use Rattle.ds_machine.specs.Steps.{goes_on, is_held, processor_of, wakes, with_halt, with_processor, woken, woken_one}
 use Rattle.ds_machine.proofs.Moves.{Behind, Moves, later_unless, moves_of, same_video, then_all}
-use Rattle.ds_ports.proofs.Later.{divider_stays, dues_of_kinds, each_own, of_both, own_is, root_stays, units_of}
+use Rattle.ds_ports.proofs.Later.{each_own, of_both, own_each, own_is, same_reschedules, units_of}
 
 -- Processors that are put into the machine with other numbers, that are halted, and that wake.
 
@@ -47,13 +44,7 @@ put_counts Seven s p = omega arith
 -- ---- a processor is halted, or goes on
 
 pub halted_behind : (tick : Tick) (proc : Proc) (u : UnitsState) (halted : Bool) → Behind tick u (with_halted proc u halted)
-halted_behind tick proc u halted =
-    let new : OwnState = record (own_of u proc) { halted = halted } in
-    dues_of_kinds tick u (with_halted proc u halted)
-    (each_own (λ p x. (which : ℕ) → which < 4 → Reschedules tick (due_behind (Timer p which) u) (timer_due (timer_at x.timers which))) proc u new (λ which l. inl refl) (λ which l. inl refl))
-    (inl (ap (λ d. d.due) (divider_stays proc u new)))
-    (inl (ap (λ r. r.due) (root_stays proc u new)))
-    (each_own (λ p x. (which : ℕ) → which < 4 → Reschedules tick (due_behind (Dma p which) u) (channel_due x.dma which)) proc u new (λ which l. inl refl) (λ which l. inl refl))
+halted_behind tick proc u halted = own_each proc tick u (record (own_of u proc) { halted = halted }) (same_reschedules tick (own_of u proc) _ refl refl)
 
 pub halted_units : (proc : Proc) (u : UnitsState) (halted : Bool) → AreUnits u → AreUnits (with_halted proc u halted)
 halted_units proc u halted are =

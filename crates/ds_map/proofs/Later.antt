@@ -6,7 +6,6 @@ use Rattle.ds_base.specs.declared.memories.Memory.{Memory}
 use Rattle.ds_base.specs.declared.memories.Memory.TheVariants.{Main, Shared, Own7, Itcm, Dtcm, Palette, Vram, Oam}
 use Rattle.ds_base.specs.declared.memories.Width.{Width}
 use Rattle.ds_base.specs.declared.processors.Proc.{Proc}
-use Rattle.ds_base.specs.declared.processors.Proc.TheVariants.{Nine, Seven}
 use Rattle.ds_base.specs.declared.ticks.Tick.{Tick}
 use Rattle.ds_places.specs.AddressTables.{place_of}
 use Rattle.ds_places.specs.declared.kinds.Place.{Place}
@@ -40,10 +39,7 @@ map_read_left proc m at width = place_left proc (place_of proc m.units.wramcnt a
 module _ (proc : Proc) (now : Tick) where
   -- other bytes in video memory
   banks_go : (u : UnitsState) (vram : Banks) → Goes proc now u u → Goes proc now u (record u { vram = vram })
-  banks_go u vram g = by_proc proc g where
-    by_proc : (proc : Proc) → Goes proc now u u → Goes proc now u (record u { vram = vram })
-    by_proc Nine g = record { is = g.is; quiet = g.quiet; timers = g.timers; divider = g.divider; root = g.root; dma = g.dma; other = g.other }
-    by_proc Seven g = record { is = g.is; quiet = g.quiet; timers = g.timers; divider = g.divider; root = g.root; dma = g.dma; other = g.other }
+  banks_go u vram g = record { is = g.is; quiet = g.quiet; each = g.each; other = g.other }
 
   cells_stay : (m : MapState) (memory : Memory) (bytes : List ℕ) → (with_cells memory m bytes).units ≡ m.units
   cells_stay m Main bytes = refl

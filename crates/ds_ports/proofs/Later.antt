@@ -9,22 +9,23 @@ use Rattle.ds_base.specs.declared.processors.Proc.{Proc}
 use Rattle.ds_base.specs.declared.processors.Proc.TheVariants.{Nine, Seven}
 use Rattle.ds_base.specs.declared.processors.Raised.{Raised}
 use Rattle.ds_base.specs.declared.ticks.Tick.{Tick}
-use Rattle.ds_dma.specs.States.{AreReadyLater, DmaState, IsDma, any_runs, channel_due, dma_due, dma_finished}
+use Rattle.ds_dma.specs.States.{AreReadyLater, IsDma, any_runs, channel_due, dma_due, dma_finished}
 use Rattle.ds_dma.specs.declared.controls.Cause.{Cause}
 use Rattle.ds_dma.specs.declared.controls.DmaPort.{DmaPort}
 use Rattle.ds_dma.specs.declared.controls.DmaPort.TheVariants.{Source, Target, Control}
 use Rattle.ds_dma.proofs.Turns.{all_later, event_schedules, finished_later}
 use Rattle.ds_dma.proofs.Wholes.{channel_written_is, channel_written_later, dma_finished_is, dma_triggered_is, event_runs}
 use Rattle.ds_ipc.specs.Ipcs.{IpcState, other_proc}
-use Rattle.ds_math.specs.Dividers.{division_ticks}
+use Rattle.ds_math.specs.Dividers.{DividerState, division_ticks}
+use Rattle.ds_math.specs.Roots.{RootState}
 use Rattle.ds_runs.specs.Actors.{IsNumbered}
 use Rattle.ds_runs.specs.declared.actors.Actor as actor
-use Rattle.ds_runs.specs.declared.actors.Actor.TheVariants.{KeyScript, Video, Timer, Divider, SquareRoot, Geometry, Card, Dma, Processor}
+use Rattle.ds_runs.specs.declared.actors.Actor.TheVariants.{Timer, Divider, SquareRoot, Dma}
 use Rattle.ds_timers.specs.Timing.{TimerState, AreTimers, control_set, kept_control, overflow_of, reload_set, timer_at, timer_due}
 use Rattle.ds_timers.proofs.Changed.{control_schedules, control_set_is, reload_leaves, reload_set_is}
 use Rattle.ds_timers.proofs.Four.{one_reschedules}
 use Rattle.ds_timers.proofs.Overflowed.{overflow_keeps, overflow_schedules}
-use Rattle.ds_ports.specs.Dues.{AreUnits, Goes, IsLeft, IsOwn, IsQuiet, due_behind}
+use Rattle.ds_ports.specs.Dues.{AreUnits, Goes, IsLeft, IsOwn, IsQuiet, ReschedulesEach, due_behind}
 use Rattle.ds_ports.specs.Own.{OwnState, dma_written, haltcnt_written, kept_keycnt, keycnt_written, keys_hold, keys_told, own_moved, own_raised, own_triggered}
 use Rattle.ds_ports.specs.Ports.{byte_written, half_written, ignores, port_read, port_refusal, port_written, read_left, slot_joined, slot_written, unless_stopped, whole_if, whole_in, word_written, written_or}
 use Rattle.ds_ports.specs.RegisterMap.{IsSlot, slot_of}
@@ -113,62 +114,127 @@ haltcnt_stands : (own : OwnState) (now : Tick) (value : ℕ) → Stands now own 
 haltcnt_stands own now value s =
     either (Stands now) (bits 6 2 value == 2) _ _ (alike now own (record own { halted = true }) refl refl s) s
 
+-- ---- the due ticks of a processor's own, by actor
+
+abbrev own_due : actor.Actor → OwnState → Option Tick
+own_due (Timer proc number) own = timer_due (timer_at own.timers number)
+own_due (Dma proc channel) own = channel_due own.dma channel
+own_due _ own = None
+
+abbrev pub OwnReschedules : Tick → OwnState → OwnState → Type 0
+OwnReschedules now old new = (a : actor.Actor) → IsNumbered a → Reschedules now (own_due a old) (own_due a new)
+
+-- they are later where it stands, and as they were where nothing but its interrupt words changed
+own_later : (now : Tick) (old new : OwnState) → Stands now new → OwnReschedules now old new
+own_later now old new s (Timer proc number) l = inr (s.1.timers number l)
+own_later now old new s (Dma proc channel) l = all_later now new.dma (channel_due old.dma channel) s.1.dma channel l
+own_later now old new s _ l = inl refl
+
+pub same_reschedules : (now : Tick) (old new : OwnState) → new.timers ≡ old.timers → new.dma ≡ old.dma → OwnReschedules now old new
+same_reschedules now old new e f (Timer proc number) l = inl (ap (λ ts. timer_due (timer_at ts number)) e)
+same_reschedules now old new e f (Dma proc channel) l = inl (ap (λ d. channel_due d channel) f)
+same_reschedules now old new e f _ l = inl refl
+
 -- ---- all units
 
--- it is enough that the processor's own stands
-goes_of : (proc : Proc) (now : Tick) (old new : UnitsState) → Stands now (own_of new proc)
-    → Reschedules now old.divider.due new.divider.due → Reschedules now old.root.due new.root.due
-    → IsLeft (own_of old (other_proc proc)) (own_of new (other_proc proc)) → Goes proc now old new
-goes_of proc now old new s d r left = record {
-  is = s.0;
-  quiet = s.1;
-  timers = λ which l. inr (s.1.timers which l);
-  divider = d;
-  root = r;
-  dma = λ which l. all_later now (own_of new proc).dma (channel_due (own_of old proc).dma which) s.1.dma which l;
-  other = left;
-}
+-- what changes one processor's own makes of each due tick what it makes of that processor's
+pub own_each : (proc : Proc) (now : Tick) (u : UnitsState) (own : OwnState) → OwnReschedules now (own_of u proc) own → ReschedulesEach now u (with_own proc u own)
+own_each Nine now u own g (Timer Nine number) l = g (Timer Nine number) l
+own_each Nine now u own g (Timer Seven number) l = inl refl
+own_each Nine now u own g (Dma Nine channel) l = g (Dma Nine channel) l
+own_each Nine now u own g (Dma Seven channel) l = inl refl
+own_each Nine now u own g _ l = inl refl
+own_each Seven now u own g (Timer Nine number) l = inl refl
+own_each Seven now u own g (Timer Seven number) l = g (Timer Seven number) l
+own_each Seven now u own g (Dma Nine channel) l = inl refl
+own_each Seven now u own g (Dma Seven channel) l = g (Dma Seven channel) l
+own_each Seven now u own g _ l = inl refl
+
+-- another division, or another square root
+divider_each : (now : Tick) (u : UnitsState) (divider : DividerState) → Reschedules now u.divider.due divider.due
+    → ReschedulesEach now u (record u { divider = divider })
+divider_each now u divider d Divider l = d
+divider_each now u divider d _ l = inl refl
+
+root_each : (now : Tick) (u : UnitsState) (root : RootState) → Reschedules now u.root.due root.due → ReschedulesEach now u (record u { root = root })
+root_each now u root r SquareRoot l = r
+root_each now u root r _ l = inl refl
 
 pub goes_nowhere : (proc : Proc) (now : Tick) (u : UnitsState) → IsOwn (own_of u proc) → IsQuiet now (own_of u proc) → Goes proc now u u
-goes_nowhere proc now u is quiet = goes_of proc now u u (is, quiet) (inl refl) (inl refl) (left_same (own_of u (other_proc proc)))
+goes_nowhere proc now u is quiet = record { is = is; quiet = quiet; each = λ a l. inl refl; other = left_same (own_of u (other_proc proc)) }
 
 pub goes_on : (proc : Proc) (now : Tick) (a b c : UnitsState) → Goes proc now a b → Goes proc now b c → Goes proc now a c
-goes_on proc now a b c g h =
-    goes_of proc now a c (h.is, h.quiet)
-    (in_turn now a.divider.due b.divider.due c.divider.due g.divider h.divider)
-    (in_turn now a.root.due b.root.due c.root.due g.root h.root)
-    (record {
-      timers = h.other.timers ∙ g.other.timers;
-      keycnt = h.other.keycnt ∙ g.other.keycnt;
-      halted = h.other.halted ∙ g.other.halted;
-      dma = h.other.dma ∙ g.other.dma;
-    })
+goes_on proc now a b c g h = record {
+  is = h.is;
+  quiet = h.quiet;
+  each = λ who l. in_turn now (due_behind who a) (due_behind who b) (due_behind who c) (g.each who l) (h.each who l);
+  other = record {
+    timers = h.other.timers ∙ g.other.timers;
+    keycnt = h.other.keycnt ∙ g.other.keycnt;
+    halted = h.other.halted ∙ g.other.halted;
+    dma = h.other.dma ∙ g.other.dma;
+  };
+}
 
 -- what changes the processor's own alone
 own_goes : (proc : Proc) (now : Tick) (u : UnitsState) (own : OwnState) → Stands now own → Goes proc now u (with_own proc u own)
-own_goes Nine now u own s = goes_of Nine now u (with_own Nine u own) s (inl refl) (inl refl) (left_same u.seven)
-own_goes Seven now u own s = goes_of Seven now u (with_own Seven u own) s (inl refl) (inl refl) (left_same u.nine)
+own_goes proc now u own s = by_proc proc (own_each proc now u own (own_later now (own_of u proc) own s)) where
+  by_proc : (proc : Proc) → ReschedulesEach now u (with_own proc u own) → Goes proc now u (with_own proc u own)
+  by_proc Nine each = record { is = s.0; quiet = s.1; each = each; other = left_same u.seven }
+  by_proc Seven each = record { is = s.0; quiet = s.1; each = each; other = left_same u.nine }
 
--- what raises interrupts at both
+-- what changes neither's own
+shared_goes : (proc : Proc) (now : Tick) (u new : UnitsState) → ((each : Proc) → own_of new each ≡ own_of u each) → Stands now (own_of u proc)
+    → ReschedulesEach now u new → Goes proc now u new
+shared_goes proc now u new same s each = record {
+  is = subst IsOwn (sym (same proc)) s.0;
+  quiet = subst (IsQuiet now) (sym (same proc)) s.1;
+  each = each;
+  other = subst (IsLeft (own_of u (other_proc proc))) (sym (same (other_proc proc))) (left_same (own_of u (other_proc proc)));
+}
+
+-- ---- what changes nothing but interrupt words, as a read: nothing is due otherwise than before
+
 raised_left : (own : OwnState) (raised : ℕ) → IsLeft own (own_raised own raised)
 raised_left own raised = record { timers = refl; keycnt = refl; halted = refl; dma = refl }
 
-raised_goes : (proc : Proc) (now : Tick) (u : UnitsState) (ipc_after : IpcState) (raised : Raised) → Stands now (own_of u proc)
-    → Goes proc now u (both_raised (record u { ipc = ipc_after }) raised)
-raised_goes Nine now u ipc_after raised s =
-    goes_of Nine now u (both_raised (record u { ipc = ipc_after }) raised) (alike now u.nine (own_raised u.nine raised.nine) refl refl s)
-    (inl refl) (inl refl) (raised_left u.seven raised.seven)
-raised_goes Seven now u ipc_after raised s =
-    goes_of Seven now u (both_raised (record u { ipc = ipc_after }) raised) (alike now u.seven (own_raised u.seven raised.seven) refl refl s)
-    (inl refl) (inl refl) (raised_left u.nine raised.nine)
+-- nothing changed of what is due behind the ports, or holds a processor
+pub record AreLeft (old new : UnitsState) : Type 0 where
+  pub own : (proc : Proc) → IsLeft (own_of old proc) (own_of new proc)
+  pub dues : (a : actor.Actor) → due_behind a new ≡ due_behind a old
 
--- what changes neither's own
-shared_goes : (proc : Proc) (now : Tick) (u new : UnitsState) → new.nine ≡ u.nine → new.seven ≡ u.seven → Stands now (own_of u proc)
-    → Reschedules now u.divider.due new.divider.due → Reschedules now u.root.due new.root.due → Goes proc now u new
-shared_goes Nine now u new e f s d r =
-    goes_of Nine now u new (subst (Stands now) (sym e) s) d r (subst (IsLeft u.seven) (sym f) (left_same u.seven))
-shared_goes Seven now u new e f s d r =
-    goes_of Seven now u new (subst (Stands now) (sym f) s) d r (subst (IsLeft u.nine) (sym e) (left_same u.nine))
+-- so what holds of a processor's own holds still
+pub left_is : (old new : OwnState) → IsLeft old new → IsOwn old → IsOwn new
+left_is old new l is = record { timers = subst AreTimers (sym l.timers) is.timers; dma = subst IsDma (sym l.dma) is.dma }
+
+pub left_quiet : (now : Tick) (old new : OwnState) → IsLeft old new → IsQuiet now old → IsQuiet now new
+left_quiet now old new l quiet = record {
+  timers = λ which lt. subst (λ (timers : List TimerState). IsLater now (timer_due (timer_at timers which))) (sym l.timers) (quiet.timers which lt);
+  dma = subst (AreReadyLater now) (sym l.dma) quiet.dma;
+}
+
+pub all_left : (u : UnitsState) → AreLeft u u
+all_left u = record { own = λ each. left_same (own_of u each); dues = λ a. refl }
+
+both_left : (u : UnitsState) (ipc_after : IpcState) (raised : Raised) → AreLeft u (both_raised (record u { ipc = ipc_after }) raised)
+both_left u ipc_after raised = record { own = own; dues = dues } where
+  own : (proc : Proc) → IsLeft (own_of u proc) (own_of (both_raised (record u { ipc = ipc_after }) raised) proc)
+  own Nine = raised_left u.nine raised.nine
+  own Seven = raised_left u.seven raised.seven
+
+  dues : (a : actor.Actor) → due_behind a (both_raised (record u { ipc = ipc_after }) raised) ≡ due_behind a u
+  dues (Timer Nine number) = refl
+  dues (Timer Seven number) = refl
+  dues (Dma Nine channel) = refl
+  dues (Dma Seven channel) = refl
+  dues _ = refl
+
+pub left_goes : (proc : Proc) (now : Tick) (old new : UnitsState) → IsOwn (own_of old proc) → IsQuiet now (own_of old proc) → AreLeft old new → Goes proc now old new
+left_goes proc now old new is quiet left =
+    let s = alike now (own_of old proc) (own_of new proc) (left.own proc).timers (left.own proc).dma (is, quiet) in
+    record { is = s.0; quiet = s.1; each = λ a l. inl (left.dues a); other = left.own (other_proc proc) }
+
+-- ---- what a write of a register leaves
 
 division_later : (now : Tick) (mode : ℕ) → now.0 < now.0 + division_ticks mode
 division_later now mode = either (λ n. now.0 < now.0 + n) (mode == 0) 36 68 (omega arith) (omega arith)
@@ -191,15 +257,21 @@ register_goes proc now u s Ime number l value = own_goes proc now u _ (alike now
 register_goes proc now u s Ie number l value = own_goes proc now u _ (alike now (own_of u proc) _ refl refl s)
 register_goes proc now u s If number l value = own_goes proc now u _ (alike now (own_of u proc) _ refl refl s)
 register_goes proc now u s Haltcnt number l value = own_goes proc now u _ (haltcnt_stands (own_of u proc) now (value % 2 ^ 8) s)
-register_goes proc now u s Ipcsync number l value = raised_goes proc now u _ _ s
-register_goes proc now u s Ipcfifocnt number l value = raised_goes proc now u _ _ s
-register_goes proc now u s Ipcfifosend number l value = raised_goes proc now u _ _ s
-register_goes proc now u s Divcnt number l value = shared_goes proc now u _ refl refl s (inr (division_later now _)) (inl refl)
-register_goes proc now u s DivNumer number l value = shared_goes proc now u _ refl refl s (inr (division_later now _)) (inl refl)
-register_goes proc now u s DivDenom number l value = shared_goes proc now u _ refl refl s (inr (division_later now _)) (inl refl)
-register_goes proc now u s Sqrtcnt number l value = shared_goes proc now u _ refl refl s (inl refl) (inr (root_later now))
-register_goes proc now u s SqrtParam number l value = shared_goes proc now u _ refl refl s (inl refl) (inr (root_later now))
-register_goes proc now u s _ number l value = shared_goes proc now u _ refl refl s (inl refl) (inl refl)
+register_goes proc now u s Ipcsync number l value = left_goes proc now u _ s.0 s.1 (both_left u _ _)
+register_goes proc now u s Ipcfifocnt number l value = left_goes proc now u _ s.0 s.1 (both_left u _ _)
+register_goes proc now u s Ipcfifosend number l value = left_goes proc now u _ s.0 s.1 (both_left u _ _)
+register_goes proc now u s Divcnt number l value =
+    shared_goes proc now u _ (λ each. refl) s (divider_each now u (left_by_write proc now u Divcnt number value).divider (inr (division_later now _)))
+register_goes proc now u s DivNumer number l value =
+    shared_goes proc now u _ (λ each. refl) s (divider_each now u (left_by_write proc now u DivNumer number value).divider (inr (division_later now _)))
+register_goes proc now u s DivDenom number l value =
+    shared_goes proc now u _ (λ each. refl) s (divider_each now u (left_by_write proc now u DivDenom number value).divider (inr (division_later now _)))
+register_goes proc now u s Sqrtcnt number l value =
+    shared_goes proc now u _ (λ each. refl) s (root_each now u (left_by_write proc now u Sqrtcnt number value).root (inr (root_later now)))
+register_goes proc now u s SqrtParam number l value =
+    shared_goes proc now u _ (λ each. refl) s (root_each now u (left_by_write proc now u SqrtParam number value).root (inr (root_later now)))
+register_goes proc now u s register number l value =
+    shared_goes proc now u (left_by_write proc now u register number value) (λ each. refl) s (λ a m. inl refl)
 
 -- ---- accesses
 
@@ -263,30 +335,7 @@ put_goes proc now old new at width value is_new is quiet =
 
 -- ---- reads: nothing is due otherwise than before
 
--- nothing changed of what is due behind the ports, or holds a processor
-pub record AreLeft (old new : UnitsState) : Type 0 where
-  pub own : (proc : Proc) → IsLeft (own_of old proc) (own_of new proc)
-  pub divider : new.divider ≡ old.divider
-  pub root : new.root ≡ old.root
-
--- so what holds of a processor's own holds still
-pub left_is : (old new : OwnState) → IsLeft old new → IsOwn old → IsOwn new
-left_is old new l is = record { timers = subst AreTimers (sym l.timers) is.timers; dma = subst IsDma (sym l.dma) is.dma }
-
-pub left_quiet : (now : Tick) (old new : OwnState) → IsLeft old new → IsQuiet now old → IsQuiet now new
-left_quiet now old new l quiet = record {
-  timers = λ which lt. subst (λ (timers : List TimerState). IsLater now (timer_due (timer_at timers which))) (sym l.timers) (quiet.timers which lt);
-  dma = subst (AreReadyLater now) (sym l.dma) quiet.dma;
-}
-
-pub all_left : (u : UnitsState) → AreLeft u u
-all_left u = record { own = λ each. left_same (own_of u each); divider = refl; root = refl }
-
-both_left : (u : UnitsState) (ipc_after : IpcState) (raised : Raised) → AreLeft u (both_raised (record u { ipc = ipc_after }) raised)
-both_left u ipc_after raised = record { own = each; divider = refl; root = refl } where
-  each : (proc : Proc) → IsLeft (own_of u proc) (own_of (both_raised (record u { ipc = ipc_after }) raised) proc)
-  each Nine = raised_left u.nine raised.nine
-  each Seven = raised_left u.seven raised.seven
+-- ---- reads
 
 register_left : (proc : Proc) (u : UnitsState) (register : Register) → AreLeft u ((meaning_of register).left_by_read proc u)
 register_left proc u Ipcfiforecv = both_left u _ _
@@ -302,29 +351,6 @@ port_left proc u at Byte = all_left u
 port_left proc u at Half = all_left u
 port_left proc u at Word = slot_left proc u (whole_in Word (slot_of proc at))
 
-pub left_goes : (proc : Proc) (now : Tick) (old new : UnitsState) → IsOwn (own_of old proc) → IsQuiet now (own_of old proc) → AreLeft old new → Goes proc now old new
-left_goes proc now old new is quiet left =
-    goes_of proc now old new (alike now (own_of old proc) (own_of new proc) (left.own proc).timers (left.own proc).dma (is, quiet))
-    (inl (ap (λ d. d.due) left.divider)) (inl (ap (λ r. r.due) left.root)) (left.own (other_proc proc))
-
--- ---- every actor
-
--- what is due of all actors is what is due of each kind
-pub dues_of_kinds : (now : Tick) (old new : UnitsState)
-    → ((proc : Proc) (which : ℕ) → which < 4 → Reschedules now (due_behind (Timer proc which) old) (due_behind (Timer proc which) new))
-    → Reschedules now (due_behind Divider old) (due_behind Divider new) → Reschedules now (due_behind SquareRoot old) (due_behind SquareRoot new)
-    → ((proc : Proc) (which : ℕ) → which < 4 → Reschedules now (due_behind (Dma proc which) old) (due_behind (Dma proc which) new))
-    → (a : actor.Actor) → IsNumbered a → Reschedules now (due_behind a old) (due_behind a new)
-dues_of_kinds now old new t d r c KeyScript l = inl refl
-dues_of_kinds now old new t d r c Video l = inl refl
-dues_of_kinds now old new t d r c (Timer proc number) l = t proc number l
-dues_of_kinds now old new t d r c Divider l = d
-dues_of_kinds now old new t d r c SquareRoot l = r
-dues_of_kinds now old new t d r c Geometry l = inl refl
-dues_of_kinds now old new t d r c Card l = inl refl
-dues_of_kinds now old new t d r c (Dma proc channel) l = c proc channel l
-dues_of_kinds now old new t d r c (Processor proc) l = inl refl
-
 -- what holds of one processor and of the other holds of both
 pub of_both : (P : Proc → Type 0) (proc : Proc) → P proc → P (other_proc proc) → (each : Proc) → P each
 of_both P Nine h k Nine = h
@@ -333,16 +359,8 @@ of_both P Seven h k Nine = k
 of_both P Seven h k Seven = h
 
 -- accesses leave each actor due as it was, or later
-pub all_behind : (proc : Proc) (now : Tick) (old new : UnitsState) → Goes proc now old new → (a : actor.Actor) → IsNumbered a
-    → Reschedules now (due_behind a old) (due_behind a new)
-all_behind proc now old new g =
-    dues_of_kinds now old new
-    (of_both (λ p. (which : ℕ) → which < 4 → Reschedules now (due_behind (Timer p which) old) (due_behind (Timer p which) new)) proc g.timers
-    (λ which l. inl (ap (λ ts. timer_due (timer_at ts which)) g.other.timers)))
-    g.divider
-    g.root
-    (of_both (λ p. (which : ℕ) → which < 4 → Reschedules now (due_behind (Dma p which) old) (due_behind (Dma p which) new)) proc g.dma
-    (λ which l. inl (ap (λ d. channel_due d which) g.other.dma)))
+pub all_behind : (proc : Proc) (now : Tick) (old new : UnitsState) → Goes proc now old new → ReschedulesEach now old new
+all_behind proc now old new g = g.each
 
 -- each processor's own stands for all units
 pub own_is : (u : UnitsState) → AreUnits u → (proc : Proc) → IsOwn (own_of u proc)
@@ -364,7 +382,7 @@ goes_units proc now old new h g =
 -- what such a step at a tick makes of the units: each due tick is as it was or later, and no processor is halted by it or goes on
 pub record StepsUnits (now : Tick) (old new : UnitsState) : Type 0 where
   pub units : AreUnits new
-  pub dues : (a : actor.Actor) → IsNumbered a → Reschedules now (due_behind a old) (due_behind a new)
+  pub dues : ReschedulesEach now old new
   pub halted : (proc : Proc) → (own_of new proc).halted ≡ (own_of old proc).halted
 
 pub own_there : (proc : Proc) (u : UnitsState) (own : OwnState) → own_of (with_own proc u own) proc ≡ own
@@ -381,29 +399,15 @@ pub each_own : (P : Proc → OwnState → Type 0) (proc : Proc) (u : UnitsState)
 each_own P proc u own h k =
     of_both (λ p. P p (own_of (with_own proc u own) p)) proc (subst (P proc) (sym (own_there proc u own)) h) (subst (P (other_proc proc)) (sym (own_across proc u own)) k)
 
-pub divider_stays : (proc : Proc) (u : UnitsState) (own : OwnState) → (with_own proc u own).divider ≡ u.divider
-divider_stays Nine u own = refl
-divider_stays Seven u own = refl
-
-pub root_stays : (proc : Proc) (u : UnitsState) (own : OwnState) → (with_own proc u own).root ≡ u.root
-root_stays Nine u own = refl
-root_stays Seven u own = refl
-
 pub units_of : (u : UnitsState) → ((proc : Proc) → IsOwn (own_of u proc)) → AreUnits u
 units_of u h = record { nine = h Nine; seven = h Seven }
 
 -- a step that changes one processor's own
-own_steps : (proc : Proc) (now : Tick) (u : UnitsState) (own : OwnState) → AreUnits u → IsOwn own
-    → ((which : ℕ) → which < 4 → Reschedules now (due_behind (Timer proc which) u) (timer_due (timer_at own.timers which)))
-    → ((which : ℕ) → which < 4 → Reschedules now (due_behind (Dma proc which) u) (channel_due own.dma which))
+own_steps : (proc : Proc) (now : Tick) (u : UnitsState) (own : OwnState) → AreUnits u → IsOwn own → OwnReschedules now (own_of u proc) own
     → own.halted ≡ (own_of u proc).halted → StepsUnits now u (with_own proc u own)
-own_steps proc now u own all is t c h = record {
+own_steps proc now u own all is each h = record {
   units = units_of (with_own proc u own) (each_own (λ p x. IsOwn x) proc u own is (own_is u all (other_proc proc)));
-  dues = dues_of_kinds now u (with_own proc u own)
-      (each_own (λ p x. (which : ℕ) → which < 4 → Reschedules now (due_behind (Timer p which) u) (timer_due (timer_at x.timers which))) proc u own t (λ which l. inl refl))
-      (inl (ap (λ d. d.due) (divider_stays proc u own)))
-      (inl (ap (λ r. r.due) (root_stays proc u own)))
-      (each_own (λ p x. (which : ℕ) → which < 4 → Reschedules now (due_behind (Dma p which) u) (channel_due x.dma which)) proc u own c (λ which l. inl refl));
+  dues = own_each proc now u own each;
   halted = each_own (λ p x. x.halted ≡ (own_of u p).halted) proc u own h refl;
 }
 
@@ -412,6 +416,12 @@ pub record TimerGoes (proc : Proc) (number : ℕ) (now : Tick) (old new : UnitsS
   pub steps : StepsUnits now old new
   pub later : IsLater now (due_behind (Timer proc number) new)
   pub dma : (each : Proc) → (own_of new each).dma ≡ (own_of old each).dma
+
+overflowed : (now : Tick) (own : OwnState) (timers : List TimerState) (raised : ℕ)
+    → ((which : ℕ) → which < 4 → Reschedules now (timer_due (timer_at own.timers which)) (timer_due (timer_at timers which)))
+    → OwnReschedules now own (own_raised (record own { timers = timers }) raised)
+overflowed now own timers raised each (Timer proc number) l = each number l
+overflowed now own timers raised each _ l = inl refl
 
 pub timer_goes : (proc : Proc) (number : ℕ) (now : Tick) (u : UnitsState) → AreUnits u → number < 4 → due_behind (Timer proc number) u ≡ Some now
     → TimerGoes proc number now u (timer_overflows proc number u)
@@ -422,7 +432,7 @@ timer_goes proc number now u all l due =
     let o = overflow_of own.timers number in
     let new : OwnState = own_raised (record own { timers = o.timers }) o.bits in record {
       steps = own_steps proc now u new all (record { timers = overflow_keeps own.timers number is.timers; dma = is.dma })
-          (one_reschedules number now own.timers o.timers one) (λ which m. inl refl) refl;
+          (overflowed now own o.timers o.bits (one_reschedules number now own.timers o.timers one)) refl;
       later = subst (λ (x : OwnState). IsLater now (timer_due (timer_at x.timers number))) (sym (own_there proc u new)) one.later;
       dma = each_own (λ p x. x.dma ≡ (own_of u p).dma) proc u new refl refl;
     }
@@ -433,47 +443,37 @@ pub record LeavesOwn (now : Tick) (old new : UnitsState) : Type 0 where
   pub left : (each : Proc) → IsLeft (own_of old each) (own_of new each)
 
 leaves_own : (now : Tick) (old new : UnitsState) → AreUnits old → ((each : Proc) → IsLeft (own_of old each) (own_of new each))
-    → Reschedules now old.divider.due new.divider.due → Reschedules now old.root.due new.root.due → LeavesOwn now old new
-leaves_own now old new all same d r = record {
-  steps = record {
-    units = units_of new (λ p. record { timers = subst AreTimers (sym (same p).timers) (own_is old all p).timers; dma = subst IsDma (sym (same p).dma) (own_is old all p).dma });
-    dues = dues_of_kinds now old new (λ p which l. inl (ap (λ ts. timer_due (timer_at ts which)) (same p).timers)) d r
-        (λ p which l. inl (ap (λ x. channel_due x which) (same p).dma));
-    halted = λ p. (same p).halted;
-  };
+    → ReschedulesEach now old new → LeavesOwn now old new
+leaves_own now old new all same each = record {
+  steps = record { units = units_of new (λ p. left_is (own_of old p) (own_of new p) (same p) (own_is old all p)); dues = each; halted = λ p. (same p).halted };
   left = same;
 }
 
 -- a division is done, and due no more
-division_left : (u : UnitsState) (each : Proc) → IsLeft (own_of u each) (own_of (division_done u) each)
-division_left u Nine = left_same u.nine
-division_left u Seven = left_same u.seven
-
 pub division_goes : (now : Tick) (u : UnitsState) → AreUnits u → LeavesOwn now u (division_done u) × (due_behind Divider (division_done u) ≡ None)
-division_goes now u all = (leaves_own now u (division_done u) all (division_left u) (inr tt) (inl refl), refl)
+division_goes now u all = (leaves_own now u (division_done u) all (λ p. left_same (own_of u p)) (divider_each now u (division_done u).divider (inr tt)), refl)
 
 -- a square root is done, and due no more
-root_left : (u : UnitsState) (each : Proc) → IsLeft (own_of u each) (own_of (root_done u) each)
-root_left u Nine = left_same u.nine
-root_left u Seven = left_same u.seven
-
 pub root_goes : (now : Tick) (u : UnitsState) → AreUnits u → LeavesOwn now u (root_done u) × (due_behind SquareRoot (root_done u) ≡ None)
-root_goes now u all = (leaves_own now u (root_done u) all (root_left u) (inl refl) (inr tt), refl)
+root_goes now u all = (leaves_own now u (root_done u) all (λ p. left_same (own_of u p)) (root_each now u (root_done u).root (inr tt)), refl)
 
 -- other keys are pressed
 keys_left : (u : UnitsState) (pressed : ℕ) (each : Proc) → IsLeft (own_of u each) (own_of (keys_pressed u pressed) each)
 keys_left u pressed Nine = told_left u.nine pressed
 keys_left u pressed Seven = told_left u.seven pressed
 
+keys_each : (now : Tick) (u : UnitsState) (pressed : ℕ) → ReschedulesEach now u (keys_pressed u pressed)
+keys_each now u pressed (Timer proc number) l = inl (ap (λ ts. timer_due (timer_at ts number)) (keys_left u pressed proc).timers)
+keys_each now u pressed (Dma proc channel) l = inl (ap (λ d. channel_due d channel) (keys_left u pressed proc).dma)
+keys_each now u pressed _ l = inl refl
+
 pub keys_goes : (now : Tick) (u : UnitsState) (pressed : ℕ) → AreUnits u → LeavesOwn now u (keys_pressed u pressed)
-keys_goes now u pressed all = leaves_own now u (keys_pressed u pressed) all (keys_left u pressed) (inl refl) (inl refl)
+keys_goes now u pressed all = leaves_own now u (keys_pressed u pressed) all (keys_left u pressed) (keys_each now u pressed)
 
 -- an event triggers channels: no transfer ends
 pub record TriggeredGoes (now : Tick) (old new : UnitsState) : Type 0 where
   pub steps : StepsUnits now old new
   pub timers : (each : Proc) → (own_of new each).timers ≡ (own_of old each).timers
-  pub divider : new.divider ≡ old.divider
-  pub root : new.root ≡ old.root
   pub runs : (each : Proc) → any_runs (own_of old each).dma.channels ≡ true → any_runs (own_of new each).dma.channels ≡ true
 
 triggered_own : (cause : Cause) (now : Tick) (u : UnitsState) (each : Proc) → own_of (channels_triggered cause now u) each ≡ own_triggered (own_of u each) cause now
@@ -484,23 +484,23 @@ each_triggered : (P : Proc → OwnState → Type 0) (cause : Cause) (now : Tick)
     → (each : Proc) → P each (own_of (channels_triggered cause now u) each)
 each_triggered P cause now u h = λ each. subst (P each) (sym (triggered_own cause now u each)) (h each)
 
+triggered_each : (cause : Cause) (now : Tick) (u : UnitsState) → AreUnits u → ReschedulesEach now u (channels_triggered cause now u)
+triggered_each cause now u all (Timer Nine number) l = inl refl
+triggered_each cause now u all (Timer Seven number) l = inl refl
+triggered_each cause now u all (Dma Nine channel) l = event_schedules u.nine.dma cause now all.nine.dma channel l
+triggered_each cause now u all (Dma Seven channel) l = event_schedules u.seven.dma cause now all.seven.dma channel l
+triggered_each cause now u all _ l = inl refl
+
 pub triggered_goes : (cause : Cause) (now : Tick) (u : UnitsState) → AreUnits u → TriggeredGoes now u (channels_triggered cause now u)
 triggered_goes cause now u all =
     let new = channels_triggered cause now u in record {
       steps = record {
         units = units_of new (each_triggered (λ p x. IsOwn x) cause now u
             (λ p. record { timers = (own_is u all p).timers; dma = dma_triggered_is (own_of u p).dma cause now (own_is u all p).dma }));
-        dues = dues_of_kinds now u new
-            (each_triggered (λ p x. (which : ℕ) → which < 4 → Reschedules now (due_behind (Timer p which) u) (timer_due (timer_at x.timers which))) cause now u (λ p which l. inl refl))
-            (inl refl)
-            (inl refl)
-            (each_triggered (λ p x. (which : ℕ) → which < 4 → Reschedules now (due_behind (Dma p which) u) (channel_due x.dma which)) cause now u
-            (λ p which l. event_schedules (own_of u p).dma cause now (own_is u all p).dma which l));
+        dues = triggered_each cause now u all;
         halted = each_triggered (λ p x. x.halted ≡ (own_of u p).halted) cause now u (λ p. refl);
       };
       timers = each_triggered (λ p x. x.timers ≡ (own_of u p).timers) cause now u (λ p. refl);
-      divider = refl;
-      root = refl;
       runs = each_triggered (λ p x. any_runs (own_of u p).dma.channels ≡ true → any_runs x.dma.channels ≡ true) cause now u
           (λ p. event_runs (own_of u p).dma cause now (own_is u all p).dma);
     }
@@ -510,8 +510,6 @@ pub record MovedGoes (proc : Proc) (now : Tick) (old new : UnitsState) : Type 0 
   pub steps : StepsUnits now old new
   pub later : AreReadyLater now (own_of new proc).dma
   pub timers : (each : Proc) → (own_of new each).timers ≡ (own_of old each).timers
-  pub divider : new.divider ≡ old.divider
-  pub root : new.root ≡ old.root
   pub other : own_of new (other_proc proc) ≡ own_of old (other_proc proc)
 
 pub moved_goes : (proc : Proc) (now : Tick) (u : UnitsState) → AreUnits u → IsSome (dma_due (own_of u proc).dma) → MovedGoes proc now u (channel_moved proc now u)
@@ -521,12 +519,11 @@ moved_goes proc now u all due =
     let new : OwnState = own_moved own now in
     let later = finished_later own.dma now in record {
       steps = own_steps proc now u new all (record { timers = is.timers; dma = dma_finished_is own.dma now is.dma due })
-          (λ which l. inl refl) (all_moved own.dma now) refl;
+          (moved now own) refl;
       later = subst (λ (x : OwnState). AreReadyLater now x.dma) (sym (own_there proc u new)) later;
       timers = each_own (λ p x. x.timers ≡ (own_of u p).timers) proc u new refl refl;
-      divider = divider_stays proc u new;
-      root = root_stays proc u new;
       other = own_across proc u new;
     } where
-      all_moved : (d : DmaState) (tick : Tick) (which : ℕ) → which < 4 → Reschedules tick (channel_due d which) (channel_due (dma_finished d tick) which)
-      all_moved d tick which l = all_later tick (dma_finished d tick) (channel_due d which) (finished_later d tick) which l
+      moved : (tick : Tick) (own : OwnState) → OwnReschedules tick own (own_moved own tick)
+      moved tick own (Dma of channel) l = all_later tick (dma_finished own.dma tick) (channel_due own.dma channel) (finished_later own.dma tick) channel l
+      moved tick own _ l = inl refl

@@ -6,8 +6,9 @@ use Rattle.ds_base.specs.declared.ticks.Due.{Due}
 use Rattle.ds_base.specs.declared.ticks.Tick.{Tick}
 use Rattle.ds_dma.specs.States.{AreReadyLater, IsDma, channel_due}
 use Rattle.ds_ipc.specs.Ipcs.{other_proc}
+use Rattle.ds_runs.specs.Actors.{IsNumbered}
 use Rattle.ds_runs.specs.declared.actors.Actor as actor
-use Rattle.ds_runs.specs.declared.actors.Actor.TheVariants.{KeyScript, Video, Timer, Divider, SquareRoot, Geometry, Card, Dma, Processor}
+use Rattle.ds_runs.specs.declared.actors.Actor.TheVariants.{Timer, Divider, SquareRoot, Geometry, Card, Dma}
 use Rattle.ds_runs.specs.Order.{first_from}
 use Rattle.ds_timers.specs.Timing.{AreTimers, timer_at, timer_due}
 use Rattle.ds_ports.specs.Own.{OwnState}
@@ -16,16 +17,15 @@ use Rattle.ds_ports.specs.Units.{UnitsState, own_of}
 -- When the units behind the ports are due, and what happens at a tick makes of it.
 
 -- when an actor behind the ports is due; those that aren't, or aren't built yet, never are
+abbrev pub units_due : UnitsState → actor.Actor → Option Tick
+units_due u (Timer proc number) = timer_due (timer_at (own_of u proc).timers number)
+units_due u Divider = u.divider.due
+units_due u SquareRoot = u.root.due
+units_due u (Dma proc channel) = channel_due (own_of u proc).dma channel
+units_due u _ = None
+
 abbrev pub due_behind : actor.Actor → UnitsState → Option Tick
-due_behind KeyScript u = None
-due_behind Video u = None
-due_behind (Timer proc number) u = timer_due (timer_at (own_of u proc).timers number)
-due_behind Divider u = u.divider.due
-due_behind SquareRoot u = u.root.due
-due_behind Geometry u = None
-due_behind Card u = None
-due_behind (Dma proc channel) u = channel_due (own_of u proc).dma channel
-due_behind (Processor proc) u = None
+due_behind a u = units_due u a
 
 -- those of ranks 2 to 21, in their order
 abbrev pub dues_behind : UnitsState → List (Option Tick)
@@ -65,13 +65,14 @@ pub record IsLeft (old new : OwnState) : Type 0 where
   pub halted : new.halted ≡ old.halted
   pub dma : new.dma ≡ old.dma
 
+-- what happens at a tick leaves each due tick as it was, or later
+abbrev pub ReschedulesEach : Tick → UnitsState → UnitsState → Type 0
+ReschedulesEach now old new = (a : actor.Actor) → IsNumbered a → Reschedules now (due_behind a old) (due_behind a new)
+
 -- what accesses of a processor, or of a channel of it, at a tick make of the units: each due tick is as it was or later, and the other processor is
 -- told of interrupts and of nothing else
 pub record Goes (proc : Proc) (now : Tick) (old new : UnitsState) : Type 0 where
   pub is : IsOwn (own_of new proc)
   pub quiet : IsQuiet now (own_of new proc)
-  pub timers : (which : ℕ) → which < 4 → Reschedules now (due_behind (Timer proc which) old) (due_behind (Timer proc which) new)
-  pub divider : Reschedules now (due_behind Divider old) (due_behind Divider new)
-  pub root : Reschedules now (due_behind SquareRoot old) (due_behind SquareRoot new)
-  pub dma : (which : ℕ) → which < 4 → Reschedules now (due_behind (Dma proc which) old) (due_behind (Dma proc which) new)
+  pub each : ReschedulesEach now old new
   pub other : IsLeft (own_of old (other_proc proc)) (own_of new (other_proc proc))

@@ -2,3 +2,5 @@ pub mod RegisterMaps
 pub mod Dues
 pub mod Later
 pub mod Spans
+pub mod Together
+pub mod Ascending

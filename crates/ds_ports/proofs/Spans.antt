@@ -13,18 +13,18 @@ use Rattle.ds_ports.proofs.RegisterMaps.{both, le_of, some_slot}
 -- Bytes that lie in one register that is built are all built.
 
 -- the rows of a map rise, from an offset on
-abbrev rise : ℕ → List PortRow → Bool
+abbrev pub rise : ℕ → List PortRow → Bool
 rise from [] = true
 rise from (r ∷ rows) = nat_le from r.offset && rise (r.offset + row_bytes r) rows
 
 -- an offset lies before a row, in it, or past it, and so the test goes
-lies : (offset bytes at : ℕ) → ((at < offset) × ((nat_le offset at && nat_lt at (offset + bytes)) ≡ false))
+pub lies : (offset bytes at : ℕ) → ((at < offset) × ((nat_le offset at && nat_lt at (offset + bytes)) ≡ false))
     ⊎ (((offset ≤ at) × (at - offset < bytes) × ((nat_le offset at && nat_lt at (offset + bytes)) ≡ true))
     ⊎ ((offset + bytes ≤ at) × ((nat_le offset at && nat_lt at (offset + bytes)) ≡ false)))
 lies offset bytes at = grind arith
 
 -- rows that rise from further on have nothing at an offset
-none_before : (from : ℕ) (rows : List PortRow) (at : ℕ) → rise from rows ≡ true → at < from → slot_by rows at ≡ None
+pub none_before : (from : ℕ) (rows : List PortRow) (at : ℕ) → rise from rows ≡ true → at < from → slot_by rows at ≡ None
 none_before from [] at h lt = refl
 none_before from (r ∷ rows) at h lt =
     let two = both (nat_le from r.offset) (rise (r.offset + row_bytes r) rows) h in

@@ -1,4 +1,4 @@
-use Rattle.std.specs.Prelude.{ℕ, ◌+◌, ◌*◌, ◌/◌, ◌%◌, ◌^◌, nat_le, ◌&&◌, if◌then◌else◌, Bool, true, false, Option, Some, None}
+use Rattle.std.specs.Prelude.{ℕ, zero, suc, ◌≡◌, ◌+◌, ◌*◌, ◌/◌, ◌%◌, ◌^◌, ◌==◌, nat_le, ◌&&◌, if◌then◌else◌, Bool, true, false, Option, Some, None}
 use Rattle.ds_base.specs.Numbers.{width_bytes}
 use Rattle.ds_base.specs.declared.memories.Width.{Width}
 use Rattle.ds_base.specs.declared.memories.Width.TheVariants.{Byte, Half, Word}
@@ -109,6 +109,23 @@ unfoldable pub port_written : Proc → Tick → UnitsState → ℕ → Width →
 port_written proc now u at Byte value = byte_written proc now u at value
 port_written proc now u at Half value = half_written proc now u at value
 port_written proc now u at Word value = word_written proc now u at value
+
+-- a law of it: a write at a multiple of its width that lies in no one register writes each register that begins in it whole, in ascending address
+abbrev pub width_of : ℕ → Width
+width_of bytes = if bytes == 1 then Byte else (if bytes == 2 then Half else Word)
+
+abbrev pub begun_written : Proc → Tick → UnitsState → Option Slot → ℕ → UnitsState
+begun_written proc now u None value = u
+begun_written proc now u (Some slot) value = if slot.byte == 0 then slot_written proc now u (width_of slot.bytes) slot value else u
+
+-- of so many bytes from an offset on
+abbrev pub ascending : Proc → Tick → UnitsState → ℕ → ℕ → ℕ → UnitsState
+ascending proc now u at value zero = u
+ascending proc now u at value (suc n) = ascending proc now (begun_written proc now u (slot_of proc at) value) (at + 1) (value / 2 ^ 8) n
+
+abbrev pub WritesAscend : Proc → Tick → UnitsState → ℕ → Width → ℕ → Type 0
+WritesAscend proc now u at width value =
+    at % width_bytes width ≡ 0 → whole_in width (slot_of proc at) ≡ None → port_written proc now u at width value ≡ ascending proc now u at value (width_bytes width)
 
 -- ---- refusals: a write is refused whole where it would write a register that refuses it, and then none of its registers is written
 

@@ -1,4 +1,4 @@
-use Rattle.std.specs.Prelude.{ℕ, ◌<◌, ◌≤◌, ◌+◌, ◌-◌, ◌*◌, ◌/◌, ◌%◌, ◌==◌, nat_le, nat_lt, ◌&&◌, if◌then◌else◌, List, [], ◌∷◌, ◌++◌, Option, Some, None}
+use Rattle.std.specs.Prelude.{ℕ, ◌≡◌, ◌<◌, ◌≤◌, ◌⊎◌, ◌+◌, ◌-◌, ◌*◌, ◌/◌, ◌%◌, ◌==◌, nat_le, nat_lt, ◌&&◌, if◌then◌else◌, List, [], ◌∷◌, ◌++◌, Option, Some, None}
 use Rattle.ds_base.specs.declared.processors.Proc.{Proc}
 use Rattle.ds_base.specs.declared.processors.Proc.TheVariants.{Nine, Seven}
 use Rattle.ds_ports.specs.declared.registers.Register.{Register}
@@ -220,3 +220,15 @@ pub record IsSlot (s : Slot) : Type 0 where
   pub number : s.number < (meaning_of s.register).count
   pub byte : s.byte < s.bytes
   pub bytes : s.bytes ≤ 4
+
+-- ---- a law of the maps: each register stands at a multiple of its width, and its bytes follow one another from there on
+
+abbrev pub IsWidth : ℕ → Type 0
+IsWidth n = (n ≡ 1) ⊎ ((n ≡ 2) ⊎ (n ≡ 4))
+
+pub record StandsWhole (proc : Proc) (at : ℕ) (s : Slot) : Type 0 where
+  pub bytes : IsWidth s.bytes
+  pub first : s.byte ≤ at
+  pub byte : s.byte < s.bytes
+  pub multiple : (at - s.byte) % s.bytes ≡ 0
+  pub together : (i : ℕ) → i < s.bytes → slot_of proc (at - s.byte + i) ≡ Some (record s { byte = i })

@@ -12,6 +12,6 @@ mod registers;
 mod units;
 
 pub use own::Before;
-pub use ports::{lies_in_built, part, port_is_built};
+pub use ports::{lies_in_built, part, port_is_built, register_laws};
 pub use registers::{Register, Slot, slot_of};
 pub use units::Units;

@@ -1,18 +1,20 @@
-use Rattle.std.proofs.Common.{ℕ, ◌≡◌, ◌<◌, ◌≤◌, ◌+◌, ◌-◌, ◌/◌, ◌%◌, ◌^◌, ◌⊎◌, inl, inr, true, nat_le, Option, Some, None, refl, sym, ◌∙◌, ap, subst, arith}
+use Rattle.std.proofs.Common.{ℕ, ◌≡◌, ◌<◌, ◌≤◌, ◌+◌, ◌-◌, ◌*◌, ◌/◌, ◌%◌, ◌^◌, ◌⊎◌, inl, inr, true, nat_le, Option, Some, None, refl, sym, ◌∙◌, ap, subst, arith}
 use Rattle.std.specs.Prelude.{IfSome}
 use Rattle.std.proofs.Math.Nat.{div-div-eq-div-mul}
 use Rattle.std.proofs.lemmas.Option.{none-some, same_Some}
 use Rattle.ds_base.specs.declared.memories.Width.{Width}
 use Rattle.ds_base.specs.declared.memories.Width.TheVariants.{Byte, Half, Word}
+use Rattle.ds_base.specs.Numbers.{width_bytes}
+use Rattle.ds_base.specs.declared.left_out.Stop.{Stop}
 use Rattle.ds_base.specs.declared.processors.Proc.{Proc}
 use Rattle.ds_base.specs.declared.ticks.Tick.{Tick}
-use Rattle.ds_ports.specs.Ports.{WritesAscend, ascending, begun_written, half_written, port_written, slot_written, whole_in, word_written, written_or}
+use Rattle.ds_ports.specs.Ports.{GoesAscending, ascending, begun_refusal, begun_value, begun_written, first_refusal, first_stop, half_refusal, half_written, port_half, port_read, port_refusal, port_value, port_word, port_written, read_left, read_or, refusal_or, values_from, whole_in, word_refusal, word_written, written_or}
 use Rattle.ds_ports.specs.RegisterMap.{IsWidth, StandsWhole, slot_of}
 use Rattle.ds_ports.specs.Units.{UnitsState}
 use Rattle.ds_ports.specs.declared.registers.Slot.{Slot}
 use Rattle.ds_ports.proofs.Together.{stands_whole}
 
--- An access that lies in no one register writes each register that begins in it whole, in ascending address.
+-- An access that lies in no one register is one of each register that begins in it, whole, in ascending address.
 
 -- the register of which a byte stands at an offset, if one does, is narrower than a word
 abbrev IsNarrow : Option Slot → Type 0
@@ -59,22 +61,75 @@ second_there proc at s w e f =
 one_or_two : (n : ℕ) → n ≡ 1 → n ≡ 2 → ⊥
 one_or_two n e f = omega (arith, e, f)
 
+-- what stands at an even offset and after it: registers of a byte or none, or the two bytes of one register
+abbrev IsSmall : Option Slot → Type 0
+IsSmall slot = IfSome slot (λ s. (s.byte ≡ 0) × (s.bytes ≡ 1))
+
+abbrev IsPair : Option Slot → Option Slot → Type 0
+IsPair None b = ⊥
+IsPair (Some s) b = (s.byte ≡ 0) × (s.bytes ≡ 2) × (b ≡ Some (record s { byte = 1 }))
+
+abbrev IsHalf : Option Slot → Option Slot → Type 0
+IsHalf a b = (IsSmall a × IsSmall b) ⊎ IsPair a b
+
+half_of : (proc : Proc) (at : ℕ) → at % 2 ≡ 0 → (a b : Option Slot) → slot_of proc at ≡ a → slot_of proc (at + 1) ≡ b
+    → IfSome a (StandsWhole proc at) → IfSome b (StandsWhole proc (at + 1)) → IsNarrow a → IsNarrow b → IsHalf a b
+half_of proc at even None None ha hb wa wb na nb = inl (tt, tt)
+half_of proc at even None (Some t) ha hb wa wb na nb =
+    elim (after_even proc at t even wb nb) [
+      | inl one ↦ inl (tt, one)
+      | inr two ↦ absurd (none-some (record t { byte = 0 }) (sym ha ∙ first_there proc at t wb two.0))
+    ]
+half_of proc at even (Some s) None ha hb wa wb na nb =
+    let e = at_even proc at s even wa na in
+    elim e.1 [
+      | inl one ↦ inl ((e.0, one), tt)
+      | inr two ↦ absurd (none-some (record s { byte = 1 }) (sym hb ∙ second_there proc at s wa e.0 two))
+    ]
+half_of proc at even (Some s) (Some t) ha hb wa wb na nb =
+    let e = at_even proc at s even wa na in
+    elim e.1 [
+      | inl one ↦
+          elim (after_even proc at t even wb nb) [
+            | inl small ↦ inl ((e.0, one), small)
+            | inr two ↦
+                absurd (one_or_two s.bytes one
+                (ap (λ (x : Slot). x.bytes) (same_Some s (record t { byte = 0 }) (sym ha ∙ first_there proc at t wb two.0)) ∙ two.1))
+          ]
+      | inr two ↦ inr (e.0, two, sym hb ∙ second_there proc at s wa e.0 two)
+    ]
+
+half_at : (proc : Proc) (at : ℕ) → at % 2 ≡ 0 → IsNarrow (slot_of proc at) → IsNarrow (slot_of proc (at + 1)) → IsHalf (slot_of proc at) (slot_of proc (at + 1))
+half_at proc at even na nb = half_of proc at even (slot_of proc at) (slot_of proc (at + 1)) refl refl (stands_whole proc at) (stands_whole proc (at + 1)) na nb
+
+-- what is read of a half, left by it and refused in it, by what stands at its two bytes
 module _ (proc : Proc) (now : Tick) where
-  -- a register that is a byte, and one that is a half
-  byte_begins : (u : UnitsState) (slot : Slot) (value : ℕ) → slot.byte ≡ 0 → slot.bytes ≡ 1
-      → slot_written proc now u Byte slot value ≡ begun_written proc now u (Some slot) value
-  byte_begins u slot value e f = rw (e, f) refl
+  abbrev value_by : UnitsState → Option Slot → Option Slot → ℕ
+  value_by u a b = read_or proc now u Half (whole_in Half a) (read_or proc now u Byte a 0 + 2 ^ 8 * read_or proc now u Byte b 0)
 
-  half_begins : (u other : UnitsState) (slot : Slot) (value next : ℕ) → slot.byte ≡ 0 → slot.bytes ≡ 2
-      → written_or proc now u Half (whole_in Half (Some slot)) value other
-      ≡ begun_written proc now (begun_written proc now u (Some slot) value) (Some (record slot { byte = 1 })) next
-  half_begins u other slot value next e f = rw (e, f) refl
+  abbrev begun_value_by : UnitsState → Option Slot → Option Slot → ℕ
+  begun_value_by u a b = begun_value proc now u a + 2 ^ 8 * (begun_value proc now u b + 2 ^ 8 * 0)
 
-  not_half : (u other : UnitsState) (slot : Slot) (value : ℕ) → slot.byte ≡ 0 → slot.bytes ≡ 1
-      → written_or proc now u Half (whole_in Half (Some slot)) value other ≡ other
-  not_half u other slot value e f = rw (e, f) refl
+  last_value : (x y : ℕ) → x + 2 ^ 8 * y ≡ x + 2 ^ 8 * (y + 2 ^ 8 * 0)
+  last_value x y = omega arith
 
-  -- a half at an even offset, by what stands at its two bytes
+  one_value : (x : ℕ) → x ≡ x + 2 ^ 8 * (0 + 2 ^ 8 * 0)
+  one_value x = omega arith
+
+  small_value : (u : UnitsState) (a b : Option Slot) → IsSmall a → IsSmall b → value_by u a b ≡ begun_value_by u a b
+  small_value u None None sa sb = last_value 0 0
+  small_value u None (Some t) sa sb = rw (sb.0, sb.1) (last_value 0 _)
+  small_value u (Some s) None sa sb = rw (sa.0, sa.1) (last_value _ 0)
+  small_value u (Some s) (Some t) sa sb = rw (sa.0, sa.1, sb.0, sb.1) (last_value _ _)
+
+  pair_value : (u : UnitsState) (s : Slot) → s.byte ≡ 0 → s.bytes ≡ 2 → value_by u (Some s) (Some (record s { byte = 1 })) ≡ begun_value_by u (Some s) (Some (record s { byte = 1 }))
+  pair_value u s e f = rw (e, f) (one_value _)
+
+  half_value : (u : UnitsState) (a b : Option Slot) → IsHalf a b → value_by u a b ≡ begun_value_by u a b
+  half_value u a b (inl small) = small_value u a b small.0 small.1
+  half_value u None b (inr two) = absurd two
+  half_value u (Some s) b (inr two) = subst (λ (x : Option Slot). value_by u (Some s) x ≡ begun_value_by u (Some s) x) (sym two.2) (pair_value u s two.0 two.1)
+
   abbrev half_by : UnitsState → Option Slot → Option Slot → ℕ → UnitsState
   half_by u a b value =
       let first = written_or proc now u Byte a value u in
@@ -83,48 +138,63 @@ module _ (proc : Proc) (now : Tick) where
   abbrev begun_by : UnitsState → Option Slot → Option Slot → ℕ → UnitsState
   begun_by u a b value = begun_written proc now (begun_written proc now u a value) b (value / 2 ^ 8)
 
-  half_go : (u : UnitsState) (at value : ℕ) → at % 2 ≡ 0 → (a b : Option Slot) → slot_of proc at ≡ a → slot_of proc (at + 1) ≡ b
-      → IfSome a (StandsWhole proc at) → IfSome b (StandsWhole proc (at + 1)) → IsNarrow a → IsNarrow b → half_by u a b value ≡ begun_by u a b value
-  half_go u at value even None None ha hb wa wb na nb = refl
-  half_go u at value even None (Some t) ha hb wa wb na nb =
-      elim (after_even proc at t even wb nb) [
-        | inl one ↦ byte_begins u t (value / 2 ^ 8) one.0 one.1
-        | inr two ↦ absurd (none-some (record t { byte = 0 }) (sym ha ∙ first_there proc at t wb two.0))
-      ]
-  half_go u at value even (Some s) None ha hb wa wb na nb =
-      let e = at_even proc at s even wa na in
-      elim e.1 [
-        | inl one ↦ not_half u (slot_written proc now u Byte s value) s value e.0 one ∙ byte_begins u s value e.0 one
-        | inr two ↦ absurd (none-some (record s { byte = 1 }) (sym hb ∙ second_there proc at s wa e.0 two))
-      ]
-  half_go u at value even (Some s) (Some t) ha hb wa wb na nb =
-      let e = at_even proc at s even wa na in
-      elim e.1 [
-        | inl one ↦
-            (let first = slot_written proc now u Byte s value in
-            elim (after_even proc at t even wb nb) [
-              | inl small ↦
-                  not_half u (slot_written proc now first Byte t (value / 2 ^ 8)) s value e.0 one
-                  ∙ ap (λ (x : UnitsState). slot_written proc now x Byte t (value / 2 ^ 8)) (byte_begins u s value e.0 one)
-                  ∙ byte_begins (begun_written proc now u (Some s) value) t (value / 2 ^ 8) small.0 small.1
-              | inr two ↦
-                  absurd (one_or_two s.bytes one
-                  (ap (λ (x : Slot). x.bytes) (same_Some s (record t { byte = 0 }) (sym ha ∙ first_there proc at t wb two.0)) ∙ two.1))
-            ])
-        | inr two ↦
-            (let same : record s { byte = 1 } ≡ t = same_Some (record s { byte = 1 }) t (sym (second_there proc at s wa e.0 two) ∙ hb) in
-            subst (λ (x : Slot). half_by u (Some s) (Some x) value ≡ begun_by u (Some s) (Some x) value) same
-            (half_begins u (half_other s) s value (value / 2 ^ 8) e.0 two))
-      ] where
-        half_other : Slot → UnitsState
-        half_other s =
-            let first = slot_written proc now u Byte s value in
-            slot_written proc now first Byte (record s { byte = 1 }) (value / 2 ^ 8)
+  small_written : (u : UnitsState) (a b : Option Slot) (value : ℕ) → IsSmall a → IsSmall b → half_by u a b value ≡ begun_by u a b value
+  small_written u None None value sa sb = refl
+  small_written u None (Some t) value sa sb = rw (sb.0, sb.1) refl
+  small_written u (Some s) None value sa sb = rw (sa.0, sa.1) refl
+  small_written u (Some s) (Some t) value sa sb = rw (sa.0, sa.1, sb.0, sb.1) refl
+
+  pair_written : (u : UnitsState) (s : Slot) (value : ℕ) → s.byte ≡ 0 → s.bytes ≡ 2
+      → half_by u (Some s) (Some (record s { byte = 1 })) value ≡ begun_by u (Some s) (Some (record s { byte = 1 })) value
+  pair_written u s value e f = rw (e, f) refl
+
+  written_half : (u : UnitsState) (a b : Option Slot) (value : ℕ) → IsHalf a b → half_by u a b value ≡ begun_by u a b value
+  written_half u a b value (inl small) = small_written u a b value small.0 small.1
+  written_half u None b value (inr two) = absurd two
+  written_half u (Some s) b value (inr two) =
+      subst (λ (x : Option Slot). half_by u (Some s) x value ≡ begun_by u (Some s) x value) (sym two.2) (pair_written u s value two.0 two.1)
 
   half_ascends : (u : UnitsState) (at value : ℕ) → at % 2 ≡ 0 → IsNarrow (slot_of proc at) → IsNarrow (slot_of proc (at + 1))
       → half_written proc now u at value ≡ ascending proc now u at value 2
-  half_ascends u at value even na nb =
-      half_go u at value even (slot_of proc at) (slot_of proc (at + 1)) refl refl (stands_whole proc at) (stands_whole proc (at + 1)) na nb
+  half_ascends u at value even na nb = written_half u (slot_of proc at) (slot_of proc (at + 1)) value (half_at proc at even na nb)
+
+  half_values : (u : UnitsState) (at : ℕ) → at % 2 ≡ 0 → IsNarrow (slot_of proc at) → IsNarrow (slot_of proc (at + 1))
+      → port_half proc now u at ≡ values_from proc now u at 2
+  half_values u at even na nb = half_value u (slot_of proc at) (slot_of proc (at + 1)) (half_at proc at even na nb)
+
+first_none : (x : Option Stop) → first_stop x None ≡ x
+first_none None = refl
+first_none (Some stop) = refl
+
+module _ (proc : Proc) where
+  abbrev refusal_by : UnitsState → Option Slot → Option Slot → ℕ → Option Stop
+  refusal_by u a b value = refusal_or proc u Half (whole_in Half a) value (first_stop (refusal_or proc u Byte a value None) (refusal_or proc u Byte b (value / 2 ^ 8) None))
+
+  abbrev begun_refusal_by : UnitsState → Option Slot → Option Slot → ℕ → Option Stop
+  begun_refusal_by u a b value = first_stop (begun_refusal proc u a value) (first_stop (begun_refusal proc u b (value / 2 ^ 8)) None)
+
+  last_refusal : (x y : Option Stop) → first_stop x y ≡ first_stop x (first_stop y None)
+  last_refusal x y = ap (λ (z : Option Stop). first_stop x z) (sym (first_none y))
+
+  small_refusal : (u : UnitsState) (a b : Option Slot) (value : ℕ) → IsSmall a → IsSmall b → refusal_by u a b value ≡ begun_refusal_by u a b value
+  small_refusal u None None value sa sb = refl
+  small_refusal u None (Some t) value sa sb = rw (sb.0, sb.1) (last_refusal None _)
+  small_refusal u (Some s) None value sa sb = rw (sa.0, sa.1) (last_refusal _ None)
+  small_refusal u (Some s) (Some t) value sa sb = rw (sa.0, sa.1, sb.0, sb.1) (last_refusal _ _)
+
+  pair_refusal : (u : UnitsState) (s : Slot) (value : ℕ) → s.byte ≡ 0 → s.bytes ≡ 2
+      → refusal_by u (Some s) (Some (record s { byte = 1 })) value ≡ begun_refusal_by u (Some s) (Some (record s { byte = 1 })) value
+  pair_refusal u s value e f = rw (e, f) (sym (first_none _))
+
+  refused_half : (u : UnitsState) (a b : Option Slot) (value : ℕ) → IsHalf a b → refusal_by u a b value ≡ begun_refusal_by u a b value
+  refused_half u a b value (inl small) = small_refusal u a b value small.0 small.1
+  refused_half u None b value (inr two) = absurd two
+  refused_half u (Some s) b value (inr two) =
+      subst (λ (x : Option Slot). refusal_by u (Some s) x value ≡ begun_refusal_by u (Some s) x value) (sym two.2) (pair_refusal u s value two.0 two.1)
+
+  half_refuses : (u : UnitsState) (at value : ℕ) → at % 2 ≡ 0 → IsNarrow (slot_of proc at) → IsNarrow (slot_of proc (at + 1))
+      → half_refusal proc u at value ≡ first_refusal proc u at value 2
+  half_refuses u at value even na nb = refused_half u (slot_of proc at) (slot_of proc (at + 1)) value (half_at proc at even na nb)
 
 -- none of the registers that are touched is as wide as the access, where it lies in no one register
 word_elsewhere : (slot : Slot) → slot.byte ≡ 0 → slot.bytes ≡ 4 → whole_in Word (Some slot) ≡ Some slot
@@ -168,46 +238,119 @@ narrow_below_half proc at i even l none = go (slot_of proc (at + i)) (stands_who
         absurd (none-some (record t { byte = t.byte - i })
         (sym none ∙ ap (whole_in Half) there ∙ half_elsewhere (record t { byte = t.byte - i }) (omega (arith, e, low))))
 
+-- each of the four is narrower than a word
+record AreNarrow (proc : Proc) (at : ℕ) : Type 0 where
+  n0 : IsNarrow (slot_of proc at)
+  n1 : IsNarrow (slot_of proc (at + 1))
+  n2 : IsNarrow (slot_of proc (at + 2))
+  n3 : IsNarrow (slot_of proc (at + 2 + 1))
+
+are_narrow : (proc : Proc) (at : ℕ) → at % 4 ≡ 0 → whole_in Word (slot_of proc at) ≡ None → AreNarrow proc at
+are_narrow proc at even none =
+    let e : at + 0 ≡ at = omega arith in
+    let f : at + 3 ≡ at + 2 + 1 = omega arith in
+    record {
+      n0 = subst (λ (k : ℕ). IsNarrow (slot_of proc k)) e (narrow_below_word proc at 0 even (omega arith) none);
+      n1 = narrow_below_word proc at 1 even (omega arith) none;
+      n2 = narrow_below_word proc at 2 even (omega arith) none;
+      n3 = subst (λ (k : ℕ). IsNarrow (slot_of proc k)) f (narrow_below_word proc at 3 even (omega arith) none);
+    }
+
+two_on : (at : ℕ) → at + 2 ≡ at + 1 + 1
+two_on at = omega arith
+
+upper_half : (value : ℕ) → value / 2 ^ 16 ≡ value / 2 ^ 8 / 2 ^ 8
+upper_half value = sym (div-div-eq-div-mul value 256 256)
+
+four_values : (a b c d : ℕ) → a + 2 ^ 8 * (b + 2 ^ 8 * 0) + 2 ^ 16 * (c + 2 ^ 8 * (d + 2 ^ 8 * 0)) ≡ a + 2 ^ 8 * (b + 2 ^ 8 * (c + 2 ^ 8 * (d + 2 ^ 8 * 0)))
+four_values a b c d = omega arith
+
+four_stops : (a b rest : Option Stop) → first_stop (first_stop a (first_stop b None)) rest ≡ first_stop a (first_stop b rest)
+four_stops (Some stop) b rest = refl
+four_stops None (Some stop) rest = refl
+four_stops None None rest = refl
+
 module _ (proc : Proc) (now : Tick) where
   word_ascends : (u : UnitsState) (at value : ℕ) → at % 4 ≡ 0 → whole_in Word (slot_of proc at) ≡ None
       → word_written proc now u at value ≡ ascending proc now u at value 4
   word_ascends u at value even none =
-      let e : at + 0 ≡ at = omega arith in
-      let f : at + 3 ≡ at + 2 + 1 = omega arith in
-      let n0 : IsNarrow (slot_of proc at) = subst (λ (k : ℕ). IsNarrow (slot_of proc k)) e (narrow_below_word proc at 0 even (omega arith) none) in
-      let n1 : IsNarrow (slot_of proc (at + 1)) = narrow_below_word proc at 1 even (omega arith) none in
-      let n2 : IsNarrow (slot_of proc (at + 2)) = narrow_below_word proc at 2 even (omega arith) none in
-      let n3 : IsNarrow (slot_of proc (at + 2 + 1)) = subst (λ (k : ℕ). IsNarrow (slot_of proc k)) f (narrow_below_word proc at 3 even (omega arith) none) in
+      let n = are_narrow proc at even none in
       let first = half_written proc now u at value in
-      let second = half_ascends proc now first (at + 2) (value / 2 ^ 16) (omega (arith, even)) n2 n3 in
-      let lower = half_ascends proc now u at value (omega (arith, even)) n0 n1 in
+      let second = half_ascends proc now first (at + 2) (value / 2 ^ 16) (omega (arith, even)) n.n2 n.n3 in
+      let lower = half_ascends proc now u at value (omega (arith, even)) n.n0 n.n1 in
       ap (λ (slot : Option Slot). written_or proc now u Word slot value (half_written proc now first (at + 2) (value / 2 ^ 16))) none
       ∙ second
       ∙ ap (λ (x : UnitsState). ascending proc now x (at + 2) (value / 2 ^ 16) 2) lower
-      ∙ shifted (ascending proc now u at value 2) at value where
-        shifted : (x : UnitsState) (at value : ℕ) → ascending proc now x (at + 2) (value / 2 ^ 16) 2 ≡ ascending proc now x (at + 1 + 1) (value / 2 ^ 8 / 2 ^ 8) 2
-        shifted x at value =
-            let k : at + 2 ≡ at + 1 + 1 = omega arith in
-            let v : value / 2 ^ 16 ≡ value / 2 ^ 8 / 2 ^ 8 = sym (div-div-eq-div-mul value 256 256) in
-            ap (λ (n : ℕ). ascending proc now x n (value / 2 ^ 16) 2) k ∙ ap (λ (n : ℕ). ascending proc now x (at + 1 + 1) n 2) v
+      ∙ ap (λ (k : ℕ). ascending proc now (ascending proc now u at value 2) k (value / 2 ^ 16) 2) (two_on at)
+      ∙ ap (λ (v : ℕ). ascending proc now (ascending proc now u at value 2) (at + 1 + 1) v 2) (upper_half value)
 
+  word_values : (u : UnitsState) (at : ℕ) → at % 4 ≡ 0 → whole_in Word (slot_of proc at) ≡ None → port_word proc now u at ≡ values_from proc now u at 4
+  word_values u at even none =
+      let n = are_narrow proc at even none in
+      let lower = half_values proc now u at (omega (arith, even)) n.n0 n.n1 in
+      let upper = half_values proc now u (at + 2) (omega (arith, even)) n.n2 n.n3 in
+      ap (λ (slot : Option Slot). read_or proc now u Word slot (port_half proc now u at + 2 ^ 16 * port_half proc now u (at + 2))) none
+      ∙ ap (λ (x : ℕ). x + 2 ^ 16 * port_half proc now u (at + 2)) lower
+      ∙ ap (λ (x : ℕ). values_from proc now u at 2 + 2 ^ 16 * x) (upper ∙ ap (λ (k : ℕ). values_from proc now u k 2) (two_on at))
+      ∙ four_values (begun_value proc now u (slot_of proc at)) (begun_value proc now u (slot_of proc (at + 1)))
+      (begun_value proc now u (slot_of proc (at + 1 + 1))) (begun_value proc now u (slot_of proc (at + 1 + 1 + 1)))
+
+  word_refuses : (u : UnitsState) (at value : ℕ) → at % 4 ≡ 0 → whole_in Word (slot_of proc at) ≡ None
+      → word_refusal proc u at value ≡ first_refusal proc u at value 4
+  word_refuses u at value even none =
+      let n = are_narrow proc at even none in
+      let lower = half_refuses proc u at value (omega (arith, even)) n.n0 n.n1 in
+      let upper = half_refuses proc u (at + 2) (value / 2 ^ 16) (omega (arith, even)) n.n2 n.n3 in
+      ap (λ (slot : Option Slot). refusal_or proc u Word slot value (first_stop (half_refusal proc u at value) (half_refusal proc u (at + 2) (value / 2 ^ 16)))) none
+      ∙ ap (λ (x : Option Stop). first_stop x (half_refusal proc u (at + 2) (value / 2 ^ 16))) lower
+      ∙ ap (λ (x : Option Stop). first_stop (first_refusal proc u at value 2) x)
+      (upper ∙ ap (λ (k : ℕ). first_refusal proc u k (value / 2 ^ 16) 2) (two_on at) ∙ ap (λ (v : ℕ). first_refusal proc u (at + 1 + 1) v 2) (upper_half value))
+      ∙ four_stops (begun_refusal proc u (slot_of proc at) value) (begun_refusal proc u (slot_of proc (at + 1)) (value / 2 ^ 8))
+      (first_refusal proc u (at + 1 + 1) (value / 2 ^ 8 / 2 ^ 8) 2)
+
+  read_elsewhere : (u : UnitsState) (slot : Option Slot) → slot ≡ None → read_left proc u slot ≡ u
+  read_elsewhere u slot none = ap (λ (x : Option Slot). read_left proc u x) none
+
+  -- no register stands at an offset where a byte lies in none
   byte_there : (t : Slot) → t.byte < t.bytes → whole_in Byte (Some t) ≡ Some t
   byte_there t l = (let e : nat_le (t.byte + 1) t.bytes ≡ true = grind (arith, l) in rw e refl)
 
-  byte_alone : (u : UnitsState) (at value : ℕ) (slot : Option Slot) → IfSome slot (StandsWhole proc at) → whole_in Byte slot ≡ None
-      → written_or proc now u Byte slot value u ≡ begun_written proc now u slot value
-  byte_alone u at value None w none = refl
-  byte_alone u at value (Some t) w none = absurd (none-some t (sym none ∙ byte_there t w.byte))
+  nothing_there : (at : ℕ) (slot : Option Slot) → IfSome slot (StandsWhole proc at) → whole_in Byte slot ≡ None → slot ≡ None
+  nothing_there at None w none = refl
+  nothing_there at (Some t) w none = absurd (none-some t (sym none ∙ byte_there t w.byte))
 
-  half_alone : (u : UnitsState) (at value : ℕ) → at % 2 ≡ 0 → whole_in Half (slot_of proc at) ≡ None → half_written proc now u at value ≡ ascending proc now u at value 2
-  half_alone u at value even none =
+  abbrev ByteGoes : UnitsState → ℕ → Option Slot → Type 0
+  ByteGoes u value slot =
+      (read_or proc now u Byte slot 0 ≡ begun_value proc now u slot + 2 ^ 8 * 0)
+      × (written_or proc now u Byte slot value u ≡ begun_written proc now u slot value)
+      × (refusal_or proc u Byte slot value None ≡ first_stop (begun_refusal proc u slot value) None)
+
+  byte_alone : (u : UnitsState) (at value : ℕ) → whole_in Byte (slot_of proc at) ≡ None → ByteGoes u value (slot_of proc at)
+  byte_alone u at value none = subst (ByteGoes u value) (sym (nothing_there at (slot_of proc at) (stands_whole proc at) none)) (refl, refl, refl)
+
+  first_narrow : (at : ℕ) → at % 2 ≡ 0 → whole_in Half (slot_of proc at) ≡ None → IsNarrow (slot_of proc at)
+  first_narrow at even none =
       let e : at + 0 ≡ at = omega arith in
-      half_ascends proc now u at value even
-      (subst (λ (k : ℕ). IsNarrow (slot_of proc k)) e (narrow_below_half proc at 0 even (omega arith) none))
-      (narrow_below_half proc at 1 even (omega arith) none)
+      subst (λ (k : ℕ). IsNarrow (slot_of proc k)) e (narrow_below_half proc at 0 even (omega arith) none)
 
-pub writes_ascend : (proc : Proc) (now : Tick) (u : UnitsState) (at : ℕ) (width : Width) (value : ℕ) → WritesAscend proc now u at width value
-unfolding port_written
-writes_ascend proc now u at Byte value = λ even none. byte_alone proc now u at value (slot_of proc at) (stands_whole proc at) none
-writes_ascend proc now u at Half value = λ even none. half_alone proc now u at value even none
-writes_ascend proc now u at Word value = λ even none. word_ascends proc now u at value even none
+pub goes_ascending : (proc : Proc) (now : Tick) (u : UnitsState) (at : ℕ) (width : Width) (value : ℕ)
+    → at % width_bytes width ≡ 0 → whole_in width (slot_of proc at) ≡ None → GoesAscending proc now u at width value
+unfolding port_value port_read port_written port_refusal
+goes_ascending proc now u at Byte value even none =
+    let e = byte_alone proc now u at value none in
+    record { reads = e.0; left_by_read = refl; writes = e.1; refuses = e.2 }
+goes_ascending proc now u at Half value even none =
+    let a = first_narrow proc now at even none in
+    let b = narrow_below_half proc at 1 even (omega arith) none in
+    record {
+      reads = half_values proc now u at even a b;
+      left_by_read = refl;
+      writes = half_ascends proc now u at value even a b;
+      refuses = half_refuses proc u at value even a b;
+    }
+goes_ascending proc now u at Word value even none = record {
+  reads = word_values proc now u at even none;
+  left_by_read = read_elsewhere proc now u (whole_in Word (slot_of proc at)) none;
+  writes = word_ascends proc now u at value even none;
+  refuses = word_refuses proc now u at value even none;
+}

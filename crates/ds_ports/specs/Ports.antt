@@ -110,23 +110,6 @@ port_written proc now u at Byte value = byte_written proc now u at value
 port_written proc now u at Half value = half_written proc now u at value
 port_written proc now u at Word value = word_written proc now u at value
 
--- a law of it: a write at a multiple of its width that lies in no one register writes each register that begins in it whole, in ascending address
-abbrev pub width_of : ℕ → Width
-width_of bytes = if bytes == 1 then Byte else (if bytes == 2 then Half else Word)
-
-abbrev pub begun_written : Proc → Tick → UnitsState → Option Slot → ℕ → UnitsState
-begun_written proc now u None value = u
-begun_written proc now u (Some slot) value = if slot.byte == 0 then slot_written proc now u (width_of slot.bytes) slot value else u
-
--- of so many bytes from an offset on
-abbrev pub ascending : Proc → Tick → UnitsState → ℕ → ℕ → ℕ → UnitsState
-ascending proc now u at value zero = u
-ascending proc now u at value (suc n) = ascending proc now (begun_written proc now u (slot_of proc at) value) (at + 1) (value / 2 ^ 8) n
-
-abbrev pub WritesAscend : Proc → Tick → UnitsState → ℕ → Width → ℕ → Type 0
-WritesAscend proc now u at width value =
-    at % width_bytes width ≡ 0 → whole_in width (slot_of proc at) ≡ None → port_written proc now u at width value ≡ ascending proc now u at value (width_bytes width)
-
 -- ---- refusals: a write is refused whole where it would write a register that refuses it, and then none of its registers is written
 
 abbrev pub first_stop : Option Stop → Option Stop → Option Stop
@@ -176,3 +159,40 @@ in_built length (Some slot) = (meaning_of slot.register).is_built && nat_le (slo
 
 unfoldable pub lies_in_built : Proc → ℕ → ℕ → Bool
 lies_in_built proc at length = in_built length (slot_of proc at)
+
+-- ---- laws of these: an access at a multiple of its width that lies in no one register is one of each register that begins in it, whole, in ascending address
+
+abbrev pub width_of : ℕ → Width
+width_of bytes = if bytes == 1 then Byte else (if bytes == 2 then Half else Word)
+
+-- where no register begins, nothing is read, written or refused
+abbrev pub begun_value : Proc → Tick → UnitsState → Option Slot → ℕ
+begun_value proc now u None = 0
+begun_value proc now u (Some slot) = if slot.byte == 0 then slot_value proc now u (width_of slot.bytes) slot else 0
+
+abbrev pub begun_written : Proc → Tick → UnitsState → Option Slot → ℕ → UnitsState
+begun_written proc now u None value = u
+begun_written proc now u (Some slot) value = if slot.byte == 0 then slot_written proc now u (width_of slot.bytes) slot value else u
+
+abbrev pub begun_refusal : Proc → UnitsState → Option Slot → ℕ → Option Stop
+begun_refusal proc u None value = None
+begun_refusal proc u (Some slot) value = if slot.byte == 0 then slot_refusal proc u (width_of slot.bytes) slot value else None
+
+-- of so many bytes from an offset on
+abbrev pub values_from : Proc → Tick → UnitsState → ℕ → ℕ → ℕ
+values_from proc now u at zero = 0
+values_from proc now u at (suc n) = begun_value proc now u (slot_of proc at) + 2 ^ 8 * values_from proc now u (at + 1) n
+
+abbrev pub ascending : Proc → Tick → UnitsState → ℕ → ℕ → ℕ → UnitsState
+ascending proc now u at value zero = u
+ascending proc now u at value (suc n) = ascending proc now (begun_written proc now u (slot_of proc at) value) (at + 1) (value / 2 ^ 8) n
+
+abbrev pub first_refusal : Proc → UnitsState → ℕ → ℕ → ℕ → Option Stop
+first_refusal proc u at value zero = None
+first_refusal proc u at value (suc n) = first_stop (begun_refusal proc u (slot_of proc at) value) (first_refusal proc u (at + 1) (value / 2 ^ 8) n)
+
+pub record GoesAscending (proc : Proc) (now : Tick) (u : UnitsState) (at : ℕ) (width : Width) (value : ℕ) : Type 0 where
+  pub reads : port_value proc now u at width ≡ values_from proc now u at (width_bytes width)
+  pub left_by_read : port_read proc u at width ≡ u
+  pub writes : port_written proc now u at width value ≡ ascending proc now u at value (width_bytes width)
+  pub refuses : port_refusal proc u at width value ≡ first_refusal proc u at value (width_bytes width)

@@ -1,12 +1,12 @@
 //! Accesses of ports.
 
-ghost use Rattle.std.specs.Prelude.{ℕ, ◌≡◌, ◌<◌, ◌≤◌, ◌+◌, ◌^◌, IfSome, Some};
+ghost use Rattle.std.specs.Prelude.{ℕ, ◌≡◌, ◌<◌, ◌≤◌, ◌+◌, ◌%◌, ◌^◌, IfSome, None, Some};
 ghost use Rattle.ds_base.specs.Numbers.{width_bytes};
 ghost use Rattle.ds_base.specs.Schedules.{IsEarly};
 ghost use Rattle.ds_base.specs.declared.memories.Width.{Width};
 ghost use Rattle.ds_base.specs.declared.processors.Proc.{Proc};
 ghost use Rattle.ds_base.specs.declared.ticks.Tick.{Tick};
-ghost use Rattle.ds_ports.specs.Ports.{WritesAscend, byte_refusal, byte_written, first_stop, half_refusal, half_written, ignores, in_built, is_slot_built, with_bytes_from, lies_in_built, part, port_byte, port_half, port_is_built, port_read, port_refusal, port_value, port_word, port_written, slot_joined, slot_refusal, slot_value, slot_written, unless_stopped, whole_in, word_refusal, word_written};
+ghost use Rattle.ds_ports.specs.Ports.{GoesAscending, byte_refusal, byte_written, first_stop, half_refusal, half_written, ignores, in_built, is_slot_built, with_bytes_from, lies_in_built, part, port_byte, port_half, port_is_built, port_read, port_refusal, port_value, port_word, port_written, slot_joined, slot_refusal, slot_value, slot_written, unless_stopped, whole_in, word_refusal, word_written};
 ghost use Rattle.ds_ports.specs.Dues.{Goes, IsOwn, IsQuiet};
 ghost use Rattle.ds_ports.specs.RegisterMap.{IsSlot, StandsWhole, slot_of};
 ghost use Rattle.ds_ports.specs.Units.{UnitsState, own_of};
@@ -409,11 +409,12 @@ pub fn lies_in_built(proc: Proc, at: u32, length: u32) -> bool
     }
 }
 
-/// Does nothing; its contract states laws of the maps and of writes. `rows`: each register stands at a multiple of its width, and its bytes
-/// follow one another from there on. `ascending`: a write at a multiple of its width that lies in no one register writes each register that
-/// begins in it whole, in ascending address.
-#[tactic(auto, using(crate::proofs::Together::stands_whole, crate::proofs::Ascending::writes_ascend))]
+/// Does nothing; its contract states laws of the maps and of accesses. `rows`: each register stands at a multiple of its width, and its
+/// bytes follow one another from there on. `ascending`: an access at a multiple of its width that lies in no one register goes through
+/// the registers that begin in it, each whole, in ascending address. What it reads are theirs, and 0 where none is; the read leaves all as
+/// it was; a write writes them one after another, and is refused for the first of them that refuses it.
+#[tactic(auto, using(crate::proofs::Together::stands_whole))]
 pub fn register_laws()
     ensures rows { (proc : Proc) (at : ℕ) → IfSome (slot_of proc at) (StandsWhole proc at) }
-    ensures ascending { (proc : Proc) (now : Tick) (u : UnitsState) (at : ℕ) (width : Width) (value : ℕ) → WritesAscend proc now u at width value }
+    ensures ascending { (proc : Proc) (now : Tick) (u : UnitsState) (at : ℕ) (width : Width) (value : ℕ) → at % width_bytes width ≡ 0 → whole_in width (slot_of proc at) ≡ None → GoesAscending proc now u at width value }
 {}

@@ -290,32 +290,79 @@ pub struct Told {
     pub holds: bool,
 }
 
-/// Plays a file.
-pub fn play_file(alloc: Global, name: &str, text: &str) -> Result<Told, AllocError> {
-    let mut player = Player::new(alloc, name)?;
-    let mut begun = Begun {
-        number: 0,
-        tokens: Vec::new(alloc),
-    };
-    let mut number = 0u64;
-    for line in text.lines() {
-        number = number.saturating_add(1);
-        let tokens = match tokens_of(alloc, line) {
-            Ok(tokens) => tokens,
+/// A file that is read line by line.
+#[derive(Drop)]
+struct Reader {
+    player: Player,
+    begun: Begun,
+    number: u64,
+}
+
+impl Reader {
+    /// Before the first line of a file of this name.
+    fn new(alloc: Global, name: &str) -> Result<Reader, AllocError> {
+        Ok(Reader {
+            player: Player::new(alloc, name)?,
+            begun: Begun {
+                number: 0,
+                tokens: Vec::new(alloc),
+            },
+            number: 0,
+        })
+    }
+
+    /// The words of a line. A bad one is told, and has none.
+    fn words(&mut self, line: &str) -> Result<Vec<Token>, AllocError> {
+        let alloc = self.player.alloc;
+        match tokens_of(alloc, line) {
+            Ok(tokens) => Ok(tokens),
             Err(bad) => {
-                player.tell(number, bad.to_string(alloc)?.as_str())?;
-                Vec::new(alloc)
+                let text = bad.to_string(alloc)?;
+                self.player.tell(self.number, text.as_str())?;
+                Ok(Vec::new(alloc))
             }
-        };
-        if goes_on(tokens.as_slice()) {
-            begun.add(tokens)?;
-        } else if !tokens.is_empty() {
-            player.play_tokens(begun.number, begun.tokens.as_slice())?;
-            begun = Begun { number, tokens };
         }
     }
-    player.play_tokens(begun.number, begun.tokens.as_slice())?;
-    player.end_table()?;
+
+    /// Plays the line that was begun.
+    fn play_begun(&mut self) -> Result<(), AllocError> {
+        self.player
+            .play_tokens(self.begun.number, self.begun.tokens.as_slice())
+    }
+
+    /// Reads the next line.
+    fn read(&mut self, line: &str) -> Result<(), AllocError> {
+        self.number = self.number.saturating_add(1);
+        let tokens = self.words(line)?;
+        if tokens.is_empty() {
+            return Ok(());
+        }
+        if goes_on(tokens.as_slice()) {
+            return self.begun.add(tokens);
+        }
+        self.play_begun()?;
+        self.begun = Begun {
+            number: self.number,
+            tokens,
+        };
+        Ok(())
+    }
+
+    /// Reads all lines, and ends the last table.
+    fn read_all(&mut self, text: &str) -> Result<(), AllocError> {
+        for line in text.lines() {
+            self.read(line)?;
+        }
+        self.play_begun()?;
+        self.player.end_table()
+    }
+}
+
+/// Plays a file.
+pub fn play_file(alloc: Global, name: &str, text: &str) -> Result<Told, AllocError> {
+    let mut reader = Reader::new(alloc, name)?;
+    reader.read_all(text)?;
+    let player = reader.player;
     Ok(Told {
         report: player.report,
         holds: player.holds,

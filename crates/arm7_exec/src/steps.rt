@@ -4,7 +4,7 @@ ghost use Rattle.std.specs.Prelude.{◌≡◌, ◌<◌, IfSome};
 ghost use Rattle.arm_words.specs.Fields.{HasFields};
 ghost use Rattle.arm_core.specs.Steps.{executed_word};
 ghost use Rattle.arm7_exec.specs.Arm7.{arm7, step7_of};
-ghost use Rattle.arm_exec.specs.Lefts.{KeepsWhereLeft};
+ghost use Rattle.arm_exec.specs.Stopped.{KeepsWhereStopped};
 
 use arm_core::{Bus, Core, Stepped};
 use arm_exec::{Fetched, execute_word, step};
@@ -19,7 +19,7 @@ pub fn step7<B: Bus>(core: &mut Core, bus: &mut B, line: bool) -> Stepped
     ensures state { B.state bus.new ≡ (step7_of B.memory line core.old.registers (B.state bus.old)).state }
     ensures stepped { result ≡ (step7_of B.memory line core.old.registers (B.state bus.old)).stepped }
     ensures same { B.identity bus.new ≡ B.identity bus.old }
-    ensures left { KeepsWhereLeft core.old.registers result core.new.registers }
+    ensures left { KeepsWhereStopped core.old.registers result core.new.registers }
 {
     step(Arch::V4, 0, true, &mut core.registers, bus, line)
 }

@@ -10,7 +10,7 @@ use Rattle.arm_core.specs.Registers.{RegisterState, register}
 use Rattle.arm_core.specs.Steps.{FetchOutcome, enters, executed_word, fetched}
 use Rattle.arm_core.specs.declared.outcomes.Stepped as stepped
 use Rattle.arm_core.specs.declared.outcomes.Stepped.TheVariants.{Cost, Halted, Left}
-use Rattle.arm_exec.specs.Lefts.{KeepsWhereLeft}
+use Rattle.arm_exec.specs.Stopped.{KeepsWhereStopped}
 use Rattle.arm_exec.proofs.Kept.{carried_keeps, word_keeps}
 use Rattle.cp15_tcm.specs.Registers.{Cp15State, Cp15Register, vectors_of, write_answer}
 use Rattle.cp15_tcm.specs.Registers.Cp15Register.{Constant, Control, DtcmRegion, ItcmRegion, WaitForInterrupt, Other}
@@ -18,24 +18,24 @@ use Rattle.cp15_tcm.specs.declared.answers.Mcr.{Mcr}
 use Rattle.cp15_tcm.specs.declared.answers.Mcr.TheVariants as mcr
 use Rattle.arm9_exec.specs.Arm9.{arm9, executed_or_moved, step9_of, step_waits}
 use Rattle.arm9_exec.specs.Coprocessors.{carried_over, is_wait, move_of, moved_if, register_moved, waits, written, written_by}
-use Rattle.arm9_exec.specs.Lefts.{KeepsBothWhereLeft, ends_halted}
+use Rattle.arm9_exec.specs.Stopped.{KeepsBothWhereStopped, ends_halted}
 use Rattle.arm9_exec.specs.declared.coprocessors.Moved.{Moved}
 
 -- Where a step needs what is left out, and where it halts.
 
 -- the registers of both stay where they must, and the step halts where it waits
 abbrev Ends : RegisterState → Cp15State → stepped.Stepped → RegisterState → Cp15State → Bool → Type 0
-Ends s cp came new_s new_cp wait = KeepsBothWhereLeft s cp came new_s new_cp × (ends_halted came ≡ wait)
+Ends s cp came new_s new_cp wait = KeepsBothWhereStopped s cp came new_s new_cp × (ends_halted came ≡ wait)
 
 -- what makes no move keeps CP15, and never halts
-beside_ends : (s : RegisterState) (cp : Cp15State) (came : stepped.Stepped) (new : RegisterState) → KeepsWhereLeft s came new → Ends s cp came new cp false
+beside_ends : (s : RegisterState) (cp : Cp15State) (came : stepped.Stepped) (new : RegisterState) → KeepsWhereStopped s came new → Ends s cp came new cp false
 beside_ends s cp (Cost clocks) new keeps = (tt, refl)
 beside_ends s cp (Halted clocks) new keeps = absurd keeps
 beside_ends s cp (Left stop) new keeps = ((keeps, refl), refl)
 
 module _ (s : RegisterState) (cp : Cp15State) where
   written_keeps : (r : Cp15Register) (value : ℕ) (answer : Mcr)
-      → let o = written_by s cp r value answer in KeepsBothWhereLeft s cp o.stepped o.registers o.cp
+      → let o = written_by s cp r value answer in KeepsBothWhereStopped s cp o.stepped o.registers o.cp
   written_keeps r value mcr.Kept = tt
   written_keeps r value mcr.Halt = tt
   written_keeps r value (mcr.Left stop) = (refl, refl)

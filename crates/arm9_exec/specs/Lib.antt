@@ -1,3 +1,3 @@
 pub mod Arm9
 pub mod Coprocessors
-pub mod Lefts
+pub mod Stopped

@@ -4,7 +4,7 @@ ghost use Rattle.std.specs.Prelude.{◌≡◌, ◌<◌, IfSome};
 ghost use Rattle.arm_words.specs.Fields.{HasFields};
 ghost use Rattle.arm9_exec.specs.Coprocessors.{move_of};
 ghost use Rattle.arm9_exec.specs.Arm9.{arm9, executed_or_moved, step9_of, step_waits};
-ghost use Rattle.arm9_exec.specs.Lefts.{KeepsBothWhereLeft, ends_halted};
+ghost use Rattle.arm9_exec.specs.Stopped.{KeepsBothWhereStopped, ends_halted};
 
 use crate::coprocessors::{move_if, move_of};
 use arm_core::{Bus, Core, Registers, Stepped};
@@ -72,7 +72,7 @@ pub fn step9<B: Bus>(core: &mut Core, cp: &mut Cp15, bus: &mut B, line: bool) ->
     ensures state { B.state bus.new ≡ (step9_of B.memory line core.old.registers cp.old (B.state bus.old)).state }
     ensures stepped { result ≡ (step9_of B.memory line core.old.registers cp.old (B.state bus.old)).stepped }
     ensures same { B.identity bus.new ≡ B.identity bus.old }
-    ensures left { KeepsBothWhereLeft core.old.registers cp.old result core.new.registers cp.new }
+    ensures left { KeepsBothWhereStopped core.old.registers cp.old result core.new.registers cp.new }
     ensures halted { ends_halted result ≡ step_waits B.memory line core.old.registers (B.state bus.old) }
 {
     step(&mut core.registers, cp, bus, line)

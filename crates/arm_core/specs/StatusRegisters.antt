@@ -8,7 +8,7 @@ use Rattle.arm_core.specs.Registers.{RegisterState, bank, saved_place, next, put
 use Rattle.arm_core.specs.Effects.{Meaning, plain}
 use Rattle.arm_core.specs.declared.classes.Class.TheVariants.{Processing}
 
--- The status registers (ARM manual, A3.6 "Status register access instructions").
+-- The status registers (ARM manual, A3.10 "Status register access instructions").
 
 -- the bits that a status register keeps: N, Z, C, V, on ARMv5 Q, and I, F, T and the mode (A2.5)
 abbrev pub kept_bits : Arch → ℕ

@@ -6,8 +6,8 @@ ghost use Rattle.ds_base.specs.Accesses.{MemoryMachine};
 use ds_base::{Stop, Width};
 
 /// What a processor reaches through its bus. It answers each access with a value and a next state, which are functions of its state:
-/// an abstract state with the memory machine on it. An address is the one that an instruction makes, not aligned. (ARM manual, A2.7
-/// "Memory and memory-mapped I/O".)
+/// an abstract state with the memory machine on it. An address is the one that an instruction makes, not aligned. (ARM manual, A2.8
+/// "Unaligned access support".)
 pub trait Bus {
     /// The states.
     ghost State: { Type 0 };

@@ -9,12 +9,12 @@ use Rattle.arm_core.specs.Exceptions.{interrupt_meaning, undefined_meaning}
 use Rattle.arm_core.specs.Meanings.{meaning, skipped}
 use Rattle.arm_core.specs.Registers.{RegisterState}
 use Rattle.arm_core.specs.Steps.{Setting, enters, executed_unless, executed_word, fetched, step_of, stop_of}
-use Rattle.arm_exec.specs.Lefts.{KeepsWhereLeft}
+use Rattle.arm_exec.specs.Stopped.{KeepsWhereStopped}
 
 module _ {S : Type 0} (memory : MemoryMachine S) (setting : Setting) (s : RegisterState) where
   -- what a step comes to keeps the registers where it needs what is left out
   abbrev pub Keeps : Outcome S → Type 0
-  Keeps o = KeepsWhereLeft s o.stepped o.registers
+  Keeps o = KeepsWhereStopped s o.stepped o.registers
 
   one_of : (b : Bool) (x y : Outcome S) → Keeps x → Keeps y → Keeps (if b then x else y)
   one_of true x y p q = p

@@ -1,2 +1,2 @@
-pub mod Lefts
+pub mod Stopped
 pub mod Costs

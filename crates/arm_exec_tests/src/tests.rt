@@ -8,7 +8,7 @@ mod exceptions;
 mod footprints;
 mod lines;
 mod lists;
-mod memo;
+mod cache;
 mod multiplies;
 mod operations;
 mod statuses;

@@ -20,10 +20,10 @@ use Rattle.arm_words.specs.declared.parts.ShortOffset.TheVariants.{ShortNumber, 
 use Rattle.arm_words.specs.declared.parts.ThumbOperand.{ThumbOperand}
 use Rattle.arm_words.specs.declared.parts.ThumbOperand.TheVariants.{LowRegister, Small}
 use Rattle.arm_core.specs.Thumb.{equivalent, high_instr, immediate_instr, low_operand, offset_instr, register_instr, transfer_equivalent}
-use Rattle.arm_ops.specs.Operations.{compare_op, data_op, is_plain, move_op, op_of, ready_of, HasOp, HasReady}
+use Rattle.arm_ops.specs.Operations.{compare_op, data_op, is_plain, move_op, op_of, operation_of, HasOp, HasOperation}
 use Rattle.arm_ops.specs.declared.operations.Op.{Op}
 
--- What is made ready has its fields in their ranges, where the instruction has.
+-- What is decoded has its fields in their ranges, where the instruction has.
 
 one_of : (b : Bool) (x y : Op) → HasOp x → HasOp y → HasOp (if b then x else y)
 one_of true x y h k = h
@@ -142,6 +142,6 @@ instr_fields (instrs.ThumbBkpt immed) h = tt
 instr_fields (instrs.ThumbSwi immed) h = tt
 instr_fields i h = op_fields i h
 
-pub ready_fields : (o : Option Instr) → IfSome o HasFields → HasReady (ready_of o)
-ready_fields None h = (tt, λ other. refl)
-ready_fields (Some i) h = (instr_fields i h, λ other. rw other refl)
+pub operation_fields : (o : Option Instr) → IfSome o HasFields → HasOperation (operation_of o)
+operation_fields None h = (tt, λ other. refl)
+operation_fields (Some i) h = (instr_fields i h, λ other. rw other refl)

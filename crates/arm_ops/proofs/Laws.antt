@@ -31,12 +31,12 @@ use Rattle.arm_core.specs.declared.outcomes.Stepped.{Stepped}
 use Rattle.arm_core.specs.declared.outcomes.Stepped.TheVariants.{Cost}
 use Rattle.arm_exec.proofs.Costs.{some_cost}
 use Rattle.arm_core.specs.Thumb.{equivalent}
-use Rattle.arm_ops.specs.Meanings.{compare_by, data_by, is_near, move_by, op_meaning, ready_meaning, register_operand, shifted_operand, IsNear, RefusesNoneNear}
+use Rattle.arm_ops.specs.Meanings.{compare_by, data_by, is_ram, move_by, op_meaning, operation_meaning, register_operand, shifted_operand, IsInRam, RefusesNoneInRam}
 use Rattle.arm_ops.specs.Inside.{IsPaid}
-use Rattle.arm_ops.specs.Operations.{compare_op, data_op, is_other, is_plain, move_op, op_of, ready_of}
+use Rattle.arm_ops.specs.Operations.{compare_op, data_op, is_other, is_plain, move_op, op_of, operation_of}
 use Rattle.arm_ops.specs.declared.operations.Op.TheVariants.{CompareRegister, CompareShifted, DataRegister, DataShifted, MoveRegister, MoveShifted}
 
--- An instruction that is made ready means what it meant.
+-- An instruction that is decoded means what it meant.
 
 -- LSL by 0 leaves a register as it is
 plain_operand : (s : RegisterState) (rm : ℕ) (shift : Shift) (amount : ℕ) → is_plain shift amount ≡ true → shifted_operand s rm shift amount ≡ register_operand s rm
@@ -100,16 +100,16 @@ op_means arch base s (instrs.ThumbBlPrefix offset) h = refl
 op_means arch base s (instrs.ThumbBlSuffix offset) h = refl
 op_means arch base s _ h = absurd (true≢false h)
 
-pub ready_means : (arch : Arch) (base : ℕ) (s : RegisterState) (instr : Instr) → is_other (ready_of (Some instr)).op ≡ false
-    → meaning arch base s instr ≡ ready_meaning arch base s (ready_of (Some instr))
-ready_means arch base s instr h =
+pub operation_means : (arch : Arch) (base : ℕ) (s : RegisterState) (instr : Instr) → is_other (operation_of (Some instr)).op ≡ false
+    → meaning arch base s instr ≡ operation_meaning arch base s (operation_of (Some instr))
+operation_means arch base s instr h =
     rw h (ap (λ (m : Meaning). if holds (condition instr) s.cpsr then m else skipped s) (sym (op_means arch base s (equivalent instr) h)))
 
--- and it needs no stop before its accesses: SWI isn't made ready
-pub ready_needs_none : (instr : Instr) → is_other (ready_of (Some instr)).op ≡ false → swi_stop instr ≡ None
-ready_needs_none (instrs.Swi cond immed) h = absurd (true≢false h)
-ready_needs_none (instrs.ThumbSwi immed) h = absurd (true≢false h)
-ready_needs_none _ h = refl
+-- and it needs no stop before its accesses: SWI isn't decoded
+pub operation_needs_none : (instr : Instr) → is_other (operation_of (Some instr)).op ≡ false → swi_stop instr ≡ None
+operation_needs_none (instrs.Swi cond immed) h = absurd (true≢false h)
+operation_needs_none (instrs.ThumbSwi immed) h = absurd (true≢false h)
+operation_needs_none _ h = refl
 
 -- ---- what is carried out
 
@@ -123,41 +123,41 @@ pub computed : {S : Type 0} (memory : MemoryMachine S) (arch : Arch) (s : Regist
     → carried_out memory arch s state m ≡ record { registers = m.after []; state = state; stepped = Cost (cost_of arch m) }
 computed memory arch s state m h = after_none memory arch s state m m.accesses h
 
--- a memory machine that refuses no write of the near memories stops none of them
-unstopped : {S : Type 0} (memory : MemoryMachine S) (state : S) (accesses : List Access) → RefusesNoneNear memory → IsNear accesses → (perform memory state accesses).stop ≡ None
-unstopped memory state [] never near = refl
-unstopped memory state (Fetch at width ∷ []) never near = refl
-unstopped memory state (Read at width ∷ []) never near = refl
-unstopped {S} memory state (Write at width value ∷ []) never near = written (memory.refusal state at width value) (never state at width value near) where
+-- a memory machine that refuses no write of RAM stops none of them
+unstopped : {S : Type 0} (memory : MemoryMachine S) (state : S) (accesses : List Access) → RefusesNoneInRam memory → IsInRam accesses → (perform memory state accesses).stop ≡ None
+unstopped memory state [] never ram = refl
+unstopped memory state (Fetch at width ∷ []) never ram = refl
+unstopped memory state (Read at width ∷ []) never ram = refl
+unstopped {S} memory state (Write at width value ∷ []) never ram = written (memory.refusal state at width value) (never state at width value ram) where
   written : (stop : Option Stop) → stop ≡ None → (refused_or stop (memory.write_next state at width value) (perform memory (memory.write_next state at width value) [])).stop ≡ None
   written None h = refl
   written (Some stop) h = h
-unstopped memory state (access ∷ other ∷ rest) never near = absurd near
+unstopped memory state (access ∷ other ∷ rest) never ram = absurd ram
 
 costs_then : {S : Type 0} (arch : Arch) (s : RegisterState) (m : Meaning) (done : Performed S) (stop : Option Stop) → stop ≡ None → (concluded arch s m done stop).stepped ≡ Cost (cost_of arch m)
 costs_then arch s m done None h = refl
 costs_then arch s m done (Some stop) h = absurd (none-some stop (sym h))
 
-pub near_paid : {S : Type 0} (memory : MemoryMachine S) (arch : Arch) (s : RegisterState) (state : S) (m : Meaning) (stepped : Stepped) → RefusesNoneNear memory → IsNear m.accesses
+pub ram_paid : {S : Type 0} (memory : MemoryMachine S) (arch : Arch) (s : RegisterState) (state : S) (m : Meaning) (stepped : Stepped) → RefusesNoneInRam memory → IsInRam m.accesses
     → stepped ≡ (carried_out memory arch s state m).stepped → IsPaid stepped
-near_paid memory arch s state m stepped never near h =
+ram_paid memory arch s state m stepped never ram h =
     let done = perform memory state m.accesses in
-    subst IsPaid (sym (h ∙ costs_then arch s m done done.stop (unstopped memory state m.accesses never near))) (some_cost arch m)
+    subst IsPaid (sym (h ∙ costs_then arch s m done done.stop (unstopped memory state m.accesses never ram))) (some_cost arch m)
 
--- an access at a near address is near
-pub word_near : (arch : Arch) (s : RegisterState) (load byte : Bool) (rn rd : ℕ) (to : Addressed) → is_near to.address ≡ true → IsNear (word_or_byte_meaning arch s load byte rn rd to).accesses
-word_near arch s true true rn rd to h = h
-word_near arch s true false rn rd to h = h
-word_near arch s false true rn rd to h = h
-word_near arch s false false rn rd to h = h
+-- an access at an address of RAM is one of RAM
+pub word_in_ram : (arch : Arch) (s : RegisterState) (load byte : Bool) (rn rd : ℕ) (to : Addressed) → is_ram to.address ≡ true → IsInRam (word_or_byte_meaning arch s load byte rn rd to).accesses
+word_in_ram arch s true true rn rd to h = h
+word_in_ram arch s true false rn rd to h = h
+word_in_ram arch s false true rn rd to h = h
+word_in_ram arch s false false rn rd to h = h
 
-pub half_near : (arch : Arch) (s : RegisterState) (op : HalfOp) (rn rd : ℕ) (to : Addressed) → is_near to.address ≡ true → IsNear (half_or_signed_meaning arch s op rn rd to).accesses
-half_near arch s Strh rn rd to h = h
-half_near arch s Ldrh rn rd to h = h
-half_near arch s Ldrsb rn rd to h = h
-half_near V5 s Ldrsh rn rd to h = h
-half_near V4 s Ldrsh rn rd to h = by_half (to.address % 2 == 0) where
-  by_half : (b : Bool) → IsNear (if b then load_meaning s rn rd to Half signed_half else load_meaning s rn rd to Byte signed_byte).accesses
+pub half_in_ram : (arch : Arch) (s : RegisterState) (op : HalfOp) (rn rd : ℕ) (to : Addressed) → is_ram to.address ≡ true → IsInRam (half_or_signed_meaning arch s op rn rd to).accesses
+half_in_ram arch s Strh rn rd to h = h
+half_in_ram arch s Ldrh rn rd to h = h
+half_in_ram arch s Ldrsb rn rd to h = h
+half_in_ram V5 s Ldrsh rn rd to h = h
+half_in_ram V4 s Ldrsh rn rd to h = by_half (to.address % 2 == 0) where
+  by_half : (b : Bool) → IsInRam (if b then load_meaning s rn rd to Half signed_half else load_meaning s rn rd to Byte signed_byte).accesses
   by_half true = h
   by_half false = h
 

@@ -20,9 +20,9 @@ use Rattle.arm_core.specs.declared.classes.Class.TheVariants.{Processing}
 use Rattle.arm_core.specs.declared.shifter.Shifted32.{Shifted32}
 use Rattle.arm_ops.specs.declared.operations.Op.{Op}
 use Rattle.arm_ops.specs.declared.operations.Op.TheVariants.{Other, DataNumber, DataRegister, DataShifted, CompareNumber, CompareRegister, CompareShifted, MoveNumber, MoveRegister, MoveShifted, Branch, Transfer, TransferBy, HalfTransfer, HalfTransferBy, Literal, Plain}
-use Rattle.arm_ops.specs.declared.operations.Ready.{Ready}
+use Rattle.arm_ops.specs.declared.operations.Operation.{Operation}
 
--- What operations mean. Nothing is defined anew: each is a meaning of the instructions', of operands that are made ready.
+-- What operations mean. Nothing is defined anew: each is a meaning of the instructions', of operands that are decoded.
 
 -- the second operand, and its carry
 abbrev pub number_operand : RegisterState → Bool → ℕ → Shifted32
@@ -75,24 +75,24 @@ op_meaning arch base s (Literal rd immed) = literal_meaning arch s rd immed
 op_meaning arch base s (Plain instr) = act_processing arch base s instr
 
 -- where its condition holds
-abbrev pub ready_meaning : Arch → ℕ → RegisterState → Ready → Meaning
-ready_meaning arch base s ready = if holds ready.cond s.cpsr then op_meaning arch base s ready.op else skipped s
+abbrev pub operation_meaning : Arch → ℕ → RegisterState → Operation → Meaning
+operation_meaning arch base s operation = if holds operation.cond s.cpsr then op_meaning arch base s operation.op else skipped s
 
--- the near memories: 2000000h to 3FFFFFFh, which hold main memory, the shared and ARM7's own work RAM, and no port (GBATEK, "DS Memory Map"; our choice of name)
-abbrev pub is_near : ℕ → Bool
-is_near at = at / 2 ^ 25 == 1
+-- RAM: 2000000h to 3FFFFFFh, which hold main memory, the shared and ARM7's own work RAM, and no port (GBATEK, "DS Memory Map")
+abbrev pub is_ram : ℕ → Bool
+is_ram at = at / 2 ^ 25 == 1
 
-abbrev pub IsNearAccess : Access → Type 0
-IsNearAccess (Fetch at width) = is_near at ≡ true
-IsNearAccess (Read at width) = is_near at ≡ true
-IsNearAccess (Write at width value) = is_near at ≡ true
+abbrev pub IsRamAccess : Access → Type 0
+IsRamAccess (Fetch at width) = is_ram at ≡ true
+IsRamAccess (Read at width) = is_ram at ≡ true
+IsRamAccess (Write at width value) = is_ram at ≡ true
 
--- at most one access is made, and it is of the near memories
-abbrev pub IsNear : List Access → Type 0
-IsNear [] = Unit {0}
-IsNear (access ∷ []) = IsNearAccess access
-IsNear (access ∷ other ∷ rest) = ⊥
+-- at most one access is made, and it is of RAM
+abbrev pub IsInRam : List Access → Type 0
+IsInRam [] = Unit {0}
+IsInRam (access ∷ []) = IsRamAccess access
+IsInRam (access ∷ other ∷ rest) = ⊥
 
--- a memory machine refuses no write of the near memories
-abbrev pub RefusesNoneNear : {S : Type 0} → MemoryMachine S → Type 0
-RefusesNoneNear {S} memory = (state : S) (at : ℕ) (width : Width) (value : ℕ) → is_near at ≡ true → memory.refusal state at width value ≡ None
+-- a memory machine refuses no write of RAM
+abbrev pub RefusesNoneInRam : {S : Type 0} → MemoryMachine S → Type 0
+RefusesNoneInRam {S} memory = (state : S) (at : ℕ) (width : Width) (value : ℕ) → is_ram at ≡ true → memory.refusal state at width value ≡ None

@@ -18,9 +18,9 @@ use Rattle.arm_core.specs.Shifter.{rotated_immediate}
 use Rattle.arm_core.specs.Thumb.{equivalent}
 use Rattle.arm_ops.specs.declared.operations.Op.{Op}
 use Rattle.arm_ops.specs.declared.operations.Op.TheVariants.{Other, DataNumber, DataRegister, DataShifted, CompareNumber, CompareRegister, CompareShifted, MoveNumber, MoveRegister, MoveShifted, Branch, Transfer, TransferBy, HalfTransfer, HalfTransferBy, Literal, Plain}
-use Rattle.arm_ops.specs.declared.operations.Ready.{Ready}
+use Rattle.arm_ops.specs.declared.operations.Operation.{Operation}
 
--- The operation that each instruction is made ready as (our choice of forms).
+-- The operation that each instruction is decoded as (our choice of forms).
 
 -- LSL by 0 leaves a register as it is
 abbrev pub is_plain : Shift → ℕ → Bool
@@ -76,10 +76,10 @@ abbrev pub is_other : Op → Bool
 is_other Other = true
 is_other _ = false
 
--- an instruction, or none, made ready; what isn't run here has the condition that always holds, so that its own needn't be asked for
-abbrev pub ready_of : Option Instr → Ready
-ready_of None = record { cond = Al; op = Other }
-ready_of (Some instr) = let op = op_of (equivalent instr) in record { cond = if is_other op then Al else condition instr; op = op }
+-- an instruction, or none, as an operation; what isn't run here has the condition that always holds, so that its own needn't be asked for
+abbrev pub operation_of : Option Instr → Operation
+operation_of None = record { cond = Al; op = Other }
+operation_of (Some instr) = let op = op_of (equivalent instr) in record { cond = if is_other op then Al else condition instr; op = op }
 
 -- an operation's fields are in their ranges
 abbrev pub HasOp : Op → Type 0
@@ -101,6 +101,6 @@ HasOp (HalfTransferBy op pre up write_back rn rd rm) = (rn < 16) × (rd < 16) ×
 HasOp (Literal rd immed) = rd < 16
 HasOp (Plain instr) = HasFields instr
 
--- and what is made ready keeps to them
-abbrev pub HasReady : Ready → Type 0
-HasReady ready = HasOp ready.op × (is_other ready.op ≡ true → ready.cond ≡ Al)
+-- and what is decoded keeps to them
+abbrev pub HasOperation : Operation → Type 0
+HasOperation operation = HasOp operation.op × (is_other operation.op ≡ true → operation.cond ≡ Al)

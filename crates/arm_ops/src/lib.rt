@@ -1,7 +1,7 @@
-//! Operations: the frequent instructions with their operands made ready, and what takes effect where.
+//! Operations: the frequent instructions with their operands made, and what takes effect where.
 //!
-//! A word is decoded once and made ready once; then it is run as often as it is fetched. What is run is exactly the instruction's meaning. What isn't frequent, needs what
-//! may be left out or reaches past the near memories isn't run here: then nothing is done, and the caller takes the instruction itself.
+//! A word is decoded once, to its instruction and then to its operation; then it is run as often as it is fetched. What is run is exactly the instruction's meaning. What isn't frequent, needs what
+//! may be left out or reaches past RAM isn't run here: then nothing is done, and the caller takes the instruction itself.
 #![tactic(auto)]
 
 mod making;
@@ -9,7 +9,7 @@ mod operations;
 mod reaching;
 mod running;
 
-pub use making::ready;
-pub use operations::{Op, Ready};
+pub use making::operation;
+pub use operations::{Op, Operation};
 pub use reaching::{is_other, run_anywhere, touched};
 pub use running::run;

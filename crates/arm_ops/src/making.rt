@@ -1,4 +1,4 @@
-//! Instructions made ready.
+//! Instructions made into operations.
 
 ghost use Rattle.std.specs.Prelude.{◌≡◌, ◌<◌, ℕ, IfSome, false, if◌then◌else◌};
 ghost use Rattle.arm_words.specs.Fields.{HasFields, HasOperand};
@@ -6,11 +6,11 @@ ghost use Rattle.arm_words.specs.declared.parts.Condition.TheVariants.{Al};
 ghost use Rattle.arm_core.specs.Meanings.{meaning};
 ghost use Rattle.ds_base.specs.declared.processors.Arch.{Arch};
 ghost use Rattle.arm_core.specs.Registers.{RegisterState};
-ghost use Rattle.arm_ops.specs.Meanings.{ready_meaning};
+ghost use Rattle.arm_ops.specs.Meanings.{operation_meaning};
 ghost use Rattle.arm_ops.specs.Operations as ops;
-ghost use Rattle.arm_ops.specs.Operations.{is_other, ready_of, HasOp, HasReady};
+ghost use Rattle.arm_ops.specs.Operations.{is_other, operation_of, HasOp, HasOperation};
 
-use crate::operations::{Op, Ready};
+use crate::operations::{Op, Operation};
 use arm_core::{condition, equivalent, rotated_immediate};
 use arm_exec::{distance8, distance11, distance24};
 use arm_words::{CompareOp, Condition, DataOp, Instr, MoveOp, Offset, Operand, Shift, ShortOffset};
@@ -258,33 +258,33 @@ fn op_of(instr: &Instr) -> Op
 }
 
 /// An operation with its condition, which for one that isn't run here always holds.
-fn ready_by(cond: Condition, op: Op) -> Ready
+fn operation_by(cond: Condition, op: Op) -> Operation
     ensures cond { result.cond ≡ (if is_other op then Al else cond) }
     ensures op { result.op ≡ op }
 {
     match op {
-        Op::Other => Ready {
+        Op::Other => Operation {
             cond: Condition::Al,
             op,
         },
-        _ => Ready { cond, op },
+        _ => Operation { cond, op },
     }
 }
 
-/// An instruction, or none, made ready to be run (our choice of forms). What is run of it means what the instruction means, on every architecture, with every base of the vectors and in
+/// An instruction, or none, as an operation to be run (our choice of forms). What is run of it means what the instruction means, on every architecture, with every base of the vectors and in
 /// every state of the registers.
-#[tactic(auto, using(crate::proofs::Fields::ready_fields, crate::proofs::Laws::ready_means))]
-pub fn ready(instr: Option<Instr>) -> Ready
+#[tactic(auto, using(crate::proofs::Fields::operation_fields, crate::proofs::Laws::operation_means))]
+pub fn operation(instr: Option<Instr>) -> Operation
     requires { IfSome instr HasFields }
-    ensures ready { result ≡ ready_of instr }
-    ensures fields { HasReady result }
-    ensures means { IfSome instr (λ i. (arch : Arch) → (base : ℕ) → (s : RegisterState) → is_other result.op ≡ false → meaning arch base s i ≡ ready_meaning arch base s result) }
+    ensures operation { result ≡ operation_of instr }
+    ensures fields { HasOperation result }
+    ensures means { IfSome instr (λ i. (arch : Arch) → (base : ℕ) → (s : RegisterState) → is_other result.op ≡ false → meaning arch base s i ≡ operation_meaning arch base s result) }
 {
     match instr {
-        None => Ready {
+        None => Operation {
             cond: Condition::Al,
             op: Op::Other,
         },
-        Some(instr) => ready_by(condition(&instr), op_of(&equivalent(&instr))),
+        Some(instr) => operation_by(condition(&instr), op_of(&equivalent(&instr))),
     }
 }

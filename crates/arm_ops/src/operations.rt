@@ -2,7 +2,7 @@
 
 use arm_words::{CompareOp, Condition, DataOp, HalfOp, Instr, MoveOp, Shift};
 
-/// What an instruction does where its condition holds, with its operands made ready. (Our choice of forms; the operations are those of the ARM manual's A4.1 under their
+/// What an instruction does where its condition holds, with its operands made. (Our choice of forms; the operations are those of the ARM manual's A4.1 under their
 /// names.) The second operand of data processing is a number, which with a rotation gives C as its bit 31; a register as it is; or a register that an amount
 /// shifts.
 #[derive(Clone, Copy)]
@@ -143,7 +143,7 @@ pub enum Op {
 
 /// An operation with the condition under which it takes effect.
 #[derive(Clone, Copy)]
-pub struct Ready {
+pub struct Operation {
     /// The condition.
     pub cond: Condition,
     /// The operation.

@@ -1,14 +1,14 @@
-//! Operations that may reach past the near memories.
+//! Operations that may reach past RAM.
 
 ghost use Rattle.std.specs.Prelude.{◌≡◌, ℕ, false};
 ghost use Rattle.arm_core.specs.Effects.{carried_out};
 ghost use Rattle.arm_core.specs.Footprints.{HasBytes, TellsNothing, accessed_bytes, touched_bytes};
-ghost use Rattle.arm_ops.specs.Meanings.{op_meaning, ready_meaning};
+ghost use Rattle.arm_ops.specs.Meanings.{op_meaning, operation_meaning};
 ghost use Rattle.arm_ops.specs.Operations as ops;
-ghost use Rattle.arm_ops.specs.Operations.{is_other, HasOp, HasReady};
+ghost use Rattle.arm_ops.specs.Operations.{is_other, HasOp, HasOperation};
 ghost use Rattle.arm_ops.specs.Inside.{Computes};
 
-use crate::operations::{Op, Ready};
+use crate::operations::{Op, Operation};
 use crate::running::{compute_on, shifted_operand, takes_effect};
 use arm_core::{
     Bus, Registers, Stepped, Touch, access_touch, addressed, half_touch, literal_address, width_by,
@@ -18,10 +18,10 @@ use ds_base::{Arch, Width};
 
 /// Whether it is an instruction that isn't run here.
 #[inline(always)]
-pub fn is_other(ready: &Ready) -> bool
-    ensures { result ≡ ops.is_other ready.now.op }
+pub fn is_other(operation: &Operation) -> bool
+    ensures { result ≡ ops.is_other operation.now.op }
 {
-    matches!(ready.op, Op::Other)
+    matches!(operation.op, Op::Other)
 }
 
 /// The bytes of an operation that takes effect.
@@ -102,15 +102,15 @@ fn op_touch(arch: Arch, s: &Registers, op: &Op) -> Touch
 
 /// The bytes that an operation's access reaches, told before it is run. It is `Nothing` exactly where there is no access, as where its
 /// condition fails.
-pub fn touched(arch: Arch, s: &Registers, ready: &Ready) -> Touch
-    requires { HasReady ready.now }
-    ensures bytes { (base : ℕ) → touched_bytes result ≡ accessed_bytes (ready_meaning arch base s.now ready.now).accesses }
-    ensures nothing { (base : ℕ) → TellsNothing result (ready_meaning arch base s.now ready.now).accesses }
+pub fn touched(arch: Arch, s: &Registers, operation: &Operation) -> Touch
+    requires { HasOperation operation.now }
+    ensures bytes { (base : ℕ) → touched_bytes result ≡ accessed_bytes (operation_meaning arch base s.now operation.now).accesses }
+    ensures nothing { (base : ℕ) → TellsNothing result (operation_meaning arch base s.now operation.now).accesses }
 {
-    if !takes_effect(ready.cond, s) {
+    if !takes_effect(operation.cond, s) {
         return Touch::Nothing;
     }
-    op_touch(arch, s, &ready.op)
+    op_touch(arch, s, &operation.op)
 }
 
 /// An operation that makes an access, wherever it is.
@@ -217,17 +217,17 @@ pub fn run_anywhere<B: Bus>(
     base: u32,
     s: &mut Registers,
     bus: &mut B,
-    ready: &Ready,
+    operation: &Operation,
 ) -> Stepped
-    requires ready { HasReady ready.now }
-    requires known { is_other ready.now.op ≡ false }
-    ensures registers { s.new ≡ (carried_out B.memory arch s.old (B.state bus.old) (ready_meaning arch base s.old ready.now)).registers }
-    ensures state { B.state bus.new ≡ (carried_out B.memory arch s.old (B.state bus.old) (ready_meaning arch base s.old ready.now)).state }
-    ensures stepped { result ≡ (carried_out B.memory arch s.old (B.state bus.old) (ready_meaning arch base s.old ready.now)).stepped }
+    requires operation { HasOperation operation.now }
+    requires known { is_other operation.now.op ≡ false }
+    ensures registers { s.new ≡ (carried_out B.memory arch s.old (B.state bus.old) (operation_meaning arch base s.old operation.now)).registers }
+    ensures state { B.state bus.new ≡ (carried_out B.memory arch s.old (B.state bus.old) (operation_meaning arch base s.old operation.now)).state }
+    ensures stepped { result ≡ (carried_out B.memory arch s.old (B.state bus.old) (operation_meaning arch base s.old operation.now)).stepped }
     ensures same { B.identity bus.new ≡ B.identity bus.old }
 {
-    if !takes_effect(ready.cond, s) {
+    if !takes_effect(operation.cond, s) {
         return Stepped::Cost(skip(arch, s));
     }
-    run_op(arch, base, s, bus, &ready.op)
+    run_op(arch, base, s, bus, &operation.op)
 }

@@ -9,12 +9,12 @@ ghost use Rattle.arm_core.specs.Meanings as meanings;
 ghost use Rattle.arm_core.specs.declared.outcomes.Stepped.TheVariants.{Cost};
 ghost use Rattle.arm_core.specs.Transfers.{half_or_signed_meaning, literal_meaning, word_or_byte_meaning};
 ghost use Rattle.arm_ops.specs.Meanings as ops;
-ghost use Rattle.arm_ops.specs.Meanings.{is_near, op_meaning, ready_meaning, IsNear, RefusesNoneNear};
+ghost use Rattle.arm_ops.specs.Meanings.{is_ram, op_meaning, operation_meaning, IsInRam, RefusesNoneInRam};
 ghost use Rattle.arm_ops.specs.Inside.{IsPaid};
-ghost use Rattle.arm_ops.specs.Operations.{is_other, HasOp, HasReady};
+ghost use Rattle.arm_ops.specs.Operations.{is_other, HasOp, HasOperation};
 ghost use Rattle.arm_ops.specs.Inside.{Computes};
 
-use crate::operations::{Op, Ready};
+use crate::operations::{Op, Operation};
 use arm_core::{
     Addressed, Bus, Class, Registers, Shifted32, Stepped, addressed, holds, literal_address,
     shift_by_number,
@@ -26,10 +26,10 @@ use arm_exec::{
 use arm_words::{CompareOp, Condition, DataOp, HalfOp, Instr, MoveOp, Shift};
 use ds_base::Arch;
 
-/// Whether an address is of the near memories, 2000000h to 3FFFFFFh (GBATEK, "DS Memory Map"; our choice of name).
+/// Whether an address is of RAM, 2000000h to 3FFFFFFh (GBATEK, "DS Memory Map").
 #[inline(always)]
-fn is_near(at: u32) -> bool
-    ensures { result ≡ is_near at }
+fn is_ram(at: u32) -> bool
+    ensures { result ≡ is_ram at }
 {
     at >> 25 == 1
 }
@@ -165,9 +165,9 @@ fn paid(stepped: Stepped) -> u32
     }
 }
 
-/// A load or store of a word or byte, where it is of the near memories; the result is its cost, and 0 where it isn't.
+/// A load or store of a word or byte, where it is of RAM; the result is its cost, and 0 where it isn't.
 #[inline(always)]
-fn near_transfer<B: Bus>(
+fn ram_transfer<B: Bus>(
     arch: Arch,
     s: &mut Registers,
     bus: &mut B,
@@ -179,23 +179,23 @@ fn near_transfer<B: Bus>(
 ) -> u32
     requires rn { rn < 16 }
     requires rd { rd < 16 }
-    requires near { RefusesNoneNear B.memory }
+    requires ram { RefusesNoneInRam B.memory }
     ensures none { result ≡ 0 → (s.new ≡ s.old) × (B.state bus.new ≡ B.state bus.old) }
     ensures registers { 0 < result → s.new ≡ (carried_out B.memory arch s.old (B.state bus.old) (word_or_byte_meaning arch s.old load byte rn rd to)).registers }
     ensures state { 0 < result → B.state bus.new ≡ (carried_out B.memory arch s.old (B.state bus.old) (word_or_byte_meaning arch s.old load byte rn rd to)).state }
     ensures stepped { 0 < result → (carried_out B.memory arch s.old (B.state bus.old) (word_or_byte_meaning arch s.old load byte rn rd to)).stepped ≡ Cost result }
-    ensures near { 0 < result → IsNear (word_or_byte_meaning arch s.old load byte rn rd to).accesses }
+    ensures ram { 0 < result → IsInRam (word_or_byte_meaning arch s.old load byte rn rd to).accesses }
     ensures same { B.identity bus.new ≡ B.identity bus.old }
 {
-    if !is_near(to.address) {
+    if !is_ram(to.address) {
         return 0;
     }
     paid(transfer_at(arch, s, bus, load, byte, rn, rd, to))
 }
 
-/// A load or store of a half, or a load of a signed byte or half, where it is of the near memories; the result is its cost, and 0 where it isn't.
+/// A load or store of a half, or a load of a signed byte or half, where it is of RAM; the result is its cost, and 0 where it isn't.
 #[inline(always)]
-fn near_half_transfer<B: Bus>(
+fn ram_half_transfer<B: Bus>(
     arch: Arch,
     s: &mut Registers,
     bus: &mut B,
@@ -206,33 +206,33 @@ fn near_half_transfer<B: Bus>(
 ) -> u32
     requires rn { rn < 16 }
     requires rd { rd < 16 }
-    requires near { RefusesNoneNear B.memory }
+    requires ram { RefusesNoneInRam B.memory }
     ensures none { result ≡ 0 → (s.new ≡ s.old) × (B.state bus.new ≡ B.state bus.old) }
     ensures registers { 0 < result → s.new ≡ (carried_out B.memory arch s.old (B.state bus.old) (half_or_signed_meaning arch s.old op rn rd to)).registers }
     ensures state { 0 < result → B.state bus.new ≡ (carried_out B.memory arch s.old (B.state bus.old) (half_or_signed_meaning arch s.old op rn rd to)).state }
     ensures stepped { 0 < result → (carried_out B.memory arch s.old (B.state bus.old) (half_or_signed_meaning arch s.old op rn rd to)).stepped ≡ Cost result }
-    ensures near { 0 < result → IsNear (half_or_signed_meaning arch s.old op rn rd to).accesses }
+    ensures ram { 0 < result → IsInRam (half_or_signed_meaning arch s.old op rn rd to).accesses }
     ensures same { B.identity bus.new ≡ B.identity bus.old }
 {
-    if !is_near(to.address) {
+    if !is_ram(to.address) {
         return 0;
     }
     paid(half_transfer_at(arch, s, bus, op, rn, rd, to))
 }
 
-/// Thumb's load of a word behind r15, where it is of the near memories; the result is its cost, and 0 where it isn't.
+/// Thumb's load of a word behind r15, where it is of RAM; the result is its cost, and 0 where it isn't.
 #[inline(always)]
-fn near_literal<B: Bus>(arch: Arch, s: &mut Registers, bus: &mut B, rd: u8, immed: u8) -> u32
+fn ram_literal<B: Bus>(arch: Arch, s: &mut Registers, bus: &mut B, rd: u8, immed: u8) -> u32
     requires rd { rd < 16 }
-    requires near { RefusesNoneNear B.memory }
+    requires ram { RefusesNoneInRam B.memory }
     ensures none { result ≡ 0 → (s.new ≡ s.old) × (B.state bus.new ≡ B.state bus.old) }
     ensures registers { 0 < result → s.new ≡ (carried_out B.memory arch s.old (B.state bus.old) (literal_meaning arch s.old rd immed)).registers }
     ensures state { 0 < result → B.state bus.new ≡ (carried_out B.memory arch s.old (B.state bus.old) (literal_meaning arch s.old rd immed)).state }
     ensures stepped { 0 < result → (carried_out B.memory arch s.old (B.state bus.old) (literal_meaning arch s.old rd immed)).stepped ≡ Cost result }
-    ensures near { 0 < result → IsNear (literal_meaning arch s.old rd immed).accesses }
+    ensures ram { 0 < result → IsInRam (literal_meaning arch s.old rd immed).accesses }
     ensures same { B.identity bus.new ≡ B.identity bus.old }
 {
-    if !is_near(literal_address(s, immed)) {
+    if !is_ram(literal_address(s, immed)) {
         return 0;
     }
     paid(literal(arch, s, bus, rd, immed))
@@ -365,24 +365,24 @@ pub(crate) fn compute_on<B: Bus, const FAR: u32>(
     ensures registers { 0 < result → s.new ≡ (carried_out B.memory arch s.old (B.state bus.old) (op_meaning arch base s.old op.now)).registers }
     ensures state { 0 < result → B.state bus.new ≡ (carried_out B.memory arch s.old (B.state bus.old) (op_meaning arch base s.old op.now)).state }
     ensures stepped { 0 < result → (carried_out B.memory arch s.old (B.state bus.old) (op_meaning arch base s.old op.now)).stepped ≡ Cost result }
-    ensures near { 0 < result → IsNear (op_meaning arch base s.old op.now).accesses }
+    ensures ram { 0 < result → IsInRam (op_meaning arch base s.old op.now).accesses }
     ensures same { B.identity bus.new ≡ B.identity bus.old }
 {
     let _ = bus;
     compute::<B, FAR>(arch, base, s, op)
 }
 
-/// An operation that makes an access, where that is near; the result is its cost, and 0 where it isn't or none is made.
+/// An operation that makes an access, where that is of RAM; the result is its cost, and 0 where it isn't or none is made.
 #[inline(always)]
 fn access<B: Bus>(arch: Arch, base: u32, s: &mut Registers, bus: &mut B, op: &Op) -> u32
     requires fields { HasOp op.now }
-    requires near { RefusesNoneNear B.memory }
+    requires ram { RefusesNoneInRam B.memory }
     ensures none { result ≡ 0 → (s.new ≡ s.old) × (B.state bus.new ≡ B.state bus.old) }
     ensures known { 0 < result → is_other op.now ≡ false }
     ensures registers { 0 < result → s.new ≡ (carried_out B.memory arch s.old (B.state bus.old) (op_meaning arch base s.old op.now)).registers }
     ensures state { 0 < result → B.state bus.new ≡ (carried_out B.memory arch s.old (B.state bus.old) (op_meaning arch base s.old op.now)).state }
     ensures stepped { 0 < result → (carried_out B.memory arch s.old (B.state bus.old) (op_meaning arch base s.old op.now)).stepped ≡ Cost result }
-    ensures near { 0 < result → IsNear (op_meaning arch base s.old op.now).accesses }
+    ensures ram { 0 < result → IsInRam (op_meaning arch base s.old op.now).accesses }
     ensures same { B.identity bus.new ≡ B.identity bus.old }
 {
     let _ = base;
@@ -398,7 +398,7 @@ fn access<B: Bus>(arch: Arch, base: u32, s: &mut Registers, bus: &mut B, op: &Op
             offset,
         } => {
             let to = addressed(s, pre, up, write_back, rn, offset as u32);
-            near_transfer(arch, s, bus, load, byte, rn, rd, to)
+            ram_transfer(arch, s, bus, load, byte, rn, rd, to)
         }
         Op::TransferBy {
             pre,
@@ -414,7 +414,7 @@ fn access<B: Bus>(arch: Arch, base: u32, s: &mut Registers, bus: &mut B, op: &Op
         } => {
             let offset = shifted_operand(s, rm, shift, amount).value;
             let to = addressed(s, pre, up, write_back, rn, offset);
-            near_transfer(arch, s, bus, load, byte, rn, rd, to)
+            ram_transfer(arch, s, bus, load, byte, rn, rd, to)
         }
         Op::HalfTransfer {
             op,
@@ -426,7 +426,7 @@ fn access<B: Bus>(arch: Arch, base: u32, s: &mut Registers, bus: &mut B, op: &Op
             offset,
         } => {
             let to = addressed(s, pre, up, write_back, rn, offset as u32);
-            near_half_transfer(arch, s, bus, op, rn, rd, to)
+            ram_half_transfer(arch, s, bus, op, rn, rd, to)
         }
         Op::HalfTransferBy {
             op,
@@ -438,9 +438,9 @@ fn access<B: Bus>(arch: Arch, base: u32, s: &mut Registers, bus: &mut B, op: &Op
             rm,
         } => {
             let to = addressed(s, pre, up, write_back, rn, s.get(rm));
-            near_half_transfer(arch, s, bus, op, rn, rd, to)
+            ram_half_transfer(arch, s, bus, op, rn, rd, to)
         }
-        Op::Literal { rd, immed } => near_literal(arch, s, bus, rd, immed),
+        Op::Literal { rd, immed } => ram_literal(arch, s, bus, rd, immed),
         Op::Other
         | Op::DataNumber { .. }
         | Op::DataRegister { .. }
@@ -460,13 +460,13 @@ fn access<B: Bus>(arch: Arch, base: u32, s: &mut Registers, bus: &mut B, op: &Op
 #[inline(always)]
 fn run_op<B: Bus>(arch: Arch, base: u32, s: &mut Registers, bus: &mut B, op: &Op) -> u32
     requires fields { HasOp op.now }
-    requires near { RefusesNoneNear B.memory }
+    requires ram { RefusesNoneInRam B.memory }
     ensures none { result ≡ 0 → (s.new ≡ s.old) × (B.state bus.new ≡ B.state bus.old) }
     ensures known { 0 < result → is_other op.now ≡ false }
     ensures registers { 0 < result → s.new ≡ (carried_out B.memory arch s.old (B.state bus.old) (op_meaning arch base s.old op.now)).registers }
     ensures state { 0 < result → B.state bus.new ≡ (carried_out B.memory arch s.old (B.state bus.old) (op_meaning arch base s.old op.now)).state }
     ensures stepped { 0 < result → (carried_out B.memory arch s.old (B.state bus.old) (op_meaning arch base s.old op.now)).stepped ≡ Cost result }
-    ensures near { 0 < result → IsNear (op_meaning arch base s.old op.now).accesses }
+    ensures ram { 0 < result → IsInRam (op_meaning arch base s.old op.now).accesses }
     ensures same { B.identity bus.new ≡ B.identity bus.old }
 {
     let clocks = compute_on::<B, 0>(arch, base, s, bus, op);
@@ -476,22 +476,22 @@ fn run_op<B: Bus>(arch: Arch, base: u32, s: &mut Registers, bus: &mut B, op: &Op
     access(arch, base, s, bus, op)
 }
 
-/// Runs an operation over a bus that refuses no write of the near memories, with the base of the vectors, where it is one that is run here: another instruction isn't, nor an
-/// access that isn't of the near memories. The result is its cost in the processor's own clocks; 0 where it isn't run, and then nothing is changed.
+/// Runs an operation over a bus that refuses no write of RAM, with the base of the vectors, where it is one that is run here: another instruction isn't, nor an
+/// access that isn't of RAM. The result is its cost in the processor's own clocks; 0 where it isn't run, and then nothing is changed.
 #[inline(always)]
-pub fn run<B: Bus>(arch: Arch, base: u32, s: &mut Registers, bus: &mut B, ready: &Ready) -> u32
-    requires ready { HasReady ready.now }
-    requires near { RefusesNoneNear B.memory }
+pub fn run<B: Bus>(arch: Arch, base: u32, s: &mut Registers, bus: &mut B, operation: &Operation) -> u32
+    requires operation { HasOperation operation.now }
+    requires ram { RefusesNoneInRam B.memory }
     ensures none { result ≡ 0 → (s.new ≡ s.old) × (B.state bus.new ≡ B.state bus.old) }
-    ensures known { 0 < result → is_other ready.now.op ≡ false }
-    ensures registers { 0 < result → s.new ≡ (carried_out B.memory arch s.old (B.state bus.old) (ready_meaning arch base s.old ready.now)).registers }
-    ensures state { 0 < result → B.state bus.new ≡ (carried_out B.memory arch s.old (B.state bus.old) (ready_meaning arch base s.old ready.now)).state }
-    ensures stepped { 0 < result → (carried_out B.memory arch s.old (B.state bus.old) (ready_meaning arch base s.old ready.now)).stepped ≡ Cost result }
-    ensures near { 0 < result → IsNear (ready_meaning arch base s.old ready.now).accesses }
+    ensures known { 0 < result → is_other operation.now.op ≡ false }
+    ensures registers { 0 < result → s.new ≡ (carried_out B.memory arch s.old (B.state bus.old) (operation_meaning arch base s.old operation.now)).registers }
+    ensures state { 0 < result → B.state bus.new ≡ (carried_out B.memory arch s.old (B.state bus.old) (operation_meaning arch base s.old operation.now)).state }
+    ensures stepped { 0 < result → (carried_out B.memory arch s.old (B.state bus.old) (operation_meaning arch base s.old operation.now)).stepped ≡ Cost result }
+    ensures ram { 0 < result → IsInRam (operation_meaning arch base s.old operation.now).accesses }
     ensures same { B.identity bus.new ≡ B.identity bus.old }
 {
-    if !takes_effect(ready.cond, s) {
+    if !takes_effect(operation.cond, s) {
         return skip(arch, s);
     }
-    run_op(arch, base, s, bus, &ready.op)
+    run_op(arch, base, s, bus, &operation.op)
 }

@@ -2,8 +2,8 @@ use Rattle.std.specs.Prelude.{ℕ, ◌+◌, ◌-◌, ◌*◌, ◌/◌, ◌%◌, 
 use Rattle.ds_base.specs.declared.memories.Width.{Width}
 use Rattle.ds_base.specs.declared.memories.Width.TheVariants.{Byte, Half, Word}
 
--- Numbers as bytes, the least significant first (ARM manual, A2.7 "Memory and memory-mapped I/O": little-endian), and how wide an
--- access is.
+-- Numbers as bytes, the least significant first (ARM manual, A2.7 "Endian support": little-endian), and how wide an access is (A2.8
+-- "Unaligned access support").
 
 -- so many zeros; it doesn't unfold by itself, since memories are large
 unfoldable pub zeroes : ℕ → List ℕ

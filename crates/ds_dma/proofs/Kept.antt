@@ -44,13 +44,13 @@ wider n h = omega (arith, h)
 emptied_is : (proc : Proc) (which : ℕ) (c : ChannelState) (control : ℕ) → IsChannel proc which c → kept_channel_control proc which control ≡ control
     → is_enabled control ≡ false → IsChannel proc which (emptied c control)
 emptied_is proc which c control is kept off = record {
-  source = is.source;
-  target = is.target;
-  control = kept;
+  sad = is.sad;
+  dad = is.dad;
+  cnt = kept;
   built = left_false (is_enabled control) (is_not_yet proc control) off;
   from = omega arith;
   to = omega arith;
-  left = omega arith;
+  remaining = omega arith;
   some = λ on. never (is_enabled control) on off;
   none = λ e. (refl, refl, refl, refl);
 }
@@ -58,13 +58,13 @@ emptied_is proc which c control is kept off = record {
 latched_is : (proc : Proc) (which : ℕ) (c : ChannelState) (control : ℕ) (now : Tick) → IsChannel proc which c → kept_channel_control proc which control ≡ control
     → (is_enabled control && is_not_yet proc control) ≡ false → is_enabled control ≡ true → IsChannel proc which (latched proc which c control now)
 latched_is proc which c control now is kept built on = record {
-  source = is.source;
-  target = is.target;
-  control = kept;
+  sad = is.sad;
+  dad = is.dad;
+  cnt = kept;
   built = built;
-  from = wider c.source is.source;
-  to = wider c.target is.target;
-  left = units_within proc which control;
+  from = wider c.sad is.sad;
+  to = wider c.dad is.dad;
+  remaining = units_within proc which control;
   some = λ e. units_some proc which control;
   none = λ off. never (is_enabled control) on off;
 }
@@ -74,15 +74,15 @@ controlled_is : (proc : Proc) (which : ℕ) (c : ChannelState) (control : ℕ) (
 controlled_is proc which c control now is kept built =
     let P : ChannelState → Type 0 = IsChannel proc which in
     either P (is_enabled control) _ _
-    (λ on. either P (is_enabled c.control) _ _
+    (λ on. either P (is_enabled c.cnt) _ _
     (λ was. record {
-      source = is.source;
-      target = is.target;
-      control = kept;
+      sad = is.sad;
+      dad = is.dad;
+      cnt = kept;
       built = built;
       from = is.from;
       to = is.to;
-      left = is.left;
+      remaining = is.remaining;
       some = λ e. is.some was;
       none = λ off. never (is_enabled control) on off;
     })
@@ -101,47 +101,47 @@ built_by proc old control h = not_refused (is_enabled control && is_not_yet proc
 pub written_is : (proc : Proc) (which : ℕ) (port : DmaPort) (value : ℕ) (now : Tick) (c : ChannelState) → IsChannel proc which c
     → channel_refusal proc which port value c ≡ None → IsChannel proc which (channel_set proc which port value now c)
 written_is proc which Source value now c is h = record {
-  source = omega arith;
-  target = is.target;
-  control = is.control;
+  sad = omega arith;
+  dad = is.dad;
+  cnt = is.cnt;
   built = is.built;
   from = is.from;
   to = is.to;
-  left = is.left;
+  remaining = is.remaining;
   some = is.some;
   none = is.none;
 }
 written_is proc which Target value now c is h = record {
-  source = is.source;
-  target = omega arith;
-  control = is.control;
+  sad = is.sad;
+  dad = omega arith;
+  cnt = is.cnt;
   built = is.built;
   from = is.from;
   to = is.to;
-  left = is.left;
+  remaining = is.remaining;
   some = is.some;
   none = is.none;
 }
 written_is proc which Control value now c is h =
     let control = kept_channel_control proc which value in
-    controlled_is proc which c control now is (kept_twice proc which value) (built_by proc c.control control h)
+    controlled_is proc which c control now is (kept_twice proc which value) (built_by proc c.cnt control h)
 
 -- after an event it is a channel still
 pub triggered_is : (proc : Proc) (which : ℕ) (cause : Cause) (now : Tick) (c : ChannelState) → IsChannel proc which c
     → IsChannel proc which (triggered proc cause now c)
 triggered_is proc which cause now c is =
     either (IsChannel proc which) (is_triggered proc cause c) _ _
-    (λ e. (let waits = (both (is_enabled c.control && waits_for proc cause c.control) (not (is_running c)) e).0 in
-    let on = (both (is_enabled c.control) (waits_for proc cause c.control) waits).0 in record {
-      source = is.source;
-      target = is.target;
-      control = is.control;
+    (λ e. (let waits = (both (is_enabled c.cnt && waits_for proc cause c.cnt) (not (is_running c)) e).0 in
+    let on = (both (is_enabled c.cnt) (waits_for proc cause c.cnt) waits).0 in record {
+      sad = is.sad;
+      dad = is.dad;
+      cnt = is.cnt;
       built = is.built;
       from = is.from;
       to = is.to;
-      left = is.left;
+      remaining = is.remaining;
       some = is.some;
-      none = λ off. never (is_enabled c.control) on off;
+      none = λ off. never (is_enabled c.cnt) on off;
     }))
     (λ e. is)
 
@@ -153,39 +153,39 @@ chosen_below true x y h i = h
 chosen_below false x y h i = i
 
 -- and so it is after its first unit
-pub taken_is : (proc : Proc) (which : ℕ) (c : ChannelState) → IsChannel proc which c → is_enabled c.control ≡ true → IsChannel proc which (after_unit proc which c)
+pub taken_is : (proc : Proc) (which : ℕ) (c : ChannelState) → IsChannel proc which c → is_enabled c.cnt ≡ true → IsChannel proc which (after_unit proc which c)
 taken_is proc which c is on =
     let P : ChannelState → Type 0 = IsChannel proc which in
     either P (not (is_last_unit c)) _ _
-    (λ e. (let ne = unequal_numbers c.left 1 (not_true (is_last_unit c) e) in record {
-      source = is.source;
-      target = is.target;
-      control = is.control;
+    (λ e. (let ne = unequal_numbers c.remaining 1 (not_true (is_last_unit c) e) in record {
+      sad = is.sad;
+      dad = is.dad;
+      cnt = is.cnt;
       built = is.built;
       from = modulo_below _;
       to = modulo_below _;
-      left = omega (arith, is.left);
+      remaining = omega (arith, is.remaining);
       some = λ f. omega (arith, ne, is.some f);
-      none = λ off. never (is_enabled c.control) on off;
+      none = λ off. never (is_enabled c.cnt) on off;
     }))
-    (λ e. either P (is_armed_again proc c.control) _ _
+    (λ e. either P (is_armed_again proc c.cnt) _ _
     (λ f. record {
-      source = is.source;
-      target = is.target;
-      control = is.control;
+      sad = is.sad;
+      dad = is.dad;
+      cnt = is.cnt;
       built = is.built;
       from = modulo_below _;
-      to = chosen_below (latches_again c.control) c.target (next_to c) (wider c.target is.target) (modulo_below _);
-      left = units_within proc which c.control;
-      some = λ g. units_some proc which c.control;
-      none = λ off. never (is_enabled c.control) on off;
+      to = chosen_below (latches_again c.cnt) c.dad (next_to c) (wider c.dad is.dad) (modulo_below _);
+      remaining = units_within proc which c.cnt;
+      some = λ g. units_some proc which c.cnt;
+      none = λ off. never (is_enabled c.cnt) on off;
     })
-    (λ f. emptied_is proc which c (disabled c.control) is (disabled_kept proc which c.control is.control) (disabled_is_off c.control)))
+    (λ f. emptied_is proc which c (disabled c.cnt) is (disabled_kept proc which c.cnt is.cnt) (disabled_is_off c.cnt)))
 
 by_enable : (b : Bool) (trigger : Option Tick) → (b ≡ false → trigger ≡ None) → is_some trigger ≡ true → b ≡ true
 by_enable true trigger f r = refl
 by_enable false trigger f r = never (is_some trigger) r (ap is_some (f refl))
 
 -- only a channel that is enabled runs
-pub runs_on : (proc : Proc) (which : ℕ) (c : ChannelState) → IsChannel proc which c → is_running c ≡ true → is_enabled c.control ≡ true
-runs_on proc which c is r = by_enable (is_enabled c.control) c.trigger (λ e. (is.none e).3) r
+pub runs_on : (proc : Proc) (which : ℕ) (c : ChannelState) → IsChannel proc which c → is_running c ≡ true → is_enabled c.cnt ≡ true
+runs_on proc which c is r = by_enable (is_enabled c.cnt) c.trigger (λ e. (is.none e).3) r

@@ -16,7 +16,7 @@ shifted first step i =
 
 -- what is left of a channel but its first unit
 abbrev rest_of : ChannelState → ChannelState
-rest_of c = record c { from = next_from c; to = next_to c; left = c.left - 1 }
+rest_of c = record c { from = next_from c; to = next_to c; remaining = c.remaining - 1 }
 
 unit_shifted : (c : ChannelState) (i : ℕ) → unit_of c (i + 1) ≡ unit_of (rest_of c) i
 unit_shifted c i =
@@ -32,12 +32,12 @@ first_of a zero h = absurd (omega (arith, h))
 first_of a (suc n) h = (let one_less : n ≡ suc n - 1 = omega arith in ap (λ k. a ∷ range_with_len (a + 1) k) one_less)
 
 -- A PLAN'S FIRST UNIT AND ITS REST: the rest is the plan of the running addresses one unit on
-pub plan_splits : (c : ChannelState) → 1 ≤ c.left → plan_of c ≡ unit_of c 0 ∷ plan_of (rest_of c)
+pub plan_splits : (c : ChannelState) → 1 ≤ c.remaining → plan_of c ≡ unit_of c 0 ∷ plan_of (rest_of c)
 unfolding plan_of
 plan_splits c h =
-    ap (map (unit_of c)) (first_of 0 c.left h) ∙ ap (λ xs. unit_of c 0 ∷ xs) (mapped (unit_of c) (unit_of (rest_of c)) (unit_shifted c) 0 (c.left - 1))
+    ap (map (unit_of c)) (first_of 0 c.remaining h) ∙ ap (λ xs. unit_of c 0 ∷ xs) (mapped (unit_of c) (unit_of (rest_of c)) (unit_shifted c) 0 (c.remaining - 1))
 
-plan_ends : (c : ChannelState) → c.left ≡ 0 → plan_of c ≡ []
+plan_ends : (c : ChannelState) → c.remaining ≡ 0 → plan_of c ≡ []
 unfolding plan_of
 plan_ends c h = ap (λ n. map (unit_of c) (range_with_len 0 n)) h
 
@@ -48,30 +48,30 @@ there n step h = (let none : n + step * 0 ≡ n = grind arith in ap (λ k. k % 2
 below : (n : ℕ) → n % 2 ^ 32 < 2 ^ 32
 below n = omega arith
 
-took_more : (proc : Proc) (which : ℕ) (c : ChannelState) → 2 ≤ c.left → TakesUnit proc which c (rest_of c)
+took_more : (proc : Proc) (which : ℕ) (c : ChannelState) → 2 ≤ c.remaining → TakesUnit proc which c (rest_of c)
 took_more proc which c h =
     let rest = rest_of c in
     let splits = plan_splits rest (omega (arith, h)) in
     more (unit_of c 0) (unit_of rest 0) (plan_of (rest_of rest))
     (plan_splits c (omega (arith, h)) ∙ ap (λ xs. unit_of c 0 ∷ xs) splits)
     splits
-    (ap (λ n. record c { from = n; to = next_to c; left = c.left - 1 }) (sym (there (next_from c) (source_step c) (below (c.from + source_step c * 1))))
-    ∙ ap (λ n. record c { from = (unit_of rest 0).from; to = n; left = c.left - 1 }) (sym (there (next_to c) (target_step c) (below (c.to + target_step c * 1)))))
+    (ap (λ n. record c { from = n; to = next_to c; remaining = c.remaining - 1 }) (sym (there (next_from c) (source_step c) (below (c.from + source_step c * 1))))
+    ∙ ap (λ n. record c { from = (unit_of rest 0).from; to = n; remaining = c.remaining - 1 }) (sym (there (next_to c) (target_step c) (below (c.to + target_step c * 1)))))
 
-only_one : (c : ChannelState) → c.left ≡ 1 → plan_of c ≡ unit_of c 0 ∷ []
+only_one : (c : ChannelState) → c.remaining ≡ 1 → plan_of c ≡ unit_of c 0 ∷ []
 only_one c h = plan_splits c (omega (arith, h)) ∙ ap (λ xs. unit_of c 0 ∷ xs) (plan_ends (rest_of c) (omega (arith, h)))
 
 -- a channel that has units left takes the first one
-pub takes : (proc : Proc) (which : ℕ) (c : ChannelState) → 1 ≤ c.left → TakesUnit proc which c (after_unit proc which c)
+pub takes : (proc : Proc) (which : ℕ) (c : ChannelState) → 1 ≤ c.remaining → TakesUnit proc which c (after_unit proc which c)
 takes proc which c h =
     let P : ChannelState → Type 0 = TakesUnit proc which c in
     either P (not (is_last_unit c)) _ _
-    (λ e. took_more proc which c (let ne = unequal_numbers c.left 1 (not_true (is_last_unit c) e) in omega (arith, h, ne)))
-    (λ e. (let one = equal_numbers c.left 1 (not_false (is_last_unit c) e) in
-    either P (is_armed_again proc c.control) _ _
+    (λ e. took_more proc which c (let ne = unequal_numbers c.remaining 1 (not_true (is_last_unit c) e) in omega (arith, h, ne)))
+    (λ e. (let one = equal_numbers c.remaining 1 (not_false (is_last_unit c) e) in
+    either P (is_armed_again proc c.cnt) _ _
     (λ f. again (unit_of c 0) (only_one c one) f refl)
-    (λ f. ends (unit_of c 0) (only_one c one) f (plan_ends (emptied c (disabled c.control)) refl) refl)))
+    (λ f. ends (unit_of c 0) (only_one c one) f (plan_ends (emptied c (disabled c.cnt)) refl) refl)))
 
 -- and that one is where it stands
-pub has_first : (c : ChannelState) → 1 ≤ c.left → (rest : List DmaUnit) × (plan_of c ≡ unit_of c 0 ∷ rest)
+pub has_first : (c : ChannelState) → 1 ≤ c.remaining → (rest : List DmaUnit) × (plan_of c ≡ unit_of c 0 ∷ rest)
 has_first c h = (plan_of (rest_of c), plan_splits c h)

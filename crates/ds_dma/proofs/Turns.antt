@@ -1,13 +1,13 @@
 use Rattle.std.proofs.Common.{ℕ, ◌≡◌, ◌<◌, ◌≤◌, inl, inr, List, map, slice_set, refl, sym, ◌∙◌, subst, ap, arith, Bool, true, false, Option, Some, None}
 use Rattle.std.specs.Prelude.{◌==◌, if◌then◌else◌, is_some, IsSome}
-use Rattle.std.proofs.Math.Nat.{le-max_left, le-max_right}
+use Rattle.std.proofs.Math.Nat.{le-max_remaining, le-max_right}
 use Rattle.ds_base.specs.Schedules.{IsLater, Reschedules}
 use Rattle.ds_base.specs.declared.processors.Proc.{Proc}
 use Rattle.ds_base.specs.declared.ticks.Tick.{Tick}
 use Rattle.ds_dma.specs.declared.controls.Cause.{Cause}
 use Rattle.ds_dma.specs.declared.controls.DmaPort.{DmaPort}
 use Rattle.ds_dma.specs.declared.controls.DmaPort.TheVariants.{Source, Target, Control}
-use Rattle.ds_dma.specs.Controls.{kept_channel_control, is_enabled, starts_at_once}
+use Rattle.ds_dma.specs.Controls.{kept_channel_control, is_enabled, starts_immediately}
 use Rattle.ds_dma.specs.Channels.{ChannelState, is_running, channel_controlled, channel_set, is_triggered, triggered, ready, ready_by}
 use Rattle.ds_dma.specs.States.{DmaState, IsDma, AreReadyLater, channel_at, dma_triggered, least_running, channel_due, due_with, dma_due, due_channel, dma_finished}
 use Rattle.ds_dma.proofs.Choices.{either, never, equal_numbers, equal_self}
@@ -17,7 +17,7 @@ use Rattle.ds_dma.proofs.Fours.{set_holds, at_mapped}
 -- a channel that is triggered at a tick is ready later
 triggered_later : (last : Option Tick) (now : Tick) → IsLater now (ready_by last (Some now))
 triggered_later None now = omega arith
-triggered_later (Some last) now = omega (arith, le-max_left now.0 last.0)
+triggered_later (Some last) now = omega (arith, le-max_remaining now.0 last.0)
 
 -- after a unit at a tick each channel is ready later
 pub later_after_unit : (now : Tick) (trigger : Option Tick) → IsLater now (ready_by (Some now) trigger)
@@ -38,8 +38,8 @@ controlled_later : (proc : Proc) (which : ℕ) (c : ChannelState) (control : ℕ
 controlled_later proc which c control now last h =
     let P : ChannelState → Type 0 = λ x. IsLater now (ready last x) in
     either P (is_enabled control) _ _
-    (λ on. either P (is_enabled c.control) _ _ (λ was. h)
-    (λ was. either (λ o. IsLater now (ready_by last o)) (starts_at_once proc control) _ _ (λ e. triggered_later last now) (λ e. tt)))
+    (λ on. either P (is_enabled c.cnt) _ _ (λ was. h)
+    (λ was. either (λ o. IsLater now (ready_by last o)) (starts_immediately proc control) _ _ (λ e. triggered_later last now) (λ e. tt)))
     (λ off. tt)
 
 set_later : (proc : Proc) (which : ℕ) (port : DmaPort) (value : ℕ) (now : Tick) (c : ChannelState) (last : Option Tick) → IsLater now (ready last c)
@@ -149,5 +149,5 @@ due_is_on s is due =
     let which = least_running s.channels in
     runs_on s.proc which (due_channel s) (is.each which (least_below s.channels)) (due_runs which s.last (due_channel s).trigger due)
 
-pub due_has_some : (s : DmaState) → IsDma s → IsSome (dma_due s) → 1 ≤ (due_channel s).left
+pub due_has_some : (s : DmaState) → IsDma s → IsSome (dma_due s) → 1 ≤ (due_channel s).remaining
 due_has_some s is due = (is.each (least_running s.channels) (least_below s.channels)).some (due_is_on s is due)

@@ -8,23 +8,23 @@ use Rattle.ds_base.specs.declared.left_out.Stop.{Stop}
 use Rattle.ds_dma.specs.declared.controls.Cause.{Cause}
 use Rattle.ds_dma.specs.declared.controls.DmaPort.{DmaPort}
 use Rattle.ds_dma.specs.declared.controls.DmaPort.TheVariants.{Source, Target, Control}
-use Rattle.ds_dma.specs.Controls.{kept_address, kept_channel_control, refusal, greatest_count, units_counted, is_enabled, interrupts, disabled, unit_width, unit_bytes, target_mode, source_mode, latches_again, address_step, starts_at_once, is_armed_again, waits_for, is_not_yet, channel_interrupt}
+use Rattle.ds_dma.specs.Controls.{kept_address, kept_channel_control, refusal, greatest_count, units_counted, is_enabled, interrupts, disabled, unit_width, unit_bytes, target_mode, source_mode, latches_again, address_step, starts_immediately, is_armed_again, waits_for, is_not_yet, channel_interrupt}
 
 -- A channel (GBATEK, "GBA DMA Transfers" and "DS DMA Transfers"): its source, target and control as they are kept. While it is enabled it also has
 -- the next unit's source and target and the number of units left, and while it runs the tick at which it was triggered. One that isn't enabled has
 -- 0 and no tick there.
 pub record ChannelState : Type 0 where
-  pub source : ℕ
-  pub target : ℕ
-  pub control : ℕ
+  pub sad : ℕ
+  pub dad : ℕ
+  pub cnt : ℕ
   pub from : ℕ
   pub to : ℕ
-  pub left : ℕ
+  pub remaining : ℕ
   pub trigger : Option Tick
 
 -- all is 0 at boot (our choice)
 abbrev pub channel_at_boot : ChannelState
-channel_at_boot = record { source = 0; target = 0; control = 0; from = 0; to = 0; left = 0; trigger = None }
+channel_at_boot = record { sad = 0; dad = 0; cnt = 0; from = 0; to = 0; remaining = 0; trigger = None }
 
 -- it runs: it was triggered, and its end hasn't come
 abbrev pub is_running : ChannelState → Bool
@@ -36,54 +36,54 @@ abbrev pub address_of : ℕ → ℕ → ℕ → ℕ
 address_of first step i = (first + step * i) % 2 ^ 32
 
 abbrev pub source_step : ChannelState → ℕ
-source_step c = address_step (source_mode c.control) (unit_bytes c.control)
+source_step c = address_step (source_mode c.cnt) (unit_bytes c.cnt)
 
 abbrev pub target_step : ChannelState → ℕ
-target_step c = address_step (target_mode c.control) (unit_bytes c.control)
+target_step c = address_step (target_mode c.cnt) (unit_bytes c.cnt)
 
 abbrev pub unit_of : ChannelState → ℕ → DmaUnit
-unit_of c i = record { from = address_of c.from (source_step c) i; to = address_of c.to (target_step c) i; width = unit_width c.control }
+unit_of c i = record { from = address_of c.from (source_step c) i; to = address_of c.to (target_step c) i; width = unit_width c.cnt }
 
 -- THE TRANSFER PLAN. A channel stands for the units that it has left, in the order in which it moves them. Widths and modes are those of its
 -- control as it stands (our choice). One that isn't enabled stands for none.
 unfoldable pub plan_of : ChannelState → List DmaUnit
-plan_of c = map (unit_of c) (range_with_len 0 c.left)
+plan_of c = map (unit_of c) (range_with_len 0 c.remaining)
 
 -- what holds of each of the four channels at every time
 pub record IsChannel (proc : Proc) (which : ℕ) (c : ChannelState) : Type 0 where
-  pub source : c.source < 2 ^ 28
-  pub target : c.target < 2 ^ 28
-  pub control : kept_channel_control proc which c.control ≡ c.control
-  pub built : is_enabled c.control && is_not_yet proc c.control ≡ false
+  pub sad : c.sad < 2 ^ 28
+  pub dad : c.dad < 2 ^ 28
+  pub cnt : kept_channel_control proc which c.cnt ≡ c.cnt
+  pub built : is_enabled c.cnt && is_not_yet proc c.cnt ≡ false
   pub from : c.from < 2 ^ 32
   pub to : c.to < 2 ^ 32
-  pub left : c.left ≤ greatest_count proc which + 1
-  pub some : is_enabled c.control ≡ true → 1 ≤ c.left
-  pub none : is_enabled c.control ≡ false → (c.from ≡ 0) × (c.to ≡ 0) × (c.left ≡ 0) × (c.trigger ≡ None)
+  pub remaining : c.remaining ≤ greatest_count proc which + 1
+  pub some : is_enabled c.cnt ≡ true → 1 ≤ c.remaining
+  pub none : is_enabled c.cnt ≡ false → (c.from ≡ 0) × (c.to ≡ 0) × (c.remaining ≡ 0) × (c.trigger ≡ None)
 
 -- A channel is enabled at a tick, with this control: it takes its source, its target and its count (GBATEK, "GBA DMA Transfers"), and runs from
 -- that tick on where it starts at once.
 abbrev pub latched : Proc → ℕ → ChannelState → ℕ → Tick → ChannelState
 latched proc which c control now = record c {
-  control = control;
-  from = c.source;
-  to = c.target;
-  left = units_counted proc which control;
-  trigger = if starts_at_once proc control then Some now else None;
+  cnt = control;
+  from = c.sad;
+  to = c.dad;
+  remaining = units_counted proc which control;
+  trigger = if starts_immediately proc control then Some now else None;
 }
 
 -- it stops standing for any units
 abbrev pub emptied : ChannelState → ℕ → ChannelState
-emptied c control = record c { control = control; from = 0; to = 0; left = 0; trigger = None }
+emptied c control = record c { cnt = control; from = 0; to = 0; remaining = 0; trigger = None }
 
 -- A control is written at a tick, with these kept bits. Three cases, of which one applies (GBATEK, "GBA DMA Transfers", DMAxCNT_H bit 15; that a
 -- channel which stays enabled takes the new control for the units that it has left, and is triggered by none, is our choice):
 pub data ChangesChannel (proc : Proc) (which : ℕ) (old : ChannelState) (control : ℕ) (now : Tick) (new : ChannelState) : Type 0 where
   -- enable goes from 0 to 1
-  latches : is_enabled old.control ≡ false → is_enabled control ≡ true → new ≡ latched proc which old control now
+  latches : is_enabled old.cnt ≡ false → is_enabled control ≡ true → new ≡ latched proc which old control now
       → ChangesChannel proc which old control now new
   -- enable stays 1: the kept control alone changes
-  stays : is_enabled old.control ≡ true → is_enabled control ≡ true → new ≡ record old { control = control }
+  stays : is_enabled old.cnt ≡ true → is_enabled control ≡ true → new ≡ record old { cnt = control }
       → ChangesChannel proc which old control now new
   -- enable is cleared, or stays 0
   empties : is_enabled control ≡ false → new ≡ emptied old control → ChangesChannel proc which old control now new
@@ -91,30 +91,30 @@ pub data ChangesChannel (proc : Proc) (which : ℕ) (old : ChannelState) (contro
 -- the same as a function, for those who compute with it
 abbrev pub channel_controlled : Proc → ℕ → ChannelState → ℕ → Tick → ChannelState
 channel_controlled proc which c control now =
-    if is_enabled control then (if is_enabled c.control then record c { control = control } else latched proc which c control now)
+    if is_enabled control then (if is_enabled c.cnt then record c { cnt = control } else latched proc which c control now)
     else emptied c control
 
 -- what a port reads (GBATEK, "DS DMA Transfers": all can be read)
 abbrev pub channel_word : DmaPort → ChannelState → ℕ
-channel_word Source c = c.source
-channel_word Target c = c.target
-channel_word Control c = c.control
+channel_word Source c = c.sad
+channel_word Target c = c.dad
+channel_word Control c = c.cnt
 
 -- a whole word that is written to a port of a channel is taken (GBATEK, "GBA DMA Transfers": a source and a target count from the next enable on)
 abbrev pub channel_set : Proc → ℕ → DmaPort → ℕ → Tick → ChannelState → ChannelState
-channel_set proc which Source value now c = record c { source = kept_address value }
-channel_set proc which Target value now c = record c { target = kept_address value }
+channel_set proc which Source value now c = record c { sad = kept_address value }
+channel_set proc which Target value now c = record c { dad = kept_address value }
 channel_set proc which Control value now c = channel_controlled proc which c (kept_channel_control proc which value) now
 
 -- why it isn't taken
 abbrev pub channel_refusal : Proc → ℕ → DmaPort → ℕ → ChannelState → Option Stop
 channel_refusal proc which Source value c = None
 channel_refusal proc which Target value c = None
-channel_refusal proc which Control value c = refusal proc c.control (kept_channel_control proc which value)
+channel_refusal proc which Control value c = refusal proc c.cnt (kept_channel_control proc which value)
 
 -- an event triggers a channel that is enabled with its start; one that runs stays as it is
 abbrev pub is_triggered : Proc → Cause → ChannelState → Bool
-is_triggered proc cause c = is_enabled c.control && waits_for proc cause c.control && not (is_running c)
+is_triggered proc cause c = is_enabled c.cnt && waits_for proc cause c.cnt && not (is_running c)
 
 abbrev pub triggered : Proc → Cause → Tick → ChannelState → ChannelState
 triggered proc cause now c = if is_triggered proc cause c then record c { trigger = Some now } else c
@@ -131,8 +131,8 @@ next_to c = address_of c.to (target_step c) 1
 abbrev pub armed_again : Proc → ℕ → ChannelState → ChannelState
 armed_again proc which c = record c {
   from = next_from c;
-  to = if latches_again c.control then c.target else next_to c;
-  left = units_counted proc which c.control;
+  to = if latches_again c.cnt then c.dad else next_to c;
+  remaining = units_counted proc which c.cnt;
   trigger = None;
 }
 
@@ -140,28 +140,28 @@ armed_again proc which c = record c {
 pub data TakesUnit (proc : Proc) (which : ℕ) (old new : ChannelState) : Type 0 where
   -- there are more: they are its plan from then on, and it runs on
   more : (unit next : DmaUnit) (rest : List DmaUnit) → plan_of old ≡ unit ∷ next ∷ rest → plan_of new ≡ next ∷ rest
-      → new ≡ record old { from = next.from; to = next.to; left = old.left - 1 }
+      → new ≡ record old { from = next.from; to = next.to; remaining = old.remaining - 1 }
       → TakesUnit proc which old new
   -- it was the last one, and it is armed again
-  again : (unit : DmaUnit) → plan_of old ≡ unit ∷ [] → is_armed_again proc old.control ≡ true → new ≡ armed_again proc which old
+  again : (unit : DmaUnit) → plan_of old ≡ unit ∷ [] → is_armed_again proc old.cnt ≡ true → new ≡ armed_again proc which old
       → TakesUnit proc which old new
   -- it was the last one, and it is enabled no more
-  ends : (unit : DmaUnit) → plan_of old ≡ unit ∷ [] → is_armed_again proc old.control ≡ false → plan_of new ≡ []
-      → new ≡ emptied old (disabled old.control)
+  ends : (unit : DmaUnit) → plan_of old ≡ unit ∷ [] → is_armed_again proc old.cnt ≡ false → plan_of new ≡ []
+      → new ≡ emptied old (disabled old.cnt)
       → TakesUnit proc which old new
 
 -- the same as a function, for those who compute with it
 abbrev pub is_last_unit : ChannelState → Bool
-is_last_unit c = c.left == 1
+is_last_unit c = c.remaining == 1
 
 abbrev pub after_unit : Proc → ℕ → ChannelState → ChannelState
 after_unit proc which c =
-    if not (is_last_unit c) then record c { from = next_from c; to = next_to c; left = c.left - 1 }
-    else (if is_armed_again proc c.control then armed_again proc which c else emptied c (disabled c.control))
+    if not (is_last_unit c) then record c { from = next_from c; to = next_to c; remaining = c.remaining - 1 }
+    else (if is_armed_again proc c.cnt then armed_again proc which c else emptied c (disabled c.cnt))
 
 -- the bit of IF that the end of a channel raises, where its interrupt is enabled (GBATEK, "DS Interrupts")
 abbrev pub taken_bit : ℕ → ChannelState → ℕ
-taken_bit which c = if is_last_unit c && interrupts c.control then interrupt_bit (channel_interrupt which) else 0
+taken_bit which c = if is_last_unit c && interrupts c.cnt then interrupt_bit (channel_interrupt which) else 0
 
 -- when its next unit is due where its turn has come: 4 ticks after it was triggered, and 4 after the processor's last unit (our choice)
 abbrev pub after_both : Option Tick → Tick → Tick

@@ -79,12 +79,12 @@ abbrev pub start_mode : Proc → ℕ → ℕ
 start_mode Nine control = bits 27 3 control
 start_mode Seven control = bits 28 2 control
 
-abbrev pub starts_at_once : Proc → ℕ → Bool
-starts_at_once proc control = start_mode proc control == 0
+abbrev pub starts_immediately : Proc → ℕ → Bool
+starts_immediately proc control = start_mode proc control == 0
 
 -- at its end a channel is armed again where it repeats and doesn't start at once (our choice, by GBATEK, "GBA DMA Transfers", DMAxCNT_H bit 9)
 abbrev pub is_armed_again : Proc → ℕ → Bool
-is_armed_again proc control = repeats control && not (starts_at_once proc control)
+is_armed_again proc control = repeats control && not (starts_immediately proc control)
 
 -- the start mode that an event triggers (GBATEK, "DS DMA Transfers": on ARM9 1 is V-blank, 2 H-blank, 5 the card; on ARM7 1 is V-blank and 2 the
 -- card). Geometry triggers none as yet, and no channel is enabled with its start 7.

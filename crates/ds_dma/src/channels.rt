@@ -28,12 +28,12 @@ pub struct Unit {
 /// A channel's kept numbers, what it has left to do where it is enabled, and since when it runs.
 #[derive(Clone, Copy)]
 pub struct Channel {
-    pub source: u32,
-    pub target: u32,
-    pub control: u32,
+    pub sad: u32,
+    pub dad: u32,
+    pub cnt: u32,
     pub from: u32,
     pub to: u32,
-    pub left: u32,
+    pub remaining: u32,
     pub trigger: Option<Tick>,
 }
 
@@ -49,10 +49,10 @@ fn without_units(channel: Channel, control: u32) -> Channel
     ensures { channel_seen result ≡ emptied (channel_seen channel) control }
 {
     Channel {
-        control,
+        cnt: control,
         from: 0,
         to: 0,
-        left: 0,
+        remaining: 0,
         trigger: None,
         ..channel
     }
@@ -62,13 +62,13 @@ fn without_units(channel: Channel, control: u32) -> Channel
 fn with_units(proc: Proc, which: u8, channel: Channel, control: u32, now: Tick) -> Channel
     ensures { channel_seen result ≡ latched proc which (channel_seen channel) control now }
 {
-    let at_once = controls::at_once(proc, control);
+    let starts_immediately = controls::starts_immediately(proc, control);
     Channel {
-        control,
-        from: channel.source,
-        to: channel.target,
-        left: controls::units(proc, which, control),
-        trigger: if at_once { Some(now) } else { None },
+        cnt: control,
+        from: channel.sad,
+        to: channel.dad,
+        remaining: controls::units(proc, which, control),
+        trigger: if starts_immediately { Some(now) } else { None },
         ..channel
     }
 }
@@ -80,8 +80,8 @@ pub fn with_control(proc: Proc, which: u8, channel: Channel, control: u32, now: 
     if !controls::enabled(control) {
         return without_units(channel, control);
     }
-    if controls::enabled(channel.control) {
-        return Channel { control, ..channel };
+    if controls::enabled(channel.cnt) {
+        return Channel { cnt: control, ..channel };
     }
     with_units(proc, which, channel, control, now)
 }
@@ -91,9 +91,9 @@ pub fn word(channel: Channel, port: DmaPort) -> u32
     ensures { result ≡ channel_word port (channel_seen channel) }
 {
     match port {
-        DmaPort::Source => channel.source,
-        DmaPort::Target => channel.target,
-        DmaPort::Control => channel.control,
+        DmaPort::Source => channel.sad,
+        DmaPort::Target => channel.dad,
+        DmaPort::Control => channel.cnt,
     }
 }
 
@@ -105,7 +105,7 @@ pub fn refused(proc: Proc, which: u8, channel: Channel, port: DmaPort, value: u3
         DmaPort::Source | DmaPort::Target => None,
         DmaPort::Control => {
             let control = controls::kept(proc, which, value);
-            controls::refused(proc, channel.control, control)
+            controls::refused(proc, channel.cnt, control)
         }
     }
 }
@@ -123,11 +123,11 @@ pub fn written(
 {
     match port {
         DmaPort::Source => Channel {
-            source: value & ADDRESS,
+            sad: value & ADDRESS,
             ..channel
         },
         DmaPort::Target => Channel {
-            target: value & ADDRESS,
+            dad: value & ADDRESS,
             ..channel
         },
         DmaPort::Control => {
@@ -141,7 +141,7 @@ pub fn written(
 pub fn after(proc: Proc, cause: Cause, now: Tick, channel: Channel) -> Channel
     ensures { channel_seen result ≡ triggered proc cause now (channel_seen channel) }
 {
-    let waits = controls::enabled(channel.control) && controls::waits(proc, cause, channel.control);
+    let waits = controls::enabled(channel.cnt) && controls::waits(proc, cause, channel.cnt);
     if waits && !runs(channel) {
         return Channel {
             trigger: Some(now),
@@ -160,23 +160,23 @@ pub fn first(channel: Channel) -> Unit
     Unit {
         from: channel.from,
         to: channel.to,
-        width: controls::width(channel.control),
+        width: controls::width(channel.cnt),
     }
 }
 
 /// A channel after its first unit.
 pub fn without_first(proc: Proc, which: u8, channel: Channel) -> Channel
-    requires { 1 ≤ channel.left }
+    requires { 1 ≤ channel.remaining }
     ensures { channel_seen result ≡ after_unit proc which (channel_seen channel) }
 {
-    let control = channel.control;
+    let control = channel.cnt;
     let from = channel.from.wrapping_add(controls::source_step(control));
     let to = channel.to.wrapping_add(controls::target_step(control));
-    if channel.left != 1 {
+    if channel.remaining != 1 {
         return Channel {
             from,
             to,
-            left: channel.left - 1,
+            remaining: channel.remaining - 1,
             ..channel
         };
     }
@@ -185,14 +185,14 @@ pub fn without_first(proc: Proc, which: u8, channel: Channel) -> Channel
     }
     let count = controls::units(proc, which, control);
     let to = if controls::target_again(control) {
-        channel.target
+        channel.dad
     } else {
         to
     };
     Channel {
         from,
         to,
-        left: count,
+        remaining: count,
         trigger: None,
         ..channel
     }
@@ -202,7 +202,7 @@ pub fn without_first(proc: Proc, which: u8, channel: Channel) -> Channel
 pub fn raised(which: u8, channel: Channel) -> u32
     ensures { result ≡ taken_bit which (channel_seen channel) }
 {
-    if channel.left == 1 && controls::raises(channel.control) {
+    if channel.remaining == 1 && controls::raises(channel.cnt) {
         controls::interrupt(which).bit()
     } else {
         0

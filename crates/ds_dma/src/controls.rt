@@ -2,7 +2,7 @@
 
 ghost use Rattle.std.specs.Prelude.{◌≡◌, ◌<◌, ◌≤◌, ◌+◌, ◌^◌};
 ghost use Rattle.ds_base.specs.Interrupts.{interrupt_bit};
-ghost use Rattle.ds_dma.specs.Controls.{greatest_count, channel_control_mask, kept_channel_control, units_counted, is_enabled, interrupts, repeats, disabled, unit_width, unit_bytes, target_mode, source_mode, latches_again, address_step, start_mode, starts_at_once, start_of_cause, waits_for, is_left_out, is_not_yet, refusal, is_armed_again, channel_interrupt};
+ghost use Rattle.ds_dma.specs.Controls.{greatest_count, channel_control_mask, kept_channel_control, units_counted, is_enabled, interrupts, repeats, disabled, unit_width, unit_bytes, target_mode, source_mode, latches_again, address_step, start_mode, starts_immediately, start_of_cause, waits_for, is_left_out, is_not_yet, refusal, is_armed_again, channel_interrupt};
 
 use ds_base::{Interrupt, LeftKind, Proc, Stop, Width};
 
@@ -82,7 +82,7 @@ pub fn raises(control: u32) -> bool
 pub fn again(proc: Proc, control: u32) -> bool
     ensures { result ≡ is_armed_again proc control }
 {
-    (control >> 25) & 1 == 1 && !at_once(proc, control)
+    (control >> 25) & 1 == 1 && !starts_immediately(proc, control)
 }
 
 pub fn without_enable(control: u32) -> u32
@@ -142,8 +142,8 @@ fn start(proc: Proc, control: u32) -> u32
     }
 }
 
-pub fn at_once(proc: Proc, control: u32) -> bool
-    ensures { result ≡ starts_at_once proc control }
+pub fn starts_immediately(proc: Proc, control: u32) -> bool
+    ensures { result ≡ starts_immediately proc control }
 {
     start(proc, control) == 0
 }

@@ -58,12 +58,12 @@ impl Dma {
         ensures { result ≡ dma_at_boot proc }
     {
         let channel = Channel {
-            source: 0,
-            target: 0,
-            control: 0,
+            sad: 0,
+            dad: 0,
+            cnt: 0,
             from: 0,
             to: 0,
-            left: 0,
+            remaining: 0,
             trigger: None,
         };
         Dma {

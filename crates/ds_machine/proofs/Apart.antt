@@ -8,7 +8,7 @@ use Rattle.arm_core.specs.declared.outcomes.Stepped as arm
 use Rattle.arm_core.specs.declared.outcomes.Stepped.TheVariants.{Cost, Halted, Left}
 use Rattle.ds_dma.specs.declared.channels.Unit.{Unit as DmaUnit}
 use Rattle.ds_map.specs.Moves.{next_unit, unit_moved, unit_needs, unit_refusal}
-use Rattle.ds_ports.specs.Dues.{due_behind}
+use Rattle.ds_ports.specs.Dues.{io_due}
 use Rattle.ds_runs.specs.Runs.{MachineStep, Makes}
 use Rattle.ds_runs.specs.declared.actors.Actor.TheVariants.{KeyScript, Video, Timer, Divider, SquareRoot, Geometry, Card, Dma, Processor}
 use Rattle.ds_machine.specs.Apart.{LeaveNine, LeaveSeven, step_with, with_nine_part, with_seven_part}
@@ -44,7 +44,7 @@ nine_unless rank now (Some value) unit own s = refl
 nine_channel : (rank : ℕ) (due : Option Tick) (own : NineState) (s : MachineState)
     → (let step : MachineStep MachineState Shown LeftOut = channel_step rank Seven due (with_nine_part own s) in step) ≡ step_with (with_nine_part own) (channel_step rank Seven due s)
 nine_channel rank None own s = refl
-nine_channel rank (Some now) own s = nine_unless rank now (unit_needs Seven s.map.units.wramcnt (next_unit s.map Seven)) (next_unit s.map Seven) own s
+nine_channel rank (Some now) own s = nine_unless rank now (unit_needs Seven s.map.io.wramcnt (next_unit s.map Seven)) (next_unit s.map Seven) own s
 
 pub leave_nine : LeaveNine
 leave_nine rank KeyScript own s apart = ap (λ (m : MachineState). (let step : MachineStep MachineState Shown LeftOut = Makes m [] in step)) (nine_line own s s.keys)
@@ -55,7 +55,7 @@ leave_nine rank SquareRoot own s apart = refl
 leave_nine rank Geometry own s apart = refl
 leave_nine rank Card own s apart = refl
 leave_nine rank (Dma Nine channel) own s apart = absurd (apart refl)
-leave_nine rank (Dma Seven channel) own s apart = nine_channel rank (due_behind (Dma Seven channel) s.map.units) own s
+leave_nine rank (Dma Seven channel) own s apart = nine_channel rank (io_due (Dma Seven channel) s.map.io) own s
 leave_nine rank (Processor Nine) own s apart = absurd (apart refl)
 leave_nine rank (Processor Seven) own s apart =
     let o = outcome_of Seven (tick_of s.seven.processor) s in nine_concluded rank own o.machine o.stepped
@@ -85,7 +85,7 @@ seven_unless rank now (Some value) unit own s = refl
 seven_channel : (rank : ℕ) (due : Option Tick) (own : SevenState) (s : MachineState)
     → (let step : MachineStep MachineState Shown LeftOut = channel_step rank Nine due (with_seven_part own s) in step) ≡ step_with (with_seven_part own) (channel_step rank Nine due s)
 seven_channel rank None own s = refl
-seven_channel rank (Some now) own s = seven_unless rank now (unit_needs Nine s.map.units.wramcnt (next_unit s.map Nine)) (next_unit s.map Nine) own s
+seven_channel rank (Some now) own s = seven_unless rank now (unit_needs Nine s.map.io.wramcnt (next_unit s.map Nine)) (next_unit s.map Nine) own s
 
 pub leave_seven : LeaveSeven
 leave_seven rank KeyScript own s apart = ap (λ (m : MachineState). (let step : MachineStep MachineState Shown LeftOut = Makes m [] in step)) (seven_line own s s.keys)
@@ -96,7 +96,7 @@ leave_seven rank SquareRoot own s apart = refl
 leave_seven rank Geometry own s apart = refl
 leave_seven rank Card own s apart = refl
 leave_seven rank (Dma Seven channel) own s apart = absurd (apart refl)
-leave_seven rank (Dma Nine channel) own s apart = seven_channel rank (due_behind (Dma Nine channel) s.map.units) own s
+leave_seven rank (Dma Nine channel) own s apart = seven_channel rank (io_due (Dma Nine channel) s.map.io) own s
 leave_seven rank (Processor Seven) own s apart = absurd (apart refl)
 leave_seven rank (Processor Nine) own s apart =
     let o = outcome_of Nine (tick_of s.nine.processor) s in seven_concluded rank own o.machine o.stepped

@@ -13,10 +13,10 @@ use Rattle.ds_ipc.specs.Ipcs.{other_proc}
 use Rattle.ds_map.specs.Accesses.{map_written}
 use Rattle.ds_map.specs.Maps.{MapState, blank_map}
 use Rattle.ds_map.proofs.Later.{map_write_goes}
-use Rattle.ds_ports.specs.Dues.{Goes, IsOwn, IsQuiet}
-use Rattle.ds_ports.specs.Own.{own_at_boot}
-use Rattle.ds_ports.specs.Units.{UnitsState, own_of}
-use Rattle.ds_ports.proofs.Later.{goes_nowhere, goes_on, left_is, left_quiet, of_both}
+use Rattle.ds_ports.specs.Dues.{Goes, IsProcessorIo, IsQuiet}
+use Rattle.ds_ports.specs.ProcessorIo.{processor_io_at_boot}
+use Rattle.ds_ports.specs.Io.{IoState, io_of}
+use Rattle.ds_ports.proofs.Later.{goes_nowhere, goes_on, unchanged_is, unchanged_quiet, of_both}
 use Rattle.ds_timers.specs.Timing.{AreTimers, IsTimer, timer_at, timer_due, timers_at_boot}
 use Rattle.ds_machine.specs.Booted.{machine_booted, header_bytes, header_place}
 use Rattle.ds_machine.specs.Boots.{copied}
@@ -58,11 +58,11 @@ dma_is proc = record { four = refl; each = each } where
   each (suc (suc (suc zero))) lt = channel_is proc (suc (suc (suc zero)))
   each (suc (suc (suc (suc n)))) lt = absurd (omega (arith, lt))
 
-own_boots : (proc : Proc) → IsOwn (own_at_boot proc)
-own_boots proc = record { timers = timers_are; dma = dma_is proc }
+processor_io_boots : (proc : Proc) → IsProcessorIo (processor_io_at_boot proc)
+processor_io_boots proc = record { timers = timers_are; dma = dma_is proc }
 
 -- nothing is due
-quiet_boots : (proc : Proc) → IsQuiet start (own_at_boot proc)
+quiet_boots : (proc : Proc) → IsQuiet start (processor_io_at_boot proc)
 quiet_boots proc = record { timers = timers; dma = dma } where
   timers : (which : ℕ) → which < 4 → IsLater start (timer_due (timer_at timers_at_boot which))
   timers zero lt = tt
@@ -79,36 +79,36 @@ quiet_boots proc = record { timers = timers; dma = dma } where
   dma (suc (suc (suc (suc n)))) lt = absurd (omega (arith, lt))
 
 -- what is copied is written at tick 0
-copied_goes : (proc : Proc) (m : MapState) (at : ℕ) (bytes : List ℕ) → IsOwn (own_of m.units proc) → IsQuiet start (own_of m.units proc)
-    → Goes proc start m.units (copied proc m at bytes).units
-copied_goes proc m at [] is quiet = goes_nowhere proc start m.units is quiet
+copied_goes : (proc : Proc) (m : MapState) (at : ℕ) (bytes : List ℕ) → IsProcessorIo (io_of m.io proc) → IsQuiet start (io_of m.io proc)
+    → Goes proc start m.io (copied proc m at bytes).io
+copied_goes proc m at [] is quiet = goes_nowhere proc start m.io is quiet
 copied_goes proc m at (byte ∷ rest) is quiet =
     let next = map_written proc start m at Byte byte in
     let one = map_write_goes proc start m is quiet at Byte byte in
-    goes_on proc start m.units next.units (copied proc next (at + 1) rest).units one (copied_goes proc next (at + 1) rest one.is one.quiet)
+    goes_on proc start m.io next.io (copied proc next (at + 1) rest).io one (copied_goes proc next (at + 1) rest one.is one.quiet)
 
 -- what holds of both processors' own
-record AreReady (u : UnitsState) : Type 0 where
-  is : (proc : Proc) → IsOwn (own_of u proc)
-  quiet : (proc : Proc) → IsQuiet start (own_of u proc)
+record AreReady (u : IoState) : Type 0 where
+  is : (proc : Proc) → IsProcessorIo (io_of u proc)
+  quiet : (proc : Proc) → IsQuiet start (io_of u proc)
 
-copied_ready : (proc : Proc) (m : MapState) (at : ℕ) (bytes : List ℕ) → AreReady m.units → AreReady (copied proc m at bytes).units
+copied_ready : (proc : Proc) (m : MapState) (at : ℕ) (bytes : List ℕ) → AreReady m.io → AreReady (copied proc m at bytes).io
 copied_ready proc m at bytes r =
-    let new = (copied proc m at bytes).units in
+    let new = (copied proc m at bytes).io in
     let g = copied_goes proc m at bytes (r.is proc) (r.quiet proc) in
-    let old = own_of m.units (other_proc proc) in
+    let old = io_of m.io (other_proc proc) in
     record {
-      is = of_both (λ each. IsOwn (own_of new each)) proc g.is (left_is old (own_of new (other_proc proc)) g.other (r.is (other_proc proc)));
-      quiet = of_both (λ each. IsQuiet start (own_of new each)) proc g.quiet (left_quiet start old (own_of new (other_proc proc)) g.other (r.quiet (other_proc proc)));
+      is = of_both (λ each. IsProcessorIo (io_of new each)) proc g.is (unchanged_is old (io_of new (other_proc proc)) g.other (r.is (other_proc proc)));
+      quiet = of_both (λ each. IsQuiet start (io_of new each)) proc g.quiet (unchanged_quiet start old (io_of new (other_proc proc)) g.other (r.quiet (other_proc proc)));
     }
 
-blank_ready : AreReady blank_map.units
+blank_ready : AreReady blank_map.io
 blank_ready = record { is = is; quiet = quiet } where
-  is : (proc : Proc) → IsOwn (own_of blank_map.units proc)
-  is Nine = own_boots Nine
-  is Seven = own_boots Seven
+  is : (proc : Proc) → IsProcessorIo (io_of blank_map.io proc)
+  is Nine = processor_io_boots Nine
+  is Seven = processor_io_boots Seven
 
-  quiet : (proc : Proc) → IsQuiet start (own_of blank_map.units proc)
+  quiet : (proc : Proc) → IsQuiet start (io_of blank_map.io proc)
   quiet Nine = quiet_boots Nine
   quiet Seven = quiet_boots Seven
 
@@ -118,4 +118,4 @@ sound_booted file keys are =
     let seven = copied Seven nine (image_place file Seven) (image_of file Seven) in
     let r = copied_ready Nine seven header_place (take header_bytes file)
     (copied_ready Seven nine (image_place file Seven) (image_of file Seven) (copied_ready Nine blank_map (image_place file Nine) (image_of file Nine) blank_ready)) in
-    record { units = record { nine = r.is Nine; seven = r.is Seven }; keys = are }
+    record { io = record { nine = r.is Nine; seven = r.is Seven }; keys = are }

@@ -16,7 +16,7 @@ use Rattle.ds_machine.specs.Reference.{CountsWithin, HasCounted, IsSound, MaySte
 use Rattle.ds_machine.specs.States.{MachineState, counts_of}
 use Rattle.ds_machine.specs.declared.answers.Done as answer
 use Rattle.ds_machine.specs.declared.answers.Done.TheVariants as answers
-use Rattle.ds_machine.proofs.ChannelEvents.{channel_left, channel_made, event_counts, unit_counts, with_map}
+use Rattle.ds_machine.proofs.ChannelEvents.{channel_unchanged, channel_made, event_counts, unit_counts, with_map}
 use Rattle.ds_machine.proofs.DueTicks.{due_of_least, low_rank, not_before}
 use Rattle.ds_machine.proofs.MachineSchedule.{awake_stops, owes, reference_schedules, step_made, stopped}
 use Rattle.ds_machine.proofs.Moves.{moves_all}
@@ -64,7 +64,7 @@ read_counts proc s left (inr read) = ap counts_of (sym read)
 channel_counts : (proc : Proc) (due : Option Tick) (rank : ℕ) (s left : MachineState) (stop : LeftOut)
     → (let step : MachineStep MachineState Shown LeftOut = channel_step rank proc due s in step ≡ Stops stop left) → counts_of left ≡ counts_of s
 channel_counts proc None rank s left stop h = absurd (not_both s left [] stop h)
-channel_counts proc (Some now) rank s left stop h = read_counts proc s left (channel_left rank proc now s left stop h)
+channel_counts proc (Some now) rank s left stop h = read_counts proc s left (channel_unchanged rank proc now s left stop h)
 
 left_counts : (a : actor.Actor) (rank : ℕ) (s left : MachineState) (stop : LeftOut) → step_by rank a s ≡ Stops stop left → counts_of left ≡ counts_of s
 left_counts KeyScript rank s left stop h = absurd (not_both (after_line s.keys s) left [] stop h)

@@ -1,5 +1,5 @@
 pub mod Apart
-pub mod AtOnce
+pub mod FastSteps
 pub mod Booting
 pub mod ChannelEvents
 pub mod Costs
@@ -8,12 +8,12 @@ pub mod DueTicks
 pub mod Keeps
 pub mod MachineSchedule
 pub mod Moves
-pub mod Nears
+pub mod RamAccesses
 pub mod Others
 pub mod OwnSteps
 pub mod ProcessorSteps
 pub mod Quiet
-pub mod Readies
+pub mod DecodedOperations
 pub mod UnitEvents
 pub mod Taken
 pub mod Wakes

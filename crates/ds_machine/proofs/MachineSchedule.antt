@@ -8,7 +8,7 @@ use Rattle.ds_base.specs.declared.processors.Proc.{Proc}
 use Rattle.ds_base.specs.declared.processors.Proc.TheVariants.{Nine, Seven}
 use Rattle.ds_base.specs.declared.ticks.Tick.{Tick}
 use Rattle.ds_map.specs.Moves.{next_unit, unit_read}
-use Rattle.ds_ports.specs.Units.{UnitsState, division_done, keys_pressed, root_done, timer_overflows}
+use Rattle.ds_ports.specs.Io.{IoState, division_done, keys_pressed, root_done, timer_overflows}
 use Rattle.ds_ports.proofs.Later.{still_later, timer_goes}
 use Rattle.ds_runs.specs.Actors.{IsNumbered, actor_of}
 use Rattle.ds_runs.specs.Runs.{IsLeast, MachineStep, Makes, Stops}
@@ -20,12 +20,12 @@ use Rattle.ds_runs.proofs.RunLaws.{same_makes, not_both}
 use Rattle.ds_machine.specs.Channels.{channel_step, one_event}
 use Rattle.ds_machine.specs.Reference.{IsSound, Shown, after_division, after_line, after_root, after_timer, after_video, awake, due_by, dues_of, keys_due, reference, shown_by_video, step_by, reference_step}
 use Rattle.ds_machine.specs.States.{MachineState, VideoState}
-use Rattle.ds_machine.specs.Steps.{gone_by, is_held, processor_of, with_units, woken}
+use Rattle.ds_machine.specs.Steps.{gone_by, is_blocked, processor_of, with_io, woken}
 use Rattle.ds_machine.specs.Videos.{triggered_by_video, video_after, video_due}
-use Rattle.ds_machine.proofs.ChannelEvents.{after_unit, channel_left, channel_made, read_moves, read_sound, unit_later, unit_moves, unit_sound, with_map}
+use Rattle.ds_machine.proofs.ChannelEvents.{after_unit, channel_unchanged, channel_made, read_moves, read_sound, unit_later, unit_moves, unit_sound, with_map}
 use Rattle.ds_machine.proofs.DueTicks.{due_of_least, due_of_rank, entries_are, low_rank, somebody_is}
-use Rattle.ds_machine.proofs.Moves.{Moves, held_moves, moves_all, moves_of, then_all}
-use Rattle.ds_machine.proofs.ProcessorSteps.{Ready, came_by, concluded_stops, concludes, costs_some, gone_moves, gone_sound, own_later, reached_by, reached_moves, reached_sound, step_is}
+use Rattle.ds_machine.proofs.Moves.{Moves, blocked_moves, moves_all, moves_of, then_all}
+use Rattle.ds_machine.proofs.ProcessorSteps.{Operation, came_by, concluded_stops, concludes, costs_some, gone_moves, gone_sound, processor_io_later, reached_by, reached_moves, reached_sound, step_is}
 use Rattle.ds_machine.proofs.Quiet.{comes_late, quiet_processor, timers_later}
 use Rattle.ds_machine.proofs.UnitEvents.{Happens, division_happens, keys_happen, root_happens, timer_happens, video_happens}
 use Rattle.ds_machine.proofs.Wakes.{wakes_both}
@@ -41,21 +41,21 @@ pub record Owes (a : actor.Actor) (tick : Tick) (s next : MachineState) : Type 0
 -- ---- events of the units behind the ports, of the key script and of the display
 
 -- the machine with other units, and with other lines to come or another line displayed
-abbrev changed : MachineState → UnitsState → List KeyLine → VideoState → MachineState
-changed s units keys video = one_event (record (with_units s units) { keys = keys; video = video })
+abbrev changed : MachineState → IoState → List KeyLine → VideoState → MachineState
+changed s io keys video = one_event (record (with_io s io) { keys = keys; video = video })
 
-changed_due : (s : MachineState) (units : UnitsState) (keys : List KeyLine) (video : VideoState) (proc : Proc)
-    → (processor_of (changed s units keys video) proc).due ≡ (processor_of s proc).due
-changed_due s units keys video Nine = refl
-changed_due s units keys video Seven = refl
+changed_due : (s : MachineState) (io : IoState) (keys : List KeyLine) (video : VideoState) (proc : Proc)
+    → (processor_of (changed s io keys video) proc).due ≡ (processor_of s proc).due
+changed_due s io keys video Nine = refl
+changed_due s io keys video Seven = refl
 
-event_moves : (tick : Tick) (s : MachineState) (units : UnitsState) (keys : List KeyLine) (video : VideoState) → Happens tick s.map.units units
-    → Reschedules tick (keys_due s.keys) (keys_due keys) → Reschedules tick (due_by Video s) (due_by Video (changed s units keys video))
-    → Moves tick s (changed s units keys video)
-event_moves tick s units keys video h lines shown =
-    let next = changed s units keys video in
-    moves_of tick s next lines shown h.behind (λ proc.
-    held_moves tick (is_held s proc) (is_held next proc) (processor_of s proc) (processor_of next proc) (changed_due s units keys video proc) (h.held proc))
+event_moves : (tick : Tick) (s : MachineState) (io : IoState) (keys : List KeyLine) (video : VideoState) → Happens tick s.map.io io
+    → Reschedules tick (keys_due s.keys) (keys_due keys) → Reschedules tick (due_by Video s) (due_by Video (changed s io keys video))
+    → Moves tick s (changed s io keys video)
+event_moves tick s io keys video h lines shown =
+    let next = changed s io keys video in
+    moves_of tick s next lines shown h.dues (λ proc.
+    blocked_moves tick (is_blocked s proc) (is_blocked next proc) (processor_of s proc) (processor_of next proc) (changed_due s io keys video proc) (h.blocked proc))
 
 -- the lines that are to come are later, and rise still
 rest_later : (tick : Tick) (line : KeyLine) (rest : List KeyLine) → AreKeyLines (line ∷ rest) → line.tick ≡ tick → IsLater tick (keys_due rest)
@@ -74,12 +74,12 @@ owes_keys : (tick : Tick) (s : MachineState) (lines : List KeyLine) → s.keys �
 owes_keys tick s [] e due sound = absurd (none-some tick due)
 owes_keys tick s (line ∷ rest) e due sound =
     let are = subst AreKeyLines e sound.keys in
-    let h = keys_happen tick s.map.units line.pressed sound.units in
+    let h = keys_happen tick s.map.io line.pressed sound.io in
     let later = rest_later tick line rest are (same_Some line.tick tick due) in
     record {
-      moves = event_moves tick s (keys_pressed s.map.units line.pressed) rest s.video h (inr later) (inl refl);
+      moves = event_moves tick s (keys_pressed s.map.io line.pressed) rest s.video h (inr later) (inl refl);
       own = later;
-      sound = record { units = h.units; keys = rest_rises line rest are };
+      sound = record { io = h.io; keys = rest_rises line rest are };
     }
 
 video_rises : (v : VideoState) → video_due v < video_due (video_after v)
@@ -88,40 +88,40 @@ video_rises v = grind arith
 owes_video : (tick : Tick) (s : MachineState) → due_by Video s ≡ Some tick → IsSound s → Owes Video tick s (after_video s)
 owes_video tick s due sound =
     let now : Tick = record { 0 = video_due s.video } in
-    let h = video_happens s.video s.map.units sound.units in
+    let h = video_happens s.video s.map.io sound.io in
     let own : Owes Video now s (after_video s) = record {
-      moves = event_moves now s (triggered_by_video s.video s.map.units) s.keys (video_after s.video) h (inl refl) (inr (video_rises s.video));
+      moves = event_moves now s (triggered_by_video s.video s.map.io) s.keys (video_after s.video) h (inl refl) (inr (video_rises s.video));
       own = video_rises s.video;
-      sound = record { units = h.units; keys = sound.keys };
+      sound = record { io = h.io; keys = sound.keys };
     } in
     subst (λ (t : Tick). Owes Video t s (after_video s)) (same_Some now tick due) own
 
 owes_timer : (proc : Proc) (number : ℕ) (tick : Tick) (s : MachineState) → number < 4 → due_by (Timer proc number) s ≡ Some tick → IsSound s
     → Owes (Timer proc number) tick s (after_timer proc number s)
 owes_timer proc number tick s lt due sound =
-    let h = timer_happens proc number tick s.map.units sound.units lt due in
+    let h = timer_happens proc number tick s.map.io sound.io lt due in
     record {
-      moves = event_moves tick s (timer_overflows proc number s.map.units) s.keys s.video h (inl refl) (inl refl);
-      own = (timer_goes proc number tick s.map.units sound.units lt due).later;
-      sound = record { units = h.units; keys = sound.keys };
+      moves = event_moves tick s (timer_overflows proc number s.map.io) s.keys s.video h (inl refl) (inl refl);
+      own = (timer_goes proc number tick s.map.io sound.io lt due).later;
+      sound = record { io = h.io; keys = sound.keys };
     }
 
 owes_division : (tick : Tick) (s : MachineState) → IsSound s → Owes Divider tick s (after_division s)
 owes_division tick s sound =
-    let h = division_happens tick s.map.units sound.units in
+    let h = division_happens tick s.map.io sound.io in
     record {
-      moves = event_moves tick s (division_done s.map.units) s.keys s.video h (inl refl) (inl refl);
+      moves = event_moves tick s (division_done s.map.io) s.keys s.video h (inl refl) (inl refl);
       own = tt;
-      sound = record { units = h.units; keys = sound.keys };
+      sound = record { io = h.io; keys = sound.keys };
     }
 
 owes_root : (tick : Tick) (s : MachineState) → IsSound s → Owes SquareRoot tick s (after_root s)
 owes_root tick s sound =
-    let h = root_happens tick s.map.units sound.units in
+    let h = root_happens tick s.map.io sound.io in
     record {
-      moves = event_moves tick s (root_done s.map.units) s.keys s.video h (inl refl) (inl refl);
+      moves = event_moves tick s (root_done s.map.io) s.keys s.video h (inl refl) (inl refl);
       own = tt;
-      sound = record { units = h.units; keys = sound.keys };
+      sound = record { io = h.io; keys = sound.keys };
     }
 
 -- ---- each actor, where it is due
@@ -134,8 +134,8 @@ record Steps (a : actor.Actor) (rank : ℕ) (tick : Tick) (s : MachineState) : T
   numbered : IsNumbered a
   due : due_by a s ≡ Some tick
 
-ready : (proc : Proc) (rank : ℕ) (tick : Tick) (s : MachineState) → Steps (Processor proc) rank tick s → Ready proc tick s
-ready proc rank tick s st = record { sound = st.sound; quiet = quiet_processor s tick rank proc st.least st.is; due = st.due }
+operation : (proc : Proc) (rank : ℕ) (tick : Tick) (s : MachineState) → Steps (Processor proc) rank tick s → Operation proc tick s
+operation proc rank tick s st = record { sound = st.sound; quiet = quiet_processor s tick rank proc st.least st.is; due = st.due }
 
 channel_timers : (proc : Proc) (channel rank : ℕ) (tick : Tick) (s : MachineState) → Steps (Dma proc channel) rank tick s
     → (which : ℕ) → which < 4 → IsLater tick (due_by (Timer proc which) s)
@@ -163,10 +163,10 @@ owes_by (Dma proc channel) rank tick s made outs st h =
 owes_by (Processor proc) rank tick s made outs st h =
     let came = came_by proc s in
     let k = concludes rank proc (reached_by proc s) made outs came (costs_some proc s) (sym (step_is rank proc s) ∙ h) in
-    let r = ready proc rank tick s st in
+    let r = operation proc rank tick s st in
     let owes : Owes (Processor proc) tick s (gone_by proc came (reached_by proc s)) = record {
       moves = gone_moves proc tick s r came k.0;
-      own = own_later proc tick s r came k.0;
+      own = processor_io_later proc tick s r came k.0;
       sound = gone_sound proc tick s r came k.0;
     } in
     subst (Owes (Processor proc) tick s) k.1 owes
@@ -250,9 +250,9 @@ leaves_by Geometry rank tick s left stop st h = absurd (not_both s left [] stop 
 leaves_by Card rank tick s left stop st h = absurd (not_both s left [] stop h)
 leaves_by (Dma proc channel) rank tick s left stop st h =
     let P : Option Tick → Type 0 = λ o. (let step : MachineStep MachineState Shown LeftOut = channel_step rank proc o s in step ≡ Stops stop left) in
-    leaves_read tick proc s left st.sound (channel_left rank proc tick s left stop (subst P st.due h))
+    leaves_read tick proc s left st.sound (channel_unchanged rank proc tick s left stop (subst P st.due h))
 leaves_by (Processor proc) rank tick s left stop st h =
-    let r = ready proc rank tick s st in
+    let r = operation proc rank tick s st in
     let e = concluded_stops rank proc (reached_by proc s) left stop (came_by proc s) (sym (step_is rank proc s) ∙ h) in
     subst (Leaves tick s) e (record { moves = reached_moves proc tick s r; sound = reached_sound proc tick s r })
 

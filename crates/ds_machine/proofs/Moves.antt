@@ -3,10 +3,10 @@ use Rattle.ds_base.specs.Schedules.{IsLater, Reschedules}
 use Rattle.ds_base.specs.declared.keys.KeyLine.{KeyLine}
 use Rattle.ds_base.specs.declared.processors.Proc.{Proc}
 use Rattle.ds_base.specs.declared.ticks.Tick.{Tick}
-use Rattle.ds_ports.specs.Dues.{AreUnits, IsLeft, due_behind}
-use Rattle.ds_ports.specs.Own.{own_is_held, OwnState}
-use Rattle.ds_ports.specs.Units.{UnitsState, own_of}
-use Rattle.ds_ports.proofs.Later.{AreLeft, in_turn, left_is, own_is, units_of}
+use Rattle.ds_ports.specs.Dues.{IsIo, IsUnchanged, io_due}
+use Rattle.ds_ports.specs.ProcessorIo.{blocks_processor, ProcessorIoState}
+use Rattle.ds_ports.specs.Io.{IoState, io_of}
+use Rattle.ds_ports.proofs.Later.{AreUnchanged, in_turn, unchanged_is, processor_io_is, io_is}
 use Rattle.ds_runs.specs.Actors.{IsNumbered}
 use Rattle.ds_runs.specs.Owed.{AllReschedule}
 use Rattle.ds_runs.specs.declared.actors.Actor as actor
@@ -25,40 +25,40 @@ pub later_if : (tick : Tick) (o : Option Tick) → ((at : Tick) → o ≡ Some a
 later_if tick None h = tt
 later_if tick (Some at) h = h at refl
 
--- a processor that is due later, or is held
-pub later_unless : (tick : Tick) (held : Bool) (p : ProcessorState) → tick.0 < p.due → IsLater tick (due_unless held p)
+-- a processor that is due later, or is blocked
+pub later_unless : (tick : Tick) (blocked : Bool) (p : ProcessorState) → tick.0 < p.due → IsLater tick (due_unless blocked p)
 later_unless tick true p h = tt
 later_unless tick false p h = h
 
--- a processor that stays held where it was, and is due as it was otherwise
-pub held_moves : (tick : Tick) (old new : Bool) (p q : ProcessorState) → q.due ≡ p.due → (old ≡ true → new ≡ true) → Reschedules tick (due_unless old p) (due_unless new q)
-held_moves tick old true p q e h = inr tt
-held_moves tick true false p q e h = absurd (true≢false (sym (h refl)))
-held_moves tick false false p q e h = inl (ap (λ (n : ℕ). (let o : Option Tick = Some (record { 0 = n }) in o)) e)
+-- a processor that stays blocked where it was, and is due as it was otherwise
+pub blocked_moves : (tick : Tick) (old new : Bool) (p q : ProcessorState) → q.due ≡ p.due → (old ≡ true → new ≡ true) → Reschedules tick (due_unless old p) (due_unless new q)
+blocked_moves tick old true p q e h = inr tt
+blocked_moves tick true false p q e h = absurd (true≢false (sym (h refl)))
+blocked_moves tick false false p q e h = inl (ap (λ (n : ℕ). (let o : Option Tick = Some (record { 0 = n }) in o)) e)
 
 -- ---- the units behind the ports
 
-abbrev pub Behind : Tick → UnitsState → UnitsState → Type 0
-Behind tick old new = (a : actor.Actor) → IsNumbered a → Reschedules tick (due_behind a old) (due_behind a new)
+abbrev pub IoReschedules : Tick → IoState → IoState → Type 0
+IoReschedules tick old new = (a : actor.Actor) → IsNumbered a → Reschedules tick (io_due a old) (io_due a new)
 
-pub then_behind : (tick : Tick) (a b c : UnitsState) → Behind tick a b → Behind tick b c → Behind tick a c
-then_behind tick a b c one two = λ who n. in_turn tick (due_behind who a) (due_behind who b) (due_behind who c) (one who n) (two who n)
+pub then_io_dues : (tick : Tick) (a b c : IoState) → IoReschedules tick a b → IoReschedules tick b c → IoReschedules tick a c
+then_io_dues tick a b c one two = λ who n. in_turn tick (io_due who a) (io_due who b) (io_due who c) (one who n) (two who n)
 
 -- nothing but interrupt words changed
-pub left_behind : (tick : Tick) (old new : UnitsState) → AreLeft old new → Behind tick old new
-left_behind tick old new l = λ who n. inl (l.dues who)
+pub unchanged_io_dues : (tick : Tick) (old new : IoState) → AreUnchanged old new → IoReschedules tick old new
+unchanged_io_dues tick old new l = λ who n. inl (l.dues who)
 
 -- ---- a processor's own
 
--- it is held as before
-pub left_held : (old new : OwnState) → IsLeft old new → own_is_held new ≡ own_is_held old
-left_held old new l = rw (l.halted, l.dma) refl
+-- it is blocked as before
+pub unchanged_blocked : (old new : ProcessorIoState) → IsUnchanged old new → blocks_processor new ≡ blocks_processor old
+unchanged_blocked old new l = rw (l.halted, l.dma) refl
 
-pub left_after : (a b c : OwnState) → IsLeft a b → IsLeft b c → IsLeft a c
+pub left_after : (a b c : ProcessorIoState) → IsUnchanged a b → IsUnchanged b c → IsUnchanged a c
 left_after a b c one two = record { timers = two.timers ∙ one.timers; keycnt = two.keycnt ∙ one.keycnt; halted = two.halted ∙ one.halted; dma = two.dma ∙ one.dma }
 
-pub left_units : (old new : UnitsState) → AreUnits old → AreLeft old new → AreUnits new
-left_units old new are l = units_of new (λ each. left_is (own_of old each) (own_of new each) (l.own each) (own_is old are each))
+pub unchanged_io : (old new : IoState) → IsIo old → AreUnchanged old new → IsIo new
+unchanged_io old new are l = io_is new (λ each. unchanged_is (io_of old each) (io_of new each) (l.own each) (processor_io_is old are each))
 
 -- ---- the machine
 
@@ -74,16 +74,16 @@ then_all tick a b c one two = λ who n. in_turn tick (due_by who a) (due_by who 
 
 -- the machine's due ticks, by its parts
 pub moves_of : (tick : Tick) (s next : MachineState) → Reschedules tick (keys_due s.keys) (keys_due next.keys) → Reschedules tick (due_by Video s) (due_by Video next)
-    → Behind tick s.map.units next.map.units → ((proc : Proc) → Reschedules tick (processor_due s proc) (processor_due next proc)) → Moves tick s next
-moves_of tick s next keys video behind processors KeyScript n = keys
-moves_of tick s next keys video behind processors Video n = video
-moves_of tick s next keys video behind processors (Timer proc number) n = behind (Timer proc number) n
-moves_of tick s next keys video behind processors Divider n = behind Divider n
-moves_of tick s next keys video behind processors SquareRoot n = behind SquareRoot n
-moves_of tick s next keys video behind processors Geometry n = inl refl
-moves_of tick s next keys video behind processors Card n = inl refl
-moves_of tick s next keys video behind processors (Dma proc channel) n = behind (Dma proc channel) n
-moves_of tick s next keys video behind processors (Processor proc) n = processors proc
+    → IoReschedules tick s.map.io next.map.io → ((proc : Proc) → Reschedules tick (processor_due s proc) (processor_due next proc)) → Moves tick s next
+moves_of tick s next keys video dues processors KeyScript n = keys
+moves_of tick s next keys video dues processors Video n = video
+moves_of tick s next keys video dues processors (Timer proc number) n = dues (Timer proc number) n
+moves_of tick s next keys video dues processors Divider n = dues Divider n
+moves_of tick s next keys video dues processors SquareRoot n = dues SquareRoot n
+moves_of tick s next keys video dues processors Geometry n = inl refl
+moves_of tick s next keys video dues processors Card n = inl refl
+moves_of tick s next keys video dues processors (Dma proc channel) n = dues (Dma proc channel) n
+moves_of tick s next keys video dues processors (Processor proc) n = processors proc
 
 pub same_keys : (tick : Tick) (old new : List KeyLine) → new ≡ old → Reschedules tick (keys_due old) (keys_due new)
 same_keys tick old new e = inl (ap keys_due e)

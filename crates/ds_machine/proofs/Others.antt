@@ -14,8 +14,8 @@ use Rattle.cp15_tcm.specs.declared.answers.Tcm.{Tcm}
 use Rattle.cp15_tcm.specs.declared.answers.Tcm.TheVariants.{Itcm, Dtcm, Past}
 use Rattle.ds_map.specs.Views.{NineReach, SevenReach, nine_memory, seven_memory, tcm_read, tcm_written}
 use Rattle.ds_map.proofs.Later.{map_read_goes, map_write_goes}
-use Rattle.ds_ports.specs.Dues.{Goes, IsOwn, IsQuiet}
-use Rattle.ds_ports.specs.Units.{UnitsState, own_of}
+use Rattle.ds_ports.specs.Dues.{Goes, IsProcessorIo, IsQuiet}
+use Rattle.ds_ports.specs.Io.{IoState, io_of}
 use Rattle.ds_ports.proofs.Later.{goes_nowhere, goes_on}
 use Rattle.ds_machine.specs.Sides.{nine_executed, nine_side, seven_side}
 use Rattle.ds_machine.specs.States.{MachineState}
@@ -25,73 +25,73 @@ use Rattle.ds_machine.proofs.Keeps.{Follows, taken_follows, word_follows}
 -- What a processor's step at a tick makes of the units behind the ports.
 
 -- what holds of a processor's own where it makes an access
-abbrev IsReady : Proc → Tick → UnitsState → Type 0
-IsReady proc now u = IsOwn (own_of u proc) × IsQuiet now (own_of u proc)
+abbrev IsReady : Proc → Tick → IoState → Type 0
+IsReady proc now u = IsProcessorIo (io_of u proc) × IsQuiet now (io_of u proc)
 
 -- the accesses are made at the same tick
-abbrev Leads : Proc → (now : Tick) (old : UnitsState) (later : Tick) (new : UnitsState) → Type 0
+abbrev Leads : Proc → (now : Tick) (old : IoState) (later : Tick) (new : IoState) → Type 0
 Leads proc now old later new = (later ≡ now) × Goes proc now old new
 
-leads_on : (proc : Proc) (t u v : Tick) (a b c : UnitsState) → Leads proc t a u b → Leads proc u b v c → Leads proc t a v c
+leads_on : (proc : Proc) (t u v : Tick) (a b c : IoState) → Leads proc t a u b → Leads proc u b v c → Leads proc t a v c
 leads_on proc t u v a b c one two =
     (two.0 ∙ one.0, goes_on proc t a b c one.1 (subst (λ (x : Tick). Goes proc x b c) one.0 two.1))
 
-leads_ready : (proc : Proc) (t u : Tick) (a b : UnitsState) → Leads proc t a u b → IsReady proc u b
-leads_ready proc t u a b one = (one.1.is, subst (λ (x : Tick). IsQuiet x (own_of b proc)) (sym one.0) one.1.quiet)
+leads_ready : (proc : Proc) (t u : Tick) (a b : IoState) → Leads proc t a u b → IsReady proc u b
+leads_ready proc t u a b one = (one.1.is, subst (λ (x : Tick). IsQuiet x (io_of b proc)) (sym one.0) one.1.quiet)
 
-seven_follows : Follows seven_memory (λ (r : SevenReach). IsReady Seven r.now r.map.units) (λ (r t : SevenReach). Leads Seven r.now r.map.units t.now t.map.units)
+seven_follows : Follows seven_memory (λ (r : SevenReach). IsReady Seven r.now r.map.io) (λ (r t : SevenReach). Leads Seven r.now r.map.io t.now t.map.io)
 seven_follows = record {
-  stays = λ r i. (refl, goes_nowhere Seven r.now r.map.units i.0 i.1);
-  joins = λ r t u one two. leads_on Seven r.now t.now u.now r.map.units t.map.units u.map.units one two;
-  ends = λ r t one. leads_ready Seven r.now t.now r.map.units t.map.units one;
-  fetches = λ r at width i. (refl, goes_nowhere Seven r.now r.map.units i.0 i.1);
+  stays = λ r i. (refl, goes_nowhere Seven r.now r.map.io i.0 i.1);
+  joins = λ r t u one two. leads_on Seven r.now t.now u.now r.map.io t.map.io u.map.io one two;
+  ends = λ r t one. leads_ready Seven r.now t.now r.map.io t.map.io one;
+  fetches = λ r at width i. (refl, goes_nowhere Seven r.now r.map.io i.0 i.1);
   reads = λ r at width i. (refl, map_read_goes Seven r.now r.map i.0 i.1 at width);
   writes = λ r at width value i. (refl, map_write_goes Seven r.now r.map i.0 i.1 at width value);
 }
 
-nine_reads : (t : Tcm) (r : NineReach) (at : ℕ) (width : Width) → IsReady Nine r.now r.map.units
-    → Leads Nine r.now r.map.units (tcm_read t r at width).now (tcm_read t r at width).map.units
-nine_reads (Itcm place) r at width i = (refl, goes_nowhere Nine r.now r.map.units i.0 i.1)
-nine_reads (Dtcm place) r at width i = (refl, goes_nowhere Nine r.now r.map.units i.0 i.1)
+nine_reads : (t : Tcm) (r : NineReach) (at : ℕ) (width : Width) → IsReady Nine r.now r.map.io
+    → Leads Nine r.now r.map.io (tcm_read t r at width).now (tcm_read t r at width).map.io
+nine_reads (Itcm place) r at width i = (refl, goes_nowhere Nine r.now r.map.io i.0 i.1)
+nine_reads (Dtcm place) r at width i = (refl, goes_nowhere Nine r.now r.map.io i.0 i.1)
 nine_reads Past r at width i = (refl, map_read_goes Nine r.now r.map i.0 i.1 at width)
 
-nine_writes : (t : Tcm) (r : NineReach) (at : ℕ) (width : Width) (value : ℕ) → IsReady Nine r.now r.map.units
-    → Leads Nine r.now r.map.units (tcm_written t r at width value).now (tcm_written t r at width value).map.units
-nine_writes (Itcm place) r at width value i = (refl, goes_nowhere Nine r.now r.map.units i.0 i.1)
-nine_writes (Dtcm place) r at width value i = (refl, goes_nowhere Nine r.now r.map.units i.0 i.1)
+nine_writes : (t : Tcm) (r : NineReach) (at : ℕ) (width : Width) (value : ℕ) → IsReady Nine r.now r.map.io
+    → Leads Nine r.now r.map.io (tcm_written t r at width value).now (tcm_written t r at width value).map.io
+nine_writes (Itcm place) r at width value i = (refl, goes_nowhere Nine r.now r.map.io i.0 i.1)
+nine_writes (Dtcm place) r at width value i = (refl, goes_nowhere Nine r.now r.map.io i.0 i.1)
 nine_writes Past r at width value i = (refl, map_write_goes Nine r.now r.map i.0 i.1 at width value)
 
-nine_follows : Follows nine_memory (λ (r : NineReach). IsReady Nine r.now r.map.units) (λ (r t : NineReach). Leads Nine r.now r.map.units t.now t.map.units)
+nine_follows : Follows nine_memory (λ (r : NineReach). IsReady Nine r.now r.map.io) (λ (r t : NineReach). Leads Nine r.now r.map.io t.now t.map.io)
 nine_follows = record {
-  stays = λ r i. (refl, goes_nowhere Nine r.now r.map.units i.0 i.1);
-  joins = λ r t u one two. leads_on Nine r.now t.now u.now r.map.units t.map.units u.map.units one two;
-  ends = λ r t one. leads_ready Nine r.now t.now r.map.units t.map.units one;
-  fetches = λ r at width i. (refl, goes_nowhere Nine r.now r.map.units i.0 i.1);
+  stays = λ r i. (refl, goes_nowhere Nine r.now r.map.io i.0 i.1);
+  joins = λ r t u one two. leads_on Nine r.now t.now u.now r.map.io t.map.io u.map.io one two;
+  ends = λ r t one. leads_ready Nine r.now t.now r.map.io t.map.io one;
+  fetches = λ r at width i. (refl, goes_nowhere Nine r.now r.map.io i.0 i.1);
   reads = λ r at width i. nine_reads (tcm_of r.cp15 at false false) r at width i;
   writes = λ r at width value i. nine_writes (tcm_of r.cp15 at true false) r at width value i;
 }
 
-nine_executes : (s : RegisterState) (r : NineReach) (number : ℕ) (instr : Option Instr) (move : Option Moved) → IsReady Nine r.now r.map.units
-    → (let t : NineReach = (nine_executed s r number instr move).state in Leads Nine r.now r.map.units t.now t.map.units)
+nine_executes : (s : RegisterState) (r : NineReach) (number : ℕ) (instr : Option Instr) (move : Option Moved) → IsReady Nine r.now r.map.io
+    → (let t : NineReach = (nine_executed s r number instr move).state in Leads Nine r.now r.map.io t.now t.map.io)
 nine_executes s r number instr None i =
-    word_follows nine_memory (λ (r : NineReach). IsReady Nine r.now r.map.units) (λ (r t : NineReach). Leads Nine r.now r.map.units t.now t.map.units)
+    word_follows nine_memory (λ (r : NineReach). IsReady Nine r.now r.map.io) (λ (r t : NineReach). Leads Nine r.now r.map.io t.now t.map.io)
     nine_follows (arm9 r.cp15) s r number instr i
-nine_executes s r number instr (Some move) i = (refl, goes_nowhere Nine r.now r.map.units i.0 i.1)
+nine_executes s r number instr (Some move) i = (refl, goes_nowhere Nine r.now r.map.io i.0 i.1)
 
-nine_goes : (now : Tick) (s : MachineState) → IsReady Nine now s.map.units → Goes Nine now s.map.units (outcome_of Nine now s).machine.map.units
+nine_goes : (now : Tick) (s : MachineState) → IsReady Nine now s.map.io → Goes Nine now s.map.io (outcome_of Nine now s).machine.map.io
 nine_goes now s i =
-    (taken_follows nine_memory (λ (r : NineReach). IsReady Nine r.now r.map.units) (λ (r t : NineReach). Leads Nine r.now r.map.units t.now t.map.units)
+    (taken_follows nine_memory (λ (r : NineReach). IsReady Nine r.now r.map.io) (λ (r t : NineReach). Leads Nine r.now r.map.io t.now t.map.io)
     nine_follows nine_side (λ old r number instr i. nine_executes old r number instr (move_of instr) i) (line_of s Nine) s.nine.processor.registers (nine_reach now s) i).1
 
-seven_goes : (now : Tick) (s : MachineState) → IsReady Seven now s.map.units → Goes Seven now s.map.units (outcome_of Seven now s).machine.map.units
+seven_goes : (now : Tick) (s : MachineState) → IsReady Seven now s.map.io → Goes Seven now s.map.io (outcome_of Seven now s).machine.map.io
 seven_goes now s i =
-    (taken_follows seven_memory (λ (r : SevenReach). IsReady Seven r.now r.map.units) (λ (r t : SevenReach). Leads Seven r.now r.map.units t.now t.map.units)
+    (taken_follows seven_memory (λ (r : SevenReach). IsReady Seven r.now r.map.io) (λ (r t : SevenReach). Leads Seven r.now r.map.io t.now t.map.io)
     seven_follows seven_side
-    (λ old r number instr i. word_follows seven_memory (λ (r : SevenReach). IsReady Seven r.now r.map.units)
-    (λ (r t : SevenReach). Leads Seven r.now r.map.units t.now t.map.units) seven_follows arm7 old r number instr i)
+    (λ old r number instr i. word_follows seven_memory (λ (r : SevenReach). IsReady Seven r.now r.map.io)
+    (λ (r t : SevenReach). Leads Seven r.now r.map.io t.now t.map.io) seven_follows arm7 old r number instr i)
     (line_of s Seven) s.seven.processor.registers (seven_reach now s) i).1
 
-pub step_goes : (proc : Proc) (now : Tick) (s : MachineState) → IsOwn (own_of s.map.units proc) → IsQuiet now (own_of s.map.units proc)
-    → Goes proc now s.map.units (outcome_of proc now s).machine.map.units
+pub step_goes : (proc : Proc) (now : Tick) (s : MachineState) → IsProcessorIo (io_of s.map.io proc) → IsQuiet now (io_of s.map.io proc)
+    → Goes proc now s.map.io (outcome_of proc now s).machine.map.io
 step_goes Nine now s is quiet = nine_goes now s (is, quiet)
 step_goes Seven now s is quiet = seven_goes now s (is, quiet)

@@ -13,23 +13,23 @@ use Rattle.arm_core.specs.declared.outcomes.Stepped.TheVariants.{Cost, Halted, L
 use Rattle.arm_exec.specs.Costs.{CostsSome}
 use Rattle.ds_dma.specs.States.{any_runs}
 use Rattle.ds_ipc.specs.Ipcs.{other_proc}
-use Rattle.ds_ports.specs.Dues.{AreUnits, Goes, IsOwn, IsQuiet}
-use Rattle.ds_ports.specs.Units.{own_of}
-use Rattle.ds_ports.proofs.Later.{all_behind, goes_units, of_both, own_is}
+use Rattle.ds_ports.specs.Dues.{IsIo, Goes, IsProcessorIo, IsQuiet}
+use Rattle.ds_ports.specs.Io.{io_of}
+use Rattle.ds_ports.proofs.Later.{all_io_dues, goes_io, of_both, processor_io_is}
 use Rattle.ds_runs.specs.Runs.{MachineStep, Makes, Stops}
 use Rattle.ds_runs.specs.declared.actors.Actor.TheVariants.{Processor}
 use Rattle.ds_runs.proofs.RunLaws.{same_makes, same_stops, not_both}
 use Rattle.ds_machine.specs.Reference.{IsSound, Shown, awake, due_unless, processor_due, step_by, stepped_of}
 use Rattle.ds_machine.specs.States.{MachineState, ProcessorState, VideoState, counts_of}
-use Rattle.ds_machine.specs.Steps.{machine_concluded, gone_by, is_halted, is_held, outcome_of, processor_of, tick_of, went_on, with_halt}
+use Rattle.ds_machine.specs.Steps.{machine_concluded, gone_by, is_halted, is_blocked, outcome_of, processor_of, tick_of, went_on, with_halt}
 use Rattle.ds_machine.specs.Videos.{video_due}
 use Rattle.ds_machine.specs.declared.answers.Done as answer
 use Rattle.ds_machine.specs.declared.answers.Done.TheVariants as answers
 use Rattle.ds_machine.proofs.Costs.{step_costs}
 use Rattle.ds_machine.proofs.DueTicks.{due_then, tick_is}
-use Rattle.ds_machine.proofs.Moves.{Behind, Moves, held_moves, left_held, moves_of, same_keys, same_video, then_behind}
+use Rattle.ds_machine.proofs.Moves.{IoReschedules, Moves, blocked_moves, unchanged_blocked, moves_of, same_keys, same_video, then_io_dues}
 use Rattle.ds_machine.proofs.Others.{step_goes}
-use Rattle.ds_machine.proofs.Wakes.{halt_held, halt_other, halt_steps, halted_behind, halted_units, put_beside, put_counts, put_other, put_own}
+use Rattle.ds_machine.proofs.Wakes.{halt_blocked, halt_other, halt_steps, halted_io_dues, halted_io, put_beside, put_counts, put_other, put_processor_io}
 
 -- A processor's step: what its accesses leave, and how it goes on.
 
@@ -97,11 +97,11 @@ step_concluded rank proc tick s m next came done at machine stepped h =
     ∙ h
     ∙ same_shown m s next done (ap (λ (x : MachineState). x.video) machine ∙ (left_reaches proc tick s).video)
 
-reach_goes : (proc : Proc) (tick : Tick) (s : MachineState) → tick_of (processor_of s proc) ≡ tick → IsOwn (own_of s.map.units proc) → IsQuiet tick (own_of s.map.units proc)
-    → Goes proc tick s.map.units (reached_by proc s).map.units
+reach_goes : (proc : Proc) (tick : Tick) (s : MachineState) → tick_of (processor_of s proc) ≡ tick → IsProcessorIo (io_of s.map.io proc) → IsQuiet tick (io_of s.map.io proc)
+    → Goes proc tick s.map.io (reached_by proc s).map.io
 reach_goes proc tick s e is quiet =
-    subst (λ (t : Tick). Goes proc t s.map.units (reached_by proc s).map.units) e
-    (step_goes proc (tick_of (processor_of s proc)) s is (subst (λ (t : Tick). IsQuiet t (own_of s.map.units proc)) (sym e) quiet))
+    subst (λ (t : Tick). Goes proc t s.map.io (reached_by proc s).map.io) e
+    (step_goes proc (tick_of (processor_of s proc)) s is (subst (λ (t : Tick). IsQuiet t (io_of s.map.io proc)) (sym e) quiet))
 
 -- ---- how it goes on
 
@@ -142,13 +142,13 @@ went_later proc p tick clocks false false e some = let lt = later_by proc p.due 
 gone_later : (proc : Proc) (m : MachineState) (tick : Tick) (came : arm.Stepped) → (processor_of m proc).due ≡ tick.0 → Took came
     → IsLater tick (processor_due (gone_by proc came m) proc)
 gone_later proc m tick (Cost clocks) e took =
-    let o = own_of m.map.units proc in
-    subst (IsLater tick) (sym (put_own proc m (went_on proc clocks (is_halted m proc) (processor_of m proc))))
+    let o = io_of m.map.io proc in
+    subst (IsLater tick) (sym (put_processor_io proc m (went_on proc clocks (is_halted m proc) (processor_of m proc))))
     (went_later proc (processor_of m proc) tick clocks o.halted (any_runs o.dma.channels) e took)
 gone_later proc m tick (Halted clocks) e took =
     let p = went_on proc clocks true (processor_of m proc) in
     let halt = with_halt proc m true in
-    subst (IsLater tick) (sym (put_own proc halt p ∙ ap (λ (held : Bool). due_unless held p) (halt_held proc m))) tt
+    subst (IsLater tick) (sym (put_processor_io proc halt p ∙ ap (λ (blocked : Bool). due_unless blocked p) (halt_blocked proc m))) tt
 gone_later proc m tick (Left stop) e took = absurd took
 
 gone_other : (proc : Proc) (m : MachineState) (came : arm.Stepped) → Took came → processor_due (gone_by proc came m) (other_proc proc) ≡ processor_due m (other_proc proc)
@@ -158,8 +158,8 @@ gone_other proc m (Left stop) took = absurd took
 
 -- the units behind the ports, the key script and the display
 record Stays (tick : Tick) (m n : MachineState) : Type 0 where
-  behind : Behind tick m.map.units n.map.units
-  units : AreUnits m.map.units → AreUnits n.map.units
+  dues : IoReschedules tick m.map.io n.map.io
+  io : IsIo m.map.io → IsIo n.map.io
   keys : n.keys ≡ m.keys
   video : n.video ≡ m.video
 
@@ -167,16 +167,16 @@ gone_stays : (proc : Proc) (m : MachineState) (tick : Tick) (came : arm.Stepped)
 gone_stays proc m tick (Cost clocks) took =
     let b = put_beside proc m (went_on proc clocks (is_halted m proc) (processor_of m proc)) in
     record {
-      behind = subst (Behind tick m.map.units) (sym b.units) (λ who n. inl refl);
-      units = λ are. subst AreUnits (sym b.units) are;
+      dues = subst (IoReschedules tick m.map.io) (sym b.io) (λ who n. inl refl);
+      io = λ are. subst IsIo (sym b.io) are;
       keys = b.keys;
       video = b.video;
     }
 gone_stays proc m tick (Halted clocks) took =
     let b = put_beside proc (with_halt proc m true) (went_on proc clocks true (processor_of m proc)) in
     record {
-      behind = subst (Behind tick m.map.units) (sym b.units) (halted_behind tick proc m.map.units true);
-      units = λ are. subst AreUnits (sym b.units) (halted_units proc m.map.units true are);
+      dues = subst (IoReschedules tick m.map.io) (sym b.io) (halted_io_dues tick proc m.map.io true);
+      io = λ are. subst IsIo (sym b.io) (halted_io proc m.map.io true are);
       keys = b.keys;
       video = b.video;
     }
@@ -185,27 +185,27 @@ gone_stays proc m tick (Left stop) took = absurd took
 -- ---- the whole step
 
 -- where it makes its accesses
-pub record Ready (proc : Proc) (tick : Tick) (s : MachineState) : Type 0 where
+pub record Operation (proc : Proc) (tick : Tick) (s : MachineState) : Type 0 where
   pub sound : IsSound s
-  pub quiet : IsQuiet tick (own_of s.map.units proc)
+  pub quiet : IsQuiet tick (io_of s.map.io proc)
   pub due : processor_due s proc ≡ Some tick
 
-module _ (proc : Proc) (tick : Tick) (s : MachineState) (r : Ready proc tick s) where
+module _ (proc : Proc) (tick : Tick) (s : MachineState) (r : Operation proc tick s) where
   is_due : (processor_of s proc).due ≡ tick.0
-  is_due = (due_then (is_held s proc) (processor_of s proc) tick r.due).1
+  is_due = (due_then (is_blocked s proc) (processor_of s proc) tick r.due).1
 
-  not_held : is_held s proc ≡ false
-  not_held = (due_then (is_held s proc) (processor_of s proc) tick r.due).0
+  not_blocked : is_blocked s proc ≡ false
+  not_blocked = (due_then (is_blocked s proc) (processor_of s proc) tick r.due).0
 
-  goes : Goes proc tick s.map.units (reached_by proc s).map.units
-  goes = reach_goes proc tick s (tick_is (processor_of s proc) tick is_due) (own_is s.map.units r.sound.units proc) r.quiet
+  goes : Goes proc tick s.map.io (reached_by proc s).map.io
+  goes = reach_goes proc tick s (tick_is (processor_of s proc) tick is_due) (processor_io_is s.map.io r.sound.io proc) r.quiet
 
   -- the other processor is due as before
   other_same : processor_due (reached_by proc s) (other_proc proc) ≡ processor_due s (other_proc proc)
   other_same =
       let m = reached_by proc s in
-      ap (λ (held : Bool). due_unless held (processor_of m (other_proc proc))) (left_held (own_of s.map.units (other_proc proc)) (own_of m.map.units (other_proc proc)) goes.other)
-      ∙ ap (λ (p : ProcessorState). due_unless (is_held s (other_proc proc)) p) (reaches proc s).other
+      ap (λ (blocked : Bool). due_unless blocked (processor_of m (other_proc proc))) (unchanged_blocked (io_of s.map.io (other_proc proc)) (io_of m.map.io (other_proc proc)) goes.other)
+      ∙ ap (λ (p : ProcessorState). due_unless (is_blocked s (other_proc proc)) p) (reaches proc s).other
 
   -- what a step leaves that is taken
   pub gone_moves : (came : arm.Stepped) → Took came → Moves tick s (gone_by proc came (reached_by proc s))
@@ -215,32 +215,32 @@ module _ (proc : Proc) (tick : Tick) (s : MachineState) (r : Ready proc tick s) 
       let st = gone_stays proc m tick came took in
       let re = reaches proc s in
       moves_of tick s n (same_keys tick s.keys n.keys (st.keys ∙ re.keys)) (same_video tick s n (st.video ∙ re.video))
-      (then_behind tick s.map.units m.map.units n.map.units (all_behind proc tick s.map.units m.map.units goes) st.behind)
+      (then_io_dues tick s.map.io m.map.io n.map.io (all_io_dues proc tick s.map.io m.map.io goes) st.dues)
       (of_both (λ each. Reschedules tick (processor_due s each) (processor_due n each)) proc (inr (gone_later proc m tick came (re.due ∙ is_due) took))
       (inl (gone_other proc m came took ∙ other_same)))
 
-  pub own_later : (came : arm.Stepped) → Took came → IsLater tick (processor_due (gone_by proc came (reached_by proc s)) proc)
-  own_later came took = gone_later proc (reached_by proc s) tick came ((reaches proc s).due ∙ is_due) took
+  pub processor_io_later : (came : arm.Stepped) → Took came → IsLater tick (processor_due (gone_by proc came (reached_by proc s)) proc)
+  processor_io_later came took = gone_later proc (reached_by proc s) tick came ((reaches proc s).due ∙ is_due) took
 
   pub reached_sound : IsSound (reached_by proc s)
   reached_sound = record {
-    units = goes_units proc tick s.map.units (reached_by proc s).map.units r.sound.units goes;
+    io = goes_io proc tick s.map.io (reached_by proc s).map.io r.sound.io goes;
     keys = subst AreKeyLines (sym (reaches proc s).keys) r.sound.keys;
   }
 
   pub gone_sound : (came : arm.Stepped) → Took came → IsSound (gone_by proc came (reached_by proc s))
   gone_sound came took =
       let st = gone_stays proc (reached_by proc s) tick came took in
-      record { units = st.units reached_sound.units; keys = subst AreKeyLines (sym st.keys) reached_sound.keys }
+      record { io = st.io reached_sound.io; keys = subst AreKeyLines (sym st.keys) reached_sound.keys }
 
   -- what a step leaves that stops: its accesses before the refused one
   pub reached_moves : Moves tick s (reached_by proc s)
   reached_moves =
       let m = reached_by proc s in
       let re = reaches proc s in
-      moves_of tick s m (same_keys tick s.keys m.keys re.keys) (same_video tick s m re.video) (all_behind proc tick s.map.units m.map.units goes)
+      moves_of tick s m (same_keys tick s.keys m.keys re.keys) (same_video tick s m re.video) (all_io_dues proc tick s.map.io m.map.io goes)
       (of_both (λ each. Reschedules tick (processor_due s each) (processor_due m each)) proc
-      (held_moves tick (is_held s proc) (is_held m proc) (processor_of s proc) (processor_of m proc) re.due (λ h. absurd (true≢false (sym h ∙ not_held))))
+      (blocked_moves tick (is_blocked s proc) (is_blocked m proc) (processor_of s proc) (processor_of m proc) re.due (λ h. absurd (true≢false (sym h ∙ not_blocked))))
       (inl other_same))
 
 -- what a step comes to

@@ -6,16 +6,16 @@ use Rattle.ds_base.specs.declared.processors.Proc.TheVariants.{Nine, Seven}
 use Rattle.ds_base.specs.declared.ticks.Tick.{Tick}
 use Rattle.ds_dma.specs.Channels.{ready_by}
 use Rattle.ds_dma.specs.States.{DmaState, AreReadyLater, any_runs, channel_at}
-use Rattle.ds_ports.specs.Dues.{IsQuiet, due_behind}
-use Rattle.ds_ports.specs.Own.{OwnState, own_is_held}
-use Rattle.ds_ports.specs.Units.{own_of}
+use Rattle.ds_ports.specs.Dues.{IsQuiet, io_due}
+use Rattle.ds_ports.specs.ProcessorIo.{ProcessorIoState, blocks_processor}
+use Rattle.ds_ports.specs.Io.{io_of}
 use Rattle.ds_runs.specs.Actors.{actor_of}
 use Rattle.ds_runs.specs.Runs.{IsLeast, due_at}
 use Rattle.ds_runs.specs.declared.actors.Actor as actor
 use Rattle.ds_runs.specs.declared.actors.Actor.TheVariants.{KeyScript, Video, Timer, Divider, SquareRoot, Geometry, Card, Dma, Processor}
 use Rattle.ds_machine.specs.Reference.{due_by, dues_of}
 use Rattle.ds_machine.specs.States.{MachineState}
-use Rattle.ds_machine.specs.Steps.{is_held, processor_of}
+use Rattle.ds_machine.specs.Steps.{is_blocked, processor_of}
 use Rattle.ds_machine.proofs.DueTicks.{due_of_rank, due_of_step, due_then}
 use Rattle.ds_machine.proofs.Moves.{later_if}
 
@@ -63,8 +63,8 @@ timer_rank Seven (suc (suc (suc zero))) lt = (9, record { low = omega arith; the
 timer_rank proc (suc (suc (suc (suc n)))) lt = absurd (omega (arith, lt))
 
 pub timers_later : (s : MachineState) (tick : Tick) (rank : ℕ) → IsLeast (dues_of s) tick rank → comes_late (actor_of rank) ≡ true
-    → (proc : Proc) (which : ℕ) → which < 4 → IsLater tick (due_behind (Timer proc which) s.map.units)
-timers_later s tick rank least late proc which lt = later_if tick (due_behind (Timer proc which) s.map.units) (λ at h.
+    → (proc : Proc) (which : ℕ) → which < 4 → IsLater tick (io_due (Timer proc which) s.map.io)
+timers_later s tick rank least late proc which lt = later_if tick (io_due (Timer proc which) s.map.io) (λ at h.
     (let high = late_rank rank late in
     let has = timer_rank proc which lt in
     let low = has.1.low in
@@ -88,16 +88,16 @@ none_ready now dma none (suc (suc zero)) lt = never_ready now dma.last (channel_
 none_ready now dma none (suc (suc (suc zero))) lt = never_ready now dma.last (channel_at dma.channels 3).trigger (neither _ _ none).1
 none_ready now dma none (suc (suc (suc (suc n)))) lt = absurd (omega (arith, lt))
 
--- a processor that isn't held runs alone
-pub none_held : (now : Tick) (o : OwnState) → own_is_held o ≡ false → AreReadyLater now o.dma
-none_held now o h = none_ready now o.dma (neither o.halted (any_runs o.dma.channels) h).1
+-- a processor that isn't blocked runs alone
+pub none_blocked : (now : Tick) (o : ProcessorIoState) → blocks_processor o ≡ false → AreReadyLater now o.dma
+none_blocked now o h = none_ready now o.dma (neither o.halted (any_runs o.dma.channels) h).1
 
 -- so where a processor takes its step
 pub quiet_processor : (s : MachineState) (tick : Tick) (rank : ℕ) (proc : Proc) → IsLeast (dues_of s) tick rank → actor_of rank ≡ Processor proc
-    → IsQuiet tick (own_of s.map.units proc)
+    → IsQuiet tick (io_of s.map.io proc)
 quiet_processor s tick rank proc least is =
     let due = due_of_step s rank tick (Processor proc) least is in
     record {
       timers = timers_later s tick rank least (ap comes_late is) proc;
-      dma = none_held tick (own_of s.map.units proc) (due_then (is_held s proc) (processor_of s proc) tick due).0;
+      dma = none_blocked tick (io_of s.map.io proc) (due_then (is_blocked s proc) (processor_of s proc) tick due).0;
     }

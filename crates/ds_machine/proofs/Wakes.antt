@@ -5,22 +5,22 @@ use Rattle.ds_base.specs.declared.processors.Proc.{Proc}
 use Rattle.ds_base.specs.declared.processors.Proc.TheVariants.{Nine, Seven}
 use Rattle.ds_base.specs.declared.ticks.Tick.{Tick}
 use Rattle.ds_ipc.specs.Ipcs.{other_proc}
-use Rattle.ds_ports.specs.Dues.{AreUnits, IsOwn}
-use Rattle.ds_ports.specs.Own.{OwnState}
-use Rattle.ds_ports.specs.Units.{UnitsState, own_of, with_halted}
+use Rattle.ds_ports.specs.Dues.{IsIo, IsProcessorIo}
+use Rattle.ds_ports.specs.ProcessorIo.{ProcessorIoState}
+use Rattle.ds_ports.specs.Io.{IoState, io_of, with_halted}
 use Rattle.ds_machine.specs.Reference.{IsSound, due_unless, keys_due, processor_due}
 use Rattle.ds_machine.specs.States.{MachineState, ProcessorState, counts_of}
-use Rattle.ds_machine.specs.Steps.{goes_on, is_held, processor_of, wakes, with_halt, with_processor, woken, woken_one}
-use Rattle.ds_machine.proofs.Moves.{Behind, Moves, later_unless, moves_of, same_video, then_all}
-use Rattle.ds_ports.proofs.Later.{each_own, of_both, own_each, own_is, same_reschedules, units_of}
+use Rattle.ds_machine.specs.Steps.{goes_on, is_blocked, processor_of, wakes, with_halt, with_processor, woken, woken_one}
+use Rattle.ds_machine.proofs.Moves.{IoReschedules, Moves, later_unless, moves_of, same_video, then_all}
+use Rattle.ds_ports.proofs.Later.{each_processor_io, of_both, processor_io_each, processor_io_is, same_reschedules, io_is}
 
 -- Processors that are put into the machine with other numbers, that are halted, and that wake.
 
 -- ---- other numbers of a processor
 
-pub put_own : (proc : Proc) (s : MachineState) (p : ProcessorState) → processor_due (with_processor proc s p) proc ≡ due_unless (is_held s proc) p
-put_own Nine s p = refl
-put_own Seven s p = refl
+pub put_processor_io : (proc : Proc) (s : MachineState) (p : ProcessorState) → processor_due (with_processor proc s p) proc ≡ due_unless (is_blocked s proc) p
+put_processor_io Nine s p = refl
+put_processor_io Seven s p = refl
 
 pub put_other : (proc : Proc) (s : MachineState) (p : ProcessorState) → processor_due (with_processor proc s p) (other_proc proc) ≡ processor_due s (other_proc proc)
 put_other Nine s p = refl
@@ -28,13 +28,13 @@ put_other Seven s p = refl
 
 -- all but the processors stays
 pub record Beside (s next : MachineState) : Type 0 where
-  pub units : next.map.units ≡ s.map.units
+  pub io : next.map.io ≡ s.map.io
   pub keys : next.keys ≡ s.keys
   pub video : next.video ≡ s.video
 
 pub put_beside : (proc : Proc) (s : MachineState) (p : ProcessorState) → Beside s (with_processor proc s p)
-put_beside Nine s p = record { units = refl; keys = refl; video = refl }
-put_beside Seven s p = record { units = refl; keys = refl; video = refl }
+put_beside Nine s p = record { io = refl; keys = refl; video = refl }
+put_beside Seven s p = record { io = refl; keys = refl; video = refl }
 
 -- a processor's numbers, and its count of steps among all
 pub put_counts : (proc : Proc) (s : MachineState) (p : ProcessorState) → counts_of (with_processor proc s p) + (processor_of s proc).steps ≡ counts_of s + p.steps
@@ -43,23 +43,23 @@ put_counts Seven s p = omega arith
 
 -- ---- a processor is halted, or goes on
 
-pub halted_behind : (tick : Tick) (proc : Proc) (u : UnitsState) (halted : Bool) → Behind tick u (with_halted proc u halted)
-halted_behind tick proc u halted = own_each proc tick u (record (own_of u proc) { halted = halted }) (same_reschedules tick (own_of u proc) _ refl refl)
+pub halted_io_dues : (tick : Tick) (proc : Proc) (u : IoState) (halted : Bool) → IoReschedules tick u (with_halted proc u halted)
+halted_io_dues tick proc u halted = processor_io_each proc tick u (record (io_of u proc) { halted = halted }) (same_reschedules tick (io_of u proc) _ refl refl)
 
-pub halted_units : (proc : Proc) (u : UnitsState) (halted : Bool) → AreUnits u → AreUnits (with_halted proc u halted)
-halted_units proc u halted are =
-    let new : OwnState = record (own_of u proc) { halted = halted } in
-    let is = own_is u are proc in
-    units_of (with_halted proc u halted) (each_own (λ p x. IsOwn x) proc u new (record { timers = is.timers; dma = is.dma }) (own_is u are (other_proc proc)))
+pub halted_io : (proc : Proc) (u : IoState) (halted : Bool) → IsIo u → IsIo (with_halted proc u halted)
+halted_io proc u halted are =
+    let new : ProcessorIoState = record (io_of u proc) { halted = halted } in
+    let is = processor_io_is u are proc in
+    io_is (with_halted proc u halted) (each_processor_io (λ p x. IsProcessorIo x) proc u new (record { timers = is.timers; dma = is.dma }) (processor_io_is u are (other_proc proc)))
 
 -- the other processor is as it was
 pub halt_other : (proc : Proc) (s : MachineState) (halted : Bool) → processor_due (with_halt proc s halted) (other_proc proc) ≡ processor_due s (other_proc proc)
 halt_other Nine s halted = refl
 halt_other Seven s halted = refl
 
-pub halt_held : (proc : Proc) (s : MachineState) → is_held (with_halt proc s true) proc ≡ true
-halt_held Nine s = refl
-halt_held Seven s = refl
+pub halt_blocked : (proc : Proc) (s : MachineState) → is_blocked (with_halt proc s true) proc ≡ true
+halt_blocked Nine s = refl
+halt_blocked Seven s = refl
 
 -- ---- a processor wakes
 
@@ -71,17 +71,17 @@ on_moves proc tick s =
     let next = with_processor proc halt p in
     let b = put_beside proc halt p in
     let own : Reschedules tick (processor_due s proc) (processor_due next proc) =
-    rw (put_own proc halt p) (inr (later_unless tick (is_held halt proc) p (omega arith))) in
+    rw (put_processor_io proc halt p) (inr (later_unless tick (is_blocked halt proc) p (omega arith))) in
     let other : Reschedules tick (processor_due s (other_proc proc)) (processor_due next (other_proc proc)) = inl (put_other proc halt p ∙ halt_other proc s false) in
     moves_of tick s next (inl (ap keys_due b.keys)) (same_video tick s next b.video)
-    (subst (Behind tick s.map.units) (sym b.units) (halted_behind tick proc s.map.units false))
+    (subst (IoReschedules tick s.map.io) (sym b.io) (halted_io_dues tick proc s.map.io false))
     (of_both (λ each. Reschedules tick (processor_due s each) (processor_due next each)) proc own other)
 
 on_sound : (proc : Proc) (tick : Tick) (s : MachineState) → IsSound s → IsSound (goes_on proc tick s)
 on_sound proc tick s sound =
     let halt = with_halt proc s false in
     let b = put_beside proc halt (record (processor_of s proc) { due = tick.0 + 1 }) in
-    record { units = subst AreUnits (sym b.units) (halted_units proc s.map.units false sound.units); keys = subst AreKeyLines (sym b.keys) sound.keys }
+    record { io = subst IsIo (sym b.io) (halted_io proc s.map.io false sound.io); keys = subst AreKeyLines (sym b.keys) sound.keys }
 
 pub halt_steps : (proc : Proc) (s : MachineState) (halted : Bool) → (processor_of (with_halt proc s halted) proc).steps ≡ (processor_of s proc).steps
 halt_steps Nine s halted = refl

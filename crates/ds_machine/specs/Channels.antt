@@ -17,15 +17,15 @@ abbrev pub one_event : MachineState → MachineState
 one_event s = record s { events = s.events + 1 }
 
 -- a processor is due after a tick at the earliest: so it is after each unit that a channel of it moves (our choice)
-abbrev pub held_past : Proc → Tick → MachineState → MachineState
-held_past proc now s = with_processor proc s (record (processor_of s proc) { due = max (processor_of s proc).due (now.0 + 1) })
+abbrev pub delayed_past : Proc → Tick → MachineState → MachineState
+delayed_past proc now s = with_processor proc s (record (processor_of s proc) { due = max (processor_of s proc).due (now.0 + 1) })
 
 abbrev pub stopped_at : ℕ → Tick → Stop → LeftOut
 stopped_at rank now stop = record { kind = stop.kind; tick = now; rank = rank; value = stop.value }
 
 -- by why the write of its unit is refused, on the machine that this left
 abbrev pub moved_by : {O : Type 0} → ℕ → Proc → Tick → Option Stop → MachineState → MachineStep MachineState O LeftOut
-moved_by rank proc now None s = Makes (one_event (held_past proc now s)) []
+moved_by rank proc now None s = Makes (one_event (delayed_past proc now s)) []
 moved_by rank proc now (Some stop) s = Stops (stopped_at rank now stop) s
 
 -- unless it needs what isn't built: that is told before
@@ -36,4 +36,4 @@ moved_unless rank proc now (Some value) unit s = Stops (record { kind = NotYet; 
 -- the event of the channel of a processor that is due, at its tick; a channel that isn't due has none
 abbrev pub channel_step : {O : Type 0} → ℕ → Proc → Option Tick → MachineState → MachineStep MachineState O LeftOut
 channel_step rank proc None s = Makes s []
-channel_step rank proc (Some now) s = moved_unless rank proc now (unit_needs proc s.map.units.wramcnt (next_unit s.map proc)) (next_unit s.map proc) s
+channel_step rank proc (Some now) s = moved_unless rank proc now (unit_needs proc s.map.io.wramcnt (next_unit s.map proc)) (next_unit s.map proc) s

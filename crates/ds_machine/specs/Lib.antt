@@ -6,7 +6,7 @@ pub mod Channels
 pub mod Boots
 pub mod Booted
 pub mod Reference
-pub mod Kept
+pub mod NextEvents
 pub mod Observed
 pub mod Apart
 pub mod OwnSteps

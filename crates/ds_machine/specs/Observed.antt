@@ -11,7 +11,7 @@ use Rattle.ds_map.specs.Views.{nine_memory, seven_memory}
 use Rattle.ds_machine.specs.declared.answers.Seen.{Seen}
 use Rattle.ds_machine.specs.declared.answers.Seen.TheVariants.{Half, Idle, Irq, Word}
 use Rattle.ds_machine.specs.States.{MachineState, ProcessorState}
-use Rattle.ds_machine.specs.Steps.{is_held, line_of, nine_reach, processor_of, seven_reach, tick_of}
+use Rattle.ds_machine.specs.Steps.{is_blocked, line_of, nine_reach, processor_of, seven_reach, tick_of}
 
 -- What is told of a machine.
 
@@ -23,7 +23,7 @@ memory_of s Own7 = s.map.own
 memory_of s Itcm = s.nine.itcm
 memory_of s Dtcm = s.nine.dtcm
 memory_of s Palette = s.map.palette
-memory_of s Vram = s.map.units.vram.bytes
+memory_of s Vram = s.map.io.vram.bytes
 memory_of s Oam = s.map.oam
 
 -- a processor's 37 registers
@@ -38,11 +38,11 @@ fetch_of s Seven at width = seven_memory.fetch_value (seven_reach (tick_of s.sev
 -- what a processor does next: the entry of an interrupt at its r15, or a word or, in Thumb state, a half that it fetches; nothing where it isn't
 -- due
 abbrev pub seen_by : Bool → Bool → ProcessorState → (ℕ → Width → ℕ) → Seen
-seen_by held line p fetch =
-    if held then Idle
+seen_by blocked line p fetch =
+    if blocked then Idle
     else if enters line p.registers then Irq p.registers.pc
     else if is_thumb p.registers then Half p.registers.pc (fetch p.registers.pc width.Half % 2 ^ 16)
     else Word p.registers.pc (fetch p.registers.pc width.Word)
 
 abbrev pub seen_of : MachineState → Proc → Seen
-seen_of s proc = seen_by (is_held s proc) (line_of s proc) (processor_of s proc) (fetch_of s proc)
+seen_of s proc = seen_by (is_blocked s proc) (line_of s proc) (processor_of s proc) (fetch_of s proc)

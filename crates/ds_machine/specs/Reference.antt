@@ -5,15 +5,15 @@ use Rattle.ds_base.specs.declared.left_out.LeftOut.{LeftOut}
 use Rattle.ds_base.specs.declared.ticks.Due.{Due}
 use Rattle.ds_base.specs.declared.ticks.Tick.{Tick}
 use Rattle.ds_base.specs.declared.processors.Proc.{Proc}
-use Rattle.ds_ports.specs.Dues.{AreUnits, due_behind}
-use Rattle.ds_ports.specs.Units.{division_done, keys_pressed, root_done, timer_overflows}
+use Rattle.ds_ports.specs.Dues.{IsIo, io_due}
+use Rattle.ds_ports.specs.Io.{division_done, keys_pressed, root_done, timer_overflows}
 use Rattle.ds_runs.specs.Actors.{actors, actor_of}
 use Rattle.ds_runs.specs.Runs.{TickMachine, MachineStep, Makes, Stops, IsLeast, due_at}
 use Rattle.ds_runs.specs.declared.actors.Actor as actor
 use Rattle.ds_runs.specs.declared.actors.Actor.TheVariants.{KeyScript, Video, Timer, Divider, SquareRoot, Geometry, Card, Dma, Processor}
 use Rattle.ds_machine.specs.Channels.{channel_step, one_event}
 use Rattle.ds_machine.specs.States.{MachineState, ProcessorState, counts_of}
-use Rattle.ds_machine.specs.Steps.{is_held, processor_of, processor_step, tick_of, with_units, woken}
+use Rattle.ds_machine.specs.Steps.{is_blocked, processor_of, processor_step, tick_of, with_io, woken}
 use Rattle.ds_machine.specs.Videos.{video_due, video_after, makes_whole, triggered_by_video}
 use Rattle.ds_machine.specs.declared.answers.Done.{Done}
 use Rattle.ds_machine.specs.declared.answers.Done.TheVariants.{Made, Frame, Stopped}
@@ -29,12 +29,12 @@ pub record Shown : Type 0 where
 abbrev pub next_shown : MachineState → Bool → Shown
 next_shown s swapped = record { tick = video_due s.video; swapped = swapped }
 
--- when a processor is due: never while it is held
+-- when a processor is due: never while it is blocked
 abbrev pub due_unless : Bool → ProcessorState → Option Tick
-due_unless held p = if held then None else Some (tick_of p)
+due_unless blocked p = if blocked then None else Some (tick_of p)
 
 abbrev pub processor_due : MachineState → Proc → Option Tick
-processor_due s proc = due_unless (is_held s proc) (processor_of s proc)
+processor_due s proc = due_unless (is_blocked s proc) (processor_of s proc)
 
 -- when the key script's next line is due
 abbrev pub keys_due : List KeyLine → Option Tick
@@ -45,12 +45,12 @@ keys_due (line ∷ lines) = Some line.tick
 abbrev pub due_by : actor.Actor → MachineState → Option Tick
 due_by KeyScript s = keys_due s.keys
 due_by Video s = Some (record { 0 = video_due s.video })
-due_by (Timer proc number) s = due_behind (Timer proc number) s.map.units
-due_by Divider s = due_behind Divider s.map.units
-due_by SquareRoot s = due_behind SquareRoot s.map.units
+due_by (Timer proc number) s = io_due (Timer proc number) s.map.io
+due_by Divider s = io_due Divider s.map.io
+due_by SquareRoot s = io_due SquareRoot s.map.io
 due_by Geometry s = None
 due_by Card s = None
-due_by (Dma proc channel) s = due_behind (Dma proc channel) s.map.units
+due_by (Dma proc channel) s = io_due (Dma proc channel) s.map.io
 due_by (Processor proc) s = processor_due s proc
 
 -- when each actor is due, by rank
@@ -60,24 +60,24 @@ dues_of s = map (λ (a : actor.Actor). due_by a s) actors
 -- a line of the key script: from now on exactly its keys are pressed
 abbrev pub after_line : List KeyLine → MachineState → MachineState
 after_line [] s = s
-after_line (line ∷ lines) s = one_event (record (with_units s (keys_pressed s.map.units line.pressed)) { keys = lines })
+after_line (line ∷ lines) s = one_event (record (with_io s (keys_pressed s.map.io line.pressed)) { keys = lines })
 
 -- the display's event, which so far counts and triggers DMA, and what it puts out
 abbrev pub after_video : MachineState → MachineState
-after_video s = one_event (record (with_units s (triggered_by_video s.video s.map.units)) { video = video_after s.video })
+after_video s = one_event (record (with_io s (triggered_by_video s.video s.map.io)) { video = video_after s.video })
 
 abbrev pub shown_by_video : MachineState → List Shown
 shown_by_video s = if makes_whole s.video then next_shown s false ∷ [] else []
 
 -- the events of the units behind the ports
 abbrev pub after_timer : Proc → ℕ → MachineState → MachineState
-after_timer proc number s = one_event (with_units s (timer_overflows proc number s.map.units))
+after_timer proc number s = one_event (with_io s (timer_overflows proc number s.map.io))
 
 abbrev pub after_division : MachineState → MachineState
-after_division s = one_event (with_units s (division_done s.map.units))
+after_division s = one_event (with_io s (division_done s.map.io))
 
 abbrev pub after_root : MachineState → MachineState
-after_root s = one_event (with_units s (root_done s.map.units))
+after_root s = one_event (with_io s (root_done s.map.io))
 
 -- what an actor's step comes to; one that isn't built leaves all as it is
 abbrev pub step_by : ℕ → actor.Actor → MachineState → MachineStep MachineState Shown LeftOut
@@ -88,7 +88,7 @@ step_by rank Divider s = Makes (after_division s) []
 step_by rank SquareRoot s = Makes (after_root s) []
 step_by rank Geometry s = Makes s []
 step_by rank Card s = Makes s []
-step_by rank (Dma proc channel) s = channel_step rank proc (due_behind (Dma proc channel) s.map.units) s
+step_by rank (Dma proc channel) s = channel_step rank proc (io_due (Dma proc channel) s.map.io) s
 step_by rank (Processor proc) s = processor_step rank proc s
 
 -- and after a step that is taken halted processors wake that are to
@@ -121,14 +121,14 @@ Steps rank old done new = reference_step rank old ≡ stepped_of old done new
 abbrev pub IsDue : MachineState → Due → Type 0
 IsDue s due = IsLeast (dues_of s) due.tick due.rank
 
--- whether a step was taken at once: the least actor, where it was due below a limit, took its step; where none was, nothing is changed
-abbrev pub AtOnce : ℕ → MachineState → Bool → MachineState → Type 0
-AtOnce until old false new = new ≡ old
-AtOnce until old true new = (due : Due) × IsDue old due × (due.tick.0 < until) × Steps due.rank old Made new
+-- whether a step of the fast path was taken: the least actor, where it was due below a limit, took its step; where none was, nothing is changed
+abbrev pub FastStep : ℕ → MachineState → Bool → MachineState → Type 0
+FastStep until old false new = new ≡ old
+FastStep until old true new = (due : Due) × IsDue old due × (due.tick.0 < until) × Steps due.rank old Made new
 
 -- the states that come up: each unit's numbers are those that it can have, and the lines of the script that are to come rise
 pub record IsSound (s : MachineState) : Type 0 where
-  pub units : AreUnits s.map.units
+  pub io : IsIo s.map.io
   pub keys : AreKeyLines s.keys
 
 -- Each step was taken at a place of its own in the order of steps, which has 24 places for each tick: so there were no more of them than places before

@@ -12,9 +12,9 @@ use Rattle.arm_core.specs.Meanings.{meaning}
 use Rattle.arm_core.specs.Registers.{RegisterState}
 use Rattle.arm_core.specs.Steps.{FetchOutcome, enters, executed_word, fetched}
 use Rattle.arm_core.specs.declared.outcomes.Stepped.TheVariants.{Left}
-use Rattle.arm_ops.specs.Meanings.{ready_meaning}
-use Rattle.arm_ops.specs.Operations.{ready_of}
-use Rattle.arm_ops.specs.declared.operations.Ready.{Ready}
+use Rattle.arm_ops.specs.Meanings.{operation_meaning}
+use Rattle.arm_ops.specs.Operations.{operation_of}
+use Rattle.arm_ops.specs.declared.operations.Operation.{Operation}
 use Rattle.arm7_exec.specs.Arm7.{arm7}
 use Rattle.arm9_exec.specs.Arm9.{arm9}
 use Rattle.arm9_exec.specs.Coprocessors.{move_of, moved_if}
@@ -70,7 +70,7 @@ abbrev pub nine_side : SideOf NineReach
 nine_side = record {
   arch = V5;
   base = λ r. vectors_of r.cp15;
-  is_built = λ r. nine_is_built r.cp15 r.map.units.wramcnt;
+  is_built = λ r. nine_is_built r.cp15 r.map.io.wramcnt;
   executed = λ s r number instr. nine_executed s r number instr (move_of instr);
 }
 
@@ -78,21 +78,21 @@ abbrev pub seven_side : SideOf SevenReach
 seven_side = record {
   arch = V4;
   base = λ r. 0;
-  is_built = λ r. map_is_built Seven r.map.units.wramcnt;
+  is_built = λ r. map_is_built Seven r.map.io.wramcnt;
   executed = λ s r number instr. executed_word seven_memory arm7 s r number instr;
 }
 
--- ---- operations that were made ready
+-- ---- decoded operations
 
 -- one is carried out
-abbrev pub ready_outcome : {S : Type 0} → MemoryMachine S → SideOf S → RegisterState → S → Ready → Outcome S
-ready_outcome memory side s state ready = carried_out memory side.arch s state (ready_meaning side.arch (side.base state) s ready)
+abbrev pub operation_outcome : {S : Type 0} → MemoryMachine S → SideOf S → RegisterState → S → Operation → Outcome S
+operation_outcome memory side s state operation = carried_out memory side.arch s state (operation_meaning side.arch (side.base state) s operation)
 
 -- the accesses of one
-abbrev pub ready_accesses : {S : Type 0} → SideOf S → RegisterState → S → Ready → List Access
-ready_accesses side s state ready = (ready_meaning side.arch (side.base state) s ready).accesses
+abbrev pub operation_accesses : {S : Type 0} → SideOf S → RegisterState → S → Operation → List Access
+operation_accesses side s state operation = (operation_meaning side.arch (side.base state) s operation).accesses
 
--- it is what any instruction comes to that it was made ready from
-abbrev pub RunsAs : {S : Type 0} → MemoryMachine S → SideOf S → RegisterState → S → Ready → Type 0
-RunsAs memory side s state ready =
-    (number : ℕ) (instr : Option Instr) → ready ≡ ready_of instr → side.executed s state number instr ≡ ready_outcome memory side s state ready
+-- it is what any instruction comes to that it was decoded from
+abbrev pub RunsAs : {S : Type 0} → MemoryMachine S → SideOf S → RegisterState → S → Operation → Type 0
+RunsAs memory side s state operation =
+    (number : ℕ) (instr : Option Instr) → operation ≡ operation_of instr → side.executed s state number instr ≡ operation_outcome memory side s state operation

@@ -7,7 +7,7 @@ use Rattle.ds_map.specs.Maps.{MapState}
 -- The machine's state: one part for each unit, each processor's own part apart, so that an actor's step names the parts that it
 -- uses and leaves the others alone.
 
--- a processor: its registers, the tick at which its next step is due, and how many steps it took. While it is held, which the units behind the
+-- a processor: its registers, the tick at which its next step is due, and how many steps it took. While it is blocked, which the units behind the
 -- ports tell (it is halted, or a DMA channel of it runs), it isn't due
 pub record ProcessorState : Type 0 where
   pub registers : RegisterState

@@ -9,8 +9,8 @@ use Rattle.arm_core.specs.declared.outcomes.Stepped as arm
 use Rattle.arm_core.specs.declared.outcomes.Stepped.TheVariants.{Cost, Halted, Left}
 use Rattle.ds_base.specs.declared.ticks.Tick.{Tick}
 use Rattle.ds_map.specs.Views.{NineReach, SevenReach, nine_memory, seven_memory}
-use Rattle.ds_ports.specs.Own.{own_is_held}
-use Rattle.ds_ports.specs.Units.{UnitsState, own_of, with_halted}
+use Rattle.ds_ports.specs.ProcessorIo.{blocks_processor}
+use Rattle.ds_ports.specs.Io.{IoState, io_of, with_halted}
 use Rattle.ds_timers.specs.Irqs.{line_is_up, shares_bit}
 use Rattle.ds_runs.specs.Runs.{MachineStep, Makes, Stops}
 use Rattle.ds_machine.specs.Sides.{nine_side, seven_side, taken}
@@ -30,15 +30,15 @@ with_processor Seven s p = record s { seven = record s.seven { processor = p } }
 abbrev pub tick_of : ProcessorState → Tick
 tick_of p = record { 0 = p.due }
 
--- whether a processor is halted; whether it is held, so that it isn't due; and whether its interrupt line is up
+-- whether a processor is halted; whether it is blocked, so that it isn't due; and whether its interrupt line is up
 abbrev pub is_halted : MachineState → Proc → Bool
-is_halted s proc = (own_of s.map.units proc).halted
+is_halted s proc = (io_of s.map.io proc).halted
 
-abbrev pub is_held : MachineState → Proc → Bool
-is_held s proc = own_is_held (own_of s.map.units proc)
+abbrev pub is_blocked : MachineState → Proc → Bool
+is_blocked s proc = blocks_processor (io_of s.map.io proc)
 
 abbrev pub line_of : MachineState → Proc → Bool
-line_of s proc = line_is_up (own_of s.map.units proc).irq
+line_of s proc = line_is_up (io_of s.map.io proc).irq
 
 -- what each processor reaches of the machine at a tick
 abbrev pub nine_reach : Tick → MachineState → NineReach
@@ -74,12 +74,12 @@ outcome_of Seven now s =
     let o = taken seven_memory seven_side (line_of s Seven) s.seven.processor.registers (seven_reach now s) in record { machine = with_seven s o; stepped = o.stepped }
 
 -- the machine with other units behind the ports
-abbrev pub with_units : MachineState → UnitsState → MachineState
-with_units s units = record s { map = record s.map { units = units } }
+abbrev pub with_io : MachineState → IoState → MachineState
+with_io s io = record s { map = record s.map { io = io } }
 
 -- a processor is halted, or isn't
 abbrev pub with_halt : Proc → MachineState → Bool → MachineState
-with_halt proc s halted = with_units s (with_halted proc s.map.units halted)
+with_halt proc s halted = with_io s (with_halted proc s.map.io halted)
 
 -- a processor after a step that costs so many of its clocks; where it is halted now the cost isn't added
 abbrev pub went_on : Proc → ℕ → Bool → ProcessorState → ProcessorState
@@ -108,7 +108,7 @@ processor_step rank proc s = let o = outcome_of proc (tick_of (processor_of s pr
 -- ---- waking: where a halted processor's IE and IF share a bit after a step at a tick, it is due at the next tick, whatever IME is (our choice)
 
 abbrev pub wakes : MachineState → Proc → Bool
-wakes s proc = is_halted s proc && shares_bit (own_of s.map.units proc).irq
+wakes s proc = is_halted s proc && shares_bit (io_of s.map.io proc).irq
 
 abbrev pub goes_on : Proc → Tick → MachineState → MachineState
 goes_on proc tick s = with_processor proc (with_halt proc s false) (record (processor_of s proc) { due = tick.0 + 1 })

@@ -1,7 +1,7 @@
 use Rattle.std.specs.Prelude.{ℕ, ◌+◌, ◌*◌, ◌==◌, nat_lt, ◌&&◌, not, Bool, true, false, if◌then◌else◌}
 use Rattle.ds_base.specs.declared.ticks.Tick.{Tick}
 use Rattle.ds_dma.specs.declared.controls.Cause.TheVariants.{VBlank, HBlank}
-use Rattle.ds_ports.specs.Units.{UnitsState, channels_triggered}
+use Rattle.ds_ports.specs.Io.{IoState, channels_triggered}
 use Rattle.ds_machine.specs.States.{VideoState}
 
 -- The display's events (GBATEK, "DS Video", LCD timings; the tick of H-blank is our choice). A line has 355 dots of 6 bus clocks,
@@ -32,7 +32,7 @@ blanks_drawn v = not v.blanked && nat_lt v.line 192
 
 -- what the next event triggers: the start of line 192 V-blank DMA of both processors, and the H-blank of a line that is drawn H-blank DMA (GBATEK, "DS
 -- DMA Transfers")
-abbrev pub triggered_by_video : VideoState → UnitsState → UnitsState
+abbrev pub triggered_by_video : VideoState → IoState → IoState
 triggered_by_video v u =
     let now : Tick = record { 0 = video_due v } in
     if makes_whole v then channels_triggered VBlank now u else (if blanks_drawn v then channels_triggered HBlank now u else u)

@@ -4,7 +4,7 @@ ghost use Rattle.std.specs.Prelude.{◌≡◌, ◌<◌, Some};
 ghost use Rattle.ds_runs.specs.Actors.{IsNumbered};
 ghost use Rattle.ds_runs.specs.Order.{first_from};
 ghost use Rattle.ds_runs.specs.Runs.{due_at};
-ghost use Rattle.ds_machine.specs.Kept.{events_of};
+ghost use Rattle.ds_machine.specs.NextEvents.{events_of};
 ghost use Rattle.ds_machine.specs.Reference.{dues_of, due_by, keys_due, processor_due, IsDue};
 ghost use Rattle.ds_machine.specs.Videos.{video_due};
 
@@ -27,7 +27,7 @@ impl Parts {
     fn processor_due(&self, proc: Proc) -> Option<Tick>
         ensures { result ≡ processor_due self.now proc }
     {
-        if self.is_held(proc) {
+        if self.is_blocked(proc) {
             return None;
         }
         Some(Tick(self.processor(proc).due))
@@ -60,7 +60,7 @@ impl Parts {
         };
         later_than(
             entry(SCRIPT, self.script_due()),
-            earlier_than(video, self.map.units().first_due()),
+            earlier_than(video, self.map.io().first_due()),
         )
     }
 
@@ -96,7 +96,7 @@ impl Parts {
             Actor::Processor(proc) => self.processor_due(proc),
             Actor::Geometry | Actor::Card => None,
             Actor::Timer { .. } | Actor::Divider | Actor::SquareRoot | Actor::Dma { .. } => {
-                self.map.units().due_behind(actor)
+                self.map.io().io_due(actor)
             }
         }
     }

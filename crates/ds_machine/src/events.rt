@@ -1,9 +1,9 @@
 //! The events: the steps of all actors but the processors.
 
 ghost use Rattle.std.specs.Prelude.{◌≡◌, ◌<◌, ◌≤◌, ◌^◌, Some};
-ghost use Rattle.ds_machine.specs.Channels.{channel_step, held_past, moved_by, one_event};
+ghost use Rattle.ds_machine.specs.Channels.{channel_step, delayed_past, moved_by, one_event};
 ghost use Rattle.ds_machine.specs.Reference.{after_division, after_line, after_root, after_timer, after_video, awake, due_by, step_by, stepped_of};
-ghost use Rattle.ds_machine.specs.Steps.{processor_of, with_units, woken};
+ghost use Rattle.ds_machine.specs.Steps.{processor_of, with_io, woken};
 ghost use Rattle.ds_machine.specs.Videos.{makes_whole, triggered_by_video};
 ghost use Rattle.ds_machine.specs.declared.answers.Done.TheVariants.{Made};
 ghost use Rattle.ds_runs.specs.declared.actors.Actor.TheVariants as actors;
@@ -43,7 +43,7 @@ impl Parts {
     fn trigger(&mut self, tick: Tick)
         requires due { due_by actors.Video self.old ≡ Some tick }
         requires early { tick.0 ≤ 2 ^ 56 }
-        ensures { self.new ≡ with_units self.old (triggered_by_video self.old.video self.old.map.units) }
+        ensures { self.new ≡ with_io self.old (triggered_by_video self.old.video self.old.map.io) }
     {
         if self.video.makes_whole() {
             self.map.trigger(Cause::VBlank, tick);
@@ -110,13 +110,13 @@ impl Parts {
     }
 
     /// A processor is due after a tick at the earliest.
-    fn hold_past(&mut self, proc: Proc, tick: Tick)
+    fn delay_past(&mut self, proc: Proc, tick: Tick)
         requires { tick.0 ≤ 2 ^ 56 }
-        ensures { self.new ≡ held_past proc tick self.old }
+        ensures { self.new ≡ delayed_past proc tick self.old }
     {
         match proc {
-            Proc::Nine => self.nine.processor.hold_past(tick),
-            Proc::Seven => self.seven.processor.hold_past(tick),
+            Proc::Nine => self.nine.processor.delay_past(tick),
+            Proc::Seven => self.seven.processor.delay_past(tick),
         }
     }
 
@@ -128,7 +128,7 @@ impl Parts {
     {
         match stop {
             None => {
-                self.hold_past(proc, tick);
+                self.delay_past(proc, tick);
                 self.end_event(tick);
                 Done::Made
             }

@@ -8,7 +8,7 @@ mod answers;
 mod boots;
 mod dues;
 mod events;
-mod kept;
+mod next_events;
 mod laws;
 mod machines;
 mod needs;

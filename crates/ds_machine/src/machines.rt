@@ -5,11 +5,11 @@ ghost use Rattle.ds_base.specs.Memories.{memory_size};
 ghost use Rattle.ds_runs.specs.Runs.{due_at};
 ghost use Rattle.ds_machine.specs.Booted.{machine_booted};
 ghost use Rattle.ds_machine.specs.Observed.{memory_of, registers_of, seen_of};
-ghost use Rattle.ds_machine.specs.Reference.{dues_of, AtOnce, IsDue, IsSound, HasCounted, MayStep, Steps};
+ghost use Rattle.ds_machine.specs.Reference.{dues_of, FastStep, IsDue, IsSound, HasCounted, MayStep, Steps};
 ghost use Rattle.ds_machine.specs.Steps.{processor_of};
 
 use crate::answers::{Done, Seen};
-use crate::kept::Kept;
+use crate::next_events::NextEvent;
 use crate::parts::Parts;
 use ds_base::{Due, Keys, Memory, Proc, Tick};
 use ds_header::Cart;
@@ -20,11 +20,11 @@ use std::marker::Model;
 #[derive(Drop)]
 pub struct Machine {
     parts: Parts,
-    kept: Kept,
+    next_event: NextEvent,
 }
 
 impl Model for Machine {
-    ghost use Rattle.ds_machine.specs.Kept.{IsKept};
+    ghost use Rattle.ds_machine.specs.NextEvents.{IsNextEvent};
     ghost use Rattle.ds_machine.specs.Reference.{HasCounted};
     ghost use Rattle.ds_machine.specs.States.{MachineState};
 
@@ -33,7 +33,7 @@ impl Model for Machine {
     ghost view = { λ m. m.parts };
 
     // each step was taken at a place of its own in the order of steps, and what is kept is so
-    ghost invariant = { λ m. HasCounted m.parts × IsKept m.kept m.parts };
+    ghost invariant = { λ m. HasCounted m.parts × IsNextEvent m.next_event m.parts };
 }
 
 impl Machine {
@@ -43,8 +43,8 @@ impl Machine {
         ensures { IfOk result (λ machine. machine ≡ machine_booted cart.now keys) }
     {
         let parts = Parts::new(alloc, cart, keys)?;
-        let kept = parts.kept();
-        Ok(Machine { parts, kept })
+        let next_event = parts.next_event();
+        Ok(Machine { parts, next_event })
     }
 
     /// The actor that steps next. All steps so far were at most as many as places before it in the order of steps.
@@ -73,21 +73,21 @@ impl Machine {
     {
         self.parts.laws();
         let done = self.parts.step(rank);
-        let kept = self.parts.kept();
-        self.kept = kept;
+        let next_event = self.parts.next_event();
+        self.next_event = next_event;
         done
     }
 
-    /// One step, where it is one that is taken at once: a processor is due before every other actor and before a tick. The answer is whether it was
+    /// One step, where it is one of the fast path: a processor is due before every other actor and before a tick. The answer is whether it was
     /// taken; where it wasn't nothing is changed. All steps so far were at most as many as places before it in the order of steps.
     #[inline(always)]
-    pub fn quick(&mut self, until: Tick) -> bool
+    pub fn step_fast(&mut self, until: Tick) -> bool
         requires { until.0 ≤ 2 ^ 56 }
-        ensures step { AtOnce until.0 self.old result self.new }
+        ensures step { FastStep until.0 self.old result self.new }
         ensures counted { HasCounted self.old }
     {
         self.parts.laws();
-        self.parts.quick(self.kept, until)
+        self.parts.step_fast(self.next_event, until)
     }
 
     /// Does nothing; its contract states what holds of every machine: each unit's numbers are those that it can have, and the lines of the key

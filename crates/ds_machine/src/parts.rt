@@ -6,7 +6,7 @@ ghost use Rattle.ds_machine.specs.Booted.{machine_booted};
 ghost use Rattle.ds_machine.specs.Observed.{fetch_of, memory_of, seen_of};
 ghost use Rattle.ds_machine.specs.Processors.{state_of};
 ghost use Rattle.ds_machine.specs.Reference.{IsSound};
-ghost use Rattle.ds_machine.specs.Steps.{is_held, line_of, processor_of};
+ghost use Rattle.ds_machine.specs.Steps.{is_blocked, line_of, processor_of};
 
 use crate::answers::Seen;
 use crate::boots::map_at_boot;
@@ -14,7 +14,7 @@ use crate::processors::Processor;
 use crate::scripts::Script;
 use crate::videos::Video;
 use arm_exec::enters;
-use arm_memo::Decoder;
+use decode_cache::Decoder;
 use cp15_tcm::Cp15;
 use ds_base::{DTCM_BYTES, ITCM_BYTES, Keys, Memory, Proc, Width};
 use ds_header::Cart;
@@ -111,12 +111,12 @@ impl Parts {
         }
     }
 
-    /// Whether a processor is held, so that it isn't due.
+    /// Whether a processor is blocked, so that it isn't due.
     #[inline(always)]
-    pub fn is_held(&self, proc: Proc) -> bool
-        ensures { result ≡ is_held self.now proc }
+    pub fn is_blocked(&self, proc: Proc) -> bool
+        ensures { result ≡ is_blocked self.now proc }
     {
-        self.map.units().is_held(proc)
+        self.map.io().is_blocked(proc)
     }
 
     /// Whether a processor's interrupt line is up.
@@ -131,7 +131,7 @@ impl Parts {
     pub fn laws(&self)
         ensures { IsSound self.now }
     {
-        self.map.units().laws();
+        self.map.io().laws();
         self.script.laws();
     }
 
@@ -152,7 +152,7 @@ impl Parts {
     pub fn seen(&self, proc: Proc) -> Seen
         ensures { result ≡ seen_of self.now proc }
     {
-        if self.is_held(proc) {
+        if self.is_blocked(proc) {
             return Seen::Idle;
         }
         let registers = &self.processor(proc).core.registers;

@@ -60,7 +60,7 @@ impl Processor {
     }
 
     /// It is due after a tick at the earliest.
-    pub fn hold_past(&mut self, tick: Tick)
+    pub fn delay_past(&mut self, tick: Tick)
         requires { tick.0 ≤ 2 ^ 56 }
         ensures state { state_of self.new ≡ record (state_of self.old) { due = max self.old.due (tick.0 + 1) } }
         ensures core { self.new.core ≡ self.old.core }

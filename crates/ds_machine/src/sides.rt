@@ -4,15 +4,15 @@ ghost use Rattle.std.specs.Prelude.{◌≡◌, ◌<◌, ℕ, List, false, None, 
 ghost use Rattle.ds_base.specs.Accesses.{MemoryMachine};
 ghost use Rattle.arm_core.specs.Footprints.{first_without, touched_bytes};
 ghost use Rattle.arm_core.specs.declared.outcomes.Stepped.TheVariants.{Cost};
-ghost use Rattle.arm_ops.specs.Operations.{is_other, HasReady};
+ghost use Rattle.arm_ops.specs.Operations.{is_other, HasOperation};
 ghost use Rattle.arm_words.specs.Fields.{HasFields};
-ghost use Rattle.ds_ports.specs.Units.{UnitsState};
-ghost use Rattle.ds_machine.specs.Sides.{ready_accesses, ready_outcome, unbuilt, RunsAs, SideOf};
+ghost use Rattle.ds_ports.specs.Io.{IoState};
+ghost use Rattle.ds_machine.specs.Sides.{operation_accesses, operation_outcome, unbuilt, RunsAs, SideOf};
 
 use crate::needs::{unbuilt_nine, unbuilt_seven};
 use arm_core::{Core, Registers, Stepped, Touch};
 use arm_exec::{Fetched, execute_word};
-use arm_ops::{Ready, run, run_anywhere};
+use arm_ops::{Operation, run, run_anywhere};
 use arm7_exec::execute7;
 use arm9_exec::{in_rom, move_if, move_of};
 use ds_base::{Arch, Proc, Width};
@@ -33,7 +33,7 @@ pub trait Side {
     ghost side: { SideOf State };
 
     /// The units behind the ports.
-    ghost units: { State → UnitsState };
+    ghost io: { State → IoState };
 
     /// Which references it holds, which no call changes.
     ghost identity: { Self → List ℕ };
@@ -64,27 +64,27 @@ pub trait Side {
         ensures same { identity self.new ≡ identity self.old };
 
     /// Runs an operation, wherever its access is: it is what its instruction comes to.
-    fn run(&mut self, s: &mut Registers, ready: &Ready) -> Stepped
-        requires fields { HasReady ready.now }
-        requires known { is_other ready.now.op ≡ false }
-        ensures registers { s.new ≡ (ready_outcome memory side s.old (state self.old) ready.now).registers }
-        ensures state { state self.new ≡ (ready_outcome memory side s.old (state self.old) ready.now).state }
-        ensures stepped { result ≡ (ready_outcome memory side s.old (state self.old) ready.now).stepped }
-        ensures executes { RunsAs memory side s.old (state self.old) ready.now }
+    fn run(&mut self, s: &mut Registers, operation: &Operation) -> Stepped
+        requires fields { HasOperation operation.now }
+        requires known { is_other operation.now.op ≡ false }
+        ensures registers { s.new ≡ (operation_outcome memory side s.old (state self.old) operation.now).registers }
+        ensures state { state self.new ≡ (operation_outcome memory side s.old (state self.old) operation.now).state }
+        ensures stepped { result ≡ (operation_outcome memory side s.old (state self.old) operation.now).stepped }
+        ensures executes { RunsAs memory side s.old (state self.old) operation.now }
         ensures same { identity self.new ≡ identity self.old };
 
     /// Runs an operation, where it is frequent and reaches RAM alone; so all that it reaches is built, and no unit changes. The result is its cost; 0 where
     /// it isn't run, and then nothing is changed.
-    fn run_fast(&mut self, s: &mut Registers, ready: &Ready) -> u32
-        requires { HasReady ready.now }
+    fn run_fast(&mut self, s: &mut Registers, operation: &Operation) -> u32
+        requires { HasOperation operation.now }
         ensures none { result ≡ 0 → (s.new ≡ s.old) × (state self.new ≡ state self.old) }
-        ensures known { 0 < result → is_other ready.now.op ≡ false }
-        ensures registers { 0 < result → s.new ≡ (ready_outcome memory side s.old (state self.old) ready.now).registers }
-        ensures state { 0 < result → state self.new ≡ (ready_outcome memory side s.old (state self.old) ready.now).state }
-        ensures stepped { 0 < result → (ready_outcome memory side s.old (state self.old) ready.now).stepped ≡ Cost result }
-        ensures executes { 0 < result → RunsAs memory side s.old (state self.old) ready.now }
-        ensures built { 0 < result → unbuilt side (state self.old) (ready_accesses side s.old (state self.old) ready.now) ≡ None }
-        ensures units { units (state self.new) ≡ units (state self.old) }
+        ensures known { 0 < result → is_other operation.now.op ≡ false }
+        ensures registers { 0 < result → s.new ≡ (operation_outcome memory side s.old (state self.old) operation.now).registers }
+        ensures state { 0 < result → state self.new ≡ (operation_outcome memory side s.old (state self.old) operation.now).state }
+        ensures stepped { 0 < result → (operation_outcome memory side s.old (state self.old) operation.now).stepped ≡ Cost result }
+        ensures executes { 0 < result → RunsAs memory side s.old (state self.old) operation.now }
+        ensures built { 0 < result → unbuilt side (state self.old) (operation_accesses side s.old (state self.old) operation.now) ≡ None }
+        ensures io { io (state self.new) ≡ io (state self.old) }
         ensures same { identity self.new ≡ identity self.old };
 }
 
@@ -101,7 +101,7 @@ impl Side for NineView<'_> {
 
     ghost side = { nine_side };
 
-    ghost units = { λ r. r.map.units };
+    ghost io = { λ r. r.map.io };
 
     ghost identity = { λ v. v.map.ghost_name ∷ v.cp.ghost_name ∷ v.itcm.ghost_name ∷ v.dtcm.ghost_name ∷ [] };
 
@@ -144,16 +144,16 @@ impl Side for NineView<'_> {
     }
 
     #[inline(always)]
-    fn run(&mut self, s: &mut Registers, ready: &Ready) -> Stepped {
+    fn run(&mut self, s: &mut Registers, operation: &Operation) -> Stepped {
         let base = self.cp.vectors();
-        run_anywhere(Arch::V5, base, s, self, ready)
+        run_anywhere(Arch::V5, base, s, self, operation)
     }
 
     #[inline(always)]
-    #[tactic(auto, using(crate::proofs::Nears::nine_refuses_none))]
-    fn run_fast(&mut self, s: &mut Registers, ready: &Ready) -> u32 {
+    #[tactic(auto, using(crate::proofs::RamAccesses::nine_refuses_none))]
+    fn run_fast(&mut self, s: &mut Registers, operation: &Operation) -> u32 {
         let base = self.cp.vectors();
-        run(Arch::V5, base, s, self, ready)
+        run(Arch::V5, base, s, self, operation)
     }
 }
 
@@ -170,7 +170,7 @@ impl Side for SevenView<'_> {
 
     ghost side = { seven_side };
 
-    ghost units = { λ r. r.map.units };
+    ghost io = { λ r. r.map.io };
 
     ghost identity = { λ v. v.map.ghost_name ∷ [] };
 
@@ -200,13 +200,13 @@ impl Side for SevenView<'_> {
     }
 
     #[inline(always)]
-    fn run(&mut self, s: &mut Registers, ready: &Ready) -> Stepped {
-        run_anywhere(Arch::V4, 0, s, self, ready)
+    fn run(&mut self, s: &mut Registers, operation: &Operation) -> Stepped {
+        run_anywhere(Arch::V4, 0, s, self, operation)
     }
 
     #[inline(always)]
-    #[tactic(auto, using(crate::proofs::Nears::seven_refuses_none))]
-    fn run_fast(&mut self, s: &mut Registers, ready: &Ready) -> u32 {
-        run(Arch::V4, 0, s, self, ready)
+    #[tactic(auto, using(crate::proofs::RamAccesses::seven_refuses_none))]
+    fn run_fast(&mut self, s: &mut Registers, operation: &Operation) -> u32 {
+        run(Arch::V4, 0, s, self, operation)
     }
 }

@@ -4,18 +4,18 @@ ghost use Rattle.std.specs.Prelude.{◌≡◌, ◌<◌, ◌%◌, ◌/◌, ◌^�
 ghost use Rattle.ds_base.specs.declared.left_out.LeftKind.TheVariants.{NotYet};
 ghost use Rattle.arm_core.specs.Steps.{enters, fetched};
 ghost use Rattle.arm_core.specs.declared.outcomes.Stepped.TheVariants.{Cost};
-ghost use Rattle.arm_memo.specs.Known.{arch_of};
-ghost use Rattle.arm_ops.specs.Operations.{is_other, ready_of, HasReady};
+ghost use Rattle.decode_cache.specs.Known.{arch_of};
+ghost use Rattle.arm_ops.specs.Operations.{is_other, operation_of, HasOperation};
 ghost use Rattle.arm_words.specs.ArmTable.{decoded_arm};
 ghost use Rattle.arm_words.specs.Fields.{HasFields};
 ghost use Rattle.arm_words.specs.ThumbTable.{decoded_thumb};
-ghost use Rattle.ds_machine.specs.Sides.{needs, ready_accesses, taken, unbuilt};
+ghost use Rattle.ds_machine.specs.Sides.{needs, operation_accesses, taken, unbuilt};
 
 use crate::sides::Side;
 use arm_core::{Core, Registers, Stepped, Touch, footprint};
 use arm_exec::{Fetched, enters, interrupt};
-use arm_memo::Decoder;
-use arm_ops::{Ready, is_other, touched};
+use decode_cache::Decoder;
+use arm_ops::{Operation, is_other, touched};
 use arm_words::{decode_arm, decode_thumb};
 use ds_base::{Arch, LeftKind, Stop, Width};
 
@@ -29,31 +29,31 @@ fn not_yet(value: u32) -> Stop
     }
 }
 
-/// A half of Thumb code at an address, made ready.
+/// A half of Thumb code at an address, decoded.
 #[inline(always)]
-fn half_at<const VERSION: u32>(decoder: &mut Decoder<VERSION>, at: u32, half: u32) -> &Ready
-    ensures ready { result.now ≡ ready_of (decoded_thumb (arch_of VERSION) (half % 2 ^ 16)) }
-    ensures fields { HasReady result.now }
+fn half_at<const VERSION: u32>(decoder: &mut Decoder<VERSION>, at: u32, half: u32) -> &Operation
+    ensures operation { result.now ≡ operation_of (decoded_thumb (arch_of VERSION) (half % 2 ^ 16)) }
+    ensures fields { HasOperation result.now }
 {
-    decoder.thumb_ready(at, (half % 0x1_0000) as u16)
+    decoder.thumb_operation(at, (half % 0x1_0000) as u16)
 }
 
-/// What is fetched at r15, made ready.
+/// What is fetched at r15, decoded.
 #[inline(always)]
-fn next_ready<'a, V: Side, const VERSION: u32>(
+fn next_operation<'a, V: Side, const VERSION: u32>(
     s: &Registers,
     decoder: &'a mut Decoder<VERSION>,
     view: &V,
-) -> &'a Ready
+) -> &'a Operation
     requires version { arch_of VERSION ≡ V.side.arch }
-    ensures ready { result.now ≡ ready_of (fetched V.memory V.side.arch s.now (V.state view.now)).instr }
-    ensures fields { HasReady result.now }
+    ensures operation { result.now ≡ operation_of (fetched V.memory V.side.arch s.now (V.state view.now)).instr }
+    ensures fields { HasOperation result.now }
 {
     let at = s.pc();
     if s.is_thumb() {
         return half_at(decoder, at, view.fetched(at, Width::Half));
     }
-    decoder.arm_ready(at, view.fetched(at, Width::Word))
+    decoder.arm_operation(at, view.fetched(at, Width::Word))
 }
 
 /// A word of ARM code, decoded: it takes effect under the condition of its upper four bits.
@@ -109,7 +109,7 @@ fn needs_of<V: Side>(core: &Core, view: &V, next: &Fetched) -> Option<u32>
     }
 }
 
-/// The step of an instruction that isn't made ready, where no interrupt is entered.
+/// The step of an instruction that isn't decoded, where no interrupt is entered.
 #[inline(never)]
 fn take_other<V: Side>(core: &mut Core, view: &mut V, line: bool) -> Stepped
     requires arch { core.old.arch ≡ V.side.arch }
@@ -129,19 +129,19 @@ fn take_other<V: Side>(core: &mut Core, view: &mut V, line: bool) -> Stepped
 
 /// What an operation needs that isn't built yet.
 #[inline(always)]
-fn ready_needs<V: Side>(s: &Registers, view: &V, next: &Ready) -> Option<u32>
-    requires { HasReady next.now }
-    ensures { result ≡ unbuilt V.side (V.state view.now) (ready_accesses V.side s.now (V.state view.now) next.now) }
+fn operation_needs<V: Side>(s: &Registers, view: &V, next: &Operation) -> Option<u32>
+    requires { HasOperation next.now }
+    ensures { result ≡ unbuilt V.side (V.state view.now) (operation_accesses V.side s.now (V.state view.now) next.now) }
 {
     view.unbuilt(touched(view.arch(), s, next))
 }
 
-/// The step of an instruction that was made ready, where no interrupt is entered.
+/// The step of an instruction that was decoded, where no interrupt is entered.
 #[inline(always)]
-fn take_ready<V: Side>(s: &mut Registers, view: &mut V, line: bool, next: &Ready) -> Stepped
+fn take_operation<V: Side>(s: &mut Registers, view: &mut V, line: bool, next: &Operation) -> Stepped
     requires none { enters line s.old ≡ false }
-    requires ready { next.now ≡ ready_of (fetched V.memory V.side.arch s.old (V.state view.old)).instr }
-    requires fields { HasReady next.now }
+    requires operation { next.now ≡ operation_of (fetched V.memory V.side.arch s.old (V.state view.old)).instr }
+    requires fields { HasOperation next.now }
     requires known { is_other next.now.op ≡ false }
     ensures registers { s.new ≡ (taken V.memory V.side line s.old (V.state view.old)).registers }
     ensures state { V.state view.new ≡ (taken V.memory V.side line s.old (V.state view.old)).state }
@@ -149,7 +149,7 @@ fn take_ready<V: Side>(s: &mut Registers, view: &mut V, line: bool, next: &Ready
     ensures same { V.identity view.new ≡ V.identity view.old }
 {
     let _ = line;
-    match ready_needs(s, view, next) {
+    match operation_needs(s, view, next) {
         None => view.run(s, next),
         Some(value) => Stepped::Left(not_yet(value)),
     }
@@ -175,11 +175,11 @@ pub fn take<V: Side, const VERSION: u32>(
         let base = view.base();
         return Stepped::Cost(interrupt(view.arch(), &mut core.registers, base));
     }
-    let next = next_ready(&core.registers, decoder, view);
+    let next = next_operation(&core.registers, decoder, view);
     if is_other(next) {
         return take_other(core, view, line);
     }
-    take_ready(&mut core.registers, view, line, next)
+    take_operation(&mut core.registers, view, line, next)
 }
 
 /// The step, where it is fast: a frequent instruction, which reaches RAM alone. The result is its cost; 0 where it isn't taken, and then nothing is
@@ -196,12 +196,12 @@ pub fn take_fast<V: Side, const VERSION: u32>(
     ensures registers { 0 < result → s.new ≡ (taken V.memory V.side line s.old (V.state view.old)).registers }
     ensures state { 0 < result → V.state view.new ≡ (taken V.memory V.side line s.old (V.state view.old)).state }
     ensures stepped { 0 < result → (taken V.memory V.side line s.old (V.state view.old)).stepped ≡ Cost result }
-    ensures units { V.units (V.state view.new) ≡ V.units (V.state view.old) }
+    ensures io { V.io (V.state view.new) ≡ V.io (V.state view.old) }
     ensures same { V.identity view.new ≡ V.identity view.old }
 {
     if enters(s, line) {
         return 0;
     }
-    let next = next_ready(s, decoder, view);
+    let next = next_operation(s, decoder, view);
     view.run_fast(s, next)
 }

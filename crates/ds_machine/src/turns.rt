@@ -112,7 +112,7 @@ impl Parts {
         ensures none { result ≡ 0 → self.new ≡ self.old }
         ensures machine { 0 < result → self.new ≡ (outcome_of proc now self.old).machine }
         ensures stepped { 0 < result → (outcome_of proc now self.old).stepped ≡ Cost result }
-        ensures units { self.new.map.units ≡ self.old.map.units }
+        ensures io { self.new.map.io ≡ self.old.map.io }
     {
         match proc {
             Proc::Nine => {
@@ -168,7 +168,7 @@ impl Parts {
     {
         match stepped {
             Stepped::Cost(clocks) => {
-                let halted = self.map.units().is_halted(proc);
+                let halted = self.map.io().is_halted(proc);
                 self.go_on(proc, clocks, halted);
                 None
             }
@@ -218,7 +218,7 @@ impl Parts {
     pub fn wakes(&self, proc: Proc) -> bool
         ensures { result ≡ wakes self.now proc }
     {
-        self.map.units().is_halted(proc) && self.map.units().wakes(proc)
+        self.map.io().is_halted(proc) && self.map.io().wakes(proc)
     }
 
     /// A processor that is halted wakes, where its IE and IF share a bit.

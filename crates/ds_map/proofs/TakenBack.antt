@@ -10,18 +10,18 @@ use Rattle.ds_dma.specs.declared.channels.Unit.{Unit as DmaUnit}
 use Rattle.ds_places.specs.AddressTables.{place_of}
 use Rattle.ds_places.specs.declared.kinds.Place.{Place}
 use Rattle.ds_places.specs.declared.kinds.Place.TheVariants as place
-use Rattle.ds_ports.specs.Own.{before_move}
+use Rattle.ds_ports.specs.ProcessorIo.{before_move}
 use Rattle.ds_ports.specs.Ports.{port_refusal}
-use Rattle.ds_ports.specs.Units.{UnitsState, channel_moved, channel_put_back, own_of}
+use Rattle.ds_ports.specs.Io.{IoState, channel_moved, channel_put_back, io_of}
 use Rattle.ds_map.specs.Accesses.{map_read, map_refusal, map_value, map_written, port_put, written_at, refusal_at}
 use Rattle.ds_map.specs.Maps.{MapState}
-use Rattle.ds_map.specs.Moves.{unit_left, unit_read, unit_refusal, unit_taken}
-use Rattle.ds_map.proofs.Later.{map_read_left}
+use Rattle.ds_map.specs.Moves.{after_unit, unit_read, unit_refusal, unit_taken}
+use Rattle.ds_map.proofs.Later.{map_read_unchanged}
 
 -- A channel's unit: it is still due after its read, and where its write is refused all is as it was after the read.
 
-pub still_due : (proc : Proc) (m : MapState) (at : ℕ) (width : Width) → IsSome (dma_due (own_of m.units proc).dma) → IsSome (dma_due (own_of (map_read proc m at width).units proc).dma)
-still_due proc m at width h = subst (λ (d : DmaState). IsSome (dma_due d)) (sym ((map_read_left proc m at width).own proc).dma) h
+pub still_due : (proc : Proc) (m : MapState) (at : ℕ) (width : Width) → IsSome (dma_due (io_of m.io proc).dma) → IsSome (dma_due (io_of (map_read proc m at width).io proc).dma)
+still_due proc m at width h = subst (λ (d : DmaState). IsSome (dma_due d)) (sym ((map_read_unchanged proc m at width).own proc).dma) h
 
 -- a write that is refused leaves all
 stop_leaves : (proc : Proc) (now : Tick) (refused : Option Stop) (m : MapState) (at : ℕ) (width : Width) (value : ℕ) → IsSome refused → port_put proc now refused m at width value ≡ m
@@ -33,30 +33,30 @@ place_refuses : (proc : Proc) (now : Tick) (where_ : Place) (m : MapState) (widt
 place_refuses proc now (place.Cell memory at) m width value h = absurd (true≢false (sym h))
 place_refuses proc now (place.Banks space at) m width value h = absurd (true≢false (sym h))
 place_refuses proc now (place.Port at) m width value h =
-    stop_leaves proc now (port_refusal proc m.units (aligned_down width at) width value) m (aligned_down width at) width value h
+    stop_leaves proc now (port_refusal proc m.io (aligned_down width at) width value) m (aligned_down width at) width value h
 place_refuses proc now (place.Rom at) m width value h = absurd (true≢false (sym h))
 place_refuses proc now place.Nothing m width value h = absurd (true≢false (sym h))
 
 refused_leaves : (proc : Proc) (now : Tick) (m : MapState) (at : ℕ) (width : Width) (value : ℕ) → IsSome (map_refusal proc m at width value) → map_written proc now m at width value ≡ m
 unfolding map_refusal map_written
-refused_leaves proc now m at width value h = place_refuses proc now (place_of proc m.units.wramcnt at) m width value h
+refused_leaves proc now m at width value h = place_refuses proc now (place_of proc m.io.wramcnt at) m width value h
 
 -- where a move is taken back, the units are again as they were
-taken_back : (proc : Proc) (now : Tick) (u : UnitsState) → channel_put_back proc (before_move (own_of u proc)) (channel_moved proc now u) ≡ u
+taken_back : (proc : Proc) (now : Tick) (u : IoState) → channel_put_back proc (before_move (io_of u proc)) (channel_moved proc now u) ≡ u
 taken_back Nine now u = refl
 taken_back Seven now u = refl
 
-left_by_stop : (refused : Option Stop) (proc : Proc) (now : Tick) (unit : DmaUnit) (m : MapState) → IsSome refused → unit_left refused proc now unit m ≡ unit_read proc unit m
+left_by_stop : (refused : Option Stop) (proc : Proc) (now : Tick) (unit : DmaUnit) (m : MapState) → IsSome refused → after_unit refused proc now unit m ≡ unit_read proc unit m
 left_by_stop None proc now unit m h = absurd (true≢false (sym h))
 left_by_stop (Some stop) proc now unit m h = refl
 
 pub put_back_is : (proc : Proc) (now : Tick) (unit : DmaUnit) (m written : MapState) → IsSome (unit_refusal proc now unit m)
     → written ≡ map_written proc now (unit_taken proc now unit m) unit.to unit.width (map_value proc now m unit.from unit.width)
-    → (let back : MapState = record written { units = channel_put_back proc (before_move (own_of (unit_read proc unit m).units proc)) written.units } in back)
-    ≡ unit_left (unit_refusal proc now unit m) proc now unit m
+    → (let back : MapState = record written { io = channel_put_back proc (before_move (io_of (unit_read proc unit m).io proc)) written.io } in back)
+    ≡ after_unit (unit_refusal proc now unit m) proc now unit m
 put_back_is proc now unit m written h w =
     let read = unit_read proc unit m in
     let stays = w ∙ refused_leaves proc now (unit_taken proc now unit m) unit.to unit.width (map_value proc now m unit.from unit.width) h in
-    ap (λ (x : MapState). (let back : MapState = record x { units = channel_put_back proc (before_move (own_of read.units proc)) x.units } in back)) stays
-    ∙ ap (λ (u : UnitsState). (let back : MapState = record read { units = u } in back)) (taken_back proc now read.units)
+    ap (λ (x : MapState). (let back : MapState = record x { io = channel_put_back proc (before_move (io_of read.io proc)) x.io } in back)) stays
+    ∙ ap (λ (u : IoState). (let back : MapState = record read { io = u } in back)) (taken_back proc now read.io)
     ∙ sym (left_by_stop (unit_refusal proc now unit m) proc now unit m h)

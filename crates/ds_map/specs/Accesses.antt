@@ -26,22 +26,22 @@ rom_value proc at width = part width (at % 4) (boot_word proc (at - at % 4))
 -- what is read at a place, at a tick, and what the read leaves
 abbrev pub value_at : Proc → Tick → Place → MapState → Width → ℕ
 value_at proc now (Cell memory at) m width = number_at width (cells_of m memory) (aligned_down width at)
-value_at proc now (Banks space at) m width = vram_value m.units.vram space at width
-value_at proc now (Port at) m width = port_value proc now m.units (aligned_down width at) width
+value_at proc now (Banks space at) m width = vram_value m.io.vram space at width
+value_at proc now (Port at) m width = port_value proc now m.io (aligned_down width at) width
 value_at proc now (Rom at) m width = rom_value proc (aligned_down width at) width
 value_at proc now Nothing m width = 0
 
-abbrev pub left_at : Proc → Place → MapState → Width → MapState
-left_at proc (Cell memory at) m width = m
-left_at proc (Banks space at) m width = m
-left_at proc (Port at) m width = record m { units = port_read proc m.units (aligned_down width at) width }
-left_at proc (Rom at) m width = m
-left_at proc Nothing m width = m
+abbrev pub after_read_at : Proc → Place → MapState → Width → MapState
+after_read_at proc (Cell memory at) m width = m
+after_read_at proc (Banks space at) m width = m
+after_read_at proc (Port at) m width = record m { io = port_read proc m.io (aligned_down width at) width }
+after_read_at proc (Rom at) m width = m
+after_read_at proc Nothing m width = m
 
 -- what is fetched at a place: from a port 0 (our choice)
 abbrev pub fetched_at : Proc → Place → MapState → Width → ℕ
 fetched_at proc (Cell memory at) m width = number_at width (cells_of m memory) (aligned_down width at)
-fetched_at proc (Banks space at) m width = vram_value m.units.vram space at width
+fetched_at proc (Banks space at) m width = vram_value m.io.vram space at width
 fetched_at proc (Port at) m width = 0
 fetched_at proc (Rom at) m width = rom_value proc (aligned_down width at) width
 fetched_at proc Nothing m width = 0
@@ -68,13 +68,13 @@ is_byte_of_nine Seven width = false
 abbrev pub refusal_at : Proc → Place → MapState → Width → ℕ → Option Stop
 refusal_at proc (Cell memory at) m width value = None
 refusal_at proc (Banks space at) m width value = None
-refusal_at proc (Port at) m width value = port_refusal proc m.units (aligned_down width at) width value
+refusal_at proc (Port at) m width value = port_refusal proc m.io (aligned_down width at) width value
 refusal_at proc (Rom at) m width value = None
 refusal_at proc Nothing m width value = None
 
 -- what a write of a port leaves: one that is refused leaves all
 abbrev pub port_put : Proc → Tick → Option Stop → MapState → ℕ → Width → ℕ → MapState
-port_put proc now None m at width value = record m { units = port_written proc now m.units at width value }
+port_put proc now None m at width value = record m { io = port_written proc now m.io at width value }
 port_put proc now (Some stop) m at width value = m
 
 -- what a write leaves
@@ -84,24 +84,24 @@ written_at proc now (Cell memory at) m width value =
     else with_cells memory m (with_number width (cells_of m memory) (aligned_down width at) value)
 written_at proc now (Banks space at) m width value =
     if is_byte_of_nine proc width && takes_no_bytes Vram then m
-    else record m { units = record m.units { vram = vram_written m.units.vram space at width value } }
+    else record m { io = record m.io { vram = vram_written m.io.vram space at width value } }
 written_at proc now (Port at) m width value =
-    port_put proc now (port_refusal proc m.units (aligned_down width at) width value) m (aligned_down width at) width value
+    port_put proc now (port_refusal proc m.io (aligned_down width at) width value) m (aligned_down width at) width value
 written_at proc now (Rom at) m width value = m
 written_at proc now Nothing m width value = m
 
 -- what a processor reads, fetches and writes at an address at a tick, what a read leaves, and why a write is refused, past the tightly coupled memories
 unfoldable pub map_value : Proc → Tick → MapState → ℕ → Width → ℕ
-map_value proc now m at width = value_at proc now (place_of proc m.units.wramcnt at) m width
+map_value proc now m at width = value_at proc now (place_of proc m.io.wramcnt at) m width
 
 unfoldable pub map_read : Proc → MapState → ℕ → Width → MapState
-map_read proc m at width = left_at proc (place_of proc m.units.wramcnt at) m width
+map_read proc m at width = after_read_at proc (place_of proc m.io.wramcnt at) m width
 
 unfoldable pub map_fetched : Proc → MapState → ℕ → Width → ℕ
-map_fetched proc m at width = fetched_at proc (place_of proc m.units.wramcnt at) m width
+map_fetched proc m at width = fetched_at proc (place_of proc m.io.wramcnt at) m width
 
 unfoldable pub map_refusal : Proc → MapState → ℕ → Width → ℕ → Option Stop
-map_refusal proc m at width value = refusal_at proc (place_of proc m.units.wramcnt at) m width value
+map_refusal proc m at width value = refusal_at proc (place_of proc m.io.wramcnt at) m width value
 
 unfoldable pub map_written : Proc → Tick → MapState → ℕ → Width → ℕ → MapState
-map_written proc now m at width value = written_at proc now (place_of proc m.units.wramcnt at) m width value
+map_written proc now m at width value = written_at proc now (place_of proc m.io.wramcnt at) m width value

@@ -3,7 +3,7 @@ use Rattle.ds_base.specs.Memories.{memory_size}
 use Rattle.ds_base.specs.Numbers.{zeroes}
 use Rattle.ds_base.specs.declared.memories.Memory.{Memory}
 use Rattle.ds_base.specs.declared.memories.Memory.TheVariants.{Main, Shared, Own7, Itcm, Dtcm, Palette, Vram, Oam}
-use Rattle.ds_ports.specs.Units.{UnitsState, units_at_boot}
+use Rattle.ds_ports.specs.Io.{IoState, io_at_boot}
 
 -- What stands behind the addresses past the tightly coupled memories (GBATEK, "DS Memory Map").
 
@@ -14,7 +14,7 @@ pub record MapState : Type 0 where
   pub own : List ℕ
   pub palette : List ℕ
   pub oam : List ℕ
-  pub units : UnitsState
+  pub io : IoState
 
 -- all memories are zeros
 abbrev pub blank_map : MapState
@@ -24,7 +24,7 @@ blank_map = record {
   own = zeroes (memory_size Own7);
   palette = zeroes (memory_size Palette);
   oam = zeroes (memory_size Oam);
-  units = units_at_boot;
+  io = io_at_boot;
 }
 
 -- the bytes of a memory as cells at addresses; the tightly coupled ones aren't there, and video memory is reached by its banks
@@ -57,5 +57,5 @@ memory_bytes m Own7 = m.own
 memory_bytes m Itcm = []
 memory_bytes m Dtcm = []
 memory_bytes m Palette = m.palette
-memory_bytes m Vram = m.units.vram.bytes
+memory_bytes m Vram = m.io.vram.bytes
 memory_bytes m Oam = m.oam

@@ -10,14 +10,14 @@ use Rattle.ds_dma.specs.declared.channels.Unit.{Unit as DmaUnit}
 use Rattle.ds_map.specs.Accesses.{map_read, map_refusal, map_value, map_written}
 use Rattle.ds_map.specs.Builds.{map_is_built}
 use Rattle.ds_map.specs.Maps.{MapState}
-use Rattle.ds_ports.specs.Units.{channel_moved, own_of}
+use Rattle.ds_ports.specs.Io.{channel_moved, io_of}
 
 -- How a DMA channel moves a unit (GBATEK, "DS DMA Transfers"; the order is our choice): it reads it, takes it from its plan with all that taking the last
 -- one brings, and then writes it. Where the write is refused all is as it was after the read: the unit is still in the plan.
 
 -- the unit that the channel of a processor that is due moves
 abbrev pub next_unit : MapState → Proc → DmaUnit
-next_unit m proc = unit_of (due_channel (own_of m.units proc).dma) 0
+next_unit m proc = unit_of (due_channel (io_of m.io proc).dma) 0
 
 -- the address of the first byte of it whose place isn't built, of what is read and then of what is written
 abbrev pub accesses_of_unit : DmaUnit → List Access
@@ -31,15 +31,15 @@ abbrev pub unit_read : Proc → DmaUnit → MapState → MapState
 unit_read proc unit m = map_read proc m unit.from unit.width
 
 abbrev pub unit_taken : Proc → Tick → DmaUnit → MapState → MapState
-unit_taken proc now unit m = let read = unit_read proc unit m in record read { units = channel_moved proc now read.units }
+unit_taken proc now unit m = let read = unit_read proc unit m in record read { io = channel_moved proc now read.io }
 
 -- why its write is refused, and the map after all
 abbrev pub unit_refusal : Proc → Tick → DmaUnit → MapState → Option Stop
 unit_refusal proc now unit m = map_refusal proc (unit_taken proc now unit m) unit.to unit.width (map_value proc now m unit.from unit.width)
 
-abbrev pub unit_left : Option Stop → Proc → Tick → DmaUnit → MapState → MapState
-unit_left None proc now unit m = map_written proc now (unit_taken proc now unit m) unit.to unit.width (map_value proc now m unit.from unit.width)
-unit_left (Some stop) proc now unit m = unit_read proc unit m
+abbrev pub after_unit : Option Stop → Proc → Tick → DmaUnit → MapState → MapState
+after_unit None proc now unit m = map_written proc now (unit_taken proc now unit m) unit.to unit.width (map_value proc now m unit.from unit.width)
+after_unit (Some stop) proc now unit m = unit_read proc unit m
 
 abbrev pub unit_moved : Proc → Tick → DmaUnit → MapState → MapState
-unit_moved proc now unit m = unit_left (unit_refusal proc now unit m) proc now unit m
+unit_moved proc now unit m = after_unit (unit_refusal proc now unit m) proc now unit m

@@ -12,8 +12,8 @@ ghost use Rattle.ds_base.specs.Schedules.{IsEarly};
 ghost use Rattle.ds_timers.specs.Irqs.{line_is_up};
 ghost use Rattle.ds_timers.specs.Timing.{timer_at, timer_due};
 ghost use Rattle.ds_ports.specs.Ports.{port_read, port_refusal, port_value};
-ghost use Rattle.ds_ports.specs.Units.{channels_triggered, division_done, keys_pressed, own_of, root_done, timer_overflows, with_halted};
-ghost use Rattle.ds_map.specs.Accesses.{fetched_at, is_byte_of_nine, left_at, map_fetched, map_read, map_refusal, map_value, map_written, port_put, written_at, refusal_at, rom_value, takes_no_bytes, value_at};
+ghost use Rattle.ds_ports.specs.Io.{channels_triggered, division_done, keys_pressed, io_of, root_done, timer_overflows, with_halted};
+ghost use Rattle.ds_map.specs.Accesses.{fetched_at, is_byte_of_nine, after_read_at, map_fetched, map_read, map_refusal, map_value, map_written, port_put, written_at, refusal_at, rom_value, takes_no_bytes, value_at};
 
 use crate::blocks::Block;
 use ds_base::{
@@ -21,7 +21,7 @@ use ds_base::{
 };
 use ds_dma::Cause;
 use ds_places::{Place, place, rom_word};
-use ds_ports::{Units, part};
+use ds_ports::{Io, part};
 use std::alloc::{AllocError, Global};
 use std::marker::Model;
 
@@ -33,7 +33,7 @@ pub struct Map {
     own: Block<OWN7_BYTES>,
     palette: Block<PALETTE_BYTES>,
     oam: Block<OAM_BYTES>,
-    pub(crate) units: Units,
+    pub(crate) io: Io,
 }
 
 impl Model for Map {
@@ -41,7 +41,7 @@ impl Model for Map {
 
     ghost Value = { MapState };
 
-    ghost view = { λ m. record { main = m.main; shared = m.shared; own = m.own; palette = m.palette; oam = m.oam; units = m.units } };
+    ghost view = { λ m. record { main = m.main; shared = m.shared; own = m.own; palette = m.palette; oam = m.oam; io = m.io } };
 }
 
 impl Map {
@@ -55,17 +55,17 @@ impl Map {
             own: Block::new(alloc)?,
             palette: Block::new(alloc)?,
             oam: Block::new(alloc)?,
-            units: Units::new(alloc)?,
+            io: Io::new(alloc)?,
         })
     }
 
     /// What WRAMCNT keeps.
     #[inline(always)]
     pub fn wramcnt(&self) -> u8
-        ensures value { result ≡ self.now.units.wramcnt }
+        ensures value { result ≡ self.now.io.wramcnt }
         ensures within { result < 4 }
     {
-        self.units.wramcnt()
+        self.io.wramcnt()
     }
 
     /// The number at a cell of a memory, aligned down.
@@ -105,10 +105,10 @@ impl Map {
     /// What is read of a port, and the read.
     fn read_port(&mut self, proc: Proc, now: Tick, at: u32, width: Width) -> u32
         requires { at < 2 ^ 24 }
-        ensures value { result ≡ port_value proc now self.old.units at width }
-        ensures next { self.new ≡ record self.old { units = port_read proc self.old.units at width } }
+        ensures value { result ≡ port_value proc now self.old.io at width }
+        ensures next { self.new ≡ record self.old { io = port_read proc self.old.io at width } }
     {
-        self.units.take(proc, now, at, width)
+        self.io.take(proc, now, at, width)
     }
 
     /// What is read at a place at a tick, and the read.
@@ -116,11 +116,11 @@ impl Map {
     fn read_at(&mut self, proc: Proc, now: Tick, place: Place, width: Width) -> u32
         requires { IsInside place }
         ensures value { result ≡ value_at proc now place self.old width }
-        ensures next { self.new ≡ left_at proc place self.old width }
+        ensures next { self.new ≡ after_read_at proc place self.old width }
     {
         match place {
             Place::Cell { memory, at } => self.cell(memory, at, width),
-            Place::Banks { space, at } => self.units.vram().read(space, at, width),
+            Place::Banks { space, at } => self.io.vram().read(space, at, width),
             Place::Port(at) => self.read_port(proc, now, aligned_down(width, at), width),
             Place::Rom(at) => rom_value(proc, aligned_down(width, at), width),
             Place::Nothing => 0,
@@ -135,7 +135,7 @@ impl Map {
     {
         match place {
             Place::Cell { memory, at } => self.cell(memory, at, width),
-            Place::Banks { space, at } => self.units.vram().read(space, at, width),
+            Place::Banks { space, at } => self.io.vram().read(space, at, width),
             Place::Rom(at) => rom_value(proc, aligned_down(width, at), width),
             Place::Port(_) | Place::Nothing => 0,
         }
@@ -152,10 +152,10 @@ impl Map {
     ) -> Option<Stop>
         requires at { at < 2 ^ 24 }
         requires early { IsEarly (Some now) }
-        ensures refusal { result ≡ port_refusal proc self.old.units at width value }
-        ensures next { self.new ≡ port_put proc now (port_refusal proc self.old.units at width value) self.old at width value }
+        ensures refusal { result ≡ port_refusal proc self.old.io at width value }
+        ensures next { self.new ≡ port_put proc now (port_refusal proc self.old.io at width value) self.old at width value }
     {
-        self.units.put(proc, now, at, width, value)
+        self.io.put(proc, now, at, width, value)
     }
 
     /// Writes a value at a place, for a processor at a tick, unless it is refused.
@@ -183,7 +183,7 @@ impl Map {
             }
             Place::Banks { space, at } => {
                 if !byte {
-                    self.units.write_vram(space, at, width, value);
+                    self.io.write_vram(space, at, width, value);
                 }
                 None
             }
@@ -291,68 +291,68 @@ impl Map {
 
     /// The units behind the ports.
     #[inline(always)]
-    pub fn units(&self) -> &Units
-        ensures { result.now ≡ self.now.units }
+    pub fn io(&self) -> &Io
+        ensures { result.now ≡ self.now.io }
     {
-        &self.units
+        &self.io
     }
 
     /// Whether the interrupt line of a processor is up.
     #[inline(always)]
     pub fn line(&self, proc: Proc) -> bool
-        ensures { result ≡ line_is_up (own_of self.now.units proc).irq }
+        ensures { result ≡ line_is_up (io_of self.now.io proc).irq }
     {
-        self.units.line(proc)
+        self.io.line(proc)
     }
 
     /// Halts a processor, or lets it go on.
     #[inline(always)]
     pub fn set_halted(&mut self, proc: Proc, halted: bool)
-        ensures { self.new ≡ record self.old { units = with_halted proc self.old.units halted } }
+        ensures { self.new ≡ record self.old { io = with_halted proc self.old.io halted } }
     {
-        self.units.set_halted(proc, halted);
+        self.io.set_halted(proc, halted);
     }
 
     /// A division is done.
     pub fn finish_division(&mut self)
-        requires { IsSome self.old.units.divider.due }
-        ensures { self.new ≡ record self.old { units = division_done self.old.units } }
+        requires { IsSome self.old.io.divider.due }
+        ensures { self.new ≡ record self.old { io = division_done self.old.io } }
     {
-        self.units.finish_division();
+        self.io.finish_division();
     }
 
     /// A square root is done.
     pub fn finish_root(&mut self)
-        requires { IsSome self.old.units.root.due }
-        ensures { self.new ≡ record self.old { units = root_done self.old.units } }
+        requires { IsSome self.old.io.root.due }
+        ensures { self.new ≡ record self.old { io = root_done self.old.io } }
     {
-        self.units.finish_root();
+        self.io.finish_root();
     }
 
     /// An event triggers the DMA channels of both processors that wait for it.
     pub fn trigger(&mut self, cause: Cause, now: Tick)
         requires { IsEarly (Some now) }
-        ensures { self.new ≡ record self.old { units = channels_triggered cause now self.old.units } }
+        ensures { self.new ≡ record self.old { io = channels_triggered cause now self.old.io } }
     {
-        self.units.trigger(cause, now);
+        self.io.trigger(cause, now);
     }
 
     /// A processor's timer overflows, and its interrupts are raised.
     pub fn overflow(&mut self, proc: Proc, which: u8)
         requires which { which < 4 }
-        requires due { IsSome (timer_due (timer_at (own_of self.old.units proc).timers which)) }
-        requires early { IsEarly (timer_due (timer_at (own_of self.old.units proc).timers which)) }
-        ensures { self.new ≡ record self.old { units = timer_overflows proc which self.old.units } }
+        requires due { IsSome (timer_due (timer_at (io_of self.old.io proc).timers which)) }
+        requires early { IsEarly (timer_due (timer_at (io_of self.old.io proc).timers which)) }
+        ensures { self.new ≡ record self.old { io = timer_overflows proc which self.old.io } }
     {
-        self.units.overflow(proc, which);
+        self.io.overflow(proc, which);
     }
 
     /// From now on these keys are pressed, a bit for each of A, B, Select, Start, Right, Left, Up, Down, R, L, X and Y.
     pub fn press(&mut self, pressed: u16)
         requires { pressed < 2 ^ 12 }
-        ensures { self.new ≡ record self.old { units = keys_pressed self.old.units pressed } }
+        ensures { self.new ≡ record self.old { io = keys_pressed self.old.io pressed } }
     {
-        self.units.press(pressed);
+        self.io.press(pressed);
     }
 
     /// A memory's bytes, from where they lie; none of a tightly coupled one.
@@ -364,7 +364,7 @@ impl Map {
             Memory::Shared => self.shared.bytes(),
             Memory::Own7 => self.own.bytes(),
             Memory::Palette => self.palette.bytes(),
-            Memory::Vram => self.units.vram().bytes(),
+            Memory::Vram => self.io.vram().bytes(),
             Memory::Oam => self.oam.bytes(),
             Memory::Itcm | Memory::Dtcm => &[],
         }
@@ -380,7 +380,7 @@ impl Map {
             Memory::Shared => self.shared.byte(at as usize),
             Memory::Own7 => self.own.byte(at as usize),
             Memory::Palette => self.palette.byte(at as usize),
-            Memory::Vram => self.units.vram().byte_of(at),
+            Memory::Vram => self.io.vram().byte_of(at),
             Memory::Oam => self.oam.byte(at as usize),
             Memory::Itcm | Memory::Dtcm => 0,
         }

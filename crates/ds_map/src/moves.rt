@@ -7,8 +7,8 @@ ghost use Rattle.ds_base.specs.Schedules.{IsEarly};
 ghost use Rattle.ds_dma.specs.States.{dma_due};
 ghost use Rattle.ds_map.specs.Builds.{map_is_built};
 ghost use Rattle.ds_map.specs.Moves.{next_unit, unit_moved, unit_needs, unit_read, unit_refusal};
-ghost use Rattle.ds_ports.specs.Own.{before_move};
-ghost use Rattle.ds_ports.specs.Units.{channel_moved, channel_put_back, own_of};
+ghost use Rattle.ds_ports.specs.ProcessorIo.{before_move};
+ghost use Rattle.ds_ports.specs.Io.{channel_moved, channel_put_back, io_of};
 
 use crate::builds::map_is_built;
 use crate::maps::Map;
@@ -78,34 +78,34 @@ pub fn unit_needs(proc: Proc, wramcnt: u8, unit: Unit) -> Option<u32>
 impl Map {
     /// The unit that the channel of a processor that is due moves.
     pub fn unit(&self, proc: Proc) -> Unit
-        requires { IsSome (dma_due (own_of self.now.units proc).dma) }
+        requires { IsSome (dma_due (io_of self.now.io proc).dma) }
         ensures { result ≡ next_unit self.now proc }
     {
-        self.units.unit(proc)
+        self.io.unit(proc)
     }
 
     /// The channel of a processor that is due moves its first unit, but for the access itself. Gives what takes this back.
     fn take_unit(&mut self, proc: Proc, now: Tick) -> Before
-        requires due { IsSome (dma_due (own_of self.old.units proc).dma) }
+        requires due { IsSome (dma_due (io_of self.old.io proc).dma) }
         requires early { IsEarly (Some now) }
-        ensures state { self.new ≡ record self.old { units = channel_moved proc now self.old.units } }
-        ensures before { result ≡ before_move (own_of self.old.units proc) }
+        ensures state { self.new ≡ record self.old { io = channel_moved proc now self.old.io } }
+        ensures before { result ≡ before_move (io_of self.old.io proc) }
     {
-        self.units.move_channel(proc, now)
+        self.io.move_channel(proc, now)
     }
 
     /// Takes that back.
     fn put_back(&mut self, proc: Proc, before: Before)
-        ensures { self.new ≡ record self.old { units = channel_put_back proc before self.old.units } }
+        ensures { self.new ≡ record self.old { io = channel_put_back proc before self.old.io } }
     {
-        self.units.put_back(proc, before);
+        self.io.put_back(proc, before);
     }
 
     /// Moves a unit for the channel of a processor that is due, at a tick: reads it, takes it from the channel's plan, and writes it. Where the write is
     /// refused, the unit is still in the plan.
     #[tactic(auto, using(crate::proofs::TakenBack::still_due, crate::proofs::TakenBack::put_back_is))]
     pub fn move_unit(&mut self, proc: Proc, now: Tick, unit: Unit) -> Option<Stop>
-        requires due { IsSome (dma_due (own_of self.old.units proc).dma) }
+        requires due { IsSome (dma_due (io_of self.old.io proc).dma) }
         requires early { IsEarly (Some now) }
         ensures stop { result ≡ unit_refusal proc now unit self.old }
         ensures map { self.new ≡ unit_moved proc now unit self.old }

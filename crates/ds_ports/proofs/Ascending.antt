@@ -8,9 +8,9 @@ use Rattle.ds_base.specs.Numbers.{width_bytes}
 use Rattle.ds_base.specs.declared.left_out.Stop.{Stop}
 use Rattle.ds_base.specs.declared.processors.Proc.{Proc}
 use Rattle.ds_base.specs.declared.ticks.Tick.{Tick}
-use Rattle.ds_ports.specs.Ports.{GoesAscending, ascending, begun_refusal, begun_value, begun_written, first_refusal, first_stop, half_refusal, half_written, port_half, port_read, port_refusal, port_value, port_word, port_written, read_left, read_or, refusal_or, values_from, whole_in, word_refusal, word_written, written_or}
+use Rattle.ds_ports.specs.Ports.{GoesAscending, ascending, begun_refusal, begun_value, begun_written, first_refusal, first_stop, half_refusal, half_written, port_half, port_read, port_refusal, port_value, port_word, port_written, read_unchanged, read_or, refusal_or, values_from, whole_in, word_refusal, word_written, written_or}
 use Rattle.ds_ports.specs.RegisterMap.{IsWidth, StandsWhole, slot_of}
-use Rattle.ds_ports.specs.Units.{UnitsState}
+use Rattle.ds_ports.specs.Io.{IoState}
 use Rattle.ds_ports.specs.declared.registers.Slot.{Slot}
 use Rattle.ds_ports.proofs.Together.{stands_whole}
 
@@ -104,10 +104,10 @@ half_at proc at even na nb = half_of proc at even (slot_of proc at) (slot_of pro
 
 -- what is read of a half, left by it and refused in it, by what stands at its two bytes
 module _ (proc : Proc) (now : Tick) where
-  abbrev value_by : UnitsState → Option Slot → Option Slot → ℕ
+  abbrev value_by : IoState → Option Slot → Option Slot → ℕ
   value_by u a b = read_or proc now u Half (whole_in Half a) (read_or proc now u Byte a 0 + 2 ^ 8 * read_or proc now u Byte b 0)
 
-  abbrev begun_value_by : UnitsState → Option Slot → Option Slot → ℕ
+  abbrev begun_value_by : IoState → Option Slot → Option Slot → ℕ
   begun_value_by u a b = begun_value proc now u a + 2 ^ 8 * (begun_value proc now u b + 2 ^ 8 * 0)
 
   last_value : (x y : ℕ) → x + 2 ^ 8 * y ≡ x + 2 ^ 8 * (y + 2 ^ 8 * 0)
@@ -116,49 +116,49 @@ module _ (proc : Proc) (now : Tick) where
   one_value : (x : ℕ) → x ≡ x + 2 ^ 8 * (0 + 2 ^ 8 * 0)
   one_value x = omega arith
 
-  small_value : (u : UnitsState) (a b : Option Slot) → IsSmall a → IsSmall b → value_by u a b ≡ begun_value_by u a b
+  small_value : (u : IoState) (a b : Option Slot) → IsSmall a → IsSmall b → value_by u a b ≡ begun_value_by u a b
   small_value u None None sa sb = last_value 0 0
   small_value u None (Some t) sa sb = rw (sb.0, sb.1) (last_value 0 _)
   small_value u (Some s) None sa sb = rw (sa.0, sa.1) (last_value _ 0)
   small_value u (Some s) (Some t) sa sb = rw (sa.0, sa.1, sb.0, sb.1) (last_value _ _)
 
-  pair_value : (u : UnitsState) (s : Slot) → s.byte ≡ 0 → s.bytes ≡ 2 → value_by u (Some s) (Some (record s { byte = 1 })) ≡ begun_value_by u (Some s) (Some (record s { byte = 1 }))
+  pair_value : (u : IoState) (s : Slot) → s.byte ≡ 0 → s.bytes ≡ 2 → value_by u (Some s) (Some (record s { byte = 1 })) ≡ begun_value_by u (Some s) (Some (record s { byte = 1 }))
   pair_value u s e f = rw (e, f) (one_value _)
 
-  half_value : (u : UnitsState) (a b : Option Slot) → IsHalf a b → value_by u a b ≡ begun_value_by u a b
+  half_value : (u : IoState) (a b : Option Slot) → IsHalf a b → value_by u a b ≡ begun_value_by u a b
   half_value u a b (inl small) = small_value u a b small.0 small.1
   half_value u None b (inr two) = absurd two
   half_value u (Some s) b (inr two) = subst (λ (x : Option Slot). value_by u (Some s) x ≡ begun_value_by u (Some s) x) (sym two.2) (pair_value u s two.0 two.1)
 
-  abbrev half_by : UnitsState → Option Slot → Option Slot → ℕ → UnitsState
+  abbrev half_by : IoState → Option Slot → Option Slot → ℕ → IoState
   half_by u a b value =
       let first = written_or proc now u Byte a value u in
       written_or proc now u Half (whole_in Half a) value (written_or proc now first Byte b (value / 2 ^ 8) first)
 
-  abbrev begun_by : UnitsState → Option Slot → Option Slot → ℕ → UnitsState
+  abbrev begun_by : IoState → Option Slot → Option Slot → ℕ → IoState
   begun_by u a b value = begun_written proc now (begun_written proc now u a value) b (value / 2 ^ 8)
 
-  small_written : (u : UnitsState) (a b : Option Slot) (value : ℕ) → IsSmall a → IsSmall b → half_by u a b value ≡ begun_by u a b value
+  small_written : (u : IoState) (a b : Option Slot) (value : ℕ) → IsSmall a → IsSmall b → half_by u a b value ≡ begun_by u a b value
   small_written u None None value sa sb = refl
   small_written u None (Some t) value sa sb = rw (sb.0, sb.1) refl
   small_written u (Some s) None value sa sb = rw (sa.0, sa.1) refl
   small_written u (Some s) (Some t) value sa sb = rw (sa.0, sa.1, sb.0, sb.1) refl
 
-  pair_written : (u : UnitsState) (s : Slot) (value : ℕ) → s.byte ≡ 0 → s.bytes ≡ 2
+  pair_written : (u : IoState) (s : Slot) (value : ℕ) → s.byte ≡ 0 → s.bytes ≡ 2
       → half_by u (Some s) (Some (record s { byte = 1 })) value ≡ begun_by u (Some s) (Some (record s { byte = 1 })) value
   pair_written u s value e f = rw (e, f) refl
 
-  written_half : (u : UnitsState) (a b : Option Slot) (value : ℕ) → IsHalf a b → half_by u a b value ≡ begun_by u a b value
+  written_half : (u : IoState) (a b : Option Slot) (value : ℕ) → IsHalf a b → half_by u a b value ≡ begun_by u a b value
   written_half u a b value (inl small) = small_written u a b value small.0 small.1
   written_half u None b value (inr two) = absurd two
   written_half u (Some s) b value (inr two) =
       subst (λ (x : Option Slot). half_by u (Some s) x value ≡ begun_by u (Some s) x value) (sym two.2) (pair_written u s value two.0 two.1)
 
-  half_ascends : (u : UnitsState) (at value : ℕ) → at % 2 ≡ 0 → IsNarrow (slot_of proc at) → IsNarrow (slot_of proc (at + 1))
+  half_ascends : (u : IoState) (at value : ℕ) → at % 2 ≡ 0 → IsNarrow (slot_of proc at) → IsNarrow (slot_of proc (at + 1))
       → half_written proc now u at value ≡ ascending proc now u at value 2
   half_ascends u at value even na nb = written_half u (slot_of proc at) (slot_of proc (at + 1)) value (half_at proc at even na nb)
 
-  half_values : (u : UnitsState) (at : ℕ) → at % 2 ≡ 0 → IsNarrow (slot_of proc at) → IsNarrow (slot_of proc (at + 1))
+  half_values : (u : IoState) (at : ℕ) → at % 2 ≡ 0 → IsNarrow (slot_of proc at) → IsNarrow (slot_of proc (at + 1))
       → port_half proc now u at ≡ values_from proc now u at 2
   half_values u at even na nb = half_value u (slot_of proc at) (slot_of proc (at + 1)) (half_at proc at even na nb)
 
@@ -167,32 +167,32 @@ first_none None = refl
 first_none (Some stop) = refl
 
 module _ (proc : Proc) where
-  abbrev refusal_by : UnitsState → Option Slot → Option Slot → ℕ → Option Stop
+  abbrev refusal_by : IoState → Option Slot → Option Slot → ℕ → Option Stop
   refusal_by u a b value = refusal_or proc u Half (whole_in Half a) value (first_stop (refusal_or proc u Byte a value None) (refusal_or proc u Byte b (value / 2 ^ 8) None))
 
-  abbrev begun_refusal_by : UnitsState → Option Slot → Option Slot → ℕ → Option Stop
+  abbrev begun_refusal_by : IoState → Option Slot → Option Slot → ℕ → Option Stop
   begun_refusal_by u a b value = first_stop (begun_refusal proc u a value) (first_stop (begun_refusal proc u b (value / 2 ^ 8)) None)
 
   last_refusal : (x y : Option Stop) → first_stop x y ≡ first_stop x (first_stop y None)
   last_refusal x y = ap (λ (z : Option Stop). first_stop x z) (sym (first_none y))
 
-  small_refusal : (u : UnitsState) (a b : Option Slot) (value : ℕ) → IsSmall a → IsSmall b → refusal_by u a b value ≡ begun_refusal_by u a b value
+  small_refusal : (u : IoState) (a b : Option Slot) (value : ℕ) → IsSmall a → IsSmall b → refusal_by u a b value ≡ begun_refusal_by u a b value
   small_refusal u None None value sa sb = refl
   small_refusal u None (Some t) value sa sb = rw (sb.0, sb.1) (last_refusal None _)
   small_refusal u (Some s) None value sa sb = rw (sa.0, sa.1) (last_refusal _ None)
   small_refusal u (Some s) (Some t) value sa sb = rw (sa.0, sa.1, sb.0, sb.1) (last_refusal _ _)
 
-  pair_refusal : (u : UnitsState) (s : Slot) (value : ℕ) → s.byte ≡ 0 → s.bytes ≡ 2
+  pair_refusal : (u : IoState) (s : Slot) (value : ℕ) → s.byte ≡ 0 → s.bytes ≡ 2
       → refusal_by u (Some s) (Some (record s { byte = 1 })) value ≡ begun_refusal_by u (Some s) (Some (record s { byte = 1 })) value
   pair_refusal u s value e f = rw (e, f) (sym (first_none _))
 
-  refused_half : (u : UnitsState) (a b : Option Slot) (value : ℕ) → IsHalf a b → refusal_by u a b value ≡ begun_refusal_by u a b value
+  refused_half : (u : IoState) (a b : Option Slot) (value : ℕ) → IsHalf a b → refusal_by u a b value ≡ begun_refusal_by u a b value
   refused_half u a b value (inl small) = small_refusal u a b value small.0 small.1
   refused_half u None b value (inr two) = absurd two
   refused_half u (Some s) b value (inr two) =
       subst (λ (x : Option Slot). refusal_by u (Some s) x value ≡ begun_refusal_by u (Some s) x value) (sym two.2) (pair_refusal u s value two.0 two.1)
 
-  half_refuses : (u : UnitsState) (at value : ℕ) → at % 2 ≡ 0 → IsNarrow (slot_of proc at) → IsNarrow (slot_of proc (at + 1))
+  half_refuses : (u : IoState) (at value : ℕ) → at % 2 ≡ 0 → IsNarrow (slot_of proc at) → IsNarrow (slot_of proc (at + 1))
       → half_refusal proc u at value ≡ first_refusal proc u at value 2
   half_refuses u at value even na nb = refused_half u (slot_of proc at) (slot_of proc (at + 1)) value (half_at proc at even na nb)
 
@@ -271,7 +271,7 @@ four_stops None (Some stop) rest = refl
 four_stops None None rest = refl
 
 module _ (proc : Proc) (now : Tick) where
-  word_ascends : (u : UnitsState) (at value : ℕ) → at % 4 ≡ 0 → whole_in Word (slot_of proc at) ≡ None
+  word_ascends : (u : IoState) (at value : ℕ) → at % 4 ≡ 0 → whole_in Word (slot_of proc at) ≡ None
       → word_written proc now u at value ≡ ascending proc now u at value 4
   word_ascends u at value even none =
       let n = are_narrow proc at even none in
@@ -280,11 +280,11 @@ module _ (proc : Proc) (now : Tick) where
       let lower = half_ascends proc now u at value (omega (arith, even)) n.n0 n.n1 in
       ap (λ (slot : Option Slot). written_or proc now u Word slot value (half_written proc now first (at + 2) (value / 2 ^ 16))) none
       ∙ second
-      ∙ ap (λ (x : UnitsState). ascending proc now x (at + 2) (value / 2 ^ 16) 2) lower
+      ∙ ap (λ (x : IoState). ascending proc now x (at + 2) (value / 2 ^ 16) 2) lower
       ∙ ap (λ (k : ℕ). ascending proc now (ascending proc now u at value 2) k (value / 2 ^ 16) 2) (two_on at)
       ∙ ap (λ (v : ℕ). ascending proc now (ascending proc now u at value 2) (at + 1 + 1) v 2) (upper_half value)
 
-  word_values : (u : UnitsState) (at : ℕ) → at % 4 ≡ 0 → whole_in Word (slot_of proc at) ≡ None → port_word proc now u at ≡ values_from proc now u at 4
+  word_values : (u : IoState) (at : ℕ) → at % 4 ≡ 0 → whole_in Word (slot_of proc at) ≡ None → port_word proc now u at ≡ values_from proc now u at 4
   word_values u at even none =
       let n = are_narrow proc at even none in
       let lower = half_values proc now u at (omega (arith, even)) n.n0 n.n1 in
@@ -295,7 +295,7 @@ module _ (proc : Proc) (now : Tick) where
       ∙ four_values (begun_value proc now u (slot_of proc at)) (begun_value proc now u (slot_of proc (at + 1)))
       (begun_value proc now u (slot_of proc (at + 1 + 1))) (begun_value proc now u (slot_of proc (at + 1 + 1 + 1)))
 
-  word_refuses : (u : UnitsState) (at value : ℕ) → at % 4 ≡ 0 → whole_in Word (slot_of proc at) ≡ None
+  word_refuses : (u : IoState) (at value : ℕ) → at % 4 ≡ 0 → whole_in Word (slot_of proc at) ≡ None
       → word_refusal proc u at value ≡ first_refusal proc u at value 4
   word_refuses u at value even none =
       let n = are_narrow proc at even none in
@@ -308,8 +308,8 @@ module _ (proc : Proc) (now : Tick) where
       ∙ four_stops (begun_refusal proc u (slot_of proc at) value) (begun_refusal proc u (slot_of proc (at + 1)) (value / 2 ^ 8))
       (first_refusal proc u (at + 1 + 1) (value / 2 ^ 8 / 2 ^ 8) 2)
 
-  read_elsewhere : (u : UnitsState) (slot : Option Slot) → slot ≡ None → read_left proc u slot ≡ u
-  read_elsewhere u slot none = ap (λ (x : Option Slot). read_left proc u x) none
+  read_elsewhere : (u : IoState) (slot : Option Slot) → slot ≡ None → read_unchanged proc u slot ≡ u
+  read_elsewhere u slot none = ap (λ (x : Option Slot). read_unchanged proc u x) none
 
   -- no register stands at an offset where a byte lies in none
   byte_there : (t : Slot) → t.byte < t.bytes → whole_in Byte (Some t) ≡ Some t
@@ -319,13 +319,13 @@ module _ (proc : Proc) (now : Tick) where
   nothing_there at None w none = refl
   nothing_there at (Some t) w none = absurd (none-some t (sym none ∙ byte_there t w.byte))
 
-  abbrev ByteGoes : UnitsState → ℕ → Option Slot → Type 0
+  abbrev ByteGoes : IoState → ℕ → Option Slot → Type 0
   ByteGoes u value slot =
       (read_or proc now u Byte slot 0 ≡ begun_value proc now u slot + 2 ^ 8 * 0)
       × (written_or proc now u Byte slot value u ≡ begun_written proc now u slot value)
       × (refusal_or proc u Byte slot value None ≡ first_stop (begun_refusal proc u slot value) None)
 
-  byte_alone : (u : UnitsState) (at value : ℕ) → whole_in Byte (slot_of proc at) ≡ None → ByteGoes u value (slot_of proc at)
+  byte_alone : (u : IoState) (at value : ℕ) → whole_in Byte (slot_of proc at) ≡ None → ByteGoes u value (slot_of proc at)
   byte_alone u at value none = subst (ByteGoes u value) (sym (nothing_there at (slot_of proc at) (stands_whole proc at) none)) (refl, refl, refl)
 
   first_narrow : (at : ℕ) → at % 2 ≡ 0 → whole_in Half (slot_of proc at) ≡ None → IsNarrow (slot_of proc at)
@@ -333,24 +333,24 @@ module _ (proc : Proc) (now : Tick) where
       let e : at + 0 ≡ at = omega arith in
       subst (λ (k : ℕ). IsNarrow (slot_of proc k)) e (narrow_below_half proc at 0 even (omega arith) none)
 
-pub goes_ascending : (proc : Proc) (now : Tick) (u : UnitsState) (at : ℕ) (width : Width) (value : ℕ)
+pub goes_ascending : (proc : Proc) (now : Tick) (u : IoState) (at : ℕ) (width : Width) (value : ℕ)
     → at % width_bytes width ≡ 0 → whole_in width (slot_of proc at) ≡ None → GoesAscending proc now u at width value
 unfolding port_value port_read port_written port_refusal
 goes_ascending proc now u at Byte value even none =
     let e = byte_alone proc now u at value none in
-    record { reads = e.0; left_by_read = refl; writes = e.1; refuses = e.2 }
+    record { reads = e.0; after_read = refl; writes = e.1; refuses = e.2 }
 goes_ascending proc now u at Half value even none =
     let a = first_narrow proc now at even none in
     let b = narrow_below_half proc at 1 even (omega arith) none in
     record {
       reads = half_values proc now u at even a b;
-      left_by_read = refl;
+      after_read = refl;
       writes = half_ascends proc now u at value even a b;
       refuses = half_refuses proc u at value even a b;
     }
 goes_ascending proc now u at Word value even none = record {
   reads = word_values proc now u at even none;
-  left_by_read = read_elsewhere proc now u (whole_in Word (slot_of proc at)) none;
+  after_read = read_elsewhere proc now u (whole_in Word (slot_of proc at)) none;
   writes = word_ascends proc now u at value even none;
   refuses = word_refuses proc now u at value even none;
 }

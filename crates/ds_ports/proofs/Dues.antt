@@ -10,11 +10,11 @@ use Rattle.ds_dma.specs.declared.dma.DmaDue.{DmaDue}
 use Rattle.ds_runs.specs.Order.{due_with_rank, earlier, first_from}
 use Rattle.ds_runs.proofs.Firsts.{first_of_append}
 use Rattle.ds_timers.specs.Timing.{timer_at, timer_due}
-use Rattle.ds_ports.specs.Dues.{first_behind}
+use Rattle.ds_ports.specs.Dues.{first_io_due}
 use Rattle.ds_ports.specs.Inside.{moves_dues}
-use Rattle.ds_ports.specs.Own.{OwnState, haltcnt_written, ie_written, if_written, ime_written, keycnt_written, kept_keycnt, keys_hold, keys_told}
-use Rattle.ds_ports.specs.Registers.{left_by_write, meaning_of}
-use Rattle.ds_ports.specs.Units.{UnitsState, keys_pressed, own_of, with_halted, with_own}
+use Rattle.ds_ports.specs.ProcessorIo.{ProcessorIoState, haltcnt_written, ie_written, if_written, ime_written, keycnt_written, kept_keycnt, keys_hold, keys_told}
+use Rattle.ds_ports.specs.Registers.{after_write, meaning_of}
+use Rattle.ds_ports.specs.Io.{IoState, keys_pressed, io_of, with_halted, with_io_of}
 use Rattle.ds_ports.specs.declared.registers.Register.{Register}
 use Rattle.ds_ports.specs.declared.registers.Register.TheVariants.{Dmasad, Dmadad, Dmacnt, TmcntL, TmcntH, Keycnt, Ipcfiforecv, Ime, Ie, If, Divcnt, DivNumer, DivDenom, Sqrtcnt, SqrtParam, Haltcnt}
 use Rattle.vram_banks.specs.Cells.{Banks}
@@ -65,14 +65,14 @@ first_channel rank s =
 
 -- ---- the first of all
 
-pub first_by_parts : (u : UnitsState) → first_behind u
+pub first_by_parts : (u : IoState) → first_io_due u
     ≡ earlier (first_from 2 (timer_due (timer_at u.nine.timers 0) ∷ timer_due (timer_at u.nine.timers 1) ∷ timer_due (timer_at u.nine.timers 2) ∷ timer_due (timer_at u.nine.timers 3) ∷ []))
     (earlier (first_from 6 (timer_due (timer_at u.seven.timers 0) ∷ timer_due (timer_at u.seven.timers 1) ∷ timer_due (timer_at u.seven.timers 2) ∷ timer_due (timer_at u.seven.timers 3) ∷ []))
     (earlier (due_with_rank 10 u.divider.due)
     (earlier (due_with_rank 11 u.root.due)
     (earlier (first_from 14 (channel_due u.nine.dma 0 ∷ channel_due u.nine.dma 1 ∷ channel_due u.nine.dma 2 ∷ channel_due u.nine.dma 3 ∷ []))
     (first_from 18 (channel_due u.seven.dma 0 ∷ channel_due u.seven.dma 1 ∷ channel_due u.seven.dma 2 ∷ channel_due u.seven.dma 3 ∷ []))))))
-unfolding first_behind
+unfolding first_io_due
 first_by_parts u =
     let n : List (Option Tick) = timer_due (timer_at u.nine.timers 0) ∷ timer_due (timer_at u.nine.timers 1) ∷ timer_due (timer_at u.nine.timers 2) ∷ timer_due (timer_at u.nine.timers 3) ∷ [] in
     let s : List (Option Tick) = timer_due (timer_at u.seven.timers 0) ∷ timer_due (timer_at u.seven.timers 1) ∷ timer_due (timer_at u.seven.timers 2) ∷ timer_due (timer_at u.seven.timers 3) ∷ [] in
@@ -85,51 +85,51 @@ first_by_parts u =
 
 -- ---- what leaves it
 
-same : (u v : UnitsState) → v.nine.timers ≡ u.nine.timers → v.nine.dma ≡ u.nine.dma → v.seven.timers ≡ u.seven.timers → v.seven.dma ≡ u.seven.dma
-    → v.divider ≡ u.divider → v.root ≡ u.root → first_behind v ≡ first_behind u
-unfolding first_behind
+same : (u v : IoState) → v.nine.timers ≡ u.nine.timers → v.nine.dma ≡ u.nine.dma → v.seven.timers ≡ u.seven.timers → v.seven.dma ≡ u.seven.dma
+    → v.divider ≡ u.divider → v.root ≡ u.root → first_io_due v ≡ first_io_due u
+unfolding first_io_due
 same u v a b c d e f = rw (a, b, c, d, e, f) refl
 
 -- of a processor's own the timers and the channels stay
-abbrev IsStill : OwnState → OwnState → Type 0
+abbrev IsStill : ProcessorIoState → ProcessorIoState → Type 0
 IsStill old new = (new.timers ≡ old.timers) × (new.dma ≡ old.dma)
 
-told_still : (own : OwnState) (pressed : ℕ) → IsStill own (keys_told own pressed)
-told_still own pressed = go (keys_hold own.keycnt pressed) refl where
-  go : (b : Bool) → keys_hold own.keycnt pressed ≡ b → IsStill own (keys_told own pressed)
+told_still : (processor_io : ProcessorIoState) (pressed : ℕ) → IsStill processor_io (keys_told processor_io pressed)
+told_still processor_io pressed = go (keys_hold processor_io.keycnt pressed) refl where
+  go : (b : Bool) → keys_hold processor_io.keycnt pressed ≡ b → IsStill processor_io (keys_told processor_io pressed)
   go true e = rw e (refl, refl)
   go false e = rw e (refl, refl)
 
-still : (proc : Proc) (u : UnitsState) (own : OwnState) → IsStill (own_of u proc) own → first_behind (with_own proc u own) ≡ first_behind u
-still Nine u own h = same u (with_own Nine u own) h.0 h.1 refl refl refl refl
-still Seven u own h = same u (with_own Seven u own) refl refl h.0 h.1 refl refl
+still : (proc : Proc) (u : IoState) (processor_io : ProcessorIoState) → IsStill (io_of u proc) processor_io → first_io_due (with_io_of proc u processor_io) ≡ first_io_due u
+still Nine u processor_io h = same u (with_io_of Nine u processor_io) h.0 h.1 refl refl refl refl
+still Seven u processor_io h = same u (with_io_of Seven u processor_io) refl refl h.0 h.1 refl refl
 
-pub vram_moves_none : (u : UnitsState) (vram : Banks) → first_behind (record u { vram = vram }) ≡ first_behind u
-unfolding first_behind
+pub vram_moves_none : (u : IoState) (vram : Banks) → first_io_due (record u { vram = vram }) ≡ first_io_due u
+unfolding first_io_due
 vram_moves_none u vram = refl
 
-pub halts_move_none : (proc : Proc) (u : UnitsState) (halted : Bool) → first_behind (with_halted proc u halted) ≡ first_behind u
-halts_move_none proc u halted = still proc u (record (own_of u proc) { halted = halted }) (refl, refl)
+pub halts_move_none : (proc : Proc) (u : IoState) (halted : Bool) → first_io_due (with_halted proc u halted) ≡ first_io_due u
+halts_move_none proc u halted = still proc u (record (io_of u proc) { halted = halted }) (refl, refl)
 
-pub keys_move_none : (u : UnitsState) (pressed : ℕ) → first_behind (keys_pressed u pressed) ≡ first_behind u
+pub keys_move_none : (u : IoState) (pressed : ℕ) → first_io_due (keys_pressed u pressed) ≡ first_io_due u
 keys_move_none u pressed =
     let n = told_still u.nine pressed in
     let s = told_still u.seven pressed in
     same u (keys_pressed u pressed) n.0 n.1 s.0 s.1 refl refl
 
-pub reads_move_none : (proc : Proc) (u : UnitsState) (register : Register) → first_behind ((meaning_of register).left_by_read proc u) ≡ first_behind u
-unfolding first_behind
+pub reads_move_none : (proc : Proc) (u : IoState) (register : Register) → first_io_due ((meaning_of register).after_read proc u) ≡ first_io_due u
+unfolding first_io_due
 reads_move_none proc u Ipcfiforecv = refl
 reads_move_none proc u _ = refl
 
-halt_still : (own : OwnState) (value : ℕ) → IsStill own (haltcnt_written own value)
-halt_still own value = go (bits 6 2 value == 2) refl where
-  go : (b : Bool) → (bits 6 2 value == 2) ≡ b → IsStill own (haltcnt_written own value)
+halt_still : (processor_io : ProcessorIoState) (value : ℕ) → IsStill processor_io (haltcnt_written processor_io value)
+halt_still processor_io value = go (bits 6 2 value == 2) refl where
+  go : (b : Bool) → (bits 6 2 value == 2) ≡ b → IsStill processor_io (haltcnt_written processor_io value)
   go true e = rw e (refl, refl)
   go false e = rw e (refl, refl)
 
-pub writes_move_none : (proc : Proc) (now : Tick) (u : UnitsState) (register : Register) (number value : ℕ) → moves_dues register ≡ false
-    → first_behind (left_by_write proc now u register number value) ≡ first_behind u
+pub writes_move_none : (proc : Proc) (now : Tick) (u : IoState) (register : Register) (number value : ℕ) → moves_dues register ≡ false
+    → first_io_due (after_write proc now u register number value) ≡ first_io_due u
 writes_move_none proc now u Dmasad number value h = absurd (grind (arith, h))
 writes_move_none proc now u Dmadad number value h = absurd (grind (arith, h))
 writes_move_none proc now u Dmacnt number value h = absurd (grind (arith, h))
@@ -141,9 +141,9 @@ writes_move_none proc now u DivDenom number value h = absurd (grind (arith, h))
 writes_move_none proc now u Sqrtcnt number value h = absurd (grind (arith, h))
 writes_move_none proc now u SqrtParam number value h = absurd (grind (arith, h))
 writes_move_none proc now u Keycnt number value h =
-    still proc u (keycnt_written (own_of u proc) u.pressed (value % 2 ^ 16)) (told_still (record (own_of u proc) { keycnt = kept_keycnt (value % 2 ^ 16) }) u.pressed)
-writes_move_none proc now u Ime number value h = still proc u (ime_written (own_of u proc) value) (refl, refl)
-writes_move_none proc now u Ie number value h = still proc u (ie_written proc (own_of u proc) value) (refl, refl)
-writes_move_none proc now u If number value h = still proc u (if_written (own_of u proc) value) (refl, refl)
-writes_move_none proc now u Haltcnt number value h = still proc u (haltcnt_written (own_of u proc) (value % 2 ^ 8)) (halt_still (own_of u proc) (value % 2 ^ 8))
-writes_move_none proc now u register number value h = same u (left_by_write proc now u register number value) refl refl refl refl refl refl
+    still proc u (keycnt_written (io_of u proc) u.pressed (value % 2 ^ 16)) (told_still (record (io_of u proc) { keycnt = kept_keycnt (value % 2 ^ 16) }) u.pressed)
+writes_move_none proc now u Ime number value h = still proc u (ime_written (io_of u proc) value) (refl, refl)
+writes_move_none proc now u Ie number value h = still proc u (ie_written proc (io_of u proc) value) (refl, refl)
+writes_move_none proc now u If number value h = still proc u (if_written (io_of u proc) value) (refl, refl)
+writes_move_none proc now u Haltcnt number value h = still proc u (haltcnt_written (io_of u proc) (value % 2 ^ 8)) (halt_still (io_of u proc) (value % 2 ^ 8))
+writes_move_none proc now u register number value h = same u (after_write proc now u register number value) refl refl refl refl refl refl

@@ -11,68 +11,68 @@ use Rattle.ds_runs.specs.declared.actors.Actor as actor
 use Rattle.ds_runs.specs.declared.actors.Actor.TheVariants.{Timer, Divider, SquareRoot, Geometry, Card, Dma}
 use Rattle.ds_runs.specs.Order.{first_from}
 use Rattle.ds_timers.specs.Timing.{AreTimers, timer_at, timer_due}
-use Rattle.ds_ports.specs.Own.{OwnState}
-use Rattle.ds_ports.specs.Units.{UnitsState, own_of}
+use Rattle.ds_ports.specs.ProcessorIo.{ProcessorIoState}
+use Rattle.ds_ports.specs.Io.{IoState, io_of}
 
 -- When the units behind the ports are due, and what happens at a tick makes of it.
 
 -- when an actor behind the ports is due; those that aren't, or aren't built yet, never are
-abbrev pub units_due : UnitsState → actor.Actor → Option Tick
-units_due u (Timer proc number) = timer_due (timer_at (own_of u proc).timers number)
-units_due u Divider = u.divider.due
-units_due u SquareRoot = u.root.due
-units_due u (Dma proc channel) = channel_due (own_of u proc).dma channel
-units_due u _ = None
+abbrev pub due_in_io : IoState → actor.Actor → Option Tick
+due_in_io u (Timer proc number) = timer_due (timer_at (io_of u proc).timers number)
+due_in_io u Divider = u.divider.due
+due_in_io u SquareRoot = u.root.due
+due_in_io u (Dma proc channel) = channel_due (io_of u proc).dma channel
+due_in_io u _ = None
 
-abbrev pub due_behind : actor.Actor → UnitsState → Option Tick
-due_behind a u = units_due u a
+abbrev pub io_due : actor.Actor → IoState → Option Tick
+io_due a u = due_in_io u a
 
 -- those of ranks 2 to 21, in their order
-abbrev pub dues_behind : UnitsState → List (Option Tick)
-dues_behind u =
-    due_behind (Timer Nine 0) u ∷ due_behind (Timer Nine 1) u ∷ due_behind (Timer Nine 2) u ∷ due_behind (Timer Nine 3) u
-    ∷ due_behind (Timer Seven 0) u ∷ due_behind (Timer Seven 1) u ∷ due_behind (Timer Seven 2) u ∷ due_behind (Timer Seven 3) u
-    ∷ due_behind Divider u
-    ∷ due_behind SquareRoot u
-    ∷ due_behind Geometry u
-    ∷ due_behind Card u
-    ∷ due_behind (Dma Nine 0) u ∷ due_behind (Dma Nine 1) u ∷ due_behind (Dma Nine 2) u ∷ due_behind (Dma Nine 3) u
-    ∷ due_behind (Dma Seven 0) u ∷ due_behind (Dma Seven 1) u ∷ due_behind (Dma Seven 2) u ∷ due_behind (Dma Seven 3) u
+abbrev pub io_dues : IoState → List (Option Tick)
+io_dues u =
+    io_due (Timer Nine 0) u ∷ io_due (Timer Nine 1) u ∷ io_due (Timer Nine 2) u ∷ io_due (Timer Nine 3) u
+    ∷ io_due (Timer Seven 0) u ∷ io_due (Timer Seven 1) u ∷ io_due (Timer Seven 2) u ∷ io_due (Timer Seven 3) u
+    ∷ io_due Divider u
+    ∷ io_due SquareRoot u
+    ∷ io_due Geometry u
+    ∷ io_due Card u
+    ∷ io_due (Dma Nine 0) u ∷ io_due (Dma Nine 1) u ∷ io_due (Dma Nine 2) u ∷ io_due (Dma Nine 3) u
+    ∷ io_due (Dma Seven 0) u ∷ io_due (Dma Seven 1) u ∷ io_due (Dma Seven 2) u ∷ io_due (Dma Seven 3) u
     ∷ []
 
 -- the first of them, which is kept; it doesn't unfold by itself
-unfoldable pub first_behind : UnitsState → Option Due
-first_behind u = first_from 2 (dues_behind u)
+unfoldable pub first_io_due : IoState → Option Due
+first_io_due u = first_from 2 (io_dues u)
 
 -- what holds of a processor's own, and of the units, at every time
-pub record IsOwn (own : OwnState) : Type 0 where
-  pub timers : AreTimers own.timers
-  pub dma : IsDma own.dma
+pub record IsProcessorIo (processor_io : ProcessorIoState) : Type 0 where
+  pub timers : AreTimers processor_io.timers
+  pub dma : IsDma processor_io.dma
 
-pub record AreUnits (u : UnitsState) : Type 0 where
-  pub nine : IsOwn u.nine
-  pub seven : IsOwn u.seven
+pub record IsIo (u : IoState) : Type 0 where
+  pub nine : IsProcessorIo u.nine
+  pub seven : IsProcessorIo u.seven
 
 -- a processor's timers, and its channels that run, come later than a tick: so it is where the processor, or a channel of it, makes an access then
-pub record IsQuiet (now : Tick) (own : OwnState) : Type 0 where
-  pub timers : (which : ℕ) → which < 4 → IsLater now (timer_due (timer_at own.timers which))
-  pub dma : AreReadyLater now own.dma
+pub record IsQuiet (now : Tick) (processor_io : ProcessorIoState) : Type 0 where
+  pub timers : (which : ℕ) → which < 4 → IsLater now (timer_due (timer_at processor_io.timers which))
+  pub dma : AreReadyLater now processor_io.dma
 
 -- nothing changed of a processor's own but its interrupt words
-pub record IsLeft (old new : OwnState) : Type 0 where
+pub record IsUnchanged (old new : ProcessorIoState) : Type 0 where
   pub timers : new.timers ≡ old.timers
   pub keycnt : new.keycnt ≡ old.keycnt
   pub halted : new.halted ≡ old.halted
   pub dma : new.dma ≡ old.dma
 
 -- what happens at a tick leaves each due tick as it was, or later
-abbrev pub ReschedulesEach : Tick → UnitsState → UnitsState → Type 0
-ReschedulesEach now old new = (a : actor.Actor) → IsNumbered a → Reschedules now (due_behind a old) (due_behind a new)
+abbrev pub ReschedulesEach : Tick → IoState → IoState → Type 0
+ReschedulesEach now old new = (a : actor.Actor) → IsNumbered a → Reschedules now (io_due a old) (io_due a new)
 
 -- what accesses of a processor, or of a channel of it, at a tick make of the units: each due tick is as it was or later, and the other processor is
 -- told of interrupts and of nothing else
-pub record Goes (proc : Proc) (now : Tick) (old new : UnitsState) : Type 0 where
-  pub is : IsOwn (own_of new proc)
-  pub quiet : IsQuiet now (own_of new proc)
+pub record Goes (proc : Proc) (now : Tick) (old new : IoState) : Type 0 where
+  pub is : IsProcessorIo (io_of new proc)
+  pub quiet : IsQuiet now (io_of new proc)
   pub each : ReschedulesEach now old new
-  pub other : IsLeft (own_of old (other_proc proc)) (own_of new (other_proc proc))
+  pub other : IsUnchanged (io_of old (other_proc proc)) (io_of new (other_proc proc))

@@ -1,8 +1,8 @@
 pub mod Dues
 pub mod Inside
-pub mod Own
+pub mod ProcessorIo
 pub mod Parts
 pub mod Ports
 pub mod RegisterMap
 pub mod Registers
-pub mod Units
+pub mod Io

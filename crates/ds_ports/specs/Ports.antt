@@ -6,8 +6,8 @@ use Rattle.ds_base.specs.declared.processors.Proc.{Proc}
 use Rattle.ds_base.specs.declared.left_out.Stop.{Stop}
 use Rattle.ds_base.specs.declared.ticks.Tick.{Tick}
 use Rattle.ds_ports.specs.RegisterMap.{slot_of}
-use Rattle.ds_ports.specs.Registers.{left_by_write, meaning_of}
-use Rattle.ds_ports.specs.Units.{UnitsState}
+use Rattle.ds_ports.specs.Registers.{after_write, meaning_of}
+use Rattle.ds_ports.specs.Io.{IoState}
 use Rattle.ds_ports.specs.declared.registers.Register.{Register}
 use Rattle.ds_ports.specs.declared.registers.Slot.{Slot}
 
@@ -46,66 +46,66 @@ ignores width register = is_narrow width && (meaning_of register).takes_words
 -- ---- reads
 
 -- what some bytes of a register read, or the number that is read in its stead
-abbrev pub slot_value : Proc → Tick → UnitsState → Width → Slot → ℕ
+abbrev pub slot_value : Proc → Tick → IoState → Width → Slot → ℕ
 slot_value proc now u width slot = if ignores width slot.register then 0 else part width slot.byte ((meaning_of slot.register).value proc now u slot.number)
 
-abbrev pub read_or : Proc → Tick → UnitsState → Width → Option Slot → ℕ → ℕ
+abbrev pub read_or : Proc → Tick → IoState → Width → Option Slot → ℕ → ℕ
 read_or proc now u width None other = other
 read_or proc now u width (Some slot) other = slot_value proc now u width slot
 
-abbrev pub port_byte : Proc → Tick → UnitsState → ℕ → ℕ
+abbrev pub port_byte : Proc → Tick → IoState → ℕ → ℕ
 port_byte proc now u at = read_or proc now u Byte (slot_of proc at) 0
 
-abbrev pub port_half : Proc → Tick → UnitsState → ℕ → ℕ
+abbrev pub port_half : Proc → Tick → IoState → ℕ → ℕ
 port_half proc now u at = read_or proc now u Half (whole_in Half (slot_of proc at)) (port_byte proc now u at + 2 ^ 8 * port_byte proc now u (at + 1))
 
-abbrev pub port_word : Proc → Tick → UnitsState → ℕ → ℕ
+abbrev pub port_word : Proc → Tick → IoState → ℕ → ℕ
 port_word proc now u at = read_or proc now u Word (whole_in Word (slot_of proc at)) (port_half proc now u at + 2 ^ 16 * port_half proc now u (at + 2))
 
 -- what an access reads at a tick
-unfoldable pub port_value : Proc → Tick → UnitsState → ℕ → Width → ℕ
+unfoldable pub port_value : Proc → Tick → IoState → ℕ → Width → ℕ
 port_value proc now u at Byte = port_byte proc now u at
 port_value proc now u at Half = port_half proc now u at
 port_value proc now u at Word = port_word proc now u at
 
 -- what a read leaves: a register that a read changes is one that takes whole words
-abbrev pub read_left : Proc → UnitsState → Option Slot → UnitsState
-read_left proc u None = u
-read_left proc u (Some slot) = (meaning_of slot.register).left_by_read proc u
+abbrev pub read_unchanged : Proc → IoState → Option Slot → IoState
+read_unchanged proc u None = u
+read_unchanged proc u (Some slot) = (meaning_of slot.register).after_read proc u
 
-unfoldable pub port_read : Proc → UnitsState → ℕ → Width → UnitsState
+unfoldable pub port_read : Proc → IoState → ℕ → Width → IoState
 port_read proc u at Byte = u
 port_read proc u at Half = u
-port_read proc u at Word = read_left proc u (whole_in Word (slot_of proc at))
+port_read proc u at Word = read_unchanged proc u (whole_in Word (slot_of proc at))
 
 -- ---- writes
 
 -- the number that a write of some bytes of a register gives it
-abbrev pub slot_joined : Proc → UnitsState → Width → Slot → ℕ → ℕ
+abbrev pub slot_joined : Proc → IoState → Width → Slot → ℕ → ℕ
 slot_joined proc u width slot value = with_bytes_from width slot.byte ((meaning_of slot.register).kept proc u slot.number) value
 
 -- what a write of some bytes of a register leaves, or the state that is left in its stead
-abbrev pub slot_written : Proc → Tick → UnitsState → Width → Slot → ℕ → UnitsState
+abbrev pub slot_written : Proc → Tick → IoState → Width → Slot → ℕ → IoState
 slot_written proc now u width slot value =
-    if ignores width slot.register then u else left_by_write proc now u slot.register slot.number (slot_joined proc u width slot value)
+    if ignores width slot.register then u else after_write proc now u slot.register slot.number (slot_joined proc u width slot value)
 
-abbrev pub written_or : Proc → Tick → UnitsState → Width → Option Slot → ℕ → UnitsState → UnitsState
+abbrev pub written_or : Proc → Tick → IoState → Width → Option Slot → ℕ → IoState → IoState
 written_or proc now u width None value other = other
 written_or proc now u width (Some slot) value other = slot_written proc now u width slot value
 
-abbrev pub byte_written : Proc → Tick → UnitsState → ℕ → ℕ → UnitsState
+abbrev pub byte_written : Proc → Tick → IoState → ℕ → ℕ → IoState
 byte_written proc now u at value = written_or proc now u Byte (slot_of proc at) value u
 
-abbrev pub half_written : Proc → Tick → UnitsState → ℕ → ℕ → UnitsState
+abbrev pub half_written : Proc → Tick → IoState → ℕ → ℕ → IoState
 half_written proc now u at value =
     written_or proc now u Half (whole_in Half (slot_of proc at)) value (byte_written proc now (byte_written proc now u at value) (at + 1) (value / 2 ^ 8))
 
-abbrev pub word_written : Proc → Tick → UnitsState → ℕ → ℕ → UnitsState
+abbrev pub word_written : Proc → Tick → IoState → ℕ → ℕ → IoState
 word_written proc now u at value =
     written_or proc now u Word (whole_in Word (slot_of proc at)) value (half_written proc now (half_written proc now u at value) (at + 2) (value / 2 ^ 16))
 
 -- what a write leaves that isn't refused
-unfoldable pub port_written : Proc → Tick → UnitsState → ℕ → Width → ℕ → UnitsState
+unfoldable pub port_written : Proc → Tick → IoState → ℕ → Width → ℕ → IoState
 port_written proc now u at Byte value = byte_written proc now u at value
 port_written proc now u at Half value = half_written proc now u at value
 port_written proc now u at Word value = word_written proc now u at value
@@ -116,31 +116,31 @@ abbrev pub first_stop : Option Stop → Option Stop → Option Stop
 first_stop None other = other
 first_stop (Some stop) other = Some stop
 
-abbrev pub slot_refusal : Proc → UnitsState → Width → Slot → ℕ → Option Stop
+abbrev pub slot_refusal : Proc → IoState → Width → Slot → ℕ → Option Stop
 slot_refusal proc u width slot value = if ignores width slot.register then None else (meaning_of slot.register).refusal proc u slot.number (slot_joined proc u width slot value)
 
-abbrev pub refusal_or : Proc → UnitsState → Width → Option Slot → ℕ → Option Stop → Option Stop
+abbrev pub refusal_or : Proc → IoState → Width → Option Slot → ℕ → Option Stop → Option Stop
 refusal_or proc u width None value other = other
 refusal_or proc u width (Some slot) value other = slot_refusal proc u width slot value
 
-abbrev pub byte_refusal : Proc → UnitsState → ℕ → ℕ → Option Stop
+abbrev pub byte_refusal : Proc → IoState → ℕ → ℕ → Option Stop
 byte_refusal proc u at value = refusal_or proc u Byte (slot_of proc at) value None
 
-abbrev pub half_refusal : Proc → UnitsState → ℕ → ℕ → Option Stop
+abbrev pub half_refusal : Proc → IoState → ℕ → ℕ → Option Stop
 half_refusal proc u at value =
     refusal_or proc u Half (whole_in Half (slot_of proc at)) value (first_stop (byte_refusal proc u at value) (byte_refusal proc u (at + 1) (value / 2 ^ 8)))
 
-abbrev pub word_refusal : Proc → UnitsState → ℕ → ℕ → Option Stop
+abbrev pub word_refusal : Proc → IoState → ℕ → ℕ → Option Stop
 word_refusal proc u at value =
     refusal_or proc u Word (whole_in Word (slot_of proc at)) value (first_stop (half_refusal proc u at value) (half_refusal proc u (at + 2) (value / 2 ^ 16)))
 
-unfoldable pub port_refusal : Proc → UnitsState → ℕ → Width → ℕ → Option Stop
+unfoldable pub port_refusal : Proc → IoState → ℕ → Width → ℕ → Option Stop
 port_refusal proc u at Byte value = byte_refusal proc u at value
 port_refusal proc u at Half value = half_refusal proc u at value
 port_refusal proc u at Word value = word_refusal proc u at value
 
 -- what a write leaves: where it is refused, all stays
-abbrev pub unless_stopped : Option Stop → UnitsState → UnitsState → UnitsState
+abbrev pub unless_stopped : Option Stop → IoState → IoState → IoState
 unless_stopped None old new = new
 unless_stopped (Some stop) old new = old
 
@@ -166,33 +166,33 @@ abbrev pub width_of : ℕ → Width
 width_of bytes = if bytes == 1 then Byte else (if bytes == 2 then Half else Word)
 
 -- where no register begins, nothing is read, written or refused
-abbrev pub begun_value : Proc → Tick → UnitsState → Option Slot → ℕ
+abbrev pub begun_value : Proc → Tick → IoState → Option Slot → ℕ
 begun_value proc now u None = 0
 begun_value proc now u (Some slot) = if slot.byte == 0 then slot_value proc now u (width_of slot.bytes) slot else 0
 
-abbrev pub begun_written : Proc → Tick → UnitsState → Option Slot → ℕ → UnitsState
+abbrev pub begun_written : Proc → Tick → IoState → Option Slot → ℕ → IoState
 begun_written proc now u None value = u
 begun_written proc now u (Some slot) value = if slot.byte == 0 then slot_written proc now u (width_of slot.bytes) slot value else u
 
-abbrev pub begun_refusal : Proc → UnitsState → Option Slot → ℕ → Option Stop
+abbrev pub begun_refusal : Proc → IoState → Option Slot → ℕ → Option Stop
 begun_refusal proc u None value = None
 begun_refusal proc u (Some slot) value = if slot.byte == 0 then slot_refusal proc u (width_of slot.bytes) slot value else None
 
 -- of so many bytes from an offset on
-abbrev pub values_from : Proc → Tick → UnitsState → ℕ → ℕ → ℕ
+abbrev pub values_from : Proc → Tick → IoState → ℕ → ℕ → ℕ
 values_from proc now u at zero = 0
 values_from proc now u at (suc n) = begun_value proc now u (slot_of proc at) + 2 ^ 8 * values_from proc now u (at + 1) n
 
-abbrev pub ascending : Proc → Tick → UnitsState → ℕ → ℕ → ℕ → UnitsState
+abbrev pub ascending : Proc → Tick → IoState → ℕ → ℕ → ℕ → IoState
 ascending proc now u at value zero = u
 ascending proc now u at value (suc n) = ascending proc now (begun_written proc now u (slot_of proc at) value) (at + 1) (value / 2 ^ 8) n
 
-abbrev pub first_refusal : Proc → UnitsState → ℕ → ℕ → ℕ → Option Stop
+abbrev pub first_refusal : Proc → IoState → ℕ → ℕ → ℕ → Option Stop
 first_refusal proc u at value zero = None
 first_refusal proc u at value (suc n) = first_stop (begun_refusal proc u (slot_of proc at) value) (first_refusal proc u (at + 1) (value / 2 ^ 8) n)
 
-pub record GoesAscending (proc : Proc) (now : Tick) (u : UnitsState) (at : ℕ) (width : Width) (value : ℕ) : Type 0 where
+pub record GoesAscending (proc : Proc) (now : Tick) (u : IoState) (at : ℕ) (width : Width) (value : ℕ) : Type 0 where
   pub reads : port_value proc now u at width ≡ values_from proc now u at (width_bytes width)
-  pub left_by_read : port_read proc u at width ≡ u
+  pub after_read : port_read proc u at width ≡ u
   pub writes : port_written proc now u at width value ≡ ascending proc now u at value (width_bytes width)
   pub refuses : port_refusal proc u at width value ≡ first_refusal proc u at value (width_bytes width)

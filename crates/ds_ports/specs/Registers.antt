@@ -13,8 +13,8 @@ use Rattle.ds_ipc.specs.Sides.{control_kept, sync_kept}
 use Rattle.ds_math.specs.Dividers.{DividerState, division_started}
 use Rattle.ds_math.specs.Roots.{RootState, root_started}
 use Rattle.ds_timers.specs.Timing.{counter_of, timer_at}
-use Rattle.ds_ports.specs.Own.{OwnState, control_written, dma_written, extkeyin_word, haltcnt_written, ie_written, if_written, ime_written, keycnt_written, keyinput_word, reload_written}
-use Rattle.ds_ports.specs.Units.{UnitsState, both_raised, own_of, with_own}
+use Rattle.ds_ports.specs.ProcessorIo.{ProcessorIoState, control_written, dma_written, extkeyin_word, haltcnt_written, ie_written, if_written, ime_written, keycnt_written, keyinput_word, reload_written}
+use Rattle.ds_ports.specs.Io.{IoState, both_raised, io_of, with_io_of}
 use Rattle.ds_ports.specs.declared.registers.Register.{Register}
 use Rattle.ds_ports.specs.declared.registers.Register.TheVariants.{Dmasad, Dmadad, Dmacnt, Dmafill, TmcntL, TmcntH, Keyinput, Keycnt, Extkeyin, Ipcsync, Ipcfifocnt, Ipcfifosend, Ipcfiforecv, Romctrl, Ime, Ie, If, Vramcnt, Wramcnt, Vramstat, Wramstat, Divcnt, DivNumer, DivDenom, DivResult, DivremResult, Sqrtcnt, SqrtResult, SqrtParam, Postflg, Haltcnt}
 use Rattle.vram_banks.specs.BankMap.{kept_bank_control}
@@ -26,8 +26,8 @@ use Rattle.vram_banks.specs.Cells.{allotted_of}
 -- the units. Then come the register's number, of those of its name, and the word that is written.
 pub data Write : Type 0 where
   ignored : Write
-  of_own : (Proc → Tick → ℕ → OwnState → ℕ → ℕ → OwnState) → Write
-  of_units : (Proc → Tick → UnitsState → ℕ → ℕ → UnitsState) → Write
+  of_processor : (Proc → Tick → ℕ → ProcessorIoState → ℕ → ℕ → ProcessorIoState) → Write
+  of_io : (Proc → Tick → IoState → ℕ → ℕ → IoState) → Write
 
 pub record Meaning : Type 0 where
   -- how many there are of its name, told apart by a number from 0 on
@@ -37,15 +37,15 @@ pub record Meaning : Type 0 where
   -- it is reached by whole words alone: narrower reads give 0, and narrower writes are ignored (our choice)
   pub takes_words : Bool
   -- what it reads, for a processor at a tick
-  pub value : Proc → Tick → UnitsState → ℕ → ℕ
+  pub value : Proc → Tick → IoState → ℕ → ℕ
   -- the bits that a write of some of its bytes leaves as they are in the others; bits that act when they are written have 0 here
-  pub kept : Proc → UnitsState → ℕ → ℕ
+  pub kept : Proc → IoState → ℕ → ℕ
   -- what a read of the whole of it leaves
-  pub left_by_read : Proc → UnitsState → UnitsState
+  pub after_read : Proc → IoState → IoState
   -- what a write of all its bytes leaves
   pub written : Write
   -- the stop for which such a write is refused, if it is
-  pub refusal : Proc → UnitsState → ℕ → ℕ → Option Stop
+  pub refusal : Proc → IoState → ℕ → ℕ → Option Stop
 
 -- ---- how they are made
 
@@ -57,35 +57,35 @@ idle = record {
   takes_words = false;
   value = λ proc now u n. 0;
   kept = λ proc u n. 0;
-  left_by_read = λ proc u. u;
+  after_read = λ proc u. u;
   written = ignored;
   refusal = λ proc u n word. None;
 }
 
 -- one that is read alone
-abbrev pub read_only : (UnitsState → ℕ) → Meaning
+abbrev pub read_only : (IoState → ℕ) → Meaning
 read_only value = record idle { value = λ proc now u n. value u }
 
 -- one that is written alone
-abbrev pub write_only : (Proc → Tick → UnitsState → ℕ → ℕ → UnitsState) → Meaning
-write_only written = record idle { written = of_units written }
+abbrev pub write_only : (Proc → Tick → IoState → ℕ → ℕ → IoState) → Meaning
+write_only written = record idle { written = of_io written }
 
 -- one that reads what it keeps
-abbrev pub plain : (UnitsState → ℕ → ℕ) → (UnitsState → Tick → ℕ → ℕ → UnitsState) → Meaning
-plain kept written = record idle { value = λ proc now u n. kept u n; kept = λ proc u n. kept u n; written = of_units (λ proc now u n word. written u now n word) }
+abbrev pub plain : (IoState → ℕ → ℕ) → (IoState → Tick → ℕ → ℕ → IoState) → Meaning
+plain kept written = record idle { value = λ proc now u n. kept u n; kept = λ proc u n. kept u n; written = of_io (λ proc now u n word. written u now n word) }
 
 -- such a one of what each processor has of its own
-abbrev pub plain_own : (OwnState → ℕ → ℕ) → (Proc → Tick → ℕ → OwnState → ℕ → ℕ → OwnState) → Meaning
-plain_own kept written =
-    record idle { value = λ proc now u n. kept (own_of u proc) n; kept = λ proc u n. kept (own_of u proc) n; written = of_own written }
+abbrev pub plain_of_processor : (ProcessorIoState → ℕ → ℕ) → (Proc → Tick → ℕ → ProcessorIoState → ℕ → ℕ → ProcessorIoState) → Meaning
+plain_of_processor kept written =
+    record idle { value = λ proc now u n. kept (io_of u proc) n; kept = λ proc u n. kept (io_of u proc) n; written = of_processor written }
 
 -- ---- what they are made from
 
 -- DMAxSAD, DMAxDAD or DMAxCNT (GBATEK, "DS DMA Transfers")
 abbrev pub channel_register : DmaPort → Meaning
-channel_register port = record (plain_own (λ own n. channel_word port (channel_at own.dma.channels n)) (λ proc now pressed own n word. dma_written own now port n word)) {
+channel_register port = record (plain_of_processor (λ processor_io n. channel_word port (channel_at processor_io.dma.channels n)) (λ proc now pressed processor_io n word. dma_written processor_io now port n word)) {
   count = 4;
-  refusal = λ proc u n word. channel_refusal (own_of u proc).dma.proc n port word (channel_at (own_of u proc).dma.channels n);
+  refusal = λ proc u n word. channel_refusal (io_of u proc).dma.proc n port word (channel_at (io_of u proc).dma.channels n);
 }
 
 -- the low and the high word of a number of 64 bits, by 0 and 1, and that number with another word there
@@ -96,16 +96,16 @@ abbrev pub with_word_of_two : ℕ → ℕ → ℕ → ℕ
 with_word_of_two which number word = if which == 0 then number / 2 ^ 32 * 2 ^ 32 + word else number % 2 ^ 32 + word * 2 ^ 32
 
 -- what passes to the other processor is written, and interrupts are raised (GBATEK, "DS Inter Process Communication (IPC)")
-abbrev pub sync_set : Proc → UnitsState → ℕ → UnitsState
+abbrev pub sync_set : Proc → IoState → ℕ → IoState
 sync_set proc u value = both_raised (record u { ipc = ipc_sync_written u.ipc proc value }) (ipc_sync_raised u.ipc proc value)
 
-abbrev pub fifo_control_set : Proc → UnitsState → ℕ → UnitsState
+abbrev pub fifo_control_set : Proc → IoState → ℕ → IoState
 fifo_control_set proc u value = both_raised (record u { ipc = ipc_control_written u.ipc proc value }) (ipc_control_raised u.ipc proc value)
 
-abbrev pub word_sent : Proc → UnitsState → ℕ → UnitsState
+abbrev pub word_sent : Proc → IoState → ℕ → IoState
 word_sent proc u word = both_raised (record u { ipc = ipc_sent u.ipc proc word }) (ipc_send_raised u.ipc proc)
 
-abbrev pub word_received : Proc → UnitsState → UnitsState
+abbrev pub word_received : Proc → IoState → IoState
 word_received proc u = both_raised (record u { ipc = ipc_received u.ipc proc }) (ipc_receive_raised u.ipc proc)
 
 -- what ROMCTRL keeps: bits 0 to 22 and 24 to 30; its bit 31 would start a transfer, which is left out as yet: what is told is the whole word
@@ -117,7 +117,7 @@ abbrev pub card_refusal : ℕ → Option Stop
 card_refusal word = if bit 31 word then Some (record { kind = CardTransfer; value = word }) else None
 
 -- a bank's control is written (GBATEK, "DS Memory Control - VRAM")
-abbrev pub bank_set : UnitsState → ℕ → ℕ → UnitsState
+abbrev pub bank_set : IoState → ℕ → ℕ → IoState
 bank_set u bank value = record u { vram = record u.vram { controls = slice_set u.vram.controls bank (kept_bank_control bank value) } }
 
 -- DIVCNT: the mode, the zero flag by the whole denominator in bit 14, and busy in 15; SQRTCNT: wide in bit 0, and busy in 15 (GBATEK, "DS Maths")
@@ -128,10 +128,10 @@ abbrev pub sqrtcnt_word : RootState → ℕ
 sqrtcnt_word r = flag 0 r.wide + flag 15 (is_some r.due)
 
 -- a write of the divider's control or of an operand starts a division, and one of the root's a square root (the same chapter)
-abbrev pub division_set : UnitsState → Tick → ℕ → ℕ → ℕ → UnitsState
+abbrev pub division_set : IoState → Tick → ℕ → ℕ → ℕ → IoState
 division_set u now mode numerator denominator = record u { divider = division_started u.divider mode numerator denominator now }
 
-abbrev pub root_set : UnitsState → Tick → Bool → ℕ → UnitsState
+abbrev pub root_set : IoState → Tick → Bool → ℕ → IoState
 root_set u now wide value = record u { root = root_started u.root wide value now }
 
 -- HALTCNT's modes 1 and 3 are left out, GBA mode and sleep (GBATEK, "DS Power Control")
@@ -151,27 +151,27 @@ meaning_of Dmacnt = channel_register Control
 -- DMA0FILL to DMA3FILL (the same chapter)
 meaning_of Dmafill = record (plain (λ u n. slice_index_or u.fill n 0) (λ u now n word. record u { fill = slice_set u.fill n word })) { count = 4 }
 -- TM0CNT_L to TM3CNT_L: a timer's counter, which is written as its reload (GBATEK, "DS Timers")
-meaning_of TmcntL = record (plain_own (λ own n. (timer_at own.timers n).reload) (λ proc now pressed own n word. reload_written own n (word % 2 ^ 16))) {
+meaning_of TmcntL = record (plain_of_processor (λ processor_io n. (timer_at processor_io.timers n).reload) (λ proc now pressed processor_io n word. reload_written processor_io n (word % 2 ^ 16))) {
   count = 4;
-  value = λ proc now u n. counter_of (timer_at (own_of u proc).timers n) now;
+  value = λ proc now u n. counter_of (timer_at (io_of u proc).timers n) now;
 }
 -- TM0CNT_H to TM3CNT_H: its control (the same chapter)
-meaning_of TmcntH = record (plain_own (λ own n. (timer_at own.timers n).control) (λ proc now pressed own n word. control_written own n (word % 2 ^ 16) now)) { count = 4 }
+meaning_of TmcntH = record (plain_of_processor (λ processor_io n. (timer_at processor_io.timers n).control) (λ proc now pressed processor_io n word. control_written processor_io n (word % 2 ^ 16) now)) { count = 4 }
 -- KEYINPUT, KEYCNT and EXTKEYIN (GBATEK, "DS Keypad")
 meaning_of Keyinput = read_only (λ u. keyinput_word u.pressed)
-meaning_of Keycnt = plain_own (λ own n. own.keycnt) (λ proc now pressed own n word. keycnt_written own pressed (word % 2 ^ 16))
+meaning_of Keycnt = plain_of_processor (λ processor_io n. processor_io.keycnt) (λ proc now pressed processor_io n word. keycnt_written processor_io pressed (word % 2 ^ 16))
 meaning_of Extkeyin = read_only (λ u. extkeyin_word u.pressed)
 -- IPCSYNC (GBATEK, "DS Inter Process Communication (IPC)")
 meaning_of Ipcsync = record idle {
   value = λ proc now u n. ipc_sync_word u.ipc proc;
   kept = λ proc u n. sync_kept (side_of u.ipc proc);
-  written = of_units (λ proc now u n word. sync_set proc u (word % 2 ^ 16));
+  written = of_io (λ proc now u n word. sync_set proc u (word % 2 ^ 16));
 }
 -- IPCFIFOCNT (the same chapter)
 meaning_of Ipcfifocnt = record idle {
   value = λ proc now u n. ipc_control_word u.ipc proc;
   kept = λ proc u n. control_kept (side_of u.ipc proc);
-  written = of_units (λ proc now u n word. fifo_control_set proc u (word % 2 ^ 16));
+  written = of_io (λ proc now u n word. fifo_control_set proc u (word % 2 ^ 16));
 }
 -- IPCFIFOSEND (the same chapter)
 meaning_of Ipcfifosend = record (write_only (λ proc now u n word. word_sent proc u word)) { takes_words = true }
@@ -179,18 +179,18 @@ meaning_of Ipcfifosend = record (write_only (λ proc now u n word. word_sent pro
 meaning_of Ipcfiforecv = record idle {
   takes_words = true;
   value = λ proc now u n. ipc_received_word u.ipc proc;
-  left_by_read = λ proc u. word_received proc u;
+  after_read = λ proc u. word_received proc u;
 }
 -- ROMCTRL (GBATEK, "DS Cartridge I/O Ports")
 meaning_of Romctrl = record (plain (λ u n. u.romctrl) (λ u now n word. record u { romctrl = bit_and word kept_of_romctrl })) {
   refusal = λ proc u n word. card_refusal word;
 }
 -- IME, IE and IF (GBATEK, "DS Interrupts")
-meaning_of Ime = plain_own (λ own n. flag 0 own.irq.master) (λ proc now pressed own n word. ime_written own word)
-meaning_of Ie = plain_own (λ own n. own.irq.enabled) (λ proc now pressed own n word. ie_written proc own word)
+meaning_of Ime = plain_of_processor (λ processor_io n. flag 0 processor_io.irq.ime) (λ proc now pressed processor_io n word. ime_written processor_io word)
+meaning_of Ie = plain_of_processor (λ processor_io n. processor_io.irq.ie) (λ proc now pressed processor_io n word. ie_written proc processor_io word)
 meaning_of If = record idle {
-  value = λ proc now u n. (own_of u proc).irq.flags;
-  written = of_own (λ proc now pressed own n word. if_written own word);
+  value = λ proc now u n. (io_of u proc).irq.if_;
+  written = of_processor (λ proc now pressed processor_io n word. if_written processor_io word);
 }
 -- VRAMCNT_A to VRAMCNT_I (GBATEK, "DS Memory Control - VRAM")
 meaning_of Vramcnt = record (write_only (λ proc now u n word. bank_set u n (word % 2 ^ 8))) { count = 9 }
@@ -204,7 +204,7 @@ meaning_of Wramstat = read_only (λ u. u.wramcnt)
 meaning_of Divcnt = record idle {
   value = λ proc now u n. divcnt_word u.divider;
   kept = λ proc u n. u.divider.mode;
-  written = of_units (λ proc now u n word. division_set u now (word % 2 ^ 2) u.divider.numerator u.divider.denominator);
+  written = of_io (λ proc now u n word. division_set u now (word % 2 ^ 2) u.divider.numerator u.divider.denominator);
 }
 meaning_of DivNumer = record (plain (λ u n. word_of_two n u.divider.numerator)
     (λ u now n word. division_set u now u.divider.mode (with_word_of_two n u.divider.numerator word) u.divider.denominator)) { count = 2 }
@@ -216,7 +216,7 @@ meaning_of DivremResult = record idle { count = 2; value = λ proc now u n. word
 meaning_of Sqrtcnt = record idle {
   value = λ proc now u n. sqrtcnt_word u.root;
   kept = λ proc u n. flag 0 u.root.wide;
-  written = of_units (λ proc now u n word. root_set u now (bit 0 word) u.root.value);
+  written = of_io (λ proc now u n word. root_set u now (bit 0 word) u.root.value);
 }
 meaning_of SqrtResult = read_only (λ u. u.root.root)
 meaning_of SqrtParam = record (plain (λ u n. word_of_two n u.root.value)
@@ -225,7 +225,7 @@ meaning_of SqrtParam = record (plain (λ u n. word_of_two n u.root.value)
 meaning_of Postflg = read_only (λ u. 1)
 -- HALTCNT (the same chapter)
 meaning_of Haltcnt = record idle {
-  written = of_own (λ proc now pressed own n word. haltcnt_written own (word % 2 ^ 8));
+  written = of_processor (λ proc now pressed processor_io n word. haltcnt_written processor_io (word % 2 ^ 8));
   refusal = λ proc u n word. halt_refusal (word % 2 ^ 8);
 }
 -- those that are to come: each offset of theirs reads 0, and ignores writes
@@ -234,16 +234,16 @@ meaning_of _ = record idle { count = 112; is_built = false }
 -- ---- what a write leaves
 
 -- of all units
-abbrev pub units_after : Write → Proc → Tick → UnitsState → ℕ → ℕ → UnitsState
-units_after ignored proc now u n word = u
-units_after (of_own written) proc now u n word = with_own proc u (written proc now u.pressed (own_of u proc) n word)
-units_after (of_units written) proc now u n word = written proc now u n word
+abbrev pub io_after : Write → Proc → Tick → IoState → ℕ → ℕ → IoState
+io_after ignored proc now u n word = u
+io_after (of_processor written) proc now u n word = with_io_of proc u (written proc now u.pressed (io_of u proc) n word)
+io_after (of_io written) proc now u n word = written proc now u n word
 
 -- of what the processor has of its own, where the write changes no more
-abbrev pub own_after : Write → Proc → Tick → ℕ → OwnState → ℕ → ℕ → OwnState
-own_after ignored proc now pressed own n word = own
-own_after (of_own written) proc now pressed own n word = written proc now pressed own n word
-own_after (of_units written) proc now pressed own n word = own
+abbrev pub processor_io_after : Write → Proc → Tick → ℕ → ProcessorIoState → ℕ → ℕ → ProcessorIoState
+processor_io_after ignored proc now pressed processor_io n word = processor_io
+processor_io_after (of_processor written) proc now pressed processor_io n word = written proc now pressed processor_io n word
+processor_io_after (of_io written) proc now pressed processor_io n word = processor_io
 
-abbrev pub left_by_write : Proc → Tick → UnitsState → Register → ℕ → ℕ → UnitsState
-left_by_write proc now u register n word = units_after (meaning_of register).written proc now u n word
+abbrev pub after_write : Proc → Tick → IoState → Register → ℕ → ℕ → IoState
+after_write proc now u register n word = io_after (meaning_of register).written proc now u n word

@@ -5,13 +5,13 @@
 //! (specs/Registers.antt), and how an access goes through the registers that it covers is another (specs/Ports.antt).
 #![tactic(auto)]
 
-mod behind;
-mod own;
+mod io;
 mod ports;
+mod processor_io;
 mod registers;
 mod units;
 
-pub use own::Before;
+pub use processor_io::Before;
 pub use ports::{lies_in_built, part, port_is_built, register_laws};
 pub use registers::{Register, Slot, slot_of};
-pub use units::Units;
+pub use io::Io;

@@ -7,12 +7,12 @@ ghost use Rattle.ds_base.specs.declared.memories.Width.{Width};
 ghost use Rattle.ds_base.specs.declared.processors.Proc.{Proc};
 ghost use Rattle.ds_base.specs.declared.ticks.Tick.{Tick};
 ghost use Rattle.ds_ports.specs.Ports.{GoesAscending, byte_refusal, byte_written, first_stop, half_refusal, half_written, ignores, in_built, is_slot_built, with_bytes_from, lies_in_built, part, port_byte, port_half, port_is_built, port_read, port_refusal, port_value, port_word, port_written, slot_joined, slot_refusal, slot_value, slot_written, unless_stopped, whole_in, word_refusal, word_written};
-ghost use Rattle.ds_ports.specs.Dues.{Goes, IsOwn, IsQuiet};
+ghost use Rattle.ds_ports.specs.Dues.{Goes, IsProcessorIo, IsQuiet};
 ghost use Rattle.ds_ports.specs.RegisterMap.{IsSlot, StandsWhole, slot_of};
-ghost use Rattle.ds_ports.specs.Units.{UnitsState, own_of};
+ghost use Rattle.ds_ports.specs.Io.{IoState, io_of};
 
 use crate::registers::{Register, Slot, slot_of};
-use crate::units::Units;
+use crate::io::Io;
 use ds_base::{Proc, Stop, Tick, Width};
 
 /// How many bytes an access moves.
@@ -92,7 +92,7 @@ fn first_stop(first: Option<Stop>, other: Option<Stop>) -> Option<Stop>
     }
 }
 
-impl Units {
+impl Io {
     /// What some bytes of a register read.
     fn slot_value(&self, proc: Proc, now: Tick, width: Width, slot: Slot) -> u32
         requires { IsSlot slot }
@@ -104,7 +104,7 @@ impl Units {
         part(
             width,
             slot.byte,
-            self.behind()
+            self.units()
                 .value_of(proc, now, slot.register, slot.number),
         )
     }
@@ -195,7 +195,7 @@ impl Units {
         requires whole { slot.byte + width_bytes width ≤ 4 }
         ensures { result ≡ slot_joined proc self.now width slot value }
     {
-        let kept = self.behind().kept_of(proc, slot.register, slot.number);
+        let kept = self.units().kept_of(proc, slot.register, slot.number);
         with_bytes_from(width, slot.byte, kept, value)
     }
 
@@ -209,7 +209,7 @@ impl Units {
             return None;
         }
         let value = self.slot_joined(proc, width, slot, value);
-        self.behind()
+        self.units()
             .refusal_of(proc, slot.register, slot.number, value)
     }
 
@@ -246,7 +246,7 @@ impl Units {
         }
         let value = self.slot_joined(proc, width, slot, value);
         let stop = self
-            .behind()
+            .units()
             .refusal_of(proc, slot.register, slot.number, value);
         if stop.is_none() {
             self.write_register(proc, now, slot.register, slot.number, value);
@@ -379,7 +379,7 @@ impl Units {
         requires early { IsEarly (Some now) }
         ensures refusal { result ≡ port_refusal proc self.old at width value }
         ensures next { self.new ≡ unless_stopped (port_refusal proc self.old at width value) self.old (port_written proc now self.old at width value) }
-        ensures schedule { IsOwn (own_of self.old proc) → IsQuiet now (own_of self.old proc) → Goes proc now self.old self.new }
+        ensures schedule { IsProcessorIo (io_of self.old proc) → IsQuiet now (io_of self.old proc) → Goes proc now self.old self.new }
     {
         self.put_any(proc, now, at, width, value)
     }
@@ -416,5 +416,5 @@ pub fn lies_in_built(proc: Proc, at: u32, length: u32) -> bool
 #[tactic(auto, using(crate::proofs::Together::stands_whole))]
 pub fn register_laws()
     ensures rows { (proc : Proc) (at : ℕ) → IfSome (slot_of proc at) (StandsWhole proc at) }
-    ensures ascending { (proc : Proc) (now : Tick) (u : UnitsState) (at : ℕ) (width : Width) (value : ℕ) → at % width_bytes width ≡ 0 → whole_in width (slot_of proc at) ≡ None → GoesAscending proc now u at width value }
+    ensures ascending { (proc : Proc) (now : Tick) (u : IoState) (at : ℕ) (width : Width) (value : ℕ) → at % width_bytes width ≡ 0 → whole_in width (slot_of proc at) ≡ None → GoesAscending proc now u at width value }
 {}

@@ -1,86 +1,163 @@
-//! The units behind the ports, with the first of them that is due.
+//! The units behind the ports, and what each register is.
 
-ghost use Rattle.std.specs.Prelude.{◌≡◌, ◌<◌, ◌^◌, IfOk, IsSome, Some};
+ghost use Rattle.std.specs.Prelude.{◌≡◌, ◌<◌, ◌%◌, ◌^◌, IfOk, IsSome, Some};
+ghost use Rattle.ds_base.specs.Bits.{bit, flag};
 ghost use Rattle.ds_base.specs.Schedules.{IsEarly};
-ghost use Rattle.ds_dma.specs.Channels.{unit_of};
-ghost use Rattle.ds_dma.specs.States.{dma_due, due_channel};
+ghost use Rattle.ds_dma.specs.States.{dma_due};
 ghost use Rattle.ds_runs.specs.Actors.{IsNumbered};
-ghost use Rattle.ds_runs.specs.Order.{first_from};
-ghost use Rattle.ds_timers.specs.Irqs.{line_is_up, shares_bit};
 ghost use Rattle.ds_timers.specs.Timing.{timer_at, timer_due};
 ghost use Rattle.vram_banks.specs.Cells.{vram_written};
-ghost use Rattle.ds_ports.specs.Dues.{AreUnits, due_behind, dues_behind, first_behind};
-ghost use Rattle.ds_ports.specs.Inside.{moves_dues};
-ghost use Rattle.ds_ports.specs.Own.{before_move, own_is_held};
-ghost use Rattle.ds_ports.specs.Registers.{left_by_write, meaning_of};
-ghost use Rattle.ds_ports.specs.Units.{channel_moved, channel_put_back, channels_triggered, division_done, keys_pressed, own_of, root_done, timer_overflows, units_at_boot, with_halted};
+ghost use Rattle.ds_ports.specs.Dues.{IsIo, io_due, first_io_due};
+ghost use Rattle.ds_ports.specs.ProcessorIo.{before_move};
+ghost use Rattle.ds_ports.specs.Registers.{bank_set, card_refusal, division_set, divcnt_word, fifo_control_set, halt_refusal, after_write, meaning_of, processor_io_after, root_set, sqrtcnt_word, sync_set, with_word_of_two, word_of_two, word_received, word_sent};
+ghost use Rattle.ds_ports.specs.Io.{both_raised, channel_moved, channel_put_back, channels_triggered, division_done, keys_pressed, io_of, root_done, timer_overflows, io_at_boot, with_halted, with_io_of};
 
-use crate::behind::Behind;
-use crate::own::Before;
+use crate::processor_io::{Before, ProcessorIo, extkeyin, keyinput};
 use crate::registers::Register;
-use ds_base::{Due, Proc, Space, Tick, Width};
-use ds_dma::{Cause, Unit};
-use ds_runs::Actor;
+use ds_base::{Due, LeftKind, Proc, Raised, Space, Stop, Tick, Width};
+use ds_dma::{Cause, DmaPort};
+use ds_ipc::Ipc;
+use ds_math::{Divider, Root};
+use ds_runs::{Actor, earlier, entry};
 use std::alloc::{AllocError, Global};
 use std::marker::Model;
 use vram_banks::Vram;
 
-/// The units that ports reach.
+/// What WRAMCNT keeps at boot: ARM7 has all of the shared work RAM. (Our choice; GBATEK, "DS Memory Control - WRAM".)
+const WRAMCNT_AT_BOOT: u8 = 3;
+
+/// The bits that ROMCTRL keeps. (GBATEK, "DS Cartridge I/O Ports".)
+const KEPT_OF_ROMCTRL: u32 = 0x7F7F_FFFF;
+
+/// All units behind the ports.
 #[derive(Drop)]
 pub struct Units {
-    behind: Behind,
-    due: Option<Due>,
+    vram: Vram,
+    wramcnt: u8,
+    ipc: Ipc,
+    pressed: u16,
+    fill: [u32; 4],
+    romctrl: u32,
+    divider: Divider,
+    root: Root,
+    nine: ProcessorIo,
+    seven: ProcessorIo,
 }
 
 impl Model for Units {
-    ghost use Rattle.std.specs.Prelude.{◌≡◌};
-    ghost use Rattle.ds_ports.specs.Dues.{first_behind};
-    ghost use Rattle.ds_ports.specs.Units.{UnitsState};
+    ghost use Rattle.ds_ports.specs.Io.{IoState};
+    ghost use Rattle.std.specs.Prelude.{◌<◌, ◌^◌};
 
-    ghost Value = { UnitsState };
+    ghost Value = { IoState };
 
-    ghost view = { λ u. u.behind };
+    ghost view = { λ u. record {
+      vram = u.vram;
+      wramcnt = u.wramcnt;
+      ipc = u.ipc;
+      pressed = u.pressed;
+      fill = u.fill;
+      romctrl = u.romctrl;
+      divider = u.divider;
+      root = u.root;
+      nine = u.nine;
+      seven = u.seven;
+    } };
 
-    ghost invariant = { λ u. u.due ≡ first_behind u.behind };
+    ghost invariant = { λ u. (u.wramcnt < 4) × (u.pressed < 2 ^ 12) };
 }
 
-/// Whether a write of a register may change when something is due.
-#[inline(always)]
-fn moves_dues(register: Register) -> bool
-    ensures { result ≡ moves_dues register }
+/// The low or the high word of a number, by 0 and 1.
+fn word_of_two(which: u32, number: u64) -> u32
+    ensures { result ≡ word_of_two which number }
 {
-    matches!(
-        register,
-        Register::Dmasad
-            | Register::Dmadad
-            | Register::Dmacnt
-            | Register::TmcntL
-            | Register::TmcntH
-            | Register::Divcnt
-            | Register::DivNumer
-            | Register::DivDenom
-            | Register::Sqrtcnt
-            | Register::SqrtParam
-    )
+    if which == 0 {
+        (number % 0x1_0000_0000) as u32
+    } else {
+        (number >> 32) as u32
+    }
+}
+
+/// A number with another low or high word.
+fn with_word_of_two(which: u32, number: u64, word: u32) -> u64
+    ensures { result ≡ with_word_of_two which number word }
+{
+    if which == 0 {
+        number / 0x1_0000_0000 * 0x1_0000_0000 + word as u64
+    } else {
+        number % 0x1_0000_0000 + word as u64 * 0x1_0000_0000
+    }
+}
+
+/// DIVCNT.
+fn divcnt(divider: &Divider) -> u32
+    ensures { result ≡ divcnt_word divider.now }
+{
+    let seen = divider.read();
+    let zero = if seen.zero { 0x4000 } else { 0 };
+    let busy = if seen.busy { 0x8000 } else { 0 };
+    seen.mode as u32 + zero + busy
+}
+
+/// What SQRTCNT keeps.
+fn is_wide(root: &Root) -> u32
+    ensures { result ≡ flag 0 root.now.wide }
+{
+    if root.read().wide { 1 } else { 0 }
+}
+
+/// SQRTCNT.
+fn sqrtcnt(root: &Root) -> u32
+    ensures { result ≡ sqrtcnt_word root.now }
+{
+    let busy = if root.read().busy { 0x8000 } else { 0 };
+    is_wide(root) + busy
+}
+
+/// The stop for which a write of HALTCNT is refused.
+fn halt_refusal(value: u32) -> Option<Stop>
+    requires { value < 2 ^ 8 }
+    ensures { result ≡ halt_refusal value }
+{
+    let mode = value >> 6;
+    if mode == 1 || mode == 3 {
+        return Some(Stop {
+            kind: LeftKind::HaltMode,
+            value,
+        });
+    }
+    None
+}
+
+/// The stop for which a write of ROMCTRL is refused.
+fn card_refusal(value: u32) -> Option<Stop>
+    ensures { result ≡ card_refusal value }
+{
+    if (value >> 31) & 1 == 1 {
+        return Some(Stop {
+            kind: LeftKind::CardTransfer,
+            value,
+        });
+    }
+    None
 }
 
 impl Units {
-    /// The units at boot: no bank of video memory is enabled, all memory is zeros, no key is pressed, nothing is due, and no interrupt is
-    /// raised.
+    /// The units at boot.
     pub fn new(alloc: Global) -> Result<Units, AllocError>
-        ensures { IfOk result (λ units. units ≡ units_at_boot) }
+        ensures { IfOk result (λ io. io ≡ io_at_boot) }
     {
-        let behind = Behind::new(alloc)?;
-        let due = behind.first_due();
-        Ok(Units { behind, due })
-    }
-
-    /// All of them, but for what is kept of their due ticks.
-    #[inline(always)]
-    pub(crate) fn behind(&self) -> &Behind
-        ensures { result.now ≡ self.now }
-    {
-        &self.behind
+        Ok(Units {
+            vram: Vram::new(alloc)?,
+            wramcnt: WRAMCNT_AT_BOOT,
+            ipc: Ipc::new(alloc)?,
+            pressed: 0,
+            fill: [0; 4],
+            romctrl: 0,
+            divider: Divider::new(),
+            root: Root::new(),
+            nine: ProcessorIo::new(Proc::Nine),
+            seven: ProcessorIo::new(Proc::Seven),
+        })
     }
 
     /// What WRAMCNT keeps.
@@ -89,7 +166,7 @@ impl Units {
         ensures value { result ≡ self.now.wramcnt }
         ensures within { result < 4 }
     {
-        self.behind.wramcnt()
+        self.wramcnt
     }
 
     /// Video memory.
@@ -97,171 +174,334 @@ impl Units {
     pub fn vram(&self) -> &Vram
         ensures { result.now ≡ self.now.vram }
     {
-        self.behind.vram()
+        &self.vram
     }
 
     /// A write of video memory, at an address of one of its spaces.
-    #[tactic(auto, using(crate::proofs::Dues::vram_moves_none))]
     pub fn write_vram(&mut self, space: Space, at: u32, width: Width, value: u32)
         ensures { self.new ≡ record self.old { vram = vram_written self.old.vram space at width value } }
     {
-        self.behind.write_vram(space, at, width, value);
+        self.vram.write(space, at, width, value);
     }
 
-    /// Whether the interrupt line of a processor is up.
+    /// What a processor has of its own.
     #[inline(always)]
-    pub fn line(&self, proc: Proc) -> bool
-        ensures { result ≡ line_is_up (own_of self.now proc).irq }
+    pub fn processor_io(&self, proc: Proc) -> &ProcessorIo
+        ensures { result.now ≡ io_of self.now proc }
     {
-        self.behind.own(proc).line()
-    }
-
-    /// Whether a processor's IE and IF share a bit, so that it wakes where it is halted.
-    #[inline(always)]
-    pub fn wakes(&self, proc: Proc) -> bool
-        ensures { result ≡ shares_bit (own_of self.now proc).irq }
-    {
-        self.behind.own(proc).wakes()
-    }
-
-    /// Whether a processor is halted.
-    #[inline(always)]
-    pub fn is_halted(&self, proc: Proc) -> bool
-        ensures { result ≡ (own_of self.now proc).halted }
-    {
-        self.behind.own(proc).is_halted()
-    }
-
-    /// Whether a processor isn't due: it is halted, or a DMA channel of it runs.
-    #[inline(always)]
-    pub fn is_held(&self, proc: Proc) -> bool
-        ensures { result ≡ own_is_held (own_of self.now proc) }
-    {
-        self.behind.own(proc).is_held()
+        match proc {
+            Proc::Nine => &self.nine,
+            Proc::Seven => &self.seven,
+        }
     }
 
     /// Halts a processor, or lets it go on.
     #[inline(always)]
-    #[tactic(auto, using(crate::proofs::Dues::halts_move_none))]
     pub fn set_halted(&mut self, proc: Proc, halted: bool)
         ensures { self.new ≡ with_halted proc self.old halted }
     {
-        self.behind.set_halted(proc, halted);
-    }
-
-    /// When an actor behind the ports is due, if it is; those that aren't behind them, or aren't built yet, never are.
-    pub fn due_behind(&self, actor: Actor) -> Option<Tick>
-        requires { IsNumbered actor }
-        ensures { result ≡ due_behind actor self.now }
-    {
-        self.behind.due_behind(actor)
-    }
-
-    /// The first actor behind the ports that is due, by tick and then by rank, if one is. It is kept, and found again only where a timer, a
-    /// DMA channel, the divider or the square root unit changes.
-    #[inline(always)]
-    #[tactic(auto, unfolding(crate::specs::Dues::first_behind))]
-    pub fn first_due(&self) -> Option<Due>
-        ensures { result ≡ first_from 2 (dues_behind self.now) }
-    {
-        self.due
+        match proc {
+            Proc::Nine => self.nine.set_halted(halted),
+            Proc::Seven => self.seven.set_halted(halted),
+        }
     }
 
     /// A processor's timer overflows, and its interrupts are raised.
     pub fn overflow(&mut self, proc: Proc, which: u8)
         requires which { which < 4 }
-        requires due { IsSome (timer_due (timer_at (own_of self.old proc).timers which)) }
-        requires early { IsEarly (timer_due (timer_at (own_of self.old proc).timers which)) }
+        requires due { IsSome (timer_due (timer_at (io_of self.old proc).timers which)) }
+        requires early { IsEarly (timer_due (timer_at (io_of self.old proc).timers which)) }
         ensures { self.new ≡ timer_overflows proc which self.old }
     {
-        self.behind.overflow(proc, which);
-        self.due = self.behind.first_due();
+        match proc {
+            Proc::Nine => self.nine.overflow(which),
+            Proc::Seven => self.seven.overflow(which),
+        }
     }
 
-    /// The running division is done: its results stand in the registers, and none is due from then on.
+    /// When an actor behind the ports is due, if it is.
+    pub fn io_due(&self, actor: Actor) -> Option<Tick>
+        requires { IsNumbered actor }
+        ensures { result ≡ io_due actor self.now }
+    {
+        match actor {
+            Actor::Timer { proc, number } => self.processor_io(proc).timer_due(number),
+            Actor::Divider => self.divider.due(),
+            Actor::SquareRoot => self.root.due(),
+            Actor::Dma { proc, channel } => self.processor_io(proc).channel_due(channel),
+            Actor::KeyScript | Actor::Video | Actor::Geometry | Actor::Card => None,
+            Actor::Processor(_) => None,
+        }
+    }
+
+    /// The first actor behind the ports that is due.
+    #[tactic(auto, using(crate::proofs::Dues::first_by_parts))]
+    pub fn first_due(&self) -> Option<Due>
+        ensures { result ≡ first_io_due self.now }
+    {
+        let mut first = earlier(self.nine.first_channel(14), self.seven.first_channel(18));
+        first = earlier(entry(11, self.root.due()), first);
+        first = earlier(entry(10, self.divider.due()), first);
+        first = earlier(self.seven.first_timer(6), first);
+        earlier(self.nine.first_timer(2), first)
+    }
+
+    /// The running division is done.
     pub fn finish_division(&mut self)
         requires { IsSome self.old.divider.due }
         ensures { self.new ≡ division_done self.old }
     {
-        self.behind.finish_division();
-        self.due = self.behind.first_due();
+        self.divider.finish();
     }
 
-    /// The running square root is done: it stands in its register, and none is due from then on.
+    /// The running square root is done.
     pub fn finish_root(&mut self)
         requires { IsSome self.old.root.due }
         ensures { self.new ≡ root_done self.old }
     {
-        self.behind.finish_root();
-        self.due = self.behind.first_due();
+        self.root.finish();
     }
 
-    /// An event at a tick triggers the DMA channels of both processors that wait for it.
+    /// An event triggers the channels of both processors that wait for it.
     pub fn trigger(&mut self, cause: Cause, now: Tick)
         requires { IsEarly (Some now) }
         ensures { self.new ≡ channels_triggered cause now self.old }
     {
-        self.behind.trigger(cause, now);
-        self.due = self.behind.first_due();
+        self.nine.trigger(cause, now);
+        self.seven.trigger(cause, now);
     }
 
-    /// The unit of a processor's DMA channel that is due: what it reads, and where it writes it.
-    pub fn unit(&self, proc: Proc) -> Unit
-        requires { IsSome (dma_due (own_of self.now proc).dma) }
-        ensures { result ≡ unit_of (due_channel (own_of self.now proc).dma) 0 }
-    {
-        self.behind.own(proc).unit()
-    }
-
-    /// A processor's DMA channel that is due moves its first unit at a tick, but for the access itself: the unit isn't its plan's any more,
-    /// and at its end its interrupt is raised where it is enabled. Gives what `put_back` takes this back by.
+    /// A processor's channel that is due moves its first unit, but for the access itself.
     pub fn move_channel(&mut self, proc: Proc, now: Tick) -> Before
-        requires due { IsSome (dma_due (own_of self.old proc).dma) }
+        requires due { IsSome (dma_due (io_of self.old proc).dma) }
         requires early { IsEarly (Some now) }
         ensures state { self.new ≡ channel_moved proc now self.old }
-        ensures before { result ≡ before_move (own_of self.old proc) }
+        ensures before { result ≡ before_move (io_of self.old proc) }
     {
-        let before = self.behind.move_channel(proc, now);
-        self.due = self.behind.first_due();
-        before
+        match proc {
+            Proc::Nine => self.nine.move_channel(now),
+            Proc::Seven => self.seven.move_channel(now),
+        }
     }
 
-    /// Takes a channel's move back: the processor's DMA channels and interrupt words are again as they were before it.
+    /// A processor's channels and interrupt words are again as they were before a move.
     pub fn put_back(&mut self, proc: Proc, before: Before)
         ensures { self.new ≡ channel_put_back proc before self.old }
     {
-        self.behind.put_back(proc, before);
-        self.due = self.behind.first_due();
+        match proc {
+            Proc::Nine => self.nine.put_back(before),
+            Proc::Seven => self.seven.put_back(before),
+        }
     }
 
-    /// Does nothing; its contract states what holds of the units at every time: what holds of each processor's timers and DMA channels.
+    /// Does nothing; its contract states what holds of the units at every time.
     pub fn laws(&self)
-        ensures { AreUnits self.now }
+        ensures { IsIo self.now }
     {
-        self.behind.laws();
+        self.nine.laws();
+        self.seven.laws();
     }
 
-    /// From now on these keys are pressed, a bit for each of A, B, Select, Start, Right, Left, Up, Down, R, L, X and Y. Each processor is told
-    /// of it where its KEYCNT asks.
-    #[tactic(auto, using(crate::proofs::Dues::keys_move_none))]
+    /// From now on these keys are pressed, a bit for each.
     pub fn press(&mut self, pressed: u16)
         requires { pressed < 2 ^ 12 }
         ensures { self.new ≡ keys_pressed self.old pressed }
     {
-        self.behind.press(pressed);
+        self.pressed = pressed;
+        self.nine.tell_keys(pressed);
+        self.seven.tell_keys(pressed);
+    }
+
+    /// Raises bits of IF at both processors.
+    fn raise(&mut self, raised: Raised)
+        ensures { self.new ≡ both_raised self.old raised }
+    {
+        self.nine.raise(raised.nine);
+        self.seven.raise(raised.seven);
+    }
+
+    /// What a register reads, for a processor at a tick.
+    pub fn value_of(&self, proc: Proc, now: Tick, register: Register, number: u32) -> u32
+        requires { number < (meaning_of register).count }
+        ensures { result ≡ (meaning_of register).value proc now self.now number }
+    {
+        match register {
+            Register::Dmasad => self.processor_io(proc).channel(DmaPort::Source, number),
+            Register::Dmadad => self.processor_io(proc).channel(DmaPort::Target, number),
+            Register::Dmacnt => self.processor_io(proc).channel(DmaPort::Control, number),
+            Register::Dmafill => self.fill[number as usize],
+            Register::TmcntL => self.processor_io(proc).counter(number, now),
+            Register::TmcntH => self.processor_io(proc).control(number),
+            Register::Keyinput => keyinput(self.pressed),
+            Register::Keycnt => self.processor_io(proc).keycnt(),
+            Register::Extkeyin => extkeyin(self.pressed),
+            Register::Ipcsync => self.ipc.sync_read(proc) as u32,
+            Register::Ipcfifocnt => self.ipc.control_read(proc) as u32,
+            Register::Ipcfiforecv => self.ipc.look(proc),
+            Register::Romctrl => self.romctrl,
+            Register::Ime => self.processor_io(proc).ime(),
+            Register::Ie => self.processor_io(proc).ie(),
+            Register::If => self.processor_io(proc).flags(),
+            Register::Wramcnt | Register::Wramstat => self.wramcnt as u32,
+            Register::Vramstat => self.vram.allotted7() as u32,
+            Register::Divcnt => divcnt(&self.divider),
+            Register::DivNumer => word_of_two(number, self.divider.read().numerator),
+            Register::DivDenom => word_of_two(number, self.divider.read().denominator),
+            Register::DivResult => word_of_two(number, self.divider.read().quotient),
+            Register::DivremResult => word_of_two(number, self.divider.read().remainder),
+            Register::Sqrtcnt => sqrtcnt(&self.root),
+            Register::SqrtResult => self.root.read().root,
+            Register::SqrtParam => word_of_two(number, self.root.read().value),
+            Register::Postflg => 1,
+            _ => 0,
+        }
     }
 
     /// What a read of a whole register leaves.
-    #[tactic(auto, using(crate::proofs::Dues::reads_move_none))]
-    pub(crate) fn read_register(&mut self, proc: Proc, register: Register)
-        ensures { self.new ≡ (meaning_of register).left_by_read proc self.old }
+    pub fn read_register(&mut self, proc: Proc, register: Register)
+        ensures { self.new ≡ (meaning_of register).after_read proc self.old }
     {
-        self.behind.read_register(proc, register);
+        if register == Register::Ipcfiforecv {
+            self.take_word(proc);
+        }
+    }
+
+    /// Takes the word that a processor receives.
+    fn take_word(&mut self, proc: Proc)
+        ensures { self.new ≡ word_received proc self.old }
+    {
+        let got = self.ipc.receive(proc);
+        self.raise(got.raised);
+    }
+
+    /// The bits that a write of some of a register's bytes leaves as they are in the others.
+    pub fn kept_of(&self, proc: Proc, register: Register, number: u32) -> u32
+        requires { number < (meaning_of register).count }
+        ensures { result ≡ (meaning_of register).kept proc self.now number }
+    {
+        match register {
+            Register::Dmasad => self.processor_io(proc).channel(DmaPort::Source, number),
+            Register::Dmadad => self.processor_io(proc).channel(DmaPort::Target, number),
+            Register::Dmacnt => self.processor_io(proc).channel(DmaPort::Control, number),
+            Register::Dmafill => self.fill[number as usize],
+            Register::TmcntL => self.processor_io(proc).reload(number),
+            Register::TmcntH => self.processor_io(proc).control(number),
+            Register::Keycnt => self.processor_io(proc).keycnt(),
+            Register::Ipcsync => self.ipc.sync_kept(proc) as u32,
+            Register::Ipcfifocnt => self.ipc.control_kept(proc) as u32,
+            Register::Romctrl => self.romctrl,
+            Register::Ime => self.processor_io(proc).ime(),
+            Register::Ie => self.processor_io(proc).ie(),
+            Register::Wramcnt => self.wramcnt as u32,
+            Register::Divcnt => self.divider.read().mode as u32,
+            Register::DivNumer => word_of_two(number, self.divider.read().numerator),
+            Register::DivDenom => word_of_two(number, self.divider.read().denominator),
+            Register::Sqrtcnt => is_wide(&self.root),
+            Register::SqrtParam => word_of_two(number, self.root.read().value),
+            _ => 0,
+        }
+    }
+
+    /// A write of a bank's control.
+    fn set_bank(&mut self, bank: u32, value: u32)
+        requires { bank < 9 }
+        ensures { self.new ≡ bank_set self.old bank (value % 2 ^ 8) }
+    {
+        self.vram.set_control(bank as u8, (value % 0x100) as u8);
+    }
+
+    /// A write of IPCSYNC.
+    fn set_sync(&mut self, proc: Proc, value: u32)
+        ensures { self.new ≡ sync_set proc self.old (value % 2 ^ 16) }
+    {
+        let raised = self.ipc.sync_write(proc, (value % 0x1_0000) as u16);
+        self.raise(raised);
+    }
+
+    /// A write of IPCFIFOCNT.
+    fn set_fifo_control(&mut self, proc: Proc, value: u32)
+        ensures { self.new ≡ fifo_control_set proc self.old (value % 2 ^ 16) }
+    {
+        let raised = self.ipc.control_write(proc, (value % 0x1_0000) as u16);
+        self.raise(raised);
+    }
+
+    /// A write of IPCFIFOSEND.
+    fn send(&mut self, proc: Proc, word: u32)
+        ensures { self.new ≡ word_sent proc self.old word }
+    {
+        let raised = self.ipc.send(proc, word);
+        self.raise(raised);
+    }
+
+    /// A write of DIVCNT starts a division.
+    fn set_divcnt(&mut self, now: Tick, value: u32)
+        requires { IsEarly (Some now) }
+        ensures { self.new ≡ division_set self.old now (value % 2 ^ 2) self.old.divider.numerator self.old.divider.denominator }
+    {
+        let seen = self.divider.read();
+        self.divider
+            .start((value % 4) as u8, seen.numerator, seen.denominator, now);
+    }
+
+    /// So does one of a word of DIV_NUMER.
+    fn set_numerator(&mut self, now: Tick, number: u32, value: u32)
+        requires { IsEarly (Some now) }
+        ensures { self.new ≡ division_set self.old now self.old.divider.mode (with_word_of_two number self.old.divider.numerator value) self.old.divider.denominator }
+    {
+        let seen = self.divider.read();
+        let numerator = with_word_of_two(number, seen.numerator, value);
+        self.divider
+            .start(seen.mode, numerator, seen.denominator, now);
+    }
+
+    /// So does one of a word of DIV_DENOM.
+    fn set_denominator(&mut self, now: Tick, number: u32, value: u32)
+        requires { IsEarly (Some now) }
+        ensures { self.new ≡ division_set self.old now self.old.divider.mode self.old.divider.numerator (with_word_of_two number self.old.divider.denominator value) }
+    {
+        let seen = self.divider.read();
+        let denominator = with_word_of_two(number, seen.denominator, value);
+        self.divider
+            .start(seen.mode, seen.numerator, denominator, now);
+    }
+
+    /// A write of SQRTCNT starts a square root.
+    fn set_sqrtcnt(&mut self, now: Tick, value: u32)
+        requires { IsEarly (Some now) }
+        ensures { self.new ≡ root_set self.old now (bit 0 value) self.old.root.value }
+    {
+        let seen = self.root.read();
+        self.root.start(value % 2 == 1, seen.value, now);
+    }
+
+    /// So does one of a word of SQRT_PARAM.
+    fn set_radicand(&mut self, now: Tick, number: u32, value: u32)
+        requires { IsEarly (Some now) }
+        ensures { self.new ≡ root_set self.old now self.old.root.wide (with_word_of_two number self.old.root.value value) }
+    {
+        let seen = self.root.read();
+        let value = with_word_of_two(number, seen.value, value);
+        self.root.start(seen.wide, value, now);
+    }
+
+    /// A write of a register of a processor's own.
+    fn write_processor_io(&mut self, proc: Proc, now: Tick, register: Register, number: u32, value: u32)
+        requires number { number < (meaning_of register).count }
+        requires early { IsEarly (Some now) }
+        ensures { self.new ≡ with_io_of proc self.old (processor_io_after (meaning_of register).written proc now self.old.pressed (io_of self.old proc) number value) }
+    {
+        let pressed = self.pressed;
+        match proc {
+            Proc::Nine => self.nine.write(proc, pressed, now, register, number, value),
+            Proc::Seven => self
+                .seven
+                .write(proc, pressed, now, register, number, value),
+        }
     }
 
     /// A write of all bytes of a register, for a processor at a tick.
-    #[tactic(auto, using(crate::proofs::Dues::writes_move_none))]
-    pub(crate) fn write_register(
+    pub fn write_register(
         &mut self,
         proc: Proc,
         now: Tick,
@@ -271,12 +511,51 @@ impl Units {
     )
         requires number { number < (meaning_of register).count }
         requires early { IsEarly (Some now) }
-        ensures { self.new ≡ left_by_write proc now self.old register number value }
+        ensures { self.new ≡ after_write proc now self.old register number value }
     {
-        self.behind
-            .write_register(proc, now, register, number, value);
-        if moves_dues(register) {
-            self.due = self.behind.first_due();
+        match register {
+            Register::Dmasad
+            | Register::Dmadad
+            | Register::Dmacnt
+            | Register::TmcntL
+            | Register::TmcntH
+            | Register::Keycnt
+            | Register::Ime
+            | Register::Ie
+            | Register::If
+            | Register::Haltcnt => self.write_processor_io(proc, now, register, number, value),
+            Register::Dmafill => self.fill[number as usize] = value,
+            Register::Ipcsync => self.set_sync(proc, value),
+            Register::Ipcfifocnt => self.set_fifo_control(proc, value),
+            Register::Ipcfifosend => self.send(proc, value),
+            Register::Romctrl => self.romctrl = value & KEPT_OF_ROMCTRL,
+            Register::Vramcnt => self.set_bank(number, value),
+            Register::Wramcnt => self.wramcnt = (value % 4) as u8,
+            Register::Divcnt => self.set_divcnt(now, value),
+            Register::DivNumer => self.set_numerator(now, number, value),
+            Register::DivDenom => self.set_denominator(now, number, value),
+            Register::Sqrtcnt => self.set_sqrtcnt(now, value),
+            Register::SqrtParam => self.set_radicand(now, number, value),
+            _ => {}
+        }
+    }
+
+    /// The stop for which a write of all bytes of a register is refused.
+    pub fn refusal_of(
+        &self,
+        proc: Proc,
+        register: Register,
+        number: u32,
+        value: u32,
+    ) -> Option<Stop>
+        requires { number < (meaning_of register).count }
+        ensures { result ≡ (meaning_of register).refusal proc self.now number value }
+    {
+        match register {
+            Register::Dmacnt => self.processor_io(proc).control_refusal(number, value),
+            Register::Romctrl => card_refusal(value),
+            Register::Haltcnt => halt_refusal(value % 0x100),
+            _ => None,
         }
     }
 }

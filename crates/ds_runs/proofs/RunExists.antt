@@ -1,11 +1,11 @@
 use Rattle.std.proofs.Common.{ℕ, zero, suc, ◌≡◌, ◌<◌, ◌≤◌, ◌+◌, ◌-◌, ◌*◌, ◌⊎◌, inl, inr, List, [], ◌++◌, Some, refl, sym, ◌∙◌, ap, subst, arith}
 use Rattle.ds_base.specs.declared.ticks.Tick.{Tick}
 use Rattle.ds_runs.specs.Runs.{IsLeast, due_at, TickMachine, MachineStep, Makes, Stops, Ending, At, Stopped, Runs, over, stops, more, steps_of}
-use Rattle.ds_runs.specs.Schedules.{places_left}
+use Rattle.ds_runs.specs.Schedules.{places_remaining}
 use Rattle.ds_runs.specs.Owed.{Schedules}
 use Rattle.ds_runs.specs.Laws.{RunsEnd}
 use Rattle.ds_runs.proofs.Lists.{within, has_least, least_unique, at_rank, is_later}
-use Rattle.ds_runs.proofs.Places.{later_place, left_at, left_below}
+use Rattle.ds_runs.proofs.Places.{later_place, remaining_at, remaining_below}
 use Rattle.ds_runs.proofs.RunLaws.{over_here}
 
 le_or_lt : (x y : ℕ) → (x ≤ y) ⊎ (y < x)
@@ -43,13 +43,13 @@ module _ {S O L : Type 0} (m : TickMachine S O L) (ranks : ℕ) (Sound : S → T
       ]
 
   -- a step below the limit leaves fewer places
-  pub fewer_left : (limit : ℕ) (s next : S) (t : Tick) (r : ℕ) (outs : List O) → Sound s → IsLeast (m.dues s) t r → t.0 < limit → m.step r s ≡ Makes next outs
-      → places_left ranks limit 0 (m.dues next) < places_left ranks limit 0 (m.dues s)
-  fewer_left limit s next t r outs sound least lt goes =
-      let here = left_at ranks limit 0 (m.dues s) r t least.there in
+  pub fewer_remaining : (limit : ℕ) (s next : S) (t : Tick) (r : ℕ) (outs : List O) → Sound s → IsLeast (m.dues s) t r → t.0 < limit → m.step r s ≡ Makes next outs
+      → places_remaining ranks limit 0 (m.dues next) < places_remaining ranks limit 0 (m.dues s)
+  fewer_remaining limit s next t r outs sound least lt goes =
+      let here = remaining_at ranks limit 0 (m.dues s) r t least.there in
       let below = later_place ranks t.0 r limit lt (low_rank s t r sound least) in
       let bound : ℕ = ranks * limit - (ranks * t.0 + r) - 1 in
-      let rest = left_below ranks limit 0 bound (m.dues next) (λ q u due. (let k = place_rises s next t r outs u q sound least goes due in omega (arith, k, below))) in
+      let rest = remaining_below ranks limit 0 bound (m.dues next) (λ q u due. (let k = place_rises s next t r outs u q sound least goes due in omega (arith, k, below))) in
       omega (arith, here, below, rest)
 
   -- every sound state runs to every limit
@@ -58,7 +58,7 @@ module _ {S O L : Type 0} (m : TickMachine S O L) (ranks : ℕ) (Sound : S → T
     goes_to : (s : S) (t : Tick) (r : ℕ) → IsLeast (m.dues s) t r → t.0 < limit → (o : MachineStep S O L) → m.step r s ≡ o
         → ((next : S) (outs : List O) → m.step r s ≡ Makes next outs → (end : Ending S L) × (rest : List O) × Runs m limit end next rest)
         → (end : Ending S L) × (outs : List O) × Runs m limit end s outs
-    goes_to s t r least lt (Stops stop left) e rec = (Stopped stop, [], stops s left t r stop least lt e)
+    goes_to s t r least lt (Stops stop after) e rec = (Stopped stop, [], stops s after t r stop least lt e)
     goes_to s t r least lt (Makes next outs) e rec = let k = rec next outs e in (k.0, outs ++ k.1, more k.0 s next t r outs k.1 least lt e k.2)
 
     from : (n : ℕ) (s : S) → Sound s → (t : Tick) (r : ℕ) → IsLeast (m.dues s) t r → ranks * limit ≤ n + (ranks * t.0 + r)
@@ -82,7 +82,7 @@ module _ {S O L : Type 0} (m : TickMachine S O L) (ranks : ℕ) (Sound : S → T
   pub run_bounded : (limit : ℕ) (end : Ending S L) (s : S) (all : List O) → (run : Runs m limit end s all) → Sound s
       → (tick : Tick) (rank : ℕ) → IsLeast (m.dues s) tick rank → steps_of run ≤ ranks * limit - (ranks * tick.0 + rank)
   run_bounded limit end s all (over s0 h) sound tick rank least = omega arith
-  run_bounded limit end s all (stops s0 left t r stop l lt halts) sound tick rank least = omega arith
+  run_bounded limit end s all (stops s0 after t r stop l lt halts) sound tick rank least = omega arith
   run_bounded limit end s all (more e0 s0 next t r outs rest l lt goes run) sound tick rank least =
       let same = least_unique (m.dues s0) t r tick rank l least in
       let low = low_rank s0 t r sound l in

@@ -22,7 +22,7 @@ runs-append {S} {O} {L} m a b mid s end xs ys le first second = go (At mid) s xs
       let same : s0 ≡ mid = cc in
       let P : S → Type 0 = λ x. Runs m b end x ys in
       subst P (sym same) second
-  go e s xs (stops s0 left t r stop least lt halts) mid is end ys le second = cc
+  go e s xs (stops s0 after t r stop least lt halts) mid is end ys le second = cc
   go e s xs (more e0 s0 next t r outs rest least lt goes run) mid is end ys le second =
       let rec : Runs m b end next (rest ++ ys) = go e0 next rest run mid is end ys le second in
       let P : List O → Type 0 = λ zs. Runs m b end s0 zs in
@@ -45,10 +45,10 @@ pub first_step : {S O L : Type 0} (m : TickMachine S O L) (limit : ℕ) (end : E
     (next : S) (t : Tick) (r : ℕ) (outs : List O) → IsLeast (m.dues s) t r → t.0 < limit → m.step r s ≡ Makes next outs
     → (rest : List O) × Runs m limit end next rest × (all ≡ outs ++ rest)
 first_step {S} {O} {L} m limit end s all (over s0 g) next t r outs least lt e = let le : limit ≤ t.0 = g r t least.there in absurd (omega arith)
-first_step {S} {O} {L} m limit end s all (stops s0 left u q stop least₂ lt₂ halts) next t r outs least lt e =
+first_step {S} {O} {L} m limit end s all (stops s0 after u q stop least₂ lt₂ halts) next t r outs least lt e =
     let same = least_unique (m.dues s0) u q t r least₂ least in
-    let P : ℕ → Type 0 = λ x. m.step x s0 ≡ Stops stop left in
-    absurd (not_both next left outs stop (sym e ∙ subst P same.1 halts))
+    let P : ℕ → Type 0 = λ x. m.step x s0 ≡ Stops stop after in
+    absurd (not_both next after outs stop (sym e ∙ subst P same.1 halts))
 first_step {S} {O} {L} m limit end s all (more e0 s0 next₂ u q outs₂ rest least₂ lt₂ goes run) next t r outs least lt e =
     let same = least_unique (m.dues s0) u q t r least₂ least in
     let P : ℕ → Type 0 = λ x. m.step x s0 ≡ Makes next₂ outs₂ in
@@ -58,29 +58,29 @@ first_step {S} {O} {L} m limit end s all (more e0 s0 next₂ u q outs₂ rest le
 
 -- the run from a state whose least actor stops, stops there
 pub first_stop : {S O L : Type 0} (m : TickMachine S O L) (limit : ℕ) (end : Ending S L) (s : S) (all : List O) → Runs m limit end s all →
-    (left : S) (t : Tick) (r : ℕ) (stop : L) → IsLeast (m.dues s) t r → t.0 < limit → m.step r s ≡ Stops stop left → (end ≡ Stopped stop) × (all ≡ [])
-first_stop {S} {O} {L} m limit end s all (over s0 g) left t r stop least lt halts = let le : limit ≤ t.0 = g r t least.there in absurd (omega arith)
-first_stop {S} {O} {L} m limit end s all (stops s0 left₂ u q stop₂ least₂ lt₂ halts₂) left t r stop least lt halts =
+    (after : S) (t : Tick) (r : ℕ) (stop : L) → IsLeast (m.dues s) t r → t.0 < limit → m.step r s ≡ Stops stop after → (end ≡ Stopped stop) × (all ≡ [])
+first_stop {S} {O} {L} m limit end s all (over s0 g) after t r stop least lt halts = let le : limit ≤ t.0 = g r t least.there in absurd (omega arith)
+first_stop {S} {O} {L} m limit end s all (stops s0 after₂ u q stop₂ least₂ lt₂ halts₂) after t r stop least lt halts =
     let same = least_unique (m.dues s0) u q t r least₂ least in
-    let P : ℕ → Type 0 = λ x. m.step x s0 ≡ Stops stop₂ left₂ in
-    let joined = same_stops left₂ left stop₂ stop (sym (subst P same.1 halts₂) ∙ halts) in
+    let P : ℕ → Type 0 = λ x. m.step x s0 ≡ Stops stop₂ after₂ in
+    let joined = same_stops after₂ after stop₂ stop (sym (subst P same.1 halts₂) ∙ halts) in
     (ap (λ (x : L). (let y : Ending S L = Stopped x in y)) joined.0, refl)
-first_stop {S} {O} {L} m limit end s all (more e0 s0 next u q outs rest least₂ lt₂ goes run) left t r stop least lt halts =
+first_stop {S} {O} {L} m limit end s all (more e0 s0 next u q outs rest least₂ lt₂ goes run) after t r stop least lt halts =
     let same = least_unique (m.dues s0) u q t r least₂ least in
     let P : ℕ → Type 0 = λ x. m.step x s0 ≡ Makes next outs in
-    absurd (not_both next left outs stop (sym (subst P same.1 goes) ∙ halts))
+    absurd (not_both next after outs stop (sym (subst P same.1 goes) ∙ halts))
 
 -- a run from a state where nothing is due below the limit ends there
 pub over_only : {S O L : Type 0} (m : TickMachine S O L) (limit : ℕ) (end : Ending S L) (s : S) (all : List O) → Runs m limit end s all → IsOver (m.dues s) limit → (end ≡ At s) × (all ≡ [])
 over_only {S} {O} {L} m limit end s all (over s0 g) h = (refl, refl)
-over_only {S} {O} {L} m limit end s all (stops s0 left t r stop least lt halts) h = let le : limit ≤ t.0 = h r t least.there in absurd (omega arith)
+over_only {S} {O} {L} m limit end s all (stops s0 after t r stop least lt halts) h = let le : limit ≤ t.0 = h r t least.there in absurd (omega arith)
 over_only {S} {O} {L} m limit end s all (more e0 s0 next t r outs rest least lt goes run) h = let le : limit ≤ t.0 = h r t least.there in absurd (omega arith)
 
 -- a run has one ending and puts out one list
 pub runs_unique : {S O L : Type 0} (m : TickMachine S O L) (limit : ℕ) (end : Ending S L) (s : S) (all : List O) → Runs m limit end s all →
     (end₂ : Ending S L) (all₂ : List O) → Runs m limit end₂ s all₂ → (end ≡ end₂) × (all ≡ all₂)
 runs_unique {S} {O} {L} m limit end s all (over s0 h) end₂ all₂ second = let k = over_only m limit end₂ s0 all₂ second h in (sym k.0, sym k.1)
-runs_unique {S} {O} {L} m limit end s all (stops s0 left t r stop least lt halts) end₂ all₂ second = let k = first_stop m limit end₂ s0 all₂ second left t r stop least lt halts in (sym k.0, sym k.1)
+runs_unique {S} {O} {L} m limit end s all (stops s0 after t r stop least lt halts) end₂ all₂ second = let k = first_stop m limit end₂ s0 all₂ second after t r stop least lt halts in (sym k.0, sym k.1)
 runs_unique {S} {O} {L} m limit end s all (more e0 s0 next t r outs rest least lt goes run) end₂ all₂ second =
     let k = first_step m limit end₂ s0 all₂ second next t r outs least lt goes in
     let rec = runs_unique m limit e0 next rest run end₂ k.0 k.1 in

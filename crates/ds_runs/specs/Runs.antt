@@ -19,7 +19,7 @@ IsOver dues limit = (rank : ℕ) (tick : Tick) → due_at dues rank ≡ Some tic
 -- what a step comes to: it makes the next state and puts out a list; or it stops the machine, and leaves a state behind
 pub data MachineStep (S O L : Type 0) : Type 0 where
   Makes : (next : S) → (outs : List O) → MachineStep S O L
-  Stops : (stop : L) → (left : S) → MachineStep S O L
+  Stops : (stop : L) → (after : S) → MachineStep S O L
 
 -- a machine over states S, which puts out O and stops with L: when each actor is due, by rank, and what its step comes to
 pub record TickMachine (S O L : Type 0) : Type 0 where
@@ -36,8 +36,8 @@ pub data Runs {S O L : Type 0} (m : TickMachine S O L) (limit : ℕ) : Ending S 
   -- no actor is due below the limit
   over : (s : S) → IsOver (m.dues s) limit → Runs m limit (At s) s []
   -- the least actor's step stops the machine
-  stops : (s left : S) (tick : Tick) (rank : ℕ) (stop : L) → IsLeast (m.dues s) tick rank → tick.0 < limit
-      → m.step rank s ≡ Stops stop left → Runs m limit (Stopped stop) s []
+  stops : (s after : S) (tick : Tick) (rank : ℕ) (stop : L) → IsLeast (m.dues s) tick rank → tick.0 < limit
+      → m.step rank s ≡ Stops stop after → Runs m limit (Stopped stop) s []
   -- the least actor takes its step, and the run goes on from there
   more : (end : Ending S L) (s next : S) (tick : Tick) (rank : ℕ) (outs rest : List O) → IsLeast (m.dues s) tick rank → tick.0 < limit
       → m.step rank s ≡ Makes next outs → Runs m limit end next rest → Runs m limit end s (outs ++ rest)
@@ -45,5 +45,5 @@ pub data Runs {S O L : Type 0} (m : TickMachine S O L) (limit : ℕ) : Ending S 
 -- how many steps a run takes
 abbrev pub steps_of : {S O L : Type 0} {m : TickMachine S O L} {limit : ℕ} {end : Ending S L} {s : S} {outs : List O} → Runs m limit end s outs → ℕ
 steps_of (over s none) = 0
-steps_of (stops s left tick rank stop least below halts) = 0
+steps_of (stops s after tick rank stop least below halts) = 0
 steps_of (more end s next tick rank outs rest least below goes run) = steps_of run + 1

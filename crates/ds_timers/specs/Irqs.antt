@@ -5,26 +5,26 @@ use Rattle.ds_base.specs.declared.interrupts.Interrupt.TheVariants.{GeometryFifo
 
 -- a processor's interrupt words (GBATEK, "DS Interrupts"): IME bit 0, IE and IF
 pub record IrqState : Type 0 where
-  pub master : Bool
-  pub enabled : ℕ
-  pub flags : ℕ
+  pub ime : Bool
+  pub ie : ℕ
+  pub if_ : ℕ
 
 -- what holds of them at every time: IE and IF have 32 bits
 pub record IsIrq (s : IrqState) : Type 0 where
-  pub enabled : s.enabled < 2 ^ 32
-  pub flags : s.flags < 2 ^ 32
+  pub ie : s.ie < 2 ^ 32
+  pub if_ : s.if_ < 2 ^ 32
 
 -- all is 0 at boot (our choice)
 abbrev pub irq_at_boot : IrqState
-irq_at_boot = record { master = false; enabled = 0; flags = 0 }
+irq_at_boot = record { ime = false; ie = 0; if_ = 0 }
 
 -- IE and IF share a bit. A halted processor wakes by this, whatever IME is (our choice)
 abbrev pub shares_bit : IrqState → Bool
-shares_bit s = not (bit_and s.enabled s.flags == 0)
+shares_bit s = not (bit_and s.ie s.if_ == 0)
 
 -- the line to the processor is up (GBATEK, "DS Interrupts": IME, IE and IF)
 abbrev pub line_is_up : IrqState → Bool
-line_is_up s = s.master && shares_bit s
+line_is_up s = s.ime && shares_bit s
 
 -- the bit of the geometry FIFO's interrupt, which tells its condition as it is and no event (our choice, by GBATEK, "DS 3D Status", GXSTAT
 -- bits 30 and 31)
@@ -37,12 +37,12 @@ events word = bit_and word (bit_not w32 level)
 
 -- events set their bits of IF
 abbrev pub irq_raised : IrqState → ℕ → IrqState
-irq_raised s bits = record s { flags = bit_or s.flags (events bits) }
+irq_raised s bits = record s { if_ = bit_or s.if_ (events bits) }
 
 -- a 1 written to a bit of IF clears it (GBATEK, "DS Interrupts", IF); that it leaves the level as it is is our choice
 abbrev pub irq_acked : IrqState → ℕ → IrqState
-irq_acked s bits = record s { flags = bit_and s.flags (bit_not w32 (events bits)) }
+irq_acked s bits = record s { if_ = bit_and s.if_ (bit_not w32 (events bits)) }
 
 -- the level's bit of IF is as it is told, and no other bit changes (our choice)
 abbrev pub irq_levelled : IrqState → Bool → IrqState
-irq_levelled s on = record s { flags = if on then bit_or s.flags level else events s.flags }
+irq_levelled s on = record s { if_ = if on then bit_or s.if_ level else events s.if_ }

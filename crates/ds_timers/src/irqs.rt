@@ -9,9 +9,9 @@ use std::marker::Model;
 /// IME, IE and IF of one processor. Contracts see the three.
 #[derive(Clone, Copy)]
 pub struct Irq {
-    master: bool,
-    enabled: u32,
-    flags: u32,
+    ime: bool,
+    ie: u32,
+    if_: u32,
 }
 
 impl Model for Irq {
@@ -19,9 +19,9 @@ impl Model for Irq {
 
     ghost Value = { IrqState };
 
-    ghost view = { λ i. record { master = i.master; enabled = i.enabled; flags = i.flags } };
+    ghost view = { λ i. record { ime = i.ime; ie = i.ie; if_ = i.if_ } };
 
-    ghost inverse = { λ i. record { master = i.master; enabled = i.enabled; flags = i.flags } };
+    ghost inverse = { λ i. record { ime = i.ime; ie = i.ie; if_ = i.if_ } };
 }
 
 /// The bit of the geometry FIFO's interrupt, which is a level and no event.
@@ -43,9 +43,9 @@ impl Irq {
         ensures { result ≡ irq_at_boot }
     {
         Irq {
-            master: false,
-            enabled: 0,
-            flags: 0,
+            ime: false,
+            ie: 0,
+            if_: 0,
         }
     }
 
@@ -53,73 +53,73 @@ impl Irq {
     pub fn line(&self) -> bool
         ensures { result ≡ line_is_up self.now }
     {
-        self.master && self.wakes()
+        self.ime && self.wakes()
     }
 
     /// Whether a halted processor wakes: IE and IF share a bit, whatever IME is (our choice).
     pub fn wakes(&self) -> bool
         ensures { result ≡ shares_bit self.now }
     {
-        self.enabled & self.flags != 0
+        self.ie & self.if_ != 0
     }
 
     /// IE.
     pub fn enabled(&self) -> u32
-        ensures { result ≡ self.now.enabled }
+        ensures { result ≡ self.now.ie }
     {
-        self.enabled
+        self.ie
     }
 
     /// IF.
     pub fn flags(&self) -> u32
-        ensures { result ≡ self.now.flags }
+        ensures { result ≡ self.now.if_ }
     {
-        self.flags
+        self.if_
     }
 
     /// IME bit 0.
     pub fn master(&self) -> bool
-        ensures { result ≡ self.now.master }
+        ensures { result ≡ self.now.ime }
     {
-        self.master
+        self.ime
     }
 
     /// Events set their bits of IF. The geometry FIFO's is no event's and stays (our choice).
     pub fn raise(&mut self, bits: u32)
         ensures { self.new ≡ irq_raised self.old bits }
     {
-        self.flags |= events(bits);
+        self.if_ |= events(bits);
     }
 
     /// A write of IF: the bits that are 1 are cleared, but for the geometry FIFO's, which only its level changes (our choice).
     pub fn ack(&mut self, bits: u32)
         ensures { self.new ≡ irq_acked self.old bits }
     {
-        self.flags &= !events(bits);
+        self.if_ &= !events(bits);
     }
 
     /// A write of IE, as the port keeps it.
     pub fn set_enabled(&mut self, bits: u32)
-        ensures { self.new ≡ record self.old { enabled = bits } }
+        ensures { self.new ≡ record self.old { ie = bits } }
     {
-        self.enabled = bits;
+        self.ie = bits;
     }
 
     /// A write of IME's bit 0.
     pub fn set_master(&mut self, on: bool)
-        ensures { self.new ≡ record self.old { master = on } }
+        ensures { self.new ≡ record self.old { ime = on } }
     {
-        self.master = on;
+        self.ime = on;
     }
 
     /// The geometry FIFO's bit of IF is set or clear from now on, until the next such call.
     pub fn level21(&mut self, on: bool)
         ensures { self.new ≡ irq_levelled self.old on }
     {
-        self.flags = if on {
-            self.flags | level()
+        self.if_ = if on {
+            self.if_ | level()
         } else {
-            events(self.flags)
+            events(self.if_)
         };
     }
     /// Does nothing; its contract states what holds of the words at every time: IE and IF have 32 bits.

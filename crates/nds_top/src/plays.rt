@@ -49,7 +49,7 @@ fn run_to(console: &mut Console, until: Tick) -> Option<LeftOut>
     ensures { RunsTo until.0 console.old result console.new }
 {
     'turns: loop {
-        if console.turn_at_once(until) {
+        if console.turn_fast(until) {
             continue 'turns;
         }
         match console.turn(until) {

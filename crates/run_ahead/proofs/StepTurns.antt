@@ -3,7 +3,7 @@ use Rattle.ds_base.specs.declared.left_out.LeftOut.{LeftOut}
 use Rattle.ds_base.specs.declared.ticks.Due.{Due}
 use Rattle.ds_runs.specs.Runs.{Makes}
 use Rattle.ds_machine.specs.States.{MachineState}
-use Rattle.ds_machine.specs.Reference.{AtOnce, CountsWithin, HasCounted, IsDue, Shown, Steps, next_shown, reference_step}
+use Rattle.ds_machine.specs.Reference.{FastStep, CountsWithin, HasCounted, IsDue, Shown, Steps, next_shown, reference_step}
 use Rattle.ds_machine.specs.declared.answers.Done as answer
 use Rattle.ds_machine.specs.declared.answers.Done.TheVariants as answers
 use Rattle.ds_machine.proofs.Counts.{counts_within, stop_counts}
@@ -30,10 +30,10 @@ within_by s next due done before until limit least step has within lt early most
       let k = within.0 in
       omega (arith, k, same, most)
 
--- the same of a step that is taken at once, which raises no limit
-pub within_at_once : (s next : MachineState) (taken : Bool) (until limit : ℕ) → AtOnce until s taken next → HasCounted s → AreWithin limit s → until ≤ limit → AreWithin limit next
-within_at_once s next false until limit once has within le = subst (AreWithin limit) (sym once) within
-within_at_once s next true until limit once has within le =
+-- the same of a step of the fast path, which raises no limit
+pub within_fast : (s next : MachineState) (taken : Bool) (until limit : ℕ) → FastStep until s taken next → HasCounted s → AreWithin limit s → until ≤ limit → AreWithin limit next
+within_fast s next false until limit once has within le = subst (AreWithin limit) (sym once) within
+within_fast s next true until limit once has within le =
     let early = within.1 in
     within_by s next once.0 answers.Made limit until limit once.1 once.3 has within once.2 (omega (arith, le, early)) (omega (arith, le))
 

@@ -1,13 +1,13 @@
 use Rattle.std.proofs.Common.{ℕ, ◌≡◌, ◌<◌, ◌+◌, List, [], ◌∷◌, Option, Some, None, refl, ap, arith}
 use Rattle.ds_base.specs.declared.left_out.LeftOut.{LeftOut}
 use Rattle.ds_runs.specs.Runs.{over, stops, more}
-use Rattle.ds_runs.proofs.RunExists.{run_exists, fewer_left}
+use Rattle.ds_runs.proofs.RunExists.{run_exists, fewer_remaining}
 use Rattle.ds_machine.specs.States.{MachineState}
 use Rattle.ds_machine.specs.Reference.{Shown, next_shown, reference, IsSound}
 use Rattle.ds_machine.proofs.Counts.{one_more, stop_counts}
 use Rattle.ds_machine.proofs.MachineSchedule.{reference_schedules}
 use Rattle.run_ahead.specs.Consoles.{ConsoleState}
-use Rattle.run_ahead.specs.Turns.{TakesStep, Turns, RunsOn, GoesOn, HasRuns, turns_of, turns_left, counted_of, turns_in, HasTurned, none, turn, TurnsAddUp}
+use Rattle.run_ahead.specs.Turns.{TakesStep, Turns, RunsOn, GoesOn, HasRuns, turns_of, turns_remaining, counted_of, turns_in, HasTurned, none, turn, TurnsAddUp}
 use Rattle.run_ahead.specs.declared.turns.Turned as turned
 use Rattle.run_ahead.specs.declared.turns.Turned.TheVariants as answers
 
@@ -34,8 +34,8 @@ has_runs s sound = λ limit. run_exists reference 24 IsSound reference_schedules
 took : (until : ℕ) (old new : MachineState) (front : List Shown) → TakesStep until old front new → turns_of new ≡ 1 + turns_of old
 took until old new front step = let e = one_more old new step.tick step.rank front step.least step.step in omega (arith, e)
 
-fewer : (until : ℕ) (old new : MachineState) (front : List Shown) → IsSound old → TakesStep until old front new → turns_left until new < turns_left until old
-fewer until old new front sound step = fewer_left reference 24 IsSound reference_schedules until old new step.tick step.rank front sound step.least step.below step.step
+fewer : (until : ℕ) (old new : MachineState) (front : List Shown) → IsSound old → TakesStep until old front new → turns_remaining until new < turns_remaining until old
+fewer until old new front sound step = fewer_remaining reference 24 IsSound reference_schedules until old new step.tick step.rank front sound step.least step.below step.step
 
 stayed : (old new : MachineState) → new ≡ old → turns_of new ≡ 0 + turns_of old
 stayed old new e = let g : turns_of new ≡ turns_of old = ap turns_of e in omega (arith, g)
@@ -55,7 +55,7 @@ turn_counts until old answers.AtEnd new t = stayed old.machine new.machine (ap (
 turn_counts until old (answers.Stopped left) new t = stopped until old new old.stopped refl left t
 
 pub turn_falls : (until : ℕ) (old : ConsoleState) (answer : turned.Turned) (new : ConsoleState) → IsSound old.machine → Turns until old answer new → counted_of answer ≡ 1
-    → turns_left until new.machine < turns_left until old.machine
+    → turns_remaining until new.machine < turns_remaining until old.machine
 turn_falls until old answers.Ran new sound t counts = fewer until old.machine new.machine [] sound t.1
 turn_falls until old (answers.Frame swapped) new sound t counts = fewer until old.machine new.machine (next_shown old.machine swapped ∷ []) sound t.1
 turn_falls until old answers.AtEnd new sound t counts = absurd (omega (arith, counts))

@@ -3,7 +3,7 @@ use Rattle.ds_base.specs.declared.left_out.LeftOut.{LeftOut}
 use Rattle.ds_base.specs.declared.ticks.Tick.{Tick}
 use Rattle.ds_runs.specs.Runs.{IsLeast, IsOver, Makes, Stops, Ending, At, Runs}
 use Rattle.ds_runs.specs.Runs as runs
-use Rattle.ds_runs.specs.Schedules.{places_left}
+use Rattle.ds_runs.specs.Schedules.{places_remaining}
 use Rattle.ds_machine.specs.States.{MachineState}
 use Rattle.ds_machine.specs.Reference.{Shown, next_shown, dues_of, reference_step, reference}
 use Rattle.run_ahead.specs.Consoles.{ConsoleState}
@@ -71,8 +71,8 @@ counted_of AtEnd = 0
 counted_of (Stopped left) = 0
 
 -- no more turns than this take a step below a limit, from a state on: a loop over turns counts it down
-abbrev pub turns_left : ℕ → MachineState → ℕ
-turns_left until s = places_left 24 until 0 (dues_of s)
+abbrev pub turns_remaining : ℕ → MachineState → ℕ
+turns_remaining until s = places_remaining 24 until 0 (dues_of s)
 
 -- a console is as it was after some turns with a limit
 pub data HasTurned (until : ℕ) : ConsoleState → ConsoleState → Type 0 where

@@ -5,7 +5,7 @@ ghost use Rattle.ds_base.specs.Memories.{memory_size};
 ghost use Rattle.ds_machine.specs.Booted.{machine_booted};
 ghost use Rattle.ds_machine.specs.Observed.{memory_of, registers_of, seen_of};
 ghost use Rattle.ds_machine.specs.Reference.{IsDue, IsSound};
-ghost use Rattle.run_ahead.specs.Turns.{Turns, RunsOn, HasRuns, turns_of, turns_left, counted_of};
+ghost use Rattle.run_ahead.specs.Turns.{Turns, RunsOn, HasRuns, turns_of, turns_remaining, counted_of};
 ghost use Rattle.run_ahead.specs.Inside.{turned_by, stopped_by};
 ghost use Rattle.run_ahead.specs.declared.turns.Turned.TheVariants.{Ran};
 
@@ -29,7 +29,7 @@ pub struct Counts {
     pub turns: u64,
 }
 
-/// A console. No call but `turn` and `turn_at_once` changes it.
+/// A console. No call but `turn` and `turn_fast` changes it.
 #[derive(Drop)]
 pub struct Console {
     machine: Machine,
@@ -74,7 +74,7 @@ impl Console {
         ensures turn { Turns until.0 self.old result self.new }
         ensures runs { self.old.stopped ≡ None → RunsOn until.0 self.old.machine result self.new.machine }
         ensures counted { turns_of self.new.machine ≡ counted_of result + turns_of self.old.machine }
-        ensures falls { counted_of result ≡ 1 → turns_left until.0 self.new.machine < turns_left until.0 self.old.machine }
+        ensures falls { counted_of result ≡ 1 → turns_remaining until.0 self.new.machine < turns_remaining until.0 self.old.machine }
     {
         self.laws();
         self.step(until)
@@ -87,30 +87,30 @@ impl Console {
         self.machine.laws();
     }
 
-    /// A turn, where it is one whose step is taken at once, which is much faster; the result is whether it was. Where it wasn't nothing is changed, and the
+    /// A turn, where it is one whose step is on the fast path; the result is whether it was. Where it wasn't nothing is changed, and the
     /// turn is still to be taken.
     #[inline(always)]
-    pub fn turn_at_once(&mut self, until: Tick) -> bool
+    pub fn turn_fast(&mut self, until: Tick) -> bool
         requires { until.0 ≤ 2 ^ 56 }
         ensures none { result ≡ false → self.new ≡ self.old }
         ensures turn { result ≡ true → Turns until.0 self.old Ran self.new }
         ensures runs { result ≡ true → RunsOn until.0 self.old.machine Ran self.new.machine }
         ensures counted { result ≡ true → turns_of self.new.machine ≡ 1 + turns_of self.old.machine }
-        ensures falls { result ≡ true → turns_left until.0 self.new.machine < turns_left until.0 self.old.machine }
+        ensures falls { result ≡ true → turns_remaining until.0 self.new.machine < turns_remaining until.0 self.old.machine }
     {
         self.laws();
-        self.step_at_once(until)
+        self.step_fast(until)
     }
 
-    /// A step that is taken at once, where the console hasn't stopped and it raises no limit; the result is whether it was.
+    /// A step of the fast path, where the console hasn't stopped and it raises no limit; the result is whether it was.
     #[inline(always)]
-    fn step_at_once(&mut self, until: Tick) -> bool
+    fn step_fast(&mut self, until: Tick) -> bool
         requires { until.0 ≤ 2 ^ 56 }
         ensures none { result ≡ false → self.new ≡ self.old }
         ensures turn { result ≡ true → Turns until.0 self.old Ran self.new }
     {
         if until.0 <= self.open_until {
-            return self.machine.quick(until);
+            return self.machine.step_fast(until);
         }
         false
     }

@@ -5,7 +5,7 @@ ghost use Rattle.arm_words.specs.Fields.{HasFields};
 
 use super::buses::RefusingBus;
 use arm_core::{Bus, Core, FlatBus, Registers, Stepped, Touch, footprint};
-use arm_ops::{Ready, is_other, ready, run, run_anywhere, touched};
+use arm_ops::{Operation, is_other, operation, run, run_anywhere, touched};
 use arm_words::{Instr, decode_arm, decode_thumb};
 use arm7_exec::step7;
 use arm9_exec::step9;
@@ -124,7 +124,7 @@ pub enum Line {
     Mem9(u32, u32),
     /// CP15's numbers after it, which stay where no line says others.
     Kept(u32, u32, u32),
-    /// It is an operation that is made ready, and is run where its accesses must be near.
+    /// It is an operation that is decoded, and is run where its accesses must be of RAM.
     Near,
     /// It is such an operation, and isn't run there.
     Far,
@@ -155,9 +155,9 @@ pub enum Line {
 enum Way {
     /// By the processor's step.
     Step,
-    /// As an operation that was made ready, where it is one, wherever its accesses are.
+    /// As a decoded operation, where it is one, wherever its accesses are.
     Anywhere,
-    /// The same, where they are near.
+    /// The same, where they are of RAM.
     Near,
 }
 
@@ -213,15 +213,15 @@ fn run_op(
 ) -> Option<Stepped>
     requires { IfSome instr HasFields }
 {
-    let made: Ready = ready(instr);
+    let made: Operation = operation(instr);
     if is_other(&made) {
         return None;
     }
     Some(run_anywhere(arch, 0, s, bus, &made))
 }
 
-/// The same where they must be near.
-fn run_near(
+/// The same where they must be of RAM.
+fn run_in_ram(
     arch: Arch,
     s: &mut Registers,
     bus: &mut FlatBus,
@@ -229,7 +229,7 @@ fn run_near(
 ) -> Option<Stepped>
     requires { IfSome instr HasFields }
 {
-    match run(arch, 0, s, bus, &ready(instr)) {
+    match run(arch, 0, s, bus, &operation(instr)) {
         0 => None,
         clocks => Some(Stepped::Cost(clocks)),
     }
@@ -253,7 +253,7 @@ fn reached(core: &Core, way: Way, instr: Option<Instr>) -> Option<Touch>
     if way == Way::Step {
         return Some(footprint(core, &instr));
     }
-    let made = ready(Some(instr));
+    let made = operation(Some(instr));
     if is_other(&made) {
         None
     } else {
@@ -354,7 +354,7 @@ impl Case {
             _ if self.irq => None,
             Way::Anywhere => run_op(arch, &mut self.core.registers, &mut self.bus, instr),
             Way::Near if self.bus.refused != 1 => None,
-            Way::Near => run_near(arch, &mut self.core.registers, &mut self.bus.flat, instr),
+            Way::Near => run_in_ram(arch, &mut self.core.registers, &mut self.bus.flat, instr),
         }
     }
 
@@ -522,7 +522,7 @@ fn try_on(
     Ok(())
 }
 
-/// Tries rows on both processors, by their steps and as operations that were made ready.
+/// Tries rows on both processors, by their steps and as decoded operations.
 pub fn try_lines(rt: &impl Abort, alloc: Global, lines: &[Line]) -> Result<(), AllocError> {
     for way in [Way::Step, Way::Anywhere, Way::Near] {
         try_on(rt, alloc, Proc::Seven, way, lines)?;

@@ -1,12 +1,12 @@
-//! Words and halves that share their place in a memo, each as it is made ready.
+//! Words and halves that share their place in a cache, each as it is decoded.
 
-use arm_memo::Decoder;
-use arm_ops::{Op, Ready};
+use decode_cache::Decoder;
+use arm_ops::{Op, Operation};
 use arm_words::Condition::{Al, Eq, Ne};
 use arm_words::{Condition, MoveOp};
 use std::alloc::AllocError;
 
-/// What a word or a half at an address is made ready as.
+/// What a word or a half at an address is decoded as.
 #[derive(Clone, Copy)]
 enum Line {
     /// The address, the word, and r0's new value by a move, under a condition.
@@ -24,40 +24,40 @@ enum Line {
 use Line::{Branches, HalfBranches, HalfMoves, Moves, Other};
 
 /// Whether it moves a value to r0 under a condition.
-fn moves(ready: &Ready, wanted: u32, cond: Condition) -> bool {
-    match ready.op {
+fn moves(operation: &Operation, wanted: u32, cond: Condition) -> bool {
+    match operation.op {
         Op::MoveNumber {
             op: MoveOp::Mov,
             rd: 0,
             value,
             ..
-        } => value == wanted && ready.cond == cond,
+        } => value == wanted && operation.cond == cond,
         _ => false,
     }
 }
 
 /// Whether it branches so far.
-fn branches(ready: &Ready, wanted: u32) -> bool {
-    match ready.op {
+fn branches(operation: &Operation, wanted: u32) -> bool {
+    match operation.op {
         Op::Branch { link: false, far } => far == wanted,
         _ => false,
     }
 }
 
-/// Whether a line says what a memo of ARMv5's words or of ARMv4's halves has.
+/// Whether a line says what a cache of ARMv5's words or of ARMv4's halves has.
 fn is_right(five: &mut Decoder<5>, four: &mut Decoder<4>, line: Line) -> bool {
     match line {
-        Moves(at, word, value, cond) => moves(five.arm_ready(at, word), value, cond),
-        Branches(at, word, far) => branches(five.arm_ready(at, word), far),
-        Other(at, word) => matches!(five.arm_ready(at, word).op, Op::Other),
-        HalfMoves(at, half, value) => moves(four.thumb_ready(at, half), value, Al),
-        HalfBranches(at, half, far) => branches(four.thumb_ready(at, half), far),
+        Moves(at, word, value, cond) => moves(five.arm_operation(at, word), value, cond),
+        Branches(at, word, far) => branches(five.arm_operation(at, word), far),
+        Other(at, word) => matches!(five.arm_operation(at, word).op, Op::Other),
+        HalfMoves(at, half, value) => moves(four.thumb_operation(at, half), value, Al),
+        HalfBranches(at, half, far) => branches(four.thumb_operation(at, half), far),
     }
 }
 
 #[test]
 #[rattlefmt::skip]
-fn each_word_is_made_ready_whatever_was_kept(rt: HostRuntime) -> Result<(), AllocError> {
+fn each_word_is_decoded_whatever_was_kept(rt: HostRuntime) -> Result<(), AllocError> {
     let mut five = Decoder::<5>::new(rt.alloc())?;
     let mut four = Decoder::<4>::new(rt.alloc())?;
     let lines = [

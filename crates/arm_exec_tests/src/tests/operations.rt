@@ -1,4 +1,4 @@
-//! Instructions that are made ready as operations, and those that aren't; of the others' rows each operation is tried too.
+//! Instructions that are decoded as operations, and those that aren't; of the others' rows each operation is tried too.
 
 use super::lines::Line::{
     Arm, At, Both, Cpsr, Far, Flags, Mem, Near, Nzcv, Other, Pc, R, Spsr, Stops, Thumb, To, To7,
@@ -10,7 +10,7 @@ use std::alloc::AllocError;
 
 #[test]
 #[rattlefmt::skip]
-fn operations_are_run_near_or_anywhere(rt: HostRuntime) -> Result<(), AllocError> {
+fn operations_are_run_in_ram_or_anywhere(rt: HostRuntime) -> Result<(), AllocError> {
     try_lines(&rt, rt.alloc(), &[
         // flags go by each form of the operand
         // FF000000h + 1000000h is 0 with C, and no V, since the signs differ
@@ -30,7 +30,7 @@ fn operations_are_run_near_or_anywhere(rt: HostRuntime) -> Result<(), AllocError
         Nzcv(0b0011), R(0, 0x77), R(1, 0x8000_0001), R(2, 0), Arm(0xE1B0_0001), To(0, 0x8000_0001), Flags(0b1011), Near, Both(1, 1), // lsl 0
         Nzcv(0b0000), R(0, 0x77), R(1, 0x8000_0001), R(2, 0), Arm(0xE1B0_0021), To(0, 0), Flags(0b0110),           Near, Both(1, 1), // lsr 32
 
-        // near memory is loaded and stored
+        // RAM is loaded and stored
         R(1, 0x200_0068),                             Arm(0xE511_0004), To(0, 9),                                     Near, Both(3, 2), // ldr r0, [r1, #-4]
         R(1, 0x200_0060), R(2, 1),                    Arm(0xE7B1_0102), To(0, 9), To(1, 0x200_0064),                  Near, Both(3, 2), // ldr r0, [r1, r2, lsl #2]!
         R(1, 0x200_0063),                             Arm(0xE4D1_0001), To(0, 0x87), To(1, 0x200_0064),               Near, Both(3, 2), // ldrb r0, [r1], #1
@@ -66,11 +66,11 @@ fn operations_are_run_near_or_anywhere(rt: HostRuntime) -> Result<(), AllocError
         R(1, 0x400_0000),             Arm(0xE591_0000), To(0, 0x4433_2211),                           Far, Both(3, 2), // ldr r0, [r1]
         R(1, 0x400_0064),             Arm(0xE591_0000), To(0, 9),                                     Far, Both(3, 2), // ldr r0, [r1]
         R(1, 0x1FF_FFFF),             Arm(0xE4D1_0001), To(0, 0), To(1, 0x200_0000),                  Far, Both(3, 2), // ldrb r0, [r1], #1
-        // the base moves out of the near memories
+        // the base moves out of RAM
         R(0, 0x77), R(1, 0x3FF_FFFC), Arm(0xE5A1_0004), Mem(0x400_0000, 0x77), To(1, 0x400_0000),     Far, Both(2, 1), // str r0, [r1, #4]!
         R(1, 0x600_0000),             Arm(0xE1D1_00B0), To(0, 0x2211),                                Far, Both(3, 2), // ldrh r0, [r1]
         R(1, 0x600_0062),             Arm(0xE1D1_00B0), To(0, 0x8765),                                Far, Both(3, 2), // ldrh r0, [r1]
-        // a literal of Thumb at the end of the near memories, and past it
+        // a literal of Thumb at the end of RAM, and past it
         At(0x3FF_FFF8),               Thumb(0x4800),    To(0, 0),                                     Near, Both(3, 2), // ldr r0, [r15, #0x0]
         At(0x3FF_FFF8),               Thumb(0x4801),    To(0, 0x4433_2211),                           Far, Both(3, 2), // ldr r0, [r15, #0x4]
 

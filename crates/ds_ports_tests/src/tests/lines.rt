@@ -1,12 +1,12 @@
 //! Lines of the tables: accesses of ports, what happens behind them at its due tick, and what is seen of it.
 
 ghost use Rattle.std.specs.Prelude.{◌≡◌, ◌%◌};
-ghost use Rattle.ds_ports.specs.Dues.{due_behind};
+ghost use Rattle.ds_ports.specs.Dues.{io_due};
 ghost use Rattle.ds_runs.specs.declared.actors.Actor.TheVariants as actors;
 
 use ds_base::{LeftKind, Proc, Space, Stop, Tick, Width};
 use ds_dma::Cause;
-use ds_ports::{Before, Units};
+use ds_ports::{Before, Io};
 use ds_runs::Actor;
 use std::alloc::{AllocError, Global};
 use std::process::Abort;
@@ -85,7 +85,7 @@ const NOTHING: Seen = (NEVER, NEVER, NEVER);
 /// The units of a table, the tick of its lines, and the last channel's move.
 #[derive(Drop)]
 struct Bench {
-    units: Units,
+    io: Io,
     now: u32,
     before: Option<Before>,
 }
@@ -108,18 +108,18 @@ fn tick_of(due: Option<Tick>) -> Seen {
 }
 
 /// An actor that numbers name, as its tick.
-fn timer_due(units: &Units, proc: Proc, number: u8) -> Option<Tick> {
-    units.due_behind(Actor::Timer {
+fn timer_due(io: &Io, proc: Proc, number: u8) -> Option<Tick> {
+    io.io_due(Actor::Timer {
         proc,
         number: number % 4,
     })
 }
 
 /// When a processor's channel is due.
-fn channel_due(units: &Units, proc: Proc, channel: u8) -> Option<Tick>
-    ensures { result ≡ due_behind (actors.Dma proc (channel % 4)) units.now }
+fn channel_due(io: &Io, proc: Proc, channel: u8) -> Option<Tick>
+    ensures { result ≡ io_due (actors.Dma proc (channel % 4)) io.now }
 {
-    units.due_behind(Actor::Dma {
+    io.io_due(Actor::Dma {
         proc,
         channel: channel % 4,
     })
@@ -130,7 +130,7 @@ impl Bench {
     fn value(&self, proc: Proc, at: u32, width: Width) -> Seen {
         let now = Tick(self.now.into());
         (
-            self.units.value(proc, now, at % 0x100_0000, width).into(),
+            self.io.value(proc, now, at % 0x100_0000, width).into(),
             0,
             0,
         )
@@ -140,7 +140,7 @@ impl Bench {
     fn take(&mut self, proc: Proc, at: u32, width: Width) -> Seen {
         let now = Tick(self.now.into());
         (
-            self.units.take(proc, now, at % 0x100_0000, width).into(),
+            self.io.take(proc, now, at % 0x100_0000, width).into(),
             0,
             0,
         )
@@ -149,7 +149,7 @@ impl Bench {
     /// A write, and why it is refused, if it is.
     fn put(&mut self, proc: Proc, at: u32, width: Width, value: u32) -> Seen {
         let now = Tick(self.now.into());
-        match self.units.put(proc, now, at % 0x100_0000, width, value) {
+        match self.io.put(proc, now, at % 0x100_0000, width, value) {
             Some(Stop { kind, value }) => told(kind, value),
             None => DONE,
         }
@@ -157,7 +157,7 @@ impl Bench {
 
     /// What is due first.
     fn first(&self) -> Seen {
-        match self.units.first_due() {
+        match self.io.first_due() {
             Some(due) => (due.tick.0, due.rank.into(), 0),
             None => NOTHING,
         }
@@ -166,9 +166,9 @@ impl Bench {
     /// A processor's timer overflows, where it is due.
     fn overflow(&mut self, proc: Proc, number: u8) -> Seen {
         let number = number % 4;
-        match self.units.due_behind(Actor::Timer { proc, number }) {
+        match self.io.io_due(Actor::Timer { proc, number }) {
             Some(due) if due.0 <= 1 << 56 => {
-                self.units.overflow(proc, number);
+                self.io.overflow(proc, number);
                 DONE
             }
             _ => NOTHING,
@@ -177,28 +177,28 @@ impl Bench {
 
     /// The running division is done, where one runs.
     fn divide(&mut self) -> Seen {
-        if self.units.due_behind(Actor::Divider).is_none() {
+        if self.io.io_due(Actor::Divider).is_none() {
             return NOTHING;
         }
-        self.units.finish_division();
+        self.io.finish_division();
         DONE
     }
 
     /// The running square root is done, where one runs.
     fn root(&mut self) -> Seen {
-        if self.units.due_behind(Actor::SquareRoot).is_none() {
+        if self.io.io_due(Actor::SquareRoot).is_none() {
             return NOTHING;
         }
-        self.units.finish_root();
+        self.io.finish_root();
         DONE
     }
 
     /// A processor's channel moves a unit when it is due, if it is.
     fn moved(&mut self, proc: Proc, channel: u8) -> Seen {
-        match channel_due(&self.units, proc, channel) {
+        match channel_due(&self.io, proc, channel) {
             Some(due) if due.0 <= 1 << 56 => {
-                let unit = self.units.unit(proc);
-                self.before = Some(self.units.move_channel(proc, due));
+                let unit = self.io.unit(proc);
+                self.before = Some(self.io.move_channel(proc, due));
                 (unit.from.into(), unit.to.into(), unit.width.bytes().into())
             }
             _ => NOTHING,
@@ -209,7 +209,7 @@ impl Bench {
     fn put_back(&mut self, proc: Proc) -> Seen {
         match self.before {
             Some(before) => {
-                self.units.put_back(proc, before);
+                self.io.put_back(proc, before);
                 DONE
             }
             None => NOTHING,
@@ -220,20 +220,20 @@ impl Bench {
     fn behind(&mut self, line: Line) -> (Seen, Seen) {
         match line {
             Line::TimerDue(proc, number, tick) => {
-                (tick_of(timer_due(&self.units, proc, number)), (tick, 0, 0))
+                (tick_of(timer_due(&self.io, proc, number)), (tick, 0, 0))
             }
             Line::ChannelDue(proc, channel, tick) => {
                 (
-                    tick_of(channel_due(&self.units, proc, channel)),
+                    tick_of(channel_due(&self.io, proc, channel)),
                     (tick, 0, 0),
                 )
             }
             Line::DivisionDue(tick) => {
-                (tick_of(self.units.due_behind(Actor::Divider)), (tick, 0, 0))
+                (tick_of(self.io.io_due(Actor::Divider)), (tick, 0, 0))
             }
             Line::RootDue(tick) => {
                 (
-                    tick_of(self.units.due_behind(Actor::SquareRoot)),
+                    tick_of(self.io.io_due(Actor::SquareRoot)),
                     (tick, 0, 0),
                 )
             }
@@ -255,13 +255,13 @@ impl Bench {
     fn change(&mut self, line: Line) {
         match line {
             Line::At(now) => self.now = now,
-            Line::Read(proc, at, width) => self.units.read(proc, at % 0x100_0000, width),
-            Line::Press(keys) => self.units.press(keys % 0x1000),
-            Line::Event(cause) => self.units.trigger(cause, Tick(self.now.into())),
-            Line::Halt(proc) => self.units.set_halted(proc, true),
-            Line::Wake(proc) => self.units.set_halted(proc, false),
+            Line::Read(proc, at, width) => self.io.read(proc, at % 0x100_0000, width),
+            Line::Press(keys) => self.io.press(keys % 0x1000),
+            Line::Event(cause) => self.io.trigger(cause, Tick(self.now.into())),
+            Line::Halt(proc) => self.io.set_halted(proc, true),
+            Line::Wake(proc) => self.io.set_halted(proc, false),
             Line::WriteVram(space, at, value) => {
-                self.units.write_vram(space, at, Width::Word, value);
+                self.io.write_vram(space, at, Width::Word, value);
             }
             _ => {}
         }
@@ -281,27 +281,27 @@ impl Bench {
             Line::Takes(proc, at, width, value) => {
                 (self.take(proc, at, width), (value.into(), 0, 0))
             }
-            Line::Is(proc, halted, held) => (
+            Line::Is(proc, halted, blocked) => (
                 (
-                    self.units.is_halted(proc).into(),
-                    self.units.is_held(proc).into(),
+                    self.io.is_halted(proc).into(),
+                    self.io.is_blocked(proc).into(),
                     0,
                 ),
-                (halted.into(), held.into(), 0),
+                (halted.into(), blocked.into(), 0),
             ),
             Line::Asks(proc, up, wakes) => (
                 (
-                    self.units.line(proc).into(),
-                    self.units.wakes(proc).into(),
+                    self.io.line(proc).into(),
+                    self.io.wakes(proc).into(),
                     0,
                 ),
                 (up.into(), wakes.into(), 0),
             ),
             Line::Vram(space, at, value) => (
-                (self.units.vram().read(space, at, Width::Word).into(), 0, 0),
+                (self.io.vram().read(space, at, Width::Word).into(), 0, 0),
                 (value.into(), 0, 0),
             ),
-            Line::Wramcnt(value) => ((self.units.wramcnt().into(), 0, 0), (value.into(), 0, 0)),
+            Line::Wramcnt(value) => ((self.io.wramcnt().into(), 0, 0), (value.into(), 0, 0)),
             _ => self.behind(line),
         }
     }
@@ -309,7 +309,7 @@ impl Bench {
     /// The same of every line, also of one that boots.
     fn step(&mut self, alloc: Global, line: Line) -> Result<(Seen, Seen), AllocError> {
         if let Line::Boot = line {
-            self.units = Units::new(alloc)?;
+            self.io = Io::new(alloc)?;
         }
         Ok(self.seen(line))
     }
@@ -318,11 +318,11 @@ impl Bench {
 /// The units from boot on, line by line.
 pub fn try_lines(rt: &impl Abort, alloc: Global, lines: &[Line]) -> Result<(), AllocError> {
     let mut bench = Bench {
-        units: Units::new(alloc)?,
+        io: Io::new(alloc)?,
         now: 0,
         before: None,
     };
-    bench.units.laws();
+    bench.io.laws();
     for (number, line) in lines.iter().enumerate() {
         let (got, wanted) = bench.step(alloc, *line)?;
         let (one, two, three) = got;

@@ -1,4 +1,4 @@
-use Rattle.run_ahead.specs.Turns.{turns_left}
+use Rattle.run_ahead.specs.Turns.{turns_remaining}
 use Rattle.nds_top.proofs.Playing.{Going}
 use Rattle.nds_top.proofs.plays.run_to.Given as goal
 
@@ -7,4 +7,4 @@ abbrev pub invariant-turns : goal.invariant-turns
 invariant-turns l = Going l.until.0 l.initial.console l.console
 
 abbrev pub decreases-turns : goal.decreases-turns
-decreases-turns l = turns_left l.until.0 l.console.machine
+decreases-turns l = turns_remaining l.until.0 l.console.machine

@@ -16,7 +16,7 @@ put-requires-clause-is c =
     let s = c.args.self.now in
     let which = c.least-which.result in
     let seen : channel_seen c.channel-channel.result ≡ due_channel s = c.channel-channel.ensures.seen ∙ ap (channel_at s.channels) c.least-which.ensures.least in
-    let on = subst (λ (x : ChannelState). is_enabled x.control ≡ true) (sym seen) (due_is_on s c.laws.ensures c.requires.due) in
+    let on = subst (λ (x : ChannelState). is_enabled x.cnt ≡ true) (sym seen) (due_is_on s c.laws.ensures c.requires.due) in
     let rest : channel_seen c.without_first-rest.result ≡ after_unit s.proc which (channel_seen c.channel-channel.result) =
     c.without_first-rest.ensures ∙ ap (λ (x : DmaState). after_unit x.proc which (channel_seen c.channel-channel.result)) c.self.view_is in
     subst (IsChannel s.proc which) (sym rest) (taken_is s.proc which (channel_seen c.channel-channel.result) c.channel-channel.ensures.is on)

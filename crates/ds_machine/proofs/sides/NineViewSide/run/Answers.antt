@@ -1,8 +1,8 @@
 use Rattle.ds_map.specs.Views.{NineReach}
-use Rattle.ds_machine.proofs.Readies.{nine_executes}
+use Rattle.ds_machine.proofs.DecodedOperations.{nine_executes}
 use Rattle.ds_machine.proofs.sides.NineViewSide.run.Goals as goal
 
 pub returns-clause-executes : goal.returns-clause-executes
 returns-clause-executes c = λ number instr is.
     (let r : NineReach = record { map = c.args.self.now.map.now; cp15 = c.args.self.now.cp.now; itcm = c.args.self.now.itcm.now; dtcm = c.args.self.now.dtcm.now; now = c.args.self.now.now } in
-    nine_executes c.args.s.now r c.args.ready.now number instr c.requires.known is)
+    nine_executes c.args.s.now r c.args.operation.now number instr c.requires.known is)

@@ -1,0 +1,109 @@
+//! A cache of words, or of halves, of one version of the architecture.
+
+ghost use Rattle.std.specs.Prelude.{◌≡◌, ◌<◌, IfSome};
+ghost use Rattle.std.specs.Coded.{Coded-set};
+ghost use Rattle.decode_cache.specs.Known.{arch_of, known};
+ghost use Rattle.arm_ops.specs.Operations.{operation_of};
+ghost use Rattle.arm_words.specs.Fields.{HasFields};
+
+use arm_ops::{Operation, operation};
+use arm_words::{Instr, decode_arm, decode_thumb};
+use ds_base::Arch;
+use std::alloc::{AllocError, Global};
+use std::marker::Model;
+
+/// How many numbers are kept.
+const PLACES: usize = 16_384;
+
+/// A number with its instruction, or none, as an operation.
+#[derive(Clone, Copy)]
+struct CacheEntry<const VERSION: u32, const BITS: u32> {
+    number: u32,
+    operation: Operation,
+    ghost made: { operation_of (known VERSION BITS number) ≡ operation } by { Coded-set operation-code (operation_of (known VERSION BITS number)) operation },
+}
+
+/// Numbers of so many bits with their instructions.
+#[derive(Drop)]
+pub struct DecodeCache<const VERSION: u32, const BITS: u32> {
+    entries: Vec<CacheEntry<VERSION, BITS>>,
+}
+
+impl<const VERSION: u32, const BITS: u32> Model for DecodeCache<VERSION, BITS> {
+    ghost use Rattle.std.specs.Prelude.{◌≡◌, length};
+
+    ghost Value = { Unit {0} };
+
+    ghost view = { λ m. tt };
+
+    ghost invariant = { λ m. length m.entries.items ≡ 16384 };
+}
+
+/// Where a number is kept that was found at a place of the code, counted in words or in halves: what lies side by side is kept side by side. (Our choice.)
+#[inline(always)]
+fn place(at: u32) -> usize
+    ensures { result < 16384 }
+{
+    (at % PLACES as u32) as usize
+}
+
+/// The architecture of a version.
+const fn arch_of<const VERSION: u32>() -> Arch
+    ensures { result ≡ arch_of VERSION }
+{
+    if VERSION == 5 { Arch::V5 } else { Arch::V4 }
+}
+
+/// The instruction of a number, by the tables.
+#[tactic(auto, unfolding(crate::specs::Known::known))]
+fn decoded<const VERSION: u32, const BITS: u32>(number: u32) -> Option<Instr>
+    ensures instr { result ≡ known VERSION BITS number }
+    ensures fields { IfSome result HasFields }
+{
+    let arch = arch_of::<VERSION>();
+    if BITS == 16 {
+        decode_thumb(arch, (number % 0x1_0000) as u16)
+    } else {
+        decode_arm(arch, number)
+    }
+}
+
+/// The entry of a number.
+#[inline(never)]
+fn made<const VERSION: u32, const BITS: u32>(number: u32) -> CacheEntry<VERSION, BITS>
+    ensures { result.number ≡ number }
+{
+    let operation = operation(decoded::<VERSION, BITS>(number));
+    CacheEntry { number, operation }
+}
+
+impl<const VERSION: u32, const BITS: u32> CacheEntry<VERSION, BITS> {
+    /// Makes it the entry of a number, if it isn't.
+    #[inline(always)]
+    fn learn(&mut self, number: u32)
+        ensures { self.new.number ≡ number }
+    {
+        if self.number != number {
+            *self = made::<VERSION, BITS>(number);
+        }
+    }
+}
+
+impl<const VERSION: u32, const BITS: u32> DecodeCache<VERSION, BITS> {
+    /// A cache that keeps one number.
+    pub fn new(alloc: Global) -> Result<DecodeCache<VERSION, BITS>, AllocError> {
+        Ok(DecodeCache {
+            entries: vec![in alloc; made::<VERSION, BITS>(0); PLACES]?,
+        })
+    }
+
+    /// The instruction of a number that was found at a place of the code, or none, as an operation.
+    #[inline(always)]
+    pub fn operation(&mut self, at: u32, number: u32) -> &Operation
+        ensures { result.now ≡ operation_of (known VERSION BITS number) }
+    {
+        let entry = &mut self.entries[place(at)];
+        entry.learn(number);
+        &entry.operation
+    }
+}

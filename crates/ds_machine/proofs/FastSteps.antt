@@ -1,0 +1,221 @@
+use Rattle.std.proofs.Common.{ℕ, zero, suc, ◌≡◌, ◌<◌, ◌≤◌, ◌^◌, ◌⊎◌, min, inl, inr, Bool, true, false, true≢false, if◌then◌else◌, List, [], ◌∷◌, ◌++◌, length, Option, Some, refl, sym, ◌∙◌, ap, subst, arith}
+use Rattle.std.specs.Prelude.{◌&&◌}
+use Rattle.std.proofs.lemmas.Option.{same_Some}
+use Rattle.ds_base.specs.declared.keys.KeyLine.{KeyLine}
+use Rattle.ds_base.specs.declared.left_out.LeftOut.{LeftOut}
+use Rattle.ds_base.specs.declared.processors.Proc.{Proc}
+use Rattle.ds_base.specs.declared.processors.Proc.TheVariants.{Nine, Seven}
+use Rattle.ds_base.specs.declared.ticks.Due.{Due}
+use Rattle.ds_base.specs.declared.ticks.Tick.{Tick}
+use Rattle.arm_core.specs.declared.outcomes.Stepped.TheVariants.{Cost}
+use Rattle.ds_ports.specs.Dues.{io_dues}
+use Rattle.ds_ports.specs.ProcessorIo.{blocks_processor}
+use Rattle.ds_ports.specs.Io.{IoState, io_of}
+use Rattle.ds_runs.specs.Actors.{actor_of}
+use Rattle.ds_runs.specs.Order.{first_from}
+use Rattle.ds_runs.specs.Runs.{IsLeast, IsOver, Makes, MachineStep, due_at}
+use Rattle.ds_runs.specs.declared.actors.Actor as actor
+use Rattle.ds_runs.specs.declared.actors.Actor.TheVariants.{Processor, Video}
+use Rattle.ds_runs.proofs.Firsts.{first_is_least}
+use Rattle.ds_timers.specs.Irqs.{line_is_up, shares_bit}
+use Rattle.ds_machine.specs.NextEvents.{AreAsleep, IsNextEvent, events_of, least_of, due_at_least}
+use Rattle.ds_machine.specs.Reference.{FastStep, HasCounted, IsSound, Shown, awake, due_by, due_unless, dues_of, keys_due, processor_due, step_by, stepped_of}
+use Rattle.ds_machine.specs.States.{MachineState, ProcessorState, VideoState, counts_of}
+use Rattle.ds_machine.specs.Steps.{machine_concluded, goes_on, is_halted, is_blocked, line_of, outcome_of, processor_of, tick_of, wakes, went_on, with_processor, woken, woken_one}
+use Rattle.ds_machine.specs.Videos.{video_due}
+use Rattle.ds_machine.specs.declared.answers.Done.TheVariants as answers
+use Rattle.ds_machine.specs.declared.next_events.NextEvent.{NextEvent}
+use Rattle.ds_machine.proofs.Counts.{counted_done, few}
+use Rattle.ds_machine.proofs.DueTicks.{due_of_rank, due_of_step, due_then, dues_split, low_rank, steps_as, tick_is}
+use Rattle.ds_machine.proofs.ProcessorSteps.{step_concluded}
+use Rattle.ds_machine.proofs.Quiet.{neither}
+use Rattle.ds_machine.proofs.Wakes.{Beside, put_beside}
+
+-- A processor that is due before every other actor.
+
+-- no event is due before the first
+pub events_over : (s : MachineState) (first : Due) → Some first ≡ first_from 0 (events_of s) → IsOver (events_of s) first.tick.0
+events_over s first h = λ rank tick due. (let l = (first_is_least (events_of s) first (sym h)).least rank tick due in omega (arith, l))
+
+-- an entry in the former of two lists
+in_front : (xs ys : List (Option Tick)) (rank : ℕ) → rank < length xs → due_at (xs ++ ys) rank ≡ due_at xs rank
+in_front [] ys rank lt = absurd (omega (arith, lt))
+in_front (x ∷ xs) ys zero lt = refl
+in_front (x ∷ xs) ys (suc rank) lt = in_front xs ys rank (omega (arith, lt))
+
+event_there : (s : MachineState) (rank : ℕ) (at : Tick) → rank < 22 → due_at (dues_of s) rank ≡ Some at → due_at (events_of s) rank ≡ Some at
+event_there s rank at lt h =
+    let back = processor_due s Nine ∷ processor_due s Seven ∷ [] in
+    sym (in_front (events_of s) back rank lt) ∙ ap (λ (dues : List (Option Tick)). due_at dues rank) (sym (dues_split s)) ∙ h
+
+-- the last two ranks are the processors'
+sort_rank : (rank : ℕ) → rank < 24 → (rank < 22) ⊎ ((rank ≡ 22) ⊎ (rank ≡ 23))
+sort_rank rank lt = grind (arith, lt)
+
+nine_there : (s : MachineState) (rank : ℕ) (at : Tick) → rank ≡ 22 → due_at (dues_of s) rank ≡ Some at → processor_due s Nine ≡ Some at
+nine_there s rank at e h = sym (due_of_rank s 22 (omega arith)) ∙ subst (λ (r : ℕ). due_at (dues_of s) r ≡ Some at) e h
+
+seven_there : (s : MachineState) (rank : ℕ) (at : Tick) → rank ≡ 23 → due_at (dues_of s) rank ≡ Some at → processor_due s Seven ≡ Some at
+seven_there s rank at e h = sym (due_of_rank s 23 (omega arith)) ∙ subst (λ (r : ℕ). due_at (dues_of s) r ≡ Some at) e h
+
+lt_or_same : (x y : ℕ) → x ≤ y → (x < y) ⊎ (x ≡ y)
+lt_or_same x y h = grind (arith, h)
+
+-- ARM9 is the least, where no event is due at its tick or before it, and ARM7 isn't due before it
+nine_least : (s : MachineState) (until : ℕ) (tick : Tick) → IsOver (events_of s) until → tick.0 < until → processor_due s Nine ≡ Some tick
+    → ((at : Tick) → processor_due s Seven ≡ Some at → tick.0 ≤ at.0) → IsLeast (dues_of s) tick 22
+nine_least s until tick over lt there after = record { there = due_of_rank s 22 (omega arith) ∙ there; least = go } where
+  go : (other : ℕ) (at : Tick) → due_at (dues_of s) other ≡ Some at → (tick.0 < at.0) ⊎ ((tick.0 ≡ at.0) × (22 ≤ other))
+  go other at h = elim (sort_rank other (low_rank s other at h)) [
+    | inl event ↦ inl (let k = over other at (event_there s other at event h) in omega (arith, k, lt))
+    | inr rest ↦ elim rest [
+      | inl e ↦ inr (ap (λ (x : Tick). x.0) (same_Some tick at (sym there ∙ nine_there s other at e h)), omega (arith, e))
+      | inr e ↦ elim (lt_or_same tick.0 at.0 (after at (seven_there s other at e h))) [ inl a ↦ inl a | inr b ↦ inr (b, omega (arith, e)) ]
+    ]
+  ]
+
+-- and ARM7, where ARM9 is due after it
+seven_least : (s : MachineState) (until : ℕ) (tick : Tick) → IsOver (events_of s) until → tick.0 < until → processor_due s Seven ≡ Some tick
+    → ((at : Tick) → processor_due s Nine ≡ Some at → tick.0 < at.0) → IsLeast (dues_of s) tick 23
+seven_least s until tick over lt there after = record { there = due_of_rank s 23 (omega arith) ∙ there; least = go } where
+  go : (other : ℕ) (at : Tick) → due_at (dues_of s) other ≡ Some at → (tick.0 < at.0) ⊎ ((tick.0 ≡ at.0) × (23 ≤ other))
+  go other at h = elim (sort_rank other (low_rank s other at h)) [
+    | inl event ↦ inl (let k = over other at (event_there s other at event h) in omega (arith, k, lt))
+    | inr rest ↦ elim rest [
+      | inl e ↦ inl (after at (nine_there s other at e h))
+      | inr e ↦ inr (ap (λ (x : Tick). x.0) (same_Some tick at (sym there ∙ seven_there s other at e h)), omega (arith, e))
+    ]
+  ]
+
+-- ---- by what is kept
+
+-- a processor that waits for an early tick isn't blocked, and is due then
+wait_ends : (blocked : Bool) (least due : ℕ) → least ≡ least_of blocked → due_at_least least due < 2 ^ 56 → (blocked ≡ false) × (due_at_least least due ≡ due)
+wait_ends true least due e lt = absurd (omega (arith, e, lt))
+wait_ends false least due e lt = (refl, omega (arith, e))
+
+-- a processor that is due waits for its tick
+wait_is : (blocked : Bool) (least : ℕ) (p : ProcessorState) (at : Tick) → least ≡ least_of blocked → due_unless blocked p ≡ Some at → due_at_least least p.due ≡ at.0
+wait_is blocked least p at e h =
+    let k = due_then blocked p at h in
+    let none : least ≡ 0 = e ∙ ap least_of k.0 in
+    let there = k.1 in
+    omega (arith, none, there)
+
+due_there : (blocked : Bool) (least : ℕ) (p : ProcessorState) (n : ℕ) → least ≡ least_of blocked → n ≡ due_at_least least p.due → n < 2 ^ 56 → due_unless blocked p ≡ Some (record { 0 = n })
+due_there blocked least p n e w lt =
+    let k = wait_ends blocked least p.due e (omega (arith, w, lt)) in
+    let t = tick_is p (record { 0 = n }) (sym (w ∙ k.1)) in
+    rw k.0 (ap Some t)
+
+-- what is waited of a machine's parts is waited of the machine
+pub nine_waits : (least n : ℕ) (parts s : MachineState) → n ≡ due_at_least least parts.nine.processor.due → parts ≡ s → n ≡ due_at_least least s.nine.processor.due
+nine_waits least n parts s w e = w ∙ ap (λ (m : MachineState). due_at_least least m.nine.processor.due) e
+
+pub seven_waits : (least n : ℕ) (parts s : MachineState) → n ≡ due_at_least least parts.seven.processor.due → parts ≡ s → n ≡ due_at_least least s.seven.processor.due
+seven_waits least n parts s w e = w ∙ ap (λ (m : MachineState). due_at_least least m.seven.processor.due) e
+
+-- so the processor steps for which fewer ticks are waited, ARM9 at equal ones
+pub nine_first : (next_event : NextEvent) (s : MachineState) (nine seven until : ℕ) → IsNextEvent next_event s → nine ≡ due_at_least next_event.nine_least s.nine.processor.due
+    → seven ≡ due_at_least next_event.seven_least s.seven.processor.due → nine ≤ seven → nine < min next_event.until.0 until → until ≤ 2 ^ 56
+    → IsLeast (dues_of s) (record { 0 = nine }) 22
+nine_first next_event s nine seven until is n m le lt early =
+    nine_least s next_event.until.0 (record { 0 = nine }) is.events (omega (arith, lt))
+    (due_there (is_blocked s Nine) next_event.nine_least s.nine.processor nine is.nine_least n (omega (arith, lt, early)))
+    (λ at h. (let k = wait_is (is_blocked s Seven) next_event.seven_least s.seven.processor at is.seven_least h in omega (arith, m, le, k)))
+
+pub seven_first : (next_event : NextEvent) (s : MachineState) (nine seven until : ℕ) → IsNextEvent next_event s → nine ≡ due_at_least next_event.nine_least s.nine.processor.due
+    → seven ≡ due_at_least next_event.seven_least s.seven.processor.due → seven < nine → seven < min next_event.until.0 until → until ≤ 2 ^ 56
+    → IsLeast (dues_of s) (record { 0 = seven }) 23
+seven_first next_event s nine seven until is n m le lt early =
+    seven_least s next_event.until.0 (record { 0 = seven }) is.events (omega (arith, lt))
+    (due_there (is_blocked s Seven) next_event.seven_least s.seven.processor seven is.seven_least m (omega (arith, lt, early)))
+    (λ at h. (let k = wait_is (is_blocked s Nine) next_event.nine_least s.nine.processor at is.nine_least h in omega (arith, n, le, k)))
+
+-- ---- the step
+
+pub taken_fast : (s next : MachineState) (until rank : ℕ) (tick : Tick) (a : actor.Actor) (taken : Bool) → actor_of rank ≡ a → IsLeast (dues_of s) tick rank
+    → tick.0 < until → (taken ≡ false → next ≡ s) → (taken ≡ true → awake (Some tick) (step_by rank a s) ≡ stepped_of s answers.Made next) → FastStep until s taken next
+taken_fast s next until rank tick a false e least lt none made = none refl
+taken_fast s next until rank tick a true e least lt none made =
+    (record { tick = tick; rank = rank }, least, lt, steps_as s rank a (Some tick) (stepped_of s answers.Made next) e (due_of_step s rank tick a least e) (made refl))
+
+-- what was taken at once is counted
+pub counted_fast : (s next : MachineState) (until : ℕ) (taken : Bool) → IsSound s → HasCounted s → FastStep until s taken next → HasCounted next
+counted_fast s next until false sound has h = subst HasCounted (sym h) has
+counted_fast s next until true sound has h = counted_done s next h.0.tick h.0.rank answers.Made sound h.1 has h.3
+
+-- before it the steps were few
+pub few_fast : (s : MachineState) (rank n until more : ℕ) → HasCounted s → IsLeast (dues_of s) (record { 0 = n }) rank → n < min more until → until ≤ 2 ^ 56 → counts_of s ≤ 2 ^ 61
+few_fast s rank n until more has least lt early =
+    let k = few s (record { 0 = n }) rank has least (omega (arith, lt, early)) in
+    omega (arith, k)
+
+-- ---- what is kept stays so, while the units behind the ports, the script and the display stay
+
+pub kept_stays : (next_event : NextEvent) (s next : MachineState) → IsNextEvent next_event s → Beside s next → IsNextEvent next_event next
+kept_stays next_event s next is b = record {
+  events = subst (λ (u : IoState). IsOver (keys_due next.keys ∷ due_by Video next ∷ io_dues u) next_event.until.0) (sym b.io)
+      (subst (λ (v : VideoState). IsOver (keys_due next.keys ∷ Some (record { 0 = video_due v }) ∷ io_dues s.map.io) next_event.until.0) (sym b.video)
+      (subst (λ (lines : List KeyLine). IsOver (keys_due lines ∷ due_by Video s ∷ io_dues s.map.io) next_event.until.0) (sym b.keys) is.events));
+  asleep = λ some proc. wakes_so proc (is.asleep some proc);
+  nine_least = is.nine_least ∙ ap least_of (blocked Nine);
+  seven_least = is.seven_least ∙ ap least_of (blocked Seven);
+  nine_line = is.nine_line ∙ line Nine;
+  seven_line = is.seven_line ∙ line Seven;
+} where
+  blocked : (proc : Proc) → is_blocked s proc ≡ is_blocked next proc
+  blocked proc = ap (λ (u : IoState). blocks_processor (io_of u proc)) (sym b.io)
+
+  line : (proc : Proc) → line_of s proc ≡ line_of next proc
+  line proc = ap (λ (u : IoState). line_is_up (io_of u proc).irq) (sym b.io)
+
+  wakes_so : (proc : Proc) → wakes s proc ≡ false → wakes next proc ≡ false
+  wakes_so proc h = ap (λ (u : IoState). (io_of u proc).halted && shares_bit (io_of u proc).irq) b.io ∙ h
+
+-- ---- a step at once that costs and no more: nobody wakes at it
+
+asleep_stays : (tick : Tick) (s : MachineState) → AreAsleep s → woken tick s ≡ s
+asleep_stays tick s asleep = ap (λ (m : MachineState). woken_one Seven tick m) (one Nine (wakes s Nine) (asleep Nine)) ∙ one Seven (wakes s Seven) (asleep Seven) where
+  one : (proc : Proc) (b : Bool) → b ≡ false → (if b then goes_on proc tick s else s) ≡ s
+  one proc true e = absurd (true≢false e)
+  one proc false e = refl
+
+pub cost_fast : (next_event : NextEvent) (s : MachineState) (rank : ℕ) (proc : Proc) (tick : Tick) (clocks : ℕ) → IsNextEvent next_event s → 0 < next_event.until.0 → is_blocked s proc ≡ false
+    → awake (Some tick) (machine_concluded rank proc s (Cost clocks)) ≡ stepped_of s answers.Made (with_processor proc s (went_on proc clocks false (processor_of s proc)))
+cost_fast next_event s rank proc tick clocks is some blocked =
+    let p = went_on proc clocks false (processor_of s proc) in
+    let next = with_processor proc s p in
+    let asleep = (kept_stays next_event s next is (put_beside proc s p)).asleep some in
+    let halted : is_halted s proc ≡ false = (neither _ _ blocked).0 in
+    let came : Bool → MachineStep MachineState Shown LeftOut = λ b. awake (Some tick) (Makes (with_processor proc s (went_on proc clocks b (processor_of s proc))) []) in
+    ap came halted ∙ ap (λ (m : MachineState). stepped_of s answers.Made m) (asleep_stays tick next asleep)
+
+-- what is kept stays at it
+pub cost_keeps : (next_event : NextEvent) (s next : MachineState) (proc : Proc) (p : ProcessorState) → IsNextEvent next_event s → next ≡ with_processor proc s p → IsNextEvent next_event next
+cost_keeps next_event s next proc p is e = subst (IsNextEvent next_event) (sym e) (kept_stays next_event s (with_processor proc s p) is (put_beside proc s p))
+
+-- and at the accesses before it, which leave the units
+pub reach_keeps : (next_event : NextEvent) (s next : MachineState) (proc : Proc) (now : Tick) → IsNextEvent next_event s → next ≡ (outcome_of proc now s).machine → next.map.io ≡ s.map.io → IsNextEvent next_event next
+reach_keeps next_event s next proc now is e io =
+    kept_stays next_event s next is (record { io = io; keys = ap (λ (m : MachineState). m.keys) e ∙ same_keys proc; video = ap (λ (m : MachineState). m.video) e ∙ same_video proc }) where
+      same_keys : (proc : Proc) → (outcome_of proc now s).machine.keys ≡ s.keys
+      same_keys Nine = refl
+      same_keys Seven = refl
+
+      same_video : (proc : Proc) → (outcome_of proc now s).machine.video ≡ s.video
+      same_video Nine = refl
+      same_video Seven = refl
+
+-- what isn't blocked before them isn't blocked after them
+pub free_stays : (proc : Proc) (s next : MachineState) → next.map.io ≡ s.map.io → is_blocked s proc ≡ false → is_blocked next proc ≡ false
+free_stays proc s next io free = ap (λ (u : IoState). blocks_processor (io_of u proc)) io ∙ free
+
+-- the whole of it
+pub made_fast : (next_event : NextEvent) (s m next : MachineState) (rank : ℕ) (proc : Proc) (tick : Tick) (clocks : ℕ) → IsNextEvent next_event m → 0 < next_event.until.0 → is_blocked m proc ≡ false
+    → tick ≡ tick_of (processor_of s proc) → m ≡ (outcome_of proc tick s).machine → Cost clocks ≡ (outcome_of proc tick s).stepped
+    → next ≡ with_processor proc m (went_on proc clocks false (processor_of m proc))
+    → awake (Some tick) (step_by rank (Processor proc) s) ≡ stepped_of s answers.Made next
+made_fast next_event s m next rank proc tick clocks is some blocked at machine stepped e =
+    step_concluded rank proc tick s m next (Cost clocks) answers.Made at machine stepped
+    (cost_fast next_event m rank proc tick clocks is some blocked ∙ ap (λ (x : MachineState). stepped_of m answers.Made x) (sym e))

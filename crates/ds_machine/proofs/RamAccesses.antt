@@ -1,0 +1,262 @@
+use Rattle.std.proofs.Common.{ℕ, zero, suc, ◌≡◌, ◌<◌, ◌≤◌, ◌+◌, ◌-◌, ◌==◌, ◌&&◌, ◌⊎◌, ◌++◌, Bool, true, false, true≢false, if◌then◌else◌, List, [], ◌∷◌, Option, Some, None, inl, inr, refl, sym, ◌∙◌, ap, arith}
+use Rattle.std.proofs.lemmas.List.{append-nil}
+use Rattle.ds_base.specs.Accesses.{Access, Fetch, Performed, Read, Write, perform, refused_or}
+use Rattle.ds_base.specs.Memories.{memory_size}
+use Rattle.ds_base.specs.Numbers.{aligned_down, with_number, width_bytes}
+use Rattle.ds_base.specs.declared.left_out.Stop.{Stop}
+use Rattle.ds_base.specs.declared.memories.Memory.{Memory}
+use Rattle.ds_base.specs.declared.memories.Memory.TheVariants.{Main, Shared, Own7, Itcm, Dtcm, Palette, Vram, Oam}
+use Rattle.ds_base.specs.declared.memories.Width.{Width}
+use Rattle.ds_base.specs.declared.memories.Width.TheVariants.{Byte, Half, Word}
+use Rattle.ds_base.specs.declared.processors.Arch.{Arch}
+use Rattle.ds_base.specs.declared.processors.Arch.TheVariants.{V4, V5}
+use Rattle.ds_base.specs.declared.processors.Proc.{Proc}
+use Rattle.ds_base.specs.declared.processors.Proc.TheVariants.{Nine, Seven}
+use Rattle.ds_base.specs.declared.ticks.Tick.{Tick}
+use Rattle.arm_core.specs.Effects.{Meaning, carried_out, concluded}
+use Rattle.arm_core.specs.Footprints.{accessed_bytes, first_without, span}
+use Rattle.arm_core.specs.Registers.{RegisterState}
+use Rattle.arm_ops.specs.Meanings.{IsInRam, RefusesNoneInRam, is_ram}
+use Rattle.cp15_tcm.specs.Registers.{Cp15State}
+use Rattle.cp15_tcm.specs.TightlyCoupled.{tcm_of}
+use Rattle.cp15_tcm.specs.declared.answers.Tcm.{Tcm}
+use Rattle.cp15_tcm.specs.declared.answers.Tcm.TheVariants as tcm
+use Rattle.ds_places.specs.AddressTables.{Cells, Empty, place_at, place_of, shared_for_nine, shared_for_seven}
+use Rattle.ds_places.specs.declared.kinds.Place.{Place}
+use Rattle.ds_places.specs.declared.kinds.Place.TheVariants.{Cell, Banks, Port, Rom, Nothing}
+use Rattle.ds_places.proofs.Regions.{lies_or_not}
+use Rattle.ds_map.specs.Accesses.{is_byte_of_nine, unsupported_at, map_read, map_refusal, map_written, written_at, refusal_at, takes_no_bytes}
+use Rattle.ds_map.specs.Builds.{map_is_built, nine_is_built}
+use Rattle.ds_map.specs.Maps.{MapState, cells_of, with_cells}
+use Rattle.ds_map.proofs.Built.{apart_built, apart_nine}
+use Rattle.ds_map.specs.Views.{NineReach, SevenReach, nine_memory, seven_memory, tcm_read, tcm_refusal, tcm_written}
+use Rattle.ds_machine.specs.Sides.{nine_side, seven_side, unbuilt}
+
+-- RAM, 2000000h to 3FFFFFFh, are cells for both processors, or nothing is there: they are built, and no access of them changes a unit.
+
+-- ---- what stands there
+
+-- cells of a memory, or nothing
+abbrev is_cells : Place → Bool
+is_cells (Cell memory at) = true
+is_cells (Banks space at) = false
+is_cells (Port at) = false
+is_cells (Rom at) = false
+is_cells Nothing = true
+
+-- shared work RAM, whatever WRAMCNT says
+shared_nine : (w offset : ℕ) → is_cells (place_at (shared_for_nine w) offset) ≡ true
+shared_nine w offset = by_tests (w == 0) (w == 1) (w == 2) where
+  by_tests : (a b c : Bool) → is_cells (place_at (
+      if a then Cells Shared 0 (memory_size Shared) else (if b then Cells Shared 0x4000 0x4000 else (if c then Cells Shared 0 0x4000 else Empty))) offset) ≡ true
+  by_tests true b c = refl
+  by_tests false true c = refl
+  by_tests false false true = refl
+  by_tests false false false = refl
+
+shared_seven : (w offset : ℕ) → is_cells (place_at (shared_for_seven w) offset) ≡ true
+shared_seven w offset = by_tests (w == 0) (w == 1) (w == 2) where
+  by_tests : (a b c : Bool) → is_cells (place_at (
+      if a then Cells Own7 0 (memory_size Own7) else (
+      if b then Cells Shared 0 0x4000 else (if c then Cells Shared 0x4000 0x4000 else Cells Shared 0 (memory_size Shared)))) offset) ≡ true
+  by_tests true b c = refl
+  by_tests false true c = refl
+  by_tests false false true = refl
+  by_tests false false false = refl
+
+below_or_not : (at bound : ℕ) → (at < bound) ⊎ (bound ≤ at)
+below_or_not at bound = grind arith
+
+ram_cells : (proc : Proc) (w at : ℕ) → 0x02000000 ≤ at → at < 0x04000000 → is_cells (place_of proc w at) ≡ true
+ram_cells Nine w at low high = elim (lies_or_not 0x02000000 0x02FFFFFF at) [
+  | inl in_main ↦ rw in_main.2 refl
+  | inr past_main ↦ rw past_main.1 (elim (lies_or_not 0x03000000 0x03FFFFFF at) [
+    | inl in_shared ↦ rw in_shared.2 (shared_nine w (at - 0x03000000))
+    | inr past ↦ elim (below_or_not at 0x03000000) [
+      | inl below ↦ absurd (past_main.0 (low, omega (arith, below)))
+      | inr above ↦ absurd (past.0 (above, omega (arith, high)))
+    ]
+  ])
+]
+ram_cells Seven w at low high = elim (lies_or_not 0x00000000 0x00003FFF at) [
+  | inl in_rom ↦ absurd (omega (arith, low, in_rom))
+  | inr past_rom ↦ rw past_rom.1 (elim (lies_or_not 0x02000000 0x02FFFFFF at) [
+    | inl in_main ↦ rw in_main.2 refl
+    | inr past_main ↦ rw past_main.1 (elim (lies_or_not 0x03000000 0x037FFFFF at) [
+      | inl in_shared ↦ rw in_shared.2 (shared_seven w (at - 0x03000000))
+      | inr past_shared ↦ rw past_shared.1 (elim (lies_or_not 0x03800000 0x03FFFFFF at) [
+        | inl in_own ↦ rw in_own.2 refl
+        | inr past ↦ elim (below_or_not at 0x03000000) [
+          | inl below ↦ absurd (past_main.0 (low, omega (arith, below)))
+          | inr above ↦ elim (below_or_not at 0x03800000) [
+            | inl below ↦ absurd (past_shared.0 (above, omega (arith, below)))
+            | inr higher ↦ absurd (past.0 (higher, omega (arith, high)))
+          ]
+        ]
+      ])
+    ])
+  ])
+]
+
+-- ---- they are built
+
+-- a span of them has no byte that isn't built
+abbrev RamIsBuilt : (ℕ → Bool) → Type 0
+RamIsBuilt p = (first length : ℕ) → 0x02000000 ≤ first → first + length ≤ 0x04000000 → first_without p (span first length) ≡ None
+
+pub ram_span_nine : (cp : Cp15State) (w first length : ℕ) → 0x02000000 ≤ first → first + length ≤ 0x04000000 → first_without (nine_is_built cp w) (span first length) ≡ None
+ram_span_nine cp w first length low high = apart_nine cp w first length (inl high)
+
+pub ram_span_seven : (w first length : ℕ) → 0x02000000 ≤ first → first + length ≤ 0x04000000 → first_without (map_is_built Seven w) (span first length) ≡ None
+ram_span_seven w first length low high = apart_built Seven w first length (inl high)
+
+-- an address of them, and one that is aligned down
+ram_bounds : (at : ℕ) → is_ram at ≡ true → (0x02000000 ≤ at) × (at < 0x04000000)
+ram_bounds at h = grind arith
+
+ram_aligned : (at : ℕ) (width : Width) → is_ram at ≡ true → (0x02000000 ≤ aligned_down width at) × (aligned_down width at + width_bytes width ≤ 0x04000000)
+ram_aligned at Byte h = let b = ram_bounds at h in (omega (arith, b), omega (arith, b))
+ram_aligned at Half h = let b = ram_bounds at h in (omega (arith, b), omega (arith, b))
+ram_aligned at Word h = let b = ram_bounds at h in (omega (arith, b), omega (arith, b))
+
+aligned_built : (p : ℕ → Bool) → RamIsBuilt p → (at : ℕ) (width : Width) → is_ram at ≡ true
+    → first_without p (span (aligned_down width at) (width_bytes width) ++ []) ≡ None
+aligned_built p is at width h =
+    let b = ram_aligned at width h in
+    rw (append-nil (span (aligned_down width at) (width_bytes width))) (is (aligned_down width at) (width_bytes width) b.0 b.1)
+
+-- accesses of RAM need nothing that isn't built
+ram_needs : (p : ℕ → Bool) → RamIsBuilt p → (accesses : List Access) → IsInRam accesses → first_without p (accessed_bytes accesses) ≡ None
+ram_needs p is [] ram = refl
+ram_needs p is (Fetch at width ∷ []) ram = aligned_built p is at width ram
+ram_needs p is (Read at width ∷ []) ram = aligned_built p is at width ram
+ram_needs p is (Write at width value ∷ []) ram = aligned_built p is at width ram
+ram_needs p is (access ∷ other ∷ rest) ram = absurd ram
+
+pub nine_needs_none : (r : NineReach) (accesses : List Access) → IsInRam accesses → unbuilt nine_side r accesses ≡ None
+nine_needs_none r accesses ram =
+    ram_needs (nine_is_built r.cp15 r.map.io.wramcnt) (ram_span_nine r.cp15 r.map.io.wramcnt) accesses ram
+
+pub seven_needs_none : (r : SevenReach) (accesses : List Access) → IsInRam accesses → unbuilt seven_side r accesses ≡ None
+seven_needs_none r accesses ram = ram_needs (map_is_built Seven r.map.io.wramcnt) (ram_span_seven r.map.io.wramcnt) accesses ram
+
+-- ---- no access of them changes a unit
+
+put_cells : (memory : Memory) (m : MapState) (bytes : List ℕ) → (with_cells memory m bytes).io ≡ m.io
+put_cells Main m bytes = refl
+put_cells Shared m bytes = refl
+put_cells Own7 m bytes = refl
+put_cells Itcm m bytes = refl
+put_cells Dtcm m bytes = refl
+put_cells Palette m bytes = refl
+put_cells Vram m bytes = refl
+put_cells Oam m bytes = refl
+
+put_io : (proc : Proc) (now : Tick) (place : Place) (m : MapState) (width : Width) (value : ℕ) → is_cells place ≡ true → (written_at proc now place m width value).io ≡ m.io
+put_io proc now (Cell memory at) m width value h = by_byte (is_byte_of_nine proc width && takes_no_bytes memory) where
+  by_byte : (b : Bool) → (if b then m else with_cells memory m (with_number width (cells_of m memory) (aligned_down width at) value)).io ≡ m.io
+  by_byte true = refl
+  by_byte false = put_cells memory m (with_number width (cells_of m memory) (aligned_down width at) value)
+put_io proc now (Banks space at) m width value h = absurd (true≢false (sym h))
+put_io proc now (Port at) m width value h = absurd (true≢false (sym h))
+put_io proc now (Rom at) m width value h = refl
+put_io proc now Nothing m width value h = refl
+
+unchanged_io : (proc : Proc) (place : Place) (m : MapState) (width : Width) → is_cells place ≡ true → (unsupported_at proc place m width).io ≡ m.io
+unchanged_io proc (Cell memory at) m width h = refl
+unchanged_io proc (Banks space at) m width h = refl
+unchanged_io proc (Port at) m width h = absurd (true≢false (sym h))
+unchanged_io proc (Rom at) m width h = refl
+unchanged_io proc Nothing m width h = refl
+
+read_io : (proc : Proc) (m : MapState) (at : ℕ) (width : Width) → is_ram at ≡ true → (map_read proc m at width).io ≡ m.io
+unfolding map_read
+read_io proc m at width ram =
+    let b = ram_bounds at ram in
+    unchanged_io proc (place_of proc m.io.wramcnt at) m width (ram_cells proc m.io.wramcnt at b.0 b.1)
+
+write_io : (proc : Proc) (now : Tick) (m : MapState) (at : ℕ) (width : Width) (value : ℕ) → is_ram at ≡ true → (map_written proc now m at width value).io ≡ m.io
+unfolding map_written
+write_io proc now m at width value ram =
+    let b = ram_bounds at ram in
+    put_io proc now (place_of proc m.io.wramcnt at) m width value (ram_cells proc m.io.wramcnt at b.0 b.1)
+
+-- also where a tightly coupled memory answers
+tcm_reads : (t : Tcm) (r : NineReach) (at : ℕ) (width : Width) → is_ram at ≡ true → (tcm_read t r at width).map.io ≡ r.map.io
+tcm_reads (tcm.Itcm place) r at width ram = refl
+tcm_reads (tcm.Dtcm place) r at width ram = refl
+tcm_reads tcm.Past r at width ram = read_io Nine r.map at width ram
+
+tcm_writes : (t : Tcm) (r : NineReach) (at : ℕ) (width : Width) (value : ℕ) → is_ram at ≡ true → (tcm_written t r at width value).map.io ≡ r.map.io
+tcm_writes (tcm.Itcm place) r at width value ram = refl
+tcm_writes (tcm.Dtcm place) r at width value ram = refl
+tcm_writes tcm.Past r at width value ram = write_io Nine r.now r.map at width value ram
+
+-- a write leaves what it leaves, refused or not
+write_unchanged : {S : Type 0} (stop : Option Stop) (left : S) → (refused_or stop left (record { values = []; state = left; stop = None })).state ≡ left
+write_unchanged None left = refl
+write_unchanged (Some stop) left = refl
+
+nine_io : (r : NineReach) (accesses : List Access) → IsInRam accesses → (perform nine_memory r accesses).state.map.io ≡ r.map.io
+nine_io r [] ram = refl
+nine_io r (Fetch at width ∷ []) ram = refl
+nine_io r (Read at width ∷ []) ram = tcm_reads (tcm_of r.cp15 at false false) r at width ram
+nine_io r (Write at width value ∷ []) ram =
+    let left : NineReach = nine_memory.write_next r at width value in
+    rw (write_unchanged (nine_memory.refusal r at width value) left) (tcm_writes (tcm_of r.cp15 at true false) r at width value ram)
+nine_io r (access ∷ other ∷ rest) ram = absurd ram
+
+seven_io : (r : SevenReach) (accesses : List Access) → IsInRam accesses → (perform seven_memory r accesses).state.map.io ≡ r.map.io
+seven_io r [] ram = refl
+seven_io r (Fetch at width ∷ []) ram = refl
+seven_io r (Read at width ∷ []) ram = read_io Seven r.map at width ram
+seven_io r (Write at width value ∷ []) ram =
+    let left : SevenReach = seven_memory.write_next r at width value in
+    rw (write_unchanged (seven_memory.refusal r at width value) left) (write_io Seven r.now r.map at width value ram)
+seven_io r (access ∷ other ∷ rest) ram = absurd ram
+
+-- so none does that an operation makes
+state_left : {S : Type 0} (arch : Arch) (old : RegisterState) (m : Meaning) (done : Performed S) (stop : Option Stop) → (concluded arch old m done stop).state ≡ done.state
+state_left arch old m done None = refl
+state_left arch old m done (Some stop) = refl
+
+-- where it is run, by its cost, and where it isn't
+pub nine_stays : (cost : ℕ) (s : RegisterState) (r after : NineReach) (m : Meaning) → (cost ≡ 0 → after ≡ r)
+    → (0 < cost → after ≡ (carried_out nine_memory V5 s r m).state) → (0 < cost → IsInRam m.accesses) → after.map.io ≡ r.map.io
+nine_stays zero s r after m none some ram = ap (λ (x : NineReach). x.map.io) (none refl)
+nine_stays (suc cost) s r after m none some ram =
+    let done : Performed NineReach = perform nine_memory r m.accesses in
+    ap (λ (x : NineReach). x.map.io) (some (omega arith) ∙ state_left V5 s m done done.stop) ∙ nine_io r m.accesses (ram (omega arith))
+
+pub seven_stays : (cost : ℕ) (s : RegisterState) (r after : SevenReach) (m : Meaning) → (cost ≡ 0 → after ≡ r)
+    → (0 < cost → after ≡ (carried_out seven_memory V4 s r m).state) → (0 < cost → IsInRam m.accesses) → after.map.io ≡ r.map.io
+seven_stays zero s r after m none some ram = ap (λ (x : SevenReach). x.map.io) (none refl)
+seven_stays (suc cost) s r after m none some ram =
+    let done : Performed SevenReach = perform seven_memory r m.accesses in
+    ap (λ (x : SevenReach). x.map.io) (some (omega arith) ∙ state_left V4 s m done done.stop) ∙ seven_io r m.accesses (ram (omega arith))
+
+-- ---- no access of them is refused
+
+cells_refuse_none : (proc : Proc) (place : Place) (m : MapState) (width : Width) (value : ℕ) → is_cells place ≡ true → refusal_at proc place m width value ≡ None
+cells_refuse_none proc (Cell memory at) m width value h = refl
+cells_refuse_none proc (Banks space at) m width value h = refl
+cells_refuse_none proc (Port at) m width value h = absurd (true≢false (sym h))
+cells_refuse_none proc (Rom at) m width value h = refl
+cells_refuse_none proc Nothing m width value h = refl
+
+refuses_none : (proc : Proc) (m : MapState) (at : ℕ) (width : Width) (value : ℕ) → is_ram at ≡ true → map_refusal proc m at width value ≡ None
+unfolding map_refusal
+refuses_none proc m at width value ram =
+    let b = ram_bounds at ram in
+    cells_refuse_none proc (place_of proc m.io.wramcnt at) m width value (ram_cells proc m.io.wramcnt at b.0 b.1)
+
+tcm_refuses_none : (t : Tcm) (r : NineReach) (at : ℕ) (width : Width) (value : ℕ) → is_ram at ≡ true → tcm_refusal t r at width value ≡ None
+tcm_refuses_none (tcm.Itcm place) r at width value ram = refl
+tcm_refuses_none (tcm.Dtcm place) r at width value ram = refl
+tcm_refuses_none tcm.Past r at width value ram = refuses_none Nine r.map at width value ram
+
+pub nine_refuses_none : RefusesNoneInRam nine_memory
+nine_refuses_none r at width value ram = tcm_refuses_none (tcm_of r.cp15 at true false) r at width value ram
+
+pub seven_refuses_none : RefusesNoneInRam seven_memory
+seven_refuses_none r at width value ram = refuses_none Seven r.map at width value ram

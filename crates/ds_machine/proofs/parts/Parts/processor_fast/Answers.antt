@@ -1,0 +1,33 @@
+use Rattle.std.proofs.Common.{◌<◌, arith, sym}
+use Rattle.ds_machine.proofs.FastSteps.{cost_keeps, free_stays, made_fast, reach_keeps}
+use Rattle.ds_machine.proofs.ProcessorSteps.{reached_early, reached_few}
+use Rattle.ds_machine.proofs.parts.Parts.processor_fast.Goals as goal
+
+pub go_on-requires-clause-early : goal.go_on-requires-clause-early
+go_on-requires-clause-early c =
+    let some : 0 < c.take_fast-clocks.result = (let more = c.if-clocks-eq0.false in omega (arith, more)) in
+    reached_early c.args.proc c.args.tick c.args.self.now c.take_fast-clocks.new.self (c.take_fast-clocks.ensures.machine some) c.requires.tick c.requires.early
+
+pub go_on-requires-clause-counted : goal.go_on-requires-clause-counted
+go_on-requires-clause-counted c =
+    let some : 0 < c.take_fast-clocks.result = (let more = c.if-clocks-eq0.false in omega (arith, more)) in
+    reached_few c.args.proc c.args.tick c.args.self.now c.take_fast-clocks.new.self (c.take_fast-clocks.ensures.machine some) c.requires.counted
+
+pub returns-clause-made : goal.returns-clause-made
+returns-clause-made c = λ rank taken.
+    (let s = c.args.self.now in
+    let m = c.take_fast-clocks.new.self in
+    let some : 0 < c.take_fast-clocks.result = (let more = c.if-clocks-eq0.false in omega (arith, more)) in
+    let machine = c.take_fast-clocks.ensures.machine some in
+    let io = c.take_fast-clocks.ensures.io in
+    let is = reach_keeps c.args.next_event s m c.args.proc c.args.tick c.requires.next_event machine io in
+    let before = c.requires.before in
+    made_fast c.args.next_event s m c.go_on.new.self rank c.args.proc c.args.tick c.take_fast-clocks.result is (omega (arith, before))
+    (free_stays c.args.proc s m io c.requires.blocked) c.requires.tick machine (sym (c.take_fast-clocks.ensures.stepped some)) c.go_on.ensures)
+
+pub returns-clause-next_event : goal.returns-clause-next_event
+returns-clause-next_event c =
+    let m = c.take_fast-clocks.new.self in
+    let some : 0 < c.take_fast-clocks.result = (let more = c.if-clocks-eq0.false in omega (arith, more)) in
+    let is = reach_keeps c.args.next_event c.args.self.now m c.args.proc c.args.tick c.requires.next_event (c.take_fast-clocks.ensures.machine some) c.take_fast-clocks.ensures.io in
+    cost_keeps c.args.next_event m c.go_on.new.self c.args.proc _ is c.go_on.ensures

@@ -1,0 +1,114 @@
+//! What is kept between steps of the fast path, and those steps.
+
+ghost use Rattle.std.specs.Prelude.{◌≡◌, ◌<◌, ◌≤◌, ◌^◌, ℕ, Some, false, true};
+ghost use Rattle.ds_runs.specs.Runs.{IsOver};
+ghost use Rattle.ds_machine.specs.NextEvents.{events_of, least_of, due_at_least, AreAsleep, IsNextEvent};
+ghost use Rattle.ds_machine.specs.Reference.{awake, step_by, stepped_of, FastStep, HasCounted};
+ghost use Rattle.ds_machine.specs.Steps.{is_blocked, line_of, processor_of, tick_of};
+ghost use Rattle.ds_machine.specs.declared.answers.Done.TheVariants.{Made};
+
+use crate::parts::Parts;
+use ds_base::{Proc, Tick};
+use ds_runs::Actor;
+
+/// What the units behind the ports, the key script and the display tell: it stands still while a processor's steps change none of them.
+#[derive(Clone, Copy)]
+pub struct NextEvent {
+    /// No actor but the processors is due before this tick; 0 where a halted processor is to wake.
+    pub until: Tick,
+    /// ARM9 is due at this tick at the earliest: 0, or past all ticks of a run while it is blocked.
+    pub nine_least: u64,
+    /// So is ARM7.
+    pub seven_least: u64,
+    /// Whether ARM9's interrupt line is up.
+    pub nine_line: bool,
+    /// Whether ARM7's interrupt line is up.
+    pub seven_line: bool,
+}
+
+/// When a processor is due, in ticks; past all ticks of a run while it is blocked.
+#[inline(always)]
+fn due_at_least(least: u64, due: u64) -> u64
+    ensures { result ≡ due_at_least least due }
+{
+    due.max(least)
+}
+
+impl Parts {
+    /// A tick before which no actor but the processors is due; 0 where a halted processor is to wake.
+    fn next_event_tick(&self) -> Tick
+        ensures events { IsOver (events_of self.now) result.0 }
+        ensures asleep { 0 < result.0 → AreAsleep self.now }
+    {
+        if self.wakes(Proc::Nine) || self.wakes(Proc::Seven) {
+            return Tick(0);
+        }
+        self.first_event().tick
+    }
+
+    /// The earliest tick at which a processor may be due: 0, or past all ticks of a run while it is blocked.
+    fn least_of(&self, proc: Proc) -> u64
+        ensures { result ≡ least_of (is_blocked self.now proc) }
+    {
+        if self.is_blocked(proc) { u64::MAX } else { 0 }
+    }
+
+    /// What is to be kept of them.
+    #[inline(never)]
+    pub fn next_event(&self) -> NextEvent
+        ensures { IsNextEvent result self.now }
+    {
+        NextEvent {
+            until: self.next_event_tick(),
+            nine_least: self.least_of(Proc::Nine),
+            seven_least: self.least_of(Proc::Seven),
+            nine_line: self.line(Proc::Nine),
+            seven_line: self.line(Proc::Seven),
+        }
+    }
+
+    /// One step, where it is one of the fast path: a processor is due before every other actor and before a tick. The answer is whether it was
+    /// taken; where it wasn't nothing is changed.
+    #[inline(always)]
+    pub fn step_fast(&mut self, next_event: NextEvent, until: Tick) -> bool
+        requires next_event { IsNextEvent next_event self.old }
+        requires early { until.0 ≤ 2 ^ 56 }
+        requires counted { HasCounted self.old }
+        ensures step { FastStep until.0 self.old result self.new }
+        ensures next_event { IsNextEvent next_event self.new }
+    {
+        let nine = due_at_least(next_event.nine_least, self.nine.processor.due);
+        let seven = due_at_least(next_event.seven_least, self.seven.processor.due);
+        let end = next_event.until.0.min(until.0);
+        if nine <= seven {
+            if nine < end {
+                return self.processor_fast(next_event, Proc::Nine, next_event.nine_line, Tick(nine));
+            }
+        } else if seven < end {
+            return self.processor_fast(next_event, Proc::Seven, next_event.seven_line, Tick(seven));
+        }
+        false
+    }
+
+    /// A processor's step at its tick, where it is one of the fast path. It costs, and changes no unit: so no processor wakes, and what is kept stays.
+    #[inline(always)]
+    fn processor_fast(&mut self, next_event: NextEvent, proc: Proc, line: bool, tick: Tick) -> bool
+        requires next_event { IsNextEvent next_event self.old }
+        requires before { tick.0 < next_event.until.0 }
+        requires line { line ≡ line_of self.old proc }
+        requires blocked { is_blocked self.old proc ≡ false }
+        requires tick { tick ≡ tick_of (processor_of self.old proc) }
+        requires early { tick.0 ≤ 2 ^ 56 }
+        requires counted { (processor_of self.old proc).steps ≤ 2 ^ 61 }
+        ensures none { result ≡ false → self.new ≡ self.old }
+        ensures made { (rank : ℕ) → result ≡ true → awake (Some tick) (step_by rank (Actor.Processor proc) self.old) ≡ stepped_of self.old Made self.new }
+        ensures next_event { IsNextEvent next_event self.new }
+    {
+        let clocks = self.take_fast(proc, tick, line);
+        if clocks == 0 {
+            return false;
+        }
+        self.go_on(proc, clocks, false);
+        true
+    }
+}

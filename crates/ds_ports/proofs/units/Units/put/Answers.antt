@@ -1,5 +1,0 @@
-use Rattle.ds_ports.proofs.Later.{put_goes}
-use Rattle.ds_ports.proofs.units.Units.put.Goals as goal
-
-pub returns-clause-schedule : goal.returns-clause-schedule
-returns-clause-schedule c = put_goes c.args.proc c.args.now c.args.self.now c.put_any.new.self c.args.at c.args.width c.args.value c.put_any.ensures.next

@@ -1,0 +1,93 @@
+use Rattle.std.specs.Prelude.{ℕ, List, [], ◌∷◌, Bool}
+use Rattle.ds_base.specs.declared.processors.Proc.{Proc}
+use Rattle.ds_base.specs.declared.processors.Proc.TheVariants.{Nine, Seven}
+use Rattle.ds_base.specs.declared.processors.Raised.{Raised}
+use Rattle.ds_base.specs.declared.ticks.Tick.{Tick}
+use Rattle.ds_dma.specs.declared.controls.Cause.{Cause}
+use Rattle.ds_ipc.specs.Ipcs.{IpcState, ipc_at_boot}
+use Rattle.ds_math.specs.Dividers.{DividerState, divider_at_boot, division_finished}
+use Rattle.ds_math.specs.Roots.{RootState, root_at_boot, root_finished}
+use Rattle.ds_timers.specs.Timing.{overflow_of}
+use Rattle.ds_ports.specs.ProcessorIo.{BeforeMove, ProcessorIoState, processor_io_at_boot, processor_io_moved, processor_io_put_back, processor_io_raised, processor_io_triggered, keys_told}
+use Rattle.vram_banks.specs.Cells.{Banks, blank_banks}
+
+-- What stands behind the ports.
+
+-- video memory with its controls; WRAMCNT, which shares out the shared work RAM (GBATEK, "DS Memory Control"); what passes between the
+-- processors; the keys that are pressed; the four words of DMA0FILL to DMA3FILL; ROMCTRL, which both processors share; the divider and the
+-- square root unit; and what each processor has of its own
+pub record IoState : Type 0 where
+  pub vram : Banks
+  pub wramcnt : ℕ
+  pub ipc : IpcState
+  pub pressed : ℕ
+  pub fill : List ℕ
+  pub romctrl : ℕ
+  pub divider : DividerState
+  pub root : RootState
+  pub nine : ProcessorIoState
+  pub seven : ProcessorIoState
+
+-- what WRAMCNT keeps at boot: ARM7 has all of the shared work RAM (our choice)
+abbrev pub wramcnt_at_boot : ℕ
+wramcnt_at_boot = 3
+
+abbrev pub io_at_boot : IoState
+io_at_boot = record {
+  vram = blank_banks;
+  wramcnt = wramcnt_at_boot;
+  ipc = ipc_at_boot;
+  pressed = 0;
+  fill = 0 ∷ 0 ∷ 0 ∷ 0 ∷ [];
+  romctrl = 0;
+  divider = divider_at_boot;
+  root = root_at_boot;
+  nine = processor_io_at_boot Nine;
+  seven = processor_io_at_boot Seven;
+}
+
+abbrev pub io_of : IoState → Proc → ProcessorIoState
+io_of u Nine = u.nine
+io_of u Seven = u.seven
+
+abbrev pub with_io_of : Proc → IoState → ProcessorIoState → IoState
+with_io_of Nine u processor_io = record u { nine = processor_io }
+with_io_of Seven u processor_io = record u { seven = processor_io }
+
+-- bits of IF are raised at both processors
+abbrev pub both_raised : IoState → Raised → IoState
+both_raised u raised = record u { nine = processor_io_raised u.nine raised.nine; seven = processor_io_raised u.seven raised.seven }
+
+-- other keys are pressed
+abbrev pub keys_pressed : IoState → ℕ → IoState
+keys_pressed u pressed = record u { pressed = pressed; nine = keys_told u.nine pressed; seven = keys_told u.seven pressed }
+
+-- a timer overflows, and its interrupts are raised
+abbrev pub timer_overflows : Proc → ℕ → IoState → IoState
+timer_overflows proc which u =
+    let processor_io = io_of u proc in
+    let o = overflow_of processor_io.timers which in
+    with_io_of proc u (processor_io_raised (record processor_io { timers = o.timers }) o.bits)
+
+-- a processor is halted, or goes on
+abbrev pub with_halted : Proc → IoState → Bool → IoState
+with_halted proc u halted = with_io_of proc u (record (io_of u proc) { halted = halted })
+
+-- a division, or a square root, is done
+abbrev pub division_done : IoState → IoState
+division_done u = record u { divider = division_finished u.divider }
+
+abbrev pub root_done : IoState → IoState
+root_done u = record u { root = root_finished u.root }
+
+-- an event triggers the DMA channels of both processors that wait for it
+abbrev pub channels_triggered : Cause → Tick → IoState → IoState
+channels_triggered cause now u = record u { nine = processor_io_triggered u.nine cause now; seven = processor_io_triggered u.seven cause now }
+
+-- the DMA channel of a processor that is due moves its first unit, but for the access itself
+abbrev pub channel_moved : Proc → Tick → IoState → IoState
+channel_moved proc now u = with_io_of proc u (processor_io_moved (io_of u proc) now)
+
+-- and the move is taken back
+abbrev pub channel_put_back : Proc → BeforeMove → IoState → IoState
+channel_put_back proc before u = with_io_of proc u (processor_io_put_back before (io_of u proc))

@@ -7,7 +7,7 @@ ghost use Rattle.arm_core.specs.Costs.{clocks, jump_clocks, HasClocks};
 use ds_base::Arch;
 
 /// The class of an instruction's cost. (Our choice; the costs stand in `specs/Costs.antt`.)
-#[derive(Clone, Copy, PartialEq, Eq, Debug)]
+#[derive(Clone, Copy, PartialEq, Eq)]
 pub enum Class {
     /// Data processing, the status registers, CLZ, the saturating sums, PLD and the first half of Thumb's BL.
     Processing,

@@ -8,7 +8,7 @@ use crate::banks::Bank;
 use crate::registers::Registers;
 
 /// An exception that an instruction or the interrupt line makes (ARM manual, A2.6 "Exceptions").
-#[derive(Clone, Copy, PartialEq, Eq, Debug)]
+#[derive(Clone, Copy, PartialEq, Eq)]
 pub enum Exception {
     /// An undefined instruction.
     UndefinedInstruction,

@@ -3,7 +3,7 @@
 use ds_base::Stop;
 
 /// What a processor's step came to.
-#[derive(Clone, Copy, PartialEq, Eq, Debug)]
+#[derive(Clone, Copy, PartialEq, Eq)]
 pub enum Stepped {
     /// It was taken, and cost so many of the processor's own clocks.
     Cost(u32),

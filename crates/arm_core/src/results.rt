@@ -7,7 +7,7 @@ use crate::shifter::Shifted32;
 use arm_words::{CompareOp, DataOp, MoveOp};
 
 /// A result of data processing, with the C and V that go with it (ARM manual, A3.4 "Data-processing instructions").
-#[derive(Clone, Copy, PartialEq, Eq, Debug)]
+#[derive(Clone, Copy, PartialEq, Eq)]
 pub struct Computed {
     /// The result.
     pub value: u32,

@@ -4,7 +4,7 @@ ghost use Rattle.std.specs.Prelude.{◌≡◌};
 ghost use Rattle.arm_core.specs.Saturating.{exact, saturating_result, signed_sat};
 
 /// A word that a number was held to, and whether the number was none.
-#[derive(Clone, Copy, PartialEq, Eq, Debug)]
+#[derive(Clone, Copy, PartialEq, Eq)]
 pub struct Saturated {
     /// The word.
     pub value: u32,

@@ -8,7 +8,7 @@ use crate::registers::Registers;
 use arm_words::{Operand, Shift};
 
 /// The operand of data processing, and the C that goes with it (ARM manual, A5.1 "Addressing Mode 1 - Data-processing operands").
-#[derive(Clone, Copy, PartialEq, Eq, Debug)]
+#[derive(Clone, Copy, PartialEq, Eq)]
 pub struct Shifted32 {
     /// The manual's shifter_operand.
     pub value: u32,

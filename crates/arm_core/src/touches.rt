@@ -22,7 +22,7 @@ use arm_words::{HalfOp, Instr};
 use ds_base::{Arch, Width};
 
 /// The addresses of the bytes that an instruction reads or writes as data.
-#[derive(Clone, Copy, PartialEq, Eq, Debug)]
+#[derive(Clone, Copy, PartialEq, Eq)]
 pub enum Touch {
     /// None.
     Nothing,

@@ -17,7 +17,7 @@ use crate::numbers::{
 use crate::parts::Condition;
 
 /// What an instruction is spelled as.
-#[derive(Clone, Copy, PartialEq, Eq, Debug)]
+#[derive(Clone, Copy, PartialEq, Eq)]
 pub enum Spelling {
     /// An ARM word.
     Word(u32),

@@ -3,7 +3,7 @@
 use ds_base::LeftOut;
 
 /// What an actor's step came to.
-#[derive(Clone, Copy, PartialEq, Eq, Debug)]
+#[derive(Clone, Copy, PartialEq, Eq)]
 pub enum Done {
     /// It was taken.
     Made,
@@ -17,7 +17,7 @@ pub enum Done {
 }
 
 /// What a processor does next.
-#[derive(Clone, Copy, PartialEq, Eq, Debug)]
+#[derive(Clone, Copy, PartialEq, Eq)]
 pub enum Seen {
     /// It enters an interrupt at this r15.
     Irq(u32),

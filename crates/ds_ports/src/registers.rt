@@ -7,7 +7,7 @@ ghost use Rattle.ds_ports.specs.RegisterMap.{slot_of, IsSlot, display_rows, effe
 use ds_base::Proc;
 
 /// A register, by GBATEK's name ("DS I/O Maps"). Those of one name are told apart by a `Slot`'s number.
-#[derive(Clone, Copy, PartialEq, Eq, Debug)]
+#[derive(Clone, Copy, PartialEq, Eq)]
 pub enum Register {
     /// One that isn't built yet.
     Later,
@@ -76,7 +76,7 @@ pub enum Register {
 }
 
 /// A byte of a register.
-#[derive(Clone, Copy, PartialEq, Eq, Debug)]
+#[derive(Clone, Copy, PartialEq, Eq)]
 pub struct Slot {
     /// The register.
     pub register: Register,

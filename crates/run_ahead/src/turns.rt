@@ -3,7 +3,7 @@
 use ds_base::LeftOut;
 
 /// What a turn did.
-#[derive(Clone, Copy, PartialEq, Eq, Debug)]
+#[derive(Clone, Copy, PartialEq, Eq)]
 pub enum Turned {
     /// It took a step.
     Ran,

@@ -2,13 +2,13 @@
 
 mod branches;
 mod buses;
+mod cache;
 mod conditions;
 mod data;
 mod exceptions;
 mod footprints;
 mod lines;
 mod lists;
-mod cache;
 mod multiplies;
 mod operations;
 mod statuses;

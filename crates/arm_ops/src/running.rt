@@ -479,7 +479,13 @@ fn run_op<B: Bus>(arch: Arch, base: u32, s: &mut Registers, bus: &mut B, op: &Op
 /// Runs an operation over a bus that refuses no write of RAM, with the base of the vectors, where it is one that is run here: another instruction isn't, nor an
 /// access that isn't of RAM. The result is its cost in the processor's own clocks; 0 where it isn't run, and then nothing is changed.
 #[inline(always)]
-pub fn run<B: Bus>(arch: Arch, base: u32, s: &mut Registers, bus: &mut B, operation: &Operation) -> u32
+pub fn run<B: Bus>(
+    arch: Arch,
+    base: u32,
+    s: &mut Registers,
+    bus: &mut B,
+    operation: &Operation,
+) -> u32
     requires operation { HasOperation operation.now }
     requires ram { RefusesNoneInRam B.memory }
     ensures none { result ≡ 0 → (s.new ≡ s.old) × (B.state bus.new ≡ B.state bus.old) }

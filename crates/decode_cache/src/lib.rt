@@ -4,7 +4,7 @@
 //! look-up is exactly the instruction of its word.
 #![tactic(auto)]
 
-mod decoders;
 mod caches;
+mod decoders;
 
 pub use decoders::Decoder;

@@ -81,7 +81,10 @@ pub fn with_control(proc: Proc, which: u8, channel: Channel, control: u32, now: 
         return without_units(channel, control);
     }
     if controls::enabled(channel.cnt) {
-        return Channel { cnt: control, ..channel };
+        return Channel {
+            cnt: control,
+            ..channel
+        };
     }
     with_units(proc, which, channel, control, now)
 }

@@ -82,7 +82,12 @@ impl Parts {
         let end = next_event.until.0.min(until.0);
         if nine <= seven {
             if nine < end {
-                return self.processor_fast(next_event, Proc::Nine, next_event.nine_line, Tick(nine));
+                return self.processor_fast(
+                    next_event,
+                    Proc::Nine,
+                    next_event.nine_line,
+                    Tick(nine),
+                );
             }
         } else if seven < end {
             return self.processor_fast(next_event, Proc::Seven, next_event.seven_line, Tick(seven));

@@ -14,9 +14,9 @@ ghost use Rattle.ds_machine.specs.Sides.{needs, operation_accesses, taken, unbui
 use crate::sides::Side;
 use arm_core::{Core, Registers, Stepped, Touch, footprint};
 use arm_exec::{Fetched, enters, interrupt};
-use decode_cache::Decoder;
 use arm_ops::{Operation, is_other, touched};
 use arm_words::{decode_arm, decode_thumb};
+use decode_cache::Decoder;
 use ds_base::{Arch, LeftKind, Stop, Width};
 
 /// What isn't built yet, by its address.

@@ -15,9 +15,9 @@ ghost use Rattle.ds_ports.specs.ProcessorIo.{before_move, blocks_processor};
 ghost use Rattle.ds_ports.specs.Registers.{after_write, meaning_of};
 ghost use Rattle.ds_ports.specs.Io.{channel_moved, channel_put_back, channels_triggered, division_done, keys_pressed, io_of, root_done, timer_overflows, io_at_boot, with_halted};
 
-use crate::units::Units;
 use crate::processor_io::Before;
 use crate::registers::Register;
+use crate::units::Units;
 use ds_base::{Due, Proc, Space, Tick, Width};
 use ds_dma::{Cause, Unit};
 use ds_runs::Actor;

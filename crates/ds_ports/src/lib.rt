@@ -11,7 +11,7 @@ mod processor_io;
 mod registers;
 mod units;
 
-pub use processor_io::Before;
-pub use ports::{lies_in_built, part, port_is_built, register_laws};
-pub use registers::{Register, Slot, slot_of};
 pub use io::Io;
+pub use ports::{lies_in_built, part, port_is_built, register_laws};
+pub use processor_io::Before;
+pub use registers::{Register, Slot, slot_of};

@@ -11,8 +11,8 @@ ghost use Rattle.ds_ports.specs.Dues.{Goes, IsProcessorIo, IsQuiet};
 ghost use Rattle.ds_ports.specs.RegisterMap.{IsSlot, StandsWhole, slot_of};
 ghost use Rattle.ds_ports.specs.Io.{IoState, io_of};
 
-use crate::registers::{Register, Slot, slot_of};
 use crate::io::Io;
+use crate::registers::{Register, Slot, slot_of};
 use ds_base::{Proc, Stop, Tick, Width};
 
 /// How many bytes an access moves.
@@ -104,8 +104,7 @@ impl Io {
         part(
             width,
             slot.byte,
-            self.units()
-                .value_of(proc, now, slot.register, slot.number),
+            self.units().value_of(proc, now, slot.register, slot.number),
         )
     }
 

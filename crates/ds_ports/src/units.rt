@@ -486,7 +486,14 @@ impl Units {
     }
 
     /// A write of a register of a processor's own.
-    fn write_processor_io(&mut self, proc: Proc, now: Tick, register: Register, number: u32, value: u32)
+    fn write_processor_io(
+        &mut self,
+        proc: Proc,
+        now: Tick,
+        register: Register,
+        number: u32,
+        value: u32,
+    )
         requires number { number < (meaning_of register).count }
         requires early { IsEarly (Some now) }
         ensures { self.new ≡ with_io_of proc self.old (processor_io_after (meaning_of register).written proc now self.old.pressed (io_of self.old proc) number value) }

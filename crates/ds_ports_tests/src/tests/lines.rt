@@ -139,11 +139,7 @@ impl Bench {
     /// A read and what it gives.
     fn take(&mut self, proc: Proc, at: u32, width: Width) -> Seen {
         let now = Tick(self.now.into());
-        (
-            self.io.take(proc, now, at % 0x100_0000, width).into(),
-            0,
-            0,
-        )
+        (self.io.take(proc, now, at % 0x100_0000, width).into(), 0, 0)
     }
 
     /// A write, and why it is refused, if it is.
@@ -223,20 +219,10 @@ impl Bench {
                 (tick_of(timer_due(&self.io, proc, number)), (tick, 0, 0))
             }
             Line::ChannelDue(proc, channel, tick) => {
-                (
-                    tick_of(channel_due(&self.io, proc, channel)),
-                    (tick, 0, 0),
-                )
+                (tick_of(channel_due(&self.io, proc, channel)), (tick, 0, 0))
             }
-            Line::DivisionDue(tick) => {
-                (tick_of(self.io.io_due(Actor::Divider)), (tick, 0, 0))
-            }
-            Line::RootDue(tick) => {
-                (
-                    tick_of(self.io.io_due(Actor::SquareRoot)),
-                    (tick, 0, 0),
-                )
-            }
+            Line::DivisionDue(tick) => { (tick_of(self.io.io_due(Actor::Divider)), (tick, 0, 0)) }
+            Line::RootDue(tick) => { (tick_of(self.io.io_due(Actor::SquareRoot)), (tick, 0, 0)) }
             Line::First(tick, rank) => (self.first(), (tick, rank.into(), 0)),
             Line::NoneDue => (self.first(), NOTHING),
             Line::Overflows(proc, number) => (self.overflow(proc, number), DONE),
@@ -290,11 +276,7 @@ impl Bench {
                 (halted.into(), blocked.into(), 0),
             ),
             Line::Asks(proc, up, wakes) => (
-                (
-                    self.io.line(proc).into(),
-                    self.io.wakes(proc).into(),
-                    0,
-                ),
+                (self.io.line(proc).into(), self.io.wakes(proc).into(), 0),
                 (up.into(), wakes.into(), 0),
             ),
             Line::Vram(space, at, value) => (

@@ -1,9 +1,9 @@
 //! Words and halves that share their place in a cache, each as it is decoded.
 
-use decode_cache::Decoder;
 use arm_ops::{Op, Operation};
 use arm_words::Condition::{Al, Eq, Ne};
 use arm_words::{Condition, MoveOp};
+use decode_cache::Decoder;
 use std::alloc::AllocError;
 
 /// What a word or a half at an address is decoded as.

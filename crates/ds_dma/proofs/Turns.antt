@@ -1,6 +1,6 @@
 use Rattle.std.proofs.Common.{ℕ, ◌≡◌, ◌<◌, ◌≤◌, inl, inr, List, map, slice_set, refl, sym, ◌∙◌, subst, ap, arith, Bool, true, false, Option, Some, None}
 use Rattle.std.specs.Prelude.{◌==◌, if◌then◌else◌, is_some, IsSome}
-use Rattle.std.proofs.Math.Nat.{le-max_remaining, le-max_right}
+use Rattle.std.proofs.Math.Nat.{le-max_left, le-max_right}
 use Rattle.ds_base.specs.Schedules.{IsLater, Reschedules}
 use Rattle.ds_base.specs.declared.processors.Proc.{Proc}
 use Rattle.ds_base.specs.declared.ticks.Tick.{Tick}
@@ -17,7 +17,7 @@ use Rattle.ds_dma.proofs.Fours.{set_holds, at_mapped}
 -- a channel that is triggered at a tick is ready later
 triggered_later : (last : Option Tick) (now : Tick) → IsLater now (ready_by last (Some now))
 triggered_later None now = omega arith
-triggered_later (Some last) now = omega (arith, le-max_remaining now.0 last.0)
+triggered_later (Some last) now = omega (arith, le-max_left now.0 last.0)
 
 -- after a unit at a tick each channel is ready later
 pub later_after_unit : (now : Tick) (trigger : Option Tick) → IsLater now (ready_by (Some now) trigger)

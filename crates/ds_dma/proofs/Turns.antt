@@ -144,7 +144,7 @@ due_runs which last None h = never false h refl
 due_runs which last (Some trigger) h = refl
 
 -- the channel that is due is enabled, and has a unit left
-pub due_is_on : (s : DmaState) → IsDma s → IsSome (dma_due s) → is_enabled (due_channel s).control ≡ true
+pub due_is_on : (s : DmaState) → IsDma s → IsSome (dma_due s) → is_enabled (due_channel s).cnt ≡ true
 due_is_on s is due =
     let which = least_running s.channels in
     runs_on s.proc which (due_channel s) (is.each which (least_below s.channels)) (due_runs which s.last (due_channel s).trigger due)

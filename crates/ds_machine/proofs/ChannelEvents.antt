@@ -115,7 +115,7 @@ pub read_moves : (tick : Tick) (proc : Proc) (unit : DmaUnit) (s : MachineState)
 read_moves tick proc unit s =
     let left = read_unchanged proc unit s in
     moves_of tick s (with_map s (unit_read proc unit s.map)) (inl refl) (inl refl) (unchanged_io_dues tick s.map.io (unit_read proc unit s.map).io left)
-    (λ each. inl (left_due s (unit_read proc unit s.map) each (left.own each)))
+    (λ each. inl (left_due s (unit_read proc unit s.map) each (left.processor_io each)))
 
 pub read_sound : (proc : Proc) (unit : DmaUnit) (s : MachineState) → IsSound s → IsSound (with_map s (unit_read proc unit s.map))
 read_sound proc unit s sound = record { io = unchanged_io s.map.io (unit_read proc unit s.map).io sound.io (read_unchanged proc unit s); keys = sound.keys }
@@ -141,11 +141,11 @@ module _ (proc : Proc) (channel : ℕ) (now : Tick) (unit : DmaUnit) (s : Machin
   read_io = unchanged_io s.map.io read sound.io left
 
   moves : MovedGoes proc now read taken.io
-  moves = moved_goes proc now read read_io (some_due (io_of read proc).dma channel now (ap (λ (dma : DmaState). channel_due dma channel) (left.own proc).dma ∙ due))
+  moves = moved_goes proc now read read_io (some_due (io_of read proc).dma channel now (ap (λ (dma : DmaState). channel_due dma channel) (left.processor_io proc).dma ∙ due))
 
   is_quiet : IsQuiet now (io_of taken.io proc)
   is_quiet = record {
-    timers = λ which small. subst (λ (all : List TimerState). IsLater now (timer_due (timer_at all which))) (sym (moves.timers proc ∙ (left.own proc).timers)) (timers which small);
+    timers = λ which small. subst (λ (all : List TimerState). IsLater now (timer_due (timer_at all which))) (sym (moves.timers proc ∙ (left.processor_io proc).timers)) (timers which small);
     dma = moves.later;
   }
 
@@ -160,7 +160,7 @@ module _ (proc : Proc) (channel : ℕ) (now : Tick) (unit : DmaUnit) (s : Machin
 
   other : IsUnchanged (io_of s.map.io (other_proc proc)) (io_of written.io (other_proc proc))
   other =
-      left_after (io_of s.map.io (other_proc proc)) (io_of read (other_proc proc)) (io_of written.io (other_proc proc)) (left.own (other_proc proc))
+      left_after (io_of s.map.io (other_proc proc)) (io_of read (other_proc proc)) (io_of written.io (other_proc proc)) (left.processor_io (other_proc proc))
       (subst (λ (o : ProcessorIoState). IsUnchanged o (io_of written.io (other_proc proc))) moves.other goes.other)
 
   io : IsIo written.io

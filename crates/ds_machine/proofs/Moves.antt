@@ -58,7 +58,7 @@ pub left_after : (a b c : ProcessorIoState) → IsUnchanged a b → IsUnchanged 
 left_after a b c one two = record { timers = two.timers ∙ one.timers; keycnt = two.keycnt ∙ one.keycnt; halted = two.halted ∙ one.halted; dma = two.dma ∙ one.dma }
 
 pub unchanged_io : (old new : IoState) → IsIo old → AreUnchanged old new → IsIo new
-unchanged_io old new are l = io_is new (λ each. unchanged_is (io_of old each) (io_of new each) (l.own each) (processor_io_is old are each))
+unchanged_io old new are l = io_is new (λ each. unchanged_is (io_of old each) (io_of new each) (l.processor_io each) (processor_io_is old are each))
 
 -- ---- the machine
 

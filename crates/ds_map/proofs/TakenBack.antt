@@ -21,7 +21,7 @@ use Rattle.ds_map.proofs.Later.{map_read_unchanged}
 -- A channel's unit: it is still due after its read, and where its write is refused all is as it was after the read.
 
 pub still_due : (proc : Proc) (m : MapState) (at : ℕ) (width : Width) → IsSome (dma_due (io_of m.io proc).dma) → IsSome (dma_due (io_of (map_read proc m at width).io proc).dma)
-still_due proc m at width h = subst (λ (d : DmaState). IsSome (dma_due d)) (sym ((map_read_unchanged proc m at width).own proc).dma) h
+still_due proc m at width h = subst (λ (d : DmaState). IsSome (dma_due d)) (sym ((map_read_unchanged proc m at width).processor_io proc).dma) h
 
 -- a write that is refused leaves all
 stop_leaves : (proc : Proc) (now : Tick) (refused : Option Stop) (m : MapState) (at : ℕ) (width : Width) (value : ℕ) → IsSome refused → port_put proc now refused m at width value ≡ m

@@ -38,13 +38,13 @@ timers_are = record { four = refl; each = each } where
 
 channel_is : (proc : Proc) (which : ℕ) → IsChannel proc which channel_at_boot
 channel_is proc which = record {
-  source = omega arith;
-  target = omega arith;
-  control = refl;
+  sad = omega arith;
+  dad = omega arith;
+  cnt = refl;
   built = refl;
   from = omega arith;
   to = omega arith;
-  left = omega arith;
+  remaining = omega arith;
   some = λ h. absurd (grind (arith, h));
   none = λ h. (refl, refl, refl, refl);
 }

@@ -59,23 +59,23 @@ left_due s map proc left =
 -- ---- what it comes to
 
 -- the machine after the unit was moved
-abbrev pub after_unit : Proc → Tick → DmaUnit → MachineState → MachineState
-after_unit proc now unit s = one_event (delayed_past proc now (with_map s (after_unit None proc now unit s.map)))
+abbrev pub machine_after_unit : Proc → Tick → DmaUnit → MachineState → MachineState
+machine_after_unit proc now unit s = one_event (delayed_past proc now (with_map s (after_unit None proc now unit s.map)))
 
 module _ (rank : ℕ) (proc : Proc) (now : Tick) (unit : DmaUnit) (s : MachineState) where
   made_by : (refusal : Option Stop) (made : MachineState) (outs : List Shown)
-      → moved_by rank proc now refusal (with_map s (after_unit refusal proc now unit s.map)) ≡ Makes made outs → made ≡ after_unit proc now unit s
-  made_by None made outs h = sym (same_makes (after_unit proc now unit s) made [] outs h).0
+      → moved_by rank proc now refusal (with_map s (after_unit refusal proc now unit s.map)) ≡ Makes made outs → made ≡ machine_after_unit proc now unit s
+  made_by None made outs h = sym (same_makes (machine_after_unit proc now unit s) made [] outs h).0
   made_by (Some stop) made outs h = absurd (not_both made (with_map s (unit_read proc unit s.map)) outs _ (sym h))
 
-  made_unless : (needs : Option ℕ) (made : MachineState) (outs : List Shown) → moved_unless rank proc now needs unit s ≡ Makes made outs → made ≡ after_unit proc now unit s
+  made_unless : (needs : Option ℕ) (made : MachineState) (outs : List Shown) → moved_unless rank proc now needs unit s ≡ Makes made outs → made ≡ machine_after_unit proc now unit s
   made_unless None made outs h = made_by (unit_refusal proc now unit s.map) made outs h
   made_unless (Some value) made outs h = absurd (not_both made s outs _ (sym h))
 
   left_by : (refusal : Option Stop) (left : MachineState) (stop : LeftOut)
       → (let step : MachineStep MachineState Shown LeftOut = moved_by rank proc now refusal (with_map s (after_unit refusal proc now unit s.map)) in step ≡ Stops stop left)
       → with_map s (unit_read proc unit s.map) ≡ left
-  left_by None left stop h = absurd (not_both (after_unit proc now unit s) left [] stop h)
+  left_by None left stop h = absurd (not_both (machine_after_unit proc now unit s) left [] stop h)
   left_by (Some why) left stop h = (same_stops (with_map s (unit_read proc unit s.map)) left _ stop h).1
 
   left_unless : (needs : Option ℕ) (left : MachineState) (stop : LeftOut) → (let step : MachineStep MachineState Shown LeftOut = moved_unless rank proc now needs unit s in step ≡ Stops stop left)
@@ -85,7 +85,7 @@ module _ (rank : ℕ) (proc : Proc) (now : Tick) (unit : DmaUnit) (s : MachineSt
 
 -- its step moves its unit
 pub channel_made : (rank : ℕ) (proc : Proc) (now : Tick) (s made : MachineState) (outs : List Shown) → channel_step rank proc (Some now) s ≡ Makes made outs
-    → made ≡ after_unit proc now (next_unit s.map proc) s
+    → made ≡ machine_after_unit proc now (next_unit s.map proc) s
 channel_made rank proc now s made outs h =
     made_unless rank proc now (next_unit s.map proc) s (unit_needs proc s.map.io.wramcnt (next_unit s.map proc)) made outs h
 
@@ -99,7 +99,7 @@ channel_unchanged rank proc now s left stop h =
 pub event_counts : (s : MachineState) → counts_of (one_event s) ≡ counts_of s + 1
 event_counts s = omega arith
 
-pub unit_counts : (proc : Proc) (now : Tick) (unit : DmaUnit) (s : MachineState) → counts_of (after_unit proc now unit s) ≡ counts_of s + 1
+pub unit_counts : (proc : Proc) (now : Tick) (unit : DmaUnit) (s : MachineState) → counts_of (machine_after_unit proc now unit s) ≡ counts_of s + 1
 unit_counts proc now unit s =
     let moved = with_map s (after_unit None proc now unit s.map) in
     let k = put_counts proc moved (record (processor_of moved proc) { due = max (processor_of moved proc).due (now.0 + 1) }) in
@@ -169,9 +169,9 @@ module _ (proc : Proc) (channel : ℕ) (now : Tick) (unit : DmaUnit) (s : Machin
   abbrev past : ProcessorState
   past = let p = processor_of (with_map s written) proc in record p { due = max p.due (now.0 + 1) }
 
-  pub unit_moves : Moves now s (after_unit proc now unit s)
+  pub unit_moves : Moves now s (machine_after_unit proc now unit s)
   unit_moves =
-      let next = after_unit proc now unit s in
+      let next = machine_after_unit proc now unit s in
       let m = with_map s written in
       let b = put_beside proc m past in
       moves_of now s next (same_keys now s.keys next.keys b.keys) (same_video now s next b.video) (subst (IoReschedules now s.map.io) (sym b.io) dues)
@@ -180,13 +180,13 @@ module _ (proc : Proc) (channel : ℕ) (now : Tick) (unit : DmaUnit) (s : Machin
       (later_unless now (is_blocked m proc) past (omega (arith, le-max_right (processor_of m proc).due (now.0 + 1))))))
       (inl (event_due (with_processor proc m past) (other_proc proc) ∙ put_other proc m past ∙ left_due s written (other_proc proc) other)))
 
-  pub unit_sound : IsSound (after_unit proc now unit s)
+  pub unit_sound : IsSound (machine_after_unit proc now unit s)
   unit_sound =
       let b = put_beside proc (with_map s written) past in
       record { io = subst IsIo (sym b.io) io; keys = subst AreKeyLines (sym b.keys) sound.keys }
 
   -- the channel is due later, or not at all
-  pub unit_later : IsLater now (io_due (Dma proc channel) (after_unit proc now unit s).map.io)
+  pub unit_later : IsLater now (io_due (Dma proc channel) (machine_after_unit proc now unit s).map.io)
   unit_later =
       let b = put_beside proc (with_map s written) past in
       subst (λ (u : IoState). IsLater now (io_due (Dma proc channel) u)) (sym b.io)

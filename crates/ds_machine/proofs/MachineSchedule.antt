@@ -22,7 +22,7 @@ use Rattle.ds_machine.specs.Reference.{IsSound, Shown, after_division, after_lin
 use Rattle.ds_machine.specs.States.{MachineState, VideoState}
 use Rattle.ds_machine.specs.Steps.{gone_by, is_blocked, processor_of, with_io, woken}
 use Rattle.ds_machine.specs.Videos.{triggered_by_video, video_after, video_due}
-use Rattle.ds_machine.proofs.ChannelEvents.{after_unit, channel_unchanged, channel_made, read_moves, read_sound, unit_later, unit_moves, unit_sound, with_map}
+use Rattle.ds_machine.proofs.ChannelEvents.{machine_after_unit, channel_unchanged, channel_made, read_moves, read_sound, unit_later, unit_moves, unit_sound, with_map}
 use Rattle.ds_machine.proofs.DueTicks.{due_of_least, due_of_rank, entries_are, low_rank, somebody_is}
 use Rattle.ds_machine.proofs.Moves.{Moves, blocked_moves, moves_all, moves_of, then_all}
 use Rattle.ds_machine.proofs.ProcessorSteps.{Operation, came_by, concluded_stops, concludes, costs_some, gone_moves, gone_sound, processor_io_later, reached_by, reached_moves, reached_sound, step_is}
@@ -154,7 +154,7 @@ owes_by (Dma proc channel) rank tick s made outs st h =
     let P : Option Tick → Type 0 = λ o. channel_step rank proc o s ≡ Makes made outs in
     let unit = next_unit s.map proc in
     let timers = channel_timers proc channel rank tick s st in
-    let owes : Owes (Dma proc channel) tick s (after_unit proc tick unit s) = record {
+    let owes : Owes (Dma proc channel) tick s (machine_after_unit proc tick unit s) = record {
       moves = unit_moves proc channel tick unit s st.sound st.numbered st.due timers;
       own = unit_later proc channel tick unit s st.sound st.numbered st.due timers;
       sound = unit_sound proc channel tick unit s st.sound st.numbered st.due timers;

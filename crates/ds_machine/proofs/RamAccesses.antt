@@ -25,7 +25,7 @@ use Rattle.ds_places.specs.AddressTables.{Cells, Empty, place_at, place_of, shar
 use Rattle.ds_places.specs.declared.kinds.Place.{Place}
 use Rattle.ds_places.specs.declared.kinds.Place.TheVariants.{Cell, Banks, Port, Rom, Nothing}
 use Rattle.ds_places.proofs.Regions.{lies_or_not}
-use Rattle.ds_map.specs.Accesses.{is_byte_of_nine, unsupported_at, map_read, map_refusal, map_written, written_at, refusal_at, takes_no_bytes}
+use Rattle.ds_map.specs.Accesses.{is_byte_of_nine, after_read_at, map_read, map_refusal, map_written, written_at, refusal_at, takes_no_bytes}
 use Rattle.ds_map.specs.Builds.{map_is_built, nine_is_built}
 use Rattle.ds_map.specs.Maps.{MapState, cells_of, with_cells}
 use Rattle.ds_map.proofs.Built.{apart_built, apart_nine}
@@ -162,7 +162,7 @@ put_io proc now (Port at) m width value h = absurd (true≢false (sym h))
 put_io proc now (Rom at) m width value h = refl
 put_io proc now Nothing m width value h = refl
 
-unchanged_io : (proc : Proc) (place : Place) (m : MapState) (width : Width) → is_cells place ≡ true → (unsupported_at proc place m width).io ≡ m.io
+unchanged_io : (proc : Proc) (place : Place) (m : MapState) (width : Width) → is_cells place ≡ true → (after_read_at proc place m width).io ≡ m.io
 unchanged_io proc (Cell memory at) m width h = refl
 unchanged_io proc (Banks space at) m width h = refl
 unchanged_io proc (Port at) m width h = absurd (true≢false (sym h))

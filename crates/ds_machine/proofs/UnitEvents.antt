@@ -3,7 +3,7 @@ use Rattle.std.specs.Prelude.{◌||◌, ◌==◌, IsSome}
 use Rattle.std.proofs.lemmas.Option.{none-some}
 use Rattle.ds_base.specs.declared.processors.Proc.{Proc}
 use Rattle.ds_base.specs.declared.ticks.Tick.{Tick}
-use Rattle.ds_dma.specs.Channels.{operation}
+use Rattle.ds_dma.specs.Channels.{ready}
 use Rattle.ds_dma.specs.States.{DmaState, any_runs, channel_at, channel_due, dma_due, due_channel, due_with, least_running}
 use Rattle.ds_dma.specs.declared.controls.Cause.{Cause}
 use Rattle.ds_dma.specs.declared.controls.Cause.TheVariants.{VBlank, HBlank}
@@ -81,11 +81,11 @@ video_happens v u are =
 equal_numbers : (x y : ℕ) → (x == y) ≡ true → x ≡ y
 equal_numbers x y h = grind (arith, h)
 
-due_there : (dma : DmaState) (which : ℕ) (now : Tick) → channel_due dma which ≡ Some now → operation dma.last (due_channel dma) ≡ Some now
+due_there : (dma : DmaState) (which : ℕ) (now : Tick) → channel_due dma which ≡ Some now → ready dma.last (due_channel dma) ≡ Some now
 due_there dma which now h = by_number (which == least_running dma.channels) refl h where
-  by_number : (b : Bool) → (which == least_running dma.channels) ≡ b → (if b then operation dma.last (channel_at dma.channels which) else None) ≡ Some now
-      → operation dma.last (due_channel dma) ≡ Some now
-  by_number true e k = subst (λ (n : ℕ). operation dma.last (channel_at dma.channels n) ≡ Some now) (equal_numbers which (least_running dma.channels) e) k
+  by_number : (b : Bool) → (which == least_running dma.channels) ≡ b → (if b then ready dma.last (channel_at dma.channels which) else None) ≡ Some now
+      → ready dma.last (due_channel dma) ≡ Some now
+  by_number true e k = subst (λ (n : ℕ). ready dma.last (channel_at dma.channels n) ≡ Some now) (equal_numbers which (least_running dma.channels) e) k
   by_number false e k = absurd (none-some now k)
 
 pub some_due : (dma : DmaState) (which : ℕ) (now : Tick) → channel_due dma which ≡ Some now → IsSome (dma_due dma)

@@ -1,18 +1,19 @@
-use Rattle.std.proofs.Common.{ℕ, ℤ, zero, suc, ◌≡◌, ◌<◌, ◌≤◌, ◌+◌, ◌*◌, ◌^◌, Bool, true, false, List, [], ◌∷◌, ◌++◌, refl, sym, ◌∙◌, ap, subst, arith}
-use Rattle.std.specs.Prelude.{if◌then◌else◌, nat_lt, ◌==◌, slice_index, slice_index_or, slice_set}
+use Rattle.std.proofs.Common.{ℕ, ℤ, zero, suc, ◌≡◌, ◌<◌, ◌≤◌, ◌+◌, ◌^◌, Bool, true, false, List, [], ◌∷◌, ◌++◌, Option, Some, None, refl, sym, subst, arith}
+use Rattle.std.specs.Prelude.{if◌then◌else◌, slice_index, slice_index_or, slice_set}
 use Rattle.ds_base.specs.Bits.{bits, bit}
 use Rattle.gx_geometry.specs.declared.numbers.Light.{Light}
 use Rattle.gx_geometry.specs.declared.numbers.Numbers.{Numbers}
 use Rattle.gx_geometry.specs.declared.polygons.Vertex.{Vertex}
 use Rattle.gx_geometry.specs.declared.polygons.Polygon.{Polygon}
 use Rattle.gx_matrix.specs.Commands.{commanded}
+use Rattle.gx_matrix.specs.CommandTable.{command_taken}
+use Rattle.gx_matrix.specs.declared.commands.GeometryCommand.{GeometryCommand}
+use Rattle.gx_matrix.specs.declared.commands.GeometryCommand.TheVariants.{Color, Normal, Texcoord, PolygonAttr, TeximageParam, PlttBase, DifAmb, SpeEmi, LightVector, LightColor, Shininess, BeginVtxs, SwapBuffers, Viewport, PosTest}
 use Rattle.gx_geometry.specs.Numbers.{no_light, numbers_at_boot}
-use Rattle.gx_geometry.specs.Lights.{light_at, lit_channel, lit_colour, turned}
-use Rattle.gx_geometry.specs.Changes.{numbers_after, normal_given, coordinates_given, vertex_given, diffuse_given, specular_given, pointed, light_pointed, light_coloured, run_begun, gives_vertex}
-use Rattle.gx_geometry.specs.Polygons.{no_vertex, arrival_of}
-use Rattle.gx_geometry.specs.States.{GeometryState, numbered, arrived, geometry_after}
-use Rattle.gx_geometry.specs.Bounds.{AreSmall, AreLimited, no_polygon, HaveColours, HavePalettes}
-use Rattle.gx_geometry.proofs.Growing.{step_numbers}
+use Rattle.gx_geometry.specs.Lights.{lit_channel, lit_colour, turned}
+use Rattle.gx_geometry.specs.Changes.{numbers_drawn, numbers_lit, numbers_after, normal_given, coordinates_given, vertex_given, diffuse_given, specular_given, light_pointed, light_coloured, run_begun, gives_vertex}
+use Rattle.gx_geometry.specs.States.{GeometryState, geometry_after}
+use Rattle.gx_geometry.specs.Bounds.{AreSmall, AreLimited, HaveColours, HavePalettes}
 
 -- Commands keep colours to fifteen bits and palettes to thirteen, and add at most one vertex to a run.
 
@@ -23,9 +24,6 @@ pub record Goes (s t : Numbers) : Type 0 where
 goes_if : (b : Bool) (s t u : Numbers) → Goes s t → Goes s u → Goes s (if b then t else u)
 goes_if true s t u p q = p
 goes_if false s t u p q = q
-
-stays : (s : Numbers) → Goes s s
-stays s = record { run = omega arith; small = λ h. h }
 
 -- a light's colour after one light was changed
 changed_light : (lights : List Light) (n : ℕ) (light : Light) → light.colour < 2 ^ 15 → ((i : ℕ) → (slice_index_or lights i no_light).colour < 2 ^ 15) →
@@ -62,9 +60,9 @@ coordinates_go word s = record {
   small = λ h. record { colour = h.colour; diffuse = h.diffuse; ambient = h.ambient; specular = h.specular; emission = h.emission; lights = h.lights; palette = h.palette };
 }
 
-vertex_goes : (code : ℕ) (params : List ℕ) (s : Numbers) → Goes s (vertex_given code params s)
+vertex_goes : (command : GeometryCommand) (params : List ℕ) (s : Numbers) → Goes s (vertex_given command params s)
 unfolding vertex_given
-vertex_goes code params s = record {
+vertex_goes command params s = record {
   run = omega arith;
   small = λ h. record { colour = h.colour; diffuse = h.diffuse; ambient = h.ambient; specular = h.specular; emission = h.emission; lights = h.lights; palette = h.palette };
 }
@@ -138,36 +136,43 @@ same_goes s t run colour material lights palette = record {
   small = λ h. rewritten s t colour material lights palette h;
 }
 
-pub command_goes : (code : ℕ) (params : List ℕ) (s : Numbers) → Goes s (numbers_after code params s)
-unfolding numbers_after
-command_goes code params s =
-    let word : ℕ = slice_index params 0 in
-    goes_if (nat_lt code 0x20) s _ _ (same_goes s _ refl refl refl refl refl) (
-    goes_if (code == 0x20) s _ _ (record {
-      run = omega arith;
-      small = λ h. record { colour = omega arith; diffuse = h.diffuse; ambient = h.ambient; specular = h.specular; emission = h.emission; lights = h.lights; palette = h.palette };
-    }) (
-    goes_if (code == 0x21) s _ _ (normal_goes word s) (
-    goes_if (code == 0x22) s _ _ (coordinates_go word s) (
-    goes_if (gives_vertex code) s _ _ (vertex_goes code params s) (
-    goes_if (code == 0x29) s _ _ (same_goes s _ refl refl refl refl refl) (
-    goes_if (code == 0x2A) s _ _ (same_goes s _ refl refl refl refl refl) (
-    goes_if (code == 0x2B) s _ _ (record {
-      run = omega arith;
-      small = λ h. record { colour = h.colour; diffuse = h.diffuse; ambient = h.ambient; specular = h.specular; emission = h.emission; lights = h.lights; palette = omega arith };
-    }) (
-    goes_if (code == 0x30) s _ _ (diffuse_goes word s) (
-    goes_if (code == 0x31) s _ _ (specular_goes word s) (
-    goes_if (code == 0x32) s _ _ (pointed_goes word s) (
-    goes_if (code == 0x33) s _ _ (coloured_goes word s) (
-    goes_if (code == 0x34) s _ _ (same_goes s _ refl refl refl refl refl) (
-    goes_if (code == 0x40) s _ _ (begun_goes word s) (
-    goes_if (code == 0x50) s _ _ (same_goes s _ refl refl refl refl refl) (
-    goes_if (code == 0x60) s _ _ (same_goes s _ refl refl refl refl refl) (
-    goes_if (code == 0x71) s _ _ (same_goes s _ refl refl refl refl refl) (stays s)))))))))))))))))
+drawn_goes : (command : GeometryCommand) (params : List ℕ) (s : Numbers) → Goes s (numbers_drawn command params s)
+unfolding numbers_drawn
+drawn_goes BeginVtxs params s = begun_goes (slice_index params 0) s
+drawn_goes SwapBuffers params s = same_goes s _ refl refl refl refl refl
+drawn_goes Viewport params s = same_goes s _ refl refl refl refl refl
+drawn_goes PosTest params s = same_goes s _ refl refl refl refl refl
+drawn_goes command params s =
+    let moved : Numbers = record s { stacks = commanded command params s.stacks } in
+    goes_if (gives_vertex command) s (vertex_given command params s) moved (vertex_goes command params s) (same_goes s moved refl refl refl refl refl)
 
-pub small_after : (code : ℕ) (params : List ℕ) (s t : Numbers) → t ≡ numbers_after code params s → AreSmall s → AreSmall t
-small_after code params s t e h = subst AreSmall (sym e) ((command_goes code params s).small h)
+lit_goes : (command : GeometryCommand) (params : List ℕ) (s : Numbers) → Goes s (numbers_lit command params s)
+unfolding numbers_lit
+lit_goes Normal params s = normal_goes (slice_index params 0) s
+lit_goes DifAmb params s = diffuse_goes (slice_index params 0) s
+lit_goes SpeEmi params s = specular_goes (slice_index params 0) s
+lit_goes LightVector params s = pointed_goes (slice_index params 0) s
+lit_goes LightColor params s = coloured_goes (slice_index params 0) s
+lit_goes Shininess params s = same_goes s _ refl refl refl refl refl
+lit_goes command params s = drawn_goes command params s
+
+pub command_goes : (command : GeometryCommand) (params : List ℕ) (s : Numbers) → Goes s (numbers_after command params s)
+unfolding numbers_after
+command_goes Color params s = record {
+  run = omega arith;
+  small = λ h. record { colour = omega arith; diffuse = h.diffuse; ambient = h.ambient; specular = h.specular; emission = h.emission; lights = h.lights; palette = h.palette };
+}
+command_goes Texcoord params s = coordinates_go (slice_index params 0) s
+command_goes PolygonAttr params s = same_goes s _ refl refl refl refl refl
+command_goes TeximageParam params s = same_goes s _ refl refl refl refl refl
+command_goes PlttBase params s = record {
+  run = omega arith;
+  small = λ h. record { colour = h.colour; diffuse = h.diffuse; ambient = h.ambient; specular = h.specular; emission = h.emission; lights = h.lights; palette = omega arith };
+}
+command_goes command params s = lit_goes command params s
+
+pub small_after : (command : GeometryCommand) (params : List ℕ) (s t : Numbers) → t ≡ numbers_after command params s → AreSmall s → AreSmall t
+small_after command params s t e h = subst AreSmall (sym e) ((command_goes command params s).small h)
 
 -- a vertex or a polygon more
 pub colour_added : (xs : List Vertex) (v : Vertex) → v.colour < 2 ^ 15 → HaveColours xs → HaveColours (xs ++ v ∷ [])
@@ -183,13 +188,13 @@ palette_added (x ∷ xs) p small h zero = h 0
 palette_added (x ∷ xs) p small h (suc i) = palette_added xs p small (λ j. h (suc j)) i
 
 -- a command adds at most one vertex to the run
-pub run_after : (code : ℕ) (params : List ℕ) (g : GeometryState) → (geometry_after code params g).numbers.run ≤ g.numbers.run + 1
+named_after : (command : GeometryCommand) (params : List ℕ) (g : GeometryState) → (geometry_after command params g).numbers.run ≤ g.numbers.run + 1
 unfolding geometry_after
-run_after code params g =
-    let s : Numbers = numbers_after code params g.numbers in
-    let e = step_numbers (gives_vertex code) (arrival_of s) (numbered code params g) in
-    let h : s.run ≤ g.numbers.run + 1 = (command_goes code params g.numbers).run in
-    omega (arith, ap (λ (n : Numbers). n.run) e, h)
+named_after command params g = (command_goes command params g.numbers).run
+
+pub run_after : (command : Option GeometryCommand) (params : List ℕ) (g : GeometryState) → (command_taken geometry_after command params g).numbers.run ≤ g.numbers.run + 1
+run_after None params g = omega arith
+run_after (Some command) params g = named_after command params g
 
 -- at boot
 dark : (i : ℕ) → (slice_index_or (no_light ∷ no_light ∷ no_light ∷ no_light ∷ []) i no_light).colour < 2 ^ 15
@@ -203,5 +208,11 @@ pub boot_small : AreSmall numbers_at_boot
 unfolding numbers_at_boot
 boot_small = record { colour = omega arith; diffuse = omega arith; ambient = omega arith; specular = omega arith; emission = omega arith; lights = dark; palette = omega arith }
 
+pub no_colours : HaveColours []
+no_colours i = omega arith
+
+pub no_palettes : HavePalettes []
+no_palettes i = omega arith
+
 pub none_limited : AreLimited [] []
-none_limited = record { vertices_within = omega arith; polygons_within = omega arith; colours = λ i. omega arith; palettes = λ i. omega arith }
+none_limited = record { vertices_within = omega arith; polygons_within = omega arith; colours = no_colours; palettes = no_palettes }

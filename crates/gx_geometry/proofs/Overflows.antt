@@ -1,15 +1,16 @@
-use Rattle.std.proofs.Common.{ℕ, ◌≡◌, ◌<◌, ◌≤◌, ◌+◌, ◌-◌, inl, inr, Bool, true, false, List, [], ◌∷◌, ◌++◌, length, map, Option, Some, None, refl, sym, ◌∙◌, ap, subst, arith, append_assoc, append-nil, length-append}
-use Rattle.std.specs.Prelude.{◌||◌, ◌==◌, nat_lt, if◌then◌else◌, option_to_list, take}
+use Rattle.std.proofs.Common.{ℕ, ◌≡◌, ◌<◌, ◌≤◌, ◌+◌, ◌-◌, inl, inr, Bool, true, false, List, [], ◌∷◌, ◌++◌, length, Option, Some, None, refl, sym, ◌∙◌, ap, arith, append_assoc, append-nil, length-append}
+use Rattle.std.specs.Prelude.{◌||◌, nat_lt, if◌then◌else◌, option_to_list, take}
 use Rattle.std.proofs.lemmas.List.{take_all, length-take-le}
+use Rattle.gx_matrix.specs.declared.commands.GeometryCommand.{GeometryCommand}
+use Rattle.gx_matrix.specs.declared.commands.GeometryCommand.TheVariants.{BoxTest, PosTest, VecTest}
 use Rattle.gx_geometry.specs.declared.numbers.Numbers.{Numbers}
 use Rattle.gx_geometry.specs.declared.polygons.Vertex.{Vertex}
 use Rattle.gx_geometry.specs.declared.polygons.Polygon.{Polygon}
-use Rattle.gx_geometry.specs.declared.results.Results.{Results}
 use Rattle.gx_geometry.specs.Changes.{numbers_after, gives_vertex}
 use Rattle.gx_geometry.specs.Polygons.{Arrival, arrival_of, polygon_of, most_vertices, most_polygons}
 use Rattle.gx_geometry.specs.Lists.{GeometryAct, Command, ClearError, ClearOverflow, numbers_cleared, arrivals, polygons_of, vertices_of, AreNoClear}
-use Rattle.gx_geometry.specs.States.{GeometryState, IsFresh, IsOverflowSince, overflown, polygon_added, vertex_added, arrived, numbered, geometry_after, geometry_error_cleared, overflow_cleared, results_after, after_all}
-use Rattle.gx_geometry.proofs.Growing.{below_or_not, room_for, arrived_room, arrived_full, dropped, Holds, polygons_with, step_holds, step_numbers, step_vertices, step_polygons, arrived_numbers, grown, fresh_holds}
+use Rattle.gx_geometry.specs.States.{OutcomeState, GeometryState, IsOverflowSince, polygon_added, vertex_added, arrived, tested, geometry_after, geometry_error_cleared, overflow_cleared, results_after, after_all}
+use Rattle.gx_geometry.proofs.Growing.{below_or_not, arrived_room, arrived_full, dropped, Holds, polygons_with, step_holds, step_vertices, step_polygons, grown, fresh_holds}
 
 -- The overflow is set where something was dropped since it was cleared.
 
@@ -29,59 +30,59 @@ or_join : (o : Bool) (x y z : ℕ) → x ≤ y → y ≤ z → ((o || nat_lt x y
 or_join true x y z h k = refl
 or_join false x y z h k = grind (arith, h, k)
 
-no_room : (p : Polygon) (g : GeometryState) → most_polygons ≤ length g.polygons → (polygon_added (Some p) g).results.overflow ≡ true
-no_room p g h = grind arith
+no_room : (p : Polygon) (o : OutcomeState) → most_polygons ≤ length o.polygons → (polygon_added (Some p) o).results.overflow ≡ true
+no_room p o h = grind arith
 
-with_room : (p : Polygon) (g : GeometryState) → length g.polygons < most_polygons → (polygon_added (Some p) g).results.overflow ≡ g.results.overflow
-with_room p g h = grind arith
+with_room : (p : Polygon) (o : OutcomeState) → length o.polygons < most_polygons → (polygon_added (Some p) o).results.overflow ≡ o.results.overflow
+with_room p o h = grind arith
 
 -- a polygon more, where k vertices were dropped before
-polygon_flag : (p : Option Polygon) (g : GeometryState) (made : List Polygon) → g.polygons ≡ take most_polygons made →
-    (polygon_added p g).results.overflow ≡ (g.results.overflow || nat_lt (length made - most_polygons) (length (made ++ option_to_list p) - most_polygons))
-polygon_flag None g made e = or_same g.results.overflow (length made - most_polygons) (length (made ++ []) - most_polygons) (omega (arith, length-append made []))
-polygon_flag (Some p) g made e =
+polygon_flag : (p : Option Polygon) (o : OutcomeState) (made : List Polygon) → o.polygons ≡ take most_polygons made →
+    (polygon_added p o).results.overflow ≡ (o.results.overflow || nat_lt (length made - most_polygons) (length (made ++ option_to_list p) - most_polygons))
+polygon_flag None o made e = or_same o.results.overflow (length made - most_polygons) (length (made ++ []) - most_polygons) (omega (arith, length-append made []))
+polygon_flag (Some p) o made e =
     let one : length (made ++ p ∷ []) ≡ length made + 1 = length-append made (p ∷ []) in
     elim (below_or_not (length made) most_polygons) [
       | inl h ↦
-          (let same : g.polygons ≡ made = e ∙ take_all most_polygons made (omega arith) in
-          let room : length g.polygons < most_polygons = omega (arith, ap (λ (xs : List Polygon). length xs) same) in
-          with_room p g room ∙ or_same g.results.overflow (length made - most_polygons) (length (made ++ p ∷ []) - most_polygons) (omega (arith, one)))
+          (let same : o.polygons ≡ made = e ∙ take_all most_polygons made (omega arith) in
+          let room : length o.polygons < most_polygons = omega (arith, ap (λ (xs : List Polygon). length xs) same) in
+          with_room p o room ∙ or_same o.results.overflow (length made - most_polygons) (length (made ++ p ∷ []) - most_polygons) (omega (arith, one)))
       | inr h ↦
-          (let full : most_polygons ≤ length g.polygons = omega (arith, ap (λ (xs : List Polygon). length xs) e, length-take-le most_polygons made h) in
-          no_room p g full ∙ or_more g.results.overflow (length made - most_polygons) (length (made ++ p ∷ []) - most_polygons) (omega (arith, one)))
+          (let full : most_polygons ≤ length o.polygons = omega (arith, ap (λ (xs : List Polygon). length xs) e, length-take-le most_polygons made h) in
+          no_room p o full ∙ or_more o.results.overflow (length made - most_polygons) (length (made ++ p ∷ []) - most_polygons) (omega (arith, one)))
     ]
 
 same_excess : (m n i j : ℕ) → i ≡ 0 → j ≡ 0 → nat_lt m n ≡ nat_lt (i + m) (j + n)
 same_excess m n i j h l = grind (arith, h, l)
 
 -- a vertex more
-arrived_flag : (a : Arrival) (g : GeometryState) (came : List Vertex) (made : List Polygon) → Holds g came made →
-    (arrived a g).results.overflow ≡ (g.results.overflow || nat_lt (excess came made) (excess (came ++ a.vertex ∷ []) (polygons_with a came made)))
+arrived_flag : (a : Arrival) (o : OutcomeState) (came : List Vertex) (made : List Polygon) → Holds o came made →
+    (arrived a o).results.overflow ≡ (o.results.overflow || nat_lt (excess came made) (excess (came ++ a.vertex ∷ []) (polygons_with a came made)))
 unfolding excess polygons_with
-arrived_flag a g came made held =
+arrived_flag a o came made held =
     let one : length (came ++ a.vertex ∷ []) ≡ length came + 1 = length-append came (a.vertex ∷ []) in
     elim (below_or_not (length came) most_vertices) [
       | inl h ↦
-          (let same : g.vertices ≡ came = held.vertices_are ∙ take_all most_vertices came (omega arith) in
-          let room : length g.vertices < most_vertices = omega (arith, ap (λ (xs : List Vertex). length xs) same) in
-          let p : Option Polygon = polygon_of (g.vertices ++ a.vertex ∷ []) a in
+          (let same : o.vertices ≡ came = held.vertices_are ∙ take_all most_vertices came (omega arith) in
+          let room : length o.vertices < most_vertices = omega (arith, ap (λ (xs : List Vertex). length xs) same) in
+          let p : Option Polygon = polygon_of (o.vertices ++ a.vertex ∷ []) a in
           let q : Option Polygon = polygon_of (came ++ a.vertex ∷ []) a in
           let pq : p ≡ q = ap (λ (xs : List Vertex). polygon_of (xs ++ a.vertex ∷ []) a) same in
-          ap (λ (x : GeometryState). x.results.overflow) (arrived_room a g room)
-          ∙ polygon_flag p (vertex_added a.vertex g) made held.polygons_are
-          ∙ ap (λ (x : Option Polygon). g.results.overflow || nat_lt (length made - most_polygons) (length (made ++ option_to_list x) - most_polygons)) pq
-          ∙ ap (λ (b : Bool). g.results.overflow || b)
+          ap (λ (x : OutcomeState). x.results.overflow) (arrived_room a o room)
+          ∙ polygon_flag p (vertex_added a.vertex o) made held.polygons_are
+          ∙ ap (λ (x : Option Polygon). o.results.overflow || nat_lt (length made - most_polygons) (length (made ++ option_to_list x) - most_polygons)) pq
+          ∙ ap (λ (b : Bool). o.results.overflow || b)
           (same_excess (length made - most_polygons) (length (made ++ option_to_list q) - most_polygons) (length came - most_vertices) (length (came ++ a.vertex ∷ []) - most_vertices)
           (omega arith) (omega (arith, one))))
       | inr h ↦
-          (let full : most_vertices ≤ length g.vertices =
+          (let full : most_vertices ≤ length o.vertices =
           omega (arith, ap (λ (xs : List Vertex). length xs) held.vertices_are, length-take-le most_vertices came h) in
           let past : most_vertices < length (came ++ a.vertex ∷ []) = omega (arith, one) in
           let none : polygon_of (came ++ a.vertex ∷ []) a ≡ None = dropped (came ++ a.vertex ∷ []) a past in
           let made_same : length (made ++ option_to_list (polygon_of (came ++ a.vertex ∷ []) a)) ≡ length made =
           ap (λ (x : Option Polygon). length (made ++ option_to_list x)) none ∙ ap (λ (xs : List Polygon). length xs) (append-nil made) in
-          ap (λ (x : GeometryState). x.results.overflow) (arrived_full a g full)
-          ∙ or_more g.results.overflow ((length came - most_vertices) + (length made - most_polygons))
+          ap (λ (x : OutcomeState). x.results.overflow) (arrived_full a o full)
+          ∙ or_more o.results.overflow ((length came - most_vertices) + (length made - most_polygons))
           ((length (came ++ a.vertex ∷ []) - most_vertices) + (length (made ++ option_to_list (polygon_of (came ++ a.vertex ∷ []) a)) - most_polygons))
           (omega (arith, one, made_same)))
     ]
@@ -91,11 +92,11 @@ unfolding excess
 excess_grows came more made others = omega (arith, length-append came more, length-append made others)
 
 -- a command, which gives a vertex or doesn't
-step_flag : (b : Bool) (a : Arrival) (g : GeometryState) (came : List Vertex) (made : List Polygon) → Holds g came made →
-    (if b then arrived a g else g).results.overflow
-    ≡ (g.results.overflow || nat_lt (excess came made) (excess (if b then came ++ a.vertex ∷ [] else came) (if b then polygons_with a came made else made)))
-step_flag true a g came made held = arrived_flag a g came made held
-step_flag false a g came made held = or_same g.results.overflow (excess came made) (excess came made) (omega arith)
+step_flag : (b : Bool) (a : Arrival) (o : OutcomeState) (came : List Vertex) (made : List Polygon) → Holds o came made →
+    (if b then arrived a o else o).results.overflow
+    ≡ (o.results.overflow || nat_lt (excess came made) (excess (if b then came ++ a.vertex ∷ [] else came) (if b then polygons_with a came made else made)))
+step_flag true a o came made held = arrived_flag a o came made held
+step_flag false a o came made held = or_same o.results.overflow (excess came made) (excess came made) (omega arith)
 
 step_grows : (b : Bool) (a : Arrival) (came : List Vertex) (made : List Polygon) →
     excess came made ≤ excess (if b then came ++ a.vertex ∷ [] else came) (if b then polygons_with a came made else made)
@@ -103,53 +104,46 @@ unfolding polygons_with
 step_grows true a came made = excess_grows came (a.vertex ∷ []) made (option_to_list (polygon_of (came ++ a.vertex ∷ []) a))
 step_grows false a came made = omega arith
 
-flag_if : (b : Bool) (o : Bool) (t u : Results) → t.overflow ≡ o → u.overflow ≡ o → (if b then t else u).overflow ≡ o
-flag_if true o t u p q = p
-flag_if false o t u p q = q
-
 -- what a command tests leaves the overflow
-numbered_flag : (code : ℕ) (params : List ℕ) (g : GeometryState) → (numbered code params g).results.overflow ≡ g.results.overflow
+tested_flag : (command : GeometryCommand) (params : List ℕ) (s : Numbers) (o : OutcomeState) → (tested command params s o).results.overflow ≡ o.results.overflow
 unfolding results_after
-numbered_flag code params g =
-    flag_if (code == 0x70) g.results.overflow _ _ refl (flag_if (code == 0x71) g.results.overflow _ _ refl (flag_if (code == 0x72) g.results.overflow _ _ refl refl))
+tested_flag BoxTest params s o = refl
+tested_flag PosTest params s o = refl
+tested_flag VecTest params s o = refl
+tested_flag _ params s o = refl
 
 -- a list of acts of which none clears it
-pub flag_after : (acts : List GeometryAct) (g : GeometryState) (came : List Vertex) (made : List Polygon) → AreNoClear acts → Holds g came made →
-    (after_all acts g).results.overflow
-    ≡ (g.results.overflow || nat_lt (excess came made) (excess (came ++ vertices_of (arrivals g.numbers acts)) (made ++ polygons_of came (arrivals g.numbers acts))))
+pub flag_after : (acts : List GeometryAct) (g : GeometryState) (came : List Vertex) (made : List Polygon) → AreNoClear acts → Holds g.outcome came made →
+    (after_all acts g).outcome.results.overflow
+    ≡ (g.outcome.results.overflow || nat_lt (excess came made) (excess (came ++ vertices_of (arrivals g.numbers acts)) (made ++ polygons_of came (arrivals g.numbers acts))))
 unfolding after_all arrivals geometry_after polygons_of
 flag_after [] g came made none held =
     let v : came ++ [] ≡ came = append-nil came in
     let p : made ++ [] ≡ made = append-nil made in
-    rw (v, p) (or_same g.results.overflow (excess came made) (excess came made) (omega arith))
-flag_after (Command code params ∷ acts) g came made none held =
-    let b : Bool = gives_vertex code in
-    let s : Numbers = numbers_after code params g.numbers in
-    let a : Arrival = arrival_of s in
-    let g0 : GeometryState = numbered code params g in
-    let next : GeometryState = if b then arrived a g0 else g0 in
-    let kept : Holds g0 came made = record { vertices_are = held.vertices_are; polygons_are = held.polygons_are } in
+    rw (v, p) (or_same g.outcome.results.overflow (excess came made) (excess came made) (omega arith))
+flag_after (Command command params ∷ acts) g came made none held =
+    let b : Bool = gives_vertex command in
+    let a : Arrival = arrival_of (numbers_after command params g.numbers) in
+    let o : OutcomeState = tested command params g.numbers g.outcome in
+    let next : GeometryState = geometry_after command params g in
+    let kept : Holds o came made = record { vertices_are = held.vertices_are; polygons_are = held.polygons_are } in
     let came' : List Vertex = if b then came ++ a.vertex ∷ [] else came in
     let made' : List Polygon = if b then polygons_with a came made else made in
-    let later : List Arrival = arrivals s acts in
+    let later : List Arrival = arrivals (numbers_after command params g.numbers) acts in
     let end : ℕ = excess (came' ++ vertices_of later) (made' ++ polygons_of came' later) in
-    let rest : (after_all acts next).results.overflow ≡ (next.results.overflow || nat_lt (excess came' made') (excess (came' ++ vertices_of (arrivals next.numbers acts)) (made' ++ polygons_of came' (arrivals next.numbers acts)))) =
-    flag_after acts next came' made' none (step_holds b a g0 came made kept) in
-    rest
-    ∙ ap (λ (n : Numbers). next.results.overflow || nat_lt (excess came' made') (excess (came' ++ vertices_of (arrivals n acts)) (made' ++ polygons_of came' (arrivals n acts)))) (step_numbers b a g0)
-    ∙ ap (λ (o : Bool). o || nat_lt (excess came' made') end) (step_flag b a g0 came made kept)
-    ∙ ap (λ (o : Bool). (o || nat_lt (excess came made) (excess came' made')) || nat_lt (excess came' made') end) (numbered_flag code params g)
-    ∙ or_join g.results.overflow (excess came made) (excess came' made') end (step_grows b a came made) (excess_grows came' (vertices_of later) made' (polygons_of came' later))
-    ∙ ap (λ (xs : List Vertex). g.results.overflow || nat_lt (excess came made) (excess xs (made' ++ polygons_of came' later))) (step_vertices b a came later)
-    ∙ ap (λ (xs : List Polygon). g.results.overflow || nat_lt (excess came made) (excess (came ++ vertices_of (if b then a ∷ later else later)) xs)) (step_polygons b a came made later)
-flag_after (ClearError ∷ acts) g came made none held =
-    flag_after acts (geometry_error_cleared g) came made none (record { vertices_are = held.vertices_are; polygons_are = held.polygons_are })
+    flag_after acts next came' made' none (step_holds b a o came made kept)
+    ∙ ap (λ (f : Bool). f || nat_lt (excess came' made') end) (step_flag b a o came made kept)
+    ∙ ap (λ (f : Bool). (f || nat_lt (excess came made) (excess came' made')) || nat_lt (excess came' made') end) (tested_flag command params g.numbers g.outcome)
+    ∙ or_join g.outcome.results.overflow (excess came made) (excess came' made') end (step_grows b a came made) (excess_grows came' (vertices_of later) made' (polygons_of came' later))
+    ∙ ap (λ (xs : List Vertex). g.outcome.results.overflow || nat_lt (excess came made) (excess xs (made' ++ polygons_of came' later))) (step_vertices b a came later)
+    ∙ ap (λ (xs : List Polygon). g.outcome.results.overflow || nat_lt (excess came made) (excess (came ++ vertices_of (if b then a ∷ later else later)) xs)) (step_polygons b a came made later)
+flag_after (ClearError ∷ acts) g came made none held = flag_after acts (geometry_error_cleared g) came made none held
 flag_after (ClearOverflow ∷ acts) g came made none held = absurd none
 
 -- ---- some acts, and then more
 
 numbers_by : GeometryAct → Numbers → Numbers
-numbers_by (Command code params) s = numbers_after code params s
+numbers_by (Command command params) s = numbers_after command params s
 numbers_by ClearError s = numbers_cleared s
 numbers_by ClearOverflow s = s
 
@@ -160,17 +154,14 @@ numbers_all (act ∷ acts) s = numbers_all acts (numbers_by act s)
 after_numbers : (acts : List GeometryAct) (g : GeometryState) → (after_all acts g).numbers ≡ numbers_all acts g.numbers
 unfolding after_all geometry_after numbers_all numbers_by
 after_numbers [] g = refl
-after_numbers (Command code params ∷ acts) g =
-    let s : Numbers = numbers_after code params g.numbers in
-    let next : GeometryState = if gives_vertex code then arrived (arrival_of s) (numbered code params g) else numbered code params g in
-    after_numbers acts next ∙ ap (λ (n : Numbers). numbers_all acts n) (step_numbers (gives_vertex code) (arrival_of s) (numbered code params g))
+after_numbers (Command command params ∷ acts) g = after_numbers acts (geometry_after command params g)
 after_numbers (ClearError ∷ acts) g = after_numbers acts (geometry_error_cleared g)
 after_numbers (ClearOverflow ∷ acts) g = after_numbers acts (overflow_cleared g)
 
 after_append : (xs ys : List GeometryAct) (g : GeometryState) → after_all (xs ++ ys) g ≡ after_all ys (after_all xs g)
 unfolding after_all
 after_append [] ys g = refl
-after_append (Command code params ∷ xs) ys g = after_append xs ys (geometry_after code params g)
+after_append (Command command params ∷ xs) ys g = after_append xs ys (geometry_after command params g)
 after_append (ClearError ∷ xs) ys g = after_append xs ys (geometry_error_cleared g)
 after_append (ClearOverflow ∷ xs) ys g = after_append xs ys (overflow_cleared g)
 
@@ -181,9 +172,9 @@ front_if false a xs ys zs e = e
 arrivals_append : (xs ys : List GeometryAct) (s : Numbers) → arrivals s (xs ++ ys) ≡ arrivals s xs ++ arrivals (numbers_all xs s) ys
 unfolding arrivals numbers_all numbers_by
 arrivals_append [] ys s = refl
-arrivals_append (Command code params ∷ xs) ys s =
-    let after : Numbers = numbers_after code params s in
-    front_if (gives_vertex code) (arrival_of after) (arrivals after (xs ++ ys)) (arrivals after xs) (arrivals (numbers_all xs after) ys) (arrivals_append xs ys after)
+arrivals_append (Command command params ∷ xs) ys s =
+    let after : Numbers = numbers_after command params s in
+    front_if (gives_vertex command) (arrival_of after) (arrivals after (xs ++ ys)) (arrivals after xs) (arrivals (numbers_all xs after) ys) (arrivals_append xs ys after)
 arrivals_append (ClearError ∷ xs) ys s = arrivals_append xs ys (numbers_cleared s)
 arrivals_append (ClearOverflow ∷ xs) ys s = arrivals_append xs ys s
 
@@ -211,22 +202,22 @@ unfolding after_all
 whole_state before after g = after_append before (ClearOverflow ∷ after) g
 
 -- the overflow is that of all that was done since a swap
-pub open_overflow : (g : GeometryState) → IsOverflowSince g g.results.overflow
+pub open_overflow : (g : GeometryState) → IsOverflowSince g g.outcome.results.overflow
 unfolding excess
 open_overflow g start acts fresh e = record {
-  never_cleared = λ none. sym (ap (λ (x : GeometryState). x.results.overflow) e) ∙ flag_after acts start [] [] none (fresh_holds start fresh);
+  never_cleared = λ none. sym (ap (λ (x : GeometryState). x.outcome.results.overflow) e) ∙ flag_after acts start [] [] none (fresh_holds start fresh);
   cleared = λ before after split none.
       (let first : List Arrival = arrivals start.numbers before in
       let mid : GeometryState = after_all before start in
-      let held : Holds mid (vertices_of first) (polygons_of [] first) = grown before start [] [] (fresh_holds start fresh) in
+      let held : Holds mid.outcome (vertices_of first) (polygons_of [] first) = grown before start [] [] (fresh_holds start fresh) in
       let later : List Arrival = arrivals mid.numbers after in
       let numbers : mid.numbers ≡ numbers_all before start.numbers = after_numbers before start in
       let all : arrivals start.numbers acts ≡ first ++ later =
       ap (λ (l : List GeometryAct). arrivals start.numbers l) split ∙ whole before after start.numbers ∙ ap (λ (n : Numbers). first ++ arrivals n after) (sym numbers) in
       let ends : after_all acts start ≡ after_all after (overflow_cleared mid) =
       ap (λ (l : List GeometryAct). after_all l start) split ∙ whole_state before after start in
-      sym (ap (λ (x : GeometryState). x.results.overflow) e)
-      ∙ ap (λ (x : GeometryState). x.results.overflow) ends
+      sym (ap (λ (x : GeometryState). x.outcome.results.overflow) e)
+      ∙ ap (λ (x : GeometryState). x.outcome.results.overflow) ends
       ∙ flag_after after (overflow_cleared mid) (vertices_of first) (polygons_of [] first) none (record { vertices_are = held.vertices_are; polygons_are = held.polygons_are })
       ∙ ap (λ (xs : List Vertex). nat_lt (excess (vertices_of first) (polygons_of [] first)) (excess xs (polygons_of [] first ++ polygons_of (vertices_of first) later))) (sym (vertices_append first later))
       ∙ ap (λ (ps : List Polygon). nat_lt (excess (vertices_of first) (polygons_of [] first)) (excess (vertices_of (first ++ later)) ps)) (sym (polygons_append first later []))

@@ -1,5 +1,4 @@
-use Rattle.std.specs.Prelude.{ℕ, ◌≡◌, ◌<◌, ◌≤◌, ◌^◌, ◌∷◌, [], List, length, slice_index_or, Option, Some, None}
-use Rattle.gx_matrix.specs.declared.commands.CommandRow.{CommandRow}
+use Rattle.std.specs.Prelude.{ℕ, ◌<◌, ◌≤◌, ◌^◌, [], List, length, slice_index_or}
 use Rattle.gx_geometry.specs.declared.numbers.Numbers.{Numbers}
 use Rattle.gx_geometry.specs.declared.polygons.Vertex.{Vertex}
 use Rattle.gx_geometry.specs.declared.polygons.Polygon.{Polygon}
@@ -37,11 +36,5 @@ pub record AreLimited (vertices : List Vertex) (polygons : List Polygon) : Type 
 
 pub record IsGeometry (g : GeometryState) : Type 0 where
   pub numbers : AreSmall g.numbers
-  pub now : AreLimited g.vertices g.polygons
+  pub now : AreLimited g.outcome.vertices g.outcome.polygons
   pub last : AreLimited g.last.vertices g.last.polygons
-
--- a row of the list of commands has its code; no command has more than 32 parameters or takes less than a clock
-pub record IsRow (n : ℕ) (row : CommandRow) : Type 0 where
-  pub code : row.code ≡ n
-  pub parameters : row.parameters ≤ 32
-  pub clocks : 1 ≤ row.clocks

@@ -17,7 +17,7 @@ unfoldable pub through : Point → Matrix → Clipped
 through p m = clipped_of (times (p.x ∷ p.y ∷ p.z ∷ pos 4096 ∷ []) m)
 
 -- The box test (GBATEK, BOX_TEST): x, y and z of a corner, and how wide, high and deep the box is; the other corners wrap to halves (our choice)
-abbrev pub far_side : Bool → ℤ → ℤ → ℤ
+unfoldable pub far_side : Bool → ℤ → ℤ → ℤ
 far_side far from size = if far then int_wrap w16 (from +ℤ size) else from
 
 unfoldable pub corner : List ℕ → Matrix → Bool → Bool → Bool → Clipped

@@ -1,7 +1,9 @@
-use Rattle.std.specs.Prelude.{ℕ, ◌+◌, ◌==◌, ◌&&◌, not, nat_lt, if◌then◌else◌, Bool, ℤ, List, slice_index, slice_set}
+use Rattle.std.specs.Prelude.{ℕ, ◌+◌, ◌==◌, if◌then◌else◌, Bool, true, false, ℤ, List, slice_index, slice_set}
 use Rattle.ds_base.specs.Bits.{bits, bit}
 use Rattle.gx_matrix.specs.Algebra.{at}
 use Rattle.gx_matrix.specs.Commands.{commanded}
+use Rattle.gx_matrix.specs.declared.commands.GeometryCommand.{GeometryCommand}
+use Rattle.gx_matrix.specs.declared.commands.GeometryCommand.TheVariants.{Color, Normal, Texcoord, Vtx16, Vtx10, VtxXy, VtxXz, VtxYz, VtxDiff, PolygonAttr, TeximageParam, PlttBase, DifAmb, SpeEmi, LightVector, LightColor, Shininess, BeginVtxs, SwapBuffers, Viewport, PosTest}
 use Rattle.gx_geometry.specs.declared.numbers.Light.{Light}
 use Rattle.gx_geometry.specs.declared.numbers.Numbers.{Numbers}
 use Rattle.gx_geometry.specs.declared.numbers.Coordinates.{Coordinates}
@@ -29,9 +31,9 @@ coordinates_given word s = record s {
 }
 
 -- a vertex: it becomes the current one and the run's next; mode 3 moves the texture coordinates (GBATEK, VTX_16 and those after it)
-unfoldable pub vertex_given : ℕ → List ℕ → Numbers → Numbers
-vertex_given code params s =
-    let p = point_after code params s.point in
+unfoldable pub vertex_given : GeometryCommand → List ℕ → Numbers → Numbers
+vertex_given command params s =
+    let p = point_after command params s.point in
     record s {
       point = p;
       coordinates = (if transform_mode s.texture == 3 then by_vertex p s.raw s.stacks.texture.current else s.coordinates);
@@ -69,27 +71,38 @@ unfoldable pub run_begun : ℕ → Numbers → Numbers
 run_begun word s = record s { kind = kind_of (bits 0 2 word); run = 0; attributes = s.set }
 
 -- whether a command gives a vertex
-abbrev pub gives_vertex : ℕ → Bool
-gives_vertex code = not (nat_lt code 0x23) && nat_lt code 0x29
+abbrev pub gives_vertex : GeometryCommand → Bool
+gives_vertex Vtx16 = true
+gives_vertex Vtx10 = true
+gives_vertex VtxXy = true
+gives_vertex VtxXz = true
+gives_vertex VtxYz = true
+gives_vertex VtxDiff = true
+gives_vertex _ = false
 
--- the numbers after a command; 41h, 70h and 72h change none of them
-unfoldable pub numbers_after : ℕ → List ℕ → Numbers → Numbers
-numbers_after code params s =
-    let word = slice_index params 0 in
-    if nat_lt code 0x20 then record s { stacks = commanded code params s.stacks } else (
-    if code == 0x20 then record s { colour = bits 0 15 word } else (
-    if code == 0x21 then normal_given word s else (
-    if code == 0x22 then coordinates_given word s else (
-    if gives_vertex code then vertex_given code params s else (
-    if code == 0x29 then record s { set = word } else (
-    if code == 0x2A then record s { texture = word } else (
-    if code == 0x2B then record s { palette = bits 0 13 word } else (
-    if code == 0x30 then diffuse_given word s else (
-    if code == 0x31 then specular_given word s else (
-    if code == 0x32 then light_pointed word s else (
-    if code == 0x33 then light_coloured word s else (
-    if code == 0x34 then record s { table = params } else (
-    if code == 0x40 then run_begun word s else (
-    if code == 0x50 then record s { parameter = word } else (
-    if code == 0x60 then record s { viewport = word } else (
-    if code == 0x71 then record s { point = point_by_halves params } else s))))))))))))))))
+-- The numbers after a command: what the vertices that come will have; lighting; the vertices, swaps and tests; and last the matrices. What none of
+-- these names (END_VTXS, BOX_TEST, VEC_TEST) changes no number, as it changes no matrix.
+unfoldable pub numbers_drawn : GeometryCommand → List ℕ → Numbers → Numbers
+numbers_drawn BeginVtxs params s = run_begun (slice_index params 0) s
+numbers_drawn SwapBuffers params s = record s { parameter = slice_index params 0 }
+numbers_drawn Viewport params s = record s { viewport = slice_index params 0 }
+numbers_drawn PosTest params s = record s { point = point_by_halves params }
+numbers_drawn command params s =
+    if gives_vertex command then vertex_given command params s else record s { stacks = commanded command params s.stacks }
+
+unfoldable pub numbers_lit : GeometryCommand → List ℕ → Numbers → Numbers
+numbers_lit Normal params s = normal_given (slice_index params 0) s
+numbers_lit DifAmb params s = diffuse_given (slice_index params 0) s
+numbers_lit SpeEmi params s = specular_given (slice_index params 0) s
+numbers_lit LightVector params s = light_pointed (slice_index params 0) s
+numbers_lit LightColor params s = light_coloured (slice_index params 0) s
+numbers_lit Shininess params s = record s { table = params }
+numbers_lit command params s = numbers_drawn command params s
+
+unfoldable pub numbers_after : GeometryCommand → List ℕ → Numbers → Numbers
+numbers_after Color params s = record s { colour = bits 0 15 (slice_index params 0) }
+numbers_after Texcoord params s = coordinates_given (slice_index params 0) s
+numbers_after PolygonAttr params s = record s { set = slice_index params 0 }
+numbers_after TeximageParam params s = record s { texture = slice_index params 0 }
+numbers_after PlttBase params s = record s { palette = bits 0 13 (slice_index params 0) }
+numbers_after command params s = numbers_lit command params s

@@ -14,11 +14,11 @@ abbrev pub transform_mode : ℕ → ℕ
 transform_mode texture = bits 30 2 texture
 
 -- three numbers times the first three cells of a column, exact
-abbrev pub with_three : ℤ → ℤ → ℤ → Matrix → ℕ → ℤ
+unfoldable pub with_three : ℤ → ℤ → ℤ → Matrix → ℕ → ℤ
 with_three a b c m j = ((a *ℤ cell m 0 j) +ℤ (b *ℤ cell m 1 j)) +ℤ (c *ℤ cell m 2 j)
 
 -- mode 1: the coordinates themselves, and two cells that move them
-abbrev pub with_coordinates : Coordinates → Matrix → ℕ → ℤ
+unfoldable pub with_coordinates : Coordinates → Matrix → ℕ → ℤ
 with_coordinates raw m j = (((raw.s *ℤ cell m 0 j) +ℤ (raw.t *ℤ cell m 1 j)) +ℤ cell m 2 j) +ℤ cell m 3 j
 
 -- floor(sum / divisor), wrapped to a signed half

@@ -1,5 +1,6 @@
 use Rattle.std.specs.Prelude.{ℕ, ◌≡◌, ◌+◌, ◌-◌, ◌||◌, nat_lt, if◌then◌else◌, Bool, List, [], ◌∷◌, ◌++◌, length, take, map, option_to_list}
 use Rattle.gx_matrix.specs.Commands.{error_cleared}
+use Rattle.gx_matrix.specs.declared.commands.GeometryCommand.{GeometryCommand}
 use Rattle.gx_geometry.specs.declared.numbers.Numbers.{Numbers}
 use Rattle.gx_geometry.specs.declared.polygons.Vertex.{Vertex}
 use Rattle.gx_geometry.specs.declared.polygons.Polygon.{Polygon}
@@ -9,7 +10,7 @@ use Rattle.gx_geometry.specs.Polygons.{Arrival, arrival_of, polygon_of, most_ver
 -- What is done to the engine between two swaps: a command is taken with its parameters, the stacks' error is cleared (GBATEK, a write of 1 to GXSTAT
 -- bit 15), or the lists' overflow is (a write of 1 to DISP3DCNT bit 13).
 pub data GeometryAct : Type 0 where
-  Command : ℕ → List ℕ → GeometryAct
+  Command : GeometryCommand → List ℕ → GeometryAct
   ClearError : GeometryAct
   ClearOverflow : GeometryAct
 
@@ -22,9 +23,9 @@ numbers_cleared s = record s { stacks = error_cleared s.stacks }
 -- the vertices that came, each with what a polygon that it completes has
 unfoldable pub arrivals : Numbers → List GeometryAct → List Arrival
 arrivals s [] = []
-arrivals s (Command code params ∷ acts) =
-    let after = numbers_after code params s in
-    if gives_vertex code then arrival_of after ∷ arrivals after acts else arrivals after acts
+arrivals s (Command command params ∷ acts) =
+    let after = numbers_after command params s in
+    if gives_vertex command then arrival_of after ∷ arrivals after acts else arrivals after acts
 arrivals s (ClearError ∷ acts) = arrivals (numbers_cleared s) acts
 arrivals s (ClearOverflow ∷ acts) = arrivals s acts
 
@@ -56,7 +57,7 @@ dropped arrived = (length (vertices_of arrived) - most_vertices) + (length (poly
 -- the overflow isn't cleared by any of these
 abbrev pub AreNoClear : List GeometryAct → Type 0
 AreNoClear [] = Unit {0}
-AreNoClear (Command code params ∷ acts) = AreNoClear acts
+AreNoClear (Command command params ∷ acts) = AreNoClear acts
 AreNoClear (ClearError ∷ acts) = AreNoClear acts
 AreNoClear (ClearOverflow ∷ acts) = ⊥
 

@@ -1,6 +1,8 @@
 use Rattle.std.specs.Prelude.{ℕ, ◌*◌, ◌/◌, ◌%◌, ◌^◌, ◌==◌, if◌then◌else◌, false, ℤ, pos, ◌+ℤ◌, ◌*ℤ◌, List, [], ◌∷◌, replicate, slice_index}
 use Rattle.std.specs.Int.{cast_signed, int_wrap, w16}
 use Rattle.gx_matrix.specs.Commands.{signed_bits, stacks_at_boot}
+use Rattle.gx_matrix.specs.declared.commands.GeometryCommand.{GeometryCommand}
+use Rattle.gx_matrix.specs.declared.commands.GeometryCommand.TheVariants.{Vtx16, Vtx10, VtxXy, VtxXz, VtxYz, VtxDiff}
 use Rattle.gx_geometry.specs.declared.numbers.Point.{Point}
 use Rattle.gx_geometry.specs.declared.numbers.Coordinates.{Coordinates}
 use Rattle.gx_geometry.specs.declared.numbers.Light.{Light}
@@ -40,15 +42,17 @@ unfoldable pub point_moved : ℕ → Point → Point
 point_moved word p =
     point_of (int_wrap w16 (p.x +ℤ ten 0 word)) (int_wrap w16 (p.y +ℤ ten 1 word)) (int_wrap w16 (p.z +ℤ ten 2 word))
 
-unfoldable pub point_after : ℕ → List ℕ → Point → Point
-point_after code params p =
-    let word = slice_index params 0 in
-    if code == 0x23 then point_by_halves params else (
-    if code == 0x24 then point_by_tens word else (
-    if code == 0x25 then point_of (low_half word) (high_half word) p.z else (
-    if code == 0x26 then point_of (low_half word) p.y (high_half word) else (
-    if code == 0x27 then point_of p.x (low_half word) (high_half word) else
-    point_moved word p))))
+unfoldable pub point_by_word : GeometryCommand → ℕ → Point → Point
+point_by_word Vtx10 word p = point_by_tens word
+point_by_word VtxXy word p = point_of (low_half word) (high_half word) p.z
+point_by_word VtxXz word p = point_of (low_half word) p.y (high_half word)
+point_by_word VtxYz word p = point_of p.x (low_half word) (high_half word)
+point_by_word VtxDiff word p = point_moved word p
+point_by_word _ word p = p
+
+unfoldable pub point_after : GeometryCommand → List ℕ → Point → Point
+point_after Vtx16 params p = point_by_halves params
+point_after command params p = point_by_word command (slice_index params 0) p
 
 -- all is 0 at boot, the matrices are the identity, and the kind is triangles (our choice)
 abbrev pub no_light : Light

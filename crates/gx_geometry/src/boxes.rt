@@ -1,6 +1,6 @@
 //! Vertices through the clip matrix, and the box test.
 
-ghost use Rattle.std.specs.Prelude.{◌≡◌, ◌<◌, ◌≤◌, neg_ℤ, length, Bool};
+ghost use Rattle.std.specs.Prelude.{◌≡◌, neg_ℤ, length};
 ghost use Rattle.gx_geometry.specs.Boxes.{through, far_side, corner, corners_of, outside, all_outside, box_test};
 
 use crate::exact::wrapped_sum;
@@ -52,7 +52,7 @@ pub fn through(p: Point, m: &Matrix) -> Clipped
     }
 }
 
-#[tactic(auto, using(gx_matrix::proofs::Sums::casts))]
+#[tactic(auto, using(gx_matrix::proofs::Sums::casts), unfolding(crate::specs::Boxes::far_side))]
 fn far_side(far: bool, from: i16, size: i16) -> i16
     ensures { result ≡ far_side far from size }
 {

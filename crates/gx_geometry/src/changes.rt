@@ -1,18 +1,18 @@
 //! What each command leaves of the numbers.
 
-ghost use Rattle.std.specs.Prelude.{◌≡◌, ◌<◌, ◌≤◌, ◌+◌, ◌^◌, length, slice_index, slice_set, IsTrue};
+ghost use Rattle.std.specs.Prelude.{◌≡◌, ◌<◌, ◌≤◌, ◌^◌, length};
 ghost use Rattle.ds_base.specs.Bits.{bits, bit};
-ghost use Rattle.gx_geometry.specs.Numbers.{kind_of};
+ghost use Rattle.gx_matrix.specs.CommandTable.{HasParameters};
 ghost use Rattle.gx_geometry.specs.Coordinates.{transform_mode};
-ghost use Rattle.gx_geometry.specs.States.{IsCommand};
 ghost use Rattle.gx_geometry.specs.Bounds.{AreSmall};
-ghost use Rattle.gx_geometry.specs.Changes.{numbers_after, normal_given, coordinates_of, coordinates_given, vertex_given, diffuse_given, specular_given, light_pointed, light_coloured, run_begun};
+ghost use Rattle.gx_geometry.specs.Changes.{gives_vertex, numbers_drawn, numbers_lit, numbers_after, normal_given, coordinates_given, vertex_given, diffuse_given, specular_given, light_pointed, light_coloured, run_begun};
 
 use crate::coordinates::{by_coordinates, by_normal, by_vertex};
 use crate::lights::{lit_colour, turned};
 use crate::numbers::{
     Coordinates, Light, Numbers, high_half, kind_of, low_half, point_after, point_by_halves,
 };
+use gx_matrix::GeometryCommand;
 
 fn transform_mode(texture: u32) -> u32
     ensures { result ≡ transform_mode texture }
@@ -47,6 +47,21 @@ fn light_number(word: u32) -> u8
     (word >> 30 & 3) as u8
 }
 
+/// Whether a command gives a vertex.
+pub fn gives_vertex(command: GeometryCommand) -> bool
+    ensures { result ≡ gives_vertex command }
+{
+    match command {
+        GeometryCommand::Vtx16
+        | GeometryCommand::Vtx10
+        | GeometryCommand::VtxXy
+        | GeometryCommand::VtxXz
+        | GeometryCommand::VtxYz
+        | GeometryCommand::VtxDiff => true,
+        _ => false,
+    }
+}
+
 impl Numbers {
     #[tactic(auto, unfolding(crate::specs::Changes::normal_given))]
     pub fn give_normal(&mut self, word: u32)
@@ -75,13 +90,13 @@ impl Numbers {
     }
 
     #[tactic(auto, unfolding(crate::specs::Changes::vertex_given))]
-    pub fn give_vertex(&mut self, code: u8, params: &[u32])
+    pub fn give_vertex(&mut self, command: GeometryCommand, params: &[u32])
+        requires parameters { HasParameters command params.now }
         requires some { 1 ≤ length params.now }
-        requires halves { code ≡ 0x23 → length params.now ≡ 2 }
         requires run { self.old.run ≤ 2 ^ 56 }
-        ensures { self.new ≡ vertex_given code params.now self.old }
+        ensures { self.new ≡ vertex_given command params.now self.old }
     {
-        self.point = point_after(code, params, self.point);
+        self.point = point_after(command, params, self.point);
         if transform_mode(self.texture) == 3 {
             self.coordinates = by_vertex(self.point, self.raw, &self.stacks.texture());
         }
@@ -139,82 +154,70 @@ impl Numbers {
         self.attributes = self.set;
     }
 
-    #[tactic(auto, using(crate::proofs::Parameters::vertex_some, crate::proofs::Parameters::vertex_halves), unfolding(crate::specs::Changes::numbers_after, crate::specs::States::command_of))]
-    fn change_by_vertices(&mut self, code: u8, params: &[u32])
-        requires command { IsCommand code params.now }
-        requires low { 0x20 ≤ code }
-        requires high { code < 0x2C }
+    /// A vertex, the run, the viewport, a swap's parameter, the point of a test, or the matrices.
+    #[tactic(auto, unfolding(crate::specs::Changes::numbers_drawn))]
+    fn change_drawn(&mut self, command: GeometryCommand, params: &[u32])
+        requires parameters { HasParameters command params.now }
         requires run { self.old.run ≤ 2 ^ 56 }
-        ensures { self.new ≡ numbers_after code params.now self.old }
+        ensures { self.new ≡ numbers_drawn command params.now self.old }
     {
-        match code {
-            0x20 => self.colour = low_colour(params[0]),
-            0x21 => self.give_normal(params[0]),
-            0x22 => self.give_coordinates(params[0]),
-            0x29 => self.set = params[0],
-            0x2A => self.texture = params[0],
-            0x2B => self.palette = params[0] & 0x1FFF,
-            _ => self.give_vertex(code, params),
+        match command {
+            GeometryCommand::BeginVtxs => self.begin(params[0]),
+            GeometryCommand::SwapBuffers => self.parameter = params[0],
+            GeometryCommand::Viewport => self.viewport = params[0],
+            GeometryCommand::PosTest => self.point = point_by_halves(params),
+            GeometryCommand::Vtx16
+            | GeometryCommand::Vtx10
+            | GeometryCommand::VtxXy
+            | GeometryCommand::VtxXz
+            | GeometryCommand::VtxYz
+            | GeometryCommand::VtxDiff => self.give_vertex(command, params),
+            _ => self.stacks.take_command(command, params),
         }
     }
 
-    #[tactic(auto, unfolding(crate::specs::Changes::numbers_after, crate::specs::States::command_of))]
-    fn change_by_lights(&mut self, code: u8, params: &[u32])
-        requires command { IsCommand code params.now }
-        requires low { 0x2C ≤ code }
-        requires high { code < 0x40 }
-        ensures { self.new ≡ numbers_after code params.now self.old }
+    /// Lighting, or what isn't it.
+    #[tactic(auto, unfolding(crate::specs::Changes::numbers_lit))]
+    fn change_lit(&mut self, command: GeometryCommand, params: &[u32])
+        requires parameters { HasParameters command params.now }
+        requires run { self.old.run ≤ 2 ^ 56 }
+        ensures { self.new ≡ numbers_lit command params.now self.old }
     {
-        match code {
-            0x30 => self.give_diffuse(params[0]),
-            0x31 => self.give_specular(params[0]),
-            0x32 => self.point_light(params[0]),
-            0x33 => self.colour_light(params[0]),
-            0x34 => self.table.copy_from_slice(params),
-            _ => (),
-        }
-    }
-
-    #[tactic(auto, unfolding(crate::specs::Changes::numbers_after, crate::specs::States::command_of))]
-    fn change_by_others(&mut self, code: u8, params: &[u32])
-        requires command { IsCommand code params.now }
-        requires low { 0x40 ≤ code }
-        ensures { self.new ≡ numbers_after code params.now self.old }
-    {
-        match code {
-            0x40 => self.begin(params[0]),
-            0x50 => self.parameter = params[0],
-            0x60 => self.viewport = params[0],
-            0x71 => self.point = point_by_halves(params),
-            _ => (),
+        match command {
+            GeometryCommand::Normal => self.give_normal(params[0]),
+            GeometryCommand::DifAmb => self.give_diffuse(params[0]),
+            GeometryCommand::SpeEmi => self.give_specular(params[0]),
+            GeometryCommand::LightVector => self.point_light(params[0]),
+            GeometryCommand::LightColor => self.colour_light(params[0]),
+            GeometryCommand::Shininess => self.table.copy_from_slice(params),
+            _ => self.change_drawn(command, params),
         }
     }
 
     /// What a command leaves of the numbers.
-    #[tactic(auto, unfolding(crate::specs::Changes::numbers_after, crate::specs::States::command_of))]
-    pub fn change(&mut self, code: u8, params: &[u32])
-        requires command { IsCommand code params.now }
+    #[tactic(auto, unfolding(crate::specs::Changes::numbers_after))]
+    fn change(&mut self, command: GeometryCommand, params: &[u32])
+        requires parameters { HasParameters command params.now }
         requires run { self.old.run ≤ 2 ^ 56 }
-        ensures { self.new ≡ numbers_after code params.now self.old }
+        ensures { self.new ≡ numbers_after command params.now self.old }
     {
-        if code < 0x20 {
-            self.stacks.command(code, params);
-        } else if code < 0x2C {
-            self.change_by_vertices(code, params);
-        } else if code < 0x40 {
-            self.change_by_lights(code, params);
-        } else {
-            self.change_by_others(code, params);
+        match command {
+            GeometryCommand::Color => self.colour = low_colour(params[0]),
+            GeometryCommand::Texcoord => self.give_coordinates(params[0]),
+            GeometryCommand::PolygonAttr => self.set = params[0],
+            GeometryCommand::TeximageParam => self.texture = params[0],
+            GeometryCommand::PlttBase => self.palette = params[0] & 0x1FFF,
+            _ => self.change_lit(command, params),
         }
     }
 
     /// The same, which keeps what holds of the numbers at every time.
-    pub fn renew(&mut self, code: u8, params: &[u32])
-        requires command { IsCommand code params.now }
+    pub fn renew(&mut self, command: GeometryCommand, params: &[u32])
+        requires parameters { HasParameters command params.now }
         requires run { self.old.run ≤ 2 ^ 56 }
-        ensures value { self.new ≡ numbers_after code params.now self.old }
+        ensures value { self.new ≡ numbers_after command params.now self.old }
         ensures small { AreSmall self.old → AreSmall self.new }
     {
-        self.change(code, params);
+        self.change(command, params);
     }
 }

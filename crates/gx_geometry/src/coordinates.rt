@@ -1,10 +1,10 @@
 //! Texture coordinates, and the vector test, which sums the same way.
 
-ghost use Rattle.std.specs.Prelude.{◌≡◌, ◌<◌, ◌≤◌, ◌/◌, ◌%◌, ◌^◌, ◌+ℤ◌, ◌*ℤ◌};
+ghost use Rattle.std.specs.Prelude.{◌≡◌, ◌<◌, ◌/◌, ◌%◌, ◌^◌, ◌+ℤ◌, ◌*ℤ◌};
 ghost use Rattle.std.specs.Int.{int_wrap, w16, w64, cast_signed, cast_unsigned};
 ghost use Rattle.gx_matrix.specs.Algebra.{cell};
 ghost use Rattle.gx_geometry.specs.Numbers.{ten};
-ghost use Rattle.gx_geometry.specs.Coordinates.{with_three, with_coordinates, coordinate_moved, by_coordinates, by_normal, by_vertex, signed_13, tested_cell, vector_test};
+ghost use Rattle.gx_geometry.specs.Coordinates.{with_three, with_coordinates, half_of_sum, coordinate_moved, by_coordinates, by_normal, by_vertex, signed_13, tested_cell, vector_test};
 
 use crate::exact::{product, wrapped_sum};
 use crate::numbers::{Coordinates, Point, ten};
@@ -36,7 +36,7 @@ fn wrapped_four(a: i64, b: i64, c: i32, d: i32) -> i64
 }
 
 /// Three numbers times the first three cells of a column.
-#[tactic(auto, using(gx_matrix::proofs::Sums::casts))]
+#[tactic(auto, using(gx_matrix::proofs::Sums::casts), unfolding(crate::specs::Coordinates::with_three))]
 fn with_three(a: i16, b: i16, c: i16, m: &Matrix, j: usize) -> i64
     requires { j < 4 }
     ensures { result ≡ int_wrap w64 (with_three a b c m.now j) }
@@ -48,7 +48,15 @@ fn with_three(a: i16, b: i16, c: i16, m: &Matrix, j: usize) -> i64
     )
 }
 
-#[tactic(auto, using(gx_matrix::proofs::Sums::casts))]
+/// The three numbers of a word times them.
+fn with_tens(word: u32, m: &Matrix, j: usize) -> i64
+    requires { j < 4 }
+    ensures { result ≡ int_wrap w64 (with_three (ten 0 word) (ten 1 word) (ten 2 word) m.now j) }
+{
+    with_three(ten(0, word), ten(10, word), ten(20, word), m, j)
+}
+
+#[tactic(auto, using(gx_matrix::proofs::Sums::casts), unfolding(crate::specs::Coordinates::with_coordinates))]
 fn with_coordinates(raw: Coordinates, m: &Matrix, j: usize) -> i64
     requires { j < 4 }
     ensures { result ≡ int_wrap w64 (with_coordinates raw m.now j) }
@@ -80,13 +88,20 @@ pub fn by_coordinates(raw: Coordinates, m: &Matrix) -> Coordinates
     }
 }
 
+/// By how much a normal moves a coordinate.
 #[tactic(auto, using(crate::proofs::Halves::halves))]
+fn half_of_normal(word: u32, m: &Matrix, j: usize) -> i16
+    requires { j < 2 }
+    ensures { result ≡ half_of_sum 131072 (with_three (ten 0 word) (ten 1 word) (ten 2 word) m.now j) }
+{
+    half_from(17, with_tens(word, m, j))
+}
+
 fn by_normal_at(word: u32, m: &Matrix, j: usize, base: i16) -> i16
     requires { j < 2 }
     ensures { result ≡ coordinate_moved 131072 (ten 0 word) (ten 1 word) (ten 2 word) m.now j base }
 {
-    let sum = with_three(ten(0, word), ten(10, word), ten(20, word), m, j);
-    wrapped_sum(half_from(17, sum), base)
+    wrapped_sum(half_of_normal(word, m, j), base)
 }
 
 /// The coordinates of mode 2, which a normal moves.
@@ -100,12 +115,20 @@ pub fn by_normal(word: u32, raw: Coordinates, m: &Matrix) -> Coordinates
     }
 }
 
+/// By how much a vertex moves a coordinate.
 #[tactic(auto, using(crate::proofs::Halves::halves))]
+fn half_of_vertex(p: Point, m: &Matrix, j: usize) -> i16
+    requires { j < 2 }
+    ensures { result ≡ half_of_sum 1048576 (with_three p.x p.y p.z m.now j) }
+{
+    half_from(20, with_three(p.x, p.y, p.z, m, j))
+}
+
 fn by_vertex_at(p: Point, m: &Matrix, j: usize, base: i16) -> i16
     requires { j < 2 }
     ensures { result ≡ coordinate_moved 1048576 p.x p.y p.z m.now j base }
 {
-    wrapped_sum(half_from(20, with_three(p.x, p.y, p.z, m, j)), base)
+    wrapped_sum(half_of_vertex(p, m, j), base)
 }
 
 /// The coordinates of mode 3, which a vertex moves.
@@ -119,11 +142,20 @@ pub fn by_vertex(p: Point, raw: Coordinates, m: &Matrix) -> Coordinates
     }
 }
 
-/// Thirteen bits of a sum from bit 9 on, as a signed number.
-fn signed_13(sum: i64) -> i16
-    ensures { result ≡ signed_13 (cast_unsigned w64 sum / 512 % 8192) }
+/// Thirteen bits of a sum from bit 9 on.
+fn thirteen_bits(sum: i64) -> u16
+    ensures value { result ≡ cast_unsigned w64 sum / 512 % 8192 }
+    ensures within { result < 8192 }
 {
-    let number = ((sum.cast_unsigned() >> 9 & 0x1FFF) as u16).cast_signed();
+    (sum.cast_unsigned() >> 9 & 0x1FFF) as u16
+}
+
+/// Thirteen bits as a signed number.
+fn signed_13(bits: u16) -> i16
+    requires { bits < 8192 }
+    ensures { result ≡ signed_13 bits }
+{
+    let number = bits.cast_signed();
     if number < 4096 { number } else { number - 8192 }
 }
 
@@ -132,7 +164,7 @@ fn tested_cell(word: u32, m: &Matrix, j: usize) -> i16
     requires { j < 3 }
     ensures { result ≡ tested_cell word m.now j }
 {
-    signed_13(with_three(ten(0, word), ten(10, word), ten(20, word), m, j))
+    signed_13(thirteen_bits(with_tens(word, m, j)))
 }
 
 /// What the vector test of three signed numbers of ten bits gives.

@@ -10,17 +10,16 @@
 mod boxes;
 mod capped;
 mod changes;
-mod commands;
 mod coordinates;
 mod engine;
 mod exact;
 mod lights;
 mod lists;
 mod numbers;
+mod outcomes;
 mod polygons;
 mod results;
 
-pub use commands::command_row;
 pub use engine::Geometry;
 pub use lists::Lists;
 pub use polygons::{Polygon, Vertex};

@@ -1,8 +1,7 @@
 //! Lighting: the colour of a normal (GBATEK, "DS 3D Polygon Light Parameters").
 
-ghost use Rattle.std.specs.Prelude.{◌≡◌, ◌<◌, ◌≤◌, ◌+◌, ◌*◌, ◌/◌, ◌^◌, [], ◌∷◌, ◌-ℤ◌, ◌≤ℤ◌, pos, negsuc, neg_ℤ, min};
-ghost use Rattle.std.specs.Int.{int_div_euclid};
-ghost use Rattle.gx_geometry.specs.Lights.{direction, turned, dot, facing, half, table_byte, shine, light_levels, channel, share, added, lit_channel, lit_colour};
+ghost use Rattle.std.specs.Prelude.{◌≡◌, ◌<◌, ◌≤◌, ◌*◌, ◌/◌, ◌^◌, [], ◌∷◌, ◌-ℤ◌, ◌≤ℤ◌, pos, negsuc};
+ghost use Rattle.gx_geometry.specs.Lights.{turned, dot, facing, half, table_byte, shine, light_levels, channel, share, added, lit_channel, lit_colour};
 
 use crate::exact::{product, sum};
 use crate::numbers::{Light, Material, Numbers, ten};

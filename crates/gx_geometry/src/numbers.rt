@@ -1,12 +1,12 @@
 //! The numbers that geometry commands keep, and the fields of their parameters.
 
-ghost use Rattle.std.specs.Prelude.{◌≡◌, ◌<◌, ◌≤◌, ◌+◌, ◌*◌, ◌/◌, ◌%◌, ◌^◌, ℤ, pos, negsuc, ◌+ℤ◌, ◌*ℤ◌, ◌≤ℤ◌, length, slice_index};
-ghost use Rattle.std.specs.Int.{int_wrap, w16};
+ghost use Rattle.std.specs.Prelude.{◌≡◌, ◌<◌, ◌≤◌, ◌*◌, ℤ, pos, negsuc, ◌*ℤ◌, ◌≤ℤ◌, length};
 ghost use Rattle.gx_matrix.specs.Commands.{signed_bits};
-ghost use Rattle.gx_geometry.specs.Numbers.{low_half, high_half, kind_of, point_by_halves, point_by_tens, point_moved, point_after};
+ghost use Rattle.gx_matrix.specs.CommandTable.{HasParameters};
+ghost use Rattle.gx_geometry.specs.Numbers.{low_half, high_half, kind_of, point_by_halves, point_by_tens, point_moved, point_by_word, point_after};
 
 use crate::exact::wrapped_sum;
-use gx_matrix::Stacks;
+use gx_matrix::{GeometryCommand, Stacks};
 
 /// The kind of the polygons that a run of vertices makes (GBATEK, BEGIN_VTXS).
 #[derive(Clone, Copy)]
@@ -186,33 +186,43 @@ fn point_moved(word: u32, p: Point) -> Point
     }
 }
 
-/// The current vertex after a vertex command.
-#[tactic(auto, using(gx_matrix::proofs::Sums::casts), unfolding(crate::specs::Numbers::point_after))]
-pub fn point_after(code: u8, params: &[u32], p: Point) -> Point
-    requires some { 1 ≤ length params.now }
-    requires halves { code ≡ 0x23 → length params.now ≡ 2 }
-    ensures { result ≡ point_after code params.now p }
+/// The current vertex after a vertex command of one word.
+#[tactic(auto, using(gx_matrix::proofs::Sums::casts), unfolding(crate::specs::Numbers::point_by_word))]
+fn point_by_word(command: GeometryCommand, word: u32, p: Point) -> Point
+    ensures { result ≡ point_by_word command word p }
 {
-    let word = params[0];
     let (low, high) = (low_half(word), high_half(word));
-    match code {
-        0x23 => point_by_halves(params),
-        0x24 => point_by_tens(word),
-        0x25 => Point {
+    match command {
+        GeometryCommand::Vtx10 => point_by_tens(word),
+        GeometryCommand::VtxXy => Point {
             x: low,
             y: high,
             ..p
         },
-        0x26 => Point {
+        GeometryCommand::VtxXz => Point {
             x: low,
             z: high,
             ..p
         },
-        0x27 => Point {
+        GeometryCommand::VtxYz => Point {
             y: low,
             z: high,
             ..p
         },
-        _ => point_moved(word, p),
+        GeometryCommand::VtxDiff => point_moved(word, p),
+        _ => p,
+    }
+}
+
+/// The current vertex after a vertex command.
+#[tactic(auto, unfolding(crate::specs::Numbers::point_after))]
+pub fn point_after(command: GeometryCommand, params: &[u32], p: Point) -> Point
+    requires parameters { HasParameters command params.now }
+    requires some { 1 ≤ length params.now }
+    ensures { result ≡ point_after command params.now p }
+{
+    match command {
+        GeometryCommand::Vtx16 => point_by_halves(params),
+        _ => point_by_word(command, params[0], p),
     }
 }

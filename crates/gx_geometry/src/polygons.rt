@@ -1,16 +1,16 @@
 //! Vertices and polygons, as the lists of a swap have them.
 
-ghost use Rattle.std.specs.Prelude.{◌≡◌, ◌<◌, ◌≤◌, ◌+◌, ◌-◌, ◌^◌, ◌-ℤ◌, ◌+ℤ◌, ◌*ℤ◌, ◌≤ℤ◌, pos, negsuc, length, slice_index, slice_index_or, Option, Some, None, IfSome};
+ghost use Rattle.std.specs.Prelude.{◌≡◌, ◌<◌, ◌≤◌, ◌+◌, ◌-◌, ◌^◌, ◌-ℤ◌, ◌+ℤ◌, ◌*ℤ◌, ◌≤ℤ◌, pos, negsuc, length, slice_index, IfSome};
 ghost use Rattle.ds_base.specs.Bits.{bit};
 ghost use Rattle.gx_geometry.specs.Polygons.{vertex_of, arrival_of, most_vertices, minor, times_minor, determinant, is_kept, polygon_of};
-ghost use Rattle.gx_geometry.specs.Backs.{shape_of, corners_back, vertex_back, reaches_back, seen_back, indices_back, polygon_back, polygon_by_shape};
+ghost use Rattle.gx_geometry.specs.Backs.{shape_of, corners_back, vertex_back, seen_back, indices_back, polygon_back, polygon_by_shape};
 
 use crate::boxes::through;
 use crate::exact::product;
 use crate::numbers::{Kind, Numbers};
 
 /// A vertex in clip space: x, y, z and w are signed words with 12 fractional bits (GBATEK, "DS 3D Polygon Definitions by Vertices").
-#[derive(Clone, Copy, PartialEq, Eq)]
+#[derive(Clone, Copy)]
 pub struct Vertex {
     /// Across.
     pub x: i32,
@@ -29,7 +29,7 @@ pub struct Vertex {
 }
 
 /// A polygon of three or four vertices.
-#[derive(Clone, Copy, PartialEq, Eq)]
+#[derive(Clone, Copy)]
 pub struct Polygon {
     /// The attributes (GBATEK, POLYGON_ATTR).
     pub attributes: u32,

@@ -1,7 +1,7 @@
 //! What the geometry engine's registers show of tests and of the open lists.
 
 /// The results of tests, and how far the open lists are filled.
-#[derive(Clone, Copy, PartialEq, Eq)]
+#[derive(Clone, Copy)]
 pub struct Results {
     /// The vertex of the last position test in clip space: x, y, z, w, and 0 before (GBATEK, POS_RESULT).
     pub position: [i32; 4],

@@ -1,7 +1,8 @@
-use Rattle.std.specs.Prelude.{ℕ, ◌≡◌, ◌≤◌, ◌+◌, ◌-◌, ◌*◌, ◌^◌, ◌==◌, nat_lt, nat_le, if◌then◌else◌, Bool, true, false, ℤ, pos, negsuc, ◌-ℤ◌, Option, Some, None, List, [], ◌∷◌, length, replicate, slice_index, slice_index_or, slice_set}
+use Rattle.std.specs.Prelude.{ℕ, ◌+◌, ◌-◌, ◌*◌, ◌^◌, ◌==◌, nat_lt, nat_le, if◌then◌else◌, Bool, true, false, ℤ, pos, negsuc, ◌-ℤ◌, Option, Some, None, List, replicate, slice_index, slice_index_or, slice_set}
 use Rattle.ds_base.specs.Bits.{bits, flag}
 use Rattle.ds_base.specs.declared.matrices.Matrix.{Matrix}
-use Rattle.gx_matrix.specs.declared.commands.CommandRow.{CommandRow}
+use Rattle.gx_matrix.specs.declared.commands.GeometryCommand.{GeometryCommand}
+use Rattle.gx_matrix.specs.declared.commands.GeometryCommand.TheVariants.{MtxMode, MtxPush, MtxPop, MtxStore, MtxRestore, MtxIdentity, MtxLoad4x4, MtxLoad4x3, MtxMult4x4, MtxMult4x3, MtxMult3x3, MtxScale, MtxTrans}
 use Rattle.gx_matrix.specs.declared.stacks.Mode.{Mode}
 use Rattle.gx_matrix.specs.declared.stacks.Mode.TheVariants.{Projection, Position, PositionAndVector, Texture}
 use Rattle.gx_matrix.specs.declared.stacks.Pose.{Pose}
@@ -146,42 +147,25 @@ matrix_restored Position word s = pose_restored (named_place word) s
 matrix_restored PositionAndVector word s = pose_restored (named_place word) s
 matrix_restored Texture word s = record s { texture = single_restored s.texture }
 
--- a row of GBATEK's list of geometry commands: the command's code, its number of parameters, and its bus clocks
-abbrev pub command_row : ℕ → ℕ → ℕ → CommandRow
-command_row code parameters clocks = record { code = code; parameters = parameters; clocks = clocks }
+-- what each matrix command leaves; no other command changes matrices (GBATEK, "DS 3D Matrix Load/Multiply" and "DS 3D Matrix Stack")
+unfoldable pub current_changed : GeometryCommand → List ℕ → StacksState → StacksState
+current_changed MtxIdentity params s = matrix_loaded s.mode identity s
+current_changed MtxLoad4x4 params s = matrix_loaded s.mode (given 4 4 params) s
+current_changed MtxLoad4x3 params s = matrix_loaded s.mode (given 4 3 params) s
+current_changed MtxMult4x4 params s = multiplied s.mode (given 4 4 params) s
+current_changed MtxMult4x3 params s = multiplied s.mode (given 4 3 params) s
+current_changed MtxMult3x3 params s = multiplied s.mode (given 3 3 params) s
+current_changed MtxScale params s = multiplied (scaled_mode s.mode) (scaling params) s
+current_changed MtxTrans params s = multiplied s.mode (translation params) s
+current_changed _ params s = s
 
--- the matrix commands (GBATEK, "DS 3D Geometry Commands")
-abbrev pub matrix_rows : List CommandRow
-matrix_rows =
-    command_row 0x10 1 1 ∷ command_row 0x11 0 17 ∷ command_row 0x12 1 36 ∷ command_row 0x13 1 17 ∷ command_row 0x14 1 36
-    ∷ command_row 0x15 0 19 ∷ command_row 0x16 16 34 ∷ command_row 0x17 12 30
-    ∷ command_row 0x18 16 35 ∷ command_row 0x19 12 31 ∷ command_row 0x1A 9 28 ∷ command_row 0x1B 3 22 ∷ command_row 0x1C 3 22 ∷ []
-
-abbrev pub no_command : CommandRow
-no_command = command_row 0 0 0
-
--- whether they are a matrix command's code and parameters
-abbrev pub IsMatrixCommand : ℕ → List ℕ → Type 0
-IsMatrixCommand code params =
-    (0x10 ≤ code) × (code ≤ 0x1C) × (length params ≡ (slice_index_or matrix_rows (code - 0x10) no_command).parameters)
-
--- what each of them leaves (GBATEK, "DS 3D Matrix Stack" and "DS 3D Matrix Load/Multiply")
-abbrev pub commanded : ℕ → List ℕ → StacksState → StacksState
-commanded code params s =
-    let first = slice_index params 0 in
-    if code == 0x10 then record s { mode = mode_of (bits 0 2 first) } else (
-    if code == 0x11 then pushed s.mode s else (
-    if code == 0x12 then popped s.mode first s else (
-    if code == 0x13 then stored s.mode first s else (
-    if code == 0x14 then matrix_restored s.mode first s else (
-    if code == 0x15 then matrix_loaded s.mode identity s else (
-    if code == 0x16 then matrix_loaded s.mode (given 4 4 params) s else (
-    if code == 0x17 then matrix_loaded s.mode (given 4 3 params) s else (
-    if code == 0x18 then multiplied s.mode (given 4 4 params) s else (
-    if code == 0x19 then multiplied s.mode (given 4 3 params) s else (
-    if code == 0x1A then multiplied s.mode (given 3 3 params) s else (
-    if code == 0x1B then multiplied (scaled_mode s.mode) (scaling params) s else
-    multiplied s.mode (translation params) s)))))))))))
+unfoldable pub commanded : GeometryCommand → List ℕ → StacksState → StacksState
+commanded MtxMode params s = record s { mode = mode_of (bits 0 2 (slice_index params 0)) }
+commanded MtxPush params s = pushed s.mode s
+commanded MtxPop params s = popped s.mode (slice_index params 0) s
+commanded MtxStore params s = stored s.mode (slice_index params 0) s
+commanded MtxRestore params s = matrix_restored s.mode (slice_index params 0) s
+commanded command params s = current_changed command params s
 
 -- the clip matrix: position times projection (GBATEK, CLIPMTX_RESULT)
 abbrev pub clip_of : StacksState → Matrix

@@ -1,9 +1,11 @@
 //! The current matrices, their stacks, and the commands that change them.
 
-ghost use Rattle.std.specs.Prelude.{◌≡◌, ◌<◌, ◌≤◌, ◌+◌, ◌^◌, length, pos, negsuc, ◌-ℤ◌, ◌≤ℤ◌, IfSome};
-ghost use Rattle.gx_matrix.specs.Commands.{StacksState, stacks_at_boot, mode_of, matrix_loaded, multiplied, scaled_mode, pose_place, pose_pushed, pushed, popped_place, pose_popped, popped, signed_bits, named_place, pose_stored, stored, pose_restored, matrix_restored, IsMatrixCommand, commanded, clip_of, levels_of, error_cleared};
+ghost use Rattle.std.specs.Prelude.{◌≡◌, ◌<◌, ◌≤◌, pos, negsuc, ◌-ℤ◌, ◌≤ℤ◌, IfSome};
+ghost use Rattle.gx_matrix.specs.Commands.{StacksState, stacks_at_boot, mode_of, matrix_loaded, multiplied, scaled_mode, pose_place, pose_pushed, pushed, popped_place, pose_popped, popped, signed_bits, named_place, pose_stored, stored, pose_restored, matrix_restored, current_changed, commanded, clip_of, levels_of, error_cleared};
+ghost use Rattle.gx_matrix.specs.CommandTable.{command_of, HasParameters, IsCommand, command_taken};
 
 use crate::algebra::{given, identity, product, scaling, translation};
+use crate::commands::GeometryCommand;
 use ds_base::Matrix;
 use std::marker::Model;
 
@@ -295,46 +297,49 @@ impl Stacks {
         }
     }
 
-    fn stack_command(&mut self, code: u8, params: &[u32])
-        requires command { IsMatrixCommand code params.now }
-        requires kind { code < 0x15 }
-        ensures { self.new ≡ commanded code params.now self.old }
+    /// A command that changes the current matrices; any other leaves all as it is.
+    #[tactic(auto, unfolding(crate::specs::Commands::current_changed))]
+    fn change_current(&mut self, command: GeometryCommand, params: &[u32])
+        requires { HasParameters command params.now }
+        ensures { self.new ≡ current_changed command params.now self.old }
     {
-        match code {
-            0x10 => self.mode = mode_of(params[0] & 3),
-            0x11 => self.push(),
-            0x12 => self.pop(params[0]),
-            0x13 => self.store(params[0]),
-            _ => self.restore(params[0]),
+        match command {
+            GeometryCommand::MtxIdentity => self.load(identity()),
+            GeometryCommand::MtxLoad4x4 => self.load(given(4, 4, params)),
+            GeometryCommand::MtxLoad4x3 => self.load(given(4, 3, params)),
+            GeometryCommand::MtxMult4x4 => self.multiply(self.mode, given(4, 4, params)),
+            GeometryCommand::MtxMult4x3 => self.multiply(self.mode, given(4, 3, params)),
+            GeometryCommand::MtxMult3x3 => self.multiply(self.mode, given(3, 3, params)),
+            GeometryCommand::MtxScale => self.multiply(scaled_mode(self.mode), scaling(params)),
+            GeometryCommand::MtxTrans => self.multiply(self.mode, translation(params)),
+            _ => (),
         }
     }
 
-    fn matrix_command(&mut self, code: u8, params: &[u32])
-        requires command { IsMatrixCommand code params.now }
-        requires kind { 0x15 ≤ code }
-        ensures { self.new ≡ commanded code params.now self.old }
+    /// A command by its name, with as many parameters as it has. Those that aren't matrix commands change nothing here.
+    #[tactic(auto, unfolding(crate::specs::Commands::commanded))]
+    pub fn take_command(&mut self, command: GeometryCommand, params: &[u32])
+        requires { HasParameters command params.now }
+        ensures { self.new ≡ commanded command params.now self.old }
     {
-        match code {
-            0x15 => self.load(identity()),
-            0x16 => self.load(given(4, 4, params)),
-            0x17 => self.load(given(4, 3, params)),
-            0x18 => self.multiply(self.mode, given(4, 4, params)),
-            0x19 => self.multiply(self.mode, given(4, 3, params)),
-            0x1A => self.multiply(self.mode, given(3, 3, params)),
-            0x1B => self.multiply(scaled_mode(self.mode), scaling(params)),
-            _ => self.multiply(self.mode, translation(params)),
+        match command {
+            GeometryCommand::MtxMode => self.mode = mode_of(params[0] & 3),
+            GeometryCommand::MtxPush => self.push(),
+            GeometryCommand::MtxPop => self.pop(params[0]),
+            GeometryCommand::MtxStore => self.store(params[0]),
+            GeometryCommand::MtxRestore => self.restore(params[0]),
+            _ => self.change_current(command, params),
         }
     }
 
-    /// A command of the codes 10h to 1Ch with its parameters, of which it has as many as GBATEK's list says.
+    /// A command by its code, with as many parameters as it has (GBATEK, "DS 3D Geometry Commands"). Those of the codes 10h to 1Ch are
+    /// matrix commands; no other changes anything here.
     pub fn command(&mut self, code: u8, params: &[u32])
-        requires { IsMatrixCommand code params.now }
-        ensures { self.new ≡ commanded code params.now self.old }
+        requires { IsCommand code params.now }
+        ensures { self.new ≡ command_taken commanded (command_of code) params.now self.old }
     {
-        if code < 0x15 {
-            self.stack_command(code, params);
-        } else {
-            self.matrix_command(code, params);
+        if let Some(command) = GeometryCommand::of(code) {
+            self.take_command(command, params);
         }
     }
 

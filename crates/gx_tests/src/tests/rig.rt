@@ -4,8 +4,8 @@ ghost use Rattle.std.specs.Prelude.{◌≤◌};
 
 use super::{Line, Which};
 use ds_base::{Matrix, Tick};
-use gx_geometry::{Geometry, Polygon, Vertex, command_row};
-use gx_matrix::times;
+use gx_geometry::{Geometry, Polygon, Vertex};
+use gx_matrix::{GeometryCommand, times};
 use std::alloc::{AllocError, Global};
 
 /// An engine, and the parameters that wait for a command of many.
@@ -101,7 +101,7 @@ impl Rig {
     /// What is asked of the matrices and the list of commands.
     fn asked(&self, line: Line) -> (u32, u32) {
         match line {
-            Line::NoCommand(code) => (command_row(code).is_some() as u32, 0),
+            Line::NoCommand(code) => (GeometryCommand::of(code).is_some() as u32, 0),
             Line::Command(code, parameters, clocks) => (
                 row_of(code),
                 number_of(code, parameters, clocks),
@@ -185,9 +185,10 @@ impl Rig {
     fn run(&mut self, code: u8, params: &[u32]) -> u32
         ensures { result ≤ 1 }
     {
-        match command_row(code) {
-            Some(row)
-                if params.len() == row.parameters as usize && self.engine.run_length() <= 1 << 56 =>
+        match GeometryCommand::of(code) {
+            Some(command)
+                if params.len() == command.parameters() as usize
+                    && self.engine.run_length() <= 1 << 56 =>
                 {
                     self.engine.command(code, params);
                     1
@@ -402,8 +403,8 @@ fn number_of(code: u8, parameters: u8, clocks: u16) -> u32 {
 }
 
 fn row_of(code: u8) -> u32 {
-    match command_row(code) {
-        Some(row) => number_of(row.code, row.parameters, row.clocks),
+    match GeometryCommand::of(code) {
+        Some(command) => number_of(code, command.parameters(), command.clocks()),
         None => 0,
     }
 }

@@ -9,5 +9,5 @@ returns-clause-lists c = open_lists c.args.self.now
 
 pub returns-clause-overflow : goal.returns-clause-overflow
 returns-clause-overflow c =
-    let flag : c.self.inside.results.overflow ≡ c.args.self.now.results.overflow = ap (λ (g : GeometryState). g.results.overflow) c.self.view_is in
-    rw flag (open_overflow c.args.self.now)
+    let flag : c.self.inside.outcome.results.overflow ≡ c.args.self.now.outcome.results.overflow = ap (λ (g : GeometryState). g.outcome.results.overflow) c.self.view_is in
+    rw (c.results.ensures.value, flag) (open_overflow c.args.self.now)

@@ -1,0 +1,161 @@
+//! What commands bring about beside the numbers: the results of tests, and the open lists.
+
+ghost use Rattle.std.specs.Prelude.{◌≡◌, ◌<◌, ◌≤◌, ◌^◌, length, IfOk, IfSome};
+ghost use Rattle.gx_matrix.specs.CommandTable.{HasParameters};
+ghost use Rattle.gx_geometry.specs.Polygons.{arrival_of, polygon_of, most_vertices};
+ghost use Rattle.gx_geometry.specs.States.{no_outcome, tested, polygon_added, vertex_added, arrived, flag_cleared, emptied};
+ghost use Rattle.gx_geometry.specs.Bounds.{AreSmall, AreLimited};
+
+use crate::boxes::{box_test, through};
+use crate::capped::Capped;
+use crate::coordinates::vector_test;
+use crate::lists::{Lists, POLYGONS, VERTICES};
+use crate::numbers::{Numbers, point_by_halves};
+use crate::polygons::{Polygon, Vertex, polygon_of, vertex_of};
+use crate::results::Results;
+use ds_base::Tick;
+use gx_matrix::GeometryCommand;
+use std::alloc::{AllocError, Global};
+use std::marker::Model;
+
+/// The results of tests and the open lists. Contracts see all of them.
+#[derive(Drop)]
+pub struct Outcome {
+    results: Results,
+    vertices: Capped<Vertex, VERTICES>,
+    polygons: Capped<Polygon, POLYGONS>,
+}
+
+impl Model for Outcome {
+    ghost use Rattle.std.specs.Prelude.{◌≡◌, ◌≤◌, length};
+    ghost use Rattle.gx_geometry.specs.Polygons.{most_vertices, most_polygons};
+    ghost use Rattle.gx_geometry.specs.Bounds.{HaveColours, HavePalettes};
+    ghost use Rattle.gx_geometry.specs.States.{OutcomeState};
+
+    ghost Value = { OutcomeState };
+
+    ghost view = { λ o. record { results = o.results; vertices = o.vertices; polygons = o.polygons } };
+
+    ghost invariant = { λ o. (o.results.vertices ≡ length o.vertices) × (o.results.polygons ≡ length o.polygons) × (length o.vertices ≤ most_vertices) × (length o.polygons ≤ most_polygons) × HaveColours o.vertices × HavePalettes o.polygons };
+}
+
+impl Outcome {
+    /// Nothing was tested, and both lists are empty; this takes their memory.
+    #[tactic(auto, using(crate::proofs::Bounds::no_colours, crate::proofs::Bounds::no_palettes))]
+    pub fn new(alloc: Global) -> Result<Outcome, AllocError>
+        ensures { IfOk result (λ o. o ≡ no_outcome) }
+    {
+        let vertices = Capped::new(alloc)?;
+        let polygons = Capped::new(alloc)?;
+        Ok(Outcome {
+            results: Results {
+                position: [0, 0, 0, 0],
+                vector: [0, 0, 0],
+                inside: false,
+                vertices: 0,
+                polygons: 0,
+                overflow: false,
+            },
+            vertices,
+            polygons,
+        })
+    }
+
+    #[tactic(auto, using(crate::proofs::Bounds::palette_added))]
+    fn add_polygon(&mut self, polygon: Option<Polygon>)
+        requires { IfSome polygon (λ p. p.palette < 2 ^ 13) }
+        ensures { self.new ≡ polygon_added polygon self.old }
+    {
+        if let Some(polygon) = polygon {
+            if (self.results.polygons as usize) < POLYGONS {
+                self.polygons.push(polygon);
+                self.results.polygons += 1;
+            } else {
+                self.results.overflow = true;
+            }
+        }
+    }
+
+    #[tactic(auto, using(crate::proofs::Bounds::colour_added))]
+    fn add_vertex(&mut self, vertex: Vertex)
+        requires room { length self.old.vertices < most_vertices }
+        requires colour { vertex.colour < 2 ^ 15 }
+        ensures { self.new ≡ vertex_added vertex self.old }
+    {
+        self.vertices.push(vertex);
+        self.results.vertices += 1;
+    }
+
+    /// The polygon that the last vertex of the open list makes, if it does.
+    fn completed(&self, s: &Numbers) -> Option<Polygon>
+        requires run { 1 ≤ s.now.run }
+        requires palette { s.now.palette < 2 ^ 13 }
+        ensures value { result ≡ polygon_of self.now.vertices (arrival_of s.now) }
+        ensures palette { IfSome result (λ p. p.palette < 2 ^ 13) }
+    {
+        polygon_of(self.vertices.as_slice(), s)
+    }
+
+    /// A vertex comes, and with it the polygon that it completes.
+    #[tactic(auto, unfolding(crate::specs::States::arrived))]
+    pub fn arrive(&mut self, s: &Numbers)
+        requires run { 1 ≤ s.now.run }
+        requires small { AreSmall s.now }
+        ensures { self.new ≡ arrived (arrival_of s.now) self.old }
+    {
+        if (self.results.vertices as usize) < VERTICES {
+            self.add_vertex(vertex_of(s));
+            let polygon = self.completed(s);
+            self.add_polygon(polygon);
+        } else {
+            self.results.overflow = true;
+        }
+    }
+
+    /// What the tests among the commands give.
+    #[tactic(auto, using(gx_matrix::proofs::Sums::casts), unfolding(crate::specs::States::results_after))]
+    pub fn test(&mut self, command: GeometryCommand, params: &[u32], s: &Numbers)
+        requires { HasParameters command params.now }
+        ensures { self.new ≡ tested command params.now s.now self.old }
+    {
+        match command {
+            GeometryCommand::BoxTest => self.results.inside = box_test(params, &s.stacks.clip()),
+            GeometryCommand::PosTest => {
+                let c = through(point_by_halves(params), &s.stacks.clip());
+                self.results.position = [c.x, c.y, c.z, c.w];
+            }
+            GeometryCommand::VecTest => {
+                self.results.vector = vector_test(params[0], &s.stacks.vector())
+            }
+            _ => (),
+        }
+    }
+
+    /// A swap takes both lists, which are empty then.
+    pub fn swap(&mut self, now: Tick, parameter: u32, last: &mut Lists)
+        ensures emptied { self.new ≡ emptied self.old }
+        ensures taken { last.new ≡ record { tick = now; parameter = parameter; vertices = self.old.vertices; polygons = self.old.polygons } }
+        ensures limited { AreLimited self.old.vertices self.old.polygons }
+    {
+        last.take(now, parameter, &mut self.vertices, &mut self.polygons);
+        self.results.vertices = 0;
+        self.results.polygons = 0;
+    }
+
+    /// The lists' overflow is cleared.
+    pub fn clear_overflow(&mut self)
+        ensures { self.new ≡ flag_cleared self.old }
+    {
+        self.results.overflow = false;
+    }
+
+    /// The results of tests, how far the lists are filled, and whether they overflowed.
+    pub fn results(&self) -> &Results
+        ensures value { result.now ≡ self.now.results }
+        ensures vertices { result.now.vertices ≡ length self.now.vertices }
+        ensures polygons { result.now.polygons ≡ length self.now.polygons }
+        ensures limited { AreLimited self.now.vertices self.now.polygons }
+    {
+        &self.results
+    }
+}

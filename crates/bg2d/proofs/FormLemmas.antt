@@ -1,15 +1,12 @@
-use Rattle.std.proofs.Common.{ℕ, ◌≡◌, ◌≤◌, ◌^◌, ◌/◌, ◌+◌, ◌*◌, ◌%◌, List}
+use Rattle.std.proofs.Common.{ℕ, ◌+◌, ◌%◌, List}
 use Rattle.std.specs.Prelude.{Option, Some, None}
-use Rattle.ds_base.specs.Bits.{bit}
-use Rattle.vram_banks.specs.Cells.{Banks, vram_byte}
+use Rattle.vram_banks.specs.Cells.{Banks}
 use Rattle.tiles2d.specs.Colours.{palette_colour, HasForm}
-use Rattle.tiles2d.specs.Tiles.{index_of_256, flipped}
 use Rattle.tiles2d.proofs.FormLemmas.{zero_form, indexed_form}
 use Rattle.bg2d.specs.declared.layers.TextLayer.{TextLayer}
 use Rattle.bg2d.specs.declared.layers.AffineLayer.{AffineLayer}
-use Rattle.bg2d.specs.Bases.{background_space, map_base, tile_base}
-use Rattle.bg2d.specs.TextPixels.{text_width, text_height, text_entry, text_index, text_colour, text_pixel}
-use Rattle.bg2d.specs.AffinePixels.{affine_size, affine_coordinate, place_within, affine_point_pixel, affine_place_pixel, affine_pixel}
+use Rattle.bg2d.specs.TextPixels.{text_width, text_height, text_entry, text_colour, text_pixel}
+use Rattle.bg2d.specs.AffinePixels.{affine_point_pixel, affine_place_pixel, affine_pixel}
 
 -- A pixel has bit 15 set, or is 0.
 

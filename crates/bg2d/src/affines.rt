@@ -1,9 +1,9 @@
 //! Rows of affine backgrounds.
 
-ghost use Rattle.std.specs.Prelude.{◌≡◌, ◌<◌, ◌≤◌, ◌+◌, ◌*◌, ◌^◌, ◌⊎◌, ◌+ℤ◌, ◌*ℤ◌, ◌≤ℤ◌, ℤ, pos, negsuc, ℕ, Option, Some, None, IfSome, length, slice_index};
+ghost use Rattle.std.specs.Prelude.{◌≡◌, ◌<◌, ◌≤◌, ◌+◌, ◌*◌, ◌^◌, ◌+ℤ◌, ◌*ℤ◌, ◌≤ℤ◌, ℤ, pos, negsuc, ℕ, IfSome, length, slice_index};
 ghost use Rattle.std.specs.Int.{int_shr};
 ghost use Rattle.tiles2d.specs.Colours.{HasForm};
-ghost use Rattle.bg2d.specs.AffinePixels.{affine_size, affine_coordinate, place_within, affine_point_pixel, affine_place_pixel, affine_pixel};
+ghost use Rattle.bg2d.specs.AffinePixels.{affine_size, affine_coordinate, place_within, affine_point_pixel, affine_pixel};
 
 use crate::bases::{background_space, map_base, tile_base};
 use crate::layers::{AffineLayer, Row};

@@ -1,6 +1,6 @@
 //! Rows of text backgrounds.
 
-ghost use Rattle.std.specs.Prelude.{◌≡◌, ◌<◌, ◌≤◌, ◌+◌, ◌-◌, ◌*◌, ◌/◌, ◌%◌, ◌^◌, ℕ, Bool, true, false, length, slice_index, slice_range};
+ghost use Rattle.std.specs.Prelude.{◌≡◌, ◌<◌, ◌+◌, ◌*◌, ◌%◌, ℕ, false, length, slice_index, slice_range};
 ghost use Rattle.ds_base.specs.Bits.{bits, bit};
 ghost use Rattle.bg2d.specs.TextPixels.{text_width, text_height, has_256, palette_slot, background_palette_space, text_entry, text_colour, text_pixel};
 ghost use Rattle.tiles2d.specs.Colours.{indexed_pixel, HasForm};

@@ -1,5 +1,5 @@
-use Rattle.std.proofs.Common.{ℕ, Bool, true, false, ◌≡◌, ◌≢◌, ◌<◌, ◌≤◌, ◌^◌, ◌==◌, ◌&&◌, List, inl, inr, refl, sym, ◌∙◌, arith}
-use Rattle.std.specs.Prelude.{nat_lt, Option, Some, None, if◌then◌else◌}
+use Rattle.std.proofs.Common.{ℕ, ◌≡◌, ◌≢◌, ◌<◌, ◌≤◌, ◌^◌, ◌&&◌, List, inl, inr, sym, ◌∙◌, arith}
+use Rattle.std.specs.Prelude.{nat_lt, Option, Some, None}
 use Rattle.vram_banks.specs.Cells.{Banks}
 use Rattle.tiles2d.specs.Colours.{HasForm}
 use Rattle.tiles2d.proofs.FormLemmas.{choice_form, zero_form, indexed_form}

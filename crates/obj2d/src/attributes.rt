@@ -1,11 +1,11 @@
 //! The fields of objects' attributes.
 
-ghost use Rattle.std.specs.Prelude.{◌≡◌, ◌<◌, ◌≤◌, ◌+◌, ◌*◌, ◌/◌, ◌%◌, ◌^◌, length};
+ghost use Rattle.std.specs.Prelude.{◌≡◌, ◌<◌, ◌≤◌, ◌+◌, ◌*◌, ◌%◌, length};
 ghost use Rattle.std.specs.Int.{cast_signed, w16};
 ghost use Rattle.ds_base.specs.Bits.{bit};
 ghost use Rattle.ds_base.specs.Numbers.{number_at};
 ghost use Rattle.ds_base.specs.declared.memories.Width.TheVariants.{Half};
-ghost use Rattle.obj2d.specs.Attributes.{object_at, turn_at, group, group_number, top_edge, left_edge, is_affine, is_double, is_off, object_has_256, mode, shape, object_size, priority, flips_across, flips_down, width, height, box_width, box_height};
+ghost use Rattle.obj2d.specs.Attributes.{object_at, turn_at, group, group_number, is_affine, is_double, is_off, object_has_256, mode, shape, object_size, priority, flips_across, flips_down, width, height, box_width, box_height};
 
 use crate::objects::{Object, Turn};
 

@@ -1,9 +1,9 @@
 //! Objects laid over one another.
 
-ghost use Rattle.std.specs.Prelude.{◌≡◌, ◌≢◌, ◌<◌, ◌≤◌, ◌+◌, ◌*◌, ℕ, length};
+ghost use Rattle.std.specs.Prelude.{◌≡◌, ◌≢◌, ◌<◌, ℕ, length};
 ghost use Rattle.obj2d.specs.Attributes.{object_at, box_width, priority, mode};
 ghost use Rattle.obj2d.specs.Places.{covers};
-ghost use Rattle.obj2d.specs.ObjectLayer.{SeenObject, IsLayerPixel, IsPixel, pixel_at, blank_pixel, with_object, seen_at, object_pixel};
+ghost use Rattle.obj2d.specs.ObjectLayer.{IsLayerPixel, IsPixel, pixel_at, blank_pixel, with_object, seen_at, object_pixel};
 ghost use Rattle.obj2d.specs.rows.Strips.{IsLaid};
 
 use crate::attributes::{box_width, mode, object_at, priority};

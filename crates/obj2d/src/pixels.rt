@@ -1,9 +1,9 @@
 //! The pixel of a point of an object.
 
-ghost use Rattle.std.specs.Prelude.{◌≡◌, ◌<◌, ◌≤◌, ◌+◌, ◌*◌, ◌/◌, ◌%◌, ◌^◌, Bool, false, length};
+ghost use Rattle.std.specs.Prelude.{◌≡◌, ◌<◌, ◌≤◌, ◌*◌, ◌%◌, ◌^◌, false, length};
 ghost use Rattle.ds_base.specs.Bits.{bits};
 ghost use Rattle.tiles2d.specs.Tiles.{nibble_at};
-ghost use Rattle.obj2d.specs.Attributes.{object_has_256, tile, palette_number, width, height, box_width, box_height};
+ghost use Rattle.obj2d.specs.Attributes.{object_has_256, tile, palette_number, box_width, box_height};
 ghost use Rattle.obj2d.specs.ObjectPixels.{object_space, object_palette_space, tile_units, tile_address, object_index, point_pixel, turned_pixel};
 
 use crate::attributes::{object_has_256, width};

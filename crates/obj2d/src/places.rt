@@ -1,6 +1,6 @@
 //! The places that an object's box covers, and the points that are shown there.
 
-ghost use Rattle.std.specs.Prelude.{◌≡◌, ◌<◌, ◌≤◌, ◌+◌, ◌*◌, ◌/◌, ◌^◌, ◌+ℤ◌, ◌*ℤ◌, ◌≤ℤ◌, ℤ, pos, negsuc, Option, Some, None, IfSome};
+ghost use Rattle.std.specs.Prelude.{◌≡◌, ◌<◌, ◌≤◌, ◌+◌, ◌*◌, ◌/◌, ◌^◌, ◌+ℤ◌, ◌*ℤ◌, ◌≤ℤ◌, ℤ, pos, negsuc, IfSome};
 ghost use Rattle.std.specs.Int.{int_shr};
 ghost use Rattle.obj2d.specs.Attributes.{left_edge, width, height, box_width, box_height};
 ghost use Rattle.obj2d.specs.Places.{down, covers, is_drawn, mirrored, from_middle, box_coordinate, inside, affine_across, affine_down};

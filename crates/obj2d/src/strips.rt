@@ -1,11 +1,10 @@
 //! The line of an object's box: by tiles, or point by point where the object is affine.
 
-ghost use Rattle.std.specs.Prelude.{◌≡◌, ◌<◌, ◌≤◌, ◌+◌, ◌*◌, ◌/◌, ◌%◌, ◌^◌, ℕ, Bool, true, false, length, slice_index};
+ghost use Rattle.std.specs.Prelude.{◌≡◌, ◌<◌, ◌/◌, ◌%◌, ℕ, false, length, slice_index};
 ghost use Rattle.tiles2d.specs.Colours.{indexed_pixel};
 ghost use Rattle.tiles2d.specs.Tiles.{flipped};
-ghost use Rattle.obj2d.specs.Attributes.{turn_at, group, object_has_256, is_affine, width, height, box_width, box_height, flips_across, flips_down};
-ghost use Rattle.obj2d.specs.Places.{mirrored};
-ghost use Rattle.obj2d.specs.ObjectPixels.{object_index, object_colour, turned_pixel, flat_pixel, box_pixel};
+ghost use Rattle.obj2d.specs.Attributes.{turn_at, group, object_has_256, width, height, box_width, box_height, flips_across};
+ghost use Rattle.obj2d.specs.ObjectPixels.{object_colour, turned_pixel, flat_pixel};
 ghost use Rattle.obj2d.specs.rows.Strips.{object_tile_row, mirrored_tile, AreTileRows, AreLineIndices, AreObjectPixels, AreBox};
 
 use crate::attributes::{

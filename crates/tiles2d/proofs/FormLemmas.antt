@@ -1,4 +1,4 @@
-use Rattle.std.proofs.Common.{ℕ, Bool, true, false, ◌≡◌, ◌≢◌, ◌≤◌, ◌^◌, ◌==◌, refl, arith}
+use Rattle.std.proofs.Common.{ℕ, Bool, true, false, ◌==◌, refl, arith}
 use Rattle.std.specs.Prelude.{if◌then◌else◌}
 use Rattle.tiles2d.specs.Colours.{opaque_pixel, indexed_pixel, HasForm}
 

@@ -1,6 +1,6 @@
 //! Pixels of palettes' colours.
 
-ghost use Rattle.std.specs.Prelude.{◌≡◌, ◌<◌, ◌≤◌, ◌+◌, ◌*◌, ◌^◌, ℕ, length, slice_index};
+ghost use Rattle.std.specs.Prelude.{◌≡◌, ◌<◌, ◌+◌, ◌*◌, ◌^◌, ℕ, length, slice_index};
 ghost use Rattle.ds_base.specs.declared.memories.Width.TheVariants.{Half};
 ghost use Rattle.vram_banks.specs.Cells.{vram_byte, vram_value};
 ghost use Rattle.tiles2d.specs.Colours.{opaque_pixel, indexed_pixel, palette_colour, extended_colour};

@@ -1,6 +1,6 @@
 //! Places in tiles, and the bytes of a tile's row.
 
-ghost use Rattle.std.specs.Prelude.{◌≡◌, ◌<◌, ◌≤◌, ◌+◌, ◌*◌, ◌/◌, ◌%◌, ◌^◌, ℕ, length, slice_index};
+ghost use Rattle.std.specs.Prelude.{◌≡◌, ◌<◌, ◌+◌, ◌*◌, ◌/◌, ◌%◌, ◌^◌, ℕ, length, slice_index};
 ghost use Rattle.vram_banks.specs.Cells.{vram_byte};
 ghost use Rattle.tiles2d.specs.Tiles.{flipped};
 

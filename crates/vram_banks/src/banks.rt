@@ -1,6 +1,6 @@
 //! The banks of video memory, and how they are read and written where they stand.
 
-ghost use Rattle.std.specs.Prelude.{◌≡◌, ◌<◌, ◌≤◌, ◌+◌, ◌-◌, ◌*◌, ◌/◌, ◌%◌, ◌^◌, ◌↔◌, ℕ, IfSome, IfOk, slice_index, slice_set, length};
+ghost use Rattle.std.specs.Prelude.{◌≡◌, ◌<◌, ◌≤◌, ◌+◌, ◌/◌, ◌%◌, ◌^◌, ◌↔◌, ℕ, IfSome, IfOk, slice_index, slice_set, length};
 ghost use Rattle.ds_base.specs.declared.memories.Width.TheVariants.{Byte, Half, Word};
 ghost use Rattle.ds_base.specs.declared.memories.Space.TheVariants.{Arm7};
 ghost use Rattle.ds_base.specs.Numbers.{width_bytes, aligned_down, value_by, put_by};

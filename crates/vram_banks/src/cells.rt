@@ -1,7 +1,7 @@
 //! The bytes of all nine banks.
 
-ghost use Rattle.std.specs.Prelude.{◌≡◌, ◌<◌, ◌≤◌, ◌+◌, ◌-◌, ◌*◌, ◌/◌, ◌%◌, ℕ, IfOk, slice_index, slice_range, slice_set, length};
-ghost use Rattle.ds_base.specs.declared.memories.Width.TheVariants.{Byte, Half, Word};
+ghost use Rattle.std.specs.Prelude.{◌≡◌, ◌<◌, ◌≤◌, ◌+◌, ℕ, IfOk, slice_index, slice_range, slice_set, length};
+ghost use Rattle.ds_base.specs.declared.memories.Width.TheVariants.{Half, Word};
 ghost use Rattle.ds_base.specs.Numbers.{zeroes, value_by, put_by};
 
 use ds_base::VRAM_BYTES;

@@ -1,9 +1,9 @@
 //! The controls of the nine banks, and which cells stand at a flat address by them.
 
-ghost use Rattle.std.specs.Prelude.{◌≡◌, length, ◌<◌, ◌≤◌, ◌+◌, ◌-◌, ◌*◌, ◌/◌, ◌%◌, ℕ, IfSome, slice_index, slice_set, [], ◌∷◌};
+ghost use Rattle.std.specs.Prelude.{◌≡◌, length, ◌<◌, ◌-◌, ℕ, IfSome, slice_index, slice_set, [], ◌∷◌};
 ghost use Rattle.vram_banks.specs.BankMap.{first_cell, kept_bank_control};
 ghost use Rattle.vram_banks.specs.Cells.{IsControl};
-ghost use Rattle.vram_banks.specs.paging.Flat.{cell_in, cell_of, no_window, IsRoomy};
+ghost use Rattle.vram_banks.specs.paging.Flat.{cell_in, cell_of, IsRoomy};
 ghost use Rattle.vram_banks.specs.paging.Pages.{window_at, cell_among, with_cell, IsPageBelow, AreWindows, ArePages, IsFound};
 
 use crate::windows::{Window, bank_window, first_cell, kept_bank_control, nowhere};

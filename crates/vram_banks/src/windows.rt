@@ -1,6 +1,6 @@
 //! Where each bank stands, by its control.
 
-ghost use Rattle.std.specs.Prelude.{◌≡◌, ◌<◌, ◌≤◌, ◌+◌, ◌-◌, ◌*◌, ◌/◌, ◌%◌, ◌^◌, Some};
+ghost use Rattle.std.specs.Prelude.{◌≡◌, ◌<◌, ◌≤◌, ◌+◌, ◌-◌, ◌%◌};
 ghost use Rattle.ds_base.specs.Memories.{space_size};
 ghost use Rattle.vram_banks.specs.BankMap.{first_cell, kept_bank_control, rows_of_ab, rows_of_cd, rows_of_e, rows_of_fg, rows_of_h, rows_of_i, row_by};
 ghost use Rattle.vram_banks.specs.paging.Flat.{origin_of, window_by, window_of, no_window, IsRoomy};

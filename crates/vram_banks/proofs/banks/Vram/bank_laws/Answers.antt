@@ -1,7 +1,6 @@
 use Rattle.std.proofs.Common.{subst}
-use Rattle.ds_base.specs.declared.memories.Space.{Space}
 use Rattle.vram_banks.specs.Cells.{Banks, vram_byte}
-use Rattle.std.proofs.Common.{ℕ, ◌<◌}
+use Rattle.std.proofs.Common.{◌<◌}
 use Rattle.vram_banks.proofs.SetLaws.{byte_narrow}
 use Rattle.vram_banks.proofs.banks.Vram.bank_laws.Goals as goal
 

@@ -1,10 +1,12 @@
 //! A step of ARM7.
 
 ghost use Rattle.std.specs.Prelude.{◌≡◌, ◌<◌, IfSome};
+ghost use Rattle.ds_base.specs.declared.processors.Arch.TheVariants.{V4};
 ghost use Rattle.arm_words.specs.Fields.{HasFields};
 ghost use Rattle.arm_core.specs.Steps.{executed_word};
 ghost use Rattle.arm7_exec.specs.Arm7.{arm7, step7_of};
 ghost use Rattle.arm_exec.specs.Stopped.{KeepsWhereStopped};
+ghost use Rattle.arm_exec.specs.Statuses.{HasStatuses};
 
 use arm_core::{Bus, Core, Stepped};
 use arm_exec::{Fetched, execute_word, step};
@@ -12,7 +14,8 @@ use ds_base::Arch;
 
 /// A step of ARM7: the entry of the interrupt where its line is up and I is clear, and otherwise the instruction at r15, by its meaning on
 /// ARMv4. It answers its cost in bus clocks, or the stop for which it needs what is left out: a write that the bus refused, or a SWI whose
-/// number the boot ROM hasn't. Then the core is as it was, and the accesses before the refused one stand. It never answers a halt.
+/// number the boot ROM hasn't. Then the core is as it was, and the accesses before the refused one stand. It never answers a halt. Where CPSR and
+/// each SPSR have no bits but those that ARMv4 keeps, this stays so.
 #[inline]
 pub fn step7<B: Bus>(core: &mut Core, bus: &mut B, line: bool) -> Stepped
     ensures core { core.new ≡ record core.old { registers = (step7_of B.memory line core.old.registers (B.state bus.old)).registers } }
@@ -20,6 +23,7 @@ pub fn step7<B: Bus>(core: &mut Core, bus: &mut B, line: bool) -> Stepped
     ensures stepped { result ≡ (step7_of B.memory line core.old.registers (B.state bus.old)).stepped }
     ensures same { B.identity bus.new ≡ B.identity bus.old }
     ensures left { KeepsWhereStopped core.old.registers result core.new.registers }
+    ensures statuses { HasStatuses V4 core.old.registers → HasStatuses V4 core.new.registers }
 {
     step(Arch::V4, 0, true, &mut core.registers, bus, line)
 }

@@ -1,3 +1,4 @@
 pub mod Arm9
 pub mod Coprocessors
 pub mod Stopped
+pub mod Statuses

@@ -5,6 +5,7 @@ ghost use Rattle.arm_words.specs.Fields.{HasFields};
 ghost use Rattle.arm9_exec.specs.Coprocessors.{move_of};
 ghost use Rattle.arm9_exec.specs.Arm9.{arm9, executed_or_moved, step9_of, step_waits};
 ghost use Rattle.arm9_exec.specs.Stopped.{KeepsBothWhereStopped, ends_halted};
+ghost use Rattle.arm9_exec.specs.Statuses.{HasNineStatuses};
 
 use crate::coprocessors::{move_if, move_of};
 use arm_core::{Bus, Core, Registers, Stepped};
@@ -64,7 +65,8 @@ fn step<B: Bus>(s: &mut Registers, cp: &mut Cp15, bus: &mut B, line: bool) -> St
 /// A step of ARM9: the entry of the interrupt where its line is up and I is clear, and otherwise the instruction at r15, by its meaning on
 /// ARMv5. It answers its cost in ticks, with a halt where it wrote the wait for an interrupt (c7,c0,4), or the stop for which it needs what
 /// is left out: a write that the bus refused, big-endian mode, or a SWI whose number the boot ROM hasn't. Then the core and CP15 are as they
-/// were, and the accesses before the refused one stand.
+/// were, and the accesses before the refused one stand. Where CPSR and each SPSR have no bits but those that ARMv5 keeps, and CP15 keeps words, this
+/// stays so.
 #[inline]
 pub fn step9<B: Bus>(core: &mut Core, cp: &mut Cp15, bus: &mut B, line: bool) -> Stepped
     ensures core { core.new ≡ record core.old { registers = (step9_of B.memory line core.old.registers cp.old (B.state bus.old)).registers } }
@@ -74,6 +76,7 @@ pub fn step9<B: Bus>(core: &mut Core, cp: &mut Cp15, bus: &mut B, line: bool) ->
     ensures same { B.identity bus.new ≡ B.identity bus.old }
     ensures left { KeepsBothWhereStopped core.old.registers cp.old result core.new.registers cp.new }
     ensures halted { ends_halted result ≡ step_waits B.memory line core.old.registers (B.state bus.old) }
+    ensures statuses { HasNineStatuses core.old.registers cp.old → HasNineStatuses core.new.registers cp.new }
 {
     step(&mut core.registers, cp, bus, line)
 }

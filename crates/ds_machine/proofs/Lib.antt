@@ -18,3 +18,4 @@ pub mod UnitEvents
 pub mod Taken
 pub mod Wakes
 pub mod Lines
+pub mod Statuses

@@ -11,3 +11,4 @@ pub mod Observed
 pub mod Apart
 pub mod OwnSteps
 pub mod Processors
+pub mod Statuses

@@ -4,6 +4,7 @@ ghost use Rattle.ds_runs.specs.Laws.{RunsJoin, RunsAreOne, RunsExist, RunsEnd};
 ghost use Rattle.ds_machine.specs.Apart.{LeaveNine, LeaveSeven};
 ghost use Rattle.ds_machine.specs.OwnSteps.{IsStep7, IsStep9};
 ghost use Rattle.ds_machine.specs.Reference.{reference, IsSound};
+ghost use Rattle.ds_machine.specs.Statuses.{BootsWithStatuses, RunsKeepStatuses, StepsKeepStatuses};
 
 /// Does nothing; its contract states the laws of the reference run, which hold for every state and every limit: the run to a
 /// tick and then to a later one is the run to the later one; a run has one ending and one output; there is a run; and it takes
@@ -29,4 +30,12 @@ pub fn own_part_laws()
 pub fn own_step_laws()
     ensures nine { IsStep9 }
     ensures seven { IsStep7 }
+{}
+
+/// Does nothing; its contract states that CPSR and each SPSR of both processors have no bits but those that are kept, in every state that comes up: at boot,
+/// after each step of any actor, and at the end of every run.
+pub fn status_laws()
+    ensures boot { BootsWithStatuses }
+    ensures step { StepsKeepStatuses }
+    ensures run { RunsKeepStatuses }
 {}

@@ -21,5 +21,5 @@ mod turns;
 mod videos;
 
 pub use answers::{Done, Seen};
-pub use laws::{own_part_laws, own_step_laws, reference_laws};
+pub use laws::{own_part_laws, own_step_laws, reference_laws, status_laws};
 pub use machines::Machine;

@@ -2,10 +2,12 @@
 
 ghost use Rattle.std.specs.Prelude.{◌≡◌, ◌<◌, ◌≤◌, ◌^◌, slice_index, IfOk};
 ghost use Rattle.ds_base.specs.Memories.{memory_size};
+ghost use Rattle.ds_ipc.specs.Ipcs.{AreSides};
 ghost use Rattle.ds_runs.specs.Runs.{due_at};
 ghost use Rattle.ds_machine.specs.Booted.{machine_booted};
 ghost use Rattle.ds_machine.specs.Observed.{memory_of, registers_of, seen_of};
 ghost use Rattle.ds_machine.specs.Reference.{dues_of, FastStep, IsDue, IsSound, HasCounted, MayStep, Steps};
+ghost use Rattle.ds_machine.specs.Statuses.{HasBothStatuses};
 ghost use Rattle.ds_machine.specs.Steps.{processor_of};
 
 use crate::answers::{Done, Seen};
@@ -27,18 +29,20 @@ impl Model for Machine {
     ghost use Rattle.ds_machine.specs.NextEvents.{IsNextEvent};
     ghost use Rattle.ds_machine.specs.Reference.{HasCounted};
     ghost use Rattle.ds_machine.specs.States.{MachineState};
+    ghost use Rattle.ds_machine.specs.Statuses.{HasBothStatuses};
 
     ghost Value = { MachineState };
 
     ghost view = { λ m. m.parts };
 
-    // each step was taken at a place of its own in the order of steps, and what is kept is so
-    ghost invariant = { λ m. HasCounted m.parts × IsNextEvent m.next_event m.parts };
+    // each step was taken at a place of its own in the order of steps, what is kept is so, and the status registers have only bits that are kept
+    ghost invariant = { λ m. HasCounted m.parts × IsNextEvent m.next_event m.parts × HasBothStatuses m.parts };
 }
 
 impl Machine {
     /// The machine as it is when it is switched on with a cartridge and a key script: ARM9's image is copied to memory, then ARM7's, then the
     /// header; both processors are due at once. All memory of a run is taken here.
+    #[tactic(auto, using(crate::proofs::Statuses::boots_with_statuses))]
     pub fn new(alloc: Global, cart: &Cart, keys: Keys) -> Result<Machine, AllocError>
         ensures { IfOk result (λ machine. machine ≡ machine_booted cart.now keys) }
     {
@@ -91,11 +95,15 @@ impl Machine {
     }
 
     /// Does nothing; its contract states what holds of every machine: each unit's numbers are those that it can have, and the lines of the key
-    /// script that are to come rise.
+    /// script that are to come rise; neither FIFO between the processors holds more than 16 words, each of 32 bits; and CPSR and each SPSR of both
+    /// processors have no bits but those that are kept.
     pub fn laws(&self)
-        ensures { IsSound self.now }
+        ensures sound { IsSound self.now }
+        ensures ipc { AreSides self.now.map.io.ipc }
+        ensures statuses { HasBothStatuses self.now }
     {
         self.parts.laws();
+        self.parts.ipc_laws();
     }
 
     /// What a processor does next: the entry of an interrupt, or a word of ARM code or a half of Thumb code; nothing while it isn't due: it is halted, or a DMA channel of it

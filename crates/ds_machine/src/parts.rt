@@ -2,6 +2,7 @@
 
 ghost use Rattle.std.specs.Prelude.{◌≡◌, ◌<◌, slice_index, IfOk};
 ghost use Rattle.ds_base.specs.Memories.{memory_size};
+ghost use Rattle.ds_ipc.specs.Ipcs.{AreSides};
 ghost use Rattle.ds_machine.specs.Booted.{machine_booted};
 ghost use Rattle.ds_machine.specs.Observed.{fetch_of, memory_of, seen_of};
 ghost use Rattle.ds_machine.specs.Processors.{state_of};
@@ -133,6 +134,13 @@ impl Parts {
     {
         self.map.io().laws();
         self.script.laws();
+    }
+
+    /// Does nothing; its contract states what holds of both sides of the IPC at every time.
+    pub fn ipc_laws(&self)
+        ensures { AreSides self.now.map.io.ipc }
+    {
+        self.map.io().ipc_laws();
     }
 
     /// What a processor fetches at an address.

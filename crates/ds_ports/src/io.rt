@@ -4,6 +4,7 @@ ghost use Rattle.std.specs.Prelude.{◌≡◌, ◌<◌, ◌^◌, IfOk, IsSome, S
 ghost use Rattle.ds_base.specs.Schedules.{IsEarly};
 ghost use Rattle.ds_dma.specs.Channels.{unit_of};
 ghost use Rattle.ds_dma.specs.States.{dma_due, due_channel};
+ghost use Rattle.ds_ipc.specs.Ipcs.{AreSides};
 ghost use Rattle.ds_runs.specs.Actors.{IsNumbered};
 ghost use Rattle.ds_runs.specs.Order.{first_from};
 ghost use Rattle.ds_timers.specs.Irqs.{line_is_up, shares_bit};
@@ -239,6 +240,14 @@ impl Io {
         ensures { IsIo self.now }
     {
         self.units.laws();
+    }
+
+    /// Does nothing; its contract states what holds of both sides of the IPC at every time: neither FIFO holds more than 16 words, and how many
+    /// bits their numbers have, those of the words that wait too.
+    pub fn ipc_laws(&self)
+        ensures { AreSides self.now.ipc }
+    {
+        self.units.ipc_laws();
     }
 
     /// From now on these keys are pressed, a bit for each of A, B, Select, Start, Right, Left, Up, Down, R, L, X and Y. Each processor is told

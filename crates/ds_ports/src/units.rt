@@ -4,6 +4,7 @@ ghost use Rattle.std.specs.Prelude.{◌≡◌, ◌<◌, ◌%◌, ◌^◌, IfOk, 
 ghost use Rattle.ds_base.specs.Bits.{bit, flag};
 ghost use Rattle.ds_base.specs.Schedules.{IsEarly};
 ghost use Rattle.ds_dma.specs.States.{dma_due};
+ghost use Rattle.ds_ipc.specs.Ipcs.{AreSides};
 ghost use Rattle.ds_runs.specs.Actors.{IsNumbered};
 ghost use Rattle.ds_timers.specs.Timing.{timer_at, timer_due};
 ghost use Rattle.vram_banks.specs.Cells.{vram_written};
@@ -300,6 +301,13 @@ impl Units {
     {
         self.nine.laws();
         self.seven.laws();
+    }
+
+    /// Does nothing; its contract states what holds of both sides of the IPC at every time.
+    pub fn ipc_laws(&self)
+        ensures { AreSides self.now.ipc }
+    {
+        self.ipc.laws();
     }
 
     /// From now on these keys are pressed, a bit for each.

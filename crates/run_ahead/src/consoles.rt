@@ -4,7 +4,9 @@ ghost use Rattle.std.specs.Prelude.{◌≡◌, ◌≤◌, ◌<◌, ◌+◌, ◌*
 ghost use Rattle.ds_base.specs.Memories.{memory_size};
 ghost use Rattle.ds_machine.specs.Booted.{machine_booted};
 ghost use Rattle.ds_machine.specs.Observed.{memory_of, registers_of, seen_of};
+ghost use Rattle.ds_ipc.specs.Ipcs.{AreSides};
 ghost use Rattle.ds_machine.specs.Reference.{IsDue, IsSound};
+ghost use Rattle.ds_machine.specs.Statuses.{HasBothStatuses};
 ghost use Rattle.run_ahead.specs.Turns.{Turns, RunsOn, HasRuns, turns_of, turns_remaining, counted_of};
 ghost use Rattle.run_ahead.specs.Inside.{turned_by, stopped_by};
 ghost use Rattle.run_ahead.specs.declared.turns.Turned.TheVariants.{Ran};
@@ -80,9 +82,13 @@ impl Console {
         self.step(until)
     }
 
-    /// Does nothing; its contract states that the machine is sound.
-    fn laws(&self)
-        ensures { IsSound self.now.machine }
+    /// Does nothing; its contract states what holds of every console's machine: each unit's numbers are those that it can have, and the lines of the key
+    /// script that are to come rise; neither FIFO between the processors holds more than 16 words, each of 32 bits; and CPSR and each SPSR of both
+    /// processors have no bits but those that are kept.
+    pub fn laws(&self)
+        ensures sound { IsSound self.now.machine }
+        ensures ipc { AreSides self.now.machine.map.io.ipc }
+        ensures statuses { HasBothStatuses self.now.machine }
     {
         self.machine.laws();
     }

@@ -8,4 +8,4 @@ pub returns-clause-counted : goal.returns-clause-counted
 returns-clause-counted c = turn_counts _ _ _ _ c.step.ensures
 
 pub returns-clause-falls : goal.returns-clause-falls
-returns-clause-falls c = λ counts. turn_falls _ _ _ _ c.laws.ensures c.step.ensures counts
+returns-clause-falls c = λ counts. turn_falls _ _ _ _ c.laws.ensures.sound c.step.ensures counts

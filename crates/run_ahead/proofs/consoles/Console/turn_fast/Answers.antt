@@ -10,4 +10,4 @@ pub returns-clause-counted : goal.returns-clause-counted
 returns-clause-counted c = λ taken. turn_counts c.args.until.0 c.args.self.now answers.Ran c.step_fast.new.self (c.step_fast.ensures.turn taken)
 
 pub returns-clause-falls : goal.returns-clause-falls
-returns-clause-falls c = λ taken. turn_falls c.args.until.0 c.args.self.now answers.Ran c.step_fast.new.self c.laws.ensures (c.step_fast.ensures.turn taken) refl
+returns-clause-falls c = λ taken. turn_falls c.args.until.0 c.args.self.now answers.Ran c.step_fast.new.self c.laws.ensures.sound (c.step_fast.ensures.turn taken) refl

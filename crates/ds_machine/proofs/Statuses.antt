@@ -1,0 +1,225 @@
+use Rattle.std.proofs.Common.{ℕ, ◌≡◌, ◌+◌, Bool, true, false, if◌then◌else◌, List, [], ◌∷◌, ◌++◌, All, Option, Some, None, refl, sym, subst, arith}
+use Rattle.std.proofs.lemmas.List.Elements.{All-cons, All-nil}
+use Rattle.ds_base.specs.declared.keys.KeyLine.{KeyLine}
+use Rattle.ds_base.specs.declared.left_out.LeftOut.{LeftOut}
+use Rattle.ds_base.specs.declared.left_out.Stop.{Stop}
+use Rattle.ds_base.specs.declared.processors.Arch.{Arch}
+use Rattle.ds_base.specs.declared.processors.Arch.TheVariants.{V4, V5}
+use Rattle.ds_base.specs.declared.processors.Proc.{Proc}
+use Rattle.ds_base.specs.declared.processors.Proc.TheVariants.{Nine, Seven}
+use Rattle.ds_base.specs.declared.ticks.Tick.{Tick}
+use Rattle.ds_dma.specs.declared.channels.Unit.{Unit as DmaUnit}
+use Rattle.arm_core.specs.Cores as cores
+use Rattle.arm_core.specs.Effects.{Outcome}
+use Rattle.arm_core.specs.Registers.{RegisterState}
+use Rattle.arm_core.specs.Steps.{enters, fetched}
+use Rattle.arm_core.specs.declared.outcomes.Stepped as arm
+use Rattle.arm_core.specs.declared.outcomes.Stepped.TheVariants.{Cost, Halted, Left}
+use Rattle.arm_exec.specs.Statuses.{IsStatus, HasStatuses}
+use Rattle.arm_exec.proofs.StatusBits.{no_status}
+use Rattle.arm_exec.proofs.StatusSteps.{step_has}
+use Rattle.arm7_exec.specs.Arm7.{arm7}
+use Rattle.arm9_exec.specs.Statuses.{HasNineStatuses}
+use Rattle.arm9_exec.proofs.Statuses.{step9_has}
+use Rattle.ds_header.specs.Fields.{image_entry}
+use Rattle.ds_map.specs.Moves.{next_unit, unit_moved, unit_needs, unit_refusal}
+use Rattle.ds_map.specs.Views.{NineReach, SevenReach, nine_memory, seven_memory}
+use Rattle.ds_ports.specs.Dues.{io_due}
+use Rattle.ds_runs.specs.Actors.{actor_of}
+use Rattle.ds_runs.specs.Runs as runs
+use Rattle.ds_runs.specs.Runs.{Ending, At, MachineStep, Makes, Stops, Runs, over, stops, more}
+use Rattle.ds_runs.specs.declared.actors.Actor as actor
+use Rattle.ds_runs.specs.declared.actors.Actor.TheVariants.{KeyScript, Video, Timer, Divider, SquareRoot, Geometry, Card, Dma, Processor}
+use Rattle.ds_machine.specs.Booted.{machine_booted, stacks_of}
+use Rattle.ds_machine.specs.Channels.{channel_step, delayed_past, moved_by, moved_unless}
+use Rattle.ds_machine.specs.OwnSteps.{step_needs}
+use Rattle.ds_machine.specs.Reference.{FastStep, Shown, after_line, awake, due_by, reference, reference_step, step_by, stepped_of}
+use Rattle.ds_machine.specs.Sides.{needs, nine_side, seven_side, taken}
+use Rattle.ds_machine.specs.States.{MachineState}
+use Rattle.ds_machine.specs.declared.answers.Done as answer
+use Rattle.ds_machine.specs.declared.answers.Done.TheVariants as answers
+use Rattle.ds_machine.specs.Statuses.{HasBothStatuses, BootsWithStatuses, RunsKeepStatuses, StepsKeepStatuses, left_by}
+use Rattle.ds_machine.specs.Steps.{goes_on, gone_by, line_of, machine_concluded, nine_reach, outcome_of, processor_of, processor_step, seven_reach, tick_of, wakes, woken, woken_one}
+use Rattle.ds_machine.proofs.OwnSteps.{is_step7, is_step9}
+use Rattle.ds_machine.proofs.Taken.{taken_unsupported}
+
+-- CPSR and each SPSR have no bits but those that are kept, whatever steps.
+
+-- ---- ARM9's step, and ARM7's
+
+abbrev NineHas : Outcome NineReach → Type 0
+NineHas o = HasNineStatuses o.registers o.state.cp15
+
+abbrev SevenHas : Outcome SevenReach → Type 0
+SevenHas o = HasStatuses V4 o.registers
+
+module _ (line : Bool) (s : RegisterState) (r : NineReach) (h : HasNineStatuses s r.cp15) where
+  nine_whole : step_needs nine_memory nine_side line s r ≡ None → NineHas (taken nine_memory nine_side line s r)
+  nine_whole none = subst NineHas (sym (is_step9 line s r none)) (step9_has s r.cp15 h nine_memory line r)
+
+  nine_needs : (needed : Option ℕ) → needs nine_side s r (fetched nine_memory V5 s r).instr ≡ needed → enters line s ≡ false
+      → NineHas (taken nine_memory nine_side line s r)
+  nine_needs None e enter = nine_whole (rw enter e)
+  nine_needs (Some value) e enter =
+      subst NineHas (sym (taken_unsupported nine_memory nine_side line s r (fetched nine_memory V5 s r).instr value enter refl e)) h
+
+  nine_by : (entry : Bool) → enters line s ≡ entry → NineHas (taken nine_memory nine_side line s r)
+  nine_by true enter = nine_whole (rw enter refl)
+  nine_by false enter = nine_needs (needs nine_side s r (fetched nine_memory V5 s r).instr) refl enter
+
+  nine_has : NineHas (taken nine_memory nine_side line s r)
+  nine_has = nine_by (enters line s) refl
+
+module _ (line : Bool) (s : RegisterState) (r : SevenReach) (h : HasStatuses V4 s) where
+  seven_whole : step_needs seven_memory seven_side line s r ≡ None → SevenHas (taken seven_memory seven_side line s r)
+  seven_whole none = subst SevenHas (sym (is_step7 line s r none)) (step_has seven_memory arm7 s h line r)
+
+  seven_needs : (needed : Option ℕ) → needs seven_side s r (fetched seven_memory V4 s r).instr ≡ needed → enters line s ≡ false
+      → SevenHas (taken seven_memory seven_side line s r)
+  seven_needs None e enter = seven_whole (rw enter e)
+  seven_needs (Some value) e enter =
+      subst SevenHas (sym (taken_unsupported seven_memory seven_side line s r (fetched seven_memory V4 s r).instr value enter refl e)) h
+
+  seven_by : (entry : Bool) → enters line s ≡ entry → SevenHas (taken seven_memory seven_side line s r)
+  seven_by true enter = seven_whole (rw enter refl)
+  seven_by false enter = seven_needs (needs seven_side s r (fetched seven_memory V4 s r).instr) refl enter
+
+  seven_has : SevenHas (taken seven_memory seven_side line s r)
+  seven_has = seven_by (enters line s) refl
+
+-- ---- a processor's step in the machine
+
+outcome_has : (proc : Proc) (now : Tick) (s : MachineState) → HasBothStatuses s → HasBothStatuses (outcome_of proc now s).machine
+outcome_has Nine now s h = record { nine = nine_has (line_of s Nine) s.nine.processor.registers (nine_reach now s) h.nine; seven = h.seven }
+outcome_has Seven now s h = record { nine = h.nine; seven = seven_has (line_of s Seven) s.seven.processor.registers (seven_reach now s) h.seven }
+
+gone_has : (proc : Proc) (came : arm.Stepped) (s : MachineState) → HasBothStatuses s → HasBothStatuses (gone_by proc came s)
+gone_has Nine (Cost clocks) s h = record { nine = h.nine; seven = h.seven }
+gone_has Nine (Halted clocks) s h = record { nine = h.nine; seven = h.seven }
+gone_has Nine (Left stop) s h = h
+gone_has Seven (Cost clocks) s h = record { nine = h.nine; seven = h.seven }
+gone_has Seven (Halted clocks) s h = record { nine = h.nine; seven = h.seven }
+gone_has Seven (Left stop) s h = h
+
+concluded_has : (rank : ℕ) (proc : Proc) (s : MachineState) (came : arm.Stepped) → HasBothStatuses s
+    → (let step : MachineStep MachineState Shown LeftOut = machine_concluded rank proc s came in HasBothStatuses (left_by step))
+concluded_has rank proc s (Cost clocks) h = gone_has proc (Cost clocks) s h
+concluded_has rank proc s (Halted clocks) h = gone_has proc (Halted clocks) s h
+concluded_has rank proc s (Left stop) h = h
+
+processor_has : (rank : ℕ) (proc : Proc) (s : MachineState) → HasBothStatuses s
+    → (let step : MachineStep MachineState Shown LeftOut = processor_step rank proc s in HasBothStatuses (left_by step))
+processor_has rank proc s h =
+    let o = outcome_of proc (tick_of (processor_of s proc)) s in
+    concluded_has rank proc o.machine o.stepped (outcome_has proc (tick_of (processor_of s proc)) s h)
+
+-- ---- the other actors
+
+line_has : (lines : List KeyLine) (s : MachineState) → HasBothStatuses s → HasBothStatuses (after_line lines s)
+line_has [] s h = h
+line_has (line ∷ lines) s h = record { nine = h.nine; seven = h.seven }
+
+delayed_has : (proc : Proc) (now : Tick) (s : MachineState) → HasBothStatuses s → HasBothStatuses (delayed_past proc now s)
+delayed_has Nine now s h = record { nine = h.nine; seven = h.seven }
+delayed_has Seven now s h = record { nine = h.nine; seven = h.seven }
+
+moved_has : (rank : ℕ) (proc : Proc) (now : Tick) (refusal : Option Stop) (s : MachineState) → HasBothStatuses s
+    → (let step : MachineStep MachineState Shown LeftOut = moved_by rank proc now refusal s in HasBothStatuses (left_by step))
+moved_has rank proc now None s h = let k = delayed_has proc now s h in record { nine = k.nine; seven = k.seven }
+moved_has rank proc now (Some stop) s h = h
+
+unless_has : (rank : ℕ) (proc : Proc) (now : Tick) (needed : Option ℕ) (unit : DmaUnit) (s : MachineState) → HasBothStatuses s
+    → (let step : MachineStep MachineState Shown LeftOut = moved_unless rank proc now needed unit s in HasBothStatuses (left_by step))
+unless_has rank proc now None unit s h =
+    moved_has rank proc now (unit_refusal proc now unit s.map) (record s { map = unit_moved proc now unit s.map }) (record { nine = h.nine; seven = h.seven })
+unless_has rank proc now (Some value) unit s h = h
+
+channel_has : (rank : ℕ) (proc : Proc) (due : Option Tick) (s : MachineState) → HasBothStatuses s
+    → (let step : MachineStep MachineState Shown LeftOut = channel_step rank proc due s in HasBothStatuses (left_by step))
+channel_has rank proc None s h = h
+channel_has rank proc (Some now) s h = unless_has rank proc now (unit_needs proc s.map.io.wramcnt (next_unit s.map proc)) (next_unit s.map proc) s h
+
+step_has_by : (rank : ℕ) (a : actor.Actor) (s : MachineState) → HasBothStatuses s → HasBothStatuses (left_by (step_by rank a s))
+step_has_by rank KeyScript s h = line_has s.keys s h
+step_has_by rank Video s h = record { nine = h.nine; seven = h.seven }
+step_has_by rank (Timer proc number) s h = record { nine = h.nine; seven = h.seven }
+step_has_by rank Divider s h = record { nine = h.nine; seven = h.seven }
+step_has_by rank SquareRoot s h = record { nine = h.nine; seven = h.seven }
+step_has_by rank Geometry s h = h
+step_has_by rank Card s h = h
+step_has_by rank (Dma proc channel) s h = channel_has rank proc (io_due (Dma proc channel) s.map.io) s h
+step_has_by rank (Processor proc) s h = processor_has rank proc s h
+
+-- ---- waking
+
+on_has : (proc : Proc) (tick : Tick) (s : MachineState) → HasBothStatuses s → HasBothStatuses (goes_on proc tick s)
+on_has Nine tick s h = record { nine = h.nine; seven = h.seven }
+on_has Seven tick s h = record { nine = h.nine; seven = h.seven }
+
+either_has : (b : Bool) (x y : MachineState) → HasBothStatuses x → HasBothStatuses y → HasBothStatuses (if b then x else y)
+either_has true x y p q = p
+either_has false x y p q = q
+
+one_has : (proc : Proc) (tick : Tick) (s : MachineState) → HasBothStatuses s → HasBothStatuses (woken_one proc tick s)
+one_has proc tick s h = either_has (wakes s proc) (goes_on proc tick s) s (on_has proc tick s h) h
+
+awake_has : (due : Option Tick) (came : MachineStep MachineState Shown LeftOut) → HasBothStatuses (left_by came) → HasBothStatuses (left_by (awake due came))
+awake_has None came h = h
+awake_has (Some tick) (Makes next outs) h = one_has Seven tick (woken_one Nine tick next) (one_has Nine tick next h)
+awake_has (Some tick) (Stops stop left) h = h
+
+-- ---- the laws
+
+pub steps_keep_statuses : StepsKeepStatuses
+steps_keep_statuses rank s h = awake_has (due_by (actor_of rank) s) (step_by rank (actor_of rank) s) (step_has_by rank (actor_of rank) s h)
+
+-- whatever is answered
+pub statuses_done : (s next : MachineState) (rank : ℕ) (done : answer.Done) → HasBothStatuses s → reference_step rank s ≡ stepped_of s done next → HasBothStatuses next
+statuses_done s next rank answers.Made h e =
+    let P : MachineStep MachineState Shown LeftOut → Type 0 = λ m. HasBothStatuses (left_by m) in subst P e (steps_keep_statuses rank s h)
+statuses_done s next rank (answers.Frame swapped) h e =
+    let P : MachineStep MachineState Shown LeftOut → Type 0 = λ m. HasBothStatuses (left_by m) in subst P e (steps_keep_statuses rank s h)
+statuses_done s next rank (answers.Stopped left) h e =
+    let P : MachineStep MachineState Shown LeftOut → Type 0 = λ m. HasBothStatuses (left_by m) in subst P e (steps_keep_statuses rank s h)
+
+pub statuses_fast : (s next : MachineState) (until : ℕ) (taken : Bool) → HasBothStatuses s → FastStep until s taken next → HasBothStatuses next
+statuses_fast s next until false h e = subst HasBothStatuses (sym e) h
+statuses_fast s next until true h step = statuses_done s next step.0.rank answers.Made h step.3
+
+no_bits : (arch : Arch) → All (IsStatus arch) (0 ∷ 0 ∷ 0 ∷ 0 ∷ 0 ∷ [])
+no_bits arch =
+    let P : ℕ → Type 0 = λ n. IsStatus arch n in
+    let z = no_status arch in
+    All-cons P 0 (0 ∷ 0 ∷ 0 ∷ 0 ∷ []) z
+    (All-cons P 0 (0 ∷ 0 ∷ 0 ∷ []) z (All-cons P 0 (0 ∷ 0 ∷ []) z (All-cons P 0 (0 ∷ []) z (All-cons P 0 [] z (All-nil P)))))
+
+core_boots : (arch : Arch) (entry : ℕ) (stacks : List ℕ) → HasStatuses arch (cores.booted entry stacks)
+core_boots V4 entry stacks = record { cpsr = refl; saved = no_bits V4 }
+core_boots V5 entry stacks = record { cpsr = refl; saved = no_bits V5 }
+
+pub boots_with_statuses : BootsWithStatuses
+boots_with_statuses file keys = record {
+  nine = record {
+    processor = core_boots V5 (image_entry file Nine) (stacks_of Nine);
+    control = omega arith;
+    dtcm = omega arith;
+    itcm = omega arith;
+  };
+  seven = core_boots V4 (image_entry file Seven) (stacks_of Seven);
+}
+
+-- where a run ends that isn't stopped
+abbrev EndHas : Ending MachineState LeftOut → Type 0
+EndHas (At s) = HasBothStatuses s
+EndHas (runs.Stopped stop) = Unit {0}
+
+run_has : (limit : ℕ) (end : Ending MachineState LeftOut) (s : MachineState) (all : List Shown) → Runs reference limit end s all → HasBothStatuses s → EndHas end
+run_has limit end s all (over s0 none) h = h
+run_has limit end s all (stops s0 after tick rank stop least below halts) h = tt
+run_has limit end s all (more e0 s0 next tick rank outs rest least below goes run) h =
+    let k : HasBothStatuses (left_by (reference.step rank s0)) = steps_keep_statuses rank s0 h in
+    let P : MachineStep MachineState Shown LeftOut → Type 0 = λ m. HasBothStatuses (left_by m) in
+    run_has limit e0 next rest run (subst P goes k)
+
+pub runs_keep_statuses : RunsKeepStatuses
+runs_keep_statuses limit start end outs run h = run_has limit (At end) start outs run h

@@ -1,0 +1,402 @@
+//! Machines of two small programs, and what they tell after some steps. All ticks are worked by hand from the instructions' costs.
+
+use Line::{Due, First, Main, NotDue, Sees, Steps, Took};
+use ds_base::Proc::{Nine, Seven};
+use ds_base::{KeyLine, Keys, Memory, Proc, Tick};
+use ds_header::Cart;
+use ds_machine::{Done, Machine, Seen};
+use std::alloc::{AllocError, Global};
+use std::process::Abort;
+
+/// A cartridge's header: both images have 80h bytes, and begin to run where they are put.
+const WORDS: [(usize, u32); 8] = [
+    (0x020, 0x200),
+    (0x024, 0x0200_0000),
+    (0x028, 0x0200_0000),
+    (0x02C, 0x80),
+    (0x030, 0x280),
+    (0x034, 0x0210_0000),
+    (0x038, 0x0210_0000),
+    (0x03C, 0x80),
+];
+
+/// How many bytes the cartridge has, and where its images begin.
+const LENGTH: usize = 0x300;
+
+const NINE: usize = 0x200;
+
+const SEVEN: usize = 0x280;
+
+/// A line of a table, which looks at the machine as it is then.
+#[derive(Clone, Copy)]
+enum Line {
+    /// So many steps are taken, of whichever actor is due first.
+    Steps(u32),
+    /// The actor of a rank is due at a tick.
+    Due(u8, u64),
+    /// It isn't due.
+    NotDue(u8),
+    /// The tick and the rank of the actor that steps next.
+    First(u64, u8),
+    /// What a processor does next.
+    Sees(Proc, Seen),
+    /// A byte of main memory, by its place.
+    Main(u32, u8),
+    /// How many steps ARM9, ARM7 and all others took.
+    Took(u64, u64, u64),
+}
+
+fn put(file: &mut Vec<u8>, at: usize, word: u32) {
+    for (i, byte) in word.to_le_bytes().iter().enumerate() {
+        let at = at % LENGTH + i;
+        if at < file.len() {
+            file[at] = *byte;
+        }
+    }
+}
+
+/// A cartridge's file with two programs.
+fn file(alloc: Global, nine: &[u32], seven: &[u32]) -> Result<Vec<u8>, AllocError> {
+    let mut file = vec![in alloc; 0; LENGTH]?;
+    for (at, word) in WORDS {
+        put(&mut file, at, word);
+    }
+    for (number, word) in nine.iter().enumerate() {
+        put(&mut file, NINE + 4 * (number % 32), *word);
+    }
+    for (number, word) in seven.iter().enumerate() {
+        put(&mut file, SEVEN + 4 * (number % 32), *word);
+    }
+    Ok(file)
+}
+
+/// A script with one line.
+fn script(alloc: Global, tick: u64, pressed: u16) -> Result<Keys, AllocError> {
+    let mut keys = Keys::new(alloc);
+    keys.push(KeyLine {
+        tick: Tick(tick % 0x1_0000),
+        pressed: pressed % 0x1000,
+    })?;
+    Ok(keys)
+}
+
+/// Whether a step was taken.
+fn steps(machine: &mut Machine) -> bool {
+    let due = machine.due();
+    if due.tick.0 > 0x1_0000 {
+        return false;
+    }
+    match machine.step(due.rank) {
+        Done::Made => true,
+        Done::Frame { .. } => true,
+        Done::Stopped(_) => false,
+    }
+}
+
+/// Whether a line holds.
+fn holds(machine: &mut Machine, line: Line) -> bool {
+    match line {
+        Steps(count) => {
+            let mut all = true;
+            for _ in 0..count {
+                all = steps(machine) && all;
+            }
+            all
+        }
+        Due(rank, tick) => machine.due_of(rank % 24) == Some(Tick(tick)),
+        NotDue(rank) => machine.due_of(rank % 24).is_none(),
+        First(tick, rank) => {
+            let due = machine.due();
+            due.tick.0 == tick && due.rank == rank
+        }
+        Sees(proc, seen) => machine.seen(proc) == seen,
+        Main(at, byte) => machine.byte_of(Memory::Main, at % 0x40_0000) == byte,
+        Took(nine, seven, events) => {
+            machine.steps(Nine) == nine
+                && machine.steps(Seven) == seven
+                && machine.events() == events
+        }
+    }
+}
+
+/// Each line in turn, of a machine with two programs and one line of keys.
+fn try_lines(
+    rt: &impl Abort,
+    alloc: Global,
+    file: Vec<u8>,
+    keys: Keys,
+    lines: &[Line],
+) -> Result<(), AllocError> {
+    match Cart::read(file) {
+        Ok(cart) => {
+            let mut machine = Machine::new(alloc, &cart, keys)?;
+            for (number, line) in lines.iter().enumerate() {
+                let held = holds(&mut machine, *line);
+                assert!(rt; held, "line {number}");
+            }
+            Ok(())
+        }
+        Err(_) => panic!(rt; "it is a cartridge"),
+    }
+}
+
+/// A branch to itself.
+const LOOP: u32 = 0xEAFF_FFFE;
+
+#[test]
+fn each_actor_is_due_by_its_rank(rt: HostRuntime) -> Result<(), AllocError> {
+    let file = file(rt.alloc(), &[LOOP], &[LOOP])?;
+    let keys = script(rt.alloc(), 5, 1)?;
+    try_lines(
+        &rt,
+        rt.alloc(),
+        file,
+        keys,
+        &[
+            // at boot both processors are due; the first H-blank is at 3,212, and the line of keys at 5
+            Due(22, 0),
+            Due(23, 0),
+            Due(0, 5),
+            Due(1, 3212),
+            // no timer, divider, root, channel; geometry and the card never are
+            NotDue(2),
+            NotDue(9),
+            NotDue(10),
+            NotDue(11),
+            NotDue(12),
+            NotDue(13),
+            NotDue(14),
+            NotDue(21),
+            First(0, 22),
+            Sees(
+                Nine,
+                Seen::Word {
+                    at: 0x0200_0000,
+                    word: LOOP,
+                },
+            ),
+            Sees(
+                Seven,
+                Seen::Word {
+                    at: 0x0210_0000,
+                    word: LOOP,
+                },
+            ),
+            Took(0, 0, 0),
+            // a branch takes 3 ticks on ARM9 and 6 on ARM7
+            Steps(1),
+            First(0, 23),
+            Due(22, 3),
+            Due(23, 0),
+            Steps(1),
+            First(3, 22),
+            Due(23, 6),
+            Took(1, 1, 0),
+            Steps(1),
+            First(5, 0),
+            Due(22, 6),
+            Steps(1),
+            NotDue(0),
+            First(6, 22),
+            Took(2, 1, 1),
+            Steps(1),
+            First(6, 23),
+        ],
+    )
+}
+
+#[test]
+fn units_behind_ports_are_due_by_their_ranks(rt: HostRuntime) -> Result<(), AllocError> {
+    let file = file(
+        rt.alloc(),
+        &[
+            0xE3A0_0301, // mov r0, #0x4000000
+            0xE3A0_18C0, // mov r1, #0xc00000
+            0xE381_1CFF, // orr r1, r1, #0xff00
+            0xE381_10FD, // orr r1, r1, #0xfd
+            0xE580_1100, // str r1, [r0, #0x100], at tick 4: timer 0 overflows after three counts of 2 ticks
+            0xE280_6D0A, // add r6, r0, #0x280
+            0xE3A0_1005, // mov r1, #5
+            0xE586_1010, // str r1, [r6, #0x10], at 7: a division of 36 ticks
+            0xE586_1038, // str r1, [r6, #0x38], at 8: a root of 26
+            0xE3A0_1402, // mov r1, #0x2000000
+            0xE580_10B0, // str r1, [r0, #0xb0]: the source
+            0xE3A0_1622, // mov r1, #0x2200000
+            0xE580_10B4, // str r1, [r0, #0xb4]: the target
+            0xE3A0_1484, // mov r1, #0x84000000
+            0xE381_1001, // orr r1, r1, #1
+            0xE580_10B8, // str r1, [r0, #0xb8], at 15: a channel, whose one unit is due 4 ticks later
+            LOOP,
+        ],
+        &[LOOP],
+    )?;
+    let keys = script(rt.alloc(), 0x8000, 1)?;
+    try_lines(
+        &rt,
+        rt.alloc(),
+        file,
+        keys,
+        &[
+            // ARM9 at 0 to 4, ARM7 at 0
+            Steps(6),
+            First(5, 22),
+            Due(2, 10),
+            NotDue(10),
+            Took(5, 1, 0),
+            // ARM9 at 5 to 15, ARM7 at 6 and 12, and the overflow at 10, after which the next is at 16
+            Steps(14),
+            Took(16, 3, 1),
+            First(16, 2),
+            Due(2, 16),
+            NotDue(3),
+            NotDue(6),
+            Due(10, 43),
+            Due(11, 34),
+            Due(14, 19),
+            NotDue(15),
+            NotDue(18),
+            // while its channel runs ARM9 isn't due
+            NotDue(22),
+            Due(23, 18),
+            Sees(Nine, Seen::Idle),
+            Main(0x20_0000, 0),
+            // the overflow at 16, ARM7 at 18, the unit at 19
+            Steps(3),
+            Took(16, 4, 3),
+            First(20, 22),
+            NotDue(14),
+            Due(2, 22),
+            Due(22, 20),
+            Due(23, 24),
+            Sees(
+                Nine,
+                Seen::Word {
+                    at: 0x0200_0040,
+                    word: LOOP,
+                },
+            ),
+            // it moved the program's first word
+            Main(0x20_0000, 0x01),
+            Main(0x20_0001, 0x03),
+            Main(0x20_0002, 0xA0),
+            Main(0x20_0003, 0xE3),
+            Main(0x20_0004, 0),
+        ],
+    )
+}
+
+#[test]
+fn a_halted_processor_is_not_due(rt: HostRuntime) -> Result<(), AllocError> {
+    // mcr p15, 0, r0, c7, c0, 4; and of ARM7 mov r0, #0x4000000; mov r1, #0x80; strb r1, [r0, #0x301]
+    let nine = [0xEE07_0F90, LOOP];
+    let seven = [0xE3A0_0301, 0xE3A0_1080, 0xE5C0_1301, LOOP];
+    let file = file(rt.alloc(), &nine, &seven)?;
+    let keys = script(rt.alloc(), 7, 0x800)?;
+    try_lines(
+        &rt,
+        rt.alloc(),
+        file,
+        keys,
+        &[
+            Sees(
+                Nine,
+                Seen::Word {
+                    at: 0x0200_0000,
+                    word: 0xEE07_0F90,
+                },
+            ),
+            Steps(1),
+            NotDue(22),
+            Sees(Nine, Seen::Idle),
+            Sees(
+                Seven,
+                Seen::Word {
+                    at: 0x0210_0000,
+                    word: 0xE3A0_0301,
+                },
+            ),
+            Steps(2),
+            Due(23, 4),
+            Sees(
+                Seven,
+                Seen::Word {
+                    at: 0x0210_0008,
+                    word: 0xE5C0_1301,
+                },
+            ),
+            Steps(1),
+            NotDue(23),
+            Sees(Seven, Seen::Idle),
+            Took(1, 3, 0),
+            // the line of keys, and then the display
+            First(7, 0),
+            Steps(1),
+            First(3212, 1),
+            NotDue(22),
+            NotDue(23),
+        ],
+    )
+}
+
+#[test]
+fn the_entry_of_an_interrupt_is_told(rt: HostRuntime) -> Result<(), AllocError> {
+    let file = file(
+        rt.alloc(),
+        &[
+            0xE3A0_0301, // mov r0, #0x4000000
+            0xE3A0_1901, // mov r1, #0x4000
+            0xE381_1001, // orr r1, r1, #1
+            0xE280_2E13, // add r2, r0, #0x130
+            0xE1C2_10B2, // strh r1, [r2, #2]: KEYCNT asks for A
+            0xE3A0_1A01, // mov r1, #0x1000
+            0xE580_1210, // str r1, [r0, #0x210]: IE
+            0xE3A0_1001, // mov r1, #1
+            0xE580_1208, // str r1, [r0, #0x208]: IME
+            0xE3A0_101F, // mov r1, #0x1f
+            0xE121_F001, // msr cpsr_c, r1, at tick 10: System mode, I clear
+            LOOP,
+        ],
+        &[LOOP],
+    )?;
+    let keys = script(rt.alloc(), 15, 1)?;
+    try_lines(
+        &rt,
+        rt.alloc(),
+        file,
+        keys,
+        &[
+            // ARM9 at 0 to 11 and at 14, ARM7 at 0, 6 and 12; the line of keys at 15
+            Steps(16),
+            Took(13, 3, 0),
+            First(15, 0),
+            Sees(
+                Nine,
+                Seen::Word {
+                    at: 0x0200_002C,
+                    word: LOOP,
+                },
+            ),
+            Steps(1),
+            First(17, 22),
+            Sees(Nine, Seen::Irq(0x0200_002C)),
+            Sees(
+                Seven,
+                Seen::Word {
+                    at: 0x0210_0000,
+                    word: LOOP,
+                },
+            ),
+            // the entry takes 3 ticks; the boot ROM's word there is a branch
+            Steps(1),
+            Due(22, 20),
+            Sees(
+                Nine,
+                Seen::Word {
+                    at: 0xFFFF_0018,
+                    word: 0xEA00_0000,
+                },
+            ),
+            Took(14, 3, 1),
+        ],
+    )
+}

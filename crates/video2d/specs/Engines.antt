@@ -1,0 +1,124 @@
+use Rattle.std.specs.Prelude.{ℕ, ◌+◌, ◌-◌, ◌*◌, ◌%◌, ◌^◌, ◌==◌, nat_lt, if◌then◌else◌, List, Option, Some, None, bit_and, slice_index, slice_set}
+use Rattle.std.specs.Int.{cast_signed, w16, w32}
+use Rattle.ds_base.specs.Numbers.{number_at, zeroes}
+use Rattle.ds_base.specs.declared.memories.Width.TheVariants.{Half, Word}
+use Rattle.bg2d.specs.declared.layers.AffineLayer.{AffineLayer}
+use Rattle.bg2d.specs.declared.layers.TextLayer.{TextLayer}
+use Rattle.video2d.specs.EnginePorts.{engine_port_at, is_within, kept_bits, read_of}
+use Rattle.video2d.specs.declared.engine_ports.EnginePort.{EnginePort}
+use Rattle.video2d.specs.declared.points.Point.{Point}
+
+-- A 2D engine: what its ports keep, a byte an offset from its base, and the running points of backgrounds 2 and 3. One record serves both
+-- engines; engine 0 is A, any other is B.
+pub record EngineState : Type 0 where
+  pub ports : List ℕ
+  pub two : Point
+  pub three : Point
+
+abbrev pub engine_at_boot : EngineState
+engine_at_boot = record { ports = zeroes 112; two = record { x = 0; y = 0 }; three = record { x = 0; y = 0 } }
+
+-- ---- the registers by GBATEK's names; n is a background's number
+
+abbrev pub dispcnt : EngineState → ℕ
+dispcnt e = number_at Word e.ports 0x00
+
+abbrev pub bgcnt : EngineState → ℕ → ℕ
+bgcnt e n = number_at Half e.ports (0x08 + 2 * n)
+
+abbrev pub bghofs : EngineState → ℕ → ℕ
+bghofs e n = number_at Half e.ports (0x10 + 4 * n)
+
+abbrev pub bgvofs : EngineState → ℕ → ℕ
+bgvofs e n = number_at Half e.ports (0x12 + 4 * n)
+
+abbrev pub bldcnt : EngineState → ℕ
+bldcnt e = number_at Half e.ports 0x50
+
+abbrev pub dispcapcnt : EngineState → ℕ
+dispcapcnt e = number_at Word e.ports 0x64
+
+abbrev pub master_bright : EngineState → ℕ
+master_bright e = number_at Half e.ports 0x6C
+
+-- the mosaic's sizes for backgrounds: the low byte of MOSAIC
+abbrev pub background_mosaic : EngineState → ℕ
+background_mosaic e = slice_index e.ports 0x4C
+
+-- ---- running points (GBATEK, "LCD I/O BG Rotation/Scaling"): the point at the left end of the line, each coordinate a word with 8 fractional
+-- bits. PA to PD, X and Y of background n stand from offset 10h n on
+
+-- a half, and a number of 28 bits, as signed words
+abbrev pub word_of_half : ℕ → ℕ
+word_of_half half = if nat_lt half (2 ^ 15) then half else half + (2 ^ 32 - 2 ^ 16)
+
+abbrev pub word_of_28 : ℕ → ℕ
+word_of_28 number = let low = number % 2 ^ 28 in if nat_lt low (2 ^ 27) then low else low + (2 ^ 32 - 2 ^ 28)
+
+-- X or Y, as it is kept
+abbrev pub coordinate_at : List ℕ → ℕ → ℕ
+coordinate_at ports at = word_of_28 (number_at Word ports at)
+
+-- both are copied when line 0 starts
+abbrev pub point_started : List ℕ → ℕ → Point
+point_started ports n = record { x = coordinate_at ports (0x10 * n + 8); y = coordinate_at ports (0x10 * n + 12) }
+
+-- each is copied when any byte of it is written
+abbrev pub point_written : List ℕ → ℕ → ℕ → Point → Point
+point_written ports n at p =
+    if is_within (0x10 * n + 8) 4 at then record p { x = coordinate_at ports (0x10 * n + 8) }
+    else (if is_within (0x10 * n + 12) 4 at then record p { y = coordinate_at ports (0x10 * n + 12) } else p)
+
+-- PB and PD are added after a line, modulo 2^32
+abbrev pub moved_by : ℕ → ℕ → ℕ
+moved_by coordinate half = (coordinate + word_of_half half) % 2 ^ 32
+
+abbrev pub point_stepped : List ℕ → ℕ → Point → Point
+point_stepped ports n p = record { x = moved_by p.x (number_at Half ports (0x10 * n + 2)); y = moved_by p.y (number_at Half ports (0x10 * n + 6)) }
+
+abbrev pub points_started : EngineState → EngineState
+points_started e = record e { two = point_started e.ports 2; three = point_started e.ports 3 }
+
+abbrev pub points_stepped : EngineState → EngineState
+points_stepped e = record e { two = point_stepped e.ports 2 e.two; three = point_stepped e.ports 3 e.three }
+
+-- ---- a byte of the ports is read and written
+
+abbrev pub engine_byte : ℕ → EngineState → ℕ → ℕ
+engine_byte which e at = read_of (engine_port_at which at) (slice_index e.ports at)
+
+abbrev pub points_after : ℕ → EngineState → EngineState
+points_after at e = record e { two = point_written e.ports 2 at e.two; three = point_written e.ports 3 at e.three }
+
+abbrev pub engine_byte_by : Option EnginePort → EngineState → ℕ → ℕ → EngineState
+engine_byte_by None e at value = e
+engine_byte_by (Some port) e at value = points_after at (record e { ports = slice_set e.ports at (bit_and value (kept_bits port at)) })
+
+abbrev pub engine_byte_written : ℕ → EngineState → ℕ → ℕ → EngineState
+engine_byte_written which e at value = engine_byte_by (engine_port_at which at) e at value
+
+-- ---- layers
+
+abbrev pub text_layer_of : ℕ → EngineState → ℕ → TextLayer
+text_layer_of which e n = record {
+  engine = which;
+  number = n;
+  display = dispcnt e;
+  control = bgcnt e n;
+  across = bghofs e n;
+  down = bgvofs e n;
+}
+
+abbrev pub point_of : EngineState → ℕ → Point
+point_of e n = if n == 2 then e.two else e.three
+
+abbrev pub affine_layer_of : ℕ → EngineState → ℕ → AffineLayer
+affine_layer_of which e n = record {
+  engine = which;
+  display = dispcnt e;
+  control = bgcnt e n;
+  x = cast_signed w32 (point_of e n).x;
+  y = cast_signed w32 (point_of e n).y;
+  pa = cast_signed w16 (number_at Half e.ports (0x10 * n));
+  pc = cast_signed w16 (number_at Half e.ports (0x10 * n + 4));
+}

@@ -1,0 +1,10 @@
+pub mod Backgrounds
+pub mod Engines
+pub mod EnginePorts
+pub mod Pictures
+pub mod Ports
+pub mod Scans
+pub mod Statuses
+pub mod Stops
+pub mod Videos
+pub mod rows

@@ -1,0 +1,184 @@
+//! A 2D engine's registers.
+
+ghost use Rattle.std.specs.Prelude.{◌≡◌, ◌<◌, ◌≤◌, slice_index, slice_set};
+ghost use Rattle.video2d.specs.Engines.{engine_at_boot, dispcnt, bgcnt, bghofs, bgvofs, bldcnt, dispcapcnt, master_bright, background_mosaic, points_started, points_stepped, points_after, engine_byte, engine_byte_written, text_layer_of, affine_layer_of};
+
+use crate::engine_ports::engine_port_at;
+use crate::points::{PORTS, Point, half_at, word_at};
+use bg2d::{AffineLayer, TextLayer};
+use std::marker::Model;
+
+/// An engine: what its ports keep, and the running points of backgrounds 2 and 3. Engine 0 is A, any other is B.
+#[derive(Drop)]
+pub struct Engine {
+    ports: [u8; PORTS],
+    two: Point,
+    three: Point,
+}
+
+impl Model for Engine {
+    ghost use Rattle.video2d.specs.Engines.{EngineState};
+
+    ghost Value = { EngineState };
+
+    ghost view = { λ e. record { ports = e.ports; two = e.two; three = e.three } };
+}
+
+impl Engine {
+    /// At boot all is 0.
+    #[tactic(auto, unfolding(ds_base::specs::Numbers::zeroes))]
+    pub fn new() -> Engine
+        ensures { result ≡ engine_at_boot }
+    {
+        Engine {
+            ports: [0; PORTS],
+            two: Point { x: 0, y: 0 },
+            three: Point { x: 0, y: 0 },
+        }
+    }
+
+    /// DISPCNT.
+    pub fn dispcnt(&self) -> u32
+        ensures { result ≡ dispcnt self.now }
+    {
+        word_at(&self.ports, 0)
+    }
+
+    /// BGxCNT of background n.
+    pub fn bgcnt(&self, n: u8) -> u16
+        requires { n < 4 }
+        ensures { result ≡ bgcnt self.now n }
+    {
+        half_at(&self.ports, 0x08 + 2 * n as usize)
+    }
+
+    /// BGxHOFS.
+    pub fn bghofs(&self, n: u8) -> u16
+        requires { n < 4 }
+        ensures { result ≡ bghofs self.now n }
+    {
+        half_at(&self.ports, 0x10 + 4 * n as usize)
+    }
+
+    /// BGxVOFS.
+    pub fn bgvofs(&self, n: u8) -> u16
+        requires { n < 4 }
+        ensures { result ≡ bgvofs self.now n }
+    {
+        half_at(&self.ports, 0x12 + 4 * n as usize)
+    }
+
+    /// BLDCNT.
+    pub fn bldcnt(&self) -> u16
+        ensures { result ≡ bldcnt self.now }
+    {
+        half_at(&self.ports, 0x50)
+    }
+
+    /// DISPCAPCNT.
+    pub fn dispcapcnt(&self) -> u32
+        ensures { result ≡ dispcapcnt self.now }
+    {
+        word_at(&self.ports, 0x64)
+    }
+
+    /// MASTER_BRIGHT.
+    pub fn master_bright(&self) -> u16
+        ensures { result ≡ master_bright self.now }
+    {
+        half_at(&self.ports, 0x6C)
+    }
+
+    /// The mosaic's sizes for backgrounds.
+    pub fn background_mosaic(&self) -> u8
+        ensures { result ≡ background_mosaic self.now }
+    {
+        self.ports[0x4C]
+    }
+
+    /// The byte at an offset, as it is read.
+    pub fn byte(&self, which: u8, at: u32) -> u8
+        requires { at < 112 }
+        ensures { result ≡ engine_byte which self.now at }
+    {
+        match engine_port_at(which, at) {
+            None => 0,
+            Some(port) => {
+                if port.reads {
+                    self.ports[at as usize]
+                } else {
+                    0
+                }
+            }
+        }
+    }
+
+    fn copy_points(&mut self, at: usize)
+        ensures { self.new ≡ points_after at self.old }
+    {
+        self.two = self.two.written(&self.ports, 2, at);
+        self.three = self.three.written(&self.ports, 3, at);
+    }
+
+    /// A byte is written at an offset.
+    pub fn write_byte(&mut self, which: u8, at: u32, value: u8)
+        requires { at < 112 }
+        ensures { self.new ≡ engine_byte_written which self.old at value }
+    {
+        match engine_port_at(which, at) {
+            None => {}
+            Some(port) => {
+                self.ports[at as usize] = value & port.kept_bits(at);
+                self.copy_points(at as usize);
+            }
+        }
+    }
+
+    /// Line 0 starts: the running points are those of X and Y.
+    pub fn start_points(&mut self)
+        ensures { self.new ≡ points_started self.old }
+    {
+        self.two = Point::started(&self.ports, 2);
+        self.three = Point::started(&self.ports, 3);
+    }
+
+    /// One line further.
+    pub fn step_points(&mut self)
+        ensures { self.new ≡ points_stepped self.old }
+    {
+        self.two = self.two.stepped(&self.ports, 2);
+        self.three = self.three.stepped(&self.ports, 3);
+    }
+
+    /// Background n as a text background.
+    pub fn text_layer(&self, which: u8, n: u8) -> TextLayer
+        requires { n < 4 }
+        ensures { result ≡ text_layer_of which self.now n }
+    {
+        TextLayer {
+            engine: which,
+            number: n,
+            display: self.dispcnt(),
+            control: self.bgcnt(n),
+            across: self.bghofs(n),
+            down: self.bgvofs(n),
+        }
+    }
+
+    /// Background n, 2 or 3, as an affine background.
+    pub fn affine_layer(&self, which: u8, n: u8) -> AffineLayer
+        requires { n < 4 }
+        ensures { result ≡ affine_layer_of which self.now n }
+    {
+        let point = if n == 2 { self.two } else { self.three };
+        AffineLayer {
+            engine: which,
+            display: self.dispcnt(),
+            control: self.bgcnt(n),
+            x: point.x.cast_signed(),
+            y: point.y.cast_signed(),
+            pa: half_at(&self.ports, 0x10 * n as usize).cast_signed(),
+            pc: half_at(&self.ports, 0x10 * n as usize + 4).cast_signed(),
+        }
+    }
+}

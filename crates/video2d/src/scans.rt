@@ -1,0 +1,124 @@
+//! Where the display is, and when its next event comes.
+
+ghost use Rattle.std.specs.Prelude.{◌≡◌, ◌<◌, ◌≤◌, ◌^◌};
+ghost use Rattle.video2d.specs.Scans.{scan_at_boot, scan_due, scan_after, line_after, is_drawn_line, in_vblank, blanks_drawn_line, starts_vblank};
+
+use std::marker::Model;
+
+/// From a line's start to its H-blank event.
+const HBLANK_TICKS: u64 = 3_212;
+/// From a line's H-blank event to the next line's start.
+const REST_TICKS: u64 = 1_048;
+/// The last line of a frame.
+const LAST_LINE: u16 = 262;
+/// The first line that isn't drawn.
+const VBLANK_LINE: u16 = 192;
+
+/// Where the display is. The frame's number is kept for contracts and for no other use.
+#[derive(Drop)]
+pub struct Scan {
+    frame: u64,
+    line: u16,
+    blanked: bool,
+    due: u64,
+}
+
+impl Model for Scan {
+    ghost use Rattle.std.specs.Prelude.{◌≡◌, ◌≤◌};
+    ghost use Rattle.video2d.specs.Scans.{ScanState, scan_due};
+
+    ghost Value = { ScanState };
+
+    ghost view = { λ s. record { frame = s.frame; line = s.line; blanked = s.blanked } };
+
+    ghost invariant = { λ s. (s.due ≡ scan_due (record { frame = s.frame; line = s.line; blanked = s.blanked })) × (s.line ≤ 262) };
+}
+
+impl Scan {
+    /// At boot line 0 of the first frame begins.
+    pub fn new() -> Scan
+        ensures { result ≡ scan_at_boot }
+    {
+        Scan {
+            frame: 0,
+            line: 0,
+            blanked: false,
+            due: HBLANK_TICKS,
+        }
+    }
+
+    /// When the next event is due, in ticks.
+    #[inline(always)]
+    pub fn due(&self) -> u64
+        ensures { result ≡ scan_due self.now }
+    {
+        self.due
+    }
+
+    /// The line.
+    pub fn line(&self) -> u16
+        ensures value { result ≡ self.now.line }
+        ensures within { result ≤ 262 }
+    {
+        self.line
+    }
+
+    /// Whether the line's H-blank event has been.
+    pub fn blanked(&self) -> bool
+        ensures { result ≡ self.now.blanked }
+    {
+        self.blanked
+    }
+
+    /// Whether the V-blank flag is set.
+    pub fn in_vblank(&self) -> bool
+        ensures { result ≡ in_vblank self.now.line }
+    {
+        self.line >= VBLANK_LINE && self.line < LAST_LINE
+    }
+
+    /// Whether the next event is the H-blank of a line that is drawn.
+    pub fn blanks_drawn(&self) -> bool
+        ensures value { result ≡ blanks_drawn_line self.now }
+    {
+        !self.blanked && self.line < VBLANK_LINE
+    }
+
+    /// Whether the next event is the start of line 192.
+    pub fn starts_vblank(&self) -> bool
+        ensures { result ≡ starts_vblank self.now }
+    {
+        self.blanked && self.line == VBLANK_LINE - 1
+    }
+
+    /// The line after the present one.
+    pub fn next_line(&self) -> u16
+        ensures { result ≡ line_after self.now.line }
+    {
+        if self.line == LAST_LINE {
+            0
+        } else {
+            self.line + 1
+        }
+    }
+
+    /// The next event comes.
+    pub fn advance(&mut self)
+        requires { scan_due self.old ≤ 2 ^ 56 }
+        ensures { self.new ≡ scan_after self.old }
+    {
+        if !self.blanked {
+            self.blanked = true;
+            self.due += REST_TICKS;
+            return;
+        }
+        self.blanked = false;
+        self.due += HBLANK_TICKS;
+        if self.line == LAST_LINE {
+            self.line = 0;
+            self.frame += 1;
+        } else {
+            self.line += 1;
+        }
+    }
+}

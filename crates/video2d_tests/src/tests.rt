@@ -1,0 +1,51 @@
+//! Rows worked by hand from GBATEK's tables. A table is a list of lines: what is done, and what is seen then. Each begins at boot.
+
+use ds_base::{LeftKind, Proc, Space, Width};
+use stage::Stage;
+use std::alloc::{AllocError, Global};
+use std::process::Abort;
+
+mod events;
+mod frames;
+mod layers;
+mod ports;
+mod stage;
+mod stops;
+
+/// One line of a table.
+#[derive(Clone, Copy)]
+enum Line {
+    /// A processor writes at an offset, and reads a byte there.
+    Write(Proc, u32, Width, u32),
+    Reads(Proc, u32, u8),
+    /// When the next event is due.
+    Due(u64),
+    /// Goes on until the display is in a line, before or after its H-blank.
+    To(u16, bool),
+    /// The next event comes: the bits that it raises at ARM9 and ARM7, whether it triggers V-blank DMA (and makes a frame whole), and H-blank DMA.
+    Event(u32, u32, bool, bool),
+    /// The next event stops, and nothing changes.
+    Stops(LeftKind, u32),
+    /// A pixel of the last whole frame: screen (0 is the upper), line, place, colour.
+    Pixel(usize, usize, usize, u16),
+    /// A bank's control.
+    Bank(u8, u8),
+    /// So many words of a space from an address on are written.
+    Fill(Space, u32, u32, u32),
+    /// Each byte from 0 to 63 after an address is written with its number and 128.
+    Count(Space, u32),
+    /// Video memory for backgrounds, the same for both engines: see `Stage::backgrounds`.
+    Backgrounds,
+    /// An engine's DISPCNT and BG0CNT to BG3CNT, by the engine's base.
+    Layers(u32, u32, u16, u16, u16, u16),
+}
+
+/// Goes through lines from boot.
+fn try_lines(rt: &impl Abort, alloc: Global, lines: &[Line]) -> Result<(), AllocError> {
+    let mut stage = Stage::new(alloc)?;
+    for (number, line) in lines.iter().enumerate() {
+        let (got, wanted) = stage.seen(*line);
+        assert!(rt; got == wanted, "line {number}: {got}");
+    }
+    Ok(())
+}

@@ -2,5 +2,4 @@ pub mod Layouts
 pub mod Places
 pub mod Powers
 pub mod ThumbKinds
-pub mod ClassKinds
 pub mod Footprints

@@ -35,6 +35,10 @@ addressed s pre up write_back rn offset = let moved = moved_base up (register s 
   written = (write_back || not pre) && not (rn == 15);
 }
 
+-- Thumb's LDR of a literal: behind r15, whose bits 1 and 0 are cleared; nothing is written back (A7.1, "LDR (3)")
+abbrev pub addressed_literal : RegisterState → ℕ → Addressed
+addressed_literal s immed = let base = register s 15 in record { address = (base - base % 4 + 4 * immed) % 2 ^ 32; base = base; written = false }
+
 -- the base is written back
 abbrev pub with_base : Bool → ℕ → ℕ → RegisterState → RegisterState
 with_base false rn base s = s

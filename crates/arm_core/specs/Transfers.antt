@@ -12,7 +12,7 @@ use Rattle.arm_words.specs.declared.parts.ShortOffset.{ShortOffset}
 use Rattle.arm_words.specs.declared.operations.HalfOp.{HalfOp}
 use Rattle.arm_words.specs.declared.operations.HalfOp.TheVariants.{Strh, Ldrh, Ldrsb, Ldrsh}
 use Rattle.arm_core.specs.Registers.{RegisterState, register, late_register, next, put}
-use Rattle.arm_core.specs.Addressing.{addressed, offset_value, short_offset_value, with_base}
+use Rattle.arm_core.specs.Addressing.{addressed, addressed_literal, offset_value, short_offset_value, with_base}
 use Rattle.arm_core.specs.Branches.{exchanged}
 use Rattle.arm_core.specs.declared.addresses.Addressed.{Addressed}
 use Rattle.arm_core.specs.Effects.{Meaning}
@@ -96,7 +96,6 @@ abbrev pub half_transfer_meaning : Arch → RegisterState → HalfOp → Bool �
 half_transfer_meaning arch s op pre up write_back rn rd offset =
     half_or_signed_meaning arch s op rn rd (addressed s pre up write_back rn (short_offset_value s offset))
 
--- Thumb's LDR from r15, whose bits 1 and 0 are cleared (A7.1, "LDR (3)")
+-- Thumb's LDR of a literal (A7.1, "LDR (3)")
 abbrev pub literal_meaning : Arch → RegisterState → ℕ → ℕ → Meaning
-literal_meaning arch s rd immed = let base = register s 15 in
-    load_word_meaning arch s 15 rd (record { address = (base - base % 4 + 4 * immed) % 2 ^ 32; base = base; written = false })
+literal_meaning arch s rd immed = load_word_meaning arch s 15 rd (addressed_literal s immed)

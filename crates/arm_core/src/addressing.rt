@@ -1,9 +1,8 @@
 //! The addresses of transfers.
 
-ghost use Rattle.std.specs.Prelude.{◌≡◌, ◌<◌, ◌+◌, ◌-◌, ◌*◌, ◌%◌, ◌^◌};
+ghost use Rattle.std.specs.Prelude.{◌≡◌, ◌<◌};
 ghost use Rattle.arm_words.specs.Fields.{HasOffset, HasShortOffset};
-ghost use Rattle.arm_core.specs.Addressing.{addressed, moved_base, offset_value, short_offset_value, with_base};
-ghost use Rattle.arm_core.specs.Registers.{register};
+ghost use Rattle.arm_core.specs.Addressing.{addressed, addressed_literal, moved_base, offset_value, short_offset_value, with_base};
 
 use crate::addresses::Addressed;
 use crate::registers::Registers;
@@ -72,13 +71,17 @@ pub fn addressed(
     }
 }
 
-/// The address of a literal of Thumb's, `immed` words behind r15, whose bits 1 and 0 are cleared (ARM manual, A7.1 "LDR (3)").
+/// Where Thumb's load of a literal goes: `immed` words behind r15, whose bits 1 and 0 are cleared; nothing is written back (ARM manual, A7.1 "LDR (3)").
 #[inline(always)]
-pub fn literal_address(s: &Registers, immed: u8) -> u32
-    ensures { result ≡ (register s.now 15 - register s.now 15 % 4 + 4 * immed) % 2 ^ 32 }
+pub fn addressed_literal(s: &Registers, immed: u8) -> Addressed
+    ensures { result ≡ addressed_literal s.now immed }
 {
     let base = s.r15();
-    (base - base % 4).wrapping_add(4 * immed as u32)
+    Addressed {
+        address: (base - base % 4).wrapping_add(4 * immed as u32),
+        base,
+        written: false,
+    }
 }
 
 /// Writes the base back to `rn`, if it is `written` back.

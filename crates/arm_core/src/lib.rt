@@ -24,7 +24,7 @@ mod touches;
 
 pub use addresses::Addressed;
 pub use addressing::{
-    addressed, literal_address, moved_base, offset_value, short_offset_value, write_back,
+    addressed, addressed_literal, moved_base, offset_value, short_offset_value, write_back,
 };
 pub use banks::Bank;
 pub use buses::Bus;

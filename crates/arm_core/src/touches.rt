@@ -12,7 +12,7 @@ ghost use Rattle.arm_core.specs.Registers.{RegisterState};
 ghost use Rattle.arm_core.specs.Transfers.{half_or_signed_meaning};
 
 use crate::addresses::Addressed;
-use crate::addressing::{addressed, literal_address, offset_value, short_offset_value};
+use crate::addressing::{addressed, addressed_literal, offset_value, short_offset_value};
 use crate::conditions::{condition, holds};
 use crate::cores::Core;
 use crate::lists::{list_bytes, lowest, transferred};
@@ -163,7 +163,7 @@ fn act_touch(arch: Arch, s: &Registers, instr: &Instr) -> Touch
         } => list_touch(arch, s, pre, up, rn, list),
         Instr::Swap { byte, rn, .. } => access_touch(s.get(rn), width_by(byte)),
         Instr::ThumbLoadLiteral { immed, .. } => {
-            access_touch(literal_address(s, immed), Width::Word)
+            access_touch(addressed_literal(s, immed).address, Width::Word)
         }
         _ => Touch::Nothing,
     }

@@ -31,6 +31,6 @@ pub use multiplies::{long_multiply, multiply};
 pub use processing::{compare, compute_compare, compute_data, compute_move, data, move_};
 pub use saturating::saturate;
 pub use statuses::{mrs, msr};
-pub use steps::{Fetched, enters, execute, execute_word, fetch, step};
+pub use steps::{Fetched, decoded_half, decoded_word, enters, execute, execute_word, fetch, step};
 pub use swaps::swap;
 pub use transfers::{half_transfer, half_transfer_at, literal, transfer, transfer_at};

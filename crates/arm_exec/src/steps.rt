@@ -1,8 +1,10 @@
 //! A processor's step.
 
-ghost use Rattle.std.specs.Prelude.{◌≡◌, ◌<◌, [], None, if◌then◌else◌, IfSome};
+ghost use Rattle.std.specs.Prelude.{◌≡◌, ◌<◌, ◌/◌, ◌%◌, ◌^◌, [], None, if◌then◌else◌, IfSome};
+ghost use Rattle.arm_words.specs.ArmTable.{decoded_arm};
 ghost use Rattle.arm_words.specs.Fields.{HasFields};
 ghost use Rattle.arm_words.specs.Parts.{condition_of};
+ghost use Rattle.arm_words.specs.ThumbTable.{decoded_thumb};
 ghost use Rattle.arm_core.specs.Conditions.{holds};
 ghost use Rattle.arm_core.specs.Effects.{cost_of};
 ghost use Rattle.arm_core.specs.Exceptions.{undefined_meaning};
@@ -146,6 +148,34 @@ pub struct Fetched {
     pub instr: Option<Instr>,
 }
 
+/// A word of ARM code, decoded: it takes effect under the condition of its upper four bits.
+#[inline(always)]
+pub fn decoded_word(arch: Arch, word: u32) -> Fetched
+    ensures number { result.number ≡ word / 2 ^ 28 }
+    ensures instr { result.instr ≡ decoded_arm arch word }
+    ensures low { result.number < 16 }
+    ensures fields { IfSome result.instr HasFields }
+{
+    Fetched {
+        number: word >> 28,
+        instr: decode_arm(arch, word),
+    }
+}
+
+/// A half of Thumb code, decoded: it always takes effect.
+#[inline(always)]
+pub fn decoded_half(arch: Arch, half: u32) -> Fetched
+    ensures number { result.number ≡ 14 }
+    ensures instr { result.instr ≡ decoded_thumb arch (half % 2 ^ 16) }
+    ensures low { result.number < 16 }
+    ensures fields { IfSome result.instr HasFields }
+{
+    Fetched {
+        number: 14,
+        instr: decode_thumb(arch, (half % 0x1_0000) as u16),
+    }
+}
+
 /// Fetches a word at r15.
 #[inline(always)]
 fn fetch_word<B: Bus>(arch: Arch, s: &Registers, bus: &mut B) -> Fetched
@@ -156,11 +186,7 @@ fn fetch_word<B: Bus>(arch: Arch, s: &Registers, bus: &mut B) -> Fetched
     ensures fields { IfSome result.instr HasFields }
     ensures same { B.identity bus.new ≡ B.identity bus.old }
 {
-    let word = bus.fetch(s.pc(), Width::Word);
-    Fetched {
-        number: word >> 28,
-        instr: decode_arm(arch, word),
-    }
+    decoded_word(arch, bus.fetch(s.pc(), Width::Word))
 }
 
 /// Fetches a half at r15.
@@ -173,11 +199,7 @@ fn fetch_half<B: Bus>(arch: Arch, s: &Registers, bus: &mut B) -> Fetched
     ensures fields { IfSome result.instr HasFields }
     ensures same { B.identity bus.new ≡ B.identity bus.old }
 {
-    let half = (bus.fetch(s.pc(), Width::Half) % 0x1_0000) as u16;
-    Fetched {
-        number: 14,
-        instr: decode_thumb(arch, half),
-    }
+    decoded_half(arch, bus.fetch(s.pc(), Width::Half))
 }
 
 /// Fetches at r15: a word of ARM code, or in Thumb state a half of Thumb code.

@@ -14,8 +14,8 @@ ghost use Rattle.arm_core.specs.declared.classes.Class.TheVariants.{Load};
 
 use crate::branches::exchange_to;
 use arm_core::{
-    Addressed, Bus, Class, Registers, Stepped, addressed, offset_value, short_offset_value,
-    write_back,
+    Addressed, Bus, Class, Registers, Stepped, addressed, addressed_literal, offset_value,
+    short_offset_value, write_back,
 };
 use arm_words::{HalfOp, Offset, ShortOffset};
 use ds_base::{Arch, Width};
@@ -401,11 +401,6 @@ pub fn literal<B: Bus>(arch: Arch, s: &mut Registers, bus: &mut B, rd: u8, immed
     ensures stepped { result ≡ (carried_out B.memory arch s.old (B.state bus.old) (literal_meaning arch s.old rd immed)).stepped }
     ensures same { B.identity bus.new ≡ B.identity bus.old }
 {
-    let base = s.r15();
-    let to = Addressed {
-        address: (base - base % 4).wrapping_add(4 * immed as u32),
-        base,
-        written: false,
-    };
+    let to = addressed_literal(s, immed);
     load_word(arch, s, bus, 15, rd, to)
 }

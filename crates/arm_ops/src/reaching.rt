@@ -11,7 +11,7 @@ ghost use Rattle.arm_ops.specs.Inside.{Computes};
 use crate::operations::{Op, Operation};
 use crate::running::{compute_on, shifted_operand, takes_effect};
 use arm_core::{
-    Bus, Registers, Stepped, Touch, access_touch, addressed, half_touch, literal_address, width_by,
+    Bus, Registers, Stepped, Touch, access_touch, addressed, addressed_literal, half_touch, width_by,
 };
 use arm_exec::{half_transfer_at, literal, skip, transfer_at};
 use ds_base::{Arch, Width};
@@ -84,7 +84,7 @@ fn op_touch(arch: Arch, s: &Registers, op: &Op) -> Touch
             let to = addressed(s, pre, up, write_back, rn, s.get(rm));
             half_touch(arch, op, to)
         }
-        Op::Literal { immed, .. } => access_touch(literal_address(s, immed), Width::Word),
+        Op::Literal { immed, .. } => access_touch(addressed_literal(s, immed).address, Width::Word),
         Op::Other => Touch::Nothing,
         Op::DataNumber { .. }
         | Op::DataRegister { .. }

@@ -16,7 +16,7 @@ ghost use Rattle.arm_ops.specs.Inside.{Computes};
 
 use crate::operations::{Op, Operation};
 use arm_core::{
-    Addressed, Bus, Class, Registers, Shifted32, Stepped, addressed, holds, literal_address,
+    Addressed, Bus, Class, Registers, Shifted32, Stepped, addressed, addressed_literal, holds,
     shift_by_number,
 };
 use arm_exec::{
@@ -232,7 +232,7 @@ fn ram_literal<B: Bus>(arch: Arch, s: &mut Registers, bus: &mut B, rd: u8, immed
     ensures ram { 0 < result → IsInRam (literal_meaning arch s.old rd immed).accesses }
     ensures same { B.identity bus.new ≡ B.identity bus.old }
 {
-    if !is_ram(literal_address(s, immed)) {
+    if !is_ram(addressed_literal(s, immed).address) {
         return 0;
     }
     paid(literal(arch, s, bus, rd, immed))

@@ -1,6 +1,6 @@
 //! A cache of words, or of halves, of one version of the architecture.
 
-ghost use Rattle.std.specs.Prelude.{◌≡◌, ◌<◌, IfSome};
+ghost use Rattle.std.specs.Prelude.{◌≡◌, ◌<◌, IfOk, IfSome};
 ghost use Rattle.std.specs.Coded.{Coded-set};
 ghost use Rattle.decode_cache.specs.Known.{arch_of, known};
 ghost use Rattle.arm_ops.specs.Operations.{operation_of};
@@ -90,8 +90,10 @@ impl<const VERSION: u32, const BITS: u32> CacheEntry<VERSION, BITS> {
 }
 
 impl<const VERSION: u32, const BITS: u32> DecodeCache<VERSION, BITS> {
-    /// A cache that keeps one number.
-    pub fn new(alloc: Global) -> Result<DecodeCache<VERSION, BITS>, AllocError> {
+    /// A cache that keeps one number. It refuses only for want of memory; what a cache keeps is no part of its value, so each look-up of this one answers as any does.
+    pub fn new(alloc: Global) -> Result<DecodeCache<VERSION, BITS>, AllocError>
+        ensures { IfOk result (λ cache. cache ≡ tt) }
+    {
         Ok(DecodeCache {
             entries: vec![in alloc; made::<VERSION, BITS>(0); PLACES]?,
         })

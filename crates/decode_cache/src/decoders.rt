@@ -18,7 +18,7 @@ pub struct Decoder<const VERSION: u32> {
 }
 
 impl<const VERSION: u32> Decoder<VERSION> {
-    /// A decoder. All its memory is taken here.
+    /// A decoder. All its memory is taken here, and it refuses only for want of that; what a decoder keeps is in no clause, so each look-up of this one answers as any does.
     pub fn new(alloc: Global) -> Result<Decoder<VERSION>, AllocError> {
         Ok(Decoder {
             words: DecodeCache::new(alloc)?,

@@ -1,27 +1,31 @@
 use Rattle.std.proofs.Common.{ℕ, refl, ◌<◌, Bool, true, false, if◌then◌else◌, Option, Some, None, IfSome, arith}
-use Rattle.arm_words.specs.Fields.{HasFields, HasOperand, HasThumbOperand}
+use Rattle.arm_words.specs.Fields.{HasFields, HasOffset, HasOperand, HasShortOffset, HasThumbOperand}
 use Rattle.arm_words.specs.declared.instructions.Instr.{Instr}
 use Rattle.arm_words.specs.declared.instructions.Instr.TheVariants as instrs
-use Rattle.arm_words.specs.declared.operations.CompareOp.{CompareOp}
-use Rattle.arm_words.specs.declared.operations.DataOp.{DataOp}
 use Rattle.arm_words.specs.declared.operations.HighOp.{HighOp}
 use Rattle.arm_words.specs.declared.operations.HighOp.TheVariants as high_ops
-use Rattle.arm_words.specs.declared.operations.MoveOp.{MoveOp}
 use Rattle.arm_words.specs.declared.operations.ThumbDataOp.{ThumbDataOp}
 use Rattle.arm_words.specs.declared.operations.ThumbDataOp.TheVariants as thumb_ops
 use Rattle.arm_words.specs.declared.operations.ThumbImmediateOp.{ThumbImmediateOp}
 use Rattle.arm_words.specs.declared.operations.ThumbImmediateOp.TheVariants as immediate_ops
 use Rattle.arm_words.specs.declared.operations.ThumbTransferOp.{ThumbTransferOp}
 use Rattle.arm_words.specs.declared.operations.ThumbTransferOp.TheVariants as transfer_ops
+use Rattle.arm_words.specs.declared.parts.Offset.{Offset}
 use Rattle.arm_words.specs.declared.parts.Offset.TheVariants as offsets
 use Rattle.arm_words.specs.declared.parts.Operand.{Operand}
 use Rattle.arm_words.specs.declared.parts.Operand.TheVariants.{Immediate, Shifted, ShiftedByRegister}
+use Rattle.arm_words.specs.declared.parts.ShortOffset.{ShortOffset}
 use Rattle.arm_words.specs.declared.parts.ShortOffset.TheVariants.{ShortNumber, ShortRegister}
 use Rattle.arm_words.specs.declared.parts.ThumbOperand.{ThumbOperand}
 use Rattle.arm_words.specs.declared.parts.ThumbOperand.TheVariants.{LowRegister, Small}
 use Rattle.arm_core.specs.Thumb.{equivalent, high_instr, immediate_instr, low_operand, offset_instr, register_instr, transfer_equivalent}
-use Rattle.arm_ops.specs.Operations.{compare_op, data_op, is_plain, move_op, op_of, operation_of, HasOp, HasOperation}
+use Rattle.arm_ops.specs.Operations.{compare_op, data_op, is_plain, move_op, op_of, operation_of, short_transfer_op, transfer_op, HasData, HasOp, HasOperation, HasTransfer}
+use Rattle.arm_ops.specs.declared.operations.Comparison.{Comparison}
+use Rattle.arm_ops.specs.declared.operations.Data.{Data}
+use Rattle.arm_ops.specs.declared.operations.MoveTo.{MoveTo}
 use Rattle.arm_ops.specs.declared.operations.Op.{Op}
+use Rattle.arm_ops.specs.declared.operations.Transfer.{Transfer}
+use Rattle.arm_ops.specs.declared.operations.TransferOp.TheVariants.{WordOrByte, HalfOrSigned}
 
 -- What is decoded has its fields in their ranges, where the instruction has.
 
@@ -29,31 +33,39 @@ one_of : (b : Bool) (x y : Op) → HasOp x → HasOp y → HasOp (if b then x el
 one_of true x y h k = h
 one_of false x y h k = k
 
-data_fields : (i : Instr) (op : DataOp) (set_flags : Bool) (rn rd : ℕ) (operand : Operand) → HasFields i → rn < 16 → rd < 16 → HasOperand operand
-    → HasOp (data_op i op set_flags rn rd operand)
-data_fields i op set_flags rn rd (Immediate rotate immed) h n d o = (n, d)
-data_fields i op set_flags rn rd (Shifted rm shift amount) h n d o = one_of (is_plain shift amount) _ _ (n, d, o.0) (n, d, o.0, o.1)
-data_fields i op set_flags rn rd (ShiftedByRegister rm shift rs) h n d o = h
+data_fields : (i : Instr) (it : Data) (operand : Operand) → HasFields i → HasData it → HasOperand operand → HasOp (data_op i it operand)
+data_fields i it (Immediate rotate immed) h d o = d
+data_fields i it (Shifted rm shift amount) h d o = one_of (is_plain shift amount) _ _ (d, o.0) (d, o)
+data_fields i it (ShiftedByRegister rm shift rs) h d o = h
 
-compare_fields : (i : Instr) (op : CompareOp) (rn : ℕ) (operand : Operand) → HasFields i → rn < 16 → HasOperand operand → HasOp (compare_op i op rn operand)
-compare_fields i op rn (Immediate rotate immed) h n o = n
-compare_fields i op rn (Shifted rm shift amount) h n o = one_of (is_plain shift amount) _ _ (n, o.0) (n, o.0, o.1)
-compare_fields i op rn (ShiftedByRegister rm shift rs) h n o = h
+compare_fields : (i : Instr) (it : Comparison) (operand : Operand) → HasFields i → it.rn < 16 → HasOperand operand → HasOp (compare_op i it operand)
+compare_fields i it (Immediate rotate immed) h n o = n
+compare_fields i it (Shifted rm shift amount) h n o = one_of (is_plain shift amount) _ _ (n, o.0) (n, o)
+compare_fields i it (ShiftedByRegister rm shift rs) h n o = h
 
-move_fields : (i : Instr) (op : MoveOp) (set_flags : Bool) (rd : ℕ) (operand : Operand) → HasFields i → rd < 16 → HasOperand operand
-    → HasOp (move_op i op set_flags rd operand)
-move_fields i op set_flags rd (Immediate rotate immed) h d o = d
-move_fields i op set_flags rd (Shifted rm shift amount) h d o = one_of (is_plain shift amount) _ _ (d, o.0) (d, o.0, o.1)
-move_fields i op set_flags rd (ShiftedByRegister rm shift rs) h d o = h
+move_fields : (i : Instr) (it : MoveTo) (operand : Operand) → HasFields i → it.rd < 16 → HasOperand operand → HasOp (move_op i it operand)
+move_fields i it (Immediate rotate immed) h d o = d
+move_fields i it (Shifted rm shift amount) h d o = one_of (is_plain shift amount) _ _ (d, o.0) (d, o)
+move_fields i it (ShiftedByRegister rm shift rs) h d o = h
+
+transfer_fields : (it : Transfer) (offset : Offset) → HasTransfer it → HasOffset offset → HasOp (transfer_op it offset)
+transfer_fields it (offsets.Number offset) h o = h
+transfer_fields it (offsets.Register rm shift amount) h o = one_of (is_plain shift amount) _ _ (h, o.0) (h, o)
+
+short_fields : (it : Transfer) (offset : ShortOffset) → HasTransfer it → HasShortOffset offset → HasOp (short_transfer_op it offset)
+short_fields it (ShortNumber offset) h o = h
+short_fields it (ShortRegister rm) h o = (h, o)
 
 pub op_fields : (i : Instr) → HasFields i → HasOp (op_of i)
-op_fields (instrs.Data cond op set_flags rn rd operand) h = data_fields (instrs.Data cond op set_flags rn rd operand) op set_flags rn rd operand h h.0 h.1 h.2
-op_fields (instrs.Compare cond op rn operand) h = compare_fields (instrs.Compare cond op rn operand) op rn operand h h.0 h.1
-op_fields (instrs.Move cond op set_flags rd operand) h = move_fields (instrs.Move cond op set_flags rd operand) op set_flags rd operand h h.0 h.1
-op_fields (instrs.Transfer cond pre up byte write_back load rn rd (offsets.Number offset)) h = (h.0, h.1)
-op_fields (instrs.Transfer cond pre up byte write_back load rn rd (offsets.Register rm shift amount)) h = (h.0, h.1, h.2.0, h.2.1)
-op_fields (instrs.HalfTransfer cond op pre up write_back rn rd (ShortNumber offset)) h = (h.0, h.1)
-op_fields (instrs.HalfTransfer cond op pre up write_back rn rd (ShortRegister rm)) h = (h.0, h.1, h.2)
+op_fields (instrs.Data cond op set_flags rn rd operand) h =
+    data_fields (instrs.Data cond op set_flags rn rd operand) (record { op = op; set_flags = set_flags; rn = rn; rd = rd }) operand h (h.0, h.1) h.2
+op_fields (instrs.Compare cond op rn operand) h = compare_fields (instrs.Compare cond op rn operand) (record { op = op; rn = rn }) operand h h.0 h.1
+op_fields (instrs.Move cond op set_flags rd operand) h =
+    move_fields (instrs.Move cond op set_flags rd operand) (record { op = op; set_flags = set_flags; rd = rd }) operand h h.0 h.1
+op_fields (instrs.Transfer cond pre up byte write_back load rn rd offset) h =
+    transfer_fields (record { op = WordOrByte load byte; pre = pre; up = up; write_back = write_back; rn = rn; rd = rd }) offset (h.0, h.1) h.2
+op_fields (instrs.HalfTransfer cond op pre up write_back rn rd offset) h =
+    short_fields (record { op = HalfOrSigned op; pre = pre; up = up; write_back = write_back; rn = rn; rd = rd }) offset (h.0, h.1) h.2
 op_fields (instrs.ThumbLoadLiteral rd immed) h = omega (arith, h)
 op_fields (instrs.Mul cond set_flags rd rm rs) h = h
 op_fields (instrs.Mla cond set_flags rd rm rs rn) h = h
@@ -104,14 +116,14 @@ high_fields high_ops.Mov rm rd m d = (d, (m, omega arith))
 
 -- loads and stores, of which the operation alone is told
 offset_fields : (op : ThumbTransferOp) (rm rn rd : ℕ) → rm < 8 → rn < 8 → rd < 8 → HasOp (op_of (offset_instr op rm rn rd))
-offset_fields transfer_ops.Str rm rn rd m n d = (low rn n, low rd d, low rm m, omega arith)
-offset_fields transfer_ops.Strh rm rn rd m n d = (low rn n, low rd d, low rm m)
-offset_fields transfer_ops.Strb rm rn rd m n d = (low rn n, low rd d, low rm m, omega arith)
-offset_fields transfer_ops.Ldrsb rm rn rd m n d = (low rn n, low rd d, low rm m)
-offset_fields transfer_ops.Ldr rm rn rd m n d = (low rn n, low rd d, low rm m, omega arith)
-offset_fields transfer_ops.Ldrh rm rn rd m n d = (low rn n, low rd d, low rm m)
-offset_fields transfer_ops.Ldrb rm rn rd m n d = (low rn n, low rd d, low rm m, omega arith)
-offset_fields transfer_ops.Ldrsh rm rn rd m n d = (low rn n, low rd d, low rm m)
+offset_fields transfer_ops.Str rm rn rd m n d = ((low rn n, low rd d), low rm m)
+offset_fields transfer_ops.Strh rm rn rd m n d = ((low rn n, low rd d), low rm m)
+offset_fields transfer_ops.Strb rm rn rd m n d = ((low rn n, low rd d), low rm m)
+offset_fields transfer_ops.Ldrsb rm rn rd m n d = ((low rn n, low rd d), low rm m)
+offset_fields transfer_ops.Ldr rm rn rd m n d = ((low rn n, low rd d), low rm m)
+offset_fields transfer_ops.Ldrh rm rn rd m n d = ((low rn n, low rd d), low rm m)
+offset_fields transfer_ops.Ldrb rm rn rd m n d = ((low rn n, low rd d), low rm m)
+offset_fields transfer_ops.Ldrsh rm rn rd m n d = ((low rn n, low rd d), low rm m)
 
 stack_fields : (load extra : Bool) (list : ℕ) → HasOp (op_of (transfer_equivalent (instrs.ThumbPushPop load extra list)))
 stack_fields true extra list = tt

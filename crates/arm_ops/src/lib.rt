@@ -4,12 +4,17 @@
 //! may be left out or reaches past RAM isn't run here: then nothing is done, and the caller takes the instruction itself.
 #![tactic(auto)]
 
+mod accesses;
 mod making;
+mod operands;
 mod operations;
 mod reaching;
 mod running;
 
 pub use making::operation;
-pub use operations::{Op, Operation};
-pub use reaching::{is_other, run_anywhere, touched};
+pub use operations::{
+    Comparison, Data, DataAccess, MoveTo, Number, Op, Operation, ShiftedRegister, Transfer,
+    TransferOp,
+};
+pub use reaching::{access_made, bytes_reached, is_other, run_anywhere, run_made, touched};
 pub use running::run;

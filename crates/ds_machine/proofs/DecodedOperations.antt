@@ -25,7 +25,7 @@ no_move (Coprocessor cond load op1 crn rd cp op2 crm) known = absurd (true≢fal
 no_move _ known = refl
 
 operation_executed : {S : Type 0} (memory : MemoryMachine S) (setting : Setting) (s : RegisterState) (state : S) (instr : Instr) → is_other (operation_of (Some instr)).op ≡ false
-    → executed memory setting s state instr ≡ carried_out memory setting.arch s state (operation_meaning setting.arch setting.base s (operation_of (Some instr)))
+    → executed memory setting s state instr ≡ carried_out memory setting.arch s state (operation_meaning setting.arch s (operation_of (Some instr)))
 operation_executed {S} memory setting s state instr known =
     by_stop (setting.in_rom && holds (condition instr) s.cpsr) ∙ ap (carried_out memory setting.arch s state) (operation_means setting.arch setting.base s instr known) where
       by_stop : (b : Bool) → executed_unless memory setting s state instr (if b then swi_stop instr else None)

@@ -43,27 +43,27 @@ taken_unsupported memory side line s state instr value none i needed =
 
 -- it needs what its accesses need
 needs_of_operation : {S : Type 0} (side : SideOf S) (s : RegisterState) (state : S) (instr : Option Instr) → is_other (operation_of instr).op ≡ false
-    → needs side s state instr ≡ unbuilt side state (operation_accesses side s state (operation_of instr))
+    → needs side s state instr ≡ unbuilt side state (operation_accesses side s (operation_of instr))
 needs_of_operation side s state None known = absurd (true≢false known)
 needs_of_operation side s state (Some instr) known = ap (λ (m : Meaning). unbuilt side state m.accesses) (operation_means side.arch (side.base state) s instr known)
 
 pub taken_operation : {S : Type 0} (memory : MemoryMachine S) (side : SideOf S) (line : Bool) (s : RegisterState) (state : S) (operation : Operation) → RunsAs memory side s state operation
     → enters line s ≡ false → operation ≡ operation_of (fetched memory side.arch s state).instr → is_other operation.op ≡ false
-    → unbuilt side state (operation_accesses side s state operation) ≡ None → taken memory side line s state ≡ operation_outcome memory side s state operation
+    → unbuilt side state (operation_accesses side s operation) ≡ None → taken memory side line s state ≡ operation_outcome memory side s state operation
 taken_operation memory side line s state operation executes none is known built =
     let f = fetched memory side.arch s state in
     let there : is_other (operation_of f.instr).op ≡ false = subst (λ (r : Operation). is_other r.op ≡ false) is known in
-    let all : unbuilt side state (operation_accesses side s state (operation_of f.instr)) ≡ None =
-    subst (λ (r : Operation). unbuilt side state (operation_accesses side s state r) ≡ None) is built in
+    let all : unbuilt side state (operation_accesses side s (operation_of f.instr)) ≡ None =
+    subst (λ (r : Operation). unbuilt side state (operation_accesses side s r) ≡ None) is built in
     taken_executed memory side line s state f.number f.instr none refl refl (needs_of_operation side s state f.instr there ∙ all)
     ∙ executes f.number f.instr is
 
 pub taken_operation_unsupported : {S : Type 0} (memory : MemoryMachine S) (side : SideOf S) (line : Bool) (s : RegisterState) (state : S) (operation : Operation) (value : ℕ)
     → enters line s ≡ false → operation ≡ operation_of (fetched memory side.arch s state).instr → is_other operation.op ≡ false
-    → unbuilt side state (operation_accesses side s state operation) ≡ Some value → taken memory side line s state ≡ unsupported_at s state value
+    → unbuilt side state (operation_accesses side s operation) ≡ Some value → taken memory side line s state ≡ unsupported_at s state value
 taken_operation_unsupported memory side line s state operation value none is known needed =
     let f = fetched memory side.arch s state in
     let there : is_other (operation_of f.instr).op ≡ false = subst (λ (r : Operation). is_other r.op ≡ false) is known in
-    let first : unbuilt side state (operation_accesses side s state (operation_of f.instr)) ≡ Some value =
-    subst (λ (r : Operation). unbuilt side state (operation_accesses side s state r) ≡ Some value) is needed in
+    let first : unbuilt side state (operation_accesses side s (operation_of f.instr)) ≡ Some value =
+    subst (λ (r : Operation). unbuilt side state (operation_accesses side s r) ≡ Some value) is needed in
     taken_unsupported memory side line s state f.instr value none refl (needs_of_operation side s state f.instr there ∙ first)

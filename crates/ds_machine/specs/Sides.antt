@@ -86,11 +86,11 @@ seven_side = record {
 
 -- one is carried out
 abbrev pub operation_outcome : {S : Type 0} → MemoryMachine S → SideOf S → RegisterState → S → Operation → Outcome S
-operation_outcome memory side s state operation = carried_out memory side.arch s state (operation_meaning side.arch (side.base state) s operation)
+operation_outcome memory side s state operation = carried_out memory side.arch s state (operation_meaning side.arch s operation)
 
 -- the accesses of one
-abbrev pub operation_accesses : {S : Type 0} → SideOf S → RegisterState → S → Operation → List Access
-operation_accesses side s state operation = (operation_meaning side.arch (side.base state) s operation).accesses
+abbrev pub operation_accesses : {S : Type 0} → SideOf S → RegisterState → Operation → List Access
+operation_accesses side s operation = (operation_meaning side.arch s operation).accesses
 
 -- it is what any instruction comes to that it was decoded from
 abbrev pub RunsAs : {S : Type 0} → MemoryMachine S → SideOf S → RegisterState → S → Operation → Type 0

@@ -4,7 +4,8 @@ ghost use Rattle.std.specs.Prelude.{◌≡◌, ◌<◌, ℕ, List, false, None, 
 ghost use Rattle.ds_base.specs.Accesses.{MemoryMachine};
 ghost use Rattle.arm_core.specs.Footprints.{first_without, touched_bytes};
 ghost use Rattle.arm_core.specs.declared.outcomes.Stepped.TheVariants.{Cost};
-ghost use Rattle.arm_ops.specs.Operations.{is_other, HasOperation};
+ghost use Rattle.arm_ops.specs.Meanings.{access_made};
+ghost use Rattle.arm_ops.specs.Operations.{is_other, HasAccess, HasOperation};
 ghost use Rattle.arm_words.specs.Fields.{HasFields};
 ghost use Rattle.ds_ports.specs.Io.{IoState};
 ghost use Rattle.ds_machine.specs.Sides.{operation_accesses, operation_outcome, unbuilt, RunsAs, SideOf};
@@ -12,7 +13,7 @@ ghost use Rattle.ds_machine.specs.Sides.{operation_accesses, operation_outcome, 
 use crate::needs::{unbuilt_nine, unbuilt_seven};
 use arm_core::{Core, Registers, Stepped, Touch};
 use arm_exec::{Fetched, execute_word};
-use arm_ops::{Operation, run, run_anywhere};
+use arm_ops::{DataAccess, Operation, run, run_made};
 use arm7_exec::execute7;
 use arm9_exec::{in_rom, move_if, move_of};
 use ds_base::{Arch, Proc, Width};
@@ -63,10 +64,17 @@ pub trait Side {
         ensures stepped { result ≡ (side.executed core.old.registers (state self.old) next.number next.instr).stepped }
         ensures same { identity self.new ≡ identity self.old };
 
-    /// Runs an operation, wherever its access is: it is what its instruction comes to.
-    fn run(&mut self, s: &mut Registers, operation: &Operation) -> Stepped
+    /// Runs an operation, wherever its access is, which was asked for: it is what its instruction comes to.
+    fn run(
+        &mut self,
+        s: &mut Registers,
+        operation: &Operation,
+        access: Option<DataAccess>,
+    ) -> Stepped
         requires fields { HasOperation operation.now }
         requires known { is_other operation.now.op ≡ false }
+        requires access { access ≡ access_made s.old operation.now }
+        requires reaches { IfSome access HasAccess }
         ensures registers { s.new ≡ (operation_outcome memory side s.old (state self.old) operation.now).registers }
         ensures state { state self.new ≡ (operation_outcome memory side s.old (state self.old) operation.now).state }
         ensures stepped { result ≡ (operation_outcome memory side s.old (state self.old) operation.now).stepped }
@@ -83,7 +91,7 @@ pub trait Side {
         ensures state { 0 < result → state self.new ≡ (operation_outcome memory side s.old (state self.old) operation.now).state }
         ensures stepped { 0 < result → (operation_outcome memory side s.old (state self.old) operation.now).stepped ≡ Cost result }
         ensures executes { 0 < result → RunsAs memory side s.old (state self.old) operation.now }
-        ensures built { 0 < result → unbuilt side (state self.old) (operation_accesses side s.old (state self.old) operation.now) ≡ None }
+        ensures built { 0 < result → unbuilt side (state self.old) (operation_accesses side s.old operation.now) ≡ None }
         ensures io { io (state self.new) ≡ io (state self.old) }
         ensures same { identity self.new ≡ identity self.old };
 }
@@ -144,16 +152,19 @@ impl Side for NineView<'_> {
     }
 
     #[inline(always)]
-    fn run(&mut self, s: &mut Registers, operation: &Operation) -> Stepped {
-        let base = self.cp.vectors();
-        run_anywhere(Arch::V5, base, s, self, operation)
+    fn run(
+        &mut self,
+        s: &mut Registers,
+        operation: &Operation,
+        access: Option<DataAccess>,
+    ) -> Stepped {
+        run_made(Arch::V5, s, self, operation, access)
     }
 
     #[inline(always)]
     #[tactic(auto, using(crate::proofs::RamAccesses::nine_refuses_none))]
     fn run_fast(&mut self, s: &mut Registers, operation: &Operation) -> u32 {
-        let base = self.cp.vectors();
-        run(Arch::V5, base, s, self, operation)
+        run(Arch::V5, s, self, operation)
     }
 }
 
@@ -200,13 +211,18 @@ impl Side for SevenView<'_> {
     }
 
     #[inline(always)]
-    fn run(&mut self, s: &mut Registers, operation: &Operation) -> Stepped {
-        run_anywhere(Arch::V4, 0, s, self, operation)
+    fn run(
+        &mut self,
+        s: &mut Registers,
+        operation: &Operation,
+        access: Option<DataAccess>,
+    ) -> Stepped {
+        run_made(Arch::V4, s, self, operation, access)
     }
 
     #[inline(always)]
     #[tactic(auto, using(crate::proofs::RamAccesses::seven_refuses_none))]
     fn run_fast(&mut self, s: &mut Registers, operation: &Operation) -> u32 {
-        run(Arch::V4, 0, s, self, operation)
+        run(Arch::V4, s, self, operation)
     }
 }

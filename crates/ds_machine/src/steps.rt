@@ -1,23 +1,22 @@
 //! The step of a processor over what it reaches, and of it what is fast: one function each for both processors.
 
-ghost use Rattle.std.specs.Prelude.{◌≡◌, ◌<◌, ◌%◌, ◌/◌, ◌^◌, false, IfSome};
+ghost use Rattle.std.specs.Prelude.{◌≡◌, ◌<◌, ◌%◌, ◌^◌, false, IfSome};
 ghost use Rattle.ds_base.specs.declared.left_out.LeftKind.TheVariants.{NotYet};
 ghost use Rattle.arm_core.specs.Steps.{enters, fetched};
 ghost use Rattle.arm_core.specs.declared.outcomes.Stepped.TheVariants.{Cost};
 ghost use Rattle.decode_cache.specs.Known.{arch_of};
+ghost use Rattle.arm_ops.specs.Meanings.{access_made};
 ghost use Rattle.arm_ops.specs.Operations.{is_other, operation_of, HasOperation};
-ghost use Rattle.arm_words.specs.ArmTable.{decoded_arm};
 ghost use Rattle.arm_words.specs.Fields.{HasFields};
 ghost use Rattle.arm_words.specs.ThumbTable.{decoded_thumb};
 ghost use Rattle.ds_machine.specs.Sides.{needs, operation_accesses, taken, unbuilt};
 
 use crate::sides::Side;
 use arm_core::{Core, Registers, Stepped, Touch, footprint};
-use arm_exec::{Fetched, enters, interrupt};
-use arm_ops::{Operation, is_other, touched};
-use arm_words::{decode_arm, decode_thumb};
+use arm_exec::{Fetched, decoded_half, decoded_word, enters, interrupt};
+use arm_ops::{DataAccess, Operation, access_made, bytes_reached, is_other};
 use decode_cache::Decoder;
-use ds_base::{Arch, LeftKind, Stop, Width};
+use ds_base::{LeftKind, Stop, Width};
 
 /// What isn't built yet, by its address.
 fn not_yet(value: u32) -> Stop
@@ -54,32 +53,6 @@ fn next_operation<'a, V: Side, const VERSION: u32>(
         return half_at(decoder, at, view.fetched(at, Width::Half));
     }
     decoder.arm_operation(at, view.fetched(at, Width::Word))
-}
-
-/// A word of ARM code, decoded: it takes effect under the condition of its upper four bits.
-fn decoded_word(arch: Arch, word: u32) -> Fetched
-    ensures number { result.number ≡ word / 2 ^ 28 }
-    ensures instr { result.instr ≡ decoded_arm arch word }
-    ensures low { result.number < 16 }
-    ensures fields { IfSome result.instr HasFields }
-{
-    Fetched {
-        number: word >> 28,
-        instr: decode_arm(arch, word),
-    }
-}
-
-/// A half of Thumb code, decoded: it always takes effect.
-fn decoded_half(arch: Arch, half: u32) -> Fetched
-    ensures number { result.number ≡ 14 }
-    ensures instr { result.instr ≡ decoded_thumb arch (half % 2 ^ 16) }
-    ensures low { result.number < 16 }
-    ensures fields { IfSome result.instr HasFields }
-{
-    Fetched {
-        number: 14,
-        instr: decode_thumb(arch, (half % 0x1_0000) as u16),
-    }
 }
 
 /// What is fetched at r15, decoded.
@@ -127,13 +100,20 @@ fn take_other<V: Side>(core: &mut Core, view: &mut V, line: bool) -> Stepped
     }
 }
 
-/// What an operation needs that isn't built yet.
+/// What an operation, whose access was asked for, needs that isn't built yet.
 #[inline(always)]
-fn operation_needs<V: Side>(s: &Registers, view: &V, next: &Operation) -> Option<u32>
-    requires { HasOperation next.now }
-    ensures { result ≡ unbuilt V.side (V.state view.now) (operation_accesses V.side s.now (V.state view.now) next.now) }
+fn operation_needs<V: Side>(
+    s: &Registers,
+    view: &V,
+    next: &Operation,
+    access: Option<DataAccess>,
+) -> Option<u32>
+    requires { access ≡ access_made s.now next.now }
+    ensures { result ≡ unbuilt V.side (V.state view.now) (operation_accesses V.side s.now next.now) }
 {
-    view.unbuilt(touched(view.arch(), s, next))
+    let _ = s;
+    let _ = next;
+    view.unbuilt(bytes_reached(view.arch(), access))
 }
 
 /// The step of an instruction that was decoded, where no interrupt is entered.
@@ -149,8 +129,9 @@ fn take_operation<V: Side>(s: &mut Registers, view: &mut V, line: bool, next: &O
     ensures same { V.identity view.new ≡ V.identity view.old }
 {
     let _ = line;
-    match operation_needs(s, view, next) {
-        None => view.run(s, next),
+    let access = access_made(s, next);
+    match operation_needs(s, view, next, access) {
+        None => view.run(s, next, access),
         Some(value) => Stepped::Left(not_yet(value)),
     }
 }

@@ -217,7 +217,7 @@ fn run_op(
     if is_other(&made) {
         return None;
     }
-    Some(run_anywhere(arch, 0, s, bus, &made))
+    Some(run_anywhere(arch, s, bus, &made))
 }
 
 /// The same where they must be of RAM.
@@ -229,7 +229,7 @@ fn run_in_ram(
 ) -> Option<Stepped>
     requires { IfSome instr HasFields }
 {
-    match run(arch, 0, s, bus, &operation(instr)) {
+    match run(arch, s, bus, &operation(instr)) {
         0 => None,
         clocks => Some(Stepped::Cost(clocks)),
     }

@@ -1,7 +1,5 @@
-use Rattle.std.proofs.Common.{ℕ, subst}
 use Rattle.ds_base.specs.declared.processors.Arch.TheVariants.{V5}
-use Rattle.arm_ops.specs.Meanings.{IsInRam, operation_meaning}
-use Rattle.cp15_tcm.specs.Registers.{vectors_of}
+use Rattle.arm_ops.specs.Meanings.{operation_meaning}
 use Rattle.ds_map.specs.Views.{NineReach}
 use Rattle.ds_machine.proofs.RamAccesses.{nine_needs_none, nine_stays}
 use Rattle.ds_machine.proofs.DecodedOperations.{nine_executes}
@@ -15,12 +13,12 @@ returns-clause-executes c = λ some number instr is.
 pub returns-clause-built : goal.returns-clause-built
 returns-clause-built c = λ some.
     (let r : NineReach = record { map = c.args.self.now.map.now; cp15 = c.args.self.now.cp.now; itcm = c.args.self.now.itcm.now; dtcm = c.args.self.now.dtcm.now; now = c.args.self.now.now } in
-    nine_needs_none r (operation_meaning V5 (vectors_of c.args.self.now.cp.now) c.args.s.now c.args.operation.now).accesses
-    (subst (λ (b : ℕ). IsInRam (operation_meaning V5 b c.args.s.now c.args.operation.now).accesses) c.vectors-base.ensures (c.run.ensures.ram some)))
+    nine_needs_none r (operation_meaning V5 c.args.s.now c.args.operation.now).accesses
+    (c.run.ensures.ram some))
 
 pub returns-clause-io : goal.returns-clause-io
 returns-clause-io c =
     let r : NineReach = record { map = c.args.self.now.map.now; cp15 = c.args.self.now.cp.now; itcm = c.args.self.now.itcm.now; dtcm = c.args.self.now.dtcm.now; now = c.args.self.now.now } in
     let after : NineReach = record { map = c.run.new.bus.map.now; cp15 = c.run.new.bus.cp.now; itcm = c.run.new.bus.itcm.now; dtcm = c.run.new.bus.dtcm.now; now = c.run.new.bus.now } in
-    nine_stays c.run.result c.args.s.now r after (operation_meaning V5 c.vectors-base.result c.args.s.now c.args.operation.now)
+    nine_stays c.run.result c.args.s.now r after (operation_meaning V5 c.args.s.now c.args.operation.now)
     (λ e. (c.run.ensures.none e).1) c.run.ensures.state c.run.ensures.ram

@@ -13,12 +13,12 @@ returns-clause-executes c = λ some number instr is.
 pub returns-clause-built : goal.returns-clause-built
 returns-clause-built c = λ some.
     (let r : SevenReach = record { map = c.args.self.now.map.now; now = c.args.self.now.now } in
-    seven_needs_none r (operation_meaning V4 0 c.args.s.now c.args.operation.now).accesses
+    seven_needs_none r (operation_meaning V4 c.args.s.now c.args.operation.now).accesses
     (c.run.ensures.ram some))
 
 pub returns-clause-io : goal.returns-clause-io
 returns-clause-io c =
     let r : SevenReach = record { map = c.args.self.now.map.now; now = c.args.self.now.now } in
     let after : SevenReach = record { map = c.run.new.bus.map.now; now = c.run.new.bus.now } in
-    seven_stays c.run.result c.args.s.now r after (operation_meaning V4 0 c.args.s.now c.args.operation.now)
+    seven_stays c.run.result c.args.s.now r after (operation_meaning V4 c.args.s.now c.args.operation.now)
     (λ e. (c.run.ensures.none e).1) c.run.ensures.state c.run.ensures.ram

@@ -7,6 +7,7 @@ use Rattle.arm_core.specs.Conditions.{holds}
 use Rattle.arm_core.specs.Effects.{cost_of}
 use Rattle.arm_core.specs.Meanings.{skipped}
 use Rattle.arm_core.specs.Registers.{RegisterState, register, next, put}
+use Rattle.arm_core.specs.Undefined.{has_coprocessor}
 use Rattle.arm_core.specs.declared.classes.Class.TheVariants as classes
 use Rattle.arm_core.specs.declared.outcomes.Stepped.{Stepped}
 use Rattle.arm_core.specs.declared.outcomes.Stepped.TheVariants.{Cost, Halted, Left}
@@ -24,10 +25,10 @@ pub record MoveOutcome : Type 0 where
   pub cp : Cp15State
   pub stepped : Stepped
 
--- the move that an instruction makes to or from CP15, if it makes one
+-- the move that an instruction makes to or from CP15, the coprocessor that there is, if it makes one
 abbrev pub move_of : Option Instr → Option Moved
 move_of (Some (Coprocessor cond load op1 crn rd cp op2 crm)) =
-    if cp == 15 then Some (record { cond = cond; load = load; op1 = op1; crn = crn; rd = rd; op2 = op2; crm = crm }) else None
+    if has_coprocessor V5 cp then Some (record { cond = cond; load = load; op1 = op1; crn = crn; rd = rd; op2 = op2; crm = crm }) else None
 move_of _ = None
 
 abbrev pub register_moved : Moved → Cp15Register

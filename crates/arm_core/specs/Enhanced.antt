@@ -1,15 +1,18 @@
-use Rattle.std.specs.Prelude.{ℕ, ◌==◌, []}
+use Rattle.std.specs.Prelude.{ℕ, ◌==◌, Bool, if◌then◌else◌, []}
 use Rattle.std.specs.Int.{leading_zeros, w32}
 use Rattle.ds_base.specs.declared.processors.Arch.{Arch}
 use Rattle.arm_words.specs.declared.instructions.Instr.{Instr}
-use Rattle.arm_words.specs.declared.instructions.Instr.TheVariants.{BlxRegister, Bkpt, Clz, Saturating, Smla, Smlaw, Smulw, Smlal, Smul, BlxTarget, Pld, ThumbBlxSuffix}
+use Rattle.arm_words.specs.declared.instructions.Instr.TheVariants.{BlxRegister, Bkpt, Clz, Saturating, Smla, Smlaw, Smulw, Smlal, Smul, BlxTarget, Pld, Coprocessor, ThumbBlxSuffix}
 use Rattle.arm_core.specs.Registers.{RegisterState, register, next, put}
 use Rattle.arm_core.specs.Effects.{Meaning, plain}
-use Rattle.arm_core.specs.Exceptions.{breakpoint_meaning, undefined_meaning}
+use Rattle.arm_core.specs.Exceptions.{breakpoint_meaning, entered, undefined_meaning}
 use Rattle.arm_core.specs.HalfMultiplies.{accumulated_meaning, half_long_meaning, half_product, product_meaning, wide_product}
 use Rattle.arm_core.specs.Links.{link_exchange_meaning, link_suffix_meaning, link_target_meaning}
 use Rattle.arm_core.specs.Saturating.{saturating_meaning}
-use Rattle.arm_core.specs.declared.classes.Class.TheVariants.{Processing}
+use Rattle.arm_core.specs.Undefined.{has_coprocessor}
+use Rattle.arm_core.specs.declared.classes.Class.TheVariants as classes
+use Rattle.arm_core.specs.declared.classes.Class.TheVariants.{Entry, Processing}
+use Rattle.arm_core.specs.declared.exceptions.Exception.TheVariants.{UndefinedInstruction}
 
 -- What ARMv5 has beside ARMv4, but for LDRD and STRD. ARMv4 has no word of these.
 
@@ -18,14 +21,20 @@ abbrev pub clz_meaning : RegisterState → ℕ → ℕ → Meaning
 clz_meaning s rd rm =
     record { accesses = []; after = λ values. put rd (leading_zeros w32 (register s rm)) (next s); class = Processing; jumps = rd == 15 }
 
--- what a branch, BKPT or PLD does, which makes no access (our choice). What has no meaning here is undefined: a transfer to or from a
--- coprocessor that isn't there
+-- what the core does of a move to or from a coprocessor: it goes on, and what is moved is the coprocessor's; where the processor hasn't that
+-- coprocessor, the word is undefined
+abbrev pub coprocessor_meaning : Bool → ℕ → RegisterState → Meaning
+coprocessor_meaning there base s =
+    plain (if there then next s else entered base UndefinedInstruction (next s).pc s) (if there then classes.Coprocessor else Entry)
+
+-- what a branch, BKPT or PLD does, which makes no access (our choice), and a move to or from a coprocessor. Nothing else comes here
 abbrev pub link_meaning : Arch → ℕ → RegisterState → Instr → Meaning
 link_meaning arch base s (BlxRegister cond rm) = link_exchange_meaning s rm
 link_meaning arch base s (BlxTarget half offset) = link_target_meaning s half offset
 link_meaning arch base s (ThumbBlxSuffix offset) = link_suffix_meaning s offset
 link_meaning arch base s (Bkpt immed) = breakpoint_meaning base s
 link_meaning arch base s (Pld up rn offset) = plain (next s) Processing
+link_meaning arch base s (Coprocessor cond load op1 crn rd cp op2 crm) = coprocessor_meaning (has_coprocessor arch cp) base s
 link_meaning arch base s instr = undefined_meaning base s
 
 -- what arithmetic does too

@@ -23,3 +23,4 @@ pub mod Steps
 pub mod Swaps
 pub mod Thumb
 pub mod Transfers
+pub mod Undefined

@@ -7,3 +7,4 @@ pub mod StatusKinds
 pub mod StatusMeanings
 pub mod StatusMoves
 pub mod StatusSteps
+pub mod UndefinedLaws

@@ -25,8 +25,8 @@ use Rattle.arm_core.specs.Conditions.{c_flag, v_flag}
 use Rattle.arm_core.specs.DataProcessing.{compare_meaning, compare_result, data_meaning, data_result, move_meaning, move_result, sum_of}
 use Rattle.arm_core.specs.Doubles.{double_at, double_meaning, load_double_meaning, store_double_meaning}
 use Rattle.arm_core.specs.Effects.{Meaning}
-use Rattle.arm_core.specs.Enhanced.{clz_meaning}
-use Rattle.arm_core.specs.Exceptions.{breakpoint_meaning, interrupt_meaning, software_meaning, undefined_meaning}
+use Rattle.arm_core.specs.Enhanced.{clz_meaning, coprocessor_meaning}
+use Rattle.arm_core.specs.Exceptions.{breakpoint_meaning, entered, interrupt_meaning, software_meaning, undefined_meaning}
 use Rattle.arm_core.specs.HalfMultiplies.{accumulated_meaning, half_long_meaning, half_of, product_meaning}
 use Rattle.arm_core.specs.Links.{link_exchange_meaning, link_suffix_meaning, link_target_meaning, linked}
 use Rattle.arm_core.specs.Meanings.{skipped}
@@ -149,6 +149,10 @@ module _ (arch : Arch) (s : RegisterState) (h : HasStatuses arch s) where
 
   pub undefined_keeps : (base : ℕ) → Keeps (undefined_meaning base s)
   undefined_keeps base values = entered_has arch base UndefinedInstruction (next s).pc s h
+
+  pub coprocessor_keeps : (there : Bool) (base : ℕ) → Keeps (coprocessor_meaning there base s)
+  coprocessor_keeps there base values =
+      one_of arch there (next s) (entered base UndefinedInstruction (next s).pc s) n (entered_has arch base UndefinedInstruction (next s).pc s h)
 
   pub software_keeps : (base : ℕ) → Keeps (software_meaning base s)
   software_keeps base values = entered_has arch base SoftwareInterrupt (next s).pc s h

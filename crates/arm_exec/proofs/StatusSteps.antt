@@ -5,7 +5,7 @@ use Rattle.ds_base.specs.declared.memories.Width.TheVariants.{Half, Word}
 use Rattle.ds_base.specs.declared.processors.Arch.{Arch}
 use Rattle.arm_words.specs.Parts.{condition_of}
 use Rattle.arm_words.specs.declared.instructions.Instr.{Instr}
-use Rattle.arm_words.specs.declared.instructions.Instr.TheVariants.{Bx, BlxRegister, Bkpt, Clz, Saturating, Smla, Smlaw, Smulw, Smlal, Smul, Mul, Mla, LongMultiply, Swap, HalfTransfer, Mrs, Msr, MsrImmediate, Compare, Move, Data, DoubleTransfer, Transfer, Multiple, Branch, Swi, BlxTarget, Pld, Never, ThumbAddress, ThumbBlxSuffix, ThumbLoadLiteral, ThumbBranchIf, ThumbBranch, ThumbBlPrefix, ThumbBlSuffix}
+use Rattle.arm_words.specs.declared.instructions.Instr.TheVariants.{Bx, BlxRegister, Bkpt, Clz, Saturating, Smla, Smlaw, Smulw, Smlal, Smul, Mul, Mla, LongMultiply, Swap, HalfTransfer, Mrs, Msr, MsrImmediate, Compare, Move, Data, DoubleTransfer, Transfer, Multiple, Branch, Coprocessor, Swi, BlxTarget, Pld, Never, ThumbAddress, ThumbBlxSuffix, ThumbLoadLiteral, ThumbBranchIf, ThumbBranch, ThumbBlPrefix, ThumbBlSuffix}
 use Rattle.arm_core.specs.Branches.{distance}
 use Rattle.arm_core.specs.Conditions.{holds}
 use Rattle.arm_core.specs.Effects.{Meaning, Outcome, concluded, carried_out}
@@ -17,9 +17,10 @@ use Rattle.arm_core.specs.Registers.{RegisterState, is_thumb, register}
 use Rattle.arm_core.specs.Shifter.{rotated_immediate}
 use Rattle.arm_core.specs.Steps.{FetchOutcome, Setting, enters, executed_unless, executed_word, fetched, fetched_half, fetched_word, step_of, stop_of}
 use Rattle.arm_core.specs.Thumb.{equivalent}
+use Rattle.arm_core.specs.Undefined.{has_coprocessor}
 use Rattle.arm_exec.specs.Statuses.{HasStatuses}
 use Rattle.arm_exec.proofs.StatusKinds.{Allows, AllowsSome, arm_allows, equivalent_allows, thumb_allows}
-use Rattle.arm_exec.proofs.StatusMeanings.{Keeps, accumulated_keeps, address_keeps, branch_keeps, breakpoint_keeps, clz_keeps, compare_keeps, data_keeps, double_keeps, either, exchange_keeps, half_long_keeps, half_transfer_keeps, interrupt_keeps, link_exchange_keeps, link_suffix_keeps, link_target_keeps, literal_keeps, long_multiply_keeps, move_keeps, mrs_keeps, msr_keeps, multiple_keeps, multiply_keeps, prefix_keeps, product_keeps, saturating_keeps, skipped_keeps, software_keeps, suffix_keeps, swap_keeps, transfer_keeps, undefined_keeps}
+use Rattle.arm_exec.proofs.StatusMeanings.{Keeps, accumulated_keeps, address_keeps, branch_keeps, breakpoint_keeps, clz_keeps, compare_keeps, coprocessor_keeps, data_keeps, double_keeps, either, exchange_keeps, half_long_keeps, half_transfer_keeps, interrupt_keeps, link_exchange_keeps, link_suffix_keeps, link_target_keeps, literal_keeps, long_multiply_keeps, move_keeps, mrs_keeps, msr_keeps, multiple_keeps, multiply_keeps, prefix_keeps, product_keeps, saturating_keeps, skipped_keeps, software_keeps, suffix_keeps, swap_keeps, transfer_keeps, undefined_keeps}
 
 -- Every step leaves numbers that status registers can have.
 
@@ -33,6 +34,7 @@ module _ (arch : Arch) (base : ℕ) (s : RegisterState) (h : HasStatuses arch s)
   link_does (ThumbBlxSuffix offset) = link_suffix_keeps arch s h offset
   link_does (Bkpt immed) = breakpoint_keeps arch s h base
   link_does (Pld up rn offset) = skipped_keeps arch s h
+  link_does (Coprocessor cond load op1 crn rd cp op2 crm) = coprocessor_keeps arch s h (has_coprocessor arch cp) base
   link_does _ = undefined_keeps arch s h base
 
   enhanced_does : (i : Instr) → Allows arch i → Does (enhanced_meaning arch base s i)

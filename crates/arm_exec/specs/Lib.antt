@@ -1,3 +1,4 @@
 pub mod Stopped
 pub mod Costs
 pub mod Statuses
+pub mod Undefined

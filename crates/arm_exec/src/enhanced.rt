@@ -6,7 +6,8 @@ ghost use Rattle.arm_core.specs.Registers.{next};
 ghost use Rattle.arm_core.specs.declared.classes.Class.TheVariants.{Processing};
 ghost use Rattle.arm_words.specs.Fields.{HasFields};
 ghost use Rattle.arm_core.specs.Effects.{cost_of};
-ghost use Rattle.arm_core.specs.Enhanced.{clz_meaning, enhanced_meaning, link_meaning};
+ghost use Rattle.arm_core.specs.Enhanced.{clz_meaning, coprocessor_meaning, enhanced_meaning, link_meaning};
+ghost use Rattle.arm_core.specs.Undefined.{has_coprocessor};
 
 use crate::exceptions::{breakpoint, undefined};
 use crate::half_multiplies::{
@@ -32,7 +33,7 @@ pub fn clz(arch: Arch, s: &mut Registers, rd: u8, rm: u8) -> u32
     Class::Processing.cost(arch, rd == 15)
 }
 
-/// A branch, BKPT, PLD, or what is undefined; the result is its cost.
+/// A branch, BKPT, PLD, a move to or from a coprocessor, or what is undefined; the result is its cost.
 #[inline]
 fn link(arch: Arch, base: u32, s: &mut Registers, instr: &Instr) -> u32
     requires { HasFields instr.now }
@@ -46,7 +47,33 @@ fn link(arch: Arch, base: u32, s: &mut Registers, instr: &Instr) -> u32
         Instr::ThumbBlxSuffix { offset } => link_suffix(arch, s, offset),
         Instr::Bkpt { .. } => breakpoint(arch, s, base),
         Instr::Pld { .. } => preload(arch, s),
+        Instr::Coprocessor { cp, .. } => coprocessor(arch, base, s, cp),
         _ => undefined(arch, s, base),
+    }
+}
+
+/// Whether a processor has a coprocessor: ARM9 has CP15 (ARM946E-S manual, "Programmer's model"), ARM7 none.
+#[inline(always)]
+pub fn has_coprocessor(arch: Arch, cp: u8) -> bool
+    ensures { result ≡ has_coprocessor arch cp }
+{
+    match arch {
+        Arch::V4 => false,
+        Arch::V5 => cp == 15,
+    }
+}
+
+/// What the core does of a move to or from a coprocessor, whose own part stands with it; one that isn't there makes it undefined. The result is its cost.
+#[inline(always)]
+fn coprocessor(arch: Arch, base: u32, s: &mut Registers, cp: u8) -> u32
+    ensures registers { s.new ≡ (coprocessor_meaning (has_coprocessor arch cp) base s.old).after [] }
+    ensures cost { result ≡ cost_of arch (coprocessor_meaning (has_coprocessor arch cp) base s.old) }
+{
+    if has_coprocessor(arch, cp) {
+        s.go_on();
+        Class::Coprocessor.cost(arch, false)
+    } else {
+        undefined(arch, s, base)
     }
 }
 

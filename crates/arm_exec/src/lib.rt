@@ -7,6 +7,7 @@ mod doubles;
 mod enhanced;
 mod exceptions;
 mod half_multiplies;
+mod laws;
 mod links;
 mod multiples;
 mod multiplies;
@@ -22,9 +23,10 @@ pub use branches::{
     address, branch, distance8, distance11, distance24, exchange, exchange_to, prefix, suffix,
 };
 pub use doubles::double;
-pub use enhanced::clz;
+pub use enhanced::{clz, has_coprocessor};
 pub use exceptions::{breakpoint, interrupt, software, undefined};
 pub use half_multiplies::{accumulate_product, half_long, half_product, set_product, wide_product};
+pub use laws::undefined_laws;
 pub use links::{link_exchange, link_suffix, link_target};
 pub use multiples::{load_multiple, multiple, store_multiple};
 pub use multiplies::{long_multiply, multiply};

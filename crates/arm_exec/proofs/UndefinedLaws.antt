@@ -1,0 +1,16 @@
+use Rattle.std.proofs.Common.{ℕ, ◌≡◌, Bool, true, false, not, Some, refl}
+use Rattle.ds_base.specs.declared.processors.Arch.{Arch}
+use Rattle.arm_words.specs.declared.instructions.Instr.{Instr}
+use Rattle.arm_words.specs.declared.instructions.Instr.TheVariants.{Coprocessor}
+use Rattle.arm_words.proofs.Facts.{not_true}
+use Rattle.arm_core.specs.Registers.{RegisterState}
+use Rattle.arm_core.specs.Undefined.{has_coprocessor, is_undefined}
+use Rattle.arm_exec.specs.Undefined.{EntersUndefined}
+
+not_there : {A : Type 0} → false ≡ true → A
+not_there e = absurd (let k : ⊥ = cc in k)
+
+pub enters_undefined : EntersUndefined
+enters_undefined arch base s (Coprocessor cond load op1 crn rd cp op2 crm) h =
+    let e : has_coprocessor arch cp ≡ false = not_true (has_coprocessor arch cp) h in rw e refl
+enters_undefined arch base s _ h = not_there h

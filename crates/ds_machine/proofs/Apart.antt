@@ -10,55 +10,50 @@ use Rattle.ds_dma.specs.declared.channels.Unit.{Unit as DmaUnit}
 use Rattle.ds_map.specs.Moves.{next_unit, unit_moved, unit_needs, unit_refusal}
 use Rattle.ds_ports.specs.Dues.{io_due}
 use Rattle.ds_runs.specs.Runs.{MachineStep, Makes}
-use Rattle.ds_runs.specs.declared.actors.Actor.TheVariants.{KeyScript, Video, Timer, Divider, SquareRoot, Geometry, Card, Dma, Processor}
-use Rattle.ds_machine.specs.Apart.{LeaveNine, LeaveSeven, step_with, with_nine_part, with_seven_part}
+use Rattle.ds_runs.specs.declared.actors.Actor.TheVariants.{KeyScript, Dma, Processor}
+use Rattle.ds_machine.specs.Apart.{LeaveNine, LeaveSeven, NinePart, step_with, with_nine_part, with_seven_part}
 use Rattle.ds_machine.specs.Channels.{channel_step, moved_by, moved_unless}
 use Rattle.ds_machine.specs.Reference.{Shown, after_line}
-use Rattle.ds_machine.specs.States.{MachineState, NineState, SevenState}
-use Rattle.ds_machine.specs.Steps.{machine_concluded, outcome_of, tick_of}
+use Rattle.ds_machine.specs.States.{MachineState, SevenState}
+use Rattle.ds_machine.specs.Steps.{machine_concluded, map_of, outcome_of, tick_of, with_map}
 
 -- An actor's step leaves the own part of a processor alone that it doesn't reach: by computing, once it is known which step it is.
 
 -- ---- ARM9's
 
-nine_line : (own : NineState) (s : MachineState) (lines : List KeyLine) → after_line lines (with_nine_part own s) ≡ with_nine_part own (after_line lines s)
+nine_line : (own : NinePart) (s : MachineState) (lines : List KeyLine) → after_line lines (with_nine_part own s) ≡ with_nine_part own (after_line lines s)
 nine_line own s [] = refl
 nine_line own s (line ∷ lines) = refl
 
-nine_concluded : (rank : ℕ) (own : NineState) (s : MachineState) (came : arm.Stepped)
+nine_concluded : (rank : ℕ) (own : NinePart) (s : MachineState) (came : arm.Stepped)
     → (let step : MachineStep MachineState Shown LeftOut = machine_concluded rank Seven (with_nine_part own s) came in step) ≡ step_with (with_nine_part own) (machine_concluded rank Seven s came)
 nine_concluded rank own s (Cost clocks) = refl
 nine_concluded rank own s (Halted clocks) = refl
 nine_concluded rank own s (Left stop) = refl
 
-nine_moved : (rank : ℕ) (now : Tick) (refused : Option Stop) (own : NineState) (s : MachineState)
+nine_moved : (rank : ℕ) (now : Tick) (refused : Option Stop) (own : NinePart) (s : MachineState)
     → (let step : MachineStep MachineState Shown LeftOut = moved_by rank Seven now refused (with_nine_part own s) in step) ≡ step_with (with_nine_part own) (moved_by rank Seven now refused s)
 nine_moved rank now None own s = refl
 nine_moved rank now (Some stop) own s = refl
 
-nine_unless : (rank : ℕ) (now : Tick) (needed : Option ℕ) (unit : DmaUnit) (own : NineState) (s : MachineState)
+nine_unless : (rank : ℕ) (now : Tick) (needed : Option ℕ) (unit : DmaUnit) (own : NinePart) (s : MachineState)
     → (let step : MachineStep MachineState Shown LeftOut = moved_unless rank Seven now needed unit (with_nine_part own s) in step) ≡ step_with (with_nine_part own) (moved_unless rank Seven now needed unit s)
-nine_unless rank now None unit own s = nine_moved rank now (unit_refusal Seven now unit s.map) own (record s { map = unit_moved Seven now unit s.map })
+nine_unless rank now None unit own s = nine_moved rank now (unit_refusal Seven now unit (map_of Seven s)) own (with_map Seven s (unit_moved Seven now unit (map_of Seven s)))
 nine_unless rank now (Some value) unit own s = refl
 
-nine_channel : (rank : ℕ) (due : Option Tick) (own : NineState) (s : MachineState)
+nine_channel : (rank : ℕ) (due : Option Tick) (own : NinePart) (s : MachineState)
     → (let step : MachineStep MachineState Shown LeftOut = channel_step rank Seven due (with_nine_part own s) in step) ≡ step_with (with_nine_part own) (channel_step rank Seven due s)
 nine_channel rank None own s = refl
-nine_channel rank (Some now) own s = nine_unless rank now (unit_needs Seven s.map.io.wramcnt (next_unit s.map Seven)) (next_unit s.map Seven) own s
+nine_channel rank (Some now) own s = nine_unless rank now (unit_needs Seven s.io.wramcnt (next_unit s.io Seven)) (next_unit s.io Seven) own s
 
 pub leave_nine : LeaveNine
 leave_nine rank KeyScript own s apart = ap (λ (m : MachineState). (let step : MachineStep MachineState Shown LeftOut = Makes m [] in step)) (nine_line own s s.keys)
-leave_nine rank Video own s apart = refl
-leave_nine rank (Timer proc number) own s apart = refl
-leave_nine rank Divider own s apart = refl
-leave_nine rank SquareRoot own s apart = refl
-leave_nine rank Geometry own s apart = refl
-leave_nine rank Card own s apart = refl
 leave_nine rank (Dma Nine channel) own s apart = absurd (apart refl)
-leave_nine rank (Dma Seven channel) own s apart = nine_channel rank (io_due (Dma Seven channel) s.map.io) own s
+leave_nine rank (Dma Seven channel) own s apart = nine_channel rank (io_due (Dma Seven channel) s.io) own s
 leave_nine rank (Processor Nine) own s apart = absurd (apart refl)
 leave_nine rank (Processor Seven) own s apart =
     let o = outcome_of Seven (tick_of s.seven.processor) s in nine_concluded rank own o.machine o.stepped
+leave_nine rank a own s apart = refl
 
 -- ---- ARM7's
 
@@ -79,24 +74,19 @@ seven_moved rank now (Some stop) own s = refl
 
 seven_unless : (rank : ℕ) (now : Tick) (needed : Option ℕ) (unit : DmaUnit) (own : SevenState) (s : MachineState)
     → (let step : MachineStep MachineState Shown LeftOut = moved_unless rank Nine now needed unit (with_seven_part own s) in step) ≡ step_with (with_seven_part own) (moved_unless rank Nine now needed unit s)
-seven_unless rank now None unit own s = seven_moved rank now (unit_refusal Nine now unit s.map) own (record s { map = unit_moved Nine now unit s.map })
+seven_unless rank now None unit own s = seven_moved rank now (unit_refusal Nine now unit (map_of Nine s)) own (with_map Nine s (unit_moved Nine now unit (map_of Nine s)))
 seven_unless rank now (Some value) unit own s = refl
 
 seven_channel : (rank : ℕ) (due : Option Tick) (own : SevenState) (s : MachineState)
     → (let step : MachineStep MachineState Shown LeftOut = channel_step rank Nine due (with_seven_part own s) in step) ≡ step_with (with_seven_part own) (channel_step rank Nine due s)
 seven_channel rank None own s = refl
-seven_channel rank (Some now) own s = seven_unless rank now (unit_needs Nine s.map.io.wramcnt (next_unit s.map Nine)) (next_unit s.map Nine) own s
+seven_channel rank (Some now) own s = seven_unless rank now (unit_needs Nine s.io.wramcnt (next_unit s.io Nine)) (next_unit s.io Nine) own s
 
 pub leave_seven : LeaveSeven
 leave_seven rank KeyScript own s apart = ap (λ (m : MachineState). (let step : MachineStep MachineState Shown LeftOut = Makes m [] in step)) (seven_line own s s.keys)
-leave_seven rank Video own s apart = refl
-leave_seven rank (Timer proc number) own s apart = refl
-leave_seven rank Divider own s apart = refl
-leave_seven rank SquareRoot own s apart = refl
-leave_seven rank Geometry own s apart = refl
-leave_seven rank Card own s apart = refl
 leave_seven rank (Dma Seven channel) own s apart = absurd (apart refl)
-leave_seven rank (Dma Nine channel) own s apart = seven_channel rank (io_due (Dma Nine channel) s.map.io) own s
+leave_seven rank (Dma Nine channel) own s apart = seven_channel rank (io_due (Dma Nine channel) s.io) own s
 leave_seven rank (Processor Seven) own s apart = absurd (apart refl)
 leave_seven rank (Processor Nine) own s apart =
     let o = outcome_of Nine (tick_of s.nine.processor) s in seven_concluded rank own o.machine o.stepped
+leave_seven rank a own s apart = refl

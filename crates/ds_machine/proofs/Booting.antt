@@ -1,4 +1,4 @@
-use Rattle.std.proofs.Common.{ℕ, zero, suc, ◌<◌, ◌+◌, List, [], ◌∷◌, take, refl, arith}
+use Rattle.std.proofs.Common.{ℕ, zero, suc, ◌≡◌, ◌<◌, ◌+◌, List, [], ◌∷◌, take, refl, sym, ◌∙◌, ap, subst, arith}
 use Rattle.ds_base.specs.KeyLines.{AreKeyLines}
 use Rattle.ds_base.specs.Schedules.{IsLater}
 use Rattle.ds_base.specs.declared.keys.KeyLine.{KeyLine}
@@ -10,17 +10,17 @@ use Rattle.ds_dma.specs.Channels.{IsChannel, channel_at_boot}
 use Rattle.ds_dma.specs.States.{AreReadyLater, IsDma, channel_at, dma_at_boot}
 use Rattle.ds_header.specs.Fields.{image_of, image_place}
 use Rattle.ds_ipc.specs.Ipcs.{other_proc}
-use Rattle.ds_map.specs.Accesses.{map_written}
-use Rattle.ds_map.specs.Maps.{MapState, blank_map}
 use Rattle.ds_map.proofs.Later.{map_write_goes}
-use Rattle.ds_ports.specs.Dues.{Goes, IsProcessorIo, IsQuiet}
+use Rattle.ds_ports.specs.Dues.{IsProcessorIo, IsQuiet}
 use Rattle.ds_ports.specs.ProcessorIo.{processor_io_at_boot}
-use Rattle.ds_ports.specs.Io.{IoState, io_of}
-use Rattle.ds_ports.proofs.Later.{goes_nowhere, goes_on, unchanged_is, unchanged_quiet, of_both}
+use Rattle.ds_ports.specs.Io.{IoState, io_at_boot, io_of}
+use Rattle.ds_ports.proofs.Later.{unchanged_is, unchanged_quiet, of_both}
 use Rattle.ds_timers.specs.Timing.{AreTimers, IsTimer, timer_at, timer_due, timers_at_boot}
-use Rattle.ds_machine.specs.Booted.{machine_booted, header_bytes, header_place}
-use Rattle.ds_machine.specs.Boots.{copied}
-use Rattle.ds_machine.specs.Reference.{IsSound}
+use Rattle.ds_machine.specs.Booted.{header_bytes, header_place, machine_blank, machine_booted, with_image}
+use Rattle.ds_machine.specs.Boots.{copied, stored}
+use Rattle.ds_machine.specs.Reference.{CountsWithin, HasCounted, IsSound}
+use Rattle.ds_machine.specs.States.{MachineState, ProcessorState, counts_of}
+use Rattle.ds_machine.specs.Steps.{map_of}
 
 -- The machine is sound at boot.
 
@@ -78,44 +78,89 @@ quiet_boots proc = record { timers = timers; dma = dma } where
   dma (suc (suc (suc zero))) lt = tt
   dma (suc (suc (suc (suc n)))) lt = absurd (omega (arith, lt))
 
--- what is copied is written at tick 0
-copied_goes : (proc : Proc) (m : MapState) (at : ℕ) (bytes : List ℕ) → IsProcessorIo (io_of m.io proc) → IsQuiet start (io_of m.io proc)
-    → Goes proc start m.io (copied proc m at bytes).io
-copied_goes proc m at [] is quiet = goes_nowhere proc start m.io is quiet
-copied_goes proc m at (byte ∷ rest) is quiet =
-    let next = map_written proc start m at Byte byte in
-    let one = map_write_goes proc start m is quiet at Byte byte in
-    goes_on proc start m.io next.io (copied proc next (at + 1) rest).io one (copied_goes proc next (at + 1) rest one.is one.quiet)
-
 -- what holds of both processors' own
 record AreReady (u : IoState) : Type 0 where
   is : (proc : Proc) → IsProcessorIo (io_of u proc)
   quiet : (proc : Proc) → IsQuiet start (io_of u proc)
 
-copied_ready : (proc : Proc) (m : MapState) (at : ℕ) (bytes : List ℕ) → AreReady m.io → AreReady (copied proc m at bytes).io
-copied_ready proc m at bytes r =
-    let new = (copied proc m at bytes).io in
-    let g = copied_goes proc m at bytes (r.is proc) (r.quiet proc) in
-    let old = io_of m.io (other_proc proc) in
+-- what is copied is written at tick 0
+stored_ready : (proc : Proc) (s : MachineState) (at byte : ℕ) → AreReady s.io → AreReady (stored proc s at byte).io
+stored_ready proc s at byte r =
+    let new = (stored proc s at byte).io in
+    let g = map_write_goes proc start (map_of proc s) (r.is proc) (r.quiet proc) at Byte byte in
+    let old = io_of s.io (other_proc proc) in
     record {
       is = of_both (λ each. IsProcessorIo (io_of new each)) proc g.is (unchanged_is old (io_of new (other_proc proc)) g.other (r.is (other_proc proc)));
       quiet = of_both (λ each. IsQuiet start (io_of new each)) proc g.quiet (unchanged_quiet start old (io_of new (other_proc proc)) g.other (r.quiet (other_proc proc)));
     }
 
-blank_ready : AreReady blank_map.io
+copied_ready : (proc : Proc) (s : MachineState) (at : ℕ) (bytes : List ℕ) → AreReady s.io → AreReady (copied proc s at bytes).io
+copied_ready proc s at [] r = r
+copied_ready proc s at (byte ∷ rest) r = copied_ready proc (stored proc s at byte) (at + 1) rest (stored_ready proc s at byte r)
+
+-- the key script, the processors' numbers and the count of events stay
+record Stays (s next : MachineState) : Type 0 where
+  keys : next.keys ≡ s.keys
+  events : next.events ≡ s.events
+  nine : next.nine.processor ≡ s.nine.processor
+  seven : next.seven.processor ≡ s.seven.processor
+
+then_stays : (a b c : MachineState) → Stays a b → Stays b c → Stays a c
+then_stays a b c one two = record {
+  keys = two.keys ∙ one.keys;
+  events = two.events ∙ one.events;
+  nine = two.nine ∙ one.nine;
+  seven = two.seven ∙ one.seven;
+}
+
+copied_stays : (proc : Proc) (s : MachineState) (at : ℕ) (bytes : List ℕ) → Stays s (copied proc s at bytes)
+copied_stays proc s at [] = record { keys = refl; events = refl; nine = refl; seven = refl }
+copied_stays proc s at (byte ∷ rest) =
+    let next = stored proc s at byte in
+    then_stays s next (copied proc next (at + 1) rest) (record { keys = refl; events = refl; nine = refl; seven = refl }) (copied_stays proc next (at + 1) rest)
+
+booted_stays : (file : List ℕ) (keys : List KeyLine) → Stays (machine_blank file keys) (machine_booted file keys)
+booted_stays file keys =
+    let blank = machine_blank file keys in
+    let nine = with_image Nine blank file in
+    let seven = with_image Seven nine file in
+    let booted = machine_booted file keys in
+    then_stays blank nine booted (copied_stays Nine blank (image_place file Nine) (image_of file Nine))
+    (then_stays nine seven booted (copied_stays Seven nine (image_place file Seven) (image_of file Seven))
+    (copied_stays Nine seven header_place (take header_bytes file)))
+
+blank_ready : AreReady io_at_boot
 blank_ready = record { is = is; quiet = quiet } where
-  is : (proc : Proc) → IsProcessorIo (io_of blank_map.io proc)
+  is : (proc : Proc) → IsProcessorIo (io_of io_at_boot proc)
   is Nine = processor_io_boots Nine
   is Seven = processor_io_boots Seven
 
-  quiet : (proc : Proc) → IsQuiet start (io_of blank_map.io proc)
+  quiet : (proc : Proc) → IsQuiet start (io_of io_at_boot proc)
   quiet Nine = quiet_boots Nine
   quiet Seven = quiet_boots Seven
 
 pub sound_booted : (file : List ℕ) (keys : List KeyLine) → AreKeyLines keys → IsSound (machine_booted file keys)
 sound_booted file keys are =
-    let nine = copied Nine blank_map (image_place file Nine) (image_of file Nine) in
-    let seven = copied Seven nine (image_place file Seven) (image_of file Seven) in
-    let r = copied_ready Nine seven header_place (take header_bytes file)
-    (copied_ready Seven nine (image_place file Seven) (image_of file Seven) (copied_ready Nine blank_map (image_place file Nine) (image_of file Nine) blank_ready)) in
-    record { io = record { nine = r.is Nine; seven = r.is Seven }; keys = are }
+    let blank = machine_blank file keys in
+    let nine = with_image Nine blank file in
+    let seven = with_image Seven nine file in
+    let header = take header_bytes file in
+    let r = copied_ready Nine seven header_place header
+    (copied_ready Seven nine (image_place file Seven) (image_of file Seven) (copied_ready Nine blank (image_place file Nine) (image_of file Nine) blank_ready)) in
+    record { io = record { nine = r.is Nine; seven = r.is Seven }; keys = subst AreKeyLines (sym (booted_stays file keys).keys) are }
+
+-- no step was taken
+
+none_booted : (file : List ℕ) (keys : List KeyLine) → counts_of (machine_booted file keys) ≡ 0
+none_booted file keys =
+    let stays = booted_stays file keys in
+    let nine = ap (λ (p : ProcessorState). p.steps) stays.nine in
+    let seven = ap (λ (p : ProcessorState). p.steps) stays.seven in
+    let events = stays.events in
+    omega (arith, nine, seven, events)
+
+pub counted_booted : (file : List ℕ) (keys : List KeyLine) → HasCounted (machine_booted file keys)
+counted_booted file keys = λ rank tick due. (let none = none_booted file keys in omega (arith, none))
+
+pub within_booted : (file : List ℕ) (keys : List KeyLine) → CountsWithin 0 (machine_booted file keys)
+within_booted file keys = let none = none_booted file keys in omega (arith, none)

@@ -15,10 +15,11 @@ use Rattle.ds_map.specs.Accesses.{map_value}
 use Rattle.ds_map.specs.Maps.{MapState}
 use Rattle.ds_map.specs.Moves.{next_unit, after_unit, unit_needs, unit_read, unit_refusal, unit_taken}
 use Rattle.ds_map.proofs.Later.{map_read_unchanged, map_write_goes}
-use Rattle.ds_ports.specs.Dues.{IsIo, Goes, IsUnchanged, IsQuiet, io_due}
+use Rattle.ds_ports.specs.Dues.{IsIo, Goes, IsUnchanged, IsQuiet, ReschedulesEach, io_due}
 use Rattle.ds_ports.specs.ProcessorIo.{ProcessorIoState}
 use Rattle.ds_ports.specs.Io.{IoState, io_of}
-use Rattle.ds_ports.proofs.Later.{AreUnchanged, MovedGoes, all_io_dues, goes_io, moved_goes, of_both, processor_io_is, still_later}
+use Rattle.ds_ports.proofs.Events.{MovedGoes, moved_goes, some_due}
+use Rattle.ds_ports.proofs.Later.{AreUnchanged, all_io_dues, goes_io, of_both, processor_io_is, still_later}
 use Rattle.ds_runs.specs.Runs.{MachineStep, Makes, Stops}
 use Rattle.ds_runs.specs.declared.actors.Actor.TheVariants.{Dma, Timer}
 use Rattle.ds_runs.proofs.RunLaws.{same_makes, same_stops, not_both}
@@ -26,21 +27,17 @@ use Rattle.ds_timers.specs.Timing.{TimerState, timer_at, timer_due}
 use Rattle.ds_machine.specs.Channels.{channel_step, delayed_past, moved_by, moved_unless, one_event}
 use Rattle.ds_machine.specs.Reference.{IsSound, Shown, due_unless, processor_due}
 use Rattle.ds_machine.specs.States.{MachineState, ProcessorState, counts_of}
-use Rattle.ds_machine.specs.Steps.{is_blocked, processor_of, with_processor}
-use Rattle.ds_machine.proofs.Moves.{IoReschedules, Moves, later_unless, left_after, unchanged_io_dues, unchanged_blocked, unchanged_io, moves_of, same_keys, same_video, then_io_dues}
-use Rattle.ds_machine.proofs.UnitEvents.{some_due}
+use Rattle.ds_machine.specs.Steps.{is_blocked, map_of, processor_of, with_map, with_processor}
+use Rattle.ds_machine.proofs.Moves.{Moves, later_unless, left_after, unchanged_io_dues, unchanged_blocked, unchanged_io, moves_of, same_keys, then_io_dues}
 use Rattle.ds_machine.proofs.Wakes.{put_beside, put_counts, put_other, put_processor_io}
 
 -- The event of a DMA channel.
 
--- ---- the machine with another map, and with another event
+-- ---- the machine with what a processor left of its map, and with another event
 
-abbrev pub with_map : MachineState → MapState → MachineState
-with_map s map = record s { map = map }
-
-map_processor : (s : MachineState) (map : MapState) (proc : Proc) → processor_of (with_map s map) proc ≡ processor_of s proc
-map_processor s map Nine = refl
-map_processor s map Seven = refl
+map_processor : (of : Proc) (s : MachineState) (map : MapState) (proc : Proc) → processor_of (with_map of s map) proc ≡ processor_of s proc
+map_processor of s map Nine = refl
+map_processor of s map Seven = refl
 
 pub event_processor : (s : MachineState) (proc : Proc) → processor_of (one_event s) proc ≡ processor_of s proc
 event_processor s Nine = refl
@@ -51,94 +48,95 @@ event_due s Nine = refl
 event_due s Seven = refl
 
 -- a processor is due as before where its own is left
-left_due : (s : MachineState) (map : MapState) (proc : Proc) → IsUnchanged (io_of s.map.io proc) (io_of map.io proc) → processor_due (with_map s map) proc ≡ processor_due s proc
-left_due s map proc left =
-    ap (λ (blocked : Bool). due_unless blocked (processor_of (with_map s map) proc)) (unchanged_blocked (io_of s.map.io proc) (io_of map.io proc) left)
-    ∙ ap (λ (p : ProcessorState). due_unless (is_blocked s proc) p) (map_processor s map proc)
+left_due : (of : Proc) (s : MachineState) (map : MapState) (proc : Proc) → IsUnchanged (io_of s.io proc) (io_of map.io proc)
+    → processor_due (with_map of s map) proc ≡ processor_due s proc
+left_due of s map proc left =
+    ap (λ (blocked : Bool). due_unless blocked (processor_of (with_map of s map) proc)) (unchanged_blocked (io_of s.io proc) (io_of map.io proc) left)
+    ∙ ap (λ (p : ProcessorState). due_unless (is_blocked s proc) p) (map_processor of s map proc)
 
 -- ---- what it comes to
 
 -- the machine after the unit was moved
 abbrev pub machine_after_unit : Proc → Tick → DmaUnit → MachineState → MachineState
-machine_after_unit proc now unit s = one_event (delayed_past proc now (with_map s (after_unit None proc now unit s.map)))
+machine_after_unit proc now unit s = one_event (delayed_past proc now (with_map proc s (after_unit None proc now unit (map_of proc s))))
 
 module _ (rank : ℕ) (proc : Proc) (now : Tick) (unit : DmaUnit) (s : MachineState) where
   made_by : (refusal : Option Stop) (made : MachineState) (outs : List Shown)
-      → moved_by rank proc now refusal (with_map s (after_unit refusal proc now unit s.map)) ≡ Makes made outs → made ≡ machine_after_unit proc now unit s
+      → moved_by rank proc now refusal (with_map proc s (after_unit refusal proc now unit (map_of proc s))) ≡ Makes made outs → made ≡ machine_after_unit proc now unit s
   made_by None made outs h = sym (same_makes (machine_after_unit proc now unit s) made [] outs h).0
-  made_by (Some stop) made outs h = absurd (not_both made (with_map s (unit_read proc unit s.map)) outs _ (sym h))
+  made_by (Some stop) made outs h = absurd (not_both made (with_map proc s (unit_read proc unit (map_of proc s))) outs _ (sym h))
 
   made_unless : (needs : Option ℕ) (made : MachineState) (outs : List Shown) → moved_unless rank proc now needs unit s ≡ Makes made outs → made ≡ machine_after_unit proc now unit s
-  made_unless None made outs h = made_by (unit_refusal proc now unit s.map) made outs h
+  made_unless None made outs h = made_by (unit_refusal proc now unit (map_of proc s)) made outs h
   made_unless (Some value) made outs h = absurd (not_both made s outs _ (sym h))
 
   left_by : (refusal : Option Stop) (left : MachineState) (stop : LeftOut)
-      → (let step : MachineStep MachineState Shown LeftOut = moved_by rank proc now refusal (with_map s (after_unit refusal proc now unit s.map)) in step ≡ Stops stop left)
-      → with_map s (unit_read proc unit s.map) ≡ left
+      → (let step : MachineStep MachineState Shown LeftOut = moved_by rank proc now refusal (with_map proc s (after_unit refusal proc now unit (map_of proc s))) in step ≡ Stops stop left)
+      → with_map proc s (unit_read proc unit (map_of proc s)) ≡ left
   left_by None left stop h = absurd (not_both (machine_after_unit proc now unit s) left [] stop h)
-  left_by (Some why) left stop h = (same_stops (with_map s (unit_read proc unit s.map)) left _ stop h).1
+  left_by (Some why) left stop h = (same_stops (with_map proc s (unit_read proc unit (map_of proc s))) left _ stop h).1
 
   left_unless : (needs : Option ℕ) (left : MachineState) (stop : LeftOut) → (let step : MachineStep MachineState Shown LeftOut = moved_unless rank proc now needs unit s in step ≡ Stops stop left)
-      → (s ≡ left) ⊎ (with_map s (unit_read proc unit s.map) ≡ left)
-  left_unless None left stop h = inr (left_by (unit_refusal proc now unit s.map) left stop h)
+      → (s ≡ left) ⊎ (with_map proc s (unit_read proc unit (map_of proc s)) ≡ left)
+  left_unless None left stop h = inr (left_by (unit_refusal proc now unit (map_of proc s)) left stop h)
   left_unless (Some value) left stop h = inl (same_stops s left _ stop h).1
 
 -- its step moves its unit
 pub channel_made : (rank : ℕ) (proc : Proc) (now : Tick) (s made : MachineState) (outs : List Shown) → channel_step rank proc (Some now) s ≡ Makes made outs
-    → made ≡ machine_after_unit proc now (next_unit s.map proc) s
+    → made ≡ machine_after_unit proc now (next_unit s.io proc) s
 channel_made rank proc now s made outs h =
-    made_unless rank proc now (next_unit s.map proc) s (unit_needs proc s.map.io.wramcnt (next_unit s.map proc)) made outs h
+    made_unless rank proc now (next_unit s.io proc) s (unit_needs proc s.io.wramcnt (next_unit s.io proc)) made outs h
 
 -- one that stops leaves all as it was, or as it was after the read
 pub channel_unchanged : (rank : ℕ) (proc : Proc) (now : Tick) (s left : MachineState) (stop : LeftOut)
     → (let step : MachineStep MachineState Shown LeftOut = channel_step rank proc (Some now) s in step ≡ Stops stop left)
-    → (s ≡ left) ⊎ (with_map s (unit_read proc (next_unit s.map proc) s.map) ≡ left)
+    → (s ≡ left) ⊎ (with_map proc s (unit_read proc (next_unit s.io proc) (map_of proc s)) ≡ left)
 channel_unchanged rank proc now s left stop h =
-    left_unless rank proc now (next_unit s.map proc) s (unit_needs proc s.map.io.wramcnt (next_unit s.map proc)) left stop h
+    left_unless rank proc now (next_unit s.io proc) s (unit_needs proc s.io.wramcnt (next_unit s.io proc)) left stop h
 
 pub event_counts : (s : MachineState) → counts_of (one_event s) ≡ counts_of s + 1
 event_counts s = omega arith
 
 pub unit_counts : (proc : Proc) (now : Tick) (unit : DmaUnit) (s : MachineState) → counts_of (machine_after_unit proc now unit s) ≡ counts_of s + 1
 unit_counts proc now unit s =
-    let moved = with_map s (after_unit None proc now unit s.map) in
+    let moved = with_map proc s (after_unit None proc now unit (map_of proc s)) in
     let k = put_counts proc moved (record (processor_of moved proc) { due = max (processor_of moved proc).due (now.0 + 1) }) in
     let e = event_counts (delayed_past proc now moved) in
     omega (arith, k, e)
 
 -- ---- where it stops after the read
 
-pub read_unchanged : (proc : Proc) (unit : DmaUnit) (s : MachineState) → AreUnchanged s.map.io (unit_read proc unit s.map).io
-read_unchanged proc unit s = map_read_unchanged proc s.map unit.from unit.width
+pub read_unchanged : (proc : Proc) (unit : DmaUnit) (s : MachineState) → AreUnchanged s.io (unit_read proc unit (map_of proc s)).io
+read_unchanged proc unit s = map_read_unchanged proc (map_of proc s) unit.from unit.width
 
-pub read_moves : (tick : Tick) (proc : Proc) (unit : DmaUnit) (s : MachineState) → Moves tick s (with_map s (unit_read proc unit s.map))
+pub read_moves : (tick : Tick) (proc : Proc) (unit : DmaUnit) (s : MachineState) → Moves tick s (with_map proc s (unit_read proc unit (map_of proc s)))
 read_moves tick proc unit s =
     let left = read_unchanged proc unit s in
-    moves_of tick s (with_map s (unit_read proc unit s.map)) (inl refl) (inl refl) (unchanged_io_dues tick s.map.io (unit_read proc unit s.map).io left)
-    (λ each. inl (left_due s (unit_read proc unit s.map) each (left.processor_io each)))
+    moves_of tick s (with_map proc s (unit_read proc unit (map_of proc s))) (inl refl) (unchanged_io_dues tick s.io (unit_read proc unit (map_of proc s)).io left)
+    (λ each. inl (left_due proc s (unit_read proc unit (map_of proc s)) each (left.processor_io each)))
 
-pub read_sound : (proc : Proc) (unit : DmaUnit) (s : MachineState) → IsSound s → IsSound (with_map s (unit_read proc unit s.map))
-read_sound proc unit s sound = record { io = unchanged_io s.map.io (unit_read proc unit s.map).io sound.io (read_unchanged proc unit s); keys = sound.keys }
+pub read_sound : (proc : Proc) (unit : DmaUnit) (s : MachineState) → IsSound s → IsSound (with_map proc s (unit_read proc unit (map_of proc s)))
+read_sound proc unit s sound = record { io = unchanged_io s.io (unit_read proc unit (map_of proc s)).io sound.io (read_unchanged proc unit s); keys = sound.keys }
 
 -- ---- where it moves its unit
 
 module _ (proc : Proc) (channel : ℕ) (now : Tick) (unit : DmaUnit) (s : MachineState) (sound : IsSound s) (lt : channel < 4)
-    (due : io_due (Dma proc channel) s.map.io ≡ Some now)
-    (timers : (which : ℕ) → which < 4 → IsLater now (io_due (Timer proc which) s.map.io)) where
+    (due : io_due (Dma proc channel) s.io ≡ Some now)
+    (timers : (which : ℕ) → which < 4 → IsLater now (io_due (Timer proc which) s.io)) where
   abbrev read : IoState
-  read = (unit_read proc unit s.map).io
+  read = (unit_read proc unit (map_of proc s)).io
 
-  left : AreUnchanged s.map.io read
+  left : AreUnchanged s.io read
   left = read_unchanged proc unit s
 
   abbrev taken : MapState
-  taken = unit_taken proc now unit s.map
+  taken = unit_taken proc now unit (map_of proc s)
 
   abbrev written : MapState
-  written = after_unit None proc now unit s.map
+  written = after_unit None proc now unit (map_of proc s)
 
   read_io : IsIo read
-  read_io = unchanged_io s.map.io read sound.io left
+  read_io = unchanged_io s.io read sound.io left
 
   moves : MovedGoes proc now read taken.io
   moves = moved_goes proc now read read_io (some_due (io_of read proc).dma channel now (ap (λ (dma : DmaState). channel_due dma channel) (left.processor_io proc).dma ∙ due))
@@ -151,43 +149,43 @@ module _ (proc : Proc) (channel : ℕ) (now : Tick) (unit : DmaUnit) (s : Machin
 
   goes : Goes proc now taken.io written.io
   goes =
-      map_write_goes proc now taken (processor_io_is taken.io moves.steps.io proc) is_quiet unit.to unit.width (map_value proc now s.map unit.from unit.width)
+      map_write_goes proc now taken (processor_io_is taken.io moves.io proc) is_quiet unit.to unit.width (map_value proc now (map_of proc s) unit.from unit.width)
 
-  dues : IoReschedules now s.map.io written.io
+  dues : ReschedulesEach now s.io written.io
   dues =
-      then_io_dues now s.map.io read written.io (unchanged_io_dues now s.map.io read left)
-      (then_io_dues now read taken.io written.io moves.steps.dues (all_io_dues proc now taken.io written.io goes))
+      then_io_dues now s.io read written.io (unchanged_io_dues now s.io read left)
+      (then_io_dues now read taken.io written.io moves.dues (all_io_dues proc now taken.io written.io goes))
 
-  other : IsUnchanged (io_of s.map.io (other_proc proc)) (io_of written.io (other_proc proc))
+  other : IsUnchanged (io_of s.io (other_proc proc)) (io_of written.io (other_proc proc))
   other =
-      left_after (io_of s.map.io (other_proc proc)) (io_of read (other_proc proc)) (io_of written.io (other_proc proc)) (left.processor_io (other_proc proc))
+      left_after (io_of s.io (other_proc proc)) (io_of read (other_proc proc)) (io_of written.io (other_proc proc)) (left.processor_io (other_proc proc))
       (subst (λ (o : ProcessorIoState). IsUnchanged o (io_of written.io (other_proc proc))) moves.other goes.other)
 
   io : IsIo written.io
-  io = goes_io proc now taken.io written.io moves.steps.io goes
+  io = goes_io proc now taken.io written.io moves.io goes
 
   abbrev past : ProcessorState
-  past = let p = processor_of (with_map s written) proc in record p { due = max p.due (now.0 + 1) }
+  past = let p = processor_of (with_map proc s written) proc in record p { due = max p.due (now.0 + 1) }
 
   pub unit_moves : Moves now s (machine_after_unit proc now unit s)
   unit_moves =
       let next = machine_after_unit proc now unit s in
-      let m = with_map s written in
+      let m = with_map proc s written in
       let b = put_beside proc m past in
-      moves_of now s next (same_keys now s.keys next.keys b.keys) (same_video now s next b.video) (subst (IoReschedules now s.map.io) (sym b.io) dues)
+      moves_of now s next (same_keys now s.keys next.keys b.keys) (subst (ReschedulesEach now s.io) (sym b.io) dues)
       (of_both (λ each. Reschedules now (processor_due s each) (processor_due next each)) proc
       (inr (subst (IsLater now) (sym (event_due (with_processor proc m past) proc ∙ put_processor_io proc m past))
       (later_unless now (is_blocked m proc) past (omega (arith, le-max_right (processor_of m proc).due (now.0 + 1))))))
-      (inl (event_due (with_processor proc m past) (other_proc proc) ∙ put_other proc m past ∙ left_due s written (other_proc proc) other)))
+      (inl (event_due (with_processor proc m past) (other_proc proc) ∙ put_other proc m past ∙ left_due proc s written (other_proc proc) other)))
 
   pub unit_sound : IsSound (machine_after_unit proc now unit s)
   unit_sound =
-      let b = put_beside proc (with_map s written) past in
+      let b = put_beside proc (with_map proc s written) past in
       record { io = subst IsIo (sym b.io) io; keys = subst AreKeyLines (sym b.keys) sound.keys }
 
   -- the channel is due later, or not at all
-  pub unit_later : IsLater now (io_due (Dma proc channel) (machine_after_unit proc now unit s).map.io)
+  pub unit_later : IsLater now (io_due (Dma proc channel) (machine_after_unit proc now unit s).io)
   unit_later =
-      let b = put_beside proc (with_map s written) past in
+      let b = put_beside proc (with_map proc s written) past in
       subst (λ (u : IoState). IsLater now (io_due (Dma proc channel) u)) (sym b.io)
       (still_later now None (channel_due (io_of written.io proc).dma channel) tt (all_later now (io_of written.io proc).dma None goes.quiet.dma channel lt))

@@ -8,15 +8,16 @@ use Rattle.ds_map.specs.Moves.{next_unit, unit_read}
 use Rattle.ds_runs.specs.Actors.{actor_of}
 use Rattle.ds_runs.specs.Runs.{IsLeast, MachineStep, Makes, Stops}
 use Rattle.ds_runs.specs.declared.actors.Actor as actor
-use Rattle.ds_runs.specs.declared.actors.Actor.TheVariants.{KeyScript, Video, Timer, Divider, SquareRoot, Geometry, Card, Dma, Processor}
+use Rattle.ds_runs.specs.declared.actors.Actor.TheVariants.{KeyScript, Dma, Processor}
 use Rattle.ds_runs.proofs.RunExists.{place_rises}
 use Rattle.ds_runs.proofs.RunLaws.{same_makes, not_both}
 use Rattle.ds_machine.specs.Channels.{channel_step}
-use Rattle.ds_machine.specs.Reference.{CountsWithin, HasCounted, IsSound, MayStep, Shown, after_division, after_line, after_root, after_timer, after_video, due_by, dues_of, keys_due, next_shown, reference, shown_by_video, step_by, reference_step, stepped_of}
+use Rattle.ds_machine.specs.Reference.{CountsWithin, HasCounted, IsSound, MayStep, Shown, after_event, after_line, due_by, dues_of, keys_due, next_shown, reference, shown_by, step_by, reference_step, stepped_of}
 use Rattle.ds_machine.specs.States.{MachineState, counts_of}
+use Rattle.ds_machine.specs.Steps.{map_of, with_map}
 use Rattle.ds_machine.specs.declared.answers.Done as answer
 use Rattle.ds_machine.specs.declared.answers.Done.TheVariants as answers
-use Rattle.ds_machine.proofs.ChannelEvents.{channel_unchanged, channel_made, event_counts, unit_counts, with_map}
+use Rattle.ds_machine.proofs.ChannelEvents.{channel_unchanged, channel_made, event_counts, unit_counts}
 use Rattle.ds_machine.proofs.DueTicks.{due_of_least, low_rank, not_before}
 use Rattle.ds_machine.proofs.MachineSchedule.{awake_stops, owes, reference_schedules, step_made, stopped}
 use Rattle.ds_machine.proofs.Moves.{moves_all}
@@ -35,19 +36,14 @@ made_counts : (a : actor.Actor) (rank : ℕ) (tick : Tick) (s made : MachineStat
     → counts_of made ≡ counts_of s + 1
 made_counts KeyScript rank tick s made outs due h =
     ap counts_of (sym (same_makes (after_line s.keys s) made [] outs h).0) ∙ keys_count tick s s.keys due
-made_counts Video rank tick s made outs due h = ap counts_of (sym (same_makes (after_video s) made (shown_by_video s) outs h).0) ∙ event_counts s
-made_counts (Timer proc number) rank tick s made outs due h = ap counts_of (sym (same_makes (after_timer proc number s) made [] outs h).0) ∙ event_counts s
-made_counts Divider rank tick s made outs due h = ap counts_of (sym (same_makes (after_division s) made [] outs h).0) ∙ event_counts s
-made_counts SquareRoot rank tick s made outs due h = ap counts_of (sym (same_makes (after_root s) made [] outs h).0) ∙ event_counts s
-made_counts Geometry rank tick s made outs due h = absurd (none-some tick due)
-made_counts Card rank tick s made outs due h = absurd (none-some tick due)
 made_counts (Dma proc channel) rank tick s made outs due h =
     let P : Option Tick → Type 0 = λ o. channel_step rank proc o s ≡ Makes made outs in
-    ap counts_of (channel_made rank proc tick s made outs (subst P due h)) ∙ unit_counts proc tick (next_unit s.map proc) s
+    ap counts_of (channel_made rank proc tick s made outs (subst P due h)) ∙ unit_counts proc tick (next_unit s.io proc) s
 made_counts (Processor proc) rank tick s made outs due h =
     let m = reached_by proc s in
     let k = concludes rank proc m made outs (came_by proc s) (costs_some proc s) (sym (step_is rank proc s) ∙ h) in
     ap counts_of (sym k.1) ∙ gone_counts proc m (came_by proc s) k.0 ∙ ap (λ (n : ℕ). n + 1) (reaches proc s).counts
+made_counts a rank tick s made outs due h = ap counts_of (sym (same_makes (after_event a s) made (shown_by a s) outs h).0) ∙ event_counts s
 
 pub one_more : (s next : MachineState) (tick : Tick) (rank : ℕ) (outs : List Shown) → IsLeast (dues_of s) tick rank → reference_step rank s ≡ Makes next outs
     → counts_of next ≡ counts_of s + 1
@@ -57,7 +53,7 @@ one_more s next tick rank outs least h =
 
 -- a step that stops leaves the counts as they were
 
-read_counts : (proc : Proc) (s left : MachineState) → (s ≡ left) ⊎ (with_map s (unit_read proc (next_unit s.map proc) s.map) ≡ left) → counts_of left ≡ counts_of s
+read_counts : (proc : Proc) (s left : MachineState) → (s ≡ left) ⊎ (with_map proc s (unit_read proc (next_unit s.io proc) (map_of proc s)) ≡ left) → counts_of left ≡ counts_of s
 read_counts proc s left (inl same) = ap counts_of (sym same)
 read_counts proc s left (inr read) = ap counts_of (sym read)
 
@@ -68,16 +64,11 @@ channel_counts proc (Some now) rank s left stop h = read_counts proc s left (cha
 
 left_counts : (a : actor.Actor) (rank : ℕ) (s left : MachineState) (stop : LeftOut) → step_by rank a s ≡ Stops stop left → counts_of left ≡ counts_of s
 left_counts KeyScript rank s left stop h = absurd (not_both (after_line s.keys s) left [] stop h)
-left_counts Video rank s left stop h = absurd (not_both (after_video s) left (shown_by_video s) stop h)
-left_counts (Timer proc number) rank s left stop h = absurd (not_both (after_timer proc number s) left [] stop h)
-left_counts Divider rank s left stop h = absurd (not_both (after_division s) left [] stop h)
-left_counts SquareRoot rank s left stop h = absurd (not_both (after_root s) left [] stop h)
-left_counts Geometry rank s left stop h = absurd (not_both s left [] stop h)
-left_counts Card rank s left stop h = absurd (not_both s left [] stop h)
 left_counts (Dma proc channel) rank s left stop h = channel_counts proc (due_by (Dma proc channel) s) rank s left stop h
 left_counts (Processor proc) rank s left stop h =
     let e = concluded_stops rank proc (reached_by proc s) left stop (came_by proc s) (sym (step_is rank proc s) ∙ h) in
     ap counts_of (sym e) ∙ (reaches proc s).counts
+left_counts a rank s left stop h = absurd (not_both (after_event a s) left (shown_by a s) stop h)
 
 pub stop_counts : (s left : MachineState) (rank : ℕ) (stop : LeftOut) → reference_step rank s ≡ Stops stop left → counts_of left ≡ counts_of s
 stop_counts s left rank stop h =

@@ -5,6 +5,7 @@ use Rattle.ds_base.specs.declared.processors.Proc.{Proc}
 use Rattle.ds_base.specs.declared.processors.Proc.TheVariants.{Nine, Seven}
 use Rattle.ds_base.specs.declared.ticks.Due.{Due}
 use Rattle.ds_base.specs.declared.ticks.Tick.{Tick}
+use Rattle.ds_ports.specs.Videos.{video_due}
 use Rattle.ds_runs.specs.Actors.{actor_of}
 use Rattle.ds_runs.specs.Order.{due_with_rank, earlier, first_from}
 use Rattle.ds_runs.specs.Runs.{IsLeast, MachineStep, due_at}
@@ -17,7 +18,6 @@ use Rattle.ds_machine.specs.NextEvents.{events_of}
 use Rattle.ds_machine.specs.Reference.{MayStep, Shown, awake, due_by, due_unless, dues_of, processor_due, step_by, reference_step}
 use Rattle.ds_machine.specs.States.{MachineState, ProcessorState}
 use Rattle.ds_machine.specs.Steps.{is_blocked, processor_of, tick_of}
-use Rattle.ds_machine.specs.Videos.{video_due}
 
 -- The machine's due ticks, as a list and by actors.
 
@@ -56,7 +56,7 @@ first_found s first h =
     first_is_least (dues_of s) first all
 
 -- the display is always due
-pub somebody_is : (s : MachineState) → due_at (dues_of s) 1 ≡ Some (record { 0 = video_due s.video })
+pub somebody_is : (s : MachineState) → due_at (dues_of s) 1 ≡ Some (record { 0 = video_due s.io.video })
 unfolding dues_of
 somebody_is s = refl
 

@@ -15,14 +15,13 @@ use Rattle.ds_runs.specs.Actors.{actor_of}
 use Rattle.ds_runs.specs.Order.{first_from}
 use Rattle.ds_runs.specs.Runs.{IsLeast, IsOver, Makes, MachineStep, due_at}
 use Rattle.ds_runs.specs.declared.actors.Actor as actor
-use Rattle.ds_runs.specs.declared.actors.Actor.TheVariants.{Processor, Video}
+use Rattle.ds_runs.specs.declared.actors.Actor.TheVariants.{Processor}
 use Rattle.ds_runs.proofs.Firsts.{first_is_least}
 use Rattle.ds_timers.specs.Irqs.{line_is_up, shares_bit}
 use Rattle.ds_machine.specs.NextEvents.{AreAsleep, IsNextEvent, events_of, least_of, due_at_least}
-use Rattle.ds_machine.specs.Reference.{FastStep, HasCounted, IsSound, Shown, awake, due_by, due_unless, dues_of, keys_due, processor_due, step_by, stepped_of}
-use Rattle.ds_machine.specs.States.{MachineState, ProcessorState, VideoState, counts_of}
+use Rattle.ds_machine.specs.Reference.{FastStep, HasCounted, IsSound, Shown, awake, due_unless, dues_of, keys_due, processor_due, step_by, stepped_of}
+use Rattle.ds_machine.specs.States.{MachineState, ProcessorState, counts_of}
 use Rattle.ds_machine.specs.Steps.{machine_concluded, goes_on, is_halted, is_blocked, line_of, outcome_of, processor_of, tick_of, wakes, went_on, with_processor, woken, woken_one}
-use Rattle.ds_machine.specs.Videos.{video_due}
 use Rattle.ds_machine.specs.declared.answers.Done.TheVariants as answers
 use Rattle.ds_machine.specs.declared.next_events.NextEvent.{NextEvent}
 use Rattle.ds_machine.proofs.Counts.{counted_done, few}
@@ -151,13 +150,12 @@ few_fast s rank n until more has least lt early =
     let k = few s (record { 0 = n }) rank has least (omega (arith, lt, early)) in
     omega (arith, k)
 
--- ---- what is kept stays so, while the units behind the ports, the script and the display stay
+-- ---- what is kept stays so, while the units behind the ports and the script stay
 
 pub kept_stays : (next_event : NextEvent) (s next : MachineState) → IsNextEvent next_event s → Beside s next → IsNextEvent next_event next
 kept_stays next_event s next is b = record {
-  events = subst (λ (u : IoState). IsOver (keys_due next.keys ∷ due_by Video next ∷ io_dues u) next_event.until.0) (sym b.io)
-      (subst (λ (v : VideoState). IsOver (keys_due next.keys ∷ Some (record { 0 = video_due v }) ∷ io_dues s.map.io) next_event.until.0) (sym b.video)
-      (subst (λ (lines : List KeyLine). IsOver (keys_due lines ∷ due_by Video s ∷ io_dues s.map.io) next_event.until.0) (sym b.keys) is.events));
+  events = subst (λ (u : IoState). IsOver (keys_due next.keys ∷ io_dues u) next_event.until.0) (sym b.io)
+      (subst (λ (lines : List KeyLine). IsOver (keys_due lines ∷ io_dues s.io) next_event.until.0) (sym b.keys) is.events);
   asleep = λ some proc. wakes_so proc (is.asleep some proc);
   nine_least = is.nine_least ∙ ap least_of (blocked Nine);
   seven_least = is.seven_least ∙ ap least_of (blocked Seven);
@@ -196,19 +194,15 @@ pub cost_keeps : (next_event : NextEvent) (s next : MachineState) (proc : Proc) 
 cost_keeps next_event s next proc p is e = subst (IsNextEvent next_event) (sym e) (kept_stays next_event s (with_processor proc s p) is (put_beside proc s p))
 
 -- and at the accesses before it, which leave the units
-pub reach_keeps : (next_event : NextEvent) (s next : MachineState) (proc : Proc) (now : Tick) → IsNextEvent next_event s → next ≡ (outcome_of proc now s).machine → next.map.io ≡ s.map.io → IsNextEvent next_event next
+pub reach_keeps : (next_event : NextEvent) (s next : MachineState) (proc : Proc) (now : Tick) → IsNextEvent next_event s → next ≡ (outcome_of proc now s).machine → next.io ≡ s.io → IsNextEvent next_event next
 reach_keeps next_event s next proc now is e io =
-    kept_stays next_event s next is (record { io = io; keys = ap (λ (m : MachineState). m.keys) e ∙ same_keys proc; video = ap (λ (m : MachineState). m.video) e ∙ same_video proc }) where
+    kept_stays next_event s next is (record { io = io; keys = ap (λ (m : MachineState). m.keys) e ∙ same_keys proc }) where
       same_keys : (proc : Proc) → (outcome_of proc now s).machine.keys ≡ s.keys
       same_keys Nine = refl
       same_keys Seven = refl
 
-      same_video : (proc : Proc) → (outcome_of proc now s).machine.video ≡ s.video
-      same_video Nine = refl
-      same_video Seven = refl
-
 -- what isn't blocked before them isn't blocked after them
-pub free_stays : (proc : Proc) (s next : MachineState) → next.map.io ≡ s.map.io → is_blocked s proc ≡ false → is_blocked next proc ≡ false
+pub free_stays : (proc : Proc) (s next : MachineState) → next.io ≡ s.io → is_blocked s proc ≡ false → is_blocked next proc ≡ false
 free_stays proc s next io free = ap (λ (u : IoState). blocks_processor (io_of u proc)) io ∙ free
 
 -- the whole of it

@@ -13,8 +13,8 @@ pub mod Others
 pub mod OwnSteps
 pub mod ProcessorSteps
 pub mod Quiet
+pub mod Reached
 pub mod DecodedOperations
-pub mod UnitEvents
 pub mod Taken
 pub mod Wakes
 pub mod Lines

@@ -8,26 +8,26 @@ use Rattle.ds_base.specs.declared.processors.Proc.{Proc}
 use Rattle.ds_base.specs.declared.processors.Proc.TheVariants.{Nine, Seven}
 use Rattle.ds_base.specs.declared.ticks.Tick.{Tick}
 use Rattle.ds_map.specs.Moves.{next_unit, unit_read}
-use Rattle.ds_ports.specs.Io.{IoState, division_done, keys_pressed, root_done, timer_overflows}
-use Rattle.ds_ports.proofs.Later.{still_later, timer_goes}
+use Rattle.ds_ports.specs.Io.{IoState, io_event, keys_pressed}
+use Rattle.ds_ports.specs.Videos.{video_due}
+use Rattle.ds_ports.proofs.Events.{Happens, event_goes, keys_happen}
+use Rattle.ds_ports.proofs.Later.{still_later}
 use Rattle.ds_runs.specs.Actors.{IsNumbered, actor_of}
 use Rattle.ds_runs.specs.Runs.{IsLeast, MachineStep, Makes, Stops}
 use Rattle.ds_runs.specs.Owed.{Schedules}
 use Rattle.ds_runs.specs.declared.actors.Actor as actor
-use Rattle.ds_runs.specs.declared.actors.Actor.TheVariants.{KeyScript, Video, Timer, Divider, SquareRoot, Geometry, Card, Dma, Processor}
+use Rattle.ds_runs.specs.declared.actors.Actor.TheVariants.{KeyScript, Timer, Dma, Processor}
 use Rattle.ds_runs.proofs.AllActors.{is_numbered}
 use Rattle.ds_runs.proofs.RunLaws.{same_makes, not_both}
 use Rattle.ds_machine.specs.Channels.{channel_step, one_event}
-use Rattle.ds_machine.specs.Reference.{IsSound, Shown, after_division, after_line, after_root, after_timer, after_video, awake, due_by, dues_of, keys_due, reference, shown_by_video, step_by, reference_step}
-use Rattle.ds_machine.specs.States.{MachineState, VideoState}
-use Rattle.ds_machine.specs.Steps.{gone_by, is_blocked, processor_of, with_io, woken}
-use Rattle.ds_machine.specs.Videos.{triggered_by_video, video_after, video_due}
-use Rattle.ds_machine.proofs.ChannelEvents.{machine_after_unit, channel_unchanged, channel_made, read_moves, read_sound, unit_later, unit_moves, unit_sound, with_map}
+use Rattle.ds_machine.specs.Reference.{IsSound, Shown, after_event, after_line, awake, due_by, dues_of, keys_due, reference, shown_by, step_by, reference_step}
+use Rattle.ds_machine.specs.States.{MachineState}
+use Rattle.ds_machine.specs.Steps.{gone_by, is_blocked, map_of, processor_of, with_io, with_map, woken}
+use Rattle.ds_machine.proofs.ChannelEvents.{machine_after_unit, channel_unchanged, channel_made, read_moves, read_sound, unit_later, unit_moves, unit_sound}
 use Rattle.ds_machine.proofs.DueTicks.{due_of_least, due_of_rank, entries_are, low_rank, somebody_is}
 use Rattle.ds_machine.proofs.Moves.{Moves, blocked_moves, moves_all, moves_of, then_all}
 use Rattle.ds_machine.proofs.ProcessorSteps.{Operation, came_by, concluded_stops, concludes, costs_some, gone_moves, gone_sound, processor_io_later, reached_by, reached_moves, reached_sound, step_is}
 use Rattle.ds_machine.proofs.Quiet.{comes_late, quiet_processor, timers_later}
-use Rattle.ds_machine.proofs.UnitEvents.{Happens, division_happens, keys_happen, root_happens, timer_happens, video_happens}
 use Rattle.ds_machine.proofs.Wakes.{wakes_both}
 
 -- What the reference machine owes of its due ticks.
@@ -38,24 +38,22 @@ pub record Owes (a : actor.Actor) (tick : Tick) (s next : MachineState) : Type 0
   pub own : IsLater tick (due_by a next)
   pub sound : IsSound next
 
--- ---- events of the units behind the ports, of the key script and of the display
+-- ---- events of the units behind the ports and of the key script
 
--- the machine with other units, and with other lines to come or another line displayed
-abbrev changed : MachineState → IoState → List KeyLine → VideoState → MachineState
-changed s io keys video = one_event (record (with_io s io) { keys = keys; video = video })
+-- the machine with other units, and with other lines to come
+abbrev changed : MachineState → IoState → List KeyLine → MachineState
+changed s io keys = one_event (record (with_io s io) { keys = keys })
 
-changed_due : (s : MachineState) (io : IoState) (keys : List KeyLine) (video : VideoState) (proc : Proc)
-    → (processor_of (changed s io keys video) proc).due ≡ (processor_of s proc).due
-changed_due s io keys video Nine = refl
-changed_due s io keys video Seven = refl
+changed_due : (s : MachineState) (io : IoState) (keys : List KeyLine) (proc : Proc) → (processor_of (changed s io keys) proc).due ≡ (processor_of s proc).due
+changed_due s io keys Nine = refl
+changed_due s io keys Seven = refl
 
-event_moves : (tick : Tick) (s : MachineState) (io : IoState) (keys : List KeyLine) (video : VideoState) → Happens tick s.map.io io
-    → Reschedules tick (keys_due s.keys) (keys_due keys) → Reschedules tick (due_by Video s) (due_by Video (changed s io keys video))
-    → Moves tick s (changed s io keys video)
-event_moves tick s io keys video h lines shown =
-    let next = changed s io keys video in
-    moves_of tick s next lines shown h.dues (λ proc.
-    blocked_moves tick (is_blocked s proc) (is_blocked next proc) (processor_of s proc) (processor_of next proc) (changed_due s io keys video proc) (h.blocked proc))
+event_moves : (tick : Tick) (s : MachineState) (io : IoState) (keys : List KeyLine) → Happens tick s.io io → Reschedules tick (keys_due s.keys) (keys_due keys)
+    → Moves tick s (changed s io keys)
+event_moves tick s io keys h lines =
+    let next = changed s io keys in
+    moves_of tick s next lines h.dues (λ proc.
+    blocked_moves tick (is_blocked s proc) (is_blocked next proc) (processor_of s proc) (processor_of next proc) (changed_due s io keys proc) (h.blocked proc))
 
 -- the lines that are to come are later, and rise still
 rest_later : (tick : Tick) (line : KeyLine) (rest : List KeyLine) → AreKeyLines (line ∷ rest) → line.tick ≡ tick → IsLater tick (keys_due rest)
@@ -74,55 +72,21 @@ owes_keys : (tick : Tick) (s : MachineState) (lines : List KeyLine) → s.keys �
 owes_keys tick s [] e due sound = absurd (none-some tick due)
 owes_keys tick s (line ∷ rest) e due sound =
     let are = subst AreKeyLines e sound.keys in
-    let h = keys_happen tick s.map.io line.pressed sound.io in
+    let h = keys_happen tick s.io line.pressed sound.io in
     let later = rest_later tick line rest are (same_Some line.tick tick due) in
     record {
-      moves = event_moves tick s (keys_pressed s.map.io line.pressed) rest s.video h (inr later) (inl refl);
+      moves = event_moves tick s (keys_pressed s.io line.pressed) rest h (inr later);
       own = later;
       sound = record { io = h.io; keys = rest_rises line rest are };
     }
 
-video_rises : (v : VideoState) → video_due v < video_due (video_after v)
-video_rises v = grind arith
-
-owes_video : (tick : Tick) (s : MachineState) → due_by Video s ≡ Some tick → IsSound s → Owes Video tick s (after_video s)
-owes_video tick s due sound =
-    let now : Tick = record { 0 = video_due s.video } in
-    let h = video_happens s.video s.map.io sound.io in
-    let own : Owes Video now s (after_video s) = record {
-      moves = event_moves now s (triggered_by_video s.video s.map.io) s.keys (video_after s.video) h (inl refl) (inr (video_rises s.video));
-      own = video_rises s.video;
-      sound = record { io = h.io; keys = sound.keys };
-    } in
-    subst (λ (t : Tick). Owes Video t s (after_video s)) (same_Some now tick due) own
-
-owes_timer : (proc : Proc) (number : ℕ) (tick : Tick) (s : MachineState) → number < 4 → due_by (Timer proc number) s ≡ Some tick → IsSound s
-    → Owes (Timer proc number) tick s (after_timer proc number s)
-owes_timer proc number tick s lt due sound =
-    let h = timer_happens proc number tick s.map.io sound.io lt due in
-    record {
-      moves = event_moves tick s (timer_overflows proc number s.map.io) s.keys s.video h (inl refl) (inl refl);
-      own = (timer_goes proc number tick s.map.io sound.io lt due).later;
-      sound = record { io = h.io; keys = sound.keys };
-    }
-
-owes_division : (tick : Tick) (s : MachineState) → IsSound s → Owes Divider tick s (after_division s)
-owes_division tick s sound =
-    let h = division_happens tick s.map.io sound.io in
-    record {
-      moves = event_moves tick s (division_done s.map.io) s.keys s.video h (inl refl) (inl refl);
-      own = tt;
-      sound = record { io = h.io; keys = sound.keys };
-    }
-
-owes_root : (tick : Tick) (s : MachineState) → IsSound s → Owes SquareRoot tick s (after_root s)
-owes_root tick s sound =
-    let h = root_happens tick s.map.io sound.io in
-    record {
-      moves = event_moves tick s (root_done s.map.io) s.keys s.video h (inl refl) (inl refl);
-      own = tt;
-      sound = record { io = h.io; keys = sound.keys };
-    }
+event_owes : (a : actor.Actor) (tick : Tick) (s : MachineState) → Happens tick s.io (io_event a s.io) → IsLater tick (due_by a (after_event a s)) → IsSound s
+    → Owes a tick s (after_event a s)
+event_owes a tick s h later sound = record {
+  moves = event_moves tick s (io_event a s.io) s.keys h (inl refl);
+  own = later;
+  sound = record { io = h.io; keys = sound.keys };
+}
 
 -- ---- each actor, where it is due
 
@@ -143,16 +107,9 @@ channel_timers proc channel rank tick s st = timers_later s tick rank st.least (
 
 owes_by : (a : actor.Actor) (rank : ℕ) (tick : Tick) (s made : MachineState) (outs : List Shown) → Steps a rank tick s → step_by rank a s ≡ Makes made outs → Owes a tick s made
 owes_by KeyScript rank tick s made outs st h = subst (Owes KeyScript tick s) (same_makes (after_line s.keys s) made [] outs h).0 (owes_keys tick s s.keys refl st.due st.sound)
-owes_by Video rank tick s made outs st h = subst (Owes Video tick s) (same_makes (after_video s) made (shown_by_video s) outs h).0 (owes_video tick s st.due st.sound)
-owes_by (Timer proc number) rank tick s made outs st h =
-    subst (Owes (Timer proc number) tick s) (same_makes (after_timer proc number s) made [] outs h).0 (owes_timer proc number tick s st.numbered st.due st.sound)
-owes_by Divider rank tick s made outs st h = subst (Owes Divider tick s) (same_makes (after_division s) made [] outs h).0 (owes_division tick s st.sound)
-owes_by SquareRoot rank tick s made outs st h = subst (Owes SquareRoot tick s) (same_makes (after_root s) made [] outs h).0 (owes_root tick s st.sound)
-owes_by Geometry rank tick s made outs st h = absurd (none-some tick st.due)
-owes_by Card rank tick s made outs st h = absurd (none-some tick st.due)
 owes_by (Dma proc channel) rank tick s made outs st h =
     let P : Option Tick → Type 0 = λ o. channel_step rank proc o s ≡ Makes made outs in
-    let unit = next_unit s.map proc in
+    let unit = next_unit s.io proc in
     let timers = channel_timers proc channel rank tick s st in
     let owes : Owes (Dma proc channel) tick s (machine_after_unit proc tick unit s) = record {
       moves = unit_moves proc channel tick unit s st.sound st.numbered st.due timers;
@@ -170,6 +127,9 @@ owes_by (Processor proc) rank tick s made outs st h =
       sound = gone_sound proc tick s r came k.0;
     } in
     subst (Owes (Processor proc) tick s) k.1 owes
+owes_by a rank tick s made outs st h =
+    let g = event_goes a tick s.io st.sound.io tt st.numbered st.due in
+    subst (Owes a tick s) (same_makes (after_event a s) made (shown_by a s) outs h).0 (event_owes a tick s g.0 g.1 st.sound)
 
 -- ---- and then processors wake
 
@@ -221,7 +181,7 @@ owes s next tick rank outs sound least h =
 pub reference_schedules : Schedules reference 24 IsSound
 reference_schedules = record {
   entries = λ s sound. entries_are s;
-  somebody = λ s sound. (1, record { 0 = video_due s.video }, somebody_is s);
+  somebody = λ s sound. (1, record { 0 = video_due s.io.video }, somebody_is s);
   reschedules = λ s next tick rank outs sound least goes. moves_all tick s next (owes s next tick rank outs sound least goes).moves;
   later = λ s next tick rank outs sound least goes.
       (let lt = low_rank s rank tick least.there in
@@ -235,19 +195,13 @@ pub record Leaves (tick : Tick) (s left : MachineState) : Type 0 where
   pub moves : Moves tick s left
   pub sound : IsSound left
 
-leaves_read : (tick : Tick) (proc : Proc) (s left : MachineState) → IsSound s → (s ≡ left) ⊎ (with_map s (unit_read proc (next_unit s.map proc) s.map) ≡ left) → Leaves tick s left
+leaves_read : (tick : Tick) (proc : Proc) (s left : MachineState) → IsSound s → (s ≡ left) ⊎ (with_map proc s (unit_read proc (next_unit s.io proc) (map_of proc s)) ≡ left) → Leaves tick s left
 leaves_read tick proc s left sound (inl same) = subst (Leaves tick s) same (record { moves = λ a n. inl refl; sound = sound })
 leaves_read tick proc s left sound (inr read) =
-    subst (Leaves tick s) read (record { moves = read_moves tick proc (next_unit s.map proc) s; sound = read_sound proc (next_unit s.map proc) s sound })
+    subst (Leaves tick s) read (record { moves = read_moves tick proc (next_unit s.io proc) s; sound = read_sound proc (next_unit s.io proc) s sound })
 
 leaves_by : (a : actor.Actor) (rank : ℕ) (tick : Tick) (s left : MachineState) (stop : LeftOut) → Steps a rank tick s → step_by rank a s ≡ Stops stop left → Leaves tick s left
 leaves_by KeyScript rank tick s left stop st h = absurd (not_both (after_line s.keys s) left [] stop h)
-leaves_by Video rank tick s left stop st h = absurd (not_both (after_video s) left (shown_by_video s) stop h)
-leaves_by (Timer proc number) rank tick s left stop st h = absurd (not_both (after_timer proc number s) left [] stop h)
-leaves_by Divider rank tick s left stop st h = absurd (not_both (after_division s) left [] stop h)
-leaves_by SquareRoot rank tick s left stop st h = absurd (not_both (after_root s) left [] stop h)
-leaves_by Geometry rank tick s left stop st h = absurd (not_both s left [] stop h)
-leaves_by Card rank tick s left stop st h = absurd (not_both s left [] stop h)
 leaves_by (Dma proc channel) rank tick s left stop st h =
     let P : Option Tick → Type 0 = λ o. (let step : MachineStep MachineState Shown LeftOut = channel_step rank proc o s in step ≡ Stops stop left) in
     leaves_read tick proc s left st.sound (channel_unchanged rank proc tick s left stop (subst P st.due h))
@@ -255,6 +209,7 @@ leaves_by (Processor proc) rank tick s left stop st h =
     let r = operation proc rank tick s st in
     let e = concluded_stops rank proc (reached_by proc s) left stop (came_by proc s) (sym (step_is rank proc s) ∙ h) in
     subst (Leaves tick s) e (record { moves = reached_moves proc tick s r; sound = reached_sound proc tick s r })
+leaves_by a rank tick s left stop st h = absurd (not_both (after_event a s) left (shown_by a s) stop h)
 
 pub stopped : (s left : MachineState) (tick : Tick) (rank : ℕ) (stop : LeftOut) → IsSound s → IsLeast (dues_of s) tick rank → reference_step rank s ≡ Stops stop left → Leaves tick s left
 stopped s left tick rank stop sound least h =

@@ -3,18 +3,17 @@ use Rattle.ds_base.specs.Schedules.{IsLater, Reschedules}
 use Rattle.ds_base.specs.declared.keys.KeyLine.{KeyLine}
 use Rattle.ds_base.specs.declared.processors.Proc.{Proc}
 use Rattle.ds_base.specs.declared.ticks.Tick.{Tick}
-use Rattle.ds_ports.specs.Dues.{IsIo, IsUnchanged, io_due}
+use Rattle.ds_ports.specs.Dues.{IsIo, IsUnchanged, ReschedulesEach, io_due}
 use Rattle.ds_ports.specs.ProcessorIo.{blocks_processor, ProcessorIoState}
 use Rattle.ds_ports.specs.Io.{IoState, io_of}
 use Rattle.ds_ports.proofs.Later.{AreUnchanged, in_turn, unchanged_is, processor_io_is, io_is}
 use Rattle.ds_runs.specs.Actors.{IsNumbered}
 use Rattle.ds_runs.specs.Owed.{AllReschedule}
 use Rattle.ds_runs.specs.declared.actors.Actor as actor
-use Rattle.ds_runs.specs.declared.actors.Actor.TheVariants.{KeyScript, Video, Timer, Divider, SquareRoot, Geometry, Card, Dma, Processor}
+use Rattle.ds_runs.specs.declared.actors.Actor.TheVariants.{KeyScript, Processor}
 use Rattle.ds_runs.proofs.AllActors.{all_of_actors}
 use Rattle.ds_machine.specs.Reference.{due_by, due_unless, dues_of, keys_due, processor_due}
-use Rattle.ds_machine.specs.States.{MachineState, ProcessorState, VideoState}
-use Rattle.ds_machine.specs.Videos.{video_due}
+use Rattle.ds_machine.specs.States.{MachineState, ProcessorState}
 
 -- How due ticks move: each stays, or becomes later than a tick.
 
@@ -38,14 +37,11 @@ blocked_moves tick false false p q e h = inl (ap (λ (n : ℕ). (let o : Option 
 
 -- ---- the units behind the ports
 
-abbrev pub IoReschedules : Tick → IoState → IoState → Type 0
-IoReschedules tick old new = (a : actor.Actor) → IsNumbered a → Reschedules tick (io_due a old) (io_due a new)
-
-pub then_io_dues : (tick : Tick) (a b c : IoState) → IoReschedules tick a b → IoReschedules tick b c → IoReschedules tick a c
+pub then_io_dues : (tick : Tick) (a b c : IoState) → ReschedulesEach tick a b → ReschedulesEach tick b c → ReschedulesEach tick a c
 then_io_dues tick a b c one two = λ who n. in_turn tick (io_due who a) (io_due who b) (io_due who c) (one who n) (two who n)
 
 -- nothing but interrupt words changed
-pub unchanged_io_dues : (tick : Tick) (old new : IoState) → AreUnchanged old new → IoReschedules tick old new
+pub unchanged_io_dues : (tick : Tick) (old new : IoState) → AreUnchanged old new → ReschedulesEach tick old new
 unchanged_io_dues tick old new l = λ who n. inl (l.dues who)
 
 -- ---- a processor's own
@@ -73,20 +69,11 @@ pub then_all : (tick : Tick) (a b c : MachineState) → Moves tick a b → Moves
 then_all tick a b c one two = λ who n. in_turn tick (due_by who a) (due_by who b) (due_by who c) (one who n) (two who n)
 
 -- the machine's due ticks, by its parts
-pub moves_of : (tick : Tick) (s next : MachineState) → Reschedules tick (keys_due s.keys) (keys_due next.keys) → Reschedules tick (due_by Video s) (due_by Video next)
-    → IoReschedules tick s.map.io next.map.io → ((proc : Proc) → Reschedules tick (processor_due s proc) (processor_due next proc)) → Moves tick s next
-moves_of tick s next keys video dues processors KeyScript n = keys
-moves_of tick s next keys video dues processors Video n = video
-moves_of tick s next keys video dues processors (Timer proc number) n = dues (Timer proc number) n
-moves_of tick s next keys video dues processors Divider n = dues Divider n
-moves_of tick s next keys video dues processors SquareRoot n = dues SquareRoot n
-moves_of tick s next keys video dues processors Geometry n = inl refl
-moves_of tick s next keys video dues processors Card n = inl refl
-moves_of tick s next keys video dues processors (Dma proc channel) n = dues (Dma proc channel) n
-moves_of tick s next keys video dues processors (Processor proc) n = processors proc
+pub moves_of : (tick : Tick) (s next : MachineState) → Reschedules tick (keys_due s.keys) (keys_due next.keys)
+    → ReschedulesEach tick s.io next.io → ((proc : Proc) → Reschedules tick (processor_due s proc) (processor_due next proc)) → Moves tick s next
+moves_of tick s next keys dues processors KeyScript n = keys
+moves_of tick s next keys dues processors (Processor proc) n = processors proc
+moves_of tick s next keys dues processors a n = dues a n
 
 pub same_keys : (tick : Tick) (old new : List KeyLine) → new ≡ old → Reschedules tick (keys_due old) (keys_due new)
 same_keys tick old new e = inl (ap keys_due e)
-
-pub same_video : (tick : Tick) (s next : MachineState) → next.video ≡ s.video → Reschedules tick (due_by Video s) (due_by Video next)
-same_video tick s next e = inl (ap (λ (v : VideoState). (let d : Option Tick = Some (record { 0 = video_due v }) in d)) e)

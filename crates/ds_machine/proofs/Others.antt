@@ -78,12 +78,12 @@ nine_executes s r number instr None i =
     nine_follows (arm9 r.cp15) s r number instr i
 nine_executes s r number instr (Some move) i = (refl, goes_nowhere Nine r.now r.map.io i.0 i.1)
 
-nine_goes : (now : Tick) (s : MachineState) → IsReady Nine now s.map.io → Goes Nine now s.map.io (outcome_of Nine now s).machine.map.io
+nine_goes : (now : Tick) (s : MachineState) → IsReady Nine now s.io → Goes Nine now s.io (outcome_of Nine now s).machine.io
 nine_goes now s i =
     (taken_follows nine_memory (λ (r : NineReach). IsReady Nine r.now r.map.io) (λ (r t : NineReach). Leads Nine r.now r.map.io t.now t.map.io)
     nine_follows nine_side (λ old r number instr i. nine_executes old r number instr (move_of instr) i) (line_of s Nine) s.nine.processor.registers (nine_reach now s) i).1
 
-seven_goes : (now : Tick) (s : MachineState) → IsReady Seven now s.map.io → Goes Seven now s.map.io (outcome_of Seven now s).machine.map.io
+seven_goes : (now : Tick) (s : MachineState) → IsReady Seven now s.io → Goes Seven now s.io (outcome_of Seven now s).machine.io
 seven_goes now s i =
     (taken_follows seven_memory (λ (r : SevenReach). IsReady Seven r.now r.map.io) (λ (r t : SevenReach). Leads Seven r.now r.map.io t.now t.map.io)
     seven_follows seven_side
@@ -91,7 +91,7 @@ seven_goes now s i =
     (λ (r t : SevenReach). Leads Seven r.now r.map.io t.now t.map.io) seven_follows arm7 old r number instr i)
     (line_of s Seven) s.seven.processor.registers (seven_reach now s) i).1
 
-pub step_goes : (proc : Proc) (now : Tick) (s : MachineState) → IsProcessorIo (io_of s.map.io proc) → IsQuiet now (io_of s.map.io proc)
-    → Goes proc now s.map.io (outcome_of proc now s).machine.map.io
+pub step_goes : (proc : Proc) (now : Tick) (s : MachineState) → IsProcessorIo (io_of s.io proc) → IsQuiet now (io_of s.io proc)
+    → Goes proc now s.io (outcome_of proc now s).machine.io
 step_goes Nine now s is quiet = nine_goes now s (is, quiet)
 step_goes Seven now s is quiet = seven_goes now s (is, quiet)

@@ -13,21 +13,20 @@ use Rattle.arm_core.specs.declared.outcomes.Stepped.TheVariants.{Cost, Halted, L
 use Rattle.arm_exec.specs.Costs.{CostsSome}
 use Rattle.ds_dma.specs.States.{any_runs}
 use Rattle.ds_ipc.specs.Ipcs.{other_proc}
-use Rattle.ds_ports.specs.Dues.{IsIo, Goes, IsProcessorIo, IsQuiet}
+use Rattle.ds_ports.specs.Dues.{IsIo, Goes, IsProcessorIo, IsQuiet, ReschedulesEach}
 use Rattle.ds_ports.specs.Io.{io_of}
 use Rattle.ds_ports.proofs.Later.{all_io_dues, goes_io, of_both, processor_io_is}
 use Rattle.ds_runs.specs.Runs.{MachineStep, Makes, Stops}
 use Rattle.ds_runs.specs.declared.actors.Actor.TheVariants.{Processor}
 use Rattle.ds_runs.proofs.RunLaws.{same_makes, same_stops, not_both}
-use Rattle.ds_machine.specs.Reference.{IsSound, Shown, awake, due_unless, processor_due, step_by, stepped_of}
-use Rattle.ds_machine.specs.States.{MachineState, ProcessorState, VideoState, counts_of}
-use Rattle.ds_machine.specs.Steps.{machine_concluded, gone_by, is_halted, is_blocked, outcome_of, processor_of, tick_of, went_on, with_halt}
-use Rattle.ds_machine.specs.Videos.{video_due}
+use Rattle.ds_machine.specs.Reference.{IsSound, Shown, awake, due_unless, next_shown, processor_due, step_by, stepped_of}
+use Rattle.ds_machine.specs.States.{MachineState, ProcessorState, counts_of}
+use Rattle.ds_machine.specs.Steps.{machine_concluded, gone_by, is_halted, is_blocked, outcome_of, processor_of, tick_of, went_on, with_halt, woken}
 use Rattle.ds_machine.specs.declared.answers.Done as answer
 use Rattle.ds_machine.specs.declared.answers.Done.TheVariants as answers
 use Rattle.ds_machine.proofs.Costs.{step_costs}
 use Rattle.ds_machine.proofs.DueTicks.{due_then, tick_is}
-use Rattle.ds_machine.proofs.Moves.{IoReschedules, Moves, blocked_moves, unchanged_blocked, moves_of, same_keys, same_video, then_io_dues}
+use Rattle.ds_machine.proofs.Moves.{Moves, blocked_moves, unchanged_blocked, moves_of, same_keys, then_io_dues}
 use Rattle.ds_machine.proofs.Others.{step_goes}
 use Rattle.ds_machine.proofs.Wakes.{halt_blocked, halt_other, halt_steps, halted_io_dues, halted_io, put_beside, put_counts, put_other, put_processor_io}
 
@@ -40,7 +39,6 @@ pub record Reaches (proc : Proc) (s m : MachineState) : Type 0 where
   pub due : (processor_of m proc).due ≡ (processor_of s proc).due
   pub other : processor_of m (other_proc proc) ≡ processor_of s (other_proc proc)
   pub keys : m.keys ≡ s.keys
-  pub video : m.video ≡ s.video
   pub counts : counts_of m ≡ counts_of s
 
 -- what a processor's step at its tick came to, with what it left
@@ -54,8 +52,8 @@ pub step_is : (rank : ℕ) (proc : Proc) (s : MachineState) → step_by rank (Pr
 step_is rank proc s = refl
 
 left_reaches : (proc : Proc) (now : Tick) (s : MachineState) → Reaches proc s (outcome_of proc now s).machine
-left_reaches Nine now s = record { due = refl; other = refl; keys = refl; video = refl; counts = refl }
-left_reaches Seven now s = record { due = refl; other = refl; keys = refl; video = refl; counts = refl }
+left_reaches Nine now s = record { due = refl; other = refl; keys = refl; counts = refl }
+left_reaches Seven now s = record { due = refl; other = refl; keys = refl; counts = refl }
 
 pub reaches : (proc : Proc) (s : MachineState) → Reaches proc s (reached_by proc s)
 reaches proc s = left_reaches proc (tick_of (processor_of s proc)) s
@@ -79,12 +77,22 @@ reached_few proc tick s m machine few = subst (λ (x : MachineState). (processor
   by_proc Nine few = few
   by_proc Seven few = few
 
--- the step is what it came to, concluded
-same_shown : (m s next : MachineState) (done : answer.Done) → m.video ≡ s.video → stepped_of m done next ≡ stepped_of s done next
-same_shown m s next answers.Made e = refl
-same_shown m s next (answers.Frame swapped) e =
-    ap (λ (v : VideoState). (let step : MachineStep MachineState Shown LeftOut = Makes next (record { tick = video_due v; swapped = swapped } ∷ []) in step)) e
-same_shown m s next (answers.Stopped left) e = refl
+-- the step is what it came to, concluded; it shows no frame
+none_shown : (shown : Shown) → (let none : List Shown = [] in none) ≡ shown ∷ [] → ⊥
+none_shown shown e = true≢false (ap is_none e) where
+  is_none : List Shown → Bool
+  is_none [] = true
+  is_none (one ∷ more) = false
+
+same_shown : (rank : ℕ) (proc : Proc) (tick : Tick) (m s next : MachineState) (came : arm.Stepped) (done : answer.Done)
+    → awake (Some tick) (machine_concluded rank proc m came) ≡ stepped_of m done next → awake (Some tick) (machine_concluded rank proc m came) ≡ stepped_of s done next
+same_shown rank proc tick m s next came answers.Made h = h
+same_shown rank proc tick m s next (Cost clocks) (answers.Frame swapped) h =
+    absurd (none_shown (next_shown m swapped) (same_makes (woken tick (gone_by proc (Cost clocks) m)) next [] (next_shown m swapped ∷ []) h).1)
+same_shown rank proc tick m s next (Halted clocks) (answers.Frame swapped) h =
+    absurd (none_shown (next_shown m swapped) (same_makes (woken tick (gone_by proc (Halted clocks) m)) next [] (next_shown m swapped ∷ []) h).1)
+same_shown rank proc tick m s next (Left stop) (answers.Frame swapped) h = absurd (not_both next m (next_shown m swapped ∷ []) _ (sym h))
+same_shown rank proc tick m s next came (answers.Stopped left) h = h
 
 pub step_concluded : (rank : ℕ) (proc : Proc) (tick : Tick) (s m next : MachineState) (came : arm.Stepped) (done : answer.Done) → tick ≡ tick_of (processor_of s proc)
     → m ≡ (outcome_of proc tick s).machine → came ≡ (outcome_of proc tick s).stepped → awake (Some tick) (machine_concluded rank proc m came) ≡ stepped_of m done next
@@ -94,14 +102,13 @@ step_concluded rank proc tick s m next came done at machine stepped h =
     ap (λ (t : Tick). step (outcome_of proc t s).machine (outcome_of proc t s).stepped) (sym at)
     ∙ ap (λ (x : MachineState). step x (outcome_of proc tick s).stepped) (sym machine)
     ∙ ap (step m) (sym stepped)
-    ∙ h
-    ∙ same_shown m s next done (ap (λ (x : MachineState). x.video) machine ∙ (left_reaches proc tick s).video)
+    ∙ same_shown rank proc tick m s next came done h
 
-reach_goes : (proc : Proc) (tick : Tick) (s : MachineState) → tick_of (processor_of s proc) ≡ tick → IsProcessorIo (io_of s.map.io proc) → IsQuiet tick (io_of s.map.io proc)
-    → Goes proc tick s.map.io (reached_by proc s).map.io
+reach_goes : (proc : Proc) (tick : Tick) (s : MachineState) → tick_of (processor_of s proc) ≡ tick → IsProcessorIo (io_of s.io proc) → IsQuiet tick (io_of s.io proc)
+    → Goes proc tick s.io (reached_by proc s).io
 reach_goes proc tick s e is quiet =
-    subst (λ (t : Tick). Goes proc t s.map.io (reached_by proc s).map.io) e
-    (step_goes proc (tick_of (processor_of s proc)) s is (subst (λ (t : Tick). IsQuiet t (io_of s.map.io proc)) (sym e) quiet))
+    subst (λ (t : Tick). Goes proc t s.io (reached_by proc s).io) e
+    (step_goes proc (tick_of (processor_of s proc)) s is (subst (λ (t : Tick). IsQuiet t (io_of s.io proc)) (sym e) quiet))
 
 -- ---- how it goes on
 
@@ -142,7 +149,7 @@ went_later proc p tick clocks false false e some = let lt = later_by proc p.due 
 gone_later : (proc : Proc) (m : MachineState) (tick : Tick) (came : arm.Stepped) → (processor_of m proc).due ≡ tick.0 → Took came
     → IsLater tick (processor_due (gone_by proc came m) proc)
 gone_later proc m tick (Cost clocks) e took =
-    let o = io_of m.map.io proc in
+    let o = io_of m.io proc in
     subst (IsLater tick) (sym (put_processor_io proc m (went_on proc clocks (is_halted m proc) (processor_of m proc))))
     (went_later proc (processor_of m proc) tick clocks o.halted (any_runs o.dma.channels) e took)
 gone_later proc m tick (Halted clocks) e took =
@@ -156,29 +163,26 @@ gone_other proc m (Cost clocks) took = put_other proc m (went_on proc clocks (is
 gone_other proc m (Halted clocks) took = put_other proc (with_halt proc m true) (went_on proc clocks true (processor_of m proc)) ∙ halt_other proc m true
 gone_other proc m (Left stop) took = absurd took
 
--- the units behind the ports, the key script and the display
+-- the units behind the ports, and the key script
 record Stays (tick : Tick) (m n : MachineState) : Type 0 where
-  dues : IoReschedules tick m.map.io n.map.io
-  io : IsIo m.map.io → IsIo n.map.io
+  dues : ReschedulesEach tick m.io n.io
+  io : IsIo m.io → IsIo n.io
   keys : n.keys ≡ m.keys
-  video : n.video ≡ m.video
 
 gone_stays : (proc : Proc) (m : MachineState) (tick : Tick) (came : arm.Stepped) → Took came → Stays tick m (gone_by proc came m)
 gone_stays proc m tick (Cost clocks) took =
     let b = put_beside proc m (went_on proc clocks (is_halted m proc) (processor_of m proc)) in
     record {
-      dues = subst (IoReschedules tick m.map.io) (sym b.io) (λ who n. inl refl);
+      dues = subst (ReschedulesEach tick m.io) (sym b.io) (λ who n. inl refl);
       io = λ are. subst IsIo (sym b.io) are;
       keys = b.keys;
-      video = b.video;
     }
 gone_stays proc m tick (Halted clocks) took =
     let b = put_beside proc (with_halt proc m true) (went_on proc clocks true (processor_of m proc)) in
     record {
-      dues = subst (IoReschedules tick m.map.io) (sym b.io) (halted_io_dues tick proc m.map.io true);
-      io = λ are. subst IsIo (sym b.io) (halted_io proc m.map.io true are);
+      dues = subst (ReschedulesEach tick m.io) (sym b.io) (halted_io_dues tick proc m.io true);
+      io = λ are. subst IsIo (sym b.io) (halted_io proc m.io true are);
       keys = b.keys;
-      video = b.video;
     }
 gone_stays proc m tick (Left stop) took = absurd took
 
@@ -187,7 +191,7 @@ gone_stays proc m tick (Left stop) took = absurd took
 -- where it makes its accesses
 pub record Operation (proc : Proc) (tick : Tick) (s : MachineState) : Type 0 where
   pub sound : IsSound s
-  pub quiet : IsQuiet tick (io_of s.map.io proc)
+  pub quiet : IsQuiet tick (io_of s.io proc)
   pub due : processor_due s proc ≡ Some tick
 
 module _ (proc : Proc) (tick : Tick) (s : MachineState) (r : Operation proc tick s) where
@@ -197,14 +201,14 @@ module _ (proc : Proc) (tick : Tick) (s : MachineState) (r : Operation proc tick
   not_blocked : is_blocked s proc ≡ false
   not_blocked = (due_then (is_blocked s proc) (processor_of s proc) tick r.due).0
 
-  goes : Goes proc tick s.map.io (reached_by proc s).map.io
-  goes = reach_goes proc tick s (tick_is (processor_of s proc) tick is_due) (processor_io_is s.map.io r.sound.io proc) r.quiet
+  goes : Goes proc tick s.io (reached_by proc s).io
+  goes = reach_goes proc tick s (tick_is (processor_of s proc) tick is_due) (processor_io_is s.io r.sound.io proc) r.quiet
 
   -- the other processor is due as before
   other_same : processor_due (reached_by proc s) (other_proc proc) ≡ processor_due s (other_proc proc)
   other_same =
       let m = reached_by proc s in
-      ap (λ (blocked : Bool). due_unless blocked (processor_of m (other_proc proc))) (unchanged_blocked (io_of s.map.io (other_proc proc)) (io_of m.map.io (other_proc proc)) goes.other)
+      ap (λ (blocked : Bool). due_unless blocked (processor_of m (other_proc proc))) (unchanged_blocked (io_of s.io (other_proc proc)) (io_of m.io (other_proc proc)) goes.other)
       ∙ ap (λ (p : ProcessorState). due_unless (is_blocked s (other_proc proc)) p) (reaches proc s).other
 
   -- what a step leaves that is taken
@@ -214,8 +218,8 @@ module _ (proc : Proc) (tick : Tick) (s : MachineState) (r : Operation proc tick
       let n = gone_by proc came m in
       let st = gone_stays proc m tick came took in
       let re = reaches proc s in
-      moves_of tick s n (same_keys tick s.keys n.keys (st.keys ∙ re.keys)) (same_video tick s n (st.video ∙ re.video))
-      (then_io_dues tick s.map.io m.map.io n.map.io (all_io_dues proc tick s.map.io m.map.io goes) st.dues)
+      moves_of tick s n (same_keys tick s.keys n.keys (st.keys ∙ re.keys))
+      (then_io_dues tick s.io m.io n.io (all_io_dues proc tick s.io m.io goes) st.dues)
       (of_both (λ each. Reschedules tick (processor_due s each) (processor_due n each)) proc (inr (gone_later proc m tick came (re.due ∙ is_due) took))
       (inl (gone_other proc m came took ∙ other_same)))
 
@@ -224,7 +228,7 @@ module _ (proc : Proc) (tick : Tick) (s : MachineState) (r : Operation proc tick
 
   pub reached_sound : IsSound (reached_by proc s)
   reached_sound = record {
-    io = goes_io proc tick s.map.io (reached_by proc s).map.io r.sound.io goes;
+    io = goes_io proc tick s.io (reached_by proc s).io r.sound.io goes;
     keys = subst AreKeyLines (sym (reaches proc s).keys) r.sound.keys;
   }
 
@@ -238,7 +242,7 @@ module _ (proc : Proc) (tick : Tick) (s : MachineState) (r : Operation proc tick
   reached_moves =
       let m = reached_by proc s in
       let re = reaches proc s in
-      moves_of tick s m (same_keys tick s.keys m.keys re.keys) (same_video tick s m re.video) (all_io_dues proc tick s.map.io m.map.io goes)
+      moves_of tick s m (same_keys tick s.keys m.keys re.keys) (all_io_dues proc tick s.io m.io goes)
       (of_both (λ each. Reschedules tick (processor_due s each) (processor_due m each)) proc
       (blocked_moves tick (is_blocked s proc) (is_blocked m proc) (processor_of s proc) (processor_of m proc) re.due (λ h. absurd (true≢false (sym h ∙ not_blocked))))
       (inl other_same))

@@ -63,8 +63,8 @@ timer_rank Seven (suc (suc (suc zero))) lt = (9, record { low = omega arith; the
 timer_rank proc (suc (suc (suc (suc n)))) lt = absurd (omega (arith, lt))
 
 pub timers_later : (s : MachineState) (tick : Tick) (rank : ℕ) → IsLeast (dues_of s) tick rank → comes_late (actor_of rank) ≡ true
-    → (proc : Proc) (which : ℕ) → which < 4 → IsLater tick (io_due (Timer proc which) s.map.io)
-timers_later s tick rank least late proc which lt = later_if tick (io_due (Timer proc which) s.map.io) (λ at h.
+    → (proc : Proc) (which : ℕ) → which < 4 → IsLater tick (io_due (Timer proc which) s.io)
+timers_later s tick rank least late proc which lt = later_if tick (io_due (Timer proc which) s.io) (λ at h.
     (let high = late_rank rank late in
     let has = timer_rank proc which lt in
     let low = has.1.low in
@@ -94,10 +94,10 @@ none_blocked now o h = none_ready now o.dma (neither o.halted (any_runs o.dma.ch
 
 -- so where a processor takes its step
 pub quiet_processor : (s : MachineState) (tick : Tick) (rank : ℕ) (proc : Proc) → IsLeast (dues_of s) tick rank → actor_of rank ≡ Processor proc
-    → IsQuiet tick (io_of s.map.io proc)
+    → IsQuiet tick (io_of s.io proc)
 quiet_processor s tick rank proc least is =
     let due = due_of_step s rank tick (Processor proc) least is in
     record {
       timers = timers_later s tick rank least (ap comes_late is) proc;
-      dma = none_blocked tick (io_of s.map.io proc) (due_then (is_blocked s proc) (processor_of s proc) tick due).0;
+      dma = none_blocked tick (io_of s.io proc) (due_then (is_blocked s proc) (processor_of s proc) tick due).0;
     }

@@ -1,11 +1,10 @@
-use Rattle.std.proofs.Common.{ℕ, zero, suc, ◌≡◌, ◌<◌, ◌≤◌, ◌+◌, ◌-◌, ◌==◌, ◌&&◌, ◌⊎◌, ◌++◌, Bool, true, false, true≢false, if◌then◌else◌, List, [], ◌∷◌, Option, Some, None, inl, inr, refl, sym, ◌∙◌, ap, arith}
+use Rattle.std.proofs.Common.{ℕ, zero, suc, ◌≡◌, ◌<◌, ◌≤◌, ◌+◌, ◌-◌, ◌==◌, ◌⊎◌, ◌++◌, Bool, true, false, true≢false, if◌then◌else◌, List, [], ◌∷◌, Option, Some, None, inl, inr, refl, sym, ◌∙◌, ap, arith}
 use Rattle.std.proofs.lemmas.List.{append-nil}
 use Rattle.ds_base.specs.Accesses.{Access, Fetch, Performed, Read, Write, perform, refused_or}
 use Rattle.ds_base.specs.Memories.{memory_size}
-use Rattle.ds_base.specs.Numbers.{aligned_down, with_number, width_bytes}
+use Rattle.ds_base.specs.Numbers.{aligned_down, width_bytes}
 use Rattle.ds_base.specs.declared.left_out.Stop.{Stop}
-use Rattle.ds_base.specs.declared.memories.Memory.{Memory}
-use Rattle.ds_base.specs.declared.memories.Memory.TheVariants.{Main, Shared, Own7, Itcm, Dtcm, Palette, Vram, Oam}
+use Rattle.ds_base.specs.declared.memories.Memory.TheVariants.{Shared, Own7, Itcm, Dtcm}
 use Rattle.ds_base.specs.declared.memories.Width.{Width}
 use Rattle.ds_base.specs.declared.memories.Width.TheVariants.{Byte, Half, Word}
 use Rattle.ds_base.specs.declared.processors.Arch.{Arch}
@@ -25,9 +24,9 @@ use Rattle.ds_places.specs.AddressTables.{Cells, Empty, place_at, place_of, shar
 use Rattle.ds_places.specs.declared.kinds.Place.{Place}
 use Rattle.ds_places.specs.declared.kinds.Place.TheVariants.{Cell, Banks, Port, Rom, Nothing}
 use Rattle.ds_places.proofs.Regions.{lies_or_not}
-use Rattle.ds_map.specs.Accesses.{is_byte_of_nine, after_read_at, map_read, map_refusal, map_written, written_at, refusal_at, takes_no_bytes}
+use Rattle.ds_map.specs.Accesses.{after_read_at, map_read, map_refusal, map_written, written_at, refusal_at}
 use Rattle.ds_map.specs.Builds.{map_is_built, nine_is_built}
-use Rattle.ds_map.specs.Maps.{MapState, cells_of, with_cells}
+use Rattle.ds_map.specs.Maps.{MapState}
 use Rattle.ds_map.proofs.Built.{apart_built, apart_nine}
 use Rattle.ds_map.specs.Views.{NineReach, SevenReach, nine_memory, seven_memory, tcm_read, tcm_refusal, tcm_written}
 use Rattle.ds_machine.specs.Sides.{nine_side, seven_side, unbuilt}
@@ -142,21 +141,8 @@ seven_needs_none r accesses ram = ram_needs (map_is_built Seven r.map.io.wramcnt
 
 -- ---- no access of them changes a unit
 
-put_cells : (memory : Memory) (m : MapState) (bytes : List ℕ) → (with_cells memory m bytes).io ≡ m.io
-put_cells Main m bytes = refl
-put_cells Shared m bytes = refl
-put_cells Own7 m bytes = refl
-put_cells Itcm m bytes = refl
-put_cells Dtcm m bytes = refl
-put_cells Palette m bytes = refl
-put_cells Vram m bytes = refl
-put_cells Oam m bytes = refl
-
 put_io : (proc : Proc) (now : Tick) (place : Place) (m : MapState) (width : Width) (value : ℕ) → is_cells place ≡ true → (written_at proc now place m width value).io ≡ m.io
-put_io proc now (Cell memory at) m width value h = by_byte (is_byte_of_nine proc width && takes_no_bytes memory) where
-  by_byte : (b : Bool) → (if b then m else with_cells memory m (with_number width (cells_of m memory) (aligned_down width at) value)).io ≡ m.io
-  by_byte true = refl
-  by_byte false = put_cells memory m (with_number width (cells_of m memory) (aligned_down width at) value)
+put_io proc now (Cell memory at) m width value h = refl
 put_io proc now (Banks space at) m width value h = absurd (true≢false (sym h))
 put_io proc now (Port at) m width value h = absurd (true≢false (sym h))
 put_io proc now (Rom at) m width value h = refl

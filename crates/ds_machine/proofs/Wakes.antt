@@ -5,13 +5,13 @@ use Rattle.ds_base.specs.declared.processors.Proc.{Proc}
 use Rattle.ds_base.specs.declared.processors.Proc.TheVariants.{Nine, Seven}
 use Rattle.ds_base.specs.declared.ticks.Tick.{Tick}
 use Rattle.ds_ipc.specs.Ipcs.{other_proc}
-use Rattle.ds_ports.specs.Dues.{IsIo, IsProcessorIo}
+use Rattle.ds_ports.specs.Dues.{IsIo, IsProcessorIo, ReschedulesEach}
 use Rattle.ds_ports.specs.ProcessorIo.{ProcessorIoState}
 use Rattle.ds_ports.specs.Io.{IoState, io_of, with_halted}
 use Rattle.ds_machine.specs.Reference.{IsSound, due_unless, keys_due, processor_due}
 use Rattle.ds_machine.specs.States.{MachineState, ProcessorState, counts_of}
 use Rattle.ds_machine.specs.Steps.{goes_on, is_blocked, processor_of, wakes, with_halt, with_processor, woken, woken_one}
-use Rattle.ds_machine.proofs.Moves.{IoReschedules, Moves, later_unless, moves_of, same_video, then_all}
+use Rattle.ds_machine.proofs.Moves.{Moves, later_unless, moves_of, then_all}
 use Rattle.ds_ports.proofs.Later.{each_processor_io, of_both, processor_io_each, processor_io_is, same_reschedules, io_is}
 
 -- Processors that are put into the machine with other numbers, that are halted, and that wake.
@@ -28,13 +28,12 @@ put_other Seven s p = refl
 
 -- all but the processors stays
 pub record Beside (s next : MachineState) : Type 0 where
-  pub io : next.map.io ≡ s.map.io
+  pub io : next.io ≡ s.io
   pub keys : next.keys ≡ s.keys
-  pub video : next.video ≡ s.video
 
 pub put_beside : (proc : Proc) (s : MachineState) (p : ProcessorState) → Beside s (with_processor proc s p)
-put_beside Nine s p = record { io = refl; keys = refl; video = refl }
-put_beside Seven s p = record { io = refl; keys = refl; video = refl }
+put_beside Nine s p = record { io = refl; keys = refl }
+put_beside Seven s p = record { io = refl; keys = refl }
 
 -- a processor's numbers, and its count of steps among all
 pub put_counts : (proc : Proc) (s : MachineState) (p : ProcessorState) → counts_of (with_processor proc s p) + (processor_of s proc).steps ≡ counts_of s + p.steps
@@ -43,7 +42,7 @@ put_counts Seven s p = omega arith
 
 -- ---- a processor is halted, or goes on
 
-pub halted_io_dues : (tick : Tick) (proc : Proc) (u : IoState) (halted : Bool) → IoReschedules tick u (with_halted proc u halted)
+pub halted_io_dues : (tick : Tick) (proc : Proc) (u : IoState) (halted : Bool) → ReschedulesEach tick u (with_halted proc u halted)
 halted_io_dues tick proc u halted = processor_io_each proc tick u (record (io_of u proc) { halted = halted }) (same_reschedules tick (io_of u proc) _ refl refl)
 
 pub halted_io : (proc : Proc) (u : IoState) (halted : Bool) → IsIo u → IsIo (with_halted proc u halted)
@@ -73,15 +72,15 @@ on_moves proc tick s =
     let own : Reschedules tick (processor_due s proc) (processor_due next proc) =
     rw (put_processor_io proc halt p) (inr (later_unless tick (is_blocked halt proc) p (omega arith))) in
     let other : Reschedules tick (processor_due s (other_proc proc)) (processor_due next (other_proc proc)) = inl (put_other proc halt p ∙ halt_other proc s false) in
-    moves_of tick s next (inl (ap keys_due b.keys)) (same_video tick s next b.video)
-    (subst (IoReschedules tick s.map.io) (sym b.io) (halted_io_dues tick proc s.map.io false))
+    moves_of tick s next (inl (ap keys_due b.keys))
+    (subst (ReschedulesEach tick s.io) (sym b.io) (halted_io_dues tick proc s.io false))
     (of_both (λ each. Reschedules tick (processor_due s each) (processor_due next each)) proc own other)
 
 on_sound : (proc : Proc) (tick : Tick) (s : MachineState) → IsSound s → IsSound (goes_on proc tick s)
 on_sound proc tick s sound =
     let halt = with_halt proc s false in
     let b = put_beside proc halt (record (processor_of s proc) { due = tick.0 + 1 }) in
-    record { io = subst IsIo (sym b.io) (halted_io proc s.map.io false sound.io); keys = subst AreKeyLines (sym b.keys) sound.keys }
+    record { io = subst IsIo (sym b.io) (halted_io proc s.io false sound.io); keys = subst AreKeyLines (sym b.keys) sound.keys }
 
 pub halt_steps : (proc : Proc) (s : MachineState) (halted : Bool) → (processor_of (with_halt proc s halted) proc).steps ≡ (processor_of s proc).steps
 halt_steps Nine s halted = refl

@@ -8,7 +8,7 @@ use Rattle.ds_dma.specs.declared.channels.Unit.{Unit as DmaUnit}
 use Rattle.ds_map.specs.Moves.{next_unit, unit_moved, unit_needs, unit_refusal}
 use Rattle.ds_runs.specs.Runs.{MachineStep, Makes, Stops}
 use Rattle.ds_machine.specs.States.{MachineState}
-use Rattle.ds_machine.specs.Steps.{processor_of, with_processor}
+use Rattle.ds_machine.specs.Steps.{map_of, processor_of, with_map, with_processor}
 
 -- The event of a DMA channel.
 
@@ -30,10 +30,10 @@ moved_by rank proc now (Some stop) s = Stops (stopped_at rank now stop) s
 
 -- unless it needs what isn't built: that is told before
 abbrev pub moved_unless : {O : Type 0} → ℕ → Proc → Tick → Option ℕ → DmaUnit → MachineState → MachineStep MachineState O LeftOut
-moved_unless rank proc now None unit s = moved_by rank proc now (unit_refusal proc now unit s.map) (record s { map = unit_moved proc now unit s.map })
+moved_unless rank proc now None unit s = moved_by rank proc now (unit_refusal proc now unit (map_of proc s)) (with_map proc s (unit_moved proc now unit (map_of proc s)))
 moved_unless rank proc now (Some value) unit s = Stops (record { kind = NotYet; tick = now; rank = rank; value = value }) s
 
 -- the event of the channel of a processor that is due, at its tick; a channel that isn't due has none
 abbrev pub channel_step : {O : Type 0} → ℕ → Proc → Option Tick → MachineState → MachineStep MachineState O LeftOut
 channel_step rank proc None s = Makes s []
-channel_step rank proc (Some now) s = moved_unless rank proc now (unit_needs proc s.map.io.wramcnt (next_unit s.map proc)) (next_unit s.map proc) s
+channel_step rank proc (Some now) s = let unit = next_unit s.io proc in moved_unless rank proc now (unit_needs proc s.io.wramcnt unit) unit s

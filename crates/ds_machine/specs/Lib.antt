@@ -1,7 +1,6 @@
 pub mod States
 pub mod Sides
 pub mod Steps
-pub mod Videos
 pub mod Channels
 pub mod Boots
 pub mod Booted

@@ -4,8 +4,7 @@ use Rattle.ds_base.specs.declared.processors.Proc.TheVariants.{Nine, Seven}
 use Rattle.ds_base.specs.declared.ticks.Tick.{Tick}
 use Rattle.ds_ports.specs.Dues.{io_dues}
 use Rattle.ds_runs.specs.Runs.{IsOver}
-use Rattle.ds_runs.specs.declared.actors.Actor.TheVariants.{Video}
-use Rattle.ds_machine.specs.Reference.{due_by, keys_due}
+use Rattle.ds_machine.specs.Reference.{keys_due}
 use Rattle.ds_machine.specs.States.{MachineState}
 use Rattle.ds_machine.specs.Steps.{is_blocked, line_of, wakes}
 use Rattle.ds_machine.specs.declared.next_events.NextEvent.{NextEvent}
@@ -14,7 +13,7 @@ use Rattle.ds_machine.specs.declared.next_events.NextEvent.{NextEvent}
 
 -- when each actor but the processors is due, by rank
 abbrev pub events_of : MachineState → List (Option Tick)
-events_of s = keys_due s.keys ∷ due_by Video s ∷ io_dues s.map.io
+events_of s = keys_due s.keys ∷ io_dues s.io
 
 -- no halted processor is to wake
 abbrev pub AreAsleep : MachineState → Type 0

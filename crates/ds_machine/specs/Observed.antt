@@ -17,14 +17,14 @@ use Rattle.ds_machine.specs.Steps.{is_blocked, line_of, nine_reach, processor_of
 
 -- a memory's bytes
 abbrev pub memory_of : MachineState → Memory → List ℕ
-memory_of s Main = s.map.main
-memory_of s Shared = s.map.shared
-memory_of s Own7 = s.map.own
+memory_of s Main = s.main
+memory_of s Shared = s.shared
+memory_of s Own7 = s.seven.wram
 memory_of s Itcm = s.nine.itcm
 memory_of s Dtcm = s.nine.dtcm
-memory_of s Palette = s.map.palette
-memory_of s Vram = s.map.io.vram.bytes
-memory_of s Oam = s.map.oam
+memory_of s Palette = s.palette
+memory_of s Vram = s.io.vram.bytes
+memory_of s Oam = s.oam
 
 -- a processor's 37 registers
 abbrev pub registers_of : MachineState → Proc → List ℕ

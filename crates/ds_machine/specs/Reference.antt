@@ -6,15 +6,15 @@ use Rattle.ds_base.specs.declared.ticks.Due.{Due}
 use Rattle.ds_base.specs.declared.ticks.Tick.{Tick}
 use Rattle.ds_base.specs.declared.processors.Proc.{Proc}
 use Rattle.ds_ports.specs.Dues.{IsIo, io_due}
-use Rattle.ds_ports.specs.Io.{division_done, keys_pressed, root_done, timer_overflows}
+use Rattle.ds_ports.specs.Io.{io_event, keys_pressed}
+use Rattle.ds_ports.specs.Videos.{makes_whole, video_due}
 use Rattle.ds_runs.specs.Actors.{actors, actor_of}
 use Rattle.ds_runs.specs.Runs.{TickMachine, MachineStep, Makes, Stops, IsLeast, due_at}
 use Rattle.ds_runs.specs.declared.actors.Actor as actor
-use Rattle.ds_runs.specs.declared.actors.Actor.TheVariants.{KeyScript, Video, Timer, Divider, SquareRoot, Geometry, Card, Dma, Processor}
+use Rattle.ds_runs.specs.declared.actors.Actor.TheVariants.{KeyScript, Video, Dma, Processor}
 use Rattle.ds_machine.specs.Channels.{channel_step, one_event}
 use Rattle.ds_machine.specs.States.{MachineState, ProcessorState, counts_of}
 use Rattle.ds_machine.specs.Steps.{is_blocked, processor_of, processor_step, tick_of, with_io, woken}
-use Rattle.ds_machine.specs.Videos.{video_due, video_after, makes_whole, triggered_by_video}
 use Rattle.ds_machine.specs.declared.answers.Done.{Done}
 use Rattle.ds_machine.specs.declared.answers.Done.TheVariants.{Made, Frame, Stopped}
 
@@ -27,7 +27,7 @@ pub record Shown : Type 0 where
 
 -- the frame that the display's next event makes whole
 abbrev pub next_shown : MachineState → Bool → Shown
-next_shown s swapped = record { tick = video_due s.video; swapped = swapped }
+next_shown s swapped = record { tick = video_due s.io.video; swapped = swapped }
 
 -- when a processor is due: never while it is blocked
 abbrev pub due_unless : Bool → ProcessorState → Option Tick
@@ -44,14 +44,8 @@ keys_due (line ∷ lines) = Some line.tick
 -- when an actor is due
 abbrev pub due_by : actor.Actor → MachineState → Option Tick
 due_by KeyScript s = keys_due s.keys
-due_by Video s = Some (record { 0 = video_due s.video })
-due_by (Timer proc number) s = io_due (Timer proc number) s.map.io
-due_by Divider s = io_due Divider s.map.io
-due_by SquareRoot s = io_due SquareRoot s.map.io
-due_by Geometry s = None
-due_by Card s = None
-due_by (Dma proc channel) s = io_due (Dma proc channel) s.map.io
 due_by (Processor proc) s = processor_due s proc
+due_by a s = io_due a s.io
 
 -- when each actor is due, by rank
 unfoldable pub dues_of : MachineState → List (Option Tick)
@@ -60,36 +54,22 @@ dues_of s = map (λ (a : actor.Actor). due_by a s) actors
 -- a line of the key script: from now on exactly its keys are pressed
 abbrev pub after_line : List KeyLine → MachineState → MachineState
 after_line [] s = s
-after_line (line ∷ lines) s = one_event (record (with_io s (keys_pressed s.map.io line.pressed)) { keys = lines })
+after_line (line ∷ lines) s = one_event (record (with_io s (keys_pressed s.io line.pressed)) { keys = lines })
 
--- the display's event, which so far counts and triggers DMA, and what it puts out
-abbrev pub after_video : MachineState → MachineState
-after_video s = one_event (record (with_io s (triggered_by_video s.video s.map.io)) { video = video_after s.video })
+-- the event of an actor behind the ports, and what it puts out: the start of line 192 makes a frame whole
+abbrev pub after_event : actor.Actor → MachineState → MachineState
+after_event a s = one_event (with_io s (io_event a s.io))
 
-abbrev pub shown_by_video : MachineState → List Shown
-shown_by_video s = if makes_whole s.video then next_shown s false ∷ [] else []
+abbrev pub shown_by : actor.Actor → MachineState → List Shown
+shown_by Video s = if makes_whole s.io.video then next_shown s false ∷ [] else []
+shown_by a s = []
 
--- the events of the units behind the ports
-abbrev pub after_timer : Proc → ℕ → MachineState → MachineState
-after_timer proc number s = one_event (with_io s (timer_overflows proc number s.map.io))
-
-abbrev pub after_division : MachineState → MachineState
-after_division s = one_event (with_io s (division_done s.map.io))
-
-abbrev pub after_root : MachineState → MachineState
-after_root s = one_event (with_io s (root_done s.map.io))
-
--- what an actor's step comes to; one that isn't built leaves all as it is
+-- what an actor's step comes to
 abbrev pub step_by : ℕ → actor.Actor → MachineState → MachineStep MachineState Shown LeftOut
 step_by rank KeyScript s = Makes (after_line s.keys s) []
-step_by rank Video s = Makes (after_video s) (shown_by_video s)
-step_by rank (Timer proc number) s = Makes (after_timer proc number s) []
-step_by rank Divider s = Makes (after_division s) []
-step_by rank SquareRoot s = Makes (after_root s) []
-step_by rank Geometry s = Makes s []
-step_by rank Card s = Makes s []
-step_by rank (Dma proc channel) s = channel_step rank proc (io_due (Dma proc channel) s.map.io) s
+step_by rank (Dma proc channel) s = channel_step rank proc (io_due (Dma proc channel) s.io) s
 step_by rank (Processor proc) s = processor_step rank proc s
+step_by rank a s = Makes (after_event a s) (shown_by a s)
 
 -- and after a step that is taken halted processors wake that are to
 abbrev pub awake : Option Tick → MachineStep MachineState Shown LeftOut → MachineStep MachineState Shown LeftOut
@@ -128,7 +108,7 @@ FastStep until old true new = (due : Due) × IsDue old due × (due.tick.0 < unti
 
 -- the states that come up: each unit's numbers are those that it can have, and the lines of the script that are to come rise
 pub record IsSound (s : MachineState) : Type 0 where
-  pub io : IsIo s.map.io
+  pub io : IsIo s.io
   pub keys : AreKeyLines s.keys
 
 -- Each step was taken at a place of its own in the order of steps, which has 24 places for each tick: so there were no more of them than places before

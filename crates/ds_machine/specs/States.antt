@@ -1,8 +1,8 @@
-use Rattle.std.specs.Prelude.{ℕ, ◌+◌, List, Bool}
+use Rattle.std.specs.Prelude.{ℕ, ◌+◌, List}
 use Rattle.arm_core.specs.Registers.{RegisterState}
 use Rattle.cp15_tcm.specs.Registers.{Cp15State}
 use Rattle.ds_base.specs.declared.keys.KeyLine.{KeyLine}
-use Rattle.ds_map.specs.Maps.{MapState}
+use Rattle.ds_ports.specs.Io.{IoState}
 
 -- The machine's state: one part for each unit, each processor's own part apart, so that an actor's step names the parts that it
 -- uses and leaves the others alone.
@@ -21,24 +21,22 @@ pub record NineState : Type 0 where
   pub itcm : List ℕ
   pub dtcm : List ℕ
 
--- ARM7's own part: the processor
+-- ARM7's own part: the processor, and its own work RAM
 pub record SevenState : Type 0 where
   pub processor : ProcessorState
+  pub wram : List ℕ
 
--- where the display is (GBATEK, "DS Video", LCD timings): how many whole frames came before, the line from 0 to 262, and whether
--- the line's H-blank event has been
-pub record VideoState : Type 0 where
-  pub frame : ℕ
-  pub line : ℕ
-  pub blanked : Bool
-
--- the whole machine; `map` is what both processors reach past ARM9's tightly coupled memories, `keys` the lines of the key script that are to
--- come, and `events` counts the steps of all actors but the processors
+-- the whole machine; main memory and shared work RAM, which both processors reach; palettes and OAM, which ARM9 and its DMA channels alone reach; the units
+-- behind the ports, among them video memory and the display; `keys` are the lines of the key script that are to come, and `events` counts the steps of
+-- all actors but the processors
 pub record MachineState : Type 0 where
   pub nine : NineState
   pub seven : SevenState
-  pub map : MapState
-  pub video : VideoState
+  pub main : List ℕ
+  pub shared : List ℕ
+  pub palette : List ℕ
+  pub oam : List ℕ
+  pub io : IoState
   pub keys : List KeyLine
   pub events : ℕ
 

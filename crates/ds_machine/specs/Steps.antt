@@ -8,6 +8,7 @@ use Rattle.arm_core.specs.Effects.{Outcome}
 use Rattle.arm_core.specs.declared.outcomes.Stepped as arm
 use Rattle.arm_core.specs.declared.outcomes.Stepped.TheVariants.{Cost, Halted, Left}
 use Rattle.ds_base.specs.declared.ticks.Tick.{Tick}
+use Rattle.ds_map.specs.Maps.{MapState, bytes_by}
 use Rattle.ds_map.specs.Views.{NineReach, SevenReach, nine_memory, seven_memory}
 use Rattle.ds_ports.specs.ProcessorIo.{blocks_processor}
 use Rattle.ds_ports.specs.Io.{IoState, io_of, with_halted}
@@ -30,37 +31,62 @@ with_processor Seven s p = record s { seven = record s.seven { processor = p } }
 abbrev pub tick_of : ProcessorState → Tick
 tick_of p = record { 0 = p.due }
 
+-- what a processor reaches of the machine past the tightly coupled memories: what the other alone reaches has no bytes there
+abbrev pub map_of : Proc → MachineState → MapState
+map_of proc s = record {
+  memories = record {
+    main = s.main;
+    shared = s.shared;
+    wram = bytes_by proc [] s.seven.wram;
+    palette = bytes_by proc s.palette [];
+    oam = bytes_by proc s.oam [];
+  };
+  io = s.io;
+}
+
+-- the machine with what a processor, or a DMA channel of it, left of that; what the other alone reaches is as it was
+abbrev pub with_map : Proc → MachineState → MapState → MachineState
+with_map proc s m = record s {
+  seven = record s.seven { wram = bytes_by proc s.seven.wram m.memories.wram };
+  main = m.memories.main;
+  shared = m.memories.shared;
+  palette = bytes_by proc m.memories.palette s.palette;
+  oam = bytes_by proc m.memories.oam s.oam;
+  io = m.io;
+}
+
 -- whether a processor is halted; whether it is blocked, so that it isn't due; and whether its interrupt line is up
 abbrev pub is_halted : MachineState → Proc → Bool
-is_halted s proc = (io_of s.map.io proc).halted
+is_halted s proc = (io_of s.io proc).halted
 
 abbrev pub is_blocked : MachineState → Proc → Bool
-is_blocked s proc = blocks_processor (io_of s.map.io proc)
+is_blocked s proc = blocks_processor (io_of s.io proc)
 
 abbrev pub line_of : MachineState → Proc → Bool
-line_of s proc = line_is_up (io_of s.map.io proc).irq
+line_of s proc = line_is_up (io_of s.io proc).irq
 
 -- what each processor reaches of the machine at a tick
 abbrev pub nine_reach : Tick → MachineState → NineReach
-nine_reach now s = record { map = s.map; cp15 = s.nine.cp15; itcm = s.nine.itcm; dtcm = s.nine.dtcm; now = now }
+nine_reach now s = record { map = map_of Nine s; cp15 = s.nine.cp15; itcm = s.nine.itcm; dtcm = s.nine.dtcm; now = now }
 
 abbrev pub seven_reach : Tick → MachineState → SevenReach
-seven_reach now s = record { map = s.map; now = now }
+seven_reach now s = record { map = map_of Seven s; now = now }
 
 -- the machine with what a step of ARM9's, or of ARM7's, left of registers and of what it reaches
 abbrev pub with_nine : MachineState → Outcome NineReach → MachineState
-with_nine s o = record s {
+with_nine s o = record (with_map Nine s o.state.map) {
   nine = record {
     processor = record s.nine.processor { registers = o.registers };
     cp15 = o.state.cp15;
     itcm = o.state.itcm;
     dtcm = o.state.dtcm;
   };
-  map = o.state.map;
 }
 
 abbrev pub with_seven : MachineState → Outcome SevenReach → MachineState
-with_seven s o = record s { seven = record s.seven { processor = record s.seven.processor { registers = o.registers } }; map = o.state.map }
+with_seven s o = record (with_map Seven s o.state.map) {
+  seven = record { processor = record s.seven.processor { registers = o.registers }; wram = o.state.map.memories.wram };
+}
 
 -- what a processor's step at a tick comes to, and the machine with what it left
 pub record StepOutcome : Type 0 where
@@ -75,11 +101,11 @@ outcome_of Seven now s =
 
 -- the machine with other units behind the ports
 abbrev pub with_io : MachineState → IoState → MachineState
-with_io s io = record s { map = record s.map { io = io } }
+with_io s io = record s { io = io }
 
 -- a processor is halted, or isn't
 abbrev pub with_halt : Proc → MachineState → Bool → MachineState
-with_halt proc s halted = with_io s (with_halted proc s.map.io halted)
+with_halt proc s halted = with_io s (with_halted proc s.io halted)
 
 -- a processor after a step that costs so many of its clocks; where it is halted now the cost isn't added
 abbrev pub went_on : Proc → ℕ → Bool → ProcessorState → ProcessorState
@@ -108,7 +134,7 @@ processor_step rank proc s = let o = outcome_of proc (tick_of (processor_of s pr
 -- ---- waking: where a halted processor's IE and IF share a bit after a step at a tick, it is due at the next tick, whatever IME is (our choice)
 
 abbrev pub wakes : MachineState → Proc → Bool
-wakes s proc = is_halted s proc && shares_bit (io_of s.map.io proc).irq
+wakes s proc = is_halted s proc && shares_bit (io_of s.io proc).irq
 
 abbrev pub goes_on : Proc → Tick → MachineState → MachineState
 goes_on proc tick s = with_processor proc (with_halt proc s false) (record (processor_of s proc) { due = tick.0 + 1 })

@@ -6,7 +6,6 @@ ghost use Rattle.ds_runs.specs.Order.{first_from};
 ghost use Rattle.ds_runs.specs.Runs.{due_at};
 ghost use Rattle.ds_machine.specs.NextEvents.{events_of};
 ghost use Rattle.ds_machine.specs.Reference.{dues_of, due_by, keys_due, processor_due, IsDue};
-ghost use Rattle.ds_machine.specs.Videos.{video_due};
 
 use crate::parts::Parts;
 use ds_base::{Due, Proc, Tick};
@@ -14,8 +13,6 @@ use ds_runs::{Actor, earlier, earlier_than, entry, later_than};
 
 /// The rank of the key script.
 const SCRIPT: u8 = 0;
-/// The rank of the display's events.
-const VIDEO: u8 = 1;
 /// The rank of ARM9's steps.
 const NINE: u8 = 22;
 /// The rank of ARM7's steps.
@@ -33,14 +30,6 @@ impl Parts {
         Some(Tick(self.processor(proc).due))
     }
 
-    /// When the display is due.
-    #[inline(always)]
-    fn video_due(&self) -> Tick
-        ensures { result.0 ≡ video_due self.now.video }
-    {
-        Tick(self.video.due())
-    }
-
     /// When the key script is due, if it is.
     #[inline(always)]
     fn script_due(&self) -> Option<Tick>
@@ -54,14 +43,7 @@ impl Parts {
     pub fn first_event(&self) -> Due
         ensures { Some result ≡ first_from 0 (events_of self.now) }
     {
-        let video = Due {
-            tick: self.video_due(),
-            rank: VIDEO,
-        };
-        later_than(
-            entry(SCRIPT, self.script_due()),
-            earlier_than(video, self.map.io().first_due()),
-        )
+        later_than(entry(SCRIPT, self.script_due()), self.io.first_due())
     }
 
     /// The actor that steps next.
@@ -92,12 +74,8 @@ impl Parts {
     {
         match actor {
             Actor::KeyScript => self.script_due(),
-            Actor::Video => Some(self.video_due()),
             Actor::Processor(proc) => self.processor_due(proc),
-            Actor::Geometry | Actor::Card => None,
-            Actor::Timer { .. } | Actor::Divider | Actor::SquareRoot | Actor::Dma { .. } => {
-                self.map.io().io_due(actor)
-            }
+            _ => self.io.io_due(actor),
         }
     }
 }

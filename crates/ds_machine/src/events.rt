@@ -1,18 +1,22 @@
 //! The events: the steps of all actors but the processors.
 
-ghost use Rattle.std.specs.Prelude.{◌≡◌, ◌<◌, ◌≤◌, ◌^◌, Some};
-ghost use Rattle.ds_machine.specs.Channels.{channel_step, delayed_past, moved_by, one_event};
-ghost use Rattle.ds_machine.specs.Reference.{after_division, after_line, after_root, after_timer, after_video, awake, due_by, step_by, stepped_of};
-ghost use Rattle.ds_machine.specs.Steps.{processor_of, with_io, woken};
-ghost use Rattle.ds_machine.specs.Videos.{makes_whole, triggered_by_video};
-ghost use Rattle.ds_machine.specs.declared.answers.Done.TheVariants.{Made};
+ghost use Rattle.std.specs.Prelude.{◌≡◌, ◌<◌, ◌≤◌, ◌^◌, IsSome, Some};
+ghost use Rattle.ds_dma.specs.States.{dma_due};
+ghost use Rattle.ds_map.specs.Moves.{unit_moved, unit_refusal};
+ghost use Rattle.ds_ports.specs.Dues.{io_due};
+ghost use Rattle.ds_ports.specs.Io.{io_of};
+ghost use Rattle.ds_runs.specs.Actors.{IsNumbered};
+ghost use Rattle.ds_machine.specs.Channels.{delayed_past, moved_by, one_event};
+ghost use Rattle.ds_machine.specs.Reference.{after_event, awake, due_by, step_by, stepped_of};
+ghost use Rattle.ds_machine.specs.Steps.{map_of, with_map, woken};
 ghost use Rattle.ds_runs.specs.declared.actors.Actor.TheVariants as actors;
 
 use crate::answers::Done;
 use crate::parts::Parts;
 use ds_base::{LeftKind, LeftOut, Proc, Stop, Tick};
-use ds_dma::{Cause, Unit};
+use ds_dma::Unit;
 use ds_map::unit_needs;
+use ds_runs::Actor;
 
 impl Parts {
     /// An event was taken at a tick: it counts, and halted processors wake that are to.
@@ -34,22 +38,21 @@ impl Parts {
     {
         let _ = rank;
         let line = self.script.take();
-        self.map.press(line.pressed);
+        self.io.press(line.pressed);
         self.end_event(tick);
         Done::Made
     }
 
-    /// The display's event triggers the DMA channels that wait for it.
-    fn trigger(&mut self, tick: Tick)
-        requires due { due_by actors.Video self.old ≡ Some tick }
+    /// The event of an actor behind the ports.
+    pub fn step_event(&mut self, actor: Actor, tick: Tick)
+        requires numbered { IsNumbered actor }
+        requires due { io_due actor self.old.io ≡ Some tick }
         requires early { tick.0 ≤ 2 ^ 56 }
-        ensures { self.new ≡ with_io self.old (triggered_by_video self.old.video self.old.map.io) }
+        requires counted { self.old.events ≤ 2 ^ 61 }
+        ensures { self.new ≡ woken tick (after_event actor self.old) }
     {
-        if self.video.makes_whole() {
-            self.map.trigger(Cause::VBlank, tick);
-        } else if self.video.blanks_drawn() {
-            self.map.trigger(Cause::HBlank, tick);
-        }
+        self.io.event(actor);
+        self.end_event(tick);
     }
 
     /// The display's event.
@@ -60,52 +63,11 @@ impl Parts {
         ensures { awake (Some tick) (step_by rank actors.Video self.old) ≡ stepped_of self.old result self.new }
     {
         let _ = rank;
-        self.trigger(tick);
-        let whole = self.video.event();
-        self.end_event(tick);
+        let whole = self.io.video().makes_whole();
+        self.step_event(Actor::Video, tick);
         if whole {
             return Done::Frame { swapped: false };
         }
-        Done::Made
-    }
-
-    /// A timer overflows.
-    pub fn step_timer(&mut self, rank: u8, proc: Proc, number: u8, tick: Tick) -> Done
-        requires number { number < 4 }
-        requires due { due_by (actors.Timer proc number) self.old ≡ Some tick }
-        requires early { tick.0 ≤ 2 ^ 56 }
-        requires counted { self.old.events ≤ 2 ^ 61 }
-        ensures { awake (Some tick) (step_by rank (actors.Timer proc number) self.old) ≡ stepped_of self.old result self.new }
-    {
-        let _ = rank;
-        self.map.overflow(proc, number);
-        self.end_event(tick);
-        Done::Made
-    }
-
-    /// A division is done.
-    pub fn step_divider(&mut self, rank: u8, tick: Tick) -> Done
-        requires due { due_by actors.Divider self.old ≡ Some tick }
-        requires early { tick.0 ≤ 2 ^ 56 }
-        requires counted { self.old.events ≤ 2 ^ 61 }
-        ensures { awake (Some tick) (step_by rank actors.Divider self.old) ≡ stepped_of self.old result self.new }
-    {
-        let _ = rank;
-        self.map.finish_division();
-        self.end_event(tick);
-        Done::Made
-    }
-
-    /// A square root is done.
-    pub fn step_root(&mut self, rank: u8, tick: Tick) -> Done
-        requires due { due_by actors.SquareRoot self.old ≡ Some tick }
-        requires early { tick.0 ≤ 2 ^ 56 }
-        requires counted { self.old.events ≤ 2 ^ 61 }
-        ensures { awake (Some tick) (step_by rank actors.SquareRoot self.old) ≡ stepped_of self.old result self.new }
-    {
-        let _ = rank;
-        self.map.finish_root();
-        self.end_event(tick);
         Done::Made
     }
 
@@ -141,6 +103,16 @@ impl Parts {
         }
     }
 
+    /// Moves a unit for the channel of a processor that is due.
+    fn move_unit(&mut self, proc: Proc, tick: Tick, unit: Unit) -> Option<Stop>
+        requires due { IsSome (dma_due (io_of self.old.io proc).dma) }
+        requires early { tick.0 ≤ 2 ^ 56 }
+        ensures stop { result ≡ unit_refusal proc tick unit (map_of proc self.old) }
+        ensures map { self.new ≡ with_map proc self.old (unit_moved proc tick unit (map_of proc self.old)) }
+    {
+        self.map.move_unit(&mut self.io, proc, tick, unit)
+    }
+
     /// A DMA channel's event.
     pub fn step_channel(&mut self, rank: u8, proc: Proc, channel: u8, tick: Tick) -> Done
         requires number { channel < 4 }
@@ -150,10 +122,10 @@ impl Parts {
         ensures { awake (Some tick) (step_by rank (actors.Dma proc channel) self.old) ≡ stepped_of self.old result self.new }
     {
         let _ = channel;
-        let unit = self.map.unit(proc);
-        match unit_needs(proc, self.map.wramcnt(), unit) {
+        let unit = self.io.processor(proc).unit();
+        match unit_needs(proc, self.io.wramcnt(), unit) {
             None => {
-                let stop = self.map.move_unit(proc, tick, unit);
+                let stop = self.move_unit(proc, tick, unit);
                 self.end_unit(rank, proc, tick, stop)
             }
             Some(value) => Done::Stopped(LeftOut {

@@ -1,4 +1,4 @@
-//! The console's machine: its memories, its processors, its display, and the step of each actor.
+//! The console's machine: its memories, its processors, the units behind its ports, and the step of each actor.
 //!
 //! A machine is seen as a `MachineState` (specs/States.antt): a record with a part for each unit, each processor's own part
 //! apart. `Machine::new` stands for the boot state, and `Machine::step` is exactly the reference step of the actor that steps.
@@ -18,7 +18,6 @@ mod scripts;
 mod sides;
 mod steps;
 mod turns;
-mod videos;
 
 pub use answers::{Done, Seen};
 pub use laws::{own_part_laws, own_step_laws, reference_laws, status_laws};

@@ -3,23 +3,22 @@
 ghost use Rattle.std.specs.Prelude.{◌≡◌, ◌<◌, slice_index, IfOk};
 ghost use Rattle.ds_base.specs.Memories.{memory_size};
 ghost use Rattle.ds_ipc.specs.Ipcs.{AreSides};
-ghost use Rattle.ds_machine.specs.Booted.{machine_booted};
+ghost use Rattle.ds_machine.specs.Booted.{machine_blank, machine_booted};
 ghost use Rattle.ds_machine.specs.Observed.{fetch_of, memory_of, seen_of};
 ghost use Rattle.ds_machine.specs.Processors.{state_of};
 ghost use Rattle.ds_machine.specs.Reference.{IsSound};
 ghost use Rattle.ds_machine.specs.Steps.{is_blocked, line_of, processor_of};
 
 use crate::answers::Seen;
-use crate::boots::map_at_boot;
 use crate::processors::Processor;
 use crate::scripts::Script;
-use crate::videos::Video;
 use arm_exec::enters;
 use cp15_tcm::Cp15;
 use decode_cache::Decoder;
 use ds_base::{DTCM_BYTES, ITCM_BYTES, Keys, Memory, Proc, Width};
 use ds_header::Cart;
 use ds_map::{Block, Map, fetched_by_nine};
+use ds_ports::Io;
 use std::alloc::{AllocError, Global};
 use std::marker::Model;
 
@@ -33,7 +32,7 @@ pub struct Nine {
     pub dtcm: Block<DTCM_BYTES>,
 }
 
-/// ARM7's own part.
+/// ARM7's own part, but for its own work RAM, which lies with the other memories.
 #[derive(Drop)]
 pub struct Seven {
     pub processor: Processor,
@@ -46,7 +45,7 @@ pub struct Parts {
     pub nine: Nine,
     pub seven: Seven,
     pub map: Map,
-    pub video: Video,
+    pub io: Io,
     pub script: Script,
     pub events: u64,
 }
@@ -66,9 +65,12 @@ impl Model for Parts {
         itcm = m.nine.itcm;
         dtcm = m.nine.dtcm;
       };
-      seven = record { processor = state_of m.seven.processor };
-      map = m.map;
-      video = m.video;
+      seven = record { processor = state_of m.seven.processor; wram = m.map.wram };
+      main = m.map.main;
+      shared = m.map.shared;
+      palette = m.map.palette;
+      oam = m.map.oam;
+      io = m.io;
       keys = m.script;
       events = m.events;
     } };
@@ -81,7 +83,17 @@ impl Parts {
     pub fn new(alloc: Global, cart: &Cart, keys: Keys) -> Result<Parts, AllocError>
         ensures { IfOk result (λ parts. parts ≡ machine_booted cart.now keys) }
     {
-        let map = map_at_boot(alloc, cart)?;
+        let mut parts = Parts::blank(alloc, cart, keys)?;
+        parts.copy_image(cart, Proc::Nine);
+        parts.copy_image(cart, Proc::Seven);
+        parts.copy_header(cart);
+        Ok(parts)
+    }
+
+    /// The parts before anything is copied.
+    fn blank(alloc: Global, cart: &Cart, keys: Keys) -> Result<Parts, AllocError>
+        ensures { IfOk result (λ parts. parts ≡ machine_blank cart.now keys) }
+    {
         Ok(Parts {
             nine: Nine {
                 processor: Processor::boot(Proc::Nine, cart),
@@ -94,8 +106,8 @@ impl Parts {
                 processor: Processor::boot(Proc::Seven, cart),
                 decoder: Decoder::new(alloc)?,
             },
-            map,
-            video: Video::new(),
+            map: Map::new(alloc)?,
+            io: Io::new(alloc)?,
             script: Script::new(keys),
             events: 0,
         })
@@ -117,7 +129,7 @@ impl Parts {
     pub fn is_blocked(&self, proc: Proc) -> bool
         ensures { result ≡ is_blocked self.now proc }
     {
-        self.map.io().is_blocked(proc)
+        self.io.processor(proc).is_blocked()
     }
 
     /// Whether a processor's interrupt line is up.
@@ -125,14 +137,14 @@ impl Parts {
     pub fn line(&self, proc: Proc) -> bool
         ensures { result ≡ line_of self.now proc }
     {
-        self.map.line(proc)
+        self.io.processor(proc).line()
     }
 
     /// Does nothing; its contract states what holds of every machine.
     pub fn laws(&self)
         ensures { IsSound self.now }
     {
-        self.map.io().laws();
+        self.io.laws();
         self.script.laws();
     }
 
@@ -150,9 +162,11 @@ impl Parts {
         match proc {
             Proc::Nine => {
                 let nine = &self.nine;
-                fetched_by_nine(&nine.cp15, &self.map, &nine.itcm, &nine.dtcm, at, width)
+                fetched_by_nine(
+                    &nine.cp15, &self.map, &self.io, &nine.itcm, &nine.dtcm, at, width,
+                )
             }
-            Proc::Seven => self.map.fetch(proc, at, width),
+            Proc::Seven => self.map.fetch(&self.io, Proc::Seven, at, width),
         }
     }
 
@@ -185,12 +199,10 @@ impl Parts {
         match memory {
             Memory::Itcm => self.nine.itcm.bytes(),
             Memory::Dtcm => self.nine.dtcm.bytes(),
-            Memory::Main
-            | Memory::Shared
-            | Memory::Own7
-            | Memory::Palette
-            | Memory::Vram
-            | Memory::Oam => self.map.bytes(memory),
+            Memory::Main | Memory::Shared | Memory::Own7 | Memory::Palette | Memory::Oam => self
+                .map
+                .bytes(memory),
+            Memory::Vram => self.io.vram().bytes(),
         }
     }
 
@@ -202,12 +214,10 @@ impl Parts {
         match memory {
             Memory::Itcm => self.nine.itcm.byte(at as usize),
             Memory::Dtcm => self.nine.dtcm.byte(at as usize),
-            Memory::Main
-            | Memory::Shared
-            | Memory::Own7
-            | Memory::Palette
-            | Memory::Vram
-            | Memory::Oam => self.map.byte_of(memory, at),
+            Memory::Main | Memory::Shared | Memory::Own7 | Memory::Palette | Memory::Oam => self
+                .map
+                .byte_of(memory, at),
+            Memory::Vram => self.io.vram().byte_of(at),
         }
     }
 }

@@ -97,13 +97,15 @@ pub trait Side {
 }
 
 impl Side for NineView<'_> {
-    ghost use Rattle.std.specs.Prelude.{◌∷◌, []};
+    ghost use Rattle.std.specs.Prelude.{◌∷◌};
+    ghost use Rattle.ds_base.specs.declared.processors.Proc.TheVariants.{Nine};
+    ghost use Rattle.ds_map.specs.Maps.{map_seen, unreached};
     ghost use Rattle.ds_map.specs.Views.{NineReach, nine_memory};
     ghost use Rattle.ds_machine.specs.Sides.{nine_side};
 
     ghost State = { NineReach };
 
-    ghost state = { λ v. record { map = v.map.now; cp15 = v.cp.now; itcm = v.itcm.now; dtcm = v.dtcm.now; now = v.now } };
+    ghost state = { λ v. record { map = map_seen Nine v.map.now v.io.now; cp15 = v.cp.now; itcm = v.itcm.now; dtcm = v.dtcm.now; now = v.now } };
 
     ghost memory = { nine_memory };
 
@@ -111,7 +113,7 @@ impl Side for NineView<'_> {
 
     ghost io = { λ r. r.map.io };
 
-    ghost identity = { λ v. v.map.ghost_name ∷ v.cp.ghost_name ∷ v.itcm.ghost_name ∷ v.dtcm.ghost_name ∷ [] };
+    ghost identity = { λ v. v.map.ghost_name ∷ v.io.ghost_name ∷ v.cp.ghost_name ∷ v.itcm.ghost_name ∷ v.dtcm.ghost_name ∷ unreached Nine v.map.now };
 
     #[inline(always)]
     fn arch(&self) -> Arch {
@@ -120,7 +122,7 @@ impl Side for NineView<'_> {
 
     #[inline(always)]
     fn fetched(&self, at: u32, width: Width) -> u32 {
-        fetched_by_nine(self.cp, self.map, self.itcm, self.dtcm, at, width)
+        fetched_by_nine(self.cp, self.map, self.io, self.itcm, self.dtcm, at, width)
     }
 
     #[inline(always)]
@@ -130,7 +132,7 @@ impl Side for NineView<'_> {
 
     #[inline(always)]
     fn unbuilt(&self, touch: Touch) -> Option<u32> {
-        unbuilt_nine(self.cp, self.map.wramcnt(), touch)
+        unbuilt_nine(self.cp, self.io.wramcnt(), touch)
     }
 
     #[inline(always)]
@@ -169,13 +171,15 @@ impl Side for NineView<'_> {
 }
 
 impl Side for SevenView<'_> {
-    ghost use Rattle.std.specs.Prelude.{◌∷◌, []};
+    ghost use Rattle.std.specs.Prelude.{◌∷◌};
+    ghost use Rattle.ds_base.specs.declared.processors.Proc.TheVariants.{Seven};
+    ghost use Rattle.ds_map.specs.Maps.{map_seen, unreached};
     ghost use Rattle.ds_map.specs.Views.{SevenReach, seven_memory};
     ghost use Rattle.ds_machine.specs.Sides.{seven_side};
 
     ghost State = { SevenReach };
 
-    ghost state = { λ v. record { map = v.map.now; now = v.now } };
+    ghost state = { λ v. record { map = map_seen Seven v.map.now v.io.now; now = v.now } };
 
     ghost memory = { seven_memory };
 
@@ -183,7 +187,7 @@ impl Side for SevenView<'_> {
 
     ghost io = { λ r. r.map.io };
 
-    ghost identity = { λ v. v.map.ghost_name ∷ [] };
+    ghost identity = { λ v. v.map.ghost_name ∷ v.io.ghost_name ∷ unreached Seven v.map.now };
 
     #[inline(always)]
     fn arch(&self) -> Arch {
@@ -192,7 +196,7 @@ impl Side for SevenView<'_> {
 
     #[inline(always)]
     fn fetched(&self, at: u32, width: Width) -> u32 {
-        self.map.fetch(Proc::Seven, at, width)
+        self.map.fetch(self.io, Proc::Seven, at, width)
     }
 
     #[inline(always)]
@@ -202,7 +206,7 @@ impl Side for SevenView<'_> {
 
     #[inline(always)]
     fn unbuilt(&self, touch: Touch) -> Option<u32> {
-        unbuilt_seven(self.map.wramcnt(), touch)
+        unbuilt_seven(self.io.wramcnt(), touch)
     }
 
     #[inline(always)]

@@ -44,11 +44,11 @@ impl Parts {
             Actor::Processor(proc) => self.step_processor(rank, proc, tick),
             Actor::KeyScript => self.step_script(rank, tick),
             Actor::Video => self.step_video(rank, tick),
-            Actor::Timer { proc, number } => self.step_timer(rank, proc, number, tick),
-            Actor::Divider => self.step_divider(rank, tick),
-            Actor::SquareRoot => self.step_root(rank, tick),
             Actor::Dma { proc, channel } => self.step_channel(rank, proc, channel, tick),
-            Actor::Geometry | Actor::Card => Done::Made,
+            _ => {
+                self.step_event(actor, tick);
+                Done::Made
+            }
         }
     }
 
@@ -77,6 +77,7 @@ impl Parts {
             Proc::Nine => {
                 let mut view = NineView {
                     map: &mut self.map,
+                    io: &mut self.io,
                     itcm: &mut self.nine.itcm,
                     dtcm: &mut self.nine.dtcm,
                     cp: &mut self.nine.cp15,
@@ -92,6 +93,7 @@ impl Parts {
             Proc::Seven => {
                 let mut view = SevenView {
                     map: &mut self.map,
+                    io: &mut self.io,
                     now,
                 };
                 take(
@@ -112,12 +114,13 @@ impl Parts {
         ensures none { result ≡ 0 → self.new ≡ self.old }
         ensures machine { 0 < result → self.new ≡ (outcome_of proc now self.old).machine }
         ensures stepped { 0 < result → (outcome_of proc now self.old).stepped ≡ Cost result }
-        ensures io { self.new.map.io ≡ self.old.map.io }
+        ensures io { self.new.io ≡ self.old.io }
     {
         match proc {
             Proc::Nine => {
                 let mut view = NineView {
                     map: &mut self.map,
+                    io: &mut self.io,
                     itcm: &mut self.nine.itcm,
                     dtcm: &mut self.nine.dtcm,
                     cp: &mut self.nine.cp15,
@@ -133,6 +136,7 @@ impl Parts {
             Proc::Seven => {
                 let mut view = SevenView {
                     map: &mut self.map,
+                    io: &mut self.io,
                     now,
                 };
                 take_fast(
@@ -168,12 +172,12 @@ impl Parts {
     {
         match stepped {
             Stepped::Cost(clocks) => {
-                let halted = self.map.io().is_halted(proc);
+                let halted = self.io.processor(proc).is_halted();
                 self.go_on(proc, clocks, halted);
                 None
             }
             Stepped::Halted(clocks) => {
-                self.map.set_halted(proc, true);
+                self.io.set_halted(proc, true);
                 self.go_on(proc, clocks, true);
                 None
             }
@@ -218,7 +222,7 @@ impl Parts {
     pub fn wakes(&self, proc: Proc) -> bool
         ensures { result ≡ wakes self.now proc }
     {
-        self.map.io().is_halted(proc) && self.map.io().wakes(proc)
+        self.io.processor(proc).is_halted() && self.io.processor(proc).wakes()
     }
 
     /// A processor that is halted wakes, where its IE and IF share a bit.
@@ -237,7 +241,7 @@ impl Parts {
         requires { tick.0 ≤ 2 ^ 56 }
         ensures { self.new ≡ goes_on proc tick self.old }
     {
-        self.map.set_halted(proc, false);
+        self.io.set_halted(proc, false);
         match proc {
             Proc::Nine => self.nine.processor.due = tick.0 + 1,
             Proc::Seven => self.seven.processor.due = tick.0 + 1,

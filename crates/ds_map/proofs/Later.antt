@@ -1,9 +1,8 @@
-use Rattle.std.proofs.Common.{ℕ, ◌≡◌, Bool, true, false, if◌then◌else◌, List, Option, Some, None, refl, sym, subst}
+use Rattle.std.proofs.Common.{ℕ, Bool, true, false, if◌then◌else◌, Option, Some, None}
 use Rattle.std.specs.Prelude.{◌&&◌}
-use Rattle.ds_base.specs.Numbers.{aligned_down, with_number}
+use Rattle.ds_base.specs.Numbers.{aligned_down}
 use Rattle.ds_base.specs.declared.left_out.Stop.{Stop}
-use Rattle.ds_base.specs.declared.memories.Memory.{Memory}
-use Rattle.ds_base.specs.declared.memories.Memory.TheVariants.{Main, Shared, Own7, Itcm, Dtcm, Palette, Vram, Oam}
+use Rattle.ds_base.specs.declared.memories.Memory.TheVariants.{Vram}
 use Rattle.ds_base.specs.declared.memories.Width.{Width}
 use Rattle.ds_base.specs.declared.processors.Proc.{Proc}
 use Rattle.ds_base.specs.declared.ticks.Tick.{Tick}
@@ -11,12 +10,12 @@ use Rattle.ds_places.specs.AddressTables.{place_of}
 use Rattle.ds_places.specs.declared.kinds.Place.{Place}
 use Rattle.ds_places.specs.declared.kinds.Place.TheVariants as place
 use Rattle.ds_ports.specs.Dues.{Goes, IsProcessorIo, IsQuiet}
-use Rattle.ds_ports.specs.Ports.{port_refusal}
+use Rattle.ds_ports.specs.Ports.{port_refusal, port_written, unless_stopped}
 use Rattle.ds_ports.specs.Io.{IoState, io_of}
 use Rattle.ds_ports.proofs.Later.{AreUnchanged, all_unchanged, goes_nowhere, unchanged_goes, port_unchanged, write_goes}
 use Rattle.vram_banks.specs.Cells.{Banks, vram_written}
-use Rattle.ds_map.specs.Accesses.{is_byte_of_nine, after_read_at, map_read, map_written, port_put, written_at, takes_no_bytes}
-use Rattle.ds_map.specs.Maps.{MapState, cells_of, with_cells}
+use Rattle.ds_map.specs.Accesses.{is_byte_of_nine, after_read_at, map_read, map_written, written_at, takes_no_bytes}
+use Rattle.ds_map.specs.Maps.{MapState}
 
 -- What accesses past the tightly coupled memories at a tick make of the units behind the ports.
 
@@ -39,17 +38,7 @@ map_read_unchanged proc m at width = place_unchanged proc (place_of proc m.io.wr
 module _ (proc : Proc) (now : Tick) where
   -- other bytes in video memory
   banks_go : (u : IoState) (vram : Banks) → Goes proc now u u → Goes proc now u (record u { vram = vram })
-  banks_go u vram g = record { is = g.is; quiet = g.quiet; each = g.each; other = g.other }
-
-  cells_stay : (m : MapState) (memory : Memory) (bytes : List ℕ) → (with_cells memory m bytes).io ≡ m.io
-  cells_stay m Main bytes = refl
-  cells_stay m Shared bytes = refl
-  cells_stay m Own7 bytes = refl
-  cells_stay m Itcm bytes = refl
-  cells_stay m Dtcm bytes = refl
-  cells_stay m Palette bytes = refl
-  cells_stay m Vram bytes = refl
-  cells_stay m Oam bytes = refl
+  banks_go u vram g = record { is = g.is; quiet = g.quiet; each = g.each; other = g.other; video = g.video }
 
   either : (b : Bool) (u : IoState) (one other : MapState) → Goes proc now u one.io → Goes proc now u other.io → Goes proc now u (if b then one else other).io
   either true u one other h k = h
@@ -59,19 +48,18 @@ module _ (proc : Proc) (now : Tick) where
     stays : Goes proc now m.io m.io
     stays = goes_nowhere proc now m.io is quiet
 
-    put_goes : (refusal : Option Stop) (at : ℕ) (width : Width) (value : ℕ) → Goes proc now m.io (port_put proc now refusal m at width value).io
-    put_goes None at width value = write_goes proc now m.io at width value is quiet
-    put_goes (Some stop) at width value = stays
+    put_goes : (refusal : Option Stop) (written : IoState) → Goes proc now m.io written → Goes proc now m.io (unless_stopped refusal m.io written)
+    put_goes None written g = g
+    put_goes (Some stop) written g = stays
 
     place_goes : (where_ : Place) (width : Width) (value : ℕ) → Goes proc now m.io (written_at proc now where_ m width value).io
-    place_goes (place.Cell memory at) width value =
-        let bytes = with_number width (cells_of m memory) (aligned_down width at) value in
-        either (is_byte_of_nine proc width && takes_no_bytes memory) m.io m (with_cells memory m bytes) stays
-        (subst (Goes proc now m.io) (sym (cells_stay m memory bytes)) stays)
+    place_goes (place.Cell memory at) width value = stays
     place_goes (place.Banks space at) width value =
         let vram = vram_written m.io.vram space at width value in
         either (is_byte_of_nine proc width && takes_no_bytes Vram) m.io m (record m { io = record m.io { vram = vram } }) stays (banks_go m.io vram stays)
-    place_goes (place.Port at) width value = put_goes (port_refusal proc m.io (aligned_down width at) width value) (aligned_down width at) width value
+    place_goes (place.Port at) width value =
+        let down = aligned_down width at in
+        put_goes (port_refusal proc m.io down width value) (port_written proc now m.io down width value) (write_goes proc now m.io down width value is quiet)
     place_goes (place.Rom at) width value = stays
     place_goes place.Nothing width value = stays
 

@@ -1,4 +1,5 @@
 pub mod Mains
+pub mod Reached
 pub mod Later
 pub mod TakenBack
 pub mod Built

@@ -11,9 +11,9 @@ use Rattle.ds_places.specs.AddressTables.{place_of}
 use Rattle.ds_places.specs.declared.kinds.Place.{Place}
 use Rattle.ds_places.specs.declared.kinds.Place.TheVariants as place
 use Rattle.ds_ports.specs.ProcessorIo.{before_move}
-use Rattle.ds_ports.specs.Ports.{port_refusal}
+use Rattle.ds_ports.specs.Ports.{port_refusal, port_written, unless_stopped}
 use Rattle.ds_ports.specs.Io.{IoState, channel_moved, channel_put_back, io_of}
-use Rattle.ds_map.specs.Accesses.{map_read, map_refusal, map_value, map_written, port_put, written_at, refusal_at}
+use Rattle.ds_map.specs.Accesses.{map_read, map_refusal, map_value, map_written, written_at, refusal_at}
 use Rattle.ds_map.specs.Maps.{MapState}
 use Rattle.ds_map.specs.Moves.{after_unit, unit_read, unit_refusal, unit_taken}
 use Rattle.ds_map.proofs.Later.{map_read_unchanged}
@@ -24,16 +24,18 @@ pub still_due : (proc : Proc) (m : MapState) (at : ℕ) (width : Width) → IsSo
 still_due proc m at width h = subst (λ (d : DmaState). IsSome (dma_due d)) (sym ((map_read_unchanged proc m at width).processor_io proc).dma) h
 
 -- a write that is refused leaves all
-stop_leaves : (proc : Proc) (now : Tick) (refused : Option Stop) (m : MapState) (at : ℕ) (width : Width) (value : ℕ) → IsSome refused → port_put proc now refused m at width value ≡ m
-stop_leaves proc now None m at width value h = absurd (true≢false (sym h))
-stop_leaves proc now (Some stop) m at width value h = refl
+stop_leaves : (refused : Option Stop) (u written : IoState) → IsSome refused → unless_stopped refused u written ≡ u
+stop_leaves None u written h = absurd (true≢false (sym h))
+stop_leaves (Some stop) u written h = refl
 
 place_refuses : (proc : Proc) (now : Tick) (where_ : Place) (m : MapState) (width : Width) (value : ℕ) → IsSome (refusal_at proc where_ m width value)
     → written_at proc now where_ m width value ≡ m
 place_refuses proc now (place.Cell memory at) m width value h = absurd (true≢false (sym h))
 place_refuses proc now (place.Banks space at) m width value h = absurd (true≢false (sym h))
 place_refuses proc now (place.Port at) m width value h =
-    stop_leaves proc now (port_refusal proc m.io (aligned_down width at) width value) m (aligned_down width at) width value h
+    let down = aligned_down width at in
+    ap (λ (u : IoState). (let left : MapState = record m { io = u } in left))
+    (stop_leaves (port_refusal proc m.io down width value) m.io (port_written proc now m.io down width value) h)
 place_refuses proc now (place.Rom at) m width value h = absurd (true≢false (sym h))
 place_refuses proc now place.Nothing m width value h = absurd (true≢false (sym h))
 

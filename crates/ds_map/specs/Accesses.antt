@@ -1,4 +1,4 @@
-use Rattle.std.specs.Prelude.{ℕ, ◌-◌, ◌%◌, ◌&&◌, Bool, true, false, if◌then◌else◌, Option, Some, None}
+use Rattle.std.specs.Prelude.{ℕ, ◌-◌, ◌%◌, ◌&&◌, Bool, true, false, if◌then◌else◌, Option, None}
 use Rattle.ds_base.specs.Numbers.{aligned_down, number_at, with_number}
 use Rattle.ds_base.specs.declared.memories.Memory.{Memory}
 use Rattle.ds_base.specs.declared.memories.Memory.TheVariants.{Main, Shared, Own7, Itcm, Dtcm, Palette, Vram, Oam}
@@ -12,9 +12,9 @@ use Rattle.ds_places.specs.AddressTables.{place_of}
 use Rattle.ds_places.specs.declared.kinds.Place.{Place}
 use Rattle.ds_places.specs.declared.kinds.Place.TheVariants.{Cell, Banks, Port, Rom, Nothing}
 use Rattle.ds_places.specs.BootRom.{boot_word}
-use Rattle.ds_ports.specs.Ports.{part, port_read, port_refusal, port_value, port_written}
+use Rattle.ds_ports.specs.Ports.{part, port_read, port_refusal, port_value, port_written, unless_stopped}
 use Rattle.vram_banks.specs.Cells.{vram_value, vram_written}
-use Rattle.ds_map.specs.Maps.{MapState, cells_of, with_cells}
+use Rattle.ds_map.specs.Maps.{MapState, MemoriesState, cells_of, with_cells}
 
 -- What accesses past the tightly coupled memories read and write. They are aligned down to their width (ARM manual, A2.8 "Unaligned
 -- access support").
@@ -25,7 +25,7 @@ rom_value proc at width = part width (at % 4) (boot_word proc (at - at % 4))
 
 -- what is read at a place, at a tick, and what the read leaves
 abbrev pub value_at : Proc → Tick → Place → MapState → Width → ℕ
-value_at proc now (Cell memory at) m width = number_at width (cells_of m memory) (aligned_down width at)
+value_at proc now (Cell memory at) m width = number_at width (cells_of m.memories memory) (aligned_down width at)
 value_at proc now (Banks space at) m width = vram_value m.io.vram space at width
 value_at proc now (Port at) m width = port_value proc now m.io (aligned_down width at) width
 value_at proc now (Rom at) m width = rom_value proc (aligned_down width at) width
@@ -40,7 +40,7 @@ after_read_at proc Nothing m width = m
 
 -- what is fetched at a place: from a port 0 (our choice)
 abbrev pub fetched_at : Proc → Place → MapState → Width → ℕ
-fetched_at proc (Cell memory at) m width = number_at width (cells_of m memory) (aligned_down width at)
+fetched_at proc (Cell memory at) m width = number_at width (cells_of m.memories memory) (aligned_down width at)
 fetched_at proc (Banks space at) m width = vram_value m.io.vram space at width
 fetched_at proc (Port at) m width = 0
 fetched_at proc (Rom at) m width = rom_value proc (aligned_down width at) width
@@ -72,21 +72,20 @@ refusal_at proc (Port at) m width value = port_refusal proc m.io (aligned_down w
 refusal_at proc (Rom at) m width value = None
 refusal_at proc Nothing m width value = None
 
--- what a write of a port leaves: one that is refused leaves all
-abbrev pub port_put : Proc → Tick → Option Stop → MapState → ℕ → Width → ℕ → MapState
-port_put proc now None m at width value = record m { io = port_written proc now m.io at width value }
-port_put proc now (Some stop) m at width value = m
-
--- what a write leaves
-abbrev pub written_at : Proc → Tick → Place → MapState → Width → ℕ → MapState
-written_at proc now (Cell memory at) m width value =
+-- what a write of a memory's cell leaves
+abbrev pub cell_put : Proc → Memory → MemoriesState → ℕ → Width → ℕ → MemoriesState
+cell_put proc memory m at width value =
     if is_byte_of_nine proc width && takes_no_bytes memory then m
     else with_cells memory m (with_number width (cells_of m memory) (aligned_down width at) value)
+
+-- what a write leaves: one of a port that is refused leaves all
+abbrev pub written_at : Proc → Tick → Place → MapState → Width → ℕ → MapState
+written_at proc now (Cell memory at) m width value = record m { memories = cell_put proc memory m.memories at width value }
 written_at proc now (Banks space at) m width value =
     if is_byte_of_nine proc width && takes_no_bytes Vram then m
     else record m { io = record m.io { vram = vram_written m.io.vram space at width value } }
 written_at proc now (Port at) m width value =
-    port_put proc now (port_refusal proc m.io (aligned_down width at) width value) m (aligned_down width at) width value
+    record m { io = unless_stopped (port_refusal proc m.io (aligned_down width at) width value) m.io (port_written proc now m.io (aligned_down width at) width value) }
 written_at proc now (Rom at) m width value = m
 written_at proc now Nothing m width value = m
 

@@ -10,14 +10,14 @@ use Rattle.ds_dma.specs.declared.channels.Unit.{Unit as DmaUnit}
 use Rattle.ds_map.specs.Accesses.{map_read, map_refusal, map_value, map_written}
 use Rattle.ds_map.specs.Builds.{map_is_built}
 use Rattle.ds_map.specs.Maps.{MapState}
-use Rattle.ds_ports.specs.Io.{channel_moved, io_of}
+use Rattle.ds_ports.specs.Io.{IoState, channel_moved, io_of}
 
 -- How a DMA channel moves a unit (GBATEK, "DS DMA Transfers"; the order is our choice): it reads it, takes it from its plan with all that taking the last
 -- one brings, and then writes it. Where the write is refused all is as it was after the read: the unit is still in the plan.
 
 -- the unit that the channel of a processor that is due moves
-abbrev pub next_unit : MapState → Proc → DmaUnit
-next_unit m proc = unit_of (due_channel (io_of m.io proc).dma) 0
+abbrev pub next_unit : IoState → Proc → DmaUnit
+next_unit u proc = unit_of (due_channel (io_of u proc).dma) 0
 
 -- the address of the first byte of it whose place isn't built, of what is read and then of what is written
 abbrev pub accesses_of_unit : DmaUnit → List Access

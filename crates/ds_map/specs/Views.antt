@@ -4,7 +4,6 @@ use Rattle.ds_base.specs.Numbers.{aligned_down, number_at, with_number}
 use Rattle.ds_base.specs.declared.memories.Width.{Width}
 use Rattle.ds_base.specs.declared.left_out.Stop.{Stop}
 use Rattle.ds_base.specs.declared.ticks.Tick.{Tick}
-use Rattle.ds_base.specs.declared.processors.Proc.{Proc}
 use Rattle.ds_base.specs.declared.processors.Proc.TheVariants.{Nine, Seven}
 use Rattle.cp15_tcm.specs.Registers.{Cp15State}
 use Rattle.cp15_tcm.specs.TightlyCoupled.{tcm_of}

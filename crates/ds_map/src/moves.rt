@@ -6,15 +6,15 @@ ghost use Rattle.ds_base.specs.Numbers.{aligned_down, width_bytes};
 ghost use Rattle.ds_base.specs.Schedules.{IsEarly};
 ghost use Rattle.ds_dma.specs.States.{dma_due};
 ghost use Rattle.ds_map.specs.Builds.{map_is_built};
-ghost use Rattle.ds_map.specs.Moves.{next_unit, unit_moved, unit_needs, unit_read, unit_refusal};
-ghost use Rattle.ds_ports.specs.ProcessorIo.{before_move};
-ghost use Rattle.ds_ports.specs.Io.{channel_moved, channel_put_back, io_of};
+ghost use Rattle.ds_map.specs.Moves.{unit_moved, unit_needs, unit_refusal};
+ghost use Rattle.ds_map.specs.Maps.{map_seen, unreached};
+ghost use Rattle.ds_ports.specs.Io.{io_of};
 
 use crate::builds::map_is_built;
 use crate::maps::Map;
 use ds_base::{Proc, Stop, Tick, Width};
 use ds_dma::Unit;
-use ds_ports::Before;
+use ds_ports::Io;
 
 /// A byte whose place isn't built.
 fn byte_needs(proc: Proc, wramcnt: u8, at: u32) -> Option<u32>
@@ -76,45 +76,20 @@ pub fn unit_needs(proc: Proc, wramcnt: u8, unit: Unit) -> Option<u32>
 }
 
 impl Map {
-    /// The unit that the channel of a processor that is due moves.
-    pub fn unit(&self, proc: Proc) -> Unit
-        requires { IsSome (dma_due (io_of self.now.io proc).dma) }
-        ensures { result ≡ next_unit self.now proc }
-    {
-        self.io.unit(proc)
-    }
-
-    /// The channel of a processor that is due moves its first unit, but for the access itself. Gives what takes this back.
-    fn take_unit(&mut self, proc: Proc, now: Tick) -> Before
-        requires due { IsSome (dma_due (io_of self.old.io proc).dma) }
-        requires early { IsEarly (Some now) }
-        ensures state { self.new ≡ record self.old { io = channel_moved proc now self.old.io } }
-        ensures before { result ≡ before_move (io_of self.old.io proc) }
-    {
-        self.io.move_channel(proc, now)
-    }
-
-    /// Takes that back.
-    fn put_back(&mut self, proc: Proc, before: Before)
-        ensures { self.new ≡ record self.old { io = channel_put_back proc before self.old.io } }
-    {
-        self.io.put_back(proc, before);
-    }
-
     /// Moves a unit for the channel of a processor that is due, at a tick: reads it, takes it from the channel's plan, and writes it. Where the write is
-    /// refused, the unit is still in the plan.
-    #[tactic(auto, using(crate::proofs::TakenBack::still_due, crate::proofs::TakenBack::put_back_is))]
-    pub fn move_unit(&mut self, proc: Proc, now: Tick, unit: Unit) -> Option<Stop>
-        requires due { IsSome (dma_due (io_of self.old.io proc).dma) }
+    /// refused, the unit is still in the plan. What the processor doesn't reach stays.
+    pub fn move_unit(&mut self, io: &mut Io, proc: Proc, now: Tick, unit: Unit) -> Option<Stop>
+        requires due { IsSome (dma_due (io_of io.old proc).dma) }
         requires early { IsEarly (Some now) }
-        ensures stop { result ≡ unit_refusal proc now unit self.old }
-        ensures map { self.new ≡ unit_moved proc now unit self.old }
+        ensures stop { result ≡ unit_refusal proc now unit (map_seen proc self.old io.old) }
+        ensures map { map_seen proc self.new io.new ≡ unit_moved proc now unit (map_seen proc self.old io.old) }
+        ensures apart { unreached proc self.new ≡ unreached proc self.old }
     {
-        let value = self.read(proc, now, unit.from, unit.width);
-        let before = self.take_unit(proc, now);
-        let stop = self.write(proc, now, unit.to, unit.width, value);
+        let value = self.read(io, proc, now, unit.from, unit.width);
+        let before = io.move_channel(proc, now);
+        let stop = self.write(io, proc, now, unit.to, unit.width, value);
         if stop.is_some() {
-            self.put_back(proc, before);
+            io.put_back(proc, before);
         }
         stop
     }

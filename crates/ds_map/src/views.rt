@@ -3,6 +3,8 @@
 ghost use Rattle.std.specs.Prelude.{◌≡◌, Some};
 ghost use Rattle.ds_base.specs.Schedules.{IsEarly};
 ghost use Rattle.ds_base.specs.declared.ticks.Tick.{Tick};
+ghost use Rattle.ds_base.specs.declared.processors.Proc.TheVariants.{Nine};
+ghost use Rattle.ds_map.specs.Maps.{map_seen};
 ghost use Rattle.ds_map.specs.Views.{nine_memory};
 
 use crate::blocks::Block;
@@ -10,42 +12,48 @@ use crate::maps::Map;
 use arm_core::Bus;
 use cp15_tcm::{Cp15, Tcm};
 use ds_base::{DTCM_BYTES, ITCM_BYTES, Proc, Stop, Tick, Width};
+use ds_ports::Io;
 
-/// What ARM7 reaches: the map, at the tick of its step.
+/// What ARM7 reaches: the memories and the units behind the ports, at the tick of its step.
 #[derive(Drop)]
 pub struct SevenView<'a> {
-    /// The map.
+    /// The memories.
     pub map: &'a mut Map,
+    /// The units behind the ports.
+    pub io: &'a mut Io,
     /// The tick of the step.
     pub now: Tick,
     ghost early: { IsEarly (Some now) },
 }
 
 impl Bus for SevenView<'_> {
-    ghost use Rattle.std.specs.Prelude.{◌∷◌, []};
+    ghost use Rattle.std.specs.Prelude.{◌∷◌};
+    ghost use Rattle.ds_base.specs.declared.processors.Proc.TheVariants.{Seven};
+    ghost use Rattle.ds_map.specs.Maps.{map_seen, unreached};
     ghost use Rattle.ds_map.specs.Views.{SevenReach, seven_memory};
 
     ghost State = { SevenReach };
 
-    ghost state = { λ v. record { map = v.map.now; now = v.now } };
+    ghost state = { λ v. record { map = map_seen Seven v.map.now v.io.now; now = v.now } };
 
     ghost memory = { seven_memory };
 
-    ghost identity = { λ v. v.map.ghost_name ∷ [] };
+    ghost identity = { λ v. v.map.ghost_name ∷ v.io.ghost_name ∷ unreached Seven v.map.now };
 
     #[inline(always)]
     fn fetch(&mut self, at: u32, width: Width) -> u32 {
-        self.map.fetch(Proc::Seven, at, width)
+        self.map.fetch(self.io, Proc::Seven, at, width)
     }
 
     #[inline(always)]
     fn read(&mut self, at: u32, width: Width) -> u32 {
-        self.map.read(Proc::Seven, self.now, at, width)
+        self.map.read(self.io, Proc::Seven, self.now, at, width)
     }
 
     #[inline(always)]
     fn write(&mut self, at: u32, width: Width, value: u32) -> Option<Stop> {
-        self.map.write(Proc::Seven, self.now, at, width, value)
+        self.map
+            .write(self.io, Proc::Seven, self.now, at, width, value)
     }
 }
 
@@ -54,25 +62,28 @@ impl Bus for SevenView<'_> {
 pub fn fetched_by_nine(
     cp: &Cp15,
     map: &Map,
+    io: &Io,
     itcm: &Block<ITCM_BYTES>,
     dtcm: &Block<DTCM_BYTES>,
     at: u32,
     width: Width,
 ) -> u32
-    ensures { (now : Tick) → result ≡ nine_memory.fetch_value (record { map = map.now; cp15 = cp.now; itcm = itcm.now; dtcm = dtcm.now; now = now }) at width }
+    ensures { (now : Tick) → result ≡ nine_memory.fetch_value (record { map = map_seen Nine map.now io.now; cp15 = cp.now; itcm = itcm.now; dtcm = dtcm.now; now = now }) at width }
 {
     match cp.tcm_place(at, false, true) {
         Tcm::Itcm(place) => itcm.number(place as usize, width),
         Tcm::Dtcm(place) => dtcm.number(place as usize, width),
-        Tcm::Past => map.fetch(Proc::Nine, at, width),
+        Tcm::Past => map.fetch(io, Proc::Nine, at, width),
     }
 }
 
 /// What ARM9 reaches: CP15, its tightly coupled memories, where CP15 says, and behind them the map.
 #[derive(Drop)]
 pub struct NineView<'a> {
-    /// The map.
+    /// The memories.
     pub map: &'a mut Map,
+    /// The units behind the ports.
+    pub io: &'a mut Io,
     /// ITCM.
     pub itcm: &'a mut Block<ITCM_BYTES>,
     /// DTCM.
@@ -85,20 +96,22 @@ pub struct NineView<'a> {
 }
 
 impl Bus for NineView<'_> {
-    ghost use Rattle.std.specs.Prelude.{◌∷◌, []};
+    ghost use Rattle.std.specs.Prelude.{◌∷◌};
+    ghost use Rattle.ds_base.specs.declared.processors.Proc.TheVariants.{Nine};
+    ghost use Rattle.ds_map.specs.Maps.{map_seen, unreached};
     ghost use Rattle.ds_map.specs.Views.{NineReach, nine_memory};
 
     ghost State = { NineReach };
 
-    ghost state = { λ v. record { map = v.map.now; cp15 = v.cp.now; itcm = v.itcm.now; dtcm = v.dtcm.now; now = v.now } };
+    ghost state = { λ v. record { map = map_seen Nine v.map.now v.io.now; cp15 = v.cp.now; itcm = v.itcm.now; dtcm = v.dtcm.now; now = v.now } };
 
     ghost memory = { nine_memory };
 
-    ghost identity = { λ v. v.map.ghost_name ∷ v.cp.ghost_name ∷ v.itcm.ghost_name ∷ v.dtcm.ghost_name ∷ [] };
+    ghost identity = { λ v. v.map.ghost_name ∷ v.io.ghost_name ∷ v.cp.ghost_name ∷ v.itcm.ghost_name ∷ v.dtcm.ghost_name ∷ unreached Nine v.map.now };
 
     #[inline(always)]
     fn fetch(&mut self, at: u32, width: Width) -> u32 {
-        fetched_by_nine(self.cp, self.map, self.itcm, self.dtcm, at, width)
+        fetched_by_nine(self.cp, self.map, self.io, self.itcm, self.dtcm, at, width)
     }
 
     #[inline(always)]
@@ -106,7 +119,7 @@ impl Bus for NineView<'_> {
         match self.cp.tcm_place(at, false, false) {
             Tcm::Itcm(place) => self.itcm.number(place as usize, width),
             Tcm::Dtcm(place) => self.dtcm.number(place as usize, width),
-            Tcm::Past => self.map.read(Proc::Nine, self.now, at, width),
+            Tcm::Past => self.map.read(self.io, Proc::Nine, self.now, at, width),
         }
     }
 
@@ -115,7 +128,9 @@ impl Bus for NineView<'_> {
         match self.cp.tcm_place(at, true, false) {
             Tcm::Itcm(place) => self.itcm.set_number(place as usize, width, value),
             Tcm::Dtcm(place) => self.dtcm.set_number(place as usize, width, value),
-            Tcm::Past => return self.map.write(Proc::Nine, self.now, at, width, value),
+            Tcm::Past => return self
+                .map
+                .write(self.io, Proc::Nine, self.now, at, width, value),
         }
         None
     }

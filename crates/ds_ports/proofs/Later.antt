@@ -1,5 +1,5 @@
 use Rattle.std.proofs.Common.{ℕ, ◌≡◌, ◌<◌, ◌+◌, ◌/◌, ◌%◌, ◌^◌, inl, inr, Bool, true, false, if◌then◌else◌, List, Option, Some, None, refl, sym, ◌∙◌, ap, subst, arith}
-use Rattle.std.specs.Prelude.{◌==◌, IfSome, IsSome}
+use Rattle.std.specs.Prelude.{◌==◌, IfSome}
 use Rattle.ds_base.specs.Bits.{bits}
 use Rattle.ds_base.specs.Schedules.{IsLater, Reschedules}
 use Rattle.ds_base.specs.declared.left_out.Stop.{Stop}
@@ -9,28 +9,26 @@ use Rattle.ds_base.specs.declared.processors.Proc.{Proc}
 use Rattle.ds_base.specs.declared.processors.Proc.TheVariants.{Nine, Seven}
 use Rattle.ds_base.specs.declared.processors.Raised.{Raised}
 use Rattle.ds_base.specs.declared.ticks.Tick.{Tick}
-use Rattle.ds_dma.specs.States.{AreReadyLater, IsDma, any_runs, channel_due, dma_due, dma_finished}
-use Rattle.ds_dma.specs.declared.controls.Cause.{Cause}
+use Rattle.ds_dma.specs.States.{AreReadyLater, IsDma, channel_due}
 use Rattle.ds_dma.specs.declared.controls.DmaPort.{DmaPort}
 use Rattle.ds_dma.specs.declared.controls.DmaPort.TheVariants.{Source, Target, Control}
-use Rattle.ds_dma.proofs.Turns.{all_later, event_schedules, finished_later}
-use Rattle.ds_dma.proofs.Wholes.{channel_written_is, channel_written_later, dma_finished_is, dma_triggered_is, event_runs}
+use Rattle.ds_dma.proofs.Turns.{all_later}
+use Rattle.ds_dma.proofs.Wholes.{channel_written_is, channel_written_later}
 use Rattle.ds_ipc.specs.Ipcs.{IpcState, other_proc}
 use Rattle.ds_math.specs.Dividers.{DividerState, division_ticks}
 use Rattle.ds_math.specs.Roots.{RootState}
 use Rattle.ds_runs.specs.Actors.{IsNumbered}
 use Rattle.ds_runs.specs.declared.actors.Actor as actor
 use Rattle.ds_runs.specs.declared.actors.Actor.TheVariants.{Timer, Divider, SquareRoot, Dma}
-use Rattle.ds_timers.specs.Timing.{TimerState, AreTimers, control_set, kept_control, overflow_of, reload_set, timer_at, timer_due}
+use Rattle.ds_timers.specs.Timing.{TimerState, AreTimers, control_set, kept_control, reload_set, timer_at, timer_due}
 use Rattle.ds_timers.proofs.Changed.{control_schedules, control_set_is, reload_leaves, reload_set_is}
 use Rattle.ds_timers.proofs.Four.{one_reschedules}
-use Rattle.ds_timers.proofs.Overflowed.{overflow_keeps, overflow_schedules}
 use Rattle.ds_ports.specs.Dues.{IsIo, Goes, IsUnchanged, IsProcessorIo, IsQuiet, ReschedulesEach, io_due}
-use Rattle.ds_ports.specs.ProcessorIo.{ProcessorIoState, dma_written, haltcnt_written, kept_keycnt, keycnt_written, keys_hold, keys_told, processor_io_moved, processor_io_raised, processor_io_triggered}
+use Rattle.ds_ports.specs.ProcessorIo.{ProcessorIoState, dma_written, haltcnt_written, kept_keycnt, keycnt_written, keys_hold, keys_told, processor_io_raised}
 use Rattle.ds_ports.specs.Ports.{byte_written, half_written, ignores, port_read, port_refusal, port_written, read_unchanged, slot_joined, slot_written, unless_stopped, whole_if, whole_in, word_written, written_or}
 use Rattle.ds_ports.specs.RegisterMap.{IsSlot, slot_of}
 use Rattle.ds_ports.specs.Registers.{after_write, meaning_of}
-use Rattle.ds_ports.specs.Io.{IoState, both_raised, channel_moved, channels_triggered, division_done, keys_pressed, io_of, root_done, timer_overflows, with_io_of}
+use Rattle.ds_ports.specs.Io.{IoState, both_raised, io_of, with_io_of}
 use Rattle.ds_ports.specs.declared.registers.Register.{Register}
 use Rattle.ds_ports.specs.declared.registers.Register.TheVariants.{Dmasad, Dmadad, Dmacnt, TmcntL, TmcntH, Keycnt, Ipcsync, Ipcfifocnt, Ipcfifosend, Ipcfiforecv, Ime, Ie, If, Divcnt, DivNumer, DivDenom, Sqrtcnt, SqrtParam, Haltcnt}
 use Rattle.ds_ports.specs.declared.registers.Slot.{Slot}
@@ -62,7 +60,7 @@ abbrev Stands : Tick → ProcessorIoState → Type 0
 Stands now processor_io = IsProcessorIo processor_io × IsQuiet now processor_io
 
 -- nothing changed
-unchanged_same : (processor_io : ProcessorIoState) → IsUnchanged processor_io processor_io
+pub unchanged_same : (processor_io : ProcessorIoState) → IsUnchanged processor_io processor_io
 unchanged_same processor_io = record { timers = refl; keycnt = refl; halted = refl; dma = refl }
 
 -- its timers and channels alone count
@@ -151,17 +149,17 @@ processor_io_each Seven now u processor_io g (Dma Seven channel) l = g (Dma Seve
 processor_io_each Seven now u processor_io g _ l = inl refl
 
 -- another division, or another square root
-divider_each : (now : Tick) (u : IoState) (divider : DividerState) → Reschedules now u.divider.due divider.due
+pub divider_each : (now : Tick) (u : IoState) (divider : DividerState) → Reschedules now u.divider.due divider.due
     → ReschedulesEach now u (record u { divider = divider })
 divider_each now u divider d Divider l = d
 divider_each now u divider d _ l = inl refl
 
-root_each : (now : Tick) (u : IoState) (root : RootState) → Reschedules now u.root.due root.due → ReschedulesEach now u (record u { root = root })
+pub root_each : (now : Tick) (u : IoState) (root : RootState) → Reschedules now u.root.due root.due → ReschedulesEach now u (record u { root = root })
 root_each now u root r SquareRoot l = r
 root_each now u root r _ l = inl refl
 
 pub goes_nowhere : (proc : Proc) (now : Tick) (u : IoState) → IsProcessorIo (io_of u proc) → IsQuiet now (io_of u proc) → Goes proc now u u
-goes_nowhere proc now u is quiet = record { is = is; quiet = quiet; each = λ a l. inl refl; other = unchanged_same (io_of u (other_proc proc)) }
+goes_nowhere proc now u is quiet = record { is = is; quiet = quiet; each = λ a l. inl refl; other = unchanged_same (io_of u (other_proc proc)); video = refl }
 
 pub goes_on : (proc : Proc) (now : Tick) (a b c : IoState) → Goes proc now a b → Goes proc now b c → Goes proc now a c
 goes_on proc now a b c g h = record {
@@ -174,23 +172,25 @@ goes_on proc now a b c g h = record {
     halted = h.other.halted ∙ g.other.halted;
     dma = h.other.dma ∙ g.other.dma;
   };
+  video = h.video ∙ g.video;
 }
 
 -- what changes the processor's own alone
 processor_io_goes : (proc : Proc) (now : Tick) (u : IoState) (processor_io : ProcessorIoState) → Stands now processor_io → Goes proc now u (with_io_of proc u processor_io)
 processor_io_goes proc now u processor_io s = by_proc proc (processor_io_each proc now u processor_io (processor_io_later now (io_of u proc) processor_io s)) where
   by_proc : (proc : Proc) → ReschedulesEach now u (with_io_of proc u processor_io) → Goes proc now u (with_io_of proc u processor_io)
-  by_proc Nine each = record { is = s.0; quiet = s.1; each = each; other = unchanged_same u.seven }
-  by_proc Seven each = record { is = s.0; quiet = s.1; each = each; other = unchanged_same u.nine }
+  by_proc Nine each = record { is = s.0; quiet = s.1; each = each; other = unchanged_same u.seven; video = refl }
+  by_proc Seven each = record { is = s.0; quiet = s.1; each = each; other = unchanged_same u.nine; video = refl }
 
 -- what changes neither's own
-shared_goes : (proc : Proc) (now : Tick) (u new : IoState) → ((each : Proc) → io_of new each ≡ io_of u each) → Stands now (io_of u proc)
+shared_goes : (proc : Proc) (now : Tick) (u new : IoState) → ((each : Proc) → io_of new each ≡ io_of u each) → new.video ≡ u.video → Stands now (io_of u proc)
     → ReschedulesEach now u new → Goes proc now u new
-shared_goes proc now u new same s each = record {
+shared_goes proc now u new same video s each = record {
   is = subst IsProcessorIo (sym (same proc)) s.0;
   quiet = subst (IsQuiet now) (sym (same proc)) s.1;
   each = each;
   other = subst (IsUnchanged (io_of u (other_proc proc))) (sym (same (other_proc proc))) (unchanged_same (io_of u (other_proc proc)));
+  video = video;
 }
 
 -- ---- what changes nothing but interrupt words, as a read: nothing is due otherwise than before
@@ -202,6 +202,7 @@ raised_unchanged processor_io raised = record { timers = refl; keycnt = refl; ha
 pub record AreUnchanged (old new : IoState) : Type 0 where
   pub processor_io : (proc : Proc) → IsUnchanged (io_of old proc) (io_of new proc)
   pub dues : (a : actor.Actor) → io_due a new ≡ io_due a old
+  pub video : new.video ≡ old.video
 
 -- so what holds of a processor's own holds still
 pub unchanged_is : (old new : ProcessorIoState) → IsUnchanged old new → IsProcessorIo old → IsProcessorIo new
@@ -214,10 +215,10 @@ unchanged_quiet now old new l quiet = record {
 }
 
 pub all_unchanged : (u : IoState) → AreUnchanged u u
-all_unchanged u = record { processor_io = λ each. unchanged_same (io_of u each); dues = λ a. refl }
+all_unchanged u = record { processor_io = λ each. unchanged_same (io_of u each); dues = λ a. refl; video = refl }
 
 both_unchanged : (u : IoState) (ipc_after : IpcState) (raised : Raised) → AreUnchanged u (both_raised (record u { ipc = ipc_after }) raised)
-both_unchanged u ipc_after raised = record { processor_io = processor_io; dues = dues } where
+both_unchanged u ipc_after raised = record { processor_io = processor_io; dues = dues; video = refl } where
   processor_io : (proc : Proc) → IsUnchanged (io_of u proc) (io_of (both_raised (record u { ipc = ipc_after }) raised) proc)
   processor_io Nine = raised_unchanged u.nine raised.nine
   processor_io Seven = raised_unchanged u.seven raised.seven
@@ -232,7 +233,7 @@ both_unchanged u ipc_after raised = record { processor_io = processor_io; dues =
 pub unchanged_goes : (proc : Proc) (now : Tick) (old new : IoState) → IsProcessorIo (io_of old proc) → IsQuiet now (io_of old proc) → AreUnchanged old new → Goes proc now old new
 unchanged_goes proc now old new is quiet left =
     let s = alike now (io_of old proc) (io_of new proc) (left.processor_io proc).timers (left.processor_io proc).dma (is, quiet) in
-    record { is = s.0; quiet = s.1; each = λ a l. inl (left.dues a); other = left.processor_io (other_proc proc) }
+    record { is = s.0; quiet = s.1; each = λ a l. inl (left.dues a); other = left.processor_io (other_proc proc); video = left.video }
 
 -- ---- what a write of a register leaves
 
@@ -261,17 +262,17 @@ register_goes proc now u s Ipcsync number l value = unchanged_goes proc now u _ 
 register_goes proc now u s Ipcfifocnt number l value = unchanged_goes proc now u _ s.0 s.1 (both_unchanged u _ _)
 register_goes proc now u s Ipcfifosend number l value = unchanged_goes proc now u _ s.0 s.1 (both_unchanged u _ _)
 register_goes proc now u s Divcnt number l value =
-    shared_goes proc now u _ (λ each. refl) s (divider_each now u (after_write proc now u Divcnt number value).divider (inr (division_later now _)))
+    shared_goes proc now u _ (λ each. refl) refl s (divider_each now u (after_write proc now u Divcnt number value).divider (inr (division_later now _)))
 register_goes proc now u s DivNumer number l value =
-    shared_goes proc now u _ (λ each. refl) s (divider_each now u (after_write proc now u DivNumer number value).divider (inr (division_later now _)))
+    shared_goes proc now u _ (λ each. refl) refl s (divider_each now u (after_write proc now u DivNumer number value).divider (inr (division_later now _)))
 register_goes proc now u s DivDenom number l value =
-    shared_goes proc now u _ (λ each. refl) s (divider_each now u (after_write proc now u DivDenom number value).divider (inr (division_later now _)))
+    shared_goes proc now u _ (λ each. refl) refl s (divider_each now u (after_write proc now u DivDenom number value).divider (inr (division_later now _)))
 register_goes proc now u s Sqrtcnt number l value =
-    shared_goes proc now u _ (λ each. refl) s (root_each now u (after_write proc now u Sqrtcnt number value).root (inr (root_later now)))
+    shared_goes proc now u _ (λ each. refl) refl s (root_each now u (after_write proc now u Sqrtcnt number value).root (inr (root_later now)))
 register_goes proc now u s SqrtParam number l value =
-    shared_goes proc now u _ (λ each. refl) s (root_each now u (after_write proc now u SqrtParam number value).root (inr (root_later now)))
+    shared_goes proc now u _ (λ each. refl) refl s (root_each now u (after_write proc now u SqrtParam number value).root (inr (root_later now)))
 register_goes proc now u s register number l value =
-    shared_goes proc now u (after_write proc now u register number value) (λ each. refl) s (λ a m. inl refl)
+    shared_goes proc now u (after_write proc now u register number value) (λ each. refl) refl s (λ a m. inl refl)
 
 -- ---- accesses
 
@@ -377,19 +378,13 @@ goes_io proc now old new h g =
     let each = of_both (λ p. IsProcessorIo (io_of new p)) proc g.is other in
     record { nine = each Nine; seven = each Seven }
 
--- ---- the steps of the actors behind the ports
-
--- what such a step at a tick makes of the units: each due tick is as it was or later, and no processor is halted by it or goes on
-pub record StepsIo (now : Tick) (old new : IoState) : Type 0 where
-  pub io : IsIo new
-  pub dues : ReschedulesEach now old new
-  pub halted : (proc : Proc) → (io_of new proc).halted ≡ (io_of old proc).halted
+-- ---- one processor's own, changed
 
 pub processor_io_there : (proc : Proc) (u : IoState) (processor_io : ProcessorIoState) → io_of (with_io_of proc u processor_io) proc ≡ processor_io
 processor_io_there Nine u processor_io = refl
 processor_io_there Seven u processor_io = refl
 
-processor_io_across : (proc : Proc) (u : IoState) (processor_io : ProcessorIoState) → io_of (with_io_of proc u processor_io) (other_proc proc) ≡ io_of u (other_proc proc)
+pub processor_io_across : (proc : Proc) (u : IoState) (processor_io : ProcessorIoState) → io_of (with_io_of proc u processor_io) (other_proc proc) ≡ io_of u (other_proc proc)
 processor_io_across Nine u processor_io = refl
 processor_io_across Seven u processor_io = refl
 
@@ -401,129 +396,3 @@ each_processor_io P proc u processor_io h k =
 
 pub io_is : (u : IoState) → ((proc : Proc) → IsProcessorIo (io_of u proc)) → IsIo u
 io_is u h = record { nine = h Nine; seven = h Seven }
-
--- a step that changes one processor's own
-processor_io_steps : (proc : Proc) (now : Tick) (u : IoState) (processor_io : ProcessorIoState) → IsIo u → IsProcessorIo processor_io → ProcessorIoReschedules now (io_of u proc) processor_io
-    → processor_io.halted ≡ (io_of u proc).halted → StepsIo now u (with_io_of proc u processor_io)
-processor_io_steps proc now u processor_io all is each h = record {
-  io = io_is (with_io_of proc u processor_io) (each_processor_io (λ p x. IsProcessorIo x) proc u processor_io is (processor_io_is u all (other_proc proc)));
-  dues = processor_io_each proc now u processor_io each;
-  halted = each_processor_io (λ p x. x.halted ≡ (io_of u p).halted) proc u processor_io h refl;
-}
-
--- a timer overflows at its due tick: it is due later then, and all channels are as they were
-pub record TimerGoes (proc : Proc) (number : ℕ) (now : Tick) (old new : IoState) : Type 0 where
-  pub steps : StepsIo now old new
-  pub later : IsLater now (io_due (Timer proc number) new)
-  pub dma : (each : Proc) → (io_of new each).dma ≡ (io_of old each).dma
-
-overflowed : (now : Tick) (processor_io : ProcessorIoState) (timers : List TimerState) (raised : ℕ)
-    → ((which : ℕ) → which < 4 → Reschedules now (timer_due (timer_at processor_io.timers which)) (timer_due (timer_at timers which)))
-    → ProcessorIoReschedules now processor_io (processor_io_raised (record processor_io { timers = timers }) raised)
-overflowed now processor_io timers raised each (Timer proc number) l = each number l
-overflowed now processor_io timers raised each _ l = inl refl
-
-pub timer_goes : (proc : Proc) (number : ℕ) (now : Tick) (u : IoState) → IsIo u → number < 4 → io_due (Timer proc number) u ≡ Some now
-    → TimerGoes proc number now u (timer_overflows proc number u)
-timer_goes proc number now u all l due =
-    let processor_io = io_of u proc in
-    let is = processor_io_is u all proc in
-    let one = overflow_schedules processor_io.timers number is.timers l now due in
-    let o = overflow_of processor_io.timers number in
-    let new : ProcessorIoState = processor_io_raised (record processor_io { timers = o.timers }) o.bits in record {
-      steps = processor_io_steps proc now u new all (record { timers = overflow_keeps processor_io.timers number is.timers; dma = is.dma })
-          (overflowed now processor_io o.timers o.bits (one_reschedules number now processor_io.timers o.timers one)) refl;
-      later = subst (λ (x : ProcessorIoState). IsLater now (timer_due (timer_at x.timers number))) (sym (processor_io_there proc u new)) one.later;
-      dma = each_processor_io (λ p x. x.dma ≡ (io_of u p).dma) proc u new refl refl;
-    }
-
--- a step that leaves each processor's own but its interrupt words
-pub record LeavesProcessorIo (now : Tick) (old new : IoState) : Type 0 where
-  pub steps : StepsIo now old new
-  pub left : (each : Proc) → IsUnchanged (io_of old each) (io_of new each)
-
-leaves_processor_io : (now : Tick) (old new : IoState) → IsIo old → ((each : Proc) → IsUnchanged (io_of old each) (io_of new each))
-    → ReschedulesEach now old new → LeavesProcessorIo now old new
-leaves_processor_io now old new all same each = record {
-  steps = record { io = io_is new (λ p. unchanged_is (io_of old p) (io_of new p) (same p) (processor_io_is old all p)); dues = each; halted = λ p. (same p).halted };
-  left = same;
-}
-
--- a division is done, and due no more
-pub division_goes : (now : Tick) (u : IoState) → IsIo u → LeavesProcessorIo now u (division_done u) × (io_due Divider (division_done u) ≡ None)
-division_goes now u all = (leaves_processor_io now u (division_done u) all (λ p. unchanged_same (io_of u p)) (divider_each now u (division_done u).divider (inr tt)), refl)
-
--- a square root is done, and due no more
-pub root_goes : (now : Tick) (u : IoState) → IsIo u → LeavesProcessorIo now u (root_done u) × (io_due SquareRoot (root_done u) ≡ None)
-root_goes now u all = (leaves_processor_io now u (root_done u) all (λ p. unchanged_same (io_of u p)) (root_each now u (root_done u).root (inr tt)), refl)
-
--- other keys are pressed
-keys_unchanged : (u : IoState) (pressed : ℕ) (each : Proc) → IsUnchanged (io_of u each) (io_of (keys_pressed u pressed) each)
-keys_unchanged u pressed Nine = told_unchanged u.nine pressed
-keys_unchanged u pressed Seven = told_unchanged u.seven pressed
-
-keys_each : (now : Tick) (u : IoState) (pressed : ℕ) → ReschedulesEach now u (keys_pressed u pressed)
-keys_each now u pressed (Timer proc number) l = inl (ap (λ ts. timer_due (timer_at ts number)) (keys_unchanged u pressed proc).timers)
-keys_each now u pressed (Dma proc channel) l = inl (ap (λ d. channel_due d channel) (keys_unchanged u pressed proc).dma)
-keys_each now u pressed _ l = inl refl
-
-pub keys_goes : (now : Tick) (u : IoState) (pressed : ℕ) → IsIo u → LeavesProcessorIo now u (keys_pressed u pressed)
-keys_goes now u pressed all = leaves_processor_io now u (keys_pressed u pressed) all (keys_unchanged u pressed) (keys_each now u pressed)
-
--- an event triggers channels: no transfer ends
-pub record TriggeredGoes (now : Tick) (old new : IoState) : Type 0 where
-  pub steps : StepsIo now old new
-  pub timers : (each : Proc) → (io_of new each).timers ≡ (io_of old each).timers
-  pub runs : (each : Proc) → any_runs (io_of old each).dma.channels ≡ true → any_runs (io_of new each).dma.channels ≡ true
-
-triggered_processor_io : (cause : Cause) (now : Tick) (u : IoState) (each : Proc) → io_of (channels_triggered cause now u) each ≡ processor_io_triggered (io_of u each) cause now
-triggered_processor_io cause now u Nine = refl
-triggered_processor_io cause now u Seven = refl
-
-each_triggered : (P : Proc → ProcessorIoState → Type 0) (cause : Cause) (now : Tick) (u : IoState) → ((each : Proc) → P each (processor_io_triggered (io_of u each) cause now))
-    → (each : Proc) → P each (io_of (channels_triggered cause now u) each)
-each_triggered P cause now u h = λ each. subst (P each) (sym (triggered_processor_io cause now u each)) (h each)
-
-triggered_each : (cause : Cause) (now : Tick) (u : IoState) → IsIo u → ReschedulesEach now u (channels_triggered cause now u)
-triggered_each cause now u all (Timer Nine number) l = inl refl
-triggered_each cause now u all (Timer Seven number) l = inl refl
-triggered_each cause now u all (Dma Nine channel) l = event_schedules u.nine.dma cause now all.nine.dma channel l
-triggered_each cause now u all (Dma Seven channel) l = event_schedules u.seven.dma cause now all.seven.dma channel l
-triggered_each cause now u all _ l = inl refl
-
-pub triggered_goes : (cause : Cause) (now : Tick) (u : IoState) → IsIo u → TriggeredGoes now u (channels_triggered cause now u)
-triggered_goes cause now u all =
-    let new = channels_triggered cause now u in record {
-      steps = record {
-        io = io_is new (each_triggered (λ p x. IsProcessorIo x) cause now u
-            (λ p. record { timers = (processor_io_is u all p).timers; dma = dma_triggered_is (io_of u p).dma cause now (processor_io_is u all p).dma }));
-        dues = triggered_each cause now u all;
-        halted = each_triggered (λ p x. x.halted ≡ (io_of u p).halted) cause now u (λ p. refl);
-      };
-      timers = each_triggered (λ p x. x.timers ≡ (io_of u p).timers) cause now u (λ p. refl);
-      runs = each_triggered (λ p x. any_runs (io_of u p).dma.channels ≡ true → any_runs x.dma.channels ≡ true) cause now u
-          (λ p. event_runs (io_of u p).dma cause now (processor_io_is u all p).dma);
-    }
-
--- the channel that is due moves its first unit, but for the access itself: no channel of its processor is due by then
-pub record MovedGoes (proc : Proc) (now : Tick) (old new : IoState) : Type 0 where
-  pub steps : StepsIo now old new
-  pub later : AreReadyLater now (io_of new proc).dma
-  pub timers : (each : Proc) → (io_of new each).timers ≡ (io_of old each).timers
-  pub other : io_of new (other_proc proc) ≡ io_of old (other_proc proc)
-
-pub moved_goes : (proc : Proc) (now : Tick) (u : IoState) → IsIo u → IsSome (dma_due (io_of u proc).dma) → MovedGoes proc now u (channel_moved proc now u)
-moved_goes proc now u all due =
-    let processor_io = io_of u proc in
-    let is = processor_io_is u all proc in
-    let new : ProcessorIoState = processor_io_moved processor_io now in
-    let later = finished_later processor_io.dma now in record {
-      steps = processor_io_steps proc now u new all (record { timers = is.timers; dma = dma_finished_is processor_io.dma now is.dma due })
-          (moved now processor_io) refl;
-      later = subst (λ (x : ProcessorIoState). AreReadyLater now x.dma) (sym (processor_io_there proc u new)) later;
-      timers = each_processor_io (λ p x. x.timers ≡ (io_of u p).timers) proc u new refl refl;
-      other = processor_io_across proc u new;
-    } where
-      moved : (tick : Tick) (processor_io : ProcessorIoState) → ProcessorIoReschedules tick processor_io (processor_io_moved processor_io tick)
-      moved tick processor_io (Dma of channel) l = all_later tick (dma_finished processor_io.dma tick) (channel_due processor_io.dma channel) (finished_later processor_io.dma tick) channel l
-      moved tick processor_io _ l = inl refl

@@ -1,4 +1,4 @@
-use Rattle.std.specs.Prelude.{ℕ, ◌≡◌, ◌<◌, List, [], ◌∷◌, Option, None}
+use Rattle.std.specs.Prelude.{ℕ, ◌≡◌, ◌<◌, List, [], ◌∷◌, Option, Some, None}
 use Rattle.ds_base.specs.Schedules.{IsLater, Reschedules}
 use Rattle.ds_base.specs.declared.processors.Proc.{Proc}
 use Rattle.ds_base.specs.declared.processors.Proc.TheVariants.{Nine, Seven}
@@ -8,16 +8,18 @@ use Rattle.ds_dma.specs.States.{AreReadyLater, IsDma, channel_due}
 use Rattle.ds_ipc.specs.Ipcs.{other_proc}
 use Rattle.ds_runs.specs.Actors.{IsNumbered}
 use Rattle.ds_runs.specs.declared.actors.Actor as actor
-use Rattle.ds_runs.specs.declared.actors.Actor.TheVariants.{Timer, Divider, SquareRoot, Geometry, Card, Dma}
+use Rattle.ds_runs.specs.declared.actors.Actor.TheVariants.{Video, Timer, Divider, SquareRoot, Geometry, Card, Dma}
 use Rattle.ds_runs.specs.Order.{first_from}
 use Rattle.ds_timers.specs.Timing.{AreTimers, timer_at, timer_due}
 use Rattle.ds_ports.specs.ProcessorIo.{ProcessorIoState}
 use Rattle.ds_ports.specs.Io.{IoState, io_of}
+use Rattle.ds_ports.specs.Videos.{video_due}
 
 -- When the units behind the ports are due, and what happens at a tick makes of it.
 
 -- when an actor behind the ports is due; those that aren't, or aren't built yet, never are
 abbrev pub due_in_io : IoState → actor.Actor → Option Tick
+due_in_io u Video = Some (record { 0 = video_due u.video })
 due_in_io u (Timer proc number) = timer_due (timer_at (io_of u proc).timers number)
 due_in_io u Divider = u.divider.due
 due_in_io u SquareRoot = u.root.due
@@ -27,10 +29,11 @@ due_in_io u _ = None
 abbrev pub io_due : actor.Actor → IoState → Option Tick
 io_due a u = due_in_io u a
 
--- those of ranks 2 to 21, in their order
+-- those of ranks 1 to 21, in their order
 abbrev pub io_dues : IoState → List (Option Tick)
 io_dues u =
-    io_due (Timer Nine 0) u ∷ io_due (Timer Nine 1) u ∷ io_due (Timer Nine 2) u ∷ io_due (Timer Nine 3) u
+    io_due Video u
+    ∷ io_due (Timer Nine 0) u ∷ io_due (Timer Nine 1) u ∷ io_due (Timer Nine 2) u ∷ io_due (Timer Nine 3) u
     ∷ io_due (Timer Seven 0) u ∷ io_due (Timer Seven 1) u ∷ io_due (Timer Seven 2) u ∷ io_due (Timer Seven 3) u
     ∷ io_due Divider u
     ∷ io_due SquareRoot u
@@ -40,9 +43,9 @@ io_dues u =
     ∷ io_due (Dma Seven 0) u ∷ io_due (Dma Seven 1) u ∷ io_due (Dma Seven 2) u ∷ io_due (Dma Seven 3) u
     ∷ []
 
--- the first of them, which is kept; it doesn't unfold by itself
+-- the first of them, which is kept: the display is always due; it doesn't unfold by itself
 unfoldable pub first_io_due : IoState → Option Due
-first_io_due u = first_from 2 (io_dues u)
+first_io_due u = first_from 1 (io_dues u)
 
 -- what holds of a processor's own, and of the units, at every time
 pub record IsProcessorIo (processor_io : ProcessorIoState) : Type 0 where
@@ -70,9 +73,10 @@ abbrev pub ReschedulesEach : Tick → IoState → IoState → Type 0
 ReschedulesEach now old new = (a : actor.Actor) → IsNumbered a → Reschedules now (io_due a old) (io_due a new)
 
 -- what accesses of a processor, or of a channel of it, at a tick make of the units: each due tick is as it was or later, and the other processor is
--- told of interrupts and of nothing else
+-- told of interrupts and of nothing else; the display is as it was
 pub record Goes (proc : Proc) (now : Tick) (old new : IoState) : Type 0 where
   pub is : IsProcessorIo (io_of new proc)
   pub quiet : IsQuiet now (io_of new proc)
   pub each : ReschedulesEach now old new
   pub other : IsUnchanged (io_of old (other_proc proc)) (io_of new (other_proc proc))
+  pub video : new.video ≡ old.video

@@ -1,22 +1,27 @@
-use Rattle.std.specs.Prelude.{ℕ, List, [], ◌∷◌, Bool}
+use Rattle.std.specs.Prelude.{ℕ, List, [], ◌∷◌, Bool, if◌then◌else◌}
 use Rattle.ds_base.specs.declared.processors.Proc.{Proc}
 use Rattle.ds_base.specs.declared.processors.Proc.TheVariants.{Nine, Seven}
 use Rattle.ds_base.specs.declared.processors.Raised.{Raised}
 use Rattle.ds_base.specs.declared.ticks.Tick.{Tick}
 use Rattle.ds_dma.specs.declared.controls.Cause.{Cause}
+use Rattle.ds_dma.specs.declared.controls.Cause.TheVariants.{VBlank, HBlank}
 use Rattle.ds_ipc.specs.Ipcs.{IpcState, ipc_at_boot}
 use Rattle.ds_math.specs.Dividers.{DividerState, divider_at_boot, division_finished}
 use Rattle.ds_math.specs.Roots.{RootState, root_at_boot, root_finished}
+use Rattle.ds_runs.specs.declared.actors.Actor as actor
+use Rattle.ds_runs.specs.declared.actors.Actor.TheVariants.{Video, Timer, Divider, SquareRoot}
 use Rattle.ds_timers.specs.Timing.{overflow_of}
 use Rattle.ds_ports.specs.ProcessorIo.{BeforeMove, ProcessorIoState, processor_io_at_boot, processor_io_moved, processor_io_put_back, processor_io_raised, processor_io_triggered, keys_told}
+use Rattle.ds_ports.specs.Videos.{VideoState, blanks_drawn, makes_whole, video_after, video_at_boot, video_due}
 use Rattle.vram_banks.specs.Cells.{Banks, blank_banks}
 
 -- What stands behind the ports.
 
--- video memory with its controls; WRAMCNT, which shares out the shared work RAM (GBATEK, "DS Memory Control"); what passes between the
+-- where the display is; video memory with its controls; WRAMCNT, which shares out the shared work RAM (GBATEK, "DS Memory Control"); what passes between the
 -- processors; the keys that are pressed; the four words of DMA0FILL to DMA3FILL; ROMCTRL, which both processors share; the divider and the
 -- square root unit; and what each processor has of its own
 pub record IoState : Type 0 where
+  pub video : VideoState
   pub vram : Banks
   pub wramcnt : ℕ
   pub ipc : IpcState
@@ -34,6 +39,7 @@ wramcnt_at_boot = 3
 
 abbrev pub io_at_boot : IoState
 io_at_boot = record {
+  video = video_at_boot;
   vram = blank_banks;
   wramcnt = wramcnt_at_boot;
   ipc = ipc_at_boot;
@@ -83,6 +89,24 @@ root_done u = record u { root = root_finished u.root }
 -- an event triggers the DMA channels of both processors that wait for it
 abbrev pub channels_triggered : Cause → Tick → IoState → IoState
 channels_triggered cause now u = record u { nine = processor_io_triggered u.nine cause now; seven = processor_io_triggered u.seven cause now }
+
+-- the display's event: the start of line 192 triggers V-blank DMA of both processors, and the H-blank of a line that is drawn H-blank DMA (GBATEK, "DS
+-- DMA Transfers"); and the display goes on
+abbrev pub triggered_by_video : IoState → IoState
+triggered_by_video u =
+    let now : Tick = record { 0 = video_due u.video } in
+    if makes_whole u.video then channels_triggered VBlank now u else (if blanks_drawn u.video then channels_triggered HBlank now u else u)
+
+abbrev pub video_done : IoState → IoState
+video_done u = record (triggered_by_video u) { video = video_after u.video }
+
+-- what the event of an actor behind the ports leaves, where it is due; a DMA channel's is told below, since it is an access of memory
+abbrev pub io_event : actor.Actor → IoState → IoState
+io_event Video u = video_done u
+io_event (Timer proc number) u = timer_overflows proc number u
+io_event Divider u = division_done u
+io_event SquareRoot u = root_done u
+io_event _ u = u
 
 -- the DMA channel of a processor that is due moves its first unit, but for the access itself
 abbrev pub channel_moved : Proc → Tick → IoState → IoState

@@ -2,39 +2,36 @@
 
 ghost use Rattle.std.specs.Prelude.{◌≡◌, ◌<◌, ◌^◌, IfOk, IsSome, Some};
 ghost use Rattle.ds_base.specs.Schedules.{IsEarly};
-ghost use Rattle.ds_dma.specs.Channels.{unit_of};
-ghost use Rattle.ds_dma.specs.States.{dma_due, due_channel};
+ghost use Rattle.ds_dma.specs.States.{dma_due};
 ghost use Rattle.ds_ipc.specs.Ipcs.{AreSides};
 ghost use Rattle.ds_runs.specs.Actors.{IsNumbered};
 ghost use Rattle.ds_runs.specs.Order.{first_from};
-ghost use Rattle.ds_timers.specs.Irqs.{line_is_up, shares_bit};
-ghost use Rattle.ds_timers.specs.Timing.{timer_at, timer_due};
 ghost use Rattle.vram_banks.specs.Cells.{vram_written};
 ghost use Rattle.ds_ports.specs.Dues.{IsIo, io_due, io_dues, first_io_due};
 ghost use Rattle.ds_ports.specs.Inside.{moves_dues};
-ghost use Rattle.ds_ports.specs.ProcessorIo.{before_move, blocks_processor};
+ghost use Rattle.ds_ports.specs.ProcessorIo.{before_move};
 ghost use Rattle.ds_ports.specs.Registers.{after_write, meaning_of};
-ghost use Rattle.ds_ports.specs.Io.{channel_moved, channel_put_back, channels_triggered, division_done, keys_pressed, io_of, root_done, timer_overflows, io_at_boot, with_halted};
+ghost use Rattle.ds_ports.specs.Io.{channel_moved, channel_put_back, io_at_boot, io_event, io_of, keys_pressed, with_halted};
 
-use crate::processor_io::Before;
+use crate::processor_io::{Before, ProcessorIo};
 use crate::registers::Register;
 use crate::units::Units;
+use crate::videos::Video;
 use ds_base::{Due, Proc, Space, Tick, Width};
-use ds_dma::{Cause, Unit};
 use ds_runs::Actor;
 use std::alloc::{AllocError, Global};
 use std::marker::Model;
 use vram_banks::Vram;
 
-/// The units that ports reach.
+/// The units behind the ports. What changes no due tick is asked of what is lent here.
 #[derive(Drop)]
 pub struct Io {
     units: Units,
-    due: Option<Due>,
+    due: Due,
 }
 
 impl Model for Io {
-    ghost use Rattle.std.specs.Prelude.{◌≡◌};
+    ghost use Rattle.std.specs.Prelude.{◌≡◌, Some};
     ghost use Rattle.ds_ports.specs.Dues.{first_io_due};
     ghost use Rattle.ds_ports.specs.Io.{IoState};
 
@@ -42,7 +39,7 @@ impl Model for Io {
 
     ghost view = { λ u. u.units };
 
-    ghost invariant = { λ u. u.due ≡ first_io_due u.units };
+    ghost invariant = { λ u. Some u.due ≡ first_io_due u.units };
 }
 
 /// Whether a write of a register may change when something is due.
@@ -84,6 +81,22 @@ impl Io {
         &self.units
     }
 
+    /// The display.
+    #[inline(always)]
+    pub fn video(&self) -> &Video
+        ensures { result.now ≡ self.now.video }
+    {
+        self.units.video()
+    }
+
+    /// What a processor has of its own.
+    #[inline(always)]
+    pub fn processor(&self, proc: Proc) -> &ProcessorIo
+        ensures { result.now ≡ io_of self.now proc }
+    {
+        self.units.processor_io(proc)
+    }
+
     /// What WRAMCNT keeps.
     #[inline(always)]
     pub fn wramcnt(&self) -> u8
@@ -109,38 +122,6 @@ impl Io {
         self.units.write_vram(space, at, width, value);
     }
 
-    /// Whether the interrupt line of a processor is up.
-    #[inline(always)]
-    pub fn line(&self, proc: Proc) -> bool
-        ensures { result ≡ line_is_up (io_of self.now proc).irq }
-    {
-        self.units.processor_io(proc).line()
-    }
-
-    /// Whether a processor's IE and IF share a bit, so that it wakes where it is halted.
-    #[inline(always)]
-    pub fn wakes(&self, proc: Proc) -> bool
-        ensures { result ≡ shares_bit (io_of self.now proc).irq }
-    {
-        self.units.processor_io(proc).wakes()
-    }
-
-    /// Whether a processor is halted.
-    #[inline(always)]
-    pub fn is_halted(&self, proc: Proc) -> bool
-        ensures { result ≡ (io_of self.now proc).halted }
-    {
-        self.units.processor_io(proc).is_halted()
-    }
-
-    /// Whether a processor isn't due: it is halted, or a DMA channel of it runs.
-    #[inline(always)]
-    pub fn is_blocked(&self, proc: Proc) -> bool
-        ensures { result ≡ blocks_processor (io_of self.now proc) }
-    {
-        self.units.processor_io(proc).is_blocked()
-    }
-
     /// Halts a processor, or lets it go on.
     #[inline(always)]
     #[tactic(auto, using(crate::proofs::Dues::halts_move_none))]
@@ -158,60 +139,26 @@ impl Io {
         self.units.io_due(actor)
     }
 
-    /// The first actor behind the ports that is due, by tick and then by rank, if one is. It is kept, and found again only where a timer, a
-    /// DMA channel, the divider or the square root unit changes.
+    /// The first actor behind the ports that is due, by tick and then by rank. It is kept, and found again only where one of them had its event, or a
+    /// timer, a DMA channel, the divider or the square root unit changed.
     #[inline(always)]
     #[tactic(auto, unfolding(crate::specs::Dues::first_io_due))]
-    pub fn first_due(&self) -> Option<Due>
-        ensures { result ≡ first_from 2 (io_dues self.now) }
+    pub fn first_due(&self) -> Due
+        ensures { Some result ≡ first_from 1 (io_dues self.now) }
     {
         self.due
     }
 
-    /// A processor's timer overflows, and its interrupts are raised.
-    pub fn overflow(&mut self, proc: Proc, which: u8)
-        requires which { which < 4 }
-        requires due { IsSome (timer_due (timer_at (io_of self.old proc).timers which)) }
-        requires early { IsEarly (timer_due (timer_at (io_of self.old proc).timers which)) }
-        ensures { self.new ≡ timer_overflows proc which self.old }
+    /// The event of an actor behind the ports that is due: the display goes on and triggers DMA, a timer overflows and its interrupts are raised, a
+    /// division or a square root is done. A DMA channel's is told by `move_channel`.
+    pub fn event(&mut self, actor: Actor)
+        requires numbered { IsNumbered actor }
+        requires due { IsSome (io_due actor self.old) }
+        requires early { IsEarly (io_due actor self.old) }
+        ensures { self.new ≡ io_event actor self.old }
     {
-        self.units.overflow(proc, which);
+        self.units.event(actor);
         self.due = self.units.first_due();
-    }
-
-    /// The running division is done: its results stand in the registers, and none is due from then on.
-    pub fn finish_division(&mut self)
-        requires { IsSome self.old.divider.due }
-        ensures { self.new ≡ division_done self.old }
-    {
-        self.units.finish_division();
-        self.due = self.units.first_due();
-    }
-
-    /// The running square root is done: it stands in its register, and none is due from then on.
-    pub fn finish_root(&mut self)
-        requires { IsSome self.old.root.due }
-        ensures { self.new ≡ root_done self.old }
-    {
-        self.units.finish_root();
-        self.due = self.units.first_due();
-    }
-
-    /// An event at a tick triggers the DMA channels of both processors that wait for it.
-    pub fn trigger(&mut self, cause: Cause, now: Tick)
-        requires { IsEarly (Some now) }
-        ensures { self.new ≡ channels_triggered cause now self.old }
-    {
-        self.units.trigger(cause, now);
-        self.due = self.units.first_due();
-    }
-
-    /// The unit of a processor's DMA channel that is due: what it reads, and where it writes it.
-    pub fn unit(&self, proc: Proc) -> Unit
-        requires { IsSome (dma_due (io_of self.now proc).dma) }
-        ensures { result ≡ unit_of (due_channel (io_of self.now proc).dma) 0 }
-    {
-        self.units.processor_io(proc).unit()
     }
 
     /// A processor's DMA channel that is due moves its first unit at a tick, but for the access itself: the unit isn't its plan's any more,

@@ -10,8 +10,10 @@ mod ports;
 mod processor_io;
 mod registers;
 mod units;
+mod videos;
 
 pub use io::Io;
 pub use ports::{lies_in_built, part, port_is_built, register_laws};
-pub use processor_io::Before;
+pub use processor_io::{Before, ProcessorIo};
 pub use registers::{Register, Slot, slot_of};
+pub use videos::Video;

@@ -29,7 +29,7 @@ const INTERRUPTS_OF_SEVEN: u32 = 0x0F_1F7F;
 /// The bits that KEYCNT keeps. (GBATEK, "DS Keypad".)
 const KEPT_OF_KEYCNT: u16 = 0xC3FF;
 
-/// One processor's interrupt words, timers, KEYCNT, halt and DMA channels, and whether a channel runs.
+/// What a processor has of its own: its interrupt words, timers, KEYCNT, halt and DMA channels, and whether a channel runs.
 #[derive(Drop)]
 pub struct ProcessorIo {
     irq: Irq,

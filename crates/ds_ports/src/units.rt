@@ -1,6 +1,6 @@
 //! The units behind the ports, and what each register is.
 
-ghost use Rattle.std.specs.Prelude.{◌≡◌, ◌<◌, ◌%◌, ◌^◌, IfOk, IsSome, Some};
+ghost use Rattle.std.specs.Prelude.{◌≡◌, ◌<◌, ◌≤◌, ◌%◌, ◌^◌, IfOk, IsSome, Some};
 ghost use Rattle.ds_base.specs.Bits.{bit, flag};
 ghost use Rattle.ds_base.specs.Schedules.{IsEarly};
 ghost use Rattle.ds_dma.specs.States.{dma_due};
@@ -11,15 +11,17 @@ ghost use Rattle.vram_banks.specs.Cells.{vram_written};
 ghost use Rattle.ds_ports.specs.Dues.{IsIo, io_due, first_io_due};
 ghost use Rattle.ds_ports.specs.ProcessorIo.{before_move};
 ghost use Rattle.ds_ports.specs.Registers.{bank_set, card_refusal, division_set, divcnt_word, fifo_control_set, halt_refusal, after_write, meaning_of, processor_io_after, root_set, sqrtcnt_word, sync_set, with_word_of_two, word_of_two, word_received, word_sent};
-ghost use Rattle.ds_ports.specs.Io.{both_raised, channel_moved, channel_put_back, channels_triggered, division_done, keys_pressed, io_of, root_done, timer_overflows, io_at_boot, with_halted, with_io_of};
+ghost use Rattle.ds_ports.specs.Io.{both_raised, channel_moved, channel_put_back, channels_triggered, io_at_boot, io_event, io_of, keys_pressed, timer_overflows, video_done, with_halted, with_io_of};
+ghost use Rattle.ds_ports.specs.Videos.{video_due};
 
 use crate::processor_io::{Before, ProcessorIo, extkeyin, keyinput};
 use crate::registers::Register;
+use crate::videos::Video;
 use ds_base::{Due, LeftKind, Proc, Raised, Space, Stop, Tick, Width};
 use ds_dma::{Cause, DmaPort};
 use ds_ipc::Ipc;
 use ds_math::{Divider, Root};
-use ds_runs::{Actor, earlier, entry};
+use ds_runs::{Actor, earlier, earlier_than, entry};
 use std::alloc::{AllocError, Global};
 use std::marker::Model;
 use vram_banks::Vram;
@@ -33,6 +35,7 @@ const KEPT_OF_ROMCTRL: u32 = 0x7F7F_FFFF;
 /// All units behind the ports.
 #[derive(Drop)]
 pub struct Units {
+    video: Video,
     vram: Vram,
     wramcnt: u8,
     ipc: Ipc,
@@ -52,6 +55,7 @@ impl Model for Units {
     ghost Value = { IoState };
 
     ghost view = { λ u. record {
+      video = u.video;
       vram = u.vram;
       wramcnt = u.wramcnt;
       ipc = u.ipc;
@@ -148,6 +152,7 @@ impl Units {
         ensures { IfOk result (λ io. io ≡ io_at_boot) }
     {
         Ok(Units {
+            video: Video::new(),
             vram: Vram::new(alloc)?,
             wramcnt: WRAMCNT_AT_BOOT,
             ipc: Ipc::new(alloc)?,
@@ -159,6 +164,14 @@ impl Units {
             nine: ProcessorIo::new(Proc::Nine),
             seven: ProcessorIo::new(Proc::Seven),
         })
+    }
+
+    /// The display.
+    #[inline(always)]
+    pub fn video(&self) -> &Video
+        ensures { result.now ≡ self.now.video }
+    {
+        &self.video
     }
 
     /// What WRAMCNT keeps.
@@ -208,7 +221,7 @@ impl Units {
     }
 
     /// A processor's timer overflows, and its interrupts are raised.
-    pub fn overflow(&mut self, proc: Proc, which: u8)
+    fn overflow(&mut self, proc: Proc, which: u8)
         requires which { which < 4 }
         requires due { IsSome (timer_due (timer_at (io_of self.old proc).timers which)) }
         requires early { IsEarly (timer_due (timer_at (io_of self.old proc).timers which)) }
@@ -230,41 +243,61 @@ impl Units {
             Actor::Divider => self.divider.due(),
             Actor::SquareRoot => self.root.due(),
             Actor::Dma { proc, channel } => self.processor_io(proc).channel_due(channel),
-            Actor::KeyScript | Actor::Video | Actor::Geometry | Actor::Card => None,
-            Actor::Processor(_) => None,
+            Actor::Video => Some(Tick(self.video.due())),
+            Actor::KeyScript | Actor::Geometry | Actor::Card | Actor::Processor(_) => None,
         }
     }
 
     /// The first actor behind the ports that is due.
     #[tactic(auto, using(crate::proofs::Dues::first_by_parts))]
-    pub fn first_due(&self) -> Option<Due>
-        ensures { result ≡ first_io_due self.now }
+    pub fn first_due(&self) -> Due
+        ensures { Some result ≡ first_io_due self.now }
     {
         let mut first = earlier(self.nine.first_channel(14), self.seven.first_channel(18));
         first = earlier(entry(11, self.root.due()), first);
         first = earlier(entry(10, self.divider.due()), first);
         first = earlier(self.seven.first_timer(6), first);
-        earlier(self.nine.first_timer(2), first)
+        first = earlier(self.nine.first_timer(2), first);
+        let video = Due {
+            tick: Tick(self.video.due()),
+            rank: 1,
+        };
+        earlier_than(video, first)
     }
 
-    /// The running division is done.
-    pub fn finish_division(&mut self)
-        requires { IsSome self.old.divider.due }
-        ensures { self.new ≡ division_done self.old }
+    /// The event of an actor behind the ports that is due. A DMA channel's is told by `move_channel`.
+    pub fn event(&mut self, actor: Actor)
+        requires numbered { IsNumbered actor }
+        requires due { IsSome (io_due actor self.old) }
+        requires early { IsEarly (io_due actor self.old) }
+        ensures { self.new ≡ io_event actor self.old }
     {
-        self.divider.finish();
+        match actor {
+            Actor::Video => self.show(),
+            Actor::Timer { proc, number } => self.overflow(proc, number),
+            Actor::Divider => self.divider.finish(),
+            Actor::SquareRoot => self.root.finish(),
+            Actor::KeyScript | Actor::Geometry | Actor::Card => {}
+            Actor::Dma { .. } | Actor::Processor(_) => {}
+        }
     }
 
-    /// The running square root is done.
-    pub fn finish_root(&mut self)
-        requires { IsSome self.old.root.due }
-        ensures { self.new ≡ root_done self.old }
+    /// The display's event triggers the DMA channels that wait for it, and the display goes on.
+    fn show(&mut self)
+        requires { video_due self.old.video ≤ 2 ^ 56 }
+        ensures { self.new ≡ video_done self.old }
     {
-        self.root.finish();
+        let now = Tick(self.video.due());
+        if self.video.makes_whole() {
+            self.trigger(Cause::VBlank, now);
+        } else if self.video.blanks_drawn() {
+            self.trigger(Cause::HBlank, now);
+        }
+        self.video.event();
     }
 
     /// An event triggers the channels of both processors that wait for it.
-    pub fn trigger(&mut self, cause: Cause, now: Tick)
+    fn trigger(&mut self, cause: Cause, now: Tick)
         requires { IsEarly (Some now) }
         ensures { self.new ≡ channels_triggered cause now self.old }
     {

@@ -1,13 +1,12 @@
 //! DMA channels, through their ports.
 
 use crate::tests::lines::Line::{
-    At, Boot, ChannelDue, Event, First, Is, Moves, NoneDue, PutsBack, Reads, Refused, Takes, Write,
+    At, Boot, ChannelDue, First, Is, Moves, NoneDue, PutsBack, Reads, Refused, Shows, Takes, Write,
 };
 use crate::tests::lines::{NEVER, try_lines};
 use ds_base::LeftKind::{DmaStart, NotYet};
 use ds_base::Proc::{Nine, Seven};
 use ds_base::Width::{Byte, Half, Word};
-use ds_dma::Cause::{HBlank, VBlank};
 use std::alloc::AllocError;
 
 /// Each processor, and the rank of its channel 0.
@@ -280,19 +279,22 @@ fn an_event_triggers_channels_of_both(rt: HostRuntime) -> Result<(), AllocError>
             Write(Seven, 0x0B8, Word, 0x9000_0001),
             Is(Nine, false, false),
             Is(Seven, false, false),
-            At(40),
-            Event(HBlank),
-            ChannelDue(Nine, 2, 44),
-            First(44, 16),
+            // the H-blank of line 0
+            Shows(1),
+            ChannelDue(Nine, 2, 3216),
+            First(3216, 16),
             Is(Nine, false, true),
             Is(Seven, false, false),
-            At(42),
-            Event(VBlank),
-            // the channel with the least number of those that run
-            ChannelDue(Nine, 1, 46),
+            // the start of line 191, and its H-blank
+            Shows(382),
+            ChannelDue(Nine, 1, NEVER),
+            ChannelDue(Seven, 0, NEVER),
+            // the start of line 192; the channel with the least number of those that run
+            Shows(1),
+            ChannelDue(Nine, 1, 817_924),
             ChannelDue(Nine, 2, NEVER),
-            ChannelDue(Seven, 0, 46),
-            First(46, 15),
+            ChannelDue(Seven, 0, 817_924),
+            First(817_924, 15),
             Is(Nine, false, true),
             Is(Seven, false, true),
         ],

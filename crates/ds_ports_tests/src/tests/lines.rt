@@ -2,10 +2,10 @@
 
 ghost use Rattle.std.specs.Prelude.{◌≡◌, ◌%◌};
 ghost use Rattle.ds_ports.specs.Dues.{io_due};
+ghost use Rattle.ds_runs.specs.Actors.{IsNumbered};
 ghost use Rattle.ds_runs.specs.declared.actors.Actor.TheVariants as actors;
 
 use ds_base::{LeftKind, Proc, Space, Stop, Tick, Width};
-use ds_dma::Cause;
 use ds_ports::{Before, Io};
 use ds_runs::Actor;
 use std::alloc::{AllocError, Global};
@@ -30,8 +30,8 @@ pub enum Line {
     Takes(Proc, u32, Width, u32),
     /// From now on these keys are pressed, a bit each.
     Press(u16),
-    /// An event triggers channels.
-    Event(Cause),
+    /// So many events of the display, each when it is due.
+    Shows(u32),
     /// A processor halts.
     Halt(Proc),
     /// A halted processor goes on.
@@ -50,7 +50,7 @@ pub enum Line {
     RootDue(u64),
     /// What is due first: its tick and its rank.
     First(u64, u8),
-    /// Nothing is due.
+    /// Nothing but the display's first event is due.
     NoneDue,
     /// A processor's timer overflows when it is due.
     Overflows(Proc, u8),
@@ -78,6 +78,9 @@ type Seen = (u64, u64, u64);
 
 /// What a line shows that asks nothing.
 const DONE: Seen = (0, 0, 0);
+
+/// The display's first event, the H-blank of line 0: its tick and its rank.
+const FIRST_BLANK: Seen = (3212, 1, 0);
 
 /// What is shown where what a line asks can't be done.
 const NOTHING: Seen = (NEVER, NEVER, NEVER);
@@ -153,39 +156,28 @@ impl Bench {
 
     /// What is due first.
     fn first(&self) -> Seen {
-        match self.io.first_due() {
-            Some(due) => (due.tick.0, due.rank.into(), 0),
-            None => NOTHING,
-        }
+        let due = self.io.first_due();
+        (due.tick.0, due.rank.into(), 0)
     }
 
-    /// A processor's timer overflows, where it is due.
-    fn overflow(&mut self, proc: Proc, number: u8) -> Seen {
-        let number = number % 4;
-        match self.io.io_due(Actor::Timer { proc, number }) {
+    /// The event of an actor, where it is due.
+    fn event(&mut self, actor: Actor) -> Seen
+        requires { IsNumbered actor }
+    {
+        match self.io.io_due(actor) {
             Some(due) if due.0 <= 1 << 56 => {
-                self.io.overflow(proc, number);
+                self.io.event(actor);
                 DONE
             }
             _ => NOTHING,
         }
     }
 
-    /// The running division is done, where one runs.
-    fn divide(&mut self) -> Seen {
-        if self.io.io_due(Actor::Divider).is_none() {
-            return NOTHING;
+    /// So many events of the display.
+    fn show(&mut self, events: u32) -> Seen {
+        for _ in 0..events {
+            let _ = self.event(Actor::Video);
         }
-        self.io.finish_division();
-        DONE
-    }
-
-    /// The running square root is done, where one runs.
-    fn root(&mut self) -> Seen {
-        if self.io.io_due(Actor::SquareRoot).is_none() {
-            return NOTHING;
-        }
-        self.io.finish_root();
         DONE
     }
 
@@ -193,7 +185,7 @@ impl Bench {
     fn moved(&mut self, proc: Proc, channel: u8) -> Seen {
         match channel_due(&self.io, proc, channel) {
             Some(due) if due.0 <= 1 << 56 => {
-                let unit = self.io.unit(proc);
+                let unit = self.io.processor(proc).unit();
                 self.before = Some(self.io.move_channel(proc, due));
                 (unit.from.into(), unit.to.into(), unit.width.bytes().into())
             }
@@ -224,10 +216,14 @@ impl Bench {
             Line::DivisionDue(tick) => { (tick_of(self.io.io_due(Actor::Divider)), (tick, 0, 0)) }
             Line::RootDue(tick) => { (tick_of(self.io.io_due(Actor::SquareRoot)), (tick, 0, 0)) }
             Line::First(tick, rank) => (self.first(), (tick, rank.into(), 0)),
-            Line::NoneDue => (self.first(), NOTHING),
-            Line::Overflows(proc, number) => (self.overflow(proc, number), DONE),
-            Line::Divides => (self.divide(), DONE),
-            Line::Roots => (self.root(), DONE),
+            Line::NoneDue => (self.first(), FIRST_BLANK),
+            Line::Shows(events) => (self.show(events), DONE),
+            Line::Overflows(proc, number) => {
+                let number = number % 4;
+                (self.event(Actor::Timer { proc, number }), DONE)
+            }
+            Line::Divides => (self.event(Actor::Divider), DONE),
+            Line::Roots => (self.event(Actor::SquareRoot), DONE),
             Line::Moves(proc, channel, from, to, width) => (
                 self.moved(proc, channel),
                 (from.into(), to.into(), width.bytes().into()),
@@ -243,7 +239,6 @@ impl Bench {
             Line::At(now) => self.now = now,
             Line::Read(proc, at, width) => self.io.read(proc, at % 0x100_0000, width),
             Line::Press(keys) => self.io.press(keys % 0x1000),
-            Line::Event(cause) => self.io.trigger(cause, Tick(self.now.into())),
             Line::Halt(proc) => self.io.set_halted(proc, true),
             Line::Wake(proc) => self.io.set_halted(proc, false),
             Line::WriteVram(space, at, value) => {
@@ -269,14 +264,18 @@ impl Bench {
             }
             Line::Is(proc, halted, blocked) => (
                 (
-                    self.io.is_halted(proc).into(),
-                    self.io.is_blocked(proc).into(),
+                    self.io.processor(proc).is_halted().into(),
+                    self.io.processor(proc).is_blocked().into(),
                     0,
                 ),
                 (halted.into(), blocked.into(), 0),
             ),
             Line::Asks(proc, up, wakes) => (
-                (self.io.line(proc).into(), self.io.wakes(proc).into(), 0),
+                (
+                    self.io.processor(proc).line().into(),
+                    self.io.processor(proc).wakes().into(),
+                    0,
+                ),
                 (up.into(), wakes.into(), 0),
             ),
             Line::Vram(space, at, value) => (

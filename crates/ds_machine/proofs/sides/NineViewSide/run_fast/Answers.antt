@@ -1,5 +1,7 @@
 use Rattle.ds_base.specs.declared.processors.Arch.TheVariants.{V5}
 use Rattle.arm_ops.specs.Meanings.{operation_meaning}
+use Rattle.ds_base.specs.declared.processors.Proc.TheVariants.{Nine}
+use Rattle.ds_map.specs.Maps.{map_seen}
 use Rattle.ds_map.specs.Views.{NineReach}
 use Rattle.ds_machine.proofs.RamAccesses.{nine_needs_none, nine_stays}
 use Rattle.ds_machine.proofs.DecodedOperations.{nine_executes}
@@ -7,18 +9,18 @@ use Rattle.ds_machine.proofs.sides.NineViewSide.run_fast.Goals as goal
 
 pub returns-clause-executes : goal.returns-clause-executes
 returns-clause-executes c = λ some number instr is.
-    (let r : NineReach = record { map = c.args.self.now.map.now; cp15 = c.args.self.now.cp.now; itcm = c.args.self.now.itcm.now; dtcm = c.args.self.now.dtcm.now; now = c.args.self.now.now } in
+    (let r : NineReach = record { map = map_seen Nine c.args.self.now.map.now c.args.self.now.io.now; cp15 = c.args.self.now.cp.now; itcm = c.args.self.now.itcm.now; dtcm = c.args.self.now.dtcm.now; now = c.args.self.now.now } in
     nine_executes c.args.s.now r c.args.operation.now number instr (c.run.ensures.known some) is)
 
 pub returns-clause-built : goal.returns-clause-built
 returns-clause-built c = λ some.
-    (let r : NineReach = record { map = c.args.self.now.map.now; cp15 = c.args.self.now.cp.now; itcm = c.args.self.now.itcm.now; dtcm = c.args.self.now.dtcm.now; now = c.args.self.now.now } in
+    (let r : NineReach = record { map = map_seen Nine c.args.self.now.map.now c.args.self.now.io.now; cp15 = c.args.self.now.cp.now; itcm = c.args.self.now.itcm.now; dtcm = c.args.self.now.dtcm.now; now = c.args.self.now.now } in
     nine_needs_none r (operation_meaning V5 c.args.s.now c.args.operation.now).accesses
     (c.run.ensures.ram some))
 
 pub returns-clause-io : goal.returns-clause-io
 returns-clause-io c =
-    let r : NineReach = record { map = c.args.self.now.map.now; cp15 = c.args.self.now.cp.now; itcm = c.args.self.now.itcm.now; dtcm = c.args.self.now.dtcm.now; now = c.args.self.now.now } in
-    let after : NineReach = record { map = c.run.new.bus.map.now; cp15 = c.run.new.bus.cp.now; itcm = c.run.new.bus.itcm.now; dtcm = c.run.new.bus.dtcm.now; now = c.run.new.bus.now } in
+    let r : NineReach = record { map = map_seen Nine c.args.self.now.map.now c.args.self.now.io.now; cp15 = c.args.self.now.cp.now; itcm = c.args.self.now.itcm.now; dtcm = c.args.self.now.dtcm.now; now = c.args.self.now.now } in
+    let after : NineReach = record { map = map_seen Nine c.run.new.bus.map.now c.run.new.bus.io.now; cp15 = c.run.new.bus.cp.now; itcm = c.run.new.bus.itcm.now; dtcm = c.run.new.bus.dtcm.now; now = c.run.new.bus.now } in
     nine_stays c.run.result c.args.s.now r after (operation_meaning V5 c.args.s.now c.args.operation.now)
     (λ e. (c.run.ensures.none e).1) c.run.ensures.state c.run.ensures.ram

@@ -1,11 +1,16 @@
 use Rattle.std.specs.Prelude.{ℕ, ◌+◌, ◌*◌, ◌==◌, nat_lt, ◌&&◌, not, Bool, true, false, if◌then◌else◌}
-use Rattle.ds_base.specs.declared.ticks.Tick.{Tick}
-use Rattle.ds_dma.specs.declared.controls.Cause.TheVariants.{VBlank, HBlank}
-use Rattle.ds_ports.specs.Io.{IoState, channels_triggered}
-use Rattle.ds_machine.specs.States.{VideoState}
 
--- The display's events (GBATEK, "DS Video", LCD timings; the tick of H-blank is our choice). A line has 355 dots of 6 bus clocks,
--- which are 4,260 ticks, and a frame has 263 lines, which are 1,120,380 ticks.
+-- The display (GBATEK, "DS Video", LCD timings; the tick of H-blank is our choice). A line has 355 dots of 6 bus clocks, which are 4,260
+-- ticks, and a frame has 263 lines, which are 1,120,380 ticks.
+
+-- where it is: how many whole frames came before, the line from 0 to 262, and whether the line's H-blank event has been
+pub record VideoState : Type 0 where
+  pub frame : ℕ
+  pub line : ℕ
+  pub blanked : Bool
+
+abbrev pub video_at_boot : VideoState
+video_at_boot = record { frame = 0; line = 0; blanked = false }
 
 -- the tick at which the display's present line began
 abbrev pub line_start : VideoState → ℕ
@@ -29,10 +34,3 @@ makes_whole v = v.blanked && (v.line == 191)
 -- the next event is the H-blank of a line that is drawn: one of lines 0 to 191
 abbrev pub blanks_drawn : VideoState → Bool
 blanks_drawn v = not v.blanked && nat_lt v.line 192
-
--- what the next event triggers: the start of line 192 V-blank DMA of both processors, and the H-blank of a line that is drawn H-blank DMA (GBATEK, "DS
--- DMA Transfers")
-abbrev pub triggered_by_video : VideoState → IoState → IoState
-triggered_by_video v u =
-    let now : Tick = record { 0 = video_due v } in
-    if makes_whole v then channels_triggered VBlank now u else (if blanks_drawn v then channels_triggered HBlank now u else u)

@@ -1,7 +1,7 @@
 //! The display's events.
 
-ghost use Rattle.std.specs.Prelude.{◌≡◌, ◌≤◌, ◌^◌, false};
-ghost use Rattle.ds_machine.specs.Videos.{video_due, video_after, blanks_drawn, makes_whole};
+ghost use Rattle.std.specs.Prelude.{◌≡◌, ◌≤◌, ◌^◌};
+ghost use Rattle.ds_ports.specs.Videos.{video_at_boot, video_due, video_after, blanks_drawn, makes_whole};
 
 use std::marker::Model;
 
@@ -24,8 +24,7 @@ pub struct Video {
 }
 
 impl Model for Video {
-    ghost use Rattle.ds_machine.specs.States.{VideoState};
-    ghost use Rattle.ds_machine.specs.Videos.{video_due};
+    ghost use Rattle.ds_ports.specs.Videos.{VideoState, video_due};
     ghost use Rattle.std.specs.Prelude.{◌≡◌, ◌≤◌};
 
     ghost Value = { VideoState };
@@ -37,8 +36,8 @@ impl Model for Video {
 
 impl Video {
     /// The display at boot: line 0 of the first frame begins.
-    pub fn new() -> Video
-        ensures { result ≡ record { frame = 0; line = 0; blanked = false } }
+    pub(crate) fn new() -> Video
+        ensures { result ≡ video_at_boot }
     {
         Video {
             frame: 0,
@@ -70,16 +69,15 @@ impl Video {
         !self.blanked && self.line < VBLANK_LINE
     }
 
-    /// The next event. The answer is whether it made a frame whole.
-    pub fn event(&mut self) -> bool
+    /// The next event.
+    pub(crate) fn event(&mut self)
         requires { video_due self.old ≤ 2 ^ 56 }
-        ensures state { self.new ≡ video_after self.old }
-        ensures whole { result ≡ makes_whole self.old }
+        ensures { self.new ≡ video_after self.old }
     {
         if !self.blanked {
             self.blanked = true;
             self.due += REST_TICKS;
-            return false;
+            return;
         }
         self.blanked = false;
         self.due += HBLANK_TICKS;
@@ -89,6 +87,5 @@ impl Video {
         } else {
             self.line += 1;
         }
-        self.line == VBLANK_LINE
     }
 }

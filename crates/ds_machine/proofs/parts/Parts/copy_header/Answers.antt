@@ -1,6 +1,6 @@
 use Rattle.std.proofs.Common.{ℕ, ◌≡◌, ◌≤◌, ◌+◌, List, length, take, arith, sym}
 use Rattle.std.proofs.lemmas.List.{length-take-le}
-use Rattle.ds_machine.proofs.boots.copy_header.Goals as goal
+use Rattle.ds_machine.proofs.parts.Parts.copy_header.Goals as goal
 
 front : (xs : List ℕ) → 512 ≤ length xs → length (take 368 xs) ≡ 368
 front xs long = length-take-le 368 xs (omega arith)

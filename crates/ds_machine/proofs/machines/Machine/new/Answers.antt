@@ -1,0 +1,7 @@
+use Rattle.std.proofs.Common.{sym, subst}
+use Rattle.ds_machine.specs.Reference.{HasCounted}
+use Rattle.ds_machine.proofs.Booting.{counted_booted}
+use Rattle.ds_machine.proofs.machines.Machine.new.Goals as goal
+
+pub invariant_of-result : goal.invariant_of-result
+invariant_of-result c = (subst HasCounted (sym c.in_ok-parts.ensures) (counted_booted c.args.cart.now c.args.keys), c.next_event-next_event.ensures)

@@ -1,0 +1,12 @@
+use Rattle.std.proofs.Common.{◌∙◌, ap}
+use Rattle.ds_map.specs.Moves.{unit_moved}
+use Rattle.ds_machine.specs.States.{MachineState}
+use Rattle.ds_machine.specs.Steps.{map_of, with_map}
+use Rattle.ds_machine.specs.contracts.parts.Parts.{the_view}
+use Rattle.ds_machine.proofs.Reached.{left_map}
+use Rattle.ds_machine.proofs.parts.Parts.move_unit.Goals as goal
+
+pub returns-clause-map : goal.returns-clause-map
+returns-clause-map c =
+    left_map c.args.proc (the_view c.self.inside) c.move_unit.new.self c.move_unit.new.io _ c.move_unit.ensures.apart c.move_unit.ensures.map
+    ∙ ap (λ (s : MachineState). with_map c.args.proc s (unit_moved c.args.proc c.args.tick c.args.unit (map_of c.args.proc s))) c.self.view_is

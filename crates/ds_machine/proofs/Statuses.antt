@@ -1,4 +1,4 @@
-use Rattle.std.proofs.Common.{ℕ, ◌≡◌, ◌+◌, Bool, true, false, if◌then◌else◌, List, [], ◌∷◌, ◌++◌, All, Option, Some, None, refl, sym, subst, arith}
+use Rattle.std.proofs.Common.{ℕ, ◌≡◌, ◌+◌, Bool, true, false, if◌then◌else◌, List, [], ◌∷◌, ◌++◌, take, All, Option, Some, None, refl, sym, subst, arith}
 use Rattle.std.proofs.lemmas.List.Elements.{All-cons, All-nil}
 use Rattle.ds_base.specs.declared.keys.KeyLine.{KeyLine}
 use Rattle.ds_base.specs.declared.left_out.LeftOut.{LeftOut}
@@ -21,7 +21,7 @@ use Rattle.arm_exec.proofs.StatusSteps.{step_has}
 use Rattle.arm7_exec.specs.Arm7.{arm7}
 use Rattle.arm9_exec.specs.Statuses.{HasNineStatuses}
 use Rattle.arm9_exec.proofs.Statuses.{step9_has}
-use Rattle.ds_header.specs.Fields.{image_entry}
+use Rattle.ds_header.specs.Fields.{image_entry, image_of, image_place}
 use Rattle.ds_map.specs.Moves.{next_unit, unit_moved, unit_needs, unit_refusal}
 use Rattle.ds_map.specs.Views.{NineReach, SevenReach, nine_memory, seven_memory}
 use Rattle.ds_ports.specs.Dues.{io_due}
@@ -30,7 +30,8 @@ use Rattle.ds_runs.specs.Runs as runs
 use Rattle.ds_runs.specs.Runs.{Ending, At, MachineStep, Makes, Stops, Runs, over, stops, more}
 use Rattle.ds_runs.specs.declared.actors.Actor as actor
 use Rattle.ds_runs.specs.declared.actors.Actor.TheVariants.{KeyScript, Video, Timer, Divider, SquareRoot, Geometry, Card, Dma, Processor}
-use Rattle.ds_machine.specs.Booted.{machine_booted, stacks_of}
+use Rattle.ds_machine.specs.Booted.{header_bytes, header_place, machine_blank, machine_booted, stacks_of, with_image}
+use Rattle.ds_machine.specs.Boots.{copied, stored}
 use Rattle.ds_machine.specs.Channels.{channel_step, delayed_past, moved_by, moved_unless}
 use Rattle.ds_machine.specs.OwnSteps.{step_needs}
 use Rattle.ds_machine.specs.Reference.{FastStep, Shown, after_line, awake, due_by, reference, reference_step, step_by, stepped_of}
@@ -39,7 +40,7 @@ use Rattle.ds_machine.specs.States.{MachineState}
 use Rattle.ds_machine.specs.declared.answers.Done as answer
 use Rattle.ds_machine.specs.declared.answers.Done.TheVariants as answers
 use Rattle.ds_machine.specs.Statuses.{HasBothStatuses, BootsWithStatuses, RunsKeepStatuses, StepsKeepStatuses, left_by}
-use Rattle.ds_machine.specs.Steps.{goes_on, gone_by, line_of, machine_concluded, nine_reach, outcome_of, processor_of, processor_step, seven_reach, tick_of, wakes, woken, woken_one}
+use Rattle.ds_machine.specs.Steps.{goes_on, gone_by, line_of, machine_concluded, map_of, nine_reach, outcome_of, processor_of, processor_step, seven_reach, tick_of, wakes, with_map, woken, woken_one}
 use Rattle.ds_machine.proofs.OwnSteps.{is_step7, is_step9}
 use Rattle.ds_machine.proofs.Taken.{taken_unsupported}
 
@@ -131,13 +132,13 @@ moved_has rank proc now (Some stop) s h = h
 unless_has : (rank : ℕ) (proc : Proc) (now : Tick) (needed : Option ℕ) (unit : DmaUnit) (s : MachineState) → HasBothStatuses s
     → (let step : MachineStep MachineState Shown LeftOut = moved_unless rank proc now needed unit s in HasBothStatuses (left_by step))
 unless_has rank proc now None unit s h =
-    moved_has rank proc now (unit_refusal proc now unit s.map) (record s { map = unit_moved proc now unit s.map }) (record { nine = h.nine; seven = h.seven })
+    moved_has rank proc now (unit_refusal proc now unit (map_of proc s)) (with_map proc s (unit_moved proc now unit (map_of proc s))) (record { nine = h.nine; seven = h.seven })
 unless_has rank proc now (Some value) unit s h = h
 
 channel_has : (rank : ℕ) (proc : Proc) (due : Option Tick) (s : MachineState) → HasBothStatuses s
     → (let step : MachineStep MachineState Shown LeftOut = channel_step rank proc due s in HasBothStatuses (left_by step))
 channel_has rank proc None s h = h
-channel_has rank proc (Some now) s h = unless_has rank proc now (unit_needs proc s.map.io.wramcnt (next_unit s.map proc)) (next_unit s.map proc) s h
+channel_has rank proc (Some now) s h = unless_has rank proc now (unit_needs proc s.io.wramcnt (next_unit s.io proc)) (next_unit s.io proc) s h
 
 step_has_by : (rank : ℕ) (a : actor.Actor) (s : MachineState) → HasBothStatuses s → HasBothStatuses (left_by (step_by rank a s))
 step_has_by rank KeyScript s h = line_has s.keys s h
@@ -145,9 +146,9 @@ step_has_by rank Video s h = record { nine = h.nine; seven = h.seven }
 step_has_by rank (Timer proc number) s h = record { nine = h.nine; seven = h.seven }
 step_has_by rank Divider s h = record { nine = h.nine; seven = h.seven }
 step_has_by rank SquareRoot s h = record { nine = h.nine; seven = h.seven }
-step_has_by rank Geometry s h = h
-step_has_by rank Card s h = h
-step_has_by rank (Dma proc channel) s h = channel_has rank proc (io_due (Dma proc channel) s.map.io) s h
+step_has_by rank Geometry s h = record { nine = h.nine; seven = h.seven }
+step_has_by rank Card s h = record { nine = h.nine; seven = h.seven }
+step_has_by rank (Dma proc channel) s h = channel_has rank proc (io_due (Dma proc channel) s.io) s h
 step_has_by rank (Processor proc) s h = processor_has rank proc s h
 
 -- ---- waking
@@ -197,8 +198,13 @@ core_boots : (arch : Arch) (entry : ℕ) (stacks : List ℕ) → HasStatuses arc
 core_boots V4 entry stacks = record { cpsr = refl; saved = no_bits V4 }
 core_boots V5 entry stacks = record { cpsr = refl; saved = no_bits V5 }
 
-pub boots_with_statuses : BootsWithStatuses
-boots_with_statuses file keys = record {
+-- what is copied leaves the registers
+copied_has : (proc : Proc) (s : MachineState) (at : ℕ) (bytes : List ℕ) → HasBothStatuses s → HasBothStatuses (copied proc s at bytes)
+copied_has proc s at [] h = h
+copied_has proc s at (byte ∷ rest) h = copied_has proc (stored proc s at byte) (at + 1) rest (record { nine = h.nine; seven = h.seven })
+
+blank_has : (file : List ℕ) (keys : List KeyLine) → HasBothStatuses (machine_blank file keys)
+blank_has file keys = record {
   nine = record {
     processor = core_boots V5 (image_entry file Nine) (stacks_of Nine);
     control = omega arith;
@@ -207,6 +213,14 @@ boots_with_statuses file keys = record {
   };
   seven = core_boots V4 (image_entry file Seven) (stacks_of Seven);
 }
+
+pub boots_with_statuses : BootsWithStatuses
+boots_with_statuses file keys =
+    let nine = with_image Nine (machine_blank file keys) file in
+    let seven = with_image Seven nine file in
+    copied_has Nine seven header_place (take header_bytes file)
+    (copied_has Seven nine (image_place file Seven) (image_of file Seven)
+    (copied_has Nine (machine_blank file keys) (image_place file Nine) (image_of file Nine) (blank_has file keys)))
 
 -- where a run ends that isn't stopped
 abbrev EndHas : Ending MachineState LeftOut → Type 0

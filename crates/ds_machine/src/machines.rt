@@ -99,7 +99,7 @@ impl Machine {
     /// processors have no bits but those that are kept.
     pub fn laws(&self)
         ensures sound { IsSound self.now }
-        ensures ipc { AreSides self.now.map.io.ipc }
+        ensures ipc { AreSides self.now.io.ipc }
         ensures statuses { HasBothStatuses self.now }
     {
         self.parts.laws();

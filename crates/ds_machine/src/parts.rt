@@ -150,9 +150,9 @@ impl Parts {
 
     /// Does nothing; its contract states what holds of both sides of the IPC at every time.
     pub fn ipc_laws(&self)
-        ensures { AreSides self.now.map.io.ipc }
+        ensures { AreSides self.now.io.ipc }
     {
-        self.map.io().ipc_laws();
+        self.io.ipc_laws();
     }
 
     /// What a processor fetches at an address.

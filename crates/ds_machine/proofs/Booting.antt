@@ -151,7 +151,7 @@ sound_booted file keys are =
 
 -- no step was taken
 
-none_booted : (file : List ℕ) (keys : List KeyLine) → counts_of (machine_booted file keys) ≡ 0
+pub none_booted : (file : List ℕ) (keys : List KeyLine) → counts_of (machine_booted file keys) ≡ 0
 none_booted file keys =
     let stays = booted_stays file keys in
     let nine = ap (λ (p : ProcessorState). p.steps) stays.nine in

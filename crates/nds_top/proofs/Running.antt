@@ -3,6 +3,7 @@ use Rattle.ds_base.specs.declared.keys.KeyLine.{KeyLine}
 use Rattle.ds_io.specs.Faults.{Rose}
 use Rattle.ds_machine.specs.Booted.{machine_booted}
 use Rattle.ds_machine.specs.States.{MachineState}
+use Rattle.ds_machine.proofs.Booting.{none_booted}
 use Rattle.run_ahead.specs.Consoles.{ConsoleState}
 use Rattle.run_ahead.specs.Turns.{HasTurned, IsAfterItsTurns, TurnsAddUp}
 use Rattle.nds_top.specs.Answers.{Call, IsUntouched, RunGives, switched_on}
@@ -26,7 +27,10 @@ at_ticks limit ticks e = omega (arith, e)
 -- a console that was switched on counts the steps of its turns
 pub after_its_turns : (until : ℕ) (file : List ℕ) (lines : List KeyLine) (now : ConsoleState) → TurnsAddUp → HasTurned until (switched_on (machine_booted file lines)) now
     → IsAfterItsTurns until (switched_on (machine_booted file lines)) now
-after_its_turns until file lines now sum t = record { turned = t; counted = (let e = sum until (switched_on (machine_booted file lines)) now t in omega (arith, e)) }
+after_its_turns until file lines now sum t = record {
+  turned = t;
+  counted = (let e = sum until (switched_on (machine_booted file lines)) now t in let none = none_booted file lines in omega (arith, e, none));
+}
 
 -- what a refusal of the files gives, where nothing was done
 pub refused_gives : {S : Type 0} (c : Call S) (cart : List ℕ) (keys : Option (List ℕ)) (ticks : ℕ) (keep : Keep) (named : List ℕ) (status : Status) → IsUntouched c

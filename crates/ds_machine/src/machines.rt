@@ -42,7 +42,6 @@ impl Model for Machine {
 impl Machine {
     /// The machine as it is when it is switched on with a cartridge and a key script: ARM9's image is copied to memory, then ARM7's, then the
     /// header; both processors are due at once. All memory of a run is taken here.
-    #[tactic(auto, using(crate::proofs::Statuses::boots_with_statuses))]
     pub fn new(alloc: Global, cart: &Cart, keys: Keys) -> Result<Machine, AllocError>
         ensures { IfOk result (λ machine. machine ≡ machine_booted cart.now keys) }
     {

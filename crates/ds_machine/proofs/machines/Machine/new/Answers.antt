@@ -1,7 +1,12 @@
 use Rattle.std.proofs.Common.{sym, subst}
 use Rattle.ds_machine.specs.Reference.{HasCounted}
+use Rattle.ds_machine.specs.Statuses.{HasBothStatuses}
 use Rattle.ds_machine.proofs.Booting.{counted_booted}
+use Rattle.ds_machine.proofs.Statuses.{boots_with_statuses}
 use Rattle.ds_machine.proofs.machines.Machine.new.Goals as goal
 
 pub invariant_of-result : goal.invariant_of-result
-invariant_of-result c = (subst HasCounted (sym c.in_ok-parts.ensures) (counted_booted c.args.cart.now c.args.keys), c.next_event-next_event.ensures)
+invariant_of-result c =
+    (subst HasCounted (sym c.in_ok-parts.ensures) (counted_booted c.args.cart.now c.args.keys),
+    c.next_event-next_event.ensures,
+    subst HasBothStatuses (sym c.in_ok-parts.ensures) (boots_with_statuses c.args.cart.now c.args.keys))

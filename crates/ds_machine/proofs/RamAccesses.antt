@@ -4,7 +4,7 @@ use Rattle.ds_base.specs.Accesses.{Access, Fetch, Performed, Read, Write, perfor
 use Rattle.ds_base.specs.Memories.{memory_size}
 use Rattle.ds_base.specs.Numbers.{aligned_down, width_bytes}
 use Rattle.ds_base.specs.declared.left_out.Stop.{Stop}
-use Rattle.ds_base.specs.declared.memories.Memory.TheVariants.{Shared, Own7, Itcm, Dtcm}
+use Rattle.ds_base.specs.declared.memories.Memory.TheVariants.{Shared, Own7}
 use Rattle.ds_base.specs.declared.memories.Width.{Width}
 use Rattle.ds_base.specs.declared.memories.Width.TheVariants.{Byte, Half, Word}
 use Rattle.ds_base.specs.declared.processors.Arch.{Arch}

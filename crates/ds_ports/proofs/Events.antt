@@ -22,7 +22,7 @@ use Rattle.ds_ports.specs.Dues.{IsIo, IsUnchanged, IsProcessorIo, ReschedulesEac
 use Rattle.ds_ports.specs.ProcessorIo.{ProcessorIoState, blocks_processor, processor_io_moved, processor_io_raised, processor_io_triggered}
 use Rattle.ds_ports.specs.Io.{IoState, channel_moved, channels_triggered, division_done, io_event, io_of, keys_pressed, root_done, timer_overflows, triggered_by_video, video_done, with_io_of}
 use Rattle.ds_ports.specs.Videos.{VideoState, blanks_drawn, makes_whole, video_after, video_due}
-use Rattle.ds_ports.proofs.Later.{ProcessorIoReschedules, all_unchanged, divider_each, each_processor_io, io_is, processor_io_across, processor_io_each, processor_io_is, processor_io_there, root_each, told_unchanged, unchanged_is, unchanged_same}
+use Rattle.ds_ports.proofs.Later.{ProcessorIoReschedules, divider_each, each_processor_io, io_is, processor_io_across, processor_io_each, processor_io_is, processor_io_there, root_each, told_unchanged, unchanged_is, unchanged_same}
 
 -- What the events of the actors behind the ports make of the units, each at the tick at which it is due.
 

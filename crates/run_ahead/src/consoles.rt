@@ -87,7 +87,7 @@ impl Console {
     /// processors have no bits but those that are kept.
     pub fn laws(&self)
         ensures sound { IsSound self.now.machine }
-        ensures ipc { AreSides self.now.machine.map.io.ipc }
+        ensures ipc { AreSides self.now.machine.io.ipc }
         ensures statuses { HasBothStatuses self.now.machine }
     {
         self.machine.laws();

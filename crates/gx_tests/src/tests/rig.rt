@@ -188,11 +188,10 @@ impl Rig {
         match GeometryCommand::of(code) {
             Some(command)
                 if params.len() == command.parameters() as usize
-                    && self.engine.run_length() <= 1 << 56 =>
-                {
-                    self.engine.command(code, params);
-                    1
-                }
+                    && self.engine.run_length() <= 1 << 56 => {
+                self.engine.command(code, params);
+                1
+            }
             _ => 0,
         }
     }

@@ -6,7 +6,8 @@ use Rattle.ds_machine.proofs.Statuses.{boots_with_statuses}
 use Rattle.ds_machine.proofs.machines.Machine.new.Goals as goal
 
 pub invariant_of-result : goal.invariant_of-result
-invariant_of-result c =
-    (subst HasCounted (sym c.in_ok-parts.ensures) (counted_booted c.args.cart.now c.args.keys),
-    c.next_event-next_event.ensures,
-    subst HasBothStatuses (sym c.in_ok-parts.ensures) (boots_with_statuses c.args.cart.now c.args.keys))
+invariant_of-result c = (
+  subst HasCounted (sym c.in_ok-parts.ensures) (counted_booted c.args.cart.now c.args.keys),
+  c.next_event-next_event.ensures,
+  subst HasBothStatuses (sym c.in_ok-parts.ensures) (boots_with_statuses c.args.cart.now c.args.keys),
+)

@@ -15,11 +15,12 @@ use std::marker::Model;
 /// How many numbers are kept.
 const PLACES: usize = 16_384;
 
-/// A number with its instruction, or none, as an operation.
+/// A number with its instruction, or none, as an operation. The filler, always 0, makes it 32 bytes long, so that finding its place is a shift.
 #[derive(Clone, Copy)]
 struct CacheEntry<const VERSION: u32, const BITS: u32> {
     number: u32,
     operation: Operation,
+    filler: u32,
     ghost made: { operation_of (known VERSION BITS number) ≡ operation } by { Coded-set operation-code (operation_of (known VERSION BITS number)) operation },
 }
 
@@ -74,7 +75,11 @@ fn made<const VERSION: u32, const BITS: u32>(number: u32) -> CacheEntry<VERSION,
     ensures { result.number ≡ number }
 {
     let operation = operation(decoded::<VERSION, BITS>(number));
-    CacheEntry { number, operation }
+    CacheEntry {
+        number,
+        operation,
+        filler: 0,
+    }
 }
 
 impl<const VERSION: u32, const BITS: u32> CacheEntry<VERSION, BITS> {

@@ -257,9 +257,12 @@ fn store<B: Bus>(
     }
 }
 
-/// LDR, LDRB, STR and STRB at an address.
+/// Who executes a transfer as it is decoded.
+enum AsDecoded {}
+
+/// LDR, LDRB, STR and STRB at an address. The last type says who calls: each caller has a copy of its own, which can stand in line in its loop over steps.
 #[inline(always)]
-pub fn transfer_at<B: Bus>(
+pub fn transfer_at<B: Bus, Caller>(
     arch: Arch,
     s: &mut Registers,
     bus: &mut B,
@@ -308,7 +311,7 @@ pub fn transfer<B: Bus>(
     ensures same { B.identity bus.new ≡ B.identity bus.old }
 {
     let to = addressed(s, pre, up, write_back, rn, offset_value(s, offset));
-    transfer_at(arch, s, bus, load, byte, rn, rd, to)
+    transfer_at::<B, AsDecoded>(arch, s, bus, load, byte, rn, rd, to)
 }
 
 /// LDRSH (ARM manual, A4.1).
@@ -340,9 +343,9 @@ fn load_signed_half_or_byte<B: Bus>(
     }
 }
 
-/// STRH, LDRH, LDRSB and LDRSH at an address.
+/// STRH, LDRH, LDRSB and LDRSH at an address. The last type says who calls.
 #[inline(always)]
-pub fn half_transfer_at<B: Bus>(
+pub fn half_transfer_at<B: Bus, Caller>(
     arch: Arch,
     s: &mut Registers,
     bus: &mut B,
@@ -389,7 +392,7 @@ pub fn half_transfer<B: Bus>(
     ensures same { B.identity bus.new ≡ B.identity bus.old }
 {
     let to = addressed(s, pre, up, write_back, rn, short_offset_value(s, offset));
-    half_transfer_at(arch, s, bus, op, rn, rd, to)
+    half_transfer_at::<B, AsDecoded>(arch, s, bus, op, rn, rd, to)
 }
 
 /// Thumb's LDR of a literal, `immed` words behind r15, whose bits 1 and 0 are cleared (ARM manual, A7.1 "LDR (3)").

@@ -10,6 +10,7 @@ ghost use Rattle.arm_ops.specs.Operations.{HasAccess, HasOp, HasTransfer};
 
 use crate::operands::SecondOperand;
 use crate::operations::{DataAccess, Op, Transfer, TransferOp};
+use crate::running::Anywhere;
 use arm_core::{
     Bus, Registers, Stepped, Touch, access_touch, addressed, addressed_literal, half_touch,
     width_by,
@@ -73,10 +74,12 @@ pub(crate) fn make<B: Bus>(arch: Arch, s: &mut Registers, bus: &mut B, it: DataA
     ensures same { B.identity bus.new ≡ B.identity bus.old }
 {
     match it.op {
-        TransferOp::WordOrByte { load, byte } => transfer_at(
+        TransferOp::WordOrByte { load, byte } => transfer_at::<B, Anywhere>(
             arch, s, bus, load, byte, it.rn, it.rd, it.to,
         ),
-        TransferOp::HalfOrSigned { op } => half_transfer_at(arch, s, bus, op, it.rn, it.rd, it.to),
+        TransferOp::HalfOrSigned { op } => half_transfer_at::<B, Anywhere>(
+            arch, s, bus, op, it.rn, it.rd, it.to,
+        ),
     }
 }
 

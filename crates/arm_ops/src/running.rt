@@ -195,9 +195,9 @@ fn make_in_ram<B: Bus>(arch: Arch, s: &mut Registers, bus: &mut B, it: DataAcces
     }
     match it.op {
         TransferOp::WordOrByte { load, byte } => {
-            paid(transfer_at(arch, s, bus, load, byte, it.rn, it.rd, it.to))
+            paid(transfer_at::<B, InRam>(arch, s, bus, load, byte, it.rn, it.rd, it.to))
         }
-        TransferOp::HalfOrSigned { op } => paid(half_transfer_at(
+        TransferOp::HalfOrSigned { op } => paid(half_transfer_at::<B, InRam>(
             arch, s, bus, op, it.rn, it.rd, it.to,
         )),
     }

@@ -163,7 +163,7 @@ impl Side for NineView<'_> {
         run_made(Arch::V5, s, self, operation, access)
     }
 
-    #[inline(always)]
+    #[inline]
     #[tactic(auto, using(crate::proofs::RamAccesses::nine_refuses_none))]
     fn run_fast(&mut self, s: &mut Registers, operation: &Operation) -> u32 {
         run(Arch::V5, s, self, operation)
@@ -224,7 +224,7 @@ impl Side for SevenView<'_> {
         run_made(Arch::V4, s, self, operation, access)
     }
 
-    #[inline(always)]
+    #[inline]
     #[tactic(auto, using(crate::proofs::RamAccesses::seven_refuses_none))]
     fn run_fast(&mut self, s: &mut Registers, operation: &Operation) -> u32 {
         run(Arch::V4, s, self, operation)

@@ -49,10 +49,14 @@ fn next_operation<'a, V: Side, const VERSION: u32>(
     ensures fields { HasOperation result.now }
 {
     let at = s.pc();
-    if s.is_thumb() {
-        return half_at(decoder, at, view.fetched(at, Width::Half));
+    let thumb = s.is_thumb();
+    let width = if thumb { Width::Half } else { Width::Word };
+    let number = view.fetched(at, width);
+    if thumb {
+        half_at(decoder, at, number)
+    } else {
+        decoder.arm_operation(at, number)
     }
-    decoder.arm_operation(at, view.fetched(at, Width::Word))
 }
 
 /// What is fetched at r15, decoded.

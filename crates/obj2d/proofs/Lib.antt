@@ -1,3 +1,4 @@
 pub mod FormLemmas
 pub mod LayerLemmas
 pub mod StripLemmas
+pub mod WordLemmas

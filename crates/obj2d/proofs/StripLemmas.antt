@@ -1,6 +1,6 @@
-use Rattle.std.proofs.Common.{ℕ, Bool, true, false, ◌≡◌, ◌≢◌, ◌<◌, ◌+◌, ◌-◌, ◌*◌, ◌/◌, ◌%◌, ◌^◌, ◌==◌, inl, inr, List, get_or, refl, sym, ◌∙◌, ap, subst, arith}
-use Rattle.std.specs.Prelude.{nat_lt}
-use Rattle.std.proofs.lemmas.Bool.{cases_eq, cases_Bool, agree_below_at, eqb-true, ltb-true, lt-ltb, le-ltb}
+use Rattle.std.proofs.Common.{ℕ, Bool, true, false, ◌≡◌, ◌≢◌, ◌<◌, ◌≤◌, ◌+◌, ◌-◌, ◌*◌, ◌/◌, ◌%◌, ◌^◌, ◌==◌, inl, inr, List, get_or, refl, sym, ◌∙◌, ap, subst, arith}
+use Rattle.std.specs.Prelude.{nat_lt, if◌then◌else◌}
+use Rattle.std.proofs.lemmas.Bool.{cases_eq, cases_lt, cases_Bool, agree_below_at, eqb-true, ltb-true, lt-ltb, le-ltb}
 use Rattle.vram_banks.specs.Cells.{Banks, vram_byte}
 use Rattle.tiles2d.specs.Colours.{indexed_pixel, palette_colour, extended_colour}
 use Rattle.tiles2d.specs.Tiles.{nibble_at, flipped}
@@ -11,8 +11,9 @@ use Rattle.obj2d.specs.declared.objects.Object.{Object}
 use Rattle.obj2d.specs.Attributes.{object_at, turn_at, group, widths, shape, object_size, width, left_edge, box_width, object_has_256, palette_number, priority, mode, flips_across, is_affine}
 use Rattle.obj2d.specs.Places.{across, down, is_drawn, mirrored}
 use Rattle.obj2d.specs.ObjectPixels.{object_space, object_palette_space, object_index, object_colour, point_pixel, flat_pixel, turned_pixel, box_pixel, pixel_of}
-use Rattle.obj2d.specs.ObjectLayer.{SeenObject, pixel_at, with_object, seen_at}
+use Rattle.obj2d.specs.ObjectLayer.{SeenObject, with_object, seen_at}
 use Rattle.obj2d.specs.rows.Strips.{object_tile_row, mirrored_tile, AreTileRows, AreLineIndices, AreObjectPixels, AreBox, strip_seen, IsLaid}
+use Rattle.obj2d.specs.rows.Words.{span_first, span_start, span_count}
 use Rattle.obj2d.proofs.LayerLemmas.{unseen}
 
 -- ---- addresses
@@ -150,6 +151,95 @@ across_at left k x a b c h = omega arith
 across_other : (left k x : ℕ) → left < 512 → k < 512 → x < 256 → (left + k) % 512 ≢ x → (x + 512 - left) % 512 ≢ k
 across_other left k x a b c h = omega arith
 
+first_low : (left : ℕ) → left < 256 → span_first left ≡ 0
+first_low left h = grind (arith, h)
+
+first_high : (left : ℕ) → 256 ≤ left → span_first left ≡ 512 - left
+first_high left h = grind (arith, h)
+
+start_low : (left : ℕ) → left < 256 → span_start left ≡ left
+start_low left h = grind (arith, h)
+
+start_high : (left : ℕ) → 256 ≤ left → span_start left ≡ 0
+start_high left h = grind (arith, h)
+
+-- a count by the lesser of two
+lesser_first : (a b : ℕ) → a < b → (if nat_lt a b then a else b) ≡ a
+lesser_first a b h = grind (arith, h)
+
+lesser_second : (a b : ℕ) → b ≤ a → (if nat_lt a b then a else b) ≡ b
+lesser_second a b h = grind (arith, h)
+
+same_lt : (a n m : ℕ) → (a < n → a < m) → (a < m → a < n) → nat_lt a n ≡ nat_lt a m
+same_lt a n m there back = elim (cases_lt a n) [
+  | inl lt ↦ lt-ltb a n lt ∙ sym (lt-ltb a m (there lt))
+  | inr ge ↦
+      elim (cases_lt a m) [
+        | inl less ↦ absurd (let k = back less in omega (arith, ge, k))
+        | inr le ↦ le-ltb a n (omega (arith, ge)) ∙ sym (le-ltb a m (omega (arith, le)))
+      ]
+]
+
+before_span : (left x : ℕ) → left < 512 → x < 256 → span_first left ≤ (x + 512 - left) % 512
+before_span left x a b = elim (cases_lt left 256) [
+  | inl low ↦ (let e = first_low left low in omega (arith, e))
+  | inr high ↦ (let e = first_high left (omega (arith, high)) in omega (arith, e, a, b, high))
+]
+
+after_low : (left n x first count : ℕ) → left < 256 → n ≤ 128 → x < 256 → first ≡ 0 → count ≡ (if nat_lt (n - first) (256 - left) then n - first else 256 - left) →
+    nat_lt ((x + 512 - left) % 512) n ≡ nat_lt ((x + 512 - left) % 512) (first + count)
+after_low left n x first count low small b e c = elim (cases_lt (n - first) (256 - left)) [
+  | inl all ↦
+      (let d = lesser_first (n - first) (256 - left) all in
+      same_lt ((x + 512 - left) % 512) n (first + count) (λ k. omega (arith, k, e, c, d)) (λ k. omega (arith, k, e, c, d)))
+  | inr cut ↦
+      (let d = lesser_second (n - first) (256 - left) (omega (arith, cut)) in
+      same_lt ((x + 512 - left) % 512) n (first + count) (λ k. omega (arith, k, e, c, d, b, low, small)) (λ k. omega (arith, k, e, c, d, b, low, small, cut)))
+]
+
+after_high : (left n x first count : ℕ) → 256 ≤ left → left < 512 → n ≤ 128 → x < 256 → first ≡ 512 - left → count ≡ (if nat_lt (n - first) 256 then n - first else 256) →
+    nat_lt ((x + 512 - left) % 512) n ≡ nat_lt ((x + 512 - left) % 512) (first + count)
+after_high left n x first count high a small b e c =
+    let d = lesser_first (n - first) 256 (omega (arith, small)) in
+    same_lt ((x + 512 - left) % 512) n (first + count) (λ k. omega (arith, k, e, c, d, a, high, b)) (λ k. omega (arith, k, e, c, d, a, high, b))
+
+after_span : (left n x : ℕ) → left < 512 → n ≤ 128 → x < 256 → nat_lt ((x + 512 - left) % 512) n ≡ nat_lt ((x + 512 - left) % 512) (span_first left + span_count left n)
+after_span left n x a small b = elim (cases_lt left 256) [
+  | inl low ↦
+      after_low left n x (span_first left) (span_count left n) low small b (first_low left low)
+      (ap (λ (k : ℕ). if nat_lt (n - span_first left) (256 - k) then n - span_first left else 256 - k) (start_low left low))
+  | inr high ↦
+      after_high left n x (span_first left) (span_count left n) (omega (arith, high)) a small b (first_high left (omega (arith, high)))
+      (ap (λ (k : ℕ). if nat_lt (n - span_first left) (256 - k) then n - span_first left else 256 - k) (start_high left (omega (arith, high))))
+]
+
+-- a place of the span
+pub span_place : (left n i : ℕ) → left < 512 → i < span_count left n → span_start left + i ≡ (left + (span_first left + i)) % 512
+span_place left n i a h = elim (cases_lt left 256) [
+  | inl low ↦
+      (let e = first_low left low in
+      let f = start_low left low in
+      let c = count_below left n in
+      omega (arith, e, f, c, h, low))
+  | inr high ↦
+      (let e = first_high left (omega (arith, high)) in
+      let f = start_high left (omega (arith, high)) in
+      let c = count_below left n in
+      omega (arith, e, f, c, h, high, a))
+] where
+  count_below : (left n : ℕ) → span_count left n ≤ 256 - span_start left
+  count_below left n = elim (cases_lt (n - span_first left) (256 - span_start left)) [
+    | inl less ↦ (let d = lesser_first (n - span_first left) (256 - span_start left) less in omega (arith, d, less))
+    | inr more ↦ (let d = lesser_second (n - span_first left) (256 - span_start left) (omega (arith, more)) in omega (arith, d))
+  ]
+
+pub placed_span : (o : Object) (left n first start count i : ℕ) → left ≡ left_edge o → first ≡ span_first left → start ≡ span_start left → count ≡ span_count left n →
+    i < count → start + i ≡ (left_edge o + (first + i)) % 512
+placed_span o left n first start count i a b c d h =
+    let small : left < 512 = omega (arith, a) in
+    let k = span_place left n i small (omega (arith, h, d)) in
+    omega (arith, a, b, c, k)
+
 -- before its pixel is laid, and after
 pub seen_before : (o : Object) (pixels : List ℕ) (k x : ℕ) (p : ObjectPixel) → across o x ≡ k → with_object (strip_seen o pixels k x) p ≡ p
 seen_before o pixels k x p h =
@@ -168,27 +258,44 @@ seen_elsewhere o pixels k x h =
     rw same refl
 
 -- one pixel more
-pub laid_more : (o : Object) (pixels : List ℕ) (k place p m : ℕ) (before between after : List ObjectPixel) → k < 512 → place ≡ (left_edge o + k) % 512 →
+pub laid_more : (o : Object) (pixels : List ℕ) (k place p m : ℕ) (before between after : ℕ → ObjectPixel) → k < 512 → place ≡ (left_edge o + k) % 512 →
     p ≡ priority o → m ≡ mode o → IsLaid o pixels k before between →
-    (place < 256 → pixel_at after place ≡ with_object (record { colour = get_or pixels k 0; priority = p; mode = m }) (pixel_at between place)) →
-    ((i : ℕ) → i ≢ place → pixel_at after i ≡ pixel_at between i) → IsLaid o pixels (k + 1) before after
+    (place < 256 → after place ≡ with_object (record { colour = get_or pixels k 0; priority = p; mode = m }) (between place)) →
+    ((i : ℕ) → i ≢ place → after i ≡ between i) → IsLaid o pixels (k + 1) before after
 laid_more o pixels k place p m before between after small there is_p is_m laid here others x on_screen =
     let left : left_edge o < 512 = omega arith in
     elim (cases_eq x place) [
       | inl same ↦
           (let found : across o x ≡ k = across_at (left_edge o) k x left small on_screen (sym there ∙ sym same) in
           let P : ℕ → Type 0 = λ (i : ℕ). i < 256 →
-          pixel_at after i ≡ with_object (record { colour = get_or pixels k 0; priority = p; mode = m }) (pixel_at between i) in
+          after i ≡ with_object (record { colour = get_or pixels k 0; priority = p; mode = m }) (between i) in
           let laid_here : P x = subst P (sym same) here in
           laid_here on_screen
-          ∙ ap (λ (n : ℕ). with_object (record { colour = get_or pixels k 0; priority = n; mode = m }) (pixel_at between x)) is_p
-          ∙ ap (λ (n : ℕ). with_object (record { colour = get_or pixels k 0; priority = priority o; mode = n }) (pixel_at between x)) is_m
-          ∙ ap (λ (s : SeenObject). with_object s (pixel_at between x)) (sym (seen_after o pixels k x found))
-          ∙ ap (with_object (strip_seen o pixels (k + 1) x)) (laid x on_screen ∙ seen_before o pixels k x (pixel_at before x) found))
+          ∙ ap (λ (n : ℕ). with_object (record { colour = get_or pixels k 0; priority = n; mode = m }) (between x)) is_p
+          ∙ ap (λ (n : ℕ). with_object (record { colour = get_or pixels k 0; priority = priority o; mode = n }) (between x)) is_m
+          ∙ ap (λ (s : SeenObject). with_object s (between x)) (sym (seen_after o pixels k x found))
+          ∙ ap (with_object (strip_seen o pixels (k + 1) x)) (laid x on_screen ∙ seen_before o pixels k x (before x) found))
       | inr other ↦
           (let elsewhere : across o x ≢ k = across_other (left_edge o) k x left small on_screen (λ e. other (sym e ∙ sym there)) in
-          others x other ∙ laid x on_screen ∙ ap (λ (s : SeenObject). with_object s (pixel_at before x)) (sym (seen_elsewhere o pixels k x elsewhere)))
+          others x other ∙ laid x on_screen ∙ ap (λ (s : SeenObject). with_object s (before x)) (sym (seen_elsewhere o pixels k x elsewhere)))
     ]
+
+-- ---- the part of a box that is on the screen
+
+-- nothing of the box is on the screen before it
+pub laid_none : (o : Object) (pixels : List ℕ) (before : ℕ → ObjectPixel) → IsLaid o pixels (span_first (left_edge o)) before before
+laid_none o pixels before x small =
+    let left : left_edge o < 512 = omega arith in
+    let off : nat_lt (across o x) (span_first (left_edge o)) ≡ false = le-ltb (across o x) (span_first (left_edge o)) (before_span (left_edge o) x left small) in
+    sym (unseen (strip_seen o pixels (span_first (left_edge o)) x) (before x) (rw off refl))
+
+-- nor after it
+pub laid_all : (o : Object) (pixels : List ℕ) (n : ℕ) (before after : ℕ → ObjectPixel) → n ≤ 128 →
+    IsLaid o pixels (span_first (left_edge o) + span_count (left_edge o) n) before after → IsLaid o pixels n before after
+laid_all o pixels n before after small laid x on_screen =
+    let left : left_edge o < 512 = omega arith in
+    let same : nat_lt (across o x) n ≡ nat_lt (across o x) (span_first (left_edge o) + span_count (left_edge o) n) = after_span (left_edge o) n x left small on_screen in
+    laid x on_screen ∙ ap (λ (b : Bool). with_object (record { colour = if b then get_or pixels (across o x) 0 else 0; priority = priority o; mode = mode o }) (before x)) (sym same)
 
 -- ---- what one object has at a place
 
@@ -210,20 +317,20 @@ unfolding seen_at pixel_of
 nothing_seen v palette oam display line number x p off = unseen (seen_at v palette oam display line x number) p (rw off refl)
 
 -- an object whose strip is laid over a row
-pub drawn : (v : Banks) (palette oam : List ℕ) (display : Display) (line number : ℕ) (o : Object) (y : ℕ) (pixels : List ℕ) (before after : List ObjectPixel) →
+pub drawn : (v : Banks) (palette oam : List ℕ) (display : Display) (line number : ℕ) (o : Object) (y : ℕ) (pixels : List ℕ) (before after : ℕ → ObjectPixel) →
     o ≡ object_at oam number → is_drawn display.control o line ≡ true → y ≡ down o line → AreBox v palette oam display o y pixels → IsLaid o pixels (box_width o) before after →
-    (x : ℕ) → x < 256 → pixel_at after x ≡ with_object (seen_at v palette oam display line x number) (pixel_at before x)
+    (x : ℕ) → x < 256 → after x ≡ with_object (seen_at v palette oam display line x number) (before x)
 drawn v palette oam display line number o y pixels before after e on there are laid x small =
     let P : Object → Type 0 = λ (q : Object). is_drawn display.control q line ≡ true → AreBox v palette oam display q (down q line) pixels →
     strip_seen q pixels (box_width q) x ≡ seen_at v palette oam display line x number in
     let Q : ℕ → Type 0 = λ (n : ℕ). AreBox v palette oam display o n pixels in
     let seen : P o = subst P (sym e) (strip_is_seen v palette oam display line number x pixels) in
-    laid x small ∙ ap (λ (s : SeenObject). with_object s (pixel_at before x)) (seen on (subst Q there are))
+    laid x small ∙ ap (λ (s : SeenObject). with_object s (before x)) (seen on (subst Q there are))
 
 -- and one that isn't drawn on the line
-pub not_drawn : (v : Banks) (palette oam : List ℕ) (display : Display) (line number : ℕ) (o : Object) (before : List ObjectPixel) →
+pub not_drawn : (v : Banks) (palette oam : List ℕ) (display : Display) (line number : ℕ) (o : Object) (before : ℕ → ObjectPixel) →
     o ≡ object_at oam number → is_drawn display.control o line ≡ false →
-    (x : ℕ) → x < 256 → pixel_at before x ≡ with_object (seen_at v palette oam display line x number) (pixel_at before x)
+    (x : ℕ) → x < 256 → before x ≡ with_object (seen_at v palette oam display line x number) (before x)
 not_drawn v palette oam display line number o before e off x small =
     let P : Object → Type 0 = λ (q : Object). is_drawn display.control q line ≡ false in
-    sym (nothing_seen v palette oam display line number x (pixel_at before x) (subst P e off))
+    sym (nothing_seen v palette oam display line number x (before x) (subst P e off))

@@ -17,7 +17,7 @@ object_at oam n = record {
 }
 
 -- attribute 0: Y in bits 0 to 7, affine in bit 8; bit 9 means double size for an affine object and off for any other; the mode in bits 10
--- and 11, 256 colours in bit 13, the shape in bits 14 and 15
+-- and 11, mosaic in bit 12, 256 colours in bit 13, the shape in bits 14 and 15
 abbrev pub top_edge : Object → ℕ
 top_edge o = bits 0 8 o.attribute0
 
@@ -33,6 +33,9 @@ is_off o = not (is_affine o) && bit 9 o.attribute0
 -- 0 normal, 1 semi-transparent, 2 object window, 3 bitmap
 abbrev pub mode : Object → ℕ
 mode o = bits 10 2 o.attribute0
+
+abbrev pub object_has_mosaic : Object → Bool
+object_has_mosaic o = bit 12 o.attribute0
 
 abbrev pub object_has_256 : Object → Bool
 object_has_256 o = bit 13 o.attribute0

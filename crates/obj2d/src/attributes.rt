@@ -5,7 +5,7 @@ ghost use Rattle.std.specs.Int.{cast_signed, w16};
 ghost use Rattle.ds_base.specs.Bits.{bit};
 ghost use Rattle.ds_base.specs.Numbers.{number_at};
 ghost use Rattle.ds_base.specs.declared.memories.Width.TheVariants.{Half};
-ghost use Rattle.obj2d.specs.Attributes.{object_at, turn_at, group, group_number, is_affine, is_double, is_off, object_has_256, mode, shape, object_size, priority, flips_across, flips_down, width, height, box_width, box_height};
+ghost use Rattle.obj2d.specs.Attributes.{object_at, turn_at, group, group_number, is_affine, is_double, is_off, object_has_mosaic, object_has_256, mode, shape, object_size, priority, flips_across, flips_down, width, height, box_width, box_height};
 
 use crate::objects::{Object, Turn};
 
@@ -100,6 +100,12 @@ pub fn mode(object: &Object) -> u8
     ((object.attribute0 >> 10) % 4) as u8
 }
 
+pub fn object_has_mosaic(object: &Object) -> bool
+    ensures { result ≡ object_has_mosaic object.now }
+{
+    (object.attribute0 >> 12) % 2 == 1
+}
+
 pub fn object_has_256(object: &Object) -> bool
     ensures { result ≡ object_has_256 object.now }
 {
@@ -119,7 +125,8 @@ pub fn flips_down(object: &Object) -> bool
 }
 
 pub fn priority(object: &Object) -> u8
-    ensures { result ≡ priority object.now }
+    ensures value { result ≡ priority object.now }
+    ensures small { result < 4 }
 {
     ((object.attribute2 >> 10) % 4) as u8
 }

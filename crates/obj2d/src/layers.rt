@@ -1,15 +1,17 @@
 //! Objects laid over one another.
 
 ghost use Rattle.std.specs.Prelude.{◌≡◌, ◌≢◌, ◌<◌, ℕ, length};
-ghost use Rattle.obj2d.specs.Attributes.{object_at, box_width, priority, mode};
+ghost use Rattle.obj2d.specs.Attributes.{object_at, box_width, priority, mode, object_has_mosaic};
 ghost use Rattle.obj2d.specs.Places.{covers};
 ghost use Rattle.obj2d.specs.ObjectLayer.{IsLayerPixel, IsPixel, pixel_at, blank_pixel, with_object, seen_at, object_pixel};
+ghost use Rattle.obj2d.specs.rows.Words.{row_pixel};
 ghost use Rattle.obj2d.specs.rows.Strips.{IsLaid};
 
-use crate::attributes::{box_width, mode, object_at, priority};
+use crate::attributes::{box_width, mode, object_at, object_has_mosaic, priority};
 use crate::objects::{Display, Object};
 use crate::places::{covers, down, is_drawn, left_edge};
 use crate::strips::strip;
+use crate::words::{WordRow, clear, on_screen, put_shown, put_window, row_pixel};
 use vram_banks::Vram;
 
 /// What all objects together have at a pixel.
@@ -32,58 +34,38 @@ pub struct ObjectRow {
     pub pixels: [ObjectPixel; 256],
 }
 
-/// A pixel where no object is.
-const BLANK: ObjectPixel = ObjectPixel {
-    colour: 0,
-    priority: 0,
-    blended: false,
-    window: false,
-};
-
-/// Lays a pixel of one more object, whose number is above those of all before.
-fn cover(colour: u16, priority: u8, mode: u8, pixel: &mut ObjectPixel)
-    ensures { pixel.new ≡ with_object (record { colour = colour; priority = priority; mode = mode }) pixel.old }
+/// Lays the pixels of an object that is shown.
+fn lay_shown(object: &Object, pixels: &[u16; 128], into: &mut WordRow)
+    requires { mode object.now ≢ 2 }
+    ensures { IsLaid object.now pixels.now (box_width object.now) (row_pixel into.old) (row_pixel into.new) }
 {
-    if colour == 0 {
-        return;
-    }
-    if mode == 2 {
-        pixel.window = true;
-    } else if pixel.colour == 0 || priority < pixel.priority {
-        pixel.colour = colour;
-        pixel.priority = priority;
-        pixel.blended = mode == 1;
+    let priority = priority(object);
+    let mode = mode(object);
+    let span = on_screen(left_edge(object), box_width(object));
+    for i in 0..span.count {
+        put_shown(pixels[span.first + i], priority, mode, span.start + i, into);
     }
 }
 
-/// No object is anywhere.
-fn clear(into: &mut ObjectRow)
-    ensures { (x : ℕ) → x < 256 → pixel_at into.new.pixels x ≡ blank_pixel }
+/// Lays the pixels of an object of the object window.
+fn lay_window(object: &Object, pixels: &[u16; 128], into: &mut WordRow)
+    requires { mode object.now ≡ 2 }
+    ensures { IsLaid object.now pixels.now (box_width object.now) (row_pixel into.old) (row_pixel into.new) }
 {
-    for x in 0..256usize {
-        into.pixels[x] = BLANK;
-    }
-}
-
-/// Lays one pixel of an object over the row, at place x where that is on the screen.
-fn put(colour: u16, priority: u8, mode: u8, x: usize, into: &mut ObjectRow)
-    ensures here { x < 256 → pixel_at into.new.pixels x ≡ with_object (record { colour = colour; priority = priority; mode = mode }) (pixel_at into.old.pixels x) }
-    ensures others { (i : ℕ) → i ≢ x → pixel_at into.new.pixels i ≡ pixel_at into.old.pixels i }
-{
-    if x < 256 {
-        cover(colour, priority, mode, &mut into.pixels[x]);
+    let span = on_screen(left_edge(object), box_width(object));
+    for i in 0..span.count {
+        put_window(pixels[span.first + i], span.start + i, into);
     }
 }
 
 /// Lays the pixels of an object's box over the row.
-fn lay(object: &Object, pixels: &[u16; 128], into: &mut ObjectRow)
-    ensures { IsLaid object.now pixels.now (box_width object.now) into.old.pixels into.new.pixels }
+fn lay(object: &Object, pixels: &[u16; 128], into: &mut WordRow)
+    ensures { IsLaid object.now pixels.now (box_width object.now) (row_pixel into.old) (row_pixel into.new) }
 {
-    let left = left_edge(object);
-    let priority = priority(object);
-    let mode = mode(object);
-    for k in 0..box_width(object) {
-        put(pixels[k], priority, mode, (left + k) % 512, into);
+    if mode(object) == 2 {
+        lay_window(object, pixels, into);
+    } else {
+        lay_shown(object, pixels, into);
     }
 }
 
@@ -95,12 +77,12 @@ fn draw(
     display: &Display,
     line: u8,
     number: usize,
-    into: &mut ObjectRow,
+    into: &mut WordRow,
 )
     requires colours { length palette.now ≡ 512 }
     requires oam { length oam.now ≡ 1024 }
     requires known { number < 128 }
-    ensures { (x : ℕ) → x < 256 → pixel_at into.new.pixels x ≡ with_object (seen_at vram.now palette.now oam.now display.now line x number) (pixel_at into.old.pixels x) }
+    ensures { (x : ℕ) → x < 256 → row_pixel into.new x ≡ with_object (seen_at vram.now palette.now oam.now display.now line x number) (row_pixel into.old x) }
 {
     let object = object_at(oam, number);
     if is_drawn(display.control, &object, line) {
@@ -119,6 +101,46 @@ pub fn covers_line(oam: &[u8], control: u32, number: usize, line: u8) -> bool
     ensures { result ≡ covers control (object_at oam.now number) line }
 {
     covers(control, &object_at(oam, number), line)
+}
+
+/// The mode of the object of a number: 0 normal, 1 semi-transparent, 2 object window, 3 bitmap (GBATEK, "LCD OBJ - OAM Attributes"). `oam` is
+/// as for `object_row`.
+pub fn object_mode(oam: &[u8], number: usize) -> u8
+    requires oam { length oam.now ≡ 1024 }
+    requires known { number < 128 }
+    ensures { result ≡ mode (object_at oam.now number) }
+{
+    mode(&object_at(oam, number))
+}
+
+/// Whether the object of a number has its mosaic bit set. `oam` is as for `object_row`.
+pub fn is_mosaic_object(oam: &[u8], number: usize) -> bool
+    requires oam { length oam.now ≡ 1024 }
+    requires known { number < 128 }
+    ensures { result ≡ object_has_mosaic (object_at oam.now number) }
+{
+    object_has_mosaic(&object_at(oam, number))
+}
+
+/// Draws all objects over a row where none is.
+fn lay_all(vram: &Vram, palette: &[u8], oam: &[u8], display: &Display, line: u8, into: &mut WordRow)
+    requires colours { length palette.now ≡ 512 }
+    requires oam { length oam.now ≡ 1024 }
+    requires blank { (x : ℕ) → x < 256 → row_pixel into.old x ≡ blank_pixel }
+    ensures { (x : ℕ) → x < 256 → row_pixel into.new x ≡ object_pixel vram.now palette.now oam.now display.now line x }
+{
+    for number in 0..128usize {
+        draw(vram, palette, oam, display, line, number, into);
+    }
+}
+
+/// Hands the row out as pixels.
+fn hand_out(row: &WordRow, into: &mut ObjectRow)
+    ensures { (x : ℕ) → x < 256 → pixel_at into.new.pixels x ≡ row_pixel row.now x }
+{
+    for x in 0..256usize {
+        into.pixels[x] = row_pixel(row, x);
+    }
 }
 
 /// Draws the row of an engine's objects at a line of the screen: at each place the colour of the object that is opaque there with the
@@ -141,8 +163,11 @@ pub fn object_row(
     ensures form { (x : ℕ) → x < 256 → IsPixel (pixel_at into.new.pixels x) }
 {
     let display = Display { engine, control };
-    clear(into);
-    for number in 0..128usize {
-        draw(vram, palette, oam, &display, line, number, into);
-    }
+    let mut row = WordRow {
+        words: [0; 256],
+        windows: [false; 256],
+    };
+    clear(&mut row);
+    lay_all(vram, palette, oam, &display, line, &mut row);
+    hand_out(&row, into);
 }

@@ -11,5 +11,6 @@ mod objects;
 mod pixels;
 mod places;
 mod strips;
+mod words;
 
-pub use layers::{ObjectPixel, ObjectRow, covers_line, object_row};
+pub use layers::{ObjectPixel, ObjectRow, covers_line, is_mosaic_object, object_mode, object_row};

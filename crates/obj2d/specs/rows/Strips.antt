@@ -7,7 +7,7 @@ use Rattle.obj2d.specs.declared.objects.Display.{Display}
 use Rattle.obj2d.specs.declared.objects.Object.{Object}
 use Rattle.obj2d.specs.Attributes.{object_has_256, width, box_width, priority, mode, flips_across}
 use Rattle.obj2d.specs.Places.{across}
-use Rattle.obj2d.specs.ObjectLayer.{SeenObject, pixel_at, with_object}
+use Rattle.obj2d.specs.ObjectLayer.{SeenObject, with_object}
 use Rattle.obj2d.specs.ObjectPixels.{object_space, object_index, object_colour, tile_address, box_pixel}
 
 -- How the code draws a row: an object's box has a strip of pixels, and strips are laid over one another. No public call speaks of it.
@@ -47,5 +47,5 @@ strip_seen o pixels n x =
     record { colour = if nat_lt (across o x) n then slice_index pixels (across o x) else 0; priority = priority o; mode = mode o }
 
 -- a row with the first n pixels of a strip laid over it
-abbrev pub IsLaid : Object → List ℕ → ℕ → List ObjectPixel → List ObjectPixel → Type 0
-IsLaid o pixels n before after = (x : ℕ) → x < 256 → pixel_at after x ≡ with_object (strip_seen o pixels n x) (pixel_at before x)
+abbrev pub IsLaid : Object → List ℕ → ℕ → (ℕ → ObjectPixel) → (ℕ → ObjectPixel) → Type 0
+IsLaid o pixels n before after = (x : ℕ) → x < 256 → after x ≡ with_object (strip_seen o pixels n x) (before x)

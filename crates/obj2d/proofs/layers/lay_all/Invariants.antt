@@ -1,0 +1,7 @@
+use Rattle.std.proofs.Common.{ℕ, ◌≡◌, ◌<◌}
+use Rattle.obj2d.specs.ObjectLayer.{pixel_below, seen_at}
+use Rattle.obj2d.specs.rows.Words.{row_pixel}
+use Rattle.obj2d.proofs.layers.lay_all.Given as goal
+
+abbrev pub invariant-loop-number : goal.invariant-loop-number
+invariant-loop-number l = (x : ℕ) → x < 256 → row_pixel l.into x ≡ pixel_below (seen_at l.vram l.palette l.oam l.display l.line x) l.number

@@ -1,136 +1,314 @@
-use Rattle.std.proofs.Common.{ℕ, suc, ◌≡◌, ◌≢◌, ◌<◌, ◌≤◌, ◌%◌, ◌^◌, ◌⊎◌, inl, inr, refl, sym, subst, arith}
+use Rattle.std.proofs.Common.{ℕ, zero, suc, Bool, true, false, ◌≡◌, ◌≢◌, ◌<◌, ◌≤◌, ◌+◌, ◌*◌, ◌-◌, ◌%◌, ◌^◌, ◌⊎◌, inl, inr, List, [], ◌∷◌, ◌++◌, nat_lt, nat_le, if◌then◌else◌, refl, sym, ◌∙◌, ap, subst, arith}
 use Rattle.std.proofs.lemmas.Bool.{cases_eq, cases_lt}
-use Rattle.video2d.specs.declared.lines.SeenLayer.{SeenLayer}
-use Rattle.video2d.specs.Pictures.{GoesBefore, IsTopLayer, IsBare, IsShownColour, in_front, front_of_four, shown_colour}
+use Rattle.ds_base.specs.Bits.{flag}
+use Rattle.video2d.specs.Layers.{SeenLayer, at_priority, from_priority, front_to_back}
+use Rattle.video2d.specs.declared.fronts.FrontPair.{FrontPair}
+use Rattle.video2d.specs.rows.Composed.{no_word, place_of, layer_base, layer_word, nothing, with_word, least_of}
 
--- Of four layers, laid one after another, the one in front is the top layer.
+-- The two least words are those of the first two layers from front to back.
 
-abbrev IsFront : (ℕ → SeenLayer) → ℕ → SeenLayer → Type 0
-IsFront seen count s = ((n : ℕ) × IsTopLayer seen count n × (s ≡ seen n)) ⊎ (IsBare seen count × (s.pixel ≡ 0))
+-- ---- a layer, put among layers from front to back
 
-below_suc : (m n : ℕ) → m < suc n → (m < n) ⊎ (m ≡ n)
-below_suc m n h = elim (cases_eq m n) [
-  | inl same ↦ inr same
-  | inr other ↦ inl (omega arith)
+abbrev pub inserted : SeenLayer → List SeenLayer → List SeenLayer
+inserted s [] = s ∷ []
+inserted s (t ∷ ts) = if nat_le s.priority t.priority then s ∷ (t ∷ ts) else t ∷ inserted s ts
+
+-- each has a priority from one on
+abbrev AllFrom : ℕ → List SeenLayer → Type 0
+AllFrom p [] = Unit {0}
+AllFrom p (t ∷ ts) = (p ≤ t.priority) × AllFrom p ts
+
+-- each has a priority below one
+abbrev AllBelow : ℕ → List SeenLayer → Type 0
+AllBelow p [] = Unit {0}
+AllBelow p (t ∷ ts) = (t.priority < p) × AllBelow p ts
+
+in_front : (s : SeenLayer) (ts : List SeenLayer) → AllFrom s.priority ts → inserted s ts ≡ s ∷ ts
+in_front s [] h = refl
+in_front s (t ∷ ts) h = let le : s.priority ≤ t.priority = h.0 in grind (arith, le)
+
+behind_one : (s t : SeenLayer) (ts : List SeenLayer) → t.priority < s.priority → inserted s (t ∷ ts) ≡ t ∷ inserted s ts
+behind_one s t ts lt = grind (arith, lt)
+
+behind : (s : SeenLayer) (ts us : List SeenLayer) → AllBelow s.priority ts → inserted s (ts ++ us) ≡ ts ++ inserted s us
+behind s [] us h = refl
+behind s (t ∷ ts) us h = behind_one s t (ts ++ us) h.0 ∙ ap (λ (l : List SeenLayer). t ∷ l) (behind s ts us h.1)
+
+joined_from : (p : ℕ) (ts us : List SeenLayer) → AllFrom p ts → AllFrom p us → AllFrom p (ts ++ us)
+joined_from p [] us h k = k
+joined_from p (t ∷ ts) us h k = (h.0, joined_from p ts us h.1 k)
+
+-- ---- those of one priority
+
+hidden : (p : ℕ) (s : SeenLayer) (ss : List SeenLayer) → s.pixel ≡ 0 → at_priority p (s ∷ ss) ≡ at_priority p ss
+hidden p s ss h = grind (arith, h)
+
+other : (p : ℕ) (s : SeenLayer) (ss : List SeenLayer) → s.priority ≢ p → at_priority p (s ∷ ss) ≡ at_priority p ss
+other p s ss h = grind (arith, h)
+
+taken : (p : ℕ) (s : SeenLayer) (ss : List SeenLayer) → s.pixel ≢ 0 → s.priority ≡ p → at_priority p (s ∷ ss) ≡ s ∷ at_priority p ss
+taken p s ss h e = grind (arith, h, e)
+
+-- a fact of all layers that are opaque and of the priority holds of those that are taken
+at_from : (p q : ℕ) (ss : List SeenLayer) → q ≤ p → AllFrom q (at_priority p ss)
+at_from p q [] le = tt
+at_from p q (s ∷ ss) le =
+    elim (cases_eq s.pixel 0) [
+      | inl clear ↦ subst (AllFrom q) (sym (hidden p s ss clear)) (at_from p q ss le)
+      | inr opaque ↦
+          elim (cases_eq s.priority p) [
+            | inl same ↦ subst (AllFrom q) (sym (taken p s ss opaque same)) (omega (arith, le, same), at_from p q ss le)
+            | inr else_ ↦ subst (AllFrom q) (sym (other p s ss else_)) (at_from p q ss le)
+          ]
+    ]
+
+at_below : (p q : ℕ) (ss : List SeenLayer) → p < q → AllBelow q (at_priority p ss)
+at_below p q [] lt = tt
+at_below p q (s ∷ ss) lt =
+    elim (cases_eq s.pixel 0) [
+      | inl clear ↦ subst (AllBelow q) (sym (hidden p s ss clear)) (at_below p q ss lt)
+      | inr opaque ↦
+          elim (cases_eq s.priority p) [
+            | inl same ↦ subst (AllBelow q) (sym (taken p s ss opaque same)) (omega (arith, lt, same), at_below p q ss lt)
+            | inr else_ ↦ subst (AllBelow q) (sym (other p s ss else_)) (at_below p q ss lt)
+          ]
+    ]
+
+all_from : (p q more : ℕ) (ss : List SeenLayer) → q ≤ p → AllFrom q (from_priority p more ss)
+all_from p q zero ss le = tt
+all_from p q (suc more) ss le =
+    joined_from q (at_priority p ss) (from_priority (suc p) more ss) (at_from p q ss le) (all_from (suc p) q more ss (omega (arith, le)))
+
+-- ---- one more layer, from a priority on
+
+still_hidden : (p more : ℕ) (s : SeenLayer) (ss : List SeenLayer) → s.pixel ≡ 0 → from_priority p more (s ∷ ss) ≡ from_priority p more ss
+still_hidden p zero s ss h = refl
+still_hidden p (suc more) s ss h =
+    ap (λ (l : List SeenLayer). l ++ from_priority (suc p) more (s ∷ ss)) (hidden p s ss h)
+    ∙ ap (λ (l : List SeenLayer). at_priority p ss ++ l) (still_hidden (suc p) more s ss h)
+
+passed : (p more : ℕ) (s : SeenLayer) (ss : List SeenLayer) → s.priority < p → from_priority p more (s ∷ ss) ≡ from_priority p more ss
+passed p zero s ss h = refl
+passed p (suc more) s ss h =
+    ap (λ (l : List SeenLayer). l ++ from_priority (suc p) more (s ∷ ss)) (other p s ss (λ (e : s.priority ≡ p). omega (arith, e, h)))
+    ∙ ap (λ (l : List SeenLayer). at_priority p ss ++ l) (passed (suc p) more s ss (omega (arith, h)))
+
+put_in : (p more : ℕ) (s : SeenLayer) (ss : List SeenLayer) → s.pixel ≢ 0 → p ≤ s.priority → s.priority < p + more →
+    from_priority p more (s ∷ ss) ≡ inserted s (from_priority p more ss)
+put_in p zero s ss opaque low high = absurd (omega (arith, low, high))
+put_in p (suc more) s ss opaque low high =
+    elim (cases_eq s.priority p) [
+      | inl same ↦
+          (let rest : from_priority (suc p) more (s ∷ ss) ≡ from_priority (suc p) more ss = passed (suc p) more s ss (omega (arith, same)) in
+          let all : AllFrom s.priority (from_priority p (suc more) ss) = all_from p s.priority (suc more) ss (omega (arith, same)) in
+          ap (λ (l : List SeenLayer). l ++ from_priority (suc p) more (s ∷ ss)) (taken p s ss opaque same)
+          ∙ ap (λ (l : List SeenLayer). s ∷ (at_priority p ss ++ l)) rest
+          ∙ sym (in_front s (from_priority p (suc more) ss) all))
+      | inr else_ ↦
+          (let rest : from_priority (suc p) more (s ∷ ss) ≡ inserted s (from_priority (suc p) more ss) =
+          put_in (suc p) more s ss opaque (omega (arith, low, else_)) (omega (arith, high)) in
+          ap (λ (l : List SeenLayer). l ++ from_priority (suc p) more (s ∷ ss)) (other p s ss else_)
+          ∙ ap (λ (l : List SeenLayer). at_priority p ss ++ l) rest
+          ∙ sym (behind s (at_priority p ss) (from_priority (suc p) more ss) (at_below p s.priority ss (omega (arith, low, else_)))))
+    ]
+
+-- ---- layers of known priorities and targets, in the order in which they count
+
+abbrev pub IsKnown : ℕ → SeenLayer → Type 0
+IsKnown place t = (t.pixel ≢ 0) × (t.priority < 5) × (t.target < 6) × (place < place_of t.target)
+
+abbrev pub AllKnown : ℕ → List SeenLayer → Type 0
+AllKnown place [] = Unit {0}
+AllKnown place (t ∷ ts) = IsKnown place t × AllKnown place ts
+
+abbrev pub AllPast : ℕ → List SeenLayer → Type 0
+AllPast place [] = Unit {0}
+AllPast place (t ∷ ts) = (t.priority < 5) × (t.target < 6) × (place < place_of t.target) × AllPast place ts
+
+joined_known : (place : ℕ) (ts us : List SeenLayer) → AllKnown place ts → AllKnown place us → AllKnown place (ts ++ us)
+joined_known place [] us h k = k
+joined_known place (t ∷ ts) us h k = (h.0, joined_known place ts us h.1 k)
+
+at_known : (place p : ℕ) (ss : List SeenLayer) → AllPast place ss → AllKnown place (at_priority p ss)
+at_known place p [] h = tt
+at_known place p (s ∷ ss) h =
+    let P : List SeenLayer → Type 0 = AllKnown place in
+    elim (cases_eq s.pixel 0) [
+      | inl clear ↦ subst P (sym (hidden p s ss clear)) (at_known place p ss h.3)
+      | inr opaque ↦
+          elim (cases_eq s.priority p) [
+            | inl same ↦ subst P (sym (taken p s ss opaque same)) ((opaque, h.0, h.1, h.2), at_known place p ss h.3)
+            | inr else_ ↦ subst P (sym (other p s ss else_)) (at_known place p ss h.3)
+          ]
+    ]
+
+pub all_known : (place p more : ℕ) (ss : List SeenLayer) → AllPast place ss → AllKnown place (from_priority p more ss)
+all_known place p zero ss h = tt
+all_known place p (suc more) ss h =
+    joined_known place (at_priority p ss) (from_priority (suc p) more ss) (at_known place p ss h) (all_known place (suc p) more ss h)
+
+-- ---- words
+
+place_small : (target : ℕ) → target < 6 → place_of target < 8
+place_small target h = grind (arith, h)
+
+flag_small : (b : Bool) → flag 0 b < 2
+flag_small true = omega arith
+flag_small false = omega arith
+
+pub opaque_word : (s : SeenLayer) → s.pixel ≢ 0 → layer_word s ≡ layer_base s.priority s.target s.blended + s.pixel % 2 ^ 15
+opaque_word s h = grind (arith, h)
+
+pub clear_word : (s : SeenLayer) → s.pixel ≡ 0 → layer_word s ≡ no_word
+clear_word s h = grind (arith, h)
+
+pub word_small : (s : SeenLayer) → s.pixel ≢ 0 → s.priority < 5 → s.target < 6 → layer_word s < 2 ^ 25
+word_small s opaque p t =
+    let e = opaque_word s opaque in
+    let f = flag_small s.blended in
+    let g = place_small s.target t in
+    omega (arith, e, f, g, p, t)
+
+word_less : (s t : SeenLayer) → s.pixel ≢ 0 → s.priority < 5 → s.target < 6 → IsKnown (place_of s.target) t → s.priority ≤ t.priority → layer_word s < layer_word t
+word_less s t opaque p g k le =
+    let e = opaque_word s opaque in
+    let d = opaque_word t k.0 in
+    let f = flag_small s.blended in
+    let p2 = k.1 in
+    let g2 = k.2 in
+    let after = k.3 in
+    omega (arith, e, d, f, p, g, p2, g2, after, le)
+
+word_more : (s t : SeenLayer) → s.pixel ≢ 0 → s.priority < 5 → s.target < 6 → IsKnown (place_of s.target) t → t.priority < s.priority → layer_word t < layer_word s
+word_more s t opaque p g k lt =
+    let e = opaque_word s opaque in
+    let d = opaque_word t k.0 in
+    let f = flag_small t.blended in
+    let h = place_small t.target k.2 in
+    let p2 = k.1 in
+    let g2 = k.2 in
+    omega (arith, e, d, f, h, p, g, p2, g2, lt)
+
+-- the words of the first two
+abbrev pub pair_of : List SeenLayer → FrontPair
+pair_of [] = nothing
+pair_of (t ∷ []) = record { top = layer_word t; next = no_word }
+pair_of (t ∷ (u ∷ us)) = record { top = layer_word t; next = layer_word u }
+
+pair_small : (ts : List SeenLayer) (place : ℕ) → AllKnown place ts → (pair_of ts).next ≤ no_word
+pair_small [] place h = omega arith
+pair_small (t ∷ []) place h = omega arith
+pair_small (t ∷ (u ∷ us)) place h =
+    let k : IsKnown place u = h.1.0 in
+    let lt = word_small u k.0 k.1 k.2 in
+    omega (arith, lt)
+
+pair_top_small : (ts : List SeenLayer) (place : ℕ) → AllKnown place ts → (pair_of ts).top ≤ no_word
+pair_top_small [] place h = omega arith
+pair_top_small (t ∷ []) place h =
+    let k : IsKnown place t = h.0 in
+    let lt = word_small t k.0 k.1 k.2 in
+    omega (arith, lt)
+pair_top_small (t ∷ (u ∷ us)) place h =
+    let k : IsKnown place t = h.0 in
+    let lt = word_small t k.0 k.1 k.2 in
+    omega (arith, lt)
+
+word_first : (w : ℕ) (p : FrontPair) → w < p.top → with_word w p ≡ record { top = w; next = p.top }
+word_first w p h = grind (arith, h)
+
+word_second : (w : ℕ) (p : FrontPair) → p.top ≤ w → w < p.next → with_word w p ≡ record { top = p.top; next = w }
+word_second w p h k = grind (arith, h, k)
+
+word_past : (w : ℕ) (p : FrontPair) → p.top ≤ w → p.next ≤ w → with_word w p ≡ p
+word_past w p h k = grind (arith, h, k)
+
+ahead_one : (s t : SeenLayer) (ts : List SeenLayer) → s.priority ≤ t.priority → inserted s (t ∷ ts) ≡ s ∷ (t ∷ ts)
+ahead_one s t ts le = grind (arith, le)
+
+put_word : (s : SeenLayer) (ts : List SeenLayer) → s.pixel ≢ 0 → s.priority < 5 → s.target < 6 → AllKnown (place_of s.target) ts →
+    pair_of (inserted s ts) ≡ with_word (layer_word s) (pair_of ts)
+put_word s [] opaque p g h =
+    let lt = word_small s opaque p g in
+    sym (word_first (layer_word s) nothing (omega (arith, lt)))
+put_word s (t ∷ []) opaque p g h =
+    let k : IsKnown (place_of s.target) t = h.0 in
+    let small = word_small s opaque p g in
+    let pair : FrontPair = record { top = layer_word t; next = no_word } in
+    elim (cases_lt t.priority s.priority) [
+      | inl lt ↦
+          (let more = word_more s t opaque p g k lt in
+          ap pair_of (behind_one s t [] lt) ∙ sym (word_second (layer_word s) pair (omega (arith, more)) (omega (arith, small))))
+      | inr ge ↦
+          (let less = word_less s t opaque p g k (omega (arith, ge)) in
+          ap pair_of (ahead_one s t [] (omega (arith, ge))) ∙ sym (word_first (layer_word s) pair less))
+    ]
+put_word s (t ∷ (u ∷ us)) opaque p g h =
+    let k : IsKnown (place_of s.target) t = h.0 in
+    let j : IsKnown (place_of s.target) u = h.1.0 in
+    let pair : FrontPair = record { top = layer_word t; next = layer_word u } in
+    elim (cases_lt t.priority s.priority) [
+      | inl lt ↦
+          (let more = word_more s t opaque p g k lt in
+          ap pair_of (behind_one s t (u ∷ us) lt)
+          ∙ elim (cases_lt u.priority s.priority) [
+            | inl lt2 ↦
+                (let more2 = word_more s u opaque p g j lt2 in
+                ap (λ (l : List SeenLayer). pair_of (t ∷ l)) (behind_one s u us lt2)
+                ∙ sym (word_past (layer_word s) pair (omega (arith, more)) (omega (arith, more2))))
+            | inr ge2 ↦
+                (let less2 = word_less s u opaque p g j (omega (arith, ge2)) in
+                ap (λ (l : List SeenLayer). pair_of (t ∷ l)) (ahead_one s u us (omega (arith, ge2)))
+                ∙ sym (word_second (layer_word s) pair (omega (arith, more)) less2))
+          ])
+      | inr ge ↦
+          (let less = word_less s t opaque p g k (omega (arith, ge)) in
+          ap pair_of (ahead_one s t (u ∷ us) (omega (arith, ge))) ∙ sym (word_first (layer_word s) pair less))
+    ]
+
+-- ---- all of them
+
+abbrev pub Ranked : List SeenLayer → Type 0
+Ranked [] = Unit {0}
+Ranked (s ∷ ss) = (s.priority < 5) × (s.target < 6) × AllPast (place_of s.target) ss × Ranked ss
+
+pub fronts : (ss : List SeenLayer) → Ranked ss → least_of ss ≡ pair_of (front_to_back ss)
+fronts [] h = refl
+fronts (s ∷ ss) h =
+    let L : List SeenLayer = front_to_back ss in
+    let rest : least_of ss ≡ pair_of L = fronts ss h.3 in
+    let known : AllKnown (place_of s.target) L = all_known (place_of s.target) 0 5 ss h.2 in
+    ap (with_word (layer_word s)) rest
+    ∙ elim (cases_eq s.pixel 0) [
+      | inl clear ↦
+          (let a = pair_top_small L (place_of s.target) known in
+          let b = pair_small L (place_of s.target) known in
+          ap (λ (w : ℕ). with_word w (pair_of L)) (clear_word s clear)
+          ∙ word_past no_word (pair_of L) a b
+          ∙ ap pair_of (sym (still_hidden 0 5 s ss clear)))
+      | inr opaque ↦
+          sym (ap pair_of (put_in 0 5 s ss opaque (omega arith) (let p = h.0 in omega (arith, p)))
+          ∙ put_word s L opaque h.0 h.1 known)
+    ]
+
+-- ---- some layer is there
+
+abbrev pub IsFilled : List SeenLayer → Type 0
+IsFilled [] = ⊥
+IsFilled (s ∷ ss) = Unit {0}
+
+inserted_filled : (s : SeenLayer) (ts : List SeenLayer) → IsFilled (inserted s ts)
+inserted_filled s [] = tt
+inserted_filled s (t ∷ ts) = elim (cases_lt t.priority s.priority) [
+  | inl lt ↦ subst IsFilled (sym (behind_one s t ts lt)) tt
+  | inr ge ↦ subst IsFilled (sym (ahead_one s t ts (omega (arith, ge)))) tt
 ]
 
-hidden : (a b : SeenLayer) → b.pixel ≡ 0 → in_front a b ≡ a
-hidden a b h = grind (arith, h)
+pub filled_by : (s : SeenLayer) (ss : List SeenLayer) → s.pixel ≢ 0 → s.priority < 5 → IsFilled (front_to_back (s ∷ ss))
+filled_by s ss opaque p = subst IsFilled (sym (put_in 0 5 s ss opaque (omega arith) (omega (arith, p)))) (inserted_filled s (front_to_back ss))
 
-first : (a b : SeenLayer) → b.pixel ≢ 0 → a.pixel ≡ 0 → in_front a b ≡ b
-first a b opaque h = grind (arith, opaque, h)
-
-before : (a b : SeenLayer) → b.pixel ≢ 0 → b.priority < a.priority → in_front a b ≡ b
-before a b opaque h = grind (arith, opaque, h)
-
-behind : (a b : SeenLayer) → a.pixel ≢ 0 → a.priority ≤ b.priority → in_front a b ≡ a
-behind a b full h = grind (arith, full, h)
-
-stays_top : (seen : ℕ → SeenLayer) (n m : ℕ) → IsTopLayer seen n m → ((seen n).pixel ≢ 0 → GoesBefore seen m n) → IsTopLayer seen (suc n) m
-stays_top seen n m h fresh = record {
-  known = (let k = h.known in omega arith);
-  opaque = h.opaque;
-  least = λ k lt opaque. elim (below_suc k n lt) [
-    | inl below ↦ h.least k below opaque
-    | inr same ↦
-        (let P : ℕ → Type 0 = λ j. (seen j).pixel ≢ 0 → GoesBefore seen m j in
-        let there : P k = subst P (sym same) fresh in
-        there opaque)
-  ];
-}
-
-becomes_top : (seen : ℕ → SeenLayer) (n : ℕ) → (seen n).pixel ≢ 0 → ((k : ℕ) → k < n → (seen k).pixel ≢ 0 → GoesBefore seen n k) → IsTopLayer seen (suc n) n
-becomes_top seen n opaque_n over = record {
-  known = omega arith;
-  opaque = opaque_n;
-  least = λ k lt opaque. elim (below_suc k n lt) [
-    | inl below ↦ over k below opaque
-    | inr same ↦
-        (let P : ℕ → Type 0 = λ j. GoesBefore seen n j in
-        let here : GoesBefore seen n n = inr (refl, omega arith) in
-        subst P (sym same) here)
-  ];
-}
-
-bare_more : (seen : ℕ → SeenLayer) (n : ℕ) → IsBare seen n → (seen n).pixel ≡ 0 → IsBare seen (suc n)
-bare_more seen n h empty k lt = elim (below_suc k n lt) [
-  | inl below ↦ h k below
-  | inr same ↦ (let P : ℕ → Type 0 = λ j. (seen j).pixel ≡ 0 in subst P (sym same) empty)
+pub filled_more : (s : SeenLayer) (ss : List SeenLayer) → s.priority < 5 → IsFilled (front_to_back ss) → IsFilled (front_to_back (s ∷ ss))
+filled_more s ss p h = elim (cases_eq s.pixel 0) [
+  | inl clear ↦ subst IsFilled (sym (still_hidden 0 5 s ss clear)) h
+  | inr opaque ↦ filled_by s ss opaque p
 ]
-
-over_all : (seen : ℕ → SeenLayer) (n m k : ℕ) → (seen n).priority < (seen m).priority → GoesBefore seen m k → GoesBefore seen n k
-over_all seen n m k lt h = elim h [
-  | inl less ↦ inl (omega (arith, lt, less))
-  | inr same ↦ (let equal = same.0 in inl (omega (arith, lt, equal)))
-]
-
-under : (seen : ℕ → SeenLayer) (n m : ℕ) → m < n → (seen m).priority ≤ (seen n).priority → GoesBefore seen m n
-under seen n m lt h = elim (cases_lt (seen m).priority (seen n).priority) [
-  | inl less ↦ inl less
-  | inr no_less ↦ inr (omega (arith, h, no_less), omega arith)
-]
-
-abbrev Laid : (ℕ → SeenLayer) → ℕ → SeenLayer → Type 0
-Laid seen n s = IsFront seen (suc n) (in_front s (seen n))
-
-over_top : (seen : ℕ → SeenLayer) (n m : ℕ) → IsTopLayer seen n m → (seen n).pixel ≢ 0 → Laid seen n (seen m)
-over_top seen n m h opaque = elim (cases_lt (seen n).priority (seen m).priority) [
-  | inl less ↦
-      subst (IsFront seen (suc n)) (sym (before (seen m) (seen n) opaque less))
-      (inl (n, becomes_top seen n opaque (λ k below there. over_all seen n m k less (h.least k below there)), refl))
-  | inr no_less ↦
-      subst (IsFront seen (suc n)) (sym (behind (seen m) (seen n) h.opaque no_less))
-      (inl (m, stays_top seen n m h (λ _. under seen n m h.known no_less), refl))
-]
-
-over_bare : (seen : ℕ → SeenLayer) (n : ℕ) (s : SeenLayer) → IsBare seen n → s.pixel ≡ 0 → (seen n).pixel ≢ 0 → Laid seen n s
-over_bare seen n s bare empty opaque =
-    subst (IsFront seen (suc n)) (sym (first s (seen n) opaque empty))
-    (inl (n, becomes_top seen n opaque (λ k below there. absurd (there (bare k below))), refl))
-
-over_nothing : (seen : ℕ → SeenLayer) (n : ℕ) (s : SeenLayer) → IsFront seen n s → (seen n).pixel ≡ 0 → Laid seen n s
-over_nothing seen n s h empty =
-    subst (IsFront seen (suc n)) (sym (hidden s (seen n) empty)) (elim h [
-      | inl t ↦ inl (t.0, stays_top seen n t.0 t.1 (λ opaque. absurd (opaque empty)), t.2)
-      | inr e ↦ inr (bare_more seen n e.0 empty, e.1)
-    ])
-
-laid : (seen : ℕ → SeenLayer) (n : ℕ) (s : SeenLayer) → IsFront seen n s → Laid seen n s
-laid seen n s h = elim (cases_eq (seen n).pixel 0) [
-  | inl empty ↦ over_nothing seen n s h empty
-  | inr opaque ↦
-      (elim h [
-        | inl t ↦ subst (Laid seen n) (sym t.2) (over_top seen n t.0 t.1 opaque)
-        | inr e ↦ over_bare seen n s e.0 e.1 opaque
-      ])
-]
-
-alone : (seen : ℕ → SeenLayer) → IsFront seen 1 (seen 0)
-alone seen = elim (cases_eq (seen 0).pixel 0) [
-  | inl empty ↦ inr (bare_more seen 0 (λ k lt. absurd (omega arith)) empty, empty)
-  | inr opaque ↦ inl (0, becomes_top seen 0 opaque (λ k lt there. absurd (omega arith)), refl)
-]
-
-coloured : (backdrop : ℕ) (s : SeenLayer) → s.pixel ≢ 0 → shown_colour backdrop s ≡ s.pixel % 2 ^ 15
-coloured backdrop s opaque = grind (arith, opaque)
-
-uncoloured : (backdrop : ℕ) (s : SeenLayer) → s.pixel ≡ 0 → shown_colour backdrop s ≡ backdrop % 2 ^ 15
-uncoloured backdrop s empty = grind (arith, empty)
-
-shown : (seen : ℕ → SeenLayer) (count backdrop : ℕ) (s : SeenLayer) → IsFront seen count s → IsShownColour seen count backdrop (shown_colour backdrop s)
-shown seen count backdrop s h = record {
-  top = elim h [
-    | inl t ↦
-        (let top : IsTopLayer seen count t.0 = t.1 in
-        inl (t.0, top, subst (λ l. shown_colour backdrop l ≡ (seen t.0).pixel % 2 ^ 15) (sym t.2) (coloured backdrop (seen t.0) top.opaque)))
-    | inr e ↦ inr (e.0, uncoloured backdrop s e.1)
-  ];
-}
-
-pub front_is_top : (seen : ℕ → SeenLayer) (backdrop : ℕ) →
-    IsShownColour seen 4 backdrop (shown_colour backdrop (front_of_four (seen 0) (seen 1) (seen 2) (seen 3)))
-front_is_top seen backdrop =
-    let one = laid seen 1 (seen 0) (alone seen) in
-    let two = laid seen 2 (in_front (seen 0) (seen 1)) one in
-    let three = laid seen 3 (in_front (in_front (seen 0) (seen 1)) (seen 2)) two in
-    shown seen 4 backdrop (in_front (in_front (in_front (seen 0) (seen 1)) (seen 2)) (seen 3)) three

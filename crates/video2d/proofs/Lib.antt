@@ -1,2 +1,4 @@
 pub mod FrontLemmas
-pub mod MergeLemmas
+pub mod MixLemmas
+pub mod StopLemmas
+pub mod Framed

@@ -35,15 +35,24 @@ bgvofs e n = number_at Half e.ports (0x12 + 4 * n)
 abbrev pub bldcnt : EngineState → ℕ
 bldcnt e = number_at Half e.ports 0x50
 
+abbrev pub bldalpha : EngineState → ℕ
+bldalpha e = number_at Half e.ports 0x52
+
+abbrev pub bldy : EngineState → ℕ
+bldy e = slice_index e.ports 0x54
+
 abbrev pub dispcapcnt : EngineState → ℕ
 dispcapcnt e = number_at Word e.ports 0x64
 
 abbrev pub master_bright : EngineState → ℕ
 master_bright e = number_at Half e.ports 0x6C
 
--- the mosaic's sizes for backgrounds: the low byte of MOSAIC
+-- the mosaic's sizes: the low byte of MOSAIC for backgrounds, and the high one for objects
 abbrev pub background_mosaic : EngineState → ℕ
 background_mosaic e = slice_index e.ports 0x4C
+
+abbrev pub object_mosaic : EngineState → ℕ
+object_mosaic e = slice_index e.ports 0x4D
 
 -- ---- running points (GBATEK, "LCD I/O BG Rotation/Scaling"): the point at the left end of the line, each coordinate a word with 8 fractional
 -- bits. PA to PD, X and Y of background n stand from offset 10h n on

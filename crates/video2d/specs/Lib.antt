@@ -1,10 +1,14 @@
 pub mod Backgrounds
+pub mod Effects
 pub mod Engines
 pub mod EnginePorts
+pub mod Kept
 pub mod Pictures
+pub mod Layers
 pub mod Ports
 pub mod Scans
 pub mod Statuses
 pub mod Stops
 pub mod Videos
+pub mod Windows
 pub mod rows

@@ -1,4 +1,4 @@
-use Rattle.std.specs.Prelude.{ℕ, ◌+◌, ◌*◌, ◌==◌, nat_le, nat_lt, ◌&&◌, not, Bool, false, true, if◌then◌else◌}
+use Rattle.std.specs.Prelude.{ℕ, ◌+◌, ◌*◌, ◌==◌, nat_le, nat_lt, ◌&&◌, not, Bool, false, true, if◌then◌else◌, ◌-◌, Option, Some, None}
 use Rattle.ds_base.specs.declared.ticks.Tick.{Tick}
 
 -- Where the display is, and when its events come (GBATEK, "DS Video", LCD timings; the tick of H-blank is our choice). A line has 355 dots of
@@ -50,3 +50,11 @@ blanks_drawn_line s = not s.blanked && is_drawn_line s.line
 -- the next event is the start of line 192
 abbrev pub starts_vblank : ScanState → Bool
 starts_vblank s = s.blanked && (s.line == 191)
+
+-- the tick at which line 192 of a frame starts, which makes the frame whole
+abbrev pub whole_tick : ℕ → Tick
+whole_tick frame = record { 0 = 1120380 * frame + 817920 }
+
+-- when the last whole frame became so: the present one from its line 192 on, and until then the one before it, where there was one
+abbrev pub framed_by : ScanState → Option Tick
+framed_by s = if nat_le 192 s.line then Some (whole_tick s.frame) else (if s.frame == 0 then None else Some (whole_tick (s.frame - 1)))

@@ -1,15 +1,18 @@
-use Rattle.std.specs.Prelude.{ℕ, ◌+◌, ◌==◌, nat_le, ◌&&◌, ◌||◌, not, Bool, if◌then◌else◌, List, [], ◌∷◌, Option, Some, None}
-use Rattle.ds_base.specs.Bits.{bit, bits}
+use Rattle.std.specs.Prelude.{ℕ, ◌+◌, ◌==◌, nat_le, ◌&&◌, not, Bool, if◌then◌else◌, List, [], ◌∷◌, map, Option, Some, None}
+use Rattle.std.specs.List.{range_with_len}
+use Rattle.ds_base.specs.Bits.{bit}
 use Rattle.ds_base.specs.declared.left_out.LeftKind.{LeftKind}
-use Rattle.ds_base.specs.declared.left_out.LeftKind.TheVariants.{NotYet, DisplayMode, BgMode, Capture, Mosaic, ExtendedBackground}
+use Rattle.ds_base.specs.declared.left_out.LeftKind.TheVariants.{DisplayMode, BgMode, BitmapObject, Capture, Mosaic, ExtendedBackground}
 use Rattle.ds_base.specs.declared.left_out.Stop.{Stop}
+use Rattle.obj2d.specs.Attributes.{mode, object_at, object_has_mosaic}
+use Rattle.obj2d.specs.Places.{covers}
 use Rattle.video2d.specs.Backgrounds.{background_kind, background_mode, is_background_on}
-use Rattle.video2d.specs.Engines.{EngineState, dispcnt, bgcnt, bldcnt, dispcapcnt, master_bright, background_mosaic}
-use Rattle.video2d.specs.Pictures.{display_mode, is_enabled, is_forced_blank, shows_layers}
+use Rattle.video2d.specs.Engines.{EngineState, dispcnt, bgcnt, dispcapcnt, background_mosaic, object_mosaic}
+use Rattle.video2d.specs.Pictures.{display_mode, is_enabled, is_forced_blank, object_memory, shows_layers}
 use Rattle.video2d.specs.declared.backgrounds.BackgroundKind.{BackgroundKind}
 use Rattle.video2d.specs.declared.backgrounds.BackgroundKind.TheVariants.{Text, Affine, Extended}
 
--- What a line can't be drawn with, and in which order it counts (our choice). A disabled engine needs nothing.
+-- What a line can't be drawn with, and in which order it counts (our choice). A disabled engine needs nothing, nor does one with forced blank.
 
 abbrev pub needed_if : Bool → LeftKind → ℕ → Option Stop
 needed_if needs kind value = if needs then Some (record { kind = kind; value = value }) else None
@@ -19,21 +22,6 @@ abbrev pub first_need : List (Option Stop) → Option Stop
 first_need [] = None
 first_need (None ∷ needs) = first_need needs
 first_need (Some stop ∷ needs) = Some stop
-
--- ---- what isn't built yet: objects and windows (DISPCNT bits 12 to 15) and effects (BLDCNT bits 6 and 7), where layers are shown, and master
--- brightness up and down. The value is the register
-
-abbrev pub needs_later : ℕ → ℕ → EngineState → Option Stop
-needs_later which power e =
-    if is_enabled which power
-    then first_need (
-    needed_if (shows_layers which e && not (bits 12 4 (dispcnt e) == 0)) NotYet (dispcnt e)
-    ∷ needed_if (shows_layers which e && not (bits 6 2 (bldcnt e) == 0)) NotYet (bldcnt e)
-    ∷ needed_if ((bits 14 2 (master_bright e) == 1) || (bits 14 2 (master_bright e) == 2)) NotYet (master_bright e)
-    ∷ [])
-    else None
-
--- ---- what is left out. An engine with forced blank needs nothing of it
 
 -- engine B's values have 256 more
 abbrev pub value_of_engine : ℕ → ℕ → ℕ
@@ -65,14 +53,33 @@ needs_of_background which e n =
     (needed_if (bit 6 (bgcnt e n) && not (background_mosaic e == 0)) Mosaic (value_of_engine which n))
     else None
 
-abbrev pub needs_left_out : ℕ → ℕ → EngineState → Option Stop
-needs_left_out which power e =
+-- an object that covers the line and is a bitmap (mode 3), or has mosaic (attribute 0 bit 12) while objects' sizes aren't 0. The value of the
+-- latter has 128 more
+abbrev pub needs_of_object : ℕ → EngineState → List ℕ → ℕ → ℕ → Option Stop
+needs_of_object which e oam line n =
+    if covers (dispcnt e) (object_at oam n) line
+    then first_need (
+    needed_if (mode (object_at oam n) == 3) BitmapObject (value_of_engine which n)
+    ∷ needed_if (object_has_mosaic (object_at oam n) && not (object_mosaic e == 0)) Mosaic (value_of_engine which (128 + n))
+    ∷ [])
+    else None
+
+-- of the 128 objects; `oam` has the engine's 1,024 bytes of them
+unfoldable pub needs_of_objects : ℕ → EngineState → List ℕ → ℕ → Option Stop
+needs_of_objects which e oam line = first_need (map (needs_of_object which e oam line) (range_with_len 0 128))
+
+abbrev pub needs_of_objects_shown : ℕ → EngineState → List ℕ → ℕ → Option Stop
+needs_of_objects_shown which e oam line = if shows_layers which e then needs_of_objects which e oam line else None
+
+abbrev pub needs_of_engine : ℕ → ℕ → EngineState → List ℕ → ℕ → Option Stop
+needs_of_engine which power e oam line =
     if is_enabled which power && not (is_forced_blank e)
     then first_need (
     needs_display_mode which e ∷ needs_mode which e ∷ needs_capture which e
-    ∷ needs_of_background which e 0 ∷ needs_of_background which e 1 ∷ needs_of_background which e 2 ∷ needs_of_background which e 3 ∷ [])
+    ∷ needs_of_background which e 0 ∷ needs_of_background which e 1 ∷ needs_of_background which e 2 ∷ needs_of_background which e 3
+    ∷ needs_of_objects_shown which e (object_memory which oam) line ∷ [])
     else None
 
--- of both engines: what isn't built yet comes first, and A comes before B
-abbrev pub needs_of_line : ℕ → EngineState → EngineState → Option Stop
-needs_of_line power a b = first_need (needs_later 0 power a ∷ needs_later 1 power b ∷ needs_left_out 0 power a ∷ needs_left_out 1 power b ∷ [])
+-- of both engines, A before B; `oam` has the bytes of both
+abbrev pub needs_of_line : ℕ → EngineState → EngineState → List ℕ → ℕ → Option Stop
+needs_of_line power a b oam line = first_need (needs_of_engine 0 power a oam line ∷ needs_of_engine 1 power b oam line ∷ [])

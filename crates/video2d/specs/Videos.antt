@@ -6,7 +6,7 @@ use Rattle.ds_base.specs.declared.processors.Proc.{Proc}
 use Rattle.ds_base.specs.declared.processors.Proc.TheVariants.{Nine, Seven}
 use Rattle.vram_banks.specs.Cells.{Banks}
 use Rattle.video2d.specs.Engines.{EngineState, engine_at_boot, engine_byte, engine_byte_written, points_started, points_stepped}
-use Rattle.video2d.specs.Pictures.{background_palette, engine_line, line_laid, line_place, screen_of}
+use Rattle.video2d.specs.Pictures.{engine_line, line_laid, line_place, screen_of}
 use Rattle.video2d.specs.Ports.{video_port}
 use Rattle.video2d.specs.Scans.{ScanState, blanks_drawn_line, line_after, scan_after, scan_at_boot, starts_vblank}
 use Rattle.video2d.specs.Statuses.{half_byte, raised_at_hblank, raised_at_start, status_at_boot, status_started, status_word, status_written, with_half_byte}
@@ -90,24 +90,24 @@ video_written proc v at width value = put_by width (video_byte_written proc) (al
 
 -- ---- events
 
--- why the next event stops, if it does: the H-blank of a line that is drawn needs what isn't there
-abbrev pub video_stop : VideoState → Option Stop
-video_stop v = if blanks_drawn_line v.scan then needs_of_line v.power v.a v.b else None
+-- why the next event stops, if it does: the H-blank of a line that is drawn needs what isn't there. `oam` is the memory of both engines' objects,
+-- and `palette` that of both engines' palettes
+abbrev pub video_stop : List ℕ → VideoState → Option Stop
+video_stop oam v = if blanks_drawn_line v.scan then needs_of_line v.power v.a v.b oam v.scan.line else None
 
 -- a line is drawn: each engine's, on its screen
-abbrev pub drawn_with : Banks → List ℕ → VideoState → ℕ → List ℕ → List ℕ
-drawn_with m palette v which frame =
-    line_laid (line_place (screen_of which v.power) v.scan.line)
-    (engine_line m (background_palette which palette) which v.power (engine_of v which) v.scan.line) frame
+abbrev pub drawn_with : Banks → List ℕ → List ℕ → VideoState → ℕ → List ℕ → List ℕ
+drawn_with m palette oam v which frame =
+    line_laid (line_place (screen_of which v.power) v.scan.line) (engine_line m palette oam which v.power (engine_of v which) v.scan.line) frame
 
-abbrev pub line_drawn : Banks → List ℕ → VideoState → List ℕ
-line_drawn m palette v = drawn_with m palette v 1 (drawn_with m palette v 0 v.drawn)
+abbrev pub line_drawn : Banks → List ℕ → List ℕ → VideoState → List ℕ
+line_drawn m palette oam v = drawn_with m palette oam v 1 (drawn_with m palette oam v 0 v.drawn)
 
 -- a line's H-blank: one of lines 0 to 191 is drawn, and then the points of the affine backgrounds go on, whatever is shown
-abbrev pub video_blanked : Banks → List ℕ → VideoState → VideoState
-video_blanked m palette v =
+abbrev pub video_blanked : Banks → List ℕ → List ℕ → VideoState → VideoState
+video_blanked m palette oam v =
     if blanks_drawn_line v.scan
-    then record v { scan = scan_after v.scan; a = points_stepped v.a; b = points_stepped v.b; drawn = line_drawn m palette v }
+    then record v { scan = scan_after v.scan; a = points_stepped v.a; b = points_stepped v.b; drawn = line_drawn m palette oam v }
     else record v { scan = scan_after v.scan }
 
 -- a line's start, whose number is given: V-count's flags, at line 0 the points of the affine backgrounds, at line 192 the whole frame
@@ -121,8 +121,8 @@ video_line_started line v = record v {
   whole = if line == 192 then v.drawn else v.whole;
 }
 
-abbrev pub video_happened : Banks → List ℕ → VideoState → VideoState
-video_happened m palette v = if v.scan.blanked then video_line_started (line_after v.scan.line) v else video_blanked m palette v
+abbrev pub video_happened : Banks → List ℕ → List ℕ → VideoState → VideoState
+video_happened m palette oam v = if v.scan.blanked then video_line_started (line_after v.scan.line) v else video_blanked m palette oam v
 
 -- what an event raises, and what it starts elsewhere: V-blank DMA of both processors and H-blank DMA of ARM9 (GBATEK, "DS DMA Transfers"), and
 -- that a frame is whole
@@ -142,12 +142,12 @@ abbrev pub unless_stop : {A : Type 0} → Option Stop → A → A → A
 unless_stop None made left = made
 unless_stop (Some stop) made left = left
 
-abbrev pub video_after_event : Banks → List ℕ → VideoState → VideoState
-video_after_event m palette v = unless_stop (video_stop v) (video_happened m palette v) v
+abbrev pub video_after_event : Banks → List ℕ → List ℕ → VideoState → VideoState
+video_after_event m palette oam v = unless_stop (video_stop oam v) (video_happened m palette oam v) v
 
 abbrev pub answer_unless : Option Stop → Shown → Result Shown Stop
 answer_unless None shown = Ok shown
 answer_unless (Some stop) shown = Err stop
 
-abbrev pub video_answer : VideoState → Result Shown Stop
-video_answer v = answer_unless (video_stop v) (video_shown v)
+abbrev pub video_answer : List ℕ → VideoState → Result Shown Stop
+video_answer oam v = answer_unless (video_stop oam v) (video_shown v)

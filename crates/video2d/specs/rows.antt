@@ -1,1 +1,1 @@
-pub mod Merged
+pub mod Composed

@@ -1,7 +1,7 @@
 //! A 2D engine's registers.
 
 ghost use Rattle.std.specs.Prelude.{◌≡◌, ◌<◌, ◌≤◌, slice_index, slice_set};
-ghost use Rattle.video2d.specs.Engines.{engine_at_boot, dispcnt, bgcnt, bghofs, bgvofs, bldcnt, dispcapcnt, master_bright, background_mosaic, points_started, points_stepped, points_after, engine_byte, engine_byte_written, text_layer_of, affine_layer_of};
+ghost use Rattle.video2d.specs.Engines.{engine_at_boot, dispcnt, bgcnt, bghofs, bgvofs, bldcnt, bldalpha, bldy, dispcapcnt, master_bright, background_mosaic, object_mosaic, points_started, points_stepped, points_after, engine_byte, engine_byte_written, text_layer_of, affine_layer_of};
 
 use crate::engine_ports::engine_port_at;
 use crate::points::{PORTS, Point, half_at, word_at};
@@ -89,11 +89,40 @@ impl Engine {
         half_at(&self.ports, 0x6C)
     }
 
+    /// BLDALPHA.
+    pub fn bldalpha(&self) -> u16
+        ensures { result ≡ bldalpha self.now }
+    {
+        half_at(&self.ports, 0x52)
+    }
+
+    /// The low byte of BLDY.
+    pub fn bldy(&self) -> u8
+        ensures { result ≡ bldy self.now }
+    {
+        self.ports[0x54]
+    }
+
     /// The mosaic's sizes for backgrounds.
     pub fn background_mosaic(&self) -> u8
         ensures { result ≡ background_mosaic self.now }
     {
         self.ports[0x4C]
+    }
+
+    /// The mosaic's sizes for objects.
+    pub fn object_mosaic(&self) -> u8
+        ensures { result ≡ object_mosaic self.now }
+    {
+        self.ports[0x4D]
+    }
+
+    /// A byte of the windows' registers.
+    pub fn window_byte(&self, at: usize) -> u8
+        requires { at < 112 }
+        ensures { result ≡ slice_index self.now.ports at }
+    {
+        self.ports[at]
     }
 
     /// The byte at an offset, as it is read.
@@ -111,6 +140,14 @@ impl Engine {
                 }
             }
         }
+    }
+
+    /// The byte that is kept at an offset.
+    pub fn kept(&self, at: u32) -> u8
+        requires { at < 112 }
+        ensures { result ≡ slice_index self.now.ports at }
+    {
+        self.ports[at as usize]
     }
 
     fn copy_points(&mut self, at: usize)

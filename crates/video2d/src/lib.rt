@@ -1,14 +1,17 @@
 //! The display: where it is, its events, its ports, the registers of both 2D engines, the picture that they draw, and frames (GBATEK, "DS
 //! Video", "LCD I/O Display Control" and the chapters after it).
 //!
-//! The picture's definition is pixel by pixel: `specs/Pictures` over the backgrounds' pixels of `bg2d`. The code draws by rows. Objects, windows
-//! and effects aren't built yet: a line that needs one stops.
+//! The picture's definition is pixel by pixel: `specs/Pictures` over the pixels of `bg2d` and `obj2d`, with the layers' order in `specs/Layers`,
+//! windows in `specs/Windows` and effects in `specs/Effects`. The code draws by rows.
 #![tactic(auto)]
 
 mod backgrounds;
 mod engine_ports;
 mod engines;
+mod fronts;
+mod layers;
 mod lines;
+mod mixes;
 mod points;
 mod ports;
 mod scans;
@@ -16,6 +19,6 @@ mod screens;
 mod statuses;
 mod stops;
 mod videos;
+mod windows;
 
-pub use lines::{SeenLayer, layer_laws};
 pub use videos::{Shown, Video};

@@ -1,98 +1,17 @@
 //! The line that an engine shows.
 
-ghost use Rattle.std.specs.Prelude.{◌≡◌, ◌<◌, ◌≤◌, ◌+◌, ◌%◌, ◌^◌, ℕ, length, slice_index, slice_range};
-ghost use Rattle.ds_base.specs.Bits.{bits};
+ghost use Rattle.std.specs.Prelude.{◌≡◌, ◌<◌, ℕ, length, slice_index};
 ghost use Rattle.tiles2d.specs.Colours.{palette_colour};
-ghost use Rattle.video2d.specs.Engines.{bgcnt};
-ghost use Rattle.video2d.specs.declared.lines.SeenLayer.{SeenLayer};
-ghost use Rattle.video2d.specs.rows.Merged.{merged};
-ghost use Rattle.video2d.specs.Pictures.{IsShownColour, in_front, front_of_four, shown_colour, layered_pixel, is_enabled, display_mode, is_forced_blank, shows_layers, engine_pixel, engine_line, line_of, background_palette};
+ghost use Rattle.video2d.specs.Pictures.{layered_pixel, is_enabled, display_mode, is_forced_blank, shows_layers, screen_pixel, engine_pixel, engine_line, background_palette, object_palette, object_memory};
 
-use crate::backgrounds::background_row;
 use crate::engines::Engine;
-use bg2d::Row;
+use crate::layers::{draw_rows, empty_rows};
+use crate::mixes::{MixRow, finish_row, line_order, mix_rows};
+use line_lanes::master;
 use vram_banks::Vram;
 
 /// What a screen without layers shows.
 const WHITE: u16 = 0x7FFF;
-
-/// What one layer has at a place.
-#[derive(Clone, Copy)]
-pub struct SeenLayer {
-    /// Its pixel, which is 0 where it is transparent.
-    pub pixel: u16,
-    /// Its priority, 0 to 3; 0 is the highest.
-    pub priority: u8,
-}
-
-/// What doesn't change along a line: the backdrop's colour, and the priorities of backgrounds 0 to 3.
-#[derive(Clone, Copy)]
-pub struct Order {
-    /// The backdrop's colour.
-    pub backdrop: u16,
-    /// The priority of background 0.
-    pub bg0: u8,
-    /// Of background 1.
-    pub bg1: u8,
-    /// Of background 2.
-    pub bg2: u8,
-    /// Of background 3.
-    pub bg3: u8,
-}
-
-/// Of a layer, and one of a higher number, the one in front.
-fn in_front(a: SeenLayer, b: SeenLayer) -> SeenLayer
-    ensures { result ≡ in_front a b }
-{
-    if b.pixel == 0 {
-        a
-    } else if a.pixel == 0 || b.priority < a.priority {
-        b
-    } else {
-        a
-    }
-}
-
-/// The colour that is shown, where this layer is in front of all.
-fn shown_colour(backdrop: u16, top: SeenLayer) -> u16
-    ensures { result ≡ shown_colour backdrop top }
-{
-    if top.pixel == 0 {
-        backdrop % 0x8000
-    } else {
-        top.pixel % 0x8000
-    }
-}
-
-/// Does nothing; its contract states which colour four layers show: that of the opaque layer whose priority is the least number and, of those, the
-/// one of the least number, and the backdrop's where none is opaque.
-pub fn layer_laws()
-    ensures { (seen : ℕ → SeenLayer) (backdrop : ℕ) → IsShownColour seen 4 backdrop (shown_colour backdrop (front_of_four (seen 0) (seen 1) (seen 2) (seen 3))) }
-{}
-
-/// The colour of a place from the pixels of the four backgrounds.
-fn merged(order: Order, bg0: u16, bg1: u16, bg2: u16, bg3: u16) -> u16
-    ensures { result ≡ merged order bg0 bg1 bg2 bg3 }
-{
-    let bg0 = SeenLayer {
-        pixel: bg0,
-        priority: order.bg0,
-    };
-    let bg1 = SeenLayer {
-        pixel: bg1,
-        priority: order.bg1,
-    };
-    let bg2 = SeenLayer {
-        pixel: bg2,
-        priority: order.bg2,
-    };
-    let bg3 = SeenLayer {
-        pixel: bg3,
-        priority: order.bg3,
-    };
-    let top = in_front(in_front(in_front(bg0, bg1), bg2), bg3);
-    shown_colour(order.backdrop, top)
-}
 
 /// A colour of a palette of 256.
 fn palette_colour(palette: &[u8], index: usize) -> u16
@@ -101,14 +20,6 @@ fn palette_colour(palette: &[u8], index: usize) -> u16
     ensures { result ≡ palette_colour palette.now index }
 {
     u16::from_le_bytes([palette[2 * index], palette[2 * index + 1]])
-}
-
-/// The priority of background n.
-fn priority(engine: &Engine, n: u8) -> u8
-    requires { n < 4 }
-    ensures { result ≡ bits 0 2 (bgcnt engine.now n) }
-{
-    (engine.bgcnt(n) % 4) as u8
 }
 
 /// The display mode: two bits of DISPCNT, of which engine B has the low one alone.
@@ -142,49 +53,42 @@ pub fn is_enabled(which: u8, power: u16) -> bool
     (power >> bit) % 2 == 1
 }
 
-/// Merges the rows of the four backgrounds.
-fn merge_rows(order: Order, bg0: &Row, bg1: &Row, bg2: &Row, bg3: &Row, into: &mut [u16; 256])
-    ensures { (x : ℕ) → x < 256 → slice_index into.new x ≡ merged order (slice_index bg0.now.pixels x) (slice_index bg1.now.pixels x) (slice_index bg2.now.pixels x) (slice_index bg3.now.pixels x) }
-{
-    for x in 0..256usize {
-        into[x] = merged(
-            order,
-            bg0.pixels[x],
-            bg1.pixels[x],
-            bg2.pixels[x],
-            bg3.pixels[x],
-        );
-    }
-}
-
-/// Draws the line of an engine's layers. `palette` has the 512 bytes of its background palette.
+/// Draws the line of an engine's layers. `colours` and `object_colours` have the 512 bytes of its palettes for backgrounds and for objects, `oam` its
+/// 1,024 bytes of objects.
 fn layered_line(
     vram: &Vram,
-    palette: &[u8],
+    colours: &[u8],
+    object_colours: &[u8],
+    oam: &[u8],
     which: u8,
     engine: &Engine,
     line: u8,
     into: &mut [u16; 256],
 )
-    requires { length palette.now ≡ 512 }
-    ensures { (x : ℕ) → x < 256 → slice_index into.new x ≡ layered_pixel vram.now palette.now which engine.now line x }
+    requires colours { length colours.now ≡ 512 }
+    requires object_colours { length object_colours.now ≡ 512 }
+    requires oam { length oam.now ≡ 1024 }
+    ensures { (x : ℕ) → x < 256 → slice_index into.new x ≡ layered_pixel vram.now colours.now object_colours.now oam.now which engine.now line x }
 {
-    let mut bg0 = Row { pixels: [0; 256] };
-    let mut bg1 = Row { pixels: [0; 256] };
-    let mut bg2 = Row { pixels: [0; 256] };
-    let mut bg3 = Row { pixels: [0; 256] };
-    background_row(vram, palette, which, engine, line, 0, &mut bg0);
-    background_row(vram, palette, which, engine, line, 1, &mut bg1);
-    background_row(vram, palette, which, engine, line, 2, &mut bg2);
-    background_row(vram, palette, which, engine, line, 3, &mut bg3);
-    let order = Order {
-        backdrop: palette_colour(palette, 0),
-        bg0: priority(engine, 0),
-        bg1: priority(engine, 1),
-        bg2: priority(engine, 2),
-        bg3: priority(engine, 3),
+    let mut rows = empty_rows();
+    let mut mixes = MixRow {
+        top: [0; 256],
+        next: [0; 256],
+        kinds: [0; 256],
     };
-    merge_rows(order, &bg0, &bg1, &bg2, &bg3, into);
+    draw_rows(
+        vram,
+        colours,
+        object_colours,
+        oam,
+        which,
+        engine,
+        line,
+        &mut rows,
+    );
+    let order = line_order(engine, line, palette_colour(colours, 0));
+    mix_rows(&order, &rows, &mut mixes);
+    finish_row(engine, &mixes, into);
 }
 
 /// The line in one colour.
@@ -196,46 +100,8 @@ fn plain_line(colour: u16, into: &mut [u16; 256])
     }
 }
 
-/// Draws the line that an engine shows. `palette` has the 512 bytes of its background palette.
-fn shown_line(
-    vram: &Vram,
-    palette: &[u8],
-    which: u8,
-    power: u16,
-    engine: &Engine,
-    line: u8,
-    into: &mut [u16; 256],
-)
-    requires { length palette.now ≡ 512 }
-    ensures { (x : ℕ) → x < 256 → slice_index into.new x ≡ engine_pixel vram.now palette.now which power engine.now line x }
-{
-    if !is_enabled(which, power) {
-        plain_line(0, into);
-    } else if shows_layers(which, engine) {
-        layered_line(vram, palette, which, engine, line, into);
-    } else {
-        plain_line(WHITE, into);
-    }
-}
-
-/// Draws the line that an engine shows, as a list. `palette` has the 512 bytes of its background palette.
-pub fn engine_line(
-    vram: &Vram,
-    palette: &[u8],
-    which: u8,
-    power: u16,
-    engine: &Engine,
-    line: u8,
-    into: &mut [u16; 256],
-)
-    requires { length palette.now ≡ 512 }
-    ensures { into.new ≡ engine_line vram.now palette.now which power engine.now line }
-{
-    shown_line(vram, palette, which, power, engine, line, into);
-}
-
-/// The background palette of an engine, in the memory of both engines' palettes.
-pub fn background_palette(which: u8, palette: &[u8]) -> &[u8]
+/// The palette of an engine's backgrounds, in the memory of both engines' palettes.
+fn background_palette(which: u8, palette: &[u8]) -> &[u8]
     requires { length palette.now ≡ 2048 }
     ensures value { result.now ≡ background_palette which palette.now }
     ensures long { length result.now ≡ 512 }
@@ -245,4 +111,104 @@ pub fn background_palette(which: u8, palette: &[u8]) -> &[u8]
     } else {
         &palette[1024..1536]
     }
+}
+
+/// The palette of its objects, likewise.
+fn object_palette(which: u8, palette: &[u8]) -> &[u8]
+    requires { length palette.now ≡ 2048 }
+    ensures value { result.now ≡ object_palette which palette.now }
+    ensures long { length result.now ≡ 512 }
+{
+    if which == 0 {
+        &palette[512..1024]
+    } else {
+        &palette[1536..2048]
+    }
+}
+
+/// The objects of an engine, in the memory of both engines' objects.
+pub fn object_memory(which: u8, oam: &[u8]) -> &[u8]
+    requires { length oam.now ≡ 2048 }
+    ensures value { result.now ≡ object_memory which oam.now }
+    ensures long { length result.now ≡ 1024 }
+{
+    if which == 0 {
+        &oam[0..1024]
+    } else {
+        &oam[1024..2048]
+    }
+}
+
+/// Draws the line of an enabled engine, before master brightness. `palette` and `oam` are the memories of both engines.
+fn screen_line(
+    vram: &Vram,
+    palette: &[u8],
+    oam: &[u8],
+    which: u8,
+    engine: &Engine,
+    line: u8,
+    into: &mut [u16; 256],
+)
+    requires colours { length palette.now ≡ 2048 }
+    requires oam { length oam.now ≡ 2048 }
+    ensures { (x : ℕ) → x < 256 → slice_index into.new x ≡ screen_pixel vram.now palette.now oam.now which engine.now line x }
+{
+    if shows_layers(which, engine) {
+        let colours = background_palette(which, palette);
+        let object_colours = object_palette(which, palette);
+        let objects = object_memory(which, oam);
+        layered_line(
+            vram,
+            colours,
+            object_colours,
+            objects,
+            which,
+            engine,
+            line,
+            into,
+        );
+    } else {
+        plain_line(WHITE, into);
+    }
+}
+
+/// Draws the line that an engine shows.
+fn shown_line(
+    vram: &Vram,
+    palette: &[u8],
+    oam: &[u8],
+    which: u8,
+    power: u16,
+    engine: &Engine,
+    line: u8,
+    into: &mut [u16; 256],
+)
+    requires colours { length palette.now ≡ 2048 }
+    requires oam { length oam.now ≡ 2048 }
+    ensures { (x : ℕ) → x < 256 → slice_index into.new x ≡ engine_pixel vram.now palette.now oam.now which power engine.now line x }
+{
+    if is_enabled(which, power) {
+        screen_line(vram, palette, oam, which, engine, line, into);
+        master(into, engine.master_bright());
+    } else {
+        plain_line(0, into);
+    }
+}
+
+/// Draws the line that an engine shows, as a list. `palette` and `oam` are the memories of both engines.
+pub fn engine_line(
+    vram: &Vram,
+    palette: &[u8],
+    oam: &[u8],
+    which: u8,
+    power: u16,
+    engine: &Engine,
+    line: u8,
+    into: &mut [u16; 256],
+)
+    requires colours { length palette.now ≡ 2048 }
+    requires oam { length oam.now ≡ 2048 }
+    ensures { into.new ≡ engine_line vram.now palette.now oam.now which power engine.now line }
+{
+    shown_line(vram, palette, oam, which, power, engine, line, into);
 }

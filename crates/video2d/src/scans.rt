@@ -1,14 +1,21 @@
 //! Where the display is, and when its next event comes.
 
 ghost use Rattle.std.specs.Prelude.{◌≡◌, ◌<◌, ◌≤◌, ◌^◌};
-ghost use Rattle.video2d.specs.Scans.{scan_at_boot, scan_due, scan_after, line_after, is_drawn_line, in_vblank, blanks_drawn_line, starts_vblank};
+ghost use Rattle.video2d.specs.Scans.{scan_at_boot, scan_due, scan_after, line_after, is_drawn_line, in_vblank, blanks_drawn_line, starts_vblank, framed_by, scan_line_start};
 
+use ds_base::Tick;
 use std::marker::Model;
 
 /// From a line's start to its H-blank event.
 const HBLANK_TICKS: u64 = 3_212;
 /// From a line's H-blank event to the next line's start.
 const REST_TICKS: u64 = 1_048;
+/// From a line's start to the next one's.
+const LINE_TICKS: u64 = 4_260;
+/// From a frame's start to the next one's.
+const FRAME_TICKS: u64 = 1_120_380;
+/// From a frame's start to that of its line 192, which makes it whole.
+const WHOLE_TICKS: u64 = 817_920;
 /// The last line of a frame.
 const LAST_LINE: u16 = 262;
 /// The first line that isn't drawn.
@@ -89,6 +96,32 @@ impl Scan {
         ensures { result ≡ starts_vblank self.now }
     {
         self.blanked && self.line == VBLANK_LINE - 1
+    }
+
+    /// When the present line began.
+    fn line_start(&self) -> u64
+        ensures { result ≡ scan_line_start self.now }
+    {
+        if self.blanked {
+            self.due - LINE_TICKS
+        } else {
+            self.due - HBLANK_TICKS
+        }
+    }
+
+    /// When the last whole frame became so, if one is.
+    pub fn framed(&self) -> Option<Tick>
+        ensures { result ≡ framed_by self.now }
+    {
+        let line_start = self.line_start();
+        let start = line_start - LINE_TICKS * self.line as u64;
+        if self.line >= VBLANK_LINE {
+            return Some(Tick(start + WHOLE_TICKS));
+        }
+        if start == 0 {
+            return None;
+        }
+        Some(Tick(start - FRAME_TICKS + WHOLE_TICKS))
     }
 
     /// The line after the present one.

@@ -1,12 +1,14 @@
 //! What a line can't be drawn with.
 
-ghost use Rattle.std.specs.Prelude.{◌≡◌, ◌<◌, ◌≤◌, ◌∷◌, [], None};
-ghost use Rattle.video2d.specs.Stops.{needed_if, first_need, needs_later, value_of_engine, needs_display_mode, needs_mode, needs_capture, extended_by, needs_of_background, needs_left_out, needs_of_line};
+ghost use Rattle.std.specs.Prelude.{◌≡◌, ◌<◌, ◌∷◌, [], length};
+ghost use Rattle.video2d.specs.Pictures.{object_memory};
+ghost use Rattle.video2d.specs.Stops.{needed_if, first_need, value_of_engine, needs_display_mode, needs_mode, needs_capture, extended_by, needs_of_background, needs_of_object, needs_of_objects, needs_of_objects_shown, needs_of_engine, needs_of_line};
 
 use crate::backgrounds::{BackgroundKind, background_kind, background_mode, is_background_on};
 use crate::engines::Engine;
-use crate::lines::{display_mode, is_enabled, is_forced_blank, shows_layers};
+use crate::lines::{display_mode, is_enabled, is_forced_blank, object_memory, shows_layers};
 use ds_base::{LeftKind, Stop};
+use obj2d::{covers_line, is_mosaic_object, object_mode};
 
 fn needed_if(needs: bool, kind: LeftKind, value: u32) -> Option<Stop>
     ensures { result ≡ needed_if needs kind value }
@@ -26,27 +28,6 @@ fn or_else(first: Option<Stop>, second: Option<Stop>) -> Option<Stop>
         Some(stop) => Some(stop),
         None => second,
     }
-}
-
-/// What isn't built yet: objects, windows, effects, and master brightness.
-fn needs_later(which: u8, power: u16, engine: &Engine) -> Option<Stop>
-    ensures { result ≡ needs_later which power engine.now }
-{
-    if !is_enabled(which, power) {
-        return None;
-    }
-    let layers = shows_layers(which, engine);
-    let display = engine.dispcnt();
-    let effects = engine.bldcnt();
-    let master = engine.master_bright();
-    if layers && (display >> 12) % 16 != 0 {
-        return needed_if(true, LeftKind::NotYet, display);
-    }
-    if layers && (effects >> 6) % 4 != 0 {
-        return needed_if(true, LeftKind::NotYet, effects as u32);
-    }
-    let mode = master >> 14;
-    needed_if(mode == 1 || mode == 2, LeftKind::NotYet, master as u32)
 }
 
 /// Engine B's values have 256 more.
@@ -111,14 +92,65 @@ fn needs_of_background(which: u8, engine: &Engine, n: u8) -> Option<Stop>
     )
 }
 
-/// What is left out, in order.
-fn needs_left_out(which: u8, power: u16, engine: &Engine) -> Option<Stop>
-    ensures { result ≡ needs_left_out which power engine.now }
+/// What the object of a number needs. `oam` has the engine's 1,024 bytes of objects.
+fn needs_of_object(which: u8, engine: &Engine, oam: &[u8], line: u8, n: usize) -> Option<Stop>
+    requires oam { length oam.now ≡ 1024 }
+    requires known { n < 128 }
+    ensures { result ≡ needs_of_object which engine.now oam.now line n }
+{
+    if !covers_line(oam, engine.dispcnt(), n, line) {
+        return None;
+    }
+    if object_mode(oam, n) == 3 {
+        return needed_if(
+            true,
+            LeftKind::BitmapObject,
+            value_of_engine(which, n as u32),
+        );
+    }
+    let mosaic = is_mosaic_object(oam, n) && engine.object_mosaic() != 0;
+    needed_if(
+        mosaic,
+        LeftKind::Mosaic,
+        value_of_engine(which, 128 + n as u32),
+    )
+}
+
+/// What the first object needs that needs anything.
+fn needs_of_objects(which: u8, engine: &Engine, oam: &[u8], line: u8) -> Option<Stop>
+    requires { length oam.now ≡ 1024 }
+    ensures { result ≡ needs_of_objects which engine.now oam.now line }
+{
+    for n in 0..128usize {
+        if let Some(stop) = needs_of_object(which, engine, oam, line, n) {
+            return Some(stop);
+        }
+    }
+    None
+}
+
+/// What objects need where layers are shown. `oam` has the bytes of both engines' objects.
+fn needs_of_objects_shown(which: u8, engine: &Engine, oam: &[u8], line: u8) -> Option<Stop>
+    requires { length oam.now ≡ 2048 }
+    ensures { result ≡ needs_of_objects_shown which engine.now (object_memory which oam.now) line }
+{
+    if shows_layers(which, engine) {
+        needs_of_objects(which, engine, object_memory(which, oam), line)
+    } else {
+        None
+    }
+}
+
+/// What an engine's line needs that isn't there, in order.
+fn needs_of_engine(which: u8, power: u16, engine: &Engine, oam: &[u8], line: u8) -> Option<Stop>
+    requires { length oam.now ≡ 2048 }
+    ensures { result ≡ needs_of_engine which power engine.now oam.now line }
 {
     if !is_enabled(which, power) || is_forced_blank(engine) {
         return None;
     }
-    let three = needs_of_background(which, engine, 3);
+    let objects = needs_of_objects_shown(which, engine, oam, line);
+    let three = or_else(needs_of_background(which, engine, 3), objects);
     let two = or_else(needs_of_background(which, engine, 2), three);
     let one = or_else(needs_of_background(which, engine, 1), two);
     let zero = or_else(needs_of_background(which, engine, 0), one);
@@ -127,11 +159,13 @@ fn needs_left_out(which: u8, power: u16, engine: &Engine) -> Option<Stop>
     or_else(needs_display_mode(which, engine), mode)
 }
 
-/// Why the line that is to be drawn stops, if it does: the first need of both engines.
-pub fn needs_of_line(power: u16, a: &Engine, b: &Engine) -> Option<Stop>
-    ensures { result ≡ needs_of_line power a.now b.now }
+/// Why the line that is to be drawn stops, if it does: the first need of both engines. `oam` has the bytes of both engines' objects.
+pub fn needs_of_line(power: u16, a: &Engine, b: &Engine, oam: &[u8], line: u8) -> Option<Stop>
+    requires { length oam.now ≡ 2048 }
+    ensures { result ≡ needs_of_line power a.now b.now oam.now line }
 {
-    let left_out = or_else(needs_left_out(0, power, a), needs_left_out(1, power, b));
-    let later = or_else(needs_later(1, power, b), left_out);
-    or_else(needs_later(0, power, a), later)
+    or_else(
+        needs_of_engine(0, power, a, oam, line),
+        needs_of_engine(1, power, b, oam, line),
+    )
 }

@@ -1,12 +1,13 @@
 //! The display as a whole.
 
 ghost use Rattle.std.specs.Prelude.{◌≡◌, ◌<◌, ◌≤◌, ◌^◌, ◌+◌, IfOk, IsTrue, IsFalse, length};
+ghost use Rattle.video2d.specs.Kept.{kept_byte};
 ghost use Rattle.video2d.specs.Pictures.{screen_of, line_place};
-ghost use Rattle.video2d.specs.Scans.{scan_due, scan_due_tick, is_drawn_line};
+ghost use Rattle.video2d.specs.Scans.{scan_due, scan_due_tick, is_drawn_line, framed_by};
 ghost use Rattle.video2d.specs.Videos.{video_at_boot, status_of, video_shown, video_byte, video_byte_written, video_written, video_stop, drawn_with, video_blanked, video_line_started, video_raised, video_after_event, video_answer};
 
 use crate::engines::Engine;
-use crate::lines::{background_palette, engine_line};
+use crate::lines::engine_line;
 use crate::ports::{VideoPort, video_port};
 use crate::scans::Scan;
 use crate::screens::Screens;
@@ -111,6 +112,13 @@ impl Video {
         self.whole.pixels()
     }
 
+    /// When the last whole frame became so: at the start of its line 192. None where none is whole yet.
+    pub fn framed(&self) -> Option<Tick>
+        ensures { result ≡ framed_by self.now.scan }
+    {
+        self.scan.framed()
+    }
+
     fn status(&self, proc: Proc) -> Status
         ensures { result ≡ status_of self.now proc }
     {
@@ -135,6 +143,25 @@ impl Video {
                 }
             }
             VideoPort::Power(byte) => half_byte(byte, self.power),
+            VideoPort::Nothing => 0,
+        }
+    }
+
+    /// The byte that a port keeps at an offset from 4000000h, for a processor, whether it reads or not; 0 where nothing is kept.
+    pub fn kept_byte(&self, proc: Proc, at: u32) -> u8
+        ensures { result ≡ kept_byte proc self.now at }
+    {
+        match video_port(proc, at) {
+            VideoPort::Status(byte) => half_byte(byte, self.status(proc).kept),
+            VideoPort::Engine(which, at) => {
+                if which == 0 {
+                    self.a.kept(at)
+                } else {
+                    self.b.kept(at)
+                }
+            }
+            VideoPort::Power(byte) => half_byte(byte, self.power),
+            VideoPort::Count(_) => 0,
             VideoPort::Nothing => 0,
         }
     }
@@ -186,41 +213,45 @@ impl Video {
     }
 
     /// Why the next event stops, if it does.
-    fn stop(&self) -> Option<Stop>
-        ensures { result ≡ video_stop self.now }
+    fn stop(&self, oam: &[u8]) -> Option<Stop>
+        requires { length oam.now ≡ 2048 }
+        ensures { result ≡ video_stop oam.now self.now }
     {
         if self.scan.blanks_drawn() {
-            needs_of_line(self.power, &self.a, &self.b)
+            needs_of_line(self.power, &self.a, &self.b, oam, self.scan.line() as u8)
         } else {
             None
         }
     }
 
     /// Draws an engine's line on its screen.
-    fn draw(&mut self, vram: &Vram, palette: &[u8], which: u8)
+    fn draw(&mut self, vram: &Vram, palette: &[u8], oam: &[u8], which: u8)
         requires colours { length palette.now ≡ 2048 }
+        requires objects { length oam.now ≡ 2048 }
         requires drawn { IsTrue (is_drawn_line self.old.scan.line) }
-        ensures { self.new ≡ record self.old { drawn = drawn_with vram.now palette.now self.old which self.old.drawn } }
+        ensures { self.new ≡ record self.old { drawn = drawn_with vram.now palette.now oam.now self.old which self.old.drawn } }
     {
         let line = self.scan.line() as u8;
         let mut row = [0; 256];
         let engine = if which == 0 { &self.a } else { &self.b };
-        let palette = background_palette(which, palette);
-        engine_line(vram, palette, which, self.power, engine, line, &mut row);
+        engine_line(
+            vram, palette, oam, which, self.power, engine, line, &mut row,
+        );
         let place = line_place(screen_of(which, self.power), line);
         self.drawn.lay(place, &row);
     }
 
     /// A line's H-blank.
-    fn blank(&mut self, vram: &Vram, palette: &[u8])
+    fn blank(&mut self, vram: &Vram, palette: &[u8], oam: &[u8])
         requires colours { length palette.now ≡ 2048 }
+        requires objects { length oam.now ≡ 2048 }
         requires early { scan_due self.old.scan ≤ 2 ^ 56 }
         requires blanks { IsFalse self.old.scan.blanked }
-        ensures { self.new ≡ video_blanked vram.now palette.now self.old }
+        ensures { self.new ≡ video_blanked vram.now palette.now oam.now self.old }
     {
         if self.scan.blanks_drawn() {
-            self.draw(vram, palette, 0);
-            self.draw(vram, palette, 1);
+            self.draw(vram, palette, oam, 0);
+            self.draw(vram, palette, oam, 1);
             self.a.step_points();
             self.b.step_points();
         }
@@ -276,10 +307,10 @@ impl Video {
         requires colours { length palette.now ≡ 2048 }
         requires objects { length oam.now ≡ 2048 }
         requires early { scan_due self.old.scan ≤ 2 ^ 56 }
-        ensures answer { result ≡ video_answer self.old }
-        ensures state { self.new ≡ video_after_event vram.now palette.now self.old }
+        ensures answer { result ≡ video_answer oam.now self.old }
+        ensures state { self.new ≡ video_after_event vram.now palette.now oam.now self.old }
     {
-        if let Some(stop) = self.stop() {
+        if let Some(stop) = self.stop(oam) {
             return Err(stop);
         }
         let shown = self.shown();
@@ -287,7 +318,7 @@ impl Video {
             let line = self.scan.next_line();
             self.start_line(line);
         } else {
-            self.blank(vram, palette);
+            self.blank(vram, palette, oam);
         }
         Ok(shown)
     }

@@ -5,12 +5,15 @@ use stage::Stage;
 use std::alloc::{AllocError, Global};
 use std::process::Abort;
 
+mod effects;
 mod events;
 mod frames;
 mod layers;
+mod objects;
 mod ports;
 mod stage;
 mod stops;
+mod windows;
 
 /// One line of a table.
 #[derive(Clone, Copy)]
@@ -36,6 +39,12 @@ enum Line {
     Count(Space, u32),
     /// Video memory for backgrounds, the same for both engines: see `Stage::backgrounds`.
     Backgrounds,
+    /// Video memory for objects, the same for both engines: see `Stage::objects`.
+    Objects,
+    /// The attributes of an object; engine B's are those from 128 on.
+    Object(usize, u16, u16, u16),
+    /// A colour in the memory of palettes: engine A's backgrounds from 0 on, its objects from 100h, engine B's backgrounds from 200h, its objects from 300h.
+    Colour(usize, u16),
     /// An engine's DISPCNT and BG0CNT to BG3CNT, by the engine's base.
     Layers(u32, u32, u16, u16, u16, u16),
 }

@@ -9,16 +9,14 @@ use video2d::{Shown, Video};
 use vram_banks::Vram;
 
 /// Colour i of engine A's background palette is 4000h + i, and of engine B's 2000h + i; bit 15, which counts for nothing, is set in every other
-/// one.
+/// one. All objects are off.
 #[derive(Drop)]
 pub struct Stage {
     video: Video,
     vram: Vram,
     palette: [u8; 2048],
+    oam: [u8; 2048],
 }
-
-/// The memory of objects: all 0.
-const OAM: [u8; 2048] = [0; 2048];
 
 impl Stage {
     pub fn new(alloc: Global) -> Result<Stage, AllocError> {
@@ -30,10 +28,15 @@ impl Stage {
             palette[2 * i + 1024] = i as u8;
             palette[2 * i + 1025] = 0x20 + top;
         }
+        let mut oam = [0; 2048];
+        for n in 0..256usize {
+            oam[8 * n + 1] = 2;
+        }
         Ok(Stage {
             video: Video::new(alloc)?,
             vram: Vram::new(alloc)?,
             palette,
+            oam,
         })
     }
 
@@ -45,6 +48,13 @@ impl Stage {
             Line::Fill(space, at, count, value) => self.fill(space, at % 0x100000, count, value),
             Line::Count(space, at) => self.count(space, at % 0x100000),
             Line::Backgrounds => self.backgrounds(),
+            Line::Objects => self.objects(),
+            Line::Object(n, first, second, third) => self.object(n % 256, [first, second, third]),
+            Line::Colour(n, colour) => {
+                let [low, high] = colour.to_le_bytes();
+                self.palette[2 * (n % 1024)] = low;
+                self.palette[2 * (n % 1024) + 1] = high;
+            }
             Line::Layers(base, display, zero, one, two, three) => {
                 self.layers(base % 0x2000, display, [zero, one, two, three])
             }
@@ -73,7 +83,7 @@ impl Stage {
         if self.video.due().0 > 1 << 40 {
             return None;
         }
-        Some(self.video.event(&self.vram, &self.palette, &OAM))
+        Some(self.video.event(&self.vram, &self.palette, &self.oam))
     }
 
     fn vcount(&self) -> u16 {
@@ -172,6 +182,29 @@ impl Stage {
             self.fill(space, 0x4080, 16, 0x6161_6161);
             self.fill(space, 0x40C0, 16, 0x7171_7171);
             self.count(space, 0x4100);
+        }
+    }
+
+    /// Bank B is engine A's objects', bank D engine B's. In 16 colours tile 0 has index 1 everywhere, tile 1 is transparent, tile 2 has index 2, and
+    /// tile 3 has index 1 in its left half, and is transparent in its right one.
+    fn objects(&mut self) {
+        self.vram.set_control(1, 0x82);
+        self.vram.set_control(3, 0x84);
+        for space in [Space::AObj, Space::BObj] {
+            self.fill(space, 0, 8, 0x1111_1111);
+            self.fill(space, 0x40, 8, 0x2222_2222);
+            self.fill(space, 0x60, 8, 0x0000_1111);
+        }
+    }
+
+    /// An object's attributes; engine B's objects are those from 128 on.
+    fn object(&mut self, n: usize, attributes: [u16; 3])
+        requires { n < 256 }
+    {
+        for k in 0..3usize {
+            let [low, high] = attributes[k].to_le_bytes();
+            self.oam[8 * n + 2 * k] = low;
+            self.oam[8 * n + 2 * k + 1] = high;
         }
     }
 

@@ -1,8 +1,8 @@
 //! Stops: what each line needs that isn't there, its value, and which counts first.
 
 use super::{Line, try_lines};
-use LeftKind::{BgMode, Capture, DisplayMode, ExtendedBackground, Mosaic, NotYet};
-use Line::{Event, Layers, Stops, To, Write};
+use LeftKind::{BgMode, BitmapObject, Capture, DisplayMode, ExtendedBackground, Mosaic};
+use Line::{Event, Layers, Object, Stops, To, Write};
 use Proc::Nine;
 use Width::{Half, Word};
 use ds_base::{LeftKind, Proc, Width};
@@ -122,53 +122,63 @@ fn extended_backgrounds_and_mosaic_stop_where_shown(rt: HostRuntime) -> Result<(
 }
 
 #[test]
-fn what_is_not_built_stops_before_the_rest(rt: HostRuntime) -> Result<(), AllocError> {
+fn bitmaps_and_objects_with_mosaic_stop_where_they_cover_the_line(
+    rt: HostRuntime,
+) -> Result<(), AllocError> {
     try_lines(
         &rt,
         rt.alloc(),
         &[
             Write(Nine, 0x304, Half, 0x8202),
-            // objects and windows
+            Write(Nine, 0x4C, Half, 0x1001),
+            Write(Nine, 0x104C, Half, 0x0010),
+            Layers(0, 0x1_1000, 0, 0, 0, 0),
+            Layers(0x1000, 0x1_1000, 0, 0, 0, 0),
+            // object 9 is a bitmap and has mosaic: the bitmap counts
+            Object(9, 0x1C00, 0, 0),
+            Stops(BitmapObject, 9),
+            Object(9, 0x1000, 0, 0),
+            Stops(Mosaic, 137),
+            // of two the lower index counts, whatever it needs
+            Object(127, 0x0C00, 0, 0),
+            Stops(Mosaic, 137),
+            Object(5, 0x0C00, 0, 0),
+            Stops(BitmapObject, 5),
+            // a background's needs come first
+            Layers(0, 0x1_1100, 0x0040, 0, 0, 0),
+            Stops(Mosaic, 0),
+            // one that is off, or in another line, or whose engine shows no objects, needs nothing
+            Object(5, 0x0E00, 0, 0),
+            Layers(0, 0x1_0000, 0, 0, 0, 0),
+            Event(0, 0, false, true),
+            Event(0, 0, false, false),
+            Layers(0, 0x1_1000, 0, 0, 0, 0),
+            Object(9, 0x0200, 0, 0),
+            Object(127, 0x0C02, 0, 0),
+            Event(0, 0, false, true),
+            Event(0, 0, false, false),
+            Stops(BitmapObject, 127),
+            // one right of the screen counts, and a window object's mosaic
+            Object(127, 0x1802, 0x012C, 0),
+            Stops(Mosaic, 255),
+            // in display mode 0 and with forced blank objects need nothing
+            Write(Nine, 0, Word, 0x1000),
+            Event(0, 0, false, true),
+            Event(0, 0, false, false),
+            Write(Nine, 0, Word, 0x1_1080),
+            Event(0, 0, false, true),
+            Event(0, 0, false, false),
+            // engine B's, whose sizes for objects are 0; backgrounds' sizes don't count
+            Object(130, 0x1004, 0, 0),
+            Event(0, 0, false, true),
+            Event(0, 0, false, false),
+            Write(Nine, 0x104C, Half, 0x0110),
+            Stops(Mosaic, 386),
+            Object(129, 0x0C05, 0, 0),
+            Stops(BitmapObject, 257),
+            // A before B
             Write(Nine, 0, Word, 0x1_1000),
-            Stops(NotYet, 0x1_1000),
-            Write(Nine, 0, Word, 0x1_8007),
-            Stops(NotYet, 0x1_8007),
-            // in display mode 0, and with forced blank, they don't count
-            Write(Nine, 0, Word, 0xF000),
-            Event(0, 0, false, true),
-            Event(0, 0, false, false),
-            Write(Nine, 0, Word, 0x1_F080),
-            Event(0, 0, false, true),
-            Event(0, 0, false, false),
-            // effects
-            Write(Nine, 0, Word, 0x1_0000),
-            Write(Nine, 0x50, Half, 0x0080),
-            Stops(NotYet, 0x80),
-            Write(Nine, 0x50, Half, 0x3F3F),
-            Event(0, 0, false, true),
-            Event(0, 0, false, false),
-            // master brightness, whatever is shown
-            Write(Nine, 0, Word, 0x80),
-            Write(Nine, 0x6C, Half, 0x4001),
-            Stops(NotYet, 0x4001),
-            Write(Nine, 0x6C, Half, 0x8000),
-            Stops(NotYet, 0x8000),
-            Write(Nine, 0x6C, Half, 0xC010),
-            Event(0, 0, false, true),
-            Event(0, 0, false, false),
-            // in their order, A before B, and B's before what is left out of A
-            Write(Nine, 0x106C, Half, 0x8002),
-            Write(Nine, 0, Word, 0x2_0000),
-            Stops(NotYet, 0x8002),
-            Write(Nine, 0x1000, Word, 0x1_1000),
-            Stops(NotYet, 0x1_1000),
-            Write(Nine, 0x6C, Half, 0x4000),
-            Stops(NotYet, 0x4000),
-            Write(Nine, 0, Word, 0x1_0000),
-            Write(Nine, 0x50, Half, 0x0040),
-            Stops(NotYet, 0x40),
-            Write(Nine, 0, Word, 0x1_2000),
-            Stops(NotYet, 0x1_2000),
+            Stops(Mosaic, 255),
         ],
     )
 }

@@ -6,4 +6,4 @@ pub returns : goal.returns
 unfolding engine_line line_of
 returns c =
     let a = c.args in
-    fill_by_all (engine_pixel a.vram.now a.palette.now a.which a.power a.engine.now a.line) c.shown_line.new.into 256 0 c.shown_line.array_long c.shown_line.ensures
+    fill_by_all (engine_pixel a.vram.now a.palette.now a.oam.now a.which a.power a.engine.now a.line) c.shown_line.new.into 256 0 c.shown_line.array_long c.shown_line.ensures

@@ -1,12 +1,20 @@
-use Rattle.std.proofs.Common.{◌∙◌}
-use Rattle.video2d.proofs.MergeLemmas.{layers_merged}
+use Rattle.std.proofs.Common.{ℕ, ◌∙◌, ap}
+use Rattle.tiles2d.specs.Colours.{palette_colour}
+use Rattle.video2d.specs.Pictures.{composed_pixel}
+use Rattle.video2d.specs.declared.mixes.LineOrder.{LineOrder}
+use Rattle.video2d.specs.rows.Composed.{finished, line_order, mixed_at, row_pixels}
+use Rattle.video2d.proofs.MixLemmas.{mixes}
 use Rattle.video2d.proofs.lines.layered_line.Goals as goal
 
 pub returns : goal.returns
 returns c = λ x lt.
-    c.merge_rows.ensures x lt
-    ∙ layers_merged c.args.vram.now c.args.palette.now c.args.which c.args.engine.now c.args.line x
-    c.palette_colour.result c.priority.result c.priority-2.result c.priority-3.result c.priority-4.result
-    _ _ _ _
-    c.palette_colour.ensures c.priority.ensures c.priority-2.ensures c.priority-3.ensures c.priority-4.ensures
-    (c.background_row.ensures x lt) (c.background_row-2.ensures x lt) (c.background_row-3.ensures x lt) (c.background_row-4.ensures x lt)
+    let e = c.args.engine.now in
+    let line : ℕ = c.args.line in
+    let p = row_pixels c.draw_rows.new.into x in
+    let b : ℕ = palette_colour c.args.colours.now 0 in
+    c.finish_row.ensures x lt
+    ∙ ap (finished e) (c.mix_rows.ensures x lt)
+    ∙ ap (λ (o : LineOrder). finished e (mixed_at o p x)) c.line_order-order.ensures
+    ∙ ap (λ (k : ℕ). finished e (mixed_at (line_order e line k) p x)) c.palette_colour.ensures
+    ∙ mixes e line x b p (c.draw_rows.ensures.small x lt)
+    ∙ ap (composed_pixel e line x b) (c.draw_rows.ensures.value x lt)

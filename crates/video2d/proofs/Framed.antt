@@ -1,0 +1,10 @@
+use Rattle.std.proofs.Common.{ℕ, ◌≡◌, ◌+◌, ◌*◌, Bool, true, false, Option, Some, None, refl, arith}
+use Rattle.video2d.specs.Scans.{ScanState, framed_by, scan_after, scan_due_tick, starts_vblank}
+
+-- The last whole frame's tick goes on by the event that makes one whole, and by no other.
+
+pub made_whole : (s : ScanState) → starts_vblank s ≡ true → framed_by (scan_after s) ≡ Some (scan_due_tick s)
+made_whole s h = grind (arith, h)
+
+pub stays_whole : (s : ScanState) → starts_vblank s ≡ false → framed_by (scan_after s) ≡ framed_by s
+stays_whole s h = grind (arith, h)

@@ -1,0 +1,25 @@
+use Rattle.std.proofs.Common.{refl, sym, ◌∙◌, arith}
+use Rattle.video2d.specs.Stops.{needs_of_object, needs_of_objects}
+use Rattle.video2d.proofs.StopLemmas.{needs_here, needs_later, needs_none}
+use Rattle.video2d.proofs.stops.needs_of_objects.Goals as goal
+
+pub loop-n-init : goal.loop-n-init
+unfolding needs_of_objects
+loop-n-init c = refl
+
+pub returns-in-Some : goal.returns-in-Some
+returns-in-Some c =
+    let a = c.args in
+    let here = needs_here (needs_of_object a.which a.engine.now a.oam.now a.line) c.loop-n.n 128 c.in-Some.stop (omega (arith, c.loop-n-test.true)) (sym c.needs_of_object.ensures ∙ c.in-Some.is) in
+    sym here ∙ c.loop-n.invariant
+
+pub loop-n-preserved : goal.loop-n-preserved
+loop-n-preserved c =
+    let a = c.args in
+    needs_later (needs_of_object a.which a.engine.now a.oam.now a.line) c.loop-n.n 128 (omega (arith, c.loop-n-test.true)) (sym c.needs_of_object.ensures ∙ c.in_default.is)
+    ∙ c.loop-n.invariant
+
+pub returns : goal.returns
+returns c =
+    let a = c.args in
+    sym (needs_none (needs_of_object a.which a.engine.now a.oam.now a.line) c.loop-n.n 128 (omega (arith, c.loop-n-test.false))) ∙ c.loop-n.invariant

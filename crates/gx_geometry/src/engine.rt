@@ -94,9 +94,9 @@ impl Geometry {
         self.numbers.run
     }
 
-    /// A command by its name, with as many parameters as it has.
+    /// A command by its name, with as many parameters as it has (GBATEK, "DS 3D Geometry Commands"). It takes no memory.
     #[tactic(auto, unfolding(crate::specs::States::geometry_after))]
-    fn take_command(&mut self, command: GeometryCommand, params: &[u32])
+    pub fn take_command(&mut self, command: GeometryCommand, params: &[u32])
         requires parameters { HasParameters command params.now }
         requires run { self.old.numbers.run ≤ 2 ^ 56 }
         ensures { self.new ≡ geometry_after command params.now self.old }
@@ -108,7 +108,7 @@ impl Geometry {
         }
     }
 
-    /// A command by its code, with as many parameters as it has (GBATEK, "DS 3D Geometry Commands"). It takes no memory.
+    /// A command by its code, with as many parameters as it has.
     pub fn command(&mut self, code: u8, params: &[u32])
         requires command { IsCommand code params.now }
         requires run { self.old.numbers.run ≤ 2 ^ 56 }

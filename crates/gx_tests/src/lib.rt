@@ -1,4 +1,4 @@
-//! Tests of the matrices, their stacks and the geometry engine, on commands worked by hand. Nothing stands on this crate.
+//! Tests of the matrices, their stacks, the geometry engine and what waits for it, on commands worked by hand. Nothing stands on this crate.
 #![tactic(auto)]
 
 #[cfg(test)]

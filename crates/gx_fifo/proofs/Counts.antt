@@ -1,0 +1,18 @@
+use Rattle.std.proofs.Common.{◌≡◌, ◌+◌, ◌≤◌, Bool, cond, List, [], ◌∷◌, ◌++◌, length, drop, slice_get, Some}
+use Rattle.std.proofs.Common.{arith}
+use Rattle.std.specs.Prelude.{count_by}
+use Rattle.std.proofs.lemmas.Option.{none-some}
+use Rattle.std.proofs.lemmas.List.Sums.{sum_by_push, sum_by-cons, count_by-le-length}
+use Rattle.gx_fifo.specs.declared.entries.GxEntry.{GxEntry}
+
+-- How many entries of a kind there are, with one more and with one less.
+module _ (p : GxEntry → Bool) where
+  pub counted_last : (xs : List GxEntry) (x : GxEntry) → count_by p (xs ++ x ∷ []) ≡ count_by p xs + cond (p x) 1 0
+  counted_last xs x = sum_by_push (λ e. cond (p e) 1 0) xs x
+
+  pub counted_first : (xs : List GxEntry) (x : GxEntry) → slice_get xs 0 ≡ Some x → count_by p xs ≡ cond (p x) 1 0 + count_by p (drop 1 xs)
+  counted_first [] x e = absurd (none-some x e)
+  counted_first (y ∷ xs) x e = grind (arith, sum_by-cons (λ e. cond (p e) 1 0) y xs, e)
+
+  pub counted_within : (xs : List GxEntry) → count_by p xs ≤ length xs
+  counted_within xs = count_by-le-length p xs

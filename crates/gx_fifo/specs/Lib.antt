@@ -1,0 +1,5 @@
+pub mod Entries
+pub mod PackedWords
+pub mod Unpacking
+pub mod GxPorts
+pub mod GxStates

@@ -45,7 +45,8 @@ impl<const N: usize> Block<N> {
     /// All the bytes, from where they lie.
     #[inline(always)]
     pub fn bytes(&self) -> &[u8]
-        ensures { result.now ≡ self.now }
+        ensures value { result.now ≡ self.now }
+        ensures long { length result.now ≡ N }
     {
         self.bytes.as_slice()
     }

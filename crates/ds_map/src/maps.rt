@@ -1,6 +1,6 @@
 //! The map.
 
-ghost use Rattle.std.specs.Prelude.{◌≡◌, ◌<◌, ◌^◌, slice_index, true, ℕ, IfOk, IfSome, Some};
+ghost use Rattle.std.specs.Prelude.{◌≡◌, ◌<◌, ◌≤◌, ◌^◌, slice_index, true, ℕ, IfOk, IfSome, Some};
 ghost use Rattle.ds_base.specs.Memories.{memory_size};
 ghost use Rattle.ds_base.specs.Numbers.{aligned_down, number_at, with_number};
 ghost use Rattle.ds_base.specs.declared.memories.Memory.TheVariants.{Main, Own7};
@@ -10,6 +10,9 @@ ghost use Rattle.ds_places.specs.AddressTables.{IsInside, place_of};
 ghost use Rattle.ds_places.specs.declared.kinds.Place.TheVariants.{Cell};
 ghost use Rattle.ds_map.specs.Maps.{blank_memories, cells_of, is_reached, map_seen, reached, reaches, unreached, with_cells};
 ghost use Rattle.ds_base.specs.Schedules.{IsEarly};
+ghost use Rattle.ds_ports.specs.Io.{video_done};
+ghost use Rattle.video2d.specs.Scans.{scan_due};
+ghost use Rattle.video2d.specs.Videos.{video_answer};
 ghost use Rattle.ds_map.specs.Accesses.{cell_put, fetched_at, is_byte_of_nine, after_read_at, map_fetched, map_read, map_refusal, map_value, map_written, written_at, refusal_at, rom_value, takes_no_bytes, value_at};
 
 use crate::blocks::Block;
@@ -20,6 +23,7 @@ use ds_places::{Place, place, rom_word};
 use ds_ports::{Io, part};
 use std::alloc::{AllocError, Global};
 use std::marker::Model;
+use video2d::Shown;
 
 /// The memories past ARM9's tightly coupled ones. An access of them is handed the units behind the ports, which have video memory and WRAMCNT.
 #[derive(Drop)]
@@ -282,6 +286,15 @@ impl Map {
             Memory::Oam => self.oam.bytes(),
             Memory::Itcm | Memory::Dtcm | Memory::Vram => &[],
         }
+    }
+
+    /// The display's event, with palettes and OAM, which stay as they are: what it does beside what it changes of the units. Where it stops, nothing changes.
+    pub fn show(&self, io: &mut Io) -> Result<Shown, Stop>
+        requires early { scan_due io.old.video.scan ≤ 2 ^ 56 }
+        ensures answer { result ≡ video_answer self.now.oam io.old.video }
+        ensures state { io.new ≡ video_done self.now.palette self.now.oam io.old }
+    {
+        io.show(self.palette.bytes(), self.oam.bytes())
     }
 
     /// The byte of a memory at a place.

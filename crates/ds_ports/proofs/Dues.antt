@@ -1,5 +1,6 @@
 use Rattle.std.proofs.Common.{ℕ, suc, ◌≡◌, ◌+◌, ◌%◌, ◌^◌, ◌==◌, Bool, true, false, if◌then◌else◌, List, [], ◌∷◌, ◌++◌, Option, Some, None, is_some, refl, ◌∙◌, ap, arith}
 use Rattle.ds_base.specs.Bits.{bits}
+use Rattle.ds_base.specs.declared.memories.Width.TheVariants.{Half, Word}
 use Rattle.ds_base.specs.declared.processors.Proc.{Proc}
 use Rattle.ds_base.specs.declared.processors.Proc.TheVariants.{Nine, Seven}
 use Rattle.ds_base.specs.declared.ticks.Due.{Due}
@@ -17,8 +18,9 @@ use Rattle.ds_ports.specs.ProcessorIo.{ProcessorIoState, haltcnt_written, ie_wri
 use Rattle.ds_ports.specs.Registers.{after_write, meaning_of}
 use Rattle.ds_ports.specs.Io.{IoState, keys_pressed, io_of, with_halted, with_io_of}
 use Rattle.ds_ports.specs.declared.registers.Register.{Register}
-use Rattle.ds_ports.specs.declared.registers.Register.TheVariants.{Dmasad, Dmadad, Dmacnt, TmcntL, TmcntH, Keycnt, Ipcfiforecv, Ime, Ie, If, Divcnt, DivNumer, DivDenom, Sqrtcnt, SqrtParam, Haltcnt}
+use Rattle.ds_ports.specs.declared.registers.Register.TheVariants.{DisplayHalf, DisplayWord, Dmasad, Dmadad, Dmacnt, TmcntL, TmcntH, Keycnt, Ipcfiforecv, Ime, Ie, If, Divcnt, DivNumer, DivDenom, Sqrtcnt, SqrtParam, Haltcnt}
 use Rattle.vram_banks.specs.Cells.{Banks}
+use Rattle.ds_ports.proofs.DisplayPorts.{written_scan}
 
 -- The first of what is due behind the ports: how it is found, and what leaves it as it is.
 
@@ -88,10 +90,10 @@ first_by_parts u =
 
 -- ---- what leaves it
 
-same : (u v : IoState) → v.video ≡ u.video → v.nine.timers ≡ u.nine.timers → v.nine.dma ≡ u.nine.dma → v.seven.timers ≡ u.seven.timers → v.seven.dma ≡ u.seven.dma
+same : (u v : IoState) → v.video.scan ≡ u.video.scan → v.nine.timers ≡ u.nine.timers → v.nine.dma ≡ u.nine.dma → v.seven.timers ≡ u.seven.timers → v.seven.dma ≡ u.seven.dma
     → v.divider ≡ u.divider → v.root ≡ u.root → first_io_due v ≡ first_io_due u
 unfolding first_io_due
-same u v video a b c d e f = rw (video, a, b, c, d, e, f) refl
+same u v scan a b c d e f = rw (scan, a, b, c, d, e, f) refl
 
 -- of a processor's own the timers and the channels stay
 abbrev IsStill : ProcessorIoState → ProcessorIoState → Type 0
@@ -149,4 +151,6 @@ writes_move_none proc now u Ime number value h = still proc u (ime_written (io_o
 writes_move_none proc now u Ie number value h = still proc u (ie_written proc (io_of u proc) value) (refl, refl)
 writes_move_none proc now u If number value h = still proc u (if_written (io_of u proc) value) (refl, refl)
 writes_move_none proc now u Haltcnt number value h = still proc u (haltcnt_written (io_of u proc) (value % 2 ^ 8)) (halt_still (io_of u proc) (value % 2 ^ 8))
+writes_move_none proc now u DisplayHalf number value h = same u (after_write proc now u DisplayHalf number value) (written_scan proc u.video number Half value) refl refl refl refl refl refl
+writes_move_none proc now u DisplayWord number value h = same u (after_write proc now u DisplayWord number value) (written_scan proc u.video number Word value) refl refl refl refl refl refl
 writes_move_none proc now u register number value h = same u (after_write proc now u register number value) refl refl refl refl refl refl refl

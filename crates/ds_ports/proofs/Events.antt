@@ -1,7 +1,8 @@
 use Rattle.std.proofs.Common.{ℕ, ◌≡◌, ◌<◌, inl, inr, Bool, true, false, true≢false, if◌then◌else◌, List, Option, Some, None, refl, sym, ◌∙◌, ap, subst, arith}
-use Rattle.std.specs.Prelude.{◌||◌, ◌==◌, IsSome}
+use Rattle.std.specs.Prelude.{◌||◌, ◌&&◌, ◌==◌, IsSome}
 use Rattle.std.proofs.lemmas.Option.{same_Some, none-some}
 use Rattle.ds_base.specs.Schedules.{IsLater, Reschedules}
+use Rattle.ds_base.specs.declared.left_out.Stop.{Stop}
 use Rattle.ds_base.specs.declared.processors.Proc.{Proc}
 use Rattle.ds_base.specs.declared.processors.Proc.TheVariants.{Nine, Seven}
 use Rattle.ds_base.specs.declared.ticks.Tick.{Tick}
@@ -20,9 +21,14 @@ use Rattle.ds_timers.proofs.Four.{one_reschedules}
 use Rattle.ds_timers.proofs.Overflowed.{overflow_keeps, overflow_schedules}
 use Rattle.ds_ports.specs.Dues.{IsIo, IsUnchanged, IsProcessorIo, ReschedulesEach, io_due}
 use Rattle.ds_ports.specs.ProcessorIo.{ProcessorIoState, blocks_processor, processor_io_moved, processor_io_raised, processor_io_triggered}
-use Rattle.ds_ports.specs.Io.{IoState, channel_moved, channels_triggered, division_done, io_event, io_of, keys_pressed, root_done, timer_overflows, triggered_by_video, video_done, with_io_of}
-use Rattle.ds_ports.specs.Videos.{VideoState, blanks_drawn, makes_whole, video_after, video_due}
-use Rattle.ds_ports.proofs.Later.{ProcessorIoReschedules, divider_each, each_processor_io, io_is, processor_io_across, processor_io_each, processor_io_is, processor_io_there, root_each, told_unchanged, unchanged_is, unchanged_same}
+use Rattle.ds_ports.specs.Io.{IoState, both_raised, channel_moved, channels_shown, channels_triggered, division_done, io_event, io_of, keys_pressed, root_done, shown_to_others, timer_overflows, video_done, with_io_of}
+use Rattle.ds_ports.proofs.Later.{ProcessorIoReschedules, divider_each, each_processor_io, in_turn, io_is, processor_io_across, processor_io_each, processor_io_is, processor_io_there, raised_unchanged, root_each, told_unchanged, unchanged_is, unchanged_same}
+use Rattle.ds_base.specs.declared.processors.Raised.{Raised}
+use Rattle.video2d.specs.Scans.{ScanState, blanks_drawn_line, line_after, scan_after, scan_due, scan_due_tick, starts_vblank}
+use Rattle.video2d.specs.Engines.{points_stepped}
+use Rattle.video2d.specs.Videos.{VideoState, line_drawn, unless_stop, video_after_event, video_blanked, video_happened, video_line_started, video_shown, video_stop}
+use Rattle.video2d.specs.declared.videos.Shown.{Shown}
+use Rattle.vram_banks.specs.Cells.{Banks}
 
 -- What the events of the actors behind the ports make of the units, each at the tick at which it is due.
 
@@ -93,7 +99,30 @@ division_happens now u all = unchanged_happens now u (division_done u) all (λ p
 root_happens : (now : Tick) (u : IoState) → IsIo u → Happens now u (root_done u)
 root_happens now u all = unchanged_happens now u (root_done u) all (λ p. unchanged_same (io_of u p)) (root_each now u (root_done u).root (inr tt))
 
--- ---- the display goes on, and triggers channels: no transfer ends
+-- ---- what happens in turn
+
+happens_on : (now : Tick) (a b c : IoState) → Happens now a b → Happens now b c → Happens now a c
+happens_on now a b c h k = record {
+  io = k.io;
+  dues = λ x l. in_turn now (io_due x a) (io_due x b) (io_due x c) (h.dues x l) (k.dues x l);
+  halted = λ proc. k.halted proc ∙ h.halted proc;
+  blocked = λ proc e. k.blocked proc (h.blocked proc e);
+}
+
+-- ---- the display goes on, raises interrupts and triggers channels: no transfer ends
+
+raised_happens : (now : Tick) (u : IoState) (raised : Raised) → IsIo u → Happens now u (both_raised u raised)
+raised_happens now u raised all = unchanged_happens now u (both_raised u raised) all unchanged each where
+  unchanged : (proc : Proc) → IsUnchanged (io_of u proc) (io_of (both_raised u raised) proc)
+  unchanged Nine = raised_unchanged u.nine raised.nine
+  unchanged Seven = raised_unchanged u.seven raised.seven
+
+  each : ReschedulesEach now u (both_raised u raised)
+  each (Timer Nine number) l = inl refl
+  each (Timer Seven number) l = inl refl
+  each (Dma Nine channel) l = inl refl
+  each (Dma Seven channel) l = inl refl
+  each _ l = inl refl
 
 triggered_processor_io : (cause : Cause) (now : Tick) (u : IoState) (each : Proc) → io_of (channels_triggered cause now u) each ≡ processor_io_triggered (io_of u each) cause now
 triggered_processor_io cause now u Nine = refl
@@ -121,49 +150,106 @@ triggered_happens cause now u all =
     (each_triggered (λ p x. any_runs (io_of u p).dma.channels ≡ true → any_runs x.dma.channels ≡ true) cause now u
     (λ p. event_runs (io_of u p).dma cause now (processor_io_is u all p).dma))
 
-video_rises : (v : VideoState) → video_due v < video_due (video_after v)
-video_rises v = grind arith
+-- the display alone changes, and is due later
+module _ (now : Tick) (u : IoState) (v : VideoState) (all : IsIo u) (later : now.0 < scan_due v.scan) where
+  display_each : ReschedulesEach now u (record u { video = v })
+  display_each Video l = inr later
+  display_each (Timer Nine number) l = inl refl
+  display_each (Timer Seven number) l = inl refl
+  display_each (Dma Nine channel) l = inl refl
+  display_each (Dma Seven channel) l = inl refl
+  display_each _ l = inl refl
 
-module _ (now : Tick) (u t : IoState) (v : VideoState) (h : Happens now u t) (later : now.0 < video_due v) where
-  shown_each : ReschedulesEach now u (record t { video = v })
-  shown_each Video l = inr later
-  shown_each (Timer Nine number) l = h.dues (Timer Nine number) l
-  shown_each (Timer Seven number) l = h.dues (Timer Seven number) l
-  shown_each Divider l = h.dues Divider l
-  shown_each SquareRoot l = h.dues SquareRoot l
-  shown_each (Dma Nine channel) l = h.dues (Dma Nine channel) l
-  shown_each (Dma Seven channel) l = h.dues (Dma Seven channel) l
-  shown_each _ l = inl refl
+  display_unchanged : (proc : Proc) → IsUnchanged (io_of u proc) (io_of (record u { video = v }) proc)
+  display_unchanged Nine = unchanged_same u.nine
+  display_unchanged Seven = unchanged_same u.seven
 
-  shown_halted : (proc : Proc) → (io_of (record t { video = v }) proc).halted ≡ (io_of u proc).halted
-  shown_halted Nine = h.halted Nine
-  shown_halted Seven = h.halted Seven
-
-  shown_blocked : (proc : Proc) → blocks_processor (io_of u proc) ≡ true → blocks_processor (io_of (record t { video = v }) proc) ≡ true
-  shown_blocked Nine b = h.blocked Nine b
-  shown_blocked Seven b = h.blocked Seven b
-
-  shown_happens : Happens now u (record t { video = v })
-  shown_happens = record { io = record { nine = h.io.nine; seven = h.io.seven }; dues = shown_each; halted = shown_halted; blocked = shown_blocked }
+  display_happens : Happens now u (record u { video = v })
+  display_happens = unchanged_happens now u (record u { video = v }) all display_unchanged display_each
 
 either : {A : Type 0} (P : A → Type 0) (b : Bool) (x y : A) → P x → P y → P (if b then x else y)
 either P true x y h k = h
 either P false x y h k = k
 
-video_happens : (u : IoState) → IsIo u → (let now : Tick = record { 0 = video_due u.video } in Happens now u (video_done u))
-video_happens u all =
-    let now : Tick = record { 0 = video_due u.video } in
+channels_happen : (shown : Shown) (now : Tick) (u : IoState) → IsIo u → Happens now u (channels_shown shown now u)
+channels_happen shown now u all =
     let nothing : Happens now u u = record { io = all; dues = λ a l. inl refl; halted = λ proc. refl; blocked = λ proc h. h } in
-    let drawn = either (Happens now u) (blanks_drawn u.video) (channels_triggered HBlank now u) u (triggered_happens HBlank now u all) nothing in
-    shown_happens now u (triggered_by_video u) (video_after u.video)
-    (either (Happens now u) (makes_whole u.video) (channels_triggered VBlank now u) (if blanks_drawn u.video then channels_triggered HBlank now u else u)
-    (triggered_happens VBlank now u all) drawn) (video_rises u.video)
+    let drawn = either (Happens now u) shown.hblank (channels_triggered HBlank now u) u (triggered_happens HBlank now u all) nothing in
+    either (Happens now u) shown.vblank (channels_triggered VBlank now u) (if shown.hblank then channels_triggered HBlank now u else u)
+    (triggered_happens VBlank now u all) drawn
+
+-- where it stops nothing happens; else it is later
+scan_rises : (s : ScanState) → scan_due s < scan_due (scan_after s)
+scan_rises s = grind arith
+
+pub happened_scan : (m : Banks) (palette oam : List ℕ) (v : VideoState) → (video_happened m palette oam v).scan ≡ scan_after v.scan
+happened_scan m palette oam v =
+    let P : VideoState → Type 0 = λ x. x.scan ≡ scan_after v.scan in
+    either P v.scan.blanked _ (video_blanked m palette oam v) refl (either P (blanks_drawn_line v.scan) _ _ refl refl)
+
+video_rises : (m : Banks) (palette oam : List ℕ) (v : VideoState) → video_stop oam v ≡ None → scan_due v.scan < scan_due (video_after_event m palette oam v).scan
+video_rises m palette oam v none =
+    subst (λ (stop : Option Stop). scan_due v.scan < scan_due (unless_stop stop (video_happened m palette oam v) v).scan) (sym none)
+    (subst (λ (s : ScanState). scan_due v.scan < scan_due s) (sym (happened_scan m palette oam v)) (scan_rises v.scan))
+
+-- the display is as its event left it
+told_video : (shown : Shown) (now : Tick) (u : IoState) → (shown_to_others shown now u).video ≡ u.video
+told_video shown now u =
+    let P : IoState → Type 0 = λ x. x.video ≡ u.video in
+    let t = both_raised u shown.raised in
+    either P shown.vblank (channels_triggered VBlank now t) (if shown.hblank then channels_triggered HBlank now t else t) refl
+    (either P shown.hblank (channels_triggered HBlank now t) t refl refl)
+
+-- and its last whole frame is another one where one becomes whole alone
+line_192 : (line : ℕ) → (line == 191) ≡ false → (line_after line == 192) ≡ false
+line_192 line h = grind (arith, h)
+
+pub happened_whole : (m : Banks) (palette oam : List ℕ) (v : VideoState) → starts_vblank v.scan ≡ false → (video_happened m palette oam v).whole ≡ v.whole
+happened_whole m palette oam v h = go v.scan.blanked h where
+  started : (b : Bool) → b ≡ false → (if b then v.drawn else v.whole) ≡ v.whole
+  started true e = absurd (grind (arith, e))
+  started false e = refl
+
+  blanked : (b : Bool) → (if b then record v { scan = scan_after v.scan; a = points_stepped v.a; b = points_stepped v.b; drawn = line_drawn m palette oam v } else record v { scan = scan_after v.scan }).whole ≡ v.whole
+  blanked true = refl
+  blanked false = refl
+
+  go : (b : Bool) → (b && (v.scan.line == 191)) ≡ false → (if b then video_line_started (line_after v.scan.line) v else video_blanked m palette oam v).whole ≡ v.whole
+  go true e = started (line_after v.scan.line == 192) (line_192 v.scan.line e)
+  go false e = blanked (blanks_drawn_line v.scan)
+
+-- what the display is after its event, where it doesn't stop
+pub done_video : (palette oam : List ℕ) (u : IoState) → video_stop oam u.video ≡ None → (video_done palette oam u).video ≡ video_happened u.vram palette oam u.video
+done_video palette oam u none =
+    let now = scan_due_tick u.video.scan in
+    let a : IoState = record u { video = video_after_event u.vram palette oam u.video } in
+    let happened = video_happened u.vram palette oam u.video in
+    let after : a.video ≡ happened = subst (λ (stop : Option Stop). unless_stop stop happened u.video ≡ happened) (sym none) refl in
+    subst (λ (stop : Option Stop). (unless_stop stop (shown_to_others (video_shown u.video) now a) u).video ≡ happened) (sym none)
+    (told_video (video_shown u.video) now a ∙ after)
+
+-- the display's event, where it doesn't stop; and it is due later
+pub show_goes : (palette oam : List ℕ) (u : IoState) → IsIo u → video_stop oam u.video ≡ None
+    → Happens (scan_due_tick u.video.scan) u (video_done palette oam u) × (scan_due u.video.scan < scan_due (video_done palette oam u).video.scan)
+show_goes palette oam u all none =
+    let now = scan_due_tick u.video.scan in
+    let shown = video_shown u.video in
+    let rises = video_rises u.vram palette oam u.video none in
+    let a : IoState = record u { video = video_after_event u.vram palette oam u.video } in
+    let b = both_raised a shown.raised in
+    let first = display_happens now u a.video all rises in
+    let second = happens_on now u a b first (raised_happens now a shown.raised first.io) in
+    let third = happens_on now u b (channels_shown shown now b) second (channels_happen shown now b second.io) in
+    let later = subst (λ (v : VideoState). scan_due u.video.scan < scan_due v.scan) (sym (told_video shown now a)) rises in
+    subst (λ (stop : Option Stop). Happens now u (unless_stop stop (shown_to_others shown now a) u)
+    × (scan_due u.video.scan < scan_due (unless_stop stop (shown_to_others shown now a) u).video.scan)) (sym none) (third, later)
 
 -- ---- each of them
 
--- an actor behind the ports but the DMA channels, whose events are accesses of memory
+-- an actor behind the ports but the display, whose event reads memories, and the DMA channels, whose events are accesses of memory
 abbrev pub HasEvent : actor.Actor → Type 0
 HasEvent KeyScript = ⊥
+HasEvent Video = ⊥
 HasEvent (Dma proc channel) = ⊥
 HasEvent (Processor proc) = ⊥
 HasEvent a = Unit {0}
@@ -172,9 +258,7 @@ HasEvent a = Unit {0}
 pub event_goes : (a : actor.Actor) (now : Tick) (u : IoState) → IsIo u → HasEvent a → IsNumbered a → io_due a u ≡ Some now
     → Happens now u (io_event a u) × IsLater now (io_due a (io_event a u))
 event_goes KeyScript now u all has l due = absurd has
-event_goes Video now u all has l due =
-    subst (λ (t : Tick). Happens t u (video_done u) × (t.0 < video_due (video_after u.video))) (same_Some (record { 0 = video_due u.video }) now due)
-    (video_happens u all, video_rises u.video)
+event_goes Video now u all has l due = absurd has
 event_goes (Timer proc number) now u all has l due = timer_goes proc number now u all l due
 event_goes Divider now u all has l due = (division_happens now u all, tt)
 event_goes SquareRoot now u all has l due = (root_happens now u all, tt)

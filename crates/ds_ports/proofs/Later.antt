@@ -19,7 +19,7 @@ use Rattle.ds_math.specs.Dividers.{DividerState, division_ticks}
 use Rattle.ds_math.specs.Roots.{RootState}
 use Rattle.ds_runs.specs.Actors.{IsNumbered}
 use Rattle.ds_runs.specs.declared.actors.Actor as actor
-use Rattle.ds_runs.specs.declared.actors.Actor.TheVariants.{Timer, Divider, SquareRoot, Dma}
+use Rattle.ds_runs.specs.declared.actors.Actor.TheVariants.{Video, Timer, Divider, SquareRoot, Dma}
 use Rattle.ds_timers.specs.Timing.{TimerState, AreTimers, control_set, kept_control, reload_set, timer_at, timer_due}
 use Rattle.ds_timers.proofs.Changed.{control_schedules, control_set_is, reload_leaves, reload_set_is}
 use Rattle.ds_timers.proofs.Four.{one_reschedules}
@@ -30,9 +30,12 @@ use Rattle.ds_ports.specs.RegisterMap.{IsSlot, slot_of}
 use Rattle.ds_ports.specs.Registers.{after_write, meaning_of}
 use Rattle.ds_ports.specs.Io.{IoState, both_raised, io_of, with_io_of}
 use Rattle.ds_ports.specs.declared.registers.Register.{Register}
-use Rattle.ds_ports.specs.declared.registers.Register.TheVariants.{Dmasad, Dmadad, Dmacnt, TmcntL, TmcntH, Keycnt, Ipcsync, Ipcfifocnt, Ipcfifosend, Ipcfiforecv, Ime, Ie, If, Divcnt, DivNumer, DivDenom, Sqrtcnt, SqrtParam, Haltcnt}
+use Rattle.ds_ports.specs.declared.registers.Register.TheVariants.{DisplayHalf, DisplayWord, Dmasad, Dmadad, Dmacnt, TmcntL, TmcntH, Keycnt, Ipcsync, Ipcfifocnt, Ipcfifosend, Ipcfiforecv, Ime, Ie, If, Divcnt, DivNumer, DivDenom, Sqrtcnt, SqrtParam, Haltcnt}
 use Rattle.ds_ports.specs.declared.registers.Slot.{Slot}
+use Rattle.ds_ports.proofs.DisplayPorts.{written_scan, written_whole}
 use Rattle.ds_ports.proofs.RegisterMaps.{some_slot}
+use Rattle.video2d.specs.Scans.{ScanState, scan_due_tick}
+use Rattle.video2d.specs.Videos.{VideoState, video_written}
 
 -- Accesses make no due tick earlier, and leave each at its tick or later.
 
@@ -159,7 +162,7 @@ root_each now u root r SquareRoot l = r
 root_each now u root r _ l = inl refl
 
 pub goes_nowhere : (proc : Proc) (now : Tick) (u : IoState) → IsProcessorIo (io_of u proc) → IsQuiet now (io_of u proc) → Goes proc now u u
-goes_nowhere proc now u is quiet = record { is = is; quiet = quiet; each = λ a l. inl refl; other = unchanged_same (io_of u (other_proc proc)); video = refl }
+goes_nowhere proc now u is quiet = record { is = is; quiet = quiet; each = λ a l. inl refl; other = unchanged_same (io_of u (other_proc proc)); scan = refl; whole = refl }
 
 pub goes_on : (proc : Proc) (now : Tick) (a b c : IoState) → Goes proc now a b → Goes proc now b c → Goes proc now a c
 goes_on proc now a b c g h = record {
@@ -172,37 +175,40 @@ goes_on proc now a b c g h = record {
     halted = h.other.halted ∙ g.other.halted;
     dma = h.other.dma ∙ g.other.dma;
   };
-  video = h.video ∙ g.video;
+  scan = h.scan ∙ g.scan;
+  whole = h.whole ∙ g.whole;
 }
 
 -- what changes the processor's own alone
 processor_io_goes : (proc : Proc) (now : Tick) (u : IoState) (processor_io : ProcessorIoState) → Stands now processor_io → Goes proc now u (with_io_of proc u processor_io)
 processor_io_goes proc now u processor_io s = by_proc proc (processor_io_each proc now u processor_io (processor_io_later now (io_of u proc) processor_io s)) where
   by_proc : (proc : Proc) → ReschedulesEach now u (with_io_of proc u processor_io) → Goes proc now u (with_io_of proc u processor_io)
-  by_proc Nine each = record { is = s.0; quiet = s.1; each = each; other = unchanged_same u.seven; video = refl }
-  by_proc Seven each = record { is = s.0; quiet = s.1; each = each; other = unchanged_same u.nine; video = refl }
+  by_proc Nine each = record { is = s.0; quiet = s.1; each = each; other = unchanged_same u.seven; scan = refl; whole = refl }
+  by_proc Seven each = record { is = s.0; quiet = s.1; each = each; other = unchanged_same u.nine; scan = refl; whole = refl }
 
 -- what changes neither's own
-shared_goes : (proc : Proc) (now : Tick) (u new : IoState) → ((each : Proc) → io_of new each ≡ io_of u each) → new.video ≡ u.video → Stands now (io_of u proc)
-    → ReschedulesEach now u new → Goes proc now u new
-shared_goes proc now u new same video s each = record {
+shared_goes : (proc : Proc) (now : Tick) (u new : IoState) → ((each : Proc) → io_of new each ≡ io_of u each) → new.video.scan ≡ u.video.scan → new.video.whole ≡ u.video.whole
+    → Stands now (io_of u proc) → ReschedulesEach now u new → Goes proc now u new
+shared_goes proc now u new same scan whole s each = record {
   is = subst IsProcessorIo (sym (same proc)) s.0;
   quiet = subst (IsQuiet now) (sym (same proc)) s.1;
   each = each;
   other = subst (IsUnchanged (io_of u (other_proc proc))) (sym (same (other_proc proc))) (unchanged_same (io_of u (other_proc proc)));
-  video = video;
+  scan = scan;
+  whole = whole;
 }
 
 -- ---- what changes nothing but interrupt words, as a read: nothing is due otherwise than before
 
-raised_unchanged : (processor_io : ProcessorIoState) (raised : ℕ) → IsUnchanged processor_io (processor_io_raised processor_io raised)
+pub raised_unchanged : (processor_io : ProcessorIoState) (raised : ℕ) → IsUnchanged processor_io (processor_io_raised processor_io raised)
 raised_unchanged processor_io raised = record { timers = refl; keycnt = refl; halted = refl; dma = refl }
 
 -- nothing changed of what is due behind the ports, or holds a processor
 pub record AreUnchanged (old new : IoState) : Type 0 where
   pub processor_io : (proc : Proc) → IsUnchanged (io_of old proc) (io_of new proc)
   pub dues : (a : actor.Actor) → io_due a new ≡ io_due a old
-  pub video : new.video ≡ old.video
+  pub scan : new.video.scan ≡ old.video.scan
+  pub whole : new.video.whole ≡ old.video.whole
 
 -- so what holds of a processor's own holds still
 pub unchanged_is : (old new : ProcessorIoState) → IsUnchanged old new → IsProcessorIo old → IsProcessorIo new
@@ -215,10 +221,10 @@ unchanged_quiet now old new l quiet = record {
 }
 
 pub all_unchanged : (u : IoState) → AreUnchanged u u
-all_unchanged u = record { processor_io = λ each. unchanged_same (io_of u each); dues = λ a. refl; video = refl }
+all_unchanged u = record { processor_io = λ each. unchanged_same (io_of u each); dues = λ a. refl; scan = refl; whole = refl }
 
 both_unchanged : (u : IoState) (ipc_after : IpcState) (raised : Raised) → AreUnchanged u (both_raised (record u { ipc = ipc_after }) raised)
-both_unchanged u ipc_after raised = record { processor_io = processor_io; dues = dues; video = refl } where
+both_unchanged u ipc_after raised = record { processor_io = processor_io; dues = dues; scan = refl; whole = refl } where
   processor_io : (proc : Proc) → IsUnchanged (io_of u proc) (io_of (both_raised (record u { ipc = ipc_after }) raised) proc)
   processor_io Nine = raised_unchanged u.nine raised.nine
   processor_io Seven = raised_unchanged u.seven raised.seven
@@ -233,7 +239,7 @@ both_unchanged u ipc_after raised = record { processor_io = processor_io; dues =
 pub unchanged_goes : (proc : Proc) (now : Tick) (old new : IoState) → IsProcessorIo (io_of old proc) → IsQuiet now (io_of old proc) → AreUnchanged old new → Goes proc now old new
 unchanged_goes proc now old new is quiet left =
     let s = alike now (io_of old proc) (io_of new proc) (left.processor_io proc).timers (left.processor_io proc).dma (is, quiet) in
-    record { is = s.0; quiet = s.1; each = λ a l. inl (left.dues a); other = left.processor_io (other_proc proc); video = left.video }
+    record { is = s.0; quiet = s.1; each = λ a l. inl (left.dues a); other = left.processor_io (other_proc proc); scan = left.scan; whole = left.whole }
 
 -- ---- what a write of a register leaves
 
@@ -242,6 +248,27 @@ division_later now mode = either (λ n. now.0 < now.0 + n) (mode == 0) 36 68 (om
 
 root_later : (now : Tick) → now.0 < now.0 + 26
 root_later now = omega arith
+
+-- one of the display's leaves it where it is
+module _ (now : Tick) (u : IoState) (video : VideoState) (same : video.scan ≡ u.video.scan) where
+  shown_dues : (a : actor.Actor) → io_due a (record u { video = video }) ≡ io_due a u
+  shown_dues Video = ap (λ (scan : ScanState). Some (scan_due_tick scan)) same
+  shown_dues (Timer Nine number) = refl
+  shown_dues (Timer Seven number) = refl
+  shown_dues (Dma Nine channel) = refl
+  shown_dues (Dma Seven channel) = refl
+  shown_dues _ = refl
+
+  shown_processor_io : (each : Proc) → io_of (record u { video = video }) each ≡ io_of u each
+  shown_processor_io Nine = refl
+  shown_processor_io Seven = refl
+
+display_goes : (proc : Proc) (now : Tick) (u : IoState) → Stands now (io_of u proc) → (width : Width) (at value : ℕ)
+    → Goes proc now u (record u { video = video_written proc u.video at width value })
+display_goes proc now u s width at value =
+    let video = video_written proc u.video at width value in
+    let same = written_scan proc u.video at width value in
+    shared_goes proc now u (record u { video = video }) (shown_processor_io now u video same) same (written_whole proc u.video at width value) s (λ a l. inl (shown_dues now u video same a))
 
 register_goes : (proc : Proc) (now : Tick) (u : IoState) → Stands now (io_of u proc) → (register : Register) (number : ℕ)
     → number < (meaning_of register).count → (value : ℕ) → Goes proc now u (after_write proc now u register number value)
@@ -262,17 +289,19 @@ register_goes proc now u s Ipcsync number l value = unchanged_goes proc now u _ 
 register_goes proc now u s Ipcfifocnt number l value = unchanged_goes proc now u _ s.0 s.1 (both_unchanged u _ _)
 register_goes proc now u s Ipcfifosend number l value = unchanged_goes proc now u _ s.0 s.1 (both_unchanged u _ _)
 register_goes proc now u s Divcnt number l value =
-    shared_goes proc now u _ (λ each. refl) refl s (divider_each now u (after_write proc now u Divcnt number value).divider (inr (division_later now _)))
+    shared_goes proc now u _ (λ each. refl) refl refl s (divider_each now u (after_write proc now u Divcnt number value).divider (inr (division_later now _)))
 register_goes proc now u s DivNumer number l value =
-    shared_goes proc now u _ (λ each. refl) refl s (divider_each now u (after_write proc now u DivNumer number value).divider (inr (division_later now _)))
+    shared_goes proc now u _ (λ each. refl) refl refl s (divider_each now u (after_write proc now u DivNumer number value).divider (inr (division_later now _)))
 register_goes proc now u s DivDenom number l value =
-    shared_goes proc now u _ (λ each. refl) refl s (divider_each now u (after_write proc now u DivDenom number value).divider (inr (division_later now _)))
+    shared_goes proc now u _ (λ each. refl) refl refl s (divider_each now u (after_write proc now u DivDenom number value).divider (inr (division_later now _)))
 register_goes proc now u s Sqrtcnt number l value =
-    shared_goes proc now u _ (λ each. refl) refl s (root_each now u (after_write proc now u Sqrtcnt number value).root (inr (root_later now)))
+    shared_goes proc now u _ (λ each. refl) refl refl s (root_each now u (after_write proc now u Sqrtcnt number value).root (inr (root_later now)))
 register_goes proc now u s SqrtParam number l value =
-    shared_goes proc now u _ (λ each. refl) refl s (root_each now u (after_write proc now u SqrtParam number value).root (inr (root_later now)))
+    shared_goes proc now u _ (λ each. refl) refl refl s (root_each now u (after_write proc now u SqrtParam number value).root (inr (root_later now)))
+register_goes proc now u s DisplayHalf number l value = display_goes proc now u s Half number value
+register_goes proc now u s DisplayWord number l value = display_goes proc now u s Word number value
 register_goes proc now u s register number l value =
-    shared_goes proc now u (after_write proc now u register number value) (λ each. refl) refl s (λ a m. inl refl)
+    shared_goes proc now u (after_write proc now u register number value) (λ each. refl) refl refl s (λ a m. inl refl)
 
 -- ---- accesses
 

@@ -1,7 +1,9 @@
 pub mod RegisterMaps
+pub mod DisplayPorts
 pub mod Dues
 pub mod Later
 pub mod Events
+pub mod Shows
 pub mod Spans
 pub mod Together
 pub mod Ascending

@@ -13,13 +13,13 @@ use Rattle.ds_runs.specs.Order.{first_from}
 use Rattle.ds_timers.specs.Timing.{AreTimers, timer_at, timer_due}
 use Rattle.ds_ports.specs.ProcessorIo.{ProcessorIoState}
 use Rattle.ds_ports.specs.Io.{IoState, io_of}
-use Rattle.ds_ports.specs.Videos.{video_due}
+use Rattle.video2d.specs.Scans.{scan_due_tick}
 
 -- When the units behind the ports are due, and what happens at a tick makes of it.
 
 -- when an actor behind the ports is due; those that aren't, or aren't built yet, never are
 abbrev pub due_in_io : IoState → actor.Actor → Option Tick
-due_in_io u Video = Some (record { 0 = video_due u.video })
+due_in_io u Video = Some (scan_due_tick u.video.scan)
 due_in_io u (Timer proc number) = timer_due (timer_at (io_of u proc).timers number)
 due_in_io u Divider = u.divider.due
 due_in_io u SquareRoot = u.root.due
@@ -73,10 +73,11 @@ abbrev pub ReschedulesEach : Tick → IoState → IoState → Type 0
 ReschedulesEach now old new = (a : actor.Actor) → IsNumbered a → Reschedules now (io_due a old) (io_due a new)
 
 -- what accesses of a processor, or of a channel of it, at a tick make of the units: each due tick is as it was or later, and the other processor is
--- told of interrupts and of nothing else; the display is as it was
+-- told of interrupts and of nothing else; the display is where it was, and so is its last whole frame
 pub record Goes (proc : Proc) (now : Tick) (old new : IoState) : Type 0 where
   pub is : IsProcessorIo (io_of new proc)
   pub quiet : IsQuiet now (io_of new proc)
   pub each : ReschedulesEach now old new
   pub other : IsUnchanged (io_of old (other_proc proc)) (io_of new (other_proc proc))
-  pub video : new.video ≡ old.video
+  pub scan : new.video.scan ≡ old.video.scan
+  pub whole : new.video.whole ≡ old.video.whole

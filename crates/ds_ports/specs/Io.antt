@@ -9,15 +9,17 @@ use Rattle.ds_ipc.specs.Ipcs.{IpcState, ipc_at_boot}
 use Rattle.ds_math.specs.Dividers.{DividerState, divider_at_boot, division_finished}
 use Rattle.ds_math.specs.Roots.{RootState, root_at_boot, root_finished}
 use Rattle.ds_runs.specs.declared.actors.Actor as actor
-use Rattle.ds_runs.specs.declared.actors.Actor.TheVariants.{Video, Timer, Divider, SquareRoot}
+use Rattle.ds_runs.specs.declared.actors.Actor.TheVariants.{Timer, Divider, SquareRoot}
 use Rattle.ds_timers.specs.Timing.{overflow_of}
 use Rattle.ds_ports.specs.ProcessorIo.{BeforeMove, ProcessorIoState, processor_io_at_boot, processor_io_moved, processor_io_put_back, processor_io_raised, processor_io_triggered, keys_told}
-use Rattle.ds_ports.specs.Videos.{VideoState, blanks_drawn, makes_whole, video_after, video_at_boot, video_due}
+use Rattle.video2d.specs.Scans.{scan_due_tick}
+use Rattle.video2d.specs.Videos.{VideoState, unless_stop, video_after_event, video_at_boot, video_shown, video_stop}
+use Rattle.video2d.specs.declared.videos.Shown.{Shown}
 use Rattle.vram_banks.specs.Cells.{Banks, blank_banks}
 
 -- What stands behind the ports.
 
--- where the display is; video memory with its controls; WRAMCNT, which shares out the shared work RAM (GBATEK, "DS Memory Control"); what passes between the
+-- the display; video memory with its controls; WRAMCNT, which shares out the shared work RAM (GBATEK, "DS Memory Control"); what passes between the
 -- processors; the keys that are pressed; the four words of DMA0FILL to DMA3FILL; ROMCTRL, which both processors share; the divider and the
 -- square root unit; and what each processor has of its own
 pub record IoState : Type 0 where
@@ -90,19 +92,23 @@ root_done u = record u { root = root_finished u.root }
 abbrev pub channels_triggered : Cause → Tick → IoState → IoState
 channels_triggered cause now u = record u { nine = processor_io_triggered u.nine cause now; seven = processor_io_triggered u.seven cause now }
 
--- the display's event: the start of line 192 triggers V-blank DMA of both processors, and the H-blank of a line that is drawn H-blank DMA (GBATEK, "DS
--- DMA Transfers"); and the display goes on
-abbrev pub triggered_by_video : IoState → IoState
-triggered_by_video u =
-    let now : Tick = record { 0 = video_due u.video } in
-    if makes_whole u.video then channels_triggered VBlank now u else (if blanks_drawn u.video then channels_triggered HBlank now u else u)
+-- what an event of the display does beside it at a tick: it raises interrupts by each processor's DISPSTAT, and then triggers the channels
+-- that wait for V-blank, or for the H-blank of a line that is drawn (GBATEK, "LCD I/O Interrupts and Status", "DS DMA Transfers")
+abbrev pub channels_shown : Shown → Tick → IoState → IoState
+channels_shown shown now u = if shown.vblank then channels_triggered VBlank now u else (if shown.hblank then channels_triggered HBlank now u else u)
 
-abbrev pub video_done : IoState → IoState
-video_done u = record (triggered_by_video u) { video = video_after u.video }
+abbrev pub shown_to_others : Shown → Tick → IoState → IoState
+shown_to_others shown now u = channels_shown shown now (both_raised u shown.raised)
 
--- what the event of an actor behind the ports leaves, where it is due; a DMA channel's is told below, since it is an access of memory
+-- the display's event, with the memories of palettes and of objects; where it stops, all stays
+abbrev pub video_done : List ℕ → List ℕ → IoState → IoState
+video_done palette oam u =
+    unless_stop (video_stop oam u.video)
+    (shown_to_others (video_shown u.video) (scan_due_tick u.video.scan) (record u { video = video_after_event u.vram palette oam u.video })) u
+
+-- what the event of an actor behind the ports leaves, where it is due; the display's stands above, since it reads memories, and a DMA channel's
+-- below, since it is an access of memory
 abbrev pub io_event : actor.Actor → IoState → IoState
-io_event Video u = video_done u
 io_event (Timer proc number) u = timer_overflows proc number u
 io_event Divider u = division_done u
 io_event SquareRoot u = root_done u

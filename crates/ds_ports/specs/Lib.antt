@@ -5,5 +5,4 @@ pub mod Parts
 pub mod Ports
 pub mod RegisterMap
 pub mod Registers
-pub mod Videos
 pub mod Io

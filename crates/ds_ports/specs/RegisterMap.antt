@@ -2,7 +2,7 @@ use Rattle.std.specs.Prelude.{ℕ, ◌≡◌, ◌<◌, ◌≤◌, ◌⊎◌, ◌
 use Rattle.ds_base.specs.declared.processors.Proc.{Proc}
 use Rattle.ds_base.specs.declared.processors.Proc.TheVariants.{Nine, Seven}
 use Rattle.ds_ports.specs.declared.registers.Register.{Register}
-use Rattle.ds_ports.specs.declared.registers.Register.TheVariants.{Later, Dmasad, Dmadad, Dmacnt, Dmafill, TmcntL, TmcntH, Keyinput, Keycnt, Extkeyin, Ipcsync, Ipcfifocnt, Ipcfifosend, Ipcfiforecv, Romctrl, Ime, Ie, If, Vramcnt, Wramcnt, Vramstat, Wramstat, Divcnt, DivNumer, DivDenom, DivResult, DivremResult, Sqrtcnt, SqrtResult, SqrtParam, Postflg, Haltcnt}
+use Rattle.ds_ports.specs.declared.registers.Register.TheVariants.{Later, DisplayHalf, DisplayWord, Dmasad, Dmadad, Dmacnt, Dmafill, TmcntL, TmcntH, Keyinput, Keycnt, Extkeyin, Ipcsync, Ipcfifocnt, Ipcfifosend, Ipcfiforecv, Romctrl, Ime, Ie, If, Vramcnt, Wramcnt, Vramstat, Wramstat, Divcnt, DivNumer, DivDenom, DivResult, DivremResult, Sqrtcnt, SqrtResult, SqrtParam, Postflg, Haltcnt}
 use Rattle.ds_ports.specs.declared.registers.Slot.{Slot}
 use Rattle.ds_ports.specs.Registers.{meaning_of}
 
@@ -24,6 +24,13 @@ port_row offset bytes count register = record { offset = offset; bytes = bytes; 
 abbrev pub row_from : ℕ → ℕ → ℕ → ℕ → Register → PortRow
 row_from first offset bytes count register = record (port_row offset bytes count register) { number = λ place. first + place }
 
+-- the display's, of two bytes each, and of four: the number of each is its offset, by which the display knows it
+abbrev pub display_halves : ℕ → ℕ → PortRow
+display_halves offset count = record (port_row offset 2 count DisplayHalf) { number = λ place. offset + 2 * place }
+
+abbrev pub display_words : ℕ → ℕ → PortRow
+display_words offset count = record (port_row offset 4 count DisplayWord) { number = λ place. offset + 4 * place }
+
 -- so many times two registers, or three, in turn
 abbrev pub two_in_turn : ℕ → ℕ → ℕ → Register → Register → PortRow
 two_in_turn offset bytes times first second = record {
@@ -43,31 +50,42 @@ three_in_turn offset bytes times first second third = record {
   number = λ place. place / 3;
 }
 
--- ---- ARM9's
+-- ---- both processors'
 
--- a 2D engine's; engine A has four more
-abbrev pub display_rows : List PortRow
-display_rows =
-    port_row 0x000 4 1 Later  -- DISPCNT
-    ∷ port_row 0x004 2 1 Later  -- DISPSTAT
-    ∷ port_row 0x006 2 1 Later  -- VCOUNT
-    ∷ port_row 0x008 2 4 Later  -- BG0CNT to BG3CNT
-    ∷ port_row 0x010 2 8 Later  -- BG0HOFS, BG0VOFS to BG3HOFS, BG3VOFS
-    ∷ port_row 0x020 2 4 Later  -- BG2PA, BG2PB, BG2PC, BG2PD
-    ∷ port_row 0x028 4 2 Later  -- BG2X, BG2Y
-    ∷ port_row 0x030 2 4 Later  -- BG3PA, BG3PB, BG3PC, BG3PD
-    ∷ port_row 0x038 4 2 Later  -- BG3X, BG3Y
+abbrev pub status_rows : List PortRow
+status_rows =
+    display_halves 0x004 1  -- DISPSTAT
+    ∷ display_halves 0x006 1  -- VCOUNT
     ∷ []
 
-abbrev pub effect_rows : List PortRow
-effect_rows =
-    port_row 0x040 2 4 Later  -- WIN0H, WIN1H, WIN0V, WIN1V
-    ∷ port_row 0x048 2 2 Later  -- WININ, WINOUT
-    ∷ port_row 0x04C 2 1 Later  -- MOSAIC
-    ∷ port_row 0x050 2 3 Later  -- BLDCNT, BLDALPHA, BLDY
-    ∷ port_row 0x060 4 1 Later  -- DISP3DCNT
-    ∷ port_row 0x064 4 1 Later  -- DISPCAPCNT
-    ∷ port_row 0x06C 2 1 Later  -- MASTER_BRIGHT
+-- ---- ARM9's
+
+-- a 2D engine's, by its base and by what stands between them: engine A's at 0 and engine B's at 1000h
+abbrev pub display_rows : ℕ → List PortRow → List PortRow
+display_rows base between =
+    (display_words (base + 0x00) 1 ∷ between)  -- DISPCNT
+    ++ (display_halves (base + 0x08) 4  -- BG0CNT to BG3CNT
+    ∷ display_halves (base + 0x10) 8  -- BG0HOFS, BG0VOFS to BG3HOFS, BG3VOFS
+    ∷ display_halves (base + 0x20) 4  -- BG2PA, BG2PB, BG2PC, BG2PD
+    ∷ display_words (base + 0x28) 2  -- BG2X, BG2Y
+    ∷ display_halves (base + 0x30) 4  -- BG3PA, BG3PB, BG3PC, BG3PD
+    ∷ display_words (base + 0x38) 2  -- BG3X, BG3Y
+    ∷ [])
+
+abbrev pub effect_rows : ℕ → List PortRow → List PortRow
+effect_rows base between =
+    (display_halves (base + 0x40) 4  -- WIN0H, WIN1H, WIN0V, WIN1V
+    ∷ display_halves (base + 0x48) 2  -- WININ, WINOUT
+    ∷ display_halves (base + 0x4C) 1  -- MOSAIC
+    ∷ display_halves (base + 0x50) 3  -- BLDCNT, BLDALPHA, BLDY
+    ∷ between)
+    ++ (display_halves (base + 0x6C) 1 ∷ [])  -- MASTER_BRIGHT
+
+-- engine A's alone: the 3D engine's control, which isn't built yet, and display capture
+abbrev pub capture_rows : List PortRow
+capture_rows =
+    port_row 0x060 4 1 Later  -- DISP3DCNT
+    ∷ display_words 0x064 1  -- DISPCAPCNT
     ∷ []
 
 abbrev pub dma_rows : List PortRow
@@ -112,7 +130,7 @@ maths_rows =
 abbrev pub power_rows : List PortRow
 power_rows =
     port_row 0x300 1 1 Postflg  -- POSTFLG
-    ∷ port_row 0x304 2 1 Later  -- POWCNT1
+    ∷ display_halves 0x304 1  -- POWCNT1
     ∷ []
 
 abbrev pub geometry_rows : List PortRow
@@ -127,27 +145,6 @@ geometry_rows =
     ∷ port_row 0x680 4 9 Later  -- VECMTX_RESULT
     ∷ []
 
--- engine B's, by the names of engine A's
-abbrev pub second_display_rows : List PortRow
-second_display_rows =
-    port_row 0x1000 4 1 Later  -- DISPCNT
-    ∷ port_row 0x1008 2 4 Later  -- BG0CNT to BG3CNT
-    ∷ port_row 0x1010 2 8 Later  -- BG0HOFS, BG0VOFS to BG3HOFS, BG3VOFS
-    ∷ port_row 0x1020 2 4 Later  -- BG2PA, BG2PB, BG2PC, BG2PD
-    ∷ port_row 0x1028 4 2 Later  -- BG2X, BG2Y
-    ∷ port_row 0x1030 2 4 Later  -- BG3PA, BG3PB, BG3PC, BG3PD
-    ∷ port_row 0x1038 4 2 Later  -- BG3X, BG3Y
-    ∷ []
-
-abbrev pub second_effect_rows : List PortRow
-second_effect_rows =
-    port_row 0x1040 2 4 Later  -- WIN0H, WIN1H, WIN0V, WIN1V
-    ∷ port_row 0x1048 2 2 Later  -- WININ, WINOUT
-    ∷ port_row 0x104C 2 1 Later  -- MOSAIC
-    ∷ port_row 0x1050 2 3 Later  -- BLDCNT, BLDALPHA, BLDY
-    ∷ port_row 0x106C 2 1 Later  -- MASTER_BRIGHT
-    ∷ []
-
 abbrev pub receive_rows : List PortRow
 receive_rows = port_row 0x100000 4 1 Ipcfiforecv ∷ []  -- IPCFIFORECV
 
@@ -155,9 +152,7 @@ receive_rows = port_row 0x100000 4 1 Ipcfiforecv ∷ []  -- IPCFIFORECV
 
 abbrev pub seven_early_rows : List PortRow
 seven_early_rows =
-    port_row 0x004 2 1 Later  -- DISPSTAT
-    ∷ port_row 0x006 2 1 Later  -- VCOUNT
-    ∷ three_in_turn 0x0B0 4 4 Dmasad Dmadad Dmacnt  -- DMA0SAD, DMA0DAD, DMA0CNT to DMA3SAD, DMA3DAD, DMA3CNT
+    three_in_turn 0x0B0 4 4 Dmasad Dmadad Dmacnt  -- DMA0SAD, DMA0DAD, DMA0CNT to DMA3SAD, DMA3DAD, DMA3CNT
     ∷ []
 
 abbrev pub seven_timer_and_ipc_rows : List PortRow
@@ -187,11 +182,11 @@ seven_control_rows =
 
 abbrev pub map_of_nine : List PortRow
 map_of_nine =
-    display_rows ++ effect_rows ++ dma_rows ++ timer_and_ipc_rows ++ control_rows ++ maths_rows ++ power_rows ++ geometry_rows
-    ++ second_display_rows ++ second_effect_rows ++ receive_rows
+    display_rows 0 status_rows ++ effect_rows 0 capture_rows ++ dma_rows ++ timer_and_ipc_rows ++ control_rows ++ maths_rows ++ power_rows ++ geometry_rows
+    ++ display_rows 0x1000 [] ++ effect_rows 0x1000 [] ++ receive_rows
 
 abbrev pub map_of_seven : List PortRow
-map_of_seven = seven_early_rows ++ seven_timer_and_ipc_rows ++ seven_control_rows ++ receive_rows
+map_of_seven = status_rows ++ seven_early_rows ++ seven_timer_and_ipc_rows ++ seven_control_rows ++ receive_rows
 
 abbrev pub register_map : Proc → List PortRow
 register_map Nine = map_of_nine

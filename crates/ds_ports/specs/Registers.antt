@@ -1,7 +1,10 @@
 use Rattle.std.specs.Prelude.{ℕ, ◌+◌, ◌*◌, ◌/◌, ◌%◌, ◌^◌, ◌==◌, ◌||◌, if◌then◌else◌, Bool, true, false, Option, Some, None, is_some, bit_and, slice_index_or, slice_set}
 use Rattle.ds_base.specs.Bits.{bit, bits, flag}
+use Rattle.ds_base.specs.Numbers.{value_by}
 use Rattle.ds_base.specs.declared.left_out.LeftKind.TheVariants.{CardTransfer, HaltMode}
 use Rattle.ds_base.specs.declared.left_out.Stop.{Stop}
+use Rattle.ds_base.specs.declared.memories.Width.{Width}
+use Rattle.ds_base.specs.declared.memories.Width.TheVariants.{Half, Word}
 use Rattle.ds_base.specs.declared.processors.Proc.{Proc}
 use Rattle.ds_base.specs.declared.ticks.Tick.{Tick}
 use Rattle.ds_dma.specs.Channels.{channel_refusal, channel_word}
@@ -16,7 +19,9 @@ use Rattle.ds_timers.specs.Timing.{counter_of, timer_at}
 use Rattle.ds_ports.specs.ProcessorIo.{ProcessorIoState, control_written, dma_written, extkeyin_word, haltcnt_written, ie_written, if_written, ime_written, keycnt_written, keyinput_word, reload_written}
 use Rattle.ds_ports.specs.Io.{IoState, both_raised, io_of, with_io_of}
 use Rattle.ds_ports.specs.declared.registers.Register.{Register}
-use Rattle.ds_ports.specs.declared.registers.Register.TheVariants.{Dmasad, Dmadad, Dmacnt, Dmafill, TmcntL, TmcntH, Keyinput, Keycnt, Extkeyin, Ipcsync, Ipcfifocnt, Ipcfifosend, Ipcfiforecv, Romctrl, Ime, Ie, If, Vramcnt, Wramcnt, Vramstat, Wramstat, Divcnt, DivNumer, DivDenom, DivResult, DivremResult, Sqrtcnt, SqrtResult, SqrtParam, Postflg, Haltcnt}
+use Rattle.ds_ports.specs.declared.registers.Register.TheVariants.{DisplayHalf, DisplayWord, Dmasad, Dmadad, Dmacnt, Dmafill, TmcntL, TmcntH, Keyinput, Keycnt, Extkeyin, Ipcsync, Ipcfifocnt, Ipcfifosend, Ipcfiforecv, Romctrl, Ime, Ie, If, Vramcnt, Wramcnt, Vramstat, Wramstat, Divcnt, DivNumer, DivDenom, DivResult, DivremResult, Sqrtcnt, SqrtResult, SqrtParam, Postflg, Haltcnt}
+use Rattle.video2d.specs.Kept.{kept_byte}
+use Rattle.video2d.specs.Videos.{video_byte, video_written}
 use Rattle.vram_banks.specs.BankMap.{kept_bank_control}
 use Rattle.vram_banks.specs.Cells.{allotted_of}
 
@@ -141,9 +146,22 @@ is_mode_left_out value = (bits 6 2 value == 1) || (bits 6 2 value == 3)
 abbrev pub halt_refusal : ℕ → Option Stop
 halt_refusal value = if is_mode_left_out value then Some (record { kind = HaltMode; value = value }) else None
 
+-- one of the display's, of which the number is the offset of its first byte: what it reads, what it keeps, and what a write leaves, are told
+-- byte by byte where the display is
+abbrev pub display_register : Width → Meaning
+display_register width = record idle {
+  count = 0x1070;
+  value = λ proc now u n. value_by width (video_byte proc u.video) n;
+  kept = λ proc u n. value_by width (kept_byte proc u.video) n;
+  written = of_io (λ proc now u n word. record u { video = video_written proc u.video n width word });
+}
+
 -- ---- the registers
 
 abbrev pub meaning_of : Register → Meaning
+-- the display's (GBATEK, "DS Video", "LCD I/O Interrupts and Status", "DS Power Control"; what of each is kept and read stands with `EnginePort`)
+meaning_of DisplayHalf = display_register Half
+meaning_of DisplayWord = display_register Word
 -- DMA0SAD, DMA0DAD, DMA0CNT to those of channel 3 (GBATEK, "DS DMA Transfers")
 meaning_of Dmasad = channel_register Source
 meaning_of Dmadad = channel_register Target

@@ -1,26 +1,28 @@
 //! The units behind the ports, with the first of them that is due.
 
-ghost use Rattle.std.specs.Prelude.{◌≡◌, ◌<◌, ◌^◌, IfOk, IsSome, Some};
+ghost use Rattle.std.specs.Prelude.{◌≡◌, ◌<◌, ◌^◌, IfOk, IsSome, Some, length};
 ghost use Rattle.ds_base.specs.Schedules.{IsEarly};
 ghost use Rattle.ds_dma.specs.States.{dma_due};
 ghost use Rattle.ds_ipc.specs.Ipcs.{AreSides};
 ghost use Rattle.ds_runs.specs.Actors.{IsNumbered};
+ghost use Rattle.ds_runs.specs.declared.actors.Actor.TheVariants as actors;
 ghost use Rattle.ds_runs.specs.Order.{first_from};
 ghost use Rattle.vram_banks.specs.Cells.{vram_written};
 ghost use Rattle.ds_ports.specs.Dues.{IsIo, io_due, io_dues, first_io_due};
 ghost use Rattle.ds_ports.specs.Inside.{moves_dues};
 ghost use Rattle.ds_ports.specs.ProcessorIo.{before_move};
 ghost use Rattle.ds_ports.specs.Registers.{after_write, meaning_of};
-ghost use Rattle.ds_ports.specs.Io.{channel_moved, channel_put_back, io_at_boot, io_event, io_of, keys_pressed, with_halted};
+ghost use Rattle.ds_ports.specs.Io.{channel_moved, channel_put_back, io_at_boot, io_event, io_of, keys_pressed, video_done, with_halted};
+ghost use Rattle.video2d.specs.Videos.{video_answer};
 
 use crate::processor_io::{Before, ProcessorIo};
 use crate::registers::Register;
 use crate::units::Units;
-use crate::videos::Video;
-use ds_base::{Due, Proc, Space, Tick, Width};
+use ds_base::{Due, Proc, Space, Stop, Tick, Width};
 use ds_runs::Actor;
 use std::alloc::{AllocError, Global};
 use std::marker::Model;
+use video2d::{Shown, Video};
 use vram_banks::Vram;
 
 /// The units behind the ports. What changes no due tick is asked of what is lent here.
@@ -149,8 +151,8 @@ impl Io {
         self.due
     }
 
-    /// The event of an actor behind the ports that is due: the display goes on and triggers DMA, a timer overflows and its interrupts are raised, a
-    /// division or a square root is done. A DMA channel's is told by `move_channel`.
+    /// The event of an actor behind the ports that is due: a timer overflows and its interrupts are raised, a division or a square root is done.
+    /// The display's is told by `show`, a DMA channel's by `move_channel`.
     pub fn event(&mut self, actor: Actor)
         requires numbered { IsNumbered actor }
         requires due { IsSome (io_due actor self.old) }
@@ -159,6 +161,21 @@ impl Io {
     {
         self.units.event(actor);
         self.due = self.units.first_due();
+    }
+
+    /// The display's event, with the memories of palettes and of objects: it goes on, and where a line is drawn it draws it; interrupts are raised by
+    /// each processor's DISPSTAT, and DMA channels triggered. It stops where the line that would be drawn needs what isn't there; then nothing
+    /// changes.
+    pub fn show(&mut self, palette: &[u8], oam: &[u8]) -> Result<Shown, Stop>
+        requires colours { length palette.now ≡ 2048 }
+        requires objects { length oam.now ≡ 2048 }
+        requires early { IsEarly (io_due actors.Video self.old) }
+        ensures answer { result ≡ video_answer oam.now self.old.video }
+        ensures state { self.new ≡ video_done palette.now oam.now self.old }
+    {
+        let shown = self.units.show(palette, oam);
+        self.due = self.units.first_due();
+        shown
     }
 
     /// A processor's DMA channel that is due moves its first unit at a tick, but for the access itself: the unit isn't its plan's any more,

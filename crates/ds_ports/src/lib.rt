@@ -5,15 +5,14 @@
 //! (specs/Registers.antt), and how an access goes through the registers that it covers is another (specs/Ports.antt).
 #![tactic(auto)]
 
+mod displays;
 mod io;
 mod ports;
 mod processor_io;
 mod registers;
 mod units;
-mod videos;
 
 pub use io::Io;
 pub use ports::{lies_in_built, part, port_is_built, register_laws};
 pub use processor_io::{Before, ProcessorIo};
 pub use registers::{Register, Slot, slot_of};
-pub use videos::Video;

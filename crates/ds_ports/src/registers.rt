@@ -1,8 +1,9 @@
 //! The register map: which register stands at an offset.
 
-ghost use Rattle.std.specs.Prelude.{◌≡◌, ◌<◌, ◌+◌, ◌/◌, ◌%◌, ◌^◌, ◌==◌, if◌then◌else◌, Some, IfSome};
+ghost use Rattle.std.specs.Prelude.{◌≡◌, ◌<◌, ◌≤◌, ◌+◌, ◌-◌, ◌*◌, ◌/◌, [], ◌%◌, ◌^◌, ◌==◌, if◌then◌else◌, Some, IfSome};
 ghost use Rattle.ds_ports.specs.Parts.{looked_up, slot_among, parts_of_nine, parts_of_seven};
-ghost use Rattle.ds_ports.specs.RegisterMap.{slot_of, IsSlot, display_rows, effect_rows, dma_rows, timer_and_ipc_rows, control_rows, maths_rows, power_rows, geometry_rows, second_display_rows, second_effect_rows, receive_rows, seven_early_rows, seven_timer_and_ipc_rows, seven_control_rows};
+ghost use Rattle.ds_ports.specs.RegisterMap.{slot_of, IsSlot, status_rows, display_rows, effect_rows, capture_rows, dma_rows, timer_and_ipc_rows, control_rows, maths_rows, power_rows, geometry_rows, receive_rows, seven_early_rows, seven_timer_and_ipc_rows, seven_control_rows};
+ghost use Rattle.ds_ports.specs.declared.registers.Register.TheVariants.{DisplayHalf, DisplayWord};
 
 use ds_base::Proc;
 
@@ -11,6 +12,10 @@ use ds_base::Proc;
 pub enum Register {
     /// One that isn't built yet.
     Later,
+    /// One of the display's that has two bytes; its number is its offset from 4000000h. (GBATEK, "DS Video" and the chapters that it names.)
+    DisplayHalf,
+    /// One of the display's that has four, the same.
+    DisplayWord,
     /// DMA0SAD to DMA3SAD, a channel's source. (GBATEK, "DS DMA Transfers".)
     Dmasad,
     /// DMA0DAD to DMA3DAD, its target. (The same chapter.)
@@ -102,6 +107,36 @@ fn in_row(register: Register, bytes: u32, offset: u32) -> Option<Slot>
     })
 }
 
+/// The byte at an offset from 4000000h of a row of the display's registers of two bytes, which begins at another.
+#[inline(always)]
+fn halves(first: u32, at: u32) -> Option<Slot>
+    requires from { first ≤ at }
+    ensures { result ≡ Some (record { register = DisplayHalf; number = first + 2 * ((at - first) / 2); byte = (at - first) % 2; bytes = 2 }) }
+{
+    let offset = at - first;
+    Some(Slot {
+        register: Register::DisplayHalf,
+        number: first + 2 * (offset / 2),
+        byte: offset % 2,
+        bytes: 2,
+    })
+}
+
+/// The same of those of four bytes.
+#[inline(always)]
+fn words(first: u32, at: u32) -> Option<Slot>
+    requires from { first ≤ at }
+    ensures { result ≡ Some (record { register = DisplayWord; number = first + 4 * ((at - first) / 4); byte = (at - first) % 4; bytes = 4 }) }
+{
+    let offset = at - first;
+    Some(Slot {
+        register: Register::DisplayWord,
+        number: first + 4 * (offset / 4),
+        byte: offset % 4,
+        bytes: 4,
+    })
+}
+
 /// The byte so many bytes into a row of registers whose numbers begin further on.
 #[inline(always)]
 fn in_row_from(first: u32, register: Register, bytes: u32, offset: u32) -> Option<Slot>
@@ -169,21 +204,33 @@ fn in_three(
     })
 }
 
+/// Each processor's display status.
+#[tactic(auto, unfolding(crate::specs::Parts::slot_among))]
+fn status(at: u32) -> Option<Slot>
+    ensures { result ≡ slot_among status_rows at }
+{
+    match at {
+        0x004..=0x005 => halves(0x004, at), // DISPSTAT
+        0x006..=0x007 => halves(0x006, at), // VCOUNT
+        _ => None,
+    }
+}
+
 /// Engine A's backgrounds.
 #[tactic(auto, unfolding(crate::specs::Parts::slot_among))]
 fn display(at: u32) -> Option<Slot>
-    ensures { result ≡ slot_among display_rows at }
+    ensures { result ≡ slot_among (display_rows 0 status_rows) at }
 {
     match at {
-        0x000..=0x003 => in_row(Register::Later, 4, at), // DISPCNT
-        0x004..=0x005 => in_row(Register::Later, 2, at - 0x004), // DISPSTAT
-        0x006..=0x007 => in_row(Register::Later, 2, at - 0x006), // VCOUNT
-        0x008..=0x00F => in_row(Register::Later, 2, at - 0x008), // BG0CNT to BG3CNT
-        0x010..=0x01F => in_row(Register::Later, 2, at - 0x010), // BG0HOFS, BG0VOFS to BG3HOFS, BG3VOFS
-        0x020..=0x027 => in_row(Register::Later, 2, at - 0x020), // BG2PA, BG2PB, BG2PC, BG2PD
-        0x028..=0x02F => in_row(Register::Later, 4, at - 0x028), // BG2X, BG2Y
-        0x030..=0x037 => in_row(Register::Later, 2, at - 0x030), // BG3PA, BG3PB, BG3PC, BG3PD
-        0x038..=0x03F => in_row(Register::Later, 4, at - 0x038), // BG3X, BG3Y
+        0x000..=0x003 => words(0x000, at), // DISPCNT
+        0x004..=0x005 => halves(0x004, at), // DISPSTAT
+        0x006..=0x007 => halves(0x006, at), // VCOUNT
+        0x008..=0x00F => halves(0x008, at), // BG0CNT to BG3CNT
+        0x010..=0x01F => halves(0x010, at), // BG0HOFS, BG0VOFS to BG3HOFS, BG3VOFS
+        0x020..=0x027 => halves(0x020, at), // BG2PA, BG2PB, BG2PC, BG2PD
+        0x028..=0x02F => words(0x028, at), // BG2X, BG2Y
+        0x030..=0x037 => halves(0x030, at), // BG3PA, BG3PB, BG3PC, BG3PD
+        0x038..=0x03F => words(0x038, at), // BG3X, BG3Y
         _ => None,
     }
 }
@@ -191,16 +238,16 @@ fn display(at: u32) -> Option<Slot>
 /// Engine A's windows and effects.
 #[tactic(auto, unfolding(crate::specs::Parts::slot_among))]
 fn effects(at: u32) -> Option<Slot>
-    ensures { result ≡ slot_among effect_rows at }
+    ensures { result ≡ slot_among (effect_rows 0 capture_rows) at }
 {
     match at {
-        0x040..=0x047 => in_row(Register::Later, 2, at - 0x040), // WIN0H, WIN1H, WIN0V, WIN1V
-        0x048..=0x04B => in_row(Register::Later, 2, at - 0x048), // WININ, WINOUT
-        0x04C..=0x04D => in_row(Register::Later, 2, at - 0x04C), // MOSAIC
-        0x050..=0x055 => in_row(Register::Later, 2, at - 0x050), // BLDCNT, BLDALPHA, BLDY
+        0x040..=0x047 => halves(0x040, at), // WIN0H, WIN1H, WIN0V, WIN1V
+        0x048..=0x04B => halves(0x048, at), // WININ, WINOUT
+        0x04C..=0x04D => halves(0x04C, at), // MOSAIC
+        0x050..=0x055 => halves(0x050, at), // BLDCNT, BLDALPHA, BLDY
         0x060..=0x063 => in_row(Register::Later, 4, at - 0x060), // DISP3DCNT
-        0x064..=0x067 => in_row(Register::Later, 4, at - 0x064), // DISPCAPCNT
-        0x06C..=0x06D => in_row(Register::Later, 2, at - 0x06C), // MASTER_BRIGHT
+        0x064..=0x067 => words(0x064, at), // DISPCAPCNT
+        0x06C..=0x06D => halves(0x06C, at), // MASTER_BRIGHT
         _ => None,
     }
 }
@@ -281,7 +328,7 @@ fn power(at: u32) -> Option<Slot>
 {
     match at {
         0x300..=0x300 => in_row(Register::Postflg, 1, at - 0x300), // POSTFLG
-        0x304..=0x305 => in_row(Register::Later, 2, at - 0x304), // POWCNT1
+        0x304..=0x305 => halves(0x304, at), // POWCNT1
         _ => None,
     }
 }
@@ -307,16 +354,16 @@ fn geometry(at: u32) -> Option<Slot>
 /// Engine B's backgrounds.
 #[tactic(auto, unfolding(crate::specs::Parts::slot_among))]
 fn second_display(at: u32) -> Option<Slot>
-    ensures { result ≡ slot_among second_display_rows at }
+    ensures { result ≡ slot_among (display_rows 0x1000 []) at }
 {
     match at {
-        0x1000..=0x1003 => in_row(Register::Later, 4, at - 0x1000), // DISPCNT
-        0x1008..=0x100F => in_row(Register::Later, 2, at - 0x1008), // BG0CNT to BG3CNT
-        0x1010..=0x101F => in_row(Register::Later, 2, at - 0x1010), // BG0HOFS, BG0VOFS to BG3HOFS, BG3VOFS
-        0x1020..=0x1027 => in_row(Register::Later, 2, at - 0x1020), // BG2PA, BG2PB, BG2PC, BG2PD
-        0x1028..=0x102F => in_row(Register::Later, 4, at - 0x1028), // BG2X, BG2Y
-        0x1030..=0x1037 => in_row(Register::Later, 2, at - 0x1030), // BG3PA, BG3PB, BG3PC, BG3PD
-        0x1038..=0x103F => in_row(Register::Later, 4, at - 0x1038), // BG3X, BG3Y
+        0x1000..=0x1003 => words(0x1000, at), // DISPCNT
+        0x1008..=0x100F => halves(0x1008, at), // BG0CNT to BG3CNT
+        0x1010..=0x101F => halves(0x1010, at), // BG0HOFS, BG0VOFS to BG3HOFS, BG3VOFS
+        0x1020..=0x1027 => halves(0x1020, at), // BG2PA, BG2PB, BG2PC, BG2PD
+        0x1028..=0x102F => words(0x1028, at), // BG2X, BG2Y
+        0x1030..=0x1037 => halves(0x1030, at), // BG3PA, BG3PB, BG3PC, BG3PD
+        0x1038..=0x103F => words(0x1038, at), // BG3X, BG3Y
         _ => None,
     }
 }
@@ -324,14 +371,14 @@ fn second_display(at: u32) -> Option<Slot>
 /// Engine B's windows and effects.
 #[tactic(auto, unfolding(crate::specs::Parts::slot_among))]
 fn second_effects(at: u32) -> Option<Slot>
-    ensures { result ≡ slot_among second_effect_rows at }
+    ensures { result ≡ slot_among (effect_rows 0x1000 []) at }
 {
     match at {
-        0x1040..=0x1047 => in_row(Register::Later, 2, at - 0x1040), // WIN0H, WIN1H, WIN0V, WIN1V
-        0x1048..=0x104B => in_row(Register::Later, 2, at - 0x1048), // WININ, WINOUT
-        0x104C..=0x104D => in_row(Register::Later, 2, at - 0x104C), // MOSAIC
-        0x1050..=0x1055 => in_row(Register::Later, 2, at - 0x1050), // BLDCNT, BLDALPHA, BLDY
-        0x106C..=0x106D => in_row(Register::Later, 2, at - 0x106C), // MASTER_BRIGHT
+        0x1040..=0x1047 => halves(0x1040, at), // WIN0H, WIN1H, WIN0V, WIN1V
+        0x1048..=0x104B => halves(0x1048, at), // WININ, WINOUT
+        0x104C..=0x104D => halves(0x104C, at), // MOSAIC
+        0x1050..=0x1055 => halves(0x1050, at), // BLDCNT, BLDALPHA, BLDY
+        0x106C..=0x106D => halves(0x106C, at), // MASTER_BRIGHT
         _ => None,
     }
 }
@@ -347,14 +394,12 @@ fn receive(at: u32) -> Option<Slot>
     }
 }
 
-/// ARM7's display status and DMA channels.
+/// ARM7's DMA channels.
 #[tactic(auto, unfolding(crate::specs::Parts::slot_among))]
 fn early_of_seven(at: u32) -> Option<Slot>
     ensures { result ≡ slot_among seven_early_rows at }
 {
     match at {
-        0x004..=0x005 => in_row(Register::Later, 2, at - 0x004), // DISPSTAT
-        0x006..=0x007 => in_row(Register::Later, 2, at - 0x006), // VCOUNT
         0x0B0..=0x0DF => in_three(
             Register::Dmasad,
             Register::Dmadad,
@@ -426,7 +471,8 @@ fn slot_of_seven(at: u32) -> Option<Slot>
     ensures { result ≡ looked_up parts_of_seven at }
 {
     match at {
-        0..=0x0FF => early_of_seven(at),
+        0..=0x0AF => status(at),
+        0x0B0..=0x0FF => early_of_seven(at),
         0x100..=0x1FF => timers_and_ipc_of_seven(at),
         0x200..=0xF_FFFF => controls_of_seven(at),
         0x10_0000..=0x10_0003 => receive(at),

@@ -1,6 +1,6 @@
 //! The units behind the ports, and what each register is.
 
-ghost use Rattle.std.specs.Prelude.{◌≡◌, ◌<◌, ◌≤◌, ◌%◌, ◌^◌, IfOk, IsSome, Some};
+ghost use Rattle.std.specs.Prelude.{◌≡◌, ◌<◌, ◌≤◌, ◌%◌, ◌^◌, IfOk, IsSome, Some, length};
 ghost use Rattle.ds_base.specs.Bits.{bit, flag};
 ghost use Rattle.ds_base.specs.Schedules.{IsEarly};
 ghost use Rattle.ds_dma.specs.States.{dma_due};
@@ -11,12 +11,13 @@ ghost use Rattle.vram_banks.specs.Cells.{vram_written};
 ghost use Rattle.ds_ports.specs.Dues.{IsIo, io_due, first_io_due};
 ghost use Rattle.ds_ports.specs.ProcessorIo.{before_move};
 ghost use Rattle.ds_ports.specs.Registers.{bank_set, card_refusal, division_set, divcnt_word, fifo_control_set, halt_refusal, after_write, meaning_of, processor_io_after, root_set, sqrtcnt_word, sync_set, with_word_of_two, word_of_two, word_received, word_sent};
-ghost use Rattle.ds_ports.specs.Io.{both_raised, channel_moved, channel_put_back, channels_triggered, io_at_boot, io_event, io_of, keys_pressed, timer_overflows, video_done, with_halted, with_io_of};
-ghost use Rattle.ds_ports.specs.Videos.{video_due};
+ghost use Rattle.ds_ports.specs.Io.{both_raised, channel_moved, channel_put_back, channels_shown, channels_triggered, io_at_boot, io_event, io_of, keys_pressed, timer_overflows, video_done, with_halted, with_io_of};
+ghost use Rattle.video2d.specs.Scans.{scan_due};
+ghost use Rattle.video2d.specs.Videos.{video_answer, video_written};
 
+use crate::displays::{display_kept, display_value};
 use crate::processor_io::{Before, ProcessorIo, extkeyin, keyinput};
 use crate::registers::Register;
-use crate::videos::Video;
 use ds_base::{Due, LeftKind, Proc, Raised, Space, Stop, Tick, Width};
 use ds_dma::{Cause, DmaPort};
 use ds_ipc::Ipc;
@@ -24,6 +25,7 @@ use ds_math::{Divider, Root};
 use ds_runs::{Actor, earlier, earlier_than, entry};
 use std::alloc::{AllocError, Global};
 use std::marker::Model;
+use video2d::{Shown, Video};
 use vram_banks::Vram;
 
 /// What WRAMCNT keeps at boot: ARM7 has all of the shared work RAM. (Our choice; GBATEK, "DS Memory Control - WRAM".)
@@ -152,7 +154,7 @@ impl Units {
         ensures { IfOk result (λ io. io ≡ io_at_boot) }
     {
         Ok(Units {
-            video: Video::new(),
+            video: Video::new(alloc)?,
             vram: Vram::new(alloc)?,
             wramcnt: WRAMCNT_AT_BOOT,
             ipc: Ipc::new(alloc)?,
@@ -243,7 +245,7 @@ impl Units {
             Actor::Divider => self.divider.due(),
             Actor::SquareRoot => self.root.due(),
             Actor::Dma { proc, channel } => self.processor_io(proc).channel_due(channel),
-            Actor::Video => Some(Tick(self.video.due())),
+            Actor::Video => Some(self.video.due()),
             Actor::KeyScript | Actor::Geometry | Actor::Card | Actor::Processor(_) => None,
         }
     }
@@ -259,13 +261,13 @@ impl Units {
         first = earlier(self.seven.first_timer(6), first);
         first = earlier(self.nine.first_timer(2), first);
         let video = Due {
-            tick: Tick(self.video.due()),
+            tick: self.video.due(),
             rank: 1,
         };
         earlier_than(video, first)
     }
 
-    /// The event of an actor behind the ports that is due. A DMA channel's is told by `move_channel`.
+    /// The event of an actor behind the ports that is due. The display's is told by `show`, a DMA channel's by `move_channel`.
     pub fn event(&mut self, actor: Actor)
         requires numbered { IsNumbered actor }
         requires due { IsSome (io_due actor self.old) }
@@ -273,27 +275,40 @@ impl Units {
         ensures { self.new ≡ io_event actor self.old }
     {
         match actor {
-            Actor::Video => self.show(),
             Actor::Timer { proc, number } => self.overflow(proc, number),
             Actor::Divider => self.divider.finish(),
             Actor::SquareRoot => self.root.finish(),
-            Actor::KeyScript | Actor::Geometry | Actor::Card => {}
+            Actor::KeyScript | Actor::Video | Actor::Geometry | Actor::Card => {}
             Actor::Dma { .. } | Actor::Processor(_) => {}
         }
     }
 
-    /// The display's event triggers the DMA channels that wait for it, and the display goes on.
-    fn show(&mut self)
-        requires { video_due self.old.video ≤ 2 ^ 56 }
-        ensures { self.new ≡ video_done self.old }
+    /// The display's event, with the memories of palettes and of objects: it raises interrupts, and triggers the channels that wait for it. Where
+    /// it stops, nothing changes.
+    pub fn show(&mut self, palette: &[u8], oam: &[u8]) -> Result<Shown, Stop>
+        requires colours { length palette.now ≡ 2048 }
+        requires objects { length oam.now ≡ 2048 }
+        requires early { scan_due self.old.video.scan ≤ 2 ^ 56 }
+        ensures answer { result ≡ video_answer oam.now self.old.video }
+        ensures state { self.new ≡ video_done palette.now oam.now self.old }
     {
-        let now = Tick(self.video.due());
-        if self.video.makes_whole() {
+        let now = self.video.due();
+        let shown = self.video.event(&self.vram, palette, oam)?;
+        self.raise(shown.raised);
+        self.trigger_shown(shown, now);
+        Ok(shown)
+    }
+
+    /// An event of the display triggers the channels that wait for it.
+    fn trigger_shown(&mut self, shown: Shown, now: Tick)
+        requires { IsEarly (Some now) }
+        ensures { self.new ≡ channels_shown shown now self.old }
+    {
+        if shown.vblank {
             self.trigger(Cause::VBlank, now);
-        } else if self.video.blanks_drawn() {
+        } else if shown.hblank {
             self.trigger(Cause::HBlank, now);
         }
-        self.video.event();
     }
 
     /// An event triggers the channels of both processors that wait for it.
@@ -367,6 +382,8 @@ impl Units {
         ensures { result ≡ (meaning_of register).value proc now self.now number }
     {
         match register {
+            Register::DisplayHalf => display_value(&self.video, proc, Width::Half, number),
+            Register::DisplayWord => display_value(&self.video, proc, Width::Word, number),
             Register::Dmasad => self.processor_io(proc).channel(DmaPort::Source, number),
             Register::Dmadad => self.processor_io(proc).channel(DmaPort::Target, number),
             Register::Dmacnt => self.processor_io(proc).channel(DmaPort::Control, number),
@@ -421,6 +438,8 @@ impl Units {
         ensures { result ≡ (meaning_of register).kept proc self.now number }
     {
         match register {
+            Register::DisplayHalf => display_kept(&self.video, proc, Width::Half, number),
+            Register::DisplayWord => display_kept(&self.video, proc, Width::Word, number),
             Register::Dmasad => self.processor_io(proc).channel(DmaPort::Source, number),
             Register::Dmadad => self.processor_io(proc).channel(DmaPort::Target, number),
             Register::Dmacnt => self.processor_io(proc).channel(DmaPort::Control, number),
@@ -572,6 +591,8 @@ impl Units {
             | Register::Ie
             | Register::If
             | Register::Haltcnt => self.write_processor_io(proc, now, register, number, value),
+            Register::DisplayHalf => self.video.port_write(proc, number, Width::Half, value),
+            Register::DisplayWord => self.video.port_write(proc, number, Width::Word, value),
             Register::Dmafill => self.fill[number as usize] = value,
             Register::Ipcsync => self.set_sync(proc, value),
             Register::Ipcfifocnt => self.set_fifo_control(proc, value),

@@ -1,6 +1,7 @@
 //! Each rule of the ports on worked rows, from GBATEK.
 
 mod controls;
+mod display;
 mod dma;
 mod dues;
 mod interrupts;

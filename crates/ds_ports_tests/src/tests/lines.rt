@@ -30,8 +30,12 @@ pub enum Line {
     Takes(Proc, u32, Width, u32),
     /// From now on these keys are pressed, a bit each.
     Press(u16),
-    /// So many events of the display, each when it is due.
+    /// So many events of the display, each when it is due; none stops.
     Shows(u32),
+    /// The display's event stops with this kind and value.
+    Stops(LeftKind, u32),
+    /// The byte that a port of the display keeps, whether it reads or not.
+    Keeps(Proc, u32, u8),
     /// A processor halts.
     Halt(Proc),
     /// A halted processor goes on.
@@ -73,6 +77,9 @@ pub enum Line {
 /// The due tick of what isn't due.
 pub const NEVER: u64 = u64::MAX;
 
+/// Palettes, or objects, of zeros.
+const BLANK: [u8; 2048] = [0; 2048];
+
 /// What a line shows: three numbers, as its kind has them.
 type Seen = (u64, u64, u64);
 
@@ -100,6 +107,7 @@ fn told(kind: LeftKind, value: u32) -> Seen {
         LeftKind::HaltMode => 2,
         LeftKind::DmaStart => 3,
         LeftKind::CardTransfer => 4,
+        LeftKind::DisplayMode => 6,
         _ => 5,
     };
     (kind, value.into(), 0)
@@ -173,12 +181,27 @@ impl Bench {
         }
     }
 
-    /// So many events of the display.
-    fn show(&mut self, events: u32) -> Seen {
-        for _ in 0..events {
-            let _ = self.event(Actor::Video);
+    /// The display's event, where it is due at an early tick: why it stops, if it does.
+    fn show(&mut self) -> Seen {
+        match self.io.io_due(Actor::Video) {
+            Some(due) if due.0 <= 1 << 56 => match self.io.show(&BLANK, &BLANK) {
+                Ok(_) => DONE,
+                Err(Stop { kind, value }) => told(kind, value),
+            },
+            _ => NOTHING,
         }
-        DONE
+    }
+
+    /// So many events of the display.
+    fn show_all(&mut self, events: u32) -> Seen {
+        let mut seen = DONE;
+        for _ in 0..events {
+            let one = self.show();
+            if one != DONE {
+                seen = one;
+            }
+        }
+        seen
     }
 
     /// A processor's channel moves a unit when it is due, if it is.
@@ -217,7 +240,8 @@ impl Bench {
             Line::RootDue(tick) => { (tick_of(self.io.io_due(Actor::SquareRoot)), (tick, 0, 0)) }
             Line::First(tick, rank) => (self.first(), (tick, rank.into(), 0)),
             Line::NoneDue => (self.first(), FIRST_BLANK),
-            Line::Shows(events) => (self.show(events), DONE),
+            Line::Shows(events) => (self.show_all(events), DONE),
+            Line::Stops(kind, value) => (self.show(), told(kind, value)),
             Line::Overflows(proc, number) => {
                 let number = number % 4;
                 (self.event(Actor::Timer { proc, number }), DONE)
@@ -281,6 +305,10 @@ impl Bench {
             Line::Vram(space, at, value) => (
                 (self.io.vram().read(space, at, Width::Word).into(), 0, 0),
                 (value.into(), 0, 0),
+            ),
+            Line::Keeps(proc, at, byte) => (
+                (self.io.video().kept_byte(proc, at).into(), 0, 0),
+                (byte.into(), 0, 0),
             ),
             Line::Wramcnt(value) => ((self.io.wramcnt().into(), 0, 0), (value.into(), 0, 0)),
             _ => self.behind(line),

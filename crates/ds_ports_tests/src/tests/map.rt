@@ -2,9 +2,10 @@
 
 use Proc::{Nine, Seven};
 use Register::{
-    DivDenom, DivNumer, DivResult, Divcnt, DivremResult, Dmacnt, Dmadad, Dmafill, Dmasad, Extkeyin,
-    Haltcnt, Ie, If, Ime, Ipcfifocnt, Ipcfiforecv, Ipcfifosend, Ipcsync, Keycnt, Keyinput, Postflg,
-    Romctrl, SqrtParam, SqrtResult, Sqrtcnt, TmcntH, TmcntL, Vramcnt, Vramstat, Wramcnt, Wramstat,
+    DisplayHalf, DisplayWord, DivDenom, DivNumer, DivResult, Divcnt, DivremResult, Dmacnt, Dmadad,
+    Dmafill, Dmasad, Extkeyin, Haltcnt, Ie, If, Ime, Ipcfifocnt, Ipcfiforecv, Ipcfifosend, Ipcsync,
+    Keycnt, Keyinput, Postflg, Romctrl, SqrtParam, SqrtResult, Sqrtcnt, TmcntH, TmcntL, Vramcnt,
+    Vramstat, Wramcnt, Wramstat,
 };
 use ds_base::Proc;
 use ds_ports::{Register, port_is_built, slot_of};
@@ -134,23 +135,64 @@ fn each_control_stands_where_the_list_has_it(rt: HostRuntime) {
     );
 }
 
+/// Both engines have the same registers, but for engine A's display capture and the 3D engine's control; ARM7 has the display's status alone.
+#[test]
+fn each_register_of_the_display_stands_at_its_offset(rt: HostRuntime) {
+    try_lines(
+        &rt,
+        &[
+            Slot(Nine, 0x000, DisplayWord, 0x000),
+            Slot(Nine, 0x003, DisplayWord, 0x000),
+            Slot(Nine, 0x004, DisplayHalf, 0x004),
+            Slot(Nine, 0x007, DisplayHalf, 0x006),
+            Slot(Nine, 0x009, DisplayHalf, 0x008),
+            Slot(Nine, 0x01E, DisplayHalf, 0x01E),
+            Slot(Nine, 0x026, DisplayHalf, 0x026),
+            Slot(Nine, 0x02B, DisplayWord, 0x028),
+            Slot(Nine, 0x02C, DisplayWord, 0x02C),
+            Slot(Nine, 0x03F, DisplayWord, 0x03C),
+            Slot(Nine, 0x040, DisplayHalf, 0x040),
+            Slot(Nine, 0x04D, DisplayHalf, 0x04C),
+            No(Nine, 0x04E),
+            Slot(Nine, 0x050, DisplayHalf, 0x050),
+            Slot(Nine, 0x055, DisplayHalf, 0x054),
+            No(Nine, 0x056),
+            Slot(Nine, 0x064, DisplayWord, 0x064),
+            No(Nine, 0x068),
+            Slot(Nine, 0x06D, DisplayHalf, 0x06C),
+            No(Nine, 0x06E),
+            Slot(Nine, 0x304, DisplayHalf, 0x304),
+            No(Nine, 0x306),
+            Slot(Nine, 0x1003, DisplayWord, 0x1000),
+            No(Nine, 0x1004),
+            No(Nine, 0x1007),
+            Slot(Nine, 0x1008, DisplayHalf, 0x1008),
+            Slot(Nine, 0x1028, DisplayWord, 0x1028),
+            Slot(Nine, 0x1055, DisplayHalf, 0x1054),
+            No(Nine, 0x1060),
+            No(Nine, 0x1064),
+            Slot(Nine, 0x106C, DisplayHalf, 0x106C),
+            No(Nine, 0x106E),
+            No(Seven, 0x003),
+            Slot(Seven, 0x005, DisplayHalf, 0x004),
+            Slot(Seven, 0x006, DisplayHalf, 0x006),
+            No(Seven, 0x008),
+            No(Seven, 0x304),
+            No(Seven, 0x1000),
+        ],
+    );
+}
+
 /// The first and the last byte of what stands side by side, and the offsets before and after that aren't ports.
 #[test]
 fn ports_to_come_are_told_byte_by_byte(rt: HostRuntime) {
     try_lines(
         &rt,
         &[
-            ToCome(Nine, 0x000, 0x055),
-            ToCome(Nine, 0x060, 0x067),
-            ToCome(Nine, 0x06C, 0x06D),
-            ToCome(Nine, 0x304, 0x305),
+            ToCome(Nine, 0x060, 0x063),
             ToCome(Nine, 0x400, 0x607),
             ToCome(Nine, 0x620, 0x635),
             ToCome(Nine, 0x640, 0x6A3),
-            ToCome(Nine, 0x1000, 0x1003),
-            ToCome(Nine, 0x1008, 0x1055),
-            ToCome(Nine, 0x106C, 0x106D),
-            ToCome(Seven, 0x004, 0x007),
         ],
     );
 }
@@ -161,13 +203,14 @@ fn rows_of_the_map_have_their_registers(rt: HostRuntime) {
     try_lines(
         &rt,
         &[
-            Part(Nine, 0x00E, 3, 0),
-            Part(Nine, 0x01F, 7, 1),
-            Part(Nine, 0x02E, 1, 2),
-            Part(Nine, 0x036, 3, 0),
-            Part(Nine, 0x046, 3, 0),
-            Part(Nine, 0x04B, 1, 1),
-            Part(Nine, 0x054, 2, 0),
+            // those of the display are numbered by their offset
+            Part(Nine, 0x00E, 0x00E, 0),
+            Part(Nine, 0x01F, 0x01E, 1),
+            Part(Nine, 0x02E, 0x02C, 2),
+            Part(Nine, 0x036, 0x036, 0),
+            Part(Nine, 0x046, 0x046, 0),
+            Part(Nine, 0x04B, 0x04A, 1),
+            Part(Nine, 0x054, 0x054, 0),
             Part(Nine, 0x0DE, 3, 2),
             Part(Nine, 0x0EC, 3, 0),
             Part(Nine, 0x10E, 3, 0),
@@ -179,8 +222,8 @@ fn rows_of_the_map_have_their_registers(rt: HostRuntime) {
             Part(Nine, 0x634, 2, 0),
             Part(Nine, 0x67C, 15, 0),
             Part(Nine, 0x6A0, 8, 0),
-            Part(Nine, 0x100E, 3, 0),
-            Part(Nine, 0x1054, 2, 0),
+            Part(Nine, 0x100E, 0x100E, 0),
+            Part(Nine, 0x1054, 0x1054, 0),
         ],
     );
 }

@@ -1,0 +1,46 @@
+use Rattle.std.proofs.Common.{ℕ, ◌≡◌, ◌+◌, ◌/◌, ◌%◌, ◌==◌, Bool, true, false, if◌then◌else◌, List, Option, Some, None, refl, ◌∙◌, ap}
+use Rattle.ds_base.specs.Numbers.{aligned_down}
+use Rattle.ds_base.specs.declared.memories.Width.{Width}
+use Rattle.ds_base.specs.declared.memories.Width.TheVariants.{Byte, Half, Word}
+use Rattle.ds_base.specs.declared.processors.Proc.{Proc}
+use Rattle.ds_base.specs.declared.processors.Proc.TheVariants.{Nine, Seven}
+use Rattle.video2d.specs.Engines.{EngineState}
+use Rattle.video2d.specs.Ports.{video_port}
+use Rattle.video2d.specs.Scans.{ScanState}
+use Rattle.video2d.specs.Videos.{VideoState, video_byte_written, video_byte_written_by, video_written, with_engine}
+use Rattle.video2d.specs.declared.ports.VideoPort.{VideoPort}
+use Rattle.video2d.specs.declared.ports.VideoPort.TheVariants.{Status, Count, Engine, Power, Nothing}
+
+-- Accesses of the display's ports leave it where it is, and its last whole frame.
+
+abbrev left_of : VideoState → ScanState × List ℕ
+left_of v = (v.scan, v.whole)
+
+engine_leaves : (which : ℕ) (v : VideoState) (e : EngineState) → left_of (with_engine which v e) ≡ left_of v
+engine_leaves which v e = go (which == 0) where
+  go : (b : Bool) → left_of (if b then record v { a = e } else record v { b = e }) ≡ left_of v
+  go true = refl
+  go false = refl
+
+port_leaves : (port : VideoPort) (proc : Proc) (v : VideoState) (value : ℕ) → left_of (video_byte_written_by port proc v value) ≡ left_of v
+port_leaves (Status byte) Nine v value = refl
+port_leaves (Status byte) Seven v value = refl
+port_leaves (Count byte) proc v value = refl
+port_leaves (Engine which at) proc v value = engine_leaves which v _
+port_leaves (Power byte) proc v value = refl
+port_leaves Nothing proc v value = refl
+
+byte_leaves : (proc : Proc) (at value : ℕ) (v : VideoState) → left_of (video_byte_written proc at value v) ≡ left_of v
+unfolding video_byte_written
+byte_leaves proc at value v = port_leaves (video_port proc at) proc v value
+
+written_leaves : (proc : Proc) (v : VideoState) (at : ℕ) (width : Width) (value : ℕ) → left_of (video_written proc v at width value) ≡ left_of v
+written_leaves proc v at Byte value = byte_leaves proc _ _ v
+written_leaves proc v at Half value = byte_leaves proc _ _ _ ∙ byte_leaves proc _ _ v
+written_leaves proc v at Word value = byte_leaves proc _ _ _ ∙ byte_leaves proc _ _ _ ∙ byte_leaves proc _ _ _ ∙ byte_leaves proc _ _ v
+
+pub written_scan : (proc : Proc) (v : VideoState) (at : ℕ) (width : Width) (value : ℕ) → (video_written proc v at width value).scan ≡ v.scan
+written_scan proc v at width value = ap (λ (left : ScanState × List ℕ). left.0) (written_leaves proc v at width value)
+
+pub written_whole : (proc : Proc) (v : VideoState) (at : ℕ) (width : Width) (value : ℕ) → (video_written proc v at width value).whole ≡ v.whole
+written_whole proc v at width value = ap (λ (left : ScanState × List ℕ). left.1) (written_leaves proc v at width value)

@@ -1,4 +1,4 @@
-use Rattle.std.proofs.Common.{ℕ, ◌≡◌, List, [], ◌∷◌, Option, Some, None, refl, ap}
+use Rattle.std.proofs.Common.{ℕ, ◌≡◌, List, [], ◌∷◌, Option, Some, None, Result, Ok, Err, refl, ap}
 use Rattle.ds_base.specs.declared.keys.KeyLine.{KeyLine}
 use Rattle.ds_base.specs.declared.left_out.LeftOut.{LeftOut}
 use Rattle.ds_base.specs.declared.left_out.Stop.{Stop}
@@ -10,11 +10,14 @@ use Rattle.ds_dma.specs.declared.channels.Unit.{Unit as DmaUnit}
 use Rattle.ds_map.specs.Moves.{next_unit, unit_moved, unit_needs, unit_refusal}
 use Rattle.ds_ports.specs.Dues.{io_due}
 use Rattle.ds_runs.specs.Runs.{MachineStep, Makes}
-use Rattle.ds_runs.specs.declared.actors.Actor.TheVariants.{KeyScript, Dma, Processor}
-use Rattle.ds_machine.specs.Apart.{LeaveNine, LeaveSeven, NinePart, step_with, with_nine_part, with_seven_part}
+use Rattle.ds_runs.specs.declared.actors.Actor.TheVariants.{KeyScript, Video, Dma, Processor}
+use Rattle.ds_machine.specs.Apart.{DisplayLeavesNine, LeaveNine, LeaveSeven, NinePart, ShowLeaves, step_with, with_nine_part, with_seven_part}
 use Rattle.ds_machine.specs.Channels.{channel_step, moved_by, moved_unless}
-use Rattle.ds_machine.specs.Reference.{Shown, after_line}
-use Rattle.ds_machine.specs.States.{MachineState, SevenState}
+use Rattle.ds_machine.specs.Reference.{Shown, after_line, video_step}
+use Rattle.ds_machine.specs.States.{MachineState, NineState, SevenState}
+use Rattle.video2d.specs.Videos.{video_answer}
+use Rattle.video2d.specs.declared.videos.Shown as display
+use Rattle.ds_machine.specs.Statuses.{left_by}
 use Rattle.ds_machine.specs.Steps.{machine_concluded, map_of, outcome_of, tick_of, with_map}
 
 -- An actor's step leaves the own part of a processor alone that it doesn't reach: by computing, once it is known which step it is.
@@ -47,6 +50,7 @@ nine_channel rank None own s = refl
 nine_channel rank (Some now) own s = nine_unless rank now (unit_needs Seven s.io.wramcnt (next_unit s.io Seven)) (next_unit s.io Seven) own s
 
 pub leave_nine : LeaveNine
+leave_nine rank Video own s apart = absurd (apart refl)
 leave_nine rank KeyScript own s apart = ap (λ (m : MachineState). (let step : MachineStep MachineState Shown LeftOut = Makes m [] in step)) (nine_line own s s.keys)
 leave_nine rank (Dma Nine channel) own s apart = absurd (apart refl)
 leave_nine rank (Dma Seven channel) own s apart = nine_channel rank (io_due (Dma Seven channel) s.io) own s
@@ -82,7 +86,13 @@ seven_channel : (rank : ℕ) (due : Option Tick) (own : SevenState) (s : Machine
 seven_channel rank None own s = refl
 seven_channel rank (Some now) own s = seven_unless rank now (unit_needs Nine s.io.wramcnt (next_unit s.io Nine)) (next_unit s.io Nine) own s
 
+seven_video : (rank : ℕ) (answer : Result display.Shown Stop) (own : SevenState) (s : MachineState)
+    → video_step rank answer (with_seven_part own s) ≡ step_with (with_seven_part own) (video_step rank answer s)
+seven_video rank (Ok shown) own s = refl
+seven_video rank (Err stop) own s = refl
+
 pub leave_seven : LeaveSeven
+leave_seven rank Video own s apart = seven_video rank (video_answer s.oam s.io.video) own s
 leave_seven rank KeyScript own s apart = ap (λ (m : MachineState). (let step : MachineStep MachineState Shown LeftOut = Makes m [] in step)) (seven_line own s s.keys)
 leave_seven rank (Dma Seven channel) own s apart = absurd (apart refl)
 leave_seven rank (Dma Nine channel) own s apart = seven_channel rank (io_due (Dma Nine channel) s.io) own s
@@ -90,3 +100,20 @@ leave_seven rank (Processor Seven) own s apart = absurd (apart refl)
 leave_seven rank (Processor Nine) own s apart =
     let o = outcome_of Nine (tick_of s.nine.processor) s in seven_concluded rank own o.machine o.stepped
 leave_seven rank a own s apart = refl
+
+-- ---- the display
+
+show_same : (rank : ℕ) (answer : Result display.Shown Stop) (own : NineState) (s : MachineState)
+    → video_step rank answer (record s { nine = own }) ≡ step_with (λ m. record m { nine = own }) (video_step rank answer s)
+show_same rank (Ok shown) own s = refl
+show_same rank (Err stop) own s = refl
+
+show_nine : (rank : ℕ) (answer : Result display.Shown Stop) (s : MachineState)
+    → (let left = left_by (video_step rank answer s) in (left.nine ≡ s.nine) × (left.palette ≡ s.palette) × (left.oam ≡ s.oam))
+show_nine rank (Ok shown) s = (refl, refl, refl)
+show_nine rank (Err stop) s = (refl, refl, refl)
+
+pub display_leaves_nine : DisplayLeavesNine
+display_leaves_nine rank own s =
+    let k = show_nine rank (video_answer s.oam s.io.video) s in
+    record { same = show_same rank (video_answer s.oam s.io.video) own s; nine = k.0; palette = k.1; oam = k.2 }

@@ -1,4 +1,5 @@
-use Rattle.std.proofs.Common.{ℕ, zero, suc, ◌≡◌, ◌<◌, ◌+◌, List, [], ◌∷◌, take, refl, sym, ◌∙◌, ap, subst, arith}
+use Rattle.std.proofs.Common.{ℕ, zero, suc, ◌≡◌, ◌<◌, ◌≤◌, ◌+◌, inl, inr, false, List, [], ◌∷◌, length, take, refl, sym, ◌∙◌, ap, subst, arith}
+use Rattle.std.specs.Prelude.{◌&&◌}
 use Rattle.ds_base.specs.KeyLines.{AreKeyLines}
 use Rattle.ds_base.specs.Schedules.{IsLater}
 use Rattle.ds_base.specs.declared.keys.KeyLine.{KeyLine}
@@ -9,18 +10,21 @@ use Rattle.ds_base.specs.declared.ticks.Tick.{Tick}
 use Rattle.ds_dma.specs.Channels.{IsChannel, channel_at_boot}
 use Rattle.ds_dma.specs.States.{AreReadyLater, IsDma, channel_at, dma_at_boot}
 use Rattle.ds_header.specs.Fields.{image_of, image_place}
+use Rattle.ds_header.specs.Rules.{ImageLies}
 use Rattle.ds_ipc.specs.Ipcs.{other_proc}
 use Rattle.ds_map.proofs.Later.{map_write_goes}
 use Rattle.ds_ports.specs.Dues.{IsProcessorIo, IsQuiet}
 use Rattle.ds_ports.specs.ProcessorIo.{processor_io_at_boot}
 use Rattle.ds_ports.specs.Io.{IoState, io_at_boot, io_of}
 use Rattle.ds_ports.proofs.Later.{unchanged_is, unchanged_quiet, of_both}
+use Rattle.ds_timers.specs.Irqs.{shares_bit}
 use Rattle.ds_timers.specs.Timing.{AreTimers, IsTimer, timer_at, timer_due, timers_at_boot}
 use Rattle.ds_machine.specs.Booted.{header_bytes, header_place, machine_blank, machine_booted, with_image}
 use Rattle.ds_machine.specs.Boots.{copied, stored}
-use Rattle.ds_machine.specs.Reference.{CountsWithin, HasCounted, IsSound}
+use Rattle.ds_machine.specs.Reference.{AreAsleep, CountsWithin, HasCounted, HasSoundParts}
 use Rattle.ds_machine.specs.States.{MachineState, ProcessorState, counts_of}
-use Rattle.ds_machine.specs.Steps.{map_of}
+use Rattle.ds_machine.specs.Steps.{map_of, processor_of}
+use Rattle.ds_machine.proofs.RamAccesses.{ram_write_io}
 
 -- The machine is sound at boot.
 
@@ -139,7 +143,7 @@ blank_ready = record { is = is; quiet = quiet } where
   quiet Nine = quiet_boots Nine
   quiet Seven = quiet_boots Seven
 
-pub sound_booted : (file : List ℕ) (keys : List KeyLine) → AreKeyLines keys → IsSound (machine_booted file keys)
+pub sound_booted : (file : List ℕ) (keys : List KeyLine) → AreKeyLines keys → HasSoundParts (machine_booted file keys)
 sound_booted file keys are =
     let blank = machine_blank file keys in
     let nine = with_image Nine blank file in
@@ -149,18 +153,54 @@ sound_booted file keys are =
     (copied_ready Seven nine (image_place file Seven) (image_of file Seven) (copied_ready Nine blank (image_place file Nine) (image_of file Nine) blank_ready)) in
     record { io = record { nine = r.is Nine; seven = r.is Seven }; keys = subst AreKeyLines (sym (booted_stays file keys).keys) are }
 
--- no step was taken
+-- ---- images go to RAM, and leave the units
+
+pub copied_io : (proc : Proc) (s : MachineState) (at : ℕ) (bytes : List ℕ) → 0x02000000 ≤ at → at + length bytes ≤ 0x04000000 → (copied proc s at bytes).io ≡ s.io
+copied_io proc s at [] low high = refl
+copied_io proc s at (byte ∷ rest) low high =
+    copied_io proc (stored proc s at byte) (at + 1) rest (omega (arith, low)) (omega (arith, high))
+    ∙ ram_write_io proc start (map_of proc s) at Byte byte low (omega (arith, high))
+
+-- where an accepted image lies
+pub image_lies : (proc : Proc) (at count : ℕ) → ImageLies proc at count → (0x02000000 ≤ at) × (at + count ≤ 0x04000000)
+image_lies Nine at count is = let low = is.first in let high = is.whole in (omega (arith, low), omega (arith, high))
+image_lies Seven at count (inl is) = let low = is.first in let high = is.whole in (omega (arith, low), omega (arith, high))
+image_lies Seven at count (inr is) = let low = is.first in let high = is.whole in (omega (arith, low), omega (arith, high))
+
+-- ---- no step was taken
+
+none_steps : (file : List ℕ) (keys : List KeyLine) (proc : Proc) → (processor_of (machine_booted file keys) proc).steps ≡ 0
+none_steps file keys Nine = ap (λ (p : ProcessorState). p.steps) (booted_stays file keys).nine
+none_steps file keys Seven = ap (λ (p : ProcessorState). p.steps) (booted_stays file keys).seven
+
+none_events : (file : List ℕ) (keys : List KeyLine) → (machine_booted file keys).events ≡ 0
+none_events file keys = (booted_stays file keys).events
 
 pub none_booted : (file : List ℕ) (keys : List KeyLine) → counts_of (machine_booted file keys) ≡ 0
 none_booted file keys =
-    let stays = booted_stays file keys in
-    let nine = ap (λ (p : ProcessorState). p.steps) stays.nine in
-    let seven = ap (λ (p : ProcessorState). p.steps) stays.seven in
-    let events = stays.events in
+    let nine = none_steps file keys Nine in
+    let seven = none_steps file keys Seven in
+    let events = none_events file keys in
     omega (arith, nine, seven, events)
 
 pub counted_booted : (file : List ℕ) (keys : List KeyLine) → HasCounted (machine_booted file keys)
-counted_booted file keys = λ rank tick due. (let none = none_booted file keys in omega (arith, none))
+counted_booted file keys =
+    let events = none_events file keys in
+    record {
+      own = λ proc free. (let none = none_steps file keys proc in omega (arith, none));
+      fenced = λ proc rank tick due f. (let none = none_steps file keys proc in omega (arith, none));
+      halted = λ proc rank tick is due. (let none = none_steps file keys proc in omega (arith, none));
+      events = λ rank tick due. omega (arith, events);
+    }
 
 pub within_booted : (file : List ℕ) (keys : List KeyLine) → CountsWithin 0 (machine_booted file keys)
-within_booted file keys = let none = none_booted file keys in omega (arith, none)
+within_booted file keys =
+    let events = none_events file keys in
+    record { steps = λ proc. (let none = none_steps file keys proc in omega (arith, none)); events = omega (arith, events) }
+
+-- a machine whose units are as at boot is asleep
+pub asleep_booted : (s : MachineState) → s.io ≡ io_at_boot → AreAsleep s
+asleep_booted s e proc = ap (λ (u : IoState). (io_of u proc).halted && shares_bit (io_of u proc).irq) e ∙ at_boot proc where
+  at_boot : (proc : Proc) → ((io_of io_at_boot proc).halted && shares_bit (io_of io_at_boot proc).irq) ≡ false
+  at_boot Nine = refl
+  at_boot Seven = refl

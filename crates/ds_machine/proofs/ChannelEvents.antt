@@ -25,17 +25,18 @@ use Rattle.ds_runs.specs.declared.actors.Actor.TheVariants.{Dma, Timer}
 use Rattle.ds_runs.proofs.RunLaws.{same_makes, same_stops, not_both}
 use Rattle.ds_timers.specs.Timing.{TimerState, timer_at, timer_due}
 use Rattle.ds_machine.specs.Channels.{channel_step, delayed_past, moved_by, moved_unless, one_event}
-use Rattle.ds_machine.specs.Reference.{IsSound, Shown, due_unless, processor_due}
+use Rattle.ds_machine.specs.Reference.{HasSoundParts, Shown, due_unless, processor_due}
 use Rattle.ds_machine.specs.States.{MachineState, ProcessorState, counts_of}
 use Rattle.ds_machine.specs.Steps.{is_blocked, map_of, processor_of, with_map, with_processor}
 use Rattle.ds_machine.proofs.Moves.{Moves, later_unless, left_after, unchanged_io_dues, unchanged_blocked, unchanged_io, moves_of, same_keys, then_io_dues}
 use Rattle.ds_machine.proofs.Wakes.{put_beside, put_counts, put_other, put_processor_io}
+use Rattle.video2d.specs.Videos.{VideoState}
 
 -- The event of a DMA channel.
 
 -- ---- the machine with what a processor left of its map, and with another event
 
-map_processor : (of : Proc) (s : MachineState) (map : MapState) (proc : Proc) → processor_of (with_map of s map) proc ≡ processor_of s proc
+pub map_processor : (of : Proc) (s : MachineState) (map : MapState) (proc : Proc) → processor_of (with_map of s map) proc ≡ processor_of s proc
 map_processor of s map Nine = refl
 map_processor of s map Seven = refl
 
@@ -115,12 +116,12 @@ read_moves tick proc unit s =
     moves_of tick s (with_map proc s (unit_read proc unit (map_of proc s))) (inl refl) (unchanged_io_dues tick s.io (unit_read proc unit (map_of proc s)).io left)
     (λ each. inl (left_due proc s (unit_read proc unit (map_of proc s)) each (left.processor_io each)))
 
-pub read_sound : (proc : Proc) (unit : DmaUnit) (s : MachineState) → IsSound s → IsSound (with_map proc s (unit_read proc unit (map_of proc s)))
+pub read_sound : (proc : Proc) (unit : DmaUnit) (s : MachineState) → HasSoundParts s → HasSoundParts (with_map proc s (unit_read proc unit (map_of proc s)))
 read_sound proc unit s sound = record { io = unchanged_io s.io (unit_read proc unit (map_of proc s)).io sound.io (read_unchanged proc unit s); keys = sound.keys }
 
 -- ---- where it moves its unit
 
-module _ (proc : Proc) (channel : ℕ) (now : Tick) (unit : DmaUnit) (s : MachineState) (sound : IsSound s) (lt : channel < 4)
+module _ (proc : Proc) (channel : ℕ) (now : Tick) (unit : DmaUnit) (s : MachineState) (sound : HasSoundParts s) (lt : channel < 4)
     (due : io_due (Dma proc channel) s.io ≡ Some now)
     (timers : (which : ℕ) → which < 4 → IsLater now (io_due (Timer proc which) s.io)) where
   abbrev read : IoState
@@ -178,7 +179,18 @@ module _ (proc : Proc) (channel : ℕ) (now : Tick) (unit : DmaUnit) (s : Machin
       (later_unless now (is_blocked m proc) past (omega (arith, le-max_right (processor_of m proc).due (now.0 + 1))))))
       (inl (event_due (with_processor proc m past) (other_proc proc) ∙ put_other proc m past ∙ left_due proc s written (other_proc proc) other)))
 
-  pub unit_sound : IsSound (machine_after_unit proc now unit s)
+  -- the other processor's own, and the display, are as before
+  pub unit_other : IsUnchanged (io_of s.io (other_proc proc)) (io_of (machine_after_unit proc now unit s).io (other_proc proc))
+  unit_other =
+      let b = put_beside proc (with_map proc s written) past in
+      subst (λ (u : IoState). IsUnchanged (io_of s.io (other_proc proc)) (io_of u (other_proc proc))) (sym b.io) other
+
+  pub unit_video : (machine_after_unit proc now unit s).io.video.scan ≡ s.io.video.scan
+  unit_video =
+      let b = put_beside proc (with_map proc s written) past in
+      ap (λ (u : IoState). u.video.scan) b.io ∙ goes.scan ∙ ap (λ (v : VideoState). v.scan) moves.video ∙ left.scan
+
+  pub unit_sound : HasSoundParts (machine_after_unit proc now unit s)
   unit_sound =
       let b = put_beside proc (with_map proc s written) past in
       record { io = subst IsIo (sym b.io) io; keys = subst AreKeyLines (sym b.keys) sound.keys }
@@ -189,3 +201,9 @@ module _ (proc : Proc) (channel : ℕ) (now : Tick) (unit : DmaUnit) (s : Machin
       let b = put_beside proc (with_map proc s written) past in
       subst (λ (u : IoState). IsLater now (io_due (Dma proc channel) u)) (sym b.io)
       (still_later now None (channel_due (io_of written.io proc).dma channel) tt (all_later now (io_of written.io proc).dma None goes.quiet.dma channel lt))
+
+  -- the display's last whole frame is as it was
+  pub unit_whole : (machine_after_unit proc now unit s).io.video.whole ≡ s.io.video.whole
+  unit_whole =
+      let b = put_beside proc (with_map proc s written) past in
+      ap (λ (u : IoState). u.video.whole) b.io ∙ goes.whole ∙ ap (λ (v : VideoState). v.whole) moves.video ∙ left.whole

@@ -5,7 +5,7 @@ use Rattle.ds_base.specs.declared.processors.Proc.{Proc}
 use Rattle.ds_base.specs.declared.processors.Proc.TheVariants.{Nine, Seven}
 use Rattle.ds_base.specs.declared.ticks.Due.{Due}
 use Rattle.ds_base.specs.declared.ticks.Tick.{Tick}
-use Rattle.ds_ports.specs.Videos.{video_due}
+use Rattle.video2d.specs.Scans.{scan_due_tick}
 use Rattle.ds_runs.specs.Actors.{actor_of}
 use Rattle.ds_runs.specs.Order.{due_with_rank, earlier, first_from}
 use Rattle.ds_runs.specs.Runs.{IsLeast, MachineStep, due_at}
@@ -33,6 +33,10 @@ due_of_rank s rank lt = due_of_actor (λ (a : actor.Actor). due_by a s) rank lt
 pub low_rank : (s : MachineState) (rank : ℕ) (tick : Tick) → due_at (dues_of s) rank ≡ Some tick → rank < 24
 low_rank s rank tick h = let k = within (dues_of s) rank tick h in let e = entries_are s in omega (arith, k, e)
 
+-- the last two ranks are the processors'
+pub sort_rank : (rank : ℕ) → rank < 24 → (rank < 22) ⊎ ((rank ≡ 22) ⊎ (rank ≡ 23))
+sort_rank rank lt = grind (arith, lt)
+
 -- the list by its parts: all actors but the processors, and the processors
 pub dues_split : (s : MachineState) → dues_of s ≡ events_of s ++ processor_due s Nine ∷ processor_due s Seven ∷ []
 unfolding dues_of
@@ -56,7 +60,7 @@ first_found s first h =
     first_is_least (dues_of s) first all
 
 -- the display is always due
-pub somebody_is : (s : MachineState) → due_at (dues_of s) 1 ≡ Some (record { 0 = video_due s.io.video })
+pub somebody_is : (s : MachineState) → due_at (dues_of s) 1 ≡ Some (scan_due_tick s.io.video.scan)
 unfolding dues_of
 somebody_is s = refl
 

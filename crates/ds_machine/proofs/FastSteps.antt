@@ -8,6 +8,7 @@ use Rattle.ds_base.specs.declared.processors.Proc.TheVariants.{Nine, Seven}
 use Rattle.ds_base.specs.declared.ticks.Due.{Due}
 use Rattle.ds_base.specs.declared.ticks.Tick.{Tick}
 use Rattle.arm_core.specs.declared.outcomes.Stepped.TheVariants.{Cost}
+use Rattle.ds_ipc.specs.Ipcs.{other_proc}
 use Rattle.ds_ports.specs.Dues.{io_dues}
 use Rattle.ds_ports.specs.ProcessorIo.{blocks_processor}
 use Rattle.ds_ports.specs.Io.{IoState, io_of}
@@ -18,14 +19,14 @@ use Rattle.ds_runs.specs.declared.actors.Actor as actor
 use Rattle.ds_runs.specs.declared.actors.Actor.TheVariants.{Processor}
 use Rattle.ds_runs.proofs.Firsts.{first_is_least}
 use Rattle.ds_timers.specs.Irqs.{line_is_up, shares_bit}
-use Rattle.ds_machine.specs.NextEvents.{AreAsleep, IsNextEvent, events_of, least_of, due_at_least}
-use Rattle.ds_machine.specs.Reference.{FastStep, HasCounted, IsSound, Shown, awake, due_unless, dues_of, keys_due, processor_due, step_by, stepped_of}
-use Rattle.ds_machine.specs.States.{MachineState, ProcessorState, counts_of}
+use Rattle.ds_machine.specs.NextEvents.{IsNextEvent, events_of, least_of, due_at_least, until_of}
+use Rattle.ds_machine.specs.Reference.{AreAsleep, FastStep, HasCounted, HasSoundParts, Shown, awake, due_unless, dues_of, keys_due, processor_due, step_by, stepped_of}
+use Rattle.ds_machine.specs.States.{MachineState, ProcessorState}
 use Rattle.ds_machine.specs.Steps.{machine_concluded, goes_on, is_halted, is_blocked, line_of, outcome_of, processor_of, tick_of, wakes, went_on, with_processor, woken, woken_one}
 use Rattle.ds_machine.specs.declared.answers.Done.TheVariants as answers
 use Rattle.ds_machine.specs.declared.next_events.NextEvent.{NextEvent}
-use Rattle.ds_machine.proofs.Counts.{counted_done, few}
-use Rattle.ds_machine.proofs.DueTicks.{due_of_rank, due_of_step, due_then, dues_split, low_rank, steps_as, tick_is}
+use Rattle.ds_machine.proofs.Counts.{counted_done, few_steps}
+use Rattle.ds_machine.proofs.DueTicks.{due_of_rank, due_of_step, due_then, dues_split, low_rank, sort_rank, steps_as, tick_is}
 use Rattle.ds_machine.proofs.ProcessorSteps.{step_concluded}
 use Rattle.ds_machine.proofs.Quiet.{neither}
 use Rattle.ds_machine.proofs.Wakes.{Beside, put_beside}
@@ -35,6 +36,29 @@ use Rattle.ds_machine.proofs.Wakes.{Beside, put_beside}
 -- no event is due before the first
 pub events_over : (s : MachineState) (first : Due) → Some first ≡ first_from 0 (events_of s) → IsOver (events_of s) first.tick.0
 events_over s first h = λ rank tick due. (let l = (first_is_least (events_of s) first (sym h)).least rank tick due in omega (arith, l))
+
+-- what is found of a machine is kept of it; both processors have the same tick
+pub next_event_is : (s : MachineState) (until : Tick) (nine seven : ℕ) (nine_line seven_line : Bool) → IsOver (events_of s) until.0 → (0 < until.0 → AreAsleep s)
+    → nine ≡ least_of (is_blocked s Nine) → seven ≡ least_of (is_blocked s Seven) → nine_line ≡ line_of s Nine → seven_line ≡ line_of s Seven
+    → IsNextEvent (record { nine_until = until; seven_until = until; nine_least = nine; seven_least = seven; nine_line = nine_line; seven_line = seven_line }) s
+next_event_is s until nine seven nine_line seven_line over asleep n m l k = record {
+  events = events;
+  asleep = each_asleep;
+  nine_least = n;
+  seven_least = m;
+  nine_line = l;
+  seven_line = k;
+} where
+  next : NextEvent
+  next = record { nine_until = until; seven_until = until; nine_least = nine; seven_least = seven; nine_line = nine_line; seven_line = seven_line }
+
+  events : (proc : Proc) → IsOver (events_of s) (until_of next proc).0
+  events Nine = over
+  events Seven = over
+
+  each_asleep : (proc : Proc) → 0 < (until_of next proc).0 → AreAsleep s
+  each_asleep Nine = asleep
+  each_asleep Seven = asleep
 
 -- an entry in the former of two lists
 in_front : (xs ys : List (Option Tick)) (rank : ℕ) → rank < length xs → due_at (xs ++ ys) rank ≡ due_at xs rank
@@ -46,10 +70,6 @@ event_there : (s : MachineState) (rank : ℕ) (at : Tick) → rank < 22 → due_
 event_there s rank at lt h =
     let back = processor_due s Nine ∷ processor_due s Seven ∷ [] in
     sym (in_front (events_of s) back rank lt) ∙ ap (λ (dues : List (Option Tick)). due_at dues rank) (sym (dues_split s)) ∙ h
-
--- the last two ranks are the processors'
-sort_rank : (rank : ℕ) → rank < 24 → (rank < 22) ⊎ ((rank ≡ 22) ⊎ (rank ≡ 23))
-sort_rank rank lt = grind (arith, lt)
 
 nine_there : (s : MachineState) (rank : ℕ) (at : Tick) → rank ≡ 22 → due_at (dues_of s) rank ≡ Some at → processor_due s Nine ≡ Some at
 nine_there s rank at e h = sym (due_of_rank s 22 (omega arith)) ∙ subst (λ (r : ℕ). due_at (dues_of s) r ≡ Some at) e h
@@ -107,29 +127,51 @@ due_there blocked least p n e w lt =
     let t = tick_is p (record { 0 = n }) (sym (w ∙ k.1)) in
     rw k.0 (ap Some t)
 
--- what is waited of a machine's parts is waited of the machine
-pub nine_waits : (least n : ℕ) (parts s : MachineState) → n ≡ due_at_least least parts.nine.processor.due → parts ≡ s → n ≡ due_at_least least s.nine.processor.due
-nine_waits least n parts s w e = w ∙ ap (λ (m : MachineState). due_at_least least m.nine.processor.due) e
+-- what is kept of one processor, its rank, and that it is due before the other: ARM9 at equal ticks too
+abbrev pub least_kept : NextEvent → Proc → ℕ
+least_kept next_event Nine = next_event.nine_least
+least_kept next_event Seven = next_event.seven_least
 
-pub seven_waits : (least n : ℕ) (parts s : MachineState) → n ≡ due_at_least least parts.seven.processor.due → parts ≡ s → n ≡ due_at_least least s.seven.processor.due
-seven_waits least n parts s w e = w ∙ ap (λ (m : MachineState). due_at_least least m.seven.processor.due) e
+abbrev pub rank_of : Proc → ℕ
+rank_of Nine = 22
+rank_of Seven = 23
 
--- so the processor steps for which fewer ticks are waited, ARM9 at equal ones
-pub nine_first : (next_event : NextEvent) (s : MachineState) (nine seven until : ℕ) → IsNextEvent next_event s → nine ≡ due_at_least next_event.nine_least s.nine.processor.due
-    → seven ≡ due_at_least next_event.seven_least s.seven.processor.due → nine ≤ seven → nine < min next_event.until.0 until → until ≤ 2 ^ 56
-    → IsLeast (dues_of s) (record { 0 = nine }) 22
-nine_first next_event s nine seven until is n m le lt early =
-    nine_least s next_event.until.0 (record { 0 = nine }) is.events (omega (arith, lt))
-    (due_there (is_blocked s Nine) next_event.nine_least s.nine.processor nine is.nine_least n (omega (arith, lt, early)))
-    (λ at h. (let k = wait_is (is_blocked s Seven) next_event.seven_least s.seven.processor at is.seven_least h in omega (arith, m, le, k)))
+abbrev pub ComesBefore : Proc → ℕ → ℕ → Type 0
+ComesBefore Nine n other = n ≤ other
+ComesBefore Seven n other = n < other
 
-pub seven_first : (next_event : NextEvent) (s : MachineState) (nine seven until : ℕ) → IsNextEvent next_event s → nine ≡ due_at_least next_event.nine_least s.nine.processor.due
-    → seven ≡ due_at_least next_event.seven_least s.seven.processor.due → seven < nine → seven < min next_event.until.0 until → until ≤ 2 ^ 56
-    → IsLeast (dues_of s) (record { 0 = seven }) 23
-seven_first next_event s nine seven until is n m le lt early =
-    seven_least s next_event.until.0 (record { 0 = seven }) is.events (omega (arith, lt))
-    (due_there (is_blocked s Seven) next_event.seven_least s.seven.processor seven is.seven_least m (omega (arith, lt, early)))
-    (λ at h. (let k = wait_is (is_blocked s Nine) next_event.nine_least s.nine.processor at is.nine_least h in omega (arith, n, le, k)))
+processor_least : (proc : Proc) (s : MachineState) (until : ℕ) (tick : Tick) → IsOver (events_of s) until → tick.0 < until → processor_due s proc ≡ Some tick
+    → ((at : Tick) → processor_due s (other_proc proc) ≡ Some at → ComesBefore proc tick.0 at.0) → IsLeast (dues_of s) tick (rank_of proc)
+processor_least Nine s until tick over lt there after = nine_least s until tick over lt there after
+processor_least Seven s until tick over lt there after = seven_least s until tick over lt there after
+
+kept_is : (next_event : NextEvent) (s : MachineState) → IsNextEvent next_event s → (proc : Proc) → least_kept next_event proc ≡ least_of (is_blocked s proc)
+kept_is next_event s is Nine = is.nine_least
+kept_is next_event s is Seven = is.seven_least
+
+-- a processor that is due before the other and before what is kept is the least, and took few steps
+pub record StepsFirst (proc : Proc) (n until : ℕ) (s : MachineState) : Type 0 where
+  pub least : IsLeast (dues_of s) (record { 0 = n }) (rank_of proc)
+  pub below : n < until
+  pub few : (processor_of s proc).steps ≤ 2 ^ 61
+
+pub steps_first : (next_event : NextEvent) (proc : Proc) (parts s : MachineState) (n other end until : ℕ) → IsNextEvent next_event s → HasCounted s → until ≤ 2 ^ 56 → parts ≡ s
+    → n ≡ due_at_least (least_kept next_event proc) (processor_of parts proc).due
+    → other ≡ due_at_least (least_kept next_event (other_proc proc)) (processor_of parts (other_proc proc)).due → end ≡ min (until_of next_event proc).0 until → ComesBefore proc n other
+    → n < end → StepsFirst proc n until s
+steps_first next_event proc parts s n other end until is has early same waits others stop before lt =
+    let kept = least_kept next_event proc in
+    let across = least_kept next_event (other_proc proc) in
+    let w : n ≡ due_at_least kept (processor_of s proc).due = waits ∙ ap (λ (m : MachineState). due_at_least kept (processor_of m proc).due) same in
+    let o : other ≡ due_at_least across (processor_of s (other_proc proc)).due = others ∙ ap (λ (m : MachineState). due_at_least across (processor_of m (other_proc proc)).due) same in
+    let there = due_there (is_blocked s proc) kept (processor_of s proc) n (kept_is next_event s is proc) w (omega (arith, stop, lt, early)) in
+    let after : (at : Tick) → processor_due s (other_proc proc) ≡ Some at → ComesBefore proc n at.0 = λ at h.
+    subst (ComesBefore proc n) (o ∙ wait_is (is_blocked s (other_proc proc)) across (processor_of s (other_proc proc)) at (kept_is next_event s is (other_proc proc)) h) before in
+    record {
+      least = processor_least proc s (until_of next_event proc).0 (record { 0 = n }) (is.events proc) (omega (arith, stop, lt)) there after;
+      below = omega (arith, stop, lt);
+      few = few_steps s proc (record { 0 = n }) has there (omega (arith, stop, lt, early));
+    }
 
 -- ---- the step
 
@@ -140,23 +182,17 @@ taken_fast s next until rank tick a true e least lt none made =
     (record { tick = tick; rank = rank }, least, lt, steps_as s rank a (Some tick) (stepped_of s answers.Made next) e (due_of_step s rank tick a least e) (made refl))
 
 -- what was taken at once is counted
-pub counted_fast : (s next : MachineState) (until : ℕ) (taken : Bool) → IsSound s → HasCounted s → FastStep until s taken next → HasCounted next
+pub counted_fast : (s next : MachineState) (until : ℕ) (taken : Bool) → HasSoundParts s → HasCounted s → FastStep until s taken next → HasCounted next
 counted_fast s next until false sound has h = subst HasCounted (sym h) has
 counted_fast s next until true sound has h = counted_done s next h.0.tick h.0.rank answers.Made sound h.1 has h.3
-
--- before it the steps were few
-pub few_fast : (s : MachineState) (rank n until more : ℕ) → HasCounted s → IsLeast (dues_of s) (record { 0 = n }) rank → n < min more until → until ≤ 2 ^ 56 → counts_of s ≤ 2 ^ 61
-few_fast s rank n until more has least lt early =
-    let k = few s (record { 0 = n }) rank has least (omega (arith, lt, early)) in
-    omega (arith, k)
 
 -- ---- what is kept stays so, while the units behind the ports and the script stay
 
 pub kept_stays : (next_event : NextEvent) (s next : MachineState) → IsNextEvent next_event s → Beside s next → IsNextEvent next_event next
 kept_stays next_event s next is b = record {
-  events = subst (λ (u : IoState). IsOver (keys_due next.keys ∷ io_dues u) next_event.until.0) (sym b.io)
-      (subst (λ (lines : List KeyLine). IsOver (keys_due lines ∷ io_dues s.io) next_event.until.0) (sym b.keys) is.events);
-  asleep = λ some proc. wakes_so proc (is.asleep some proc);
+  events = λ of. (let until = (until_of next_event of).0 in subst (λ (u : IoState). IsOver (keys_due next.keys ∷ io_dues u) until) (sym b.io)
+      (subst (λ (lines : List KeyLine). IsOver (keys_due lines ∷ io_dues s.io) until) (sym b.keys) (is.events of)));
+  asleep = λ of some proc. wakes_so proc (is.asleep of some proc);
   nine_least = is.nine_least ∙ ap least_of (blocked Nine);
   seven_least = is.seven_least ∙ ap least_of (blocked Seven);
   nine_line = is.nine_line ∙ line Nine;
@@ -179,12 +215,12 @@ asleep_stays tick s asleep = ap (λ (m : MachineState). woken_one Seven tick m) 
   one proc true e = absurd (true≢false e)
   one proc false e = refl
 
-pub cost_fast : (next_event : NextEvent) (s : MachineState) (rank : ℕ) (proc : Proc) (tick : Tick) (clocks : ℕ) → IsNextEvent next_event s → 0 < next_event.until.0 → is_blocked s proc ≡ false
+pub cost_fast : (next_event : NextEvent) (s : MachineState) (rank : ℕ) (proc : Proc) (tick : Tick) (clocks : ℕ) → IsNextEvent next_event s → 0 < (until_of next_event proc).0 → is_blocked s proc ≡ false
     → awake (Some tick) (machine_concluded rank proc s (Cost clocks)) ≡ stepped_of s answers.Made (with_processor proc s (went_on proc clocks false (processor_of s proc)))
 cost_fast next_event s rank proc tick clocks is some blocked =
     let p = went_on proc clocks false (processor_of s proc) in
     let next = with_processor proc s p in
-    let asleep = (kept_stays next_event s next is (put_beside proc s p)).asleep some in
+    let asleep = (kept_stays next_event s next is (put_beside proc s p)).asleep proc some in
     let halted : is_halted s proc ≡ false = (neither _ _ blocked).0 in
     let came : Bool → MachineStep MachineState Shown LeftOut = λ b. awake (Some tick) (Makes (with_processor proc s (went_on proc clocks b (processor_of s proc))) []) in
     ap came halted ∙ ap (λ (m : MachineState). stepped_of s answers.Made m) (asleep_stays tick next asleep)
@@ -206,7 +242,7 @@ pub free_stays : (proc : Proc) (s next : MachineState) → next.io ≡ s.io → 
 free_stays proc s next io free = ap (λ (u : IoState). blocks_processor (io_of u proc)) io ∙ free
 
 -- the whole of it
-pub made_fast : (next_event : NextEvent) (s m next : MachineState) (rank : ℕ) (proc : Proc) (tick : Tick) (clocks : ℕ) → IsNextEvent next_event m → 0 < next_event.until.0 → is_blocked m proc ≡ false
+pub made_fast : (next_event : NextEvent) (s m next : MachineState) (rank : ℕ) (proc : Proc) (tick : Tick) (clocks : ℕ) → IsNextEvent next_event m → 0 < (until_of next_event proc).0 → is_blocked m proc ≡ false
     → tick ≡ tick_of (processor_of s proc) → m ≡ (outcome_of proc tick s).machine → Cost clocks ≡ (outcome_of proc tick s).stepped
     → next ≡ with_processor proc m (went_on proc clocks false (processor_of m proc))
     → awake (Some tick) (step_by rank (Processor proc) s) ≡ stepped_of s answers.Made next

@@ -5,6 +5,7 @@ pub mod ChannelEvents
 pub mod Costs
 pub mod Counts
 pub mod DueTicks
+pub mod Frames
 pub mod Keeps
 pub mod MachineSchedule
 pub mod Moves
@@ -16,6 +17,7 @@ pub mod Quiet
 pub mod Reached
 pub mod DecodedOperations
 pub mod Taken
+pub mod VideoEvents
 pub mod Wakes
 pub mod Lines
 pub mod Statuses

@@ -19,7 +19,7 @@ use Rattle.ds_ports.proofs.Later.{all_io_dues, goes_io, of_both, processor_io_is
 use Rattle.ds_runs.specs.Runs.{MachineStep, Makes, Stops}
 use Rattle.ds_runs.specs.declared.actors.Actor.TheVariants.{Processor}
 use Rattle.ds_runs.proofs.RunLaws.{same_makes, same_stops, not_both}
-use Rattle.ds_machine.specs.Reference.{IsSound, Shown, awake, due_unless, next_shown, processor_due, step_by, stepped_of}
+use Rattle.ds_machine.specs.Reference.{HasSoundParts, Shown, awake, due_unless, processor_due, shown_at, step_by, stepped_of}
 use Rattle.ds_machine.specs.States.{MachineState, ProcessorState, counts_of}
 use Rattle.ds_machine.specs.Steps.{machine_concluded, gone_by, is_halted, is_blocked, outcome_of, processor_of, tick_of, went_on, with_halt, woken}
 use Rattle.ds_machine.specs.declared.answers.Done as answer
@@ -29,6 +29,7 @@ use Rattle.ds_machine.proofs.DueTicks.{due_then, tick_is}
 use Rattle.ds_machine.proofs.Moves.{Moves, blocked_moves, unchanged_blocked, moves_of, same_keys, then_io_dues}
 use Rattle.ds_machine.proofs.Others.{step_goes}
 use Rattle.ds_machine.proofs.Wakes.{halt_blocked, halt_other, halt_steps, halted_io_dues, halted_io, put_beside, put_counts, put_other, put_processor_io}
+use Rattle.video2d.specs.Scans.{scan_due}
 
 -- A processor's step: what its accesses leave, and how it goes on.
 
@@ -88,10 +89,10 @@ same_shown : (rank : ℕ) (proc : Proc) (tick : Tick) (m s next : MachineState) 
     → awake (Some tick) (machine_concluded rank proc m came) ≡ stepped_of m done next → awake (Some tick) (machine_concluded rank proc m came) ≡ stepped_of s done next
 same_shown rank proc tick m s next came answers.Made h = h
 same_shown rank proc tick m s next (Cost clocks) (answers.Frame swapped) h =
-    absurd (none_shown (next_shown m swapped) (same_makes (woken tick (gone_by proc (Cost clocks) m)) next [] (next_shown m swapped ∷ []) h).1)
+    absurd (none_shown (shown_at (scan_due m.io.video.scan) next swapped) (same_makes (woken tick (gone_by proc (Cost clocks) m)) next [] (shown_at (scan_due m.io.video.scan) next swapped ∷ []) h).1)
 same_shown rank proc tick m s next (Halted clocks) (answers.Frame swapped) h =
-    absurd (none_shown (next_shown m swapped) (same_makes (woken tick (gone_by proc (Halted clocks) m)) next [] (next_shown m swapped ∷ []) h).1)
-same_shown rank proc tick m s next (Left stop) (answers.Frame swapped) h = absurd (not_both next m (next_shown m swapped ∷ []) _ (sym h))
+    absurd (none_shown (shown_at (scan_due m.io.video.scan) next swapped) (same_makes (woken tick (gone_by proc (Halted clocks) m)) next [] (shown_at (scan_due m.io.video.scan) next swapped ∷ []) h).1)
+same_shown rank proc tick m s next (Left stop) (answers.Frame swapped) h = absurd (not_both next m (shown_at (scan_due m.io.video.scan) next swapped ∷ []) _ (sym h))
 same_shown rank proc tick m s next came (answers.Stopped left) h = h
 
 pub step_concluded : (rank : ℕ) (proc : Proc) (tick : Tick) (s m next : MachineState) (came : arm.Stepped) (done : answer.Done) → tick ≡ tick_of (processor_of s proc)
@@ -133,7 +134,7 @@ some_clock Nine = omega arith
 some_clock Seven = omega arith
 
 -- a step that costs something makes a processor due later
-later_by : (proc : Proc) (due clocks : ℕ) → 0 < clocks → due < due + ticks_per_clock proc * clocks
+pub later_by : (proc : Proc) (due clocks : ℕ) → 0 < clocks → due < due + ticks_per_clock proc * clocks
 later_by proc due clocks some =
     let one : ticks_per_clock proc * 1 ≤ ticks_per_clock proc * clocks = mul-le-mul_left {m = 1} {n = clocks} (ticks_per_clock proc) some in
     let each = some_clock proc in
@@ -190,7 +191,7 @@ gone_stays proc m tick (Left stop) took = absurd took
 
 -- where it makes its accesses
 pub record Operation (proc : Proc) (tick : Tick) (s : MachineState) : Type 0 where
-  pub sound : IsSound s
+  pub sound : HasSoundParts s
   pub quiet : IsQuiet tick (io_of s.io proc)
   pub due : processor_due s proc ≡ Some tick
 
@@ -201,7 +202,7 @@ module _ (proc : Proc) (tick : Tick) (s : MachineState) (r : Operation proc tick
   not_blocked : is_blocked s proc ≡ false
   not_blocked = (due_then (is_blocked s proc) (processor_of s proc) tick r.due).0
 
-  goes : Goes proc tick s.io (reached_by proc s).io
+  pub goes : Goes proc tick s.io (reached_by proc s).io
   goes = reach_goes proc tick s (tick_is (processor_of s proc) tick is_due) (processor_io_is s.io r.sound.io proc) r.quiet
 
   -- the other processor is due as before
@@ -226,13 +227,13 @@ module _ (proc : Proc) (tick : Tick) (s : MachineState) (r : Operation proc tick
   pub processor_io_later : (came : arm.Stepped) → Took came → IsLater tick (processor_due (gone_by proc came (reached_by proc s)) proc)
   processor_io_later came took = gone_later proc (reached_by proc s) tick came ((reaches proc s).due ∙ is_due) took
 
-  pub reached_sound : IsSound (reached_by proc s)
+  pub reached_sound : HasSoundParts (reached_by proc s)
   reached_sound = record {
     io = goes_io proc tick s.io (reached_by proc s).io r.sound.io goes;
     keys = subst AreKeyLines (sym (reaches proc s).keys) r.sound.keys;
   }
 
-  pub gone_sound : (came : arm.Stepped) → Took came → IsSound (gone_by proc came (reached_by proc s))
+  pub gone_sound : (came : arm.Stepped) → Took came → HasSoundParts (gone_by proc came (reached_by proc s))
   gone_sound came took =
       let st = gone_stays proc (reached_by proc s) tick came took in
       record { io = st.io reached_sound.io; keys = subst AreKeyLines (sym st.keys) reached_sound.keys }

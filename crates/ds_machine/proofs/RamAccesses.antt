@@ -161,11 +161,12 @@ read_io proc m at width ram =
     let b = ram_bounds at ram in
     unchanged_io proc (place_of proc m.io.wramcnt at) m width (ram_cells proc m.io.wramcnt at b.0 b.1)
 
-write_io : (proc : Proc) (now : Tick) (m : MapState) (at : ℕ) (width : Width) (value : ℕ) → is_ram at ≡ true → (map_written proc now m at width value).io ≡ m.io
+pub ram_write_io : (proc : Proc) (now : Tick) (m : MapState) (at : ℕ) (width : Width) (value : ℕ) → 0x02000000 ≤ at → at < 0x04000000 → (map_written proc now m at width value).io ≡ m.io
 unfolding map_written
-write_io proc now m at width value ram =
-    let b = ram_bounds at ram in
-    put_io proc now (place_of proc m.io.wramcnt at) m width value (ram_cells proc m.io.wramcnt at b.0 b.1)
+ram_write_io proc now m at width value low high = put_io proc now (place_of proc m.io.wramcnt at) m width value (ram_cells proc m.io.wramcnt at low high)
+
+write_io : (proc : Proc) (now : Tick) (m : MapState) (at : ℕ) (width : Width) (value : ℕ) → is_ram at ≡ true → (map_written proc now m at width value).io ≡ m.io
+write_io proc now m at width value ram = let b = ram_bounds at ram in ram_write_io proc now m at width value b.0 b.1
 
 -- also where a tightly coupled memory answers
 tcm_reads : (t : Tcm) (r : NineReach) (at : ℕ) (width : Width) → is_ram at ≡ true → (tcm_read t r at width).map.io ≡ r.map.io

@@ -1,5 +1,6 @@
-use Rattle.std.proofs.Common.{ℕ, ◌≡◌, ◌+◌, Bool, true, false, if◌then◌else◌, List, [], ◌∷◌, ◌++◌, take, All, Option, Some, None, refl, sym, subst, arith}
+use Rattle.std.proofs.Common.{ℕ, ◌≡◌, ◌+◌, Bool, true, false, if◌then◌else◌, List, [], ◌∷◌, ◌++◌, take, All, Option, Some, None, Result, Ok, Err, refl, sym, subst, arith}
 use Rattle.std.proofs.lemmas.List.Elements.{All-cons, All-nil}
+use Rattle.ds_base.specs.Accesses.{MemoryMachine}
 use Rattle.ds_base.specs.declared.keys.KeyLine.{KeyLine}
 use Rattle.ds_base.specs.declared.left_out.LeftOut.{LeftOut}
 use Rattle.ds_base.specs.declared.left_out.Stop.{Stop}
@@ -30,19 +31,21 @@ use Rattle.ds_runs.specs.Runs as runs
 use Rattle.ds_runs.specs.Runs.{Ending, At, MachineStep, Makes, Stops, Runs, over, stops, more}
 use Rattle.ds_runs.specs.declared.actors.Actor as actor
 use Rattle.ds_runs.specs.declared.actors.Actor.TheVariants.{KeyScript, Video, Timer, Divider, SquareRoot, Geometry, Card, Dma, Processor}
+use Rattle.video2d.specs.Videos.{video_answer}
+use Rattle.video2d.specs.declared.videos.Shown as display
 use Rattle.ds_machine.specs.Booted.{header_bytes, header_place, machine_blank, machine_booted, stacks_of, with_image}
 use Rattle.ds_machine.specs.Boots.{copied, stored}
 use Rattle.ds_machine.specs.Channels.{channel_step, delayed_past, moved_by, moved_unless}
 use Rattle.ds_machine.specs.OwnSteps.{step_needs}
-use Rattle.ds_machine.specs.Reference.{FastStep, Shown, after_line, awake, due_by, reference, reference_step, step_by, stepped_of}
-use Rattle.ds_machine.specs.Sides.{needs, nine_side, seven_side, taken}
+use Rattle.ds_machine.specs.Reference.{FastStep, Shown, after_line, awake, due_by, reference, reference_step, step_by, stepped_of, video_step}
+use Rattle.ds_machine.specs.Sides.{SideOf, needs, nine_side, seven_side, taken}
 use Rattle.ds_machine.specs.States.{MachineState}
 use Rattle.ds_machine.specs.declared.answers.Done as answer
 use Rattle.ds_machine.specs.declared.answers.Done.TheVariants as answers
 use Rattle.ds_machine.specs.Statuses.{HasBothStatuses, BootsWithStatuses, RunsKeepStatuses, StepsKeepStatuses, left_by}
 use Rattle.ds_machine.specs.Steps.{goes_on, gone_by, line_of, machine_concluded, map_of, nine_reach, outcome_of, processor_of, processor_step, seven_reach, tick_of, wakes, with_map, woken, woken_one}
 use Rattle.ds_machine.proofs.OwnSteps.{is_step7, is_step9}
-use Rattle.ds_machine.proofs.Taken.{taken_unsupported}
+use Rattle.ds_machine.proofs.Taken.{taken_unsupported, unsupported_at}
 
 -- CPSR and each SPSR have no bits but those that are kept, whatever steps.
 
@@ -54,39 +57,27 @@ NineHas o = HasNineStatuses o.registers o.state.cp15
 abbrev SevenHas : Outcome SevenReach → Type 0
 SevenHas o = HasStatuses V4 o.registers
 
-module _ (line : Bool) (s : RegisterState) (r : NineReach) (h : HasNineStatuses s r.cp15) where
-  nine_whole : step_needs nine_memory nine_side line s r ≡ None → NineHas (taken nine_memory nine_side line s r)
-  nine_whole none = subst NineHas (sym (is_step9 line s r none)) (step9_has s r.cp15 h nine_memory line r)
+-- what holds of a step of the processor's own crate holds of its step in the machine, where it holds of one that isn't taken: then all is as it was
+module _ {S : Type 0} (memory : MemoryMachine S) (side : SideOf S) (Has : Outcome S → Type 0) (line : Bool) (s : RegisterState) (r : S)
+    (untaken : (value : ℕ) → Has (unsupported_at s r value)) (whole : step_needs memory side line s r ≡ None → Has (taken memory side line s r)) where
+  needs_has : (needed : Option ℕ) → needs side s r (fetched memory side.arch s r).instr ≡ needed → enters line s ≡ false → Has (taken memory side line s r)
+  needs_has None e enter = whole (rw enter e)
+  needs_has (Some value) e enter = subst Has (sym (taken_unsupported memory side line s r (fetched memory side.arch s r).instr value enter refl e)) (untaken value)
 
-  nine_needs : (needed : Option ℕ) → needs nine_side s r (fetched nine_memory V5 s r).instr ≡ needed → enters line s ≡ false
-      → NineHas (taken nine_memory nine_side line s r)
-  nine_needs None e enter = nine_whole (rw enter e)
-  nine_needs (Some value) e enter =
-      subst NineHas (sym (taken_unsupported nine_memory nine_side line s r (fetched nine_memory V5 s r).instr value enter refl e)) h
+  entry_has : (entry : Bool) → enters line s ≡ entry → Has (taken memory side line s r)
+  entry_has true enter = whole (rw enter refl)
+  entry_has false enter = needs_has (needs side s r (fetched memory side.arch s r).instr) refl enter
 
-  nine_by : (entry : Bool) → enters line s ≡ entry → NineHas (taken nine_memory nine_side line s r)
-  nine_by true enter = nine_whole (rw enter refl)
-  nine_by false enter = nine_needs (needs nine_side s r (fetched nine_memory V5 s r).instr) refl enter
+  taken_has : Has (taken memory side line s r)
+  taken_has = entry_has (enters line s) refl
 
-  nine_has : NineHas (taken nine_memory nine_side line s r)
-  nine_has = nine_by (enters line s) refl
+nine_has : (line : Bool) (s : RegisterState) (r : NineReach) → HasNineStatuses s r.cp15 → NineHas (taken nine_memory nine_side line s r)
+nine_has line s r h =
+    taken_has nine_memory nine_side NineHas line s r (λ value. h) (λ none. subst NineHas (sym (is_step9 line s r none)) (step9_has s r.cp15 h nine_memory line r))
 
-module _ (line : Bool) (s : RegisterState) (r : SevenReach) (h : HasStatuses V4 s) where
-  seven_whole : step_needs seven_memory seven_side line s r ≡ None → SevenHas (taken seven_memory seven_side line s r)
-  seven_whole none = subst SevenHas (sym (is_step7 line s r none)) (step_has seven_memory arm7 s h line r)
-
-  seven_needs : (needed : Option ℕ) → needs seven_side s r (fetched seven_memory V4 s r).instr ≡ needed → enters line s ≡ false
-      → SevenHas (taken seven_memory seven_side line s r)
-  seven_needs None e enter = seven_whole (rw enter e)
-  seven_needs (Some value) e enter =
-      subst SevenHas (sym (taken_unsupported seven_memory seven_side line s r (fetched seven_memory V4 s r).instr value enter refl e)) h
-
-  seven_by : (entry : Bool) → enters line s ≡ entry → SevenHas (taken seven_memory seven_side line s r)
-  seven_by true enter = seven_whole (rw enter refl)
-  seven_by false enter = seven_needs (needs seven_side s r (fetched seven_memory V4 s r).instr) refl enter
-
-  seven_has : SevenHas (taken seven_memory seven_side line s r)
-  seven_has = seven_by (enters line s) refl
+seven_has : (line : Bool) (s : RegisterState) (r : SevenReach) → HasStatuses V4 s → SevenHas (taken seven_memory seven_side line s r)
+seven_has line s r h =
+    taken_has seven_memory seven_side SevenHas line s r (λ value. h) (λ none. subst SevenHas (sym (is_step7 line s r none)) (step_has seven_memory arm7 s h line r))
 
 -- ---- a processor's step in the machine
 
@@ -140,9 +131,13 @@ channel_has : (rank : ℕ) (proc : Proc) (due : Option Tick) (s : MachineState) 
 channel_has rank proc None s h = h
 channel_has rank proc (Some now) s h = unless_has rank proc now (unit_needs proc s.io.wramcnt (next_unit s.io proc)) (next_unit s.io proc) s h
 
+video_has : (rank : ℕ) (answer : Result display.Shown Stop) (s : MachineState) → HasBothStatuses s → HasBothStatuses (left_by (video_step rank answer s))
+video_has rank (Ok shown) s h = record { nine = h.nine; seven = h.seven }
+video_has rank (Err stop) s h = h
+
 step_has_by : (rank : ℕ) (a : actor.Actor) (s : MachineState) → HasBothStatuses s → HasBothStatuses (left_by (step_by rank a s))
 step_has_by rank KeyScript s h = line_has s.keys s h
-step_has_by rank Video s h = record { nine = h.nine; seven = h.seven }
+step_has_by rank Video s h = video_has rank (video_answer s.oam s.io.video) s h
 step_has_by rank (Timer proc number) s h = record { nine = h.nine; seven = h.seven }
 step_has_by rank Divider s h = record { nine = h.nine; seven = h.seven }
 step_has_by rank SquareRoot s h = record { nine = h.nine; seven = h.seven }

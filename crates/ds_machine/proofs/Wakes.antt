@@ -8,7 +8,7 @@ use Rattle.ds_ipc.specs.Ipcs.{other_proc}
 use Rattle.ds_ports.specs.Dues.{IsIo, IsProcessorIo, ReschedulesEach}
 use Rattle.ds_ports.specs.ProcessorIo.{ProcessorIoState}
 use Rattle.ds_ports.specs.Io.{IoState, io_of, with_halted}
-use Rattle.ds_machine.specs.Reference.{IsSound, due_unless, keys_due, processor_due}
+use Rattle.ds_machine.specs.Reference.{AreAsleep, HasSoundParts, due_unless, keys_due, processor_due}
 use Rattle.ds_machine.specs.States.{MachineState, ProcessorState, counts_of}
 use Rattle.ds_machine.specs.Steps.{goes_on, is_blocked, processor_of, wakes, with_halt, with_processor, woken, woken_one}
 use Rattle.ds_machine.proofs.Moves.{Moves, later_unless, moves_of, then_all}
@@ -76,7 +76,7 @@ on_moves proc tick s =
     (subst (ReschedulesEach tick s.io) (sym b.io) (halted_io_dues tick proc s.io false))
     (of_both (λ each. Reschedules tick (processor_due s each) (processor_due next each)) proc own other)
 
-on_sound : (proc : Proc) (tick : Tick) (s : MachineState) → IsSound s → IsSound (goes_on proc tick s)
+on_sound : (proc : Proc) (tick : Tick) (s : MachineState) → HasSoundParts s → HasSoundParts (goes_on proc tick s)
 on_sound proc tick s sound =
     let halt = with_halt proc s false in
     let b = put_beside proc halt (record (processor_of s proc) { due = tick.0 + 1 }) in
@@ -96,7 +96,7 @@ on_counts proc tick s =
 -- where it is to
 pub record Wakes (tick : Tick) (s next : MachineState) : Type 0 where
   pub moves : Moves tick s next
-  pub sound : IsSound s → IsSound next
+  pub sound : HasSoundParts s → HasSoundParts next
   pub counts : counts_of next ≡ counts_of s
 
 wakes_if : (b : Bool) (proc : Proc) (tick : Tick) (s : MachineState) → Wakes tick s (if b then goes_on proc tick s else s)
@@ -113,3 +113,26 @@ wakes_both tick s =
       sound = λ sound. b.sound (a.sound sound);
       counts = b.counts ∙ a.counts;
     }
+
+-- ---- afterwards nobody is to wake
+
+free_wakes : (proc : Proc) (tick : Tick) (s : MachineState) → wakes (goes_on proc tick s) proc ≡ false
+free_wakes Nine tick s = refl
+free_wakes Seven tick s = refl
+
+other_wakes : (proc : Proc) (tick : Tick) (s : MachineState) → wakes (goes_on proc tick s) (other_proc proc) ≡ wakes s (other_proc proc)
+other_wakes Nine tick s = refl
+other_wakes Seven tick s = refl
+
+-- the one that is asked doesn't wake any more, and the other wakes as before
+one_asleep : (b : Bool) (proc : Proc) (tick : Tick) (s : MachineState) → wakes s proc ≡ b → wakes (if b then goes_on proc tick s else s) proc ≡ false
+one_asleep true proc tick s e = free_wakes proc tick s
+one_asleep false proc tick s e = e
+
+one_other : (b : Bool) (proc : Proc) (tick : Tick) (s : MachineState) → wakes (if b then goes_on proc tick s else s) (other_proc proc) ≡ wakes s (other_proc proc)
+one_other true proc tick s = other_wakes proc tick s
+one_other false proc tick s = refl
+
+pub woken_asleep : (tick : Tick) (s : MachineState) → AreAsleep (woken tick s)
+woken_asleep tick s Nine = let first = woken_one Nine tick s in one_other (wakes first Seven) Seven tick first ∙ one_asleep (wakes s Nine) Nine tick s refl
+woken_asleep tick s Seven = let first = woken_one Nine tick s in one_asleep (wakes first Seven) Seven tick first refl

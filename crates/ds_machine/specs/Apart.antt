@@ -4,14 +4,15 @@ use Rattle.ds_base.specs.declared.processors.Proc.{Proc}
 use Rattle.ds_base.specs.declared.processors.Proc.TheVariants.{Nine, Seven}
 use Rattle.ds_runs.specs.Runs.{MachineStep, Makes, Stops}
 use Rattle.ds_runs.specs.declared.actors.Actor as actor
-use Rattle.ds_runs.specs.declared.actors.Actor.TheVariants.{Dma, Processor}
+use Rattle.ds_runs.specs.declared.actors.Actor.TheVariants.{Video, Dma, Processor}
 use Rattle.ds_machine.specs.Reference.{Shown, step_by}
 use Rattle.ds_machine.specs.States.{MachineState, NineState, SevenState}
+use Rattle.ds_machine.specs.Statuses.{left_by}
 
 -- What an actor's step leaves alone and doesn't depend on: a processor's own part, which that processor and its DMA channels alone reach: the channels for the
--- tick at which it is due, and for the memories that are not the other's. (Waking, which follows a step, isn't part of it.)
+-- tick at which it is due, and for the memories that are not the other's. The display reads palettes and OAM. (Waking, which follows a step, isn't part of it.)
 
--- what ARM9 and its channels alone reach: its own part, palettes and OAM
+-- what ARM9, its channels and the display alone reach: its own part, palettes and OAM
 pub record NinePart : Type 0 where
   pub nine : NineState
   pub palette : List ℕ
@@ -32,6 +33,7 @@ step_with put (Stops stop left) = Stops stop (put left)
 
 -- whose own part an actor reaches
 abbrev pub ReachesOwn : actor.Actor → Proc → Type 0
+ReachesOwn Video proc = proc ≡ Nine
 ReachesOwn (Dma each channel) proc = each ≡ proc
 ReachesOwn (Processor each) proc = each ≡ proc
 ReachesOwn a proc = ⊥
@@ -44,3 +46,13 @@ LeaveNine = (rank : ℕ) (a : actor.Actor) (own : NinePart) (s : MachineState) �
 abbrev pub LeaveSeven : Type 0
 LeaveSeven = (rank : ℕ) (a : actor.Actor) (own : SevenState) (s : MachineState) → (ReachesOwn a Seven → ⊥)
     → step_by rank a (with_seven_part own s) ≡ step_with (with_seven_part own) (step_by rank a s)
+
+-- the display, with another processor, CP15 and tightly coupled memories of ARM9's, comes to the same, and all of ARM9's part is as it was
+pub record ShowLeaves (rank : ℕ) (own : NineState) (s : MachineState) : Type 0 where
+  pub same : step_by rank Video (record s { nine = own }) ≡ step_with (λ m. record m { nine = own }) (step_by rank Video s)
+  pub nine : (left_by (step_by rank Video s)).nine ≡ s.nine
+  pub palette : (left_by (step_by rank Video s)).palette ≡ s.palette
+  pub oam : (left_by (step_by rank Video s)).oam ≡ s.oam
+
+abbrev pub DisplayLeavesNine : Type 0
+DisplayLeavesNine = (rank : ℕ) (own : NineState) (s : MachineState) → ShowLeaves rank own s

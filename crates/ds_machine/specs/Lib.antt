@@ -5,6 +5,7 @@ pub mod Channels
 pub mod Boots
 pub mod Booted
 pub mod Reference
+pub mod Frames
 pub mod NextEvents
 pub mod Observed
 pub mod Apart

@@ -1,12 +1,12 @@
-use Rattle.std.specs.Prelude.{ℕ, ◌-◌, ◌^◌, ◌≡◌, ◌<◌, Bool, false, if◌then◌else◌, List, ◌∷◌, Option, max}
+use Rattle.std.specs.Prelude.{ℕ, ◌-◌, ◌^◌, ◌≡◌, ◌<◌, Bool, if◌then◌else◌, List, ◌∷◌, Option, max}
 use Rattle.ds_base.specs.declared.processors.Proc.{Proc}
 use Rattle.ds_base.specs.declared.processors.Proc.TheVariants.{Nine, Seven}
 use Rattle.ds_base.specs.declared.ticks.Tick.{Tick}
 use Rattle.ds_ports.specs.Dues.{io_dues}
 use Rattle.ds_runs.specs.Runs.{IsOver}
-use Rattle.ds_machine.specs.Reference.{keys_due}
+use Rattle.ds_machine.specs.Reference.{AreAsleep, keys_due}
 use Rattle.ds_machine.specs.States.{MachineState}
-use Rattle.ds_machine.specs.Steps.{is_blocked, line_of, wakes}
+use Rattle.ds_machine.specs.Steps.{is_blocked, line_of}
 use Rattle.ds_machine.specs.declared.next_events.NextEvent.{NextEvent}
 
 -- What is kept between steps of the fast path. No public clause speaks of it.
@@ -14,10 +14,6 @@ use Rattle.ds_machine.specs.declared.next_events.NextEvent.{NextEvent}
 -- when each actor but the processors is due, by rank
 abbrev pub events_of : MachineState → List (Option Tick)
 events_of s = keys_due s.keys ∷ io_dues s.io
-
--- no halted processor is to wake
-abbrev pub AreAsleep : MachineState → Type 0
-AreAsleep s = (proc : Proc) → wakes s proc ≡ false
 
 -- the earliest tick at which a processor may be due: past all ticks of a run while it is blocked
 abbrev pub least_of : Bool → ℕ
@@ -27,11 +23,16 @@ least_of blocked = if blocked then 2 ^ 64 - 1 else 0
 abbrev pub due_at_least : ℕ → ℕ → ℕ
 due_at_least least due = max due least
 
--- what is kept is so of a machine: no actor but the processors is due before its tick, and no halted processor is to wake unless that is 0; each
--- processor's least tick says whether it is blocked; and its interrupt line is up or isn't
+-- the tick before which nothing touches a processor but its own steps
+abbrev pub until_of : NextEvent → Proc → Tick
+until_of next_event Nine = next_event.nine_until
+until_of next_event Seven = next_event.seven_until
+
+-- what is kept is so of a machine: for each processor no actor but the processors is due before its tick, and no halted processor is to wake unless that is 0;
+-- each processor's least tick says whether it is blocked; and its interrupt line is up or isn't
 pub record IsNextEvent (next_event : NextEvent) (s : MachineState) : Type 0 where
-  pub events : IsOver (events_of s) next_event.until.0
-  pub asleep : 0 < next_event.until.0 → AreAsleep s
+  pub events : (proc : Proc) → IsOver (events_of s) (until_of next_event proc).0
+  pub asleep : (proc : Proc) → 0 < (until_of next_event proc).0 → AreAsleep s
   pub nine_least : next_event.nine_least ≡ least_of (is_blocked s Nine)
   pub seven_least : next_event.seven_least ≡ least_of (is_blocked s Seven)
   pub nine_line : next_event.nine_line ≡ line_of s Nine

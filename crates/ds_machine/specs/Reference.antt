@@ -1,33 +1,43 @@
-use Rattle.std.specs.Prelude.{ℕ, ◌+◌, ◌*◌, ◌≡◌, ◌<◌, ◌≤◌, ◌^◌, Bool, true, false, if◌then◌else◌, List, [], ◌∷◌, map, Option, Some, None}
+use Rattle.std.specs.Prelude.{ℕ, ◌+◌, ◌*◌, ◌≡◌, ◌<◌, ◌≤◌, ◌^◌, Bool, true, false, if◌then◌else◌, List, [], ◌∷◌, map, min, Option, Some, None, Result, Ok, Err}
 use Rattle.ds_base.specs.KeyLines.{AreKeyLines}
 use Rattle.ds_base.specs.declared.keys.KeyLine.{KeyLine}
 use Rattle.ds_base.specs.declared.left_out.LeftOut.{LeftOut}
+use Rattle.ds_base.specs.declared.left_out.Stop.{Stop}
 use Rattle.ds_base.specs.declared.ticks.Due.{Due}
 use Rattle.ds_base.specs.declared.ticks.Tick.{Tick}
 use Rattle.ds_base.specs.declared.processors.Proc.{Proc}
+use Rattle.ds_base.specs.declared.processors.Proc.TheVariants.{Nine}
 use Rattle.ds_ports.specs.Dues.{IsIo, io_due}
-use Rattle.ds_ports.specs.Io.{io_event, keys_pressed}
-use Rattle.ds_ports.specs.Videos.{makes_whole, video_due}
+use Rattle.ds_ports.specs.Io.{io_event, keys_pressed, video_done}
 use Rattle.ds_runs.specs.Actors.{actors, actor_of}
 use Rattle.ds_runs.specs.Runs.{TickMachine, MachineStep, Makes, Stops, IsLeast, due_at}
 use Rattle.ds_runs.specs.declared.actors.Actor as actor
-use Rattle.ds_runs.specs.declared.actors.Actor.TheVariants.{KeyScript, Video, Dma, Processor}
-use Rattle.ds_machine.specs.Channels.{channel_step, one_event}
+use Rattle.ds_runs.specs.declared.actors.Actor.TheVariants.{KeyScript, Video, Timer, Geometry, Card, Dma, Processor}
+use Rattle.ds_machine.specs.Channels.{channel_step, one_event, stopped_at}
 use Rattle.ds_machine.specs.States.{MachineState, ProcessorState, counts_of}
-use Rattle.ds_machine.specs.Steps.{is_blocked, processor_of, processor_step, tick_of, with_io, woken}
+use Rattle.ds_machine.specs.Steps.{is_blocked, is_halted, processor_of, processor_step, tick_of, wakes, with_io, woken}
+use Rattle.video2d.specs.Scans.{scan_due, scan_due_tick}
+use Rattle.video2d.specs.Videos.{video_answer}
+use Rattle.video2d.specs.declared.videos.Shown as display
 use Rattle.ds_machine.specs.declared.answers.Done.{Done}
 use Rattle.ds_machine.specs.declared.answers.Done.TheVariants.{Made, Frame, Stopped}
 
 -- The reference machine. Geometry and the card aren't built yet; they are never due.
 
--- what a run puts out: a frame became whole at this tick, and waiting lists were swapped there or not
+-- what a run puts out: a frame became whole at this tick, its 98,304 pixels, the upper screen's first, and whether waiting lists were swapped there
 pub record Shown : Type 0 where
   pub tick : ℕ
+  -- its 98,304 pixels, the upper screen's first
+  pub frame : List ℕ
   pub swapped : Bool
 
--- the frame that the display's next event makes whole
-abbrev pub next_shown : MachineState → Bool → Shown
-next_shown s swapped = record { tick = video_due s.io.video; swapped = swapped }
+-- what an event at a tick put out that made a frame whole, by the machine that it left
+abbrev pub shown_at : ℕ → MachineState → Bool → Shown
+shown_at tick s swapped = record { tick = tick; frame = s.io.video.whole; swapped = swapped }
+
+-- the frame that the display's event makes whole, by the state before it and the state after it
+abbrev pub next_shown : MachineState → MachineState → Bool → Shown
+next_shown old new swapped = shown_at (scan_due old.io.video.scan) new swapped
 
 -- when a processor is due: never while it is blocked
 abbrev pub due_unless : Bool → ProcessorState → Option Tick
@@ -56,20 +66,26 @@ abbrev pub after_line : List KeyLine → MachineState → MachineState
 after_line [] s = s
 after_line (line ∷ lines) s = one_event (record (with_io s (keys_pressed s.io line.pressed)) { keys = lines })
 
--- the event of an actor behind the ports, and what it puts out: the start of line 192 makes a frame whole
+-- the event of an actor behind the ports
 abbrev pub after_event : actor.Actor → MachineState → MachineState
 after_event a s = one_event (with_io s (io_event a s.io))
 
-abbrev pub shown_by : actor.Actor → MachineState → List Shown
-shown_by Video s = if makes_whole s.io.video then next_shown s false ∷ [] else []
-shown_by a s = []
+-- the display's, which reads palettes and OAM, by what it answers: the start of line 192 makes a frame whole, and that is put out; a line that needs what isn't
+-- there stops, and then the machine is as it was
+abbrev pub after_video : MachineState → MachineState
+after_video s = one_event (with_io s (video_done s.palette s.oam s.io))
+
+abbrev pub video_step : ℕ → Result display.Shown Stop → MachineState → MachineStep MachineState Shown LeftOut
+video_step rank (Ok shown) s = Makes (after_video s) (if shown.frame then shown_at (scan_due s.io.video.scan) (after_video s) false ∷ [] else [])
+video_step rank (Err stop) s = Stops (stopped_at rank (scan_due_tick s.io.video.scan) stop) s
 
 -- what an actor's step comes to
 abbrev pub step_by : ℕ → actor.Actor → MachineState → MachineStep MachineState Shown LeftOut
 step_by rank KeyScript s = Makes (after_line s.keys s) []
+step_by rank Video s = video_step rank (video_answer s.oam s.io.video) s
 step_by rank (Dma proc channel) s = channel_step rank proc (io_due (Dma proc channel) s.io) s
 step_by rank (Processor proc) s = processor_step rank proc s
-step_by rank a s = Makes (after_event a s) (shown_by a s)
+step_by rank a s = Makes (after_event a s) []
 
 -- and after a step that is taken halted processors wake that are to
 abbrev pub awake : Option Tick → MachineStep MachineState Shown LeftOut → MachineStep MachineState Shown LeftOut
@@ -90,7 +106,7 @@ MayStep s rank = (tick : Tick) × IsLeast (dues_of s) tick rank × (tick.0 ≤ 2
 -- what a step came to, by what is answered and by the machine afterwards
 abbrev pub stepped_of : MachineState → Done → MachineState → MachineStep MachineState Shown LeftOut
 stepped_of old Made new = Makes new []
-stepped_of old (Frame swapped) new = Makes new (next_shown old swapped ∷ [])
+stepped_of old (Frame swapped) new = Makes new (shown_at (scan_due old.io.video.scan) new swapped ∷ [])
 stepped_of old (Stopped left) new = Stops left new
 
 -- the actor of a rank took its step
@@ -106,16 +122,51 @@ abbrev pub FastStep : ℕ → MachineState → Bool → MachineState → Type 0
 FastStep until old false new = new ≡ old
 FastStep until old true new = (due : Due) × IsDue old due × (due.tick.0 < until) × Steps due.rank old Made new
 
--- the states that come up: each unit's numbers are those that it can have, and the lines of the script that are to come rise
-pub record IsSound (s : MachineState) : Type 0 where
+-- ---- the states that come up
+
+-- at every time: each unit's numbers are those that it can have, and the lines of the script that are to come rise
+pub record HasSoundParts (s : MachineState) : Type 0 where
   pub io : IsIo s.io
   pub keys : AreKeyLines s.keys
 
--- Each step was taken at a place of its own in the order of steps, which has 24 places for each tick: so there were no more of them than places before
--- that of whatever is due.
-abbrev pub HasCounted : MachineState → Type 0
-HasCounted s = (rank : ℕ) → (tick : Tick) → due_at (dues_of s) rank ≡ Some tick → counts_of s ≤ 24 * tick.0 + rank
+-- no halted processor is to wake
+abbrev pub AreAsleep : MachineState → Type 0
+AreAsleep s = (proc : Proc) → wakes s proc ≡ false
+
+-- and unless a step stopped: after each step that is taken those woke that were to
+pub record IsSound (s : MachineState) : Type 0 where
+  pub parts : HasSoundParts s
+  pub asleep : AreAsleep s
+
+-- ---- counts, by owner
+
+-- the actors that may halt a processor, or wake it, or make it wait: the key script, the display, its timers, its DMA channels, the card, and geometry for ARM9
+-- (our choice; neither of the last two is built yet)
+abbrev pub Fences : actor.Actor → Proc → Type 0
+Fences KeyScript proc = Unit {0}
+Fences Video proc = Unit {0}
+Fences (Timer each number) proc = each ≡ proc
+Fences (Dma each channel) proc = each ≡ proc
+Fences Card proc = Unit {0}
+Fences Geometry proc = proc ≡ Nine
+Fences a proc = ⊥
+
+-- A processor took each step at a tick of its own, and the other actors each event at a place of its own in the order of events, which has 22 places for each
+-- tick: so there were no more of them than ticks, or places, before what is due.
+pub record HasCounted (s : MachineState) : Type 0 where
+  -- before the processor's own due tick, while it isn't halted
+  pub own : (proc : Proc) → is_halted s proc ≡ false → (processor_of s proc).steps ≤ (processor_of s proc).due
+  -- up to the due tick of what may halt it
+  pub fenced : (proc : Proc) (rank : ℕ) (tick : Tick) → due_at (dues_of s) rank ≡ Some tick → Fences (actor_of rank) proc → (processor_of s proc).steps ≤ tick.0 + 1
+  -- up to any due tick, while it is halted
+  pub halted : (proc : Proc) (rank : ℕ) (tick : Tick) → is_halted s proc ≡ true → due_at (dues_of s) rank ≡ Some tick → (processor_of s proc).steps ≤ tick.0 + 1
+  pub events : (rank : ℕ) (tick : Tick) → due_at (dues_of s) rank ≡ Some tick → s.events ≤ 22 * tick.0 + min rank 22
 
 -- all steps were taken below a limit
-abbrev pub CountsWithin : ℕ → MachineState → Type 0
-CountsWithin limit s = counts_of s ≤ 24 * limit
+pub record CountsWithin (limit : ℕ) (s : MachineState) : Type 0 where
+  pub steps : (proc : Proc) → (processor_of s proc).steps ≤ limit
+  pub events : s.events ≤ 22 * limit
+
+-- so they add up to at most 24 times the limit
+abbrev pub CountsAddUp : Type 0
+CountsAddUp = (limit : ℕ) (s : MachineState) → CountsWithin limit s → counts_of s ≤ 24 * limit

@@ -33,16 +33,18 @@ impl Parts {
         }
     }
 
-    /// Copies the image of a processor to where its header says.
+    /// Copies the image of a processor to where its header says. That is RAM, so no unit changes.
     pub fn copy_image(&mut self, cart: &Cart, proc: Proc)
-        ensures { self.new ≡ with_image proc self.old cart.now }
+        ensures copied { self.new ≡ with_image proc self.old cart.now }
+        ensures units { self.new.io ≡ self.old.io }
     {
         self.copy(proc, cart.place(proc), cart.image(proc));
     }
 
-    /// Leaves the header in main memory.
+    /// Leaves the header in main memory. No unit changes.
     pub fn copy_header(&mut self, cart: &Cart)
-        ensures { self.new ≡ with_header self.old cart.now }
+        ensures copied { self.new ≡ with_header self.old cart.now }
+        ensures units { self.new.io ≡ self.old.io }
     {
         let file = cart.bytes();
         self.copy(Proc::Nine, HEADER_PLACE, &file[..HEADER_BYTES]);

@@ -4,11 +4,13 @@ ghost use Rattle.std.specs.Prelude.{◌≡◌, ◌<◌, ◌≤◌, ◌^◌, IsSo
 ghost use Rattle.ds_dma.specs.States.{dma_due};
 ghost use Rattle.ds_map.specs.Moves.{unit_moved, unit_refusal};
 ghost use Rattle.ds_ports.specs.Dues.{io_due};
-ghost use Rattle.ds_ports.specs.Io.{io_of};
+ghost use Rattle.ds_ports.specs.Io.{io_of, video_done};
 ghost use Rattle.ds_runs.specs.Actors.{IsNumbered};
 ghost use Rattle.ds_machine.specs.Channels.{delayed_past, moved_by, one_event};
 ghost use Rattle.ds_machine.specs.Reference.{after_event, awake, due_by, step_by, stepped_of};
-ghost use Rattle.ds_machine.specs.Steps.{map_of, with_map, woken};
+ghost use Rattle.ds_machine.specs.Steps.{map_of, with_io, with_map, woken};
+ghost use Rattle.video2d.specs.Scans.{scan_due};
+ghost use Rattle.video2d.specs.Videos.{video_answer};
 ghost use Rattle.ds_runs.specs.declared.actors.Actor.TheVariants as actors;
 
 use crate::answers::Done;
@@ -17,6 +19,7 @@ use ds_base::{LeftKind, LeftOut, Proc, Stop, Tick};
 use ds_dma::Unit;
 use ds_map::unit_needs;
 use ds_runs::Actor;
+use video2d::Shown;
 
 impl Parts {
     /// An event was taken at a tick: it counts, and halted processors wake that are to.
@@ -55,20 +58,37 @@ impl Parts {
         self.end_event(tick);
     }
 
-    /// The display's event.
+    /// The display's event, but for its count.
+    fn show(&mut self) -> Result<Shown, Stop>
+        requires { scan_due self.old.io.video.scan ≤ 2 ^ 56 }
+        ensures answer { result ≡ video_answer self.old.oam self.old.io.video }
+        ensures state { self.new ≡ with_io self.old (video_done self.old.palette self.old.oam self.old.io) }
+    {
+        self.map.show(&mut self.io)
+    }
+
+    /// The display's event. It stops where the line that would be drawn needs what isn't there.
     pub fn step_video(&mut self, rank: u8, tick: Tick) -> Done
         requires due { due_by actors.Video self.old ≡ Some tick }
         requires early { tick.0 ≤ 2 ^ 56 }
         requires counted { self.old.events ≤ 2 ^ 61 }
         ensures { awake (Some tick) (step_by rank actors.Video self.old) ≡ stepped_of self.old result self.new }
     {
-        let _ = rank;
-        let whole = self.io.video().makes_whole();
-        self.step_event(Actor::Video, tick);
-        if whole {
-            return Done::Frame { swapped: false };
+        match self.show() {
+            Ok(shown) => {
+                self.end_event(tick);
+                if shown.frame {
+                    return Done::Frame { swapped: false };
+                }
+                Done::Made
+            }
+            Err(stop) => Done::Stopped(LeftOut {
+                kind: stop.kind,
+                tick,
+                rank,
+                value: stop.value,
+            }),
         }
-        Done::Made
     }
 
     /// A processor is due after a tick at the earliest.

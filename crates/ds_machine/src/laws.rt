@@ -1,9 +1,10 @@
 //! The laws of the reference run.
 
 ghost use Rattle.ds_runs.specs.Laws.{RunsJoin, RunsAreOne, RunsExist, RunsEnd};
-ghost use Rattle.ds_machine.specs.Apart.{LeaveNine, LeaveSeven};
+ghost use Rattle.ds_machine.specs.Apart.{DisplayLeavesNine, LeaveNine, LeaveSeven};
+ghost use Rattle.ds_machine.specs.Frames.{StepsFollowFrames, StopsLeaveFrames};
 ghost use Rattle.ds_machine.specs.OwnSteps.{IsStep7, IsStep9};
-ghost use Rattle.ds_machine.specs.Reference.{reference, IsSound};
+ghost use Rattle.ds_machine.specs.Reference.{reference, CountsAddUp, HasSoundParts};
 ghost use Rattle.ds_machine.specs.Statuses.{BootsWithStatuses, RunsKeepStatuses, StepsKeepStatuses};
 
 /// Does nothing; its contract states the laws of the reference run, which hold for every state and every limit: the run to a
@@ -12,16 +13,17 @@ ghost use Rattle.ds_machine.specs.Statuses.{BootsWithStatuses, RunsKeepStatuses,
 pub fn reference_laws()
     ensures join { RunsJoin reference }
     ensures one { RunsAreOne reference }
-    ensures exist { RunsExist reference IsSound }
-    ensures end { RunsEnd reference 24 IsSound }
+    ensures exist { RunsExist reference HasSoundParts }
+    ensures end { RunsEnd reference 24 HasSoundParts }
 {}
 
 /// Does nothing; its contract states that a step neither changes a processor's own part nor depends on it, but for that processor's steps and those of its
-/// DMA channels.
+/// DMA channels. The display reads palettes and OAM, which stand with ARM9's part; `display` says that it changes none of that part, and depends on nothing else of it.
 #[tactic(auto, using(crate::proofs::Apart::leave_nine, crate::proofs::Apart::leave_seven))]
 pub fn own_part_laws()
     ensures nine { LeaveNine }
     ensures seven { LeaveSeven }
+    ensures display { DisplayLeavesNine }
 {}
 
 /// Does nothing; its contract states that a processor's step that needs nothing that isn't built is that of the processor's own crate: ARM9's that of `step9`, with CP15
@@ -38,4 +40,16 @@ pub fn status_laws()
     ensures boot { BootsWithStatuses }
     ensures step { StepsKeepStatuses }
     ensures run { RunsKeepStatuses }
+{}
+
+/// Does nothing; its contract states that counts within a limit add up to at most 24 times it: each processor took at most a step a tick, and the other actors 22 events.
+pub fn count_laws()
+    ensures { CountsAddUp }
+{}
+
+/// Does nothing; its contract states that the frame that a step puts out is the machine's last whole frame after it, and that a step that puts out none, or
+/// that stops, leaves the last whole frame.
+pub fn frame_laws()
+    ensures step { StepsFollowFrames }
+    ensures stop { StopsLeaveFrames }
 {}

@@ -20,5 +20,5 @@ mod steps;
 mod turns;
 
 pub use answers::{Done, Seen};
-pub use laws::{own_part_laws, own_step_laws, reference_laws, status_laws};
+pub use laws::{count_laws, frame_laws, own_part_laws, own_step_laws, reference_laws, status_laws};
 pub use machines::Machine;

@@ -1,12 +1,14 @@
 //! The machine.
 
-ghost use Rattle.std.specs.Prelude.{◌≡◌, ◌<◌, ◌≤◌, ◌^◌, slice_index, IfOk};
+ghost use Rattle.std.specs.Prelude.{◌≡◌, ◌<◌, ◌≤◌, ◌^◌, slice_index, length, IfOk};
 ghost use Rattle.ds_base.specs.Memories.{memory_size};
 ghost use Rattle.ds_ipc.specs.Ipcs.{AreSides};
+ghost use Rattle.ds_ports.specs.Io.{io_at_boot};
 ghost use Rattle.ds_runs.specs.Runs.{due_at};
 ghost use Rattle.ds_machine.specs.Booted.{machine_booted};
+ghost use Rattle.ds_machine.specs.Frames.{framed_of};
 ghost use Rattle.ds_machine.specs.Observed.{memory_of, registers_of, seen_of};
-ghost use Rattle.ds_machine.specs.Reference.{dues_of, FastStep, IsDue, IsSound, HasCounted, MayStep, Steps};
+ghost use Rattle.ds_machine.specs.Reference.{dues_of, FastStep, HasCounted, HasSoundParts, IsDue, MayStep, Steps};
 ghost use Rattle.ds_machine.specs.Statuses.{HasBothStatuses};
 ghost use Rattle.ds_machine.specs.Steps.{processor_of};
 
@@ -35,22 +37,23 @@ impl Model for Machine {
 
     ghost view = { λ m. m.parts };
 
-    // each step was taken at a place of its own in the order of steps, what is kept is so, and the status registers have only bits that are kept
+    // the counts are within what is due, what is kept is so, and the status registers have only bits that are kept
     ghost invariant = { λ m. HasCounted m.parts × IsNextEvent m.next_event m.parts × HasBothStatuses m.parts };
 }
 
 impl Machine {
     /// The machine as it is when it is switched on with a cartridge and a key script: ARM9's image is copied to memory, then ARM7's, then the
-    /// header; both processors are due at once. All memory of a run is taken here.
+    /// header; both processors are due at once. The images go to RAM, and leave the units behind the ports as they are at boot. All memory of a run is taken here.
     pub fn new(alloc: Global, cart: &Cart, keys: Keys) -> Result<Machine, AllocError>
-        ensures { IfOk result (λ machine. machine ≡ machine_booted cart.now keys) }
+        ensures booted { IfOk result (λ machine. machine ≡ machine_booted cart.now keys) }
+        ensures units { IfOk result (λ machine. machine.io ≡ io_at_boot) }
     {
         let parts = Parts::new(alloc, cart, keys)?;
         let next_event = parts.next_event();
         Ok(Machine { parts, next_event })
     }
 
-    /// The actor that steps next. All steps so far were at most as many as places before it in the order of steps.
+    /// The actor that steps next. Each processor's steps so far were at most as many as ticks before what may change it, and the events as places before what is due.
     #[inline(always)]
     pub fn due(&self) -> Due
         ensures least { IsDue self.now result }
@@ -82,7 +85,7 @@ impl Machine {
     }
 
     /// One step, where it is one of the fast path: a processor is due before every other actor and before a tick. The answer is whether it was
-    /// taken; where it wasn't nothing is changed. All steps so far were at most as many as places before it in the order of steps.
+    /// taken; where it wasn't nothing is changed. The steps before it were as few as `due` says.
     #[inline(always)]
     pub fn step_fast(&mut self, until: Tick) -> bool
         requires { until.0 ≤ 2 ^ 56 }
@@ -97,7 +100,7 @@ impl Machine {
     /// script that are to come rise; neither FIFO between the processors holds more than 16 words, each of 32 bits; and CPSR and each SPSR of both
     /// processors have no bits but those that are kept.
     pub fn laws(&self)
-        ensures sound { IsSound self.now }
+        ensures parts { HasSoundParts self.now }
         ensures ipc { AreSides self.now.io.ipc }
         ensures statuses { HasBothStatuses self.now }
     {
@@ -126,6 +129,22 @@ impl Machine {
         ensures { result ≡ slice_index (memory_of self.now memory) at }
     {
         self.parts.byte_of(memory, at)
+    }
+
+    /// The last whole frame: 98,304 pixels, line by line, the upper screen's first; all 0 before the first one. Red, green and blue stand in bits
+    /// 0 to 4, 5 to 9 and 10 to 14.
+    pub fn frame(&self) -> &[u16]
+        ensures value { result.now ≡ self.now.io.video.whole }
+        ensures long { length result.now ≡ 98304 }
+    {
+        self.parts.frame()
+    }
+
+    /// When the last whole frame became so: at the start of its line 192. None exactly where none is whole yet.
+    pub fn framed(&self) -> Option<Tick>
+        ensures { result ≡ framed_of self.now }
+    {
+        self.parts.io.video().framed()
     }
 
     /// A processor's registers, in the order in which they are written out.

@@ -2,8 +2,8 @@
 
 ghost use Rattle.std.specs.Prelude.{◌≡◌, ◌<◌, ◌≤◌, ◌^◌, ℕ, Some, false, true};
 ghost use Rattle.ds_runs.specs.Runs.{IsOver};
-ghost use Rattle.ds_machine.specs.NextEvents.{events_of, least_of, due_at_least, AreAsleep, IsNextEvent};
-ghost use Rattle.ds_machine.specs.Reference.{awake, step_by, stepped_of, FastStep, HasCounted};
+ghost use Rattle.ds_machine.specs.NextEvents.{events_of, least_of, due_at_least, until_of, IsNextEvent};
+ghost use Rattle.ds_machine.specs.Reference.{awake, step_by, stepped_of, AreAsleep, FastStep, HasCounted};
 ghost use Rattle.ds_machine.specs.Steps.{is_blocked, line_of, processor_of, tick_of};
 ghost use Rattle.ds_machine.specs.declared.answers.Done.TheVariants.{Made};
 
@@ -14,8 +14,10 @@ use ds_runs::Actor;
 /// What the units behind the ports, the key script and the display tell: it stands still while a processor's steps change none of them.
 #[derive(Clone, Copy)]
 pub struct NextEvent {
-    /// No actor but the processors is due before this tick; 0 where a halted processor is to wake.
-    pub until: Tick,
+    /// Nothing touches ARM9 before this tick but its own steps; 0 where a halted processor is to wake. So far that is the tick of the first event.
+    pub nine_until: Tick,
+    /// So it is with ARM7.
+    pub seven_until: Tick,
     /// ARM9 is due at this tick at the earliest: 0, or past all ticks of a run while it is blocked.
     pub nine_least: u64,
     /// So is ARM7.
@@ -58,8 +60,10 @@ impl Parts {
     pub fn next_event(&self) -> NextEvent
         ensures { IsNextEvent result self.now }
     {
+        let until = self.next_event_tick();
         NextEvent {
-            until: self.next_event_tick(),
+            nine_until: until,
+            seven_until: until,
             nine_least: self.least_of(Proc::Nine),
             seven_least: self.least_of(Proc::Seven),
             nine_line: self.line(Proc::Nine),
@@ -79,8 +83,8 @@ impl Parts {
     {
         let nine = due_at_least(next_event.nine_least, self.nine.processor.due);
         let seven = due_at_least(next_event.seven_least, self.seven.processor.due);
-        let end = next_event.until.0.min(until.0);
         if nine <= seven {
+            let end = next_event.nine_until.0.min(until.0);
             if nine < end {
                 return self.processor_fast(
                     next_event,
@@ -89,8 +93,16 @@ impl Parts {
                     Tick(nine),
                 );
             }
-        } else if seven < end {
-            return self.processor_fast(next_event, Proc::Seven, next_event.seven_line, Tick(seven));
+        } else {
+            let end = next_event.seven_until.0.min(until.0);
+            if seven < end {
+                return self.processor_fast(
+                    next_event,
+                    Proc::Seven,
+                    next_event.seven_line,
+                    Tick(seven),
+                );
+            }
         }
         false
     }
@@ -99,7 +111,7 @@ impl Parts {
     #[inline(always)]
     fn processor_fast(&mut self, next_event: NextEvent, proc: Proc, line: bool, tick: Tick) -> bool
         requires next_event { IsNextEvent next_event self.old }
-        requires before { tick.0 < next_event.until.0 }
+        requires before { tick.0 < (until_of next_event proc).0 }
         requires line { line ≡ line_of self.old proc }
         requires blocked { is_blocked self.old proc ≡ false }
         requires tick { tick ≡ tick_of (processor_of self.old proc) }

@@ -1,12 +1,13 @@
 //! The machine's parts, and what is told of them.
 
-ghost use Rattle.std.specs.Prelude.{◌≡◌, ◌<◌, slice_index, IfOk};
+ghost use Rattle.std.specs.Prelude.{◌≡◌, ◌<◌, slice_index, length, IfOk};
 ghost use Rattle.ds_base.specs.Memories.{memory_size};
 ghost use Rattle.ds_ipc.specs.Ipcs.{AreSides};
+ghost use Rattle.ds_ports.specs.Io.{io_at_boot};
 ghost use Rattle.ds_machine.specs.Booted.{machine_blank, machine_booted};
 ghost use Rattle.ds_machine.specs.Observed.{fetch_of, memory_of, seen_of};
 ghost use Rattle.ds_machine.specs.Processors.{state_of};
-ghost use Rattle.ds_machine.specs.Reference.{IsSound};
+ghost use Rattle.ds_machine.specs.Reference.{HasSoundParts};
 ghost use Rattle.ds_machine.specs.Steps.{is_blocked, line_of, processor_of};
 
 use crate::answers::Seen;
@@ -81,7 +82,8 @@ impl Model for Parts {
 impl Parts {
     /// The parts at boot.
     pub fn new(alloc: Global, cart: &Cart, keys: Keys) -> Result<Parts, AllocError>
-        ensures { IfOk result (λ parts. parts ≡ machine_booted cart.now keys) }
+        ensures booted { IfOk result (λ parts. parts ≡ machine_booted cart.now keys) }
+        ensures units { IfOk result (λ parts. parts.io ≡ io_at_boot) }
     {
         let mut parts = Parts::blank(alloc, cart, keys)?;
         parts.copy_image(cart, Proc::Nine);
@@ -142,7 +144,7 @@ impl Parts {
 
     /// Does nothing; its contract states what holds of every machine.
     pub fn laws(&self)
-        ensures { IsSound self.now }
+        ensures { HasSoundParts self.now }
     {
         self.io.laws();
         self.script.laws();
@@ -190,6 +192,14 @@ impl Parts {
             at,
             word: self.fetch_of(proc, at, Width::Word),
         }
+    }
+
+    /// The last whole frame.
+    pub fn frame(&self) -> &[u16]
+        ensures value { result.now ≡ self.now.io.video.whole }
+        ensures long { length result.now ≡ 98304 }
+    {
+        self.io.video().frame()
     }
 
     /// A memory's bytes, from where they lie.

@@ -2,10 +2,11 @@
 
 ghost use Rattle.std.specs.Prelude.{◌≡◌, ◌<◌, ◌≤◌, ◌^◌, Some};
 ghost use Rattle.arm_core.specs.declared.outcomes.Stepped.TheVariants.{Cost};
+ghost use Rattle.ds_base.specs.declared.processors.Proc.{Proc};
 ghost use Rattle.ds_runs.specs.Actors.{IsNumbered};
+ghost use Rattle.ds_runs.specs.declared.actors.Actor.TheVariants.{Processor};
 ghost use Rattle.ds_machine.specs.Processors.{stop_in};
 ghost use Rattle.ds_machine.specs.Reference.{awake, due_by, step_by, stepped_of, HasCounted, MayStep, Steps};
-ghost use Rattle.ds_machine.specs.States.{counts_of};
 ghost use Rattle.ds_machine.specs.Steps.{machine_concluded, goes_on, gone_by, is_halted, line_of, outcome_of, processor_of, tick_of, wakes, went_on, with_processor, woken, woken_one};
 
 use crate::answers::Done;
@@ -37,7 +38,8 @@ impl Parts {
         requires numbered { IsNumbered actor }
         requires due { due_by actor self.old ≡ Some tick }
         requires early { tick.0 ≤ 2 ^ 56 }
-        requires counted { counts_of self.old ≤ 2 ^ 61 }
+        requires counted { (proc : Proc) → actor ≡ Processor proc → (processor_of self.old proc).steps ≤ 2 ^ 61 }
+        requires events { self.old.events ≤ 2 ^ 61 }
         ensures { awake (Some tick) (step_by rank actor self.old) ≡ stepped_of self.old result self.new }
     {
         match actor {

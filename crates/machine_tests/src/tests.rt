@@ -1,3 +1,5 @@
-//! What a machine tells: when each actor is due, what each processor does next, and its memory, byte by byte.
+//! What a machine tells: when each actor is due, what each processor does next, its memory, byte by byte, and the frame; and what the display's
+//! events do to it.
 
+mod display;
 mod told;

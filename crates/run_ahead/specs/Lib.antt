@@ -1,3 +1,2 @@
 pub mod Consoles
-pub mod Inside
 pub mod Turns

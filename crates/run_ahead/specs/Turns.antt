@@ -35,12 +35,19 @@ run_to old until machine = record old { machine = machine; limit = max old.limit
 -- what a turn with a limit does to a console, by its answer: one step of the reference machine; after a stop nothing any more
 abbrev pub Turns : ℕ → ConsoleState → Turned → ConsoleState → Type 0
 Turns until old Ran new = (old.stopped ≡ None) × TakesStep until old.machine [] new.machine × (new ≡ run_to old until new.machine)
-Turns until old (Frame swapped) new = (old.stopped ≡ None) × TakesStep until old.machine (next_shown old.machine swapped ∷ []) new.machine
+Turns until old (Frame swapped) new = (old.stopped ≡ None) × TakesStep until old.machine (next_shown old.machine new.machine swapped ∷ []) new.machine
     × (new ≡ run_to old until new.machine)
 Turns until old AtEnd new = (old.stopped ≡ None) × IsOver (dues_of old.machine) until × (new ≡ run_to old until old.machine)
 Turns until old (Stopped left) new =
     (old.stopped ≡ None → MeetsStop until old.machine left new.machine × (new ≡ record (run_to old until new.machine) { stopped = Some left }))
     × (IsSome old.stopped → (old.stopped ≡ Some left) × (new ≡ old))
+
+-- what a turn puts out: the frame that it makes whole
+abbrev pub shown_in : Turned → MachineState → MachineState → List Shown
+shown_in Ran old new = []
+shown_in (Frame swapped) old new = next_shown old new swapped ∷ []
+shown_in AtEnd old new = []
+shown_in (Stopped left) old new = []
 
 -- to each limit that isn't below this one, what runs on from the new state is the rest of the run from the old one, which puts
 -- out these first
@@ -51,7 +58,7 @@ GoesOn until old new front = (limit : ℕ) → until ≤ limit → (end : Ending
 -- what a turn of a console that hasn't stopped says of the reference run
 abbrev pub RunsOn : ℕ → MachineState → Turned → MachineState → Type 0
 RunsOn until old Ran new = GoesOn until old new []
-RunsOn until old (Frame swapped) new = GoesOn until old new (next_shown old swapped ∷ [])
+RunsOn until old (Frame swapped) new = GoesOn until old new (next_shown old new swapped ∷ [])
 RunsOn until old AtEnd new = Runs reference until (At old) old []
 RunsOn until old (Stopped left) new = Runs reference until (runs.Stopped left) old []
 

@@ -1,14 +1,14 @@
 //! The console.
 
-ghost use Rattle.std.specs.Prelude.{◌≡◌, ◌≤◌, ◌<◌, ◌+◌, ◌*◌, ◌^◌, true, false, None, slice_index, IfOk};
+ghost use Rattle.std.specs.Prelude.{◌≡◌, ◌≤◌, ◌<◌, ◌+◌, ◌*◌, ◌^◌, true, false, None, slice_index, IfOk, length};
 ghost use Rattle.ds_base.specs.Memories.{memory_size};
 ghost use Rattle.ds_machine.specs.Booted.{machine_booted};
+ghost use Rattle.ds_machine.specs.Frames.{framed_of, last_frame, FollowFrames};
 ghost use Rattle.ds_machine.specs.Observed.{memory_of, registers_of, seen_of};
 ghost use Rattle.ds_ipc.specs.Ipcs.{AreSides};
-ghost use Rattle.ds_machine.specs.Reference.{IsDue, IsSound};
+ghost use Rattle.ds_machine.specs.Reference.{HasSoundParts, IsDue, IsSound};
 ghost use Rattle.ds_machine.specs.Statuses.{HasBothStatuses};
-ghost use Rattle.run_ahead.specs.Turns.{Turns, RunsOn, HasRuns, turns_of, turns_remaining, counted_of};
-ghost use Rattle.run_ahead.specs.Inside.{turned_by, stopped_by};
+ghost use Rattle.run_ahead.specs.Turns.{Turns, RunsOn, HasRuns, turns_of, turns_remaining, counted_of, shown_in};
 ghost use Rattle.run_ahead.specs.declared.turns.Turned.TheVariants.{Ran};
 
 use crate::turns::Turned;
@@ -43,15 +43,16 @@ pub struct Console {
 impl Model for Console {
     ghost use Rattle.run_ahead.specs.Consoles.{ConsoleState, open_of};
     ghost use Rattle.ds_machine.specs.Booted.{machine_booted};
-    ghost use Rattle.ds_machine.specs.Reference.{CountsWithin};
-    ghost use Rattle.std.specs.Prelude.{◌≡◌, ◌≤◌, ◌^◌};
+    ghost use Rattle.ds_machine.specs.Reference.{AreAsleep, CountsWithin};
+    ghost use Rattle.std.specs.Prelude.{◌≡◌, ◌≤◌, ◌^◌, None};
 
     ghost Value = { ConsoleState };
 
     ghost view = { λ c. record { machine = c.machine; limit = c.limit; stopped = c.stopped } };
 
-    // no step was taken at its limit or later; and a turn whose limit isn't above the open one neither raises its limit nor comes after a stop
-    ghost invariant = { λ c. CountsWithin c.limit c.machine × (c.limit ≤ 2 ^ 56) × (c.open_until ≡ open_of c.limit c.stopped) };
+    // no step was taken at its limit or later; a turn whose limit isn't above the open one neither raises its limit nor comes after a stop; and unless it
+    // stopped no halted processor is to wake
+    ghost invariant = { λ c. CountsWithin c.limit c.machine × (c.limit ≤ 2 ^ 56) × (c.open_until ≡ open_of c.limit c.stopped) × (c.stopped ≡ None → AreAsleep c.machine) };
 }
 
 impl Console {
@@ -69,12 +70,14 @@ impl Console {
     }
 
     /// One turn: nothing where no actor is due below the limit, and otherwise the step of the actor that is due first. After a
-    /// stop every turn answers the same and changes nothing. A turn that takes a step is one more of the counts, and fewer such turns
+    /// stop every turn answers the same and changes nothing. The frame that a turn made whole is the last whole one after it, and every other turn
+    /// leaves the last whole one as it was. A turn that takes a step is one more of the counts, and fewer such turns
     /// are left below the limit.
     pub fn turn(&mut self, until: Tick) -> Turned
         requires { until.0 ≤ 2 ^ 56 }
         ensures turn { Turns until.0 self.old result self.new }
         ensures runs { self.old.stopped ≡ None → RunsOn until.0 self.old.machine result self.new.machine }
+        ensures frames { FollowFrames self.old.machine self.new.machine (shown_in result self.old.machine self.new.machine) }
         ensures counted { turns_of self.new.machine ≡ counted_of result + turns_of self.old.machine }
         ensures falls { counted_of result ≡ 1 → turns_remaining until.0 self.new.machine < turns_remaining until.0 self.old.machine }
     {
@@ -83,10 +86,11 @@ impl Console {
     }
 
     /// Does nothing; its contract states what holds of every console's machine: each unit's numbers are those that it can have, and the lines of the key
-    /// script that are to come rise; neither FIFO between the processors holds more than 16 words, each of 32 bits; and CPSR and each SPSR of both
-    /// processors have no bits but those that are kept.
+    /// script that are to come rise; unless the console has stopped no halted processor is to wake; neither FIFO between the processors holds more than 16
+    /// words, each of 32 bits; and CPSR and each SPSR of both processors have no bits but those that are kept.
     pub fn laws(&self)
-        ensures sound { IsSound self.now.machine }
+        ensures parts { HasSoundParts self.now.machine }
+        ensures sound { self.now.stopped ≡ None → IsSound self.now.machine }
         ensures ipc { AreSides self.now.machine.io.ipc }
         ensures statuses { HasBothStatuses self.now.machine }
     {
@@ -101,6 +105,7 @@ impl Console {
         ensures none { result ≡ false → self.new ≡ self.old }
         ensures turn { result ≡ true → Turns until.0 self.old Ran self.new }
         ensures runs { result ≡ true → RunsOn until.0 self.old.machine Ran self.new.machine }
+        ensures frames { result ≡ true → last_frame self.new.machine ≡ last_frame self.old.machine }
         ensures counted { result ≡ true → turns_of self.new.machine ≡ 1 + turns_of self.old.machine }
         ensures falls { result ≡ true → turns_remaining until.0 self.new.machine < turns_remaining until.0 self.old.machine }
     {
@@ -111,7 +116,8 @@ impl Console {
     /// A step of the fast path, where the console hasn't stopped and it raises no limit; the result is whether it was.
     #[inline(always)]
     fn step_fast(&mut self, until: Tick) -> bool
-        requires { until.0 ≤ 2 ^ 56 }
+        requires early { until.0 ≤ 2 ^ 56 }
+        requires parts { HasSoundParts self.old.machine }
         ensures none { result ≡ false → self.new ≡ self.old }
         ensures turn { result ≡ true → Turns until.0 self.old Ran self.new }
     {
@@ -124,7 +130,8 @@ impl Console {
     /// A turn, as the one step that it is so far.
     #[inline(never)]
     fn step(&mut self, until: Tick) -> Turned
-        requires { until.0 ≤ 2 ^ 56 }
+        requires early { until.0 ≤ 2 ^ 56 }
+        requires parts { HasSoundParts self.old.machine }
         ensures { Turns until.0 self.old result self.new }
     {
         if let Some(left) = self.stopped {
@@ -136,17 +143,8 @@ impl Console {
         if until.0 <= due.tick.0 {
             return Turned::AtEnd;
         }
-        let done = self.machine.step(due.rank);
-        self.answer(done)
-    }
-
-    /// What a turn answers to what its step came to. A stop is kept.
-    #[inline(always)]
-    fn answer(&mut self, done: Done) -> Turned
-        ensures answer { result ≡ turned_by done }
-        ensures state { self.new ≡ stopped_by done self.old }
-    {
-        match done {
+        // what it stops at is kept before anything else is called: a machine that stopped may have a halted processor that is to wake
+        match self.machine.step(due.rank) {
             Done::Made => Turned::Ran,
             Done::Frame { swapped } => Turned::Frame { swapped },
             Done::Stopped(left) => {
@@ -193,6 +191,22 @@ impl Console {
         self.machine.byte_of(memory, at)
     }
 
+    /// The last whole frame: 98,304 pixels, line by line, the upper screen's first; all 0 before the first one. Red, green and blue stand in
+    /// bits 0 to 4, 5 to 9 and 10 to 14.
+    pub fn frame(&self) -> &[u16]
+        ensures value { result.now ≡ self.now.machine.io.video.whole }
+        ensures long { length result.now ≡ 98304 }
+    {
+        self.machine.frame()
+    }
+
+    /// When the last whole frame became so: at the start of its line 192. None exactly where none is whole yet.
+    pub fn framed(&self) -> Option<Tick>
+        ensures { result ≡ framed_of self.now.machine }
+    {
+        self.machine.framed()
+    }
+
     /// A processor's registers, in the order in which they are written out.
     pub fn registers(&self, proc: Proc) -> [u32; 37]
         ensures { result ≡ registers_of self.now.machine proc }
@@ -208,12 +222,14 @@ impl Console {
         Tick(self.limit)
     }
 
-    /// How many steps there were. They add up to at most 24 times the limit, and each was a turn.
+    /// How many steps there were: of each processor at most one a tick below the limit, of all other actors 22. So they add up to at most 24 times the limit. Each
+    /// was a turn.
     pub fn counts(&self) -> Counts
         ensures nine { result.nine ≡ self.now.machine.nine.processor.steps }
         ensures seven { result.seven ≡ self.now.machine.seven.processor.steps }
         ensures events { result.events ≡ self.now.machine.events }
         ensures turns { result.turns ≡ turns_of self.now.machine }
+        ensures each { (result.nine ≤ self.now.limit) × (result.seven ≤ self.now.limit) × (result.events ≤ 22 * self.now.limit) }
         ensures bound { result.nine + result.seven + result.events ≤ 24 * self.now.limit }
     {
         let nine = self.machine.steps(Proc::Nine);

@@ -1,8 +1,8 @@
 //! Machines of two small programs, and what they tell after some steps. All ticks are worked by hand from the instructions' costs.
 
-use Line::{Due, First, Main, NotDue, Sees, Steps, Took};
+use Line::{Due, First, Frame, Main, NotDue, Pixel, Sees, Steps, Stops, Took, Until};
 use ds_base::Proc::{Nine, Seven};
-use ds_base::{KeyLine, Keys, Memory, Proc, Tick};
+use ds_base::{KeyLine, Keys, Memory, Proc, Stop, Tick};
 use ds_header::Cart;
 use ds_machine::{Done, Machine, Seen};
 use std::alloc::{AllocError, Global};
@@ -29,7 +29,7 @@ const SEVEN: usize = 0x280;
 
 /// A line of a table, which looks at the machine as it is then.
 #[derive(Clone, Copy)]
-enum Line {
+pub enum Line {
     /// So many steps are taken, of whichever actor is due first.
     Steps(u32),
     /// The actor of a rank is due at a tick.
@@ -44,6 +44,14 @@ enum Line {
     Main(u32, u8),
     /// How many steps ARM9, ARM7 and all others took.
     Took(u64, u64, u64),
+    /// Steps are taken up to a tick.
+    Until(u64),
+    /// The next step makes a frame whole.
+    Frame,
+    /// The next step stops: its tick, its rank, and what is left out.
+    Stops(u64, u8, Stop),
+    /// A pixel of the last whole frame.
+    Pixel(u32, u16),
 }
 
 fn put(file: &mut Vec<u8>, at: usize, word: u32) {
@@ -56,7 +64,7 @@ fn put(file: &mut Vec<u8>, at: usize, word: u32) {
 }
 
 /// A cartridge's file with two programs.
-fn file(alloc: Global, nine: &[u32], seven: &[u32]) -> Result<Vec<u8>, AllocError> {
+pub fn file(alloc: Global, nine: &[u32], seven: &[u32]) -> Result<Vec<u8>, AllocError> {
     let mut file = vec![in alloc; 0; LENGTH]?;
     for (at, word) in WORDS {
         put(&mut file, at, word);
@@ -71,7 +79,7 @@ fn file(alloc: Global, nine: &[u32], seven: &[u32]) -> Result<Vec<u8>, AllocErro
 }
 
 /// A script with one line.
-fn script(alloc: Global, tick: u64, pressed: u16) -> Result<Keys, AllocError> {
+pub fn script(alloc: Global, tick: u64, pressed: u16) -> Result<Keys, AllocError> {
     let mut keys = Keys::new(alloc);
     keys.push(KeyLine {
         tick: Tick(tick % 0x1_0000),
@@ -80,16 +88,43 @@ fn script(alloc: Global, tick: u64, pressed: u16) -> Result<Keys, AllocError> {
     Ok(keys)
 }
 
+/// The step of the actor that is due first, where its tick is early.
+fn step(machine: &mut Machine) -> Option<Done> {
+    let due = machine.due();
+    if due.tick.0 > 0x10_0000 {
+        return None;
+    }
+    Some(machine.step(due.rank))
+}
+
 /// Whether a step was taken.
 fn steps(machine: &mut Machine) -> bool {
-    let due = machine.due();
-    if due.tick.0 > 0x1_0000 {
-        return false;
+    matches!(step(machine), Some(Done::Made | Done::Frame { .. }))
+}
+
+/// Whether all steps up to a tick were taken.
+fn steps_until(machine: &mut Machine, tick: u64) -> bool {
+    for _ in 0..0x1_0000 {
+        if machine.due().tick.0 >= tick {
+            return true;
+        }
+        if !steps(machine) {
+            return false;
+        }
     }
-    match machine.step(due.rank) {
-        Done::Made => true,
-        Done::Frame { .. } => true,
-        Done::Stopped(_) => false,
+    false
+}
+
+/// Whether the next step stops so.
+fn stops(machine: &mut Machine, tick: u64, rank: u8, stop: Stop) -> bool {
+    match step(machine) {
+        Some(Done::Stopped(left)) => {
+            left.tick.0 == tick
+                && left.rank == rank
+                && left.kind == stop.kind
+                && left.value == stop.value
+        }
+        _ => false,
     }
 }
 
@@ -116,11 +151,15 @@ fn holds(machine: &mut Machine, line: Line) -> bool {
                 && machine.steps(Seven) == seven
                 && machine.events() == events
         }
+        Until(tick) => steps_until(machine, tick),
+        Frame => matches!(step(machine), Some(Done::Frame { swapped: false })),
+        Stops(tick, rank, stop) => stops(machine, tick, rank, stop),
+        Pixel(at, value) => machine.frame()[(at % 98_304) as usize] == value,
     }
 }
 
 /// Each line in turn, of a machine with two programs and one line of keys.
-fn try_lines(
+pub fn try_lines(
     rt: &impl Abort,
     alloc: Global,
     file: Vec<u8>,

@@ -7,7 +7,7 @@ use Rattle.ds_machine.proofs.machines.Machine.new.Goals as goal
 
 pub invariant_of-result : goal.invariant_of-result
 invariant_of-result c = (
-  subst HasCounted (sym c.in_ok-parts.ensures) (counted_booted c.args.cart.now c.args.keys),
+  subst HasCounted (sym c.in_ok-parts.ensures.booted) (counted_booted c.args.cart.now c.args.keys),
   c.next_event-next_event.ensures,
-  subst HasBothStatuses (sym c.in_ok-parts.ensures) (boots_with_statuses c.args.cart.now c.args.keys),
+  subst HasBothStatuses (sym c.in_ok-parts.ensures.booted) (boots_with_statuses c.args.cart.now c.args.keys),
 )

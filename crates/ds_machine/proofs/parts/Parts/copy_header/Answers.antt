@@ -1,5 +1,8 @@
-use Rattle.std.proofs.Common.{ℕ, ◌≡◌, ◌≤◌, ◌+◌, List, length, take, arith, sym}
+use Rattle.std.proofs.Common.{ℕ, ◌≡◌, ◌≤◌, ◌+◌, List, length, take, arith, sym, ◌∙◌, ap}
 use Rattle.std.proofs.lemmas.List.{length-take-le}
+use Rattle.ds_base.specs.declared.processors.Proc.TheVariants.{Nine}
+use Rattle.ds_machine.specs.States.{MachineState}
+use Rattle.ds_machine.proofs.Booting.{copied_io}
 use Rattle.ds_machine.proofs.parts.Parts.copy_header.Goals as goal
 
 front : (xs : List ℕ) → 512 ≤ length xs → length (take 368 xs) ≡ 368
@@ -8,8 +11,17 @@ front xs long = length-take-le 368 xs (omega arith)
 fits : (n : ℕ) → n ≡ 368 → 41942528 + n ≤ 4294967296
 fits n e = omega arith
 
+in_main : (n : ℕ) → n ≡ 368 → 41942528 + n ≤ 67108864
+in_main n e = omega (arith, e)
+
 pub slice_bounds-copy-end : goal.slice_bounds-copy-end
 slice_bounds-copy-end c = sym (front c.bytes-file.result.now c.bytes-file.ensures.long)
 
 pub copy-requires : goal.copy-requires
 copy-requires c = fits (length (take 368 c.bytes-file.result.now)) (front c.bytes-file.result.now c.bytes-file.ensures.long)
+
+pub returns-clause-units : goal.returns-clause-units
+returns-clause-units c =
+    ap (λ (s : MachineState). s.io) c.copy.ensures
+    ∙ copied_io Nine c.args.self.now 41942528 (take 368 c.bytes-file.result.now) (omega arith)
+    (in_main (length (take 368 c.bytes-file.result.now)) (front c.bytes-file.result.now c.bytes-file.ensures.long))

@@ -4,9 +4,12 @@ use Rattle.ds_machine.specs.Booted.{with_header, with_image}
 use Rattle.ds_machine.specs.States.{MachineState}
 use Rattle.ds_machine.proofs.parts.Parts.new.Goals as goal
 
-pub returns : goal.returns
-returns c =
+pub returns-clause-booted : goal.returns-clause-booted
+returns-clause-booted c =
     let file = c.args.cart.now in
-    c.copy_header.ensures
-    ∙ ap (λ (s : MachineState). with_header s file) (c.copy_image-2.ensures
-    ∙ ap (λ (s : MachineState). with_image Seven s file) (c.copy_image.ensures ∙ ap (λ (s : MachineState). with_image Nine s file) c.in_ok-parts.ensures))
+    c.copy_header.ensures.copied
+    ∙ ap (λ (s : MachineState). with_header s file) (c.copy_image-2.ensures.copied
+    ∙ ap (λ (s : MachineState). with_image Seven s file) (c.copy_image.ensures.copied ∙ ap (λ (s : MachineState). with_image Nine s file) c.in_ok-parts.ensures))
+
+pub returns-clause-units : goal.returns-clause-units
+returns-clause-units c = c.copy_header.ensures.units ∙ c.copy_image-2.ensures.units ∙ c.copy_image.ensures.units ∙ ap (λ (s : MachineState). s.io) c.in_ok-parts.ensures

@@ -1,7 +1,7 @@
 use Rattle.std.proofs.Common.{refl, sym, subst, arith}
 use Rattle.ds_machine.specs.Reference.{CountsWithin}
-use Rattle.ds_machine.proofs.Booting.{within_booted}
+use Rattle.ds_machine.proofs.Booting.{asleep_booted, within_booted}
 use Rattle.run_ahead.proofs.consoles.Console.new.Goals as goal
 
 pub invariant_of-result : goal.invariant_of-result
-invariant_of-result c = (subst (CountsWithin 0) (sym c.in_ok-machine.ensures) (within_booted c.args.cart c.args.keys), omega arith, refl)
+invariant_of-result c = (subst (CountsWithin 0) (sym c.in_ok-machine.ensures.booted) (within_booted c.args.cart c.args.keys), omega arith, refl, λ none. asleep_booted c.in_ok-machine.machine c.in_ok-machine.ensures.units)

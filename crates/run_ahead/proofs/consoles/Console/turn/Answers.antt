@@ -1,4 +1,4 @@
-use Rattle.run_ahead.proofs.TurnLaws.{runs_on, turn_counts, turn_falls}
+use Rattle.run_ahead.proofs.TurnLaws.{runs_on, turn_counts, turn_falls, turn_frames}
 use Rattle.run_ahead.proofs.consoles.Console.turn.Goals as goal
 
 pub returns-clause-runs : goal.returns-clause-runs
@@ -8,4 +8,7 @@ pub returns-clause-counted : goal.returns-clause-counted
 returns-clause-counted c = turn_counts _ _ _ _ c.step.ensures
 
 pub returns-clause-falls : goal.returns-clause-falls
-returns-clause-falls c = λ counts. turn_falls _ _ _ _ c.laws.ensures.sound c.step.ensures counts
+returns-clause-falls c = λ counts. turn_falls _ _ _ _ c.laws.ensures.parts c.step.ensures counts
+
+pub returns-clause-frames : goal.returns-clause-frames
+returns-clause-frames c = turn_frames _ _ _ _ c.laws.ensures.parts c.step.ensures

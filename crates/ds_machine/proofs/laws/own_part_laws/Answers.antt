@@ -1,0 +1,5 @@
+use Rattle.ds_machine.proofs.Apart.{display_leaves_nine}
+use Rattle.ds_machine.proofs.laws.own_part_laws.Goals as goal
+
+pub returns-clause-display : goal.returns-clause-display
+returns-clause-display c = display_leaves_nine

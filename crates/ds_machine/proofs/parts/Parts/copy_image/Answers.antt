@@ -1,0 +1,11 @@
+use Rattle.std.proofs.Common.{ℕ, ◌≤◌, ◌+◌, List, length, sym, ◌∙◌, ap, subst}
+use Rattle.ds_machine.specs.States.{MachineState}
+use Rattle.ds_machine.proofs.Booting.{copied_io, image_lies}
+use Rattle.ds_machine.proofs.parts.Parts.copy_image.Goals as goal
+
+pub returns-clause-units : goal.returns-clause-units
+returns-clause-units c =
+    let lies = image_lies c.args.proc c.place.result _ c.place.ensures.lies in
+    ap (λ (s : MachineState). s.io) c.copy.ensures
+    ∙ copied_io c.args.proc c.args.self.now c.place.result c.image.result.now lies.0
+    (subst (λ (bytes : List ℕ). c.place.result + length bytes ≤ 0x04000000) (sym c.image.ensures.image) lies.1)

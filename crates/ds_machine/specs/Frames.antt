@@ -1,0 +1,43 @@
+use Rattle.std.specs.Prelude.{ℕ, ◌≡◌, List, map, Option, option_map}
+use Rattle.std.specs.List.{last_or}
+use Rattle.ds_base.specs.declared.ticks.Tick.{Tick}
+use Rattle.ds_base.specs.declared.left_out.LeftOut.{LeftOut}
+use Rattle.ds_runs.specs.Runs.{IsLeast, Makes, Stops}
+use Rattle.ds_machine.specs.Reference.{HasSoundParts, Shown, dues_of, reference_step}
+use Rattle.ds_machine.specs.States.{MachineState}
+use Rattle.video2d.specs.Scans.{framed_by}
+
+-- Frames that are whole.
+
+-- when the last whole frame of a machine became so, if one is: where the display is tells it
+abbrev pub framed_of : MachineState → Option Tick
+framed_of s = framed_by s.io.video.scan
+
+-- a frame that is whole: the tick at which it became so, and its 98,304 pixels, the upper screen's first
+pub record WholeFrame : Type 0 where
+  pub tick : ℕ
+  pub pixels : List ℕ
+
+-- a machine's last one, if one is whole
+abbrev pub last_frame : MachineState → Option WholeFrame
+last_frame s = option_map (λ (tick : Tick). (let frame : WholeFrame = record { tick = tick.0; pixels = s.io.video.whole } in frame)) (framed_of s)
+
+-- those that a run put out
+abbrev pub frame_shown : Shown → WholeFrame
+frame_shown shown = record { tick = shown.tick; pixels = shown.frame }
+
+abbrev pub frames_shown : List Shown → List WholeFrame
+frames_shown outs = map frame_shown outs
+
+-- a machine's last whole frame after steps that put this out: the last of those, or where there is none the one before them
+abbrev pub FollowFrames : MachineState → MachineState → List Shown → Type 0
+FollowFrames old new outs = last_frame new ≡ last_or (last_frame old) (frames_shown outs)
+
+-- so it is after each step; and one that stops leaves the last whole frame
+abbrev pub StepsFollowFrames : Type 0
+StepsFollowFrames = (s next : MachineState) (tick : Tick) (rank : ℕ) (outs : List Shown) → HasSoundParts s → IsLeast (dues_of s) tick rank → reference_step rank s ≡ Makes next outs
+    → FollowFrames s next outs
+
+abbrev pub StopsLeaveFrames : Type 0
+StopsLeaveFrames = (s left : MachineState) (tick : Tick) (rank : ℕ) (stop : LeftOut) → HasSoundParts s → IsLeast (dues_of s) tick rank → reference_step rank s ≡ Stops stop left
+    → last_frame left ≡ last_frame s

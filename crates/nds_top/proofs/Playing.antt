@@ -1,12 +1,69 @@
-use Rattle.std.proofs.Common.{ℕ, ◌≡◌, List, [], ◌++◌, Option, None, max, refl, sym, ◌∙◌, ap, subst, append_assoc, arith}
+use Rattle.std.proofs.Common.{ℕ, ◌≡◌, ◌≤◌, Bool, List, [], ◌∷◌, ◌++◌, Option, Some, None, max, refl, sym, ◌∙◌, ap, subst, append_assoc, append-nil, arith}
+use Rattle.std.specs.List.{concat, last_or}
+use Rattle.std.specs.Prelude.{option_to_list}
+use Rattle.std.proofs.lemmas.List.Concat.{flat_map-append}
 use Rattle.ds_base.specs.declared.left_out.LeftOut.{LeftOut}
+use Rattle.ds_io.specs.Sinks.{Appended, AppendedFront}
+use Rattle.ds_io.proofs.SinkLemmas.{append_twice, front_after, front_of_more}
 use Rattle.ds_runs.specs.Runs.{Runs}
+use Rattle.ds_machine.specs.Frames.{FollowFrames, WholeFrame, frame_shown, frames_shown, last_frame}
 use Rattle.ds_machine.specs.States.{MachineState}
 use Rattle.ds_machine.specs.Reference.{Shown, reference}
 use Rattle.run_ahead.specs.Consoles.{ConsoleState}
-use Rattle.run_ahead.specs.Turns.{GoesOn, Turns, HasTurned, run_to, none, turn}
+use Rattle.run_ahead.specs.Turns.{GoesOn, HasRuns, Turns, HasTurned, run_to, none, turn}
 use Rattle.run_ahead.specs.declared.turns.Turned.{Turned}
-use Rattle.nds_top.specs.Inside.{ending, RunsTo}
+use Rattle.nds_top.specs.Inside.{ending, RunsTo, frames_after, frames_now, frames_while}
+use Rattle.nds_top.specs.Plays.{Wrote, WroteFront}
+use Rattle.nds_top.specs.Records.{frame_record, frame_records, frames_kept, last_records, output_of}
+use Rattle.nds_top.specs.declared.commands.Keep.{Keep}
+use Rattle.nds_top.specs.declared.commands.Keep.TheVariants.{All, Last, Nothing}
+
+-- ---- frames, one after another
+
+frames_join : (xs ys : List Shown) → frames_shown (xs ++ ys) ≡ frames_shown xs ++ frames_shown ys
+frames_join [] ys = refl
+frames_join (x ∷ xs) ys = ap (λ (rest : List WholeFrame). frame_shown x ∷ rest) (frames_join xs ys)
+
+records_join : (xs ys : List WholeFrame) → frame_records (xs ++ ys) ≡ frame_records xs ++ frame_records ys
+records_join xs ys = flat_map-append (λ (frame : WholeFrame). concat (frame_record frame)) xs ys
+
+shown_join : (xs ys : List Shown) → frame_records (frames_shown (xs ++ ys)) ≡ frame_records (frames_shown xs) ++ frame_records (frames_shown ys)
+shown_join xs ys = ap frame_records (frames_join xs ys) ∙ records_join (frames_shown xs) (frames_shown ys)
+
+-- the last one of those that a run put out, where it put out one
+last_put : (before : Option WholeFrame) (xs : List Shown) (x : Shown) → last_or before (frames_shown (xs ++ x ∷ [])) ≡ Some (frame_shown x)
+last_put before [] x = refl
+last_put before (y ∷ ys) x = last_put (Some (frame_shown y)) ys x
+
+-- what is written of a run's frames while it runs, and after it
+split : (keep : Keep) (before : Option WholeFrame) (outs : List Shown) → frame_records (frames_kept keep before outs)
+    ≡ frame_records (frames_while keep outs) ++ frame_records (frames_after keep (last_or before (frames_shown outs)))
+split All before outs = sym (append-nil (frame_records (frames_shown outs)))
+split Last before outs = refl
+split Nothing before outs = refl
+
+-- what is written while it runs is the front of what is written of the run that goes on
+rest_of : Keep → Option WholeFrame → List Shown → List Shown → List ℕ
+rest_of All before outs more = frame_records (frames_shown more)
+rest_of Last before outs more = frame_records (frames_kept Last before (outs ++ more))
+rest_of Nothing before outs more = []
+
+goes_further : (keep : Keep) (before : Option WholeFrame) (outs more : List Shown) → frame_records (frames_kept keep before (outs ++ more))
+    ≡ frame_records (frames_while keep outs) ++ rest_of keep before outs more
+unfolding rest_of
+goes_further All before outs more = shown_join outs more
+goes_further Last before outs more = refl
+goes_further Nothing before outs more = refl
+
+-- the frame that just became whole
+now_written : (keep : Keep) (outs : List Shown) (shown : Shown) (last : Option WholeFrame) → last ≡ Some (frame_shown shown)
+    → frame_records (frames_while keep outs) ++ frame_records (frames_now keep last) ≡ frame_records (frames_while keep (outs ++ shown ∷ []))
+now_written All outs shown last e =
+    ap (λ (o : Option WholeFrame). frame_records (frames_shown outs) ++ frame_records (option_to_list o)) e ∙ sym (shown_join outs (shown ∷ []))
+now_written Last outs shown last e = refl
+now_written Nothing outs shown last e = refl
+
+-- ---- stretches of a run
 
 -- one stretch and then another
 pub goes_twice : (until : ℕ) (a b c : MachineState) (xs ys : List Shown) → GoesOn until a b xs → GoesOn until b c ys → GoesOn until a c (xs ++ ys)
@@ -14,17 +71,19 @@ goes_twice until a b c xs ys first second = λ limit le end outs run.
     (let P : List Shown → Type 0 = λ x. Runs reference limit end a x in
     subst P (sym (append_assoc xs ys outs)) (first limit le end (ys ++ outs) (second limit le end outs run)))
 
--- what holds of a console between turns
-pub record Going (until : ℕ) (start now : ConsoleState) : Type 0 where
+-- what holds of a console between turns, which put this out
+pub record Going (until : ℕ) (start : ConsoleState) (outs : List Shown) (now : ConsoleState) : Type 0 where
   pub still_open : now.stopped ≡ None
-  pub so_far : (front : List Shown) × GoesOn until start.machine now.machine front
+  pub on : GoesOn until start.machine now.machine outs
+  pub frames : FollowFrames start.machine now.machine outs
   pub turned : HasTurned until start now
   pub limit : max now.limit until ≡ max start.limit until
 
-pub going_first : (until : ℕ) (start : ConsoleState) → start.stopped ≡ None → Going until start start
+going_first : (until : ℕ) (start : ConsoleState) → start.stopped ≡ None → Going until start [] start
 going_first until start open_ = record {
   still_open = open_;
-  so_far = ([], λ limit le end outs run. run);
+  on = λ limit le end outs run. run;
+  frames = refl;
   turned = none start;
   limit = refl;
 }
@@ -33,23 +92,148 @@ max_twice : (a b c : ℕ) → max a c ≡ max b c → max (max a c) c ≡ max b 
 max_twice a b c h = omega (arith, h)
 
 -- a turn that took a step
-pub going_on : (until : ℕ) (start before now : ConsoleState) (answer : Turned) (front : List Shown) → Going until start before → Turns until before answer now
-    → (before.stopped ≡ None) → now ≡ run_to before until now.machine → GoesOn until before.machine now.machine front → Going until start now
-going_on until start before now answer front going turns open_ is on = record {
-  still_open = ap (λ (x : ConsoleState). x.stopped) is ∙ open_;
-  so_far = (going.so_far.0 ++ front, goes_twice until start.machine before.machine now.machine going.so_far.0 front going.so_far.1 on);
+going_on : (until : ℕ) (start before now : ConsoleState) (answer : Turned) (outs after : List Shown) → Going until start outs before → Turns until before answer now
+    → now ≡ run_to before until now.machine → GoesOn until start.machine now.machine after → FollowFrames start.machine now.machine after → Going until start after now
+going_on until start before now answer outs after going turns is on frames = record {
+  still_open = ap (λ (x : ConsoleState). x.stopped) is ∙ going.still_open;
+  on = on;
+  frames = frames;
   turned = turn start before now answer going.turned turns;
   limit = (let P : ℕ → Type 0 = λ x. max x until ≡ max start.limit until in
       subst P (sym (ap (λ (x : ConsoleState). x.limit) is)) (max_twice before.limit start.limit until going.limit));
 }
 
+-- one that put out nothing
+going_quiet : (until : ℕ) (start before now : ConsoleState) (answer : Turned) (outs : List Shown) → Going until start outs before → Turns until before answer now
+    → now ≡ run_to before until now.machine → GoesOn until before.machine now.machine [] → last_frame now.machine ≡ last_frame before.machine → Going until start outs now
+going_quiet until start before now answer outs going turns is on frames =
+    going_on until start before now answer outs outs going turns is
+    (λ limit le end more run. going.on limit le end more (on limit le end more run)) (frames ∙ going.frames)
+
+-- one that made a frame whole
+going_shown : (until : ℕ) (start before now : ConsoleState) (answer : Turned) (outs : List Shown) (shown : Shown) → Going until start outs before → Turns until before answer now
+    → now ≡ run_to before until now.machine → GoesOn until before.machine now.machine (shown ∷ []) → last_frame now.machine ≡ Some (frame_shown shown)
+    → Going until start (outs ++ shown ∷ []) now
+going_shown until start before now answer outs shown going turns is on frames =
+    going_on until start before now answer outs (outs ++ shown ∷ []) going turns is
+    (goes_twice until start.machine before.machine now.machine outs (shown ∷ []) going.on on)
+    (frames ∙ sym (last_put (last_frame start.machine) outs shown))
+
 -- the turn that ends the run
-pub ends_here : (until : ℕ) (start before now : ConsoleState) (answer : Turned) (stop : Option LeftOut) → Going until start before → Turns until before answer now
-    → now.stopped ≡ stop → now.limit ≡ max before.limit until → Runs reference until (ending stop now.machine) before.machine [] → RunsTo until start stop now
-ends_here until start before now answer stop going turns stopped limit run = record {
-  outs = going.so_far.0 ++ [];
-  ran = going.so_far.1 until (omega arith) (ending stop now.machine) [] run;
+ends_here : (until : ℕ) (start before now : ConsoleState) (answer : Turned) (stop : Option LeftOut) (outs : List Shown) → Going until start outs before → Turns until before answer now
+    → now.stopped ≡ stop → now.limit ≡ max before.limit until → Runs reference until (ending stop now.machine) before.machine []
+    → last_frame now.machine ≡ last_frame before.machine → RunsTo until start stop now
+ends_here until start before now answer stop outs going turns stopped limit run frames = record {
+  outs = outs;
+  ran = (let P : List Shown → Type 0 = λ x. Runs reference until (ending stop now.machine) start.machine x in
+      subst P (append-nil outs) (going.on until (omega arith) (ending stop now.machine) [] run));
   stopped = stopped;
   limit = limit ∙ going.limit;
+  frames = frames ∙ going.frames;
   turned = turn start before now answer going.turned turns;
 }
+
+-- ---- with the sink
+
+module _ {S : Type 0} (tells : S → Bool) (taken : S → List ℕ → Type 0) (faults : S → ℕ) (until : ℕ) (keep : Keep) (start : ConsoleState) (before : S) where
+  -- between turns the frames so far are written
+  pub record Writing (now : ConsoleState) (after : S) : Type 0 where
+    pub outs : List Shown
+    pub going : Going until start outs now
+    pub written : Appended tells taken before after (frame_records (frames_while keep outs))
+    pub later : faults before ≤ faults after
+
+  pub writing_first : start.stopped ≡ None → Appended tells taken before before [] → Writing start before
+  writing_first open_ none_yet = record { outs = []; going = going_first until start open_; written = nothing keep; later = omega arith } where
+    nothing : (keep : Keep) → Appended tells taken before before (frame_records (frames_while keep []))
+    nothing All = none_yet
+    nothing Last = none_yet
+    nothing Nothing = none_yet
+
+  pub writing_quiet : (old now : ConsoleState) (after : S) (answer : Turned) → Writing old after → Turns until old answer now → now ≡ run_to old until now.machine
+      → GoesOn until old.machine now.machine [] → last_frame now.machine ≡ last_frame old.machine → Writing now after
+  writing_quiet old now after answer w turns is on frames = record {
+    outs = w.outs;
+    going = going_quiet until start old now answer w.outs w.going turns is on frames;
+    written = w.written;
+    later = w.later;
+  }
+
+  pub writing_shown : (old now : ConsoleState) (mid after : S) (answer : Turned) (shown : Shown) → Writing old mid → Turns until old answer now → now ≡ run_to old until now.machine
+      → GoesOn until old.machine now.machine (shown ∷ []) → last_frame now.machine ≡ Some (frame_shown shown)
+      → Appended tells taken mid after (frame_records (frames_now keep (last_frame now.machine))) → faults mid ≤ faults after → Writing now after
+  writing_shown old now mid after answer shown w turns is on frames put later =
+      let P : List ℕ → Type 0 = λ x. Appended tells taken before after x in
+      let first : faults before ≤ faults mid = w.later in record {
+        outs = w.outs ++ shown ∷ [];
+        going = going_shown until start old now answer w.outs shown w.going turns is on frames;
+        written = subst P (now_written keep w.outs shown (last_frame now.machine) frames)
+            (append_twice tells taken before mid after (frame_records (frames_while keep w.outs)) (frame_records (frames_now keep (last_frame now.machine))) w.written put);
+        later = omega (arith, first, later);
+      }
+
+  -- where the sink fails at a frame, a front of the run's output is written
+  pub front_at : (old now : ConsoleState) (mid after : S) (answer : Turned) (shown : Shown) → Writing old mid → Turns until old answer now → now ≡ run_to old until now.machine
+      → GoesOn until old.machine now.machine (shown ∷ []) → last_frame now.machine ≡ Some (frame_shown shown) → HasRuns now.machine
+      → AppendedFront tells taken mid after (frame_records (frames_now keep (last_frame now.machine))) → WroteFront tells taken until keep start.machine before after
+  front_at old now mid after answer shown w turns is on frames runs put =
+      let going = going_shown until start old now answer w.outs shown w.going turns is on frames in
+      let outs = w.outs ++ shown ∷ [] in
+      let r = runs until in
+      let end = r.0 in
+      let more = r.1 in
+      let P : List ℕ → Type 0 = λ x. AppendedFront tells taken before after x in
+      let front : AppendedFront tells taken before after (frame_records (frames_while keep outs)) =
+      subst P (now_written keep w.outs shown (last_frame now.machine) frames)
+      (front_after tells taken before mid after (frame_records (frames_while keep w.outs)) (frame_records (frames_now keep (last_frame now.machine))) w.written put) in
+      let written : AppendedFront tells taken before after (output_of until keep (last_frame start.machine) end (outs ++ more)) =
+      subst P
+      (ap (λ (x : List ℕ). x ++ last_records until end) (sym (goes_further keep (last_frame start.machine) outs more)))
+      (subst P (sym (append_assoc (frame_records (frames_while keep outs)) (rest_of keep (last_frame start.machine) outs more) (last_records until end)))
+      (front_of_more tells taken before after (frame_records (frames_while keep outs)) (rest_of keep (last_frame start.machine) outs more ++ last_records until end) front)) in
+      record { end = end; outs = outs ++ more; ran = going.on until (omega arith) end more r.2; written = written }
+
+  -- the turn that ends the run
+  pub writing_ends : (old now : ConsoleState) (after : S) (answer : Turned) (stop : Option LeftOut) → Writing old after → Turns until old answer now → now.stopped ≡ stop
+      → now.limit ≡ max old.limit until → Runs reference until (ending stop now.machine) old.machine [] → last_frame now.machine ≡ last_frame old.machine
+      → (runs : RunsTo until start stop now) × Appended tells taken before after (frame_records (frames_while keep runs.outs))
+  unfolding ends_here
+  writing_ends old now after answer stop w turns stopped limit run frames =
+      (ends_here until start old now answer stop w.outs w.going turns stopped limit run frames, w.written)
+
+-- ---- and at the end
+
+-- what is written while a console runs, and after it, is the run's output
+whole_output : (until : ℕ) (keep : Keep) (old : ConsoleState) (stop : Option LeftOut) (new : ConsoleState) (r : RunsTo until old stop new)
+    → frame_records (frames_while keep r.outs) ++ (frame_records (frames_after keep (last_frame new.machine)) ++ last_records until (ending stop new.machine))
+    ≡ output_of until keep (last_frame old.machine) (ending stop new.machine) r.outs
+whole_output until keep old stop new r =
+    sym (append_assoc (frame_records (frames_while keep r.outs)) (frame_records (frames_after keep (last_frame new.machine))) (last_records until (ending stop new.machine)))
+    ∙ ap (λ (x : List ℕ). x ++ last_records until (ending stop new.machine))
+    (ap (λ (o : Option WholeFrame). frame_records (frames_while keep r.outs) ++ frame_records (frames_after keep o)) r.frames ∙ sym (split keep (last_frame old.machine) r.outs))
+
+module _ {S : Type 0} (tells : S → Bool) (taken : S → List ℕ → Type 0) (until : ℕ) (keep : Keep) (old : ConsoleState) (stop : Option LeftOut) (new : ConsoleState) (before mid after : S)
+    (r : RunsTo until old stop new) (so_far : Appended tells taken before mid (frame_records (frames_while keep r.outs))) where
+  abbrev left_to_write : List ℕ
+  left_to_write = frame_records (frames_after keep (last_frame new.machine)) ++ last_records until (ending stop new.machine)
+
+  pub all_written : Appended tells taken mid after left_to_write → Wrote tells taken until keep old.machine (ending stop new.machine) before after
+  all_written put =
+      let P : List ℕ → Type 0 = λ x. Appended tells taken before after x in
+      record {
+        outs = r.outs;
+        ran = r.ran;
+        written = subst P (whole_output until keep old stop new r)
+            (append_twice tells taken before mid after (frame_records (frames_while keep r.outs)) left_to_write so_far put);
+      }
+
+  pub front_written : AppendedFront tells taken mid after left_to_write → WroteFront tells taken until keep old.machine before after
+  front_written put =
+      let P : List ℕ → Type 0 = λ x. AppendedFront tells taken before after x in
+      record {
+        end = ending stop new.machine;
+        outs = r.outs;
+        ran = r.ran;
+        written = subst P (whole_output until keep old stop new r)
+            (front_after tells taken before mid after (frame_records (frames_while keep r.outs)) left_to_write so_far put);
+      }

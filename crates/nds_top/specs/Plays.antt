@@ -3,6 +3,7 @@ use Rattle.ds_base.specs.declared.left_out.LeftOut.{LeftOut}
 use Rattle.ds_io.specs.Faults.{Rose}
 use Rattle.ds_io.specs.Sinks.{Appended, AppendedFront}
 use Rattle.ds_runs.specs.Runs.{Ending, At, Stopped, Runs}
+use Rattle.ds_machine.specs.Frames.{last_frame}
 use Rattle.ds_machine.specs.States.{MachineState}
 use Rattle.ds_machine.specs.Reference.{Shown, reference}
 use Rattle.run_ahead.specs.Consoles.{ConsoleState}
@@ -18,14 +19,14 @@ use Rattle.nds_top.specs.declared.plays.Played.TheVariants as answers
 pub record Wrote {S : Type 0} (tells : S → Bool) (taken : S → List ℕ → Type 0) (until : ℕ) (keep : Keep) (start : MachineState) (end : Ending MachineState LeftOut) (old new : S) : Type 0 where
   pub outs : List Shown
   pub ran : Runs reference until end start outs
-  pub written : Appended tells taken old new (output_of until keep end outs)
+  pub written : Appended tells taken old new (output_of until keep (last_frame start) end outs)
 
 -- a front of the reference run's output was written
 pub record WroteFront {S : Type 0} (tells : S → Bool) (taken : S → List ℕ → Type 0) (until : ℕ) (keep : Keep) (start : MachineState) (old new : S) : Type 0 where
   pub end : Ending MachineState LeftOut
   pub outs : List Shown
   pub ran : Runs reference until end start outs
-  pub written : AppendedFront tells taken old new (output_of until keep end outs)
+  pub written : AppendedFront tells taken old new (output_of until keep (last_frame start) end outs)
 
 -- by the answer: the whole output of the run, or a front of it where the sink's count of faults rose; and the console is as after
 -- turns with that limit

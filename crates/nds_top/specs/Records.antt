@@ -1,5 +1,5 @@
-use Rattle.std.specs.Prelude.{ℕ, ◌+◌, List, [], ◌∷◌, ◌++◌, map, flat_map, codes}
-use Rattle.std.specs.List.{concat}
+use Rattle.std.specs.Prelude.{ℕ, ◌+◌, List, [], ◌∷◌, ◌++◌, map, flat_map, codes, Option, option_to_list}
+use Rattle.std.specs.List.{concat, last_or}
 use Rattle.byteorder.specs.Endian.{little_bytes}
 use Rattle.ds_base.specs.declared.left_out.LeftOut.{LeftOut}
 use Rattle.ds_base.specs.declared.left_out.LeftKind.{LeftKind}
@@ -8,20 +8,28 @@ use Rattle.ds_base.specs.declared.memories.Memory.{Memory}
 use Rattle.ds_base.specs.declared.memories.Memory.TheVariants.{Main, Shared, Own7, Itcm, Dtcm, Palette, Vram, Oam}
 use Rattle.ds_base.specs.declared.processors.Proc.TheVariants.{Nine, Seven}
 use Rattle.ds_runs.specs.Runs.{Ending, At, Stopped}
+use Rattle.ds_machine.specs.Frames.{WholeFrame, frames_shown}
 use Rattle.ds_machine.specs.States.{MachineState}
 use Rattle.ds_machine.specs.Observed.{memory_of, registers_of}
 use Rattle.ds_machine.specs.Reference.{Shown}
 use Rattle.nds_top.specs.declared.commands.Keep.{Keep}
-use Rattle.nds_top.specs.declared.commands.Keep.TheVariants.{Nothing}
+use Rattle.nds_top.specs.declared.commands.Keep.TheVariants.{All, Last, Nothing}
 
 -- What a run writes (our choice of records), each record by its parts. All numbers are little-endian.
 
--- numbers of 8 bytes each, and of 4 bytes each
+-- numbers of 8 bytes each, of 4, and of 2
 unfoldable pub longs : List ℕ → List ℕ
 longs numbers = flat_map (little_bytes 8) numbers
 
 unfoldable pub words : List ℕ → List ℕ
 words numbers = flat_map (little_bytes 4) numbers
+
+unfoldable pub halves : List ℕ → List ℕ
+halves numbers = flat_map (little_bytes 2) numbers
+
+-- the record of a frame: 'F', the tick at which it became whole, and its pixels: the upper screen's 192 rows of 256, and then the lower's
+abbrev pub frame_record : WholeFrame → List (List ℕ)
+frame_record frame = codes "F" ∷ longs (frame.tick ∷ []) ∷ halves frame.pixels ∷ []
 
 -- the memories, in the order in which they are written
 abbrev pub all_memories : List Memory
@@ -58,9 +66,16 @@ kind_number BitmapObject = 12
 abbrev pub stop_record : LeftOut → List (List ℕ)
 stop_record left = codes "X" ∷ longs (left.tick.0 ∷ []) ∷ (left.rank ∷ kind_number left.kind ∷ []) ∷ words (left.value ∷ []) ∷ []
 
--- the records of what a run put out, as far as it is kept
-abbrev pub shown : Keep → List Shown → List ℕ
-shown Nothing outs = []
+-- the frames of a run that are kept, by the last whole frame before it, if there was one, and what it put out: all of them, the last one or none.
+-- Where it makes none the one before it is the last
+abbrev pub frames_kept : Keep → Option WholeFrame → List Shown → List WholeFrame
+frames_kept All before outs = frames_shown outs
+frames_kept Last before outs = option_to_list (last_or before (frames_shown outs))
+frames_kept Nothing before outs = []
+
+-- their records, one after another
+abbrev pub frame_records : List WholeFrame → List ℕ
+frame_records frames = flat_map (λ (frame : WholeFrame). concat (frame_record frame)) frames
 
 -- what comes after them
 abbrev pub last_records : ℕ → Ending MachineState LeftOut → List ℕ
@@ -68,5 +83,5 @@ last_records until (At s) = concat (memory_record s ++ end_record until s)
 last_records until (Stopped left) = concat (stop_record left)
 
 -- what a run to a tick writes
-abbrev pub output_of : ℕ → Keep → Ending MachineState LeftOut → List Shown → List ℕ
-output_of until keep end outs = shown keep outs ++ last_records until end
+abbrev pub output_of : ℕ → Keep → Option WholeFrame → Ending MachineState LeftOut → List Shown → List ℕ
+output_of until keep before end outs = frame_records (frames_kept keep before outs) ++ last_records until end

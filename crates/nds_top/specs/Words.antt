@@ -5,7 +5,7 @@ use Rattle.ds_base.specs.declared.processors.Proc.TheVariants.{Nine, Seven}
 use Rattle.asm_text.specs.declared.sets.Set.{Set}
 use Rattle.asm_text.specs.declared.sets.Set.TheVariants.{Arm, Thumb}
 use Rattle.nds_top.specs.declared.commands.Keep.{Keep}
-use Rattle.nds_top.specs.declared.commands.Keep.TheVariants.{Nothing}
+use Rattle.nds_top.specs.declared.commands.Keep.TheVariants.{All, Last, Nothing}
 
 -- Which words a command line may have. The rule is the writer: each thing that may be asked for has its one list of words, and
 -- `decimal` writes a number in digits without a leading zero. (Our choice of commands.)
@@ -23,6 +23,8 @@ keys_word None = codes "none"
 keys_word (Some name) = name
 
 abbrev pub keep_word : Keep → List ℕ
+keep_word All = codes "all"
+keep_word Last = codes "last"
 keep_word Nothing = codes "none"
 
 -- the word for a processor's image in an instruction set

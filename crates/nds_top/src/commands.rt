@@ -16,6 +16,10 @@ const MOST_TICKS: u64 = 100_000_000_000;
 /// Which frames and lists of a run are written.
 #[derive(Clone, Copy, PartialEq, Eq, Debug)]
 pub enum Keep {
+    /// All of them, each as it becomes whole.
+    All,
+    /// The last one, after the run.
+    Last,
     /// None of them.
     Nothing,
 }
@@ -97,7 +101,11 @@ fn keep_of(word: &str) -> Option<Keep>
     ensures some { IfSome result (λ keep. word.now ≡ keep_word keep) }
     ensures none { IfNone result ((keep : Keep) → word.now ≢ keep_word keep) }
 {
-    if word == "none" {
+    if word == "all" {
+        Some(Keep::All)
+    } else if word == "last" {
+        Some(Keep::Last)
+    } else if word == "none" {
         Some(Keep::Nothing)
     } else {
         None

@@ -1,7 +1,7 @@
 //! Numbers as bytes, little-endian.
 
-ghost use Rattle.std.specs.Prelude.{◌≡◌, ◌∷◌, []};
-ghost use Rattle.nds_top.specs.Records.{longs, words};
+ghost use Rattle.std.specs.Prelude.{◌≡◌, ◌∷◌, [], length};
+ghost use Rattle.nds_top.specs.Records.{longs, words, halves};
 
 use byteorder::{ByteOrder, LittleEndian};
 
@@ -42,5 +42,16 @@ pub(crate) fn register_bytes(registers: &[u32; 37]) -> [u8; 148]
 {
     let mut bytes = [0; 148];
     LittleEndian::write_u32_into(registers, &mut bytes);
+    bytes
+}
+
+/// The 2 bytes of each pixel of a row of 256.
+#[tactic(auto, unfolding(crate::specs::Records::halves))]
+pub(crate) fn row_bytes(row: &[u16]) -> [u8; 512]
+    requires { length row.now ≡ 256 }
+    ensures { result ≡ halves row.now }
+{
+    let mut bytes = [0; 512];
+    LittleEndian::write_u16_into(row, &mut bytes);
     bytes
 }

@@ -1,13 +1,14 @@
 //! Playing a console: a run, and what it writes.
 
-ghost use Rattle.std.specs.Prelude.{◌≡◌, ◌≤◌, ◌^◌, None};
+ghost use Rattle.std.specs.Prelude.{◌≡◌, ◌≤◌, ◌^◌, ◌++◌, None};
+ghost use Rattle.ds_machine.specs.Frames.{last_frame};
 ghost use Rattle.nds_top.specs.Plays.{Plays};
-ghost use Rattle.nds_top.specs.Inside.{RunsTo, ending};
+ghost use Rattle.nds_top.specs.Inside.{Ran, ending, frames_after, frames_now};
 ghost use Rattle.nds_top.specs.Puts.{Puts};
-ghost use Rattle.nds_top.specs.Records.{last_records};
+ghost use Rattle.nds_top.specs.Records.{frame_records, last_records};
 
 use crate::commands::Keep;
-use crate::records::{put_last, put_stop};
+use crate::records::{put_last, put_last_frame, put_stop};
 use ds_base::{LeftOut, Tick};
 use ds_io::{Failed, Sink};
 use run_ahead::{Console, Turned};
@@ -23,17 +24,18 @@ pub enum Played {
     WriteFault,
 }
 
-/// Runs a console to a tick, and writes what the run gives: what is kept of what it puts out, and then the records of memories
-/// and of the end, or that of the stop alone.
+/// Runs a console to a tick, and writes what the run gives: the frames that are kept, each as it becomes whole or the last one after the run, and then
+/// the records of memories and of the end, or that of the stop alone. Where the run makes no frame whole, the console's last whole frame before it is the last.
 pub fn play<O: Sink>(console: &mut Console, until: Tick, keep: Keep, out: &mut O) -> Played
     requires early { until.0 ≤ 2 ^ 56 }
     requires open { console.old.stopped ≡ None }
     ensures played { Plays O.tells O.taken O.faults until.0 keep console.old out.old result console.new out.new }
     ensures later { O.faults out.old ≤ O.faults out.new }
 {
-    let Keep::Nothing = keep;
-    let stop = run_to(console, until);
-    if put_records(out, until, stop, console).is_err() {
+    let Ok(stop) = run_to(console, until, keep, out) else {
+        return Played::WriteFault;
+    };
+    if put_records(out, until, keep, stop, console).is_err() {
         return Played::WriteFault;
     }
     match stop {
@@ -42,11 +44,17 @@ pub fn play<O: Sink>(console: &mut Console, until: Tick, keep: Keep, out: &mut O
     }
 }
 
-/// Turns a console until no actor is due below a tick, or until it stops.
-fn run_to(console: &mut Console, until: Tick) -> Option<LeftOut>
+/// Turns a console until no actor is due below a tick, or until it stops, and writes each frame as it becomes whole where all are kept.
+fn run_to<O: Sink>(
+    console: &mut Console,
+    until: Tick,
+    keep: Keep,
+    out: &mut O,
+) -> Result<Option<LeftOut>, Failed>
     requires early { until.0 ≤ 2 ^ 56 }
     requires open { console.old.stopped ≡ None }
-    ensures { RunsTo until.0 console.old result console.new }
+    ensures ran { Ran O.tells O.taken O.faults until.0 keep console.old out.old result console.new out.new }
+    ensures later { O.faults out.old ≤ O.faults out.new }
 {
     'turns: loop {
         if console.turn_fast(until) {
@@ -54,15 +62,38 @@ fn run_to(console: &mut Console, until: Tick) -> Option<LeftOut>
         }
         match console.turn(until) {
             Turned::Ran => {}
-            Turned::Frame { swapped: _ } => {}
-            Turned::Stopped(left) => return Some(left),
-            Turned::AtEnd => return None,
+            Turned::Frame { swapped: _ } => {
+                console.has_runs();
+                put_shown(out, keep, console)?;
+            }
+            Turned::Stopped(left) => return Ok(Some(left)),
+            Turned::AtEnd => return Ok(None),
         }
     }
 }
 
+/// Writes the frame that just became whole, where all are kept.
+fn put_shown<O: Sink>(out: &mut O, keep: Keep, console: &Console) -> Result<(), Failed>
+    ensures { Puts O.tells O.taken O.faults (frame_records (frames_now keep (last_frame console.now.machine))) result out.old out.new }
+{
+    match keep {
+        Keep::All => put_last_frame(out, console),
+        Keep::Last | Keep::Nothing => Ok(()),
+    }
+}
+
+/// Writes the last whole frame, where it is kept.
+fn put_kept<O: Sink>(out: &mut O, keep: Keep, console: &Console) -> Result<(), Failed>
+    ensures { Puts O.tells O.taken O.faults (frame_records (frames_after keep (last_frame console.now.machine))) result out.old out.new }
+{
+    match keep {
+        Keep::Last => put_last_frame(out, console),
+        Keep::All | Keep::Nothing => Ok(()),
+    }
+}
+
 /// Writes the last records of a run, by the stop that it came to.
-fn put_records<O: Sink>(
+fn put_ending<O: Sink>(
     out: &mut O,
     until: Tick,
     stop: Option<LeftOut>,
@@ -74,4 +105,18 @@ fn put_records<O: Sink>(
         None => put_last(out, until, console),
         Some(left) => put_stop(out, left),
     }
+}
+
+/// Writes what comes after a run: the last whole frame, where it is kept, and the last records.
+fn put_records<O: Sink>(
+    out: &mut O,
+    until: Tick,
+    keep: Keep,
+    stop: Option<LeftOut>,
+    console: &Console,
+) -> Result<(), Failed>
+    ensures { Puts O.tells O.taken O.faults (frame_records (frames_after keep (last_frame console.now.machine)) ++ last_records until.0 (ending stop console.now.machine)) result out.old out.new }
+{
+    put_kept(out, keep, console)?;
+    put_ending(out, until, stop, console)
 }

@@ -1,12 +1,13 @@
 //! What a run writes.
 
-ghost use Rattle.std.specs.Prelude.{◌≡◌, flat_map};
+ghost use Rattle.std.specs.Prelude.{◌≡◌, flat_map, length, option_to_list};
 ghost use Rattle.std.specs.List.{concat};
+ghost use Rattle.ds_machine.specs.Frames.{last_frame};
 ghost use Rattle.ds_runs.specs.Runs.{At};
 ghost use Rattle.nds_top.specs.Puts.{Puts};
-ghost use Rattle.nds_top.specs.Records.{last_records, stop_record, kind_number};
+ghost use Rattle.nds_top.specs.Records.{frame_record, frame_records, halves, last_records, stop_record, kind_number};
 
-use crate::numbers::{five_longs, long_bytes, register_bytes, word_bytes};
+use crate::numbers::{five_longs, long_bytes, register_bytes, row_bytes, word_bytes};
 use ds_base::{LeftKind, LeftOut, Memory, Proc, Tick};
 use ds_io::{Failed, Sink, put_all};
 use run_ahead::Console;
@@ -19,6 +20,37 @@ pub(crate) fn put_parts<O: Sink>(out: &mut O, parts: &[&[u8]]) -> Result<(), Fai
         put_all(out, part)?;
     }
     Ok(())
+}
+
+/// The pixels of both screens, a row at a time from where they lie.
+fn put_pixels<O: Sink>(out: &mut O, pixels: &[u16]) -> Result<(), Failed>
+    requires { length pixels.now ≡ 98304 }
+    ensures { Puts O.tells O.taken O.faults (halves pixels.now) result out.old out.new }
+{
+    for row in 0..384 {
+        let place = 256 * row;
+        put_all(out, &row_bytes(&pixels[place..place + 256]))?;
+    }
+    Ok(())
+}
+
+/// The record of a frame that became whole at a tick.
+fn put_frame<O: Sink>(out: &mut O, tick: Tick, pixels: &[u16]) -> Result<(), Failed>
+    requires { length pixels.now ≡ 98304 }
+    ensures { Puts O.tells O.taken O.faults (concat (frame_record (record { tick = tick.0; pixels = pixels.now }))) result out.old out.new }
+{
+    put_parts(out, &[b"F", &long_bytes(tick.0)])?;
+    put_pixels(out, pixels)
+}
+
+/// The record of a console's last whole frame, where one is whole.
+pub(crate) fn put_last_frame<O: Sink>(out: &mut O, console: &Console) -> Result<(), Failed>
+    ensures { Puts O.tells O.taken O.faults (frame_records (option_to_list (last_frame console.now.machine))) result out.old out.new }
+{
+    match console.framed() {
+        None => Ok(()),
+        Some(tick) => put_frame(out, tick, console.frame()),
+    }
 }
 
 /// The number of a kind of stop.

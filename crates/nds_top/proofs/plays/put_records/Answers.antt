@@ -1,0 +1,12 @@
+use Rattle.ds_machine.specs.Frames.{last_frame}
+use Rattle.nds_top.specs.Inside.{ending, frames_after}
+use Rattle.nds_top.specs.Records.{frame_records, last_records}
+use Rattle.nds_top.proofs.Putting.{puts_then}
+use Rattle.nds_top.proofs.plays.put_records.Goals as goal
+
+pub returns : goal.returns
+returns g c =
+    let m = c.args.console.now.machine in
+    let kept = c.in_ok-put_kept.ensures in
+    puts_then g.O.Sink.tells g.O.Sink.taken g.O.Sink.faults (frame_records (frames_after c.args.keep (last_frame m))) (last_records c.args.until.0 (ending c.args.stop m))
+    c.args.out.now c.put_kept.new.out c.put_ending.new.out c.put_ending.result kept.0 kept.1 c.put_ending.ensures

@@ -1,5 +1,7 @@
 //! Calls of the top call, and consoles.
 
+ghost use Rattle.std.specs.Prelude.{◌≡◌, None};
+
 use crate::faults::BadLine;
 use crate::scenes::Scene;
 use ds_base::{Keys, Tick};
@@ -23,8 +25,8 @@ pub struct Came {
     pub out: Vec<u8>,
     /// Whether that is all that was put.
     pub is_told: bool,
-    /// The console that it left.
-    pub console: Option<Console>,
+    /// Where in the output its records begin, behind those of frames.
+    pub from: usize,
 }
 
 impl Came {
@@ -35,7 +37,7 @@ impl Came {
             note: Vec::new(alloc),
             out: Vec::new(alloc),
             is_told: false,
-            console: None,
+            from: 0,
         }
     }
 }
@@ -47,19 +49,6 @@ fn only(alloc: Global, call: u64) -> Result<Calls, AllocError> {
         calls.push(call)?;
     }
     Ok(calls)
-}
-
-/// The top call with these words, over this shelf and these sinks: its status's number, and the console that it left.
-fn call_over(
-    alloc: Global,
-    words: &[String],
-    shelf: &mut MemShelf,
-    out: &mut MemSink,
-    notes: &mut MemSink,
-) -> (u8, Option<Console>) {
-    let mut seat = None;
-    let status = ds_main(alloc, words, shelf, out, notes, &mut seat);
-    (number(&status), seat)
 }
 
 /// The shelf that a scene has.
@@ -75,39 +64,91 @@ fn sink_of(alloc: Global, fails: u64, room: usize) -> Result<MemSink, AllocError
     MemSink::new(alloc, fails, room)
 }
 
-/// What a call came to, by its status's number, the console that it left, and its sinks.
-fn gathered(
-    alloc: Global,
-    status: u8,
-    console: Option<Console>,
-    out: &MemSink,
-    notes: &MemSink,
-) -> Result<Came, AllocError> {
-    Ok(Came {
-        status: Some(status),
-        note: Vec::from_slice(alloc, notes.bytes())?,
-        out: Vec::from_slice(alloc, out.bytes())?,
-        is_told: out.is_told(),
-        console,
-    })
+/// What a call goes over and writes to.
+#[derive(Drop)]
+struct Outside {
+    shelf: MemShelf,
+    out: MemSink,
+    notes: MemSink,
 }
 
-/// The top call over what a scene has, with room for 200 bytes of notes.
-pub fn call(alloc: Global, scene: &Scene) -> Result<Came, AllocError> {
-    let mut shelf = shelf_of(alloc, scene)?;
-    let mut out = sink_of(alloc, scene.fails.out, scene.room)?;
-    let mut notes = sink_of(alloc, scene.fails.notes, 200)?;
-    let words = scene.words.as_slice();
-    let (status, console) = call_over(alloc, words, &mut shelf, &mut out, &mut notes);
-    gathered(alloc, status, console, &out, &notes)
+/// What a scene's call goes over and writes to, with room for 200 bytes of notes.
+fn outside_of(alloc: Global, scene: &Scene) -> Result<Outside, AllocError> {
+    let out = sink_of(alloc, scene.fails.out, scene.room)?;
+    let notes = sink_of(alloc, scene.fails.notes, 200)?;
+    let shelf = shelf_of(alloc, scene)?;
+    Ok(Outside { shelf, out, notes })
 }
 
-/// A console of a scene's cartridge, without keys, that hasn't run; nothing where the cartridge is refused.
-pub fn console_of(alloc: Global, scene: &Scene) -> Result<Option<Console>, AllocError> {
-    let Ok(cart) = Cart::read(scene.cart(alloc)?) else {
-        return Ok(None);
-    };
-    Ok(Some(Console::new(alloc, cart, Keys::new(alloc))?))
+impl Outside {
+    /// The top call with these words: its status's number.
+    fn call(&mut self, alloc: Global, words: &[String], seat: &mut Option<Console>) -> u8
+        requires { seat.old ≡ None }
+    {
+        let status = ds_main(
+            alloc,
+            words,
+            &mut self.shelf,
+            &mut self.out,
+            &mut self.notes,
+            seat,
+        );
+        number(&status)
+    }
+
+    /// What a call came to, by its status's number.
+    fn gathered(&self, alloc: Global, status: u8) -> Result<Came, AllocError> {
+        let note = Vec::from_slice(alloc, self.notes.bytes())?;
+        let out = Vec::from_slice(alloc, self.out.bytes())?;
+        Ok(Came {
+            status: Some(status),
+            note,
+            out,
+            is_told: self.out.is_told(),
+            from: 0,
+        })
+    }
+}
+
+/// The top call over what a scene has. The console that it leaves is in the seat, which is empty before.
+pub fn call(alloc: Global, scene: &Scene, seat: &mut Option<Console>) -> Result<Came, AllocError>
+    requires { seat.old ≡ None }
+{
+    let mut outside = outside_of(alloc, scene)?;
+    let status = outside.call(alloc, scene.words.as_slice(), seat);
+    outside.gathered(alloc, status)
+}
+
+/// Puts something where nothing is.
+fn put<T: Drop>(place: &mut Option<T>, value: T)
+    requires { place.old ≡ None }
+{
+    *place = Some(value);
+}
+
+/// The cartridge of a scene; nothing where it is refused.
+fn cart_of(alloc: Global, scene: &Scene) -> Result<Option<Cart>, AllocError> {
+    let file = scene.cart(alloc)?;
+    Ok(Cart::read(file).ok())
+}
+
+/// Puts a console of a cartridge, without keys, that hasn't run, into the seat, which is empty before.
+fn seat_console(alloc: Global, cart: Cart, seat: &mut Option<Console>) -> Result<(), AllocError>
+    requires { seat.old ≡ None }
+{
+    let console = Console::new(alloc, cart, Keys::new(alloc))?;
+    put(seat, console);
+    Ok(())
+}
+
+/// Puts such a console of a scene's cartridge into the seat, which is empty before; none where the cartridge is refused.
+pub fn switch_on(alloc: Global, scene: &Scene, seat: &mut Option<Console>) -> Result<(), AllocError>
+    requires { seat.old ≡ None }
+{
+    match cart_of(alloc, scene)? {
+        Some(cart) => seat_console(alloc, cart, seat),
+        None => Ok(()),
+    }
 }
 
 /// One turn of a console.

@@ -2,7 +2,8 @@
 
 use crate::calls::Came;
 use crate::facts::{Fact, Quantity, Text};
-use crate::views::views_of;
+use crate::views::{Views, views_of};
+use run_ahead::Console;
 use std::alloc::{AllocError, Global};
 use std::fmt::Write;
 
@@ -57,6 +58,12 @@ pub fn numbers_differ(
     Ok(Some(text))
 }
 
+/// So many bytes from a place on, or as many as there are.
+fn from_place(bytes: &[u8], place: usize, count: usize) -> &[u8] {
+    let bytes = bytes.get(place..).unwrap_or(&[]);
+    bytes.get(..count.min(bytes.len())).unwrap_or(&[])
+}
+
 /// How bytes differ from those that are wanted, where they do.
 fn bytes_differ(alloc: Global, seen: &[u8], wanted: &[u8]) -> Result<Option<String>, AllocError> {
     if seen == wanted {
@@ -70,39 +77,49 @@ fn bytes_differ(alloc: Global, seen: &[u8], wanted: &[u8]) -> Result<Option<Stri
 }
 
 /// How numbers differ, at the first place where they do.
-fn views_differ(
+fn places_differ(
     alloc: Global,
-    came: &Came,
-    kept: &[u8],
-    of: Quantity,
+    places: &[Vec<u64>],
     wanted: &[Option<u64>],
 ) -> Result<Option<String>, AllocError> {
-    let views = views_of(alloc, came, kept, of, wanted.len())?;
-    if views.is_empty() {
-        return Ok(Some(String::from_str(alloc, "there is nothing to see")?));
-    }
-    for view in &views {
-        let differ = numbers_differ(alloc, view.as_slice(), wanted)?;
-        if differ.is_some() {
-            return Ok(differ);
+    for numbers in places {
+        if !are(numbers.as_slice(), wanted) {
+            return numbers_differ(alloc, numbers.as_slice(), wanted);
         }
     }
     Ok(None)
+}
+
+/// How numbers differ, where there are any.
+fn views_differ(
+    alloc: Global,
+    views: &Views,
+    wanted: &[Option<u64>],
+) -> Result<Option<String>, AllocError> {
+    if views.places().is_empty() {
+        return Ok(Some(String::from_str(alloc, "there is nothing to see")?));
+    }
+    places_differ(alloc, views.places(), wanted)
 }
 
 /// How what a call came to differs from a fact, where it does.
 pub fn fact_differs(
     alloc: Global,
     came: &Came,
+    console: Option<&Console>,
     kept: &[u8],
     fact: &Fact,
 ) -> Result<Option<String>, AllocError> {
     match fact {
-        Fact::Numbers { of, wanted } => { views_differ(alloc, came, kept, *of, wanted.as_slice()) }
+        Fact::Numbers { of, wanted } => {
+            let views = views_of(alloc, came, console, kept, *of, wanted.len())?;
+            views_differ(alloc, &views, wanted.as_slice())
+        }
         Fact::Bytes { of, wanted } => {
             let seen = match of {
                 Text::Note => came.note.as_slice(),
                 Text::Out => came.out.as_slice(),
+                Text::OutAt(place) => from_place(came.out.as_slice(), *place, wanted.len()),
             };
             bytes_differ(alloc, seen, wanted.as_slice())
         }

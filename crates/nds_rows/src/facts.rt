@@ -31,6 +31,8 @@ pub enum Quantity {
     Kept,
     /// Words of a memory, from a place on, in the output and in the console.
     Words(Memory, usize),
+    /// The tick of a frame, by its number from 1, where the output has it.
+    Frame(usize),
     /// Registers of a processor, from one on, in the output and in the console.
     Registers(Proc, usize),
     /// The control field of a processor's CPSR.
@@ -46,6 +48,8 @@ pub enum Text {
     Note,
     /// The whole output.
     Out,
+    /// As many bytes of the output as are wanted, from this place on.
+    OutAt(usize),
 }
 
 /// What is seen.
@@ -132,15 +136,22 @@ fn stop(alloc: Global, line: &mut Cursor<'_>) -> Result<Fact, BadLine> {
     Ok(Fact::Numbers { of, wanted })
 }
 
+/// The number of what a processor does next, and of how many numbers it is told.
+fn kind_of(word: &str) -> Option<(u64, usize)> {
+    match word {
+        "idle" => Some((0, 0)),
+        "irq" => Some((1, 1)),
+        "word" => Some((2, 2)),
+        "half" => Some((3, 2)),
+        _ => None,
+    }
+}
+
 /// What a processor does next: `idle`, `irq R15`, `word AT WORD` or `half AT HALF`.
 fn seen(alloc: Global, line: &mut Cursor<'_>) -> Result<Fact, BadLine> {
     let of = Quantity::Seen(proc_of(line)?);
-    let (kind, count) = match line.word()? {
-        "idle" => (0, 0),
-        "irq" => (1, 1),
-        "word" => (2, 2),
-        "half" => (3, 2),
-        _ => return Err(BadLine::NoSuchWord),
+    let Some((kind, count)) = kind_of(line.word()?) else {
+        return Err(BadLine::NoSuchWord);
     };
     let mut wanted = Vec::new(alloc);
     wanted.push(Some(kind))?;
@@ -150,44 +161,92 @@ fn seen(alloc: Global, line: &mut Cursor<'_>) -> Result<Fact, BadLine> {
     Ok(Fact::Numbers { of, wanted })
 }
 
+/// The record of a frame has the letter, its tick, and then the upper screen's pixels and the lower's: 192 lines of 256 pixels of two bytes.
+pub const FRAME_SIZE: usize = 196_617;
+
+/// The place of a frame's record, by its number from 1.
+pub fn frame_at(number: usize) -> usize {
+    number.saturating_sub(1).saturating_mul(FRAME_SIZE)
+}
+
+/// The place of a pixel of a screen, which is the upper or the lower one: `FRAME X Y`.
+fn pixel_at(is_lower: bool, line: &mut Cursor<'_>) -> Result<usize, BadLine> {
+    let frame = frame_at(line.length()?);
+    let screen = if is_lower { 98_313 } else { 9 };
+    let across = line.length()?.saturating_mul(2);
+    let down = line.length()?.saturating_mul(512);
+    let place = frame.saturating_add(screen).saturating_add(across);
+    Ok(place.saturating_add(down))
+}
+
+/// Bytes, from what is left of a line.
+fn bytes(alloc: Global, of: Text, line: &mut Cursor<'_>) -> Result<Fact, BadLine> {
+    let wanted = line.bytes(alloc)?;
+    Ok(Fact::Bytes { of, wanted })
+}
+
+/// Bytes of the output from a place on.
+fn place(alloc: Global, line: &mut Cursor<'_>) -> Result<Fact, BadLine> {
+    let place = line.length()?;
+    bytes(alloc, Text::OutAt(place), line)
+}
+
+/// Bytes of the output from a pixel on.
+fn pixels(alloc: Global, is_lower: bool, line: &mut Cursor<'_>) -> Result<Fact, BadLine> {
+    let place = pixel_at(is_lower, line)?;
+    bytes(alloc, Text::OutAt(place), line)
+}
+
+/// The tick of a frame.
+fn frame(alloc: Global, line: &mut Cursor<'_>) -> Result<Fact, BadLine> {
+    let of = Quantity::Frame(line.length()?);
+    numbers(alloc, of, Radix::Decimal, line)
+}
+
+/// What a line says of a place of the output, or of a frame in it.
+fn place_line(alloc: Global, word: &str, line: &mut Cursor<'_>) -> Result<Option<Fact>, BadLine> {
+    let fact = match word {
+        "at" => place(alloc, line),
+        "upper" => pixels(alloc, false, line),
+        "lower" => pixels(alloc, true, line),
+        "frame" => frame(alloc, line),
+        _ => return Ok(None),
+    };
+    Ok(Some(fact?))
+}
+
 /// What a line says of what the call wrote and answered.
 fn answer_line(alloc: Global, word: &str, line: &mut Cursor<'_>) -> Result<Option<Fact>, BadLine> {
     let fact = match word {
-        "status" => numbers(alloc, Quantity::Status, Radix::Decimal, line)?,
-        "length" => numbers(alloc, Quantity::Length, Radix::Decimal, line)?,
-        "end" => numbers(alloc, Quantity::End, Radix::Decimal, line)?,
-        "stop" => stop(alloc, line)?,
-        "note" => Fact::Bytes {
-            of: Text::Note,
-            wanted: line.bytes(alloc)?,
-        },
-        "out" => Fact::Bytes {
-            of: Text::Out,
-            wanted: line.bytes(alloc)?,
-        },
-        "told" => number(alloc, Quantity::Told, 1)?,
-        "untold" => number(alloc, Quantity::Told, 0)?,
-        "front" => number(alloc, Quantity::Kept, 1)?,
-        "same" => number(alloc, Quantity::Kept, 2)?,
+        "status" => numbers(alloc, Quantity::Status, Radix::Decimal, line),
+        "length" => numbers(alloc, Quantity::Length, Radix::Decimal, line),
+        "end" => numbers(alloc, Quantity::End, Radix::Decimal, line),
+        "stop" => stop(alloc, line),
+        "note" => bytes(alloc, Text::Note, line),
+        "out" => bytes(alloc, Text::Out, line),
+        "told" => number(alloc, Quantity::Told, 1),
+        "untold" => number(alloc, Quantity::Told, 0),
+        "front" => number(alloc, Quantity::Kept, 1),
+        "same" => number(alloc, Quantity::Kept, 2),
         _ => return Ok(None),
     };
-    Ok(Some(fact))
+    Ok(Some(fact?))
 }
 
 /// What a line says of the console that the call left.
 fn console_line(alloc: Global, word: &str, line: &mut Cursor<'_>) -> Result<Option<Fact>, BadLine> {
     let fact = match word {
-        "counts" => numbers(alloc, Quantity::Counts, Radix::Decimal, line)?,
-        "next" => numbers(alloc, Quantity::Next, Radix::Decimal, line)?,
-        "limit" => numbers(alloc, Quantity::Limit, Radix::Decimal, line)?,
-        "console" => number(alloc, Quantity::Consoles, 1)?,
-        "empty" => number(alloc, Quantity::Consoles, 0)?,
-        "seen" => seen(alloc, line)?,
-        "nine" => registers(alloc, Proc::Nine, line)?,
-        "seven" => registers(alloc, Proc::Seven, line)?,
+        "counts" => numbers(alloc, Quantity::Counts, Radix::Decimal, line),
+        "next" => numbers(alloc, Quantity::Next, Radix::Decimal, line),
+        "limit" => numbers(alloc, Quantity::Limit, Radix::Decimal, line),
+        "console" => number(alloc, Quantity::Consoles, 1),
+        "empty" => number(alloc, Quantity::Consoles, 0),
+        "seen" => seen(alloc, line),
+        "nine" => registers(alloc, Proc::Nine, line),
+        "seven" => registers(alloc, Proc::Seven, line),
         _ => return Ok(None),
     };
-    Ok(Some(fact))
+    Ok(Some(fact?))
 }
 
 /// Registers of a processor, from a named one on.
@@ -212,6 +271,9 @@ pub fn fact_line(alloc: Global, line: &mut Cursor<'_>) -> Result<Fact, BadLine> 
         return Ok(fact);
     }
     if let Some(fact) = console_line(alloc, word, line)? {
+        return Ok(fact);
+    }
+    if let Some(fact) = place_line(alloc, word, line)? {
         return Ok(fact);
     }
     memory_line(alloc, word, line)

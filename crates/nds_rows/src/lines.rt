@@ -5,13 +5,15 @@ use crate::facts::{Fact, fact_line};
 use crate::faults::BadLine;
 use crate::setups::{Setup, call_line, cartridge_line};
 use crate::tokens::Token;
-use std::alloc::Global;
+use std::alloc::{AllocError, Global};
 
 /// What is done to a console beside the top call.
 #[derive(Drop)]
 pub enum Act {
     /// The output is kept, for other outputs to be held beside it.
     Keep,
+    /// The output begins with so many records of frames, and those that are looked at from now on are behind them.
+    Past(usize),
     /// The console takes a turn with a limit. What it answers, and its limit after it, are these numbers.
     Turn {
         until: u64,
@@ -33,12 +35,25 @@ pub enum Act {
 pub enum Line {
     /// A table begins, with this heading.
     Table(String),
+    /// A row begins.
+    Row,
     /// Calls go over something else.
     Setup(Setup),
     /// Something is done.
     Act(Act),
     /// Something is seen.
     Is(Fact),
+    /// It says nothing.
+    Bad(BadLine),
+}
+
+/// A line, and its number in its file.
+#[derive(Drop)]
+pub struct Said {
+    /// The number, from 1.
+    pub number: u64,
+    /// What it says.
+    pub line: Line,
 }
 
 /// The words that are left, as a heading.
@@ -75,24 +90,42 @@ fn answer_of(alloc: Global, line: &mut Cursor<'_>) -> Result<Vec<Option<u64>>, B
     Ok(wanted)
 }
 
+/// A turn.
+fn turn(alloc: Global, line: &mut Cursor<'_>) -> Result<Act, BadLine> {
+    let until = line.number()?;
+    let wanted = answer_of(alloc, line)?;
+    Ok(Act::Turn { until, wanted })
+}
+
+/// Turns until a frame is whole.
+fn frame(line: &mut Cursor<'_>) -> Result<Act, BadLine> {
+    let until = line.number()?;
+    let turns = line.number()?;
+    Ok(Act::Frame { until, turns })
+}
+
+/// Going past records of frames.
+fn past(line: &mut Cursor<'_>) -> Result<Act, BadLine> {
+    Ok(Act::Past(line.length()?))
+}
+
+/// Playing to a tick.
+fn play(line: &mut Cursor<'_>) -> Result<Act, BadLine> {
+    let until = line.number()?;
+    Ok(Act::Play { until })
+}
+
 /// What a line that begins with this word does; nothing where the word isn't such a line's.
 fn act_line(alloc: Global, word: &str, line: &mut Cursor<'_>) -> Result<Option<Act>, BadLine> {
     let act = match word {
-        "keep" => Act::Keep,
-        "turn" => Act::Turn {
-            until: line.number()?,
-            wanted: answer_of(alloc, line)?,
-        },
-        "frame" => Act::Frame {
-            until: line.number()?,
-            turns: line.number()?,
-        },
-        "play" => Act::Play {
-            until: line.number()?,
-        },
+        "keep" => Ok(Act::Keep),
+        "past" => past(line),
+        "turn" => turn(alloc, line),
+        "frame" => frame(line),
+        "play" => play(line),
         _ => return Ok(None),
     };
-    Ok(Some(act))
+    Ok(Some(act?))
 }
 
 /// The line that begins with this word.
@@ -115,10 +148,59 @@ fn line_of(alloc: Global, word: &str, line: &mut Cursor<'_>) -> Result<Line, Bad
 }
 
 /// The line that these words and texts are.
-pub fn read_line(alloc: Global, tokens: &[Token]) -> Result<Line, BadLine> {
+fn read_line(alloc: Global, tokens: &[Token]) -> Result<Line, BadLine> {
     let mut line = Cursor::new(tokens);
     let word = line.word()?;
     let read = line_of(alloc, word, &mut line)?;
     line.end()?;
     Ok(read)
+}
+
+/// The line that these words and texts are, or why they are none.
+fn line_or_bad(alloc: Global, tokens: &[Token]) -> Line {
+    match read_line(alloc, tokens) {
+        Ok(line) => line,
+        Err(bad) => Line::Bad(bad),
+    }
+}
+
+/// Adds what stands between two bars: a row's begin, a line, or both.
+fn add_part(
+    alloc: Global,
+    said: &mut Vec<Said>,
+    number: u64,
+    tokens: &[Token],
+) -> Result<(), AllocError> {
+    let mut rest = tokens;
+    if let [first, behind @ ..] = tokens
+        && first.is("row")
+    {
+        said.push(Said {
+            number,
+            line: Line::Row,
+        })?;
+        rest = behind;
+    }
+    if !rest.is_empty() {
+        let line = line_or_bad(alloc, rest);
+        said.push(Said { number, line })?;
+    }
+    Ok(())
+}
+
+/// Adds the lines that these words of a file's line are, which begins at this number.
+pub fn add_lines(
+    alloc: Global,
+    said: &mut Vec<Said>,
+    number: u64,
+    tokens: &[Token],
+) -> Result<(), AllocError> {
+    let mut from = 0;
+    for (i, token) in tokens.iter().enumerate() {
+        if token.is("|") {
+            add_part(alloc, said, number, tokens.get(from..i).unwrap_or(&[]))?;
+            from = i.saturating_add(1);
+        }
+    }
+    add_part(alloc, said, number, tokens.get(from..).unwrap_or(&[]))
 }

@@ -6,9 +6,12 @@
 //!     is note ""                             ; what is seen after the row's call: here no note
 //!     row run 9 | is end 9 3 2 0 5           ; a row: what its call goes over, the call, and what is seen
 //!
-//! A line goes through `tokens` (its words and texts), `cursors` (numbers and bytes), and `lines` (what is said) with its kinds: `setups` (what a call goes over) and
-//! `facts` (what is seen). `scenes` puts the former together, `calls` makes the call, `views` looks at what it came to, `checks` holds that beside
-//! the fact, `rows` keeps a row, and `tables` goes over a file. A further word of the language is a variant and a line in its kind, and what plays it.
+//! `files` reads a file into what its lines say. A line goes through `tokens` (its words and texts), `cursors` (numbers and bytes), and `lines` with its
+//! kinds: `setups` (what a call goes over) and `facts` (what is seen). `tables` goes over the lines of a file, and `rows` over those of a row: `scenes` puts together
+//! what its call goes over, `calls` makes the call, `views` looks at what it came to, and `checks` holds that beside the fact. A further word of the language is a
+//! variant and a line in its kind, and what plays it.
+//!
+//! A console is large, and each function that has one as a value is dear to prove. So it stands in one place, a local of `rows`, and all others borrow it.
 //!
 //! Its functions promise nothing beside being safe: what is known of shelves, sinks and consoles stands in their own crates.
 #![tactic(auto)]
@@ -18,6 +21,7 @@ mod checks;
 mod cursors;
 mod facts;
 mod faults;
+mod files;
 mod lines;
 mod rows;
 mod scenes;

@@ -6,7 +6,7 @@ use ds_io::Files;
 use std::alloc::{AllocError, Global};
 
 /// The image of a processor: where it goes, where it is entered, and its bytes.
-#[derive(Clone, Drop)]
+#[derive(Drop)]
 struct Image {
     place: u32,
     entry: u32,
@@ -33,14 +33,14 @@ impl Image {
 }
 
 /// Words that stand in the header from a place on.
-#[derive(Clone, Drop)]
+#[derive(Drop)]
 struct Patch {
     at: usize,
     words: Vec<u32>,
 }
 
 /// A file on the shelf.
-#[derive(Clone, Drop)]
+#[derive(Drop)]
 struct Entry {
     name: String,
     bytes: Vec<u8>,
@@ -58,7 +58,7 @@ pub struct Fails {
 }
 
 /// What a call goes over. The cartridge is ARM9's and ARM7's image behind a header of 512 bytes; it is the last file of the shelf.
-#[derive(Clone, Drop)]
+#[derive(Drop)]
 pub struct Scene {
     nine: Image,
     seven: Image,
@@ -185,33 +185,69 @@ impl Scene {
         image.entry = place;
     }
 
-    /// Puts the cartridge as it stands on the shelf.
-    fn shelve(&mut self, alloc: Global, name: String) -> Result<(), AllocError> {
-        let bytes = self.cart(alloc)?;
+    /// Puts words into the header.
+    fn patch(&mut self, at: usize, words: &Vec<u32>) -> Result<(), AllocError> {
+        let words = words.clone()?;
+        self.patches.push(Patch { at, words })?;
+        Ok(())
+    }
+
+    /// Calls the cartridge's file by a name.
+    fn call_cart(&mut self, name: &String) -> Result<(), AllocError> {
+        self.name = name.clone()?;
+        Ok(())
+    }
+
+    /// Puts a file on the shelf.
+    fn put_file(&mut self, name: String, bytes: Vec<u8>) -> Result<(), AllocError> {
         self.files.push(Entry { name, bytes })?;
         Ok(())
     }
 
-    /// Changes what a line says.
-    pub fn change(&mut self, alloc: Global, setup: Setup) -> Result<(), AllocError> {
-        match setup {
-            Setup::Image { whose, adds, bytes } => {
-                self.set_image(whose, adds, bytes.as_slice())?;
-            }
-            Setup::Put { proc, number, word } => {
-                set(&mut self.image(proc).bytes, number.saturating_mul(4), word);
-            }
-            Setup::Place { proc, place } => self.place(proc, place),
-            Setup::Entry { proc, entry } => self.image(proc).entry = entry,
-            Setup::Header { at, words } => self.patches.push(Patch { at, words })?,
-            Setup::Size(size) => self.size = Some(size),
-            Setup::Cart(name) => self.name = name,
-            Setup::Shelve(name) => self.shelve(alloc, name)?,
-            Setup::File { name, bytes } => self.files.push(Entry { name, bytes })?,
-            Setup::Fails { part, call } => self.fail(part, call),
-            Setup::Room(room) => self.room = room,
-            Setup::Call(words) => self.words = words,
-        }
+    /// Puts the cartridge as it stands on the shelf.
+    fn shelve(&mut self, alloc: Global, name: &String) -> Result<(), AllocError> {
+        let bytes = self.cart(alloc)?;
+        self.put_file(name.clone()?, bytes)
+    }
+
+    /// Sets the words of the call.
+    fn ask(&mut self, words: &Vec<String>) -> Result<(), AllocError> {
+        self.words = words.clone()?;
         Ok(())
+    }
+
+    /// Changes what a line says.
+    pub fn change(&mut self, alloc: Global, setup: &Setup) -> Result<(), AllocError> {
+        match setup {
+            Setup::Image { whose, adds, bytes } => self.set_image(*whose, *adds, bytes.as_slice()),
+            Setup::Header { at, words } => self.patch(*at, words),
+            Setup::Cart(name) => self.call_cart(name),
+            Setup::Shelve(name) => self.shelve(alloc, name),
+            Setup::File { name, bytes } => self.put_file(name.clone()?, bytes.clone()?),
+            Setup::Call(words) => self.ask(words),
+            _ => {
+                self.set_number(setup);
+                Ok(())
+            }
+        }
+    }
+
+    /// Changes what a line of one number says.
+    fn set_number(&mut self, setup: &Setup) {
+        match setup {
+            Setup::Put { proc, number, word } => {
+                set(
+                    &mut self.image(*proc).bytes,
+                    number.saturating_mul(4),
+                    *word,
+                );
+            }
+            Setup::Place { proc, place } => self.place(*proc, *place),
+            Setup::Entry { proc, entry } => self.image(*proc).entry = *entry,
+            Setup::Size(size) => self.size = Some(*size),
+            Setup::Fails { part, call } => self.fail(*part, *call),
+            Setup::Room(room) => self.room = *room,
+            _ => {}
+        }
     }
 }

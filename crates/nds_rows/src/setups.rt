@@ -96,14 +96,96 @@ fn part_of(line: &mut Cursor<'_>) -> Result<Part, BadLine> {
     }
 }
 
+/// Whose image a word names, and whether bytes come behind it.
+fn image_of(word: &str) -> Option<(Whose, bool)> {
+    match word {
+        "nine" => Some((Whose::One(Proc::Nine), false)),
+        "nine+" => Some((Whose::One(Proc::Nine), true)),
+        "seven" => Some((Whose::One(Proc::Seven), false)),
+        "seven+" => Some((Whose::One(Proc::Seven), true)),
+        "both" => Some((Whose::Both, false)),
+        "both+" => Some((Whose::Both, true)),
+        _ => None,
+    }
+}
+
 /// An image, from what is left of a line.
 fn image(alloc: Global, whose: Whose, adds: bool, line: &mut Cursor<'_>) -> Result<Setup, BadLine> {
     let bytes = line.bytes(alloc)?;
     Ok(Setup::Image { whose, adds, bytes })
 }
 
+/// A word of an image.
+fn put(line: &mut Cursor<'_>) -> Result<Setup, BadLine> {
+    let proc = proc_of(line)?;
+    let number = line.length()?;
+    let word = line.hex()?;
+    Ok(Setup::Put { proc, number, word })
+}
+
+/// Where an image goes.
+fn place(line: &mut Cursor<'_>) -> Result<Setup, BadLine> {
+    let proc = proc_of(line)?;
+    let place = line.hex()?;
+    Ok(Setup::Place { proc, place })
+}
+
+/// Where an image is entered.
+fn entry(line: &mut Cursor<'_>) -> Result<Setup, BadLine> {
+    let proc = proc_of(line)?;
+    let entry = line.hex()?;
+    Ok(Setup::Entry { proc, entry })
+}
+
+/// Words of the header.
+fn header(alloc: Global, line: &mut Cursor<'_>) -> Result<Setup, BadLine> {
+    let at = line.hex()? as usize;
+    let words = line.words(alloc)?;
+    Ok(Setup::Header { at, words })
+}
+
+/// The length of the cartridge's file.
+fn size(line: &mut Cursor<'_>) -> Result<Setup, BadLine> {
+    Ok(Setup::Size(line.length()?))
+}
+
+/// The name of the cartridge's file.
+fn cart(alloc: Global, line: &mut Cursor<'_>) -> Result<Setup, BadLine> {
+    Ok(Setup::Cart(line.name(alloc)?))
+}
+
+/// The name under which the cartridge lies on the shelf too.
+fn shelve(alloc: Global, line: &mut Cursor<'_>) -> Result<Setup, BadLine> {
+    Ok(Setup::Shelve(line.name(alloc)?))
+}
+
+/// A file of the shelf.
+fn file(alloc: Global, line: &mut Cursor<'_>) -> Result<Setup, BadLine> {
+    let name = line.name(alloc)?;
+    let bytes = line.bytes(alloc)?;
+    Ok(Setup::File { name, bytes })
+}
+
+/// A call that fails.
+fn fails(line: &mut Cursor<'_>) -> Result<Setup, BadLine> {
+    let part = part_of(line)?;
+    let call = line.number()?;
+    Ok(Setup::Fails { part, call })
+}
+
+/// For how much the output has room.
+fn room(line: &mut Cursor<'_>) -> Result<Setup, BadLine> {
+    Ok(Setup::Room(line.length()?))
+}
+
+/// The words of the call.
+fn call(alloc: Global, line: &mut Cursor<'_>) -> Result<Setup, BadLine> {
+    Ok(Setup::Call(line.names(alloc)?))
+}
+
 /// The words of a run to a tick of the file `file`, without keys.
-fn run_words(alloc: Global, ticks: &str) -> Result<Setup, BadLine> {
+fn run(alloc: Global, line: &mut Cursor<'_>) -> Result<Setup, BadLine> {
+    let ticks = line.word()?;
     let mut words = Vec::new(alloc);
     for word in ["run", "file", "none", ticks, "none"] {
         words.push(String::from_str(alloc, word)?)?;
@@ -117,35 +199,19 @@ pub fn cartridge_line(
     word: &str,
     line: &mut Cursor<'_>,
 ) -> Result<Option<Setup>, BadLine> {
+    if let Some((whose, adds)) = image_of(word) {
+        return Ok(Some(image(alloc, whose, adds, line)?));
+    }
     let setup = match word {
-        "nine" => image(alloc, Whose::One(Proc::Nine), false, line)?,
-        "nine+" => image(alloc, Whose::One(Proc::Nine), true, line)?,
-        "seven" => image(alloc, Whose::One(Proc::Seven), false, line)?,
-        "seven+" => image(alloc, Whose::One(Proc::Seven), true, line)?,
-        "both" => image(alloc, Whose::Both, false, line)?,
-        "both+" => image(alloc, Whose::Both, true, line)?,
-        "put" => Setup::Put {
-            proc: proc_of(line)?,
-            number: line.length()?,
-            word: line.hex()?,
-        },
-        "place" => Setup::Place {
-            proc: proc_of(line)?,
-            place: line.hex()?,
-        },
-        "entry" => Setup::Entry {
-            proc: proc_of(line)?,
-            entry: line.hex()?,
-        },
-        "header" => Setup::Header {
-            at: line.hex()? as usize,
-            words: line.words(alloc)?,
-        },
-        "size" => Setup::Size(line.length()?),
-        "cart" => Setup::Cart(line.name(alloc)?),
+        "put" => put(line),
+        "place" => place(line),
+        "entry" => entry(line),
+        "header" => header(alloc, line),
+        "size" => size(line),
+        "cart" => cart(alloc, line),
         _ => return Ok(None),
     };
-    Ok(Some(setup))
+    Ok(Some(setup?))
 }
 
 /// What a line that begins with this word changes in the shelf, the sinks and the words; nothing where the word isn't such a line's.
@@ -155,19 +221,13 @@ pub fn call_line(
     line: &mut Cursor<'_>,
 ) -> Result<Option<Setup>, BadLine> {
     let setup = match word {
-        "shelve" => Setup::Shelve(line.name(alloc)?),
-        "file" => Setup::File {
-            name: line.name(alloc)?,
-            bytes: line.bytes(alloc)?,
-        },
-        "fails" => Setup::Fails {
-            part: part_of(line)?,
-            call: line.number()?,
-        },
-        "room" => Setup::Room(line.length()?),
-        "call" => Setup::Call(line.names(alloc)?),
-        "run" => run_words(alloc, line.word()?)?,
+        "shelve" => shelve(alloc, line),
+        "file" => file(alloc, line),
+        "fails" => fails(line),
+        "room" => room(line),
+        "call" => call(alloc, line),
+        "run" => run(alloc, line),
         _ => return Ok(None),
     };
-    Ok(Some(setup))
+    Ok(Some(setup?))
 }

@@ -14,9 +14,9 @@ pub not_true : (b : Bool) → not b ≡ true → b ≡ false
 not_true true h = absurd (grind arith)
 not_true false h = refl
 
-pub left_false : (a b : Bool) → a ≡ false → (a && b) ≡ false
-left_false true b h = absurd (grind arith)
-left_false false b h = refl
+pub and_false : (a : Bool) → (a && false) ≡ false
+and_false true = refl
+and_false false = refl
 
 pub never : {A : Type 0} (b : Bool) → b ≡ true → b ≡ false → A
 never true t f = absurd (grind arith)

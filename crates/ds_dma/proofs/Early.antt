@@ -7,7 +7,7 @@ use Rattle.ds_dma.specs.declared.controls.Cause.{Cause}
 use Rattle.ds_dma.specs.declared.controls.DmaPort.{DmaPort}
 use Rattle.ds_dma.specs.declared.controls.DmaPort.TheVariants.{Source, Target, Control}
 use Rattle.ds_dma.specs.Controls.{kept_channel_control, is_enabled, is_armed_again, starts_immediately}
-use Rattle.ds_dma.specs.Channels.{ChannelState, channel_controlled, channel_set, is_triggered, triggered, is_last_unit, after_unit}
+use Rattle.ds_dma.specs.Channels.{ChannelState, channel_controlled, channel_set, is_triggered, triggered, is_last_unit, is_last_of_burst, after_unit}
 use Rattle.ds_dma.specs.States.{DmaState, HasEarlyTicks, channel_at}
 use Rattle.ds_dma.proofs.Choices.{either}
 use Rattle.ds_dma.proofs.Fours.{at_mapped, set_holds}
@@ -42,7 +42,7 @@ triggered_early proc cause now c was early =
 pub taken_early : (proc : Proc) (which : ℕ) (c : ChannelState) → IsEarly c.trigger → IsEarly (after_unit proc which c).trigger
 taken_early proc which c was =
     let P : ChannelState → Type 0 = λ x. IsEarly x.trigger in
-    either P (not (is_last_unit c)) _ _ (λ e. was) (λ e. either P (is_armed_again proc c.cnt) _ _ (λ f. tt) (λ f. tt))
+    either P (not (is_last_unit c)) _ _ (λ e. either P (is_last_of_burst c) _ _ (λ f. tt) (λ f. was)) (λ e. either P (is_armed_again proc c.cnt) _ _ (λ f. tt) (λ f. tt))
 
 -- with another channel in one place and another last unit, both early, all are early still
 pub early_set : (s : DmaState) (which : ℕ) (c : ChannelState) (last : Option Tick) → length s.channels ≡ 4 → HasEarlyTicks s → which < 4 → IsEarly c.trigger

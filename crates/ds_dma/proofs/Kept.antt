@@ -1,16 +1,16 @@
-use Rattle.std.proofs.Common.{ℕ, ◌≡◌, ◌<◌, ◌≤◌, ◌+◌, ◌-◌, ◌%◌, ◌^◌, refl, sym, ◌∙◌, ap, arith, rules, Bool, true, false, bit_and, Option, Some, None}
+use Rattle.std.proofs.Common.{ℕ, ◌≡◌, ◌≢◌, ◌<◌, ◌≤◌, ◌+◌, ◌-◌, ◌%◌, ◌^◌, refl, sym, ◌∙◌, ap, arith, rules, Bool, true, false, bit_and, Option, None}
 use Rattle.std.specs.Prelude.{◌&&◌, not, if◌then◌else◌, is_some}
 use Rattle.std.specs.Int.Bits.{and_self}
 use Rattle.std.proofs.lemmas.Nat.{and_assoc, and_comm, and_mask}
-use Rattle.ds_base.specs.declared.left_out.Stop.{Stop}
 use Rattle.ds_base.specs.declared.processors.Proc.{Proc}
 use Rattle.ds_base.specs.declared.ticks.Tick.{Tick}
 use Rattle.ds_dma.specs.declared.controls.Cause.{Cause}
+use Rattle.ds_dma.specs.declared.controls.Cause.TheVariants.{VBlank, HBlank, Card, Geometry}
 use Rattle.ds_dma.specs.declared.controls.DmaPort.{DmaPort}
 use Rattle.ds_dma.specs.declared.controls.DmaPort.TheVariants.{Source, Target, Control}
-use Rattle.ds_dma.specs.Controls.{kept_channel_control, channel_control_mask, greatest_count, units_counted, is_enabled, is_not_yet, is_left_out, refusal, disabled, is_armed_again, waits_for, latches_again}
-use Rattle.ds_dma.specs.Channels.{ChannelState, IsChannel, is_running, latched, emptied, channel_controlled, channel_set, channel_refusal, is_triggered, triggered, next_to, after_unit, is_last_unit}
-use Rattle.ds_dma.proofs.Choices.{either, both, left_false, never, not_true, unequal_numbers}
+use Rattle.ds_dma.specs.Controls.{kept_channel_control, channel_control_mask, greatest_count, units_counted, is_enabled, disabled, is_armed_again, waits_for, burst_of, latches_again}
+use Rattle.ds_dma.specs.Channels.{ChannelState, IsChannel, is_running, latched, emptied, channel_controlled, channel_set, is_triggered, triggered, next_to, after_unit, is_last_unit, is_last_of_burst, rest_of}
+use Rattle.ds_dma.proofs.Choices.{either, both, never, not_true, equal_numbers, unequal_numbers}
 
 -- the bits that are kept are kept again
 pub kept_twice : (proc : Proc) (which value : ℕ) → kept_channel_control proc which (kept_channel_control proc which value) ≡ kept_channel_control proc which value
@@ -47,31 +47,35 @@ emptied_is proc which c control is kept off = record {
   sad = is.sad;
   dad = is.dad;
   cnt = kept;
-  built = left_false (is_enabled control) (is_not_yet proc control) off;
   from = omega arith;
   to = omega arith;
   remaining = omega arith;
   some = λ on. never (is_enabled control) on off;
+  burst = omega arith;
+  within = omega arith;
+  waits = λ e. refl;
   none = λ e. (refl, refl, refl, refl);
 }
 
 latched_is : (proc : Proc) (which : ℕ) (c : ChannelState) (control : ℕ) (now : Tick) → IsChannel proc which c → kept_channel_control proc which control ≡ control
-    → (is_enabled control && is_not_yet proc control) ≡ false → is_enabled control ≡ true → IsChannel proc which (latched proc which c control now)
-latched_is proc which c control now is kept built on = record {
+    → is_enabled control ≡ true → IsChannel proc which (latched proc which c control now)
+latched_is proc which c control now is kept on = record {
   sad = is.sad;
   dad = is.dad;
   cnt = kept;
-  built = built;
   from = wider c.sad is.sad;
   to = wider c.dad is.dad;
   remaining = units_within proc which control;
   some = λ e. units_some proc which control;
+  burst = omega arith;
+  within = omega arith;
+  waits = λ e. refl;
   none = λ off. never (is_enabled control) on off;
 }
 
 controlled_is : (proc : Proc) (which : ℕ) (c : ChannelState) (control : ℕ) (now : Tick) → IsChannel proc which c → kept_channel_control proc which control ≡ control
-    → (is_enabled control && is_not_yet proc control) ≡ false → IsChannel proc which (channel_controlled proc which c control now)
-controlled_is proc which c control now is kept built =
+    → IsChannel proc which (channel_controlled proc which c control now)
+controlled_is proc which c control now is kept =
     let P : ChannelState → Type 0 = IsChannel proc which in
     either P (is_enabled control) _ _
     (λ on. either P (is_enabled c.cnt) _ _
@@ -79,52 +83,57 @@ controlled_is proc which c control now is kept built =
       sad = is.sad;
       dad = is.dad;
       cnt = kept;
-      built = built;
       from = is.from;
       to = is.to;
       remaining = is.remaining;
       some = λ e. is.some was;
+      burst = is.burst;
+      within = is.within;
+      waits = is.waits;
       none = λ off. never (is_enabled control) on off;
     })
-    (λ was. latched_is proc which c control now is kept built on))
+    (λ was. latched_is proc which c control now is kept on))
     (λ off. emptied_is proc which c control is kept off)
 
--- a control that isn't refused isn't enabled with a start that isn't built yet
-not_refused : (a b : Bool) (x y : Stop) → (if a then Some x else (if b then Some y else None)) ≡ None → a ≡ false
-not_refused true b x y h = absurd (grind (arith, h))
-not_refused false b x y h = refl
-
-built_by : (proc : Proc) (old control : ℕ) → refusal proc old control ≡ None → (is_enabled control && is_not_yet proc control) ≡ false
-built_by proc old control h = not_refused (is_enabled control && is_not_yet proc control) (is_enabled control && not (is_enabled old) && is_left_out proc control) _ _ h
-
--- after a write that is taken it is a channel still
+-- after a write it is a channel still
 pub written_is : (proc : Proc) (which : ℕ) (port : DmaPort) (value : ℕ) (now : Tick) (c : ChannelState) → IsChannel proc which c
-    → channel_refusal proc which port value c ≡ None → IsChannel proc which (channel_set proc which port value now c)
-written_is proc which Source value now c is h = record {
+    → IsChannel proc which (channel_set proc which port value now c)
+written_is proc which Source value now c is = record {
   sad = omega arith;
   dad = is.dad;
   cnt = is.cnt;
-  built = is.built;
   from = is.from;
   to = is.to;
   remaining = is.remaining;
   some = is.some;
+  burst = is.burst;
+  within = is.within;
+  waits = is.waits;
   none = is.none;
 }
-written_is proc which Target value now c is h = record {
+written_is proc which Target value now c is = record {
   sad = is.sad;
   dad = omega arith;
   cnt = is.cnt;
-  built = is.built;
   from = is.from;
   to = is.to;
   remaining = is.remaining;
   some = is.some;
+  burst = is.burst;
+  within = is.within;
+  waits = is.waits;
   none = is.none;
 }
-written_is proc which Control value now c is h =
+written_is proc which Control value now c is =
     let control = kept_channel_control proc which value in
-    controlled_is proc which c control now is (kept_twice proc which value) (built_by proc c.cnt control h)
+    controlled_is proc which c control now is (kept_twice proc which value)
+
+-- a burst has 112 units at most, and no more than are left
+burst_within : (cause : Cause) (left : ℕ) → (burst_of cause left ≤ 112) × (burst_of cause left ≤ left)
+burst_within VBlank left = (omega arith, omega arith)
+burst_within HBlank left = (omega arith, omega arith)
+burst_within Card left = (omega arith, omega arith)
+burst_within Geometry left = (grind arith, grind arith)
 
 -- after an event it is a channel still
 pub triggered_is : (proc : Proc) (which : ℕ) (cause : Cause) (now : Tick) (c : ChannelState) → IsChannel proc which c
@@ -136,11 +145,13 @@ triggered_is proc which cause now c is =
       sad = is.sad;
       dad = is.dad;
       cnt = is.cnt;
-      built = is.built;
       from = is.from;
       to = is.to;
       remaining = is.remaining;
       some = is.some;
+      burst = (burst_within cause c.remaining).0;
+      within = (burst_within cause c.remaining).1;
+      waits = λ off. never true refl off;
       none = λ off. never (is_enabled c.cnt) on off;
     }))
     (λ e. is)
@@ -152,32 +163,44 @@ chosen_below : (b : Bool) (x y : ℕ) → x < 2 ^ 32 → y < 2 ^ 32 → (if b th
 chosen_below true x y h i = h
 chosen_below false x y h i = i
 
+-- what is left after a unit that isn't the last one
+rest_is : (proc : Proc) (which : ℕ) (c : ChannelState) (next : Option Tick) → IsChannel proc which c → is_enabled c.cnt ≡ true → c.remaining ≢ 1
+    → (is_some next ≡ false → c.burst - 1 ≡ 0) → IsChannel proc which (record (rest_of c) { trigger = next })
+rest_is proc which c next is on ne waits = record {
+  sad = is.sad;
+  dad = is.dad;
+  cnt = is.cnt;
+  from = modulo_below _;
+  to = modulo_below _;
+  remaining = omega (arith, is.remaining);
+  some = λ f. omega (arith, ne, is.some f);
+  burst = omega (arith, is.burst);
+  within = omega (arith, is.within);
+  waits = waits;
+  none = λ off. never (is_enabled c.cnt) on off;
+}
+
 -- and so it is after its first unit
 pub taken_is : (proc : Proc) (which : ℕ) (c : ChannelState) → IsChannel proc which c → is_enabled c.cnt ≡ true → IsChannel proc which (after_unit proc which c)
 taken_is proc which c is on =
     let P : ChannelState → Type 0 = IsChannel proc which in
     either P (not (is_last_unit c)) _ _
-    (λ e. (let ne = unequal_numbers c.remaining 1 (not_true (is_last_unit c) e) in record {
-      sad = is.sad;
-      dad = is.dad;
-      cnt = is.cnt;
-      built = is.built;
-      from = modulo_below _;
-      to = modulo_below _;
-      remaining = omega (arith, is.remaining);
-      some = λ f. omega (arith, ne, is.some f);
-      none = λ off. never (is_enabled c.cnt) on off;
-    }))
+    (λ e. (let ne = unequal_numbers c.remaining 1 (not_true (is_last_unit c) e) in
+    either P (is_last_of_burst c) _ _
+    (λ f. rest_is proc which c None is on ne (λ off. (let one = equal_numbers c.burst 1 f in omega (arith, one))))
+    (λ f. rest_is proc which c c.trigger is on ne (λ off. (let none = is.waits off in omega (arith, none))))))
     (λ e. either P (is_armed_again proc c.cnt) _ _
     (λ f. record {
       sad = is.sad;
       dad = is.dad;
       cnt = is.cnt;
-      built = is.built;
       from = modulo_below _;
       to = chosen_below (latches_again c.cnt) c.dad (next_to c) (wider c.dad is.dad) (modulo_below _);
       remaining = units_within proc which c.cnt;
       some = λ g. units_some proc which c.cnt;
+      burst = omega arith;
+      within = omega arith;
+      waits = λ g. refl;
       none = λ off. never (is_enabled c.cnt) on off;
     })
     (λ f. emptied_is proc which c (disabled c.cnt) is (disabled_kept proc which c.cnt is.cnt) (disabled_is_off c.cnt)))

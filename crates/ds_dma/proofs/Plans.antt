@@ -1,11 +1,11 @@
 use Rattle.std.proofs.Common.{ℕ, zero, suc, ◌≡◌, ◌<◌, ◌≤◌, ◌+◌, ◌-◌, ◌*◌, ◌%◌, ◌^◌, List, [], ◌∷◌, map, refl, sym, ◌∙◌, ap, arith}
-use Rattle.std.specs.Prelude.{not}
+use Rattle.std.specs.Prelude.{not, if◌then◌else◌, None}
 use Rattle.std.specs.List.{range_with_len}
 use Rattle.std.proofs.Math.Nat.{mod-add-mod, mod-eq_of_lt}
 use Rattle.ds_base.specs.declared.processors.Proc.{Proc}
 use Rattle.ds_dma.specs.declared.channels.Unit.{Unit as DmaUnit}
 use Rattle.ds_dma.specs.Controls.{disabled, is_armed_again}
-use Rattle.ds_dma.specs.Channels.{ChannelState, plan_of, unit_of, address_of, source_step, target_step, next_from, next_to, emptied, TakesUnit, more, again, ends, after_unit, is_last_unit}
+use Rattle.ds_dma.specs.Channels.{ChannelState, plan_of, unit_of, address_of, source_step, target_step, next_from, next_to, emptied, rest_of, TakesUnit, more, pauses, again, ends, after_unit, is_last_unit, is_last_of_burst}
 use Rattle.ds_dma.proofs.Choices.{either, not_false, not_true, equal_numbers, unequal_numbers}
 
 -- the address of the unit after this one, from the first and from the second
@@ -13,10 +13,6 @@ shifted : (first step i : ℕ) → address_of first step (i + 1) ≡ address_of 
 shifted first step i =
     let sum : first + step * (i + 1) ≡ (first + step * 1) + step * i = grind arith in
     ap (λ n. n % 2 ^ 32) sum ∙ sym (mod-add-mod (first + step * 1) (2 ^ 32) (step * i))
-
--- what is left of a channel but its first unit
-abbrev rest_of : ChannelState → ChannelState
-rest_of c = record c { from = next_from c; to = next_to c; remaining = c.remaining - 1 }
 
 unit_shifted : (c : ChannelState) (i : ℕ) → unit_of c (i + 1) ≡ unit_of (rest_of c) i
 unit_shifted c i =
@@ -48,15 +44,28 @@ there n step h = (let none : n + step * 0 ≡ n = grind arith in ap (λ k. k % 2
 below : (n : ℕ) → n % 2 ^ 32 < 2 ^ 32
 below n = omega arith
 
-took_more : (proc : Proc) (which : ℕ) (c : ChannelState) → 2 ≤ c.remaining → TakesUnit proc which c (rest_of c)
+-- the rest's first unit lies where the rest stands
+next_is : (c : ChannelState) → (next_from c ≡ (unit_of (rest_of c) 0).from) × (next_to c ≡ (unit_of (rest_of c) 0).to)
+next_is c = (
+  sym (there (next_from c) (source_step c) (below (c.from + source_step c * 1))),
+  sym (there (next_to c) (target_step c) (below (c.to + target_step c * 1))),
+)
+
+took_more : (proc : Proc) (which : ℕ) (c : ChannelState) → 2 ≤ c.remaining → TakesUnit proc which c (if is_last_of_burst c then record (rest_of c) { trigger = None } else rest_of c)
+unfolding plan_of
 took_more proc which c h =
     let rest = rest_of c in
     let splits = plan_splits rest (omega (arith, h)) in
-    more (unit_of c 0) (unit_of rest 0) (plan_of (rest_of rest))
-    (plan_splits c (omega (arith, h)) ∙ ap (λ xs. unit_of c 0 ∷ xs) splits)
-    splits
-    (ap (λ n. record c { from = n; to = next_to c; remaining = c.remaining - 1 }) (sym (there (next_from c) (source_step c) (below (c.from + source_step c * 1))))
-    ∙ ap (λ n. record c { from = (unit_of rest 0).from; to = n; remaining = c.remaining - 1 }) (sym (there (next_to c) (target_step c) (below (c.to + target_step c * 1)))))
+    let all = plan_splits c (omega (arith, h)) ∙ ap (λ xs. unit_of c 0 ∷ xs) splits in
+    let is = next_is c in
+    either (TakesUnit proc which c) (is_last_of_burst c) (record rest { trigger = None }) rest
+    (λ e. (let one = equal_numbers c.burst 1 e in pauses (unit_of c 0) (unit_of rest 0) (plan_of (rest_of rest)) all splits one
+    (ap (λ n. record c { from = n; to = next_to c; remaining = c.remaining - 1; trigger = None; burst = c.burst - 1 }) is.0
+    ∙ ap (λ n. record c { from = (unit_of rest 0).from; to = n; remaining = c.remaining - 1; trigger = None; burst = c.burst - 1 }) is.1
+    ∙ ap (λ n. record c { from = (unit_of rest 0).from; to = (unit_of rest 0).to; remaining = c.remaining - 1; trigger = None; burst = n - 1 }) one)))
+    (λ e. more (unit_of c 0) (unit_of rest 0) (plan_of (rest_of rest)) all splits (unequal_numbers c.burst 1 e)
+    (ap (λ n. record c { from = n; to = next_to c; remaining = c.remaining - 1; burst = c.burst - 1 }) is.0
+    ∙ ap (λ n. record c { from = (unit_of rest 0).from; to = n; remaining = c.remaining - 1; burst = c.burst - 1 }) is.1))
 
 only_one : (c : ChannelState) → c.remaining ≡ 1 → plan_of c ≡ unit_of c 0 ∷ []
 only_one c h = plan_splits c (omega (arith, h)) ∙ ap (λ xs. unit_of c 0 ∷ xs) (plan_ends (rest_of c) (omega (arith, h)))

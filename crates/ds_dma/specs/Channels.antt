@@ -1,4 +1,4 @@
-use Rattle.std.specs.Prelude.{ℕ, ◌≡◌, ◌<◌, ◌≤◌, ◌+◌, ◌-◌, ◌*◌, ◌%◌, ◌^◌, ◌==◌, ◌&&◌, not, if◌then◌else◌, Bool, true, false, List, [], ◌∷◌, map, max, Option, Some, None, is_some}
+use Rattle.std.specs.Prelude.{ℕ, ◌≡◌, ◌<◌, ◌≤◌, ◌+◌, ◌-◌, ◌*◌, ◌%◌, ◌^◌, ◌==◌, ◌≢◌, ◌&&◌, not, if◌then◌else◌, Bool, true, false, List, [], ◌∷◌, map, max, Option, Some, None, is_some}
 use Rattle.std.specs.List.{range_with_len}
 use Rattle.ds_base.specs.Interrupts.{interrupt_bit}
 use Rattle.ds_base.specs.declared.processors.Proc.{Proc}
@@ -8,11 +8,11 @@ use Rattle.ds_base.specs.declared.left_out.Stop.{Stop}
 use Rattle.ds_dma.specs.declared.controls.Cause.{Cause}
 use Rattle.ds_dma.specs.declared.controls.DmaPort.{DmaPort}
 use Rattle.ds_dma.specs.declared.controls.DmaPort.TheVariants.{Source, Target, Control}
-use Rattle.ds_dma.specs.Controls.{kept_address, kept_channel_control, refusal, greatest_count, units_counted, is_enabled, interrupts, disabled, unit_width, unit_bytes, target_mode, source_mode, latches_again, address_step, starts_immediately, is_armed_again, waits_for, is_not_yet, channel_interrupt}
+use Rattle.ds_dma.specs.Controls.{kept_address, kept_channel_control, refusal, greatest_count, units_counted, is_enabled, interrupts, disabled, unit_width, unit_bytes, target_mode, source_mode, latches_again, address_step, starts_immediately, is_armed_again, waits_for, burst_of, channel_interrupt}
 
 -- A channel (GBATEK, "GBA DMA Transfers" and "DS DMA Transfers"): its source, target and control as they are kept. While it is enabled it also has
--- the next unit's source and target and the number of units left, and while it runs the tick at which it was triggered. One that isn't enabled has
--- 0 and no tick there.
+-- the next unit's source and target and the number of units left, and while it runs the tick at which it was triggered and the number of units left in
+-- its burst, which is 0 where it runs to the end of its count. One that isn't enabled, or doesn't run, has 0 and no tick there.
 pub record ChannelState : Type 0 where
   pub sad : ℕ
   pub dad : ℕ
@@ -21,10 +21,11 @@ pub record ChannelState : Type 0 where
   pub to : ℕ
   pub remaining : ℕ
   pub trigger : Option Tick
+  pub burst : ℕ
 
 -- all is 0 at boot (our choice)
 abbrev pub channel_at_boot : ChannelState
-channel_at_boot = record { sad = 0; dad = 0; cnt = 0; from = 0; to = 0; remaining = 0; trigger = None }
+channel_at_boot = record { sad = 0; dad = 0; cnt = 0; from = 0; to = 0; remaining = 0; trigger = None; burst = 0 }
 
 -- it runs: it was triggered, and its end hasn't come
 abbrev pub is_running : ChannelState → Bool
@@ -54,11 +55,13 @@ pub record IsChannel (proc : Proc) (which : ℕ) (c : ChannelState) : Type 0 whe
   pub sad : c.sad < 2 ^ 28
   pub dad : c.dad < 2 ^ 28
   pub cnt : kept_channel_control proc which c.cnt ≡ c.cnt
-  pub built : is_enabled c.cnt && is_not_yet proc c.cnt ≡ false
   pub from : c.from < 2 ^ 32
   pub to : c.to < 2 ^ 32
   pub remaining : c.remaining ≤ greatest_count proc which + 1
   pub some : is_enabled c.cnt ≡ true → 1 ≤ c.remaining
+  pub burst : c.burst ≤ 112
+  pub within : c.burst ≤ c.remaining
+  pub waits : is_running c ≡ false → c.burst ≡ 0
   pub none : is_enabled c.cnt ≡ false → (c.from ≡ 0) × (c.to ≡ 0) × (c.remaining ≡ 0) × (c.trigger ≡ None)
 
 -- A channel is enabled at a tick, with this control: it takes its source, its target and its count (GBATEK, "GBA DMA Transfers"), and runs from
@@ -70,14 +73,16 @@ latched proc which c control now = record c {
   to = c.dad;
   remaining = units_counted proc which control;
   trigger = if starts_immediately proc control then Some now else None;
+  burst = 0;
 }
 
 -- it stops standing for any units
 abbrev pub emptied : ChannelState → ℕ → ChannelState
-emptied c control = record c { cnt = control; from = 0; to = 0; remaining = 0; trigger = None }
+emptied c control = record c { cnt = control; from = 0; to = 0; remaining = 0; trigger = None; burst = 0 }
 
 -- A control is written at a tick, with these kept bits. Three cases, of which one applies (GBATEK, "GBA DMA Transfers", DMAxCNT_H bit 15; that a
--- channel which stays enabled takes the new control for the units that it has left, and is triggered by none, is our choice):
+-- channel which stays enabled takes the new control for the units that it has left, and is triggered by none, is our choice, as is that a burst which
+-- runs has its own units still, whatever the start then is):
 pub data ChangesChannel (proc : Proc) (which : ℕ) (old : ChannelState) (control : ℕ) (now : Tick) (new : ChannelState) : Type 0 where
   -- enable goes from 0 to 1
   latches : is_enabled old.cnt ≡ false → is_enabled control ≡ true → new ≡ latched proc which old control now
@@ -112,12 +117,12 @@ channel_refusal proc which Source value c = None
 channel_refusal proc which Target value c = None
 channel_refusal proc which Control value c = refusal proc c.cnt (kept_channel_control proc which value)
 
--- an event triggers a channel that is enabled with its start; one that runs stays as it is
+-- an event triggers a channel that is enabled with its start, for a burst where that start has bursts; one that runs stays as it is
 abbrev pub is_triggered : Proc → Cause → ChannelState → Bool
 is_triggered proc cause c = is_enabled c.cnt && waits_for proc cause c.cnt && not (is_running c)
 
 abbrev pub triggered : Proc → Cause → Tick → ChannelState → ChannelState
-triggered proc cause now c = if is_triggered proc cause c then record c { trigger = Some now } else c
+triggered proc cause now c = if is_triggered proc cause c then record c { trigger = Some now; burst = burst_of cause c.remaining } else c
 
 -- the addresses of the unit after the first one
 abbrev pub next_from : ChannelState → ℕ
@@ -134,13 +139,18 @@ armed_again proc which c = record c {
   to = if latches_again c.cnt then c.dad else next_to c;
   remaining = units_counted proc which c.cnt;
   trigger = None;
+  burst = 0;
 }
 
--- A channel takes the first unit of its plan, which it moves. Three cases, of which one applies:
+-- A channel takes the first unit of its plan, which it moves. Four cases, of which one applies:
 pub data TakesUnit (proc : Proc) (which : ℕ) (old new : ChannelState) : Type 0 where
-  -- there are more: they are its plan from then on, and it runs on
-  more : (unit next : DmaUnit) (rest : List DmaUnit) → plan_of old ≡ unit ∷ next ∷ rest → plan_of new ≡ next ∷ rest
-      → new ≡ record old { from = next.from; to = next.to; remaining = old.remaining - 1 }
+  -- there are more: they are its plan from then on, and it runs on, with one unit fewer in its burst where it has one
+  more : (unit next : DmaUnit) (rest : List DmaUnit) → plan_of old ≡ unit ∷ next ∷ rest → plan_of new ≡ next ∷ rest → old.burst ≢ 1
+      → new ≡ record old { from = next.from; to = next.to; remaining = old.remaining - 1; burst = old.burst - 1 }
+      → TakesUnit proc which old new
+  -- there are more, but it was the last one of its burst: they are its plan, and it stays armed and doesn't run
+  pauses : (unit next : DmaUnit) (rest : List DmaUnit) → plan_of old ≡ unit ∷ next ∷ rest → plan_of new ≡ next ∷ rest → old.burst ≡ 1
+      → new ≡ record old { from = next.from; to = next.to; remaining = old.remaining - 1; trigger = None; burst = 0 }
       → TakesUnit proc which old new
   -- it was the last one, and it is armed again
   again : (unit : DmaUnit) → plan_of old ≡ unit ∷ [] → is_armed_again proc old.cnt ≡ true → new ≡ armed_again proc which old
@@ -154,12 +164,20 @@ pub data TakesUnit (proc : Proc) (which : ℕ) (old new : ChannelState) : Type 0
 abbrev pub is_last_unit : ChannelState → Bool
 is_last_unit c = c.remaining == 1
 
+abbrev pub is_last_of_burst : ChannelState → Bool
+is_last_of_burst c = c.burst == 1
+
+-- what is left of a channel but its first unit
+abbrev pub rest_of : ChannelState → ChannelState
+rest_of c = record c { from = next_from c; to = next_to c; remaining = c.remaining - 1; burst = c.burst - 1 }
+
 abbrev pub after_unit : Proc → ℕ → ChannelState → ChannelState
 after_unit proc which c =
-    if not (is_last_unit c) then record c { from = next_from c; to = next_to c; remaining = c.remaining - 1 }
+    if not (is_last_unit c) then (if is_last_of_burst c then record (rest_of c) { trigger = None } else rest_of c)
     else (if is_armed_again proc c.cnt then armed_again proc which c else emptied c (disabled c.cnt))
 
--- the bit of IF that the end of a channel raises, where its interrupt is enabled (GBATEK, "DS Interrupts")
+-- the bit of IF that the end of a channel raises, where its interrupt is enabled (GBATEK, "DS Interrupts"); the end of a burst alone raises none (our
+-- choice)
 abbrev pub taken_bit : ℕ → ChannelState → ℕ
 taken_bit which c = if is_last_unit c && interrupts c.cnt then interrupt_bit (channel_interrupt which) else 0
 

@@ -1,9 +1,9 @@
-use Rattle.std.specs.Prelude.{ℕ, ◌+◌, ◌-◌, ◌%◌, ◌^◌, ◌==◌, ◌&&◌, ◌||◌, not, if◌then◌else◌, Bool, false, bit_and, Option, Some, None}
+use Rattle.std.specs.Prelude.{ℕ, ◌+◌, ◌-◌, ◌%◌, ◌^◌, ◌==◌, ◌&&◌, ◌||◌, min, not, if◌then◌else◌, Bool, false, bit_and, Option, Some, None}
 use Rattle.ds_base.specs.Bits.{bit, bits}
 use Rattle.ds_base.specs.declared.interrupts.Interrupt.{Interrupt}
 use Rattle.ds_base.specs.declared.interrupts.Interrupt.TheVariants.{Dma0, Dma1, Dma2, Dma3}
 use Rattle.ds_base.specs.declared.left_out.Stop.{Stop}
-use Rattle.ds_base.specs.declared.left_out.LeftKind.TheVariants.{NotYet, DmaStart}
+use Rattle.ds_base.specs.declared.left_out.LeftKind.TheVariants.{DmaStart}
 use Rattle.ds_base.specs.declared.memories.Width.{Width}
 use Rattle.ds_base.specs.declared.memories.Width.TheVariants.{Half, Word}
 use Rattle.ds_base.specs.declared.processors.Proc.{Proc}
@@ -82,17 +82,13 @@ start_mode Seven control = bits 28 2 control
 abbrev pub starts_immediately : Proc → ℕ → Bool
 starts_immediately proc control = start_mode proc control == 0
 
--- at its end a channel is armed again where it repeats and doesn't start at once (our choice, by GBATEK, "GBA DMA Transfers", DMAxCNT_H bit 9)
-abbrev pub is_armed_again : Proc → ℕ → Bool
-is_armed_again proc control = repeats control && not (starts_immediately proc control)
-
--- the start mode that an event triggers (GBATEK, "DS DMA Transfers": on ARM9 1 is V-blank, 2 H-blank, 5 the card; on ARM7 1 is V-blank and 2 the
--- card). Geometry triggers none as yet, and no channel is enabled with its start 7.
+-- the start mode that an event triggers (GBATEK, "DS DMA Transfers": on ARM9 1 is V-blank, 2 H-blank, 5 the card, 7 the geometry FIFO; on ARM7 1 is
+-- V-blank and 2 the card)
 abbrev pub start_of_cause : Proc → Cause → Option ℕ
 start_of_cause Nine VBlank = Some 1
 start_of_cause Nine HBlank = Some 2
 start_of_cause Nine Card = Some 5
-start_of_cause Nine Geometry = None
+start_of_cause Nine Geometry = Some 7
 start_of_cause Seven VBlank = Some 1
 start_of_cause Seven HBlank = None
 start_of_cause Seven Card = Some 2
@@ -105,24 +101,30 @@ starts_in_mode (Some start) mode = start == mode
 abbrev pub waits_for : Proc → Cause → ℕ → Bool
 waits_for proc cause control = starts_in_mode (start_of_cause proc cause) (start_mode proc control)
 
+-- At its end a channel is armed again where it repeats, and starts neither at once nor by the geometry FIFO, which ignores the repeat bit (our choice,
+-- by GBATEK, "GBA DMA Transfers", DMAxCNT_H bit 9).
+abbrev pub is_armed_again : Proc → ℕ → Bool
+is_armed_again proc control = repeats control && not (starts_immediately proc control) && not (waits_for proc Geometry control)
+
+-- How many units a channel that is triggered with so many left moves in one burst: where the geometry FIFO triggers it 112, or what is left where that
+-- is less (GBATEK, "DS 3D Geometry Commands", its limit of 112 words to DMA). Any other event has no bursts, which is 0: the channel runs to its end.
+abbrev pub burst_of : Cause → ℕ → ℕ
+burst_of VBlank left = 0
+burst_of HBlank left = 0
+burst_of Card left = 0
+burst_of Geometry left = min 112 left
+
 -- the starts that are left out: 3 (start of display), 4 (main memory display) and 6 (GBA slot) on ARM9; 3 (wireless or GBA slot) on ARM7 (our
 -- choice; the names are GBATEK's, "DS DMA Transfers")
 abbrev pub is_left_out : Proc → ℕ → Bool
 is_left_out Nine control = (start_mode Nine control == 3) || (start_mode Nine control == 4) || (start_mode Nine control == 6)
 is_left_out Seven control = start_mode Seven control == 3
 
--- the start that isn't built yet: geometry, 7 on ARM9
-abbrev pub is_not_yet : Proc → ℕ → Bool
-is_not_yet Nine control = start_mode Nine control == 7
-is_not_yet Seven control = false
-
--- Why a control isn't taken, from the one that was kept and the one that would be, which is the stop's value: it would be enabled with a start
--- that isn't built yet, or is enabled with one that is left out (our choice).
+-- Why a control isn't taken, from the one that was kept and the one that would be, which is the stop's value: enable goes from 0 to 1 with a start that
+-- is left out (our choice).
 abbrev pub refusal : Proc → ℕ → ℕ → Option Stop
 refusal proc old control =
-    if is_enabled control && is_not_yet proc control then Some (record { kind = NotYet; value = control })
-    else (if is_enabled control && not (is_enabled old) && is_left_out proc control then Some (record { kind = DmaStart; value = control })
-    else None)
+    if is_enabled control && not (is_enabled old) && is_left_out proc control then Some (record { kind = DmaStart; value = control }) else None
 
 -- each channel's interrupt (GBATEK, "DS Interrupts")
 abbrev pub channel_interrupt : ℕ → Interrupt

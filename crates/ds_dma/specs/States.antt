@@ -4,9 +4,10 @@ use Rattle.ds_base.specs.declared.left_out.Stop.{Stop}
 use Rattle.ds_base.specs.declared.processors.Proc.{Proc}
 use Rattle.ds_base.specs.declared.ticks.Tick.{Tick}
 use Rattle.ds_dma.specs.declared.controls.Cause.{Cause}
+use Rattle.ds_dma.specs.declared.controls.Cause.TheVariants.{Geometry}
 use Rattle.ds_dma.specs.declared.controls.DmaPort.{DmaPort}
 use Rattle.ds_dma.specs.declared.dma.DmaDue.{DmaDue}
-use Rattle.ds_dma.specs.Channels.{ChannelState, IsChannel, channel_at_boot, is_running, channel_set, channel_refusal, triggered, after_unit, taken_bit, ready}
+use Rattle.ds_dma.specs.Channels.{ChannelState, IsChannel, channel_at_boot, is_running, channel_set, channel_refusal, is_triggered, triggered, after_unit, taken_bit, ready}
 
 -- the four channels of a processor, and the tick of its last unit, if there was one (GBATEK, "DS DMA Transfers"; the tick is our choice)
 pub record DmaState : Type 0 where
@@ -46,6 +47,12 @@ channel_written s which port value now =
 -- an event at a tick triggers the channels that wait for it
 abbrev pub dma_triggered : DmaState → Cause → Tick → DmaState
 dma_triggered s cause now = record s { channels = map (triggered s.proc cause now) s.channels }
+
+-- a channel waits for the geometry FIFO: it is enabled with that start, and doesn't run
+abbrev pub awaits_geometry : DmaState → Bool
+awaits_geometry s =
+    is_triggered s.proc Geometry (channel_at s.channels 0) || is_triggered s.proc Geometry (channel_at s.channels 1)
+    || is_triggered s.proc Geometry (channel_at s.channels 2) || is_triggered s.proc Geometry (channel_at s.channels 3)
 
 -- a channel runs, and then the processor isn't due
 abbrev pub any_runs : List ChannelState → Bool

@@ -3,7 +3,7 @@
 ghost use Rattle.std.specs.Prelude.{◌≡◌, ◌≤◌, ◌+◌, ◌<◌, ◌^◌, Some, None, if◌then◌else◌};
 ghost use Rattle.ds_base.specs.Schedules.{IsEarly};
 ghost use Rattle.ds_base.specs.declared.ticks.Tick.{Tick};
-ghost use Rattle.ds_dma.specs.Channels.{is_running, channel_controlled, latched, emptied, channel_word, channel_set, channel_refusal, triggered, after_unit, taken_bit, is_last_unit, armed_again, unit_of, ready};
+ghost use Rattle.ds_dma.specs.Channels.{is_running, channel_controlled, latched, emptied, channel_word, channel_set, channel_refusal, is_triggered, triggered, after_unit, taken_bit, is_last_unit, armed_again, unit_of, ready};
 ghost use Rattle.ds_dma.specs.ChannelsKept.{channel_seen};
 ghost use Rattle.ds_dma.specs.Controls.{units_counted, disabled};
 
@@ -25,7 +25,7 @@ pub struct Unit {
     pub width: Width,
 }
 
-/// A channel's kept numbers, what it has left to do where it is enabled, and since when it runs.
+/// A channel's kept numbers, what it has left to do where it is enabled, since when it runs, and what is left of its burst if it has one.
 #[derive(Clone, Copy)]
 pub struct Channel {
     pub sad: u32,
@@ -35,6 +35,7 @@ pub struct Channel {
     pub to: u32,
     pub remaining: u32,
     pub trigger: Option<Tick>,
+    pub burst: u32,
 }
 
 /// Whether it runs.
@@ -54,6 +55,7 @@ fn without_units(channel: Channel, control: u32) -> Channel
         to: 0,
         remaining: 0,
         trigger: None,
+        burst: 0,
         ..channel
     }
 }
@@ -69,6 +71,7 @@ fn with_units(proc: Proc, which: u8, channel: Channel, control: u32, now: Tick) 
         to: channel.dad,
         remaining: controls::units(proc, which, control),
         trigger: if starts_immediately { Some(now) } else { None },
+        burst: 0,
         ..channel
     }
 }
@@ -140,14 +143,22 @@ pub fn written(
     }
 }
 
+/// Whether an event triggers it: it is enabled with that start, and doesn't run.
+pub fn awaits(proc: Proc, cause: Cause, channel: Channel) -> bool
+    ensures { result ≡ is_triggered proc cause (channel_seen channel) }
+{
+    let waits = controls::enabled(channel.cnt) && controls::waits(proc, cause, channel.cnt);
+    waits && !runs(channel)
+}
+
 /// A channel after an event.
 pub fn after(proc: Proc, cause: Cause, now: Tick, channel: Channel) -> Channel
     ensures { channel_seen result ≡ triggered proc cause now (channel_seen channel) }
 {
-    let waits = controls::enabled(channel.cnt) && controls::waits(proc, cause, channel.cnt);
-    if waits && !runs(channel) {
+    if awaits(proc, cause, channel) {
         return Channel {
             trigger: Some(now),
+            burst: controls::burst(cause, channel.remaining),
             ..channel
         };
     }
@@ -176,10 +187,13 @@ pub fn without_first(proc: Proc, which: u8, channel: Channel) -> Channel
     let from = channel.from.wrapping_add(controls::source_step(control));
     let to = channel.to.wrapping_add(controls::target_step(control));
     if channel.remaining != 1 {
+        let pauses = channel.burst == 1;
         return Channel {
             from,
             to,
             remaining: channel.remaining - 1,
+            trigger: if pauses { None } else { channel.trigger },
+            burst: channel.burst.saturating_sub(1),
             ..channel
         };
     }
@@ -197,6 +211,7 @@ pub fn without_first(proc: Proc, which: u8, channel: Channel) -> Channel
         to,
         remaining: count,
         trigger: None,
+        burst: 0,
         ..channel
     }
 }

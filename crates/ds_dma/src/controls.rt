@@ -2,9 +2,12 @@
 
 ghost use Rattle.std.specs.Prelude.{◌≡◌, ◌<◌, ◌≤◌, ◌+◌, ◌^◌};
 ghost use Rattle.ds_base.specs.Interrupts.{interrupt_bit};
-ghost use Rattle.ds_dma.specs.Controls.{greatest_count, channel_control_mask, kept_channel_control, units_counted, is_enabled, interrupts, repeats, disabled, unit_width, unit_bytes, target_mode, source_mode, latches_again, address_step, start_mode, starts_immediately, start_of_cause, waits_for, is_left_out, is_not_yet, refusal, is_armed_again, channel_interrupt};
+ghost use Rattle.ds_dma.specs.Controls.{greatest_count, channel_control_mask, kept_channel_control, units_counted, is_enabled, interrupts, repeats, disabled, unit_width, unit_bytes, target_mode, source_mode, latches_again, address_step, start_mode, starts_immediately, start_of_cause, waits_for, burst_of, is_left_out, refusal, is_armed_again, channel_interrupt};
 
 use ds_base::{Interrupt, LeftKind, Proc, Stop, Width};
+
+/// The units of a burst that the geometry FIFO triggers, where as many are left.
+const BURST: u32 = 112;
 
 /// A port of a channel (GBATEK, "DS DMA Transfers").
 #[derive(Clone, Copy, PartialEq, Eq)]
@@ -26,7 +29,7 @@ pub enum Cause {
     HBlank,
     /// A word of a card transfer is ready: ARM9's start 5, and ARM7's start 2.
     Card,
-    /// The geometry FIFO has room: ARM9's start 7, with which no channel is enabled as yet.
+    /// The geometry FIFO is less than half full: ARM9's start 7, which runs in bursts.
     Geometry,
 }
 
@@ -82,7 +85,8 @@ pub fn raises(control: u32) -> bool
 pub fn again(proc: Proc, control: u32) -> bool
     ensures { result ≡ is_armed_again proc control }
 {
-    (control >> 25) & 1 == 1 && !starts_immediately(proc, control)
+    let repeats = (control >> 25) & 1 == 1;
+    repeats && !starts_immediately(proc, control) && !waits(proc, Cause::Geometry, control)
 }
 
 pub fn without_enable(control: u32) -> u32
@@ -156,10 +160,20 @@ pub fn waits(proc: Proc, cause: Cause, control: u32) -> bool
         (Proc::Nine, Cause::VBlank) => start == 1,
         (Proc::Nine, Cause::HBlank) => start == 2,
         (Proc::Nine, Cause::Card) => start == 5,
-        (Proc::Nine, Cause::Geometry) => false,
+        (Proc::Nine, Cause::Geometry) => start == 7,
         (Proc::Seven, Cause::VBlank) => start == 1,
         (Proc::Seven, Cause::Card) => start == 2,
         (Proc::Seven, Cause::HBlank | Cause::Geometry) => false,
+    }
+}
+
+/// How many units a channel with so many left moves in a burst that a cause triggers: 0 where it runs to the end of its count.
+pub fn burst(cause: Cause, left: u32) -> u32
+    ensures { result ≡ burst_of cause left }
+{
+    match cause {
+        Cause::Geometry => left.min(BURST),
+        Cause::VBlank | Cause::HBlank | Cause::Card => 0,
     }
 }
 
@@ -173,30 +187,17 @@ fn left_out(proc: Proc, control: u32) -> bool
     }
 }
 
-fn not_yet(proc: Proc, control: u32) -> bool
-    ensures { result ≡ is_not_yet proc control }
-{
-    match proc {
-        Proc::Nine => start(proc, control) == 7,
-        Proc::Seven => false,
-    }
-}
-
 /// Why a control isn't taken, if it isn't, from the old one and the one that would be kept.
 pub fn refused(proc: Proc, old: u32, control: u32) -> Option<Stop>
     ensures { result ≡ refusal proc old control }
 {
-    let kind = if enabled(control) && not_yet(proc, control) {
-        LeftKind::NotYet
-    } else if enabled(control) && !enabled(old) && left_out(proc, control) {
-        LeftKind::DmaStart
-    } else {
-        return None;
-    };
-    Some(Stop {
-        kind,
-        value: control,
-    })
+    if enabled(control) && !enabled(old) && left_out(proc, control) {
+        return Some(Stop {
+            kind: LeftKind::DmaStart,
+            value: control,
+        });
+    }
+    None
 }
 
 pub fn interrupt(which: u8) -> Interrupt

@@ -3,12 +3,13 @@
 ghost use Rattle.std.specs.Prelude.{◌≡◌, ◌<◌, ◌∷◌, ◌==◌, ℕ, List, Some, None, IsSome, IfSome, true, false, slice_set, map, is_some};
 ghost use Rattle.ds_base.specs.Schedules.{IsEarly, Reschedules};
 ghost use Rattle.ds_base.specs.declared.ticks.Tick.{Tick};
-ghost use Rattle.ds_dma.specs.Channels.{IsChannel, ChangesChannel, is_running, channel_word, channel_refusal, plan_of, TakesUnit, unit_of};
+ghost use Rattle.ds_dma.specs.Channels.{IsChannel, ChangesChannel, is_running, channel_word, channel_refusal, is_triggered, plan_of, TakesUnit, unit_of};
 ghost use Rattle.ds_dma.specs.ChannelsKept.{channel_seen};
 ghost use Rattle.ds_dma.specs.Controls.{kept_channel_control};
 ghost use Rattle.ds_dma.specs.declared.channels.Unit.{Unit as DmaUnit};
+ghost use Rattle.ds_dma.specs.declared.controls.Cause.TheVariants.{Geometry};
 ghost use Rattle.ds_dma.specs.declared.controls.DmaPort.TheVariants.{Control};
-ghost use Rattle.ds_dma.specs.States.{DmaState, IsDma, AreReadyLater, IsLeastRunning, channel_at, dma_at_boot, channel_written, dma_triggered, any_runs, least_running, channel_due, dma_due, due_channel, dma_finished, finished_bits};
+ghost use Rattle.ds_dma.specs.States.{DmaState, IsDma, AreReadyLater, IsLeastRunning, awaits_geometry, channel_at, dma_at_boot, channel_written, dma_triggered, any_runs, least_running, channel_due, dma_due, due_channel, dma_finished, finished_bits};
 
 use crate::channels::{Channel, Unit};
 use crate::controls::{Cause, DmaPort};
@@ -65,6 +66,7 @@ impl Dma {
             to: 0,
             remaining: 0,
             trigger: None,
+            burst: 0,
         };
         Dma {
             proc,
@@ -105,8 +107,8 @@ impl Dma {
 
     /// A write of a whole word to a port of a channel, at a tick. Enabling a channel latches its source, its target and its count; a
     /// start of 0 triggers it at once. A write that leaves it enabled changes the kept control alone, and one that clears enable
-    /// ends the transfer. Some exactly where the control would be enabled with ARM9's start 7 (not yet), or enables the channel
-    /// with a start that is left out; the value is the control as it would be kept, and all stays.
+    /// ends the transfer. Some exactly where enable goes from 0 to 1 with a start that is left out: 3, 4 and 6 of ARM9, 3 of ARM7; the kind
+    /// is DmaStart, the value the control as it would be kept, and all stays.
     pub fn write(&mut self, channel: u8, port: DmaPort, value: u32, now: Tick) -> Option<Stop>
         requires channel { channel < 4 }
         requires early { IsEarly (Some now) }
@@ -130,10 +132,12 @@ impl Dma {
         }
     }
 
-    /// An event at a tick: the channels that are enabled with its start are triggered. One that runs stays as it is.
+    /// An event at a tick: the channels that are enabled with its start are triggered, by the geometry FIFO for a burst of at most 112 units.
+    /// One that runs stays as it is.
     pub fn trigger(&mut self, cause: Cause, now: Tick)
         requires { IsEarly (Some now) }
         ensures state { self.new ≡ dma_triggered self.old cause now }
+        ensures settles { cause ≡ Geometry → awaits_geometry self.new ≡ false }
         ensures later { AreReadyLater now self.old → AreReadyLater now self.new }
         ensures schedule { (each : ℕ) → each < 4 → Reschedules now (channel_due self.old each) (channel_due self.new each) }
     {
@@ -145,6 +149,27 @@ impl Dma {
             channels::after(proc, cause, now, self.channel(2)),
             channels::after(proc, cause, now, self.channel(3)),
         ];
+    }
+
+    /// Whether an event triggers a channel.
+    fn awaits(&self, cause: Cause, which: u8) -> bool
+        requires { which < 4 }
+        ensures { result ≡ is_triggered self.now.proc cause (channel_at self.now.channels which) }
+    {
+        channels::awaits(self.proc, cause, self.channel(which))
+    }
+
+    /// Whether a channel waits for the geometry FIFO: it is enabled with ARM9's start 7, and doesn't run. Where none does, that event changes
+    /// nothing.
+    pub fn awaits_geometry(&self) -> bool
+        ensures waits { result ≡ awaits_geometry self.now }
+        ensures settled { result ≡ false → (now : Tick) → dma_triggered self.now Geometry now ≡ self.now }
+    {
+        self.laws();
+        self.awaits(Cause::Geometry, 0)
+            || self.awaits(Cause::Geometry, 1)
+            || self.awaits(Cause::Geometry, 2)
+            || self.awaits(Cause::Geometry, 3)
     }
 
     /// Whether a channel runs.
@@ -193,8 +218,9 @@ impl Dma {
         channels::first(self.channel(self.least()))
     }
 
-    /// The unit that is due is moved at a tick. Its channel's plan has it no more. Where it was the last one, the channel is armed again
-    /// or isn't enabled any more; gives the interrupt's bit that this raises, and 0 otherwise.
+    /// The unit that is due is moved at a tick. Its channel's plan has it no more. Where it was the last one of a burst, the channel stays
+    /// armed and doesn't run. Where it was the last one of all, the channel is armed again or isn't enabled any more; gives the interrupt's
+    /// bit that this raises, and 0 otherwise.
     pub fn finish(&mut self, now: Tick) -> u32
         requires due { IsSome (dma_due self.old) }
         requires early { IsEarly (Some now) }

@@ -2,8 +2,10 @@
 
 mod base;
 mod boot_roms;
+mod bursts;
 mod coprocessors;
 mod dma;
+mod dma_lines;
 mod ipc;
 mod irqs;
 mod maths;

@@ -1,188 +1,21 @@
 //! A processor's DMA channels, by GBATEK's "DS DMA Transfers" and by the choices of this console.
 
+use crate::tests::dma_lines::Line::{
+    Boot, Due, Enable, Event, Idle, Last, Moves, MovesAll, NoLast, Reads, Refused, Unit, Write,
+};
+use crate::tests::dma_lines::try_lines;
 use Cause::{Card, Geometry, HBlank, VBlank};
 use DmaPort::{Control, Source, Target};
-use LeftKind::{DmaStart, NotYet};
 use Proc::{Nine, Seven};
-use ds_base::{LeftKind, Proc, Stop, Tick, Width};
-use ds_dma::{Cause, Dma, DmaPort};
+use ds_base::LeftKind::DmaStart;
+use ds_base::{Proc, Width};
+use ds_dma::{Cause, DmaPort};
 use std::process::Abort;
 
 /// Where the units of the tests are read and written.
 const FROM: u32 = 0x0200_0000;
 
 const TO: u32 = 0x0300_0000;
-
-/// A line of a table.
-#[derive(Clone, Copy)]
-enum Line {
-    /// The channels as at boot again.
-    Boot,
-    /// A write of a channel's control at a tick is taken.
-    Write(u8, u32, u32),
-    /// Writes of a channel's source, target and control at a tick are taken.
-    Enable(u8, u32, u32, u32, u32),
-    /// A write of a channel's control at a tick is refused with this kind and value.
-    Refused(u8, u32, u32, LeftKind, u32),
-    /// A port of a channel reads this.
-    Reads(u8, DmaPort, u32),
-    /// An event at a tick.
-    Event(Cause, u32),
-    /// This channel is due at this tick; a channel runs.
-    Due(u8, u64),
-    /// No channel is due, and none runs.
-    Idle,
-    /// The unit that is due moves words, or halves.
-    Unit(Width),
-    /// The unit that is due is moved at its tick: where it is read, where it is written, and the bits of IF that it raises.
-    Moves(u32, u32, u32),
-    /// So many units are moved until none is due.
-    MovesAll(u64),
-    /// The last unit was moved at this tick.
-    Last(u64),
-    /// None was moved yet.
-    NoLast,
-}
-
-use Line::{
-    Boot, Due, Enable, Event, Idle, Last, Moves, MovesAll, NoLast, Reads, Refused, Unit, Write,
-};
-
-/// What a line shows: three numbers, as its kind has them.
-type Seen = (u64, u64, u64);
-
-/// What is shown where there is nothing.
-const NOTHING: Seen = (0, 0, u64::MAX);
-
-/// A refusal: its kind by its place in the list of kinds that DMA has, and its value.
-fn told(kind: LeftKind, value: u32) -> Seen {
-    let kind = match kind {
-        LeftKind::DmaStart => 1,
-        LeftKind::NotYet => 2,
-        _ => 3,
-    };
-    (kind, value.into(), 0)
-}
-
-/// What an answer of a write shows.
-fn answer(stop: Option<Stop>) -> Seen {
-    match stop {
-        Some(stop) => told(stop.kind, stop.value),
-        None => NOTHING,
-    }
-}
-
-/// Writes a channel's control at a tick.
-fn write(dma: &mut Dma, channel: u8, control: u32, now: u32) -> Seen {
-    answer(dma.write(channel % 4, Control, control, Tick(now.into())))
-}
-
-/// Writes a channel's source, target and control at a tick.
-fn enable(dma: &mut Dma, channel: u8, from: u32, to: u32, control: u32, now: u32) -> Seen {
-    let now = Tick(now.into());
-    let source = dma.write(channel % 4, Source, from, now);
-    let target = dma.write(channel % 4, Target, to, now);
-    let control = dma.write(channel % 4, Control, control, now);
-    answer(source.or(target).or(control))
-}
-
-/// The channel that is due and its tick, and whether a channel runs.
-fn due(dma: &Dma) -> Seen {
-    let runs = dma.running().into();
-    match dma.due() {
-        Some(due) => (due.channel.into(), due.tick.0, runs),
-        None => (0, u64::MAX, runs),
-    }
-}
-
-/// How many bytes the unit that is due moves.
-fn bytes(dma: &Dma) -> Seen {
-    match dma.due() {
-        Some(_) => (dma.unit().width.bytes().into(), 0, 0),
-        None => NOTHING,
-    }
-}
-
-/// Moves the unit that is due at its tick: where it is read and written, and the bits that it raises.
-fn moved(dma: &mut Dma) -> Seen {
-    match dma.due() {
-        Some(due) if due.tick.0 <= 1 << 56 => {
-            let unit = dma.unit();
-            let raised = dma.finish(due.tick);
-            (unit.from.into(), unit.to.into(), raised.into())
-        }
-        _ => NOTHING,
-    }
-}
-
-/// How many units are moved until none is due, up to 4001h.
-fn moves(dma: &mut Dma) -> Seen {
-    for done in 0..0x4001u32 {
-        if moved(dma) == NOTHING {
-            return (done.into(), 0, 0);
-        }
-    }
-    (0x4001, 0, 0)
-}
-
-/// When the last unit was moved.
-fn last(dma: &Dma) -> Seen {
-    match dma.last_unit() {
-        Some(tick) => (tick.0, 0, 0),
-        None => NOTHING,
-    }
-}
-
-/// Does what a line says: what was seen, and what is wanted.
-fn seen(dma: &mut Dma, proc: Proc, line: Line) -> (Seen, Seen) {
-    match line {
-        Boot => {
-            *dma = booted(proc);
-            (NOTHING, NOTHING)
-        }
-        Write(channel, control, now) => (write(dma, channel, control, now), NOTHING),
-        Enable(channel, from, to, control, now) => {
-            (enable(dma, channel, from, to, control, now), NOTHING)
-        }
-        Refused(channel, control, now, kind, value) => {
-            (write(dma, channel, control, now), told(kind, value))
-        }
-        Reads(channel, port, value) => {
-            (
-                (dma.read(channel % 4, port).into(), 0, 0),
-                (value.into(), 0, 0),
-            )
-        }
-        Event(cause, now) => {
-            dma.trigger(cause, Tick(now.into()));
-            (NOTHING, NOTHING)
-        }
-        Due(channel, tick) => (due(dma), (channel.into(), tick, 1)),
-        Idle => (due(dma), (0, u64::MAX, 0)),
-        Unit(width) => (bytes(dma), (width.bytes().into(), 0, 0)),
-        Moves(from, to, raised) => (moved(dma), (from.into(), to.into(), raised.into())),
-        MovesAll(units) => (moves(dma), (units, 0, 0)),
-        Last(tick) => (last(dma), (tick, 0, 0)),
-        NoLast => (last(dma), NOTHING),
-    }
-}
-
-/// A processor's channels as at boot.
-fn booted(proc: Proc) -> Dma {
-    let dma = Dma::new(proc);
-    dma.laws();
-    dma
-}
-
-/// A processor's channels from boot on, line by line.
-fn try_lines(rt: &impl Abort, proc: Proc, lines: &[Line]) {
-    let mut dma = booted(proc);
-    for (number, line) in lines.iter().enumerate() {
-        let (got, wanted) = seen(&mut dma, proc, *line);
-        let (one, two, three) = got;
-        assert!(rt; got == wanted, "line {number}: {one:x}, {two:x}, {three:x}");
-    }
-}
 
 #[test]
 fn two_words_at_once_and_an_interrupt_at_the_end(rt: HostRuntime) {
@@ -319,7 +152,7 @@ fn a_count_of_zero_is_the_greatest_and_one_more(rt: HostRuntime) {
     try_lines(
         &rt,
         Seven,
-        &[Enable(0, FROM, TO, 0x8000_0000, 0), MovesAll(0x4000)],
+        &[Enable(0, FROM, TO, 0x8000_0000, 0), MovesAll(0x4000, 0)],
     );
 }
 
@@ -442,7 +275,7 @@ fn a_channel_that_repeats_is_armed_again_with_the_count_that_stands(rt: HostRunt
                 Event(VBlank, 100),
                 Due(1, 104),
                 Moves(FROM + 8, third, 0),
-                MovesAll(2),
+                MovesAll(2, 0x200),
             ],
         );
     }
@@ -488,7 +321,7 @@ fn the_least_running_channel_goes_first(rt: HostRuntime) {
             // one that is triggered later than the last unit
             Enable(0, FROM, TO, 0x8400_0001, 113),
             Due(0, 117),
-            MovesAll(3),
+            MovesAll(3, 0),
             Last(125),
         ],
     );
@@ -552,9 +385,6 @@ fn starts_that_are_left_out_are_refused(rt: HostRuntime) {
             Refused(1, 0xB000_0001, 0, DmaStart, 0xB000_0001),
             Idle,
             Reads(1, Control, 0x1234),
-            Refused(1, 0xB800_0001, 0, NotYet, 0xB800_0001),
-            Idle,
-            Reads(1, Control, 0x1234),
             // and these are taken
             Write(1, 0x8000_0001, 0),
             Boot,
@@ -566,6 +396,9 @@ fn starts_that_are_left_out_are_refused(rt: HostRuntime) {
             Boot,
             Enable(1, FROM, TO, 0x1234, 0),
             Write(1, 0xA800_0001, 0),
+            Boot,
+            Enable(1, FROM, TO, 0x1234, 0),
+            Write(1, 0xB800_0001, 0),
         ],
     );
     try_lines(
@@ -597,11 +430,9 @@ fn only_what_enables_a_channel_is_refused(rt: HostRuntime) {
             // not enabled: every start is kept
             Write(0, 0x1800_0001, 0),
             Write(0, 0x3800_0001, 0),
-            // enabled already: a start that is left out is kept, and the one that isn't built yet refused
+            // enabled already: a start that is left out is kept
             Enable(0, FROM, TO, 0x8800_0001, 0),
             Write(0, 0x9800_0001, 0),
-            Reads(0, Control, 0x9800_0001),
-            Refused(0, 0xB800_0001, 0, NotYet, 0xB800_0001),
             Reads(0, Control, 0x9800_0001),
         ],
     );
@@ -633,6 +464,7 @@ fn an_event_triggers_the_channels_that_wait_for_it(rt: HostRuntime) {
         (Nine, 0x8800_0001, VBlank, [HBlank, Card, Geometry]),
         (Nine, 0x9000_0001, HBlank, [VBlank, Card, Geometry]),
         (Nine, 0xA800_0001, Card, [VBlank, HBlank, Geometry]),
+        (Nine, 0xB800_0001, Geometry, [VBlank, HBlank, Card]),
         (Seven, 0x9000_0001, VBlank, [HBlank, Card, Geometry]),
         (Seven, 0xA000_0001, Card, [VBlank, HBlank, Geometry]),
     ] {
@@ -654,7 +486,7 @@ fn an_event_leaves_a_running_channel(rt: HostRuntime) {
             Moves(FROM, TO, 0),
             Event(VBlank, 16),
             Due(0, 18),
-            MovesAll(2),
+            MovesAll(2, 0),
         ],
     );
 }

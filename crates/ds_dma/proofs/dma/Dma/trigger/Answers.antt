@@ -1,12 +1,14 @@
-use Rattle.std.proofs.Common.{◌≡◌, [], ◌∷◌, ◌∙◌, sym, subst, ap, map}
+use Rattle.std.proofs.Common.{◌≡◌, [], ◌∷◌, ◌∙◌, sym, subst, ap, map, false}
 use Rattle.ds_base.specs.Schedules.{Reschedules}
 use Rattle.ds_dma.specs.ChannelsKept.{channel_seen}
 use Rattle.ds_dma.specs.Channels.{triggered}
-use Rattle.ds_dma.specs.States.{DmaState, HasEarlyTicks, IsDma, AreReadyLater, channel_at, channel_due, dma_triggered}
+use Rattle.ds_dma.specs.declared.controls.Cause.{Cause}
+use Rattle.ds_dma.specs.States.{DmaState, HasEarlyTicks, IsDma, AreReadyLater, awaits_geometry, channel_at, channel_due, dma_triggered}
 use Rattle.ds_dma.proofs.Early.{mapped_early, triggered_early}
 use Rattle.ds_dma.proofs.Fours.{four_are, mapped_is}
 use Rattle.ds_dma.proofs.Kept.{triggered_is}
 use Rattle.ds_dma.proofs.Turns.{event_later, event_schedules}
+use Rattle.ds_dma.proofs.Wholes.{awaits_no_more}
 use Rattle.ds_dma.proofs.dma.Dma.trigger.Goals as goal
 
 abbrev new : (c : goal.After-self-1) → DmaState
@@ -50,3 +52,9 @@ returns-clause-later c = λ later. subst (AreReadyLater c.args.now) (sym (new_is
 pub returns-clause-schedule : goal.returns-clause-schedule
 returns-clause-schedule c = λ each l. subst (λ (x : DmaState). Reschedules c.args.now (channel_due c.args.self.now each) (channel_due x each)) (sym (new_is c))
     (event_schedules c.args.self.now c.args.cause c.args.now c.laws.ensures each l)
+
+pub returns-clause-settles : goal.returns-clause-settles
+returns-clause-settles c = λ geometry.
+    subst (λ (x : DmaState). awaits_geometry x ≡ false) (sym (new_is c))
+    (subst (λ (cause : Cause). awaits_geometry (dma_triggered c.args.self.now cause c.args.now) ≡ false) (sym geometry)
+    (awaits_no_more c.args.self.now c.args.now c.laws.ensures.four))

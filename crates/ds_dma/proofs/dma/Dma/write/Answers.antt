@@ -1,7 +1,7 @@
-use Rattle.std.proofs.Common.{◌≡◌, ◌∙◌, sym, subst, ap, slice_set, None}
+use Rattle.std.proofs.Common.{◌≡◌, ◌∙◌, sym, subst, ap, slice_set}
 use Rattle.ds_base.specs.Schedules.{IsEarly}
 use Rattle.ds_dma.specs.ChannelsKept.{channel_seen}
-use Rattle.ds_dma.specs.Channels.{ChannelState, IsChannel, channel_set, channel_refusal}
+use Rattle.ds_dma.specs.Channels.{ChannelState, IsChannel, channel_set}
 use Rattle.ds_dma.specs.States.{DmaState, channel_at, channel_due, AreReadyLater}
 use Rattle.ds_dma.proofs.Early.{written_early}
 use Rattle.ds_dma.proofs.Kept.{written_is}
@@ -12,12 +12,10 @@ pub put-requires-clause-is : goal.put-requires-clause-is
 put-requires-clause-is c =
     let s = c.args.self.now in
     let old = channel_seen c.channel-old.result in
-    let taken : channel_refusal s.proc c.args.channel c.args.port c.args.value old ≡ None =
-    subst (λ (x : DmaState). channel_refusal x.proc c.args.channel c.args.port c.args.value old ≡ None) c.self.view_is (sym c.refused.ensures ∙ c.in-None.is) in
     let written : channel_seen c.written-new.result ≡ channel_set s.proc c.args.channel c.args.port c.args.value c.args.now old =
     c.written-new.ensures ∙ ap (λ (x : DmaState). channel_set x.proc c.args.channel c.args.port c.args.value c.args.now old) c.self.view_is in
     subst (IsChannel s.proc c.args.channel) (sym written)
-    (written_is s.proc c.args.channel c.args.port c.args.value c.args.now old c.channel-old.ensures.is taken)
+    (written_is s.proc c.args.channel c.args.port c.args.value c.args.now old c.channel-old.ensures.is)
 
 pub put-requires-clause-trigger : goal.put-requires-clause-trigger
 put-requires-clause-trigger c =

@@ -1,4 +1,5 @@
 pub mod FormLemmas
 pub mod LayerLemmas
+pub mod OffLemmas
 pub mod StripLemmas
 pub mod WordLemmas

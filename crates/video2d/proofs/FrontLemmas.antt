@@ -1,4 +1,4 @@
-use Rattle.std.proofs.Common.{ℕ, zero, suc, Bool, true, false, ◌≡◌, ◌≢◌, ◌<◌, ◌≤◌, ◌+◌, ◌*◌, ◌-◌, ◌%◌, ◌^◌, ◌⊎◌, inl, inr, List, [], ◌∷◌, ◌++◌, nat_lt, nat_le, if◌then◌else◌, refl, sym, ◌∙◌, ap, subst, arith}
+use Rattle.std.proofs.Common.{ℕ, zero, suc, Bool, true, false, ◌≡◌, ◌≢◌, ◌<◌, ◌≤◌, ◌+◌, ◌%◌, ◌^◌, inl, inr, List, [], ◌∷◌, ◌++◌, nat_le, if◌then◌else◌, refl, sym, ◌∙◌, ap, subst, arith}
 use Rattle.std.proofs.lemmas.Bool.{cases_eq, cases_lt}
 use Rattle.ds_base.specs.Bits.{flag}
 use Rattle.video2d.specs.Layers.{SeenLayer, at_priority, from_priority, front_to_back}
@@ -40,13 +40,13 @@ joined_from p (t ∷ ts) us h k = (h.0, joined_from p ts us h.1 k)
 
 -- ---- those of one priority
 
-hidden : (p : ℕ) (s : SeenLayer) (ss : List SeenLayer) → s.pixel ≡ 0 → at_priority p (s ∷ ss) ≡ at_priority p ss
+pub hidden : (p : ℕ) (s : SeenLayer) (ss : List SeenLayer) → s.pixel ≡ 0 → at_priority p (s ∷ ss) ≡ at_priority p ss
 hidden p s ss h = grind (arith, h)
 
-other : (p : ℕ) (s : SeenLayer) (ss : List SeenLayer) → s.priority ≢ p → at_priority p (s ∷ ss) ≡ at_priority p ss
+pub other : (p : ℕ) (s : SeenLayer) (ss : List SeenLayer) → s.priority ≢ p → at_priority p (s ∷ ss) ≡ at_priority p ss
 other p s ss h = grind (arith, h)
 
-taken : (p : ℕ) (s : SeenLayer) (ss : List SeenLayer) → s.pixel ≢ 0 → s.priority ≡ p → at_priority p (s ∷ ss) ≡ s ∷ at_priority p ss
+pub taken : (p : ℕ) (s : SeenLayer) (ss : List SeenLayer) → s.pixel ≢ 0 → s.priority ≡ p → at_priority p (s ∷ ss) ≡ s ∷ at_priority p ss
 taken p s ss h e = grind (arith, h, e)
 
 -- a fact of all layers that are opaque and of the priority holds of those that are taken
@@ -81,7 +81,7 @@ all_from p q (suc more) ss le =
 
 -- ---- one more layer, from a priority on
 
-still_hidden : (p more : ℕ) (s : SeenLayer) (ss : List SeenLayer) → s.pixel ≡ 0 → from_priority p more (s ∷ ss) ≡ from_priority p more ss
+pub still_hidden : (p more : ℕ) (s : SeenLayer) (ss : List SeenLayer) → s.pixel ≡ 0 → from_priority p more (s ∷ ss) ≡ from_priority p more ss
 still_hidden p zero s ss h = refl
 still_hidden p (suc more) s ss h =
     ap (λ (l : List SeenLayer). l ++ from_priority (suc p) more (s ∷ ss)) (hidden p s ss h)

@@ -1,4 +1,5 @@
 pub mod FrontLemmas
 pub mod MixLemmas
+pub mod PlainLemmas
 pub mod StopLemmas
 pub mod Framed

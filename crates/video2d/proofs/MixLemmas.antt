@@ -1,16 +1,14 @@
-use Rattle.std.proofs.Common.{ℕ, Bool, true, false, ◌≡◌, ◌≢◌, ◌<◌, ◌≤◌, ◌+◌, ◌*◌, ◌/◌, ◌%◌, ◌^◌, ◌==◌, ◌&&◌, ◌||◌, not, List, [], ◌∷◌, nat_lt, nat_le, if◌then◌else◌, refl, sym, ◌∙◌, ap, subst, arith}
-use Rattle.std.proofs.lemmas.Bool.{cases_eq, cases_lt}
+use Rattle.std.proofs.Common.{ℕ, Bool, true, false, ◌≡◌, ◌≢◌, ◌<◌, ◌+◌, ◌*◌, ◌/◌, ◌%◌, ◌^◌, ◌==◌, ◌&&◌, ◌||◌, not, List, [], ◌∷◌, nat_le, if◌then◌else◌, refl, ◌∙◌, ap, arith}
 use Rattle.ds_base.specs.Bits.{bit, bits, flag}
 use Rattle.line_lanes.specs.Pixels.{blended}
-use Rattle.obj2d.specs.declared.layers.ObjectPixel.{ObjectPixel}
-use Rattle.video2d.specs.Effects.{blends, brightness_changed, colour_of, effect, effects_where, eva, evb, front_colour, is_first_target, is_second_target, top_alone, with_effects}
+use Rattle.video2d.specs.Effects.{brightness_changed, colour_of, effect, effects_where, eva, evb, with_effects}
 use Rattle.video2d.specs.Engines.{EngineState, bgcnt, bldcnt}
 use Rattle.video2d.specs.Layers.{SeenLayer, backdrop_of, front_to_back, layers_of, seen_background, seen_objects, shown_through}
 use Rattle.video2d.specs.Pictures.{composed_pixel}
 use Rattle.video2d.specs.Windows.{shown_at}
 use Rattle.video2d.specs.declared.fronts.FrontPair.{FrontPair}
 use Rattle.video2d.specs.declared.layers.LayerPixels.{LayerPixels}
-use Rattle.video2d.specs.rows.Composed.{finished, front_of, layer_base, layer_word, least_of, line_order, mix_kind, mix_of, mixed_at, no_word, place_of, word_target}
+use Rattle.video2d.specs.rows.Composed.{finished, layer_word, line_order, mix_of, mixed_at, no_word, place_of, word_target}
 use Rattle.video2d.proofs.FrontLemmas.{AllKnown, AllPast, IsFilled, IsKnown, Ranked, all_known, filled_by, filled_more, fronts, opaque_word, pair_of, word_small}
 
 -- What the kernels make of the two least words is what effects make of the layers from front to back.

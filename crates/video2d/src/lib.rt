@@ -12,6 +12,7 @@ mod fronts;
 mod layers;
 mod lines;
 mod mixes;
+mod plains;
 mod points;
 mod ports;
 mod scans;

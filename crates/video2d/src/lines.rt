@@ -1,26 +1,18 @@
 //! The line that an engine shows.
 
 ghost use Rattle.std.specs.Prelude.{◌≡◌, ◌<◌, ℕ, length, slice_index};
-ghost use Rattle.tiles2d.specs.Colours.{palette_colour};
 ghost use Rattle.video2d.specs.Pictures.{layered_pixel, is_enabled, display_mode, is_forced_blank, shows_layers, screen_pixel, engine_pixel, engine_line, background_palette, object_palette, object_memory};
 
 use crate::engines::Engine;
 use crate::layers::{draw_rows, empty_rows};
 use crate::mixes::{MixRow, finish_row, line_order, mix_rows};
+use crate::plains::{calm_line, is_calm, is_plain, plain_layers, plain_line};
 use line_lanes::master;
+use tiles2d::palette_colour;
 use vram_banks::Vram;
 
 /// What a screen without layers shows.
 const WHITE: u16 = 0x7FFF;
-
-/// A colour of a palette of 256.
-fn palette_colour(palette: &[u8], index: usize) -> u16
-    requires colours { length palette.now ≡ 512 }
-    requires known { index < 256 }
-    ensures { result ≡ palette_colour palette.now index }
-{
-    u16::from_le_bytes([palette[2 * index], palette[2 * index + 1]])
-}
 
 /// The display mode: two bits of DISPCNT, of which engine B has the low one alone.
 pub fn display_mode(which: u8, engine: &Engine) -> u32
@@ -53,9 +45,9 @@ pub fn is_enabled(which: u8, power: u16) -> bool
     (power >> bit) % 2 == 1
 }
 
-/// Draws the line of an engine's layers. `colours` and `object_colours` have the 512 bytes of its palettes for backgrounds and for objects, `oam` its
+/// Draws the line of an engine's layers, with windows, objects and effects. `colours` and `object_colours` have the 512 bytes of its palettes for backgrounds and for objects, `oam` its
 /// 1,024 bytes of objects.
-fn layered_line(
+fn composed_line(
     vram: &Vram,
     colours: &[u8],
     object_colours: &[u8],
@@ -91,12 +83,46 @@ fn layered_line(
     finish_row(engine, &mixes, into);
 }
 
-/// The line in one colour.
-fn plain_line(colour: u16, into: &mut [u16; 256])
-    ensures { (x : ℕ) → x < 256 → slice_index into.new x ≡ colour }
+/// Draws the line of an engine's layers, likewise.
+fn layered_line(
+    vram: &Vram,
+    colours: &[u8],
+    object_colours: &[u8],
+    oam: &[u8],
+    which: u8,
+    engine: &Engine,
+    line: u8,
+    into: &mut [u16; 256],
+)
+    requires colours { length colours.now ≡ 512 }
+    requires object_colours { length object_colours.now ≡ 512 }
+    requires oam { length oam.now ≡ 1024 }
+    ensures { (x : ℕ) → x < 256 → slice_index into.new x ≡ layered_pixel vram.now colours.now object_colours.now oam.now which engine.now line x }
 {
-    for x in 0..256usize {
-        into[x] = colour;
+    if is_plain(engine) {
+        plain_layers(vram, colours, which, engine, line, into);
+    } else if is_calm(engine) {
+        calm_line(
+            vram,
+            colours,
+            object_colours,
+            oam,
+            which,
+            engine,
+            line,
+            into,
+        );
+    } else {
+        composed_line(
+            vram,
+            colours,
+            object_colours,
+            oam,
+            which,
+            engine,
+            line,
+            into,
+        );
     }
 }
 

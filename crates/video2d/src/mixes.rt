@@ -114,7 +114,7 @@ fn mixed_at(order: &LineOrder, pixels: LayerPixels, x: u8) -> MixedPixel
 }
 
 /// The priority of background n.
-fn priority(engine: &Engine, n: u8) -> u8
+pub fn priority(engine: &Engine, n: u8) -> u8
     requires { n < 4 }
     ensures { result ≡ bits 0 2 (bgcnt engine.now n) }
 {

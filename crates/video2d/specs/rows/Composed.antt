@@ -2,7 +2,6 @@ use Rattle.std.specs.Prelude.{ℕ, Bool, false, ◌+◌, ◌-◌, ◌*◌, ◌%�
 use Rattle.ds_base.specs.Bits.{bit, bits, flag}
 use Rattle.line_lanes.specs.Pixels.{blended}
 use Rattle.obj2d.specs.ObjectLayer.{pixel_at}
-use Rattle.tiles2d.specs.Colours.{opaque_pixel}
 use Rattle.video2d.specs.Effects.{eva, evb, brightness_changed}
 use Rattle.video2d.specs.Engines.{EngineState, dispcnt, bgcnt, bldcnt}
 use Rattle.video2d.specs.Layers.{SeenLayer, backdrop_of, seen_objects, shown_through}

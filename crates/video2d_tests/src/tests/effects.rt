@@ -226,3 +226,76 @@ fn master_brightness_comes_last(rt: HostRuntime) -> Result<(), AllocError> {
         ],
     )
 }
+
+// BG0 has 8 red, and is transparent in places 8 to 15; objects have 16 red. BG1 has 4021h, BG3 4041h, the backdrop 4000h.
+#[test]
+fn lines_without_effects_show_the_front_layer(rt: HostRuntime) -> Result<(), AllocError> {
+    try_lines(
+        &rt,
+        rt.alloc(),
+        &[
+            Backgrounds,
+            Objects,
+            Colour(0x11, 0x0008),
+            Colour(0x101, 0x0010),
+            Write(Nine, 0x304, Half, 0x8202),
+            // without objects: BG0 before BG1 of its priority, and BG3 behind both
+            Layers(0x0000, 0x1_0B00, 0x0005, 0x0105, 0, 0x0306),
+            To(192, false),
+            Pixel(0, 0, 16, 0x0008),
+            Pixel(0, 0, 8, 0x4021),
+            // BG3 before BG1
+            Layers(0x0000, 0x1_0B00, 0x0005, 0x0106, 0, 0x0305),
+            To(191, true),
+            To(192, false),
+            Pixel(0, 0, 16, 0x0008),
+            Pixel(0, 0, 8, 0x4041),
+            // the same with one window, of places 16 to 30 of line 0: it shows BG1 alone
+            Write(Nine, 0x40, Half, 0x101F),
+            Write(Nine, 0x44, Half, 0x0001),
+            Write(Nine, 0x48, Word, 0x003F_0002),
+            Layers(0x0000, 0x1_2B00, 0x0005, 0x0106, 0, 0x0305),
+            To(191, true),
+            To(192, false),
+            Pixel(0, 0, 16, 0x4021),
+            Pixel(0, 0, 31, 0x0008),
+            Pixel(0, 1, 16, 0x0008),
+            // objects alone
+            Layers(0x0000, 0x1_1000, 0, 0, 0, 0),
+            Object(0, 0, 20, 0),
+            To(191, true),
+            To(192, false),
+            Pixel(0, 0, 19, 0x4000),
+            Pixel(0, 0, 20, 0x0010),
+            Pixel(0, 0, 27, 0x0010),
+            Pixel(0, 0, 28, 0x4000),
+            // an object before BG0, of the same priority, and behind it
+            Layers(0x0000, 0x1_1100, 0x0005, 0, 0, 0),
+            Object(0, 0, 20, 0x0400),
+            Object(1, 0, 40, 0x0800),
+            To(191, true),
+            To(192, false),
+            Pixel(0, 0, 20, 0x0010),
+            Pixel(0, 0, 40, 0x0008),
+            // a semi-transparent one isn't blended where no layer is a second target
+            Object(0, 0x0400, 20, 0x0400),
+            Write(Nine, 0x50, Word, 0x0808_0000),
+            To(191, true),
+            To(192, false),
+            Pixel(0, 0, 20, 0x0010),
+            // and is over one, half and half, though there is no effect
+            Write(Nine, 0x50, Word, 0x0808_0100),
+            To(191, true),
+            To(192, false),
+            Pixel(0, 0, 20, 0x000C),
+            // brighter, but without a first target
+            Layers(0x0000, 0x1_0100, 0x0005, 0, 0, 0),
+            Write(Nine, 0x50, Word, 0x0808_0080),
+            Write(Nine, 0x54, Half, 16),
+            To(191, true),
+            To(192, false),
+            Pixel(0, 0, 20, 0x0008),
+            Pixel(0, 0, 8, 0x4000),
+        ],
+    )
+}

@@ -1,0 +1,207 @@
+//! Lines where the engine's registers leave the layers as they are: they are laid over the backdrop, from back to front.
+
+ghost use Rattle.std.specs.Prelude.{◌≡◌, ◌<◌, ℕ, length, slice_index};
+ghost use Rattle.obj2d.specs.ObjectLayer.{pixel_at};
+ghost use Rattle.video2d.specs.Layers.{seen_objects};
+ghost use Rattle.video2d.specs.rows.Plain.{background_seen, backgrounds_seen, calm_layers, calm_over, calm_pixel, is_calm, is_plain, laid_at, over, over_at, plain_pixel};
+
+use crate::backgrounds::{background_row, is_background_on};
+use crate::engines::Engine;
+use crate::layers::BLANK;
+use crate::mixes::priority;
+use bg2d::Row;
+use obj2d::{ObjectRow, object_row};
+use tiles2d::palette_colour;
+use vram_banks::Vram;
+
+/// Whether objects and windows are off, and there is no effect.
+pub fn is_plain(engine: &Engine) -> bool
+    ensures { result ≡ is_plain engine.now }
+{
+    (engine.dispcnt() >> 12) % 16 == 0 && (engine.bldcnt() >> 6) % 4 == 0
+}
+
+/// The line in one colour.
+pub fn plain_line(colour: u16, into: &mut [u16; 256])
+    ensures { (x : ℕ) → x < 256 → slice_index into.new x ≡ colour }
+{
+    for x in 0..256usize {
+        into[x] = colour;
+    }
+}
+
+/// A pixel over what is behind it.
+#[inline(always)]
+fn over(pixel: u16, behind: u16) -> u16
+    ensures { result ≡ over pixel behind }
+{
+    if pixel == 0 { behind } else { pixel % 0x8000 }
+}
+
+/// Lays a row over what is behind it.
+fn lay_row(row: &Row, into: &mut [u16; 256])
+    ensures { (x : ℕ) → x < 256 → slice_index into.new x ≡ over (slice_index row.now.pixels x) (slice_index into.old x) }
+{
+    for x in 0..256usize {
+        into[x] = over(row.pixels[x], into[x]);
+    }
+}
+
+/// Lays background n, where it has the priority whose turn it is.
+fn lay_background(
+    vram: &Vram,
+    colours: &[u8],
+    which: u8,
+    engine: &Engine,
+    line: u8,
+    n: u8,
+    turn: u8,
+    into: &mut [u16; 256],
+)
+    requires colours { length colours.now ≡ 512 }
+    requires known { n < 4 }
+    ensures { (x : ℕ) → x < 256 → slice_index into.new x ≡ over_at turn (background_seen vram.now colours.now which engine.now line n x) (slice_index into.old x) }
+{
+    if !is_background_on(engine, n) {
+        return;
+    }
+    if priority(engine, n) == turn {
+        let mut row = Row { pixels: [0; 256] };
+        background_row(vram, colours, which, engine, line, n, &mut row);
+        lay_row(&row, into);
+    }
+}
+
+/// Lays the backgrounds of a priority, of which those of lower numbers are in front.
+fn lay_priority(
+    vram: &Vram,
+    colours: &[u8],
+    which: u8,
+    engine: &Engine,
+    line: u8,
+    turn: u8,
+    into: &mut [u16; 256],
+)
+    requires { length colours.now ≡ 512 }
+    ensures { (x : ℕ) → x < 256 → slice_index into.new x ≡ laid_at turn (backgrounds_seen vram.now colours.now which engine.now line x) (slice_index into.old x) }
+{
+    lay_background(vram, colours, which, engine, line, 3, turn, into);
+    lay_background(vram, colours, which, engine, line, 2, turn, into);
+    lay_background(vram, colours, which, engine, line, 1, turn, into);
+    lay_background(vram, colours, which, engine, line, 0, turn, into);
+}
+
+/// Draws the line of an engine's backgrounds over the backdrop. `colours` has the 512 bytes of its palette for backgrounds.
+pub fn plain_layers(
+    vram: &Vram,
+    colours: &[u8],
+    which: u8,
+    engine: &Engine,
+    line: u8,
+    into: &mut [u16; 256],
+)
+    requires { length colours.now ≡ 512 }
+    ensures { (x : ℕ) → x < 256 → slice_index into.new x ≡ plain_pixel vram.now colours.now which engine.now line x }
+{
+    plain_line(palette_colour(colours, 0) % 0x8000, into);
+    lay_priority(vram, colours, which, engine, line, 3, into);
+    lay_priority(vram, colours, which, engine, line, 2, into);
+    lay_priority(vram, colours, which, engine, line, 1, into);
+    lay_priority(vram, colours, which, engine, line, 0, into);
+}
+
+/// Whether windows are off and no effect can act: there is none, and no layer is a second target.
+pub fn is_calm(engine: &Engine) -> bool
+    ensures { result ≡ is_calm engine.now }
+{
+    (engine.dispcnt() >> 13) % 8 == 0
+        && (engine.bldcnt() >> 6) % 4 == 0
+        && (engine.bldcnt() >> 8) % 64 == 0
+}
+
+/// Lays the objects of the priority whose turn it is.
+fn lay_objects(objects: &ObjectRow, turn: u8, into: &mut [u16; 256])
+    ensures { (x : ℕ) → x < 256 → slice_index into.new x ≡ over_at turn (seen_objects (pixel_at objects.now.pixels x)) (slice_index into.old x) }
+{
+    for x in 0..256usize {
+        let pixel = objects.pixels[x];
+        let colour = if pixel.priority == turn {
+            pixel.colour
+        } else {
+            0
+        };
+        into[x] = over(colour, into[x]);
+    }
+}
+
+/// Lays all layers of a priority.
+fn lay_turn(
+    vram: &Vram,
+    colours: &[u8],
+    which: u8,
+    engine: &Engine,
+    line: u8,
+    objects: &ObjectRow,
+    turn: u8,
+    into: &mut [u16; 256],
+)
+    requires { length colours.now ≡ 512 }
+    ensures { (x : ℕ) → x < 256 → slice_index into.new x ≡ laid_at turn (calm_layers vram.now colours.now which engine.now line (pixel_at objects.now.pixels x) x) (slice_index into.old x) }
+{
+    lay_priority(vram, colours, which, engine, line, turn, into);
+    lay_objects(objects, turn, into);
+}
+
+/// Lays all layers over the backdrop.
+#[tactic(auto, unfolding(crate::specs::rows::Plain::calm_over))]
+fn lay_turns(
+    vram: &Vram,
+    colours: &[u8],
+    which: u8,
+    engine: &Engine,
+    line: u8,
+    objects: &ObjectRow,
+    into: &mut [u16; 256],
+)
+    requires { length colours.now ≡ 512 }
+    ensures { (x : ℕ) → x < 256 → slice_index into.new x ≡ calm_over vram.now colours.now which engine.now line x (pixel_at objects.now.pixels x) }
+{
+    plain_line(palette_colour(colours, 0) % 0x8000, into);
+    lay_turn(vram, colours, which, engine, line, objects, 3, into);
+    lay_turn(vram, colours, which, engine, line, objects, 2, into);
+    lay_turn(vram, colours, which, engine, line, objects, 1, into);
+    lay_turn(vram, colours, which, engine, line, objects, 0, into);
+}
+
+/// Draws the line of an engine's backgrounds and objects over the backdrop. `colours` and `object_colours` have the 512 bytes of its palettes for
+/// backgrounds and for objects, `oam` its 1,024 bytes of objects.
+pub fn calm_line(
+    vram: &Vram,
+    colours: &[u8],
+    object_colours: &[u8],
+    oam: &[u8],
+    which: u8,
+    engine: &Engine,
+    line: u8,
+    into: &mut [u16; 256],
+)
+    requires colours { length colours.now ≡ 512 }
+    requires object_colours { length object_colours.now ≡ 512 }
+    requires oam { length oam.now ≡ 1024 }
+    ensures { (x : ℕ) → x < 256 → slice_index into.new x ≡ calm_pixel vram.now colours.now object_colours.now oam.now which engine.now line x }
+{
+    let mut objects = ObjectRow {
+        pixels: [BLANK; 256],
+    };
+    let control = engine.dispcnt();
+    object_row(
+        vram,
+        object_colours,
+        oam,
+        control,
+        which,
+        line,
+        &mut objects,
+    );
+    lay_turns(vram, colours, which, engine, line, &objects, into);
+}

@@ -1,7 +1,8 @@
 //! A cache of words, or of halves, of one version of the architecture.
 
-ghost use Rattle.std.specs.Prelude.{◌≡◌, ◌<◌, IfOk, IfSome};
+ghost use Rattle.std.specs.Prelude.{◌≡◌, ◌<◌, ◌%◌, IfOk, IfSome, slice_set, slice_index};
 ghost use Rattle.std.specs.Coded.{Coded-set};
+ghost use Rattle.decode_cache.specs.Kept.{kept_at_start};
 ghost use Rattle.decode_cache.specs.Known.{arch_of, known};
 ghost use Rattle.arm_ops.specs.Operations.{operation_of};
 ghost use Rattle.arm_words.specs.Fields.{HasFields};
@@ -31,11 +32,11 @@ pub struct DecodeCache<const VERSION: u32, const BITS: u32> {
 }
 
 impl<const VERSION: u32, const BITS: u32> Model for DecodeCache<VERSION, BITS> {
-    ghost use Rattle.std.specs.Prelude.{◌≡◌, length};
+    ghost use Rattle.std.specs.Prelude.{◌≡◌, ℕ, List, length, map};
 
-    ghost Value = { Unit {0} };
+    ghost Value = { List ℕ };
 
-    ghost view = { λ m. tt };
+    ghost view = { λ m. map (λ e. e.number) m.entries.items };
 
     ghost invariant = { λ m. length m.entries.items ≡ 16384 };
 }
@@ -43,7 +44,7 @@ impl<const VERSION: u32, const BITS: u32> Model for DecodeCache<VERSION, BITS> {
 /// Where a number is kept that was found at a place of the code, counted in words or in halves: what lies side by side is kept side by side. (Our choice.)
 #[inline(always)]
 fn place(at: u32) -> usize
-    ensures { result < 16384 }
+    ensures { result ≡ at % 16384 }
 {
     (at % PLACES as u32) as usize
 }
@@ -95,22 +96,31 @@ impl<const VERSION: u32, const BITS: u32> CacheEntry<VERSION, BITS> {
 }
 
 impl<const VERSION: u32, const BITS: u32> DecodeCache<VERSION, BITS> {
-    /// A cache that keeps one number. It refuses only for want of memory; what a cache keeps is no part of its value, so each look-up of this one answers as any does.
+    /// A cache that keeps the number 0 at each place. It refuses only for want of memory.
     pub fn new(alloc: Global) -> Result<DecodeCache<VERSION, BITS>, AllocError>
-        ensures { IfOk result (λ cache. cache ≡ tt) }
+        ensures { IfOk result (λ cache. cache ≡ kept_at_start) }
     {
         Ok(DecodeCache {
             entries: vec![in alloc; made::<VERSION, BITS>(0); PLACES]?,
         })
     }
 
-    /// The instruction of a number that was found at a place of the code, or none, as an operation.
+    /// Keeps a number that was found at a place of the code.
     #[inline(always)]
-    pub fn operation(&mut self, at: u32, number: u32) -> &Operation
-        ensures { result.now ≡ operation_of (known VERSION BITS number) }
+    pub fn learn(&mut self, at: u32, number: u32)
+        ensures keeps { self.new ≡ slice_set self.old (at % 16384) number }
+        ensures kept { slice_index self.new (at % 16384) ≡ number }
     {
         let entry = &mut self.entries[place(at)];
         entry.learn(number);
-        &entry.operation
+    }
+
+    /// The instruction of a number that is kept for a place of the code, or none, as an operation.
+    #[inline(always)]
+    pub fn operation(&self, at: u32, number: u32) -> &Operation
+        requires { slice_index self.now (at % 16384) ≡ number }
+        ensures { result.now ≡ operation_of (known VERSION BITS number) }
+    {
+        &self.entries[place(at)].operation
     }
 }

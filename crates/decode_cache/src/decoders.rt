@@ -1,6 +1,7 @@
 //! A decoder of one version of the architecture.
 
-ghost use Rattle.std.specs.Prelude.{◌≡◌};
+ghost use Rattle.std.specs.Prelude.{◌≡◌, IfOk};
+ghost use Rattle.decode_cache.specs.Kept.{fresh};
 ghost use Rattle.decode_cache.specs.Known.{arch_of};
 ghost use Rattle.arm_ops.specs.Operations.{operation_of, HasOperation};
 ghost use Rattle.arm_words.specs.ArmTable.{decoded_arm};
@@ -9,6 +10,7 @@ ghost use Rattle.arm_words.specs.ThumbTable.{decoded_thumb};
 use crate::caches::DecodeCache;
 use arm_ops::Operation;
 use std::alloc::{AllocError, Global};
+use std::marker::Model;
 
 /// Decodes words of ARM code and halves of Thumb code of ARMv5 where VERSION is 5, and otherwise of ARMv4, makes their operations, and keeps what it made last.
 #[derive(Drop)]
@@ -17,9 +19,19 @@ pub struct Decoder<const VERSION: u32> {
     halves: DecodeCache<VERSION, 16>,
 }
 
+impl<const VERSION: u32> Model for Decoder<VERSION> {
+    ghost use Rattle.decode_cache.specs.Kept.{Kept};
+
+    ghost Value = { Kept };
+
+    ghost view = { λ d. record { words = d.words; halves = d.halves } };
+}
+
 impl<const VERSION: u32> Decoder<VERSION> {
-    /// A decoder. All its memory is taken here, and it refuses only for want of that; what a decoder keeps is in no clause, so each look-up of this one answers as any does.
-    pub fn new(alloc: Global) -> Result<Decoder<VERSION>, AllocError> {
+    /// A decoder that keeps the word 0 and the half 0 at each of their places, so that it answers from the first as any does. All its memory is taken here, and it refuses only for want of that.
+    pub fn new(alloc: Global) -> Result<Decoder<VERSION>, AllocError>
+        ensures { IfOk result (λ decoder. decoder ≡ fresh) }
+    {
         Ok(Decoder {
             words: DecodeCache::new(alloc)?,
             halves: DecodeCache::new(alloc)?,
@@ -33,6 +45,7 @@ impl<const VERSION: u32> Decoder<VERSION> {
         ensures operation { result.now ≡ operation_of (decoded_arm (arch_of VERSION) word) }
         ensures fields { HasOperation result.now }
     {
+        self.words.learn(at / 4, word);
         self.words.operation(at / 4, word)
     }
 
@@ -43,6 +56,7 @@ impl<const VERSION: u32> Decoder<VERSION> {
         ensures operation { result.now ≡ operation_of (decoded_thumb (arch_of VERSION) half) }
         ensures fields { HasOperation result.now }
     {
+        self.halves.learn(at / 2, half as u32);
         self.halves.operation(at / 2, half as u32)
     }
 }

@@ -8,7 +8,8 @@ ghost use Rattle.asm_files.specs.declared.places.LinePlace.{LinePlace};
 
 use crate::places::{LinePlace, Piece};
 use arm_words::Spelling;
-use asm_text::{Set, read_byte, read_bytes, read_start, statement_laws};
+use asm_lines::read_bytes;
+use asm_text::{Set, read_byte, read_start, statement_laws};
 use ds_base::Arch;
 
 /// The first line, counted from 1, that no listing has there, or that lacks its line feed; 1 for an empty text.

@@ -9,7 +9,8 @@ ghost use Rattle.asm_files.specs.Listings.{arm_lines, lines_of, listing, thumb_l
 ghost use Rattle.asm_files.specs.Writer.Pages.{Passed};
 
 use crate::pages::{TextPage, put_line, send};
-use asm_text::{Line, Set, list_byte, list_start, list_word};
+use asm_lines::list_word;
+use asm_text::{Line, Set, list_byte, list_start};
 use ds_base::Arch;
 use ds_io::{Failed, Sink};
 

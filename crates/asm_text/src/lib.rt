@@ -1,5 +1,5 @@
 //! Words and halves as statements of assembly: one line of text for each word or half at an address, which is its instruction's
-//! statement where it is canonical, and the number itself otherwise. `specs/` has the text of each statement.
+//! statement where it is canonical, and the number itself otherwise. `specs/` has the text of each statement. `asm_lines` writes and reads it whole.
 #![tactic(auto)]
 
 mod addresses;
@@ -18,8 +18,9 @@ mod statements;
 mod thumb;
 
 pub use laws::statement_laws;
-pub use lines::Line;
-pub use listing::list_word;
-pub use reading::lines::{NotText, read_bytes, read_line};
+pub use lines::{Line, same};
+pub use listing::{raw, spelling};
+pub use reading::lines::only_candidate;
 pub use sets::Set;
 pub use starts::{list_byte, list_start, read_byte, read_start};
+pub use statements::statement;

@@ -40,7 +40,8 @@ impl Line {
         self.text.as_slice()
     }
 
-    pub(crate) fn clear(&mut self)
+    /// Makes it empty.
+    pub fn clear(&mut self)
         ensures { self.new ≡ [] }
     {
         self.text.clear();
@@ -72,7 +73,7 @@ impl Line {
 }
 
 /// Whether two texts are the same.
-pub(crate) fn same(a: &[u8], b: &[u8]) -> bool
+pub fn same(a: &[u8], b: &[u8]) -> bool
     ensures { IsTrue result ↔ (a.now ≡ b.now) }
 {
     a == b

@@ -13,6 +13,7 @@ use crate::registers::{four, one, three, two};
 use crate::{arm, thumb};
 use arm_words::{Condition, Instr};
 
+/// Adds the statement of an instruction at an address to an empty line.
 pub fn statement(at: u32, instr: &Instr, into: &mut Line)
     requires room { length into.old ≡ 0 }
     requires fields { HasFields instr.now }

@@ -6,7 +6,8 @@ mod refused;
 mod thumb;
 
 use arm_words::Spelling;
-use asm_text::{Line, Set, list_word, read_line};
+use asm_lines::{list_word, read_line};
+use asm_text::{Line, Set};
 use ds_base::Arch;
 use std::process::Abort;
 

@@ -1,6 +1,7 @@
-//! The word or half whose statement a text is.
+//! The word or half whose statement a text may be.
 
-ghost use Rattle.std.specs.Prelude.{◌≡◌, ◌≢◌, ◌<◌, ◌^◌, ℕ, IfOk, IfSome, Ok, OnErr};
+ghost use Rattle.std.specs.Prelude.{◌≡◌, ◌<◌, ◌^◌, ℕ, IfSome, Some};
+ghost use Rattle.ds_base.specs.declared.processors.Arch.{Arch};
 ghost use Rattle.arm_words.specs.Fields.{HasFields};
 ghost use Rattle.arm_words.specs.Spellings.{IsInRange};
 ghost use Rattle.asm_text.specs.Reader.Candidates.{candidate, in_set, number_read, read_in, row_in, stems_in, HasStem};
@@ -12,15 +13,8 @@ use super::names::{Stem, name, named_stem};
 use super::parts::hex_at;
 use super::thumb_rows::thumb_row;
 use super::thumb_stems::THUMB_STEMS;
-use crate::lines::{Line, same};
-use crate::listing::{list_word, spelling};
 use crate::sets::Set;
 use arm_words::{Condition, Instr, Spelling, spell};
-use ds_base::Arch;
-
-/// A text is no word's or half's statement.
-#[derive(Clone, Copy, PartialEq, Eq, Debug)]
-pub struct NotText;
 
 fn stems_in(set: Set) -> &'static [(u64, Stem)]
     ensures { result.now ≡ stems_in set }
@@ -96,31 +90,10 @@ fn candidate(set: Set, at: u32, text: &[u8]) -> Option<u32>
     }
 }
 
-/// Reads the statement of a word (ARM) or half (Thumb) at address `at`: it is the one whose statement, as `list_word` writes it, is
-/// the text, to the byte. Each word or half has one statement at an address, and no other text is read as it. `NotText` exactly
-/// where the text is none's statement there.
-pub fn read_bytes(arch: Arch, set: Set, at: u32, text: &[u8]) -> Result<Spelling, NotText>
-    ensures found { IfOk result (λ s. IsInRange s × (s ≡ spelling set (number_in s)) × (text.now ≡ listed arch set at (number_in s))) }
-    ensures own { (word : ℕ) → IsInRange (spelling set word) → text.now ≡ listed arch set at word → result ≡ Ok (spelling set word) }
-    ensures none { OnErr result ((word : ℕ) → IsInRange (spelling set word) → text.now ≢ listed arch set at word) }
+/// The one word or half whose statement at an address a text can be; where it is none's, any or none. (The reader refuses nothing: list it again, and compare.)
+pub fn only_candidate(set: Set, at: u32, text: &[u8]) -> Option<u32>
+    ensures own { (arch : Arch) (word : ℕ) → IsInRange (spelling set word) → text.now ≡ listed arch set at word → result ≡ Some word }
+    ensures range { IfSome result (λ word. IsInRange (spelling set word)) }
 {
-    let Some(word) = candidate(set, at, text) else {
-        return Err(NotText);
-    };
-    let mut line = Line::new();
-    list_word(arch, set, at, word, &mut line);
-    if same(line.bytes(), text) {
-        Ok(spelling(set, word))
-    } else {
-        Err(NotText)
-    }
-}
-
-/// The same for a text that is known to be text.
-pub fn read_line(arch: Arch, set: Set, at: u32, text: &str) -> Result<Spelling, NotText>
-    ensures found { IfOk result (λ s. IsInRange s × (s ≡ spelling set (number_in s)) × (text.now ≡ listed arch set at (number_in s))) }
-    ensures own { (word : ℕ) → IsInRange (spelling set word) → text.now ≡ listed arch set at word → result ≡ Ok (spelling set word) }
-    ensures none { OnErr result ((word : ℕ) → IsInRange (spelling set word) → text.now ≢ listed arch set at word) }
-{
-    read_bytes(arch, set, at, text.as_bytes())
+    candidate(set, at, text)
 }

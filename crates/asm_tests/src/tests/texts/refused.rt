@@ -2,7 +2,8 @@
 
 use super::AT;
 use arm_words::Spelling;
-use asm_text::{NotText, Set, read_line};
+use asm_lines::{NotText, read_line};
+use asm_text::Set;
 use ds_base::Arch;
 use std::process::Abort;
 

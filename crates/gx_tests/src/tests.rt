@@ -80,12 +80,17 @@ enum Line {
     Mapped(u32, u32, u32, i16, i16),
 }
 
-/// Goes through lines from boot on.
-fn try_lines(rt: &impl Abort, alloc: Global, lines: &[Line]) -> Result<(), AllocError> {
+/// Goes through a table's lines from boot on.
+fn try_lines(
+    rt: &impl Abort,
+    alloc: Global,
+    table: &str,
+    lines: &[Line],
+) -> Result<(), AllocError> {
     let mut rig = Rig::new(alloc)?;
     for (number, line) in lines.iter().enumerate() {
         let (got, wanted) = rig.seen(alloc, *line)?;
-        assert!(rt; got == wanted, "line {number}: {got}");
+        assert!(rt; got == wanted, "{table}, line {number}: {got}");
     }
     Ok(())
 }

@@ -100,7 +100,7 @@ fn seen(gx: &Gx, act: Act) -> (u32, u32) {
     }
 }
 
-fn try_acts(rt: &impl Abort, alloc: Global, acts: &[Act]) -> Result<(), AllocError> {
+fn try_acts(rt: &impl Abort, alloc: Global, table: &str, acts: &[Act]) -> Result<(), AllocError> {
     let mut gx = Gx::new(alloc)?;
     for (number, act) in acts.iter().enumerate() {
         let (got, wanted) = match *act {
@@ -110,396 +110,372 @@ fn try_acts(rt: &impl Abort, alloc: Global, acts: &[Act]) -> Result<(), AllocErr
             }
             other => taken(&mut gx, other),
         };
-        assert!(rt; got == wanted, "line {number}: {got}");
+        assert!(rt; got == wanted, "{table}, line {number}: {got}");
     }
     Ok(())
 }
 
-#[test]
-fn a_command_takes_its_clocks_from_when_it_is_complete_and_first(
-    rt: HostRuntime,
-) -> Result<(), AllocError> {
-    try_acts(
-        &rt,
-        rt.alloc(),
-        &[
-            // 15h has 19 clocks of 2 ticks
-            Waits(0, 0),
-            Write(0x454, 0, 100),
-            Waits(1, 138),
-            Finish,
-            Waits(0, 0),
-            // the second one is first at 138
-            Write(0x454, 0, 100),
-            Write(0x454, 0, 110),
-            Waits(2, 138),
-            Finish,
-            Waits(1, 176),
-            Finish,
-            Waits(0, 0),
-            // 23h has two parameters and 9 clocks
-            Write(0x48C, 0, 10),
-            Waits(1, 0),
-            Write(0x48C, 0, 50),
-            Waits(2, 68),
-            Finish,
-            Waits(0, 0),
-            // it takes the first two entries, whatever they were written for
-            Write(0x400, 0x23, 10),
-            Write(0x400, 7, 20),
-            Waits(1, 0),
-            Write(0x454, 0, 30),
-            Waits(2, 48),
-            Finish,
-            Waits(0, 0),
-            // the packed command waits for its second parameter still
-            Write(0x400, 9, 60),
-            Waits(1, 0),
-            Write(0x48C, 0, 70),
-            Waits(2, 88),
-        ],
-    )
-}
+const A_COMMAND_TAKES_ITS_CLOCKS_FROM_WHEN_IT_IS_COMPLETE_AND_FIRST: [Act; 29] = [
+    // 15h has 19 clocks of 2 ticks
+    Waits(0, 0),
+    Write(0x454, 0, 100),
+    Waits(1, 138),
+    Finish,
+    Waits(0, 0),
+    // the second one is first at 138
+    Write(0x454, 0, 100),
+    Write(0x454, 0, 110),
+    Waits(2, 138),
+    Finish,
+    Waits(1, 176),
+    Finish,
+    Waits(0, 0),
+    // 23h has two parameters and 9 clocks
+    Write(0x48C, 0, 10),
+    Waits(1, 0),
+    Write(0x48C, 0, 50),
+    Waits(2, 68),
+    Finish,
+    Waits(0, 0),
+    // it takes the first two entries, whatever they were written for
+    Write(0x400, 0x23, 10),
+    Write(0x400, 7, 20),
+    Waits(1, 0),
+    Write(0x454, 0, 30),
+    Waits(2, 48),
+    Finish,
+    Waits(0, 0),
+    // the packed command waits for its second parameter still
+    Write(0x400, 9, 60),
+    Waits(1, 0),
+    Write(0x48C, 0, 70),
+    Waits(2, 88),
+];
+
+const PACKED_WORDS_ARE_TAKEN_APART_FROM_THE_LOWEST_BYTE: [Act; 37] = [
+    // 10h with its parameter, 15h
+    Write(0x400, 0x1510, 0),
+    Waits(0, 0),
+    Write(0x400, 1, 0),
+    Waits(2, 2),
+    Finish,
+    Waits(1, 40),
+    // any word of the port; 11h, and bytes that are no codes
+    New,
+    Write(0x43C, 0x00FF_0011, 0),
+    Waits(1, 34),
+    // a byte that is no code takes no parameter: 10h, 7Fh, 15h
+    New,
+    Write(0x400, 0x0015_7F10, 0),
+    Write(0x400, 2, 0),
+    Waits(2, 2),
+    Write(0x400, 0x15, 0),
+    Waits(3, 2),
+    // 10h, 15h, 10h, 11h
+    New,
+    Write(0x400, 0x1110_1510, 0),
+    Waits(0, 0),
+    Write(0x400, 1, 0),
+    Waits(2, 2),
+    Write(0x400, 2, 0),
+    Waits(4, 2),
+    // no command at all
+    New,
+    Write(0x400, 0, 0),
+    Write(0x400, 0xFFFF_FFFF, 0),
+    Waits(0, 0),
+    Write(0x400, 0x1515_1515, 0),
+    Waits(4, 38),
+    // ports of no command: 1Dh, 7Fh; and past them
+    New,
+    Write(0x474, 0, 0),
+    Write(0x5FC, 0, 0),
+    Write(0x608, 0, 0),
+    Write(0x3FC, 0x15, 0),
+    Waits(0, 0),
+    Read(0x400, 0),
+    Read(0x454, 0),
+    Read(0x608, 0),
+];
+
+const A_SWAP_WAITS_FOR_LINE_192_AND_HOLDS_THE_NEXT_COMMAND_UP: [Act; 23] = [
+    // 50h has 392 clocks
+    Write(0x540, 3, 1000),
+    Waits(1, 1784),
+    Swap(1100, false),
+    Waits(1, 1784),
+    Swapped(0, 0),
+    Finish,
+    Waits(0, 0),
+    Read(0x600, 0x0E00_0000),
+    Write(0x454, 0, 2000),
+    Waits(1, 0),
+    Swap(5000, true),
+    Waits(1, 5038),
+    Swapped(5000, 3),
+    Swap(6000, false),
+    Waits(1, 5038),
+    Swapped(5000, 3),
+    Finish,
+    Waits(0, 0),
+    Read(0x600, 0x0600_0000),
+    // nothing waits behind it
+    Done(1, 0x540, 1),
+    Swap(7000, true),
+    Waits(0, 0),
+    Swapped(7000, 1),
+];
+
+const MORE_THAN_260_ENTRIES_HOLD_ARM9_UP: [Act; 35] = [
+    Done(1, 0x540, 0),
+    Repeat(260, 0x454, 0, 10),
+    Waits(260, 0),
+    Stalled(false),
+    Read(0x600, 0x0900_0000),
+    Repeat(15, 0x400, 0x1515_1515, 20),
+    Waits(320, 0),
+    Stalled(true),
+    Write(0x400, 0x1515_1515, 20),
+    Waits(324, 0),
+    Stalled(true),
+    Read(0x600, 0x0900_0000),
+    Swap(5000, true),
+    Waits(324, 5038),
+    Finish,
+    Waits(323, 5076),
+    // down to 320, 261 and 260
+    Finish,
+    Finish,
+    Finish,
+    Waits(320, 5190),
+    Repeat(1, 0x454, 0, 5100),
+    Waits(321, 5190),
+    Stalled(true),
+    New,
+    Done(1, 0x540, 0),
+    Repeat(261, 0x454, 0, 10),
+    Stalled(true),
+    Read(0x600, 0x0900_0000),
+    Swap(5000, true),
+    Finish,
+    Waits(260, 5076),
+    Stalled(false),
+    Read(0x600, 0x0900_0000),
+    Finish,
+    Read(0x600, 0x08FF_0000),
+];
+
+const GXSTAT_TELLS_OF_WHAT_WAITS: [Act; 38] = [
+    // the count is held at 0
+    Read(0x600, 0x0600_0000),
+    Write(0x454, 0, 0),
+    Read(0x600, 0x0E00_0000),
+    Repeat(3, 0x454, 0, 0),
+    Read(0x600, 0x0E00_0000),
+    Write(0x454, 0, 0),
+    Read(0x600, 0x0A01_0000),
+    Repeat(126, 0x454, 0, 0),
+    Read(0x600, 0x0A7F_0000),
+    Half(true),
+    Write(0x454, 0, 0),
+    Read(0x600, 0x0880_0000),
+    Half(false),
+    Finish,
+    Read(0x600, 0x0A7F_0000),
+    // each kind of command that it tells of, first or not
+    New,
+    Write(0x454, 0, 0),
+    Write(0x5C0, 0, 0),
+    Read(0x600, 0x0E00_0001),
+    Write(0x444, 0, 0),
+    Read(0x600, 0x0E00_4001),
+    New,
+    Write(0x448, 0, 0),
+    Read(0x600, 0x0E00_4000),
+    Finish,
+    Write(0x5C4, 0, 0),
+    Read(0x600, 0x0E00_8001),
+    Write(0x5C4, 0, 0),
+    Finish,
+    Read(0x600, 0x0600_8000),
+    Write(0x5C8, 0, 0),
+    Read(0x600, 0x0E00_8001),
+    Finish,
+    Read(0x600, 0x0600_8000),
+    // stores, restores and swaps are none of them
+    Write(0x44C, 0, 0),
+    Write(0x450, 0, 0),
+    Write(0x540, 0, 0),
+    Read(0x600, 0x0E00_8000),
+];
+
+const GXSTAT_HAS_THE_STACKS_AND_THE_BOX_TEST: [Act; 19] = [
+    // a pop at level 0 sets the error, which a 1 in bit 15 clears
+    Done(1, 0x448, 1),
+    Read(0x600, 0x0600_8000),
+    Write(0x600, 0xC000_7FFF, 0),
+    Read(0x600, 0xC600_8000),
+    Kept(0x600, 0xC000_0000),
+    Write(0x600, 0x8000, 0),
+    Read(0x600, 0x0600_0000),
+    Kept(0x600, 0),
+    // the projection level goes with it, the position level stays
+    Done(1, 0x444, 0),
+    Read(0x600, 0x0600_2000),
+    Done(1, 0x440, 1),
+    Done(2, 0x444, 0),
+    Read(0x600, 0x0600_2200),
+    Write(0x600, 0x8000, 0),
+    Read(0x600, 0x0600_0200),
+    // a box at the origin is seen
+    Done(1, 0x5C0, 0),
+    Done(1, 0x5C0, 0x1000_0000),
+    Done(1, 0x5C0, 0x1000_1000),
+    Read(0x600, 0x0600_0202),
+];
+
+const THE_SELECTOR_CHOOSES_THE_INTERRUPT: [Act; 22] = [
+    Level(false),
+    Write(0x600, 0x4000_0000, 0),
+    Read(0x600, 0x4600_0000),
+    Level(true),
+    Repeat(131, 0x454, 0, 0),
+    Level(true),
+    Write(0x454, 0, 0),
+    Level(false),
+    New,
+    Write(0x600, 0x8000_0000, 0),
+    Read(0x600, 0x8600_0000),
+    Level(true),
+    Repeat(4, 0x454, 0, 0),
+    Level(true),
+    Write(0x454, 0, 0),
+    Level(false),
+    Write(0x600, 0x4000_0000, 0),
+    Level(true),
+    Write(0x600, 0xC000_0000, 0),
+    Level(false),
+    Write(0x600, 0, 0),
+    Level(false),
+];
+
+const RESULTS_AND_MATRICES_ARE_READ: [Act; 44] = [
+    // (-1, 2, 3) in clip space, with w
+    Done(1, 0x5C4, 0x0002_FFFF),
+    Done(1, 0x5C4, 3),
+    Read(0x620, 0xFFFF_FFFF),
+    Read(0x624, 2),
+    Read(0x628, 3),
+    Read(0x62C, 0x1000),
+    // (511, 0, -512) of 512 parts
+    Done(1, 0x5C8, 0x2000_01FF),
+    Read(0x630, 0x0FF8),
+    Read(0x634, 0xF000),
+    // (0, -512, 511)
+    Done(1, 0x5C8, 0x1FF8_0000),
+    Read(0x630, 0xF000_0000),
+    Read(0x634, 0x0FF8),
+    // the identity moved by (1, 2, -3)
+    Done(1, 0x440, 1),
+    Done(1, 0x470, 1),
+    Done(1, 0x470, 2),
+    Done(1, 0x470, 0xFFFF_FFFD),
+    Read(0x640, 0x1000),
+    Read(0x644, 0),
+    Read(0x654, 0x1000),
+    Read(0x670, 1),
+    Read(0x674, 2),
+    Read(0x678, 0xFFFF_FFFD),
+    Read(0x67C, 0x1000),
+    // the vector matrix by rows of three
+    Done(1, 0x440, 2),
+    Done(1, 0x468, 1),
+    Done(1, 0x468, 2),
+    Done(1, 0x468, 3),
+    Done(1, 0x468, 4),
+    Done(1, 0x468, 5),
+    Done(1, 0x468, 6),
+    Done(1, 0x468, 7),
+    Done(1, 0x468, 8),
+    Done(1, 0x468, 9),
+    Read(0x680, 1),
+    Read(0x684, 2),
+    Read(0x688, 3),
+    Read(0x68C, 4),
+    Read(0x69C, 8),
+    Read(0x6A0, 9),
+    Read(0x6A4, 0),
+    // three vertices, and a polygon seen edge on
+    Done(1, 0x4A4, 0xC0),
+    Done(1, 0x500, 0),
+    Done(3, 0x4A0, 0),
+    Read(0x604, 0x0003_0001),
+];
+
+const THE_LISTS_OVERFLOW_IS_CLEARED_BY_ITS_BIT_ALONE: [Act; 22] = [
+    Read(0x060, 0),
+    Write(0x060, 0xFFFF_FFFF, 0),
+    Read(0x060, 0x5FFF),
+    Kept(0x060, 0x5FFF),
+    Write(0x060, 0, 0),
+    Done(6144, 0x4A0, 0),
+    Read(0x060, 0),
+    Read(0x604, 0x1800_0000),
+    Done(1, 0x4A0, 0),
+    Read(0x060, 0x2000),
+    Read(0x604, 0x1800_0000),
+    Kept(0x060, 0),
+    Write(0x060, 7, 0),
+    Read(0x060, 0x2007),
+    Write(0x600, 0x8000, 0),
+    Read(0x060, 0x2007),
+    Done(1, 0x540, 0),
+    Swap(9000, true),
+    Read(0x060, 0x2007),
+    Write(0x060, 0x6001, 0),
+    Read(0x060, 0x4001),
+    Kept(0x060, 0x4001),
+];
 
 #[test]
-fn packed_words_are_taken_apart_from_the_lowest_byte(rt: HostRuntime) -> Result<(), AllocError> {
-    try_acts(
-        &rt,
-        rt.alloc(),
-        &[
-            // 10h with its parameter, 15h
-            Write(0x400, 0x1510, 0),
-            Waits(0, 0),
-            Write(0x400, 1, 0),
-            Waits(2, 2),
-            Finish,
-            Waits(1, 40),
-            // any word of the port; 11h, and bytes that are no codes
-            New,
-            Write(0x43C, 0x00FF_0011, 0),
-            Waits(1, 34),
-            // a byte that is no code takes no parameter: 10h, 7Fh, 15h
-            New,
-            Write(0x400, 0x0015_7F10, 0),
-            Write(0x400, 2, 0),
-            Waits(2, 2),
-            Write(0x400, 0x15, 0),
-            Waits(3, 2),
-            // 10h, 15h, 10h, 11h
-            New,
-            Write(0x400, 0x1110_1510, 0),
-            Waits(0, 0),
-            Write(0x400, 1, 0),
-            Waits(2, 2),
-            Write(0x400, 2, 0),
-            Waits(4, 2),
-            // no command at all
-            New,
-            Write(0x400, 0, 0),
-            Write(0x400, 0xFFFF_FFFF, 0),
-            Waits(0, 0),
-            Write(0x400, 0x1515_1515, 0),
-            Waits(4, 38),
-            // ports of no command: 1Dh, 7Fh; and past them
-            New,
-            Write(0x474, 0, 0),
-            Write(0x5FC, 0, 0),
-            Write(0x608, 0, 0),
-            Write(0x3FC, 0x15, 0),
-            Waits(0, 0),
-            Read(0x400, 0),
-            Read(0x454, 0),
-            Read(0x608, 0),
-        ],
-    )
-}
-
-#[test]
-fn a_swap_waits_for_line_192_and_holds_the_next_command_up(
-    rt: HostRuntime,
-) -> Result<(), AllocError> {
-    try_acts(
-        &rt,
-        rt.alloc(),
-        &[
-            // 50h has 392 clocks
-            Write(0x540, 3, 1000),
-            Waits(1, 1784),
-            Swap(1100, false),
-            Waits(1, 1784),
-            Swapped(0, 0),
-            Finish,
-            Waits(0, 0),
-            Read(0x600, 0x0E00_0000),
-            Write(0x454, 0, 2000),
-            Waits(1, 0),
-            Swap(5000, true),
-            Waits(1, 5038),
-            Swapped(5000, 3),
-            Swap(6000, false),
-            Waits(1, 5038),
-            Swapped(5000, 3),
-            Finish,
-            Waits(0, 0),
-            Read(0x600, 0x0600_0000),
-            // nothing waits behind it
-            Done(1, 0x540, 1),
-            Swap(7000, true),
-            Waits(0, 0),
-            Swapped(7000, 1),
-        ],
-    )
-}
-
-#[test]
-fn more_than_260_entries_hold_arm9_up(rt: HostRuntime) -> Result<(), AllocError> {
-    try_acts(
-        &rt,
-        rt.alloc(),
-        &[
-            Done(1, 0x540, 0),
-            Repeat(260, 0x454, 0, 10),
-            Waits(260, 0),
-            Stalled(false),
-            Read(0x600, 0x0900_0000),
-            Repeat(15, 0x400, 0x1515_1515, 20),
-            Waits(320, 0),
-            Stalled(true),
-            Write(0x400, 0x1515_1515, 20),
-            Waits(324, 0),
-            Stalled(true),
-            Read(0x600, 0x0900_0000),
-            Swap(5000, true),
-            Waits(324, 5038),
-            Finish,
-            Waits(323, 5076),
-            // down to 320, 261 and 260
-            Finish,
-            Finish,
-            Finish,
-            Waits(320, 5190),
-            Repeat(1, 0x454, 0, 5100),
-            Waits(321, 5190),
-            Stalled(true),
-            New,
-            Done(1, 0x540, 0),
-            Repeat(261, 0x454, 0, 10),
-            Stalled(true),
-            Read(0x600, 0x0900_0000),
-            Swap(5000, true),
-            Finish,
-            Waits(260, 5076),
-            Stalled(false),
-            Read(0x600, 0x0900_0000),
-            Finish,
-            Read(0x600, 0x08FF_0000),
-        ],
-    )
-}
-
-#[test]
-fn gxstat_tells_of_what_waits(rt: HostRuntime) -> Result<(), AllocError> {
-    try_acts(
-        &rt,
-        rt.alloc(),
-        &[
-            // the count is held at 0
-            Read(0x600, 0x0600_0000),
-            Write(0x454, 0, 0),
-            Read(0x600, 0x0E00_0000),
-            Repeat(3, 0x454, 0, 0),
-            Read(0x600, 0x0E00_0000),
-            Write(0x454, 0, 0),
-            Read(0x600, 0x0A01_0000),
-            Repeat(126, 0x454, 0, 0),
-            Read(0x600, 0x0A7F_0000),
-            Half(true),
-            Write(0x454, 0, 0),
-            Read(0x600, 0x0880_0000),
-            Half(false),
-            Finish,
-            Read(0x600, 0x0A7F_0000),
-            // each kind of command that it tells of, first or not
-            New,
-            Write(0x454, 0, 0),
-            Write(0x5C0, 0, 0),
-            Read(0x600, 0x0E00_0001),
-            Write(0x444, 0, 0),
-            Read(0x600, 0x0E00_4001),
-            New,
-            Write(0x448, 0, 0),
-            Read(0x600, 0x0E00_4000),
-            Finish,
-            Write(0x5C4, 0, 0),
-            Read(0x600, 0x0E00_8001),
-            Write(0x5C4, 0, 0),
-            Finish,
-            Read(0x600, 0x0600_8000),
-            Write(0x5C8, 0, 0),
-            Read(0x600, 0x0E00_8001),
-            Finish,
-            Read(0x600, 0x0600_8000),
-            // stores, restores and swaps are none of them
-            Write(0x44C, 0, 0),
-            Write(0x450, 0, 0),
-            Write(0x540, 0, 0),
-            Read(0x600, 0x0E00_8000),
-        ],
-    )
-}
-
-#[test]
-fn gxstat_has_the_stacks_and_the_box_test(rt: HostRuntime) -> Result<(), AllocError> {
-    try_acts(
-        &rt,
-        rt.alloc(),
-        &[
-            // a pop at level 0 sets the error, which a 1 in bit 15 clears
-            Done(1, 0x448, 1),
-            Read(0x600, 0x0600_8000),
-            Write(0x600, 0xC000_7FFF, 0),
-            Read(0x600, 0xC600_8000),
-            Kept(0x600, 0xC000_0000),
-            Write(0x600, 0x8000, 0),
-            Read(0x600, 0x0600_0000),
-            Kept(0x600, 0),
-            // the projection level goes with it, the position level stays
-            Done(1, 0x444, 0),
-            Read(0x600, 0x0600_2000),
-            Done(1, 0x440, 1),
-            Done(2, 0x444, 0),
-            Read(0x600, 0x0600_2200),
-            Write(0x600, 0x8000, 0),
-            Read(0x600, 0x0600_0200),
-            // a box at the origin is seen
-            Done(1, 0x5C0, 0),
-            Done(1, 0x5C0, 0x1000_0000),
-            Done(1, 0x5C0, 0x1000_1000),
-            Read(0x600, 0x0600_0202),
-        ],
-    )
-}
-
-#[test]
-fn the_selector_chooses_the_interrupt(rt: HostRuntime) -> Result<(), AllocError> {
-    try_acts(
-        &rt,
-        rt.alloc(),
-        &[
-            Level(false),
-            Write(0x600, 0x4000_0000, 0),
-            Read(0x600, 0x4600_0000),
-            Level(true),
-            Repeat(131, 0x454, 0, 0),
-            Level(true),
-            Write(0x454, 0, 0),
-            Level(false),
-            New,
-            Write(0x600, 0x8000_0000, 0),
-            Read(0x600, 0x8600_0000),
-            Level(true),
-            Repeat(4, 0x454, 0, 0),
-            Level(true),
-            Write(0x454, 0, 0),
-            Level(false),
-            Write(0x600, 0x4000_0000, 0),
-            Level(true),
-            Write(0x600, 0xC000_0000, 0),
-            Level(false),
-            Write(0x600, 0, 0),
-            Level(false),
-        ],
-    )
-}
-
-#[test]
-fn results_and_matrices_are_read(rt: HostRuntime) -> Result<(), AllocError> {
-    try_acts(
-        &rt,
-        rt.alloc(),
-        &[
-            // (-1, 2, 3) in clip space, with w
-            Done(1, 0x5C4, 0x0002_FFFF),
-            Done(1, 0x5C4, 3),
-            Read(0x620, 0xFFFF_FFFF),
-            Read(0x624, 2),
-            Read(0x628, 3),
-            Read(0x62C, 0x1000),
-            // (511, 0, -512) of 512 parts
-            Done(1, 0x5C8, 0x2000_01FF),
-            Read(0x630, 0x0FF8),
-            Read(0x634, 0xF000),
-            // (0, -512, 511)
-            Done(1, 0x5C8, 0x1FF8_0000),
-            Read(0x630, 0xF000_0000),
-            Read(0x634, 0x0FF8),
-            // the identity moved by (1, 2, -3)
-            Done(1, 0x440, 1),
-            Done(1, 0x470, 1),
-            Done(1, 0x470, 2),
-            Done(1, 0x470, 0xFFFF_FFFD),
-            Read(0x640, 0x1000),
-            Read(0x644, 0),
-            Read(0x654, 0x1000),
-            Read(0x670, 1),
-            Read(0x674, 2),
-            Read(0x678, 0xFFFF_FFFD),
-            Read(0x67C, 0x1000),
-            // the vector matrix by rows of three
-            Done(1, 0x440, 2),
-            Done(1, 0x468, 1),
-            Done(1, 0x468, 2),
-            Done(1, 0x468, 3),
-            Done(1, 0x468, 4),
-            Done(1, 0x468, 5),
-            Done(1, 0x468, 6),
-            Done(1, 0x468, 7),
-            Done(1, 0x468, 8),
-            Done(1, 0x468, 9),
-            Read(0x680, 1),
-            Read(0x684, 2),
-            Read(0x688, 3),
-            Read(0x68C, 4),
-            Read(0x69C, 8),
-            Read(0x6A0, 9),
-            Read(0x6A4, 0),
-            // three vertices, and a polygon seen edge on
-            Done(1, 0x4A4, 0xC0),
-            Done(1, 0x500, 0),
-            Done(3, 0x4A0, 0),
-            Read(0x604, 0x0003_0001),
-        ],
-    )
-}
-
-#[test]
-fn the_lists_overflow_is_cleared_by_its_bit_alone(rt: HostRuntime) -> Result<(), AllocError> {
-    try_acts(
-        &rt,
-        rt.alloc(),
-        &[
-            Read(0x060, 0),
-            Write(0x060, 0xFFFF_FFFF, 0),
-            Read(0x060, 0x5FFF),
-            Kept(0x060, 0x5FFF),
-            Write(0x060, 0, 0),
-            Done(6144, 0x4A0, 0),
-            Read(0x060, 0),
-            Read(0x604, 0x1800_0000),
-            Done(1, 0x4A0, 0),
-            Read(0x060, 0x2000),
-            Read(0x604, 0x1800_0000),
-            Kept(0x060, 0),
-            Write(0x060, 7, 0),
-            Read(0x060, 0x2007),
-            Write(0x600, 0x8000, 0),
-            Read(0x060, 0x2007),
-            Done(1, 0x540, 0),
-            Swap(9000, true),
-            Read(0x060, 0x2007),
-            Write(0x060, 0x6001, 0),
-            Read(0x060, 0x4001),
-            Kept(0x060, 0x4001),
-        ],
-    )
+fn each_table_holds(rt: HostRuntime) -> Result<(), AllocError> {
+    let tables: [(&str, &[Act]); 9] = [
+        (
+            "a command takes its clocks from when it is complete and first",
+            &A_COMMAND_TAKES_ITS_CLOCKS_FROM_WHEN_IT_IS_COMPLETE_AND_FIRST,
+        ),
+        (
+            "packed words are taken apart from the lowest byte",
+            &PACKED_WORDS_ARE_TAKEN_APART_FROM_THE_LOWEST_BYTE,
+        ),
+        (
+            "a swap waits for line 192 and holds the next command up",
+            &A_SWAP_WAITS_FOR_LINE_192_AND_HOLDS_THE_NEXT_COMMAND_UP,
+        ),
+        (
+            "more than 260 entries hold arm9 up",
+            &MORE_THAN_260_ENTRIES_HOLD_ARM9_UP,
+        ),
+        ("gxstat tells of what waits", &GXSTAT_TELLS_OF_WHAT_WAITS),
+        (
+            "gxstat has the stacks and the box test",
+            &GXSTAT_HAS_THE_STACKS_AND_THE_BOX_TEST,
+        ),
+        (
+            "the selector chooses the interrupt",
+            &THE_SELECTOR_CHOOSES_THE_INTERRUPT,
+        ),
+        (
+            "results and matrices are read",
+            &RESULTS_AND_MATRICES_ARE_READ,
+        ),
+        (
+            "the lists overflow is cleared by its bit alone",
+            &THE_LISTS_OVERFLOW_IS_CLEARED_BY_ITS_BIT_ALONE,
+        ),
+    ];
+    for (table, lines) in tables {
+        try_acts(&rt, rt.alloc(), table, lines)?;
+    }
+    Ok(())
 }

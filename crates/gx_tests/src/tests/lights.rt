@@ -4,163 +4,156 @@ use super::{Line, try_lines};
 use Line::{Coloured, Give, Lit, Many, New, Three, Vector};
 use std::alloc::AllocError;
 
-#[test]
-fn each_light_term_is_its_own(rt: HostRuntime) -> Result<(), AllocError> {
-    try_lines(
-        &rt,
-        rt.alloc(),
-        &[
-            Lit(1, 0x2000_0000, 0x7FFF, 0x001F, 0, 0x1FF0_0000, 29),
-            Lit(1, 0x2000_0000, 0x7FFF, 0x001F, 0, 0x2010_0000, 0),
-            Lit(0, 0x2000_0000, 0x7FFF, 0x001F, 0, 0x1FF0_0000, 0),
-            Lit(1, 0x2000_0000, 0x7C00, 0x001F, 0, 0x1FF0_0000, 0),
-            Lit(1, 0x2000_0000, 0x7FFF, 0x0010_0000, 0, 0, 15),
-            Lit(1, 0x2000_0000, 0x7FFF, 0x0010_0000, 0, 0x1FF0_0000, 15),
-            Lit(0, 0x2000_0000, 0x7FFF, 0, 0x00A0_0000, 0x1FF0_0000, 0xA0),
-            Lit(1, 0x2000_0000, 0x7FFF, 0, 0x0000_001F, 0x1FF0_0000, 29),
-            Lit(1, 0, 0x7FFF, 0, 0x0000_001F, 0x1FF0_0000, 7),
-            Lit(1, 0x2000_0000, 0x7FFF, 0, 0x0000_801F, 0x1FF0_0000, 11),
-            Lit(1, 0, 0x7FFF, 0, 0x0000_801F, 0x1FF0_0000, 5),
-            Lit(1, 0x2000_0000, 0x7FFF, 0x001F, 0x001F_0000, 0x1FF0_0000, 31),
-            Lit(2, 0x2000_0000, 0x7FFF, 0x001F, 0, 0x1FF0_0000, 0),
-        ],
-    )
-}
+const EACH_LIGHT_TERM_IS_ITS_OWN: [Line; 13] = [
+    Lit(1, 0x2000_0000, 0x7FFF, 0x001F, 0, 0x1FF0_0000, 29),
+    Lit(1, 0x2000_0000, 0x7FFF, 0x001F, 0, 0x2010_0000, 0),
+    Lit(0, 0x2000_0000, 0x7FFF, 0x001F, 0, 0x1FF0_0000, 0),
+    Lit(1, 0x2000_0000, 0x7C00, 0x001F, 0, 0x1FF0_0000, 0),
+    Lit(1, 0x2000_0000, 0x7FFF, 0x0010_0000, 0, 0, 15),
+    Lit(1, 0x2000_0000, 0x7FFF, 0x0010_0000, 0, 0x1FF0_0000, 15),
+    Lit(0, 0x2000_0000, 0x7FFF, 0, 0x00A0_0000, 0x1FF0_0000, 0xA0),
+    Lit(1, 0x2000_0000, 0x7FFF, 0, 0x0000_001F, 0x1FF0_0000, 29),
+    Lit(1, 0, 0x7FFF, 0, 0x0000_001F, 0x1FF0_0000, 7),
+    Lit(1, 0x2000_0000, 0x7FFF, 0, 0x0000_801F, 0x1FF0_0000, 11),
+    Lit(1, 0, 0x7FFF, 0, 0x0000_801F, 0x1FF0_0000, 5),
+    Lit(1, 0x2000_0000, 0x7FFF, 0x001F, 0x001F_0000, 0x1FF0_0000, 31),
+    Lit(2, 0x2000_0000, 0x7FFF, 0x001F, 0, 0x1FF0_0000, 0),
+];
+
+const LIGHTS_AND_NORMALS_ARE_TURNED_BY_THE_VECTOR_MATRIX_OF_THEIR_TIME: [Line; 54] = [
+    New,
+    Give(0x29, 1),
+    Give(0x40, 0),
+    Give(0x10, 2),
+    Give(0x32, 0x2000_0000),
+    Give(0x33, 0x00007FFF),
+    Give(0x30, 0x1F),
+    Three(0, 0, 0x1000),
+    Three(0, 0x1000, 0),
+    Three(0x1000, 0, 0),
+    Many(0x1A),
+    Give(0x21, 0x0000_01FF),
+    Give(0x28, 0),
+    Coloured(29),
+    Give(0x72, 0x0000_01FF),
+    Vector(0, 0, 4_088),
+    New,
+    Give(0x29, 8),
+    Give(0x40, 0),
+    Give(0x10, 2),
+    Give(0x32, 0xE000_0000),
+    Give(0x33, 0xC0007FFF),
+    Give(0x30, 0x1F),
+    Three(0, 0, 0x1000),
+    Three(0, 0x1000, 0),
+    Three(0x1000, 0, 0),
+    Many(0x1A),
+    Give(0x21, 0x0000_01FF),
+    Give(0x28, 0),
+    Coloured(29),
+    Give(0x72, 0x0000_01FF),
+    Vector(0, 0, 4_088),
+    New,
+    Give(0x29, 1),
+    Give(0x40, 0),
+    Give(0x10, 2),
+    Give(0x32, 0x2000_0000),
+    Give(0x33, 0x00007FFF),
+    Give(0x30, 0x1F),
+    Give(0x21, 0x0000_01FF),
+    Give(0x28, 0),
+    Coloured(0),
+    Give(0x72, 0x0000_01FF),
+    Vector(4_088, 0, 0),
+    New,
+    Give(0x72, 0x3FF7_FE00),
+    Vector(-4_096, 4_088, -8),
+    Give(0x10, 2),
+    Three(0x2000, 0, 0),
+    Three(0, 0x2000, 0),
+    Three(0, 0, 1),
+    Many(0x1A),
+    Give(0x72, 0x3FF7_FE00),
+    Vector(0, -16, -1),
+];
+
+const LEVELS_ARE_HELD_AND_THE_HALF_VECTOR_IS_HALVED: [Line; 6] = [
+    // l n is -2 * 511 * 512, more than enough: 511 is the most, and 17 * 17 * 511 / 16384 is 9
+    Lit(1, 0x0008_0200, 0x0011, 0x0011, 0, 0x0007_FDFF, 9),
+    // so it is at 511 itself
+    Lit(1, 0x0000_0200, 0x0011, 0x0011, 0, 0x0000_01FF, 9),
+    // and one less gives 8
+    Lit(1, 0x0000_0201, 0x0011, 0x0011, 0, 0x0000_01FF, 8),
+    // the specular level of 511 is its square by 512, 510: 17 * 17 * 510 / 16384 is 8
+    Lit(1, 0x2000_0200, 0x0011, 0, 0x0000_0011, 0x1FF0_01FF, 8),
+    // the half vector of -512, 0, 0 is -256, 0, -256: 255, whose square by 512 is 127, gives 7
+    Lit(1, 0x0000_0200, 0x7FFF, 0, 0x0000_001F, 0x0000_01FF, 7),
+    // and of 0, -512, 0 likewise
+    Lit(1, 0x0008_0000, 0x7FFF, 0, 0x0000_001F, 0x0007_FC00, 7),
+];
+
+const LIGHTS_ARE_IN_FORCE_BY_THE_RUNS_ATTRIBUTES: [Line; 35] = [
+    // set before the run, the light is in force
+    Give(0x29, 1),
+    Give(0x40, 0),
+    Give(0x32, 0x2000_0000),
+    Give(0x33, 0x7FFF),
+    Give(0x30, 0x1F),
+    Give(0x21, 0x1FF0_0000),
+    Give(0x28, 0),
+    Coloured(29),
+    // set to none since, it still is
+    Give(0x29, 0),
+    Give(0x21, 0x1FF0_0000),
+    Give(0x28, 0),
+    Coloured(29),
+    // from the next run on it isn't
+    Give(0x40, 0),
+    Give(0x21, 0x1FF0_0000),
+    Give(0x28, 0),
+    Coloured(0),
+    // and set again it isn't before another
+    Give(0x29, 1),
+    Give(0x21, 0x1FF0_0000),
+    Give(0x28, 0),
+    Coloured(0),
+    Give(0x40, 3),
+    Give(0x21, 0x1FF0_0000),
+    Give(0x28, 0),
+    Coloured(29),
+    // two lights in force add up, held to 31
+    Give(0x29, 3),
+    Give(0x40, 0),
+    Give(0x32, 0x6000_0000),
+    Give(0x33, 0x4000_0001),
+    Give(0x21, 0x1FF0_0000),
+    Give(0x28, 0),
+    Coloured(29),
+    Give(0x33, 0x4000_001F),
+    Give(0x21, 0x1FF0_0000),
+    Give(0x28, 0),
+    Coloured(31),
+];
 
 #[test]
-fn lights_and_normals_are_turned_by_the_vector_matrix_of_their_time(
-    rt: HostRuntime,
-) -> Result<(), AllocError> {
-    try_lines(
-        &rt,
-        rt.alloc(),
-        &[
-            New,
-            Give(0x29, 1),
-            Give(0x40, 0),
-            Give(0x10, 2),
-            Give(0x32, 0x2000_0000),
-            Give(0x33, 0x00007FFF),
-            Give(0x30, 0x1F),
-            Three(0, 0, 0x1000),
-            Three(0, 0x1000, 0),
-            Three(0x1000, 0, 0),
-            Many(0x1A),
-            Give(0x21, 0x0000_01FF),
-            Give(0x28, 0),
-            Coloured(29),
-            Give(0x72, 0x0000_01FF),
-            Vector(0, 0, 4_088),
-            New,
-            Give(0x29, 8),
-            Give(0x40, 0),
-            Give(0x10, 2),
-            Give(0x32, 0xE000_0000),
-            Give(0x33, 0xC0007FFF),
-            Give(0x30, 0x1F),
-            Three(0, 0, 0x1000),
-            Three(0, 0x1000, 0),
-            Three(0x1000, 0, 0),
-            Many(0x1A),
-            Give(0x21, 0x0000_01FF),
-            Give(0x28, 0),
-            Coloured(29),
-            Give(0x72, 0x0000_01FF),
-            Vector(0, 0, 4_088),
-            New,
-            Give(0x29, 1),
-            Give(0x40, 0),
-            Give(0x10, 2),
-            Give(0x32, 0x2000_0000),
-            Give(0x33, 0x00007FFF),
-            Give(0x30, 0x1F),
-            Give(0x21, 0x0000_01FF),
-            Give(0x28, 0),
-            Coloured(0),
-            Give(0x72, 0x0000_01FF),
-            Vector(4_088, 0, 0),
-            New,
-            Give(0x72, 0x3FF7_FE00),
-            Vector(-4_096, 4_088, -8),
-            Give(0x10, 2),
-            Three(0x2000, 0, 0),
-            Three(0, 0x2000, 0),
-            Three(0, 0, 1),
-            Many(0x1A),
-            Give(0x72, 0x3FF7_FE00),
-            Vector(0, -16, -1),
-        ],
-    )
-}
-
-#[test]
-fn levels_are_held_and_the_half_vector_is_halved(rt: HostRuntime) -> Result<(), AllocError> {
-    try_lines(
-        &rt,
-        rt.alloc(),
-        &[
-            // l n is -2 * 511 * 512, more than enough: 511 is the most, and 17 * 17 * 511 / 16384 is 9
-            Lit(1, 0x0008_0200, 0x0011, 0x0011, 0, 0x0007_FDFF, 9),
-            // so it is at 511 itself
-            Lit(1, 0x0000_0200, 0x0011, 0x0011, 0, 0x0000_01FF, 9),
-            // and one less gives 8
-            Lit(1, 0x0000_0201, 0x0011, 0x0011, 0, 0x0000_01FF, 8),
-            // the specular level of 511 is its square by 512, 510: 17 * 17 * 510 / 16384 is 8
-            Lit(1, 0x2000_0200, 0x0011, 0, 0x0000_0011, 0x1FF0_01FF, 8),
-            // the half vector of -512, 0, 0 is -256, 0, -256: 255, whose square by 512 is 127, gives 7
-            Lit(1, 0x0000_0200, 0x7FFF, 0, 0x0000_001F, 0x0000_01FF, 7),
-            // and of 0, -512, 0 likewise
-            Lit(1, 0x0008_0000, 0x7FFF, 0, 0x0000_001F, 0x0007_FC00, 7),
-        ],
-    )
-}
-
-#[test]
-fn lights_are_in_force_by_the_runs_attributes(rt: HostRuntime) -> Result<(), AllocError> {
-    try_lines(
-        &rt,
-        rt.alloc(),
-        &[
-            // set before the run, the light is in force
-            Give(0x29, 1),
-            Give(0x40, 0),
-            Give(0x32, 0x2000_0000),
-            Give(0x33, 0x7FFF),
-            Give(0x30, 0x1F),
-            Give(0x21, 0x1FF0_0000),
-            Give(0x28, 0),
-            Coloured(29),
-            // set to none since, it still is
-            Give(0x29, 0),
-            Give(0x21, 0x1FF0_0000),
-            Give(0x28, 0),
-            Coloured(29),
-            // from the next run on it isn't
-            Give(0x40, 0),
-            Give(0x21, 0x1FF0_0000),
-            Give(0x28, 0),
-            Coloured(0),
-            // and set again it isn't before another
-            Give(0x29, 1),
-            Give(0x21, 0x1FF0_0000),
-            Give(0x28, 0),
-            Coloured(0),
-            Give(0x40, 3),
-            Give(0x21, 0x1FF0_0000),
-            Give(0x28, 0),
-            Coloured(29),
-            // two lights in force add up, held to 31
-            Give(0x29, 3),
-            Give(0x40, 0),
-            Give(0x32, 0x6000_0000),
-            Give(0x33, 0x4000_0001),
-            Give(0x21, 0x1FF0_0000),
-            Give(0x28, 0),
-            Coloured(29),
-            Give(0x33, 0x4000_001F),
-            Give(0x21, 0x1FF0_0000),
-            Give(0x28, 0),
-            Coloured(31),
-        ],
-    )
+fn each_table_holds(rt: HostRuntime) -> Result<(), AllocError> {
+    let tables: [(&str, &[Line]); 4] = [
+        ("each light term is its own", &EACH_LIGHT_TERM_IS_ITS_OWN),
+        (
+            "lights and normals are turned by the vector matrix of their time",
+            &LIGHTS_AND_NORMALS_ARE_TURNED_BY_THE_VECTOR_MATRIX_OF_THEIR_TIME,
+        ),
+        (
+            "levels are held and the half vector is halved",
+            &LEVELS_ARE_HELD_AND_THE_HALF_VECTOR_IS_HALVED,
+        ),
+        (
+            "lights are in force by the runs attributes",
+            &LIGHTS_ARE_IN_FORCE_BY_THE_RUNS_ATTRIBUTES,
+        ),
+    ];
+    for (table, lines) in tables {
+        try_lines(&rt, rt.alloc(), table, lines)?;
+    }
+    Ok(())
 }

@@ -7,185 +7,173 @@ use Line::{
 };
 use std::alloc::AllocError;
 
-#[test]
-fn vertex_commands_give_their_numbers_and_keep_the_others(
-    rt: HostRuntime,
-) -> Result<(), AllocError> {
-    try_lines(
-        &rt,
-        rt.alloc(),
-        &[
-            Pair(0x23, 0x8000_7FFF, 0x1234_FFFF),
-            Last(0x7FFF, -0x8000, -1, 0x1000),
-            Give(0x28, 0x002F_FC01),
-            Last(-0x8000, 0x7FFF, 1, 0x1000),
-            Give(0x24, 0x0018_01FF),
-            Last(32_704, -32_768, 64, 0x1000),
-            Give(0x25, 0xFFFA_0005),
-            Last(5, -6, 64, 0x1000),
-            Give(0x26, 0x0008_0007),
-            Last(7, -6, 8, 0x1000),
-            Give(0x27, 0x000A_0009),
-            Last(7, 9, 10, 0x1000),
-            Give(0x28, 0x2000_0BFF),
-            Last(6, 11, -502, 0x1000),
-            Pair(0x71, 0x0002_0001, 3),
-            Position(1, 2, 3, 0x1000),
-            Swap(9),
-            Lists(0, 0),
-            Give(0x25, 0x0005_0004),
-            Last(4, 5, 3, 0x1000),
-        ],
-    )
-}
+const VERTEX_COMMANDS_GIVE_THEIR_NUMBERS_AND_KEEP_THE_OTHERS: [Line; 20] = [
+    Pair(0x23, 0x8000_7FFF, 0x1234_FFFF),
+    Last(0x7FFF, -0x8000, -1, 0x1000),
+    Give(0x28, 0x002F_FC01),
+    Last(-0x8000, 0x7FFF, 1, 0x1000),
+    Give(0x24, 0x0018_01FF),
+    Last(32_704, -32_768, 64, 0x1000),
+    Give(0x25, 0xFFFA_0005),
+    Last(5, -6, 64, 0x1000),
+    Give(0x26, 0x0008_0007),
+    Last(7, -6, 8, 0x1000),
+    Give(0x27, 0x000A_0009),
+    Last(7, 9, 10, 0x1000),
+    Give(0x28, 0x2000_0BFF),
+    Last(6, 11, -502, 0x1000),
+    Pair(0x71, 0x0002_0001, 3),
+    Position(1, 2, 3, 0x1000),
+    Swap(9),
+    Lists(0, 0),
+    Give(0x25, 0x0005_0004),
+    Last(4, 5, 3, 0x1000),
+];
 
-#[test]
-fn a_box_is_seen_unless_all_of_it_lies_past_one_plane(rt: HostRuntime) -> Result<(), AllocError> {
-    try_lines(
-        &rt,
-        rt.alloc(),
-        &[
-            Box(0, 0x1000_0000, 0x1000_1000, true),
-            Box(0x2000, 0x1000_0000, 0x1000_1000, false),
-            Box(0x1000, 0x1000_0000, 0x1000_1000, true),
-            Box(0x1001, 0x1000_0000, 0x1000_1000, false),
-            Box(0xE000, 0x1000_0000, 0x1000_1000, true),
-            Box(0xDFFF, 0x1000_0000, 0x1000_1000, false),
-            Box(0x1001_0000, 0x1000_0000, 0x1000_1000, false),
-            Box(0xDFFF_0000, 0x1000_0000, 0x1000_1000, false),
-            Box(0, 0x1000_1001, 0x1000_1000, false),
-            Box(0, 0x1000_DFFF, 0x1000_1000, false),
-            Box(0xC000_C000, 0x7FFF_C000, 0x7FFF_7FFF, true),
-            Box(0x7000, 0x2000_0000, 0x1000_1000, true),
-            Run(0x41),
-            Inside(true),
-            NoCommand(0x42),
-            Give(0x12, 0x1F),
-            Levels(0, true),
-            ClearError,
-            Levels(0, false),
-        ],
-    )
-}
+const A_BOX_IS_SEEN_UNLESS_ALL_OF_IT_LIES_PAST_ONE_PLANE: [Line; 19] = [
+    Box(0, 0x1000_0000, 0x1000_1000, true),
+    Box(0x2000, 0x1000_0000, 0x1000_1000, false),
+    Box(0x1000, 0x1000_0000, 0x1000_1000, true),
+    Box(0x1001, 0x1000_0000, 0x1000_1000, false),
+    Box(0xE000, 0x1000_0000, 0x1000_1000, true),
+    Box(0xDFFF, 0x1000_0000, 0x1000_1000, false),
+    Box(0x1001_0000, 0x1000_0000, 0x1000_1000, false),
+    Box(0xDFFF_0000, 0x1000_0000, 0x1000_1000, false),
+    Box(0, 0x1000_1001, 0x1000_1000, false),
+    Box(0, 0x1000_DFFF, 0x1000_1000, false),
+    Box(0xC000_C000, 0x7FFF_C000, 0x7FFF_7FFF, true),
+    Box(0x7000, 0x2000_0000, 0x1000_1000, true),
+    Run(0x41),
+    Inside(true),
+    NoCommand(0x42),
+    Give(0x12, 0x1F),
+    Levels(0, true),
+    ClearError,
+    Levels(0, false),
+];
 
 // Coordinates are 10 and -20; the matrix's first two columns are 2, 3, 1, 1 and 1, 0.5, 0, a little less than 0.
-#[test]
-fn texture_coordinates_go_by_their_mode(rt: HostRuntime) -> Result<(), AllocError> {
-    try_lines(
-        &rt,
-        rt.alloc(),
-        &[
-            Mapped(0, 0x100, 0x1000, 10, -20),
-            Mapped(1, 0x100, 0x1000, -38, -1),
-            Mapped(2, 0x100, 0x1000, 26, -12),
-            Mapped(2, 0x3FF, 0x1000, 9, -21),
-            Mapped(3, 0x100, 0x1000, 42, -4),
-            Mapped(3, 0x100, 0xFFFF, 9, -21),
-        ],
-    )
-}
+const TEXTURE_COORDINATES_GO_BY_THEIR_MODE: [Line; 6] = [
+    Mapped(0, 0x100, 0x1000, 10, -20),
+    Mapped(1, 0x100, 0x1000, -38, -1),
+    Mapped(2, 0x100, 0x1000, 26, -12),
+    Mapped(2, 0x3FF, 0x1000, 9, -21),
+    Mapped(3, 0x100, 0x1000, 42, -4),
+    Mapped(3, 0x100, 0xFFFF, 9, -21),
+];
+
+const TRANSFORMS_START_FROM_THE_COORDINATES_AS_THEY_WERE_GIVEN: [Line; 26] = [
+    Give(0x10, 3),
+    Four(0x2000, 0x1000, 0, 0),
+    Four(0x3000, 0x800, 0, 0),
+    Four(0x1000, 0, 0, 0),
+    Four(0x1000, 0xFFFF_FFFF, 0, 0),
+    Many(0x16),
+    // mode 1 transforms when 22h comes; a normal and a vertex leave that
+    Give(0x2A, 0x4000_0000),
+    Give(0x22, 0xFFEC_000A),
+    Give(0x21, 0x100),
+    Pair(0x23, 0x1000, 0),
+    Textured(-38, -1),
+    // modes 2 and 3 start from what was given, not from what was transformed
+    Give(0x2A, 0x8000_0000),
+    Give(0x21, 0x100),
+    Pair(0x23, 0x1000, 0),
+    Textured(26, -12),
+    Give(0x2A, 0xC000_0000),
+    Pair(0x23, 0x1000, 0),
+    Textured(42, -4),
+    // the next vertex starts there again
+    Pair(0x23, 0x2000, 0),
+    Textured(74, 12),
+    // and without a transform the last ones stay
+    Give(0x2A, 0),
+    Pair(0x23, 0x1000, 0),
+    Textured(74, 12),
+    Give(0x22, 0xFFEC_000A),
+    Pair(0x23, 0x1000, 0),
+    Textured(10, -20),
+];
+
+const EACH_COMMAND_HAS_ITS_ROW: [Line; 52] = [
+    // every command with its parameters and clocks
+    Command(0x10, 1, 1),
+    Command(0x11, 0, 17),
+    Command(0x12, 1, 36),
+    Command(0x13, 1, 17),
+    Command(0x14, 1, 36),
+    Command(0x15, 0, 19),
+    Command(0x16, 16, 34),
+    Command(0x17, 12, 30),
+    Command(0x18, 16, 35),
+    Command(0x19, 12, 31),
+    Command(0x1A, 9, 28),
+    Command(0x1B, 3, 22),
+    Command(0x1C, 3, 22),
+    Command(0x20, 1, 1),
+    Command(0x21, 1, 9),
+    Command(0x22, 1, 1),
+    Command(0x23, 2, 9),
+    Command(0x24, 1, 8),
+    Command(0x25, 1, 8),
+    Command(0x26, 1, 8),
+    Command(0x27, 1, 8),
+    Command(0x28, 1, 8),
+    Command(0x29, 1, 1),
+    Command(0x2A, 1, 1),
+    Command(0x2B, 1, 1),
+    Command(0x30, 1, 4),
+    Command(0x31, 1, 4),
+    Command(0x32, 1, 6),
+    Command(0x33, 1, 1),
+    Command(0x34, 32, 32),
+    Command(0x40, 1, 1),
+    Command(0x41, 0, 1),
+    Command(0x50, 1, 392),
+    Command(0x60, 1, 1),
+    Command(0x70, 3, 103),
+    Command(0x71, 2, 9),
+    Command(0x72, 1, 5),
+    NoCommand(0x00),
+    NoCommand(0x0F),
+    NoCommand(0x1D),
+    NoCommand(0x1F),
+    NoCommand(0x2C),
+    NoCommand(0x2F),
+    NoCommand(0x35),
+    NoCommand(0x3F),
+    NoCommand(0x42),
+    NoCommand(0x4F),
+    NoCommand(0x51),
+    NoCommand(0x61),
+    NoCommand(0x6F),
+    NoCommand(0x73),
+    NoCommand(0xFF),
+];
 
 #[test]
-fn transforms_start_from_the_coordinates_as_they_were_given(
-    rt: HostRuntime,
-) -> Result<(), AllocError> {
-    try_lines(
-        &rt,
-        rt.alloc(),
-        &[
-            Give(0x10, 3),
-            Four(0x2000, 0x1000, 0, 0),
-            Four(0x3000, 0x800, 0, 0),
-            Four(0x1000, 0, 0, 0),
-            Four(0x1000, 0xFFFF_FFFF, 0, 0),
-            Many(0x16),
-            // mode 1 transforms when 22h comes; a normal and a vertex leave that
-            Give(0x2A, 0x4000_0000),
-            Give(0x22, 0xFFEC_000A),
-            Give(0x21, 0x100),
-            Pair(0x23, 0x1000, 0),
-            Textured(-38, -1),
-            // modes 2 and 3 start from what was given, not from what was transformed
-            Give(0x2A, 0x8000_0000),
-            Give(0x21, 0x100),
-            Pair(0x23, 0x1000, 0),
-            Textured(26, -12),
-            Give(0x2A, 0xC000_0000),
-            Pair(0x23, 0x1000, 0),
-            Textured(42, -4),
-            // the next vertex starts there again
-            Pair(0x23, 0x2000, 0),
-            Textured(74, 12),
-            // and without a transform the last ones stay
-            Give(0x2A, 0),
-            Pair(0x23, 0x1000, 0),
-            Textured(74, 12),
-            Give(0x22, 0xFFEC_000A),
-            Pair(0x23, 0x1000, 0),
-            Textured(10, -20),
-        ],
-    )
-}
-
-#[test]
-fn each_command_has_its_row(rt: HostRuntime) -> Result<(), AllocError> {
-    try_lines(
-        &rt,
-        rt.alloc(),
-        &[
-            // every command with its parameters and clocks
-            Command(0x10, 1, 1),
-            Command(0x11, 0, 17),
-            Command(0x12, 1, 36),
-            Command(0x13, 1, 17),
-            Command(0x14, 1, 36),
-            Command(0x15, 0, 19),
-            Command(0x16, 16, 34),
-            Command(0x17, 12, 30),
-            Command(0x18, 16, 35),
-            Command(0x19, 12, 31),
-            Command(0x1A, 9, 28),
-            Command(0x1B, 3, 22),
-            Command(0x1C, 3, 22),
-            Command(0x20, 1, 1),
-            Command(0x21, 1, 9),
-            Command(0x22, 1, 1),
-            Command(0x23, 2, 9),
-            Command(0x24, 1, 8),
-            Command(0x25, 1, 8),
-            Command(0x26, 1, 8),
-            Command(0x27, 1, 8),
-            Command(0x28, 1, 8),
-            Command(0x29, 1, 1),
-            Command(0x2A, 1, 1),
-            Command(0x2B, 1, 1),
-            Command(0x30, 1, 4),
-            Command(0x31, 1, 4),
-            Command(0x32, 1, 6),
-            Command(0x33, 1, 1),
-            Command(0x34, 32, 32),
-            Command(0x40, 1, 1),
-            Command(0x41, 0, 1),
-            Command(0x50, 1, 392),
-            Command(0x60, 1, 1),
-            Command(0x70, 3, 103),
-            Command(0x71, 2, 9),
-            Command(0x72, 1, 5),
-            NoCommand(0x00),
-            NoCommand(0x0F),
-            NoCommand(0x1D),
-            NoCommand(0x1F),
-            NoCommand(0x2C),
-            NoCommand(0x2F),
-            NoCommand(0x35),
-            NoCommand(0x3F),
-            NoCommand(0x42),
-            NoCommand(0x4F),
-            NoCommand(0x51),
-            NoCommand(0x61),
-            NoCommand(0x6F),
-            NoCommand(0x73),
-            NoCommand(0xFF),
-        ],
-    )
+fn each_table_holds(rt: HostRuntime) -> Result<(), AllocError> {
+    let tables: [(&str, &[Line]); 5] = [
+        (
+            "vertex commands give their numbers and keep the others",
+            &VERTEX_COMMANDS_GIVE_THEIR_NUMBERS_AND_KEEP_THE_OTHERS,
+        ),
+        (
+            "a box is seen unless all of it lies past one plane",
+            &A_BOX_IS_SEEN_UNLESS_ALL_OF_IT_LIES_PAST_ONE_PLANE,
+        ),
+        (
+            "texture coordinates go by their mode",
+            &TEXTURE_COORDINATES_GO_BY_THEIR_MODE,
+        ),
+        (
+            "transforms start from the coordinates as they were given",
+            &TRANSFORMS_START_FROM_THE_COORDINATES_AS_THEY_WERE_GIVEN,
+        ),
+        ("each command has its row", &EACH_COMMAND_HAS_ITS_ROW),
+    ];
+    for (table, lines) in tables {
+        try_lines(&rt, rt.alloc(), table, lines)?;
+    }
+    Ok(())
 }

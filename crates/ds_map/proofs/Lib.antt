@@ -2,4 +2,3 @@ pub mod Mains
 pub mod Reached
 pub mod Later
 pub mod TakenBack
-pub mod Built

@@ -1,5 +1,4 @@
 pub mod Maps
 pub mod Accesses
 pub mod Views
-pub mod Builds
 pub mod Moves

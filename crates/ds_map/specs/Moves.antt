@@ -1,14 +1,11 @@
-use Rattle.std.specs.Prelude.{ℕ, List, [], ◌∷◌, Option, Some, None}
-use Rattle.ds_base.specs.Accesses.{Access, Read, Write}
+use Rattle.std.specs.Prelude.{Option, Some, None}
 use Rattle.ds_base.specs.declared.left_out.Stop.{Stop}
 use Rattle.ds_base.specs.declared.processors.Proc.{Proc}
 use Rattle.ds_base.specs.declared.ticks.Tick.{Tick}
-use Rattle.arm_core.specs.Footprints.{accessed_bytes, first_without}
 use Rattle.ds_dma.specs.Channels.{unit_of}
 use Rattle.ds_dma.specs.States.{due_channel}
 use Rattle.ds_dma.specs.declared.channels.Unit.{Unit as DmaUnit}
 use Rattle.ds_map.specs.Accesses.{map_read, map_refusal, map_value, map_written}
-use Rattle.ds_map.specs.Builds.{map_is_built}
 use Rattle.ds_map.specs.Maps.{MapState}
 use Rattle.ds_ports.specs.Io.{IoState, channel_moved, io_of}
 
@@ -18,13 +15,6 @@ use Rattle.ds_ports.specs.Io.{IoState, channel_moved, io_of}
 -- the unit that the channel of a processor that is due moves
 abbrev pub next_unit : IoState → Proc → DmaUnit
 next_unit u proc = unit_of (due_channel (io_of u proc).dma) 0
-
--- the address of the first byte of it whose place isn't built, of what is read and then of what is written
-abbrev pub accesses_of_unit : DmaUnit → List Access
-accesses_of_unit unit = Read unit.from unit.width ∷ Write unit.to unit.width 0 ∷ []
-
-unfoldable pub unit_needs : Proc → ℕ → DmaUnit → Option ℕ
-unit_needs proc wramcnt unit = first_without (map_is_built proc wramcnt) (accessed_bytes (accesses_of_unit unit))
 
 -- the map after it was read, and after it was taken too
 abbrev pub unit_read : Proc → DmaUnit → MapState → MapState

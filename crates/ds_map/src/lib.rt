@@ -7,13 +7,10 @@
 #![tactic(auto)]
 
 mod blocks;
-mod builds;
 mod maps;
 mod moves;
 mod views;
 
 pub use blocks::Block;
-pub use builds::{first_unbuilt, first_unbuilt_past};
 pub use maps::Map;
-pub use moves::unit_needs;
 pub use views::{NineView, SevenView, fetched_by_nine};

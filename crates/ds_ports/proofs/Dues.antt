@@ -12,13 +12,13 @@ use Rattle.ds_runs.specs.declared.actors.Actor.TheVariants.{Video}
 use Rattle.ds_runs.specs.Order.{due_with_rank, earlier, first_from}
 use Rattle.ds_runs.proofs.Firsts.{first_of_append}
 use Rattle.ds_timers.specs.Timing.{timer_at, timer_due}
-use Rattle.ds_ports.specs.Dues.{first_io_due, io_due}
+use Rattle.ds_ports.specs.Dues.{dma_due_in, first_io_due, io_due}
 use Rattle.ds_ports.specs.Inside.{moves_dues}
 use Rattle.ds_ports.specs.ProcessorIo.{ProcessorIoState, haltcnt_written, ie_written, if_written, ime_written, keycnt_written, kept_keycnt, keys_hold, keys_told}
 use Rattle.ds_ports.specs.Registers.{after_write, meaning_of}
 use Rattle.ds_ports.specs.Io.{IoState, keys_pressed, io_of, with_halted, with_io_of}
 use Rattle.ds_ports.specs.declared.registers.Register.{Register}
-use Rattle.ds_ports.specs.declared.registers.Register.TheVariants.{DisplayHalf, DisplayWord, Dmasad, Dmadad, Dmacnt, TmcntL, TmcntH, Keycnt, Ipcfiforecv, Ime, Ie, If, Divcnt, DivNumer, DivDenom, Sqrtcnt, SqrtParam, Haltcnt}
+use Rattle.ds_ports.specs.declared.registers.Register.TheVariants.{DisplayHalf, DisplayWord, Dmasad, Dmadad, Dmacnt, TmcntL, TmcntH, Keycnt, Ipcfiforecv, Ime, Ie, If, Divcnt, DivNumer, DivDenom, Sqrtcnt, SqrtParam, GxWord, GxCommand, Haltcnt}
 use Rattle.vram_banks.specs.Cells.{Banks}
 use Rattle.ds_ports.proofs.DisplayPorts.{written_scan}
 
@@ -74,26 +74,27 @@ pub first_by_parts : (u : IoState) → first_io_due u
     (earlier (first_from 6 (timer_due (timer_at u.seven.timers 0) ∷ timer_due (timer_at u.seven.timers 1) ∷ timer_due (timer_at u.seven.timers 2) ∷ timer_due (timer_at u.seven.timers 3) ∷ []))
     (earlier (due_with_rank 10 u.divider.due)
     (earlier (due_with_rank 11 u.root.due)
-    (earlier (first_from 14 (channel_due u.nine.dma 0 ∷ channel_due u.nine.dma 1 ∷ channel_due u.nine.dma 2 ∷ channel_due u.nine.dma 3 ∷ []))
-    (first_from 18 (channel_due u.seven.dma 0 ∷ channel_due u.seven.dma 1 ∷ channel_due u.seven.dma 2 ∷ channel_due u.seven.dma 3 ∷ [])))))))
+    (earlier (due_with_rank 12 u.gx.due)
+    (earlier (first_from 14 (dma_due_in u Nine 0 ∷ dma_due_in u Nine 1 ∷ dma_due_in u Nine 2 ∷ dma_due_in u Nine 3 ∷ []))
+    (first_from 18 (channel_due u.seven.dma 0 ∷ channel_due u.seven.dma 1 ∷ channel_due u.seven.dma 2 ∷ channel_due u.seven.dma 3 ∷ []))))))))
 unfolding first_io_due
 first_by_parts u =
     let n : List (Option Tick) = timer_due (timer_at u.nine.timers 0) ∷ timer_due (timer_at u.nine.timers 1) ∷ timer_due (timer_at u.nine.timers 2) ∷ timer_due (timer_at u.nine.timers 3) ∷ [] in
     let s : List (Option Tick) = timer_due (timer_at u.seven.timers 0) ∷ timer_due (timer_at u.seven.timers 1) ∷ timer_due (timer_at u.seven.timers 2) ∷ timer_due (timer_at u.seven.timers 3) ∷ [] in
-    let nd : List (Option Tick) = channel_due u.nine.dma 0 ∷ channel_due u.nine.dma 1 ∷ channel_due u.nine.dma 2 ∷ channel_due u.nine.dma 3 ∷ [] in
+    let nd : List (Option Tick) = dma_due_in u Nine 0 ∷ dma_due_in u Nine 1 ∷ dma_due_in u Nine 2 ∷ dma_due_in u Nine 3 ∷ [] in
     let sd : List (Option Tick) = channel_due u.seven.dma 0 ∷ channel_due u.seven.dma 1 ∷ channel_due u.seven.dma 2 ∷ channel_due u.seven.dma 3 ∷ [] in
-    let maths : List (Option Tick) = u.divider.due ∷ u.root.due ∷ None ∷ None ∷ nd ++ sd in
+    let maths : List (Option Tick) = u.divider.due ∷ u.root.due ∷ u.gx.due ∷ None ∷ nd ++ sd in
     let video : Option Due = due_with_rank 1 (io_due Video u) in
     ap (λ (d : Option Due). earlier video d) (first_of_append 2 n (s ++ maths)
     ∙ ap (λ (d : Option Due). earlier (first_from 2 n) d) (first_of_append 6 s maths)
-    ∙ ap (λ (d : Option Due). earlier (first_from 2 n) (earlier (first_from 6 s) (earlier (due_with_rank 10 u.divider.due) (earlier (due_with_rank 11 u.root.due) d)))) (first_of_append 14 nd sd))
+    ∙ ap (λ (d : Option Due). earlier (first_from 2 n) (earlier (first_from 6 s) (earlier (due_with_rank 10 u.divider.due) (earlier (due_with_rank 11 u.root.due) (earlier (due_with_rank 12 u.gx.due) d))))) (first_of_append 14 nd sd))
 
 -- ---- what leaves it
 
 same : (u v : IoState) → v.video.scan ≡ u.video.scan → v.nine.timers ≡ u.nine.timers → v.nine.dma ≡ u.nine.dma → v.seven.timers ≡ u.seven.timers → v.seven.dma ≡ u.seven.dma
-    → v.divider ≡ u.divider → v.root ≡ u.root → first_io_due v ≡ first_io_due u
+    → v.divider ≡ u.divider → v.root ≡ u.root → v.gx ≡ u.gx → v.released ≡ u.released → first_io_due v ≡ first_io_due u
 unfolding first_io_due
-same u v scan a b c d e f = rw (scan, a, b, c, d, e, f) refl
+same u v scan a b c d e f g r = rw (scan, a, b, c, d, e, f, g, r) refl
 
 -- of a processor's own the timers and the channels stay
 abbrev IsStill : ProcessorIoState → ProcessorIoState → Type 0
@@ -106,8 +107,8 @@ told_still processor_io pressed = go (keys_hold processor_io.keycnt pressed) ref
   go false e = rw e (refl, refl)
 
 still : (proc : Proc) (u : IoState) (processor_io : ProcessorIoState) → IsStill (io_of u proc) processor_io → first_io_due (with_io_of proc u processor_io) ≡ first_io_due u
-still Nine u processor_io h = same u (with_io_of Nine u processor_io) refl h.0 h.1 refl refl refl refl
-still Seven u processor_io h = same u (with_io_of Seven u processor_io) refl refl refl h.0 h.1 refl refl
+still Nine u processor_io h = same u (with_io_of Nine u processor_io) refl h.0 h.1 refl refl refl refl refl refl
+still Seven u processor_io h = same u (with_io_of Seven u processor_io) refl refl refl h.0 h.1 refl refl refl refl
 
 pub vram_moves_none : (u : IoState) (vram : Banks) → first_io_due (record u { vram = vram }) ≡ first_io_due u
 unfolding first_io_due
@@ -120,7 +121,7 @@ pub keys_move_none : (u : IoState) (pressed : ℕ) → first_io_due (keys_presse
 keys_move_none u pressed =
     let n = told_still u.nine pressed in
     let s = told_still u.seven pressed in
-    same u (keys_pressed u pressed) refl n.0 n.1 s.0 s.1 refl refl
+    same u (keys_pressed u pressed) refl n.0 n.1 s.0 s.1 refl refl refl refl
 
 pub reads_move_none : (proc : Proc) (u : IoState) (register : Register) → first_io_due ((meaning_of register).after_read proc u) ≡ first_io_due u
 unfolding first_io_due
@@ -145,12 +146,14 @@ writes_move_none proc now u DivNumer number value h = absurd (grind (arith, h))
 writes_move_none proc now u DivDenom number value h = absurd (grind (arith, h))
 writes_move_none proc now u Sqrtcnt number value h = absurd (grind (arith, h))
 writes_move_none proc now u SqrtParam number value h = absurd (grind (arith, h))
+writes_move_none proc now u GxWord number value h = absurd (grind (arith, h))
+writes_move_none proc now u GxCommand number value h = absurd (grind (arith, h))
 writes_move_none proc now u Keycnt number value h =
     still proc u (keycnt_written (io_of u proc) u.pressed (value % 2 ^ 16)) (told_still (record (io_of u proc) { keycnt = kept_keycnt (value % 2 ^ 16) }) u.pressed)
 writes_move_none proc now u Ime number value h = still proc u (ime_written (io_of u proc) value) (refl, refl)
 writes_move_none proc now u Ie number value h = still proc u (ie_written proc (io_of u proc) value) (refl, refl)
 writes_move_none proc now u If number value h = still proc u (if_written (io_of u proc) value) (refl, refl)
 writes_move_none proc now u Haltcnt number value h = still proc u (haltcnt_written (io_of u proc) (value % 2 ^ 8)) (halt_still (io_of u proc) (value % 2 ^ 8))
-writes_move_none proc now u DisplayHalf number value h = same u (after_write proc now u DisplayHalf number value) (written_scan proc u.video number Half value) refl refl refl refl refl refl
-writes_move_none proc now u DisplayWord number value h = same u (after_write proc now u DisplayWord number value) (written_scan proc u.video number Word value) refl refl refl refl refl refl
-writes_move_none proc now u register number value h = same u (after_write proc now u register number value) refl refl refl refl refl refl refl
+writes_move_none proc now u DisplayHalf number value h = same u (after_write proc now u DisplayHalf number value) (written_scan proc u.video number Half value) refl refl refl refl refl refl refl refl
+writes_move_none proc now u DisplayWord number value h = same u (after_write proc now u DisplayWord number value) (written_scan proc u.video number Word value) refl refl refl refl refl refl refl refl
+writes_move_none proc now u register number value h = same u (after_write proc now u register number value) refl refl refl refl refl refl refl refl refl

@@ -1,6 +1,6 @@
 use Rattle.std.proofs.Common.{ℕ, ◌≡◌, ◌<◌, inl, inr, Bool, true, false, true≢false, if◌then◌else◌, List, Option, Some, None, refl, sym, ◌∙◌, ap, subst, arith}
 use Rattle.std.specs.Prelude.{◌||◌, ◌&&◌, ◌==◌, IsSome}
-use Rattle.std.proofs.lemmas.Option.{same_Some, none-some}
+use Rattle.std.proofs.lemmas.Option.{none-some}
 use Rattle.ds_base.specs.Schedules.{IsLater, Reschedules}
 use Rattle.ds_base.specs.declared.left_out.Stop.{Stop}
 use Rattle.ds_base.specs.declared.processors.Proc.{Proc}
@@ -19,10 +19,12 @@ use Rattle.ds_runs.specs.declared.actors.Actor.TheVariants.{KeyScript, Video, Ti
 use Rattle.ds_timers.specs.Timing.{TimerState, overflow_of, timer_at, timer_due}
 use Rattle.ds_timers.proofs.Four.{one_reschedules}
 use Rattle.ds_timers.proofs.Overflowed.{overflow_keeps, overflow_schedules}
-use Rattle.ds_ports.specs.Dues.{IsIo, IsUnchanged, IsProcessorIo, ReschedulesEach, io_due}
+use Rattle.ds_ports.specs.Dues.{IsIo, IsUnchanged, IsProcessorIo, ReschedulesEach, held_due, io_due}
+use Rattle.ds_ports.proofs.HeldDues.{held_reschedules}
 use Rattle.ds_ports.specs.ProcessorIo.{ProcessorIoState, blocks_processor, processor_io_moved, processor_io_raised, processor_io_triggered}
 use Rattle.ds_ports.specs.Io.{IoState, both_raised, channel_moved, channels_shown, channels_triggered, division_done, io_event, io_of, keys_pressed, root_done, shown_to_others, timer_overflows, video_done, with_io_of}
 use Rattle.ds_ports.proofs.Later.{ProcessorIoReschedules, divider_each, each_processor_io, in_turn, io_is, processor_io_across, processor_io_each, processor_io_is, processor_io_there, raised_unchanged, root_each, told_unchanged, unchanged_is, unchanged_same}
+use Rattle.gx_fifo.specs.GxStates.{AreWaiting, is_stalled}
 use Rattle.ds_base.specs.declared.processors.Raised.{Raised}
 use Rattle.video2d.specs.Scans.{ScanState, blanks_drawn_line, line_after, scan_after, scan_due, scan_due_tick, starts_vblank}
 use Rattle.video2d.specs.Engines.{points_stepped}
@@ -32,12 +34,13 @@ use Rattle.vram_banks.specs.Cells.{Banks}
 
 -- What the events of the actors behind the ports make of the units, each at the tick at which it is due.
 
--- the units are sound still, each due tick is as it was or later, no processor is halted or goes on, and one that was blocked is blocked still
+-- the units are sound still, each due tick is as it was or later, no processor is halted or goes on, and one that was blocked is blocked still, nor does a stall end
 pub record Happens (now : Tick) (old new : IoState) : Type 0 where
   pub io : IsIo new
   pub dues : ReschedulesEach now old new
   pub halted : (proc : Proc) → (io_of new proc).halted ≡ (io_of old proc).halted
   pub blocked : (proc : Proc) → blocks_processor (io_of old proc) ≡ true → blocks_processor (io_of new proc) ≡ true
+  pub stall : is_stalled old.gx ≡ true → is_stalled new.gx ≡ true
 
 still_blocked : (a b c d : Bool) → b ≡ a → (c ≡ true → d ≡ true) → (a || c) ≡ true → (b || d) ≡ true
 still_blocked true true c d e f h = refl
@@ -46,26 +49,34 @@ still_blocked false true c d e f h = refl
 still_blocked false false c d e f h = f h
 
 -- no channel that ran stands still
-happens_by : (now : Tick) (old new : IoState) → IsIo new → ReschedulesEach now old new → ((proc : Proc) → (io_of new proc).halted ≡ (io_of old proc).halted)
-    → ((proc : Proc) → any_runs (io_of old proc).dma.channels ≡ true → any_runs (io_of new proc).dma.channels ≡ true) → Happens now old new
-happens_by now old new io dues halted runs = record {
+pub happens_by : (now : Tick) (old new : IoState) → IsIo new → ReschedulesEach now old new → ((proc : Proc) → (io_of new proc).halted ≡ (io_of old proc).halted)
+    → ((proc : Proc) → any_runs (io_of old proc).dma.channels ≡ true → any_runs (io_of new proc).dma.channels ≡ true)
+    → (is_stalled old.gx ≡ true → is_stalled new.gx ≡ true) → Happens now old new
+happens_by now old new io dues halted runs stall = record {
   io = io;
   dues = dues;
   halted = halted;
   blocked = λ proc h. still_blocked (io_of old proc).halted (io_of new proc).halted _ _ (halted proc) (runs proc) h;
+  stall = stall;
 }
 
 -- each processor's own is left but its interrupt words
-unchanged_happens : (now : Tick) (old new : IoState) → IsIo old → ((each : Proc) → IsUnchanged (io_of old each) (io_of new each)) → ReschedulesEach now old new
-    → Happens now old new
-unchanged_happens now old new all same dues =
-    happens_by now old new (io_is new (λ p. unchanged_is (io_of old p) (io_of new p) (same p) (processor_io_is old all p))) dues (λ p. (same p).halted)
-    (λ p h. ap (λ (dma : DmaState). any_runs dma.channels) (same p).dma ∙ h)
+pub unchanged_happens : (now : Tick) (old new : IoState) → IsIo old → ((each : Proc) → IsUnchanged (io_of old each) (io_of new each)) → ReschedulesEach now old new
+    → new.gx ≡ old.gx → Happens now old new
+unchanged_happens now old new all same dues gx =
+    happens_by now old new (io_is new (λ p. unchanged_is (io_of old p) (io_of new p) (same p) (processor_io_is old all p)) (subst AreWaiting (sym gx) all.gx)) dues
+    (λ p. (same p).halted) (λ p h. ap (λ (dma : DmaState). any_runs dma.channels) (same p).dma ∙ h) (λ h. ap is_stalled gx ∙ h)
+
+-- a processor's own changes, and geometry stays
+gx_there : (proc : Proc) (u : IoState) (processor_io : ProcessorIoState) → (with_io_of proc u processor_io).gx ≡ u.gx
+gx_there Nine u processor_io = refl
+gx_there Seven u processor_io = refl
 
 -- one processor's own changes
-own_is : (proc : Proc) (u : IoState) (processor_io : ProcessorIoState) → IsIo u → IsProcessorIo processor_io → IsIo (with_io_of proc u processor_io)
+pub own_is : (proc : Proc) (u : IoState) (processor_io : ProcessorIoState) → IsIo u → IsProcessorIo processor_io → IsIo (with_io_of proc u processor_io)
 own_is proc u processor_io all is =
     io_is (with_io_of proc u processor_io) (each_processor_io (λ p x. IsProcessorIo x) proc u processor_io is (processor_io_is u all (other_proc proc)))
+    (subst AreWaiting (sym (gx_there proc u processor_io)) all.gx)
 
 -- ---- a timer overflows: it is due later then
 
@@ -87,32 +98,34 @@ timer_goes proc number now u all l due =
           (own_is proc u new all (record { timers = overflow_keeps processor_io.timers number is.timers; dma = is.dma }))
           (processor_io_each proc now u new (overflowed now processor_io o.timers o.bits (one_reschedules number now processor_io.timers o.timers one)))
           (each_processor_io (λ p x. x.halted ≡ (io_of u p).halted) proc u new refl refl)
-          (each_processor_io (λ p x. any_runs (io_of u p).dma.channels ≡ true → any_runs x.dma.channels ≡ true) proc u new (λ h. h) (λ h. h)),
+          (each_processor_io (λ p x. any_runs (io_of u p).dma.channels ≡ true → any_runs x.dma.channels ≡ true) proc u new (λ h. h) (λ h. h))
+          (λ h. ap is_stalled (gx_there proc u new) ∙ h),
       subst (λ (x : ProcessorIoState). IsLater now (timer_due (timer_at x.timers number))) (sym (processor_io_there proc u new)) one.later,
     )
 
 -- ---- a division, or a square root, is done, and due no more
 
 division_happens : (now : Tick) (u : IoState) → IsIo u → Happens now u (division_done u)
-division_happens now u all = unchanged_happens now u (division_done u) all (λ p. unchanged_same (io_of u p)) (divider_each now u (division_done u).divider (inr tt))
+division_happens now u all = unchanged_happens now u (division_done u) all (λ p. unchanged_same (io_of u p)) (divider_each now u (division_done u).divider (inr tt)) refl
 
 root_happens : (now : Tick) (u : IoState) → IsIo u → Happens now u (root_done u)
-root_happens now u all = unchanged_happens now u (root_done u) all (λ p. unchanged_same (io_of u p)) (root_each now u (root_done u).root (inr tt))
+root_happens now u all = unchanged_happens now u (root_done u) all (λ p. unchanged_same (io_of u p)) (root_each now u (root_done u).root (inr tt)) refl
 
 -- ---- what happens in turn
 
-happens_on : (now : Tick) (a b c : IoState) → Happens now a b → Happens now b c → Happens now a c
+pub happens_on : (now : Tick) (a b c : IoState) → Happens now a b → Happens now b c → Happens now a c
 happens_on now a b c h k = record {
   io = k.io;
   dues = λ x l. in_turn now (io_due x a) (io_due x b) (io_due x c) (h.dues x l) (k.dues x l);
   halted = λ proc. k.halted proc ∙ h.halted proc;
   blocked = λ proc e. k.blocked proc (h.blocked proc e);
+  stall = λ e. k.stall (h.stall e);
 }
 
 -- ---- the display goes on, raises interrupts and triggers channels: no transfer ends
 
 raised_happens : (now : Tick) (u : IoState) (raised : Raised) → IsIo u → Happens now u (both_raised u raised)
-raised_happens now u raised all = unchanged_happens now u (both_raised u raised) all unchanged each where
+raised_happens now u raised all = unchanged_happens now u (both_raised u raised) all unchanged each refl where
   unchanged : (proc : Proc) → IsUnchanged (io_of u proc) (io_of (both_raised u raised) proc)
   unchanged Nine = raised_unchanged u.nine raised.nine
   unchanged Seven = raised_unchanged u.seven raised.seven
@@ -135,7 +148,8 @@ each_triggered P cause now u h = λ each. subst (P each) (sym (triggered_process
 triggered_each : (cause : Cause) (now : Tick) (u : IoState) → IsIo u → ReschedulesEach now u (channels_triggered cause now u)
 triggered_each cause now u all (Timer Nine number) l = inl refl
 triggered_each cause now u all (Timer Seven number) l = inl refl
-triggered_each cause now u all (Dma Nine channel) l = event_schedules u.nine.dma cause now all.nine.dma channel l
+triggered_each cause now u all (Dma Nine channel) l =
+    held_reschedules now (is_stalled u.gx) u.released _ _ (event_schedules u.nine.dma cause now all.nine.dma channel l)
 triggered_each cause now u all (Dma Seven channel) l = event_schedules u.seven.dma cause now all.seven.dma channel l
 triggered_each cause now u all _ l = inl refl
 
@@ -144,11 +158,11 @@ triggered_happens cause now u all =
     let new = channels_triggered cause now u in
     happens_by now u new
     (io_is new (each_triggered (λ p x. IsProcessorIo x) cause now u
-    (λ p. record { timers = (processor_io_is u all p).timers; dma = dma_triggered_is (io_of u p).dma cause now (processor_io_is u all p).dma })))
+    (λ p. record { timers = (processor_io_is u all p).timers; dma = dma_triggered_is (io_of u p).dma cause now (processor_io_is u all p).dma })) all.gx)
     (triggered_each cause now u all)
     (each_triggered (λ p x. x.halted ≡ (io_of u p).halted) cause now u (λ p. refl))
     (each_triggered (λ p x. any_runs (io_of u p).dma.channels ≡ true → any_runs x.dma.channels ≡ true) cause now u
-    (λ p. event_runs (io_of u p).dma cause now (processor_io_is u all p).dma))
+    (λ p. event_runs (io_of u p).dma cause now (processor_io_is u all p).dma)) (λ h. h)
 
 -- the display alone changes, and is due later
 module _ (now : Tick) (u : IoState) (v : VideoState) (all : IsIo u) (later : now.0 < scan_due v.scan) where
@@ -165,7 +179,7 @@ module _ (now : Tick) (u : IoState) (v : VideoState) (all : IsIo u) (later : now
   display_unchanged Seven = unchanged_same u.seven
 
   display_happens : Happens now u (record u { video = v })
-  display_happens = unchanged_happens now u (record u { video = v }) all display_unchanged display_each
+  display_happens = unchanged_happens now u (record u { video = v }) all display_unchanged display_each refl
 
 either : {A : Type 0} (P : A → Type 0) (b : Bool) (x y : A) → P x → P y → P (if b then x else y)
 either P true x y h k = h
@@ -173,7 +187,7 @@ either P false x y h k = k
 
 channels_happen : (shown : Shown) (now : Tick) (u : IoState) → IsIo u → Happens now u (channels_shown shown now u)
 channels_happen shown now u all =
-    let nothing : Happens now u u = record { io = all; dues = λ a l. inl refl; halted = λ proc. refl; blocked = λ proc h. h } in
+    let nothing : Happens now u u = record { io = all; dues = λ a l. inl refl; halted = λ proc. refl; blocked = λ proc h. h; stall = λ h. h } in
     let drawn = either (Happens now u) shown.hblank (channels_triggered HBlank now u) u (triggered_happens HBlank now u all) nothing in
     either (Happens now u) shown.vblank (channels_triggered VBlank now u) (if shown.hblank then channels_triggered HBlank now u else u)
     (triggered_happens VBlank now u all) drawn
@@ -246,10 +260,12 @@ show_goes palette oam u all none =
 
 -- ---- each of them
 
--- an actor behind the ports but the display, whose event reads memories, and the DMA channels, whose events are accesses of memory
+-- an actor behind the ports but the display, whose event reads memories, geometry, whose event may end a stall, and the DMA channels, whose events
+-- are accesses of memory
 abbrev pub HasEvent : actor.Actor → Type 0
 HasEvent KeyScript = ⊥
 HasEvent Video = ⊥
+HasEvent Geometry = ⊥
 HasEvent (Dma proc channel) = ⊥
 HasEvent (Processor proc) = ⊥
 HasEvent a = Unit {0}
@@ -262,7 +278,7 @@ event_goes Video now u all has l due = absurd has
 event_goes (Timer proc number) now u all has l due = timer_goes proc number now u all l due
 event_goes Divider now u all has l due = (division_happens now u all, tt)
 event_goes SquareRoot now u all has l due = (root_happens now u all, tt)
-event_goes Geometry now u all has l due = absurd (none-some now due)
+event_goes Geometry now u all has l due = absurd has
 event_goes Card now u all has l due = absurd (none-some now due)
 event_goes (Dma proc channel) now u all has l due = absurd has
 event_goes (Processor proc) now u all has l due = absurd has
@@ -281,11 +297,12 @@ keys_unchanged u pressed Seven = told_unchanged u.seven pressed
 
 keys_each : (now : Tick) (u : IoState) (pressed : ℕ) → ReschedulesEach now u (keys_pressed u pressed)
 keys_each now u pressed (Timer proc number) l = inl (ap (λ ts. timer_due (timer_at ts number)) (keys_unchanged u pressed proc).timers)
-keys_each now u pressed (Dma proc channel) l = inl (ap (λ d. channel_due d channel) (keys_unchanged u pressed proc).dma)
+keys_each now u pressed (Dma Nine channel) l = inl (ap (λ d. held_due (is_stalled u.gx) u.released (channel_due d channel)) (keys_unchanged u pressed Nine).dma)
+keys_each now u pressed (Dma Seven channel) l = inl (ap (λ d. channel_due d channel) (keys_unchanged u pressed Seven).dma)
 keys_each now u pressed _ l = inl refl
 
 pub keys_happen : (now : Tick) (u : IoState) (pressed : ℕ) → IsIo u → Happens now u (keys_pressed u pressed)
-keys_happen now u pressed all = unchanged_happens now u (keys_pressed u pressed) all (keys_unchanged u pressed) (keys_each now u pressed)
+keys_happen now u pressed all = unchanged_happens now u (keys_pressed u pressed) all (keys_unchanged u pressed) (keys_each now u pressed) refl
 
 -- ---- the channel that is due moves its first unit, but for the access itself: no channel of its processor is due by then
 
@@ -296,6 +313,8 @@ pub record MovedGoes (proc : Proc) (now : Tick) (old new : IoState) : Type 0 whe
   pub timers : (each : Proc) → (io_of new each).timers ≡ (io_of old each).timers
   pub other : io_of new (other_proc proc) ≡ io_of old (other_proc proc)
   pub video : new.video ≡ old.video
+  pub gx : new.gx ≡ old.gx
+  pub released : new.released ≡ old.released
 
 pub moved_goes : (proc : Proc) (now : Tick) (u : IoState) → IsIo u → IsSome (dma_due (io_of u proc).dma) → MovedGoes proc now u (channel_moved proc now u)
 moved_goes proc now u all due =
@@ -309,10 +328,16 @@ moved_goes proc now u all due =
       timers = each_processor_io (λ p x. x.timers ≡ (io_of u p).timers) proc u new refl refl;
       other = processor_io_across proc u new;
       video = shows proc u new;
+      gx = gx_there proc u new;
+      released = released_there proc u new;
     } where
       moved : (tick : Tick) (processor_io : ProcessorIoState) → ProcessorIoReschedules tick processor_io (processor_io_moved processor_io tick)
       moved tick processor_io (Dma of channel) l = all_later tick (dma_finished processor_io.dma tick) (channel_due processor_io.dma channel) (finished_later processor_io.dma tick) channel l
       moved tick processor_io _ l = inl refl
+
+      released_there : (proc : Proc) (u : IoState) (processor_io : ProcessorIoState) → (with_io_of proc u processor_io).released ≡ u.released
+      released_there Nine u processor_io = refl
+      released_there Seven u processor_io = refl
 
       shows : (proc : Proc) (u : IoState) (processor_io : ProcessorIoState) → (with_io_of proc u processor_io).video ≡ u.video
       shows Nine u processor_io = refl

@@ -19,19 +19,22 @@ use Rattle.ds_math.specs.Dividers.{DividerState, division_ticks}
 use Rattle.ds_math.specs.Roots.{RootState}
 use Rattle.ds_runs.specs.Actors.{IsNumbered}
 use Rattle.ds_runs.specs.declared.actors.Actor as actor
-use Rattle.ds_runs.specs.declared.actors.Actor.TheVariants.{Video, Timer, Divider, SquareRoot, Dma}
+use Rattle.ds_runs.specs.declared.actors.Actor.TheVariants.{Video, Timer, Divider, SquareRoot, Geometry, Dma}
 use Rattle.ds_timers.specs.Timing.{TimerState, AreTimers, control_set, kept_control, reload_set, timer_at, timer_due}
 use Rattle.ds_timers.proofs.Changed.{control_schedules, control_set_is, reload_leaves, reload_set_is}
 use Rattle.ds_timers.proofs.Four.{one_reschedules}
-use Rattle.ds_ports.specs.Dues.{IsIo, Goes, IsUnchanged, IsProcessorIo, IsQuiet, ReschedulesEach, io_due}
+use Rattle.gx_fifo.specs.GxStates.{AreWaiting, GxState, is_stalled}
+use Rattle.ds_ports.specs.Dues.{IsIo, Goes, LeavesGeometry, IsUnchanged, IsProcessorIo, IsQuiet, ReschedulesEach, io_due}
 use Rattle.ds_ports.specs.ProcessorIo.{ProcessorIoState, dma_written, haltcnt_written, kept_keycnt, keycnt_written, keys_hold, keys_told, processor_io_raised}
 use Rattle.ds_ports.specs.Ports.{byte_written, half_written, ignores, port_read, port_refusal, port_written, read_unchanged, slot_joined, slot_written, unless_stopped, whole_if, whole_in, word_written, written_or}
 use Rattle.ds_ports.specs.RegisterMap.{IsSlot, slot_of}
-use Rattle.ds_ports.specs.Registers.{after_write, meaning_of}
+use Rattle.ds_ports.specs.Registers.{after_write, gx_port_written, gx_set, meaning_of}
 use Rattle.ds_ports.specs.Io.{IoState, both_raised, io_of, with_io_of}
 use Rattle.ds_ports.specs.declared.registers.Register.{Register}
-use Rattle.ds_ports.specs.declared.registers.Register.TheVariants.{DisplayHalf, DisplayWord, Dmasad, Dmadad, Dmacnt, TmcntL, TmcntH, Keycnt, Ipcsync, Ipcfifocnt, Ipcfifosend, Ipcfiforecv, Ime, Ie, If, Divcnt, DivNumer, DivDenom, Sqrtcnt, SqrtParam, Haltcnt}
+use Rattle.ds_ports.specs.declared.registers.Register.TheVariants.{DisplayHalf, DisplayWord, Dmasad, Dmadad, Dmacnt, TmcntL, TmcntH, Keycnt, Ipcsync, Ipcfifocnt, Ipcfifosend, Ipcfiforecv, Ime, Ie, If, Divcnt, DivNumer, DivDenom, Sqrtcnt, SqrtParam, GxWord, GxCommand, Haltcnt}
 use Rattle.ds_ports.specs.declared.registers.Slot.{Slot}
+use Rattle.ds_ports.proofs.HeldDues.{held_reschedules, stall_begins}
+use Rattle.ds_ports.proofs.GxPorts.{port_last, port_run, port_schedules, port_stalls, port_waiting}
 use Rattle.ds_ports.proofs.DisplayPorts.{written_scan, written_whole}
 use Rattle.ds_ports.proofs.RegisterMaps.{some_slot}
 use Rattle.video2d.specs.Scans.{ScanState, scan_due_tick}
@@ -142,7 +145,8 @@ same_reschedules now old new e f _ l = inl refl
 pub processor_io_each : (proc : Proc) (now : Tick) (u : IoState) (processor_io : ProcessorIoState) → ProcessorIoReschedules now (io_of u proc) processor_io → ReschedulesEach now u (with_io_of proc u processor_io)
 processor_io_each Nine now u processor_io g (Timer Nine number) l = g (Timer Nine number) l
 processor_io_each Nine now u processor_io g (Timer Seven number) l = inl refl
-processor_io_each Nine now u processor_io g (Dma Nine channel) l = g (Dma Nine channel) l
+processor_io_each Nine now u processor_io g (Dma Nine channel) l =
+    held_reschedules now (is_stalled u.gx) u.released (channel_due u.nine.dma channel) (channel_due processor_io.dma channel) (g (Dma Nine channel) l)
 processor_io_each Nine now u processor_io g (Dma Seven channel) l = inl refl
 processor_io_each Nine now u processor_io g _ l = inl refl
 processor_io_each Seven now u processor_io g (Timer Nine number) l = inl refl
@@ -161,8 +165,30 @@ pub root_each : (now : Tick) (u : IoState) (root : RootState) → Reschedules no
 root_each now u root r SquareRoot l = r
 root_each now u root r _ l = inl refl
 
+-- ---- geometry, and what accesses leave of it
+
+pub leaves_all : (proc : Proc) (old new : IoState) → new.gx ≡ old.gx → new.released ≡ old.released → LeavesGeometry proc old new
+leaves_all proc old new e f = record {
+  released = f;
+  waiting = subst AreWaiting (sym e);
+  run = ap (λ (g : GxState). g.geometry.numbers.run) e;
+  last = ap (λ (g : GxState). g.geometry.last) e;
+  stall = λ h. ap is_stalled e ∙ h;
+  of_seven = λ h. e;
+}
+
+leaves_on : (proc : Proc) (a b c : IoState) → LeavesGeometry proc a b → LeavesGeometry proc b c → LeavesGeometry proc a c
+leaves_on proc a b c g h = record {
+  released = h.released ∙ g.released;
+  waiting = λ w. h.waiting (g.waiting w);
+  run = h.run ∙ g.run;
+  last = h.last ∙ g.last;
+  stall = λ s. h.stall (g.stall s);
+  of_seven = λ e. h.of_seven e ∙ g.of_seven e;
+}
+
 pub goes_nowhere : (proc : Proc) (now : Tick) (u : IoState) → IsProcessorIo (io_of u proc) → IsQuiet now (io_of u proc) → Goes proc now u u
-goes_nowhere proc now u is quiet = record { is = is; quiet = quiet; each = λ a l. inl refl; other = unchanged_same (io_of u (other_proc proc)); scan = refl; whole = refl }
+goes_nowhere proc now u is quiet = record { is = is; quiet = quiet; each = λ a l. inl refl; other = unchanged_same (io_of u (other_proc proc)); scan = refl; whole = refl; geometry = leaves_all proc u u refl refl }
 
 pub goes_on : (proc : Proc) (now : Tick) (a b c : IoState) → Goes proc now a b → Goes proc now b c → Goes proc now a c
 goes_on proc now a b c g h = record {
@@ -177,25 +203,27 @@ goes_on proc now a b c g h = record {
   };
   scan = h.scan ∙ g.scan;
   whole = h.whole ∙ g.whole;
+  geometry = leaves_on proc a b c g.geometry h.geometry;
 }
 
 -- what changes the processor's own alone
 processor_io_goes : (proc : Proc) (now : Tick) (u : IoState) (processor_io : ProcessorIoState) → Stands now processor_io → Goes proc now u (with_io_of proc u processor_io)
 processor_io_goes proc now u processor_io s = by_proc proc (processor_io_each proc now u processor_io (processor_io_later now (io_of u proc) processor_io s)) where
   by_proc : (proc : Proc) → ReschedulesEach now u (with_io_of proc u processor_io) → Goes proc now u (with_io_of proc u processor_io)
-  by_proc Nine each = record { is = s.0; quiet = s.1; each = each; other = unchanged_same u.seven; scan = refl; whole = refl }
-  by_proc Seven each = record { is = s.0; quiet = s.1; each = each; other = unchanged_same u.nine; scan = refl; whole = refl }
+  by_proc Nine each = record { is = s.0; quiet = s.1; each = each; other = unchanged_same u.seven; scan = refl; whole = refl; geometry = leaves_all Nine u (with_io_of Nine u processor_io) refl refl }
+  by_proc Seven each = record { is = s.0; quiet = s.1; each = each; other = unchanged_same u.nine; scan = refl; whole = refl; geometry = leaves_all Seven u (with_io_of Seven u processor_io) refl refl }
 
 -- what changes neither's own
 shared_goes : (proc : Proc) (now : Tick) (u new : IoState) → ((each : Proc) → io_of new each ≡ io_of u each) → new.video.scan ≡ u.video.scan → new.video.whole ≡ u.video.whole
-    → Stands now (io_of u proc) → ReschedulesEach now u new → Goes proc now u new
-shared_goes proc now u new same scan whole s each = record {
+    → LeavesGeometry proc u new → Stands now (io_of u proc) → ReschedulesEach now u new → Goes proc now u new
+shared_goes proc now u new same scan whole geometry s each = record {
   is = subst IsProcessorIo (sym (same proc)) s.0;
   quiet = subst (IsQuiet now) (sym (same proc)) s.1;
   each = each;
   other = subst (IsUnchanged (io_of u (other_proc proc))) (sym (same (other_proc proc))) (unchanged_same (io_of u (other_proc proc)));
   scan = scan;
   whole = whole;
+  geometry = geometry;
 }
 
 -- ---- what changes nothing but interrupt words, as a read: nothing is due otherwise than before
@@ -209,6 +237,8 @@ pub record AreUnchanged (old new : IoState) : Type 0 where
   pub dues : (a : actor.Actor) → io_due a new ≡ io_due a old
   pub scan : new.video.scan ≡ old.video.scan
   pub whole : new.video.whole ≡ old.video.whole
+  pub gx : new.gx ≡ old.gx
+  pub released : new.released ≡ old.released
 
 -- so what holds of a processor's own holds still
 pub unchanged_is : (old new : ProcessorIoState) → IsUnchanged old new → IsProcessorIo old → IsProcessorIo new
@@ -221,10 +251,10 @@ unchanged_quiet now old new l quiet = record {
 }
 
 pub all_unchanged : (u : IoState) → AreUnchanged u u
-all_unchanged u = record { processor_io = λ each. unchanged_same (io_of u each); dues = λ a. refl; scan = refl; whole = refl }
+all_unchanged u = record { processor_io = λ each. unchanged_same (io_of u each); dues = λ a. refl; scan = refl; whole = refl; gx = refl; released = refl }
 
 both_unchanged : (u : IoState) (ipc_after : IpcState) (raised : Raised) → AreUnchanged u (both_raised (record u { ipc = ipc_after }) raised)
-both_unchanged u ipc_after raised = record { processor_io = processor_io; dues = dues; scan = refl; whole = refl } where
+both_unchanged u ipc_after raised = record { processor_io = processor_io; dues = dues; scan = refl; whole = refl; gx = refl; released = refl } where
   processor_io : (proc : Proc) → IsUnchanged (io_of u proc) (io_of (both_raised (record u { ipc = ipc_after }) raised) proc)
   processor_io Nine = raised_unchanged u.nine raised.nine
   processor_io Seven = raised_unchanged u.seven raised.seven
@@ -239,7 +269,7 @@ both_unchanged u ipc_after raised = record { processor_io = processor_io; dues =
 pub unchanged_goes : (proc : Proc) (now : Tick) (old new : IoState) → IsProcessorIo (io_of old proc) → IsQuiet now (io_of old proc) → AreUnchanged old new → Goes proc now old new
 unchanged_goes proc now old new is quiet left =
     let s = alike now (io_of old proc) (io_of new proc) (left.processor_io proc).timers (left.processor_io proc).dma (is, quiet) in
-    record { is = s.0; quiet = s.1; each = λ a l. inl (left.dues a); other = left.processor_io (other_proc proc); scan = left.scan; whole = left.whole }
+    record { is = s.0; quiet = s.1; each = λ a l. inl (left.dues a); other = left.processor_io (other_proc proc); scan = left.scan; whole = left.whole; geometry = leaves_all proc old new left.gx left.released }
 
 -- ---- what a write of a register leaves
 
@@ -268,7 +298,40 @@ display_goes : (proc : Proc) (now : Tick) (u : IoState) → Stands now (io_of u 
 display_goes proc now u s width at value =
     let video = video_written proc u.video at width value in
     let same = written_scan proc u.video at width value in
-    shared_goes proc now u (record u { video = video }) (shown_processor_io now u video same) same (written_whole proc u.video at width value) s (λ a l. inl (shown_dues now u video same a))
+    shared_goes proc now u (record u { video = video }) (shown_processor_io now u video same) same (written_whole proc u.video at width value)
+    (leaves_all proc u (record u { video = video }) refl refl) s (λ a l. inl (shown_dues now u video same a))
+
+nine_or_seven : Nine ≡ Seven → ⊥
+nine_or_seven h = grind (arith, h)
+
+-- one of geometry's, which ARM7 doesn't have
+module _ (now : Tick) (u : IoState) (number value : ℕ) where
+  gx_each : ReschedulesEach now u (gx_set Nine now u number value)
+  gx_each Geometry l = port_schedules now u.gx number value
+  gx_each (Timer Nine which) l = inl refl
+  gx_each (Timer Seven which) l = inl refl
+  gx_each (Dma Nine channel) l =
+      stall_begins now (is_stalled u.gx) (is_stalled (gx_port_written u.gx number value now)) u.released (channel_due u.nine.dma channel)
+      (port_stalls u.gx number value now)
+  gx_each (Dma Seven channel) l = inl refl
+  gx_each _ l = inl refl
+
+  gx_leaves : LeavesGeometry Nine u (gx_set Nine now u number value)
+  gx_leaves = record {
+    released = refl;
+    waiting = port_waiting u.gx number value now;
+    run = port_run u.gx number value now;
+    last = port_last u.gx number value now;
+    stall = port_stalls u.gx number value now;
+    of_seven = λ h. absurd (nine_or_seven h);
+  }
+
+gx_goes : (proc : Proc) (now : Tick) (u : IoState) (number value : ℕ) → Stands now (io_of u proc) → Goes proc now u (gx_set proc now u number value)
+gx_goes Nine now u number value s = shared_goes Nine now u (gx_set Nine now u number value) same refl refl (gx_leaves now u number value) s (gx_each now u number value) where
+  same : (each : Proc) → io_of (gx_set Nine now u number value) each ≡ io_of u each
+  same Nine = refl
+  same Seven = refl
+gx_goes Seven now u number value s = goes_nowhere Seven now u s.0 s.1
 
 register_goes : (proc : Proc) (now : Tick) (u : IoState) → Stands now (io_of u proc) → (register : Register) (number : ℕ)
     → number < (meaning_of register).count → (value : ℕ) → Goes proc now u (after_write proc now u register number value)
@@ -289,19 +352,21 @@ register_goes proc now u s Ipcsync number l value = unchanged_goes proc now u _ 
 register_goes proc now u s Ipcfifocnt number l value = unchanged_goes proc now u _ s.0 s.1 (both_unchanged u _ _)
 register_goes proc now u s Ipcfifosend number l value = unchanged_goes proc now u _ s.0 s.1 (both_unchanged u _ _)
 register_goes proc now u s Divcnt number l value =
-    shared_goes proc now u _ (λ each. refl) refl refl s (divider_each now u (after_write proc now u Divcnt number value).divider (inr (division_later now _)))
+    shared_goes proc now u _ (λ each. refl) refl refl (leaves_all proc u _ refl refl) s (divider_each now u (after_write proc now u Divcnt number value).divider (inr (division_later now _)))
 register_goes proc now u s DivNumer number l value =
-    shared_goes proc now u _ (λ each. refl) refl refl s (divider_each now u (after_write proc now u DivNumer number value).divider (inr (division_later now _)))
+    shared_goes proc now u _ (λ each. refl) refl refl (leaves_all proc u _ refl refl) s (divider_each now u (after_write proc now u DivNumer number value).divider (inr (division_later now _)))
 register_goes proc now u s DivDenom number l value =
-    shared_goes proc now u _ (λ each. refl) refl refl s (divider_each now u (after_write proc now u DivDenom number value).divider (inr (division_later now _)))
+    shared_goes proc now u _ (λ each. refl) refl refl (leaves_all proc u _ refl refl) s (divider_each now u (after_write proc now u DivDenom number value).divider (inr (division_later now _)))
 register_goes proc now u s Sqrtcnt number l value =
-    shared_goes proc now u _ (λ each. refl) refl refl s (root_each now u (after_write proc now u Sqrtcnt number value).root (inr (root_later now)))
+    shared_goes proc now u _ (λ each. refl) refl refl (leaves_all proc u _ refl refl) s (root_each now u (after_write proc now u Sqrtcnt number value).root (inr (root_later now)))
 register_goes proc now u s SqrtParam number l value =
-    shared_goes proc now u _ (λ each. refl) refl refl s (root_each now u (after_write proc now u SqrtParam number value).root (inr (root_later now)))
+    shared_goes proc now u _ (λ each. refl) refl refl (leaves_all proc u _ refl refl) s (root_each now u (after_write proc now u SqrtParam number value).root (inr (root_later now)))
 register_goes proc now u s DisplayHalf number l value = display_goes proc now u s Half number value
 register_goes proc now u s DisplayWord number l value = display_goes proc now u s Word number value
+register_goes proc now u s GxWord number l value = gx_goes proc now u number value s
+register_goes proc now u s GxCommand number l value = gx_goes proc now u number value s
 register_goes proc now u s register number l value =
-    shared_goes proc now u (after_write proc now u register number value) (λ each. refl) refl refl s (λ a m. inl refl)
+    shared_goes proc now u (after_write proc now u register number value) (λ each. refl) refl refl (leaves_all proc u _ refl refl) s (λ a m. inl refl)
 
 -- ---- accesses
 
@@ -405,7 +470,7 @@ goes_io proc now old new h g =
       dma = subst IsDma (sym g.other.dma) (processor_io_is old h (other_proc proc)).dma;
     } in
     let each = of_both (λ p. IsProcessorIo (io_of new p)) proc g.is other in
-    record { nine = each Nine; seven = each Seven }
+    record { nine = each Nine; seven = each Seven; gx = g.geometry.waiting h.gx }
 
 -- ---- one processor's own, changed
 
@@ -423,5 +488,5 @@ pub each_processor_io : (P : Proc → ProcessorIoState → Type 0) (proc : Proc)
 each_processor_io P proc u processor_io h k =
     of_both (λ p. P p (io_of (with_io_of proc u processor_io) p)) proc (subst (P proc) (sym (processor_io_there proc u processor_io)) h) (subst (P (other_proc proc)) (sym (processor_io_across proc u processor_io)) k)
 
-pub io_is : (u : IoState) → ((proc : Proc) → IsProcessorIo (io_of u proc)) → IsIo u
-io_is u h = record { nine = h Nine; seven = h Seven }
+pub io_is : (u : IoState) → ((proc : Proc) → IsProcessorIo (io_of u proc)) → AreWaiting u.gx → IsIo u
+io_is u h waiting = record { nine = h Nine; seven = h Seven; gx = waiting }

@@ -1,9 +1,13 @@
 pub mod RegisterMaps
 pub mod DisplayPorts
+pub mod HeldDues
+pub mod GxPorts
+pub mod Grows
 pub mod Dues
 pub mod Later
 pub mod Events
 pub mod Shows
+pub mod Settles
 pub mod Spans
 pub mod Together
 pub mod Ascending

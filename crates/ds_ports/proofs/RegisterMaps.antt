@@ -97,7 +97,7 @@ abbrev pub each_below : ℕ → (ℕ → Bool) → Bool
 each_below zero p = true
 each_below (suc n) p = p n && each_below n p
 
-of_each : (n : ℕ) (p : ℕ → Bool) (i : ℕ) → each_below n p ≡ true → i < n → p i ≡ true
+pub of_each : (n : ℕ) (p : ℕ → Bool) (i : ℕ) → each_below n p ≡ true → i < n → p i ≡ true
 of_each zero p i h l = absurd (omega (arith, l))
 of_each (suc n) p i h l =
     let two = both (p n) (each_below n p) h in

@@ -1,4 +1,4 @@
-use Rattle.std.specs.Prelude.{ℕ, ◌≡◌, ◌<◌, List, [], ◌∷◌, Option, Some, None}
+use Rattle.std.specs.Prelude.{ℕ, ◌≡◌, ◌<◌, max, Bool, true, false, List, [], ◌∷◌, Option, Some, None}
 use Rattle.ds_base.specs.Schedules.{IsLater, Reschedules}
 use Rattle.ds_base.specs.declared.processors.Proc.{Proc}
 use Rattle.ds_base.specs.declared.processors.Proc.TheVariants.{Nine, Seven}
@@ -13,9 +13,24 @@ use Rattle.ds_runs.specs.Order.{first_from}
 use Rattle.ds_timers.specs.Timing.{AreTimers, timer_at, timer_due}
 use Rattle.ds_ports.specs.ProcessorIo.{ProcessorIoState}
 use Rattle.ds_ports.specs.Io.{IoState, io_of}
+use Rattle.gx_fifo.specs.GxStates.{AreWaiting, is_stalled}
 use Rattle.video2d.specs.Scans.{scan_due_tick}
 
 -- When the units behind the ports are due, and what happens at a tick makes of it.
+
+-- a channel of ARM9's isn't due while a stall of geometry holds it, nor before the tick after the one that ended the last stall (GBATEK, "GXFIFO";
+-- the tick is our choice)
+abbrev pub released_at : ℕ → Option Tick → Option Tick
+released_at released None = None
+released_at released (Some due) = Some (record { 0 = max released due.0 })
+
+abbrev pub held_due : Bool → ℕ → Option Tick → Option Tick
+held_due true released due = None
+held_due false released due = released_at released due
+
+abbrev pub dma_due_in : IoState → Proc → ℕ → Option Tick
+dma_due_in u Nine channel = held_due (is_stalled u.gx) u.released (channel_due u.nine.dma channel)
+dma_due_in u Seven channel = channel_due u.seven.dma channel
 
 -- when an actor behind the ports is due; those that aren't, or aren't built yet, never are
 abbrev pub due_in_io : IoState → actor.Actor → Option Tick
@@ -23,7 +38,8 @@ due_in_io u Video = Some (scan_due_tick u.video.scan)
 due_in_io u (Timer proc number) = timer_due (timer_at (io_of u proc).timers number)
 due_in_io u Divider = u.divider.due
 due_in_io u SquareRoot = u.root.due
-due_in_io u (Dma proc channel) = channel_due (io_of u proc).dma channel
+due_in_io u Geometry = u.gx.due
+due_in_io u (Dma proc channel) = dma_due_in u proc channel
 due_in_io u _ = None
 
 abbrev pub io_due : actor.Actor → IoState → Option Tick
@@ -55,6 +71,7 @@ pub record IsProcessorIo (processor_io : ProcessorIoState) : Type 0 where
 pub record IsIo (u : IoState) : Type 0 where
   pub nine : IsProcessorIo u.nine
   pub seven : IsProcessorIo u.seven
+  pub gx : AreWaiting u.gx
 
 -- a processor's timers, and its channels that run, come later than a tick: so it is where the processor, or a channel of it, makes an access then
 pub record IsQuiet (now : Tick) (processor_io : ProcessorIoState) : Type 0 where
@@ -72,6 +89,15 @@ pub record IsUnchanged (old new : ProcessorIoState) : Type 0 where
 abbrev pub ReschedulesEach : Tick → IoState → IoState → Type 0
 ReschedulesEach now old new = (a : actor.Actor) → IsNumbered a → Reschedules now (io_due a old) (io_due a new)
 
+-- what accesses leave of geometry: no stall ends, its current run is as long as it was, and the lists of its last swap stay; ARM7's leave all of it
+pub record LeavesGeometry (proc : Proc) (old new : IoState) : Type 0 where
+  pub released : new.released ≡ old.released
+  pub waiting : AreWaiting old.gx → AreWaiting new.gx
+  pub run : new.gx.geometry.numbers.run ≡ old.gx.geometry.numbers.run
+  pub last : new.gx.geometry.last ≡ old.gx.geometry.last
+  pub stall : is_stalled old.gx ≡ true → is_stalled new.gx ≡ true
+  pub of_seven : proc ≡ Seven → new.gx ≡ old.gx
+
 -- what accesses of a processor, or of a channel of it, at a tick make of the units: each due tick is as it was or later, and the other processor is
 -- told of interrupts and of nothing else; the display is where it was, and so is its last whole frame
 pub record Goes (proc : Proc) (now : Tick) (old new : IoState) : Type 0 where
@@ -81,3 +107,4 @@ pub record Goes (proc : Proc) (now : Tick) (old new : IoState) : Type 0 where
   pub other : IsUnchanged (io_of old (other_proc proc)) (io_of new (other_proc proc))
   pub scan : new.video.scan ≡ old.video.scan
   pub whole : new.video.whole ≡ old.video.whole
+  pub geometry : LeavesGeometry proc old new

@@ -1,6 +1,6 @@
 use Rattle.std.specs.Prelude.{Bool, true, false}
 use Rattle.ds_ports.specs.declared.registers.Register.{Register}
-use Rattle.ds_ports.specs.declared.registers.Register.TheVariants.{Dmasad, Dmadad, Dmacnt, TmcntL, TmcntH, Divcnt, DivNumer, DivDenom, Sqrtcnt, SqrtParam}
+use Rattle.ds_ports.specs.declared.registers.Register.TheVariants.{Dmasad, Dmadad, Dmacnt, TmcntL, TmcntH, Divcnt, DivNumer, DivDenom, Sqrtcnt, SqrtParam, GxWord, GxCommand}
 
 -- What the code's parts say of one another. No public clause speaks of it.
 
@@ -16,4 +16,6 @@ moves_dues DivNumer = true
 moves_dues DivDenom = true
 moves_dues Sqrtcnt = true
 moves_dues SqrtParam = true
+moves_dues GxWord = true
+moves_dues GxCommand = true
 moves_dues _ = false

@@ -1,17 +1,21 @@
-use Rattle.std.specs.Prelude.{ℕ, List, [], ◌∷◌, Bool, if◌then◌else◌}
+use Rattle.std.specs.Prelude.{ℕ, ◌+◌, ◌==◌, ◌&&◌, ◌||◌, not, List, [], ◌∷◌, Bool, if◌then◌else◌, Option, Some, None}
 use Rattle.ds_base.specs.declared.processors.Proc.{Proc}
 use Rattle.ds_base.specs.declared.processors.Proc.TheVariants.{Nine, Seven}
 use Rattle.ds_base.specs.declared.processors.Raised.{Raised}
 use Rattle.ds_base.specs.declared.ticks.Tick.{Tick}
 use Rattle.ds_dma.specs.declared.controls.Cause.{Cause}
 use Rattle.ds_dma.specs.declared.controls.Cause.TheVariants.{VBlank, HBlank}
+use Rattle.ds_dma.specs.declared.controls.Cause.TheVariants as causes
+use Rattle.ds_dma.specs.States.{awaits_geometry}
 use Rattle.ds_ipc.specs.Ipcs.{IpcState, ipc_at_boot}
 use Rattle.ds_math.specs.Dividers.{DividerState, divider_at_boot, division_finished}
 use Rattle.ds_math.specs.Roots.{RootState, root_at_boot, root_finished}
 use Rattle.ds_runs.specs.declared.actors.Actor as actor
-use Rattle.ds_runs.specs.declared.actors.Actor.TheVariants.{Timer, Divider, SquareRoot}
+use Rattle.ds_runs.specs.declared.actors.Actor.TheVariants.{Timer, Divider, SquareRoot, Geometry}
+use Rattle.ds_timers.specs.Irqs.{irq_levelled}
 use Rattle.ds_timers.specs.Timing.{overflow_of}
-use Rattle.ds_ports.specs.ProcessorIo.{BeforeMove, ProcessorIoState, processor_io_at_boot, processor_io_moved, processor_io_put_back, processor_io_raised, processor_io_triggered, keys_told}
+use Rattle.ds_ports.specs.ProcessorIo.{BeforeMove, blocks_processor, ProcessorIoState, processor_io_at_boot, processor_io_moved, processor_io_put_back, processor_io_raised, processor_io_triggered, keys_told}
+use Rattle.gx_fifo.specs.GxStates.{GxState, gx_at_boot, gx_finished, gx_level, gx_swapped, is_half_empty, is_stalled}
 use Rattle.video2d.specs.Scans.{scan_due_tick}
 use Rattle.video2d.specs.Videos.{VideoState, unless_stop, video_after_event, video_at_boot, video_shown, video_stop}
 use Rattle.video2d.specs.declared.videos.Shown.{Shown}
@@ -21,7 +25,8 @@ use Rattle.vram_banks.specs.Cells.{Banks, blank_banks}
 
 -- the display; video memory with its controls; WRAMCNT, which shares out the shared work RAM (GBATEK, "DS Memory Control"); what passes between the
 -- processors; the keys that are pressed; the four words of DMA0FILL to DMA3FILL; ROMCTRL, which both processors share; the divider and the
--- square root unit; and what each processor has of its own
+-- square root unit; the geometry engine with what waits for it; the tick before which ARM9's DMA isn't due, which is the one after the geometry command
+-- that ended the last stall; and what each processor has of its own
 pub record IoState : Type 0 where
   pub video : VideoState
   pub vram : Banks
@@ -32,6 +37,8 @@ pub record IoState : Type 0 where
   pub romctrl : ℕ
   pub divider : DividerState
   pub root : RootState
+  pub gx : GxState
+  pub released : ℕ
   pub nine : ProcessorIoState
   pub seven : ProcessorIoState
 
@@ -50,6 +57,8 @@ io_at_boot = record {
   romctrl = 0;
   divider = divider_at_boot;
   root = root_at_boot;
+  gx = gx_at_boot;
+  released = 0;
   nine = processor_io_at_boot Nine;
   seven = processor_io_at_boot Seven;
 }
@@ -106,12 +115,50 @@ video_done palette oam u =
     unless_stop (video_stop oam u.video)
     (shown_to_others (video_shown u.video) (scan_due_tick u.video.scan) (record u { video = video_after_event u.vram palette oam u.video })) u
 
+-- the head command of geometry ends a stall: more entries waited than the FIFO holds, and now no more do (GBATEK, "GXFIFO")
+abbrev pub stall_ends : IoState → Bool
+stall_ends u = is_stalled u.gx && not (is_stalled (gx_finished u.gx))
+
+-- the head command of geometry is done, at its due tick. Where it ends a stall ARM9's DMA goes on at the next tick (our choice)
+abbrev pub tick_after : Option Tick → ℕ → ℕ
+tick_after None other = other
+tick_after (Some tick) other = tick.0 + 1
+
+abbrev pub geometry_done : IoState → IoState
+geometry_done u = record u { gx = gx_finished u.gx; released = if stall_ends u then tick_after u.gx.due u.released else u.released }
+
+-- line 192 begins at a tick, and a swap that waits is made (GBATEK, SWAP_BUFFERS)
+abbrev pub geometry_swapped : Tick → IoState → IoState
+geometry_swapped now u = record u { gx = gx_swapped now u.gx }
+
+-- a processor isn't due: it is halted, or a channel of it runs, or it is ARM9 and a stall of geometry holds it (GBATEK, "GXFIFO")
+abbrev pub is_held : IoState → Proc → Bool
+is_held u Nine = blocks_processor u.nine || is_stalled u.gx
+is_held u Seven = blocks_processor u.seven
+
+-- ---- what follows each step that is taken at a tick: the level of geometry's interrupt is told as it is, and the channels are triggered that wait for
+-- geometry where its FIFO has room (GBATEK, GXSTAT bits 25 and 30 to 31; that it follows the whole step is our choice)
+
+abbrev pub level_told : IoState → IoState
+level_told u = record u { nine = record u.nine { irq = irq_levelled u.nine.irq (gx_level u.gx) } }
+
+abbrev pub geometry_triggered : Tick → IoState → IoState
+geometry_triggered now u = if is_half_empty u.gx then record u { nine = processor_io_triggered u.nine causes.Geometry now } else u
+
+abbrev pub settled : Tick → IoState → IoState
+settled now u = geometry_triggered now (level_told u)
+
+-- nothing of this is left to do
+abbrev pub is_settled : IoState → Bool
+is_settled u = ((irq_levelled u.nine.irq (gx_level u.gx)).if_ == u.nine.irq.if_) && not (is_half_empty u.gx && awaits_geometry u.nine.dma)
+
 -- what the event of an actor behind the ports leaves, where it is due; the display's stands above, since it reads memories, and a DMA channel's
 -- below, since it is an access of memory
 abbrev pub io_event : actor.Actor → IoState → IoState
 io_event (Timer proc number) u = timer_overflows proc number u
 io_event Divider u = division_done u
 io_event SquareRoot u = root_done u
+io_event Geometry u = geometry_done u
 io_event _ u = u
 
 -- the DMA channel of a processor that is due moves its first unit, but for the access itself

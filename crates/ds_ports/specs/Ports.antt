@@ -144,22 +144,6 @@ abbrev pub unless_stopped : Option Stop → IoState → IoState → IoState
 unless_stopped None old new = new
 unless_stopped (Some stop) old new = old
 
--- whether a byte is built: that of each register but those that are to come, and those that are no ports, which read 0
-abbrev pub is_slot_built : Option Slot → Bool
-is_slot_built None = true
-is_slot_built (Some slot) = (meaning_of slot.register).is_built
-
-unfoldable pub port_is_built : Proc → ℕ → Bool
-port_is_built proc at = is_slot_built (slot_of proc at)
-
--- whether so many bytes, of which the first is a register's, lie in that register, and it is built
-abbrev pub in_built : ℕ → Option Slot → Bool
-in_built length None = false
-in_built length (Some slot) = (meaning_of slot.register).is_built && nat_le (slot.byte + length) slot.bytes
-
-unfoldable pub lies_in_built : Proc → ℕ → ℕ → Bool
-lies_in_built proc at length = in_built length (slot_of proc at)
-
 -- ---- laws of these: an access at a multiple of its width that lies in no one register is one of each register that begins in it, whole, in ascending address
 
 abbrev pub width_of : ℕ → Width

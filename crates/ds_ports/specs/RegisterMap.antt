@@ -2,12 +2,12 @@ use Rattle.std.specs.Prelude.{ℕ, ◌≡◌, ◌<◌, ◌≤◌, ◌⊎◌, ◌
 use Rattle.ds_base.specs.declared.processors.Proc.{Proc}
 use Rattle.ds_base.specs.declared.processors.Proc.TheVariants.{Nine, Seven}
 use Rattle.ds_ports.specs.declared.registers.Register.{Register}
-use Rattle.ds_ports.specs.declared.registers.Register.TheVariants.{Later, DisplayHalf, DisplayWord, Dmasad, Dmadad, Dmacnt, Dmafill, TmcntL, TmcntH, Keyinput, Keycnt, Extkeyin, Ipcsync, Ipcfifocnt, Ipcfifosend, Ipcfiforecv, Romctrl, Ime, Ie, If, Vramcnt, Wramcnt, Vramstat, Wramstat, Divcnt, DivNumer, DivDenom, DivResult, DivremResult, Sqrtcnt, SqrtResult, SqrtParam, Postflg, Haltcnt}
+use Rattle.ds_ports.specs.declared.registers.Register.TheVariants.{DisplayHalf, DisplayWord, GxWord, GxCommand, Dmasad, Dmadad, Dmacnt, Dmafill, TmcntL, TmcntH, Keyinput, Keycnt, Extkeyin, Ipcsync, Ipcfifocnt, Ipcfifosend, Ipcfiforecv, Romctrl, Ime, Ie, If, Vramcnt, Wramcnt, Vramstat, Wramstat, Divcnt, DivNumer, DivDenom, DivResult, DivremResult, Sqrtcnt, SqrtResult, SqrtParam, Postflg, Haltcnt}
 use Rattle.ds_ports.specs.declared.registers.Slot.{Slot}
 use Rattle.ds_ports.specs.Registers.{meaning_of}
 
 -- The register map of each processor (GBATEK, "DS I/O Maps"): the offset from 4000000h, how many bytes each register of the row has, and what
--- they are; GBATEK's names stand beside. What isn't built yet is `Later`. Offsets that no row has aren't ports of this console.
+-- they are; GBATEK's names stand beside. Offsets that no row has aren't ports of this console.
 
 -- how many registers stand there one after another, and by their place among them, counted from 0, which register each is, and which of its name
 pub record PortRow : Type 0 where
@@ -28,8 +28,18 @@ row_from first offset bytes count register = record (port_row offset bytes count
 abbrev pub display_halves : ℕ → ℕ → PortRow
 display_halves offset count = record (port_row offset 2 count DisplayHalf) { number = λ place. offset + 2 * place }
 
+abbrev pub words_by_offset : ℕ → ℕ → Register → PortRow
+words_by_offset offset count register = record (port_row offset 4 count register) { number = λ place. offset + 4 * place }
+
 abbrev pub display_words : ℕ → ℕ → PortRow
-display_words offset count = record (port_row offset 4 count DisplayWord) { number = λ place. offset + 4 * place }
+display_words offset count = words_by_offset offset count DisplayWord
+
+-- geometry's, of four bytes each, the same
+abbrev pub gx_words : ℕ → ℕ → PortRow
+gx_words offset count = words_by_offset offset count GxWord
+
+abbrev pub gx_commands : ℕ → ℕ → PortRow
+gx_commands offset count = words_by_offset offset count GxCommand
 
 -- so many times two registers, or three, in turn
 abbrev pub two_in_turn : ℕ → ℕ → ℕ → Register → Register → PortRow
@@ -81,10 +91,10 @@ effect_rows base between =
     ∷ between)
     ++ (display_halves (base + 0x6C) 1 ∷ [])  -- MASTER_BRIGHT
 
--- engine A's alone: the 3D engine's control, which isn't built yet, and display capture
+-- engine A's alone: the 3D engine's control, and display capture
 abbrev pub capture_rows : List PortRow
 capture_rows =
-    port_row 0x060 4 1 Later  -- DISP3DCNT
+    gx_words 0x060 1  -- DISP3DCNT
     ∷ display_words 0x064 1  -- DISPCAPCNT
     ∷ []
 
@@ -135,14 +145,14 @@ power_rows =
 
 abbrev pub geometry_rows : List PortRow
 geometry_rows =
-    port_row 0x400 4 16 Later  -- GXFIFO
-    ∷ port_row 0x440 4 112 Later  -- MTX_MODE to VEC_TEST, the geometry commands
-    ∷ port_row 0x600 4 1 Later  -- GXSTAT
-    ∷ port_row 0x604 4 1 Later  -- RAM_COUNT
-    ∷ port_row 0x620 4 4 Later  -- POS_RESULT
-    ∷ port_row 0x630 2 3 Later  -- VEC_RESULT
-    ∷ port_row 0x640 4 16 Later  -- CLIPMTX_RESULT
-    ∷ port_row 0x680 4 9 Later  -- VECMTX_RESULT
+    gx_commands 0x400 16  -- GXFIFO
+    ∷ gx_commands 0x440 112  -- MTX_MODE to VEC_TEST, the geometry commands
+    ∷ gx_words 0x600 1  -- GXSTAT
+    ∷ gx_words 0x604 1  -- RAM_COUNT
+    ∷ gx_words 0x620 4  -- POS_RESULT
+    ∷ gx_words 0x630 2  -- VEC_RESULT, three halves
+    ∷ gx_words 0x640 16  -- CLIPMTX_RESULT
+    ∷ gx_words 0x680 9  -- VECMTX_RESULT
     ∷ []
 
 abbrev pub receive_rows : List PortRow

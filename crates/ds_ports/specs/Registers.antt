@@ -1,4 +1,4 @@
-use Rattle.std.specs.Prelude.{ℕ, ◌+◌, ◌*◌, ◌/◌, ◌%◌, ◌^◌, ◌==◌, ◌||◌, if◌then◌else◌, Bool, true, false, Option, Some, None, is_some, bit_and, slice_index_or, slice_set}
+use Rattle.std.specs.Prelude.{ℕ, ◌+◌, ◌*◌, ◌/◌, ◌%◌, ◌^◌, ◌==◌, ◌||◌, nat_lt, if◌then◌else◌, Bool, true, false, Option, Some, None, is_some, bit_and, slice_index_or, slice_set}
 use Rattle.ds_base.specs.Bits.{bit, bits, flag}
 use Rattle.ds_base.specs.Numbers.{value_by}
 use Rattle.ds_base.specs.declared.left_out.LeftKind.TheVariants.{CardTransfer, HaltMode}
@@ -6,6 +6,7 @@ use Rattle.ds_base.specs.declared.left_out.Stop.{Stop}
 use Rattle.ds_base.specs.declared.memories.Width.{Width}
 use Rattle.ds_base.specs.declared.memories.Width.TheVariants.{Half, Word}
 use Rattle.ds_base.specs.declared.processors.Proc.{Proc}
+use Rattle.ds_base.specs.declared.processors.Proc.TheVariants.{Nine, Seven}
 use Rattle.ds_base.specs.declared.ticks.Tick.{Tick}
 use Rattle.ds_dma.specs.Channels.{channel_refusal, channel_word}
 use Rattle.ds_dma.specs.States.{channel_at}
@@ -19,7 +20,8 @@ use Rattle.ds_timers.specs.Timing.{counter_of, timer_at}
 use Rattle.ds_ports.specs.ProcessorIo.{ProcessorIoState, control_written, dma_written, extkeyin_word, haltcnt_written, ie_written, if_written, ime_written, keycnt_written, keyinput_word, reload_written}
 use Rattle.ds_ports.specs.Io.{IoState, both_raised, io_of, with_io_of}
 use Rattle.ds_ports.specs.declared.registers.Register.{Register}
-use Rattle.ds_ports.specs.declared.registers.Register.TheVariants.{DisplayHalf, DisplayWord, Dmasad, Dmadad, Dmacnt, Dmafill, TmcntL, TmcntH, Keyinput, Keycnt, Extkeyin, Ipcsync, Ipcfifocnt, Ipcfifosend, Ipcfiforecv, Romctrl, Ime, Ie, If, Vramcnt, Wramcnt, Vramstat, Wramstat, Divcnt, DivNumer, DivDenom, DivResult, DivremResult, Sqrtcnt, SqrtResult, SqrtParam, Postflg, Haltcnt}
+use Rattle.ds_ports.specs.declared.registers.Register.TheVariants.{DisplayHalf, DisplayWord, GxWord, GxCommand, Dmasad, Dmadad, Dmacnt, Dmafill, TmcntL, TmcntH, Keyinput, Keycnt, Extkeyin, Ipcsync, Ipcfifocnt, Ipcfifosend, Ipcfiforecv, Romctrl, Ime, Ie, If, Vramcnt, Wramcnt, Vramstat, Wramstat, Divcnt, DivNumer, DivDenom, DivResult, DivremResult, Sqrtcnt, SqrtResult, SqrtParam, Postflg, Haltcnt}
+use Rattle.gx_fifo.specs.GxStates.{GxState, gx_kept, gx_word, gx_written, waiting_entries}
 use Rattle.video2d.specs.Kept.{kept_byte}
 use Rattle.video2d.specs.Videos.{video_byte, video_written}
 use Rattle.vram_banks.specs.BankMap.{kept_bank_control}
@@ -37,8 +39,6 @@ pub data Write : Type 0 where
 pub record Meaning : Type 0 where
   -- how many there are of its name, told apart by a number from 0 on
   pub count : ℕ
-  -- it is built
-  pub is_built : Bool
   -- it is reached by whole words alone: narrower reads give 0, and narrower writes are ignored (our choice)
   pub takes_words : Bool
   -- what it reads, for a processor at a tick
@@ -58,7 +58,6 @@ pub record Meaning : Type 0 where
 abbrev pub idle : Meaning
 idle = record {
   count = 1;
-  is_built = true;
   takes_words = false;
   value = λ proc now u n. 0;
   kept = λ proc u n. 0;
@@ -156,6 +155,25 @@ display_register width = record idle {
   written = of_io (λ proc now u n word. record u { video = video_written proc u.video n width word });
 }
 
+-- one of geometry's, of which the number is the offset of its first byte: what it reads, what it keeps, and what a write leaves, are told where geometry
+-- is. ARM9 alone has them. More than 320 entries never wait where one is written, since a stall holds ARM9 and its DMA first: a write there is
+-- ignored (our choice of form).
+abbrev pub gx_port_written : GxState → ℕ → ℕ → Tick → GxState
+gx_port_written s at value now = if nat_lt 320 (waiting_entries s) then s else gx_written s at value now
+
+abbrev pub gx_set : Proc → Tick → IoState → ℕ → ℕ → IoState
+gx_set Nine now u n word = record u { gx = gx_port_written u.gx n word now }
+gx_set Seven now u n word = u
+
+abbrev pub gx_register : Bool → Meaning
+gx_register takes_words = record idle {
+  count = 0x6A4;
+  takes_words = takes_words;
+  value = λ proc now u n. gx_word u.gx n;
+  kept = λ proc u n. gx_kept u.gx n;
+  written = of_io gx_set;
+}
+
 -- ---- the registers
 
 abbrev pub meaning_of : Register → Meaning
@@ -246,8 +264,10 @@ meaning_of Haltcnt = record idle {
   written = of_processor (λ proc now pressed processor_io n word. haltcnt_written processor_io (word % 2 ^ 8));
   refusal = λ proc u n word. halt_refusal (word % 2 ^ 8);
 }
--- those that are to come: each offset of theirs reads 0, and ignores writes
-meaning_of _ = record idle { count = 112; is_built = false }
+-- DISP3DCNT, GXSTAT, RAM_COUNT, POS_RESULT, VEC_RESULT, CLIPMTX_RESULT and VECMTX_RESULT (GBATEK, "DS 3D Display Control", "DS 3D Status")
+meaning_of GxWord = gx_register false
+-- GXFIFO, and the ports of commands: they read 0, and take whole words (GBATEK, "DS 3D Geometry Commands"; the words are our choice)
+meaning_of GxCommand = gx_register true
 
 -- ---- what a write leaves
 

@@ -1,18 +1,20 @@
 //! The units behind the ports, with the first of them that is due.
 
-ghost use Rattle.std.specs.Prelude.{◌≡◌, ◌<◌, ◌^◌, IfOk, IsSome, Some, length};
+ghost use Rattle.std.specs.Prelude.{◌≡◌, ◌<◌, ◌≤◌, ◌^◌, true, IfOk, IsSome, Some, length};
 ghost use Rattle.ds_base.specs.Schedules.{IsEarly};
 ghost use Rattle.ds_dma.specs.States.{dma_due};
 ghost use Rattle.ds_ipc.specs.Ipcs.{AreSides};
 ghost use Rattle.ds_runs.specs.Actors.{IsNumbered};
 ghost use Rattle.ds_runs.specs.declared.actors.Actor.TheVariants as actors;
 ghost use Rattle.ds_runs.specs.Order.{first_from};
+ghost use Rattle.gx_fifo.specs.GxStates.{AddsOneVertex, IsGx, gx_finished, is_stalled};
+ghost use Rattle.gx_geometry.specs.States.{AreListsSince};
 ghost use Rattle.vram_banks.specs.Cells.{vram_written};
 ghost use Rattle.ds_ports.specs.Dues.{IsIo, io_due, io_dues, first_io_due};
 ghost use Rattle.ds_ports.specs.Inside.{moves_dues};
 ghost use Rattle.ds_ports.specs.ProcessorIo.{before_move};
 ghost use Rattle.ds_ports.specs.Registers.{after_write, meaning_of};
-ghost use Rattle.ds_ports.specs.Io.{channel_moved, channel_put_back, io_at_boot, io_event, io_of, keys_pressed, video_done, with_halted};
+ghost use Rattle.ds_ports.specs.Io.{channel_moved, channel_put_back, geometry_swapped, io_at_boot, io_event, io_of, is_held, is_settled, keys_pressed, settled, video_done, with_halted};
 ghost use Rattle.video2d.specs.Videos.{video_answer};
 
 use crate::processor_io::{Before, ProcessorIo};
@@ -20,6 +22,7 @@ use crate::registers::Register;
 use crate::units::Units;
 use ds_base::{Due, Proc, Space, Stop, Tick, Width};
 use ds_runs::Actor;
+use gx_geometry::Lists;
 use std::alloc::{AllocError, Global};
 use std::marker::Model;
 use video2d::{Shown, Video};
@@ -30,18 +33,19 @@ use vram_banks::Vram;
 pub struct Io {
     units: Units,
     due: Due,
+    settled: bool,
 }
 
 impl Model for Io {
-    ghost use Rattle.std.specs.Prelude.{◌≡◌, Some};
+    ghost use Rattle.std.specs.Prelude.{◌≡◌, true, Some};
     ghost use Rattle.ds_ports.specs.Dues.{first_io_due};
-    ghost use Rattle.ds_ports.specs.Io.{IoState};
+    ghost use Rattle.ds_ports.specs.Io.{IoState, is_settled};
 
     ghost Value = { IoState };
 
     ghost view = { λ u. u.units };
 
-    ghost invariant = { λ u. Some u.due ≡ first_io_due u.units };
+    ghost invariant = { λ u. (Some u.due ≡ first_io_due u.units) × (u.settled ≡ true → is_settled u.units ≡ true) };
 }
 
 /// Whether a write of a register may change when something is due.
@@ -61,6 +65,8 @@ fn moves_dues(register: Register) -> bool
             | Register::DivDenom
             | Register::Sqrtcnt
             | Register::SqrtParam
+            | Register::GxWord
+            | Register::GxCommand
     )
 }
 
@@ -72,7 +78,11 @@ impl Io {
     {
         let units = Units::new(alloc)?;
         let due = units.first_due();
-        Ok(Io { units, due })
+        Ok(Io {
+            units,
+            due,
+            settled: false,
+        })
     }
 
     /// All of them, but for what is kept of their due ticks.
@@ -117,7 +127,7 @@ impl Io {
     }
 
     /// A write of video memory, at an address of one of its spaces.
-    #[tactic(auto, using(crate::proofs::Dues::vram_moves_none))]
+    #[tactic(auto, using(crate::proofs::Dues::vram_moves_none, crate::proofs::Settles::vram_settled))]
     pub fn write_vram(&mut self, space: Space, at: u32, width: Width, value: u32)
         ensures { self.new ≡ record self.old { vram = vram_written self.old.vram space at width value } }
     {
@@ -126,7 +136,7 @@ impl Io {
 
     /// Halts a processor, or lets it go on.
     #[inline(always)]
-    #[tactic(auto, using(crate::proofs::Dues::halts_move_none))]
+    #[tactic(auto, using(crate::proofs::Dues::halts_move_none, crate::proofs::Settles::halt_settled))]
     pub fn set_halted(&mut self, proc: Proc, halted: bool)
         ensures { self.new ≡ with_halted proc self.old halted }
     {
@@ -142,7 +152,7 @@ impl Io {
     }
 
     /// The first actor behind the ports that is due, by tick and then by rank. It is kept, and found again only where one of them had its event, or a
-    /// timer, a DMA channel, the divider or the square root unit changed.
+    /// timer, a DMA channel, the divider, the square root unit or geometry changed.
     #[inline(always)]
     #[tactic(auto, unfolding(crate::specs::Dues::first_io_due))]
     pub fn first_due(&self) -> Due
@@ -151,14 +161,16 @@ impl Io {
         self.due
     }
 
-    /// The event of an actor behind the ports that is due: a timer overflows and its interrupts are raised, a division or a square root is done.
-    /// The display's is told by `show`, a DMA channel's by `move_channel`.
+    /// The event of an actor behind the ports that is due: a timer overflows and its interrupts are raised, a division or a square root is done,
+    /// or the head command of geometry, which may end a stall: then ARM9's channels are due at the next tick or later. The display's is told by `show`, a DMA channel's by `move_channel`.
     pub fn event(&mut self, actor: Actor)
         requires numbered { IsNumbered actor }
         requires due { IsSome (io_due actor self.old) }
         requires early { IsEarly (io_due actor self.old) }
+        requires run { actor ≡ actors.Geometry → self.old.gx.geometry.numbers.run ≤ 2 ^ 56 }
         ensures { self.new ≡ io_event actor self.old }
     {
+        self.settled = false;
         self.units.event(actor);
         self.due = self.units.first_due();
     }
@@ -173,6 +185,7 @@ impl Io {
         ensures answer { result ≡ video_answer oam.now self.old.video }
         ensures state { self.new ≡ video_done palette.now oam.now self.old }
     {
+        self.settled = false;
         let shown = self.units.show(palette, oam);
         self.due = self.units.first_due();
         shown
@@ -186,6 +199,7 @@ impl Io {
         ensures state { self.new ≡ channel_moved proc now self.old }
         ensures before { result ≡ before_move (io_of self.old proc) }
     {
+        self.settled = false;
         let before = self.units.move_channel(proc, now);
         self.due = self.units.first_due();
         before
@@ -195,15 +209,104 @@ impl Io {
     pub fn put_back(&mut self, proc: Proc, before: Before)
         ensures { self.new ≡ channel_put_back proc before self.old }
     {
+        self.settled = false;
         self.units.put_back(proc, before);
         self.due = self.units.first_due();
     }
 
-    /// Does nothing; its contract states what holds of the units at every time: what holds of each processor's timers and DMA channels.
+    /// Line 192 begins at a tick: a swap of geometry's lists that waits is made. Gives whether one waited; nothing changes where none did.
+    pub fn swap(&mut self, now: Tick) -> bool
+        requires { IsEarly (Some now) }
+        ensures state { self.new ≡ geometry_swapped now self.old }
+        ensures waited { result ≡ self.old.gx.swap_waits }
+        ensures lists { self.old.gx.swap_waits ≡ true → AreListsSince self.old.gx.geometry self.new.gx.geometry.last.vertices self.new.gx.geometry.last.polygons }
+    {
+        self.settled = false;
+        let waited = self.units.swap(now);
+        self.due = self.units.first_due();
+        waited
+    }
+
+    /// The lists of geometry's last swap.
+    pub fn lists(&self) -> &Lists
+        ensures { result.now ≡ self.now.gx.geometry.last }
+    {
+        self.units.lists()
+    }
+
+    /// Whether a stall of geometry holds ARM9 and its DMA.
+    pub fn is_stalled(&self) -> bool
+        ensures { result ≡ is_stalled self.now.gx }
+    {
+        self.units.is_stalled()
+    }
+
+    /// How many vertices geometry's current run has.
+    pub fn run_length(&self) -> u64
+        ensures { result ≡ self.now.gx.geometry.numbers.run }
+    {
+        self.units.run_length()
+    }
+
+    /// Whether a processor isn't due: it is halted, a channel of it runs, or it is ARM9 and a stall of geometry holds it, which is where more
+    /// entries wait than geometry's FIFO holds.
+    #[inline(always)]
+    pub fn is_held(&self, proc: Proc) -> bool
+        ensures { result ≡ is_held self.now proc }
+    {
+        self.units.is_held(proc)
+    }
+
+    /// Whether `settle` would leave all as it is.
+    #[inline(always)]
+    pub fn is_settled(&self) -> bool
+        ensures { result ≡ is_settled self.now }
+    {
+        self.settled || self.units.is_settled()
+    }
+
+    /// What follows each step at a tick: bit 21 of ARM9's IF tells geometry's level as it is, and ARM9's channels that wait for geometry are triggered
+    /// where its count is below 128. It costs nothing where only halts and video memory changed since the last such call.
+    #[inline(always)]
+    #[tactic(auto, using(crate::proofs::Settles::settled_stays))]
+    pub fn settle(&mut self, now: Tick)
+        requires { IsEarly (Some now) }
+        ensures { self.new ≡ settled now self.old }
+    {
+        self.units.laws();
+        if !self.settled {
+            self.settle_units(now);
+        }
+    }
+
+    /// The same, where that isn't known to leave all as it is.
+    #[tactic(auto, using(crate::proofs::Settles::settled_stays, crate::proofs::Settles::settles))]
+    fn settle_units(&mut self, now: Tick)
+        requires { IsEarly (Some now) }
+        ensures { self.new ≡ settled now self.old }
+    {
+        self.units.laws();
+        if !self.units.is_settled() {
+            self.units.settle(now);
+            self.due = self.units.first_due();
+        }
+        self.settled = true;
+    }
+
+    /// Does nothing; its contract states what holds of the units at every time: what holds of each processor's timers and DMA channels, and of
+    /// what waits for geometry.
     pub fn laws(&self)
         ensures { IsIo self.now }
     {
         self.units.laws();
+    }
+
+    /// Does nothing; its contract states what holds of geometry at every time; `run`: its head command adds one vertex to the current run at most.
+    pub fn gx_laws(&self)
+        ensures is { IsGx self.now.gx }
+        ensures run { AddsOneVertex self.now.gx (gx_finished self.now.gx) }
+    {
+        self.units.gx_laws();
     }
 
     /// Does nothing; its contract states what holds of both sides of the IPC at every time: neither FIFO holds more than 16 words, and how many
@@ -221,6 +324,7 @@ impl Io {
         requires { pressed < 2 ^ 12 }
         ensures { self.new ≡ keys_pressed self.old pressed }
     {
+        self.settled = false;
         self.units.press(pressed);
     }
 
@@ -229,6 +333,7 @@ impl Io {
     pub(crate) fn read_register(&mut self, proc: Proc, register: Register)
         ensures { self.new ≡ (meaning_of register).after_read proc self.old }
     {
+        self.settled = false;
         self.units.read_register(proc, register);
     }
 
@@ -246,6 +351,7 @@ impl Io {
         requires early { IsEarly (Some now) }
         ensures { self.new ≡ after_write proc now self.old register number value }
     {
+        self.settled = false;
         self.units
             .write_register(proc, now, register, number, value);
         if moves_dues(register) {

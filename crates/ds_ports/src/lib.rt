@@ -13,6 +13,6 @@ mod registers;
 mod units;
 
 pub use io::Io;
-pub use ports::{lies_in_built, part, port_is_built, register_laws};
+pub use ports::{part, register_laws};
 pub use processor_io::{Before, ProcessorIo};
 pub use registers::{Register, Slot, slot_of};

@@ -6,7 +6,8 @@ ghost use Rattle.ds_base.specs.Schedules.{IsEarly};
 ghost use Rattle.ds_base.specs.declared.memories.Width.{Width};
 ghost use Rattle.ds_base.specs.declared.processors.Proc.{Proc};
 ghost use Rattle.ds_base.specs.declared.ticks.Tick.{Tick};
-ghost use Rattle.ds_ports.specs.Ports.{GoesAscending, byte_refusal, byte_written, first_stop, half_refusal, half_written, ignores, in_built, is_slot_built, with_bytes_from, lies_in_built, part, port_byte, port_half, port_is_built, port_read, port_refusal, port_value, port_word, port_written, slot_joined, slot_refusal, slot_value, slot_written, unless_stopped, whole_in, word_refusal, word_written};
+ghost use Rattle.ds_ports.specs.Ports.{GoesAscending, byte_refusal, byte_written, first_stop, half_refusal, half_written, ignores, with_bytes_from, part, port_byte, port_half, port_read, port_refusal, port_value, port_word, port_written, slot_joined, slot_refusal, slot_value, slot_written, unless_stopped, whole_in, word_refusal, word_written};
+ghost use Rattle.gx_fifo.specs.GxStates.{AreWaiting, waiting_entries};
 ghost use Rattle.ds_ports.specs.Dues.{Goes, IsProcessorIo, IsQuiet};
 ghost use Rattle.ds_ports.specs.RegisterMap.{IsSlot, StandsWhole, slot_of};
 ghost use Rattle.ds_ports.specs.Io.{IoState, io_of};
@@ -79,7 +80,11 @@ fn whole_in(width: Width, slot: Option<Slot>) -> Option<Slot>
 fn ignores(width: Width, register: Register) -> bool
     ensures { result ≡ ignores width register }
 {
-    width != Width::Word && matches!(register, Register::Ipcfifosend | Register::Ipcfiforecv)
+    width != Width::Word
+        && matches!(
+            register,
+            Register::Ipcfifosend | Register::Ipcfiforecv | Register::GxCommand
+        )
 }
 
 /// The first of two stops.
@@ -370,8 +375,9 @@ impl Io {
 
     /// A processor's write at an offset from 4000000h, at a tick. Where it is refused, it gives the stop and leaves all: exactly where it
     /// would write HALTCNT's modes 1 or 3, kind HaltMode with the byte written; ROMCTRL's bit 31, kind CardTransfer with the whole word; or a
-    /// DMA control that is refused, kind DmaStart or NotYet with the control as it would be kept. `schedule`: it leaves each due tick as it was, or later than its
+    /// DMA control that is refused, kind DmaStart with the control as it would be kept. `schedule`: it leaves each due tick as it was, or later than its
     /// own, where the processor's timers and its running channels come later than that.
+    /// `grows`: it adds four entries at most to those that wait for geometry.
     #[inline(always)]
     pub fn put(&mut self, proc: Proc, now: Tick, at: u32, width: Width, value: u32) -> Option<Stop>
         requires at { at < 2 ^ 24 }
@@ -379,32 +385,9 @@ impl Io {
         ensures refusal { result ≡ port_refusal proc self.old at width value }
         ensures next { self.new ≡ unless_stopped (port_refusal proc self.old at width value) self.old (port_written proc now self.old at width value) }
         ensures schedule { IsProcessorIo (io_of self.old proc) → IsQuiet now (io_of self.old proc) → Goes proc now self.old self.new }
+        ensures grows { AreWaiting self.old.gx → waiting_entries self.new.gx ≤ waiting_entries self.old.gx + 4 }
     {
         self.put_any(proc, now, at, width, value)
-    }
-}
-
-/// Whether a byte of the ports is built for a processor: those of each register but those that are to come, and those that are no port,
-/// which read 0.
-#[tactic(auto, unfolding(crate::specs::Ports::port_is_built))]
-pub fn port_is_built(proc: Proc, at: u32) -> bool
-    ensures { result ≡ port_is_built proc at }
-{
-    match slot_of(proc, at) {
-        Some(slot) => slot.register != Register::Later,
-        None => true,
-    }
-}
-
-/// Whether so many bytes of the ports from one on lie in one register of a processor, and it is built. Each of
-/// them is built then.
-#[tactic(auto, unfolding(crate::specs::Ports::lies_in_built))]
-pub fn lies_in_built(proc: Proc, at: u32, length: u32) -> bool
-    ensures { result ≡ lies_in_built proc at length }
-{
-    match slot_of(proc, at) {
-        Some(slot) => slot.register != Register::Later && length <= slot.bytes - slot.byte,
-        None => false,
     }
 }
 

@@ -1,13 +1,13 @@
 //! What each processor has of its own behind the ports.
 
-ghost use Rattle.std.specs.Prelude.{◌≡◌, ◌<◌, ◌+◌, ◌/◌, ◌%◌, ◌^◌, ◌∷◌, [], IsSome, Some};
+ghost use Rattle.std.specs.Prelude.{◌≡◌, ◌<◌, ◌+◌, ◌/◌, ◌%◌, ◌^◌, ◌==◌, ◌∷◌, [], IsSome, Some};
 ghost use Rattle.ds_base.specs.Bits.{flag};
 ghost use Rattle.ds_base.specs.Schedules.{IsEarly};
 ghost use Rattle.ds_dma.specs.Channels.{channel_refusal, channel_word, unit_of};
-ghost use Rattle.ds_dma.specs.States.{channel_at, channel_due, dma_due, due_channel};
+ghost use Rattle.ds_dma.specs.States.{channel_at, channel_due, dma_due, due_channel, awaits_geometry};
 ghost use Rattle.ds_dma.specs.declared.controls.DmaPort.TheVariants.{Control};
 ghost use Rattle.ds_runs.specs.Order.{first_from};
-ghost use Rattle.ds_timers.specs.Irqs.{line_is_up, shares_bit};
+ghost use Rattle.ds_timers.specs.Irqs.{irq_levelled, line_is_up, shares_bit};
 ghost use Rattle.ds_timers.specs.Timing.{counter_of, overflow_of, timer_at, timer_due};
 ghost use Rattle.ds_ports.specs.Dues.{IsProcessorIo};
 ghost use Rattle.ds_ports.specs.ProcessorIo.{before_move, control_written, dma_written, extkeyin_word, haltcnt_written, ie_written, if_written, ime_written, interrupts_of, blocks_processor, keycnt_written, keyinput_word, keys_hold, keys_told, processor_io_at_boot, processor_io_moved, processor_io_put_back, processor_io_raised, processor_io_triggered, reload_written};
@@ -169,6 +169,29 @@ impl ProcessorIo {
         ensures { result ≡ blocks_processor self.now }
     {
         self.halted || self.running
+    }
+
+    /// The level of geometry's interrupt is told as it is.
+    pub fn tell_level(&mut self, on: bool)
+        ensures { self.new ≡ record self.old { irq = irq_levelled self.old.irq on } }
+    {
+        self.irq.level21(on);
+    }
+
+    /// Whether IF tells it so already.
+    pub fn is_levelled(&self, on: bool) -> bool
+        ensures { result ≡ ((irq_levelled self.now.irq on).if_ == self.now.irq.if_) }
+    {
+        let mut told = self.irq;
+        told.level21(on);
+        told.flags() == self.irq.flags()
+    }
+
+    /// Whether a channel waits for geometry.
+    pub fn awaits_geometry(&self) -> bool
+        ensures { result ≡ awaits_geometry self.now.dma }
+    {
+        self.dma.awaits_geometry()
     }
 
     /// When a timer overflows, if it is due.

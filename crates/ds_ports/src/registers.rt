@@ -3,19 +3,21 @@
 ghost use Rattle.std.specs.Prelude.{◌≡◌, ◌<◌, ◌≤◌, ◌+◌, ◌-◌, ◌*◌, ◌/◌, [], ◌%◌, ◌^◌, ◌==◌, if◌then◌else◌, Some, IfSome};
 ghost use Rattle.ds_ports.specs.Parts.{looked_up, slot_among, parts_of_nine, parts_of_seven};
 ghost use Rattle.ds_ports.specs.RegisterMap.{slot_of, IsSlot, status_rows, display_rows, effect_rows, capture_rows, dma_rows, timer_and_ipc_rows, control_rows, maths_rows, power_rows, geometry_rows, receive_rows, seven_early_rows, seven_timer_and_ipc_rows, seven_control_rows};
-ghost use Rattle.ds_ports.specs.declared.registers.Register.TheVariants.{DisplayHalf, DisplayWord};
+ghost use Rattle.ds_ports.specs.declared.registers.Register.TheVariants.{DisplayHalf};
 
 use ds_base::Proc;
 
 /// A register, by GBATEK's name ("DS I/O Maps"). Those of one name are told apart by a `Slot`'s number.
 #[derive(Clone, Copy, PartialEq, Eq)]
 pub enum Register {
-    /// One that isn't built yet.
-    Later,
     /// One of the display's that has two bytes; its number is its offset from 4000000h. (GBATEK, "DS Video" and the chapters that it names.)
     DisplayHalf,
     /// One of the display's that has four, the same.
     DisplayWord,
+    /// One of geometry's that is read and written in parts too; its number is its offset from 4000000h. (GBATEK, "DS 3D Status".)
+    GxWord,
+    /// One of geometry's that takes commands, whole words; its number is its offset. (GBATEK, "DS 3D Geometry Commands".)
+    GxCommand,
     /// DMA0SAD to DMA3SAD, a channel's source. (GBATEK, "DS DMA Transfers".)
     Dmasad,
     /// DMA0DAD to DMA3DAD, its target. (The same chapter.)
@@ -122,15 +124,15 @@ fn halves(first: u32, at: u32) -> Option<Slot>
     })
 }
 
-/// The same of those of four bytes.
+/// The same of registers of four bytes, the display's and geometry's.
 #[inline(always)]
-fn words(first: u32, at: u32) -> Option<Slot>
+fn words(register: Register, first: u32, at: u32) -> Option<Slot>
     requires from { first ≤ at }
-    ensures { result ≡ Some (record { register = DisplayWord; number = first + 4 * ((at - first) / 4); byte = (at - first) % 4; bytes = 4 }) }
+    ensures { result ≡ Some (record { register = register; number = first + 4 * ((at - first) / 4); byte = (at - first) % 4; bytes = 4 }) }
 {
     let offset = at - first;
     Some(Slot {
-        register: Register::DisplayWord,
+        register,
         number: first + 4 * (offset / 4),
         byte: offset % 4,
         bytes: 4,
@@ -222,15 +224,15 @@ fn display(at: u32) -> Option<Slot>
     ensures { result ≡ slot_among (display_rows 0 status_rows) at }
 {
     match at {
-        0x000..=0x003 => words(0x000, at), // DISPCNT
+        0x000..=0x003 => words(Register::DisplayWord, 0x000, at), // DISPCNT
         0x004..=0x005 => halves(0x004, at), // DISPSTAT
         0x006..=0x007 => halves(0x006, at), // VCOUNT
         0x008..=0x00F => halves(0x008, at), // BG0CNT to BG3CNT
         0x010..=0x01F => halves(0x010, at), // BG0HOFS, BG0VOFS to BG3HOFS, BG3VOFS
         0x020..=0x027 => halves(0x020, at), // BG2PA, BG2PB, BG2PC, BG2PD
-        0x028..=0x02F => words(0x028, at), // BG2X, BG2Y
+        0x028..=0x02F => words(Register::DisplayWord, 0x028, at), // BG2X, BG2Y
         0x030..=0x037 => halves(0x030, at), // BG3PA, BG3PB, BG3PC, BG3PD
-        0x038..=0x03F => words(0x038, at), // BG3X, BG3Y
+        0x038..=0x03F => words(Register::DisplayWord, 0x038, at), // BG3X, BG3Y
         _ => None,
     }
 }
@@ -245,8 +247,8 @@ fn effects(at: u32) -> Option<Slot>
         0x048..=0x04B => halves(0x048, at), // WININ, WINOUT
         0x04C..=0x04D => halves(0x04C, at), // MOSAIC
         0x050..=0x055 => halves(0x050, at), // BLDCNT, BLDALPHA, BLDY
-        0x060..=0x063 => in_row(Register::Later, 4, at - 0x060), // DISP3DCNT
-        0x064..=0x067 => words(0x064, at), // DISPCAPCNT
+        0x060..=0x063 => words(Register::GxWord, 0x060, at), // DISP3DCNT
+        0x064..=0x067 => words(Register::DisplayWord, 0x064, at), // DISPCAPCNT
         0x06C..=0x06D => halves(0x06C, at), // MASTER_BRIGHT
         _ => None,
     }
@@ -339,14 +341,14 @@ fn geometry(at: u32) -> Option<Slot>
     ensures { result ≡ slot_among geometry_rows at }
 {
     match at {
-        0x400..=0x43F => in_row(Register::Later, 4, at - 0x400), // GXFIFO
-        0x440..=0x5FF => in_row(Register::Later, 4, at - 0x440), // MTX_MODE to VEC_TEST, the geometry commands
-        0x600..=0x603 => in_row(Register::Later, 4, at - 0x600), // GXSTAT
-        0x604..=0x607 => in_row(Register::Later, 4, at - 0x604), // RAM_COUNT
-        0x620..=0x62F => in_row(Register::Later, 4, at - 0x620), // POS_RESULT
-        0x630..=0x635 => in_row(Register::Later, 2, at - 0x630), // VEC_RESULT
-        0x640..=0x67F => in_row(Register::Later, 4, at - 0x640), // CLIPMTX_RESULT
-        0x680..=0x6A3 => in_row(Register::Later, 4, at - 0x680), // VECMTX_RESULT
+        0x400..=0x43F => words(Register::GxCommand, 0x400, at), // GXFIFO
+        0x440..=0x5FF => words(Register::GxCommand, 0x440, at), // MTX_MODE to VEC_TEST, the geometry commands
+        0x600..=0x603 => words(Register::GxWord, 0x600, at), // GXSTAT
+        0x604..=0x607 => words(Register::GxWord, 0x604, at), // RAM_COUNT
+        0x620..=0x62F => words(Register::GxWord, 0x620, at), // POS_RESULT
+        0x630..=0x637 => words(Register::GxWord, 0x630, at), // VEC_RESULT, three halves
+        0x640..=0x67F => words(Register::GxWord, 0x640, at), // CLIPMTX_RESULT
+        0x680..=0x6A3 => words(Register::GxWord, 0x680, at), // VECMTX_RESULT
         _ => None,
     }
 }
@@ -357,13 +359,13 @@ fn second_display(at: u32) -> Option<Slot>
     ensures { result ≡ slot_among (display_rows 0x1000 []) at }
 {
     match at {
-        0x1000..=0x1003 => words(0x1000, at), // DISPCNT
+        0x1000..=0x1003 => words(Register::DisplayWord, 0x1000, at), // DISPCNT
         0x1008..=0x100F => halves(0x1008, at), // BG0CNT to BG3CNT
         0x1010..=0x101F => halves(0x1010, at), // BG0HOFS, BG0VOFS to BG3HOFS, BG3VOFS
         0x1020..=0x1027 => halves(0x1020, at), // BG2PA, BG2PB, BG2PC, BG2PD
-        0x1028..=0x102F => words(0x1028, at), // BG2X, BG2Y
+        0x1028..=0x102F => words(Register::DisplayWord, 0x1028, at), // BG2X, BG2Y
         0x1030..=0x1037 => halves(0x1030, at), // BG3PA, BG3PB, BG3PC, BG3PD
-        0x1038..=0x103F => words(0x1038, at), // BG3X, BG3Y
+        0x1038..=0x103F => words(Register::DisplayWord, 0x1038, at), // BG3X, BG3Y
         _ => None,
     }
 }

@@ -1,17 +1,22 @@
 //! The units behind the ports, and what each register is.
 
-ghost use Rattle.std.specs.Prelude.{◌≡◌, ◌<◌, ◌≤◌, ◌%◌, ◌^◌, IfOk, IsSome, Some, length};
+ghost use Rattle.std.specs.Prelude.{◌≡◌, ◌<◌, ◌≤◌, ◌%◌, ◌^◌, ◌∷◌, [], true, IfOk, IsSome, Some, length};
 ghost use Rattle.ds_base.specs.Bits.{bit, flag};
 ghost use Rattle.ds_base.specs.Schedules.{IsEarly};
+ghost use Rattle.ds_base.specs.declared.processors.Proc.TheVariants.{Nine};
 ghost use Rattle.ds_dma.specs.States.{dma_due};
 ghost use Rattle.ds_ipc.specs.Ipcs.{AreSides};
 ghost use Rattle.ds_runs.specs.Actors.{IsNumbered};
+ghost use Rattle.ds_runs.specs.declared.actors.Actor.TheVariants as actors;
+ghost use Rattle.ds_runs.specs.Order.{first_from};
+ghost use Rattle.gx_fifo.specs.GxStates.{AddsOneVertex, IsGx, gx_finished, is_stalled};
+ghost use Rattle.gx_geometry.specs.States.{AreListsSince};
 ghost use Rattle.ds_timers.specs.Timing.{timer_at, timer_due};
 ghost use Rattle.vram_banks.specs.Cells.{vram_written};
-ghost use Rattle.ds_ports.specs.Dues.{IsIo, io_due, first_io_due};
+ghost use Rattle.ds_ports.specs.Dues.{IsIo, dma_due_in, io_due, first_io_due, released_at};
 ghost use Rattle.ds_ports.specs.ProcessorIo.{before_move};
-ghost use Rattle.ds_ports.specs.Registers.{bank_set, card_refusal, division_set, divcnt_word, fifo_control_set, halt_refusal, after_write, meaning_of, processor_io_after, root_set, sqrtcnt_word, sync_set, with_word_of_two, word_of_two, word_received, word_sent};
-ghost use Rattle.ds_ports.specs.Io.{both_raised, channel_moved, channel_put_back, channels_shown, channels_triggered, io_at_boot, io_event, io_of, keys_pressed, timer_overflows, video_done, with_halted, with_io_of};
+ghost use Rattle.ds_ports.specs.Registers.{bank_set, card_refusal, division_set, divcnt_word, fifo_control_set, gx_set, halt_refusal, after_write, meaning_of, processor_io_after, root_set, sqrtcnt_word, sync_set, with_word_of_two, word_of_two, word_received, word_sent};
+ghost use Rattle.ds_ports.specs.Io.{both_raised, channel_moved, channel_put_back, channels_shown, channels_triggered, geometry_done, geometry_swapped, io_at_boot, io_event, io_of, is_held, is_settled, keys_pressed, settled, timer_overflows, video_done, with_halted, with_io_of};
 ghost use Rattle.video2d.specs.Scans.{scan_due};
 ghost use Rattle.video2d.specs.Videos.{video_answer, video_written};
 
@@ -23,6 +28,8 @@ use ds_dma::{Cause, DmaPort};
 use ds_ipc::Ipc;
 use ds_math::{Divider, Root};
 use ds_runs::{Actor, earlier, earlier_than, entry};
+use gx_fifo::Gx;
+use gx_geometry::Lists;
 use std::alloc::{AllocError, Global};
 use std::marker::Model;
 use video2d::{Shown, Video};
@@ -46,6 +53,8 @@ pub struct Units {
     romctrl: u32,
     divider: Divider,
     root: Root,
+    gx: Gx,
+    released: u64,
     nine: ProcessorIo,
     seven: ProcessorIo,
 }
@@ -66,6 +75,8 @@ impl Model for Units {
       romctrl = u.romctrl;
       divider = u.divider;
       root = u.root;
+      gx = u.gx;
+      released = u.released;
       nine = u.nine;
       seven = u.seven;
     } };
@@ -120,6 +131,16 @@ fn sqrtcnt(root: &Root) -> u32
     is_wide(root) + busy
 }
 
+/// When a channel is due that isn't before a number of ticks.
+fn released_at(released: u64, due: Option<Tick>) -> Option<Tick>
+    ensures { result ≡ released_at released due }
+{
+    match due {
+        Some(tick) => Some(Tick(released.max(tick.0))),
+        None => None,
+    }
+}
+
 /// The stop for which a write of HALTCNT is refused.
 fn halt_refusal(value: u32) -> Option<Stop>
     requires { value < 2 ^ 8 }
@@ -163,6 +184,8 @@ impl Units {
             romctrl: 0,
             divider: Divider::new(),
             root: Root::new(),
+            gx: Gx::new(alloc)?,
+            released: 0,
             nine: ProcessorIo::new(Proc::Nine),
             seven: ProcessorIo::new(Proc::Seven),
         })
@@ -244,10 +267,42 @@ impl Units {
             Actor::Timer { proc, number } => self.processor_io(proc).timer_due(number),
             Actor::Divider => self.divider.due(),
             Actor::SquareRoot => self.root.due(),
-            Actor::Dma { proc, channel } => self.processor_io(proc).channel_due(channel),
+            Actor::Geometry => self.gx.due(),
+            Actor::Dma { proc, channel } => self.channel_due(proc, channel),
             Actor::Video => Some(self.video.due()),
-            Actor::KeyScript | Actor::Geometry | Actor::Card | Actor::Processor(_) => None,
+            Actor::KeyScript | Actor::Card | Actor::Processor(_) => None,
         }
+    }
+
+    /// When a DMA channel of a processor is due, if it is.
+    fn channel_due(&self, proc: Proc, channel: u8) -> Option<Tick>
+        requires { channel < 4 }
+        ensures { result ≡ dma_due_in self.now proc channel }
+    {
+        match proc {
+            Proc::Nine => {
+                if self.gx.stalled() {
+                    return None;
+                }
+                released_at(self.released, self.nine.channel_due(channel))
+            }
+            Proc::Seven => self.seven.channel_due(channel),
+        }
+    }
+
+    /// The first of ARM9's DMA channels that is due.
+    #[tactic(auto, using(crate::proofs::HeldDues::held_first))]
+    fn first_channel_of_nine(&self) -> Option<Due>
+        ensures { result ≡ first_from 14 (dma_due_in self.now Nine 0 ∷ dma_due_in self.now Nine 1 ∷ dma_due_in self.now Nine 2 ∷ dma_due_in self.now Nine 3 ∷ []) }
+    {
+        if self.gx.stalled() {
+            return None;
+        }
+        let due = self.nine.first_channel(14)?;
+        Some(Due {
+            tick: Tick(self.released.max(due.tick.0)),
+            rank: due.rank,
+        })
     }
 
     /// The first actor behind the ports that is due.
@@ -255,7 +310,8 @@ impl Units {
     pub fn first_due(&self) -> Due
         ensures { Some result ≡ first_io_due self.now }
     {
-        let mut first = earlier(self.nine.first_channel(14), self.seven.first_channel(18));
+        let mut first = earlier(self.first_channel_of_nine(), self.seven.first_channel(18));
+        first = earlier(entry(12, self.gx.due()), first);
         first = earlier(entry(11, self.root.due()), first);
         first = earlier(entry(10, self.divider.due()), first);
         first = earlier(self.seven.first_timer(6), first);
@@ -272,14 +328,95 @@ impl Units {
         requires numbered { IsNumbered actor }
         requires due { IsSome (io_due actor self.old) }
         requires early { IsEarly (io_due actor self.old) }
+        requires run { actor ≡ actors.Geometry → self.old.gx.geometry.numbers.run ≤ 2 ^ 56 }
         ensures { self.new ≡ io_event actor self.old }
     {
         match actor {
             Actor::Timer { proc, number } => self.overflow(proc, number),
             Actor::Divider => self.divider.finish(),
             Actor::SquareRoot => self.root.finish(),
-            Actor::KeyScript | Actor::Video | Actor::Geometry | Actor::Card => {}
+            Actor::Geometry => self.finish_command(),
+            Actor::KeyScript | Actor::Video | Actor::Card => {}
             Actor::Dma { .. } | Actor::Processor(_) => {}
+        }
+    }
+
+    /// The head command of geometry is done, and where it ends a stall ARM9's channels are due at the next tick or later.
+    fn finish_command(&mut self)
+        requires due { IsSome self.old.gx.due }
+        requires early { IsEarly self.old.gx.due }
+        requires run { self.old.gx.geometry.numbers.run ≤ 2 ^ 56 }
+        ensures { self.new ≡ geometry_done self.old }
+    {
+        let due = self.gx.due();
+        let stalled = self.gx.stalled();
+        self.gx.finish();
+        let ends = stalled && !self.gx.stalled();
+        match due {
+            Some(now) if ends => self.released = now.0 + 1,
+            _ => {}
+        }
+    }
+
+    /// Line 192 begins at a tick: a swap that waits is made. Gives whether one waited.
+    pub fn swap(&mut self, now: Tick) -> bool
+        requires { IsEarly (Some now) }
+        ensures state { self.new ≡ geometry_swapped now self.old }
+        ensures waited { result ≡ self.old.gx.swap_waits }
+        ensures lists { self.old.gx.swap_waits ≡ true → AreListsSince self.old.gx.geometry self.new.gx.geometry.last.vertices self.new.gx.geometry.last.polygons }
+    {
+        self.gx.swap(now)
+    }
+
+    /// The lists of the last swap.
+    pub fn lists(&self) -> &Lists
+        ensures { result.now ≡ self.now.gx.geometry.last }
+    {
+        self.gx.lists()
+    }
+
+    /// Whether a stall of geometry holds ARM9 and its DMA.
+    pub fn is_stalled(&self) -> bool
+        ensures { result ≡ is_stalled self.now.gx }
+    {
+        self.gx.stalled()
+    }
+
+    /// How many vertices geometry's current run has.
+    pub fn run_length(&self) -> u64
+        ensures { result ≡ self.now.gx.geometry.numbers.run }
+    {
+        self.gx.run_length()
+    }
+
+    /// Whether a processor isn't due: it is halted, a channel of it runs, or a stall of geometry holds it.
+    #[inline(always)]
+    pub fn is_held(&self, proc: Proc) -> bool
+        ensures { result ≡ is_held self.now proc }
+    {
+        match proc {
+            Proc::Nine => self.nine.is_blocked() || self.gx.stalled(),
+            Proc::Seven => self.seven.is_blocked(),
+        }
+    }
+
+    /// Whether `settle` would leave all as it is.
+    pub fn is_settled(&self) -> bool
+        ensures { result ≡ is_settled self.now }
+    {
+        self.nine.is_levelled(self.gx.level())
+            && !(self.gx.half_empty() && self.nine.awaits_geometry())
+    }
+
+    /// After a step at a tick: the level of geometry's interrupt is told as it is, and the channels are triggered that wait for geometry, where its
+    /// FIFO has room.
+    pub fn settle(&mut self, now: Tick)
+        requires { IsEarly (Some now) }
+        ensures { self.new ≡ settled now self.old }
+    {
+        self.nine.tell_level(self.gx.level());
+        if self.gx.half_empty() {
+            self.nine.trigger(Cause::Geometry, now);
         }
     }
 
@@ -349,6 +486,15 @@ impl Units {
     {
         self.nine.laws();
         self.seven.laws();
+        self.gx.laws();
+    }
+
+    /// Does nothing; its contract states what holds of geometry at every time.
+    pub fn gx_laws(&self)
+        ensures is { IsGx self.now.gx }
+        ensures run { AddsOneVertex self.now.gx (gx_finished self.now.gx) }
+    {
+        self.gx.laws();
     }
 
     /// Does nothing; its contract states what holds of both sides of the IPC at every time.
@@ -411,6 +557,7 @@ impl Units {
             Register::SqrtResult => self.root.read().root,
             Register::SqrtParam => word_of_two(number, self.root.read().value),
             Register::Postflg => 1,
+            Register::GxWord | Register::GxCommand => self.gx.port_read(number),
             _ => 0,
         }
     }
@@ -458,6 +605,7 @@ impl Units {
             Register::DivDenom => word_of_two(number, self.divider.read().denominator),
             Register::Sqrtcnt => is_wide(&self.root),
             Register::SqrtParam => word_of_two(number, self.root.read().value),
+            Register::GxWord | Register::GxCommand => self.gx.port_kept(number),
             _ => 0,
         }
     }
@@ -545,6 +693,16 @@ impl Units {
         self.root.start(seen.wide, value, now);
     }
 
+    /// A write of one of geometry's, which ARM9 alone has, where there is room for what it may add.
+    fn set_gx(&mut self, proc: Proc, now: Tick, number: u32, value: u32)
+        requires { IsEarly (Some now) }
+        ensures { self.new ≡ gx_set proc now self.old number value }
+    {
+        if proc == Proc::Nine && self.gx.waiting() <= 320 {
+            self.gx.port_write(number, value, now);
+        }
+    }
+
     /// A write of a register of a processor's own.
     fn write_processor_io(
         &mut self,
@@ -605,6 +763,7 @@ impl Units {
             Register::DivDenom => self.set_denominator(now, number, value),
             Register::Sqrtcnt => self.set_sqrtcnt(now, value),
             Register::SqrtParam => self.set_radicand(now, number, value),
+            Register::GxWord | Register::GxCommand => self.set_gx(proc, now, number, value),
             _ => {}
         }
     }

@@ -37,9 +37,6 @@ fn each_register_reads_the_bits_that_it_keeps(rt: HostRuntime) -> Result<(), All
             Reads(Nine, 0x06C, Word, 0xC01F),
             Write(Nine, 0x304, Half, HALF),
             Reads(Nine, 0x304, Word, HALF),
-            // the 3D engine's control isn't built yet
-            Write(Nine, 0x060, Word, ALL),
-            Reads(Nine, 0x060, Word, 0),
         ],
     )
 }

@@ -4,7 +4,7 @@ use crate::tests::lines::Line::{
     At, Boot, ChannelDue, First, Is, Moves, NoneDue, PutsBack, Reads, Refused, Shows, Takes, Write,
 };
 use crate::tests::lines::{NEVER, try_lines};
-use ds_base::LeftKind::{DmaStart, NotYet};
+use ds_base::LeftKind::DmaStart;
 use ds_base::Proc::{Nine, Seven};
 use ds_base::Width::{Byte, Half, Word};
 use std::alloc::AllocError;
@@ -239,7 +239,6 @@ fn starts_that_are_left_out_are_refused_with_the_kept_control(
         (Nine, DmaStart, 0x98, 0x9800_1234),
         (Nine, DmaStart, 0xA0, 0xA000_1234),
         (Nine, DmaStart, 0xB0, 0xB000_1234),
-        (Nine, NotYet, 0xB8, 0xB800_1234),
         // ARM7 has no bit 27
         (Seven, DmaStart, 0xB8, 0xB000_1234),
     ] {

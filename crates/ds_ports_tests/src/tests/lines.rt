@@ -62,6 +62,22 @@ pub enum Line {
     Divides,
     /// The running square root is done.
     Roots,
+    /// The units settle after a step.
+    Settles,
+    /// Whether they are settled.
+    Settled(bool),
+    /// When geometry's head command is done.
+    GeometryDue(u64),
+    /// Geometry's head command is done when it is due.
+    Finishes,
+    /// So many times a word is written to one of ARM9's ports.
+    Fills(u32, u32, u32),
+    /// So many times a word is written to one of ARM9's ports, and the command done that it makes.
+    Does(u32, u32, u32),
+    /// Line 192 begins: whether a swap waited, and how many vertices and polygons the last swap gave out.
+    Swaps(bool, u64, u64),
+    /// Whether a processor is held: halted, by a channel, or by a stall.
+    Held(Proc, bool),
     /// A processor's channel moves a unit when it is due: where it reads and where it writes, and its width.
     Moves(Proc, u8, u32, u32, Width),
     /// A processor's last move is taken back.
@@ -173,11 +189,55 @@ impl Bench {
         requires { IsNumbered actor }
     {
         match self.io.io_due(actor) {
-            Some(due) if due.0 <= 1 << 56 => {
+            Some(due) if due.0 <= 1 << 56 && self.io.run_length() <= 1 << 56 => {
                 self.io.event(actor);
                 DONE
             }
             _ => NOTHING,
+        }
+    }
+
+    /// So many times a word is written to one of ARM9's ports, and the command done where that is asked.
+    fn put_all(&mut self, times: u32, at: u32, value: u32, done: bool) -> Seen {
+        let mut seen = DONE;
+        for _ in 0..times {
+            let put = self.put(Proc::Nine, at, Width::Word, value);
+            let event = if done {
+                self.event(Actor::Geometry)
+            } else {
+                DONE
+            };
+            if put != DONE || event != DONE {
+                seen = NOTHING;
+            }
+        }
+        seen
+    }
+
+    /// A swap, where one waits: whether one did, and how long the lists of the last one are.
+    fn swap(&mut self) -> Seen {
+        let waited = self.io.swap(Tick(self.now.into()));
+        let lists = self.io.lists();
+        (
+            waited.into(),
+            lists.vertices().len() as u64,
+            lists.polygons().len() as u64,
+        )
+    }
+
+    /// What a line of geometry says: what was seen, and what is wanted.
+    fn geometry(&mut self, line: Line) -> (Seen, Seen) {
+        match line {
+            Line::Settled(settled) => ((self.io.is_settled().into(), 0, 0), (settled.into(), 0, 0)),
+            Line::GeometryDue(tick) => (tick_of(self.io.io_due(Actor::Geometry)), (tick, 0, 0)),
+            Line::Finishes => (self.event(Actor::Geometry), DONE),
+            Line::Fills(times, at, value) => (self.put_all(times, at, value, false), DONE),
+            Line::Does(times, at, value) => (self.put_all(times, at, value, true), DONE),
+            Line::Swaps(waited, vertices, polygons) => {
+                (self.swap(), (waited.into(), vertices, polygons))
+            }
+            Line::Held(proc, held) => ((self.io.is_held(proc).into(), 0, 0), (held.into(), 0, 0)),
+            _ => (DONE, DONE),
         }
     }
 
@@ -253,7 +313,7 @@ impl Bench {
                 (from.into(), to.into(), width.bytes().into()),
             ),
             Line::PutsBack(proc) => (self.put_back(proc), DONE),
-            _ => (DONE, DONE),
+            _ => self.geometry(line),
         }
     }
 
@@ -265,6 +325,7 @@ impl Bench {
             Line::Press(keys) => self.io.press(keys % 0x1000),
             Line::Halt(proc) => self.io.set_halted(proc, true),
             Line::Wake(proc) => self.io.set_halted(proc, false),
+            Line::Settles => self.io.settle(Tick(self.now.into())),
             Line::WriteVram(space, at, value) => {
                 self.io.write_vram(space, at, Width::Word, value);
             }

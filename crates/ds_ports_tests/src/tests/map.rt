@@ -3,12 +3,12 @@
 use Proc::{Nine, Seven};
 use Register::{
     DisplayHalf, DisplayWord, DivDenom, DivNumer, DivResult, Divcnt, DivremResult, Dmacnt, Dmadad,
-    Dmafill, Dmasad, Extkeyin, Haltcnt, Ie, If, Ime, Ipcfifocnt, Ipcfiforecv, Ipcfifosend, Ipcsync,
-    Keycnt, Keyinput, Postflg, Romctrl, SqrtParam, SqrtResult, Sqrtcnt, TmcntH, TmcntL, Vramcnt,
-    Vramstat, Wramcnt, Wramstat,
+    Dmafill, Dmasad, Extkeyin, GxCommand, GxWord, Haltcnt, Ie, If, Ime, Ipcfifocnt, Ipcfiforecv,
+    Ipcfifosend, Ipcsync, Keycnt, Keyinput, Postflg, Romctrl, SqrtParam, SqrtResult, Sqrtcnt,
+    TmcntH, TmcntL, Vramcnt, Vramstat, Wramcnt, Wramstat,
 };
 use ds_base::Proc;
-use ds_ports::{Register, port_is_built, slot_of};
+use ds_ports::{Register, slot_of};
 use std::process::Abort;
 
 /// A line of a table: a processor, the offset of a byte, and what stands there.
@@ -20,11 +20,9 @@ enum Line {
     Part(Proc, u32, u32, u32),
     /// No port.
     No(Proc, u32),
-    /// Ports to come from a first to a last byte, and none before and after them.
-    ToCome(Proc, u32, u32),
 }
 
-use Line::{No, Part, Slot, ToCome};
+use Line::{No, Part, Slot};
 
 /// Whether what stands at an offset is what a line says.
 fn holds(line: Line) -> bool {
@@ -38,11 +36,6 @@ fn holds(line: Line) -> bool {
             None => false,
         },
         No(proc, at) => slot_of(proc, at).is_none(),
-        ToCome(proc, first, last) => {
-            let within = !port_is_built(proc, first) && !port_is_built(proc, last);
-            let before = first == 0 || port_is_built(proc, first.saturating_sub(1));
-            within && before && port_is_built(proc, last.saturating_add(1))
-        }
     }
 }
 
@@ -183,16 +176,38 @@ fn each_register_of_the_display_stands_at_its_offset(rt: HostRuntime) {
     );
 }
 
-/// The first and the last byte of what stands side by side, and the offsets before and after that aren't ports.
+/// Geometry's stand in ARM9's map alone, the words of commands apart from those that are read in parts.
 #[test]
-fn ports_to_come_are_told_byte_by_byte(rt: HostRuntime) {
+fn each_register_of_geometry_stands_at_its_offset(rt: HostRuntime) {
     try_lines(
         &rt,
         &[
-            ToCome(Nine, 0x060, 0x063),
-            ToCome(Nine, 0x400, 0x607),
-            ToCome(Nine, 0x620, 0x635),
-            ToCome(Nine, 0x640, 0x6A3),
+            No(Nine, 0x05F),
+            Slot(Nine, 0x060, GxWord, 0x060),
+            Slot(Nine, 0x063, GxWord, 0x060),
+            No(Nine, 0x3FF),
+            Slot(Nine, 0x400, GxCommand, 0x400),
+            Slot(Nine, 0x43F, GxCommand, 0x43C),
+            Slot(Nine, 0x440, GxCommand, 0x440),
+            Slot(Nine, 0x5FF, GxCommand, 0x5FC),
+            Slot(Nine, 0x600, GxWord, 0x600),
+            Slot(Nine, 0x607, GxWord, 0x604),
+            No(Nine, 0x608),
+            No(Nine, 0x61F),
+            Slot(Nine, 0x620, GxWord, 0x620),
+            Slot(Nine, 0x62F, GxWord, 0x62C),
+            Slot(Nine, 0x630, GxWord, 0x630),
+            Slot(Nine, 0x635, GxWord, 0x634),
+            No(Nine, 0x638),
+            No(Nine, 0x63F),
+            Slot(Nine, 0x640, GxWord, 0x640),
+            Slot(Nine, 0x67F, GxWord, 0x67C),
+            Slot(Nine, 0x680, GxWord, 0x680),
+            Slot(Nine, 0x6A3, GxWord, 0x6A0),
+            No(Nine, 0x6A4),
+            No(Seven, 0x060),
+            No(Seven, 0x400),
+            No(Seven, 0x600),
         ],
     );
 }
@@ -203,7 +218,7 @@ fn rows_of_the_map_have_their_registers(rt: HostRuntime) {
     try_lines(
         &rt,
         &[
-            // those of the display are numbered by their offset
+            // those of the display and of geometry are numbered by their offset
             Part(Nine, 0x00E, 0x00E, 0),
             Part(Nine, 0x01F, 0x01E, 1),
             Part(Nine, 0x02E, 0x02C, 2),
@@ -216,12 +231,12 @@ fn rows_of_the_map_have_their_registers(rt: HostRuntime) {
             Part(Nine, 0x10E, 3, 0),
             Part(Nine, 0x297, 1, 3),
             Part(Nine, 0x2BC, 1, 0),
-            Part(Nine, 0x43C, 15, 0),
-            Part(Nine, 0x5FF, 111, 3),
-            Part(Nine, 0x62C, 3, 0),
-            Part(Nine, 0x634, 2, 0),
-            Part(Nine, 0x67C, 15, 0),
-            Part(Nine, 0x6A0, 8, 0),
+            Part(Nine, 0x43E, 0x43C, 2),
+            Part(Nine, 0x5FF, 0x5FC, 3),
+            Part(Nine, 0x62C, 0x62C, 0),
+            Part(Nine, 0x634, 0x634, 0),
+            Part(Nine, 0x67D, 0x67C, 1),
+            Part(Nine, 0x6A0, 0x6A0, 0),
             Part(Nine, 0x100E, 0x100E, 0),
             Part(Nine, 0x1054, 0x1054, 0),
         ],

@@ -1,0 +1,219 @@
+use Rattle.std.proofs.Common.{ℕ, ◌≡◌, ◌<◌, ◌≤◌, ◌+◌, ◌-◌, ◌/◌, ◌^◌, ◌⊎◌, inl, inr, Bool, true, false, true≢false, ◌&&◌, nat_le, nat_lt, if◌then◌else◌, List, [], ◌∷◌, Option, Some, None, refl, sym, ◌∙◌, ap, subst, arith}
+use Rattle.std.specs.Prelude.{IfSome, not}
+use Rattle.std.proofs.Math.Nat.{div-lt_iff_lt-mul}
+use Rattle.ds_base.specs.declared.left_out.Stop.{Stop}
+use Rattle.ds_base.specs.declared.memories.Width.{Width}
+use Rattle.ds_base.specs.declared.memories.Width.TheVariants.{Byte, Half, Word}
+use Rattle.ds_base.specs.declared.processors.Proc.{Proc}
+use Rattle.ds_base.specs.declared.processors.Proc.TheVariants.{Nine, Seven}
+use Rattle.ds_base.specs.declared.ticks.Tick.{Tick}
+use Rattle.gx_fifo.specs.declared.ports.GxPort.{GxPort}
+use Rattle.gx_fifo.specs.declared.ports.GxPort.TheVariants.{Display, Fifo, Direct, Status, Lengths, Position, Vector, Clip, VectorMatrix, Unlisted}
+use Rattle.gx_fifo.specs.GxPorts.{gx_port}
+use Rattle.gx_fifo.specs.GxStates.{AreWaiting, GxState, gx_written, waiting_entries, write_port}
+use Rattle.ds_ports.specs.Io.{IoState, with_io_of}
+use Rattle.ds_ports.specs.Ports.{byte_written, half_written, ignores, is_narrow, port_refusal, port_written, slot_joined, slot_written, unless_stopped, whole_if, whole_in, word_written, written_or}
+use Rattle.ds_ports.specs.ProcessorIo.{ProcessorIoState}
+use Rattle.ds_ports.specs.RegisterMap.{PortRow, register_map, row_bytes, slot_by, slot_in, slot_of}
+use Rattle.ds_ports.specs.Registers.{after_write, gx_set}
+use Rattle.ds_ports.specs.declared.registers.Register.{Register}
+use Rattle.ds_ports.specs.declared.registers.Register.TheVariants.{GxWord, GxCommand, Dmasad, Dmadad, Dmacnt, TmcntL, TmcntH, Keycnt, Ime, Ie, If, Haltcnt}
+use Rattle.ds_ports.specs.declared.registers.Slot.{Slot}
+use Rattle.ds_ports.proofs.GxPorts.{port_grows}
+use Rattle.ds_ports.proofs.RegisterMaps.{both, each_below, of_each}
+
+-- An access adds four entries at most to those that wait for geometry: one of a whole word of a command's port alone adds any.
+
+-- ---- geometry's registers that are read in parts add none, wherever they stand
+
+abbrev adds_entries : GxPort → Bool
+adds_entries Fifo = true
+adds_entries (Direct code) = true
+adds_entries _ = false
+
+abbrev keeps_entries : Register → ℕ → Bool
+keeps_entries GxWord number = not (adds_entries (gx_port number))
+keeps_entries _ number = true
+
+abbrev place_keeps : PortRow → ℕ → Bool
+place_keeps r place = keeps_entries (r.register place) (r.number place)
+
+abbrev some_bytes : PortRow → Bool
+some_bytes r = nat_lt 0 r.bytes
+
+abbrev rows_keep : List PortRow → Bool
+rows_keep [] = true
+rows_keep (r ∷ rows) = (some_bytes r && each_below r.count (place_keeps r)) && rows_keep rows
+
+abbrev Keeps : Slot → Type 0
+Keeps s = keeps_entries s.register s.number ≡ true
+
+some_of : (n : ℕ) → nat_lt 0 n ≡ true → 0 < n
+some_of n h = grind (arith, h)
+
+slot_in_keeps : (r : PortRow) (offset : ℕ) → 0 < r.bytes → each_below r.count (place_keeps r) ≡ true → offset < row_bytes r → Keeps (slot_in r offset)
+slot_in_keeps r offset some few inside = of_each r.count (place_keeps r) (offset / r.bytes) few ((div-lt_iff_lt-mul some).1 (omega (arith, inside)))
+
+slot_by_keeps : (rows : List PortRow) (at : ℕ) → rows_keep rows ≡ true → IfSome (slot_by rows at) Keeps
+slot_by_keeps [] at h = tt
+slot_by_keeps (r ∷ rows) at h =
+    let two = both (some_bytes r && each_below r.count (place_keeps r)) (rows_keep rows) h in
+    let first = both (some_bytes r) (each_below r.count (place_keeps r)) two.0 in
+    elim (inside_or_not r.offset (row_bytes r) at) [
+      | inl inside ↦ rw inside.1 (slot_in_keeps r (at - r.offset) (some_of r.bytes first.0) first.1 inside.0)
+      | inr outside ↦ rw outside (slot_by_keeps rows at two.1)
+    ] where
+      inside_or_not : (offset bytes at : ℕ) → ((at - offset < bytes) × ((nat_le offset at && nat_lt at (offset + bytes)) ≡ true)) ⊎ ((nat_le offset at && nat_lt at (offset + bytes)) ≡ false)
+      inside_or_not offset bytes at = grind arith
+
+slot_keeps : (proc : Proc) (at : ℕ) → IfSome (slot_of proc at) Keeps
+unfolding slot_of gx_port
+slot_keeps Nine at = slot_by_keeps (register_map Nine) at refl
+slot_keeps Seven at = slot_by_keeps (register_map Seven) at refl
+
+whole_if_keeps : (b : Bool) (slot : Slot) → Keeps slot → IfSome (whole_if b slot) Keeps
+whole_if_keeps true slot k = k
+whole_if_keeps false slot k = tt
+
+whole_keeps : (width : Width) (slot : Option Slot) → IfSome slot Keeps → IfSome (whole_in width slot) Keeps
+whole_keeps width None k = tt
+whole_keeps width (Some slot) k = whole_if_keeps _ slot k
+
+-- ---- a write of a register
+
+port_keeps : (port : GxPort) (value : ℕ) (now : Tick) (s : GxState) → not (adds_entries port) ≡ true → waiting_entries (write_port port value now s) ≡ waiting_entries s
+unfolding write_port
+port_keeps Display value now s h = refl
+port_keeps Fifo value now s h = absurd (true≢false (sym h))
+port_keeps (Direct code) value now s h = absurd (true≢false (sym h))
+port_keeps Status value now s h = refl
+port_keeps Lengths value now s h = refl
+port_keeps (Position i) value now s h = refl
+port_keeps (Vector i) value now s h = refl
+port_keeps (Clip i) value now s h = refl
+port_keeps (VectorMatrix i) value now s h = refl
+port_keeps Unlisted value now s h = refl
+
+either : {A : Type 0} (P : A → Type 0) (b : Bool) (x y : A) → P x → P y → P (if b then x else y)
+either P true x y h k = h
+either P false x y h k = k
+
+word_keeps : (proc : Proc) (now : Tick) (u : IoState) (number value : ℕ) → not (adds_entries (gx_port number)) ≡ true
+    → waiting_entries (gx_set proc now u number value).gx ≡ waiting_entries u.gx
+word_keeps Nine now u number value h =
+    either (λ (s : GxState). waiting_entries s ≡ waiting_entries u.gx) (nat_lt 320 (waiting_entries u.gx)) u.gx (gx_written u.gx number value now) refl
+    (port_keeps (gx_port number) value now u.gx h)
+word_keeps Seven now u number value h = refl
+
+set_grows : (proc : Proc) (now : Tick) (u : IoState) (number value : ℕ) → AreWaiting u.gx
+    → waiting_entries (gx_set proc now u number value).gx ≤ waiting_entries u.gx + 4
+set_grows Nine now u number value waiting = port_grows u.gx number value now waiting
+set_grows Seven now u number value waiting = omega arith
+
+gx_stays : (proc : Proc) (u : IoState) (processor_io : ProcessorIoState) → (with_io_of proc u processor_io).gx ≡ u.gx
+gx_stays Nine u processor_io = refl
+gx_stays Seven u processor_io = refl
+
+abbrev is_gx : Register → Bool
+is_gx GxWord = true
+is_gx GxCommand = true
+is_gx _ = false
+
+others_leave : (proc : Proc) (now : Tick) (u : IoState) (register : Register) (number value : ℕ) → is_gx register ≡ false
+    → (after_write proc now u register number value).gx ≡ u.gx
+others_leave proc now u GxWord number value h = absurd (true≢false h)
+others_leave proc now u GxCommand number value h = absurd (true≢false h)
+others_leave proc now u Dmasad number value h = gx_stays proc u _
+others_leave proc now u Dmadad number value h = gx_stays proc u _
+others_leave proc now u Dmacnt number value h = gx_stays proc u _
+others_leave proc now u TmcntL number value h = gx_stays proc u _
+others_leave proc now u TmcntH number value h = gx_stays proc u _
+others_leave proc now u Keycnt number value h = gx_stays proc u _
+others_leave proc now u Ime number value h = gx_stays proc u _
+others_leave proc now u Ie number value h = gx_stays proc u _
+others_leave proc now u If number value h = gx_stays proc u _
+others_leave proc now u Haltcnt number value h = gx_stays proc u _
+others_leave proc now u _ number value h = refl
+
+-- ---- a write of a register's bytes
+
+abbrev AreAsMany : IoState → IoState → Type 0
+AreAsMany u v = waiting_entries v.gx ≡ waiting_entries u.gx
+
+narrow_keeps : (width : Width) → is_narrow width ≡ true → (proc : Proc) (now : Tick) (u : IoState) (register : Register) (number value : ℕ)
+    → keeps_entries register number ≡ true → AreAsMany u (if ignores width register then u else after_write proc now u register number value)
+narrow_keeps width narrow proc now u GxCommand number value k =
+    ignored (is_narrow width && true) (rw narrow refl) where
+      ignored : (b : Bool) → b ≡ true → AreAsMany u (if b then u else after_write proc now u GxCommand number value)
+      ignored true h = refl
+      ignored false h = absurd (true≢false (sym h))
+narrow_keeps width narrow proc now u GxWord number value k =
+    either (AreAsMany u) (ignores width GxWord) u (gx_set proc now u number value) refl (word_keeps proc now u number value k)
+narrow_keeps width narrow proc now u register number value k =
+    either (AreAsMany u) (ignores width register) u (after_write proc now u register number value) refl
+    (ap waiting_entries (others_leave proc now u register number value refl))
+
+slot_as_many : (width : Width) → is_narrow width ≡ true → (proc : Proc) (now : Tick) (u : IoState) (slot : Slot) (value : ℕ) → Keeps slot
+    → AreAsMany u (slot_written proc now u width slot value)
+slot_as_many width narrow proc now u slot value k =
+    narrow_keeps width narrow proc now u slot.register slot.number (slot_joined proc u width slot value) k
+
+or_as_many : (width : Width) → is_narrow width ≡ true → (proc : Proc) (now : Tick) (u : IoState) (slot : Option Slot) (value : ℕ) (other : IoState)
+    → IfSome slot Keeps → AreAsMany u other → AreAsMany u (written_or proc now u width slot value other)
+or_as_many width narrow proc now u None value other k h = h
+or_as_many width narrow proc now u (Some slot) value other k h = slot_as_many width narrow proc now u slot value k
+
+byte_as_many : (proc : Proc) (now : Tick) (u : IoState) (at value : ℕ) → AreAsMany u (byte_written proc now u at value)
+byte_as_many proc now u at value = or_as_many Byte refl proc now u (slot_of proc at) value u (slot_keeps proc at) refl
+
+half_as_many : (proc : Proc) (now : Tick) (u : IoState) (at value : ℕ) → AreAsMany u (half_written proc now u at value)
+half_as_many proc now u at value =
+    let first = byte_written proc now u at value in
+    or_as_many Half refl proc now u (whole_in Half (slot_of proc at)) value (byte_written proc now first (at + 1) (value / 2 ^ 8))
+    (whole_keeps Half (slot_of proc at) (slot_keeps proc at))
+    (byte_as_many proc now first (at + 1) (value / 2 ^ 8) ∙ byte_as_many proc now u at value)
+
+-- ---- a write of a whole word
+
+abbrev AreFourMore : IoState → IoState → Type 0
+AreFourMore u v = waiting_entries v.gx ≤ waiting_entries u.gx + 4
+
+no_more : (u v : IoState) → AreAsMany u v → AreFourMore u v
+no_more u v h = omega (arith, h)
+
+register_grows : (proc : Proc) (now : Tick) (u : IoState) (register : Register) (number value : ℕ) → AreWaiting u.gx
+    → AreFourMore u (after_write proc now u register number value)
+register_grows proc now u GxWord number value waiting = set_grows proc now u number value waiting
+register_grows proc now u GxCommand number value waiting = set_grows proc now u number value waiting
+register_grows proc now u register number value waiting =
+    no_more u (after_write proc now u register number value) (ap waiting_entries (others_leave proc now u register number value refl))
+
+or_grows : (proc : Proc) (now : Tick) (u : IoState) (slot : Option Slot) (value : ℕ) (other : IoState) → AreWaiting u.gx → AreFourMore u other
+    → AreFourMore u (written_or proc now u Word slot value other)
+or_grows proc now u None value other waiting h = h
+or_grows proc now u (Some slot) value other waiting h = register_grows proc now u slot.register slot.number (slot_joined proc u Word slot value) waiting
+
+word_grows : (proc : Proc) (now : Tick) (u : IoState) (at value : ℕ) → AreWaiting u.gx → AreFourMore u (word_written proc now u at value)
+word_grows proc now u at value waiting =
+    let first = half_written proc now u at value in
+    let second = half_written proc now first (at + 2) (value / 2 ^ 16) in
+    or_grows proc now u (whole_in Word (slot_of proc at)) value second waiting
+    (no_more u second (half_as_many proc now first (at + 2) (value / 2 ^ 16) ∙ half_as_many proc now u at value))
+
+pub write_grows : (proc : Proc) (now : Tick) (u : IoState) (at : ℕ) (width : Width) (value : ℕ) → AreWaiting u.gx
+    → waiting_entries (port_written proc now u at width value).gx ≤ waiting_entries u.gx + 4
+unfolding port_written
+write_grows proc now u at Byte value waiting = no_more u (byte_written proc now u at value) (byte_as_many proc now u at value)
+write_grows proc now u at Half value waiting = no_more u (half_written proc now u at value) (half_as_many proc now u at value)
+write_grows proc now u at Word value waiting = word_grows proc now u at value waiting
+
+unless_grows : (stop : Option Stop) (u v : IoState) → AreFourMore u v → AreFourMore u (unless_stopped stop u v)
+unless_grows None u v h = h
+unless_grows (Some stop) u v h = omega arith
+
+pub put_grows : (proc : Proc) (now : Tick) (old new : IoState) (at : ℕ) (width : Width) (value : ℕ)
+    → new ≡ unless_stopped (port_refusal proc old at width value) old (port_written proc now old at width value) → AreWaiting old.gx
+    → waiting_entries new.gx ≤ waiting_entries old.gx + 4
+put_grows proc now old new at width value is_new waiting =
+    subst (AreFourMore old) (sym is_new)
+    (unless_grows (port_refusal proc old at width value) old (port_written proc now old at width value) (write_grows proc now old at width value waiting))

@@ -1,0 +1,118 @@
+use Rattle.std.proofs.Common.{ℕ, ◌≡◌, ◌≤◌, ◌+◌, inl, nat_le, nat_lt, if◌then◌else◌, Bool, true, false, List, [], ◌∷◌, ◌++◌, length, map, take_while, Option, Some, None, refl, arith}
+use Rattle.std.proofs.lemmas.List.{length-append}
+use Rattle.ds_base.specs.Bits.{bit}
+use Rattle.ds_base.specs.Schedules.{Reschedules}
+use Rattle.ds_base.specs.declared.ticks.Tick.{Tick}
+use Rattle.gx_matrix.specs.CommandTable.{command_of, command_row}
+use Rattle.gx_matrix.specs.declared.commands.GeometryCommand.{GeometryCommand}
+use Rattle.gx_geometry.specs.States.{GeometryState, Swapped, geometry_error_cleared, overflow_cleared}
+use Rattle.gx_fifo.specs.declared.entries.GxEntry.{GxEntry}
+use Rattle.gx_fifo.specs.declared.ports.GxPort.{GxPort}
+use Rattle.gx_fifo.specs.declared.ports.GxPort.TheVariants.{Display, Fifo, Direct, Status, Lengths, Position, Vector, Clip, VectorMatrix, Unlisted}
+use Rattle.gx_fifo.specs.GxPorts.{gx_port}
+use Rattle.gx_fifo.specs.GxStates.{AreWaiting, GxState, gx_written, is_stalled, waiting_entries, write_port}
+use Rattle.gx_fifo.specs.PackedWords.{FifoState, entry_added, packed_commands, parameter_taken, takes_none, unpacked, with_word, without_word}
+use Rattle.gx_fifo.proofs.Laws.{written_grows, written_run, written_schedules, written_waiting}
+use Rattle.ds_ports.specs.Registers.{gx_port_written}
+
+-- What a write of one of geometry's registers leaves, where there is room and where there is none.
+
+-- ---- no entry leaves
+
+appended : (xs ys : List GxEntry) (n : ℕ) → n ≤ length xs → n ≤ length (xs ++ ys)
+appended xs ys n h = omega (arith, h, length-append xs ys)
+
+unpacked_longer : (entries : List GxEntry) (left : List GeometryCommand) (n : ℕ) → n ≤ length entries → n ≤ length (unpacked entries left).entries
+unfolding unpacked
+unpacked_longer entries left n h = appended entries (map without_word (take_while takes_none left)) n h
+
+parameter_longer : (left : List GeometryCommand) (word : ℕ) (s : FifoState) → length s.entries ≤ length (parameter_taken left word s).entries
+parameter_longer [] word s = unpacked_longer s.entries (packed_commands word) (length s.entries) (omega arith)
+parameter_longer (command ∷ rest) word s = go (nat_le (command_row command).parameters (s.given + 1)) where
+  entries : List GxEntry
+  entries = s.entries ++ with_word command word ∷ []
+
+  longer : length s.entries ≤ length (s.entries ++ with_word command word ∷ [])
+  longer = appended s.entries (with_word command word ∷ []) (length s.entries) (omega arith)
+
+  go : (b : Bool) → length s.entries
+      ≤ length (if b then unpacked (s.entries ++ with_word command word ∷ []) rest else record s { entries = s.entries ++ with_word command word ∷ []; given = s.given + 1 }).entries
+  go true = unpacked_longer (s.entries ++ with_word command word ∷ []) rest (length s.entries) longer
+  go false = longer
+
+entry_longer : (command : Option GeometryCommand) (word : ℕ) (s : FifoState) → length s.entries ≤ length (entry_added command word s).entries
+entry_longer None word s = omega arith
+entry_longer (Some command) word s = appended s.entries (with_word command word ∷ []) (length s.entries) (omega arith)
+
+port_longer : (port : GxPort) (value : ℕ) (now : Tick) (s : GxState) → waiting_entries s ≤ waiting_entries (write_port port value now s)
+unfolding write_port
+port_longer Display value now s = omega arith
+port_longer Fifo value now s = parameter_longer s.fifo.left value s.fifo
+port_longer (Direct code) value now s = entry_longer (command_of code) value s.fifo
+port_longer Status value now s = omega arith
+port_longer Lengths value now s = omega arith
+port_longer (Position i) value now s = omega arith
+port_longer (Vector i) value now s = omega arith
+port_longer (Clip i) value now s = omega arith
+port_longer (VectorMatrix i) value now s = omega arith
+port_longer Unlisted value now s = omega arith
+
+still_more : (m n : ℕ) → m ≤ n → nat_lt 260 m ≡ true → nat_lt 260 n ≡ true
+still_more m n l h = grind (arith, l, h)
+
+written_stalls : (s : GxState) (at value : ℕ) (now : Tick) → is_stalled s ≡ true → is_stalled (gx_written s at value now) ≡ true
+written_stalls s at value now h = still_more (waiting_entries s) (waiting_entries (gx_written s at value now)) (port_longer (gx_port at) value now s) h
+
+-- ---- the lists of the last swap stay
+
+either_last : (b : Bool) (x y : GeometryState) (n : Swapped) → x.last ≡ n → y.last ≡ n → (if b then x else y).last ≡ n
+either_last true x y n h k = h
+either_last false x y n h k = k
+
+last_by : (port : GxPort) (value : ℕ) (now : Tick) (s : GxState) → (write_port port value now s).geometry.last ≡ s.geometry.last
+unfolding write_port
+last_by Display value now s = either_last (bit 13 value) (overflow_cleared s.geometry) s.geometry s.geometry.last refl refl
+last_by Fifo value now s = refl
+last_by (Direct code) value now s = refl
+last_by Status value now s = either_last (bit 15 value) (geometry_error_cleared s.geometry) s.geometry s.geometry.last refl refl
+last_by Lengths value now s = refl
+last_by (Position i) value now s = refl
+last_by (Vector i) value now s = refl
+last_by (Clip i) value now s = refl
+last_by (VectorMatrix i) value now s = refl
+last_by Unlisted value now s = refl
+
+-- ---- where there is room, and where there is none
+
+module _ (s : GxState) (at value : ℕ) (now : Tick) where
+  guarded : (P : GxState → Type 0) → P s → P (gx_written s at value now) → P (gx_port_written s at value now)
+  guarded P h k = go (nat_lt 320 (waiting_entries s)) where
+    go : (b : Bool) → P (if b then s else gx_written s at value now)
+    go true = h
+    go false = k
+
+pub port_schedules : (now : Tick) (s : GxState) (at value : ℕ) → Reschedules now s.due (gx_port_written s at value now).due
+port_schedules now s at value = guarded s at value now (λ x. Reschedules now s.due x.due) (inl refl) (written_schedules s at value now)
+
+pub port_stalls : (s : GxState) (at value : ℕ) (now : Tick) → is_stalled s ≡ true → is_stalled (gx_port_written s at value now) ≡ true
+port_stalls s at value now = guarded s at value now (λ x. is_stalled s ≡ true → is_stalled x ≡ true) (λ h. h) (written_stalls s at value now)
+
+pub port_run : (s : GxState) (at value : ℕ) (now : Tick) → (gx_port_written s at value now).geometry.numbers.run ≡ s.geometry.numbers.run
+port_run s at value now = guarded s at value now (λ x. x.geometry.numbers.run ≡ s.geometry.numbers.run) refl (written_run s at value now)
+
+pub port_last : (s : GxState) (at value : ℕ) (now : Tick) → (gx_port_written s at value now).geometry.last ≡ s.geometry.last
+port_last s at value now = guarded s at value now (λ x. x.geometry.last ≡ s.geometry.last) refl (last_by (gx_port at) value now s)
+
+-- at most four come
+pub port_grows : (s : GxState) (at value : ℕ) (now : Tick) → AreWaiting s → waiting_entries (gx_port_written s at value now) ≤ waiting_entries s + 4
+port_grows s at value now waiting =
+    guarded s at value now (λ x. waiting_entries x ≤ waiting_entries s + 4) (omega arith) (written_grows s at value now waiting)
+
+room : (n : ℕ) → nat_lt 320 n ≡ false → n ≤ 320
+room n h = grind (arith, h)
+
+pub port_waiting : (s : GxState) (at value : ℕ) (now : Tick) → AreWaiting s → AreWaiting (gx_port_written s at value now)
+port_waiting s at value now waiting = go (nat_lt 320 (waiting_entries s)) refl where
+  go : (b : Bool) → nat_lt 320 (waiting_entries s) ≡ b → AreWaiting (if b then s else gx_written s at value now)
+  go true e = waiting
+  go false e = written_waiting s at value now (room (waiting_entries s) e) waiting

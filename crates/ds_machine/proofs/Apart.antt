@@ -6,13 +6,12 @@ use Rattle.ds_base.specs.declared.processors.Proc.TheVariants.{Nine, Seven}
 use Rattle.ds_base.specs.declared.ticks.Tick.{Tick}
 use Rattle.arm_core.specs.declared.outcomes.Stepped as arm
 use Rattle.arm_core.specs.declared.outcomes.Stepped.TheVariants.{Cost, Halted, Left}
-use Rattle.ds_dma.specs.declared.channels.Unit.{Unit as DmaUnit}
-use Rattle.ds_map.specs.Moves.{next_unit, unit_moved, unit_needs, unit_refusal}
+use Rattle.ds_map.specs.Moves.{next_unit, unit_moved, unit_refusal}
 use Rattle.ds_ports.specs.Dues.{io_due}
 use Rattle.ds_runs.specs.Runs.{MachineStep, Makes}
-use Rattle.ds_runs.specs.declared.actors.Actor.TheVariants.{KeyScript, Video, Dma, Processor}
-use Rattle.ds_machine.specs.Apart.{DisplayLeavesNine, LeaveNine, LeaveSeven, NinePart, ShowLeaves, step_with, with_nine_part, with_seven_part}
-use Rattle.ds_machine.specs.Channels.{channel_step, moved_by, moved_unless}
+use Rattle.ds_runs.specs.declared.actors.Actor.TheVariants.{KeyScript, Video, Geometry, Dma, Processor}
+use Rattle.ds_machine.specs.Apart.{DisplayLeavesNine, GeometryLeavesNine, LeaveNine, LeaveSeven, NinePart, step_with, with_nine_part, with_seven_part}
+use Rattle.ds_machine.specs.Channels.{channel_step, moved_by}
 use Rattle.ds_machine.specs.Reference.{Shown, after_line, video_step}
 use Rattle.ds_machine.specs.States.{MachineState, NineState, SevenState}
 use Rattle.video2d.specs.Videos.{video_answer}
@@ -39,18 +38,15 @@ nine_moved : (rank : ℕ) (now : Tick) (refused : Option Stop) (own : NinePart) 
 nine_moved rank now None own s = refl
 nine_moved rank now (Some stop) own s = refl
 
-nine_unless : (rank : ℕ) (now : Tick) (needed : Option ℕ) (unit : DmaUnit) (own : NinePart) (s : MachineState)
-    → (let step : MachineStep MachineState Shown LeftOut = moved_unless rank Seven now needed unit (with_nine_part own s) in step) ≡ step_with (with_nine_part own) (moved_unless rank Seven now needed unit s)
-nine_unless rank now None unit own s = nine_moved rank now (unit_refusal Seven now unit (map_of Seven s)) own (with_map Seven s (unit_moved Seven now unit (map_of Seven s)))
-nine_unless rank now (Some value) unit own s = refl
-
 nine_channel : (rank : ℕ) (due : Option Tick) (own : NinePart) (s : MachineState)
     → (let step : MachineStep MachineState Shown LeftOut = channel_step rank Seven due (with_nine_part own s) in step) ≡ step_with (with_nine_part own) (channel_step rank Seven due s)
 nine_channel rank None own s = refl
-nine_channel rank (Some now) own s = nine_unless rank now (unit_needs Seven s.io.wramcnt (next_unit s.io Seven)) (next_unit s.io Seven) own s
+nine_channel rank (Some now) own s =
+    let unit = next_unit s.io Seven in nine_moved rank now (unit_refusal Seven now unit (map_of Seven s)) own (with_map Seven s (unit_moved Seven now unit (map_of Seven s)))
 
 pub leave_nine : LeaveNine
 leave_nine rank Video own s apart = absurd (apart refl)
+leave_nine rank Geometry own s apart = absurd (apart refl)
 leave_nine rank KeyScript own s apart = ap (λ (m : MachineState). (let step : MachineStep MachineState Shown LeftOut = Makes m [] in step)) (nine_line own s s.keys)
 leave_nine rank (Dma Nine channel) own s apart = absurd (apart refl)
 leave_nine rank (Dma Seven channel) own s apart = nine_channel rank (io_due (Dma Seven channel) s.io) own s
@@ -76,15 +72,11 @@ seven_moved : (rank : ℕ) (now : Tick) (refused : Option Stop) (own : SevenStat
 seven_moved rank now None own s = refl
 seven_moved rank now (Some stop) own s = refl
 
-seven_unless : (rank : ℕ) (now : Tick) (needed : Option ℕ) (unit : DmaUnit) (own : SevenState) (s : MachineState)
-    → (let step : MachineStep MachineState Shown LeftOut = moved_unless rank Nine now needed unit (with_seven_part own s) in step) ≡ step_with (with_seven_part own) (moved_unless rank Nine now needed unit s)
-seven_unless rank now None unit own s = seven_moved rank now (unit_refusal Nine now unit (map_of Nine s)) own (with_map Nine s (unit_moved Nine now unit (map_of Nine s)))
-seven_unless rank now (Some value) unit own s = refl
-
 seven_channel : (rank : ℕ) (due : Option Tick) (own : SevenState) (s : MachineState)
     → (let step : MachineStep MachineState Shown LeftOut = channel_step rank Nine due (with_seven_part own s) in step) ≡ step_with (with_seven_part own) (channel_step rank Nine due s)
 seven_channel rank None own s = refl
-seven_channel rank (Some now) own s = seven_unless rank now (unit_needs Nine s.io.wramcnt (next_unit s.io Nine)) (next_unit s.io Nine) own s
+seven_channel rank (Some now) own s =
+    let unit = next_unit s.io Nine in seven_moved rank now (unit_refusal Nine now unit (map_of Nine s)) own (with_map Nine s (unit_moved Nine now unit (map_of Nine s)))
 
 seven_video : (rank : ℕ) (answer : Result display.Shown Stop) (own : SevenState) (s : MachineState)
     → video_step rank answer (with_seven_part own s) ≡ step_with (with_seven_part own) (video_step rank answer s)
@@ -117,3 +109,8 @@ pub display_leaves_nine : DisplayLeavesNine
 display_leaves_nine rank own s =
     let k = show_nine rank (video_answer s.oam s.io.video) s in
     record { same = show_same rank (video_answer s.oam s.io.video) own s; nine = k.0; palette = k.1; oam = k.2 }
+
+-- ---- geometry
+
+pub geometry_leaves_nine : GeometryLeavesNine
+geometry_leaves_nine rank own s = refl

@@ -1,5 +1,7 @@
-use Rattle.std.proofs.Common.{ℕ, ◌≡◌, ◌<◌, ◌+◌, ◌⊎◌, inl, inr, Bool, max, List, [], Option, Some, None, refl, sym, ◌∙◌, ap, subst, arith}
+use Rattle.std.proofs.Common.{ℕ, ◌≡◌, ◌<◌, ◌+◌, inl, inr, Bool, true, false, max, List, [], Option, Some, None, refl, sym, ◌∙◌, ap, subst, arith}
 use Rattle.std.proofs.Math.Nat.{le-max_right}
+use Rattle.std.proofs.lemmas.Option.{none-some}
+use Rattle.std.specs.Prelude.{IsSome}
 use Rattle.ds_base.specs.KeyLines.{AreKeyLines}
 use Rattle.ds_base.specs.Schedules.{IsLater, Reschedules}
 use Rattle.ds_base.specs.declared.left_out.LeftOut.{LeftOut}
@@ -7,28 +9,30 @@ use Rattle.ds_base.specs.declared.left_out.Stop.{Stop}
 use Rattle.ds_base.specs.declared.processors.Proc.{Proc}
 use Rattle.ds_base.specs.declared.processors.Proc.TheVariants.{Nine, Seven}
 use Rattle.ds_base.specs.declared.ticks.Tick.{Tick}
-use Rattle.ds_dma.specs.States.{DmaState, channel_due}
+use Rattle.ds_dma.specs.States.{DmaState, channel_due, dma_due}
 use Rattle.ds_dma.specs.declared.channels.Unit.{Unit as DmaUnit}
 use Rattle.ds_dma.proofs.Turns.{all_later}
 use Rattle.ds_ipc.specs.Ipcs.{other_proc}
 use Rattle.ds_map.specs.Accesses.{map_value}
 use Rattle.ds_map.specs.Maps.{MapState}
-use Rattle.ds_map.specs.Moves.{next_unit, after_unit, unit_needs, unit_read, unit_refusal, unit_taken}
+use Rattle.ds_map.specs.Moves.{next_unit, after_unit, unit_read, unit_refusal, unit_taken}
 use Rattle.ds_map.proofs.Later.{map_read_unchanged, map_write_goes}
-use Rattle.ds_ports.specs.Dues.{IsIo, Goes, IsUnchanged, IsQuiet, ReschedulesEach, io_due}
+use Rattle.ds_ports.specs.Dues.{IsIo, Goes, IsUnchanged, IsQuiet, ReschedulesEach, held_due, io_due}
+use Rattle.ds_ports.proofs.HeldDues.{held_later}
 use Rattle.ds_ports.specs.ProcessorIo.{ProcessorIoState}
-use Rattle.ds_ports.specs.Io.{IoState, io_of}
+use Rattle.ds_ports.specs.Io.{IoState, io_of, is_held}
 use Rattle.ds_ports.proofs.Events.{MovedGoes, moved_goes, some_due}
 use Rattle.ds_ports.proofs.Later.{AreUnchanged, all_io_dues, goes_io, of_both, processor_io_is, still_later}
 use Rattle.ds_runs.specs.Runs.{MachineStep, Makes, Stops}
 use Rattle.ds_runs.specs.declared.actors.Actor.TheVariants.{Dma, Timer}
 use Rattle.ds_runs.proofs.RunLaws.{same_makes, same_stops, not_both}
 use Rattle.ds_timers.specs.Timing.{TimerState, timer_at, timer_due}
-use Rattle.ds_machine.specs.Channels.{channel_step, delayed_past, moved_by, moved_unless, one_event}
+use Rattle.gx_fifo.specs.GxStates.{GxState, is_stalled}
+use Rattle.ds_machine.specs.Channels.{channel_step, delayed_past, moved_by, one_event}
 use Rattle.ds_machine.specs.Reference.{HasSoundParts, Shown, due_unless, processor_due}
 use Rattle.ds_machine.specs.States.{MachineState, ProcessorState, counts_of}
 use Rattle.ds_machine.specs.Steps.{is_blocked, map_of, processor_of, with_map, with_processor}
-use Rattle.ds_machine.proofs.Moves.{Moves, later_unless, left_after, unchanged_io_dues, unchanged_blocked, unchanged_io, moves_of, same_keys, then_io_dues}
+use Rattle.ds_machine.proofs.Moves.{Moves, later_unless, left_after, other_held, unchanged_held, unchanged_io_dues, unchanged_io, moves_of, same_keys, then_io_dues}
 use Rattle.ds_machine.proofs.Wakes.{put_beside, put_counts, put_other, put_processor_io}
 use Rattle.video2d.specs.Videos.{VideoState}
 
@@ -48,11 +52,11 @@ pub event_due : (s : MachineState) (proc : Proc) → processor_due (one_event s)
 event_due s Nine = refl
 event_due s Seven = refl
 
--- a processor is due as before where its own is left
-left_due : (of : Proc) (s : MachineState) (map : MapState) (proc : Proc) → IsUnchanged (io_of s.io proc) (io_of map.io proc)
+-- a processor is due as before where it is held as before
+left_due : (of : Proc) (s : MachineState) (map : MapState) (proc : Proc) → is_held map.io proc ≡ is_held s.io proc
     → processor_due (with_map of s map) proc ≡ processor_due s proc
 left_due of s map proc left =
-    ap (λ (blocked : Bool). due_unless blocked (processor_of (with_map of s map) proc)) (unchanged_blocked (io_of s.io proc) (io_of map.io proc) left)
+    ap (λ (blocked : Bool). due_unless blocked (processor_of (with_map of s map) proc)) left
     ∙ ap (λ (p : ProcessorState). due_unless (is_blocked s proc) p) (map_processor of s map proc)
 
 -- ---- what it comes to
@@ -67,33 +71,24 @@ module _ (rank : ℕ) (proc : Proc) (now : Tick) (unit : DmaUnit) (s : MachineSt
   made_by None made outs h = sym (same_makes (machine_after_unit proc now unit s) made [] outs h).0
   made_by (Some stop) made outs h = absurd (not_both made (with_map proc s (unit_read proc unit (map_of proc s))) outs _ (sym h))
 
-  made_unless : (needs : Option ℕ) (made : MachineState) (outs : List Shown) → moved_unless rank proc now needs unit s ≡ Makes made outs → made ≡ machine_after_unit proc now unit s
-  made_unless None made outs h = made_by (unit_refusal proc now unit (map_of proc s)) made outs h
-  made_unless (Some value) made outs h = absurd (not_both made s outs _ (sym h))
-
   left_by : (refusal : Option Stop) (left : MachineState) (stop : LeftOut)
       → (let step : MachineStep MachineState Shown LeftOut = moved_by rank proc now refusal (with_map proc s (after_unit refusal proc now unit (map_of proc s))) in step ≡ Stops stop left)
       → with_map proc s (unit_read proc unit (map_of proc s)) ≡ left
   left_by None left stop h = absurd (not_both (machine_after_unit proc now unit s) left [] stop h)
   left_by (Some why) left stop h = (same_stops (with_map proc s (unit_read proc unit (map_of proc s))) left _ stop h).1
 
-  left_unless : (needs : Option ℕ) (left : MachineState) (stop : LeftOut) → (let step : MachineStep MachineState Shown LeftOut = moved_unless rank proc now needs unit s in step ≡ Stops stop left)
-      → (s ≡ left) ⊎ (with_map proc s (unit_read proc unit (map_of proc s)) ≡ left)
-  left_unless None left stop h = inr (left_by (unit_refusal proc now unit (map_of proc s)) left stop h)
-  left_unless (Some value) left stop h = inl (same_stops s left _ stop h).1
-
 -- its step moves its unit
 pub channel_made : (rank : ℕ) (proc : Proc) (now : Tick) (s made : MachineState) (outs : List Shown) → channel_step rank proc (Some now) s ≡ Makes made outs
     → made ≡ machine_after_unit proc now (next_unit s.io proc) s
 channel_made rank proc now s made outs h =
-    made_unless rank proc now (next_unit s.io proc) s (unit_needs proc s.io.wramcnt (next_unit s.io proc)) made outs h
+    let unit = next_unit s.io proc in made_by rank proc now unit s (unit_refusal proc now unit (map_of proc s)) made outs h
 
--- one that stops leaves all as it was, or as it was after the read
+-- one that stops leaves all as it was after the read
 pub channel_unchanged : (rank : ℕ) (proc : Proc) (now : Tick) (s left : MachineState) (stop : LeftOut)
     → (let step : MachineStep MachineState Shown LeftOut = channel_step rank proc (Some now) s in step ≡ Stops stop left)
-    → (s ≡ left) ⊎ (with_map proc s (unit_read proc (next_unit s.io proc) (map_of proc s)) ≡ left)
+    → with_map proc s (unit_read proc (next_unit s.io proc) (map_of proc s)) ≡ left
 channel_unchanged rank proc now s left stop h =
-    left_unless rank proc now (next_unit s.io proc) s (unit_needs proc s.io.wramcnt (next_unit s.io proc)) left stop h
+    let unit = next_unit s.io proc in left_by rank proc now unit s (unit_refusal proc now unit (map_of proc s)) left stop h
 
 pub event_counts : (s : MachineState) → counts_of (one_event s) ≡ counts_of s + 1
 event_counts s = omega arith
@@ -114,12 +109,36 @@ pub read_moves : (tick : Tick) (proc : Proc) (unit : DmaUnit) (s : MachineState)
 read_moves tick proc unit s =
     let left = read_unchanged proc unit s in
     moves_of tick s (with_map proc s (unit_read proc unit (map_of proc s))) (inl refl) (unchanged_io_dues tick s.io (unit_read proc unit (map_of proc s)).io left)
-    (λ each. inl (left_due proc s (unit_read proc unit (map_of proc s)) each (left.processor_io each)))
+    (λ each. inl (left_due proc s (unit_read proc unit (map_of proc s)) each (unchanged_held s.io (unit_read proc unit (map_of proc s)).io left each)))
 
 pub read_sound : (proc : Proc) (unit : DmaUnit) (s : MachineState) → HasSoundParts s → HasSoundParts (with_map proc s (unit_read proc unit (map_of proc s)))
 read_sound proc unit s sound = record { io = unchanged_io s.io (unit_read proc unit (map_of proc s)).io sound.io (read_unchanged proc unit s); keys = sound.keys }
 
 -- ---- where it moves its unit
+
+-- a channel that is due isn't held by a stall, and is due by its own then or before
+held_some : (stalled : Bool) (released now : ℕ) (d : Option Tick) → held_due stalled released d ≡ Some (record { 0 = now }) → (at : Tick) × (d ≡ Some at)
+held_some true released now d h = absurd (none-some (record { 0 = now }) h)
+held_some false released now None h = absurd (none-some (record { 0 = now }) h)
+held_some false released now (Some at) h = (at, refl)
+
+pub channel_is_due : (proc : Proc) (channel : ℕ) (now : Tick) (u : IoState) → io_due (Dma proc channel) u ≡ Some now → IsSome (dma_due (io_of u proc).dma)
+channel_is_due Nine channel now u h = let k = held_some (is_stalled u.gx) u.released now.0 (channel_due u.nine.dma channel) h in some_due u.nine.dma channel k.0 k.1
+channel_is_due Seven channel now u h = some_due u.seven.dma channel now h
+
+-- held or not, a channel is due later that is due later
+dma_later : (proc : Proc) (channel : ℕ) (now : Tick) (u : IoState) → IsLater now (channel_due (io_of u proc).dma channel) → IsLater now (io_due (Dma proc channel) u)
+dma_later Nine channel now u h = held_later now (is_stalled u.gx) u.released (channel_due u.nine.dma channel) h
+dma_later Seven channel now u h = h
+
+-- a processor whose own is the same, and geometry too, is held as before
+held_alike : (proc : Proc) (old new : IoState) → io_of new proc ≡ io_of old proc → new.gx ≡ old.gx → is_held new proc ≡ is_held old proc
+held_alike Nine old new own gx = rw (own, gx) refl
+held_alike Seven old new own gx = rw own refl
+
+-- by the same transfers a channel is due
+same_some : (proc : Proc) (old new : IoState) → IsUnchanged (io_of old proc) (io_of new proc) → IsSome (dma_due (io_of old proc).dma) → IsSome (dma_due (io_of new proc).dma)
+same_some proc old new left h = subst (λ (dma : DmaState). IsSome (dma_due dma)) (sym left.dma) h
 
 module _ (proc : Proc) (channel : ℕ) (now : Tick) (unit : DmaUnit) (s : MachineState) (sound : HasSoundParts s) (lt : channel < 4)
     (due : io_due (Dma proc channel) s.io ≡ Some now)
@@ -140,7 +159,7 @@ module _ (proc : Proc) (channel : ℕ) (now : Tick) (unit : DmaUnit) (s : Machin
   read_io = unchanged_io s.io read sound.io left
 
   moves : MovedGoes proc now read taken.io
-  moves = moved_goes proc now read read_io (some_due (io_of read proc).dma channel now (ap (λ (dma : DmaState). channel_due dma channel) (left.processor_io proc).dma ∙ due))
+  moves = moved_goes proc now read read_io (same_some proc s.io read (left.processor_io proc) (channel_is_due proc channel now s.io due))
 
   is_quiet : IsQuiet now (io_of taken.io proc)
   is_quiet = record {
@@ -162,6 +181,12 @@ module _ (proc : Proc) (channel : ℕ) (now : Tick) (unit : DmaUnit) (s : Machin
       left_after (io_of s.io (other_proc proc)) (io_of read (other_proc proc)) (io_of written.io (other_proc proc)) (left.processor_io (other_proc proc))
       (subst (λ (o : ProcessorIoState). IsUnchanged o (io_of written.io (other_proc proc))) moves.other goes.other)
 
+  -- the other processor is held as before
+  other_as_before : is_held written.io (other_proc proc) ≡ is_held s.io (other_proc proc)
+  other_as_before = other_held proc now taken.io written.io goes ∙ moved_held ∙ unchanged_held s.io read left (other_proc proc) where
+    moved_held : is_held taken.io (other_proc proc) ≡ is_held read (other_proc proc)
+    moved_held = held_alike (other_proc proc) read taken.io moves.other moves.gx
+
   io : IsIo written.io
   io = goes_io proc now taken.io written.io moves.io goes
 
@@ -177,7 +202,7 @@ module _ (proc : Proc) (channel : ℕ) (now : Tick) (unit : DmaUnit) (s : Machin
       (of_both (λ each. Reschedules now (processor_due s each) (processor_due next each)) proc
       (inr (subst (IsLater now) (sym (event_due (with_processor proc m past) proc ∙ put_processor_io proc m past))
       (later_unless now (is_blocked m proc) past (omega (arith, le-max_right (processor_of m proc).due (now.0 + 1))))))
-      (inl (event_due (with_processor proc m past) (other_proc proc) ∙ put_other proc m past ∙ left_due proc s written (other_proc proc) other)))
+      (inl (event_due (with_processor proc m past) (other_proc proc) ∙ put_other proc m past ∙ left_due proc s written (other_proc proc) other_as_before)))
 
   -- the other processor's own, and the display, are as before
   pub unit_other : IsUnchanged (io_of s.io (other_proc proc)) (io_of (machine_after_unit proc now unit s).io (other_proc proc))
@@ -200,10 +225,32 @@ module _ (proc : Proc) (channel : ℕ) (now : Tick) (unit : DmaUnit) (s : Machin
   unit_later =
       let b = put_beside proc (with_map proc s written) past in
       subst (λ (u : IoState). IsLater now (io_due (Dma proc channel) u)) (sym b.io)
-      (still_later now None (channel_due (io_of written.io proc).dma channel) tt (all_later now (io_of written.io proc).dma None goes.quiet.dma channel lt))
+      (dma_later proc channel now written.io
+      (still_later now None (channel_due (io_of written.io proc).dma channel) tt (all_later now (io_of written.io proc).dma None goes.quiet.dma channel lt)))
 
   -- the display's last whole frame is as it was
   pub unit_whole : (machine_after_unit proc now unit s).io.video.whole ≡ s.io.video.whole
   unit_whole =
       let b = put_beside proc (with_map proc s written) past in
       ap (λ (u : IoState). u.video.whole) b.io ∙ goes.whole ∙ ap (λ (v : VideoState). v.whole) moves.video ∙ left.whole
+
+  -- of geometry the current run is as long as it was, and the lists of the last swap are as they were; a channel of ARM7's leaves all of it
+  pub unit_run : (machine_after_unit proc now unit s).io.gx.geometry.numbers.run ≡ s.io.gx.geometry.numbers.run
+  unit_run =
+      let b = put_beside proc (with_map proc s written) past in
+      ap (λ (u : IoState). u.gx.geometry.numbers.run) b.io ∙ goes.geometry.run ∙ ap (λ (g : GxState). g.geometry.numbers.run) (moves.gx ∙ left.gx)
+
+  pub unit_lists : (machine_after_unit proc now unit s).io.gx.geometry.last ≡ s.io.gx.geometry.last
+  unit_lists =
+      let b = put_beside proc (with_map proc s written) past in
+      ap (λ (u : IoState). u.gx.geometry.last) b.io ∙ goes.geometry.last ∙ ap (λ (g : GxState). g.geometry.last) (moves.gx ∙ left.gx)
+
+  pub unit_gx : proc ≡ Seven → (machine_after_unit proc now unit s).io.gx ≡ s.io.gx
+  unit_gx e =
+      let b = put_beside proc (with_map proc s written) past in
+      ap (λ (u : IoState). u.gx) b.io ∙ goes.geometry.of_seven e ∙ moves.gx ∙ left.gx
+
+  pub unit_released : (machine_after_unit proc now unit s).io.released ≡ s.io.released
+  unit_released =
+      let b = put_beside proc (with_map proc s written) past in
+      ap (λ (u : IoState). u.released) b.io ∙ goes.geometry.released ∙ moves.released ∙ left.released

@@ -8,7 +8,7 @@ use Rattle.arm_core.specs.Conditions.{holds}
 use Rattle.arm_core.specs.Effects.{carried_out}
 use Rattle.arm_core.specs.Exceptions.{interrupt_meaning}
 use Rattle.arm_core.specs.Registers.{RegisterState}
-use Rattle.arm_core.specs.Steps.{FetchOutcome, Setting, enters, fetched}
+use Rattle.arm_core.specs.Steps.{Setting, enters, fetched}
 use Rattle.arm_exec.specs.Costs.{CostsSome}
 use Rattle.arm_exec.proofs.Costs.{carried_out_costs, word_costs}
 use Rattle.arm7_exec.specs.Arm7.{arm7}
@@ -17,7 +17,7 @@ use Rattle.arm9_exec.specs.Coprocessors.{move_of}
 use Rattle.arm9_exec.specs.declared.coprocessors.Moved.{Moved}
 use Rattle.arm9_exec.proofs.Costs.{moved_costs}
 use Rattle.ds_map.specs.Views.{NineReach, nine_memory, seven_memory}
-use Rattle.ds_machine.specs.Sides.{SideOf, executed_unless, needs, nine_executed, nine_side, seven_side, taken}
+use Rattle.ds_machine.specs.Sides.{SideOf, nine_executed, nine_side, seven_side, taken}
 use Rattle.ds_machine.specs.States.{MachineState}
 use Rattle.ds_machine.specs.Steps.{line_of, nine_reach, outcome_of, seven_reach}
 
@@ -28,15 +28,11 @@ taken_costs : {S : Type 0} (memory : MemoryMachine S) (side : SideOf S)
     → (line : Bool) (s : RegisterState) (state : S) → CostsSome (taken memory side line s state).stepped
 unfolding taken
 taken_costs {S} memory side executed line s state = by_entry (enters line s) where
-  unless : (f : FetchOutcome S) (needed : Option ℕ) → CostsSome (executed_unless side s state f needed).stepped
-  unless f None = executed s state f.number f.instr
-  unless f (Some value) = tt
-
   by_entry : (b : Bool) → CostsSome (if b then carried_out memory side.arch s state (interrupt_meaning (side.base state) s)
-      else let f = fetched memory side.arch s state in executed_unless side s state f (needs side s state f.instr)).stepped
+      else let f = fetched memory side.arch s state in side.executed s state f.number f.instr).stepped
   by_entry true =
       let setting : Setting = record { arch = side.arch; base = side.base state; in_rom = false } in carried_out_costs memory setting s state (interrupt_meaning (side.base state) s)
-  by_entry false = let f = fetched memory side.arch s state in unless f (needs side s state f.instr)
+  by_entry false = let f = fetched memory side.arch s state in executed s state f.number f.instr
 
 nine_costs : (s : RegisterState) (r : NineReach) (number : ℕ) (instr : Option Instr) (move : Option Moved) → CostsSome (nine_executed s r number instr move).stepped
 nine_costs s r number instr None = word_costs nine_memory (arm9 r.cp15) s r number instr

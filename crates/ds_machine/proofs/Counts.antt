@@ -1,6 +1,6 @@
 use Rattle.std.proofs.Common.{ℕ, ◌≡◌, ◌<◌, ◌≤◌, ◌+◌, ◌*◌, ◌^◌, ◌⊎◌, inl, inr, Bool, true, false, true≢false, if◌then◌else◌, min, List, [], ◌∷◌, Option, Some, None, refl, sym, ◌∙◌, ap, subst, arith}
-use Rattle.std.specs.Prelude.{◌&&◌}
-use Rattle.std.proofs.Math.Nat.{le-max_right}
+use Rattle.std.specs.Prelude.{max, ◌&&◌}
+use Rattle.std.proofs.Math.Nat.{le-max_left, le-max_right}
 use Rattle.std.proofs.lemmas.Option.{none-some}
 use Rattle.ds_base.specs.Processors.{ticks_per_clock}
 use Rattle.ds_base.specs.declared.keys.KeyLine.{KeyLine}
@@ -10,13 +10,14 @@ use Rattle.ds_base.specs.declared.processors.Proc.TheVariants.{Nine, Seven}
 use Rattle.ds_base.specs.declared.ticks.Tick.{Tick}
 use Rattle.arm_core.specs.declared.outcomes.Stepped as arm
 use Rattle.arm_core.specs.declared.outcomes.Stepped.TheVariants.{Cost, Halted, Left}
-use Rattle.ds_dma.specs.States.{DmaState, channel_due}
+use Rattle.ds_dma.specs.States.{DmaState, awaits_geometry, channel_due}
 use Rattle.ds_dma.specs.declared.channels.Unit.{Unit as DmaUnit}
 use Rattle.ds_ipc.specs.Ipcs.{other_proc}
 use Rattle.ds_map.specs.Moves.{next_unit, unit_read}
-use Rattle.ds_ports.specs.Dues.{IsUnchanged, io_due}
-use Rattle.ds_ports.specs.Io.{IoState, division_done, io_event, io_of, root_done}
-use Rattle.ds_ports.proofs.Events.{HasEvent, event_goes, keys_happen, show_goes, timer_leaves}
+use Rattle.ds_ports.specs.Dues.{Goes, IsIo, IsUnchanged, held_due, io_due}
+use Rattle.ds_ports.specs.Io.{IoState, division_done, io_event, io_of, root_done, settled, stall_ends, tick_after}
+use Rattle.gx_fifo.specs.GxStates.{GxState, is_half_empty, is_stalled}
+use Rattle.ds_ports.proofs.Events.{HasEvent, event_goes, keys_happen, timer_leaves}
 use Rattle.ds_ports.proofs.Later.{of_both, unchanged_same}
 use Rattle.ds_runs.specs.Actors.{actor_of}
 use Rattle.ds_runs.specs.Owed.{AllReschedule}
@@ -27,19 +28,20 @@ use Rattle.ds_runs.proofs.RunExists.{place_rises}
 use Rattle.ds_runs.proofs.RunLaws.{same_makes, not_both}
 use Rattle.ds_timers.specs.Timing.{TimerState, timer_at, timer_due}
 use Rattle.ds_machine.specs.Channels.{channel_step}
-use Rattle.ds_machine.specs.Reference.{CountsAddUp, CountsWithin, Fences, HasCounted, HasSoundParts, MayStep, Shown, after_event, after_line, after_video, due_by, dues_of, keys_due, processor_due, reference, shown_at, step_by, reference_step, stepped_of}
+use Rattle.ds_machine.specs.Reference.{CountsAddUp, CountsWithin, Fences, HasCounted, HasSoundParts, MayStep, Shown, after_event, after_geometry, after_line, after_video, due_by, dues_of, geometry_before, is_to_be_triggered, keys_due, processor_due, reference, shown_at, step_by, reference_step, stepped_of}
 use Rattle.ds_machine.specs.States.{MachineState, ProcessorState, counts_of}
-use Rattle.ds_machine.specs.Steps.{gone_by, goes_on, is_blocked, is_halted, map_of, processor_of, wakes, went_on, with_halt, with_map, with_processor, woken, woken_one}
+use Rattle.ds_machine.specs.Steps.{ended, gone_by, goes_on, is_blocked, is_halted, machine_settled, map_of, processor_of, wakes, went_on, with_halt, with_map, with_processor, woken, woken_one}
 use Rattle.ds_machine.specs.declared.answers.Done as answer
 use Rattle.ds_machine.specs.declared.answers.Done.TheVariants as answers
-use Rattle.ds_machine.proofs.ChannelEvents.{channel_unchanged, channel_made, event_counts, machine_after_unit, map_processor, read_unchanged, unit_counts, unit_other, unit_video}
+use Rattle.ds_machine.proofs.ChannelEvents.{channel_unchanged, channel_made, event_counts, machine_after_unit, map_processor, read_unchanged, unit_counts, unit_gx, unit_other, unit_released, unit_video}
 use Rattle.ds_machine.proofs.DueTicks.{due_of_least, due_of_rank, due_of_step, due_then, low_rank, not_before, sort_rank}
-use Rattle.ds_machine.proofs.MachineSchedule.{Steps, awake_stops, channel_timers, operation, owes, reference_schedules, step_made, steps_here, stopped}
+use Rattle.ds_machine.proofs.MachineSchedule.{Steps, awake_stops, channel_timers, display_happens, operation, owes, owes_by, reference_schedules, step_made, steps_here, stopped}
 use Rattle.ds_machine.proofs.Moves.{moves_all}
 use Rattle.ds_machine.proofs.ProcessorSteps.{Operation, Took, came_by, concluded_stops, concludes, costs_some, goes, gone_counts, later_by, reached_by, reaches, step_is}
-use Rattle.ds_machine.proofs.Quiet.{neither}
-use Rattle.ds_machine.proofs.VideoEvents.{video_makes, video_stops}
-use Rattle.ds_machine.proofs.Wakes.{wakes_both}
+use Rattle.ds_machine.proofs.Quiet.{not_halted}
+use Rattle.ds_machine.proofs.VideoEvents.{ended_leaves, video_makes, video_stops}
+use Rattle.ds_machine.proofs.VertexRuns.{later_run, left_run, made_run, place_of_run, run_before, run_of, runs_in}
+use Rattle.ds_machine.proofs.Wakes.{ended_counts, settle_leaves, settled_dma}
 use Rattle.video2d.specs.Scans.{ScanState, scan_due, scan_due_tick}
 use Rattle.video2d.specs.Videos.{VideoState, video_stop}
 
@@ -56,6 +58,7 @@ made_counts : (a : actor.Actor) (rank : ℕ) (tick : Tick) (s made : MachineStat
 made_counts KeyScript rank tick s made outs due h =
     ap counts_of (sym (same_makes (after_line s.keys s) made [] outs h).0) ∙ keys_count tick s s.keys due
 made_counts Video rank tick s made outs due h = ap counts_of (sym (video_makes rank s made outs h).0) ∙ event_counts s
+made_counts Geometry rank tick s made outs due h = ap counts_of (sym (same_makes (after_geometry s) made [] outs h).0) ∙ event_counts s
 made_counts (Dma proc channel) rank tick s made outs due h =
     let P : Option Tick → Type 0 = λ o. channel_step rank proc o s ≡ Makes made outs in
     ap counts_of (channel_made rank proc tick s made outs (subst P due h)) ∙ unit_counts proc tick (next_unit s.io proc) s
@@ -69,18 +72,14 @@ pub one_more : (s next : MachineState) (tick : Tick) (rank : ℕ) (outs : List S
     → counts_of next ≡ counts_of s + 1
 one_more s next tick rank outs least h =
     let k = step_made s next tick rank outs least h in
-    ap counts_of (sym k.2) ∙ (wakes_both tick k.0).counts ∙ made_counts (actor_of rank) rank tick s k.0 outs (due_of_least s rank tick least) k.1
+    ap counts_of (sym k.2) ∙ ended_counts tick k.0 ∙ made_counts (actor_of rank) rank tick s k.0 outs (due_of_least s rank tick least) k.1
 
 -- a step that stops leaves the counts as they were
-
-read_counts : (proc : Proc) (s left : MachineState) → (s ≡ left) ⊎ (with_map proc s (unit_read proc (next_unit s.io proc) (map_of proc s)) ≡ left) → counts_of left ≡ counts_of s
-read_counts proc s left (inl same) = ap counts_of (sym same)
-read_counts proc s left (inr read) = ap counts_of (sym read)
 
 channel_counts : (proc : Proc) (due : Option Tick) (rank : ℕ) (s left : MachineState) (stop : LeftOut)
     → (let step : MachineStep MachineState Shown LeftOut = channel_step rank proc due s in step ≡ Stops stop left) → counts_of left ≡ counts_of s
 channel_counts proc None rank s left stop h = absurd (not_both s left [] stop h)
-channel_counts proc (Some now) rank s left stop h = read_counts proc s left (channel_unchanged rank proc now s left stop h)
+channel_counts proc (Some now) rank s left stop h = ap counts_of (sym (channel_unchanged rank proc now s left stop h))
 
 left_counts : (a : actor.Actor) (rank : ℕ) (s left : MachineState) (stop : LeftOut) → step_by rank a s ≡ Stops stop left → counts_of left ≡ counts_of s
 left_counts KeyScript rank s left stop h = absurd (not_both (after_line s.keys s) left [] stop h)
@@ -89,6 +88,7 @@ left_counts (Dma proc channel) rank s left stop h = channel_counts proc (due_by 
 left_counts (Processor proc) rank s left stop h =
     let e = concluded_stops rank proc (reached_by proc s) left stop (came_by proc s) (sym (step_is rank proc s) ∙ h) in
     ap counts_of (sym e) ∙ (reaches proc s).counts
+left_counts Geometry rank s left stop h = absurd (not_both (after_geometry s) left [] stop h)
 left_counts a rank s left stop h = absurd (not_both (after_event a s) left [] stop h)
 
 pub stop_counts : (s left : MachineState) (rank : ℕ) (stop : LeftOut) → reference_step rank s ≡ Stops stop left → counts_of left ≡ counts_of s
@@ -136,6 +136,7 @@ made_events (Processor proc) rank tick s made outs due h =
     let e = ap (λ (x : MachineState). x.events) (sym k.1) ∙ gone_events proc m (came_by proc s) ∙ reached_events proc s in
     omega (arith, e)
 made_events Video rank tick s made outs due h = ap (λ (m : MachineState). m.events) (sym (video_makes rank s made outs h).0)
+made_events Geometry rank tick s made outs due h = ap (λ (m : MachineState). m.events) (sym (same_makes (after_geometry s) made [] outs h).0)
 made_events a rank tick s made outs due h = ap (λ (m : MachineState). m.events) (sym (same_makes (after_event a s) made [] outs h).0)
 
 -- events have ranks below 22
@@ -159,28 +160,65 @@ pub record HasFew (tick : Tick) (proc : Proc) (next : MachineState) : Type 0 whe
   pub steps : (processor_of next proc).steps ≤ tick.0 + 1
   pub due : is_halted next proc ≡ false → (processor_of next proc).steps ≤ (processor_of next proc).due
 
+-- of ARM9 geometry stays that may hold it, and that triggers its channels
+abbrev GeometryStays : Proc → IoState → IoState → Type 0
+GeometryStays Nine old new = (new.gx ≡ old.gx) × (new.released ≡ old.released)
+GeometryStays Seven old new = Unit {0}
+
+geometry_same : (proc : Proc) (old new : IoState) → new.gx ≡ old.gx → new.released ≡ old.released → GeometryStays proc old new
+geometry_same Nine old new gx released = (gx, released)
+geometry_same Seven old new gx released = tt
+
+-- its channels are to be triggered as before
+abbrev IsTriggeredAs : Proc → IoState → IoState → Type 0
+IsTriggeredAs Nine old new = is_to_be_triggered new ≡ is_to_be_triggered old
+IsTriggeredAs Seven old new = Unit {0}
+
+triggered_on : (proc : Proc) (a b c : IoState) → IsTriggeredAs proc a b → IsTriggeredAs proc b c → IsTriggeredAs proc a c
+triggered_on Nine a b c one two = two ∙ one
+triggered_on Seven a b c one two = tt
+
 -- or nothing of it changed, nor when what may halt it is due
 pub record IsUntouched (proc : Proc) (s next : MachineState) : Type 0 where
   pub steps : (processor_of next proc).steps ≡ (processor_of s proc).steps
   pub due : (processor_of next proc).due ≡ (processor_of s proc).due
   pub halted : is_halted next proc ≡ is_halted s proc
+  pub triggered : IsTriggeredAs proc s.io next.io
   pub fences : (a : actor.Actor) → Fences a proc → due_by a next ≡ due_by a s
 
 abbrev pub CountStands : Tick → Proc → MachineState → MachineState → Type 0
 CountStands tick proc s next = HasFew tick proc next ⊎ IsUntouched proc s next
 
 apart_by : (proc : Proc) (s next : MachineState) → (processor_of next proc).steps ≡ (processor_of s proc).steps → (processor_of next proc).due ≡ (processor_of s proc).due
-    → IsUnchanged (io_of s.io proc) (io_of next.io proc) → next.io.video.scan ≡ s.io.video.scan → next.keys ≡ s.keys → IsUntouched proc s next
-apart_by proc s next steps due left scan keys = record { steps = steps; due = due; halted = left.halted; fences = fences } where
+    → IsUnchanged (io_of s.io proc) (io_of next.io proc) → next.io.video.scan ≡ s.io.video.scan → next.keys ≡ s.keys → GeometryStays proc s.io next.io → IsUntouched proc s next
+apart_by proc s next steps due left scan keys stays = record { steps = steps; due = due; halted = left.halted; triggered = as_before proc left stays; fences = fences } where
+  as_before : (proc : Proc) → IsUnchanged (io_of s.io proc) (io_of next.io proc) → GeometryStays proc s.io next.io → IsTriggeredAs proc s.io next.io
+  as_before Nine left stays = ap (λ (g : GxState). is_half_empty g && awaits_geometry next.io.nine.dma) stays.0 ∙ ap (λ (d : DmaState). is_half_empty s.io.gx && awaits_geometry d) left.dma
+  as_before Seven left stays = tt
+
+  channels : (proc : Proc) (channel : ℕ) → IsUnchanged (io_of s.io proc) (io_of next.io proc) → GeometryStays proc s.io next.io → due_by (Dma proc channel) next ≡ due_by (Dma proc channel) s
+  channels Nine channel left stays =
+      ap (λ (g : GxState). held_due (is_stalled g) next.io.released (channel_due next.io.nine.dma channel)) stays.0
+      ∙ ap (λ (n : ℕ). held_due (is_stalled s.io.gx) n (channel_due next.io.nine.dma channel)) stays.1
+      ∙ ap (λ (d : DmaState). held_due (is_stalled s.io.gx) s.io.released (channel_due d channel)) left.dma
+  channels Seven channel left stays = ap (λ (d : DmaState). channel_due d channel) left.dma
+
+  commands : (proc : Proc) → proc ≡ Nine → GeometryStays proc s.io next.io → due_by Geometry next ≡ due_by Geometry s
+  commands Nine f stays = ap (λ (g : GxState). g.due) stays.0
+  commands Seven f stays = absurd (true≢false (ap is_seven f)) where
+    is_seven : Proc → Bool
+    is_seven Nine = false
+    is_seven Seven = true
+
   fences : (a : actor.Actor) → Fences a proc → due_by a next ≡ due_by a s
   fences KeyScript f = ap keys_due keys
   fences Video f = ap (λ (at : ScanState). Some (scan_due_tick at)) scan
   fences (Timer each number) f =
       subst (λ (p : Proc). due_by (Timer p number) next ≡ due_by (Timer p number) s) (sym f) (ap (λ (ts : List TimerState). timer_due (timer_at ts number)) left.timers)
   fences (Dma each channel) f =
-      subst (λ (p : Proc). due_by (Dma p channel) next ≡ due_by (Dma p channel) s) (sym f) (ap (λ (d : DmaState). channel_due d channel) left.dma)
+      subst (λ (p : Proc). due_by (Dma p channel) next ≡ due_by (Dma p channel) s) (sym f) (channels proc channel left stays)
   fences Card f = refl
-  fences Geometry f = refl
+  fences Geometry f = commands proc f stays
   fences Divider f = absurd f
   fences SquareRoot f = absurd f
   fences (Processor each) f = absurd f
@@ -195,7 +233,13 @@ apart_on proc tick s m n (inl near) on =
       due = λ free. (let k = near.due (sym on.halted ∙ free) in omega (arith, k, same, there));
     })
 apart_on proc tick s m n (inr apart) on =
-    inr (record { steps = on.steps ∙ apart.steps; due = on.due ∙ apart.due; halted = on.halted ∙ apart.halted; fences = λ a f. on.fences a f ∙ apart.fences a f })
+    inr (record {
+      steps = on.steps ∙ apart.steps;
+      due = on.due ∙ apart.due;
+      halted = on.halted ∙ apart.halted;
+      triggered = triggered_on proc s.io m.io n.io apart.triggered on.triggered;
+      fences = λ a f. on.fences a f ∙ apart.fences a f;
+    })
 
 -- by the due tick of its own step, of what may halt it, or of any actor while it is halted, they were few
 few_fenced : (proc : Proc) (s next : MachineState) (tick : Tick) (rank : ℕ) (a : actor.Actor) → Steps a rank tick s → HasCounted s → Fences a proc
@@ -245,14 +289,14 @@ video_same Seven s = (refl, refl)
 video_near : (proc : Proc) (rank : ℕ) (tick : Tick) (s : MachineState) → Steps Video rank tick s → HasCounted s → video_stop s.oam s.io.video ≡ None → HasFew tick proc (after_video s)
 video_near proc rank tick s st has none =
     let same = video_same proc s in
-    event_near proc s (after_video s) tick rank Video st has tt same.0 same.1 ((show_goes s.palette s.oam s.io st.sound.io none).0.halted proc)
+    event_near proc s (after_video s) tick rank Video st has tt same.0 same.1 ((display_happens s st.sound.io none).halted proc)
 
 -- and of one that may not
 apart_event : (proc : Proc) (a : actor.Actor) (tick : Tick) (s : MachineState) → IsUnchanged (io_of s.io proc) (io_of (io_event a s.io) proc) → (io_event a s.io).video.scan ≡ s.io.video.scan
-    → CountStands tick proc s (after_event a s)
-apart_event proc a tick s left scan =
+    → GeometryStays proc s.io (io_event a s.io) → CountStands tick proc s (after_event a s)
+apart_event proc a tick s left scan stays =
     let same = event_same proc a s in
-    inr (apart_by proc s (after_event a s) same.0 same.1 left scan refl)
+    inr (apart_by proc s (after_event a s) same.0 same.1 left scan refl stays)
 
 both_same : (proc : Proc) (u new : IoState) → new.nine ≡ u.nine → new.seven ≡ u.seven → IsUnchanged (io_of u proc) (io_of new proc)
 both_same Nine u new nine seven = subst (IsUnchanged u.nine) (sym nine) (unchanged_same u.nine)
@@ -263,16 +307,27 @@ event_stands proc Video rank tick s st has event = absurd event
 event_stands Nine (Timer Nine number) rank tick s st has event = near_event Nine (Timer Nine number) rank tick s st has refl tt st.due
 event_stands Seven (Timer Seven number) rank tick s st has event = near_event Seven (Timer Seven number) rank tick s st has refl tt st.due
 event_stands Nine (Timer Seven number) rank tick s st has event =
-    let k = timer_leaves Seven number s.io in apart_event Nine (Timer Seven number) tick s k.0 (ap (λ (v : VideoState). v.scan) k.1)
+    let k = timer_leaves Seven number s.io in apart_event Nine (Timer Seven number) tick s k.0 (ap (λ (v : VideoState). v.scan) k.1) (refl, refl)
 event_stands Seven (Timer Nine number) rank tick s st has event =
-    let k = timer_leaves Nine number s.io in apart_event Seven (Timer Nine number) tick s k.0 (ap (λ (v : VideoState). v.scan) k.1)
-event_stands proc Divider rank tick s st has event = apart_event proc Divider tick s (both_same proc s.io (division_done s.io) refl refl) refl
-event_stands proc SquareRoot rank tick s st has event = apart_event proc SquareRoot tick s (both_same proc s.io (root_done s.io) refl refl) refl
-event_stands proc Geometry rank tick s st has event = apart_event proc Geometry tick s (unchanged_same (io_of s.io proc)) refl
-event_stands proc Card rank tick s st has event = apart_event proc Card tick s (unchanged_same (io_of s.io proc)) refl
+    let k = timer_leaves Nine number s.io in apart_event Seven (Timer Nine number) tick s k.0 (ap (λ (v : VideoState). v.scan) k.1) tt
+event_stands proc Divider rank tick s st has event = apart_event proc Divider tick s (both_same proc s.io (division_done s.io) refl refl) refl (geometry_same proc s.io (division_done s.io) refl refl)
+event_stands proc SquareRoot rank tick s st has event = apart_event proc SquareRoot tick s (both_same proc s.io (root_done s.io) refl refl) refl (geometry_same proc s.io (root_done s.io) refl refl)
+event_stands proc Geometry rank tick s st has event = absurd event
+event_stands proc Card rank tick s st has event = apart_event proc Card tick s (unchanged_same (io_of s.io proc)) refl (geometry_same proc s.io s.io refl refl)
 event_stands proc KeyScript rank tick s st has event = absurd event
 event_stands proc (Dma each channel) rank tick s st has event = absurd event
 event_stands proc (Processor each) rank tick s st has event = absurd event
+
+-- geometry's: ARM9 isn't due earlier for it
+past_grows : (b : Bool) (due other : ℕ) → due ≤ (if b then max due other else due)
+past_grows true due other = le-max_left due other
+past_grows false due other = omega arith
+
+geometry_stands : (proc : Proc) (rank : ℕ) (tick : Tick) (s : MachineState) → Steps Geometry rank tick s → HasCounted s → CountStands tick proc s (after_geometry s)
+geometry_stands Nine rank tick s st has =
+    let later = past_grows (stall_ends s.io) s.nine.processor.due (tick_after s.io.gx.due s.nine.processor.due) in
+    inl (few_fenced Nine s (after_geometry s) tick rank Geometry st has refl refl (λ free. (let k = has.own Nine free in omega (arith, k, later))))
+geometry_stands Seven rank tick s st has = inr (apart_by Seven s (after_geometry s) refl refl (unchanged_same s.io.seven) refl refl tt)
 
 -- a DMA channel's: its processor is due after it, and the other is left alone
 unit_own : (proc : Proc) (now : Tick) (unit : DmaUnit) (s : MachineState)
@@ -285,6 +340,14 @@ unit_others : (proc : Proc) (now : Tick) (unit : DmaUnit) (s : MachineState)
     × ((processor_of next (other_proc proc)).due ≡ (processor_of s (other_proc proc)).due) × (next.keys ≡ s.keys))
 unit_others Nine now unit s = (refl, refl, refl)
 unit_others Seven now unit s = (refl, refl, refl)
+
+unit_geometry : (proc : Proc) (channel rank : ℕ) (tick : Tick) (s : MachineState) → Steps (Dma proc channel) rank tick s
+    → GeometryStays (other_proc proc) s.io (machine_after_unit proc tick (next_unit s.io proc) s).io
+unit_geometry Nine channel rank tick s st = tt
+unit_geometry Seven channel rank tick s st =
+    let unit = next_unit s.io Seven in
+    let timers = channel_timers Seven channel rank tick s st in
+    (unit_gx Seven channel tick unit s st.sound st.numbered st.due timers refl, unit_released Seven channel tick unit s st.sound st.numbered st.due timers)
 
 unit_stands : (proc each : Proc) (channel rank : ℕ) (tick : Tick) (s : MachineState) → Steps (Dma proc channel) rank tick s → HasCounted s
     → CountStands tick each s (machine_after_unit proc tick (next_unit s.io proc) s)
@@ -299,7 +362,7 @@ unit_stands proc each channel rank tick s st has =
     of_both (λ p. CountStands tick p s next) proc
     (inl (few_fenced proc s next tick rank (Dma proc channel) st has refl own.0 (λ free. omega (arith, k, late))))
     (inr (apart_by (other_proc proc) s next others.0 others.1 (unit_other proc channel tick unit s st.sound st.numbered st.due timers)
-    (unit_video proc channel tick unit s st.sound st.numbered st.due timers) others.2))
+    (unit_video proc channel tick unit s st.sound st.numbered st.due timers) others.2 (unit_geometry proc channel rank tick s st)))
     each
 
 -- a processor's: one more step, and it is due later unless it is halted
@@ -323,10 +386,10 @@ gone_due Seven m (Halted clocks) took free = absurd (true≢false free)
 gone_due proc m (Left stop) took free = absurd took
 
 gone_apart : (proc : Proc) (m : MachineState) (came : arm.Stepped) → Took came → IsUntouched (other_proc proc) m (gone_by proc came m)
-gone_apart Nine m (Cost clocks) took = apart_by Seven m (gone_by Nine (Cost clocks) m) refl refl (unchanged_same m.io.seven) refl refl
-gone_apart Seven m (Cost clocks) took = apart_by Nine m (gone_by Seven (Cost clocks) m) refl refl (unchanged_same m.io.nine) refl refl
-gone_apart Nine m (Halted clocks) took = apart_by Seven m (gone_by Nine (Halted clocks) m) refl refl (unchanged_same m.io.seven) refl refl
-gone_apart Seven m (Halted clocks) took = apart_by Nine m (gone_by Seven (Halted clocks) m) refl refl (unchanged_same m.io.nine) refl refl
+gone_apart Nine m (Cost clocks) took = apart_by Seven m (gone_by Nine (Cost clocks) m) refl refl (unchanged_same m.io.seven) refl refl tt
+gone_apart Seven m (Cost clocks) took = apart_by Nine m (gone_by Seven (Cost clocks) m) refl refl (unchanged_same m.io.nine) refl refl (refl, refl)
+gone_apart Nine m (Halted clocks) took = apart_by Seven m (gone_by Nine (Halted clocks) m) refl refl (unchanged_same m.io.seven) refl refl tt
+gone_apart Seven m (Halted clocks) took = apart_by Nine m (gone_by Seven (Halted clocks) m) refl refl (unchanged_same m.io.nine) refl refl (refl, refl)
 gone_apart proc m (Left stop) took = absurd took
 
 reached_steps : (proc : Proc) (s : MachineState) → (processor_of (reached_by proc s) proc).steps ≡ (processor_of s proc).steps
@@ -334,18 +397,22 @@ reached_steps Nine s = refl
 reached_steps Seven s = refl
 
 -- what its accesses leave
+access_geometry : (proc : Proc) (tick : Tick) (old new : IoState) → Goes proc tick old new → GeometryStays (other_proc proc) old new
+access_geometry Nine tick old new g = tt
+access_geometry Seven tick old new g = (g.geometry.of_seven refl, g.geometry.released)
+
 reached_apart : (proc : Proc) (tick : Tick) (s : MachineState) → Operation proc tick s → IsUntouched (other_proc proc) s (reached_by proc s)
 reached_apart proc tick s r =
     let m = reached_by proc s in
     let g = goes proc tick s r in
     let re = reaches proc s in
-    apart_by (other_proc proc) s m (ap (λ (p : ProcessorState). p.steps) re.other) (ap (λ (p : ProcessorState). p.due) re.other) g.other g.scan re.keys
+    apart_by (other_proc proc) s m (ap (λ (p : ProcessorState). p.steps) re.other) (ap (λ (p : ProcessorState). p.due) re.other) g.other g.scan re.keys (access_geometry proc tick s.io m.io g)
 
 -- a processor that takes its step had no more than ticks before it
 own_few : (proc : Proc) (tick : Tick) (s : MachineState) → HasCounted s → processor_due s proc ≡ Some tick → (processor_of s proc).steps ≤ tick.0
 own_few proc tick s has due =
     let k = due_then (is_blocked s proc) (processor_of s proc) tick due in
-    let few = has.own proc (neither _ _ k.0).0 in
+    let few = has.own proc (not_halted s proc k.0) in
     let at = k.1 in
     omega (arith, few, at)
 
@@ -371,6 +438,8 @@ made_stands : (a : actor.Actor) (each : Proc) (rank : ℕ) (tick : Tick) (s made
     → step_by rank a s ≡ Makes made outs → CountStands tick each s made
 made_stands KeyScript each rank tick s made outs st has h =
     subst (CountStands tick each s) (same_makes (after_line s.keys s) made [] outs h).0 (inl (line_stands each tick rank s s.keys st has st.due))
+made_stands Geometry each rank tick s made outs st has h =
+    subst (CountStands tick each s) (same_makes (after_geometry s) made [] outs h).0 (geometry_stands each rank tick s st has)
 made_stands (Dma proc channel) each rank tick s made outs st has h =
     let P : Option Tick → Type 0 = λ o. channel_step rank proc o s ≡ Makes made outs in
     subst (CountStands tick each s) (sym (channel_made rank proc tick s made outs (subst P st.due h))) (unit_stands proc each channel rank tick s st has)
@@ -384,6 +453,35 @@ made_stands Video each rank tick s made outs st has h =
 made_stands a each rank tick s made outs st has h =
     subst (CountStands tick each s) (same_makes (after_event a s) made [] outs h).0 (event_stands each a rank tick s st has tt)
 
+-- ---- where the units settle
+
+-- of ARM9 either channels are triggered, and then it had few steps, or all stays
+settled_apart : (tick : Tick) (m : MachineState) → IsIo m.io → is_to_be_triggered m.io ≡ false → IsUntouched Nine m (machine_settled tick m)
+settled_apart tick m is none =
+    let k = settle_leaves tick m.io in
+    apart_by Nine m (machine_settled tick m) refl refl (record { timers = k.timers; keycnt = k.keycnt; halted = k.halted; dma = settled_dma tick m.io is none })
+    (ap (λ (v : VideoState). v.scan) k.video) refl (k.gx, k.released)
+
+settle_stands : (each : Proc) (tick : Tick) (s m : MachineState) → IsIo m.io → (is_to_be_triggered s.io ≡ true → s.nine.processor.steps ≤ tick.0 + 1)
+    → (is_halted s Nine ≡ false → s.nine.processor.steps ≤ s.nine.processor.due) → CountStands tick each s m → CountStands tick each s (machine_settled tick m)
+settle_stands Seven tick s m is few own stands =
+    let k = settle_leaves tick m.io in
+    let same : IsUnchanged m.io.seven (settled tick m.io).seven = subst (IsUnchanged m.io.seven) (sym k.seven) (unchanged_same m.io.seven) in
+    apart_on Seven tick s m (machine_settled tick m) stands (apart_by Seven m (machine_settled tick m) refl refl same (ap (λ (v : VideoState). v.scan) k.video) refl tt)
+settle_stands Nine tick s m is few own (inl near) =
+    inl (record { steps = near.steps; due = λ free. near.due (sym (settle_leaves tick m.io).halted ∙ free) })
+settle_stands Nine tick s m is few own (inr apart) = by_need (is_to_be_triggered m.io) refl where
+  by_need : (b : Bool) → is_to_be_triggered m.io ≡ b → CountStands tick Nine s (machine_settled tick m)
+  by_need true e =
+      let k = few (sym apart.triggered ∙ e) in
+      let steps = apart.steps in
+      let due = apart.due in
+      inl (record {
+        steps = omega (arith, k, steps);
+        due = λ free. (let d = own (sym apart.halted ∙ sym (settle_leaves tick m.io).halted ∙ free) in omega (arith, d, steps, due));
+      })
+  by_need false e = apart_on Nine tick s m (machine_settled tick m) (inr apart) (settled_apart tick m is e)
+
 -- ---- and where processors wake
 
 on_own : (proc : Proc) (tick : Tick) (s m : MachineState) → (processor_of m proc).steps ≤ tick.0 + 1 → HasFew tick proc (goes_on proc tick m)
@@ -391,8 +489,8 @@ on_own Nine tick s m few = record { steps = few; due = λ free. few }
 on_own Seven tick s m few = record { steps = few; due = λ free. few }
 
 on_apart : (proc : Proc) (tick : Tick) (m : MachineState) → IsUntouched (other_proc proc) m (goes_on proc tick m)
-on_apart Nine tick m = apart_by Seven m (goes_on Nine tick m) refl refl (unchanged_same m.io.seven) refl refl
-on_apart Seven tick m = apart_by Nine m (goes_on Seven tick m) refl refl (unchanged_same m.io.nine) refl refl
+on_apart Nine tick m = apart_by Seven m (goes_on Nine tick m) refl refl (unchanged_same m.io.seven) refl refl tt
+on_apart Seven tick m = apart_by Nine m (goes_on Seven tick m) refl refl (unchanged_same m.io.nine) refl refl (refl, refl)
 
 both_hold : (a b : Bool) → (a && b) ≡ true → a ≡ true
 both_hold true b h = refl
@@ -436,8 +534,16 @@ due_since s next tick rank least all other at h = elim (not_before s next tick r
 ]
 
 has_next : (s next : MachineState) (tick : Tick) (rank : ℕ) → IsLeast (dues_of s) tick rank → AllReschedule tick (dues_of s) (dues_of next) → HasCounted s
-    → ((proc : Proc) → CountStands tick proc s next) → ((other : ℕ) (at : Tick) → due_at (dues_of next) other ≡ Some at → next.events ≤ 22 * at.0 + min other 22) → HasCounted next
-has_next s next tick rank least all has stands events = record { own = λ proc. own proc (stands proc); fenced = λ proc. fenced proc (stands proc); halted = λ proc. halted proc (stands proc); events = events } where
+    → ((proc : Proc) → CountStands tick proc s next) → ((other : ℕ) (at : Tick) → due_at (dues_of next) other ≡ Some at → next.events ≤ 22 * at.0 + min other 22)
+    → ((other : ℕ) (at : Tick) → due_at (dues_of next) other ≡ Some at → next.io.gx.geometry.numbers.run ≤ at.0 + geometry_before other) → HasCounted next
+has_next s next tick rank least all has stands events run = record {
+  own = λ proc. own proc (stands proc);
+  fenced = λ proc. fenced proc (stands proc);
+  halted = λ proc. halted proc (stands proc);
+  triggered = triggered (stands Nine);
+  events = events;
+  run = run;
+} where
   since : (other : ℕ) (at : Tick) → due_at (dues_of next) other ≡ Some at → tick.0 ≤ at.0
   since = due_since s next tick rank least all
 
@@ -448,6 +554,15 @@ has_next s next tick rank least all has stands events = record { own = λ proc. 
       let steps = apart.steps in
       let due = apart.due in
       omega (arith, k, steps, due)
+
+  triggered : CountStands tick Nine s next → (other : ℕ) (at : Tick) → is_to_be_triggered next.io ≡ true → due_at (dues_of next) other ≡ Some at
+      → next.nine.processor.steps ≤ at.0 + 1
+  triggered (inl near) other at is due = let few = near.steps in let k = since other at due in omega (arith, few, k)
+  triggered (inr apart) other at is due =
+      let few = has.triggered rank tick (sym apart.triggered ∙ is) least.there in
+      let same = apart.steps in
+      let k = since other at due in
+      omega (arith, few, same, k)
 
   fenced : (proc : Proc) → CountStands tick proc s next → (other : ℕ) (at : Tick) → due_at (dues_of next) other ≡ Some at → Fences (actor_of other) proc
       → (processor_of next proc).steps ≤ at.0 + 1
@@ -472,17 +587,25 @@ has_next s next tick rank least all has stands events = record { own = λ proc. 
 pub record CountsAfter (tick : Tick) (rank : ℕ) (s next : MachineState) : Type 0 where
   pub stands : (proc : Proc) → CountStands tick proc s next
   pub events : next.events ≡ s.events + events_in (actor_of rank)
+  pub run : next.io.gx.geometry.numbers.run ≤ s.io.gx.geometry.numbers.run + runs_in (actor_of rank)
 
 pub makes_all : (s next : MachineState) (tick : Tick) (rank : ℕ) (outs : List Shown) → HasSoundParts s → IsLeast (dues_of s) tick rank → HasCounted s
     → reference_step rank s ≡ Makes next outs → CountsAfter tick rank s next
+unfolding ended
 makes_all s next tick rank outs sound least has h =
     let k = step_made s next tick rank outs least h in
     let a = actor_of rank in
     let st = steps_here s tick rank sound least in
     let halted : (p : Proc) → is_halted s p ≡ true → (processor_of s p).steps ≤ tick.0 + 1 = λ p is. has.halted p rank tick is least.there in
-    let woke : CountsAfter tick rank s (woken tick k.0) = record {
-      stands = λ proc. woken_stands proc tick s k.0 halted (λ p. made_stands a p rank tick s k.0 outs st has k.1);
-      events = woken_events tick k.0 ∙ made_events a rank tick s k.0 outs (due_of_least s rank tick least) k.1;
+    let rest = machine_settled tick k.0 in
+    let is = (owes_by a rank tick s k.0 outs st k.1).sound.io in
+    let few : is_to_be_triggered s.io ≡ true → s.nine.processor.steps ≤ tick.0 + 1 = λ e. has.triggered rank tick e least.there in
+    let made = made_run a rank tick s k.0 outs st k.1 in
+    let same = ap (λ (g : GxState). g.geometry.numbers.run) (ended_leaves tick k.0).gx in
+    let woke : CountsAfter tick rank s (ended tick k.0) = record {
+      stands = λ proc. woken_stands proc tick s rest halted (λ p. settle_stands p tick s k.0 is few (has.own Nine) (made_stands a p rank tick s k.0 outs st has k.1));
+      events = woken_events tick rest ∙ made_events a rank tick s k.0 outs (due_of_least s rank tick least) k.1;
+      run = omega (arith, made, same);
     } in
     subst (CountsAfter tick rank s) k.2 woke
 
@@ -501,21 +624,26 @@ counted_made s next tick rank outs sound least has h =
     let more = made.events in
     let room = place_of_event rank low in
     let few = has.events rank tick least.there in
+    omega (arith, past, more, room, few))) (λ other at due.
+    (let before = place_rises reference 24 HasSoundParts reference_schedules s next tick rank outs at other sound least h due in
+    let past = later_run tick.0 at.0 rank other before low (low_rank next other at due) in
+    let more = made.run in
+    let room = place_of_run rank low in
+    let few = has.run rank tick least.there in
     omega (arith, past, more, room, few)))
 
 -- ---- where it stops
 
 all_same : (proc : Proc) (s : MachineState) → IsUntouched proc s s
-all_same proc s = record { steps = refl; due = refl; halted = refl; fences = λ a f. refl }
+all_same proc s = apart_by proc s s refl refl (unchanged_same (io_of s.io proc)) refl refl (geometry_same proc s.io s.io refl refl)
 
-read_apart : (proc each : Proc) (s left : MachineState) → (s ≡ left) ⊎ (with_map proc s (unit_read proc (next_unit s.io proc) (map_of proc s)) ≡ left) → IsUntouched each s left
-read_apart proc each s left (inl same) = subst (IsUntouched each s) same (all_same each s)
-read_apart proc each s left (inr read) =
+read_apart : (proc each : Proc) (s left : MachineState) → with_map proc s (unit_read proc (next_unit s.io proc) (map_of proc s)) ≡ left → IsUntouched each s left
+read_apart proc each s left read =
     let unit = next_unit s.io proc in
     let next = with_map proc s (unit_read proc unit (map_of proc s)) in
     let u = read_unchanged proc unit s in
     let p = map_processor proc s (unit_read proc unit (map_of proc s)) each in
-    subst (IsUntouched each s) read (apart_by each s next (ap (λ (x : ProcessorState). x.steps) p) (ap (λ (x : ProcessorState). x.due) p) (u.processor_io each) u.scan refl)
+    subst (IsUntouched each s) read (apart_by each s next (ap (λ (x : ProcessorState). x.steps) p) (ap (λ (x : ProcessorState). x.due) p) (u.processor_io each) u.scan refl (geometry_same each s.io next.io u.gx u.released))
 
 stopped_stands : (a : actor.Actor) (each : Proc) (rank : ℕ) (tick : Tick) (s left : MachineState) (stop : LeftOut) → Steps a rank tick s → HasCounted s
     → step_by rank a s ≡ Stops stop left → CountStands tick each s left
@@ -532,15 +660,13 @@ stopped_stands (Processor proc) each rank tick s left stop st has h =
     let near : HasFew tick proc (reached_by proc s) = record { steps = omega (arith, few, same); due = λ free. omega (arith, few, same, at, due) } in
     subst (CountStands tick each s) e (of_both (λ p. CountStands tick p s (reached_by proc s)) proc (inl near) (inr (reached_apart proc tick s (operation proc rank tick s st))) each)
 stopped_stands Video each rank tick s left stop st has h = subst (CountStands tick each s) (video_stops rank s left stop h) (inr (all_same each s))
+stopped_stands Geometry each rank tick s left stop st has h = absurd (not_both (after_geometry s) left [] stop h)
 stopped_stands a each rank tick s left stop st has h = absurd (not_both (after_event a s) left [] stop h)
 
 channel_events : (proc : Proc) (due : Option Tick) (rank : ℕ) (s left : MachineState) (stop : LeftOut)
     → (let step : MachineStep MachineState Shown LeftOut = channel_step rank proc due s in step ≡ Stops stop left) → left.events ≡ s.events
 channel_events proc None rank s left stop h = absurd (not_both s left [] stop h)
-channel_events proc (Some now) rank s left stop h = by_read (channel_unchanged rank proc now s left stop h) where
-  by_read : (s ≡ left) ⊎ (with_map proc s (unit_read proc (next_unit s.io proc) (map_of proc s)) ≡ left) → left.events ≡ s.events
-  by_read (inl same) = ap (λ (m : MachineState). m.events) (sym same)
-  by_read (inr read) = ap (λ (m : MachineState). m.events) (sym read)
+channel_events proc (Some now) rank s left stop h = ap (λ (m : MachineState). m.events) (sym (channel_unchanged rank proc now s left stop h))
 
 left_events : (a : actor.Actor) (rank : ℕ) (s left : MachineState) (stop : LeftOut) → step_by rank a s ≡ Stops stop left → left.events ≡ s.events
 left_events KeyScript rank s left stop h = absurd (not_both (after_line s.keys s) left [] stop h)
@@ -549,12 +675,14 @@ left_events (Processor proc) rank s left stop h =
     let e = concluded_stops rank proc (reached_by proc s) left stop (came_by proc s) (sym (step_is rank proc s) ∙ h) in
     ap (λ (m : MachineState). m.events) (sym e) ∙ reached_events proc s
 left_events Video rank s left stop h = ap (λ (m : MachineState). m.events) (sym (video_stops rank s left stop h))
+left_events Geometry rank s left stop h = absurd (not_both (after_geometry s) left [] stop h)
 left_events a rank s left stop h = absurd (not_both (after_event a s) left [] stop h)
 
 -- a stop leaves the counts
 pub record CountsLeft (tick : Tick) (s left : MachineState) : Type 0 where
   pub stands : (proc : Proc) → CountStands tick proc s left
   pub events : left.events ≡ s.events
+  pub run : run_of left ≡ run_of s
 
 pub stops_all : (s left : MachineState) (tick : Tick) (rank : ℕ) (stop : LeftOut) → HasSoundParts s → IsLeast (dues_of s) tick rank → HasCounted s
     → reference_step rank s ≡ Stops stop left → CountsLeft tick s left
@@ -564,6 +692,7 @@ stops_all s left tick rank stop sound least has h =
     record {
       stands = λ proc. stopped_stands a proc rank tick s left stop (steps_here s tick rank sound least) has k;
       events = left_events a rank s left stop k;
+      run = left_run a rank tick s left stop (steps_here s tick rank sound least) k;
     }
 
 pub counted_left : (s left : MachineState) (tick : Tick) (rank : ℕ) (stop : LeftOut) → HasSoundParts s → IsLeast (dues_of s) tick rank → HasCounted s
@@ -572,10 +701,15 @@ counted_left s left tick rank stop sound least has h =
     let all = moves_all tick s left (stopped s left tick rank stop sound least h).moves in
     let stop_is = stops_all s left tick rank stop sound least has h in
     let same = stop_is.events in
+    let run = stop_is.run in
     has_next s left tick rank least all has stop_is.stands (λ other at due.
     elim (not_before s left tick rank least all other at due) [
       | inl there ↦ (let few = has.events other at there in omega (arith, few, same))
       | inr later ↦ (let few = has.events rank tick least.there in omega (arith, few, same, later))
+    ]) (λ other at due.
+    elim (not_before s left tick rank least all other at due) [
+      | inl there ↦ (let few = has.run other at there in omega (arith, few, run))
+      | inr later ↦ (let few = has.run rank tick least.there in let one = run_before rank in omega (arith, few, run, later, one))
     ])
 
 -- whatever is answered
@@ -636,3 +770,13 @@ may_few_steps s rank a may has is proc e = few_steps s proc may.0 has (due_of_st
 
 pub may_few_events : (s : MachineState) (rank : ℕ) → MayStep s rank → HasCounted s → s.events ≤ 2 ^ 61
 may_few_events s rank may has = let k = has.events rank may.0 may.1.there in let early = may.2 in omega (arith, k, early)
+
+-- and where geometry steps the current run has room in the code
+pub may_fit_run : (s : MachineState) (rank : ℕ) (a : actor.Actor) → MayStep s rank → HasCounted s → actor_of rank ≡ a → a ≡ Geometry → run_of s ≤ 2 ^ 56
+may_fit_run s rank a may has is e =
+    let room = place_of_run rank (low_rank s rank may.0 may.1.there) in
+    let most = run_before (rank + 1) in
+    let one : runs_in (actor_of rank) ≡ 1 = ap runs_in (is ∙ e) in
+    let few = has.run rank may.0 may.1.there in
+    let early = may.2 in
+    omega (arith, room, most, one, few, early)

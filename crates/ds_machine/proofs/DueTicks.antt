@@ -82,25 +82,16 @@ may_early s rank a tick may is due =
 pub due_is : (a : ℕ) (tick : Tick) → (let due : Option Tick = Some (record { 0 = a }) in due) ≡ Some tick → a ≡ tick.0
 due_is a tick h = ap (λ (x : Tick). x.0) (same_Some (record { 0 = a }) tick h)
 
-pub early_due : (a : ℕ) (tick : Tick) → (let due : Option Tick = Some (record { 0 = a }) in due) ≡ Some tick → tick.0 ≤ 2 ^ 56 → a ≤ 2 ^ 56
-early_due a tick h early = let e = due_is a tick h in omega (arith, e, early)
-
 -- a processor that is due isn't blocked, and is due then
 pub due_then : (blocked : Bool) (p : ProcessorState) (tick : Tick) → due_unless blocked p ≡ Some tick → (blocked ≡ false) × (p.due ≡ tick.0)
 due_then true p tick h = absurd (none-some tick h)
 due_then false p tick h = (refl, due_is p.due tick h)
-
-pub early_holds : (s : MachineState) (proc : Proc) (tick : Tick) → processor_due s proc ≡ Some tick → tick.0 ≤ 2 ^ 56 → (processor_of s proc).due ≤ 2 ^ 56
-early_holds s proc tick h early = let e = (due_then (is_blocked s proc) (processor_of s proc) tick h).1 in omega (arith, e, early)
 
 pub tick_is : (p : ProcessorState) (tick : Tick) → p.due ≡ tick.0 → tick_of p ≡ tick
 tick_is p tick h = ap (λ (n : ℕ). (let t : Tick = record { 0 = n } in t)) h
 
 pub own_tick : (s : MachineState) (proc : Proc) (tick : Tick) → processor_due s proc ≡ Some tick → tick ≡ tick_of (processor_of s proc)
 own_tick s proc tick h = sym (tick_is (processor_of s proc) tick (due_then (is_blocked s proc) (processor_of s proc) tick h).1)
-
-pub due_tick : (s : MachineState) (proc : Proc) (tick : Tick) → processor_due s proc ≡ Some tick → processor_due s proc ≡ Some (tick_of (processor_of s proc))
-due_tick s proc tick h = h ∙ ap Some (sym (tick_is (processor_of s proc) tick (due_then (is_blocked s proc) (processor_of s proc) tick h).1))
 
 -- what is due after a step at a tick was due then, or is due later
 pub not_before : (s next : MachineState) (tick : Tick) (rank : ℕ) → IsLeast (dues_of s) tick rank → AllReschedule tick (dues_of s) (dues_of next)

@@ -9,9 +9,9 @@ use Rattle.ds_base.specs.declared.ticks.Due.{Due}
 use Rattle.ds_base.specs.declared.ticks.Tick.{Tick}
 use Rattle.arm_core.specs.declared.outcomes.Stepped.TheVariants.{Cost}
 use Rattle.ds_ipc.specs.Ipcs.{other_proc}
-use Rattle.ds_ports.specs.Dues.{io_dues}
-use Rattle.ds_ports.specs.ProcessorIo.{blocks_processor}
-use Rattle.ds_ports.specs.Io.{IoState, io_of}
+use Rattle.ds_ports.specs.Dues.{IsIo, io_dues}
+use Rattle.ds_ports.specs.Io.{IoState, io_of, is_held, is_settled}
+use Rattle.ds_ports.proofs.Settles.{settled_stays}
 use Rattle.ds_runs.specs.Actors.{actor_of}
 use Rattle.ds_runs.specs.Order.{first_from}
 use Rattle.ds_runs.specs.Runs.{IsLeast, IsOver, Makes, MachineStep, due_at}
@@ -22,13 +22,13 @@ use Rattle.ds_timers.specs.Irqs.{line_is_up, shares_bit}
 use Rattle.ds_machine.specs.NextEvents.{IsNextEvent, events_of, least_of, due_at_least, until_of}
 use Rattle.ds_machine.specs.Reference.{AreAsleep, FastStep, HasCounted, HasSoundParts, Shown, awake, due_unless, dues_of, keys_due, processor_due, step_by, stepped_of}
 use Rattle.ds_machine.specs.States.{MachineState, ProcessorState}
-use Rattle.ds_machine.specs.Steps.{machine_concluded, goes_on, is_halted, is_blocked, line_of, outcome_of, processor_of, tick_of, wakes, went_on, with_processor, woken, woken_one}
+use Rattle.ds_machine.specs.Steps.{ended, machine_concluded, goes_on, is_blocked, line_of, outcome_of, processor_of, tick_of, wakes, went_on, with_io, with_processor, woken, woken_one}
 use Rattle.ds_machine.specs.declared.answers.Done.TheVariants as answers
 use Rattle.ds_machine.specs.declared.next_events.NextEvent.{NextEvent}
 use Rattle.ds_machine.proofs.Counts.{counted_done, few_steps}
 use Rattle.ds_machine.proofs.DueTicks.{due_of_rank, due_of_step, due_then, dues_split, low_rank, sort_rank, steps_as, tick_is}
 use Rattle.ds_machine.proofs.ProcessorSteps.{step_concluded}
-use Rattle.ds_machine.proofs.Quiet.{neither}
+use Rattle.ds_machine.proofs.Quiet.{not_halted}
 use Rattle.ds_machine.proofs.Wakes.{Beside, put_beside}
 
 -- A processor that is due before every other actor.
@@ -39,11 +39,12 @@ events_over s first h = λ rank tick due. (let l = (first_is_least (events_of s)
 
 -- what is found of a machine is kept of it; both processors have the same tick
 pub next_event_is : (s : MachineState) (until : Tick) (nine seven : ℕ) (nine_line seven_line : Bool) → IsOver (events_of s) until.0 → (0 < until.0 → AreAsleep s)
-    → nine ≡ least_of (is_blocked s Nine) → seven ≡ least_of (is_blocked s Seven) → nine_line ≡ line_of s Nine → seven_line ≡ line_of s Seven
+    → (0 < until.0 → is_settled s.io ≡ true) → nine ≡ least_of (is_blocked s Nine) → seven ≡ least_of (is_blocked s Seven) → nine_line ≡ line_of s Nine → seven_line ≡ line_of s Seven
     → IsNextEvent (record { nine_until = until; seven_until = until; nine_least = nine; seven_least = seven; nine_line = nine_line; seven_line = seven_line }) s
-next_event_is s until nine seven nine_line seven_line over asleep n m l k = record {
+next_event_is s until nine seven nine_line seven_line over asleep settled n m l k = record {
   events = events;
   asleep = each_asleep;
+  settled = each_settled;
   nine_least = n;
   seven_least = m;
   nine_line = l;
@@ -59,6 +60,10 @@ next_event_is s until nine seven nine_line seven_line over asleep n m l k = reco
   each_asleep : (proc : Proc) → 0 < (until_of next proc).0 → AreAsleep s
   each_asleep Nine = asleep
   each_asleep Seven = asleep
+
+  each_settled : (proc : Proc) → 0 < (until_of next proc).0 → is_settled s.io ≡ true
+  each_settled Nine = settled
+  each_settled Seven = settled
 
 -- an entry in the former of two lists
 in_front : (xs ys : List (Option Tick)) (rank : ℕ) → rank < length xs → due_at (xs ++ ys) rank ≡ due_at xs rank
@@ -193,13 +198,14 @@ kept_stays next_event s next is b = record {
   events = λ of. (let until = (until_of next_event of).0 in subst (λ (u : IoState). IsOver (keys_due next.keys ∷ io_dues u) until) (sym b.io)
       (subst (λ (lines : List KeyLine). IsOver (keys_due lines ∷ io_dues s.io) until) (sym b.keys) (is.events of)));
   asleep = λ of some proc. wakes_so proc (is.asleep of some proc);
+  settled = λ of some. ap is_settled b.io ∙ is.settled of some;
   nine_least = is.nine_least ∙ ap least_of (blocked Nine);
   seven_least = is.seven_least ∙ ap least_of (blocked Seven);
   nine_line = is.nine_line ∙ line Nine;
   seven_line = is.seven_line ∙ line Seven;
 } where
   blocked : (proc : Proc) → is_blocked s proc ≡ is_blocked next proc
-  blocked proc = ap (λ (u : IoState). blocks_processor (io_of u proc)) (sym b.io)
+  blocked proc = ap (λ (u : IoState). is_held u proc) (sym b.io)
 
   line : (proc : Proc) → line_of s proc ≡ line_of next proc
   line proc = ap (λ (u : IoState). line_is_up (io_of u proc).irq) (sym b.io)
@@ -207,7 +213,7 @@ kept_stays next_event s next is b = record {
   wakes_so : (proc : Proc) → wakes s proc ≡ false → wakes next proc ≡ false
   wakes_so proc h = ap (λ (u : IoState). (io_of u proc).halted && shares_bit (io_of u proc).irq) b.io ∙ h
 
--- ---- a step at once that costs and no more: nobody wakes at it
+-- ---- a step at once that costs and no more: nothing settles, and nobody wakes at it
 
 asleep_stays : (tick : Tick) (s : MachineState) → AreAsleep s → woken tick s ≡ s
 asleep_stays tick s asleep = ap (λ (m : MachineState). woken_one Seven tick m) (one Nine (wakes s Nine) (asleep Nine)) ∙ one Seven (wakes s Seven) (asleep Seven) where
@@ -215,15 +221,22 @@ asleep_stays tick s asleep = ap (λ (m : MachineState). woken_one Seven tick m) 
   one proc true e = absurd (true≢false e)
   one proc false e = refl
 
-pub cost_fast : (next_event : NextEvent) (s : MachineState) (rank : ℕ) (proc : Proc) (tick : Tick) (clocks : ℕ) → IsNextEvent next_event s → 0 < (until_of next_event proc).0 → is_blocked s proc ≡ false
+-- so such a step ends where it is
+end_stays : (tick : Tick) (s : MachineState) → IsIo s.io → is_settled s.io ≡ true → AreAsleep s → ended tick s ≡ s
+unfolding ended
+end_stays tick s is settled asleep =
+    ap (λ (u : IoState). woken tick (with_io s u)) (settled_stays tick s.io is settled) ∙ asleep_stays tick s asleep
+
+pub cost_fast : (next_event : NextEvent) (s : MachineState) (rank : ℕ) (proc : Proc) (tick : Tick) (clocks : ℕ) → IsIo s.io → IsNextEvent next_event s → 0 < (until_of next_event proc).0 → is_blocked s proc ≡ false
     → awake (Some tick) (machine_concluded rank proc s (Cost clocks)) ≡ stepped_of s answers.Made (with_processor proc s (went_on proc clocks false (processor_of s proc)))
-cost_fast next_event s rank proc tick clocks is some blocked =
+cost_fast next_event s rank proc tick clocks sound is some blocked =
     let p = went_on proc clocks false (processor_of s proc) in
     let next = with_processor proc s p in
-    let asleep = (kept_stays next_event s next is (put_beside proc s p)).asleep proc some in
-    let halted : is_halted s proc ≡ false = (neither _ _ blocked).0 in
+    let kept = kept_stays next_event s next is (put_beside proc s p) in
+    let io = subst IsIo (sym (put_beside proc s p).io) sound in
+    let halted = not_halted s proc blocked in
     let came : Bool → MachineStep MachineState Shown LeftOut = λ b. awake (Some tick) (Makes (with_processor proc s (went_on proc clocks b (processor_of s proc))) []) in
-    ap came halted ∙ ap (λ (m : MachineState). stepped_of s answers.Made m) (asleep_stays tick next asleep)
+    ap came halted ∙ ap (λ (m : MachineState). stepped_of s answers.Made m) (end_stays tick next io (kept.settled proc some) (kept.asleep proc some))
 
 -- what is kept stays at it
 pub cost_keeps : (next_event : NextEvent) (s next : MachineState) (proc : Proc) (p : ProcessorState) → IsNextEvent next_event s → next ≡ with_processor proc s p → IsNextEvent next_event next
@@ -239,13 +252,13 @@ reach_keeps next_event s next proc now is e io =
 
 -- what isn't blocked before them isn't blocked after them
 pub free_stays : (proc : Proc) (s next : MachineState) → next.io ≡ s.io → is_blocked s proc ≡ false → is_blocked next proc ≡ false
-free_stays proc s next io free = ap (λ (u : IoState). blocks_processor (io_of u proc)) io ∙ free
+free_stays proc s next io free = ap (λ (u : IoState). is_held u proc) io ∙ free
 
 -- the whole of it
-pub made_fast : (next_event : NextEvent) (s m next : MachineState) (rank : ℕ) (proc : Proc) (tick : Tick) (clocks : ℕ) → IsNextEvent next_event m → 0 < (until_of next_event proc).0 → is_blocked m proc ≡ false
+pub made_fast : (next_event : NextEvent) (s m next : MachineState) (rank : ℕ) (proc : Proc) (tick : Tick) (clocks : ℕ) → IsIo m.io → IsNextEvent next_event m → 0 < (until_of next_event proc).0 → is_blocked m proc ≡ false
     → tick ≡ tick_of (processor_of s proc) → m ≡ (outcome_of proc tick s).machine → Cost clocks ≡ (outcome_of proc tick s).stepped
     → next ≡ with_processor proc m (went_on proc clocks false (processor_of m proc))
     → awake (Some tick) (step_by rank (Processor proc) s) ≡ stepped_of s answers.Made next
-made_fast next_event s m next rank proc tick clocks is some blocked at machine stepped e =
+made_fast next_event s m next rank proc tick clocks sound is some blocked at machine stepped e =
     step_concluded rank proc tick s m next (Cost clocks) answers.Made at machine stepped
-    (cost_fast next_event m rank proc tick clocks is some blocked ∙ ap (λ (x : MachineState). stepped_of m answers.Made x) (sym e))
+    (cost_fast next_event m rank proc tick clocks sound is some blocked ∙ ap (λ (x : MachineState). stepped_of m answers.Made x) (sym e))

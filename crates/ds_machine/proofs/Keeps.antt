@@ -11,8 +11,8 @@ use Rattle.arm_core.specs.Exceptions.{interrupt_meaning, undefined_meaning}
 use Rattle.arm_core.specs.Meanings.{meaning, skipped}
 use Rattle.arm_core.specs.Registers.{RegisterState}
 use Rattle.arm_core.specs.Steps as steps
-use Rattle.arm_core.specs.Steps.{FetchOutcome, Setting, enters, executed_word, fetched, stop_of}
-use Rattle.ds_machine.specs.Sides.{SideOf, executed_unless, needs, taken}
+use Rattle.arm_core.specs.Steps.{Setting, enters, executed_word, fetched, stop_of}
+use Rattle.ds_machine.specs.Sides.{SideOf, taken}
 
 -- What each access of a memory machine makes of its state, a step over it makes of it.
 
@@ -68,11 +68,7 @@ module _ {S : Type 0} (m : MemoryMachine S) (I : S → Type 0) (R : S → S → 
       → (line : Bool) (old : RegisterState) (s : S) → I s → R s (taken m side line old s).state
   unfolding taken
   taken_follows side executes line old s i = by_entry (enters line old) where
-    unless_needed : (fetch : FetchOutcome S) (needed : Option ℕ) → R s (executed_unless side old s fetch needed).state
-    unless_needed fetch None = executes old s fetch.number fetch.instr i
-    unless_needed fetch (Some value) = f.stays s i
-
     by_entry : (b : Bool) → R s (if b then carried_out m side.arch old s (interrupt_meaning (side.base s) old)
-        else let fetch = fetched m side.arch old s in executed_unless side old s fetch (needs side old s fetch.instr)).state
+        else let fetch = fetched m side.arch old s in side.executed old s fetch.number fetch.instr).state
     by_entry true = carried_follows side.arch old s (interrupt_meaning (side.base s) old) i
-    by_entry false = let fetch = fetched m side.arch old s in unless_needed fetch (needs side old s fetch.instr)
+    by_entry false = let fetch = fetched m side.arch old s in executes old s fetch.number fetch.instr i

@@ -15,9 +15,14 @@ pub mod OwnSteps
 pub mod ProcessorSteps
 pub mod Quiet
 pub mod Reached
+pub mod FewAccesses
+pub mod RoomWrites
+pub mod Rooms
 pub mod DecodedOperations
 pub mod Taken
+pub mod VertexRuns
 pub mod VideoEvents
 pub mod Wakes
 pub mod Lines
 pub mod Statuses
+pub mod StopKinds

@@ -1,4 +1,6 @@
-use Rattle.std.proofs.Common.{ℕ, suc, ◌≡◌, ◌<◌, ◌+◌, ◌⊎◌, inl, inr, List, [], ◌∷◌, length, Option, Some, None, refl, sym, ◌∙◌, ap, subst, arith}
+use Rattle.std.specs.Prelude.{max, not, ◌&&◌, ◌||◌}
+use Rattle.std.proofs.Math.Nat.{le-max_right}
+use Rattle.std.proofs.Common.{ℕ, suc, ◌≡◌, ◌<◌, ◌+◌, inl, inr, Bool, true, false, true≢false, if◌then◌else◌, List, [], ◌∷◌, length, Option, Some, None, refl, sym, ◌∙◌, ap, subst, arith}
 use Rattle.std.proofs.lemmas.Option.{same_Some, none-some}
 use Rattle.ds_base.specs.KeyLines.{AreKeyLines, line_at}
 use Rattle.ds_base.specs.Schedules.{IsLater, Reschedules}
@@ -8,29 +10,33 @@ use Rattle.ds_base.specs.declared.processors.Proc.{Proc}
 use Rattle.ds_base.specs.declared.processors.Proc.TheVariants.{Nine, Seven}
 use Rattle.ds_base.specs.declared.ticks.Tick.{Tick}
 use Rattle.ds_map.specs.Moves.{next_unit, unit_read}
-use Rattle.ds_ports.specs.Io.{IoState, io_event, keys_pressed, video_done}
-use Rattle.ds_ports.proofs.Events.{Happens, event_goes, keys_happen, show_goes}
+use Rattle.ds_ports.specs.Dues.{IsIo}
+use Rattle.ds_ports.specs.ProcessorIo.{blocks_processor}
+use Rattle.ds_ports.specs.Io.{IoState, io_event, keys_pressed, tick_after, video_done}
+use Rattle.gx_fifo.specs.GxStates.{gx_finished, is_stalled}
+use Rattle.ds_ports.proofs.Events.{Happens, event_goes, happens_on, keys_happen, show_goes}
+use Rattle.ds_ports.proofs.Settles.{geometry_goes, happens_held, swapped_happens}
 use Rattle.ds_ports.proofs.Later.{still_later}
 use Rattle.ds_runs.specs.Actors.{IsNumbered, actor_of}
 use Rattle.ds_runs.specs.Runs.{IsLeast, MachineStep, Makes, Stops}
 use Rattle.ds_runs.specs.Owed.{Schedules}
 use Rattle.ds_runs.specs.declared.actors.Actor as actor
-use Rattle.ds_runs.specs.declared.actors.Actor.TheVariants.{KeyScript, Video, Timer, Dma, Processor}
+use Rattle.ds_runs.specs.declared.actors.Actor.TheVariants.{KeyScript, Video, Timer, Geometry, Dma, Processor}
 use Rattle.ds_runs.proofs.AllActors.{is_numbered}
 use Rattle.ds_runs.proofs.RunLaws.{same_makes, not_both}
 use Rattle.ds_machine.specs.Channels.{channel_step, one_event}
-use Rattle.ds_machine.specs.Reference.{AreAsleep, HasSoundParts, Shown, after_event, after_line, after_video, awake, due_by, dues_of, keys_due, reference, step_by, reference_step}
-use Rattle.ds_machine.specs.States.{MachineState}
-use Rattle.ds_machine.specs.Steps.{gone_by, is_blocked, map_of, processor_of, with_io, with_map, woken}
+use Rattle.ds_machine.specs.Reference.{AreAsleep, HasSoundParts, Shown, after_event, after_geometry, after_line, after_video, awake, display_done, due_by, due_unless, dues_of, keys_due, processor_due, reference, step_by, swapped_if, reference_step}
+use Rattle.ds_machine.specs.States.{MachineState, ProcessorState}
+use Rattle.ds_machine.specs.Steps.{ended, gone_by, is_blocked, map_of, processor_of, with_io, with_map}
 use Rattle.ds_machine.proofs.ChannelEvents.{machine_after_unit, channel_unchanged, channel_made, read_moves, read_sound, unit_later, unit_moves, unit_sound}
 use Rattle.ds_machine.proofs.DueTicks.{due_of_least, due_of_rank, entries_are, low_rank, somebody_is}
 use Rattle.ds_machine.proofs.Moves.{Moves, blocked_moves, moves_all, moves_of, then_all}
 use Rattle.ds_machine.proofs.ProcessorSteps.{Operation, came_by, concluded_stops, concludes, costs_some, gone_moves, gone_sound, processor_io_later, reached_by, reached_moves, reached_sound, step_is}
 use Rattle.ds_machine.proofs.Quiet.{comes_late, quiet_processor, timers_later}
-use Rattle.ds_machine.proofs.VideoEvents.{video_makes, video_stops}
-use Rattle.ds_machine.proofs.Wakes.{wakes_both, woken_asleep}
-use Rattle.video2d.specs.Scans.{scan_due, scan_due_tick}
-use Rattle.video2d.specs.Videos.{video_stop}
+use Rattle.ds_machine.proofs.VideoEvents.{display_video, video_makes, video_stops}
+use Rattle.ds_machine.proofs.Wakes.{ended_asleep, ends}
+use Rattle.video2d.specs.Scans.{scan_due, scan_due_tick, starts_vblank}
+use Rattle.video2d.specs.Videos.{VideoState, video_stop}
 
 -- What the reference machine owes of its due ticks.
 
@@ -55,7 +61,7 @@ event_moves : (tick : Tick) (s : MachineState) (io : IoState) (keys : List KeyLi
 event_moves tick s io keys h lines =
     let next = changed s io keys in
     moves_of tick s next lines h.dues (λ proc.
-    blocked_moves tick (is_blocked s proc) (is_blocked next proc) (processor_of s proc) (processor_of next proc) (changed_due s io keys proc) (h.blocked proc))
+    blocked_moves tick (is_blocked s proc) (is_blocked next proc) (processor_of s proc) (processor_of next proc) (changed_due s io keys proc) (happens_held tick s.io io h proc))
 
 -- the lines that are to come are later, and rise still
 rest_later : (tick : Tick) (line : KeyLine) (rest : List KeyLine) → AreKeyLines (line ∷ rest) → line.tick ≡ tick → IsLater tick (keys_due rest)
@@ -90,16 +96,53 @@ event_owes a tick s h later sound = record {
   sound = record { io = h.io; keys = sound.keys };
 }
 
+swap_happens : (whole : Bool) (now : Tick) (u : IoState) → IsIo u → Happens now u (swapped_if whole now u)
+swap_happens true now u is = swapped_happens now u is
+swap_happens false now u is = record { io = is; dues = λ a n. inl refl; halted = λ proc. refl; blocked = λ proc h. h; stall = λ h. h }
+
+pub display_happens : (s : MachineState) → IsIo s.io → video_stop s.oam s.io.video ≡ None → Happens (scan_due_tick s.io.video.scan) s.io (display_done s)
+display_happens s is none =
+    let done = video_done s.palette s.oam s.io in
+    let start = scan_due_tick s.io.video.scan in
+    let g = (show_goes s.palette s.oam s.io is none).0 in
+    happens_on start s.io done (display_done s) g (swap_happens (starts_vblank s.io.video.scan) start done g.io)
+
 video_owes : (tick : Tick) (s : MachineState) → due_by Video s ≡ Some tick → video_stop s.oam s.io.video ≡ None → HasSoundParts s → Owes Video tick s (after_video s)
 video_owes tick s due none sound =
-    let io = video_done s.palette s.oam s.io in
+    let io = display_done s in
+    let start = scan_due_tick s.io.video.scan in
     let g = show_goes s.palette s.oam s.io sound.io none in
-    let there = subst (λ (t : Tick). Happens t s.io io × (t.0 < scan_due io.video.scan)) (same_Some (scan_due_tick s.io.video.scan) tick due) g in
+    let both = display_happens s sound.io none in
+    let later = subst (λ (v : VideoState). start.0 < scan_due v.scan) (sym (display_video s)) g.1 in
+    let there = subst (λ (t : Tick). Happens t s.io io × (t.0 < scan_due io.video.scan)) (same_Some start tick due) (both, later) in
     record {
       moves = event_moves tick s io s.keys there.0 (inl refl);
       own = there.1;
       sound = record { io = there.0.io; keys = sound.keys };
     }
+
+-- geometry's: where it ends a stall ARM9 is due later
+past_moves : (tick : Tick) (blocks old new : Bool) (p : ProcessorState) (due : Option Tick) → due ≡ Some tick → (old ≡ false → new ≡ false)
+    → Reschedules tick (due_unless (blocks || old) p) (due_unless (blocks || new) (record p { due = if old && not new then max p.due (tick_after due p.due) else p.due }))
+past_moves tick true old new p due e h = inr tt
+past_moves tick false true true p due e h = inr tt
+past_moves tick false true false p due e h = inr (rw e (let l = le-max_right p.due (tick.0 + 1) in omega (arith, l)))
+past_moves tick false false true p due e h = absurd (true≢false (h refl))
+past_moves tick false false false p due e h = inl refl
+
+geometry_owes : (tick : Tick) (s : MachineState) → due_by Geometry s ≡ Some tick → HasSoundParts s → Owes Geometry tick s (after_geometry s)
+geometry_owes tick s due sound =
+    let g = geometry_goes tick s.io sound.io due in
+    record {
+      moves = moves_of tick s (after_geometry s) (inl refl) g.dues each;
+      own = g.later;
+      sound = record { io = g.io; keys = sound.keys };
+    } where
+      each : (proc : Proc) → Reschedules tick (processor_due s proc) (processor_due (after_geometry s) proc)
+      each Nine =
+          past_moves tick (blocks_processor s.io.nine) (is_stalled s.io.gx) (is_stalled (gx_finished s.io.gx)) s.nine.processor s.io.gx.due due
+          (geometry_goes tick s.io sound.io due).begins
+      each Seven = inl refl
 
 -- ---- each actor, where it is due
 
@@ -118,11 +161,12 @@ pub channel_timers : (proc : Proc) (channel rank : ℕ) (tick : Tick) (s : Machi
     → (which : ℕ) → which < 4 → IsLater tick (due_by (Timer proc which) s)
 channel_timers proc channel rank tick s st = timers_later s tick rank st.least (ap comes_late st.is) proc
 
-owes_by : (a : actor.Actor) (rank : ℕ) (tick : Tick) (s made : MachineState) (outs : List Shown) → Steps a rank tick s → step_by rank a s ≡ Makes made outs → Owes a tick s made
+pub owes_by : (a : actor.Actor) (rank : ℕ) (tick : Tick) (s made : MachineState) (outs : List Shown) → Steps a rank tick s → step_by rank a s ≡ Makes made outs → Owes a tick s made
 owes_by KeyScript rank tick s made outs st h = subst (Owes KeyScript tick s) (same_makes (after_line s.keys s) made [] outs h).0 (owes_keys tick s s.keys refl st.due st.sound)
 owes_by Video rank tick s made outs st h =
     let k = video_makes rank s made outs h in
     subst (Owes Video tick s) k.0 (video_owes tick s st.due k.1 st.sound)
+owes_by Geometry rank tick s made outs st h = subst (Owes Geometry tick s) (same_makes (after_geometry s) made [] outs h).0 (geometry_owes tick s st.due st.sound)
 owes_by (Dma proc channel) rank tick s made outs st h =
     let P : Option Tick → Type 0 = λ o. channel_step rank proc o s ≡ Makes made outs in
     let unit = next_unit s.io proc in
@@ -147,18 +191,18 @@ owes_by a rank tick s made outs st h =
     let g = event_goes a tick s.io st.sound.io tt st.numbered st.due in
     subst (Owes a tick s) (same_makes (after_event a s) made [] outs h).0 (event_owes a tick s g.0 g.1 st.sound)
 
--- ---- and then processors wake
+-- ---- and then the units settle, and processors wake
 
 pub awake_makes : (tick : Tick) (came : MachineStep MachineState Shown LeftOut) (next : MachineState) (outs : List Shown) → awake (Some tick) came ≡ Makes next outs
-    → (made : MachineState) × (came ≡ Makes made outs) × (woken tick made ≡ next)
+    → (made : MachineState) × (came ≡ Makes made outs) × (ended tick made ≡ next)
 awake_makes tick (Makes made out) next outs h =
-    let k = same_makes (woken tick made) next out outs h in
+    let k = same_makes (ended tick made) next out outs h in
     (made, ap (λ (o : List Shown). (let came : MachineStep MachineState Shown LeftOut = Makes made o in came)) k.1, k.0)
 awake_makes tick (Stops stop left) next outs h = absurd (not_both next left outs stop (sym h))
 
 pub awake_stops : (due : Option Tick) (came : MachineStep MachineState Shown LeftOut) (left : MachineState) (stop : LeftOut) → awake due came ≡ Stops stop left → came ≡ Stops stop left
 awake_stops None came left stop h = h
-awake_stops (Some tick) (Makes made out) left stop h = absurd (not_both (woken tick made) left out stop h)
+awake_stops (Some tick) (Makes made out) left stop h = absurd (not_both (ended tick made) left out stop h)
 awake_stops (Some tick) (Stops why was) left stop h = h
 
 pub steps_here : (s : MachineState) (tick : Tick) (rank : ℕ) → HasSoundParts s → IsLeast (dues_of s) tick rank → Steps (actor_of rank) rank tick s
@@ -172,7 +216,7 @@ steps_here s tick rank sound least = record {
 
 -- what came of the step of the actor that is least
 pub step_made : (s next : MachineState) (tick : Tick) (rank : ℕ) (outs : List Shown) → IsLeast (dues_of s) tick rank → reference_step rank s ≡ Makes next outs
-    → (made : MachineState) × (step_by rank (actor_of rank) s ≡ Makes made outs) × (woken tick made ≡ next)
+    → (made : MachineState) × (step_by rank (actor_of rank) s ≡ Makes made outs) × (ended tick made ≡ next)
 step_made s next tick rank outs least h =
     let came = step_by rank (actor_of rank) s in
     awake_makes tick came next outs (subst (λ (o : Option Tick). awake o came ≡ Makes next outs) (due_of_least s rank tick least) h)
@@ -184,12 +228,12 @@ owes s next tick rank outs sound least h =
     let st = steps_here s tick rank sound least in
     let k = step_made s next tick rank outs least h in
     let o = owes_by a rank tick s k.0 outs st k.1 in
-    let w = wakes_both tick k.0 in
-    let last = woken tick k.0 in
+    let w = ends tick k.0 o.sound in
+    let last = ended tick k.0 in
     let woke : Owes a tick s last = record {
       moves = then_all tick s k.0 last o.moves w.moves;
       own = still_later tick (due_by a k.0) (due_by a last) o.own (w.moves a st.numbered);
-      sound = w.sound o.sound;
+      sound = w.sound;
     } in
     subst (Owes a tick s) k.2 woke
 
@@ -207,7 +251,7 @@ reference_schedules = record {
 
 -- after a step that is taken no halted processor is to wake
 pub asleep_made : (s next : MachineState) (tick : Tick) (rank : ℕ) (outs : List Shown) → IsLeast (dues_of s) tick rank → reference_step rank s ≡ Makes next outs → AreAsleep next
-asleep_made s next tick rank outs least h = let k = step_made s next tick rank outs least h in subst AreAsleep k.2 (woken_asleep tick k.0)
+asleep_made s next tick rank outs least h = let k = step_made s next tick rank outs least h in subst AreAsleep k.2 (ended_asleep tick k.0)
 
 -- ---- a step that stops leaves a sound machine, and each due tick as it was or later
 
@@ -215,9 +259,8 @@ pub record Leaves (tick : Tick) (s left : MachineState) : Type 0 where
   pub moves : Moves tick s left
   pub sound : HasSoundParts left
 
-leaves_read : (tick : Tick) (proc : Proc) (s left : MachineState) → HasSoundParts s → (s ≡ left) ⊎ (with_map proc s (unit_read proc (next_unit s.io proc) (map_of proc s)) ≡ left) → Leaves tick s left
-leaves_read tick proc s left sound (inl same) = subst (Leaves tick s) same (record { moves = λ a n. inl refl; sound = sound })
-leaves_read tick proc s left sound (inr read) =
+leaves_read : (tick : Tick) (proc : Proc) (s left : MachineState) → HasSoundParts s → with_map proc s (unit_read proc (next_unit s.io proc) (map_of proc s)) ≡ left → Leaves tick s left
+leaves_read tick proc s left sound read =
     subst (Leaves tick s) read (record { moves = read_moves tick proc (next_unit s.io proc) s; sound = read_sound proc (next_unit s.io proc) s sound })
 
 leaves_by : (a : actor.Actor) (rank : ℕ) (tick : Tick) (s left : MachineState) (stop : LeftOut) → Steps a rank tick s → step_by rank a s ≡ Stops stop left → Leaves tick s left
@@ -230,6 +273,7 @@ leaves_by (Processor proc) rank tick s left stop st h =
     let r = operation proc rank tick s st in
     let e = concluded_stops rank proc (reached_by proc s) left stop (came_by proc s) (sym (step_is rank proc s) ∙ h) in
     subst (Leaves tick s) e (record { moves = reached_moves proc tick s r; sound = reached_sound proc tick s r })
+leaves_by Geometry rank tick s left stop st h = absurd (not_both (after_geometry s) left [] stop h)
 leaves_by a rank tick s left stop st h = absurd (not_both (after_event a s) left [] stop h)
 
 pub stopped : (s left : MachineState) (tick : Tick) (rank : ℕ) (stop : LeftOut) → HasSoundParts s → IsLeast (dues_of s) tick rank → reference_step rank s ≡ Stops stop left → Leaves tick s left

@@ -1,11 +1,14 @@
-use Rattle.std.proofs.Common.{ℕ, ◌≡◌, ◌<◌, inl, inr, Bool, true, false, true≢false, List, Option, Some, None, refl, sym, ◌∙◌, ap}
+use Rattle.std.proofs.Common.{ℕ, ◌≡◌, ◌<◌, inl, inr, Bool, true, false, true≢false, List, Option, Some, None, refl, sym, ◌∙◌, ap, subst}
+use Rattle.std.specs.Prelude.{◌||◌}
 use Rattle.ds_base.specs.Schedules.{IsLater, Reschedules}
 use Rattle.ds_base.specs.declared.keys.KeyLine.{KeyLine}
 use Rattle.ds_base.specs.declared.processors.Proc.{Proc}
 use Rattle.ds_base.specs.declared.ticks.Tick.{Tick}
-use Rattle.ds_ports.specs.Dues.{IsIo, IsUnchanged, ReschedulesEach, io_due}
+use Rattle.ds_base.specs.declared.processors.Proc.TheVariants.{Nine, Seven}
+use Rattle.ds_ipc.specs.Ipcs.{other_proc}
+use Rattle.ds_ports.specs.Dues.{Goes, IsIo, IsUnchanged, ReschedulesEach, io_due}
 use Rattle.ds_ports.specs.ProcessorIo.{blocks_processor, ProcessorIoState}
-use Rattle.ds_ports.specs.Io.{IoState, io_of}
+use Rattle.ds_ports.specs.Io.{IoState, io_of, is_held}
 use Rattle.ds_ports.proofs.Later.{AreUnchanged, in_turn, unchanged_is, processor_io_is, io_is}
 use Rattle.ds_runs.specs.Actors.{IsNumbered}
 use Rattle.ds_runs.specs.Owed.{AllReschedule}
@@ -13,6 +16,7 @@ use Rattle.ds_runs.specs.declared.actors.Actor as actor
 use Rattle.ds_runs.specs.declared.actors.Actor.TheVariants.{KeyScript, Processor}
 use Rattle.ds_runs.proofs.AllActors.{all_of_actors}
 use Rattle.ds_machine.specs.Reference.{due_by, due_unless, dues_of, keys_due, processor_due}
+use Rattle.gx_fifo.specs.GxStates.{AreWaiting, GxState, is_stalled}
 use Rattle.ds_machine.specs.States.{MachineState, ProcessorState}
 
 -- How due ticks move: each stays, or becomes later than a tick.
@@ -54,7 +58,22 @@ pub left_after : (a b c : ProcessorIoState) → IsUnchanged a b → IsUnchanged 
 left_after a b c one two = record { timers = two.timers ∙ one.timers; keycnt = two.keycnt ∙ one.keycnt; halted = two.halted ∙ one.halted; dma = two.dma ∙ one.dma }
 
 pub unchanged_io : (old new : IoState) → IsIo old → AreUnchanged old new → IsIo new
-unchanged_io old new are l = io_is new (λ each. unchanged_is (io_of old each) (io_of new each) (l.processor_io each) (processor_io_is old are each))
+unchanged_io old new are l =
+    io_is new (λ each. unchanged_is (io_of old each) (io_of new each) (l.processor_io each) (processor_io_is old are each)) (subst AreWaiting (sym l.gx) are.gx)
+
+-- each is held as before; ARM9 by geometry too
+held_by : (old new : IoState) → IsUnchanged old.nine new.nine → new.gx ≡ old.gx → is_held new Nine ≡ is_held old Nine
+held_by old new l gx =
+    ap (λ (b : Bool). b || is_stalled new.gx) (unchanged_blocked old.nine new.nine l) ∙ ap (λ (g : GxState). blocks_processor old.nine || is_stalled g) gx
+
+pub unchanged_held : (old new : IoState) → AreUnchanged old new → (proc : Proc) → is_held new proc ≡ is_held old proc
+unchanged_held old new l Nine = held_by old new (l.processor_io Nine) l.gx
+unchanged_held old new l Seven = unchanged_blocked old.seven new.seven (l.processor_io Seven)
+
+-- the other one is held as before where a processor, or a channel of it, makes accesses
+pub other_held : (proc : Proc) (now : Tick) (old new : IoState) → Goes proc now old new → is_held new (other_proc proc) ≡ is_held old (other_proc proc)
+other_held Nine now old new g = unchanged_blocked old.seven new.seven g.other
+other_held Seven now old new g = held_by old new g.other (g.geometry.of_seven refl)
 
 -- ---- the machine
 

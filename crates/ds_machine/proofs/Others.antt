@@ -25,18 +25,18 @@ use Rattle.ds_machine.proofs.Keeps.{Follows, taken_follows, word_follows}
 -- What a processor's step at a tick makes of the units behind the ports.
 
 -- what holds of a processor's own where it makes an access
-abbrev IsReady : Proc → Tick → IoState → Type 0
+abbrev pub IsReady : Proc → Tick → IoState → Type 0
 IsReady proc now u = IsProcessorIo (io_of u proc) × IsQuiet now (io_of u proc)
 
 -- the accesses are made at the same tick
-abbrev Leads : Proc → (now : Tick) (old : IoState) (later : Tick) (new : IoState) → Type 0
+abbrev pub Leads : Proc → (now : Tick) (old : IoState) (later : Tick) (new : IoState) → Type 0
 Leads proc now old later new = (later ≡ now) × Goes proc now old new
 
 leads_on : (proc : Proc) (t u v : Tick) (a b c : IoState) → Leads proc t a u b → Leads proc u b v c → Leads proc t a v c
 leads_on proc t u v a b c one two =
     (two.0 ∙ one.0, goes_on proc t a b c one.1 (subst (λ (x : Tick). Goes proc x b c) one.0 two.1))
 
-leads_ready : (proc : Proc) (t u : Tick) (a b : IoState) → Leads proc t a u b → IsReady proc u b
+pub leads_ready : (proc : Proc) (t u : Tick) (a b : IoState) → Leads proc t a u b → IsReady proc u b
 leads_ready proc t u a b one = (one.1.is, subst (λ (x : Tick). IsQuiet x (io_of b proc)) (sym one.0) one.1.quiet)
 
 seven_follows : Follows seven_memory (λ (r : SevenReach). IsReady Seven r.now r.map.io) (λ (r t : SevenReach). Leads Seven r.now r.map.io t.now t.map.io)
@@ -49,13 +49,13 @@ seven_follows = record {
   writes = λ r at width value i. (refl, map_write_goes Seven r.now r.map i.0 i.1 at width value);
 }
 
-nine_reads : (t : Tcm) (r : NineReach) (at : ℕ) (width : Width) → IsReady Nine r.now r.map.io
+pub nine_reads : (t : Tcm) (r : NineReach) (at : ℕ) (width : Width) → IsReady Nine r.now r.map.io
     → Leads Nine r.now r.map.io (tcm_read t r at width).now (tcm_read t r at width).map.io
 nine_reads (Itcm place) r at width i = (refl, goes_nowhere Nine r.now r.map.io i.0 i.1)
 nine_reads (Dtcm place) r at width i = (refl, goes_nowhere Nine r.now r.map.io i.0 i.1)
 nine_reads Past r at width i = (refl, map_read_goes Nine r.now r.map i.0 i.1 at width)
 
-nine_writes : (t : Tcm) (r : NineReach) (at : ℕ) (width : Width) (value : ℕ) → IsReady Nine r.now r.map.io
+pub nine_writes : (t : Tcm) (r : NineReach) (at : ℕ) (width : Width) (value : ℕ) → IsReady Nine r.now r.map.io
     → Leads Nine r.now r.map.io (tcm_written t r at width value).now (tcm_written t r at width value).map.io
 nine_writes (Itcm place) r at width value i = (refl, goes_nowhere Nine r.now r.map.io i.0 i.1)
 nine_writes (Dtcm place) r at width value i = (refl, goes_nowhere Nine r.now r.map.io i.0 i.1)

@@ -14,8 +14,8 @@ use Rattle.cp15_tcm.specs.TightlyCoupled.{tcm_of}
 use Rattle.cp15_tcm.specs.declared.answers.Tcm.{Tcm}
 use Rattle.cp15_tcm.specs.declared.answers.Tcm.TheVariants.{Itcm, Dtcm, Past}
 use Rattle.ds_map.specs.Views.{NineReach, SevenReach, nine_memory, seven_memory, tcm_read, tcm_written}
-use Rattle.ds_machine.specs.OwnSteps.{IsStep7, IsStep9, step_needs, with_cp15}
-use Rattle.ds_machine.specs.Sides.{needs, nine_executed, nine_side, seven_side, taken}
+use Rattle.ds_machine.specs.OwnSteps.{IsStep7, IsStep9, with_cp15}
+use Rattle.ds_machine.specs.Sides.{nine_executed, nine_side, seven_side, taken}
 use Rattle.ds_machine.proofs.Keeps.{Follows, word_follows}
 use Rattle.ds_machine.proofs.Taken.{taken_entered, taken_executed}
 
@@ -67,27 +67,25 @@ executed_by s r number instr (Some move) = refl
 
 -- ---- the steps
 
-nine_by : (line : Bool) (s : RegisterState) (r : NineReach) (b : Bool) → enters line s ≡ b → step_needs nine_memory nine_side line s r ≡ None
+nine_by : (line : Bool) (s : RegisterState) (r : NineReach) (b : Bool) → enters line s ≡ b
     → taken nine_memory nine_side line s r ≡ with_cp15 (step9_of nine_memory line s r.cp15 r)
-nine_by line s r true e none = taken_entered nine_memory nine_side line s r e ∙ rw e refl
-nine_by line s r false e none =
+nine_by line s r true e = taken_entered nine_memory nine_side line s r e ∙ rw e refl
+nine_by line s r false e =
     let f = fetched nine_memory V5 s r in
-    let needed : needs nine_side s r f.instr ≡ None = rw e at none in
-    taken_executed nine_memory nine_side line s r f.number f.instr e refl refl needed
+    taken_executed nine_memory nine_side line s r f.number f.instr e refl refl
     ∙ executed_by s r f.number f.instr (move_of f.instr)
     ∙ rw e (ap (λ (x : NineReach). with_cp15 (executed_or_moved nine_memory s r.cp15 (record { number = f.number; instr = f.instr; state = x }) (move_of f.instr))) (sym (nine_fetch_stays s r)))
 
-seven_by : (line : Bool) (s : RegisterState) (r : SevenReach) (b : Bool) → enters line s ≡ b → step_needs seven_memory seven_side line s r ≡ None
+seven_by : (line : Bool) (s : RegisterState) (r : SevenReach) (b : Bool) → enters line s ≡ b
     → taken seven_memory seven_side line s r ≡ step7_of seven_memory line s r
-seven_by line s r true e none = taken_entered seven_memory seven_side line s r e ∙ rw e refl
-seven_by line s r false e none =
+seven_by line s r true e = taken_entered seven_memory seven_side line s r e ∙ rw e refl
+seven_by line s r false e =
     let f = fetched seven_memory V4 s r in
-    let needed : needs seven_side s r f.instr ≡ None = rw e at none in
-    taken_executed seven_memory seven_side line s r f.number f.instr e refl refl needed
+    taken_executed seven_memory seven_side line s r f.number f.instr e refl refl
     ∙ rw e (ap (λ (x : SevenReach). executed_word seven_memory arm7 s x f.number f.instr) (sym (seven_fetch_stays s r)))
 
 pub is_step9 : IsStep9
-is_step9 line s r none = nine_by line s r (enters line s) refl none
+is_step9 line s r = nine_by line s r (enters line s) refl
 
 pub is_step7 : IsStep7
-is_step7 line s r none = seven_by line s r (enters line s) refl none
+is_step7 line s r = seven_by line s r (enters line s) refl

@@ -1,5 +1,4 @@
 use Rattle.std.proofs.Common.{ℕ, ◌≡◌, ◌<◌, ◌≤◌, ◌+◌, ◌*◌, ◌^◌, inl, inr, Bool, true, false, true≢false, List, [], ◌∷◌, Some, refl, sym, ◌∙◌, ap, subst, arith}
-use Rattle.std.specs.Prelude.{◌||◌}
 use Rattle.std.proofs.Math.Nat.{mul-le-mul_left}
 use Rattle.ds_base.specs.Processors.{ticks_per_clock}
 use Rattle.ds_base.specs.KeyLines.{AreKeyLines}
@@ -11,7 +10,6 @@ use Rattle.ds_base.specs.declared.ticks.Tick.{Tick}
 use Rattle.arm_core.specs.declared.outcomes.Stepped as arm
 use Rattle.arm_core.specs.declared.outcomes.Stepped.TheVariants.{Cost, Halted, Left}
 use Rattle.arm_exec.specs.Costs.{CostsSome}
-use Rattle.ds_dma.specs.States.{any_runs}
 use Rattle.ds_ipc.specs.Ipcs.{other_proc}
 use Rattle.ds_ports.specs.Dues.{IsIo, Goes, IsProcessorIo, IsQuiet, ReschedulesEach}
 use Rattle.ds_ports.specs.Io.{io_of}
@@ -21,12 +19,12 @@ use Rattle.ds_runs.specs.declared.actors.Actor.TheVariants.{Processor}
 use Rattle.ds_runs.proofs.RunLaws.{same_makes, same_stops, not_both}
 use Rattle.ds_machine.specs.Reference.{HasSoundParts, Shown, awake, due_unless, processor_due, shown_at, step_by, stepped_of}
 use Rattle.ds_machine.specs.States.{MachineState, ProcessorState, counts_of}
-use Rattle.ds_machine.specs.Steps.{machine_concluded, gone_by, is_halted, is_blocked, outcome_of, processor_of, tick_of, went_on, with_halt, woken}
+use Rattle.ds_machine.specs.Steps.{machine_concluded, gone_by, is_halted, is_blocked, outcome_of, processor_of, tick_of, went_on, with_halt, ended}
 use Rattle.ds_machine.specs.declared.answers.Done as answer
 use Rattle.ds_machine.specs.declared.answers.Done.TheVariants as answers
 use Rattle.ds_machine.proofs.Costs.{step_costs}
 use Rattle.ds_machine.proofs.DueTicks.{due_then, tick_is}
-use Rattle.ds_machine.proofs.Moves.{Moves, blocked_moves, unchanged_blocked, moves_of, same_keys, then_io_dues}
+use Rattle.ds_machine.proofs.Moves.{Moves, blocked_moves, moves_of, other_held, same_keys, then_io_dues}
 use Rattle.ds_machine.proofs.Others.{step_goes}
 use Rattle.ds_machine.proofs.Wakes.{halt_blocked, halt_other, halt_steps, halted_io_dues, halted_io, put_beside, put_counts, put_other, put_processor_io}
 use Rattle.video2d.specs.Scans.{scan_due}
@@ -89,9 +87,9 @@ same_shown : (rank : ℕ) (proc : Proc) (tick : Tick) (m s next : MachineState) 
     → awake (Some tick) (machine_concluded rank proc m came) ≡ stepped_of m done next → awake (Some tick) (machine_concluded rank proc m came) ≡ stepped_of s done next
 same_shown rank proc tick m s next came answers.Made h = h
 same_shown rank proc tick m s next (Cost clocks) (answers.Frame swapped) h =
-    absurd (none_shown (shown_at (scan_due m.io.video.scan) next swapped) (same_makes (woken tick (gone_by proc (Cost clocks) m)) next [] (shown_at (scan_due m.io.video.scan) next swapped ∷ []) h).1)
+    absurd (none_shown (shown_at (scan_due m.io.video.scan) next swapped) (same_makes (ended tick (gone_by proc (Cost clocks) m)) next [] (shown_at (scan_due m.io.video.scan) next swapped ∷ []) h).1)
 same_shown rank proc tick m s next (Halted clocks) (answers.Frame swapped) h =
-    absurd (none_shown (shown_at (scan_due m.io.video.scan) next swapped) (same_makes (woken tick (gone_by proc (Halted clocks) m)) next [] (shown_at (scan_due m.io.video.scan) next swapped ∷ []) h).1)
+    absurd (none_shown (shown_at (scan_due m.io.video.scan) next swapped) (same_makes (ended tick (gone_by proc (Halted clocks) m)) next [] (shown_at (scan_due m.io.video.scan) next swapped ∷ []) h).1)
 same_shown rank proc tick m s next (Left stop) (answers.Frame swapped) h = absurd (not_both next m (shown_at (scan_due m.io.video.scan) next swapped ∷ []) _ (sym h))
 same_shown rank proc tick m s next came (answers.Stopped left) h = h
 
@@ -141,18 +139,22 @@ later_by proc due clocks some =
     omega (arith, one, each)
 
 -- a processor that went on is due later, or not at all
-went_later : (proc : Proc) (p : ProcessorState) (tick : Tick) (clocks : ℕ) (halted runs : Bool) → p.due ≡ tick.0 → 0 < clocks
-    → IsLater tick (due_unless (halted || runs) (went_on proc clocks halted p))
-went_later proc p tick clocks true runs e some = tt
-went_later proc p tick clocks false true e some = tt
-went_later proc p tick clocks false false e some = let lt = later_by proc p.due clocks some in omega (arith, e, lt)
+went_later : (proc : Proc) (p : ProcessorState) (tick : Tick) (clocks : ℕ) (halted blocked : Bool) → (halted ≡ true → blocked ≡ true) → p.due ≡ tick.0 → 0 < clocks
+    → IsLater tick (due_unless blocked (went_on proc clocks halted p))
+went_later proc p tick clocks halted true h e some = tt
+went_later proc p tick clocks true false h e some = absurd (true≢false (sym (h refl)))
+went_later proc p tick clocks false false h e some = let lt = later_by proc p.due clocks some in omega (arith, e, lt)
+
+-- a halted one is blocked
+halted_blocks : (s : MachineState) (proc : Proc) → is_halted s proc ≡ true → is_blocked s proc ≡ true
+halted_blocks s Nine h = rw h refl
+halted_blocks s Seven h = rw h refl
 
 gone_later : (proc : Proc) (m : MachineState) (tick : Tick) (came : arm.Stepped) → (processor_of m proc).due ≡ tick.0 → Took came
     → IsLater tick (processor_due (gone_by proc came m) proc)
 gone_later proc m tick (Cost clocks) e took =
-    let o = io_of m.io proc in
     subst (IsLater tick) (sym (put_processor_io proc m (went_on proc clocks (is_halted m proc) (processor_of m proc))))
-    (went_later proc (processor_of m proc) tick clocks o.halted (any_runs o.dma.channels) e took)
+    (went_later proc (processor_of m proc) tick clocks (is_halted m proc) (is_blocked m proc) (halted_blocks m proc) e took)
 gone_later proc m tick (Halted clocks) e took =
     let p = went_on proc clocks true (processor_of m proc) in
     let halt = with_halt proc m true in
@@ -209,7 +211,7 @@ module _ (proc : Proc) (tick : Tick) (s : MachineState) (r : Operation proc tick
   other_same : processor_due (reached_by proc s) (other_proc proc) ≡ processor_due s (other_proc proc)
   other_same =
       let m = reached_by proc s in
-      ap (λ (blocked : Bool). due_unless blocked (processor_of m (other_proc proc))) (unchanged_blocked (io_of s.io (other_proc proc)) (io_of m.io (other_proc proc)) goes.other)
+      ap (λ (blocked : Bool). due_unless blocked (processor_of m (other_proc proc))) (other_held proc tick s.io m.io goes)
       ∙ ap (λ (p : ProcessorState). due_unless (is_blocked s (other_proc proc)) p) (reaches proc s).other
 
   -- what a step leaves that is taken

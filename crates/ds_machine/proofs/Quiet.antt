@@ -15,7 +15,7 @@ use Rattle.ds_runs.specs.declared.actors.Actor as actor
 use Rattle.ds_runs.specs.declared.actors.Actor.TheVariants.{KeyScript, Video, Timer, Divider, SquareRoot, Geometry, Card, Dma, Processor}
 use Rattle.ds_machine.specs.Reference.{due_by, dues_of}
 use Rattle.ds_machine.specs.States.{MachineState}
-use Rattle.ds_machine.specs.Steps.{is_blocked, processor_of}
+use Rattle.ds_machine.specs.Steps.{is_blocked, is_halted, processor_of}
 use Rattle.ds_machine.proofs.DueTicks.{due_of_rank, due_of_step, due_then}
 use Rattle.ds_machine.proofs.Moves.{later_if}
 
@@ -92,6 +92,14 @@ none_ready now dma none (suc (suc (suc (suc n)))) lt = absurd (omega (arith, lt)
 pub none_blocked : (now : Tick) (o : ProcessorIoState) → blocks_processor o ≡ false → AreReadyLater now o.dma
 none_blocked now o h = none_ready now o.dma (neither o.halted (any_runs o.dma.channels) h).1
 
+-- what holds a processor holds it by more than its own
+pub own_blocks : (s : MachineState) (proc : Proc) → is_blocked s proc ≡ false → blocks_processor (io_of s.io proc) ≡ false
+own_blocks s Nine h = (neither _ _ h).0
+own_blocks s Seven h = h
+
+pub not_halted : (s : MachineState) (proc : Proc) → is_blocked s proc ≡ false → is_halted s proc ≡ false
+not_halted s proc h = (neither _ _ (own_blocks s proc h)).0
+
 -- so where a processor takes its step
 pub quiet_processor : (s : MachineState) (tick : Tick) (rank : ℕ) (proc : Proc) → IsLeast (dues_of s) tick rank → actor_of rank ≡ Processor proc
     → IsQuiet tick (io_of s.io proc)
@@ -99,5 +107,5 @@ quiet_processor s tick rank proc least is =
     let due = due_of_step s rank tick (Processor proc) least is in
     record {
       timers = timers_later s tick rank least (ap comes_late is) proc;
-      dma = none_blocked tick (io_of s.io proc) (due_then (is_blocked s proc) (processor_of s proc) tick due).0;
+      dma = none_blocked tick (io_of s.io proc) (own_blocks s proc (due_then (is_blocked s proc) (processor_of s proc) tick due).0);
     }

@@ -1,22 +1,17 @@
-use Rattle.std.proofs.Common.{ℕ, zero, suc, ◌≡◌, ◌<◌, ◌≤◌, ◌+◌, ◌-◌, ◌==◌, ◌⊎◌, ◌++◌, Bool, true, false, true≢false, if◌then◌else◌, List, [], ◌∷◌, Option, Some, None, inl, inr, refl, sym, ◌∙◌, ap, arith}
-use Rattle.std.proofs.lemmas.List.{append-nil}
+use Rattle.std.proofs.Common.{ℕ, zero, suc, ◌≡◌, ◌<◌, ◌≤◌, ◌-◌, ◌==◌, ◌⊎◌, Bool, true, false, true≢false, if◌then◌else◌, List, [], ◌∷◌, Option, Some, None, inl, inr, refl, sym, ◌∙◌, ap, arith}
 use Rattle.ds_base.specs.Accesses.{Access, Fetch, Performed, Read, Write, perform, refused_or}
 use Rattle.ds_base.specs.Memories.{memory_size}
-use Rattle.ds_base.specs.Numbers.{aligned_down, width_bytes}
 use Rattle.ds_base.specs.declared.left_out.Stop.{Stop}
 use Rattle.ds_base.specs.declared.memories.Memory.TheVariants.{Shared, Own7}
 use Rattle.ds_base.specs.declared.memories.Width.{Width}
-use Rattle.ds_base.specs.declared.memories.Width.TheVariants.{Byte, Half, Word}
 use Rattle.ds_base.specs.declared.processors.Arch.{Arch}
 use Rattle.ds_base.specs.declared.processors.Arch.TheVariants.{V4, V5}
 use Rattle.ds_base.specs.declared.processors.Proc.{Proc}
 use Rattle.ds_base.specs.declared.processors.Proc.TheVariants.{Nine, Seven}
 use Rattle.ds_base.specs.declared.ticks.Tick.{Tick}
 use Rattle.arm_core.specs.Effects.{Meaning, carried_out, concluded}
-use Rattle.arm_core.specs.Footprints.{accessed_bytes, first_without, span}
 use Rattle.arm_core.specs.Registers.{RegisterState}
 use Rattle.arm_ops.specs.Meanings.{IsInRam, RefusesNoneInRam, is_ram}
-use Rattle.cp15_tcm.specs.Registers.{Cp15State}
 use Rattle.cp15_tcm.specs.TightlyCoupled.{tcm_of}
 use Rattle.cp15_tcm.specs.declared.answers.Tcm.{Tcm}
 use Rattle.cp15_tcm.specs.declared.answers.Tcm.TheVariants as tcm
@@ -25,13 +20,10 @@ use Rattle.ds_places.specs.declared.kinds.Place.{Place}
 use Rattle.ds_places.specs.declared.kinds.Place.TheVariants.{Cell, Banks, Port, Rom, Nothing}
 use Rattle.ds_places.proofs.Regions.{lies_or_not}
 use Rattle.ds_map.specs.Accesses.{after_read_at, map_read, map_refusal, map_written, written_at, refusal_at}
-use Rattle.ds_map.specs.Builds.{map_is_built, nine_is_built}
 use Rattle.ds_map.specs.Maps.{MapState}
-use Rattle.ds_map.proofs.Built.{apart_built, apart_nine}
 use Rattle.ds_map.specs.Views.{NineReach, SevenReach, nine_memory, seven_memory, tcm_read, tcm_refusal, tcm_written}
-use Rattle.ds_machine.specs.Sides.{nine_side, seven_side, unbuilt}
 
--- RAM, 2000000h to 3FFFFFFh, are cells for both processors, or nothing is there: they are built, and no access of them changes a unit.
+-- RAM, 2000000h to 3FFFFFFh, are cells for both processors, or nothing is there: no access of them changes a unit.
 
 -- ---- what stands there
 
@@ -97,47 +89,9 @@ ram_cells Seven w at low high = elim (lies_or_not 0x00000000 0x00003FFF at) [
   ])
 ]
 
--- ---- they are built
-
--- a span of them has no byte that isn't built
-abbrev RamIsBuilt : (ℕ → Bool) → Type 0
-RamIsBuilt p = (first length : ℕ) → 0x02000000 ≤ first → first + length ≤ 0x04000000 → first_without p (span first length) ≡ None
-
-pub ram_span_nine : (cp : Cp15State) (w first length : ℕ) → 0x02000000 ≤ first → first + length ≤ 0x04000000 → first_without (nine_is_built cp w) (span first length) ≡ None
-ram_span_nine cp w first length low high = apart_nine cp w first length (inl high)
-
-pub ram_span_seven : (w first length : ℕ) → 0x02000000 ≤ first → first + length ≤ 0x04000000 → first_without (map_is_built Seven w) (span first length) ≡ None
-ram_span_seven w first length low high = apart_built Seven w first length (inl high)
-
--- an address of them, and one that is aligned down
+-- an address of them
 ram_bounds : (at : ℕ) → is_ram at ≡ true → (0x02000000 ≤ at) × (at < 0x04000000)
 ram_bounds at h = grind arith
-
-ram_aligned : (at : ℕ) (width : Width) → is_ram at ≡ true → (0x02000000 ≤ aligned_down width at) × (aligned_down width at + width_bytes width ≤ 0x04000000)
-ram_aligned at Byte h = let b = ram_bounds at h in (omega (arith, b), omega (arith, b))
-ram_aligned at Half h = let b = ram_bounds at h in (omega (arith, b), omega (arith, b))
-ram_aligned at Word h = let b = ram_bounds at h in (omega (arith, b), omega (arith, b))
-
-aligned_built : (p : ℕ → Bool) → RamIsBuilt p → (at : ℕ) (width : Width) → is_ram at ≡ true
-    → first_without p (span (aligned_down width at) (width_bytes width) ++ []) ≡ None
-aligned_built p is at width h =
-    let b = ram_aligned at width h in
-    rw (append-nil (span (aligned_down width at) (width_bytes width))) (is (aligned_down width at) (width_bytes width) b.0 b.1)
-
--- accesses of RAM need nothing that isn't built
-ram_needs : (p : ℕ → Bool) → RamIsBuilt p → (accesses : List Access) → IsInRam accesses → first_without p (accessed_bytes accesses) ≡ None
-ram_needs p is [] ram = refl
-ram_needs p is (Fetch at width ∷ []) ram = aligned_built p is at width ram
-ram_needs p is (Read at width ∷ []) ram = aligned_built p is at width ram
-ram_needs p is (Write at width value ∷ []) ram = aligned_built p is at width ram
-ram_needs p is (access ∷ other ∷ rest) ram = absurd ram
-
-pub nine_needs_none : (r : NineReach) (accesses : List Access) → IsInRam accesses → unbuilt nine_side r accesses ≡ None
-nine_needs_none r accesses ram =
-    ram_needs (nine_is_built r.cp15 r.map.io.wramcnt) (ram_span_nine r.cp15 r.map.io.wramcnt) accesses ram
-
-pub seven_needs_none : (r : SevenReach) (accesses : List Access) → IsInRam accesses → unbuilt seven_side r accesses ≡ None
-seven_needs_none r accesses ram = ram_needs (map_is_built Seven r.map.io.wramcnt) (ram_span_seven r.map.io.wramcnt) accesses ram
 
 -- ---- no access of them changes a unit
 

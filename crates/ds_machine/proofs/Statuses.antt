@@ -1,6 +1,5 @@
-use Rattle.std.proofs.Common.{ℕ, ◌≡◌, ◌+◌, Bool, true, false, if◌then◌else◌, List, [], ◌∷◌, ◌++◌, take, All, Option, Some, None, Result, Ok, Err, refl, sym, subst, arith}
+use Rattle.std.proofs.Common.{ℕ, ◌≡◌, ◌+◌, Bool, true, false, if◌then◌else◌, List, [], ◌∷◌, take, All, Option, Some, None, Result, Ok, Err, refl, sym, subst, arith}
 use Rattle.std.proofs.lemmas.List.Elements.{All-cons, All-nil}
-use Rattle.ds_base.specs.Accesses.{MemoryMachine}
 use Rattle.ds_base.specs.declared.keys.KeyLine.{KeyLine}
 use Rattle.ds_base.specs.declared.left_out.LeftOut.{LeftOut}
 use Rattle.ds_base.specs.declared.left_out.Stop.{Stop}
@@ -9,11 +8,9 @@ use Rattle.ds_base.specs.declared.processors.Arch.TheVariants.{V4, V5}
 use Rattle.ds_base.specs.declared.processors.Proc.{Proc}
 use Rattle.ds_base.specs.declared.processors.Proc.TheVariants.{Nine, Seven}
 use Rattle.ds_base.specs.declared.ticks.Tick.{Tick}
-use Rattle.ds_dma.specs.declared.channels.Unit.{Unit as DmaUnit}
 use Rattle.arm_core.specs.Cores as cores
 use Rattle.arm_core.specs.Effects.{Outcome}
 use Rattle.arm_core.specs.Registers.{RegisterState}
-use Rattle.arm_core.specs.Steps.{enters, fetched}
 use Rattle.arm_core.specs.declared.outcomes.Stepped as arm
 use Rattle.arm_core.specs.declared.outcomes.Stepped.TheVariants.{Cost, Halted, Left}
 use Rattle.arm_exec.specs.Statuses.{IsStatus, HasStatuses}
@@ -23,7 +20,7 @@ use Rattle.arm7_exec.specs.Arm7.{arm7}
 use Rattle.arm9_exec.specs.Statuses.{HasNineStatuses}
 use Rattle.arm9_exec.proofs.Statuses.{step9_has}
 use Rattle.ds_header.specs.Fields.{image_entry, image_of, image_place}
-use Rattle.ds_map.specs.Moves.{next_unit, unit_moved, unit_needs, unit_refusal}
+use Rattle.ds_map.specs.Moves.{next_unit, unit_moved, unit_refusal}
 use Rattle.ds_map.specs.Views.{NineReach, SevenReach, nine_memory, seven_memory}
 use Rattle.ds_ports.specs.Dues.{io_due}
 use Rattle.ds_runs.specs.Actors.{actor_of}
@@ -33,19 +30,17 @@ use Rattle.ds_runs.specs.declared.actors.Actor as actor
 use Rattle.ds_runs.specs.declared.actors.Actor.TheVariants.{KeyScript, Video, Timer, Divider, SquareRoot, Geometry, Card, Dma, Processor}
 use Rattle.video2d.specs.Videos.{video_answer}
 use Rattle.video2d.specs.declared.videos.Shown as display
-use Rattle.ds_machine.specs.Booted.{header_bytes, header_place, machine_blank, machine_booted, stacks_of, with_image}
+use Rattle.ds_machine.specs.Booted.{header_bytes, header_place, machine_blank, stacks_of, with_image}
 use Rattle.ds_machine.specs.Boots.{copied, stored}
-use Rattle.ds_machine.specs.Channels.{channel_step, delayed_past, moved_by, moved_unless}
-use Rattle.ds_machine.specs.OwnSteps.{step_needs}
+use Rattle.ds_machine.specs.Channels.{channel_step, delayed_past, moved_by}
 use Rattle.ds_machine.specs.Reference.{FastStep, Shown, after_line, awake, due_by, reference, reference_step, step_by, stepped_of, video_step}
-use Rattle.ds_machine.specs.Sides.{SideOf, needs, nine_side, seven_side, taken}
+use Rattle.ds_machine.specs.Sides.{nine_side, seven_side, taken}
 use Rattle.ds_machine.specs.States.{MachineState}
 use Rattle.ds_machine.specs.declared.answers.Done as answer
 use Rattle.ds_machine.specs.declared.answers.Done.TheVariants as answers
 use Rattle.ds_machine.specs.Statuses.{HasBothStatuses, BootsWithStatuses, RunsKeepStatuses, StepsKeepStatuses, left_by}
-use Rattle.ds_machine.specs.Steps.{goes_on, gone_by, line_of, machine_concluded, map_of, nine_reach, outcome_of, processor_of, processor_step, seven_reach, tick_of, wakes, with_map, woken, woken_one}
+use Rattle.ds_machine.specs.Steps.{ended, goes_on, gone_by, line_of, machine_concluded, machine_settled, map_of, nine_reach, outcome_of, processor_of, processor_step, seven_reach, tick_of, wakes, with_map, woken_one}
 use Rattle.ds_machine.proofs.OwnSteps.{is_step7, is_step9}
-use Rattle.ds_machine.proofs.Taken.{taken_unsupported, unsupported_at}
 
 -- CPSR and each SPSR have no bits but those that are kept, whatever steps.
 
@@ -57,27 +52,13 @@ NineHas o = HasNineStatuses o.registers o.state.cp15
 abbrev SevenHas : Outcome SevenReach → Type 0
 SevenHas o = HasStatuses V4 o.registers
 
--- what holds of a step of the processor's own crate holds of its step in the machine, where it holds of one that isn't taken: then all is as it was
-module _ {S : Type 0} (memory : MemoryMachine S) (side : SideOf S) (Has : Outcome S → Type 0) (line : Bool) (s : RegisterState) (r : S)
-    (untaken : (value : ℕ) → Has (unsupported_at s r value)) (whole : step_needs memory side line s r ≡ None → Has (taken memory side line s r)) where
-  needs_has : (needed : Option ℕ) → needs side s r (fetched memory side.arch s r).instr ≡ needed → enters line s ≡ false → Has (taken memory side line s r)
-  needs_has None e enter = whole (rw enter e)
-  needs_has (Some value) e enter = subst Has (sym (taken_unsupported memory side line s r (fetched memory side.arch s r).instr value enter refl e)) (untaken value)
-
-  entry_has : (entry : Bool) → enters line s ≡ entry → Has (taken memory side line s r)
-  entry_has true enter = whole (rw enter refl)
-  entry_has false enter = needs_has (needs side s r (fetched memory side.arch s r).instr) refl enter
-
-  taken_has : Has (taken memory side line s r)
-  taken_has = entry_has (enters line s) refl
-
 nine_has : (line : Bool) (s : RegisterState) (r : NineReach) → HasNineStatuses s r.cp15 → NineHas (taken nine_memory nine_side line s r)
 nine_has line s r h =
-    taken_has nine_memory nine_side NineHas line s r (λ value. h) (λ none. subst NineHas (sym (is_step9 line s r none)) (step9_has s r.cp15 h nine_memory line r))
+    subst NineHas (sym (is_step9 line s r)) (step9_has s r.cp15 h nine_memory line r)
 
 seven_has : (line : Bool) (s : RegisterState) (r : SevenReach) → HasStatuses V4 s → SevenHas (taken seven_memory seven_side line s r)
 seven_has line s r h =
-    taken_has seven_memory seven_side SevenHas line s r (λ value. h) (λ none. subst SevenHas (sym (is_step7 line s r none)) (step_has seven_memory arm7 s h line r))
+    subst SevenHas (sym (is_step7 line s r)) (step_has seven_memory arm7 s h line r)
 
 -- ---- a processor's step in the machine
 
@@ -120,16 +101,12 @@ moved_has : (rank : ℕ) (proc : Proc) (now : Tick) (refusal : Option Stop) (s :
 moved_has rank proc now None s h = let k = delayed_has proc now s h in record { nine = k.nine; seven = k.seven }
 moved_has rank proc now (Some stop) s h = h
 
-unless_has : (rank : ℕ) (proc : Proc) (now : Tick) (needed : Option ℕ) (unit : DmaUnit) (s : MachineState) → HasBothStatuses s
-    → (let step : MachineStep MachineState Shown LeftOut = moved_unless rank proc now needed unit s in HasBothStatuses (left_by step))
-unless_has rank proc now None unit s h =
-    moved_has rank proc now (unit_refusal proc now unit (map_of proc s)) (with_map proc s (unit_moved proc now unit (map_of proc s))) (record { nine = h.nine; seven = h.seven })
-unless_has rank proc now (Some value) unit s h = h
-
 channel_has : (rank : ℕ) (proc : Proc) (due : Option Tick) (s : MachineState) → HasBothStatuses s
     → (let step : MachineStep MachineState Shown LeftOut = channel_step rank proc due s in HasBothStatuses (left_by step))
 channel_has rank proc None s h = h
-channel_has rank proc (Some now) s h = unless_has rank proc now (unit_needs proc s.io.wramcnt (next_unit s.io proc)) (next_unit s.io proc) s h
+channel_has rank proc (Some now) s h =
+    let unit = next_unit s.io proc in
+    moved_has rank proc now (unit_refusal proc now unit (map_of proc s)) (with_map proc s (unit_moved proc now unit (map_of proc s))) (record { nine = h.nine; seven = h.seven })
 
 video_has : (rank : ℕ) (answer : Result display.Shown Stop) (s : MachineState) → HasBothStatuses s → HasBothStatuses (left_by (video_step rank answer s))
 video_has rank (Ok shown) s h = record { nine = h.nine; seven = h.seven }
@@ -160,8 +137,10 @@ one_has : (proc : Proc) (tick : Tick) (s : MachineState) → HasBothStatuses s �
 one_has proc tick s h = either_has (wakes s proc) (goes_on proc tick s) s (on_has proc tick s h) h
 
 awake_has : (due : Option Tick) (came : MachineStep MachineState Shown LeftOut) → HasBothStatuses (left_by came) → HasBothStatuses (left_by (awake due came))
+unfolding ended
 awake_has None came h = h
-awake_has (Some tick) (Makes next outs) h = one_has Seven tick (woken_one Nine tick next) (one_has Nine tick next h)
+awake_has (Some tick) (Makes next outs) h =
+    let rest = machine_settled tick next in one_has Seven tick (woken_one Nine tick rest) (one_has Nine tick rest (record { nine = h.nine; seven = h.seven }))
 awake_has (Some tick) (Stops stop left) h = h
 
 -- ---- the laws

@@ -1,3 +1,4 @@
+use Rattle.std.specs.Prelude.{◌&&◌}
 use Rattle.std.proofs.Common.{◌≡◌, ◌+◌, inl, inr, Bool, true, false, if◌then◌else◌, refl, sym, ◌∙◌, ap, subst, arith}
 use Rattle.ds_base.specs.KeyLines.{AreKeyLines}
 use Rattle.ds_base.specs.Schedules.{Reschedules}
@@ -6,13 +7,18 @@ use Rattle.ds_base.specs.declared.processors.Proc.TheVariants.{Nine, Seven}
 use Rattle.ds_base.specs.declared.ticks.Tick.{Tick}
 use Rattle.ds_ipc.specs.Ipcs.{other_proc}
 use Rattle.ds_ports.specs.Dues.{IsIo, IsProcessorIo, ReschedulesEach}
-use Rattle.ds_ports.specs.ProcessorIo.{ProcessorIoState}
-use Rattle.ds_ports.specs.Io.{IoState, io_of, with_halted}
-use Rattle.ds_machine.specs.Reference.{AreAsleep, HasSoundParts, due_unless, keys_due, processor_due}
+use Rattle.ds_dma.specs.States.{awaits_geometry}
+use Rattle.ds_dma.specs.declared.controls.Cause.TheVariants as causes
+use Rattle.ds_dma.proofs.Wholes.{awaits_none}
+use Rattle.ds_ports.specs.ProcessorIo.{ProcessorIoState, processor_io_triggered}
+use Rattle.ds_ports.specs.Io.{IoState, io_of, level_told, settled, with_halted}
+use Rattle.ds_machine.specs.Reference.{AreAsleep, HasSoundParts, due_unless, is_to_be_triggered, keys_due, processor_due}
 use Rattle.ds_machine.specs.States.{MachineState, ProcessorState, counts_of}
-use Rattle.ds_machine.specs.Steps.{goes_on, is_blocked, processor_of, wakes, with_halt, with_processor, woken, woken_one}
-use Rattle.ds_machine.proofs.Moves.{Moves, later_unless, moves_of, then_all}
+use Rattle.ds_machine.specs.Steps.{ended, goes_on, is_blocked, machine_settled, processor_of, wakes, with_halt, with_processor, woken, woken_one}
+use Rattle.gx_fifo.specs.GxStates.{AreWaiting, is_half_empty}
+use Rattle.ds_machine.proofs.Moves.{Moves, blocked_moves, later_unless, moves_of, then_all}
 use Rattle.ds_ports.proofs.Later.{each_processor_io, of_both, processor_io_each, processor_io_is, same_reschedules, io_is}
+use Rattle.ds_ports.proofs.Settles.{happens_held, settled_happens}
 
 -- Processors that are put into the machine with other numbers, that are halted, and that wake.
 
@@ -45,11 +51,16 @@ put_counts Seven s p = omega arith
 pub halted_io_dues : (tick : Tick) (proc : Proc) (u : IoState) (halted : Bool) → ReschedulesEach tick u (with_halted proc u halted)
 halted_io_dues tick proc u halted = processor_io_each proc tick u (record (io_of u proc) { halted = halted }) (same_reschedules tick (io_of u proc) _ refl refl)
 
+pub halted_gx : (proc : Proc) (u : IoState) (halted : Bool) → (with_halted proc u halted).gx ≡ u.gx
+halted_gx Nine u halted = refl
+halted_gx Seven u halted = refl
+
 pub halted_io : (proc : Proc) (u : IoState) (halted : Bool) → IsIo u → IsIo (with_halted proc u halted)
 halted_io proc u halted are =
     let new : ProcessorIoState = record (io_of u proc) { halted = halted } in
     let is = processor_io_is u are proc in
     io_is (with_halted proc u halted) (each_processor_io (λ p x. IsProcessorIo x) proc u new (record { timers = is.timers; dma = is.dma }) (processor_io_is u are (other_proc proc)))
+    (subst AreWaiting (sym (halted_gx proc u halted)) are.gx)
 
 -- the other processor is as it was
 pub halt_other : (proc : Proc) (s : MachineState) (halted : Bool) → processor_due (with_halt proc s halted) (other_proc proc) ≡ processor_due s (other_proc proc)
@@ -136,3 +147,63 @@ one_other false proc tick s = refl
 pub woken_asleep : (tick : Tick) (s : MachineState) → AreAsleep (woken tick s)
 woken_asleep tick s Nine = let first = woken_one Nine tick s in one_other (wakes first Seven) Seven tick first ∙ one_asleep (wakes s Nine) Nine tick s refl
 woken_asleep tick s Seven = let first = woken_one Nine tick s in one_asleep (wakes first Seven) Seven tick first refl
+
+-- ---- and before that the units settle: that tells ARM9 of an interrupt, and triggers channels of it
+
+pub record SettleLeaves (old new : IoState) : Type 0 where
+  pub video : new.video ≡ old.video
+  pub gx : new.gx ≡ old.gx
+  pub released : new.released ≡ old.released
+  pub seven : new.seven ≡ old.seven
+  pub halted : new.nine.halted ≡ old.nine.halted
+  pub timers : new.nine.timers ≡ old.nine.timers
+  pub keycnt : new.nine.keycnt ≡ old.nine.keycnt
+
+settle_by : (tick : Tick) (half : Bool) (u : IoState) → SettleLeaves u (if half then record (level_told u) { nine = processor_io_triggered (level_told u).nine causes.Geometry tick } else level_told u)
+settle_by tick true u = record { video = refl; gx = refl; released = refl; seven = refl; halted = refl; timers = refl; keycnt = refl }
+settle_by tick false u = record { video = refl; gx = refl; released = refl; seven = refl; halted = refl; timers = refl; keycnt = refl }
+
+pub settle_leaves : (tick : Tick) (u : IoState) → SettleLeaves u (settled tick u)
+settle_leaves tick u = settle_by tick (is_half_empty u.gx) u
+
+-- where no channel is to be triggered, none is
+pub settled_dma : (tick : Tick) (u : IoState) → IsIo u → is_to_be_triggered u ≡ false → (settled tick u).nine.dma ≡ u.nine.dma
+settled_dma tick u is none = by_half (is_half_empty u.gx) none where
+  by_half : (half : Bool) → (half && awaits_geometry u.nine.dma) ≡ false
+      → (if half then record (level_told u) { nine = processor_io_triggered (level_told u).nine causes.Geometry tick } else level_told u).nine.dma ≡ u.nine.dma
+  by_half true h = awaits_none u.nine.dma tick is.nine.dma.four h
+  by_half false h = refl
+
+settled_due : (tick : Tick) (s : MachineState) (proc : Proc) → (processor_of (machine_settled tick s) proc).due ≡ (processor_of s proc).due
+settled_due tick s Nine = refl
+settled_due tick s Seven = refl
+
+settle_moves : (tick : Tick) (s : MachineState) → IsIo s.io → Moves tick s (machine_settled tick s)
+settle_moves tick s is =
+    let next = machine_settled tick s in
+    let h = settled_happens tick s.io is in
+    moves_of tick s next (inl refl) h.dues (λ proc.
+    blocked_moves tick (is_blocked s proc) (is_blocked next proc) (processor_of s proc) (processor_of next proc) (settled_due tick s proc) (happens_held tick s.io next.io h proc))
+
+-- so a step ends
+pub record Ends (tick : Tick) (s next : MachineState) : Type 0 where
+  pub moves : Moves tick s next
+  pub sound : HasSoundParts next
+
+pub ends : (tick : Tick) (s : MachineState) → HasSoundParts s → Ends tick s (ended tick s)
+unfolding ended
+ends tick s sound =
+    let first = machine_settled tick s in
+    let w = wakes_both tick first in
+    record {
+      moves = then_all tick s first (ended tick s) (settle_moves tick s sound.io) w.moves;
+      sound = w.sound (record { io = (settled_happens tick s.io sound.io).io; keys = sound.keys });
+    }
+
+pub ended_counts : (tick : Tick) (s : MachineState) → counts_of (ended tick s) ≡ counts_of s
+unfolding ended
+ended_counts tick s = (wakes_both tick (machine_settled tick s)).counts
+
+pub ended_asleep : (tick : Tick) (s : MachineState) → AreAsleep (ended tick s)
+unfolding ended
+ended_asleep tick s = woken_asleep tick (machine_settled tick s)

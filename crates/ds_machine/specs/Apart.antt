@@ -4,15 +4,16 @@ use Rattle.ds_base.specs.declared.processors.Proc.{Proc}
 use Rattle.ds_base.specs.declared.processors.Proc.TheVariants.{Nine, Seven}
 use Rattle.ds_runs.specs.Runs.{MachineStep, Makes, Stops}
 use Rattle.ds_runs.specs.declared.actors.Actor as actor
-use Rattle.ds_runs.specs.declared.actors.Actor.TheVariants.{Video, Dma, Processor}
-use Rattle.ds_machine.specs.Reference.{Shown, step_by}
+use Rattle.ds_runs.specs.declared.actors.Actor.TheVariants.{Video, Geometry, Dma, Processor}
+use Rattle.ds_machine.specs.Reference.{Shown, past_stall, step_by}
 use Rattle.ds_machine.specs.States.{MachineState, NineState, SevenState}
 use Rattle.ds_machine.specs.Statuses.{left_by}
 
 -- What an actor's step leaves alone and doesn't depend on: a processor's own part, which that processor and its DMA channels alone reach: the channels for the
--- tick at which it is due, and for the memories that are not the other's. The display reads palettes and OAM. (Waking, which follows a step, isn't part of it.)
+-- tick at which it is due, and for the memories that are not the other's. The display reads palettes and OAM, and geometry moves ARM9's due tick at the end of a
+-- stall. (Settling and waking, which follow a step, aren't part of it.)
 
--- what ARM9, its channels and the display alone reach: its own part, palettes and OAM
+-- what ARM9, its channels, geometry and the display alone reach: its own part, palettes and OAM
 pub record NinePart : Type 0 where
   pub nine : NineState
   pub palette : List ℕ
@@ -34,6 +35,7 @@ step_with put (Stops stop left) = Stops stop (put left)
 -- whose own part an actor reaches
 abbrev pub ReachesOwn : actor.Actor → Proc → Type 0
 ReachesOwn Video proc = proc ≡ Nine
+ReachesOwn Geometry proc = proc ≡ Nine
 ReachesOwn (Dma each channel) proc = each ≡ proc
 ReachesOwn (Processor each) proc = each ≡ proc
 ReachesOwn a proc = ⊥
@@ -56,3 +58,11 @@ pub record ShowLeaves (rank : ℕ) (own : NineState) (s : MachineState) : Type 0
 
 abbrev pub DisplayLeavesNine : Type 0
 DisplayLeavesNine = (rank : ℕ) (own : NineState) (s : MachineState) → ShowLeaves rank own s
+
+-- geometry, with another part of ARM9's, comes to the same, and all of that part is as it was but for the tick at which ARM9 is due, which is past the end of a stall
+abbrev pub past_stall_of : MachineState → NinePart → NinePart
+past_stall_of s own = record own { nine = record own.nine { processor = record own.nine.processor { due = past_stall s.io own.nine.processor.due } } }
+
+abbrev pub GeometryLeavesNine : Type 0
+GeometryLeavesNine = (rank : ℕ) (own : NinePart) (s : MachineState)
+    → step_by rank Geometry (with_nine_part own s) ≡ step_with (with_nine_part (past_stall_of s own)) (step_by rank Geometry s)

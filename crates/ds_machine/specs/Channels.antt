@@ -1,11 +1,9 @@
 use Rattle.std.specs.Prelude.{ℕ, ◌+◌, max, [], Option, Some, None}
-use Rattle.ds_base.specs.declared.left_out.LeftKind.TheVariants.{NotYet}
 use Rattle.ds_base.specs.declared.left_out.LeftOut.{LeftOut}
 use Rattle.ds_base.specs.declared.left_out.Stop.{Stop}
 use Rattle.ds_base.specs.declared.processors.Proc.{Proc}
 use Rattle.ds_base.specs.declared.ticks.Tick.{Tick}
-use Rattle.ds_dma.specs.declared.channels.Unit.{Unit as DmaUnit}
-use Rattle.ds_map.specs.Moves.{next_unit, unit_moved, unit_needs, unit_refusal}
+use Rattle.ds_map.specs.Moves.{next_unit, unit_moved, unit_refusal}
 use Rattle.ds_runs.specs.Runs.{MachineStep, Makes, Stops}
 use Rattle.ds_machine.specs.States.{MachineState}
 use Rattle.ds_machine.specs.Steps.{map_of, processor_of, with_map, with_processor}
@@ -28,12 +26,8 @@ abbrev pub moved_by : {O : Type 0} → ℕ → Proc → Tick → Option Stop →
 moved_by rank proc now None s = Makes (one_event (delayed_past proc now s)) []
 moved_by rank proc now (Some stop) s = Stops (stopped_at rank now stop) s
 
--- unless it needs what isn't built: that is told before
-abbrev pub moved_unless : {O : Type 0} → ℕ → Proc → Tick → Option ℕ → DmaUnit → MachineState → MachineStep MachineState O LeftOut
-moved_unless rank proc now None unit s = moved_by rank proc now (unit_refusal proc now unit (map_of proc s)) (with_map proc s (unit_moved proc now unit (map_of proc s)))
-moved_unless rank proc now (Some value) unit s = Stops (record { kind = NotYet; tick = now; rank = rank; value = value }) s
-
 -- the event of the channel of a processor that is due, at its tick; a channel that isn't due has none
 abbrev pub channel_step : {O : Type 0} → ℕ → Proc → Option Tick → MachineState → MachineStep MachineState O LeftOut
 channel_step rank proc None s = Makes s []
-channel_step rank proc (Some now) s = let unit = next_unit s.io proc in moved_unless rank proc now (unit_needs proc s.io.wramcnt unit) unit s
+channel_step rank proc (Some now) s =
+    let unit = next_unit s.io proc in moved_by rank proc now (unit_refusal proc now unit (map_of proc s)) (with_map proc s (unit_moved proc now unit (map_of proc s)))

@@ -1,13 +1,14 @@
-use Rattle.std.specs.Prelude.{ℕ, ◌≡◌, List, map, Option, option_map}
+use Rattle.std.specs.Prelude.{ℕ, ◌≡◌, ◌==◌, if◌then◌else◌, List, [], ◌∷◌, map, Option, Some, None, option_map}
 use Rattle.std.specs.List.{last_or}
 use Rattle.ds_base.specs.declared.ticks.Tick.{Tick}
 use Rattle.ds_base.specs.declared.left_out.LeftOut.{LeftOut}
 use Rattle.ds_runs.specs.Runs.{IsLeast, Makes, Stops}
 use Rattle.ds_machine.specs.Reference.{HasSoundParts, Shown, dues_of, reference_step}
 use Rattle.ds_machine.specs.States.{MachineState}
+use Rattle.gx_geometry.specs.States.{Swapped}
 use Rattle.video2d.specs.Scans.{framed_by}
 
--- Frames that are whole.
+-- Frames that are whole, and the geometry lists that are swapped with them.
 
 -- when the last whole frame of a machine became so, if one is: where the display is tells it
 abbrev pub framed_of : MachineState → Option Tick
@@ -41,3 +42,25 @@ StepsFollowFrames = (s next : MachineState) (tick : Tick) (rank : ℕ) (outs : L
 abbrev pub StopsLeaveFrames : Type 0
 StopsLeaveFrames = (s left : MachineState) (tick : Tick) (rank : ℕ) (stop : LeftOut) → HasSoundParts s → IsLeast (dues_of s) tick rank → reference_step rank s ≡ Stops stop left
     → last_frame left ≡ last_frame s
+
+-- a machine's last swap, if one was made: its lists tell when, and line 192 never begins at tick 0
+abbrev pub last_lists : MachineState → Option Swapped
+last_lists s = if s.io.gx.geometry.last.tick.0 == 0 then None else Some s.io.gx.geometry.last
+
+-- those that a run put out: of the frames at which waiting lists were swapped
+abbrev pub lists_shown : List Shown → List Swapped
+lists_shown [] = []
+lists_shown (shown ∷ outs) = if shown.swapped then shown.lists ∷ lists_shown outs else lists_shown outs
+
+-- a machine's last lists after steps that put this out: those of the last swap, or where there is none the ones before them
+abbrev pub FollowLists : MachineState → MachineState → List Shown → Type 0
+FollowLists old new outs = last_lists new ≡ last_or (last_lists old) (lists_shown outs)
+
+-- so it is after each step; and one that stops leaves the last lists
+abbrev pub StepsFollowLists : Type 0
+StepsFollowLists = (s next : MachineState) (tick : Tick) (rank : ℕ) (outs : List Shown) → HasSoundParts s → IsLeast (dues_of s) tick rank → reference_step rank s ≡ Makes next outs
+    → FollowLists s next outs
+
+abbrev pub StopsLeaveLists : Type 0
+StopsLeaveLists = (s left : MachineState) (tick : Tick) (rank : ℕ) (stop : LeftOut) → HasSoundParts s → IsLeast (dues_of s) tick rank → reference_step rank s ≡ Stops stop left
+    → last_lists left ≡ last_lists s

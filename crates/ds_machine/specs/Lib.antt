@@ -11,4 +11,6 @@ pub mod Observed
 pub mod Apart
 pub mod OwnSteps
 pub mod Processors
+pub mod Rooms
 pub mod Statuses
+pub mod Stopping

@@ -1,4 +1,4 @@
-use Rattle.std.specs.Prelude.{ℕ, ◌+◌, ◌*◌, ◌≡◌, ◌<◌, ◌≤◌, ◌^◌, Bool, true, false, if◌then◌else◌, List, [], ◌∷◌, map, min, Option, Some, None, Result, Ok, Err}
+use Rattle.std.specs.Prelude.{ℕ, ◌+◌, ◌*◌, ◌≡◌, ◌<◌, ◌≤◌, ◌^◌, ◌&&◌, Bool, true, false, if◌then◌else◌, List, [], ◌∷◌, map, max, min, nat_lt, Option, Some, None, Result, Ok, Err}
 use Rattle.ds_base.specs.KeyLines.{AreKeyLines}
 use Rattle.ds_base.specs.declared.keys.KeyLine.{KeyLine}
 use Rattle.ds_base.specs.declared.left_out.LeftOut.{LeftOut}
@@ -8,32 +8,36 @@ use Rattle.ds_base.specs.declared.ticks.Tick.{Tick}
 use Rattle.ds_base.specs.declared.processors.Proc.{Proc}
 use Rattle.ds_base.specs.declared.processors.Proc.TheVariants.{Nine}
 use Rattle.ds_ports.specs.Dues.{IsIo, io_due}
-use Rattle.ds_ports.specs.Io.{io_event, keys_pressed, video_done}
+use Rattle.ds_dma.specs.States.{awaits_geometry}
+use Rattle.ds_ports.specs.Io.{IoState, geometry_swapped, io_event, keys_pressed, stall_ends, tick_after, video_done}
 use Rattle.ds_runs.specs.Actors.{actors, actor_of}
 use Rattle.ds_runs.specs.Runs.{TickMachine, MachineStep, Makes, Stops, IsLeast, due_at}
 use Rattle.ds_runs.specs.declared.actors.Actor as actor
 use Rattle.ds_runs.specs.declared.actors.Actor.TheVariants.{KeyScript, Video, Timer, Geometry, Card, Dma, Processor}
 use Rattle.ds_machine.specs.Channels.{channel_step, one_event, stopped_at}
 use Rattle.ds_machine.specs.States.{MachineState, ProcessorState, counts_of}
-use Rattle.ds_machine.specs.Steps.{is_blocked, is_halted, processor_of, processor_step, tick_of, wakes, with_io, woken}
-use Rattle.video2d.specs.Scans.{scan_due, scan_due_tick}
+use Rattle.ds_machine.specs.Steps.{ended, is_blocked, is_halted, processor_of, processor_step, tick_of, wakes, with_io, with_processor}
+use Rattle.gx_fifo.specs.GxStates.{is_half_empty}
+use Rattle.gx_geometry.specs.States.{Swapped}
+use Rattle.video2d.specs.Scans.{scan_due, scan_due_tick, starts_vblank}
 use Rattle.video2d.specs.Videos.{video_answer}
 use Rattle.video2d.specs.declared.videos.Shown as display
 use Rattle.ds_machine.specs.declared.answers.Done.{Done}
 use Rattle.ds_machine.specs.declared.answers.Done.TheVariants.{Made, Frame, Stopped}
 
--- The reference machine. Geometry and the card aren't built yet; they are never due.
+-- The reference machine. The card isn't built yet; it is never due.
 
--- what a run puts out: a frame became whole at this tick, its 98,304 pixels, the upper screen's first, and whether waiting lists were swapped there
+-- what a run puts out: a frame became whole at this tick; whether waiting geometry lists were swapped there; and the lists of the last swap after it
 pub record Shown : Type 0 where
   pub tick : ℕ
   -- its 98,304 pixels, the upper screen's first
   pub frame : List ℕ
   pub swapped : Bool
+  pub lists : Swapped
 
 -- what an event at a tick put out that made a frame whole, by the machine that it left
 abbrev pub shown_at : ℕ → MachineState → Bool → Shown
-shown_at tick s swapped = record { tick = tick; frame = s.io.video.whole; swapped = swapped }
+shown_at tick s swapped = record { tick = tick; frame = s.io.video.whole; swapped = swapped; lists = s.io.gx.geometry.last }
 
 -- the frame that the display's event makes whole, by the state before it and the state after it
 abbrev pub next_shown : MachineState → MachineState → Bool → Shown
@@ -70,27 +74,42 @@ after_line (line ∷ lines) s = one_event (record (with_io s (keys_pressed s.io 
 abbrev pub after_event : actor.Actor → MachineState → MachineState
 after_event a s = one_event (with_io s (io_event a s.io))
 
--- the display's, which reads palettes and OAM, by what it answers: the start of line 192 makes a frame whole, and that is put out; a line that needs what isn't
--- there stops, and then the machine is as it was
+-- geometry's: the head command is done, and where that ends a stall ARM9 is due after that tick at the earliest, also while DMA still holds it, or while it is
+-- halted: a stall's end wakes none (our choice)
+abbrev pub past_stall : IoState → ℕ → ℕ
+past_stall u due = if stall_ends u then max due (tick_after u.gx.due due) else due
+
+abbrev pub after_geometry : MachineState → MachineState
+after_geometry s = with_processor Nine (after_event Geometry s) (record s.nine.processor { due = past_stall s.io s.nine.processor.due })
+
+-- the display's, which reads palettes and OAM, by what it answers: the start of line 192 makes a frame whole, and swaps geometry lists that wait, and that is
+-- put out (GBATEK, SWAP_BUFFERS); a line that needs what isn't there stops, and then the machine is as it was
+abbrev pub swapped_if : Bool → Tick → IoState → IoState
+swapped_if whole now u = if whole then geometry_swapped now u else u
+
+abbrev pub display_done : MachineState → IoState
+display_done s = swapped_if (starts_vblank s.io.video.scan) (scan_due_tick s.io.video.scan) (video_done s.palette s.oam s.io)
+
 abbrev pub after_video : MachineState → MachineState
-after_video s = one_event (with_io s (video_done s.palette s.oam s.io))
+after_video s = one_event (with_io s (display_done s))
 
 abbrev pub video_step : ℕ → Result display.Shown Stop → MachineState → MachineStep MachineState Shown LeftOut
-video_step rank (Ok shown) s = Makes (after_video s) (if shown.frame then shown_at (scan_due s.io.video.scan) (after_video s) false ∷ [] else [])
+video_step rank (Ok shown) s = Makes (after_video s) (if shown.frame then shown_at (scan_due s.io.video.scan) (after_video s) s.io.gx.swap_waits ∷ [] else [])
 video_step rank (Err stop) s = Stops (stopped_at rank (scan_due_tick s.io.video.scan) stop) s
 
 -- what an actor's step comes to
 abbrev pub step_by : ℕ → actor.Actor → MachineState → MachineStep MachineState Shown LeftOut
 step_by rank KeyScript s = Makes (after_line s.keys s) []
 step_by rank Video s = video_step rank (video_answer s.oam s.io.video) s
+step_by rank Geometry s = Makes (after_geometry s) []
 step_by rank (Dma proc channel) s = channel_step rank proc (io_due (Dma proc channel) s.io) s
 step_by rank (Processor proc) s = processor_step rank proc s
 step_by rank a s = Makes (after_event a s) []
 
--- and after a step that is taken halted processors wake that are to
+-- and after a step that is taken the units settle, and halted processors wake that are to
 abbrev pub awake : Option Tick → MachineStep MachineState Shown LeftOut → MachineStep MachineState Shown LeftOut
 awake None came = came
-awake (Some tick) (Makes next outs) = Makes (woken tick next) outs
+awake (Some tick) (Makes next outs) = Makes (ended tick next) outs
 awake (Some tick) (Stops stop left) = Stops stop left
 
 abbrev pub reference_step : ℕ → MachineState → MachineStep MachineState Shown LeftOut
@@ -141,7 +160,7 @@ pub record IsSound (s : MachineState) : Type 0 where
 -- ---- counts, by owner
 
 -- the actors that may halt a processor, or wake it, or make it wait: the key script, the display, its timers, its DMA channels, the card, and geometry for ARM9
--- (our choice; neither of the last two is built yet)
+-- (our choice; the card isn't built yet)
 abbrev pub Fences : actor.Actor → Proc → Type 0
 Fences KeyScript proc = Unit {0}
 Fences Video proc = Unit {0}
@@ -151,8 +170,19 @@ Fences Card proc = Unit {0}
 Fences Geometry proc = proc ≡ Nine
 Fences a proc = ⊥
 
+-- a channel of ARM9's waits for geometry, and its FIFO has room: the next step that is taken triggers it. So it can be only after a step that stopped.
+abbrev pub is_to_be_triggered : IoState → Bool
+is_to_be_triggered u = is_half_empty u.gx && awaits_geometry u.nine.dma
+
+-- geometry's rank, and how many of its steps there may have been at a tick before the actor of a rank
+abbrev pub geometry_rank : ℕ
+geometry_rank = 12
+
+abbrev pub geometry_before : ℕ → ℕ
+geometry_before rank = if nat_lt geometry_rank rank then 1 else 0
+
 -- A processor took each step at a tick of its own, and the other actors each event at a place of its own in the order of events, which has 22 places for each
--- tick: so there were no more of them than ticks, or places, before what is due.
+-- tick: so there were no more of them than ticks, or places, before what is due. Geometry took each of its steps at a tick of its own, and adds a vertex at most.
 pub record HasCounted (s : MachineState) : Type 0 where
   -- before the processor's own due tick, while it isn't halted
   pub own : (proc : Proc) → is_halted s proc ≡ false → (processor_of s proc).steps ≤ (processor_of s proc).due
@@ -160,7 +190,10 @@ pub record HasCounted (s : MachineState) : Type 0 where
   pub fenced : (proc : Proc) (rank : ℕ) (tick : Tick) → due_at (dues_of s) rank ≡ Some tick → Fences (actor_of rank) proc → (processor_of s proc).steps ≤ tick.0 + 1
   -- up to any due tick, while it is halted
   pub halted : (proc : Proc) (rank : ℕ) (tick : Tick) → is_halted s proc ≡ true → due_at (dues_of s) rank ≡ Some tick → (processor_of s proc).steps ≤ tick.0 + 1
+  -- up to any due tick, while a channel of ARM9's is to be triggered
+  pub triggered : (rank : ℕ) (tick : Tick) → is_to_be_triggered s.io ≡ true → due_at (dues_of s) rank ≡ Some tick → s.nine.processor.steps ≤ tick.0 + 1
   pub events : (rank : ℕ) (tick : Tick) → due_at (dues_of s) rank ≡ Some tick → s.events ≤ 22 * tick.0 + min rank 22
+  pub run : (rank : ℕ) (tick : Tick) → due_at (dues_of s) rank ≡ Some tick → s.io.gx.geometry.numbers.run ≤ tick.0 + geometry_before rank
 
 -- all steps were taken below a limit
 pub record CountsWithin (limit : ℕ) (s : MachineState) : Type 0 where

@@ -1,17 +1,12 @@
-use Rattle.std.specs.Prelude.{ℕ, ◌≡◌, Bool, if◌then◌else◌, List, [], Option, Some, None}
-use Rattle.ds_base.specs.Accesses.{Access, MemoryMachine}
-use Rattle.ds_base.specs.declared.left_out.LeftKind.TheVariants.{NotYet}
+use Rattle.std.specs.Prelude.{ℕ, ◌≡◌, Bool, if◌then◌else◌, Option, Some, None}
+use Rattle.ds_base.specs.Accesses.{MemoryMachine}
 use Rattle.ds_base.specs.declared.processors.Arch.{Arch}
 use Rattle.ds_base.specs.declared.processors.Arch.TheVariants.{V4, V5}
-use Rattle.ds_base.specs.declared.processors.Proc.TheVariants.{Seven}
 use Rattle.arm_words.specs.declared.instructions.Instr.{Instr}
 use Rattle.arm_core.specs.Effects.{Outcome, carried_out}
 use Rattle.arm_core.specs.Exceptions.{interrupt_meaning}
-use Rattle.arm_core.specs.Footprints.{accessed_bytes, first_without}
-use Rattle.arm_core.specs.Meanings.{meaning}
 use Rattle.arm_core.specs.Registers.{RegisterState}
-use Rattle.arm_core.specs.Steps.{FetchOutcome, enters, executed_word, fetched}
-use Rattle.arm_core.specs.declared.outcomes.Stepped.TheVariants.{Left}
+use Rattle.arm_core.specs.Steps.{enters, executed_word, fetched}
 use Rattle.arm_ops.specs.Meanings.{operation_meaning}
 use Rattle.arm_ops.specs.Operations.{operation_of}
 use Rattle.arm_ops.specs.declared.operations.Operation.{Operation}
@@ -20,7 +15,6 @@ use Rattle.arm9_exec.specs.Arm9.{arm9}
 use Rattle.arm9_exec.specs.Coprocessors.{move_of, moved_if}
 use Rattle.arm9_exec.specs.declared.coprocessors.Moved.{Moved}
 use Rattle.cp15_tcm.specs.Registers.{vectors_of}
-use Rattle.ds_map.specs.Builds.{map_is_built, nine_is_built}
 use Rattle.ds_map.specs.Views.{NineReach, SevenReach, nine_memory, seven_memory}
 
 -- A processor's step over what it reaches, said once for both, and what parts one from the other.
@@ -30,33 +24,14 @@ pub record SideOf (S : Type 0) : Type 0 where
   pub arch : Arch
   -- where the exception vectors begin
   pub base : S → ℕ
-  -- whether the place of a byte of data is built, by its address
-  pub is_built : S → ℕ → Bool
   -- what a word or half comes to that was fetched: by the number of its condition and its instruction, if it has one
   pub executed : RegisterState → S → ℕ → Option Instr → Outcome S
 
--- the accesses of data that an instruction makes; what has no instruction makes none
-abbrev pub accesses_by : Arch → ℕ → RegisterState → Option Instr → List Access
-accesses_by arch base s None = []
-accesses_by arch base s (Some instr) = (meaning arch base s instr).accesses
-
--- what isn't built yet that accesses need: the address of their first byte whose place isn't built
-abbrev pub unbuilt : {S : Type 0} → SideOf S → S → List Access → Option ℕ
-unbuilt side state accesses = first_without (side.is_built state) (accessed_bytes accesses)
-
-abbrev pub needs : {S : Type 0} → SideOf S → RegisterState → S → Option Instr → Option ℕ
-needs side s state instr = unbuilt side state (accesses_by side.arch (side.base state) s instr)
-
--- what was fetched is executed, unless it needs what isn't built: that is told before, and then the step isn't taken
-abbrev pub executed_unless : {S : Type 0} → SideOf S → RegisterState → S → FetchOutcome S → Option ℕ → Outcome S
-executed_unless side s state f None = side.executed s state f.number f.instr
-executed_unless side s state f (Some value) = record { registers = s; state = state; stepped = Left (record { kind = NotYet; value = value }) }
-
--- The step, by the interrupt line: the interrupt's entry, which needs nothing, or what is fetched at r15. A fetch leaves all as it is.
+-- The step, by the interrupt line: the interrupt's entry, or what is fetched at r15. A fetch leaves all as it is.
 unfoldable pub taken : {S : Type 0} → MemoryMachine S → SideOf S → Bool → RegisterState → S → Outcome S
 taken memory side line s state =
     if enters line s then carried_out memory side.arch s state (interrupt_meaning (side.base state) s)
-    else let f = fetched memory side.arch s state in executed_unless side s state f (needs side s state f.instr)
+    else let f = fetched memory side.arch s state in side.executed s state f.number f.instr
 
 -- ---- the two processors
 
@@ -70,7 +45,6 @@ abbrev pub nine_side : SideOf NineReach
 nine_side = record {
   arch = V5;
   base = λ r. vectors_of r.cp15;
-  is_built = λ r. nine_is_built r.cp15 r.map.io.wramcnt;
   executed = λ s r number instr. nine_executed s r number instr (move_of instr);
 }
 
@@ -78,7 +52,6 @@ abbrev pub seven_side : SideOf SevenReach
 seven_side = record {
   arch = V4;
   base = λ r. 0;
-  is_built = λ r. map_is_built Seven r.map.io.wramcnt;
   executed = λ s r number instr. executed_word seven_memory arm7 s r number instr;
 }
 
@@ -87,10 +60,6 @@ seven_side = record {
 -- one is carried out
 abbrev pub operation_outcome : {S : Type 0} → MemoryMachine S → SideOf S → RegisterState → S → Operation → Outcome S
 operation_outcome memory side s state operation = carried_out memory side.arch s state (operation_meaning side.arch s operation)
-
--- the accesses of one
-abbrev pub operation_accesses : {S : Type 0} → SideOf S → RegisterState → Operation → List Access
-operation_accesses side s operation = (operation_meaning side.arch s operation).accesses
 
 -- it is what any instruction comes to that it was decoded from
 abbrev pub RunsAs : {S : Type 0} → MemoryMachine S → SideOf S → RegisterState → S → Operation → Type 0

@@ -8,7 +8,7 @@ use Rattle.ds_ports.specs.Io.{IoState}
 -- uses and leaves the others alone.
 
 -- a processor: its registers, the tick at which its next step is due, and how many steps it took. While it is blocked, which the units behind the
--- ports tell (it is halted, or a DMA channel of it runs), it isn't due
+-- ports tell (it is halted, a DMA channel of it runs, or a stall of geometry holds ARM9), it isn't due
 pub record ProcessorState : Type 0 where
   pub registers : RegisterState
   pub due : ℕ
@@ -27,7 +27,7 @@ pub record SevenState : Type 0 where
   pub wram : List ℕ
 
 -- the whole machine; main memory and shared work RAM, which both processors reach; palettes and OAM, which ARM9 and its DMA channels alone reach; the units
--- behind the ports, among them video memory and the display; `keys` are the lines of the key script that are to come, and `events` counts the steps of
+-- behind the ports, among them video memory, the display and the geometry engine; `keys` are the lines of the key script that are to come, and `events` counts the steps of
 -- all actors but the processors
 pub record MachineState : Type 0 where
   pub nine : NineState

@@ -10,8 +10,7 @@ use Rattle.arm_core.specs.declared.outcomes.Stepped.TheVariants.{Cost, Halted, L
 use Rattle.ds_base.specs.declared.ticks.Tick.{Tick}
 use Rattle.ds_map.specs.Maps.{MapState, bytes_by}
 use Rattle.ds_map.specs.Views.{NineReach, SevenReach, nine_memory, seven_memory}
-use Rattle.ds_ports.specs.ProcessorIo.{blocks_processor}
-use Rattle.ds_ports.specs.Io.{IoState, io_of, with_halted}
+use Rattle.ds_ports.specs.Io.{IoState, io_of, is_held, settled, with_halted}
 use Rattle.ds_timers.specs.Irqs.{line_is_up, shares_bit}
 use Rattle.ds_runs.specs.Runs.{MachineStep, Makes, Stops}
 use Rattle.ds_machine.specs.Sides.{nine_side, seven_side, taken}
@@ -55,12 +54,13 @@ with_map proc s m = record s {
   io = m.io;
 }
 
--- whether a processor is halted; whether it is blocked, so that it isn't due; and whether its interrupt line is up
+-- whether a processor is halted; whether it is blocked, so that it isn't due: it is halted, a channel of it runs, or a stall of geometry holds it; and
+-- whether its interrupt line is up
 abbrev pub is_halted : MachineState → Proc → Bool
 is_halted s proc = (io_of s.io proc).halted
 
 abbrev pub is_blocked : MachineState → Proc → Bool
-is_blocked s proc = blocks_processor (io_of s.io proc)
+is_blocked s proc = is_held s.io proc
 
 abbrev pub line_of : MachineState → Proc → Bool
 line_of s proc = line_is_up (io_of s.io proc).irq
@@ -144,3 +144,12 @@ woken_one proc tick s = if wakes s proc then goes_on proc tick s else s
 
 abbrev pub woken : Tick → MachineState → MachineState
 woken tick s = woken_one Seven tick (woken_one Nine tick s)
+
+-- What follows each step that is taken at a tick: the units behind the ports settle, and then halted processors wake that are to (our choice of order: a level
+-- that rises at a step wakes at it).
+
+abbrev pub machine_settled : Tick → MachineState → MachineState
+machine_settled tick s = with_io s (settled tick s.io)
+
+unfoldable pub ended : Tick → MachineState → MachineState
+ended tick s = woken tick (machine_settled tick s)

@@ -1,35 +1,35 @@
 //! The events: the steps of all actors but the processors.
 
-ghost use Rattle.std.specs.Prelude.{◌≡◌, ◌<◌, ◌≤◌, ◌^◌, IsSome, Some};
+ghost use Rattle.std.specs.Prelude.{◌≡◌, ◌<◌, ◌≤◌, ◌^◌, ◌&&◌, IsSome, Some};
+ghost use Rattle.ds_base.specs.declared.processors.Proc.TheVariants.{Nine};
 ghost use Rattle.ds_dma.specs.States.{dma_due};
 ghost use Rattle.ds_map.specs.Moves.{unit_moved, unit_refusal};
 ghost use Rattle.ds_ports.specs.Dues.{io_due};
-ghost use Rattle.ds_ports.specs.Io.{io_of, video_done};
+ghost use Rattle.ds_ports.specs.Io.{io_event, io_of, video_done};
 ghost use Rattle.ds_runs.specs.Actors.{IsNumbered};
 ghost use Rattle.ds_machine.specs.Channels.{delayed_past, moved_by, one_event};
-ghost use Rattle.ds_machine.specs.Reference.{after_event, awake, due_by, step_by, stepped_of};
-ghost use Rattle.ds_machine.specs.Steps.{map_of, with_io, with_map, woken};
+ghost use Rattle.ds_machine.specs.Reference.{after_event, awake, due_by, past_stall, step_by, stepped_of, swapped_if};
+ghost use Rattle.ds_machine.specs.Steps.{ended, map_of, with_io, with_map, with_processor};
 ghost use Rattle.video2d.specs.Scans.{scan_due};
 ghost use Rattle.video2d.specs.Videos.{video_answer};
 ghost use Rattle.ds_runs.specs.declared.actors.Actor.TheVariants as actors;
 
 use crate::answers::Done;
 use crate::parts::Parts;
-use ds_base::{LeftKind, LeftOut, Proc, Stop, Tick};
+use ds_base::{LeftOut, Proc, Stop, Tick};
 use ds_dma::Unit;
-use ds_map::unit_needs;
 use ds_runs::Actor;
 use video2d::Shown;
 
 impl Parts {
-    /// An event was taken at a tick: it counts, and halted processors wake that are to.
+    /// An event was taken at a tick: it counts, the units settle, and halted processors wake that are to.
     fn end_event(&mut self, tick: Tick)
         requires early { tick.0 ≤ 2 ^ 56 }
         requires counted { self.old.events ≤ 2 ^ 61 }
-        ensures { self.new ≡ woken tick (one_event self.old) }
+        ensures { self.new ≡ ended tick (one_event self.old) }
     {
         self.events += 1;
-        self.wake(tick);
+        self.end_step(tick);
     }
 
     /// The next line of the key script.
@@ -52,10 +52,39 @@ impl Parts {
         requires due { io_due actor self.old.io ≡ Some tick }
         requires early { tick.0 ≤ 2 ^ 56 }
         requires counted { self.old.events ≤ 2 ^ 61 }
-        ensures { self.new ≡ woken tick (after_event actor self.old) }
+        requires run { actor ≡ actors.Geometry → self.old.io.gx.geometry.numbers.run ≤ 2 ^ 56 }
+        ensures { self.new ≡ ended tick (after_event actor self.old) }
     {
         self.io.event(actor);
         self.end_event(tick);
+    }
+
+    /// Geometry's head command is done. Where that ends a stall ARM9 is due after this tick at the earliest.
+    fn finish_command(&mut self, tick: Tick)
+        requires due { io_due actors.Geometry self.old.io ≡ Some tick }
+        requires early { tick.0 ≤ 2 ^ 56 }
+        requires run { self.old.io.gx.geometry.numbers.run ≤ 2 ^ 56 }
+        ensures { self.new ≡ with_processor Nine (with_io self.old (io_event actors.Geometry self.old.io)) (record self.old.nine.processor { due = past_stall self.old.io self.old.nine.processor.due }) }
+    {
+        let stalled = self.io.is_stalled();
+        self.io.event(Actor::Geometry);
+        if stalled && !self.io.is_stalled() {
+            self.nine.processor.delay_past(tick);
+        }
+    }
+
+    /// Geometry's event.
+    pub fn step_geometry(&mut self, rank: u8, tick: Tick) -> Done
+        requires due { due_by actors.Geometry self.old ≡ Some tick }
+        requires early { tick.0 ≤ 2 ^ 56 }
+        requires counted { self.old.events ≤ 2 ^ 61 }
+        requires run { self.old.io.gx.geometry.numbers.run ≤ 2 ^ 56 }
+        ensures { awake (Some tick) (step_by rank actors.Geometry self.old) ≡ stepped_of self.old result self.new }
+    {
+        let _ = rank;
+        self.finish_command(tick);
+        self.end_event(tick);
+        Done::Made
     }
 
     /// The display's event, but for its count.
@@ -67,6 +96,18 @@ impl Parts {
         self.map.show(&mut self.io)
     }
 
+    /// Swaps geometry lists that wait, where a frame is made whole. Gives whether it did.
+    fn swap_if(&mut self, whole: bool, tick: Tick) -> bool
+        requires { tick.0 ≤ 2 ^ 56 }
+        ensures state { self.new ≡ with_io self.old (swapped_if whole tick self.old.io) }
+        ensures swapped { result ≡ (whole && self.old.io.gx.swap_waits) }
+    {
+        if !whole {
+            return false;
+        }
+        self.io.swap(tick)
+    }
+
     /// The display's event. It stops where the line that would be drawn needs what isn't there.
     pub fn step_video(&mut self, rank: u8, tick: Tick) -> Done
         requires due { due_by actors.Video self.old ≡ Some tick }
@@ -76,9 +117,10 @@ impl Parts {
     {
         match self.show() {
             Ok(shown) => {
+                let swapped = self.swap_if(shown.frame, tick);
                 self.end_event(tick);
                 if shown.frame {
-                    return Done::Frame { swapped: false };
+                    return Done::Frame { swapped };
                 }
                 Done::Made
             }
@@ -143,17 +185,7 @@ impl Parts {
     {
         let _ = channel;
         let unit = self.io.processor(proc).unit();
-        match unit_needs(proc, self.io.wramcnt(), unit) {
-            None => {
-                let stop = self.move_unit(proc, tick, unit);
-                self.end_unit(rank, proc, tick, stop)
-            }
-            Some(value) => Done::Stopped(LeftOut {
-                kind: LeftKind::NotYet,
-                tick,
-                rank,
-                value,
-            }),
-        }
+        let stop = self.move_unit(proc, tick, unit);
+        self.end_unit(rank, proc, tick, stop)
     }
 }

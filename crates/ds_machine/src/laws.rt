@@ -1,8 +1,8 @@
 //! The laws of the reference run.
 
 ghost use Rattle.ds_runs.specs.Laws.{RunsJoin, RunsAreOne, RunsExist, RunsEnd};
-ghost use Rattle.ds_machine.specs.Apart.{DisplayLeavesNine, LeaveNine, LeaveSeven};
-ghost use Rattle.ds_machine.specs.Frames.{StepsFollowFrames, StopsLeaveFrames};
+ghost use Rattle.ds_machine.specs.Apart.{DisplayLeavesNine, GeometryLeavesNine, LeaveNine, LeaveSeven};
+ghost use Rattle.ds_machine.specs.Frames.{StepsFollowFrames, StepsFollowLists, StopsLeaveFrames, StopsLeaveLists};
 ghost use Rattle.ds_machine.specs.OwnSteps.{IsStep7, IsStep9};
 ghost use Rattle.ds_machine.specs.Reference.{reference, CountsAddUp, HasSoundParts};
 ghost use Rattle.ds_machine.specs.Statuses.{BootsWithStatuses, RunsKeepStatuses, StepsKeepStatuses};
@@ -18,16 +18,18 @@ pub fn reference_laws()
 {}
 
 /// Does nothing; its contract states that a step neither changes a processor's own part nor depends on it, but for that processor's steps and those of its
-/// DMA channels. The display reads palettes and OAM, which stand with ARM9's part; `display` says that it changes none of that part, and depends on nothing else of it.
+/// DMA channels. The display reads palettes and OAM, which stand with ARM9's part; `display` says that it changes none of that part, and depends on nothing else of it;
+/// `geometry` says that geometry's step changes the tick at which ARM9 is due and nothing else of that part, and depends on nothing else of it.
 #[tactic(auto, using(crate::proofs::Apart::leave_nine, crate::proofs::Apart::leave_seven))]
 pub fn own_part_laws()
     ensures nine { LeaveNine }
     ensures seven { LeaveSeven }
     ensures display { DisplayLeavesNine }
+    ensures geometry { GeometryLeavesNine }
 {}
 
-/// Does nothing; its contract states that a processor's step that needs nothing that isn't built is that of the processor's own crate: ARM9's that of `step9`, with CP15
-/// in what it reaches, and ARM7's that of `step7`.
+/// Does nothing; its contract states that a processor's step is that of the processor's own crate: ARM9's that of `step9`, with CP15 in what it reaches, and ARM7's that
+/// of `step7`.
 #[tactic(auto, using(crate::proofs::OwnSteps::is_step9, crate::proofs::OwnSteps::is_step7))]
 pub fn own_step_laws()
     ensures nine { IsStep9 }
@@ -48,8 +50,10 @@ pub fn count_laws()
 {}
 
 /// Does nothing; its contract states that the frame that a step puts out is the machine's last whole frame after it, and that a step that puts out none, or
-/// that stops, leaves the last whole frame.
+/// that stops, leaves the last whole frame; and so it is with the lists of the last swap.
 pub fn frame_laws()
     ensures step { StepsFollowFrames }
     ensures stop { StopsLeaveFrames }
+    ensures lists_step { StepsFollowLists }
+    ensures lists_stop { StopsLeaveLists }
 {}

@@ -17,6 +17,7 @@ use crate::next_events::NextEvent;
 use crate::parts::Parts;
 use ds_base::{Due, Keys, Memory, Proc, Tick};
 use ds_header::Cart;
+use gx_geometry::Lists;
 use std::alloc::{AllocError, Global};
 use std::marker::Model;
 
@@ -70,7 +71,8 @@ impl Machine {
         self.parts.due_of(rank)
     }
 
-    /// The step of the actor that is due first; then halted processors wake whose IE and IF share a bit. A step that needs what is left out
+    /// The step of the actor that is due first; then the geometry FIFO's interrupt is told as it is and DMA is triggered that waits for it, and halted
+    /// processors wake whose IE and IF share a bit. A step that needs what is left out
     /// stops; the accesses before the refused one stand, and registers and due ticks are as they were.
     #[inline(always)]
     pub fn step(&mut self, rank: u8) -> Done
@@ -108,8 +110,8 @@ impl Machine {
         self.parts.ipc_laws();
     }
 
-    /// What a processor does next: the entry of an interrupt, or a word of ARM code or a half of Thumb code; nothing while it isn't due: it is halted, or a DMA channel of it
-    /// runs.
+    /// What a processor does next: the entry of an interrupt, or a word of ARM code or a half of Thumb code; nothing while it isn't due: it is halted, a DMA channel of it
+    /// runs, or a stall of geometry holds it.
     pub fn seen(&self, proc: Proc) -> Seen
         ensures { result ≡ seen_of self.now proc }
     {
@@ -145,6 +147,13 @@ impl Machine {
         ensures { result ≡ framed_of self.now }
     {
         self.parts.io.video().framed()
+    }
+
+    /// The geometry lists of the last swap; before the first one they are empty, and their tick is 0.
+    pub fn lists(&self) -> &Lists
+        ensures { result.now ≡ self.now.io.gx.geometry.last }
+    {
+        self.parts.io.lists()
     }
 
     /// A processor's registers, in the order in which they are written out.

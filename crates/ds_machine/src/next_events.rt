@@ -1,9 +1,10 @@
 //! What is kept between steps of the fast path, and those steps.
 
 ghost use Rattle.std.specs.Prelude.{◌≡◌, ◌<◌, ◌≤◌, ◌^◌, ℕ, Some, false, true};
+ghost use Rattle.ds_ports.specs.Io.{is_settled};
 ghost use Rattle.ds_runs.specs.Runs.{IsOver};
 ghost use Rattle.ds_machine.specs.NextEvents.{events_of, least_of, due_at_least, until_of, IsNextEvent};
-ghost use Rattle.ds_machine.specs.Reference.{awake, step_by, stepped_of, AreAsleep, FastStep, HasCounted};
+ghost use Rattle.ds_machine.specs.Reference.{awake, step_by, stepped_of, AreAsleep, FastStep, HasCounted, HasSoundParts};
 ghost use Rattle.ds_machine.specs.Steps.{is_blocked, line_of, processor_of, tick_of};
 ghost use Rattle.ds_machine.specs.declared.answers.Done.TheVariants.{Made};
 
@@ -14,7 +15,7 @@ use ds_runs::Actor;
 /// What the units behind the ports, the key script and the display tell: it stands still while a processor's steps change none of them.
 #[derive(Clone, Copy)]
 pub struct NextEvent {
-    /// Nothing touches ARM9 before this tick but its own steps; 0 where a halted processor is to wake. So far that is the tick of the first event.
+    /// Nothing touches ARM9 before this tick but its own steps; 0 where a halted processor is to wake, or the units behind the ports aren't settled. So far that is the tick of the first event.
     pub nine_until: Tick,
     /// So it is with ARM7.
     pub seven_until: Tick,
@@ -37,12 +38,13 @@ fn due_at_least(least: u64, due: u64) -> u64
 }
 
 impl Parts {
-    /// A tick before which no actor but the processors is due; 0 where a halted processor is to wake.
+    /// A tick before which no actor but the processors is due; 0 where a halted processor is to wake, or the units behind the ports aren't settled.
     fn next_event_tick(&self) -> Tick
         ensures events { IsOver (events_of self.now) result.0 }
         ensures asleep { 0 < result.0 → AreAsleep self.now }
+        ensures settled { 0 < result.0 → is_settled self.now.io ≡ true }
     {
-        if self.wakes(Proc::Nine) || self.wakes(Proc::Seven) {
+        if self.wakes(Proc::Nine) || self.wakes(Proc::Seven) || !self.io.is_settled() {
             return Tick(0);
         }
         self.first_event().tick
@@ -76,6 +78,7 @@ impl Parts {
     #[inline(always)]
     pub fn step_fast(&mut self, next_event: NextEvent, until: Tick) -> bool
         requires next_event { IsNextEvent next_event self.old }
+        requires sound { HasSoundParts self.old }
         requires early { until.0 ≤ 2 ^ 56 }
         requires counted { HasCounted self.old }
         ensures step { FastStep until.0 self.old result self.new }
@@ -111,6 +114,7 @@ impl Parts {
     #[inline(always)]
     fn processor_fast(&mut self, next_event: NextEvent, proc: Proc, line: bool, tick: Tick) -> bool
         requires next_event { IsNextEvent next_event self.old }
+        requires sound { HasSoundParts self.old }
         requires before { tick.0 < (until_of next_event proc).0 }
         requires line { line ≡ line_of self.old proc }
         requires blocked { is_blocked self.old proc ≡ false }

@@ -131,7 +131,7 @@ impl Parts {
     pub fn is_blocked(&self, proc: Proc) -> bool
         ensures { result ≡ is_blocked self.now proc }
     {
-        self.io.processor(proc).is_blocked()
+        self.io.is_held(proc)
     }
 
     /// Whether a processor's interrupt line is up.

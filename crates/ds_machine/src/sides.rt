@@ -1,17 +1,15 @@
 //! What a processor reaches at its step, and what parts it from the other.
 
-ghost use Rattle.std.specs.Prelude.{◌≡◌, ◌<◌, ℕ, List, false, None, IfSome};
+ghost use Rattle.std.specs.Prelude.{◌≡◌, ◌<◌, ℕ, List, false, IfSome};
 ghost use Rattle.ds_base.specs.Accesses.{MemoryMachine};
-ghost use Rattle.arm_core.specs.Footprints.{first_without, touched_bytes};
 ghost use Rattle.arm_core.specs.declared.outcomes.Stepped.TheVariants.{Cost};
 ghost use Rattle.arm_ops.specs.Meanings.{access_made};
 ghost use Rattle.arm_ops.specs.Operations.{is_other, HasAccess, HasOperation};
 ghost use Rattle.arm_words.specs.Fields.{HasFields};
 ghost use Rattle.ds_ports.specs.Io.{IoState};
-ghost use Rattle.ds_machine.specs.Sides.{operation_accesses, operation_outcome, unbuilt, RunsAs, SideOf};
+ghost use Rattle.ds_machine.specs.Sides.{operation_outcome, RunsAs, SideOf};
 
-use crate::needs::{unbuilt_nine, unbuilt_seven};
-use arm_core::{Core, Registers, Stepped, Touch};
+use arm_core::{Core, Registers, Stepped};
 use arm_exec::{Fetched, execute_word};
 use arm_ops::{DataAccess, Operation, run, run_made};
 use arm7_exec::execute7;
@@ -51,10 +49,6 @@ pub trait Side {
     fn base(&self) -> u32
         ensures { result ≡ side.base (state self.now) };
 
-    /// The first byte of data whose place isn't built.
-    fn unbuilt(&self, touch: Touch) -> Option<u32>
-        ensures { result ≡ first_without (side.is_built (state self.now)) (touched_bytes touch) };
-
     /// Executes what was fetched.
     fn execute(&mut self, core: &mut Core, next: Fetched) -> Stepped
         requires low { next.number < 16 }
@@ -81,8 +75,8 @@ pub trait Side {
         ensures executes { RunsAs memory side s.old (state self.old) operation.now }
         ensures same { identity self.new ≡ identity self.old };
 
-    /// Runs an operation, where it is frequent and reaches RAM alone; so all that it reaches is built, and no unit changes. The result is its cost; 0 where
-    /// it isn't run, and then nothing is changed.
+    /// Runs an operation, where it is frequent and reaches RAM alone; so no unit changes. The result is its cost; 0 where it isn't run, and then nothing is
+    /// changed.
     fn run_fast(&mut self, s: &mut Registers, operation: &Operation) -> u32
         requires { HasOperation operation.now }
         ensures none { result ≡ 0 → (s.new ≡ s.old) × (state self.new ≡ state self.old) }
@@ -91,7 +85,6 @@ pub trait Side {
         ensures state { 0 < result → state self.new ≡ (operation_outcome memory side s.old (state self.old) operation.now).state }
         ensures stepped { 0 < result → (operation_outcome memory side s.old (state self.old) operation.now).stepped ≡ Cost result }
         ensures executes { 0 < result → RunsAs memory side s.old (state self.old) operation.now }
-        ensures built { 0 < result → unbuilt side (state self.old) (operation_accesses side s.old operation.now) ≡ None }
         ensures io { io (state self.new) ≡ io (state self.old) }
         ensures same { identity self.new ≡ identity self.old };
 }
@@ -128,11 +121,6 @@ impl Side for NineView<'_> {
     #[inline(always)]
     fn base(&self) -> u32 {
         self.cp.vectors()
-    }
-
-    #[inline(always)]
-    fn unbuilt(&self, touch: Touch) -> Option<u32> {
-        unbuilt_nine(self.cp, self.io.wramcnt(), touch)
     }
 
     #[inline(always)]
@@ -202,11 +190,6 @@ impl Side for SevenView<'_> {
     #[inline(always)]
     fn base(&self) -> u32 {
         0
-    }
-
-    #[inline(always)]
-    fn unbuilt(&self, touch: Touch) -> Option<u32> {
-        unbuilt_seven(self.io.wramcnt(), touch)
     }
 
     #[inline(always)]

@@ -1,32 +1,20 @@
 //! The step of a processor over what it reaches, and of it what is fast: one function each for both processors.
 
 ghost use Rattle.std.specs.Prelude.{◌≡◌, ◌<◌, ◌%◌, ◌^◌, false, IfSome};
-ghost use Rattle.ds_base.specs.declared.left_out.LeftKind.TheVariants.{NotYet};
 ghost use Rattle.arm_core.specs.Steps.{enters, fetched};
 ghost use Rattle.arm_core.specs.declared.outcomes.Stepped.TheVariants.{Cost};
 ghost use Rattle.decode_cache.specs.Known.{arch_of};
-ghost use Rattle.arm_ops.specs.Meanings.{access_made};
 ghost use Rattle.arm_ops.specs.Operations.{is_other, operation_of, HasOperation};
 ghost use Rattle.arm_words.specs.Fields.{HasFields};
 ghost use Rattle.arm_words.specs.ThumbTable.{decoded_thumb};
-ghost use Rattle.ds_machine.specs.Sides.{needs, operation_accesses, taken, unbuilt};
+ghost use Rattle.ds_machine.specs.Sides.{taken};
 
 use crate::sides::Side;
-use arm_core::{Core, Registers, Stepped, Touch, footprint};
+use arm_core::{Core, Registers, Stepped};
 use arm_exec::{Fetched, decoded_half, decoded_word, enters, interrupt};
-use arm_ops::{DataAccess, Operation, access_made, bytes_reached, is_other};
+use arm_ops::{Operation, access_made, is_other};
 use decode_cache::Decoder;
-use ds_base::{LeftKind, Stop, Width};
-
-/// What isn't built yet, by its address.
-fn not_yet(value: u32) -> Stop
-    ensures { result ≡ record { kind = NotYet; value = value } }
-{
-    Stop {
-        kind: LeftKind::NotYet,
-        value,
-    }
-}
+use ds_base::Width;
 
 /// A half of Thumb code at an address, decoded.
 #[inline(always)]
@@ -74,18 +62,6 @@ fn next_decoded<V: Side>(s: &Registers, view: &V) -> Fetched
     decoded_word(arch, view.fetched(at, Width::Word))
 }
 
-/// What an instruction needs that isn't built yet.
-fn needs_of<V: Side>(core: &Core, view: &V, next: &Fetched) -> Option<u32>
-    requires arch { core.now.arch ≡ V.side.arch }
-    requires fields { IfSome next.now.instr HasFields }
-    ensures { result ≡ needs V.side core.now.registers (V.state view.now) next.now.instr }
-{
-    match next.instr {
-        None => view.unbuilt(Touch::Nothing),
-        Some(instr) => view.unbuilt(footprint(core, &instr)),
-    }
-}
-
 /// The step of an instruction that isn't decoded, where no interrupt is entered.
 #[inline(never)]
 fn take_other<V: Side>(core: &mut Core, view: &mut V, line: bool) -> Stepped
@@ -98,26 +74,7 @@ fn take_other<V: Side>(core: &mut Core, view: &mut V, line: bool) -> Stepped
 {
     let _ = line;
     let next = next_decoded(&core.registers, view);
-    match needs_of(core, view, &next) {
-        None => view.execute(core, next),
-        Some(value) => Stepped::Left(not_yet(value)),
-    }
-}
-
-/// What an operation, whose access was asked for, needs that isn't built yet.
-#[inline(always)]
-fn operation_needs<V: Side>(
-    s: &Registers,
-    view: &V,
-    next: &Operation,
-    access: Option<DataAccess>,
-) -> Option<u32>
-    requires { access ≡ access_made s.now next.now }
-    ensures { result ≡ unbuilt V.side (V.state view.now) (operation_accesses V.side s.now next.now) }
-{
-    let _ = s;
-    let _ = next;
-    view.unbuilt(bytes_reached(view.arch(), access))
+    view.execute(core, next)
 }
 
 /// The step of an instruction that was decoded, where no interrupt is entered.
@@ -134,13 +91,10 @@ fn take_operation<V: Side>(s: &mut Registers, view: &mut V, line: bool, next: &O
 {
     let _ = line;
     let access = access_made(s, next);
-    match operation_needs(s, view, next, access) {
-        None => view.run(s, next, access),
-        Some(value) => Stepped::Left(not_yet(value)),
-    }
+    view.run(s, next, access)
 }
 
-/// The step. Where it needs what isn't built it isn't taken.
+/// The step.
 #[inline(always)]
 #[tactic(auto, using(crate::proofs::Taken::taken_entered))]
 pub fn take<V: Side, const VERSION: u32>(

@@ -4,10 +4,10 @@ ghost use Rattle.std.specs.Prelude.{◌≡◌, ◌<◌, ◌≤◌, ◌^◌, Some
 ghost use Rattle.arm_core.specs.declared.outcomes.Stepped.TheVariants.{Cost};
 ghost use Rattle.ds_base.specs.declared.processors.Proc.{Proc};
 ghost use Rattle.ds_runs.specs.Actors.{IsNumbered};
-ghost use Rattle.ds_runs.specs.declared.actors.Actor.TheVariants.{Processor};
+ghost use Rattle.ds_runs.specs.declared.actors.Actor.TheVariants.{Geometry, Processor};
 ghost use Rattle.ds_machine.specs.Processors.{stop_in};
 ghost use Rattle.ds_machine.specs.Reference.{awake, due_by, step_by, stepped_of, HasCounted, MayStep, Steps};
-ghost use Rattle.ds_machine.specs.Steps.{machine_concluded, goes_on, gone_by, is_halted, line_of, outcome_of, processor_of, tick_of, wakes, went_on, with_processor, woken, woken_one};
+ghost use Rattle.ds_machine.specs.Steps.{machine_concluded, goes_on, gone_by, is_halted, line_of, outcome_of, processor_of, tick_of, wakes, went_on, with_processor, woken, woken_one, ended};
 
 use crate::answers::Done;
 use crate::parts::Parts;
@@ -40,6 +40,7 @@ impl Parts {
         requires early { tick.0 ≤ 2 ^ 56 }
         requires counted { (proc : Proc) → actor ≡ Processor proc → (processor_of self.old proc).steps ≤ 2 ^ 61 }
         requires events { self.old.events ≤ 2 ^ 61 }
+        requires run { actor ≡ Geometry → self.old.io.gx.geometry.numbers.run ≤ 2 ^ 56 }
         ensures { awake (Some tick) (step_by rank actor self.old) ≡ stepped_of self.old result self.new }
     {
         match actor {
@@ -47,6 +48,7 @@ impl Parts {
             Actor::KeyScript => self.step_script(rank, tick),
             Actor::Video => self.step_video(rank, tick),
             Actor::Dma { proc, channel } => self.step_channel(rank, proc, channel, tick),
+            Actor::Geometry => self.step_geometry(rank, tick),
             _ => {
                 self.step_event(actor, tick);
                 Done::Made
@@ -197,7 +199,7 @@ impl Parts {
     {
         match self.go_by(proc, stepped) {
             None => {
-                self.wake(tick);
+                self.end_step(tick);
                 Done::Made
             }
             Some(stop) => Done::Stopped(LeftOut {
@@ -207,6 +209,17 @@ impl Parts {
                 value: stop.value,
             }),
         }
+    }
+
+    /// What follows a step that is taken at a tick: the units behind the ports settle, and halted processors wake that are to.
+    #[inline(always)]
+    #[tactic(auto, unfolding(crate::specs::Steps::ended))]
+    pub fn end_step(&mut self, tick: Tick)
+        requires { tick.0 ≤ 2 ^ 56 }
+        ensures { self.new ≡ ended tick self.old }
+    {
+        self.io.settle(tick);
+        self.wake(tick);
     }
 
     /// Halted processors wake that are to, after a step at a tick.

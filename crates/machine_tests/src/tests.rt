@@ -2,4 +2,6 @@
 //! events do to it.
 
 mod display;
+mod geometry;
+mod room;
 mod told;

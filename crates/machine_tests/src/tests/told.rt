@@ -1,6 +1,8 @@
 //! Machines of two small programs, and what they tell after some steps. All ticks are worked by hand from the instructions' costs.
 
-use Line::{Due, First, Frame, Main, NotDue, Pixel, Sees, Steps, Stops, Took, Until};
+use Line::{
+    Due, First, Frame, Lists, Main, NotDue, Pixel, Sees, Steps, Stops, SwappedFrame, Took, Until,
+};
 use ds_base::Proc::{Nine, Seven};
 use ds_base::{KeyLine, Keys, Memory, Proc, Stop, Tick};
 use ds_header::Cart;
@@ -46,8 +48,12 @@ pub enum Line {
     Took(u64, u64, u64),
     /// Steps are taken up to a tick.
     Until(u64),
-    /// The next step makes a frame whole.
+    /// The next step makes a frame whole, and no lists are swapped.
     Frame,
+    /// The next step makes a frame whole, and waiting lists are swapped.
+    SwappedFrame,
+    /// The tick of the last swap, and how many vertices its lists have.
+    Lists(u64, u32),
     /// The next step stops: its tick, its rank, and what is left out.
     Stops(u64, u8, Stop),
     /// A pixel of the last whole frame.
@@ -153,6 +159,11 @@ fn holds(machine: &mut Machine, line: Line) -> bool {
         }
         Until(tick) => steps_until(machine, tick),
         Frame => matches!(step(machine), Some(Done::Frame { swapped: false })),
+        SwappedFrame => matches!(step(machine), Some(Done::Frame { swapped: true })),
+        Lists(tick, vertices) => {
+            let lists = machine.lists();
+            lists.tick().0 == tick && lists.vertices().len() == vertices as usize
+        }
         Stops(tick, rank, stop) => stops(machine, tick, rank, stop),
         Pixel(at, value) => machine.frame()[(at % 98_304) as usize] == value,
     }
@@ -197,7 +208,7 @@ fn each_actor_is_due_by_its_rank(rt: HostRuntime) -> Result<(), AllocError> {
             Due(23, 0),
             Due(0, 5),
             Due(1, 3212),
-            // no timer, divider, root, channel; geometry and the card never are
+            // no timer, divider, root, channel; geometry has no command, and the card never is
             NotDue(2),
             NotDue(9),
             NotDue(10),

@@ -1,4 +1,5 @@
-use Rattle.std.proofs.Common.{sym, subst}
+use Rattle.std.proofs.Common.{◌∙◌, sym, ap, subst}
+use Rattle.ds_machine.specs.States.{MachineState}
 use Rattle.ds_machine.specs.Reference.{HasCounted}
 use Rattle.ds_machine.specs.Statuses.{HasBothStatuses}
 use Rattle.ds_machine.proofs.Booting.{counted_booted}
@@ -7,7 +8,7 @@ use Rattle.ds_machine.proofs.machines.Machine.new.Goals as goal
 
 pub invariant_of-result : goal.invariant_of-result
 invariant_of-result c = (
-  subst HasCounted (sym c.in_ok-parts.ensures.booted) (counted_booted c.args.cart.now c.args.keys),
+  subst HasCounted (sym c.in_ok-parts.ensures.booted) (counted_booted c.args.cart.now c.args.keys (ap (λ (s : MachineState). s.io) (sym c.in_ok-parts.ensures.booted) ∙ c.in_ok-parts.ensures.units)),
   c.next_event-next_event.ensures,
   subst HasBothStatuses (sym c.in_ok-parts.ensures.booted) (boots_with_statuses c.args.cart.now c.args.keys),
 )

@@ -1,4 +1,5 @@
-use Rattle.std.proofs.Common.{◌<◌, arith, sym}
+use Rattle.std.proofs.Common.{◌<◌, arith, sym, subst}
+use Rattle.ds_ports.specs.Dues.{IsIo}
 use Rattle.ds_machine.proofs.FastSteps.{cost_keeps, free_stays, made_fast, reach_keeps}
 use Rattle.ds_machine.proofs.ProcessorSteps.{reached_early, reached_few}
 use Rattle.ds_machine.proofs.parts.Parts.processor_fast.Goals as goal
@@ -22,7 +23,7 @@ returns-clause-made c = λ rank taken.
     let io = c.take_fast-clocks.ensures.io in
     let is = reach_keeps c.args.next_event s m c.args.proc c.args.tick c.requires.next_event machine io in
     let before = c.requires.before in
-    made_fast c.args.next_event s m c.go_on.new.self rank c.args.proc c.args.tick c.take_fast-clocks.result is (omega (arith, before))
+    made_fast c.args.next_event s m c.go_on.new.self rank c.args.proc c.args.tick c.take_fast-clocks.result (subst IsIo (sym io) c.requires.sound.io) is (omega (arith, before))
     (free_stays c.args.proc s m io c.requires.blocked) c.requires.tick machine (sym (c.take_fast-clocks.ensures.stepped some)) c.go_on.ensures)
 
 pub returns-clause-next_event : goal.returns-clause-next_event

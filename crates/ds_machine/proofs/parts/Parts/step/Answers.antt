@@ -1,6 +1,6 @@
 use Rattle.std.proofs.Common.{Some, sym}
 use Rattle.ds_machine.specs.Reference.{stepped_of}
-use Rattle.ds_machine.proofs.Counts.{may_few_events, may_few_steps}
+use Rattle.ds_machine.proofs.Counts.{may_few_events, may_few_steps, may_fit_run}
 use Rattle.ds_machine.proofs.DueTicks.{low_rank, may_due, may_early, steps_as}
 use Rattle.ds_machine.proofs.parts.Parts.step.Goals as goal
 
@@ -16,6 +16,9 @@ step_at-requires-clause-counted c = may_few_steps c.args.self.now c.args.rank c.
 
 pub step_at-requires-clause-events : goal.step_at-requires-clause-events
 step_at-requires-clause-events c = may_few_events c.args.self.now c.args.rank c.requires.may c.requires.counted
+
+pub step_at-requires-clause-run : goal.step_at-requires-clause-run
+step_at-requires-clause-run c = may_fit_run c.args.self.now c.args.rank c.of-actor.result c.requires.may c.requires.counted (sym c.of-actor.ensures.actor)
 
 pub returns-in-Some : goal.returns-in-Some
 returns-in-Some c =

@@ -1,16 +1,31 @@
-use Rattle.std.proofs.Common.{sym, ◌∙◌, ap}
+use Rattle.std.proofs.Common.{◌&&◌, sym, ◌∙◌, ap}
 use Rattle.std.proofs.lemmas.Option.{same_Some}
-use Rattle.ds_machine.specs.Channels.{one_event}
+use Rattle.ds_machine.specs.Reference.{swapped_if}
 use Rattle.ds_machine.specs.States.{MachineState}
-use Rattle.ds_machine.specs.Steps.{woken}
-use Rattle.ds_machine.proofs.VideoEvents.{frame_made, line_stopped}
+use Rattle.ds_machine.specs.Steps.{ended, with_io}
+use Rattle.ds_machine.proofs.VideoEvents.{after_is, frame_made, line_made, line_stopped, swap_is}
 use Rattle.video2d.specs.Scans.{scan_due_tick}
 use Rattle.ds_machine.proofs.parts.Parts.step_video.Goals as goal
 
 pub returns-then-shown : goal.returns-then-shown
 returns-then-shown c =
-    frame_made c.args.rank c.args.tick c.args.self.now c.end_event.new.self c.in-Ok.shown (sym c.show.ensures.answer ∙ c.in-Ok.is) c.if-shown.true
-    (c.end_event.ensures ∙ ap (λ (m : MachineState). woken c.args.tick (one_event m)) c.show.ensures.state)
+    let s = c.args.self.now in
+    let answer = sym c.show.ensures.answer ∙ c.in-Ok.is in
+    let due = same_Some (scan_due_tick s.io.video.scan) c.args.tick c.requires.due in
+    frame_made c.args.rank c.args.tick s c.end_event.new.self c.in-Ok.shown c.swap_if-swapped.result answer c.if-shown.true
+    (swap_is c.args.rank c.args.tick s c.swap_if-swapped.result c.in-Ok.shown.frame
+    (c.swap_if-swapped.ensures.swapped ∙ ap (λ (m : MachineState). c.in-Ok.shown.frame && m.io.gx.swap_waits) c.show.ensures.state) c.if-shown.true)
+    (c.end_event.ensures ∙ ap (ended c.args.tick) (after_is c.args.rank c.args.tick s c.in-Ok.shown c.swap_if-swapped.new.self answer due
+    (c.swap_if-swapped.ensures.state ∙ ap (λ (m : MachineState). with_io m (swapped_if c.in-Ok.shown.frame c.args.tick m.io)) c.show.ensures.state)))
+
+pub returns-else-shown : goal.returns-else-shown
+returns-else-shown c =
+    let s = c.args.self.now in
+    let answer = sym c.show.ensures.answer ∙ c.in-Ok.is in
+    let due = same_Some (scan_due_tick s.io.video.scan) c.args.tick c.requires.due in
+    line_made c.args.rank c.args.tick s c.end_event.new.self c.in-Ok.shown answer c.if-shown.false
+    (c.end_event.ensures ∙ ap (ended c.args.tick) (after_is c.args.rank c.args.tick s c.in-Ok.shown c.swap_if-swapped.new.self answer due
+    (c.swap_if-swapped.ensures.state ∙ ap (λ (m : MachineState). with_io m (swapped_if c.in-Ok.shown.frame c.args.tick m.io)) c.show.ensures.state)))
 
 pub returns-in-Err : goal.returns-in-Err
 returns-in-Err c =

@@ -3,7 +3,7 @@ use Rattle.arm_ops.specs.Meanings.{operation_meaning}
 use Rattle.ds_base.specs.declared.processors.Proc.TheVariants.{Nine}
 use Rattle.ds_map.specs.Maps.{map_seen}
 use Rattle.ds_map.specs.Views.{NineReach}
-use Rattle.ds_machine.proofs.RamAccesses.{nine_needs_none, nine_stays}
+use Rattle.ds_machine.proofs.RamAccesses.{nine_stays}
 use Rattle.ds_machine.proofs.DecodedOperations.{nine_executes}
 use Rattle.ds_machine.proofs.sides.NineViewSide.run_fast.Goals as goal
 
@@ -11,12 +11,6 @@ pub returns-clause-executes : goal.returns-clause-executes
 returns-clause-executes c = λ some number instr is.
     (let r : NineReach = record { map = map_seen Nine c.args.self.now.map.now c.args.self.now.io.now; cp15 = c.args.self.now.cp.now; itcm = c.args.self.now.itcm.now; dtcm = c.args.self.now.dtcm.now; now = c.args.self.now.now } in
     nine_executes c.args.s.now r c.args.operation.now number instr (c.run.ensures.known some) is)
-
-pub returns-clause-built : goal.returns-clause-built
-returns-clause-built c = λ some.
-    (let r : NineReach = record { map = map_seen Nine c.args.self.now.map.now c.args.self.now.io.now; cp15 = c.args.self.now.cp.now; itcm = c.args.self.now.itcm.now; dtcm = c.args.self.now.dtcm.now; now = c.args.self.now.now } in
-    nine_needs_none r (operation_meaning V5 c.args.s.now c.args.operation.now).accesses
-    (c.run.ensures.ram some))
 
 pub returns-clause-io : goal.returns-clause-io
 returns-clause-io c =

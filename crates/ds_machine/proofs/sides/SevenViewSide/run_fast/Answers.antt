@@ -3,7 +3,7 @@ use Rattle.arm_ops.specs.Meanings.{operation_meaning}
 use Rattle.ds_base.specs.declared.processors.Proc.TheVariants.{Seven}
 use Rattle.ds_map.specs.Maps.{map_seen}
 use Rattle.ds_map.specs.Views.{SevenReach}
-use Rattle.ds_machine.proofs.RamAccesses.{seven_needs_none, seven_stays}
+use Rattle.ds_machine.proofs.RamAccesses.{seven_stays}
 use Rattle.ds_machine.proofs.DecodedOperations.{seven_executes}
 use Rattle.ds_machine.proofs.sides.SevenViewSide.run_fast.Goals as goal
 
@@ -11,12 +11,6 @@ pub returns-clause-executes : goal.returns-clause-executes
 returns-clause-executes c = λ some number instr is.
     (let r : SevenReach = record { map = map_seen Seven c.args.self.now.map.now c.args.self.now.io.now; now = c.args.self.now.now } in
     seven_executes c.args.s.now r c.args.operation.now number instr (c.run.ensures.known some) is)
-
-pub returns-clause-built : goal.returns-clause-built
-returns-clause-built c = λ some.
-    (let r : SevenReach = record { map = map_seen Seven c.args.self.now.map.now c.args.self.now.io.now; now = c.args.self.now.now } in
-    seven_needs_none r (operation_meaning V4 c.args.s.now c.args.operation.now).accesses
-    (c.run.ensures.ram some))
 
 pub returns-clause-io : goal.returns-clause-io
 returns-clause-io c =

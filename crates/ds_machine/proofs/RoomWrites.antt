@@ -1,0 +1,149 @@
+use Rattle.std.proofs.Common.{ℕ, ◌≡◌, ◌≤◌, ◌+◌, ◌/◌, ◌^◌, if◌then◌else◌, Bool, true, false, Option, Some, None, refl, sym, ◌∙◌, subst, arith}
+use Rattle.std.specs.Prelude.{◌&&◌}
+use Rattle.ds_base.specs.Numbers.{aligned_down}
+use Rattle.ds_base.specs.declared.left_out.Stop.{Stop}
+use Rattle.ds_base.specs.declared.memories.Memory.TheVariants.{Vram}
+use Rattle.ds_base.specs.declared.memories.Width.{Width}
+use Rattle.ds_base.specs.declared.memories.Width.TheVariants.{Byte, Half, Word}
+use Rattle.ds_base.specs.declared.processors.Proc.{Proc}
+use Rattle.ds_base.specs.declared.processors.Proc.TheVariants.{Nine, Seven}
+use Rattle.ds_base.specs.declared.ticks.Tick.{Tick}
+use Rattle.ds_places.specs.AddressTables.{place_of}
+use Rattle.ds_places.specs.declared.kinds.Place.{Place}
+use Rattle.ds_places.specs.declared.kinds.Place.TheVariants as place
+use Rattle.ds_ports.specs.Io.{IoState, with_io_of}
+use Rattle.ds_ports.specs.Ports.{byte_written, half_written, ignores, port_refusal, port_written, slot_joined, slot_written, unless_stopped, whole_in, word_written, written_or}
+use Rattle.ds_ports.specs.ProcessorIo.{ProcessorIoState}
+use Rattle.ds_ports.specs.RegisterMap.{slot_of}
+use Rattle.ds_ports.specs.Registers.{after_write, gx_set}
+use Rattle.ds_ports.specs.declared.registers.Register.{Register}
+use Rattle.ds_ports.specs.declared.registers.Register.TheVariants.{GxWord, GxCommand, Dmasad, Dmadad, Dmacnt, TmcntL, TmcntH, Keycnt, Ime, Ie, If, Haltcnt}
+use Rattle.ds_ports.specs.declared.registers.Slot.{Slot}
+use Rattle.ds_ports.proofs.Grows.{write_grows}
+use Rattle.ds_ports.proofs.GxPorts.{port_waiting}
+use Rattle.gx_fifo.specs.GxStates.{AreWaiting, GxState, waiting_entries}
+use Rattle.vram_banks.specs.Cells.{vram_written}
+use Rattle.ds_map.specs.Accesses.{is_byte_of_nine, map_written, takes_no_bytes, written_at}
+use Rattle.ds_map.specs.Maps.{MapState}
+
+-- What a write makes of geometry.
+
+either : {A : Type 0} (P : A → Type 0) (b : Bool) (x y : A) → P x → P y → P (if b then x else y)
+either P true x y h k = h
+either P false x y h k = k
+
+own_leaves : (proc : Proc) (u : IoState) (processor_io : ProcessorIoState) → (with_io_of proc u processor_io).gx ≡ u.gx
+own_leaves Nine u processor_io = refl
+own_leaves Seven u processor_io = refl
+
+-- ---- what each write of one of its registers makes of it, a write of any port makes
+
+module _ (proc : Proc) (now : Tick) (R : GxState → GxState → Type 0) (same : (g : GxState) → R g g) (joins : (a b c : GxState) → R a b → R b c → R a c)
+    (set : (u : IoState) (number value : ℕ) → R u.gx (gx_set proc now u number value).gx) where
+  own : (u : IoState) (processor_io : ProcessorIoState) → R u.gx (with_io_of proc u processor_io).gx
+  own u processor_io = subst (R u.gx) (sym (own_leaves proc u processor_io)) (same u.gx)
+
+  register_makes : (u : IoState) (register : Register) (number value : ℕ) → R u.gx (after_write proc now u register number value).gx
+  register_makes u GxWord number value = set u number value
+  register_makes u GxCommand number value = set u number value
+  register_makes u Dmasad number value = own u _
+  register_makes u Dmadad number value = own u _
+  register_makes u Dmacnt number value = own u _
+  register_makes u TmcntL number value = own u _
+  register_makes u TmcntH number value = own u _
+  register_makes u Keycnt number value = own u _
+  register_makes u Ime number value = own u _
+  register_makes u Ie number value = own u _
+  register_makes u If number value = own u _
+  register_makes u Haltcnt number value = own u _
+  register_makes u _ number value = same u.gx
+
+  slot_makes : (u : IoState) (width : Width) (slot : Slot) (value : ℕ) → R u.gx (slot_written proc now u width slot value).gx
+  slot_makes u width slot value =
+      either (λ (v : IoState). R u.gx v.gx) (ignores width slot.register) u _ (same u.gx)
+      (register_makes u slot.register slot.number (slot_joined proc u width slot value))
+
+  or_makes : (u : IoState) (width : Width) (slot : Option Slot) (value : ℕ) (other : IoState) → R u.gx other.gx → R u.gx (written_or proc now u width slot value other).gx
+  or_makes u width None value other h = h
+  or_makes u width (Some slot) value other h = slot_makes u width slot value
+
+  byte_makes : (u : IoState) (at value : ℕ) → R u.gx (byte_written proc now u at value).gx
+  byte_makes u at value = or_makes u Byte (slot_of proc at) value u (same u.gx)
+
+  half_makes : (u : IoState) (at value : ℕ) → R u.gx (half_written proc now u at value).gx
+  half_makes u at value =
+      let first = byte_written proc now u at value in
+      let second = byte_written proc now first (at + 1) (value / 2 ^ 8) in
+      or_makes u Half (whole_in Half (slot_of proc at)) value second
+      (joins u.gx first.gx second.gx (byte_makes u at value) (byte_makes first (at + 1) (value / 2 ^ 8)))
+
+  word_makes : (u : IoState) (at value : ℕ) → R u.gx (word_written proc now u at value).gx
+  word_makes u at value =
+      let first = half_written proc now u at value in
+      let second = half_written proc now first (at + 2) (value / 2 ^ 16) in
+      or_makes u Word (whole_in Word (slot_of proc at)) value second
+      (joins u.gx first.gx second.gx (half_makes u at value) (half_makes first (at + 2) (value / 2 ^ 16)))
+
+  port_makes : (u : IoState) (at : ℕ) (width : Width) (value : ℕ) → R u.gx (port_written proc now u at width value).gx
+  unfolding port_written
+  port_makes u at Byte value = byte_makes u at value
+  port_makes u at Half value = half_makes u at value
+  port_makes u at Word value = word_makes u at value
+
+-- ---- and so does a write of the map
+
+module _ (proc : Proc) (now : Tick) (R : GxState → GxState → Type 0) (same : (g : GxState) → R g g)
+    (port : (u : IoState) (at : ℕ) (width : Width) (value : ℕ) → R u.gx (port_written proc now u at width value).gx) where
+  unless_makes : (u v : IoState) (refusal : Option Stop) → R u.gx v.gx → R u.gx (unless_stopped refusal u v).gx
+  unless_makes u v None h = h
+  unless_makes u v (Some stop) h = same u.gx
+
+  place_makes : (m : MapState) (where_ : Place) (width : Width) (value : ℕ) → R m.io.gx (written_at proc now where_ m width value).io.gx
+  place_makes m (place.Cell memory at) width value = same m.io.gx
+  place_makes m (place.Banks space at) width value =
+      let banks : MapState = record m { io = record m.io { vram = vram_written m.io.vram space at width value } } in
+      either (λ (x : MapState). R m.io.gx x.io.gx) (is_byte_of_nine proc width && takes_no_bytes Vram) m banks (same m.io.gx) (same m.io.gx)
+  place_makes m (place.Port at) width value =
+      let down = aligned_down width at in
+      unless_makes m.io (port_written proc now m.io down width value) (port_refusal proc m.io down width value) (port m.io down width value)
+  place_makes m (place.Rom at) width value = same m.io.gx
+  place_makes m place.Nothing width value = same m.io.gx
+
+  map_makes : (m : MapState) (at : ℕ) (width : Width) (value : ℕ) → R m.io.gx (map_written proc now m at width value).io.gx
+  unfolding map_written
+  map_makes m at width value = place_makes m (place_of proc m.io.wramcnt at) width value
+
+-- ---- ARM9's: what waits is still as it can be, and four more wait at most
+
+abbrev Waits : GxState → GxState → Type 0
+Waits old new = AreWaiting old → AreWaiting new
+
+set_waits : (now : Tick) (u : IoState) (number value : ℕ) → Waits u.gx (gx_set Nine now u number value).gx
+set_waits now u number value waiting = port_waiting u.gx number value now waiting
+
+pub record GrowsByFour (old new : GxState) : Type 0 where
+  pub waiting : AreWaiting old → AreWaiting new
+  pub entries : AreWaiting old → waiting_entries new ≤ waiting_entries old + 4
+
+pub no_growth : (g : GxState) → GrowsByFour g g
+no_growth g = record { waiting = λ w. w; entries = λ w. omega arith }
+
+port_grows : (now : Tick) (u : IoState) (at : ℕ) (width : Width) (value : ℕ) → GrowsByFour u.gx (port_written Nine now u at width value).gx
+port_grows now u at width value = record {
+  waiting = port_makes Nine now Waits (λ g w. w) (λ a b c h k w. k (h w)) (set_waits now) u at width value;
+  entries = write_grows Nine now u at width value;
+}
+
+pub nine_grows : (now : Tick) (m : MapState) (at : ℕ) (width : Width) (value : ℕ) → GrowsByFour m.io.gx (map_written Nine now m at width value).io.gx
+nine_grows now m at width value = map_makes Nine now GrowsByFour no_growth (port_grows now) m at width value
+
+-- ---- ARM7's leave geometry as it is
+
+abbrev Stays : GxState → GxState → Type 0
+Stays old new = new ≡ old
+
+port_stays : (now : Tick) (u : IoState) (at : ℕ) (width : Width) (value : ℕ) → Stays u.gx (port_written Seven now u at width value).gx
+port_stays now u at width value = port_makes Seven now Stays (λ g. refl) (λ a b c h k. k ∙ h) (λ v n w. refl) u at width value
+
+pub seven_stays : (now : Tick) (m : MapState) (at : ℕ) (width : Width) (value : ℕ) → (map_written Seven now m at width value).io.gx ≡ m.io.gx
+seven_stays now m at width value = map_makes Seven now Stays (λ g. refl) (port_stays now) m at width value

@@ -1,0 +1,386 @@
+use Rattle.std.proofs.Common.{ℕ, ◌≢◌, ◌==◌, ◌+◌, ◌/◌, ◌%◌, ◌^◌, ◌&&◌, not, Bool, true, false, if◌then◌else◌, List, [], ◌∷◌, map, Option, Some, None, subst}
+use Rattle.std.specs.List.{range_with_len}
+use Rattle.ds_base.specs.Accesses.{Access, Fetch, MemoryMachine, Performed, Read, Write, perform, refused_or}
+use Rattle.ds_base.specs.Bits.{bit}
+use Rattle.ds_base.specs.Numbers.{aligned_down}
+use Rattle.ds_base.specs.declared.left_out.LeftKind.{LeftKind}
+use Rattle.ds_base.specs.declared.left_out.LeftKind.TheVariants as kinds
+use Rattle.ds_base.specs.declared.left_out.LeftOut.{LeftOut}
+use Rattle.ds_base.specs.declared.left_out.Stop.{Stop}
+use Rattle.ds_base.specs.declared.memories.Width.{Width}
+use Rattle.ds_base.specs.declared.memories.Width.TheVariants.{Byte, Half, Word}
+use Rattle.ds_base.specs.declared.processors.Arch.{Arch}
+use Rattle.ds_base.specs.declared.processors.Proc.{Proc}
+use Rattle.ds_base.specs.declared.processors.Proc.TheVariants.{Nine, Seven}
+use Rattle.ds_base.specs.declared.ticks.Tick.{Tick}
+use Rattle.arm_words.specs.declared.instructions.Instr.{Instr}
+use Rattle.arm_words.specs.declared.instructions.Instr.TheVariants.{Swi, ThumbSwi}
+use Rattle.arm_core.specs.Conditions.{holds}
+use Rattle.arm_core.specs.Effects.{Meaning, Outcome, carried_out, concluded}
+use Rattle.arm_core.specs.Exceptions.{interrupt_meaning, undefined_meaning}
+use Rattle.arm_core.specs.Meanings.{condition, meaning, skipped}
+use Rattle.arm_core.specs.Registers.{RegisterState, register}
+use Rattle.arm_core.specs.Steps.{Setting, enters, executed_unless, executed_word, fetched, is_served, stop_of, swi_stop}
+use Rattle.arm_core.specs.declared.outcomes.Stepped as arm
+use Rattle.arm_core.specs.declared.outcomes.Stepped.TheVariants.{Cost, Halted, Left}
+use Rattle.arm_words.specs.Parts.{condition_of}
+use Rattle.arm7_exec.specs.Arm7.{arm7}
+use Rattle.arm9_exec.specs.Arm9.{arm9}
+use Rattle.arm9_exec.specs.Coprocessors.{MoveOutcome, carried_over, move_of, moved_if, register_moved, written_by}
+use Rattle.arm9_exec.specs.declared.coprocessors.Moved.{Moved}
+use Rattle.cp15_tcm.specs.Registers.{Cp15Register, Cp15State, asks_big_endian, write_answer}
+use Rattle.cp15_tcm.specs.Registers.Cp15Register.{WaitForInterrupt}
+use Rattle.cp15_tcm.specs.TightlyCoupled.{tcm_of}
+use Rattle.cp15_tcm.specs.declared.answers.Mcr as answer
+use Rattle.cp15_tcm.specs.declared.answers.Mcr.TheVariants as mcr
+use Rattle.cp15_tcm.specs.declared.answers.Tcm.{Tcm}
+use Rattle.cp15_tcm.specs.declared.answers.Tcm.TheVariants.{Itcm, Dtcm, Past}
+use Rattle.ds_dma.specs.Controls.{is_enabled, is_left_out, kept_channel_control, refusal}
+use Rattle.ds_dma.specs.States.{channel_at}
+use Rattle.ds_places.specs.declared.kinds.Place as place
+use Rattle.ds_places.specs.declared.kinds.Place.TheVariants.{Cell, Banks, Port, Rom, Nothing}
+use Rattle.ds_places.specs.AddressTables.{place_of}
+use Rattle.ds_map.specs.Accesses.{map_refusal, refusal_at}
+use Rattle.ds_map.specs.Maps.{MapState}
+use Rattle.ds_map.specs.Moves.{next_unit, unit_moved, unit_refusal}
+use Rattle.ds_map.specs.Views.{NineReach, SevenReach, nine_memory, seven_memory, tcm_refusal}
+use Rattle.ds_ports.specs.Dues.{io_due}
+use Rattle.ds_ports.specs.Io.{IoState, io_of}
+use Rattle.ds_ports.specs.Ports.{byte_refusal, first_stop, half_refusal, ignores, port_refusal, refusal_or, slot_joined, slot_refusal, whole_in, word_refusal}
+use Rattle.ds_ports.specs.RegisterMap.{slot_of}
+use Rattle.ds_ports.specs.Registers.{card_refusal, halt_refusal, is_mode_left_out, meaning_of}
+use Rattle.ds_ports.specs.declared.registers.Register.{Register}
+use Rattle.ds_ports.specs.declared.registers.Register.TheVariants.{Dmacnt, Romctrl, Haltcnt}
+use Rattle.ds_ports.specs.declared.registers.Slot.{Slot}
+use Rattle.ds_runs.specs.Actors.{actor_of}
+use Rattle.ds_runs.specs.Runs.{MachineStep, Makes, Stops}
+use Rattle.ds_runs.specs.declared.actors.Actor as actor
+use Rattle.ds_runs.specs.declared.actors.Actor.TheVariants.{Dma, Processor, Video}
+use Rattle.video2d.specs.Backgrounds.{background_kind, background_mode, is_background_on}
+use Rattle.video2d.specs.Engines.{EngineState, background_mosaic, bgcnt}
+use Rattle.video2d.specs.Pictures.{is_enabled as is_engine_enabled, is_forced_blank, object_memory, shows_layers}
+use Rattle.video2d.specs.Scans.{blanks_drawn_line}
+use Rattle.video2d.specs.Stops.{extended_by, first_need, needed_if, needs_capture, needs_display_mode, needs_mode, needs_of_background, needs_of_engine, needs_of_line, needs_of_object, needs_of_objects, needs_of_objects_shown, value_of_engine}
+use Rattle.video2d.specs.Videos.{VideoState, answer_unless, video_shown, video_stop}
+use Rattle.video2d.specs.declared.backgrounds.BackgroundKind.{BackgroundKind}
+use Rattle.video2d.specs.declared.backgrounds.BackgroundKind.TheVariants.{Text, Affine, Extended}
+use Rattle.video2d.specs.declared.videos.Shown as display
+use Rattle.ds_machine.specs.Channels.{channel_step, moved_by}
+use Rattle.ds_machine.specs.Reference.{Shown, awake, due_by, step_by, video_step}
+use Rattle.ds_machine.specs.Sides.{SideOf, nine_executed, nine_side, seven_side, taken}
+use Rattle.ds_machine.specs.States.{MachineState}
+use Rattle.ds_machine.specs.Steps.{line_of, machine_concluded, map_of, nine_reach, outcome_of, processor_of, seven_reach, tick_of, with_map}
+use Rattle.ds_machine.specs.Stopping.{NoStopIsNotYet}
+
+-- No step stops for want of what isn't built yet.
+
+-- ---- stops that are named
+
+-- a kind that names what is left out
+abbrev HasName : LeftKind → Type 0
+HasName kind = kind ≢ kinds.NotYet
+
+-- a stop, if there is one, has such a kind
+abbrev IsNamed : Option Stop → Type 0
+IsNamed None = Unit {0}
+IsNamed (Some stop) = HasName stop.kind
+
+stop_if : (b : Bool) (stop : Stop) → HasName stop.kind → IsNamed (if b then Some stop else None)
+stop_if true stop h = h
+stop_if false stop h = tt
+
+stop_unless : (b : Bool) (stop : Stop) → HasName stop.kind → IsNamed (if b then None else Some stop)
+stop_unless true stop h = tt
+stop_unless false stop h = h
+
+named_if : (b : Bool) (stop : Option Stop) → IsNamed stop → IsNamed (if b then stop else None)
+named_if true stop h = h
+named_if false stop h = tt
+
+named_unless : (b : Bool) (stop : Option Stop) → IsNamed stop → IsNamed (if b then None else stop)
+named_unless true stop h = tt
+named_unless false stop h = h
+
+-- ---- the display's
+
+need_named : (b : Bool) (kind : LeftKind) (value : ℕ) → HasName kind → IsNamed (needed_if b kind value)
+need_named b kind value h = stop_if b (record { kind = kind; value = value }) h
+
+-- so of each of them
+abbrev AreNamed : List (Option Stop) → Type 0
+AreNamed [] = Unit {0}
+AreNamed (need ∷ needs) = IsNamed need × AreNamed needs
+
+first_named : (needs : List (Option Stop)) → AreNamed needs → IsNamed (first_need needs)
+first_named [] h = tt
+first_named (None ∷ needs) h = first_named needs h.1
+first_named (Some stop ∷ needs) h = h.0
+
+each_named : (need : ℕ → Option Stop) → ((n : ℕ) → IsNamed (need n)) → (ns : List ℕ) → AreNamed (map need ns)
+each_named need h [] = tt
+each_named need h (n ∷ ns) = (h n, each_named need h ns)
+
+extended_named : (kind : BackgroundKind) (value : ℕ) (other : Option Stop) → IsNamed other → IsNamed (extended_by kind value other)
+extended_named Text value other h = h
+extended_named Affine value other h = h
+extended_named Extended value other h = λ e. cc
+
+module _ (which : ℕ) (e : EngineState) where
+  background_named : (n : ℕ) → IsNamed (needs_of_background which e n)
+  background_named n =
+      named_if (shows_layers which e && is_background_on e n) _
+      (extended_named (background_kind (background_mode e) n) (value_of_engine which n) _
+      (need_named (bit 6 (bgcnt e n) && not (background_mosaic e == 0)) kinds.Mosaic (value_of_engine which n) (λ e. cc)))
+
+  -- what an object needs, by whether it covers the line, is a bitmap and has mosaic
+  object_by : (lies bitmap mosaic : Bool) (value other : ℕ)
+      → IsNamed (if lies then first_need (needed_if bitmap kinds.BitmapObject value ∷ needed_if mosaic kinds.Mosaic other ∷ []) else None)
+  object_by lies bitmap mosaic value other =
+      let needs : List (Option Stop) = needed_if bitmap kinds.BitmapObject value ∷ needed_if mosaic kinds.Mosaic other ∷ [] in
+      let h : AreNamed needs = (need_named bitmap kinds.BitmapObject value (λ e. cc), (need_named mosaic kinds.Mosaic other (λ e. cc), tt)) in
+      named_if lies (first_need needs) (first_named needs h)
+
+  object_named : (oam : List ℕ) (line n : ℕ) → IsNamed (needs_of_object which e oam line n)
+  object_named oam line n = object_by _ _ _ _ _
+
+  objects_named : (oam : List ℕ) (line : ℕ) → IsNamed (needs_of_objects which e oam line)
+  unfolding needs_of_objects
+  objects_named oam line =
+      let need : ℕ → Option Stop = λ n. needs_of_object which e oam line n in
+      first_named (map need (range_with_len 0 128)) (each_named need (object_named oam line) (range_with_len 0 128))
+
+  shown_named : (oam : List ℕ) (line : ℕ) → IsNamed (needs_of_objects_shown which e oam line)
+  shown_named oam line = named_if (shows_layers which e) (needs_of_objects which e oam line) (objects_named oam line)
+
+  -- what an engine needs before its backgrounds
+  mode_named : IsNamed (needs_display_mode which e) × (IsNamed (needs_mode which e) × IsNamed (needs_capture which e))
+  mode_named = (need_named _ kinds.DisplayMode _ (λ e. cc), (need_named _ kinds.BgMode _ (λ e. cc), need_named _ kinds.Capture _ (λ e. cc)))
+
+  engine_named : (power : ℕ) (oam : List ℕ) (line : ℕ) → IsNamed (needs_of_engine which power e oam line)
+  engine_named power oam line =
+      let needs : List (Option Stop) =
+      needs_display_mode which e ∷ needs_mode which e ∷ needs_capture which e
+      ∷ needs_of_background which e 0 ∷ needs_of_background which e 1 ∷ needs_of_background which e 2 ∷ needs_of_background which e 3
+      ∷ needs_of_objects_shown which e (object_memory which oam) line ∷ [] in
+      let m = mode_named in
+      let b = background_named in
+      let o = shown_named (object_memory which oam) line in
+      let h : AreNamed needs = (m.0, (m.1.0, (m.1.1, (b 0, (b 1, (b 2, (b 3, (o, tt)))))))) in
+      named_if (is_engine_enabled which power && not (is_forced_blank e)) (first_need needs) (first_named needs h)
+
+line_named : (oam : List ℕ) (v : VideoState) → IsNamed (video_stop oam v)
+line_named oam v =
+    let needs : List (Option Stop) = needs_of_engine 0 v.power v.a oam v.scan.line ∷ needs_of_engine 1 v.power v.b oam v.scan.line ∷ [] in
+    let h : AreNamed needs = (engine_named 0 v.a v.power oam v.scan.line, (engine_named 1 v.b v.power oam v.scan.line, tt)) in
+    named_if (blanks_drawn_line v.scan) (needs_of_line v.power v.a v.b oam v.scan.line) (first_named needs h)
+
+-- ---- those of the ports, and of the map
+
+control_named : (proc : Proc) (old control : ℕ) → IsNamed (refusal proc old control)
+control_named proc old control = stop_if (is_enabled control && not (is_enabled old) && is_left_out proc control) (record { kind = kinds.DmaStart; value = control }) (λ e. cc)
+
+card_named : (word : ℕ) → IsNamed (card_refusal word)
+card_named word = stop_if (bit 31 word) (record { kind = kinds.CardTransfer; value = word }) (λ e. cc)
+
+halt_named : (value : ℕ) → IsNamed (halt_refusal value)
+halt_named value = stop_if (is_mode_left_out value) (record { kind = kinds.HaltMode; value = value }) (λ e. cc)
+
+module _ (proc : Proc) (u : IoState) where
+  register_named : (n word : ℕ) (register : Register) → IsNamed ((meaning_of register).refusal proc u n word)
+  register_named n word Dmacnt =
+      control_named (io_of u proc).dma.proc (channel_at (io_of u proc).dma.channels n).cnt (kept_channel_control (io_of u proc).dma.proc n word)
+  register_named n word Romctrl = card_named word
+  register_named n word Haltcnt = halt_named (word % 2 ^ 8)
+  register_named n word _ = tt
+
+  slot_named : (width : Width) (slot : Slot) (value : ℕ) → IsNamed (slot_refusal proc u width slot value)
+  slot_named width slot value =
+      named_unless (ignores width slot.register) ((meaning_of slot.register).refusal proc u slot.number (slot_joined proc u width slot value))
+      (register_named slot.number (slot_joined proc u width slot value) slot.register)
+
+  either_named : (width : Width) (slot : Option Slot) (value : ℕ) (other : Option Stop) → IsNamed other → IsNamed (refusal_or proc u width slot value other)
+  either_named width None value other h = h
+  either_named width (Some slot) value other h = slot_named width slot value
+
+  both_named : (one two : Option Stop) → IsNamed one → IsNamed two → IsNamed (first_stop one two)
+  both_named None two h k = k
+  both_named (Some stop) two h k = h
+
+  byte_named : (at value : ℕ) → IsNamed (byte_refusal proc u at value)
+  byte_named at value = either_named Byte (slot_of proc at) value None tt
+
+  half_named : (at value : ℕ) → IsNamed (half_refusal proc u at value)
+  half_named at value =
+      either_named Half (whole_in Half (slot_of proc at)) value _ (both_named (byte_refusal proc u at value) (byte_refusal proc u (at + 1) (value / 2 ^ 8)) (byte_named at value) (byte_named (at + 1) (value / 2 ^ 8)))
+
+  word_named : (at value : ℕ) → IsNamed (word_refusal proc u at value)
+  word_named at value =
+      either_named Word (whole_in Word (slot_of proc at)) value _ (both_named (half_refusal proc u at value) (half_refusal proc u (at + 2) (value / 2 ^ 16)) (half_named at value) (half_named (at + 2) (value / 2 ^ 16)))
+
+  port_named : (at : ℕ) (width : Width) (value : ℕ) → IsNamed (port_refusal proc u at width value)
+  unfolding port_refusal
+  port_named at Byte value = byte_named at value
+  port_named at Half value = half_named at value
+  port_named at Word value = word_named at value
+
+place_named : (proc : Proc) (p : place.Place) (m : MapState) (width : Width) (value : ℕ) → IsNamed (refusal_at proc p m width value)
+place_named proc (Cell memory at) m width value = tt
+place_named proc (Banks space at) m width value = tt
+place_named proc (Port at) m width value = port_named proc m.io (aligned_down width at) width value
+place_named proc (Rom at) m width value = tt
+place_named proc Nothing m width value = tt
+
+map_named : (proc : Proc) (m : MapState) (at : ℕ) (width : Width) (value : ℕ) → IsNamed (map_refusal proc m at width value)
+unfolding map_refusal
+map_named proc m at width value = place_named proc (place_of proc m.io.wramcnt at) m width value
+
+tcm_named : (t : Tcm) (r : NineReach) (at : ℕ) (width : Width) (value : ℕ) → IsNamed (tcm_refusal t r at width value)
+tcm_named (Itcm p) r at width value = tt
+tcm_named (Dtcm p) r at width value = tt
+tcm_named Past r at width value = map_named Nine r.map at width value
+
+-- ---- a processor's, over any memory machine whose refusals are named
+
+abbrev CameNamed : arm.Stepped → Type 0
+CameNamed (Cost clocks) = Unit {0}
+CameNamed (Halted clocks) = Unit {0}
+CameNamed (Left stop) = HasName stop.kind
+
+swi_named : (instr : Instr) → IsNamed (swi_stop instr)
+swi_named (Swi cond immed) = stop_unless (is_served (immed / 2 ^ 16)) (record { kind = kinds.Swi; value = immed / 2 ^ 16 }) (λ e. cc)
+swi_named (ThumbSwi immed) = stop_unless (is_served immed) (record { kind = kinds.Swi; value = immed }) (λ e. cc)
+swi_named _ = tt
+
+module _ {S : Type 0} (memory : MemoryMachine S) (refuses : (s : S) (at : ℕ) (width : Width) (value : ℕ) → IsNamed (memory.refusal s at width value)) where
+  refused_named : (stop : Option Stop) (left : S) (rest : Performed S) → IsNamed stop → IsNamed rest.stop → IsNamed (refused_or stop left rest).stop
+  refused_named None left rest h k = k
+  refused_named (Some stop) left rest h k = h
+
+  performed_named : (accesses : List Access) (s : S) → IsNamed (perform memory s accesses).stop
+  performed_named [] s = tt
+  performed_named (Fetch at width ∷ rest) s = performed_named rest (memory.fetch_next s at width)
+  performed_named (Read at width ∷ rest) s = performed_named rest (memory.read_next s at width)
+  performed_named (Write at width value ∷ rest) s =
+      refused_named (memory.refusal s at width value) (memory.write_next s at width value) (perform memory (memory.write_next s at width value) rest)
+      (refuses s at width value) (performed_named rest (memory.write_next s at width value))
+
+  concluded_named : (arch : Arch) (old : RegisterState) (m : Meaning) (done : Performed S) (stop : Option Stop) → IsNamed stop
+      → CameNamed (concluded arch old m done stop).stepped
+  concluded_named arch old m done None h = tt
+  concluded_named arch old m done (Some stop) h = h
+
+  carried_named : (arch : Arch) (old : RegisterState) (s : S) (m : Meaning) → CameNamed (carried_out memory arch old s m).stepped
+  carried_named arch old s m =
+      let done = perform memory s m.accesses in concluded_named arch old m done done.stop (performed_named m.accesses s)
+
+  unless_named : (setting : Setting) (old : RegisterState) (s : S) (instr : Instr) (stop : Option Stop) → IsNamed stop
+      → CameNamed (executed_unless memory setting old s instr stop).stepped
+  unless_named setting old s instr None h = carried_named setting.arch old s (meaning setting.arch setting.base old instr)
+  unless_named setting old s instr (Some stop) h = h
+
+  word_came : (setting : Setting) (old : RegisterState) (s : S) (number : ℕ) (instr : Option Instr) → CameNamed (executed_word memory setting old s number instr).stepped
+  word_came setting old s number (Some instr) =
+      unless_named setting old s instr (stop_of setting old instr) (named_if (setting.in_rom && holds (condition instr) old.cpsr) (swi_stop instr) (swi_named instr))
+  word_came setting old s number None =
+      carried_named setting.arch old s (if holds (condition_of number) old.cpsr then undefined_meaning setting.base old else skipped old)
+
+  either_came : (b : Bool) (x y : Outcome S) → CameNamed x.stepped → CameNamed y.stepped → CameNamed (if b then x else y).stepped
+  either_came true x y h k = h
+  either_came false x y h k = k
+
+  taken_named : (side : SideOf S) → ((old : RegisterState) (s : S) (number : ℕ) (instr : Option Instr) → CameNamed (side.executed old s number instr).stepped)
+      → (line : Bool) (old : RegisterState) (s : S) → CameNamed (taken memory side line old s).stepped
+  unfolding taken
+  taken_named side executes line old s =
+      let f = fetched memory side.arch old s in
+      either_came (enters line old) (carried_out memory side.arch old s (interrupt_meaning (side.base s) old)) (side.executed old s f.number f.instr)
+      (carried_named side.arch old s (interrupt_meaning (side.base s) old)) (executes old s f.number f.instr)
+
+-- ---- a move to CP15
+
+abbrev AnswerNamed : answer.Mcr → Type 0
+AnswerNamed mcr.Kept = Unit {0}
+AnswerNamed mcr.Halt = Unit {0}
+AnswerNamed (mcr.Left stop) = HasName stop.kind
+
+big_named : (b : Bool) (value : ℕ) → AnswerNamed (if b then mcr.Left (record { kind = kinds.BigEndian; value = value }) else mcr.Kept)
+big_named true value = λ e. cc
+big_named false value = tt
+
+answer_named : (value : ℕ) (r : Cp15Register) → AnswerNamed (write_answer r value)
+answer_named value WaitForInterrupt = tt
+answer_named value r = big_named (asks_big_endian r value) value
+
+written_named : (s : RegisterState) (cp : Cp15State) (r : Cp15Register) (value : ℕ) (m : answer.Mcr) → AnswerNamed m → CameNamed (written_by s cp r value m).stepped
+written_named s cp r value mcr.Kept h = tt
+written_named s cp r value mcr.Halt h = tt
+written_named s cp r value (mcr.Left stop) h = h
+
+either_moved : (b : Bool) (x y : MoveOutcome) → CameNamed x.stepped → CameNamed y.stepped → CameNamed (if b then x else y).stepped
+either_moved true x y h k = h
+either_moved false x y h k = k
+
+moved_named : (s : RegisterState) (cp : Cp15State) (m : Moved) → CameNamed (moved_if s cp m).stepped
+moved_named s cp m =
+    let r = register_moved m in
+    let value = register s m.rd in
+    either_moved (holds m.cond s.cpsr) (carried_over s cp m) _
+    (either_moved m.load _ (written_by s cp r value (write_answer r value)) tt (written_named s cp r value (write_answer r value) (answer_named value r))) tt
+
+-- ---- both processors
+
+nine_refuses : (r : NineReach) (at : ℕ) (width : Width) (value : ℕ) → IsNamed (nine_memory.refusal r at width value)
+nine_refuses r at width value = tcm_named (tcm_of r.cp15 at true false) r at width value
+
+seven_refuses : (r : SevenReach) (at : ℕ) (width : Width) (value : ℕ) → IsNamed (seven_memory.refusal r at width value)
+seven_refuses r at width value = map_named Seven r.map at width value
+
+nine_came : (old : RegisterState) (r : NineReach) (number : ℕ) (instr : Option Instr) (move : Option Moved) → CameNamed (nine_executed old r number instr move).stepped
+nine_came old r number instr None = word_came nine_memory nine_refuses (arm9 r.cp15) old r number instr
+nine_came old r number instr (Some move) = moved_named old r.cp15 move
+
+outcome_named : (proc : Proc) (now : Tick) (s : MachineState) → CameNamed (outcome_of proc now s).stepped
+outcome_named Nine now s =
+    taken_named nine_memory nine_refuses nine_side (λ old r number instr. nine_came old r number instr (move_of instr)) (line_of s Nine) s.nine.processor.registers (nine_reach now s)
+outcome_named Seven now s =
+    taken_named seven_memory seven_refuses seven_side (word_came seven_memory seven_refuses arm7) (line_of s Seven) s.seven.processor.registers (seven_reach now s)
+
+-- ---- steps of the machine
+
+abbrev StepNamed : MachineStep MachineState Shown LeftOut → Type 0
+StepNamed (Makes next outs) = Unit {0}
+StepNamed (Stops stop left) = HasName stop.kind
+
+processor_named : (rank : ℕ) (proc : Proc) (s : MachineState) (came : arm.Stepped) → CameNamed came → StepNamed (machine_concluded rank proc s came)
+processor_named rank proc s (Cost clocks) h = tt
+processor_named rank proc s (Halted clocks) h = tt
+processor_named rank proc s (Left stop) h = h
+
+unit_named : (rank : ℕ) (proc : Proc) (now : Tick) (stop : Option Stop) (s : MachineState) → IsNamed stop → StepNamed (moved_by rank proc now stop s)
+unit_named rank proc now None s h = tt
+unit_named rank proc now (Some stop) s h = h
+
+channel_named : (rank : ℕ) (proc : Proc) (due : Option Tick) (s : MachineState) → StepNamed (channel_step rank proc due s)
+channel_named rank proc None s = tt
+channel_named rank proc (Some now) s =
+    let unit = next_unit s.io proc in
+    unit_named rank proc now (unit_refusal proc now unit (map_of proc s)) (with_map proc s (unit_moved proc now unit (map_of proc s))) (map_named proc _ _ _ _)
+
+display_named : (rank : ℕ) (stop : Option Stop) (shown : display.Shown) (s : MachineState) → IsNamed stop → StepNamed (video_step rank (answer_unless stop shown) s)
+display_named rank None shown s h = tt
+display_named rank (Some stop) shown s h = h
+
+by_named : (rank : ℕ) (s : MachineState) (a : actor.Actor) → StepNamed (step_by rank a s)
+by_named rank s Video = display_named rank (video_stop s.oam s.io.video) (video_shown s.io.video) s (line_named s.oam s.io.video)
+by_named rank s (Dma proc channel) = channel_named rank proc (io_due (Dma proc channel) s.io) s
+by_named rank s (Processor proc) =
+    let o = outcome_of proc (tick_of (processor_of s proc)) s in processor_named rank proc o.machine o.stepped (outcome_named proc (tick_of (processor_of s proc)) s)
+by_named rank s _ = tt
+
+awake_named : (due : Option Tick) (came : MachineStep MachineState Shown LeftOut) → StepNamed came → StepNamed (awake due came)
+awake_named None came h = h
+awake_named (Some tick) (Makes next outs) h = tt
+awake_named (Some tick) (Stops stop left) h = h
+
+pub no_stop_is_not_yet : NoStopIsNotYet
+no_stop_is_not_yet rank s left stop h = subst StepNamed h (awake_named (due_by (actor_of rank) s) (step_by rank (actor_of rank) s) (by_named rank s (actor_of rank)))

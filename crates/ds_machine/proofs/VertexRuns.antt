@@ -1,0 +1,132 @@
+use Rattle.std.proofs.Common.{ℕ, zero, suc, ◌≡◌, ◌<◌, ◌≤◌, ◌+◌, ◌*◌, Bool, true, false, List, [], ◌∷◌, Option, refl, sym, ◌∙◌, ap, subst, arith}
+use Rattle.ds_base.specs.declared.keys.KeyLine.{KeyLine}
+use Rattle.ds_base.specs.declared.left_out.LeftOut.{LeftOut}
+use Rattle.ds_base.specs.declared.processors.Proc.{Proc}
+use Rattle.ds_base.specs.declared.processors.Proc.TheVariants.{Nine, Seven}
+use Rattle.ds_base.specs.declared.ticks.Tick.{Tick}
+use Rattle.arm_core.specs.declared.outcomes.Stepped as arm
+use Rattle.arm_core.specs.declared.outcomes.Stepped.TheVariants.{Cost, Halted, Left}
+use Rattle.ds_map.specs.Moves.{next_unit}
+use Rattle.ds_ports.specs.Io.{IoState, io_event, video_done}
+use Rattle.ds_runs.specs.Actors.{actor_of}
+use Rattle.ds_runs.specs.Runs.{MachineStep, Makes, Stops}
+use Rattle.ds_runs.specs.declared.actors.Actor as actor
+use Rattle.ds_runs.specs.declared.actors.Actor.TheVariants.{KeyScript, Video, Timer, Divider, SquareRoot, Geometry, Card, Dma, Processor}
+use Rattle.ds_runs.proofs.RunLaws.{same_makes, not_both}
+use Rattle.gx_fifo.specs.GxStates.{GxState}
+use Rattle.gx_fifo.proofs.Laws.{finished_run, swapped_run}
+use Rattle.ds_machine.specs.Channels.{channel_step}
+use Rattle.ds_machine.specs.Reference.{Shown, after_event, after_geometry, after_line, after_video, geometry_before, step_by, swapped_if}
+use Rattle.ds_machine.specs.States.{MachineState}
+use Rattle.ds_machine.specs.Steps.{gone_by}
+use Rattle.ds_machine.proofs.ChannelEvents.{channel_made, channel_unchanged, read_unchanged, unit_run}
+use Rattle.ds_machine.proofs.MachineSchedule.{Steps, channel_timers, operation}
+use Rattle.ds_machine.proofs.ProcessorSteps.{came_by, concluded_stops, concludes, costs_some, goes, reached_by, step_is}
+use Rattle.ds_machine.proofs.VideoEvents.{done_gx, video_makes, video_stops}
+use Rattle.video2d.specs.Scans.{scan_due_tick, starts_vblank}
+
+-- How many vertices the current run has: geometry adds one at most in a step, and takes each of its steps at a tick of its own.
+
+-- the current run grows by geometry's steps alone
+abbrev pub runs_in : actor.Actor → ℕ
+runs_in Geometry = 1
+runs_in a = 0
+
+abbrev pub run_of : MachineState → ℕ
+run_of s = s.io.gx.geometry.numbers.run
+
+gone_run : (proc : Proc) (m : MachineState) (came : arm.Stepped) → run_of (gone_by proc came m) ≡ run_of m
+gone_run Nine m (Cost clocks) = refl
+gone_run Seven m (Cost clocks) = refl
+gone_run Nine m (Halted clocks) = refl
+gone_run Seven m (Halted clocks) = refl
+gone_run proc m (Left stop) = refl
+
+line_run : (lines : List KeyLine) (s : MachineState) → run_of (after_line lines s) ≡ run_of s
+line_run [] s = refl
+line_run (line ∷ lines) s = refl
+
+swap_run : (whole : Bool) (now : Tick) (u : IoState) → (swapped_if whole now u).gx.geometry.numbers.run ≡ u.gx.geometry.numbers.run
+swap_run true now u = swapped_run now u.gx
+swap_run false now u = refl
+
+video_run : (s : MachineState) → run_of (after_video s) ≡ run_of s
+video_run s =
+    swap_run (starts_vblank s.io.video.scan) (scan_due_tick s.io.video.scan) (video_done s.palette s.oam s.io)
+    ∙ ap (λ (g : GxState). g.geometry.numbers.run) (done_gx s.palette s.oam s.io)
+
+timer_run : (proc : Proc) (number : ℕ) (u : IoState) → (io_event (Timer proc number) u).gx.geometry.numbers.run ≡ u.gx.geometry.numbers.run
+timer_run Nine number u = refl
+timer_run Seven number u = refl
+
+as_long : (made s : MachineState) → run_of made ≡ run_of s → run_of made ≤ run_of s + 0
+as_long made s e = omega (arith, e)
+
+pub made_run : (a : actor.Actor) (rank : ℕ) (tick : Tick) (s made : MachineState) (outs : List Shown) → Steps a rank tick s → step_by rank a s ≡ Makes made outs
+    → run_of made ≤ run_of s + runs_in a
+made_run KeyScript rank tick s made outs st h = as_long made s (ap run_of (sym (same_makes (after_line s.keys s) made [] outs h).0) ∙ line_run s.keys s)
+made_run Video rank tick s made outs st h = as_long made s (ap run_of (sym (video_makes rank s made outs h).0) ∙ video_run s)
+made_run (Timer proc number) rank tick s made outs st h =
+    as_long made s (ap run_of (sym (same_makes (after_event (Timer proc number) s) made [] outs h).0) ∙ timer_run proc number s.io)
+made_run Divider rank tick s made outs st h = as_long made s (ap run_of (sym (same_makes (after_event Divider s) made [] outs h).0))
+made_run SquareRoot rank tick s made outs st h = as_long made s (ap run_of (sym (same_makes (after_event SquareRoot s) made [] outs h).0))
+made_run Card rank tick s made outs st h = as_long made s (ap run_of (sym (same_makes (after_event Card s) made [] outs h).0))
+made_run Geometry rank tick s made outs st h =
+    subst (λ (m : MachineState). run_of m ≤ run_of s + 1) (same_makes (after_geometry s) made [] outs h).0 (finished_run s.io.gx)
+made_run (Dma proc channel) rank tick s made outs st h =
+    let P : Option Tick → Type 0 = λ o. channel_step rank proc o s ≡ Makes made outs in
+    let timers = channel_timers proc channel rank tick s st in
+    as_long made s (ap run_of (channel_made rank proc tick s made outs (subst P st.due h)) ∙ unit_run proc channel tick (next_unit s.io proc) s st.sound st.numbered st.due timers)
+made_run (Processor proc) rank tick s made outs st h =
+    let m = reached_by proc s in
+    let k = concludes rank proc m made outs (came_by proc s) (costs_some proc s) (sym (step_is rank proc s) ∙ h) in
+    as_long made s (ap run_of (sym k.1) ∙ gone_run proc m (came_by proc s) ∙ (goes proc tick s (operation proc rank tick s st)).geometry.run)
+
+-- one that stops leaves it
+pub left_run : (a : actor.Actor) (rank : ℕ) (tick : Tick) (s left : MachineState) (stop : LeftOut) → Steps a rank tick s → step_by rank a s ≡ Stops stop left → run_of left ≡ run_of s
+left_run KeyScript rank tick s left stop st h = absurd (not_both (after_line s.keys s) left [] stop h)
+left_run Geometry rank tick s left stop st h = absurd (not_both (after_geometry s) left [] stop h)
+left_run (Dma proc channel) rank tick s left stop st h =
+    let P : Option Tick → Type 0 = λ o. (let step : MachineStep MachineState Shown LeftOut = channel_step rank proc o s in step ≡ Stops stop left) in
+    ap run_of (sym (channel_unchanged rank proc tick s left stop (subst P st.due h))) ∙ ap (λ (g : GxState). g.geometry.numbers.run) (read_unchanged proc (next_unit s.io proc) s).gx
+left_run (Processor proc) rank tick s left stop st h =
+    let e = concluded_stops rank proc (reached_by proc s) left stop (came_by proc s) (sym (step_is rank proc s) ∙ h) in
+    ap run_of (sym e) ∙ (goes proc tick s (operation proc rank tick s st)).geometry.run
+left_run Video rank tick s left stop st h = ap run_of (sym (video_stops rank s left stop h))
+left_run a rank tick s left stop st h = absurd (not_both (after_event a s) left [] stop h)
+
+-- ---- places of steps
+
+-- geometry's steps have the rank 12
+pub place_of_run : (rank : ℕ) → rank < 24 → geometry_before rank + runs_in (actor_of rank) ≤ geometry_before (rank + 1)
+place_of_run zero lt = omega arith
+place_of_run (suc zero) lt = omega arith
+place_of_run (suc (suc zero)) lt = omega arith
+place_of_run (suc (suc (suc zero))) lt = omega arith
+place_of_run (suc (suc (suc (suc zero)))) lt = omega arith
+place_of_run (suc (suc (suc (suc (suc zero))))) lt = omega arith
+place_of_run (suc (suc (suc (suc (suc (suc zero)))))) lt = omega arith
+place_of_run (suc (suc (suc (suc (suc (suc (suc zero))))))) lt = omega arith
+place_of_run (suc (suc (suc (suc (suc (suc (suc (suc zero)))))))) lt = omega arith
+place_of_run (suc (suc (suc (suc (suc (suc (suc (suc (suc zero))))))))) lt = omega arith
+place_of_run (suc (suc (suc (suc (suc (suc (suc (suc (suc (suc zero)))))))))) lt = omega arith
+place_of_run (suc (suc (suc (suc (suc (suc (suc (suc (suc (suc (suc zero))))))))))) lt = omega arith
+place_of_run (suc (suc (suc (suc (suc (suc (suc (suc (suc (suc (suc (suc zero)))))))))))) lt = omega arith
+place_of_run (suc (suc (suc (suc (suc (suc (suc (suc (suc (suc (suc (suc (suc zero))))))))))))) lt = omega arith
+place_of_run (suc (suc (suc (suc (suc (suc (suc (suc (suc (suc (suc (suc (suc (suc zero)))))))))))))) lt = omega arith
+place_of_run (suc (suc (suc (suc (suc (suc (suc (suc (suc (suc (suc (suc (suc (suc (suc zero))))))))))))))) lt = omega arith
+place_of_run (suc (suc (suc (suc (suc (suc (suc (suc (suc (suc (suc (suc (suc (suc (suc (suc zero)))))))))))))))) lt = omega arith
+place_of_run (suc (suc (suc (suc (suc (suc (suc (suc (suc (suc (suc (suc (suc (suc (suc (suc (suc zero))))))))))))))))) lt = omega arith
+place_of_run (suc (suc (suc (suc (suc (suc (suc (suc (suc (suc (suc (suc (suc (suc (suc (suc (suc (suc zero)))))))))))))))))) lt = omega arith
+place_of_run (suc (suc (suc (suc (suc (suc (suc (suc (suc (suc (suc (suc (suc (suc (suc (suc (suc (suc (suc zero))))))))))))))))))) lt = omega arith
+place_of_run (suc (suc (suc (suc (suc (suc (suc (suc (suc (suc (suc (suc (suc (suc (suc (suc (suc (suc (suc (suc zero)))))))))))))))))))) lt = omega arith
+place_of_run (suc (suc (suc (suc (suc (suc (suc (suc (suc (suc (suc (suc (suc (suc (suc (suc (suc (suc (suc (suc (suc zero))))))))))))))))))))) lt = omega arith
+place_of_run (suc (suc (suc (suc (suc (suc (suc (suc (suc (suc (suc (suc (suc (suc (suc (suc (suc (suc (suc (suc (suc (suc zero)))))))))))))))))))))) lt = omega arith
+place_of_run (suc (suc (suc (suc (suc (suc (suc (suc (suc (suc (suc (suc (suc (suc (suc (suc (suc (suc (suc (suc (suc (suc (suc zero))))))))))))))))))))))) lt = omega arith
+place_of_run (suc (suc (suc (suc (suc (suc (suc (suc (suc (suc (suc (suc (suc (suc (suc (suc (suc (suc (suc (suc (suc (suc (suc (suc n)))))))))))))))))))))))) lt = absurd (omega (arith, lt))
+
+pub later_run : (tick at rank other : ℕ) → 24 * tick + rank < 24 * at + other → rank < 24 → other < 24 → tick + geometry_before (rank + 1) ≤ at + geometry_before other
+later_run tick at rank other before low small = grind (arith, before, low, small)
+
+pub run_before : (rank : ℕ) → geometry_before rank ≤ 1
+run_before rank = grind arith

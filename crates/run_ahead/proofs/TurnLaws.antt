@@ -2,11 +2,11 @@ use Rattle.std.proofs.Common.{ℕ, ◌≡◌, ◌<◌, ◌+◌, List, [], ◌∷
 use Rattle.ds_base.specs.declared.left_out.LeftOut.{LeftOut}
 use Rattle.ds_runs.specs.Runs.{over, stops, more}
 use Rattle.ds_runs.proofs.RunExists.{run_exists, fewer_remaining}
-use Rattle.ds_machine.specs.Frames.{FollowFrames, last_frame}
+use Rattle.ds_machine.specs.Frames.{FollowFrames, FollowLists, last_frame, last_lists}
 use Rattle.ds_machine.specs.States.{MachineState}
 use Rattle.ds_machine.specs.Reference.{Shown, next_shown, reference, HasSoundParts}
 use Rattle.ds_machine.proofs.Counts.{one_more, stop_counts}
-use Rattle.ds_machine.proofs.Frames.{step_follows, stop_leaves}
+use Rattle.ds_machine.proofs.Frames.{step_follows, step_follows_lists, stop_leaves, stop_leaves_lists}
 use Rattle.ds_machine.proofs.MachineSchedule.{reference_schedules}
 use Rattle.run_ahead.specs.Consoles.{ConsoleState}
 use Rattle.run_ahead.specs.Turns.{TakesStep, Turns, RunsOn, GoesOn, HasRuns, turns_of, turns_remaining, counted_of, shown_in, turns_in, HasTurned, none, turn, TurnsAddUp}
@@ -89,3 +89,20 @@ turn_frames until old answers.Ran new sound t = took_frames until old.machine ne
 turn_frames until old (answers.Frame swapped) new sound t = took_frames until old.machine new.machine (next_shown old.machine new.machine swapped ∷ []) sound t.1
 turn_frames until old answers.AtEnd new sound t = ap (λ (x : ConsoleState). last_frame x.machine) t.2
 turn_frames until old (answers.Stopped left) new sound t = stopped_frames until old new old.stopped refl left sound t
+
+-- and so with the lists of a swap
+took_lists : (until : ℕ) (old new : MachineState) (outs : List Shown) → HasSoundParts old → TakesStep until old outs new → FollowLists old new outs
+took_lists until old new outs sound step = step_follows_lists old new step.tick step.rank outs sound step.least step.step
+
+stopped_lists : (until : ℕ) (old new : ConsoleState) (o : Option LeftOut) → old.stopped ≡ o → (left : LeftOut) → HasSoundParts old.machine → Turns until old (answers.Stopped left) new
+    → last_lists new.machine ≡ last_lists old.machine
+stopped_lists until old new None e left sound t =
+    let stop = (t.0 e).0 in stop_leaves_lists old.machine new.machine stop.tick stop.rank left sound stop.least stop.step
+stopped_lists until old new (Some l) e left sound t = ap (λ (x : ConsoleState). last_lists x.machine) (t.1 (rw e refl)).1
+
+pub turn_lists : (until : ℕ) (old : ConsoleState) (answer : turned.Turned) (new : ConsoleState) → HasSoundParts old.machine → Turns until old answer new
+    → FollowLists old.machine new.machine (shown_in answer old.machine new.machine)
+turn_lists until old answers.Ran new sound t = took_lists until old.machine new.machine [] sound t.1
+turn_lists until old (answers.Frame swapped) new sound t = took_lists until old.machine new.machine (next_shown old.machine new.machine swapped ∷ []) sound t.1
+turn_lists until old answers.AtEnd new sound t = ap (λ (x : ConsoleState). last_lists x.machine) t.2
+turn_lists until old (answers.Stopped left) new sound t = stopped_lists until old new old.stopped refl left sound t

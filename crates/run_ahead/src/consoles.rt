@@ -3,7 +3,7 @@
 ghost use Rattle.std.specs.Prelude.{◌≡◌, ◌≤◌, ◌<◌, ◌+◌, ◌*◌, ◌^◌, true, false, None, slice_index, IfOk, length};
 ghost use Rattle.ds_base.specs.Memories.{memory_size};
 ghost use Rattle.ds_machine.specs.Booted.{machine_booted};
-ghost use Rattle.ds_machine.specs.Frames.{framed_of, last_frame, FollowFrames};
+ghost use Rattle.ds_machine.specs.Frames.{framed_of, last_frame, last_lists, FollowFrames, FollowLists};
 ghost use Rattle.ds_machine.specs.Observed.{memory_of, registers_of, seen_of};
 ghost use Rattle.ds_ipc.specs.Ipcs.{AreSides};
 ghost use Rattle.ds_machine.specs.Reference.{HasSoundParts, IsDue, IsSound};
@@ -15,6 +15,7 @@ use crate::turns::Turned;
 use ds_base::{Due, Keys, LeftOut, Memory, Proc, Tick};
 use ds_header::Cart;
 use ds_machine::{Done, Machine, Seen};
+use gx_geometry::Lists;
 use std::alloc::{AllocError, Global};
 use std::marker::Model;
 
@@ -71,13 +72,14 @@ impl Console {
 
     /// One turn: nothing where no actor is due below the limit, and otherwise the step of the actor that is due first. After a
     /// stop every turn answers the same and changes nothing. The frame that a turn made whole is the last whole one after it, and every other turn
-    /// leaves the last whole one as it was. A turn that takes a step is one more of the counts, and fewer such turns
+    /// leaves the last whole one as it was; and so it is with the geometry lists that were swapped there. A turn that takes a step is one more of the counts, and fewer such turns
     /// are left below the limit.
     pub fn turn(&mut self, until: Tick) -> Turned
         requires { until.0 ≤ 2 ^ 56 }
         ensures turn { Turns until.0 self.old result self.new }
         ensures runs { self.old.stopped ≡ None → RunsOn until.0 self.old.machine result self.new.machine }
         ensures frames { FollowFrames self.old.machine self.new.machine (shown_in result self.old.machine self.new.machine) }
+        ensures lists { FollowLists self.old.machine self.new.machine (shown_in result self.old.machine self.new.machine) }
         ensures counted { turns_of self.new.machine ≡ counted_of result + turns_of self.old.machine }
         ensures falls { counted_of result ≡ 1 → turns_remaining until.0 self.new.machine < turns_remaining until.0 self.old.machine }
     {
@@ -106,6 +108,7 @@ impl Console {
         ensures turn { result ≡ true → Turns until.0 self.old Ran self.new }
         ensures runs { result ≡ true → RunsOn until.0 self.old.machine Ran self.new.machine }
         ensures frames { result ≡ true → last_frame self.new.machine ≡ last_frame self.old.machine }
+        ensures lists { result ≡ true → last_lists self.new.machine ≡ last_lists self.old.machine }
         ensures counted { result ≡ true → turns_of self.new.machine ≡ 1 + turns_of self.old.machine }
         ensures falls { result ≡ true → turns_remaining until.0 self.new.machine < turns_remaining until.0 self.old.machine }
     {
@@ -205,6 +208,13 @@ impl Console {
         ensures { result ≡ framed_of self.now.machine }
     {
         self.machine.framed()
+    }
+
+    /// The geometry lists of the last swap; before the first one they are empty, and their tick is 0.
+    pub fn lists(&self) -> &Lists
+        ensures { result.now ≡ self.now.machine.io.gx.geometry.last }
+    {
+        self.machine.lists()
     }
 
     /// A processor's registers, in the order in which they are written out.

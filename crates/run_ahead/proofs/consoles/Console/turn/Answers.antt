@@ -1,4 +1,4 @@
-use Rattle.run_ahead.proofs.TurnLaws.{runs_on, turn_counts, turn_falls, turn_frames}
+use Rattle.run_ahead.proofs.TurnLaws.{runs_on, turn_counts, turn_falls, turn_frames, turn_lists}
 use Rattle.run_ahead.proofs.consoles.Console.turn.Goals as goal
 
 pub returns-clause-runs : goal.returns-clause-runs
@@ -12,3 +12,6 @@ returns-clause-falls c = λ counts. turn_falls _ _ _ _ c.laws.ensures.parts c.st
 
 pub returns-clause-frames : goal.returns-clause-frames
 returns-clause-frames c = turn_frames _ _ _ _ c.laws.ensures.parts c.step.ensures
+
+pub returns-clause-lists : goal.returns-clause-lists
+returns-clause-lists c = turn_lists _ _ _ _ c.laws.ensures.parts c.step.ensures

@@ -1,0 +1,11 @@
+//! The words of a command line, and what they ask for. `specs/Words.antt` says which words ask for what, by the one list of words that
+//! each command has.
+#![tactic(auto)]
+
+mod choices;
+mod commands;
+mod numbers;
+mod reading;
+
+pub use commands::{Command, Keep, RunFiles};
+pub use reading::read_words;

@@ -1,0 +1,6 @@
+//! The record of the geometry lists of a swap.
+#![tactic(auto)]
+
+mod lists;
+
+pub use lists::put_lists;

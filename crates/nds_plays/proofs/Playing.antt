@@ -1,0 +1,276 @@
+use Rattle.std.proofs.Common.{ℕ, ◌≡◌, ◌≤◌, Bool, true, false, if◌then◌else◌, List, [], ◌∷◌, ◌++◌, flat_map, Option, Some, None, max, refl, sym, ◌∙◌, ap, subst, append_assoc, append-nil, arith}
+use Rattle.std.specs.List.{last_or}
+use Rattle.std.specs.Prelude.{option_to_list}
+use Rattle.std.proofs.lemmas.List.Concat.{flat_map-append}
+use Rattle.ds_base.specs.declared.left_out.LeftOut.{LeftOut}
+use Rattle.ds_io.specs.Sinks.{Appended, AppendedFront}
+use Rattle.ds_io.proofs.SinkLemmas.{append_twice, front_after, front_of_more}
+use Rattle.ds_runs.specs.Runs.{Runs}
+use Rattle.ds_machine.specs.Frames.{FollowFrames, FollowLists, WholeFrame, frame_shown, frames_shown, last_frame, last_lists, lists_shown}
+use Rattle.ds_machine.specs.States.{MachineState}
+use Rattle.ds_machine.specs.Reference.{Shown, reference}
+use Rattle.run_ahead.specs.Consoles.{ConsoleState}
+use Rattle.run_ahead.specs.Turns.{GoesOn, HasRuns, Turns, HasTurned, run_to, none, turn}
+use Rattle.run_ahead.specs.declared.turns.Turned.{Turned}
+use Rattle.gx_geometry.specs.States.{Swapped}
+use Rattle.list_records.specs.Records.{lists_records}
+use Rattle.nds_plays.specs.Inside.{ending, RunsTo, shown_after, shown_now, shown_while}
+use Rattle.nds_plays.specs.Plays.{Wrote, WroteFront}
+use Rattle.nds_plays.specs.Records.{Latest, frame_records, kept_records, last_records, latest_after, latest_of, output_of, shown_records, swapped_lists}
+use Rattle.command_words.specs.declared.commands.Keep.{Keep}
+use Rattle.command_words.specs.declared.commands.Keep.TheVariants.{All, Last, Nothing}
+
+-- ---- frames and lists, one after another
+
+shown_join : (xs ys : List Shown) → flat_map shown_records (xs ++ ys) ≡ flat_map shown_records xs ++ flat_map shown_records ys
+shown_join xs ys = flat_map-append shown_records xs ys
+
+-- the last one of those that a run put out, where it put out one
+last_put : (before : Option WholeFrame) (xs : List Shown) (x : Shown) → last_or before (frames_shown (xs ++ x ∷ [])) ≡ Some (frame_shown x)
+last_put before [] x = refl
+last_put before (y ∷ ys) x = last_put (Some (frame_shown y)) ys x
+
+-- the last lists of two stretches are those of the second, by those of the first
+AreThen : List Shown → List Shown → Option Swapped → Type 0
+AreThen xs ys before = last_or before (lists_shown (xs ++ ys)) ≡ last_or (last_or before (lists_shown xs)) (lists_shown ys)
+
+one_first : (swapped : Bool) (lists : Swapped) (xs ys : List Shown) → ((before : Option Swapped) → AreThen xs ys before) → (before : Option Swapped)
+    → last_or before (if swapped then lists ∷ lists_shown (xs ++ ys) else lists_shown (xs ++ ys))
+    ≡ last_or (last_or before (if swapped then lists ∷ lists_shown xs else lists_shown xs)) (lists_shown ys)
+unfolding AreThen
+one_first true lists xs ys rest before = rest (Some lists)
+one_first false lists xs ys rest before = rest before
+
+lists_then : (xs ys : List Shown) (before : Option Swapped) → AreThen xs ys before
+unfolding AreThen
+lists_then [] ys before = refl
+lists_then (x ∷ xs) ys before = one_first x.swapped x.lists xs ys (lists_then xs ys) before
+
+-- the last frame and the last lists together
+latest_follows : (old new : MachineState) (outs : List Shown) → FollowFrames old new outs → FollowLists old new outs → latest_of new ≡ latest_after (latest_of old) outs
+latest_follows old new outs frames lists =
+    (let by_frame : Option WholeFrame → Latest = λ f. record { frame = f; lists = last_lists new } in ap by_frame frames)
+    ∙ (let by_lists : Option Swapped → Latest = λ l. record { frame = last_or (last_frame old) (frames_shown outs); lists = l } in ap by_lists lists)
+
+-- what is written of what a run put out while it runs, and after it
+split : (keep : Keep) (before : Latest) (outs : List Shown) → kept_records keep before outs ≡ shown_while keep outs ++ shown_after keep (latest_after before outs)
+split All before outs = sym (append-nil (flat_map shown_records outs))
+split Last before outs = refl
+split Nothing before outs = refl
+
+-- what is written while it runs is the front of what is written of the run that goes on
+rest_of : Keep → Latest → List Shown → List Shown → List ℕ
+rest_of All before outs more = flat_map shown_records more
+rest_of Last before outs more = kept_records Last before (outs ++ more)
+rest_of Nothing before outs more = []
+
+goes_further : (keep : Keep) (before : Latest) (outs more : List Shown) → kept_records keep before (outs ++ more) ≡ shown_while keep outs ++ rest_of keep before outs more
+unfolding rest_of
+goes_further All before outs more = shown_join outs more
+goes_further Last before outs more = refl
+goes_further Nothing before outs more = refl
+
+-- a machine just put this out
+pub record HasShown (swapped : Bool) (s : MachineState) (shown : Shown) : Type 0 where
+  pub frame : last_frame s ≡ Some (frame_shown shown)
+  pub was_swapped : swapped ≡ shown.swapped
+  pub lists : s.io.gx.geometry.last ≡ shown.lists
+
+now_written : (keep : Keep) (outs : List Shown) (shown : Shown) (swapped : Bool) (s : MachineState) → HasShown swapped s shown
+    → shown_while keep outs ++ shown_now keep swapped s ≡ shown_while keep (outs ++ shown ∷ [])
+now_written All outs shown swapped s has =
+    let front : List ℕ = flat_map shown_records outs in
+    ap (λ (o : Option WholeFrame). front ++ (frame_records (option_to_list o) ++ lists_records (swapped_lists swapped s.io.gx.geometry.last))) has.frame
+    ∙ ap (λ (b : Bool). front ++ (frame_records (frame_shown shown ∷ []) ++ lists_records (swapped_lists b s.io.gx.geometry.last))) has.was_swapped
+    ∙ ap (λ (l : Swapped). front ++ (frame_records (frame_shown shown ∷ []) ++ lists_records (swapped_lists shown.swapped l))) has.lists
+    ∙ ap (λ (x : List ℕ). front ++ x) (sym (append-nil (shown_records shown)))
+    ∙ sym (shown_join outs (shown ∷ []))
+now_written Last outs shown swapped s has = refl
+now_written Nothing outs shown swapped s has = refl
+
+-- ---- stretches of a run
+
+-- one stretch and then another
+pub goes_twice : (until : ℕ) (a b c : MachineState) (xs ys : List Shown) → GoesOn until a b xs → GoesOn until b c ys → GoesOn until a c (xs ++ ys)
+goes_twice until a b c xs ys first second = λ limit le end outs run.
+    (let P : List Shown → Type 0 = λ x. Runs reference limit end a x in
+    subst P (sym (append_assoc xs ys outs)) (first limit le end (ys ++ outs) (second limit le end outs run)))
+
+-- what holds of a console between turns, which put this out
+pub record Going (until : ℕ) (start : ConsoleState) (outs : List Shown) (now : ConsoleState) : Type 0 where
+  pub still_open : now.stopped ≡ None
+  pub on : GoesOn until start.machine now.machine outs
+  pub frames : FollowFrames start.machine now.machine outs
+  pub lists : FollowLists start.machine now.machine outs
+  pub turned : HasTurned until start now
+  pub limit : max now.limit until ≡ max start.limit until
+
+going_first : (until : ℕ) (start : ConsoleState) → start.stopped ≡ None → Going until start [] start
+going_first until start open_ = record {
+  still_open = open_;
+  on = λ limit le end outs run. run;
+  frames = refl;
+  lists = refl;
+  turned = none start;
+  limit = refl;
+}
+
+max_twice : (a b c : ℕ) → max a c ≡ max b c → max (max a c) c ≡ max b c
+max_twice a b c h = omega (arith, h)
+
+-- a turn that took a step
+going_on : (until : ℕ) (start before now : ConsoleState) (answer : Turned) (outs after : List Shown) → Going until start outs before → Turns until before answer now
+    → now ≡ run_to before until now.machine → GoesOn until start.machine now.machine after → FollowFrames start.machine now.machine after
+    → FollowLists start.machine now.machine after → Going until start after now
+going_on until start before now answer outs after going turns is on frames lists = record {
+  still_open = ap (λ (x : ConsoleState). x.stopped) is ∙ going.still_open;
+  on = on;
+  frames = frames;
+  lists = lists;
+  turned = turn start before now answer going.turned turns;
+  limit = (let P : ℕ → Type 0 = λ x. max x until ≡ max start.limit until in
+      subst P (sym (ap (λ (x : ConsoleState). x.limit) is)) (max_twice before.limit start.limit until going.limit));
+}
+
+-- one that put out nothing
+going_quiet : (until : ℕ) (start before now : ConsoleState) (answer : Turned) (outs : List Shown) → Going until start outs before → Turns until before answer now
+    → now ≡ run_to before until now.machine → GoesOn until before.machine now.machine [] → last_frame now.machine ≡ last_frame before.machine → last_lists now.machine ≡ last_lists before.machine
+    → Going until start outs now
+going_quiet until start before now answer outs going turns is on frames lists =
+    going_on until start before now answer outs outs going turns is
+    (λ limit le end more run. going.on limit le end more (on limit le end more run)) (frames ∙ going.frames) (lists ∙ going.lists)
+
+then_lists : (xs ys : List Shown) (before : Option Swapped) → last_or before (lists_shown (xs ++ ys)) ≡ last_or (last_or before (lists_shown xs)) (lists_shown ys)
+unfolding AreThen
+then_lists xs ys before = lists_then xs ys before
+
+-- one that made a frame whole
+going_shown : (until : ℕ) (start before now : ConsoleState) (answer : Turned) (outs : List Shown) (shown : Shown) → Going until start outs before → Turns until before answer now
+    → now ≡ run_to before until now.machine → GoesOn until before.machine now.machine (shown ∷ []) → last_frame now.machine ≡ Some (frame_shown shown)
+    → FollowLists before.machine now.machine (shown ∷ []) → Going until start (outs ++ shown ∷ []) now
+going_shown until start before now answer outs shown going turns is on frames lists =
+    going_on until start before now answer outs (outs ++ shown ∷ []) going turns is
+    (goes_twice until start.machine before.machine now.machine outs (shown ∷ []) going.on on)
+    (frames ∙ sym (last_put (last_frame start.machine) outs shown))
+    (lists ∙ ap (λ (o : Option Swapped). last_or o (lists_shown (shown ∷ []))) going.lists ∙ sym (then_lists outs (shown ∷ []) (last_lists start.machine)))
+
+-- the turn that ends the run
+ends_here : (until : ℕ) (start before now : ConsoleState) (answer : Turned) (stop : Option LeftOut) (outs : List Shown) → Going until start outs before → Turns until before answer now
+    → now.stopped ≡ stop → now.limit ≡ max before.limit until → Runs reference until (ending stop now.machine) before.machine []
+    → last_frame now.machine ≡ last_frame before.machine → last_lists now.machine ≡ last_lists before.machine → RunsTo until start stop now
+ends_here until start before now answer stop outs going turns stopped limit run frames lists = record {
+  outs = outs;
+  ran = (let P : List Shown → Type 0 = λ x. Runs reference until (ending stop now.machine) start.machine x in
+      subst P (append-nil outs) (going.on until (omega arith) (ending stop now.machine) [] run));
+  stopped = stopped;
+  limit = limit ∙ going.limit;
+  frames = frames ∙ going.frames;
+  lists = lists ∙ going.lists;
+  turned = turn start before now answer going.turned turns;
+}
+
+-- ---- with the sink
+
+module _ {S : Type 0} (tells : S → Bool) (taken : S → List ℕ → Type 0) (faults : S → ℕ) (until : ℕ) (keep : Keep) (start : ConsoleState) (before : S) where
+  -- between turns the frames so far are written
+  pub record Writing (now : ConsoleState) (after : S) : Type 0 where
+    pub outs : List Shown
+    pub going : Going until start outs now
+    pub written : Appended tells taken before after (shown_while keep outs)
+    pub later : faults before ≤ faults after
+
+  pub writing_first : start.stopped ≡ None → Appended tells taken before before [] → Writing start before
+  writing_first open_ none_yet = record { outs = []; going = going_first until start open_; written = nothing keep; later = omega arith } where
+    nothing : (keep : Keep) → Appended tells taken before before (shown_while keep [])
+    nothing All = none_yet
+    nothing Last = none_yet
+    nothing Nothing = none_yet
+
+  pub writing_quiet : (old now : ConsoleState) (after : S) (answer : Turned) → Writing old after → Turns until old answer now → now ≡ run_to old until now.machine
+      → GoesOn until old.machine now.machine [] → last_frame now.machine ≡ last_frame old.machine → last_lists now.machine ≡ last_lists old.machine → Writing now after
+  writing_quiet old now after answer w turns is on frames lists = record {
+    outs = w.outs;
+    going = going_quiet until start old now answer w.outs w.going turns is on frames lists;
+    written = w.written;
+    later = w.later;
+  }
+
+  pub writing_shown : (old now : ConsoleState) (mid after : S) (answer : Turned) (swapped : Bool) (shown : Shown) → Writing old mid → Turns until old answer now
+      → now ≡ run_to old until now.machine → GoesOn until old.machine now.machine (shown ∷ []) → HasShown swapped now.machine shown → FollowLists old.machine now.machine (shown ∷ [])
+      → Appended tells taken mid after (shown_now keep swapped now.machine) → faults mid ≤ faults after → Writing now after
+  writing_shown old now mid after answer swapped shown w turns is on has lists put later =
+      let P : List ℕ → Type 0 = λ x. Appended tells taken before after x in
+      let first : faults before ≤ faults mid = w.later in record {
+        outs = w.outs ++ shown ∷ [];
+        going = going_shown until start old now answer w.outs shown w.going turns is on has.frame lists;
+        written = subst P (now_written keep w.outs shown swapped now.machine has)
+            (append_twice tells taken before mid after (shown_while keep w.outs) (shown_now keep swapped now.machine) w.written put);
+        later = omega (arith, first, later);
+      }
+
+  -- where the sink fails at a frame or its lists, a front of the run's output is written
+  pub front_at : (old now : ConsoleState) (mid after : S) (answer : Turned) (swapped : Bool) (shown : Shown) → Writing old mid → Turns until old answer now
+      → now ≡ run_to old until now.machine → GoesOn until old.machine now.machine (shown ∷ []) → HasShown swapped now.machine shown → FollowLists old.machine now.machine (shown ∷ [])
+      → HasRuns now.machine → AppendedFront tells taken mid after (shown_now keep swapped now.machine) → WroteFront tells taken until keep start.machine before after
+  front_at old now mid after answer swapped shown w turns is on has lists runs put =
+      let going = going_shown until start old now answer w.outs shown w.going turns is on has.frame lists in
+      let outs = w.outs ++ shown ∷ [] in
+      let r = runs until in
+      let end = r.0 in
+      let more = r.1 in
+      let P : List ℕ → Type 0 = λ x. AppendedFront tells taken before after x in
+      let latest = latest_of start.machine in
+      let front : AppendedFront tells taken before after (shown_while keep outs) =
+      subst P (now_written keep w.outs shown swapped now.machine has)
+      (front_after tells taken before mid after (shown_while keep w.outs) (shown_now keep swapped now.machine) w.written put) in
+      let written : AppendedFront tells taken before after (output_of until keep latest end (outs ++ more)) =
+      subst P
+      (ap (λ (x : List ℕ). x ++ last_records until end) (sym (goes_further keep latest outs more)))
+      (subst P (sym (append_assoc (shown_while keep outs) (rest_of keep latest outs more) (last_records until end)))
+      (front_of_more tells taken before after (shown_while keep outs) (rest_of keep latest outs more ++ last_records until end) front)) in
+      record { end = end; outs = outs ++ more; ran = going.on until (omega arith) end more r.2; written = written }
+
+  -- the turn that ends the run
+  pub writing_ends : (old now : ConsoleState) (after : S) (answer : Turned) (stop : Option LeftOut) → Writing old after → Turns until old answer now → now.stopped ≡ stop
+      → now.limit ≡ max old.limit until → Runs reference until (ending stop now.machine) old.machine [] → last_frame now.machine ≡ last_frame old.machine
+      → last_lists now.machine ≡ last_lists old.machine → (runs : RunsTo until start stop now) × Appended tells taken before after (shown_while keep runs.outs)
+  unfolding ends_here
+  writing_ends old now after answer stop w turns stopped limit run frames lists =
+      (ends_here until start old now answer stop w.outs w.going turns stopped limit run frames lists, w.written)
+
+-- ---- and at the end
+
+-- what is written while a console runs, and after it, is the run's output
+whole_output : (until : ℕ) (keep : Keep) (old : ConsoleState) (stop : Option LeftOut) (new : ConsoleState) (r : RunsTo until old stop new)
+    → shown_while keep r.outs ++ (shown_after keep (latest_of new.machine) ++ last_records until (ending stop new.machine))
+    ≡ output_of until keep (latest_of old.machine) (ending stop new.machine) r.outs
+whole_output until keep old stop new r =
+    sym (append_assoc (shown_while keep r.outs) (shown_after keep (latest_of new.machine)) (last_records until (ending stop new.machine)))
+    ∙ ap (λ (x : List ℕ). x ++ last_records until (ending stop new.machine))
+    (ap (λ (x : Latest). shown_while keep r.outs ++ shown_after keep x) (latest_follows old.machine new.machine r.outs r.frames r.lists) ∙ sym (split keep (latest_of old.machine) r.outs))
+
+module _ {S : Type 0} (tells : S → Bool) (taken : S → List ℕ → Type 0) (until : ℕ) (keep : Keep) (old : ConsoleState) (stop : Option LeftOut) (new : ConsoleState) (before mid after : S)
+    (r : RunsTo until old stop new) (so_far : Appended tells taken before mid (shown_while keep r.outs)) where
+  abbrev left_to_write : List ℕ
+  left_to_write = shown_after keep (latest_of new.machine) ++ last_records until (ending stop new.machine)
+
+  pub all_written : Appended tells taken mid after left_to_write → Wrote tells taken until keep old.machine (ending stop new.machine) before after
+  all_written put =
+      let P : List ℕ → Type 0 = λ x. Appended tells taken before after x in
+      record {
+        outs = r.outs;
+        ran = r.ran;
+        written = subst P (whole_output until keep old stop new r)
+            (append_twice tells taken before mid after (shown_while keep r.outs) left_to_write so_far put);
+      }
+
+  pub front_written : AppendedFront tells taken mid after left_to_write → WroteFront tells taken until keep old.machine before after
+  front_written put =
+      let P : List ℕ → Type 0 = λ x. AppendedFront tells taken before after x in
+      record {
+        end = ending stop new.machine;
+        outs = r.outs;
+        ran = r.ran;
+        written = subst P (whole_output until keep old stop new r)
+            (front_after tells taken before mid after (shown_while keep r.outs) left_to_write so_far put);
+      }

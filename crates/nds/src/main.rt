@@ -2,8 +2,12 @@
 //! of its status. It does nothing else.
 #![tactic(auto)]
 
-use ds_io::{DiskShelf, StdSink};
+ghost use Rattle.std.specs.Prelude.{◌≡◌, None};
+
+use ds_io::{DiskShelf, Shelf, Sink, StdSink};
 use nds_top::{ds_main, number};
+use run_ahead::Console;
+use std::alloc::Global;
 use std::io::ErrorKind;
 use std::process::ExitCode;
 use std::{env, io};
@@ -22,6 +26,25 @@ fn words(rt: &HostRuntime) -> io::Result<Vec<String>> {
     Ok(words)
 }
 
+/// The top call over any shelf and sinks: its status's number.
+fn number_of_call<F: Shelf, O: Sink, N: Sink>(
+    alloc: Global,
+    words: &[String],
+    shelf: &mut F,
+    out: &mut O,
+    notes: &mut N,
+    seat: &mut Option<Console>,
+) -> u8
+    requires { seat.old ≡ None }
+{
+    number(&ds_main(alloc, words, shelf, out, notes, seat))
+}
+
+/// Lets something go. (A console that is let go where it is owned is dear to prove.)
+fn let_go<T: Drop>(thing: T) {
+    let _thing = thing;
+}
+
 fn main(rt: HostRuntime) -> ExitCode {
     let words = match words(&rt) {
         Ok(words) => words,
@@ -32,7 +55,7 @@ fn main(rt: HostRuntime) -> ExitCode {
     let mut out = StdSink::new(io::writer(&rt));
     let mut notes = StdSink::new(rt.stderr());
     let mut seat = None;
-    let status = ds_main(
+    let status = number_of_call(
         rt.alloc(),
         words.as_slice(),
         &mut shelf,
@@ -40,5 +63,6 @@ fn main(rt: HostRuntime) -> ExitCode {
         &mut notes,
         &mut seat,
     );
-    ExitCode::from(number(&status))
+    let_go(seat);
+    ExitCode::from(status)
 }

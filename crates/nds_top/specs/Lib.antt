@@ -1,10 +1,1 @@
 pub mod Answers
-pub mod Commands
-pub mod Inside
-pub mod Loads
-pub mod Notes
-pub mod Plays
-pub mod Puts
-pub mod Records
-pub mod Statuses
-pub mod Words

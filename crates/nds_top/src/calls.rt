@@ -3,29 +3,36 @@
 ghost use Rattle.std.specs.Prelude.{◌≡◌, None, map};
 ghost use Rattle.std.specs.String.{string_bytes};
 ghost use Rattle.ds_io.specs.Shelves.{files_of};
-ghost use Rattle.nds_top.specs.Answers.{around, Answered, CommandGives};
-ghost use Rattle.nds_top.specs.Commands.{asked_by};
-ghost use Rattle.nds_top.specs.Notes.{Noted};
-ghost use Rattle.nds_top.specs.Words.{IsAllowed};
+ghost use Rattle.nds_calls.specs.Calls.{around};
+ghost use Rattle.nds_top.specs.Answers.{Answered, CommandGives};
+ghost use Rattle.command_words.specs.Commands.{asked_by};
+ghost use Rattle.nds_answers.specs.Notes.{Noted};
+ghost use Rattle.command_words.specs.Words.{IsAllowed};
 
-use crate::commands::{Command, read_words};
-use crate::listings::{assemble, list};
-use crate::notes::note;
-use crate::runs::run;
-use crate::statuses::{Ended, Status};
+use command_words::{Command, read_words};
 use ds_io::{Shelf, Sink};
+use nds_answers::{Ended, Status, note};
+use nds_listings::{assemble, list};
+use nds_runs::run;
+use nds_views::{demo, peek, trace};
 use run_ahead::Console;
 use std::alloc::Global;
 
 /// Carries out what the words of a command line ask for, and says how it ended. `words` leaves out the program's name. The
 /// output goes to `out`, and the line that tells the status to `notes`. The console that ran is left in `seat`, which is empty
-/// before, and stays so where none ran.
+/// before, and stays so where none ran, and after a trace.
 ///
-/// - `run CART KEYS TICKS none` boots a cartridge, runs it to a tick, and writes the records of memories and of the end, or that
+/// - `run CART KEYS TICKS KEEP` boots a cartridge, runs it to a tick, and writes the records of memories and of the end, or that
 ///   of the stop that it came to. KEYS is the file of a key script, which says which keys are pressed and when; `none` presses none.
 /// - `list CART PROC` writes the listing of one image of a cartridge: of ARM9's, `9`, or ARM7's, `7`, as words, or of the same
 ///   as halves, `9t` and `7t`.
 /// - `asm FILE` writes the bytes whose listing the file is. All of it is read before the first byte is written.
+/// - `trace CART KEYS TICKS PROC COUNT` runs a cartridge as `run` does, to the tick at most, and writes a line for each of the first
+///   steps of ARM9, `9`, or ARM7, `7`: when it is taken, and what is executed. It runs no further than to the last line. A step at which the run stops has none.
+/// - `peek CART KEYS TICKS MEMORY PLACE LENGTH` runs a cartridge as `run` does, and writes bytes of a memory as they are at the tick.
+///   MEMORY is `main`, `wram`, `wram7`, `itcm`, `dtcm`, `palette`, `vram` or `oam`. Where the run stops nothing is written.
+/// - `demo NUMBER TICKS` runs the cartridge that is made from a number, and writes how many bytes `run` would write of it with all frames and
+///   lists, their SHA-256, and the counts. Where the run stops nothing is written.
 ///
 /// A file's name isn't empty and doesn't begin with `-`. A cartridge has 33,554,432 bytes at most, a key script 4,194,304, a
 /// listing 134,217,728. The script is looked for once the cartridge is accepted; of both files' refusals the first is told. The shelf's files stay as
@@ -77,6 +84,23 @@ fn carry_out<'a, F: Shelf, O: Sink>(
         Command::Asm { file } => Ended {
             status: assemble(alloc, file, shelf, out),
             file,
+        },
+        Command::Trace {
+            files,
+            ticks,
+            proc,
+            count,
+        } => trace(alloc, files, ticks, proc, count, shelf, out),
+        Command::Peek {
+            files,
+            ticks,
+            memory,
+            place,
+            count,
+        } => peek(alloc, files, ticks, memory, place, count, shelf, out, seat),
+        Command::Demo { number, ticks } => Ended {
+            status: demo(alloc, number, ticks, shelf, out, seat),
+            file: "",
         },
     }
 }

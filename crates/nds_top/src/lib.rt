@@ -6,22 +6,15 @@
 //! the reference machine, booted from the cartridge with the script's keys and stepped, least tick first, to the given tick, and ends with that run's
 //! status; any other answer has its cause, and where the sink fails a front of that output is written. It says the same of
 //! `list` and of the image's listing, and of `asm` and of the bytes whose listing the text is; where the text is no listing, the
-//! answer is its first bad line.
+//! answer is its first bad line. `trace` writes the first steps of one processor in that run, `peek` bytes of a memory in the state that it comes to, and
+//! `demo` what came of the run of a cartridge that is made from a number.
 #![tactic(auto)]
 
 mod calls;
-mod commands;
-mod listings;
-mod loads;
-mod notes;
-mod numbers;
-mod plays;
-mod records;
-mod runs;
-mod statuses;
 
 pub use calls::ds_main;
-pub use commands::Keep;
+pub use command_words::Keep;
+pub use demo_carts::demo_cart;
 pub use key_scripts::{ScriptFault, read_script};
-pub use plays::{Played, play};
-pub use statuses::{Status, number};
+pub use nds_answers::{Status, number};
+pub use nds_plays::{Played, play};

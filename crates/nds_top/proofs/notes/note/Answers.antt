@@ -1,5 +1,0 @@
-use Rattle.nds_top.specs.Notes.{noted}
-use Rattle.nds_top.proofs.notes.note.Goals as goal
-
-pub returns : goal.returns
-returns g c = noted c.put_line.result (rw c.as_bytes.ensures.value at c.put_line.ensures)

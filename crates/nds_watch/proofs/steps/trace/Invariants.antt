@@ -1,0 +1,14 @@
+use Rattle.std.proofs.Common.{◌≡◌, None}
+use Rattle.run_ahead.specs.Turns.{turns_remaining}
+use Rattle.nds_watch.proofs.Tracing.{Tracing}
+use Rattle.nds_watch.proofs.steps.trace.Given as goal
+
+-- the lines so far are written
+abbrev pub invariant-turns : goal.invariant-turns
+invariant-turns g l = record {
+  still_open : l.console.stopped ≡ None;
+  tracing : Tracing g.O.Sink.tells g.O.Sink.taken g.O.Sink.faults l.until.0 l.proc l.count l.initial.console.machine l.initial.out l.console.machine l.out l.left;
+}
+
+abbrev pub decreases-turns : goal.decreases-turns
+decreases-turns g l = turns_remaining l.until.0 l.console.machine

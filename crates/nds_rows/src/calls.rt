@@ -1,46 +1,17 @@
 //! Calls of the top call, and consoles.
 
-ghost use Rattle.std.specs.Prelude.{◌≡◌, None};
+ghost use Rattle.std.specs.Prelude.{◌≡◌, IsTrue, None};
 
-use crate::faults::BadLine;
-use crate::scenes::Scene;
 use ds_base::{Keys, Tick};
 use ds_header::Cart;
-use ds_io::{Calls, MemShelf, MemSink};
+use ds_io::{Calls, MemShelf, MemSink, Shelf, Sink};
 use nds_top::{Keep, ds_main, number, play};
+use row_files::{BadLine, Came, Scene};
 use run_ahead::{Console, Turned};
 use std::alloc::{AllocError, Global};
 
 /// The greatest limit of a turn here, in ticks.
 const MOST_TICKS: u64 = 100_000_000_000;
-
-/// What a call came to.
-#[derive(Drop)]
-pub struct Came {
-    /// Its status's number, where there was a call.
-    pub status: Option<u8>,
-    /// What was put to the notes.
-    pub note: Vec<u8>,
-    /// What was put to the output.
-    pub out: Vec<u8>,
-    /// Whether that is all that was put.
-    pub is_told: bool,
-    /// Where in the output its records begin, behind those of frames.
-    pub from: usize,
-}
-
-impl Came {
-    /// There was no call.
-    pub fn new(alloc: Global) -> Came {
-        Came {
-            status: None,
-            note: Vec::new(alloc),
-            out: Vec::new(alloc),
-            is_told: false,
-            from: 0,
-        }
-    }
-}
 
 /// The call with this number, or none.
 fn only(alloc: Global, call: u64) -> Result<Calls, AllocError> {
@@ -64,59 +35,58 @@ fn sink_of(alloc: Global, fails: u64, room: usize) -> Result<MemSink, AllocError
     MemSink::new(alloc, fails, room)
 }
 
-/// What a call goes over and writes to.
-#[derive(Drop)]
-struct Outside {
-    shelf: MemShelf,
-    out: MemSink,
-    notes: MemSink,
+/// The top call with these words over any shelf and sinks: its status's number.
+fn number_of_call<F: Shelf, O: Sink, N: Sink>(
+    alloc: Global,
+    words: &[String],
+    shelf: &mut F,
+    out: &mut O,
+    notes: &mut N,
+    seat: &mut Option<Console>,
+) -> u8
+    requires { seat.old ≡ None }
+{
+    let status = ds_main(alloc, words, shelf, out, notes, seat);
+    number(&status)
 }
 
-/// What a scene's call goes over and writes to, with room for 200 bytes of notes.
-fn outside_of(alloc: Global, scene: &Scene) -> Result<Outside, AllocError> {
-    let out = sink_of(alloc, scene.fails.out, scene.room)?;
-    let notes = sink_of(alloc, scene.fails.notes, 200)?;
-    let shelf = shelf_of(alloc, scene)?;
-    Ok(Outside { shelf, out, notes })
+/// What a call came to, by its status's number and what it wrote.
+fn gathered(alloc: Global, status: u8, out: &MemSink, notes: &MemSink) -> Result<Came, AllocError> {
+    let note = Vec::from_slice(alloc, notes.bytes())?;
+    let is_told = out.is_told();
+    let out = Vec::from_slice(alloc, out.bytes())?;
+    let status = Some(status);
+    Ok(Came {
+        status,
+        note,
+        out,
+        is_told,
+        from: 0,
+    })
 }
 
-impl Outside {
-    /// The top call with these words: its status's number.
-    fn call(&mut self, alloc: Global, words: &[String], seat: &mut Option<Console>) -> u8
-        requires { seat.old ≡ None }
-    {
-        let status = ds_main(
-            alloc,
-            words,
-            &mut self.shelf,
-            &mut self.out,
-            &mut self.notes,
-            seat,
-        );
-        number(&status)
-    }
-
-    /// What a call came to, by its status's number.
-    fn gathered(&self, alloc: Global, status: u8) -> Result<Came, AllocError> {
-        let note = Vec::from_slice(alloc, self.notes.bytes())?;
-        let out = Vec::from_slice(alloc, self.out.bytes())?;
-        Ok(Came {
-            status: Some(status),
-            note,
-            out,
-            is_told: self.out.is_told(),
-            from: 0,
-        })
-    }
+/// The top call over a shelf, with room for 200 bytes of notes.
+fn call_over(
+    alloc: Global,
+    scene: &Scene,
+    shelf: &mut MemShelf,
+    seat: &mut Option<Console>,
+) -> Result<Came, AllocError>
+    requires { seat.old ≡ None }
+{
+    let mut out = sink_of(alloc, scene.fails.out, scene.room)?;
+    let mut notes = sink_of(alloc, scene.fails.notes, 200)?;
+    let words = scene.words.as_slice();
+    let status = number_of_call(alloc, words, shelf, &mut out, &mut notes, seat);
+    gathered(alloc, status, &out, &notes)
 }
 
 /// The top call over what a scene has. The console that it leaves is in the seat, which is empty before.
 pub fn call(alloc: Global, scene: &Scene, seat: &mut Option<Console>) -> Result<Came, AllocError>
     requires { seat.old ≡ None }
 {
-    let mut outside = outside_of(alloc, scene)?;
-    let status = outside.call(alloc, scene.words.as_slice(), seat);
-    outside.gathered(alloc, status)
+    let mut shelf = shelf_of(alloc, scene)?;
+    call_over(alloc, scene, &mut shelf, seat)
 }
 
 /// Puts something where nothing is.
@@ -167,18 +137,29 @@ pub fn turns_to_a_frame(console: &mut Console, until: u64) -> u64 {
     0
 }
 
+/// Plays a console to a tick over any sink.
+fn play_over<O: Sink>(console: &mut Console, until: u64, out: &mut O)
+    requires { console.old.stopped ≡ None }
+{
+    let _ = play(console, Tick(until.min(MOST_TICKS)), Keep::Nothing, out);
+}
+
+/// Whether a console can be played on. (A turn without a tick below its limit changes nothing, and tells whether the console has stopped.)
+fn goes_on(console: &mut Console) -> bool
+    ensures { IsTrue result → console.new.stopped ≡ None }
+{
+    match console.turn(Tick(0)) {
+        Turned::AtEnd => true,
+        _ => false,
+    }
+}
+
 /// Plays a console that hasn't stopped to a tick, and gives what is written.
 pub fn played(alloc: Global, console: &mut Console, until: u64) -> Result<Vec<u8>, BadLine> {
-    let mut out = MemSink::new(alloc, Calls::new(alloc), 6_000_000)?;
-    // a turn without a tick below its limit changes nothing, and tells whether the console has stopped
-    let Turned::AtEnd = console.turn(Tick(0)) else {
+    if !goes_on(console) {
         return Err(BadLine::NoConsole);
-    };
-    let _ = play(
-        console,
-        Tick(until.min(MOST_TICKS)),
-        Keep::Nothing,
-        &mut out,
-    );
+    }
+    let mut out = MemSink::new(alloc, Calls::new(alloc), 6_000_000)?;
+    play_over(console, until, &mut out);
     Ok(Vec::from_slice(alloc, out.bytes())?)
 }

@@ -1,106 +1,9 @@
 //! Holding what is seen beside what is wanted.
 
-use crate::calls::Came;
-use crate::facts::{Fact, Quantity, Text};
-use crate::views::{Views, views_of};
+use crate::consoles::views_of;
+use row_files::{Came, Fact, text_differs, views_differ};
 use run_ahead::Console;
 use std::alloc::{AllocError, Global};
-use std::fmt::Write;
-
-/// Numbers as a text, hexadecimal and each after a blank.
-fn told(alloc: Global, numbers: &[u64]) -> Result<String, AllocError> {
-    let mut text = String::new(alloc);
-    for number in numbers {
-        write!(text, " {number:x}")?;
-    }
-    Ok(text)
-}
-
-/// Wanted numbers as such a text; `_` is none.
-fn told_wanted(alloc: Global, numbers: &[Option<u64>]) -> Result<String, AllocError> {
-    let mut text = String::new(alloc);
-    for number in numbers {
-        match number {
-            Some(number) => write!(text, " {number:x}")?,
-            None => text.push_str(" _")?,
-        }
-    }
-    Ok(text)
-}
-
-/// Whether numbers are those that are wanted.
-fn are(seen: &[u64], wanted: &[Option<u64>]) -> bool {
-    if seen.len() != wanted.len() {
-        return false;
-    }
-    for (seen, wanted) in seen.iter().zip(wanted.iter()) {
-        if let Some(wanted) = wanted
-            && wanted != seen
-        {
-            return false;
-        }
-    }
-    true
-}
-
-/// How numbers differ from those that are wanted, where they do. All are hexadecimal.
-pub fn numbers_differ(
-    alloc: Global,
-    seen: &[u64],
-    wanted: &[Option<u64>],
-) -> Result<Option<String>, AllocError> {
-    if are(seen, wanted) {
-        return Ok(None);
-    }
-    let seen = told(alloc, seen)?;
-    let wanted = told_wanted(alloc, wanted)?;
-    let text = format!(in alloc; "seen (hexadecimal){seen}, wanted{wanted}")?;
-    Ok(Some(text))
-}
-
-/// So many bytes from a place on, or as many as there are.
-fn from_place(bytes: &[u8], place: usize, count: usize) -> &[u8] {
-    let bytes = bytes.get(place..).unwrap_or(&[]);
-    bytes.get(..count.min(bytes.len())).unwrap_or(&[])
-}
-
-/// How bytes differ from those that are wanted, where they do.
-fn bytes_differ(alloc: Global, seen: &[u8], wanted: &[u8]) -> Result<Option<String>, AllocError> {
-    if seen == wanted {
-        return Ok(None);
-    }
-    let first = seen.get(..seen.len().min(100)).unwrap_or(&[]);
-    let first = String::from_utf8_lossy(alloc, first)?;
-    let (seen, wanted) = (seen.len(), wanted.len());
-    let text = format!(in alloc; "seen {seen} bytes, wanted {wanted}; they begin with {first:?}")?;
-    Ok(Some(text))
-}
-
-/// How numbers differ, at the first place where they do.
-fn places_differ(
-    alloc: Global,
-    places: &[Vec<u64>],
-    wanted: &[Option<u64>],
-) -> Result<Option<String>, AllocError> {
-    for numbers in places {
-        if !are(numbers.as_slice(), wanted) {
-            return numbers_differ(alloc, numbers.as_slice(), wanted);
-        }
-    }
-    Ok(None)
-}
-
-/// How numbers differ, where there are any.
-fn views_differ(
-    alloc: Global,
-    views: &Views,
-    wanted: &[Option<u64>],
-) -> Result<Option<String>, AllocError> {
-    if views.places().is_empty() {
-        return Ok(Some(String::from_str(alloc, "there is nothing to see")?));
-    }
-    places_differ(alloc, views.places(), wanted)
-}
 
 /// How what a call came to differs from a fact, where it does.
 pub fn fact_differs(
@@ -115,13 +18,6 @@ pub fn fact_differs(
             let views = views_of(alloc, came, console, kept, *of, wanted.len())?;
             views_differ(alloc, &views, wanted.as_slice())
         }
-        Fact::Bytes { of, wanted } => {
-            let seen = match of {
-                Text::Note => came.note.as_slice(),
-                Text::Out => came.out.as_slice(),
-                Text::OutAt(place) => from_place(came.out.as_slice(), *place, wanted.len()),
-            };
-            bytes_differ(alloc, seen, wanted.as_slice())
-        }
+        Fact::Bytes { of, wanted } => text_differs(alloc, came, *of, wanted.as_slice()),
     }
 }

@@ -6,10 +6,8 @@
 //!     is note ""                             ; what is seen after the row's call: here no note
 //!     row run 9 | is end 9 3 2 0 5           ; a row: what its call goes over, the call, and what is seen
 //!
-//! `files` reads a file into what its lines say. A line goes through `tokens` (its words and texts), `cursors` (numbers and bytes), and `lines` with its
-//! kinds: `setups` (what a call goes over) and `facts` (what is seen). `tables` goes over the lines of a file, and `rows` over those of a row: `scenes` puts together
-//! what its call goes over, `calls` makes the call, `views` looks at what it came to, and `checks` holds that beside the fact. A further word of the language is a
-//! variant and a line in its kind, and what plays it.
+//! `row_files` reads a file into what its lines say, and holds what a call wrote beside what is wanted. `tables` goes over the lines of a file, and `rows` over those
+//! of a row: `calls` makes its call, `consoles` looks at the console that the call left, and `checks` holds what is seen beside the fact.
 //!
 //! A console is large, and each function that has one as a value is dear to prove. So it stands in one place, a local of `rows`, and all others borrow it.
 //!
@@ -18,17 +16,9 @@
 
 mod calls;
 mod checks;
-mod cursors;
-mod facts;
-mod faults;
-mod files;
-mod lines;
+mod consoles;
 mod rows;
-mod scenes;
-mod setups;
 mod tables;
-mod tokens;
-mod views;
 
 use crate::tables::play_file;
 use std::process::ExitCode;

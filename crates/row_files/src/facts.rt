@@ -120,44 +120,46 @@ fn numbers(
 
 /// One number.
 fn number(alloc: Global, of: Quantity, number: u64) -> Result<Fact, BadLine> {
-    let mut wanted = Vec::new(alloc);
-    wanted.push(Some(number))?;
+    let wanted = Vec::from_slice(alloc, &[Some(number)])?;
     Ok(Fact::Numbers { of, wanted })
 }
 
 /// The record of a stop: tick, rank and kind in decimal digits, the value in hexadecimal ones.
 fn stop(alloc: Global, line: &mut Cursor<'_>) -> Result<Fact, BadLine> {
-    let mut wanted = Vec::new(alloc);
-    for _ in 0..3 {
-        wanted.push(line.perhaps(Radix::Decimal)?)?;
-    }
-    wanted.push(line.perhaps(Radix::Hex)?)?;
+    let tick = line.perhaps(Radix::Decimal)?;
+    let rank = line.perhaps(Radix::Decimal)?;
+    let kind = line.perhaps(Radix::Decimal)?;
+    let value = line.perhaps(Radix::Hex)?;
     let of = Quantity::Stop;
+    let wanted = Vec::from_slice(alloc, &[tick, rank, kind, value])?;
     Ok(Fact::Numbers { of, wanted })
 }
 
-/// The number of what a processor does next, and of how many numbers it is told.
-fn kind_of(word: &str) -> Option<(u64, usize)> {
-    match word {
-        "idle" => Some((0, 0)),
-        "irq" => Some((1, 1)),
-        "word" => Some((2, 2)),
-        "half" => Some((3, 2)),
-        _ => None,
+/// The numbers of what a processor does next: `idle`, `irq R15`, `word AT WORD` or `half AT HALF`.
+fn seen_numbers(alloc: Global, line: &mut Cursor<'_>) -> Result<Vec<Option<u64>>, BadLine> {
+    match line.word()? {
+        "idle" => Ok(Vec::from_slice(alloc, &[Some(0)])?),
+        "irq" => {
+            let at = u64::from(line.hex()?);
+            Ok(Vec::from_slice(alloc, &[Some(1), Some(at)])?)
+        }
+        "word" => fetched(alloc, 2, line),
+        "half" => fetched(alloc, 3, line),
+        _ => Err(BadLine::NoSuchWord),
     }
 }
 
-/// What a processor does next: `idle`, `irq R15`, `word AT WORD` or `half AT HALF`.
+/// The numbers of what was fetched: the kind's, its address, and itself.
+fn fetched(alloc: Global, kind: u64, line: &mut Cursor<'_>) -> Result<Vec<Option<u64>>, BadLine> {
+    let at = u64::from(line.hex()?);
+    let code = u64::from(line.hex()?);
+    Ok(Vec::from_slice(alloc, &[Some(kind), Some(at), Some(code)])?)
+}
+
+/// What a processor does next.
 fn seen(alloc: Global, line: &mut Cursor<'_>) -> Result<Fact, BadLine> {
     let of = Quantity::Seen(proc_of(line)?);
-    let Some((kind, count)) = kind_of(line.word()?) else {
-        return Err(BadLine::NoSuchWord);
-    };
-    let mut wanted = Vec::new(alloc);
-    wanted.push(Some(kind))?;
-    for _ in 0..count {
-        wanted.push(Some(u64::from(line.hex()?)))?;
-    }
+    let wanted = seen_numbers(alloc, line)?;
     Ok(Fact::Numbers { of, wanted })
 }
 

@@ -105,6 +105,12 @@ fn add(file: &mut Vec<u8>, field: usize, image: &Image) -> Result<(), AllocError
     Ok(())
 }
 
+/// Puts a file on a shelf.
+fn put(files: &mut Files, name: &String, bytes: Vec<u8>) -> Result<(), AllocError> {
+    files.push(name.clone()?, bytes)?;
+    Ok(())
+}
+
 impl Scene {
     /// No images, which would go to 2000000h and 2100000h; nothing on the shelf but that cartridge, as `file`; no call fails, there is room for
     /// all output of a run, and no words are given.
@@ -152,9 +158,9 @@ impl Scene {
     pub fn shelf(&self, alloc: Global) -> Result<Files, AllocError> {
         let mut files = Files::new(alloc);
         for entry in &self.files {
-            files.push(entry.name.clone()?, entry.bytes.clone()?)?;
+            put(&mut files, &entry.name, entry.bytes.clone()?)?;
         }
-        files.push(self.name.clone()?, self.cart(alloc)?)?;
+        put(&mut files, &self.name, self.cart(alloc)?)?;
         Ok(files)
     }
 

@@ -56,38 +56,29 @@ pub struct Said {
     pub line: Line,
 }
 
-/// The words that are left, as a heading.
-fn heading(alloc: Global, line: &mut Cursor<'_>) -> Result<Line, BadLine> {
-    let mut heading = String::new(alloc);
-    for word in &line.names(alloc)? {
-        if !heading.is_empty() {
-            heading.push(' ')?;
-        }
-        heading.push_str(word.as_str())?;
+/// What a turn answers, and its limit after it: the limit, the answer's number, and where it stopped the numbers of the stop: kind, tick, rank and value.
+fn answer_of(alloc: Global, line: &mut Cursor<'_>) -> Result<Vec<Option<u64>>, BadLine> {
+    let until = Some(line.number()?);
+    match line.word()? {
+        "ran" => Ok(Vec::from_slice(alloc, &[until, Some(0)])?),
+        "frame" => Ok(Vec::from_slice(alloc, &[until, Some(1)])?),
+        "stopped" => stopped(alloc, until, line),
+        "at_end" => Ok(Vec::from_slice(alloc, &[until, Some(3)])?),
+        _ => Err(BadLine::NoSuchWord),
     }
-    Ok(Line::Table(heading))
 }
 
-/// What a turn answers: its number, and those of a stop: kind, tick, rank and value.
-fn answer_of(alloc: Global, line: &mut Cursor<'_>) -> Result<Vec<Option<u64>>, BadLine> {
-    let until = line.number()?;
-    let answer = match line.word()? {
-        "ran" => 0,
-        "frame" => 1,
-        "stopped" => 2,
-        "at_end" => 3,
-        _ => return Err(BadLine::NoSuchWord),
-    };
-    let mut wanted = Vec::new(alloc);
-    wanted.push(Some(until))?;
-    wanted.push(Some(answer))?;
-    if answer == 2 {
-        for _ in 0..3 {
-            wanted.push(Some(line.number()?))?;
-        }
-        wanted.push(Some(u64::from(line.hex()?)))?;
-    }
-    Ok(wanted)
+/// What a turn answers that stopped.
+fn stopped(
+    alloc: Global,
+    until: Option<u64>,
+    line: &mut Cursor<'_>,
+) -> Result<Vec<Option<u64>>, BadLine> {
+    let kind = Some(line.number()?);
+    let tick = Some(line.number()?);
+    let rank = Some(line.number()?);
+    let value = Some(u64::from(line.hex()?));
+    Ok(Vec::from_slice(alloc, &[until, Some(2), kind, tick, rank, value])?)
 }
 
 /// A turn.
@@ -131,7 +122,7 @@ fn act_line(alloc: Global, word: &str, line: &mut Cursor<'_>) -> Result<Option<A
 /// The line that begins with this word.
 fn line_of(alloc: Global, word: &str, line: &mut Cursor<'_>) -> Result<Line, BadLine> {
     match word {
-        "table" => return heading(alloc, line),
+        "table" => return Ok(Line::Table(line.text(alloc)?)),
         "is" => return Ok(Line::Is(fact_line(alloc, line)?)),
         _ => {}
     }

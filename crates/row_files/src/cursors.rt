@@ -77,6 +77,19 @@ impl<'a> Cursor<'a> {
         Ok(names)
     }
 
+    /// All that are left, as one text with a blank between each two.
+    pub fn text(&mut self, alloc: Global) -> Result<String, BadLine> {
+        let mut text = String::new(alloc);
+        for token in self.tokens {
+            if !text.is_empty() {
+                text.push(' ')?;
+            }
+            text.push_str(token.text.as_str())?;
+        }
+        self.tokens = &[];
+        Ok(text)
+    }
+
     /// All that are left, as decimal numbers, or hexadecimal ones; `_` is none.
     pub fn numbers(&mut self, alloc: Global, radix: Radix) -> Result<Vec<Option<u64>>, BadLine> {
         let mut numbers = Vec::new(alloc);

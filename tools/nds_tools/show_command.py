@@ -1,0 +1,156 @@
+"""nds-show: shows the registers of both processors, where they are by symbol, what they wait for, and words of memory.
+
+    tools/nds-show OUTPUT [--elf9 F] [--elf7 F] [--all] [PLACE..]
+    tools/nds-show OUTPUT --cart GAME.nds [--keys F] [--elf9 F] [--elf7 F] [PLACE..]
+
+  OUTPUT      what `nds run` wrote; `-` is standard input
+  PLACE       words to show: [9:|7:]ADDRESS, [9:|7:]SYMBOL or @MEMORY, then +BYTES and :WORDS where you like, as score, score:4,
+              0x2001000:8, 7:counter, @vram+0x40:2. A symbol is as long as the ELF file says, otherwise a word. Memories are
+              main, wram, wram7, itcm, dtcm, palette, vram and oam
+  --elf9 F, --elf7 F   the ELF files of both programs, for their symbols
+  --text      shows places as text, up to the first zero
+  --all       all 37 registers, those of every mode too
+  --dtcm A    where the program put DTCM; 0x3000000 where it left it
+  --cart C, --keys F   where the output ends in a stop: runs that cartridge, with that key script, to the tick of the stop, and
+              shows that run. Without --cart the command that does so is told
+  --nds PATH  the program to run; left out, that of NDS_PROGRAM, or this repository's nds
+
+Ends with 0, and with 2 where that can't be told: the output ends in a stop and there is no cartridge to run to it, or is none of a run; a
+place, a symbol or a file isn't there. docs/BOOT_ROM.md tells more of hangs."""
+import io
+import shlex
+from dataclasses import dataclass
+from typing import Iterable, List, Optional, Tuple
+
+from nds_tools import names
+from nds_tools.elf import Elf
+from nds_tools.hangs import STUB, waiting
+from nds_tools.memory import Map, shown, text_in
+from nds_tools.program import DONE, program, ready, said, start, words_of_run
+from nds_tools.records import End, Memory, Reader, Record, Stop, records_of
+from nds_tools.words import GOOD, Untold, Words, number
+
+TOOL = "nds-show"
+USAGE = "tools/nds-show OUTPUT [--elf9 F] [--elf7 F] [--all] [--text] [--dtcm A] [--cart C [--keys F]] [--nds PATH] [PLACE..]"
+
+
+@dataclass(frozen=True)
+class Ending:
+    """How an output ends: in memories and counts, or in a stop."""
+
+    memory: Optional[Memory]
+    end: Optional[End]
+    stop: Optional[Stop]
+
+
+def ending(records: Iterable[Record]) -> Ending:
+    """Reads an output to its end."""
+    memory, end, stop = None, None, None
+    for it in records:
+        memory = it if isinstance(it, Memory) else memory
+        end = it if isinstance(it, End) else end
+        stop = it if isinstance(it, Stop) else stop
+    return Ending(memory, end, stop)
+
+
+def map_of(elf9: Optional[str], elf7: Optional[str], dtcm: Optional[str]) -> Map:
+    """Returns what is known of a program by its ELF files and its DTCM's base."""
+    try:
+        base = names.BASES["dtcm"] if dtcm is None else number(dtcm)
+    except ValueError:
+        raise Untold(f"--dtcm {dtcm}: it wants an address") from None
+    return Map((Elf(elf9) if elf9 else None, Elf(elf7) if elf7 else None), base)
+
+
+def where(proc: int, address: int, known: Map) -> str:
+    """Returns an address and the symbol or the part of the stub that it belongs to."""
+    elf = known.elves[proc]
+    found = elf.near(address) if elf else ""
+    if 0 <= address - STUB[proc] < 0x1000:
+        found = f"boot ROM {address - STUB[proc]:03x}h"
+    return f"{address:08x}{f' ({found})' if found else ''}"
+
+
+def processor(proc: int, record: Memory, known: Map, is_whole: bool) -> List[str]:
+    """Returns the lines of one processor."""
+    registers = record.registers[proc]
+    cpsr = registers["cpsr"]
+    mode, bank = names.MODES.get(cpsr & 0x1F, (f"unknown {cpsr & 0x1F:02x}h", ""))
+    state = "Thumb" if cpsr & 0x20 else "ARM"
+    interrupts = "masked" if cpsr & 0x80 else "let through"
+    lines = [f"{names.PROCESSORS[proc]}  {mode} mode, {state} state, interrupts {interrupts}, cpsr {cpsr:08x}"]
+    lines.append(f"  r15 {where(proc, registers['r15'], known)}  r14 {where(proc, registers['r14' + bank], known)}")
+    hang = waiting(proc, record, known)
+    if hang:
+        lines.append(f"  {hang}")
+    if is_whole:
+        shown_names = names.REGISTERS
+    else:
+        fast = "_fiq" if bank == "_fiq" else ""
+        shown_names = [f"r{n}" for n in range(8)] + [f"r{n}{fast}" for n in range(8, 13)] + [f"r13{bank}"]
+        shown_names += [f"spsr{bank}"] if bank else []
+    width = max(map(len, shown_names))
+    cells = [f"{it.rjust(width)} {registers[it]:08x}" for it in shown_names]
+    return lines + ["  " + "  ".join(cells[at : at + 8]) for at in range(0, len(cells), 8)]
+
+
+def places(record: Memory, known: Map, asked: List[str], is_text: bool) -> List[str]:
+    """Returns the lines of the places that are asked for, eight words a line."""
+    lines = []
+    for place in [known.find(it) for it in asked]:
+        content = place.bytes_in(record)
+        lines.append(f"{place.name}  {known.show(place.memory, place.offset)}")
+        if is_text:
+            lines.append(f"  {text_in(content)}")
+        for at in [] if is_text else range(0, len(content), 32):
+            part = content[at : at + 32]
+            value = f"  ({int.from_bytes(part, 'little')})" if len(content) <= 4 else ""
+            lines.append(f"  +{at:03x}  {shown(part)}{value}")
+    return lines
+
+
+def run_to(stop: Stop, cart: Optional[str], keys: str, nds: Optional[str]) -> Tuple[List[str], Optional[Ending]]:
+    """Runs to the tick of a stop where there is a cartridge, and otherwise tells the command that does so."""
+    ticks = max(stop.tick, 1)
+    words = words_of_run(cart or "GAME.nds", keys, ticks, "none")
+    command = " ".join(map(shlex.quote, (program(nds) if nds else "./nds", *words)))
+    lines = [f"stopped: {stop} (rank {stop.rank})"]
+    if stop.tick == 0:
+        return lines + ["  at its first step: r15 is the entry"], None
+    if cart is None:
+        return lines + [f"  this runs to that tick, before the step: {command} >stopped.out"], None
+    run = start(ready(nds), *words)
+    out, note = run.communicate()
+    if run.returncode != DONE:
+        raise Untold(f"{command}: {said(note, run.returncode)}")
+    whole = ending(Reader(io.BytesIO(out), "the run"))
+    return lines + [f"  as it is at that tick, before the step ({command}):"], whole
+
+
+def main() -> int:
+    words = Words(TOOL, USAGE, __doc__ or "")
+    words.add_argument("output")
+    words.add_argument("places", nargs="*")
+    for name in ("--elf9", "--elf7", "--dtcm", "--cart", "--nds"):
+        words.add_argument(name)
+    words.add_argument("--keys", default="none")
+    words.add_argument("--all", action="store_true")
+    words.add_argument("--text", action="store_true")
+    given = words.read()
+    known = map_of(given.elf9, given.elf7, given.dtcm)
+    asked = [known.find(it).name for it in given.places]
+    found = ending(records_of(given.output))
+    if found.stop:
+        lines, run = run_to(found.stop, given.cart, given.keys, given.nds)
+        print("\n".join(lines), flush=True)
+        if run is None:
+            raise Untold(f"the run stopped, so there are no memories and registers to show: {found.stop}")
+        found = run
+    if not found.memory or not found.end:
+        raise Untold("the output has no memories")
+    print(f"tick {found.end.ticks}, {found.end.ticks / names.SECOND:.3f} s; steps of ARM9 {found.end.steps9}, of ARM7 {found.end.steps7}")
+    for proc in range(2):
+        print("\n".join(processor(proc, found.memory, known, given.all)))
+    for line in places(found.memory, known, asked, given.text):
+        print(line)
+    return GOOD

@@ -1,0 +1,182 @@
+"""The tools on outputs that the program `nds` made of the examples, the games among them, and the recipes of docs/TESTING_A_GAME.md.
+
+The program is the one of NDS_PROGRAM, otherwise one that was built here; without one these tests are left out."""
+import os
+import re
+import shutil
+import stat
+import struct
+import subprocess
+import unittest
+
+from made import TOOLS, TOP, Room, picture, stop
+
+CLANG = "14.0.6"
+MODULES = {"make-cart": "cart_command", "nds-test": "games_command", "nds-show": "show_command", "nds-frames": "frames_command", "nds-diff": "diff_command"}
+
+
+def program():
+    """Returns the built program's path, or None; one that NDS_PROGRAM names has to be there."""
+    if os.environ.get("NDS_PROGRAM"):
+        return os.path.abspath(os.environ["NDS_PROGRAM"])
+    built = [it for it in (f"{TOP}/out/nds", f"{TOP}/crates/nds/out/nds") if os.access(it, os.X_OK)]
+    return built[0] if built else None
+
+
+PROGRAM = program()
+
+
+def has_compiler():
+    """Tells whether the compiler is here that built what is committed."""
+    if not (shutil.which("clang") and shutil.which("ld.lld") and shutil.which("make")):
+        return False
+    return CLANG in subprocess.run(["clang", "--version"], capture_output=True, text=True).stdout
+
+
+@unittest.skipUnless(PROGRAM, "no program nds is built; NDS_PROGRAM names one")
+class Examples(Room):
+    def tool(self, name, *words, status=0, given=b""):
+        """Runs a tool with the built program; returns its output."""
+        self.TOOL, self.MODULE = name, MODULES[name]
+        ran = self.run_it(*words, given=given, NDS_PROGRAM=PROGRAM)
+        self.assertEqual(ran[0], status, ran[1][-2000:] + ran[2])
+        return ran[1]
+
+    def run_of(self, *words, status=0):
+        """Runs the program in the examples' folder; returns its output."""
+        ran = subprocess.run([PROGRAM, *words], cwd=f"{TOP}/examples", capture_output=True, timeout=60)
+        self.assertEqual(ran.returncode, status, ran.stderr)
+        return ran.stdout
+
+    def copied(self, name, *edits):
+        """Copies an example, edits a file of it by (file, old, new), and builds it."""
+        shutil.copytree(f"{TOP}/examples/{name}", f"{self.room}/{name}")
+        for file, old, new in edits:
+            with open(f"{self.room}/{name}/{file}") as it:
+                text = it.read()
+            self.assertEqual(text.count(old), 1, old)
+            self.put(f"{name}/{file}", text.replace(old, new))
+        words = ["make", "-s", "-B", f"TOOLS={TOOLS}"]
+        ran = subprocess.run(words, cwd=f"{self.room}/{name}", capture_output=True, text=True, timeout=60)
+        self.assertEqual(ran.returncode, 0, ran.stderr)
+
+    def test_the_games_tests_pass(self):
+        said = self.tool("nds-test", f"{TOP}/examples/c-game/tests", f"{TOP}/examples/scene/tests")
+        self.assertRegex(said, r"\n(\d+) tests: \1 PASS\n$")
+
+    @unittest.skipUnless(has_compiler(), f"clang and lld {CLANG} and make aren't here")
+    def test_a_build_gives_what_is_committed(self):
+        for name, files in (("c-game", ("c-game.nds", "game.elf", "seven.elf")), ("scene", ("scene.nds", "scene.elf"))):
+            self.copied(name)
+            for file in files:
+                pair = []
+                for at in (f"{TOP}/examples", self.room):
+                    with open(f"{at}/{name}/{file}", "rb") as it:
+                        pair.append(it.read())
+                self.assertTrue(pair[0] == pair[1], f"{name}/{file} is another one")
+
+    @unittest.skipUnless(has_compiler(), f"clang and lld {CLANG} and make aren't here")
+    def test_an_edit_of_code_alone_leaves_the_tests_green(self):
+        self.copied("c-game", ("game.c", "        tell(score);\n", '        __asm__ volatile("nop\\n nop\\n nop");\n        tell(score);\n'))
+        for name in ("game.elf", "c-game.nds"):
+            with open(f"{TOP}/examples/c-game/{name}", "rb") as a, open(f"{self.room}/c-game/{name}", "rb") as b:
+                self.assertNotEqual(a.read(), b.read())
+        self.assertIn("3 tests: 3 PASS", self.tool("nds-test", "c-game/tests"))
+
+    @unittest.skipUnless(has_compiler(), f"clang and lld {CLANG} and make aren't here")
+    def test_an_edit_that_changes_a_result_is_named(self):
+        self.copied("c-game", ("game.c", "score++", "score += 2"), ("game.c", "PALETTE[0] = 0x2108;", "PALETTE[0] = 0x2109;"))
+        said = self.tool("nds-test", "c-game/tests", status=1)
+        self.assertIn("FAIL    c-game/tests/coin: frame 90 changed: nds-test-out/c-game.tests.coin.frame-0090.png; score was 00000001, is 00000002; ", said)
+        self.assertEqual(picture(f"{self.room}/nds-test-out/c-game.tests.coin.frame-0090.png")[:2], (256, 384))
+
+    def test_the_listing_of_the_scene(self):
+        with open(f"{TOP}/examples/scene/scene.arm9.txt", "rb") as it:
+            listing = it.read()
+        self.assertEqual(self.run_of("list", "scene/scene.nds", "9"), listing)
+        self.tool("make-cart", "--arm9", f"{TOP}/examples/scene/scene.arm9.txt", "-o", "again.nds", "--title", "SCENE")
+        with open(f"{self.room}/again.nds", "rb") as a, open(f"{TOP}/examples/scene/scene.nds", "rb") as b:
+            self.assertEqual(a.read(), b.read())
+
+    def test_an_example_is_made_again_of_its_listings(self):
+        listings = [f"{TOP}/examples/handover.{it}.txt" for it in ("arm9", "thumb9", "arm7", "thumb7")]
+        self.tool("make-cart", "--arm9", listings[0], "--arm9", listings[1], "--arm7", listings[2], "--arm7", listings[3], "-o", "again.nds")
+        with open(f"{self.room}/again.nds", "rb") as a, open(f"{TOP}/examples/handover.nds", "rb") as b:
+            pair = a.read(), b.read()
+        for at in (0x20, 0x30):
+            (one, *heads), (two, *others) = (struct.unpack_from("<4I", it, at) for it in pair)
+            self.assertEqual((heads, pair[0][one : one + heads[2]]), (others, pair[1][two : two + others[2]]))
+
+    def test_outputs_of_the_examples(self):
+        self.put("loop.out", self.run_of("run", "loop.nds", "none", "100", "none"))
+        self.put("later.out", self.run_of("run", "loop.nds", "none", "105", "none"))
+        self.put("screens.out", self.run_of("run", "screens.nds", "none", "3361140", "all"))
+        self.assertTrue(self.tool("nds-show", "loop.out", "0x2001000", "7:0x2101000").endswith(
+            "0x2001000  02001000\n  +000  00000014  (20)\n7:0x2101000  02101000\n  +000  00000008  (8)\n"))  # fmt: skip
+        self.assertIn("main, words: 2 of 1048576 differ\n  02001000: 00000014 and 00000015\n  02101000: 00000008 and 00000009\n", self.tool("nds-diff", "loop.out", "later.out", status=1))
+        self.assertEqual([it[0:1] for it in self.tool("nds-frames", "screens.out").splitlines()], ["F", "F", "F", "M", "E"])
+        self.tool("nds-frames", "-", "--png", "shots", "--frame", "3", given=open_bytes(f"{self.room}/screens.out"))
+        rows = picture(f"{self.room}/shots/frame-0003.png")[2]
+        self.assertEqual((rows[20][30:33], rows[192 + 100][0:3]), (bytes((255, 0, 0)), bytes((156, 0, 99))))
+
+    def test_a_stop_is_shown_by_a_run_to_its_tick(self):
+        code = self.put("stop.bin", struct.pack("<3I", 0xE1A00000, 0xEF0E0000, 0xEAFFFFFE))
+        self.tool("make-cart", "--arm9", code, "-o", "stop.nds")
+        self.put("stop.out", self.run_of("run", f"{self.room}/stop.nds", "none", "100", "none", status=9))
+        said = self.tool("nds-show", "stop.out", "--cart", "stop.nds")
+        self.assertIn("stopped: Swi 0x0000000e at tick 1 by ARM9 (rank 22)", said)
+        self.assertIn("ARM9  System mode, ARM state, interrupts masked, cpsr 000000df\n  r15 02000004", said)
+
+    def test_the_way_of_the_document_from_c_to_a_test(self):
+        os.symlink(f"{TOP}/examples", f"{self.room}/examples")
+        os.symlink(TOOLS, f"{self.room}/tools")
+        blocks = re.findall(r"(?:^    .*\n)+", open_text("TESTING_A_GAME.md").partition("## From C to a test")[2].partition("## The lines")[0], re.M)
+        statuses = []
+        for line in re.sub(r"\\\n", "", "".join(blocks)).splitlines():
+            ran = subprocess.run(["sh", "-c", line], cwd=self.room, env={**os.environ, "NDS_PROGRAM": PROGRAM}, capture_output=True, timeout=60)
+            statuses.append(ran.returncode)
+        self.assertEqual(statuses, [0, 0, 0, 2, 0, 0])
+
+
+class Recipe(Room):
+    """The CI recipe of the document, with a repository whose program is a fake."""
+
+    def test_it_builds_once_and_then_calls_the_kept_program(self):
+        block = re.search(r"    #!/bin/sh\n(?:    .*\n|\n)+?    NDS_PROGRAM.*\n", open_text("TESTING_A_GAME.md"))
+        git = ["git", "-c", "user.name=test", "-c", "user.email=test@localhost"]
+        built = "#!/bin/sh\necho built >>\"$(dirname \"$0\")/../../builds\"\nmkdir -p \"$(dirname \"$0\")/out\"\ncp \"$(dirname \"$0\")/fake\" \"$(dirname \"$0\")/out/nds\"\n"
+        self.put("repository/nds", built)
+        self.put("repository/fake", self.text("nds"))
+        shutil.copytree(TOOLS, f"{self.room}/repository/tools", ignore=shutil.ignore_patterns("tests", "__pycache__"))
+        for name in ("nds", "fake"):
+            os.chmod(f"{self.room}/repository/{name}", stat.S_IRWXU)
+        for words in (["init", "-q"], ["add", "-A"], ["commit", "-q", "-m", "small"]):
+            subprocess.run([*git, *words], cwd=f"{self.room}/repository", check=True, capture_output=True)
+        commit = subprocess.run([*git, "rev-parse", "HEAD"], cwd=f"{self.room}/repository", capture_output=True, text=True).stdout.strip()
+        text = re.sub(r"^    ", "", block[0], flags=re.M)
+        text = text.replace("https://example.org/copperant.git", f"'{self.room}/repository'").replace("0123456789abcdef0123456789abcdef01234567", commit)
+        self.put("ci-test", text)
+        self.put("game.nds.out", stop())
+        self.put("game.nds.status", "9")
+        self.put("one.test", "cart game.nds\nticks 9\nexpect stop Swi 14\n")
+        self.put("one.expected", "end = stop Swi 0x0000000e\n")
+        for _ in range(2):
+            environment = {**os.environ, "KEPT": f"{self.room}/kept", "HOME": self.room}
+            ran = subprocess.run(["sh", "ci-test", "one.test"], cwd=self.room, env=environment, capture_output=True, text=True, timeout=60)
+            self.assertEqual((ran.returncode, ran.stdout[:7]), (0, "PASS   "), ran.stdout + ran.stderr)
+        self.assertEqual(self.text("builds"), "built\n")
+        self.assertEqual(sorted(os.listdir(f"{self.room}/kept")), ["calls", "nds", "tools"], "calls is the fake's own")
+
+
+def open_text(name):
+    with open(f"{TOP}/docs/{name}") as it:
+        return it.read()
+
+
+def open_bytes(path):
+    with open(path, "rb") as it:
+        return it.read()
+
+
+if __name__ == "__main__":
+    unittest.main()

@@ -1,10 +1,14 @@
-use Rattle.std.proofs.Common.{ℕ, zero, suc, ◌<◌, List, [], ◌∷◌, map, get_or, length, Option, arith}
-use Rattle.ds_base.specs.Schedules.{Reschedules}
+use Rattle.std.proofs.Common.{ℕ, zero, suc, ◌≡◌, ◌≢◌, ◌<◌, ◌≤◌, ◌+◌, ◌⊎◌, inl, inr, List, [], ◌∷◌, map, get_or, length, Option, Some, None, refl, sym, ◌∙◌, ap, subst, arith}
+use Rattle.ds_base.specs.Schedules.{Reschedules, IsLater}
+use Rattle.ds_base.specs.declared.processors.Proc.TheVariants.{Nine, Seven}
 use Rattle.ds_base.specs.declared.ticks.Tick.{Tick}
 use Rattle.ds_runs.specs.Actors.{actors, actor_of, IsNumbered}
+use Rattle.ds_runs.specs.Ahead.{MovesOn}
 use Rattle.ds_runs.specs.Owed.{AllReschedule}
+use Rattle.ds_runs.specs.Runs.{due_at}
 use Rattle.ds_runs.specs.declared.actors.Actor as actor
-use Rattle.ds_runs.specs.declared.actors.Actor.TheVariants.{KeyScript}
+use Rattle.ds_runs.specs.declared.actors.Actor.TheVariants.{KeyScript, Video, Timer, Divider, SquareRoot, Geometry, Card, Dma, Processor}
+use Rattle.ds_runs.proofs.ActorTable.{due_of_actor}
 
 -- What holds of each actor holds of the whole table.
 
@@ -41,3 +45,61 @@ each_of tick f g (a ∷ rest) each h = (h a each.0, each_of tick f g rest each.1
 pub all_of_actors : (tick : Tick) (f g : actor.Actor → Option Tick) → ((a : actor.Actor) → IsNumbered a → Reschedules tick (f a) (g a))
     → AllReschedule tick (map f actors) (map g actors)
 all_of_actors tick f g h = each_of tick f g actors are_numbered h
+
+-- the table backwards
+abbrev rank_of : actor.Actor → ℕ
+rank_of KeyScript = 0
+rank_of Video = 1
+rank_of (Timer Nine number) = 2 + number
+rank_of (Timer Seven number) = 6 + number
+rank_of Divider = 10
+rank_of SquareRoot = 11
+rank_of Geometry = 12
+rank_of Card = 13
+rank_of (Dma Nine channel) = 14 + channel
+rank_of (Dma Seven channel) = 18 + channel
+rank_of (Processor Nine) = 22
+rank_of (Processor Seven) = 23
+
+abbrev HaveRanks : ℕ → List actor.Actor → Type 0
+HaveRanks from [] = Unit {0}
+HaveRanks from (a ∷ rest) = (rank_of a ≡ from) × HaveRanks (suc from) rest
+
+have_ranks : HaveRanks 0 actors
+have_ranks = (refl, (refl, (refl, (refl, (refl, (refl, (refl, (refl, (refl, (refl, (refl, (refl, (refl, (refl, (refl, (refl, (refl, (refl, (refl, (refl, (refl, (refl, (refl, (refl, tt))))))))))))))))))))))))
+
+rank_at : (from : ℕ) (all : List actor.Actor) (rank : ℕ) → HaveRanks from all → rank < length all → rank_of (get_or all rank KeyScript) ≡ from + rank
+rank_at from [] rank each lt = absurd (omega (arith, lt))
+rank_at from (a ∷ rest) zero each lt = (let e = each.0 in omega (arith, e))
+rank_at from (a ∷ rest) (suc rank) each lt = (let e = rank_at (suc from) rest rank each.1 (omega (arith, lt)) in omega (arith, e))
+
+-- two ranks aren't those of one actor
+pub actors_differ : (rank other : ℕ) → rank < 24 → other < 24 → other ≢ rank → actor_of other ≢ actor_of rank
+actors_differ rank other lt lt₂ ne = λ same.
+    (let a = rank_at 0 actors rank have_ranks lt in
+    let b = rank_at 0 actors other have_ranks lt₂ in
+    let c : rank_of (actor_of other) ≡ rank_of (actor_of rank) = ap rank_of same in
+    ne (omega (arith, a, b, c)))
+
+-- past the table nobody is due
+beyond : (f : actor.Actor → Option Tick) (all : List actor.Actor) (rank : ℕ) → length all ≤ rank → due_at (map f all) rank ≡ None
+beyond f [] rank le = refl
+beyond f (a ∷ rest) zero le = absurd (omega (arith, le))
+beyond f (a ∷ rest) (suc rank) le = beyond f rest rank (omega (arith, le))
+
+within_or_not : (rank : ℕ) → (rank < 24) ⊎ (24 ≤ rank)
+within_or_not rank = grind arith
+
+-- due ticks by actors, where one actor's becomes later, and those of the others stay
+pub moves_of_actors : (f g : actor.Actor → Option Tick) (rank : ℕ) (tick : Tick) → rank < 24 → f (actor_of rank) ≡ Some tick → IsLater tick (g (actor_of rank))
+    → ((a : actor.Actor) → IsNumbered a → a ≢ actor_of rank → g a ≡ f a) → MovesOn rank tick (map f actors) (map g actors)
+moves_of_actors f g rank tick lt there later others = record {
+  there = due_of_actor f rank lt ∙ there;
+  later = (let P : Option Tick → Type 0 = λ x. IsLater tick x in subst P (sym (due_of_actor g rank lt)) later);
+  others = each;
+} where
+  each : (other : ℕ) → other ≢ rank → due_at (map g actors) other ≡ due_at (map f actors) other
+  each other ne = elim (within_or_not other) [
+    | inl small ↦ due_of_actor g other small ∙ others (actor_of other) (is_numbered other small) (actors_differ rank other lt small ne) ∙ sym (due_of_actor f other small)
+    | inr large ↦ beyond g actors other large ∙ sym (beyond f actors other large)
+  ]

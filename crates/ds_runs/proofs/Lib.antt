@@ -4,4 +4,5 @@ pub mod Places
 pub mod ActorTable
 pub mod RunLaws
 pub mod RunExists
+pub mod Ahead
 pub mod AllActors

@@ -1,4 +1,5 @@
 pub mod Actors
+pub mod Ahead
 pub mod Laws
 pub mod Order
 pub mod Owed

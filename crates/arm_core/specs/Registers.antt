@@ -1,4 +1,4 @@
-use Rattle.std.specs.Prelude.{ℕ, ◌+◌, ◌-◌, ◌%◌, ◌^◌, ◌==◌, nat_lt, Bool, if◌then◌else◌, List, [], ◌∷◌, ◌++◌, slice_index, slice_index_or, slice_set, Option, Some, None}
+use Rattle.std.specs.Prelude.{ℕ, zero, suc, ◌+◌, ◌-◌, ◌%◌, ◌^◌, ◌==◌, nat_lt, Bool, if◌then◌else◌, List, [], ◌∷◌, ◌++◌, slice_index, slice_index_or, slice_set, Option, Some, None}
 use Rattle.ds_base.specs.Bits.{bit, bits}
 use Rattle.arm_core.specs.declared.banks.Bank.{Bank}
 use Rattle.arm_core.specs.declared.banks.Bank.TheVariants.{System, Fiq, Supervisor, Abort, Irq, Undefined}
@@ -95,3 +95,9 @@ put_in b r value s = if r == 15 then jumped value s else record s { general = sl
 -- a register is written
 abbrev pub put : ℕ → ℕ → RegisterState → RegisterState
 put r value s = put_in (bank s) r value s
+
+-- How the code keeps the general registers (our choice): the first n that a bank shows stand by their numbers in an array of their own; the
+-- store has all others. These are the general registers.
+unfoldable pub general_of : Bank → ℕ → List ℕ → List ℕ → List ℕ
+general_of b zero present store = store
+general_of b (suc n) present store = slice_set (general_of b n present store) (place b n) (slice_index present n)

@@ -1,7 +1,7 @@
 //! The registers.
 
-ghost use Rattle.std.specs.Prelude.{◌≡◌, ◌<◌, ℕ, Some, None, Option, IfSome, if◌then◌else◌};
-ghost use Rattle.arm_core.specs.Registers.{bank, bank_of, is_thumb, jumped, late_r15, late_register, next, place, put, put_in, r15, register, register_in, saved_place, words_of};
+ghost use Rattle.std.specs.Prelude.{◌≡◌, ◌<◌, ℕ, Some, None, Option, IfSome, if◌then◌else◌, slice_index};
+ghost use Rattle.arm_core.specs.Registers.{bank, bank_of, general_of, is_thumb, jumped, late_r15, late_register, next, place, put, put_in, r15, register, register_in, saved_place, words_of};
 ghost use Rattle.arm_core.specs.Cores.{booted};
 
 use crate::banks::Bank;
@@ -10,8 +10,10 @@ use std::marker::Model;
 /// The 37 registers of a processor (ARM manual, A2.3 "Registers"). r15 is the address of the instruction that is executed next.
 #[derive(Drop)]
 pub struct Registers {
-    /// r0 to r12; r8 to r12 of FIQ; r13 and r14 of System, FIQ, Supervisor, Abort, IRQ, Undefined.
-    pub(crate) general: [u32; 30],
+    /// r0 to r14 of the bank of CPSR's mode. The last is 0 always, so that the number of no register reads as 0.
+    present: [u32; 16],
+    /// r0 to r12; r8 to r12 of FIQ; r13 and r14 of System, FIQ, Supervisor, Abort, IRQ, Undefined. Those that are present count for nothing here.
+    store: [u32; 30],
     pub(crate) pc: u32,
     pub(crate) cpsr: u32,
     /// SPSR of FIQ, Supervisor, Abort, IRQ, Undefined.
@@ -23,15 +25,15 @@ pub struct Registers {
 }
 
 impl Model for Registers {
-    ghost use Rattle.std.specs.Prelude.{◌≡◌, if◌then◌else◌};
+    ghost use Rattle.std.specs.Prelude.{◌≡◌, if◌then◌else◌, slice_index};
     ghost use Rattle.ds_base.specs.Bits.{bit, bits};
-    ghost use Rattle.arm_core.specs.Registers.{RegisterState, bank_of};
+    ghost use Rattle.arm_core.specs.Registers.{RegisterState, bank_of, general_of};
 
     ghost Value = { RegisterState };
 
-    ghost view = { λ s. record { general = s.general; pc = s.pc; cpsr = s.cpsr; saved = s.saved } };
+    ghost view = { λ s. record { general = general_of s.bank 15 s.present s.store; pc = s.pc; cpsr = s.cpsr; saved = s.saved } };
 
-    ghost invariant = { λ s. (s.bank ≡ bank_of (bits 0 5 s.cpsr)) × (s.size ≡ (if bit 5 s.cpsr then 2 else 4)) };
+    ghost invariant = { λ s. (s.bank ≡ bank_of (bits 0 5 s.cpsr)) × (s.size ≡ (if bit 5 s.cpsr then 2 else 4)) × (slice_index s.present 15 ≡ 0) };
 }
 
 /// Where r0 to r14 stand in each bank, in the order of the banks. The last of sixteen is r15's, which isn't among them and isn't asked for.
@@ -96,21 +98,44 @@ impl Bank {
     }
 }
 
+/// Puts the registers that a bank shows among the general ones.
+#[tactic(auto, using(crate::proofs::Presents::one_more, crate::proofs::Presents::none_yet))]
+fn put_back(bank: Bank, present: &[u32; 16], store: &mut [u32; 30])
+    ensures { store.new ≡ general_of bank 15 present.now store.old }
+{
+    for r in 0..15_u8 {
+        store[bank.place(r)] = present[r as usize];
+    }
+}
+
+/// Brings the registers that a bank shows.
+fn bring(bank: Bank, store: &[u32; 30], present: &mut [u32; 16])
+    ensures shown { (r : ℕ) → r < 15 → slice_index present.new r ≡ slice_index store.now (place bank r) }
+    ensures last { slice_index present.new 15 ≡ slice_index present.old 15 }
+{
+    for r in 0..15_u8 {
+        present[r as usize] = store[bank.place(r)];
+    }
+}
+
 impl Registers {
     /// The registers at boot, from the entry and the stacks of System, IRQ and Supervisor mode: System mode with interrupts masked, in
     /// ARM state; r12, r14 and r15 are the entry, and what isn't named is 0.
+    #[tactic(auto, unfolding(crate::specs::Registers::general_of))]
     pub fn boot(entry: u32, stacks: [u32; 3]) -> Registers
         ensures { result ≡ booted entry stacks }
     {
         let [system, irq, supervisor] = stacks;
-        let mut general = [0; 30];
-        general[12] = entry;
-        general[18] = system;
-        general[19] = entry;
-        general[22] = supervisor;
-        general[26] = irq;
+        let mut present = [0; 16];
+        present[12] = entry;
+        present[13] = system;
+        present[14] = entry;
+        let mut store = [0; 30];
+        store[22] = supervisor;
+        store[26] = irq;
         Registers {
-            general,
+            present,
+            store,
             pc: entry,
             cpsr: 0xDF,
             saved: [0; 5],
@@ -124,8 +149,10 @@ impl Registers {
     pub fn words(&self) -> [u32; 37]
         ensures { result ≡ words_of self.now }
     {
+        let mut general = self.store;
+        put_back(self.bank, &self.present, &mut general);
         let mut words = [0; 37];
-        words[..30].copy_from_slice(&self.general);
+        words[..30].copy_from_slice(&general);
         words[30] = self.pc;
         words[31] = self.cpsr;
         words[32..].copy_from_slice(&self.saved);
@@ -148,14 +175,30 @@ impl Registers {
         self.cpsr
     }
 
+    /// Writes CPSR with another mode: the registers of its bank become present.
+    #[inline(never)]
+    #[tactic(auto, using(crate::proofs::Presents::brought))]
+    fn change_mode(&mut self, cpsr: u32)
+        ensures { self.new ≡ record self.old { cpsr = cpsr } }
+    {
+        put_back(self.bank, &self.present, &mut self.store);
+        self.bank = bank_by(cpsr & 31);
+        bring(self.bank, &self.store, &mut self.present);
+        self.cpsr = cpsr;
+        self.size = size_by((cpsr >> 5) & 1 == 1);
+    }
+
     /// Writes CPSR.
     #[inline(always)]
     pub fn set_cpsr(&mut self, cpsr: u32)
         ensures { self.new ≡ record self.old { cpsr = cpsr } }
     {
-        self.cpsr = cpsr;
-        self.bank = bank_by(cpsr & 31);
-        self.size = size_by((cpsr >> 5) & 1 == 1);
+        if cpsr & 31 == self.cpsr & 31 {
+            self.cpsr = cpsr;
+            self.size = size_by((cpsr >> 5) & 1 == 1);
+        } else {
+            self.change_mode(cpsr);
+        }
     }
 
     /// Whether the processor is in Thumb state.
@@ -190,13 +233,54 @@ impl Registers {
         self.pc.wrapping_add(if self.is_thumb() { 4 } else { 12 })
     }
 
-    /// A register of a bank below r15.
+    /// A register below r15.
     #[inline(always)]
-    fn low(&self, bank: Bank, r: u8) -> u32
+    #[tactic(auto, using(crate::proofs::Presents::shown))]
+    fn low(&self, r: u8) -> u32
+        requires { r < 15 }
+        ensures { (as_r15 : ℕ) → result ≡ register_in (bank self.now) as_r15 self.now r }
+    {
+        self.present[r as usize]
+    }
+
+    /// A register of any bank below r15.
+    #[inline(never)]
+    #[tactic(auto, using(crate::proofs::Presents::shown))]
+    fn low_of(&self, bank: Bank, r: u8) -> u32
         requires { r < 15 }
         ensures { (as_r15 : ℕ) → result ≡ register_in bank as_r15 self.now r }
     {
-        self.general[bank.place(r)]
+        let place = bank.place(r);
+        if place == self.bank.place(r) {
+            self.present[r as usize]
+        } else {
+            self.store[place]
+        }
+    }
+
+    /// Writes a register below r15.
+    #[inline(always)]
+    #[tactic(auto, using(crate::proofs::Presents::put_shown))]
+    fn set_low(&mut self, r: u8, value: u32)
+        requires { r < 15 }
+        ensures { self.new ≡ put_in (bank self.old) r value self.old }
+    {
+        self.present[r as usize] = value;
+    }
+
+    /// Writes a register of any bank below r15.
+    #[inline(never)]
+    #[tactic(auto, using(crate::proofs::Presents::put_shown))]
+    fn set_low_of(&mut self, bank: Bank, r: u8, value: u32)
+        requires { r < 15 }
+        ensures { self.new ≡ put_in bank r value self.old }
+    {
+        let place = bank.place(r);
+        if place == self.bank.place(r) {
+            self.present[r as usize] = value;
+        } else {
+            self.store[place] = value;
+        }
     }
 
     /// A register as an instruction reads it.
@@ -205,11 +289,7 @@ impl Registers {
         requires { r < 16 }
         ensures { result ≡ register self.now r }
     {
-        if r == 15 {
-            self.r15()
-        } else {
-            self.low(self.bank(), r)
-        }
+        if r == 15 { self.r15() } else { self.low(r) }
     }
 
     /// A register of a bank, as it is stored, or read where a register shifts.
@@ -220,8 +300,10 @@ impl Registers {
     {
         if r == 15 {
             self.late_r15()
+        } else if bank == self.bank {
+            self.low(r)
         } else {
-            self.low(bank, r)
+            self.low_of(bank, r)
         }
     }
 
@@ -231,7 +313,11 @@ impl Registers {
         requires { r < 16 }
         ensures { result ≡ late_register self.now r }
     {
-        self.get_late_in(self.bank(), r)
+        if r == 15 {
+            self.late_r15()
+        } else {
+            self.low(r)
+        }
     }
 
     /// The address of the instruction behind the one that is executed next.
@@ -255,11 +341,7 @@ impl Registers {
     pub fn jump(&mut self, target: u32)
         ensures { self.new ≡ jumped target self.old }
     {
-        self.pc = if self.is_thumb() {
-            target - target % 2
-        } else {
-            target - target % 4
-        };
+        self.pc = target & !(self.size - 1);
     }
 
     /// Writes a register of a bank.
@@ -270,8 +352,10 @@ impl Registers {
     {
         if r == 15 {
             self.jump(value);
+        } else if bank == self.bank {
+            self.set_low(r, value);
         } else {
-            self.general[bank.place(r)] = value;
+            self.set_low_of(bank, r, value);
         }
     }
 
@@ -281,6 +365,10 @@ impl Registers {
         requires { r < 16 }
         ensures { self.new ≡ put r value self.old }
     {
-        self.set_in(self.bank(), r, value);
+        if r == 15 {
+            self.jump(value);
+        } else {
+            self.set_low(r, value);
+        }
     }
 }

@@ -19,6 +19,7 @@ pub struct Computed {
 
 /// a + b + c, where `c` is 0 or 1, with CarryFrom and OverflowFrom (ARM manual, glossary).
 #[inline(always)]
+#[tactic(auto, using(crate::proofs::Signs::alike_and_differs))]
 pub fn sum_of(a: u32, b: u32, c: u32) -> Computed
     requires { c ≤ 1 }
     ensures { result ≡ sum_of a b c }
@@ -27,12 +28,13 @@ pub fn sum_of(a: u32, b: u32, c: u32) -> Computed
     Computed {
         value,
         carry: a as u64 + b as u64 + c as u64 >= 0x1_0000_0000,
-        overflow: a >> 31 == b >> 31 && a >> 31 != value >> 31,
+        overflow: (a >> 31 ^ b >> 31 ^ 1) & (a >> 31 ^ value >> 31) == 1,
     }
 }
 
 /// a - b - c, where `c` is 0 or 1, with NOT BorrowFrom and OverflowFrom (ARM manual, glossary).
 #[inline(always)]
+#[tactic(auto, using(crate::proofs::Signs::both_differ))]
 fn difference_of(a: u32, b: u32, c: u32) -> Computed
     requires { c ≤ 1 }
     ensures { result ≡ difference_of a b c }
@@ -41,7 +43,7 @@ fn difference_of(a: u32, b: u32, c: u32) -> Computed
     Computed {
         value,
         carry: a as u64 >= b as u64 + c as u64,
-        overflow: a >> 31 != b >> 31 && a >> 31 != value >> 31,
+        overflow: (a >> 31 ^ b >> 31) & (a >> 31 ^ value >> 31) == 1,
     }
 }
 

@@ -16,9 +16,10 @@ pub struct Shifted32 {
     pub carry: bool,
 }
 
-/// Logical shift left (ARM manual, A5.1.6).
+/// Logical shift left below 32.
 #[inline(always)]
-fn shift_left(rm: u32, amount: u32, c: bool) -> Shifted32
+fn left_below(rm: u32, amount: u32, c: bool) -> Shifted32
+    requires { amount < 32 }
     ensures { result ≡ shift_left rm amount c }
 {
     if amount == 0 {
@@ -26,11 +27,21 @@ fn shift_left(rm: u32, amount: u32, c: bool) -> Shifted32
             value: rm,
             carry: c,
         }
-    } else if amount < 32 {
+    } else {
         Shifted32 {
             value: rm << amount,
             carry: (rm >> (32 - amount)) & 1 == 1,
         }
+    }
+}
+
+/// Logical shift left (ARM manual, A5.1.6).
+#[inline(always)]
+fn shift_left(rm: u32, amount: u32, c: bool) -> Shifted32
+    ensures { result ≡ shift_left rm amount c }
+{
+    if amount < 32 {
+        left_below(rm, amount, c)
     } else if amount == 32 {
         Shifted32 {
             value: 0,
@@ -44,9 +55,10 @@ fn shift_left(rm: u32, amount: u32, c: bool) -> Shifted32
     }
 }
 
-/// Logical shift right (ARM manual, A5.1.8).
+/// Logical shift right below 32.
 #[inline(always)]
-fn shift_right(rm: u32, amount: u32, c: bool) -> Shifted32
+fn right_below(rm: u32, amount: u32, c: bool) -> Shifted32
+    requires { amount < 32 }
     ensures { result ≡ shift_right rm amount c }
 {
     if amount == 0 {
@@ -54,11 +66,21 @@ fn shift_right(rm: u32, amount: u32, c: bool) -> Shifted32
             value: rm,
             carry: c,
         }
-    } else if amount < 32 {
+    } else {
         Shifted32 {
             value: rm >> amount,
             carry: (rm >> (amount - 1)) & 1 == 1,
         }
+    }
+}
+
+/// Logical shift right (ARM manual, A5.1.8).
+#[inline(always)]
+fn shift_right(rm: u32, amount: u32, c: bool) -> Shifted32
+    ensures { result ≡ shift_right rm amount c }
+{
+    if amount < 32 {
+        right_below(rm, amount, c)
     } else if amount == 32 {
         Shifted32 {
             value: 0,
@@ -85,9 +107,10 @@ fn arithmetic_shift(rm: u32, amount: u32) -> u32
     }
 }
 
-/// Arithmetic shift right (ARM manual, A5.1.10).
+/// Arithmetic shift right below 32.
 #[inline(always)]
-fn shift_right_signed(rm: u32, amount: u32, c: bool) -> Shifted32
+fn right_signed_below(rm: u32, amount: u32, c: bool) -> Shifted32
+    requires { amount < 32 }
     ensures { result ≡ shift_right_signed rm amount c }
 {
     if amount == 0 {
@@ -95,11 +118,21 @@ fn shift_right_signed(rm: u32, amount: u32, c: bool) -> Shifted32
             value: rm,
             carry: c,
         }
-    } else if amount < 32 {
+    } else {
         Shifted32 {
             value: arithmetic_shift(rm, amount),
             carry: (rm >> (amount - 1)) & 1 == 1,
         }
+    }
+}
+
+/// Arithmetic shift right (ARM manual, A5.1.10).
+#[inline(always)]
+fn shift_right_signed(rm: u32, amount: u32, c: bool) -> Shifted32
+    ensures { result ≡ shift_right_signed rm amount c }
+{
+    if amount < 32 {
+        right_signed_below(rm, amount, c)
     } else if (rm >> 31) & 1 == 1 {
         Shifted32 {
             value: 0xFFFF_FFFF,
@@ -169,16 +202,13 @@ pub fn shift_by_number(shift: Shift, rm: u32, amount: u32, c: bool) -> Shifted32
     ensures { result ≡ shift_by_number shift rm amount c }
 {
     match shift {
-        Shift::Lsl => shift_left(rm, amount, c),
-        Shift::Lsr => shift_right(rm, if amount == 0 { 32 } else { amount }, c),
-        Shift::Asr => shift_right_signed(rm, if amount == 0 { 32 } else { amount }, c),
-        Shift::Ror => {
-            if amount == 0 {
-                rotate_through(rm, c)
-            } else {
-                rotate(rm, amount, c)
-            }
-        }
+        Shift::Lsl => left_below(rm, amount, c),
+        Shift::Lsr if amount == 0 => shift_right(rm, 32, c),
+        Shift::Lsr => right_below(rm, amount, c),
+        Shift::Asr if amount == 0 => shift_right_signed(rm, 32, c),
+        Shift::Asr => right_signed_below(rm, amount, c),
+        Shift::Ror if amount == 0 => rotate_through(rm, c),
+        Shift::Ror => rotate(rm, amount, c),
     }
 }
 

@@ -1,0 +1,11 @@
+use Rattle.std.proofs.Common.{rules, ◌≢◌, sym, ◌∙◌, arith}
+use Rattle.arm_core.specs.Registers.{place}
+use Rattle.arm_core.proofs.Presents.{hidden}
+use Rattle.arm_core.proofs.registers.Registers.low_of.Goals as goal
+
+pub returns-else-place : goal.returns-else-place
+returns-else-place c =
+    let i = c.self.inside in
+    let ne : place c.args.bank c.args.r ≢ place i.bank c.args.r = λ e. c.if-place.false (c.place-place.ensures.place ∙ e ∙ sym c.place.ensures.place) in
+    let k = hidden c.args.bank i.bank 15 c.args.r i.present i.store (omega arith) c.requires ne in
+    search (rules, k)

@@ -1,15 +1,53 @@
-use Rattle.std.proofs.Common.{ℕ, Bool, true, false, ◌≡◌, ◌<◌, ◌+◌, ◌-◌, ◌*◌, ◌/◌, ◌%◌, ◌==◌, ◌⊎◌, inl, inr, List, get_or, drop, refl, sym, ◌∙◌, ap, subst, arith}
+use Rattle.std.proofs.Common.{ℕ, Bool, true, false, ◌≡◌, ◌<◌, ◌≤◌, ◌+◌, ◌-◌, ◌*◌, ◌/◌, ◌%◌, ◌==◌, ◌⊎◌, inl, inr, List, get_or, drop, refl, sym, ◌∙◌, ap, subst, arith}
 use Rattle.std.specs.List.{slice_range}
+use Rattle.std.proofs.lemmas.Bool.{false≢true}
 use Rattle.std.proofs.lemmas.List.{get_or-take, get_or-drop}
+use Rattle.std.specs.Prelude.{if◌then◌else◌, ◌&&◌}
 use Rattle.ds_base.specs.Bits.{bits, bit}
+use Rattle.ds_base.specs.Numbers.{number_at}
+use Rattle.ds_base.specs.declared.memories.Width.TheVariants.{Half}
 use Rattle.vram_banks.specs.Cells.{Banks, vram_byte}
 use Rattle.bg2d.specs.declared.layers.TextLayer.{TextLayer}
-use Rattle.bg2d.specs.Bases.{background_space}
-use Rattle.tiles2d.specs.Colours.{indexed_pixel, palette_colour, extended_colour}
+use Rattle.bg2d.specs.declared.texts.KeptPalette.{KeptPalette}
+use Rattle.bg2d.specs.Bases.{background_space, map_base}
+use Rattle.tiles2d.specs.Colours.{indexed_pixel, palette_colour, extended_colour, table_pixel}
+use Rattle.tiles2d.proofs.PaletteLemmas.{read_pixel, tabled_16, tabled_256}
 use Rattle.tiles2d.specs.Tiles.{nibble_at, flipped}
 use Rattle.tiles2d.proofs.NibbleLemmas.{nibble_there}
 use Rattle.bg2d.specs.TextPixels.{text_width, text_height, has_256, text_entry, text_index, text_colour, text_entry_pixel, text_pixel, palette_slot, background_palette_space}
-use Rattle.bg2d.specs.rows.Tiling.{tile_row, tiled_pixel, AreEntries, ArePacked, AreIndices, ArePainted}
+use Rattle.bg2d.specs.rows.Tiling.{block_line, is_extended, IsBlockLine, IsKept, tile_row, tiled_pixel, AreEntries, ArePacked, AreIndices, ArePainted}
+
+-- ---- entries from bytes
+
+even_base : (b : Bool) (field : ℕ) → (if b then 0x10000 * field else 0) % 2 ≡ 0
+even_base true field = omega arith
+even_base false field = refl
+
+even_line : (layer : TextLayer) (x y : ℕ) → block_line layer x y % 2 ≡ 0
+even_line layer x y = (let h = even_base (layer.engine == 0) (bits 27 3 layer.display) in omega (arith, h))
+
+pub width_at_most : (layer : TextLayer) → text_width layer ≤ 512
+width_at_most layer = grind arith
+
+-- an entry has two of its block's bytes
+pub entry_of_block : (v : Banks) (layer : TextLayer) (left x y : ℕ) (bytes : List ℕ) → left / 256 ≡ x / 256 → IsBlockLine v layer left y bytes →
+    number_at Half bytes (2 * (x % 256 / 8)) ≡ text_entry v layer x y
+unfolding text_entry
+entry_of_block v layer left x y bytes same read =
+    let f : ℕ → ℕ = vram_byte v (background_space layer.engine) in
+    let at : ℕ = block_line layer left y in
+    let c : ℕ = x % 256 / 8 in
+    let here : ℕ = block_line layer x y + 2 * c in
+    let start : at ≡ block_line layer x y = ap (λ (n : ℕ). map_base layer.engine layer.display layer.control + 0x800 * (n + text_width layer / 256 * (y / 256)) + 64 * (y % 256 / 8)) same in
+    let even : block_line layer x y % 2 ≡ 0 = even_line layer x y in
+    let down : here - here % 2 ≡ here = omega (arith, even) in
+    let first : at + 2 * c ≡ here = ap (λ (n : ℕ). n + 2 * c) start in
+    let second : at + (2 * c + 1) ≡ here + 1 = omega (arith, start) in
+    let low : get_or bytes (2 * c) 0 ≡ f here = read (2 * c) (omega arith) ∙ ap f first in
+    let high : get_or bytes (2 * c + 1) 0 ≡ f (here + 1) = read (2 * c + 1) (omega arith) ∙ ap f second in
+    ap (λ (n : ℕ). n + 256 * get_or bytes (2 * c + 1) 0) low
+    ∙ ap (λ (n : ℕ). f here + 256 * n) high
+    ∙ sym (ap (λ (n : ℕ). f n + 256 * f (n + 1)) down)
 
 -- ---- indices from bytes
 
@@ -42,7 +80,7 @@ indices_of_256 v layer y entries indices wide packed k i known small =
 wide_or_not : (layer : TextLayer) → (text_width layer ≡ 256) ⊎ (text_width layer ≡ 512)
 wide_or_not layer = grind arith
 
-flipped_below : (flip : Bool) (place : ℕ) → place < 8 → flipped flip place < 8
+pub flipped_below : (flip : Bool) (place : ℕ) → place < 8 → flipped flip place < 8
 flipped_below true place h = omega arith
 flipped_below false place h = h
 
@@ -117,11 +155,36 @@ painted_extended v palette layer entry at index h on e =
     same_pixel (extended_colour v (background_palette_space layer.engine) at) (text_colour v palette layer entry) index
     (ap (λ (a : ℕ). extended_colour v (background_palette_space layer.engine) a index) e ∙ (rw (h, on) refl))
 
-pub on_by : (n : ℕ) → n ≡ 1 → (n == 1) ≡ true
-on_by n h = rw h refl
+both_true : (a b : Bool) → (a && b) ≡ true → (a ≡ true) × (b ≡ true)
+both_true true b h = (refl, h)
+both_true false b h = (h, absurd (false≢true h))
 
-pub off_by : (n : ℕ) → (n ≡ 1 → ⊥) → (n == 1) ≡ false
-off_by n h = grind (arith, h)
+-- by a table
+pub table_16 : (v : Banks) (palette : List ℕ) (layer : TextLayer) (entry index : ℕ) → has_256 layer ≡ false → index < 16 →
+    table_pixel (has_256 layer) palette (16 * bits 12 4 entry + index) ≡ indexed_pixel (text_colour v palette layer entry) index
+table_16 v palette layer entry index narrow small =
+    ap (λ (wide : Bool). table_pixel wide palette (16 * bits 12 4 entry + index)) narrow
+    ∙ tabled_16 palette (16 * bits 12 4 entry) index (omega arith) small
+    ∙ painted_16 v palette layer entry (16 * bits 12 4 entry) index narrow refl
+
+pub table_256 : (v : Banks) (palette : List ℕ) (layer : TextLayer) (entry index : ℕ) → has_256 layer ≡ true → is_extended layer ≡ false → index < 256 →
+    table_pixel (has_256 layer) palette (0 + index) ≡ indexed_pixel (text_colour v palette layer entry) index
+table_256 v palette layer entry index wide standard small =
+    let off : bit 30 layer.display ≡ false = sym (ap (λ (w : Bool). w && bit 30 layer.display) wide) ∙ standard in
+    ap (λ (w : Bool). table_pixel w palette (0 + index)) wide
+    ∙ tabled_256 palette index small
+    ∙ painted_256 v palette layer entry index wide off
+
+-- by an extended palette that was read
+pub kept_pixel : (v : Banks) (palette : List ℕ) (layer : TextLayer) (entry index : ℕ) (kept : KeptPalette) → is_extended layer ≡ true → index < 256 →
+    IsKept v layer kept → kept.at ≡ 0x2000 * palette_slot layer + 512 * bits 12 4 entry →
+    indexed_pixel (λ c. palette_colour kept.bytes (0 + c)) index ≡ indexed_pixel (text_colour v palette layer entry) index
+kept_pixel v palette layer entry index kept extended small read e =
+    let both = both_true (has_256 layer) (bit 30 layer.display) extended in
+    let even : kept.at ≡ kept.at - kept.at % 2 = omega (arith, e) in
+    let f : ℕ → ℕ = vram_byte v (background_palette_space layer.engine) in
+    read_pixel v (background_palette_space layer.engine) kept.at index kept.bytes small (λ i within. read i within ∙ ap (λ (n : ℕ). f (n + i)) even)
+    ∙ painted_extended v palette layer entry kept.at index both.0 both.1 e
 
 -- the painted pixels, from the tile's left edge on, are those of the background
 pub painted_is_tiled : (v : Banks) (palette : List ℕ) (layer : TextLayer) (y fine x : ℕ) (entries indices pixels : List ℕ) → fine + x < 264 →

@@ -1,16 +1,18 @@
 //! Rows of text backgrounds.
 
-ghost use Rattle.std.specs.Prelude.{◌≡◌, ◌<◌, ◌+◌, ◌*◌, ◌%◌, ℕ, false, length, slice_index, slice_range};
+ghost use Rattle.std.specs.Prelude.{◌≡◌, ◌<◌, ◌+◌, ◌*◌, ◌%◌, ℕ, true, false, length, slice_index, slice_range};
 ghost use Rattle.ds_base.specs.Bits.{bits, bit};
+ghost use Rattle.ds_base.specs.Numbers.{number_at};
+ghost use Rattle.ds_base.specs.declared.memories.Width.TheVariants.{Half};
 ghost use Rattle.bg2d.specs.TextPixels.{text_width, text_height, has_256, palette_slot, background_palette_space, text_entry, text_colour, text_pixel};
 ghost use Rattle.tiles2d.specs.Colours.{indexed_pixel, HasForm};
 ghost use Rattle.tiles2d.specs.Tiles.{flipped};
-ghost use Rattle.bg2d.specs.rows.Tiling.{tile_row, AreEntries, ArePacked, AreIndices, AreNarrow, ArePainted};
+ghost use Rattle.bg2d.specs.rows.Tiling.{block_line, is_extended, tile_row, AreEntries, IsBlockLine, ArePacked, AreIndices, AreNarrow, ArePainted, IsTable, IsKept};
 
 use crate::bases::{background_space, map_base, tile_base};
 use crate::layers::{Row, TextLayer};
 use ds_base::Space;
-use tiles2d::{copy_eight, copy_four, flipped, half, paint_extended, paint_standard, unpack};
+use tiles2d::{copy_eight, copy_four, fill_table, flipped, paint_by_table, paint_standard, unpack};
 use vram_banks::Vram;
 
 /// How many tiles a row touches: 256 pixels, and a tile's part at either end.
@@ -36,20 +38,64 @@ fn text_height(layer: &TextLayer) -> u32
     }
 }
 
-/// The map's entry of a point of the background.
-#[tactic(auto, unfolding(crate::specs::TextPixels::text_entry))]
-fn text_entry(vram: &Vram, layer: &TextLayer, x: u32, y: u32) -> u16
+/// Where the entries begin that show line y of the background in the block of column x.
+fn block_line(layer: &TextLayer, x: u32, y: u32) -> u32
     requires across { x < 512 }
     requires down { y < 512 }
-    ensures { result ≡ text_entry vram.now layer.now x y }
+    ensures { result ≡ block_line layer.now x y }
 {
     let block = x / 256 + text_width(layer) / 256 * (y / 256);
-    let base = map_base(layer.engine, layer.display, layer.control);
-    half(
-        vram,
-        background_space(layer.engine),
-        base + 0x800 * block + 64 * (y % 256 / 8) + 2 * (x % 256 / 8),
-    )
+    map_base(layer.engine, layer.display, layer.control) + 0x800 * block + 64 * (y % 256 / 8)
+}
+
+/// The entries that show line y of the background in the block of column x, which are 64 bytes.
+fn read_block(vram: &Vram, layer: &TextLayer, x: u32, y: u32, into: &mut [u8; 64])
+    requires across { x < 512 }
+    requires down { y < 512 }
+    ensures { IsBlockLine vram.now layer.now x y into.new }
+{
+    let at = block_line(layer, x, y);
+    vram.row(background_space(layer.engine), at, into);
+}
+
+/// The same for the right block, where there is one.
+fn read_right_block(vram: &Vram, layer: &TextLayer, y: u32, into: &mut [u8; 64])
+    requires down { y < 512 }
+    ensures { 256 < text_width layer.now → IsBlockLine vram.now layer.now 256 y into.new }
+{
+    if text_width(layer) > 256 {
+        read_block(vram, layer, 256, y, into);
+    }
+}
+
+/// Number c of a block's entries on a line.
+fn block_entry(block: &[u8; 64], c: usize) -> u16
+    requires { c < 32 }
+    ensures { result ≡ number_at Half block.now (2 * c) }
+{
+    u16::from_le_bytes([block[2 * c], block[2 * c + 1]])
+}
+
+/// The entry of a point of the background, from those of both blocks on its line. The other arguments are there for the contract.
+fn entry_among(
+    vram: &Vram,
+    layer: &TextLayer,
+    left: &[u8; 64],
+    right: &[u8; 64],
+    x: u32,
+    y: u32,
+) -> u16
+    requires left { IsBlockLine vram.now layer.now 0 y left.now }
+    requires right { 256 < text_width layer.now → IsBlockLine vram.now layer.now 256 y right.now }
+    requires across { x < text_width layer.now }
+    ensures { result ≡ text_entry vram.now layer.now x y }
+{
+    let column = (x % 256 / 8) as usize;
+    if x < 256 {
+        block_entry(left, column)
+    } else {
+        block_entry(right, column)
+    }
 }
 
 /// The entries of the tiles of a row, from the tile on whose left edge is `first`.
@@ -58,9 +104,14 @@ fn text_entries(vram: &Vram, layer: &TextLayer, first: u32, y: u32, into: &mut [
     requires down { y < 512 }
     ensures { AreEntries vram.now layer.now first y into.new 33 }
 {
+    let mut left = [0; 64];
+    let mut right = [0; 64];
+    read_block(vram, layer, 0, y, &mut left);
+    read_right_block(vram, layer, y, &mut right);
     let width = text_width(layer);
     for k in 0..TILES {
-        into[k] = text_entry(vram, layer, (first + 8 * k as u32) % width, y);
+        let x = (first + 8 * k as u32) % width;
+        into[k] = entry_among(vram, layer, &left, &right, x, y);
     }
 }
 
@@ -150,36 +201,151 @@ fn background_palette_space(engine: u8) -> Space
     }
 }
 
-/// The pixels of a tile's row, from its eight indices, by the entry's palette.
+/// Whether the background has extended palettes.
+fn is_extended(layer: &TextLayer) -> bool
+    ensures { result ≡ is_extended layer.now }
+{
+    has_256(layer) && (layer.display >> 30) % 2 == 1
+}
+
+/// Whether an entry's tile is flipped across.
+fn flips_across(entry: u16) -> bool
+    ensures { result ≡ bit 10 entry }
+{
+    (entry >> 10) % 2 == 1
+}
+
+/// The pixels of a tile's row, from its eight indices, by those of the standard palette's colours. `vram` and `palette` are there for the contract.
 fn paint_tile(
     vram: &Vram,
     palette: &[u8],
+    table: &[u16; 256],
     layer: &TextLayer,
     entry: u16,
     indices: &[u8],
     into: &mut [u16],
 )
-    requires colours { length palette.now ≡ 512 }
+    requires standard { is_extended layer.now ≡ false }
+    requires table { IsTable layer.now palette.now table.now }
     requires indices { length indices.now ≡ 8 }
     requires room { length into.old ≡ 8 }
     requires narrow { has_256 layer.now ≡ false → (i : ℕ) → i < 8 → slice_index indices.now i < 16 }
     ensures { (i : ℕ) → i < 8 → slice_index into.new i ≡ indexed_pixel (text_colour vram.now palette.now layer.now entry) (slice_index indices.now (flipped (bit 10 entry) i)) }
 {
-    let flip = (entry >> 10) % 2 == 1;
-    if !has_256(layer) {
-        paint_standard(palette, 16 * (entry >> 12) as usize, flip, indices, into);
-    } else if (layer.display >> 30) % 2 == 1 {
-        let space = background_palette_space(layer.engine);
-        paint_extended(
-            vram,
-            space,
-            extended_palette(layer, entry),
-            flip,
-            indices,
-            into,
-        );
+    let flip = flips_across(entry);
+    if has_256(layer) {
+        paint_by_table(table, 0, flip, indices, into);
     } else {
-        paint_standard(palette, 0, flip, indices, into);
+        paint_by_table(table, 16 * (entry >> 12) as usize, flip, indices, into);
+    }
+}
+
+/// The pixels of all tiles of a row, by the standard palette.
+fn paint_by_standard(
+    vram: &Vram,
+    palette: &[u8],
+    layer: &TextLayer,
+    entries: &[u16; TILES],
+    indices: &[u8; 264],
+    into: &mut [u16; 264],
+)
+    requires standard { is_extended layer.now ≡ false }
+    requires colours { length palette.now ≡ 512 }
+    requires narrow { AreNarrow layer.now indices.now }
+    ensures { ArePainted vram.now palette.now layer.now entries.now indices.now into.new 33 }
+{
+    let mut table = [0; 256];
+    fill_table(palette, has_256(layer), &mut table);
+    for k in 0..TILES {
+        paint_tile(
+            vram,
+            palette,
+            &table,
+            layer,
+            entries[k],
+            &indices[8 * k..8 * k + 8],
+            &mut into[8 * k..8 * k + 8],
+        );
+    }
+}
+
+/// An extended palette of 256 colours that was read, and where it begins in its space.
+#[derive(Clone, Copy)]
+struct KeptPalette {
+    at: u32,
+    bytes: [u8; 512],
+}
+
+/// Reads the extended palette that begins at an address.
+fn read_palette(vram: &Vram, layer: &TextLayer, at: u32, kept: &mut KeptPalette)
+    ensures value { IsKept vram.now layer.now kept.new }
+    ensures at { kept.new.at ≡ at }
+{
+    vram.row(background_palette_space(layer.engine), at, &mut kept.bytes);
+    kept.at = at;
+}
+
+/// The same, where it isn't the one that was read last.
+fn keep_palette(vram: &Vram, layer: &TextLayer, at: u32, kept: &mut KeptPalette)
+    requires { IsKept vram.now layer.now kept.old }
+    ensures value { IsKept vram.now layer.now kept.new }
+    ensures at { kept.new.at ≡ at }
+{
+    if kept.at != at {
+        read_palette(vram, layer, at, kept);
+    }
+}
+
+/// The pixels of a tile's row, from its eight indices, by the entry's extended palette. `palette` is there for the contract.
+fn paint_extended_tile(
+    vram: &Vram,
+    palette: &[u8],
+    layer: &TextLayer,
+    entry: u16,
+    kept: &mut KeptPalette,
+    indices: &[u8],
+    into: &mut [u16],
+)
+    requires extended { is_extended layer.now ≡ true }
+    requires kept { IsKept vram.now layer.now kept.old }
+    requires indices { length indices.now ≡ 8 }
+    requires room { length into.old ≡ 8 }
+    ensures kept { IsKept vram.now layer.now kept.new }
+    ensures pixels { (i : ℕ) → i < 8 → slice_index into.new i ≡ indexed_pixel (text_colour vram.now palette.now layer.now entry) (slice_index indices.now (flipped (bit 10 entry) i)) }
+{
+    let flip = flips_across(entry);
+    let at = extended_palette(layer, entry);
+    keep_palette(vram, layer, at, kept);
+    paint_standard(&kept.bytes, 0, flip, indices, into);
+}
+
+/// The pixels of all tiles of a row, by extended palettes. `palette` is there for the contract.
+fn paint_by_extended(
+    vram: &Vram,
+    palette: &[u8],
+    layer: &TextLayer,
+    entries: &[u16; TILES],
+    indices: &[u8; 264],
+    into: &mut [u16; 264],
+)
+    requires { is_extended layer.now ≡ true }
+    ensures { ArePainted vram.now palette.now layer.now entries.now indices.now into.new 33 }
+{
+    let mut kept = KeptPalette {
+        at: 0,
+        bytes: [0; 512],
+    };
+    read_palette(vram, layer, extended_palette(layer, entries[0]), &mut kept);
+    for k in 0..TILES {
+        paint_extended_tile(
+            vram,
+            palette,
+            layer,
+            entries[k],
+            &mut kept,
+            &indices[8 * k..8 * k + 8],
+            &mut into[8 * k..8 * k + 8],
+        );
     }
 }
 
@@ -196,15 +362,10 @@ fn paint(
     requires narrow { AreNarrow layer.now indices.now }
     ensures { ArePainted vram.now palette.now layer.now entries.now indices.now into.new 33 }
 {
-    for k in 0..TILES {
-        paint_tile(
-            vram,
-            palette,
-            layer,
-            entries[k],
-            &indices[8 * k..8 * k + 8],
-            &mut into[8 * k..8 * k + 8],
-        );
+    if is_extended(layer) {
+        paint_by_extended(vram, palette, layer, entries, indices, into);
+    } else {
+        paint_by_standard(vram, palette, layer, entries, indices, into);
     }
 }
 

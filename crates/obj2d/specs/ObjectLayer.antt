@@ -1,7 +1,8 @@
-use Rattle.std.specs.Prelude.{ℕ, zero, suc, true, false, ◌≡◌, ◌≢◌, ◌<◌, ◌≤◌, ◌^◌, ◌↔◌, ◌⊎◌, ◌==◌, ◌||◌, nat_lt, if◌then◌else◌, List, slice_index_or, IsTrue}
+use Rattle.std.specs.Prelude.{ℕ, zero, suc, true, false, ◌≡◌, ◌≢◌, ◌<◌, ◌≤◌, ◌^◌, ◌↔◌, ◌⊎◌, ◌==◌, ◌||◌, nat_lt, if◌then◌else◌, List, slice_index, slice_index_or, IsTrue}
 use Rattle.vram_banks.specs.Cells.{Banks}
 use Rattle.obj2d.specs.declared.objects.Display.{Display}
 use Rattle.obj2d.specs.declared.layers.ObjectPixel.{ObjectPixel}
+use Rattle.obj2d.specs.declared.layers.ShownRow.{ShownRow}
 use Rattle.obj2d.specs.Attributes.{object_at, mode, priority}
 use Rattle.obj2d.specs.ObjectPixels.{pixel_of}
 
@@ -18,6 +19,13 @@ blank_pixel = record { colour = 0; priority = 0; blended = false; window = false
 
 abbrev pub pixel_at : List ObjectPixel → ℕ → ObjectPixel
 pixel_at pixels x = slice_index_or pixels x blank_pixel
+
+-- what is seen of a pixel where nothing is blended and no window counts: its colour and its priority
+abbrev pub plainly : ObjectPixel → ObjectPixel
+plainly p = record { colour = p.colour; priority = p.priority; blended = false; window = false }
+
+abbrev pub shown_pixel : ShownRow → ℕ → ObjectPixel
+shown_pixel row x = record { colour = slice_index row.colours x; priority = slice_index row.priorities x; blended = false; window = false }
 
 -- ---- as a relation
 

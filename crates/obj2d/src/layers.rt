@@ -3,7 +3,7 @@
 ghost use Rattle.std.specs.Prelude.{◌≡◌, ◌≢◌, ◌<◌, ℕ, length};
 ghost use Rattle.obj2d.specs.Attributes.{object_at, box_width, priority, mode, object_has_mosaic};
 ghost use Rattle.obj2d.specs.Places.{covers};
-ghost use Rattle.obj2d.specs.ObjectLayer.{IsLayerPixel, IsPixel, pixel_at, blank_pixel, with_object, seen_at, object_pixel};
+ghost use Rattle.obj2d.specs.ObjectLayer.{IsLayerPixel, IsPixel, pixel_at, blank_pixel, plainly, shown_pixel, with_object, seen_at, object_pixel};
 ghost use Rattle.obj2d.specs.rows.Words.{row_pixel};
 ghost use Rattle.obj2d.specs.rows.Strips.{IsLaid};
 
@@ -11,7 +11,7 @@ use crate::attributes::{box_width, mode, object_at, object_has_mosaic, priority}
 use crate::objects::{Display, Object};
 use crate::places::{covers, down, is_drawn, left_edge};
 use crate::strips::strip;
-use crate::words::{WordRow, clear, on_screen, put_shown, put_window, row_pixel};
+use crate::words::{WordRow, clear, on_screen, put_shown, put_window, row_pixel, seen_pixel};
 use vram_banks::Vram;
 
 /// What all objects together have at a pixel.
@@ -32,6 +32,15 @@ pub struct ObjectPixel {
 pub struct ObjectRow {
     /// The pixels.
     pub pixels: [ObjectPixel; 256],
+}
+
+/// What is seen of all objects along a row of 256 pixels, from the left, where nothing is blended and no window counts.
+#[derive(Clone, Copy)]
+pub struct ShownRow {
+    /// The colours, as in `ObjectPixel`.
+    pub colours: [u16; 256],
+    /// The priorities, as in `ObjectPixel`.
+    pub priorities: [u16; 256],
 }
 
 /// Lays the pixels of an object that is shown.
@@ -134,12 +143,40 @@ fn lay_all(vram: &Vram, palette: &[u8], oam: &[u8], display: &Display, line: u8,
     }
 }
 
+/// Draws the row of all objects.
+fn draw_words(
+    vram: &Vram,
+    palette: &[u8],
+    oam: &[u8],
+    display: &Display,
+    line: u8,
+    into: &mut WordRow,
+)
+    requires colours { length palette.now ≡ 512 }
+    requires oam { length oam.now ≡ 1024 }
+    ensures { (x : ℕ) → x < 256 → row_pixel into.new x ≡ object_pixel vram.now palette.now oam.now display.now line x }
+{
+    clear(into);
+    lay_all(vram, palette, oam, display, line, into);
+}
+
 /// Hands the row out as pixels.
 fn hand_out(row: &WordRow, into: &mut ObjectRow)
     ensures { (x : ℕ) → x < 256 → pixel_at into.new.pixels x ≡ row_pixel row.now x }
 {
     for x in 0..256usize {
         into.pixels[x] = row_pixel(row, x);
+    }
+}
+
+/// Hands the colours and the priorities of the row out.
+fn show(row: &WordRow, into: &mut ShownRow)
+    ensures { (x : ℕ) → x < 256 → shown_pixel into.new x ≡ plainly (row_pixel row.now x) }
+{
+    for x in 0..256usize {
+        let pixel = seen_pixel(row, x);
+        into.colours[x] = pixel.colour;
+        into.priorities[x] = pixel.priority as u16;
     }
 }
 
@@ -167,7 +204,29 @@ pub fn object_row(
         words: [0; 256],
         windows: [false; 256],
     };
-    clear(&mut row);
-    lay_all(vram, palette, oam, &display, line, &mut row);
+    draw_words(vram, palette, oam, &display, line, &mut row);
     hand_out(&row, into);
+}
+
+/// Draws the same, of which the colours and the priorities alone are handed out.
+pub fn shown_row(
+    vram: &Vram,
+    palette: &[u8],
+    oam: &[u8],
+    control: u32,
+    engine: u8,
+    line: u8,
+    into: &mut ShownRow,
+)
+    requires colours { length palette.now ≡ 512 }
+    requires oam { length oam.now ≡ 1024 }
+    ensures { (x : ℕ) → x < 256 → shown_pixel into.new x ≡ plainly (object_pixel vram.now palette.now oam.now (record { engine = engine; control = control }) line x) }
+{
+    let display = Display { engine, control };
+    let mut row = WordRow {
+        words: [0; 256],
+        windows: [false; 256],
+    };
+    draw_words(vram, palette, oam, &display, line, &mut row);
+    show(&row, into);
 }

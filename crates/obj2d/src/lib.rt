@@ -13,4 +13,7 @@ mod places;
 mod strips;
 mod words;
 
-pub use layers::{ObjectPixel, ObjectRow, covers_line, is_mosaic_object, object_mode, object_row};
+pub use layers::{
+    ObjectPixel, ObjectRow, ShownRow, covers_line, is_mosaic_object, object_mode, object_row,
+    shown_row,
+};

@@ -1,7 +1,7 @@
 //! A row while objects are laid over one another.
 
 ghost use Rattle.std.specs.Prelude.{◌≡◌, ◌≢◌, ◌<◌, ◌≤◌, ◌+◌, ◌||◌, ◌==◌, not, Bool, false, ℕ, slice_index, slice_index_or};
-ghost use Rattle.obj2d.specs.ObjectLayer.{blank_pixel, with_object};
+ghost use Rattle.obj2d.specs.ObjectLayer.{blank_pixel, plainly, with_object};
 ghost use Rattle.obj2d.specs.rows.Words.{pixel_word, word_pixel, covered_word, row_pixel, span_first, span_start, span_count};
 
 use crate::layers::ObjectPixel;
@@ -81,6 +81,25 @@ pub fn row_pixel(row: &WordRow, x: usize) -> ObjectPixel
             blended: (word >> 16) % 2 == 1,
             window,
         }
+    }
+}
+
+/// What is seen of the pixel of a place.
+pub fn seen_pixel(row: &WordRow, x: usize) -> ObjectPixel
+    requires { x < 256 }
+    ensures { result ≡ plainly (row_pixel row.now x) }
+{
+    let word = row.words[x];
+    let priority = if word % 0x1_0000 == 0 {
+        0
+    } else {
+        ((word >> 18) % 4) as u8
+    };
+    ObjectPixel {
+        colour: (word % 0x1_0000) as u16,
+        priority,
+        blended: false,
+        window: false,
     }
 }
 

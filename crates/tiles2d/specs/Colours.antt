@@ -1,4 +1,4 @@
-use Rattle.std.specs.Prelude.{ℕ, ◌≢◌, ◌≤◌, ◌+◌, ◌*◌, ◌%◌, ◌^◌, ◌==◌, if◌then◌else◌, List}
+use Rattle.std.specs.Prelude.{ℕ, Bool, ◌≢◌, ◌≤◌, ◌+◌, ◌*◌, ◌%◌, ◌^◌, ◌==◌, if◌then◌else◌, List}
 use Rattle.ds_base.specs.Numbers.{number_at}
 use Rattle.ds_base.specs.declared.memories.Space.{Space}
 use Rattle.ds_base.specs.declared.memories.Width.TheVariants.{Half}
@@ -26,3 +26,8 @@ palette_colour palette index = number_at Half palette (2 * index)
 -- a colour of a palette of 256 halves that begins at an address of a space of extended palettes (GBATEK, "DS Video Extended Palettes")
 abbrev pub extended_colour : Banks → Space → ℕ → ℕ → ℕ
 extended_colour v space at index = vram_value v space (at + 2 * index) Half
+
+-- the pixel of each colour of a standard palette, as tiles of 256 colours or of 16 take it: of the whole palette colour 0 is transparent, or that of
+-- each palette of sixteen
+abbrev pub table_pixel : Bool → List ℕ → ℕ → ℕ
+table_pixel wide palette index = if index % (if wide then 256 else 16) == 0 then 0 else opaque_pixel (palette_colour palette index)

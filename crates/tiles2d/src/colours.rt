@@ -3,7 +3,7 @@
 ghost use Rattle.std.specs.Prelude.{◌≡◌, ◌<◌, ◌+◌, ◌*◌, ◌^◌, ℕ, length, slice_index};
 ghost use Rattle.ds_base.specs.declared.memories.Width.TheVariants.{Half};
 ghost use Rattle.vram_banks.specs.Cells.{vram_byte, vram_value};
-ghost use Rattle.tiles2d.specs.Colours.{opaque_pixel, indexed_pixel, palette_colour, extended_colour};
+ghost use Rattle.tiles2d.specs.Colours.{opaque_pixel, indexed_pixel, palette_colour, extended_colour, table_pixel};
 ghost use Rattle.tiles2d.specs.Tiles.{flipped};
 
 use crate::tiles::flipped;
@@ -80,7 +80,52 @@ pub fn paint_standard(palette: &[u8], start: usize, flip: bool, indices: &[u8], 
     }
 }
 
-/// The pixels of a tile's row of eight indices, flipped or not, by a palette that begins at an address of a space.
+/// The pixel of each colour of a standard palette, for tiles of 256 colours or of 16, by which `paint_by_table` paints many tiles.
+pub fn fill_table(palette: &[u8], wide: bool, into: &mut [u16; 256])
+    requires { length palette.now ≡ 512 }
+    ensures { (i : ℕ) → i < 256 → slice_index into.new i ≡ table_pixel wide palette.now i }
+{
+    // numbers of sixteen bits, like the pixels, so that eight are made at once
+    let every: u16 = if wide { 256 } else { 16 };
+    for i in 0..256usize {
+        let pixel = opaque_pixel(palette_colour(palette, i));
+        into[i] = if i as u16 % every == 0 { 0 } else { pixel };
+    }
+}
+
+/// The pixels of a table from one on.
+#[inline(always)]
+fn pixels_from(table: &[u16; 256], start: usize) -> &[u16]
+    requires { start < 256 }
+    ensures value { (i : ℕ) → slice_index result.now i ≡ slice_index table.now (start + i) }
+    ensures long { start + length result.now ≡ 256 }
+{
+    &table[start..]
+}
+
+/// The pixels of a tile's row of eight indices, flipped or not, by those of a table that begin at `start`.
+#[inline(never)]
+pub fn paint_by_table(
+    table: &[u16; 256],
+    start: usize,
+    flip: bool,
+    indices: &[u8],
+    into: &mut [u16],
+)
+    requires indices { length indices.now ≡ 8 }
+    requires room { length into.old ≡ 8 }
+    requires start { start < 256 }
+    requires inside { (i : ℕ) → i < 8 → start + slice_index indices.now i < 256 }
+    ensures { (i : ℕ) → i < 8 → slice_index into.new i ≡ slice_index table.now (start + slice_index indices.now (flipped flip i)) }
+{
+    let pixels = pixels_from(table, start);
+    for i in 0..8 {
+        into[i] = pixels[indices[flipped(flip, i)] as usize];
+    }
+}
+
+/// The pixels of a tile's row of eight indices, flipped or not, by a palette that begins at an address of a space, which is
+/// read at once.
 pub fn paint_extended(
     vram: &Vram,
     space: Space,
@@ -94,7 +139,7 @@ pub fn paint_extended(
     requires room { length into.old ≡ 8 }
     ensures { (i : ℕ) → i < 8 → slice_index into.new i ≡ indexed_pixel (extended_colour vram.now space at) (slice_index indices.now (flipped flip i)) }
 {
-    for i in 0..8 {
-        into[i] = extended_pixel(vram, space, at, indices[flipped(flip, i)]);
-    }
+    let mut palette = [0; 512];
+    vram.row(space, at - at % 2, &mut palette);
+    paint_standard(&palette, 0, flip, indices, into);
 }

@@ -9,7 +9,7 @@ mod colours;
 mod tiles;
 
 pub use colours::{
-    byte, extended_pixel, half, opaque_pixel, paint_extended, paint_standard, palette_colour,
-    standard_pixel,
+    byte, extended_pixel, fill_table, half, opaque_pixel, paint_by_table, paint_extended,
+    paint_standard, palette_colour, standard_pixel,
 };
 pub use tiles::{copy_eight, copy_four, flipped, unpack};

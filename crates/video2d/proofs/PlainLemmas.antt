@@ -2,7 +2,7 @@ use Rattle.std.proofs.Common.{ℕ, zero, suc, Bool, true, false, ◌≡◌, ◌�
 use Rattle.std.proofs.lemmas.Bool.{cases_eq}
 use Rattle.ds_base.specs.Bits.{bit, bits}
 use Rattle.line_lanes.specs.Pixels.{blended}
-use Rattle.obj2d.specs.ObjectLayer.{blank_pixel, object_pixel}
+use Rattle.obj2d.specs.ObjectLayer.{blank_pixel, object_pixel, plainly}
 use Rattle.obj2d.specs.declared.layers.ObjectPixel.{ObjectPixel}
 use Rattle.obj2d.proofs.OffLemmas.{no_object, object_small}
 use Rattle.tiles2d.specs.Colours.{palette_colour}
@@ -227,6 +227,12 @@ pub over_clear : (p : ℕ) (s : SeenLayer) (behind : ℕ) → s.pixel ≡ 0 → 
 over_clear p s behind h = grind (arith, h)
 
 -- ---- and one where only objects are added, and no layer is a second target
+
+-- of the objects their colours and priorities alone count
+pub calm_plainly : (v : Banks) (colours : List ℕ) (which : ℕ) (e : EngineState) (line x : ℕ) (p : ObjectPixel) →
+    calm_over v colours which e line x (plainly p) ≡ calm_over v colours which e line x p
+unfolding calm_over
+calm_plainly v colours which e line x p = refl
 
 windows_none : (w z t : ℕ) → ((w == 0) && ((z == 0) && (t == 0))) ≡ true → (w ≡ 0) × (z ≡ 0) × (t ≡ 0)
 windows_none w z t h = grind (arith, h)

@@ -41,7 +41,7 @@ pub struct LayerRows {
 }
 
 /// A pixel where no object is.
-pub const BLANK: ObjectPixel = ObjectPixel {
+const BLANK: ObjectPixel = ObjectPixel {
     colour: 0,
     priority: 0,
     blended: false,

@@ -1,16 +1,15 @@
 //! Lines where the engine's registers leave the layers as they are: they are laid over the backdrop, from back to front.
 
-ghost use Rattle.std.specs.Prelude.{◌≡◌, ◌<◌, ℕ, length, slice_index};
-ghost use Rattle.obj2d.specs.ObjectLayer.{pixel_at};
+ghost use Rattle.std.specs.Prelude.{◌≡◌, ◌<◌, ◌==◌, if◌then◌else◌, ℕ, length, slice_index};
+ghost use Rattle.obj2d.specs.ObjectLayer.{shown_pixel};
 ghost use Rattle.video2d.specs.Layers.{seen_objects};
 ghost use Rattle.video2d.specs.rows.Plain.{background_seen, backgrounds_seen, calm_layers, calm_over, calm_pixel, is_calm, is_plain, laid_at, over, over_at, plain_pixel};
 
 use crate::backgrounds::{background_row, is_background_on};
 use crate::engines::Engine;
-use crate::layers::BLANK;
 use crate::mixes::priority;
 use bg2d::Row;
-use obj2d::{ObjectRow, object_row};
+use obj2d::{ShownRow, shown_row};
 use tiles2d::palette_colour;
 use vram_banks::Vram;
 
@@ -119,18 +118,29 @@ pub fn is_calm(engine: &Engine) -> bool
         && (engine.bldcnt() >> 8) % 64 == 0
 }
 
+/// The same, where the pixel has the priority whose turn it is. Both tests are made whatever comes of them, so that many places are laid at once.
+#[inline(always)]
+fn over_in_turn(pixel: u16, priority: u16, turn: u16, behind: u16) -> u16
+    ensures { result ≡ (if priority == turn then over pixel behind else behind) }
+{
+    if (priority == turn) & (pixel != 0) {
+        pixel % 0x8000
+    } else {
+        behind
+    }
+}
+
 /// Lays the objects of the priority whose turn it is.
-fn lay_objects(objects: &ObjectRow, turn: u8, into: &mut [u16; 256])
-    ensures { (x : ℕ) → x < 256 → slice_index into.new x ≡ over_at turn (seen_objects (pixel_at objects.now.pixels x)) (slice_index into.old x) }
+fn lay_objects(objects: &ShownRow, turn: u8, into: &mut [u16; 256])
+    ensures { (x : ℕ) → x < 256 → slice_index into.new x ≡ over_at turn (seen_objects (shown_pixel objects.now x)) (slice_index into.old x) }
 {
     for x in 0..256usize {
-        let pixel = objects.pixels[x];
-        let colour = if pixel.priority == turn {
-            pixel.colour
-        } else {
-            0
-        };
-        into[x] = over(colour, into[x]);
+        into[x] = over_in_turn(
+            objects.colours[x],
+            objects.priorities[x],
+            turn as u16,
+            into[x],
+        );
     }
 }
 
@@ -141,12 +151,12 @@ fn lay_turn(
     which: u8,
     engine: &Engine,
     line: u8,
-    objects: &ObjectRow,
+    objects: &ShownRow,
     turn: u8,
     into: &mut [u16; 256],
 )
     requires { length colours.now ≡ 512 }
-    ensures { (x : ℕ) → x < 256 → slice_index into.new x ≡ laid_at turn (calm_layers vram.now colours.now which engine.now line (pixel_at objects.now.pixels x) x) (slice_index into.old x) }
+    ensures { (x : ℕ) → x < 256 → slice_index into.new x ≡ laid_at turn (calm_layers vram.now colours.now which engine.now line (shown_pixel objects.now x) x) (slice_index into.old x) }
 {
     lay_priority(vram, colours, which, engine, line, turn, into);
     lay_objects(objects, turn, into);
@@ -160,11 +170,11 @@ fn lay_turns(
     which: u8,
     engine: &Engine,
     line: u8,
-    objects: &ObjectRow,
+    objects: &ShownRow,
     into: &mut [u16; 256],
 )
     requires { length colours.now ≡ 512 }
-    ensures { (x : ℕ) → x < 256 → slice_index into.new x ≡ calm_over vram.now colours.now which engine.now line x (pixel_at objects.now.pixels x) }
+    ensures { (x : ℕ) → x < 256 → slice_index into.new x ≡ calm_over vram.now colours.now which engine.now line x (shown_pixel objects.now x) }
 {
     plain_line(palette_colour(colours, 0) % 0x8000, into);
     lay_turn(vram, colours, which, engine, line, objects, 3, into);
@@ -190,11 +200,12 @@ pub fn calm_line(
     requires oam { length oam.now ≡ 1024 }
     ensures { (x : ℕ) → x < 256 → slice_index into.new x ≡ calm_pixel vram.now colours.now object_colours.now oam.now which engine.now line x }
 {
-    let mut objects = ObjectRow {
-        pixels: [BLANK; 256],
+    let mut objects = ShownRow {
+        colours: [0; 256],
+        priorities: [0; 256],
     };
     let control = engine.dispcnt();
-    object_row(
+    shown_row(
         vram,
         object_colours,
         oam,

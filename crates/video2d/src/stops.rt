@@ -98,6 +98,10 @@ fn needs_of_object(which: u8, engine: &Engine, oam: &[u8], line: u8, n: usize) -
     requires known { n < 128 }
     ensures { result ≡ needs_of_object which engine.now oam.now line n }
 {
+    // most objects are no bitmaps and have no mosaic, wherever they are
+    if object_mode(oam, n) != 3 && !is_mosaic_object(oam, n) {
+        return None;
+    }
     if !covers_line(oam, engine.dispcnt(), n, line) {
         return None;
     }

@@ -100,6 +100,29 @@ impl Vram {
         }
     }
 
+    /// The half at a flat address, byte by byte. This and what else visits all banks stands apart, so that an access of one bank stays short.
+    #[inline(never)]
+    fn half_of_several(&self, x: u32) -> u16
+        requires { x < 0x254000 }
+        ensures { result ≡ value_by Half (or_at self.now.controls self.now.bytes) x }
+    {
+        u16::from_le_bytes([self.byte_of_several(x), self.byte_of_several(x + 1)])
+    }
+
+    /// The word at a flat address, byte by byte.
+    #[inline(never)]
+    fn word_of_several(&self, x: u32) -> u32
+        requires { x < 0x254000 }
+        ensures { result ≡ value_by Word (or_at self.now.controls self.now.bytes) x }
+    {
+        u32::from_le_bytes([
+            self.byte_of_several(x),
+            self.byte_of_several(x + 1),
+            self.byte_of_several(x + 2),
+            self.byte_of_several(x + 3),
+        ])
+    }
+
     fn half(&self, x: u32) -> u16
         requires even { x % 2 ≡ 0 }
         requires small { x < 0x254000 }
@@ -108,10 +131,7 @@ impl Vram {
         match self.map.found(x) {
             Page::Empty => 0,
             Page::One(cell) => self.cells.half(cell),
-            Page::Several => u16::from_le_bytes([
-                self.byte_of_several(x),
-                self.byte_of_several(x + 1),
-            ]),
+            Page::Several => self.half_of_several(x),
         }
     }
 
@@ -123,12 +143,7 @@ impl Vram {
         match self.map.found(x) {
             Page::Empty => 0,
             Page::One(cell) => self.cells.word(cell),
-            Page::Several => u32::from_le_bytes([
-                self.byte_of_several(x),
-                self.byte_of_several(x + 1),
-                self.byte_of_several(x + 2),
-                self.byte_of_several(x + 3),
-            ]),
+            Page::Several => self.word_of_several(x),
         }
     }
 
@@ -175,6 +190,28 @@ impl Vram {
         }
     }
 
+    #[inline(never)]
+    fn put_half_in_several(&mut self, x: u32, value: u16)
+        requires { x < 0x254000 }
+        ensures { self.new ≡ record self.old { bytes = put_by Half (put_in_cells self.old.controls) x value self.old.bytes } }
+    {
+        let bytes = value.to_le_bytes();
+        self.put_several(x, bytes[0]);
+        self.put_several(x + 1, bytes[1]);
+    }
+
+    #[inline(never)]
+    fn put_word_in_several(&mut self, x: u32, value: u32)
+        requires { x < 0x254000 }
+        ensures { self.new ≡ record self.old { bytes = put_by Word (put_in_cells self.old.controls) x value self.old.bytes } }
+    {
+        let bytes = value.to_le_bytes();
+        self.put_several(x, bytes[0]);
+        self.put_several(x + 1, bytes[1]);
+        self.put_several(x + 2, bytes[2]);
+        self.put_several(x + 3, bytes[3]);
+    }
+
     fn put_byte(&mut self, x: u32, value: u8)
         requires { x < 0x254000 }
         ensures { self.new ≡ record self.old { bytes = put_by Byte (put_in_cells self.old.controls) x value self.old.bytes } }
@@ -194,11 +231,7 @@ impl Vram {
         match self.map.found(x) {
             Page::Empty => {}
             Page::One(cell) => self.cells.put_half(cell, value),
-            Page::Several => {
-                let bytes = value.to_le_bytes();
-                self.put_several(x, bytes[0]);
-                self.put_several(x + 1, bytes[1]);
-            }
+            Page::Several => self.put_half_in_several(x, value),
         }
     }
 
@@ -210,13 +243,7 @@ impl Vram {
         match self.map.found(x) {
             Page::Empty => {}
             Page::One(cell) => self.cells.put_word(cell, value),
-            Page::Several => {
-                let bytes = value.to_le_bytes();
-                self.put_several(x, bytes[0]);
-                self.put_several(x + 1, bytes[1]);
-                self.put_several(x + 2, bytes[2]);
-                self.put_several(x + 3, bytes[3]);
-            }
+            Page::Several => self.put_word_in_several(x, value),
         }
     }
 

@@ -1,27 +1,30 @@
-use Rattle.std.proofs.Common.{ℕ, ◌/◌, ◌%◌, ◌^◌, ◌∙◌, ap, sym, get_or, arith}
-use Rattle.ds_base.specs.Bits.{bit}
-use Rattle.tiles2d.specs.Colours.{indexed_pixel, extended_colour}
+use Rattle.std.proofs.Common.{ℕ, Bool, ◌+◌, ◌*◌, ◌/◌, ◌^◌, ◌∙◌, ap, sym, get_or, arith}
+use Rattle.ds_base.specs.Bits.{bit, bits}
 use Rattle.tiles2d.specs.Tiles.{flipped}
-use Rattle.bg2d.proofs.TilingLemmas.{painted_16, painted_256, painted_extended, on_by, off_by}
+use Rattle.bg2d.proofs.TilingLemmas.{table_16, table_256, flipped_below}
 use Rattle.bg2d.proofs.texts.paint_tile.Goals as goal
 
-pub returns-then-not-has_256 : goal.returns-then-not-has_256
-returns-then-not-has_256 c = λ i lt.
-    let index : ℕ = get_or c.args.indices.now (flipped (bit 10 c.args.entry) i) 0 in
-    c.paint_standard.ensures i lt
-    ∙ painted_16 c.args.vram.now c.args.palette.now c.args.layer.now c.args.entry _ index (sym c.has_256.ensures ∙ c.if-not-has_256.true) (omega (arith, c.ranges.entry))
+pub returns-then-has_256 : goal.returns-then-has_256
+returns-then-has_256 c = λ i lt.
+    let a = c.args in
+    let place : ℕ = flipped (bit 10 a.entry) i in
+    let index : ℕ = get_or a.indices.now place 0 in
+    let byte = c.type_inv.indices place in
+    c.paint_by_table.ensures i lt
+    ∙ ap (λ (b : Bool). get_or a.table.now (0 + get_or a.indices.now (flipped b i) 0) 0) c.flips_across-flip.ensures
+    ∙ c.requires.table (0 + index) (omega (arith, byte))
+    ∙ table_256 a.vram.now a.palette.now a.layer.now a.entry index (sym c.has_256.ensures ∙ c.if-has_256.true) c.requires.standard (omega (arith, byte))
 
-pub returns-then-layer-eq1 : goal.returns-then-layer-eq1
-returns-then-layer-eq1 c = λ i lt.
-    let index : ℕ = get_or c.args.indices.now (flipped (bit 10 c.args.entry) i) 0 in
-    c.paint_extended.ensures i lt
-    ∙ ap (λ space. indexed_pixel (extended_colour c.args.vram.now space c.extended_palette.result) index) c.background_palette_space-space.ensures
-    ∙ painted_extended c.args.vram.now c.args.palette.now c.args.layer.now c.args.entry c.extended_palette.result index
-    (sym c.has_256.ensures ∙ c.if-not-has_256.false) (on_by (c.args.layer.now.display / 2 ^ 30 % 2) c.if-layer-eq1.true) c.extended_palette.ensures
-
-pub returns-else-layer-eq1 : goal.returns-else-layer-eq1
-returns-else-layer-eq1 c = λ i lt.
-    let index : ℕ = get_or c.args.indices.now (flipped (bit 10 c.args.entry) i) 0 in
-    c.paint_standard-else-layer-eq1.ensures i lt
-    ∙ painted_256 c.args.vram.now c.args.palette.now c.args.layer.now c.args.entry index
-    (sym c.has_256.ensures ∙ c.if-not-has_256.false) (off_by (c.args.layer.now.display / 2 ^ 30 % 2) c.if-layer-eq1.false)
+pub returns-else-has_256 : goal.returns-else-has_256
+returns-else-has_256 c = λ i lt.
+    let a = c.args in
+    let place : ℕ = flipped (bit 10 a.entry) i in
+    let index : ℕ = get_or a.indices.now place 0 in
+    let narrow = sym c.has_256.ensures ∙ c.if-has_256.false in
+    let small = c.requires.narrow narrow place (flipped_below (bit 10 a.entry) i lt) in
+    let fits = c.ranges.entry in
+    c.paint_by_table-else-has_256.ensures i lt
+    ∙ ap (λ (b : Bool). get_or a.table.now (16 * (a.entry / 2 ^ 12) + get_or a.indices.now (flipped b i) 0) 0) c.flips_across-flip.ensures
+    ∙ ap (λ (n : ℕ). get_or a.table.now (n + index) 0) (omega (arith, fits))
+    ∙ c.requires.table (16 * bits 12 4 a.entry + index) (omega (arith, small))
+    ∙ table_16 a.vram.now a.palette.now a.layer.now a.entry index narrow small

@@ -1,5 +1,5 @@
 use Rattle.bg2d.specs.rows.Tiling.{ArePainted}
-use Rattle.bg2d.proofs.texts.paint.Given as goal
+use Rattle.bg2d.proofs.texts.paint_by_standard.Given as goal
 
 abbrev pub invariant-loop-k : goal.invariant-loop-k
 invariant-loop-k l = ArePainted l.vram l.palette l.layer l.entries l.indices l.into l.k

@@ -1,4 +1,4 @@
-use Rattle.std.specs.Prelude.{ℕ, ◌+◌, ◌*◌, ◌^◌, List, [], ◌∷◌, ◌++◌, codes, not, ◌&&◌, if◌then◌else◌}
+use Rattle.std.specs.Prelude.{ℕ, ◌+◌, ◌*◌, ◌^◌, List, [], ◌∷◌, ◌++◌, codes, Bool, true, false, not, ◌&&◌, if◌then◌else◌}
 use Rattle.asm_text.specs.Text.{joined, where_set, decimal, hex, number, register_name, register_list}
 use Rattle.asm_text.specs.Names.{suffix, shift_name, data_name, compare_name, move_name, half_name, saturating_name, long_name, half_letter, load_name, block_mode, status_name, field_letters, immediate_name, thumb_data_name, high_name, transfer_name}
 use Rattle.asm_text.specs.Operands.{operand, small_operand, offset, short_offset, at_offset, address, amount_shown}
@@ -8,7 +8,14 @@ use Rattle.arm_words.specs.declared.parts.Condition.{Condition}
 use Rattle.arm_words.specs.declared.parts.Shift.{Shift}
 use Rattle.arm_words.specs.declared.parts.Shift.TheVariants.{Lsl, Lsr, Asr, Ror}
 use Rattle.arm_words.specs.declared.instructions.Instr.{Instr}
+use Rattle.arm_words.specs.declared.spellings.Spelling.{Spelling}
+use Rattle.arm_words.specs.declared.spellings.Spelling.TheVariants.{Word, Half}
 use Rattle.arm_words.specs.declared.instructions.Instr.TheVariants.{Bx, BlxRegister, Bkpt, Clz, Saturating, Smla, Smlaw, Smulw, Smlal, Smul, Mul, Mla, LongMultiply, Swap, HalfTransfer, Mrs, Msr, MsrImmediate, Compare, Move, Data, DoubleTransfer, Transfer, Multiple, Branch, Coprocessor, Swi, BlxTarget, Pld, Never, ThumbAddSub, ThumbShift, ThumbImmediate, ThumbData, ThumbBx, ThumbBlxRegister, ThumbHigh, ThumbLoadLiteral, ThumbRegisterOffset, ThumbImmediateOffset, ThumbHalfOffset, ThumbStackOffset, ThumbAddress, ThumbAdjustStack, ThumbPushPop, ThumbBkpt, ThumbMultiple, ThumbBranchIf, ThumbSwi, ThumbBranch, ThumbBlxSuffix, ThumbBlPrefix, ThumbBlSuffix}
+
+-- whether a spelling is a half
+abbrev pub is_half : Spelling → Bool
+is_half (Word word) = false
+is_half (Half half) = true
 
 -- a name and its operands, with a comma and a space between them
 abbrev pub with_operands : List ℕ → List (List ℕ) → List ℕ

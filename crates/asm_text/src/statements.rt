@@ -1,8 +1,9 @@
 //! The statement of an instruction.
 
-ghost use Rattle.std.specs.Prelude.{◌≡◌, ◌+◌, ◌≤◌, length, ◌++◌};
+ghost use Rattle.std.specs.Prelude.{◌≡◌, ◌+◌, ◌≤◌, length, ◌++◌, true};
 ghost use Rattle.arm_words.specs.Fields.{HasFields};
-ghost use Rattle.asm_text.specs.Statements.{statement};
+ghost use Rattle.arm_words.specs.Spellings.{spelled};
+ghost use Rattle.asm_text.specs.Statements.{is_half, statement};
 
 use crate::lines::Line;
 use crate::names::{
@@ -206,6 +207,18 @@ pub fn statement(at: u32, instr: &Instr, into: &mut Line)
         Instr::BlxTarget { half, offset } => arm::blx_target(at, half, offset, into),
         Instr::Pld { up, rn, offset } => arm::pld(at, up, rn, offset, into),
         Instr::Never { .. } => {}
+        _ => of_thumb(at, instr, into),
+    }
+}
+
+/// Adds the statement of an instruction that is a half.
+fn of_thumb(at: u32, instr: &Instr, into: &mut Line)
+    requires room { length into.old ≡ 0 }
+    requires fields { HasFields instr.now }
+    requires half { is_half (spelled instr.now) ≡ true }
+    ensures { into.new ≡ into.old ++ statement at instr.now }
+{
+    match *instr {
         Instr::ThumbAddSub {
             subtract,
             operand,
@@ -256,5 +269,6 @@ pub fn statement(at: u32, instr: &Instr, into: &mut Line)
         Instr::ThumbBlxSuffix { offset } => thumb::marked("blxl", offset as u32, into),
         Instr::ThumbBlPrefix { offset } => thumb::marked("blh", offset as u32, into),
         Instr::ThumbBlSuffix { offset } => thumb::marked("bll", offset as u32, into),
+        _ => {}
     }
 }

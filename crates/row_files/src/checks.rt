@@ -6,11 +6,16 @@ use crate::views::Views;
 use std::alloc::{AllocError, Global};
 use std::fmt::Write;
 
-/// Numbers as a text, hexadecimal and each after a blank.
+/// Adds a number to a text, hexadecimal and after a blank.
+fn tell(text: &mut String, number: u64) -> Result<(), AllocError> {
+    write!(text, " {number:x}")
+}
+
+/// Numbers as such a text.
 fn told(alloc: Global, numbers: &[u64]) -> Result<String, AllocError> {
     let mut text = String::new(alloc);
     for number in numbers {
-        write!(text, " {number:x}")?;
+        tell(&mut text, *number)?;
     }
     Ok(text)
 }
@@ -20,7 +25,7 @@ fn told_wanted(alloc: Global, numbers: &[Option<u64>]) -> Result<String, AllocEr
     let mut text = String::new(alloc);
     for number in numbers {
         match number {
-            Some(number) => write!(text, " {number:x}")?,
+            Some(number) => tell(&mut text, *number)?,
             None => text.push_str(" _")?,
         }
     }
@@ -32,9 +37,9 @@ fn are(seen: &[u64], wanted: &[Option<u64>]) -> bool {
     if seen.len() != wanted.len() {
         return false;
     }
-    for (seen, wanted) in seen.iter().zip(wanted.iter()) {
-        if let Some(wanted) = wanted
-            && wanted != seen
+    for i in 0..wanted.len() {
+        if let Some(number) = wanted[i]
+            && number != seen[i]
         {
             return false;
         }
@@ -68,8 +73,7 @@ fn bytes_differ(alloc: Global, seen: &[u8], wanted: &[u8]) -> Result<Option<Stri
     if seen == wanted {
         return Ok(None);
     }
-    let first = seen.get(..seen.len().min(100)).unwrap_or(&[]);
-    let first = String::from_utf8_lossy(alloc, first)?;
+    let first = String::from_utf8_lossy(alloc, from_place(seen, 0, 100))?;
     let (seen, wanted) = (seen.len(), wanted.len());
     let text = format!(in alloc; "seen {seen} bytes, wanted {wanted}; they begin with {first:?}")?;
     Ok(Some(text))

@@ -1,137 +1,223 @@
 //! Going over the words of a line: names, numbers and bytes.
 
 use crate::faults::BadLine;
+use crate::lists::push;
 use crate::tokens::Token;
 use ds_base::Proc;
 use ds_places::rom_word;
-use std::alloc::Global;
+use std::alloc::{AllocError, Global};
 
-/// The words of a line that are still to be read.
-#[derive(Clone, Copy)]
+/// The words of a line that are still to be read. What is wrong first is kept, and what is read after it counts for nothing.
+#[derive(Drop)]
 pub struct Cursor<'a> {
+    /// Where memory comes from.
+    alloc: Global,
     tokens: &'a [Token],
+    bad: Option<BadLine>,
 }
 
 impl<'a> Cursor<'a> {
     /// All of these words.
-    pub fn new(tokens: &'a [Token]) -> Cursor<'a> {
-        Cursor { tokens }
-    }
-
-    /// The next one, where there is one.
-    fn step(&mut self) -> Option<&'a Token> {
-        let (first, rest) = self.tokens.split_first()?;
-        self.tokens = rest;
-        Some(first)
-    }
-
-    /// The characters of the next.
-    pub fn word(&mut self) -> Result<&'a str, BadLine> {
-        match self.step() {
-            Some(token) => Ok(token.text.as_str()),
-            None => Err(BadLine::TooShort),
+    pub fn new(alloc: Global, tokens: &'a [Token]) -> Cursor<'a> {
+        Cursor {
+            alloc,
+            tokens,
+            bad: None,
         }
     }
 
-    /// The next as a text that is kept.
-    pub fn name(&mut self, alloc: Global) -> Result<String, BadLine> {
-        Ok(String::from_str(alloc, self.word()?)?)
+    /// Keeps that something is wrong.
+    pub fn fail(&mut self, bad: BadLine) {
+        if self.bad.is_none() {
+            self.bad = Some(bad);
+        }
+    }
+
+    /// The characters of the next.
+    pub fn word(&mut self) -> &'a str {
+        let tokens = self.tokens;
+        match tokens {
+            [first, rest @ ..] => {
+                self.tokens = rest;
+                first.text.as_str()
+            }
+            [] => {
+                self.fail(BadLine::TooShort);
+                ""
+            }
+        }
     }
 
     /// The next as a decimal number.
-    pub fn number(&mut self) -> Result<u64, BadLine> {
-        match self.word()?.parse::<u64>() {
-            Ok(number) => Ok(number),
-            Err(_) => Err(BadLine::NoNumber),
+    pub fn number(&mut self) -> u64 {
+        match self.word().parse::<u64>() {
+            Ok(number) => number,
+            Err(_) => {
+                self.fail(BadLine::NoNumber);
+                0
+            }
         }
     }
 
     /// The next as a decimal number that is a length.
-    pub fn length(&mut self) -> Result<usize, BadLine> {
-        match self.word()?.parse::<usize>() {
-            Ok(length) => Ok(length),
-            Err(_) => Err(BadLine::NoNumber),
+    pub fn length(&mut self) -> usize {
+        match self.word().parse::<usize>() {
+            Ok(length) => length,
+            Err(_) => {
+                self.fail(BadLine::NoNumber);
+                0
+            }
         }
     }
 
     /// The next as a hexadecimal number.
-    pub fn hex(&mut self) -> Result<u32, BadLine> {
-        match u32::from_str_radix(self.word()?, 16) {
-            Ok(number) => Ok(number),
-            Err(_) => Err(BadLine::NoNumber),
+    pub fn hex(&mut self) -> u32 {
+        match u32::from_str_radix(self.word(), 16) {
+            Ok(number) => number,
+            Err(_) => {
+                self.fail(BadLine::NoNumber);
+                0
+            }
         }
     }
 
     /// The next as a decimal number, or a hexadecimal one; `_` is none.
-    pub fn perhaps(&mut self, radix: Radix) -> Result<Option<u64>, BadLine> {
-        number_of(self.word()?, radix)
+    pub fn perhaps(&mut self, radix: Radix) -> Option<u64> {
+        let word = self.word();
+        if word == "_" {
+            return None;
+        }
+        let number = match radix {
+            Radix::Decimal => word.parse::<u64>(),
+            Radix::Hex => u64::from_str_radix(word, 16),
+        };
+        match number {
+            Ok(number) => Some(number),
+            Err(_) => {
+                self.fail(BadLine::NoNumber);
+                None
+            }
+        }
+    }
+
+    /// A word as a text that is kept.
+    fn kept(&mut self, word: &str) -> String {
+        match String::from_str(self.alloc, word) {
+            Ok(text) => text,
+            Err(_) => {
+                self.fail(BadLine::NoMemory);
+                String::new(self.alloc)
+            }
+        }
+    }
+
+    /// Puts a value behind others.
+    fn push<T: Drop>(&mut self, values: &mut Vec<T>, value: T) {
+        match push(values, value) {
+            Ok(()) => {}
+            Err(_) => self.fail(BadLine::NoMemory),
+        }
+    }
+
+    /// These numbers, as a list that is kept.
+    pub fn list(&mut self, numbers: &[Option<u64>]) -> Vec<Option<u64>> {
+        match Vec::from_slice(self.alloc, numbers) {
+            Ok(numbers) => numbers,
+            Err(_) => {
+                self.fail(BadLine::NoMemory);
+                Vec::new(self.alloc)
+            }
+        }
+    }
+
+    /// These words, as texts that are kept.
+    pub fn texts(&mut self, words: &[&str]) -> Vec<String> {
+        let mut texts = Vec::new(self.alloc);
+        for word in words {
+            let text = self.kept(word);
+            self.push(&mut texts, text);
+        }
+        texts
+    }
+
+    /// The next as a text that is kept.
+    pub fn name(&mut self) -> String {
+        let word = self.word();
+        self.kept(word)
     }
 
     /// All that are left, as texts.
-    pub fn names(&mut self, alloc: Global) -> Result<Vec<String>, BadLine> {
-        let mut names = Vec::new(alloc);
-        for token in self.tokens {
-            names.push(String::from_str(alloc, token.text.as_str())?)?;
+    pub fn names(&mut self) -> Vec<String> {
+        let mut names = Vec::new(self.alloc);
+        for _ in 0..self.tokens.len() {
+            let name = self.name();
+            self.push(&mut names, name);
         }
-        self.tokens = &[];
-        Ok(names)
+        names
     }
 
     /// All that are left, as one text with a blank between each two.
-    pub fn text(&mut self, alloc: Global) -> Result<String, BadLine> {
-        let mut text = String::new(alloc);
-        for token in self.tokens {
-            if !text.is_empty() {
-                text.push(' ')?;
+    pub fn text(&mut self) -> String {
+        match joined(self.alloc, self.tokens) {
+            Ok(text) => {
+                self.tokens = &[];
+                text
             }
-            text.push_str(token.text.as_str())?;
+            Err(_) => {
+                self.fail(BadLine::NoMemory);
+                String::new(self.alloc)
+            }
         }
-        self.tokens = &[];
-        Ok(text)
     }
 
-    /// All that are left, as decimal numbers, or hexadecimal ones; `_` is none.
-    pub fn numbers(&mut self, alloc: Global, radix: Radix) -> Result<Vec<Option<u64>>, BadLine> {
-        let mut numbers = Vec::new(alloc);
-        for token in self.tokens {
-            numbers.push(number_of(token.text.as_str(), radix)?)?;
+    /// All that are left and one at least, as decimal numbers, or hexadecimal ones; `_` is none.
+    pub fn numbers(&mut self, radix: Radix) -> Vec<Option<u64>> {
+        if self.tokens.is_empty() {
+            self.fail(BadLine::TooShort);
         }
-        self.tokens = &[];
-        Ok(numbers)
+        let mut numbers = Vec::new(self.alloc);
+        for _ in 0..self.tokens.len() {
+            let number = self.perhaps(radix);
+            self.push(&mut numbers, number);
+        }
+        numbers
     }
 
     /// All that are left, as hexadecimal words.
-    pub fn words(&mut self, alloc: Global) -> Result<Vec<u32>, BadLine> {
-        let mut words = Vec::new(alloc);
+    pub fn words(&mut self) -> Vec<u32> {
+        let mut words = Vec::new(self.alloc);
         for _ in 0..self.tokens.len() {
-            words.push(self.hex()?)?;
+            let word = self.hex();
+            self.push(&mut words, word);
         }
-        Ok(words)
+        words
     }
 
     /// All that are left, as bytes.
-    pub fn bytes(&mut self, alloc: Global) -> Result<Vec<u8>, BadLine> {
-        let mut bytes = Vec::new(alloc);
-        let mut times = 1;
-        for token in self.tokens {
-            match times_of(token)? {
-                Some(number) => times = number,
-                None => {
-                    add_token(&mut bytes, token, times)?;
-                    times = 1;
-                }
+    pub fn bytes(&mut self) -> Vec<u8> {
+        match bytes_of(self.alloc, self.tokens) {
+            Ok(bytes) => {
+                self.tokens = &[];
+                bytes
+            }
+            Err(bad) => {
+                self.fail(bad);
+                Vec::new(self.alloc)
             }
         }
-        self.tokens = &[];
-        Ok(bytes)
     }
 
-    /// Nothing is left.
+    /// What is wrong, or this.
+    pub fn bad_or(&self, bad: BadLine) -> BadLine {
+        self.bad.unwrap_or(bad)
+    }
+
+    /// What is wrong, if only that something is left.
     pub fn end(&self) -> Result<(), BadLine> {
-        if self.tokens.is_empty() {
-            Ok(())
-        } else {
-            Err(BadLine::TooLong)
+        match self.bad {
+            Some(bad) => Err(bad),
+            None if self.tokens.is_empty() => Ok(()),
+            None => Err(BadLine::TooLong),
         }
     }
 }
@@ -145,19 +231,32 @@ pub enum Radix {
     Hex,
 }
 
-/// The number that a word is; `_` is none.
-fn number_of(word: &str, radix: Radix) -> Result<Option<u64>, BadLine> {
-    if word == "_" {
-        return Ok(None);
+/// Tokens as one text with a blank between each two.
+fn joined(alloc: Global, tokens: &[Token]) -> Result<String, AllocError> {
+    let mut text = String::new(alloc);
+    for token in tokens {
+        if !text.is_empty() {
+            text.push(' ')?;
+        }
+        text.push_str(token.text.as_str())?;
     }
-    let number = match radix {
-        Radix::Decimal => word.parse::<u64>(),
-        Radix::Hex => u64::from_str_radix(word, 16),
-    };
-    match number {
-        Ok(number) => Ok(Some(number)),
-        Err(_) => Err(BadLine::NoNumber),
+    Ok(text)
+}
+
+/// The bytes that tokens stand for.
+fn bytes_of(alloc: Global, tokens: &[Token]) -> Result<Vec<u8>, BadLine> {
+    let mut bytes = Vec::new(alloc);
+    let mut times = 1;
+    for token in tokens {
+        match times_of(token)? {
+            Some(number) => times = number,
+            None => {
+                add_token(&mut bytes, token, times)?;
+                times = 1;
+            }
+        }
     }
+    Ok(bytes)
 }
 
 /// How many times the next token stands, where a token says that: `N*`.

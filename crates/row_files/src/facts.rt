@@ -4,7 +4,6 @@ use crate::cursors::{Cursor, Radix};
 use crate::faults::BadLine;
 use crate::setups::proc_of;
 use ds_base::{Memory, Proc};
-use std::alloc::Global;
 
 /// Numbers that are looked at.
 #[derive(Clone, Copy)]
@@ -75,92 +74,142 @@ const REGISTERS: [&str; 37] = [
     "spsr_fiq", "spsr_svc", "spsr_abt", "spsr_irq", "spsr_und",
 ];
 
+/// What stands behind a word that is looked at.
+#[derive(Clone, Copy)]
+enum Form {
+    /// Numbers in these digits.
+    Numbers(Quantity, Radix),
+    /// Nothing: the word itself says that it is this number.
+    Word(Quantity, u64),
+    /// Bytes.
+    Bytes(Text),
+    /// A place, and bytes.
+    At,
+    /// A frame, a pixel of the upper screen, or of the lower one, and bytes.
+    Pixels(bool),
+    /// A frame, and its tick.
+    Frame,
+    /// The record of a stop.
+    Stop,
+    /// A processor, and what it does next.
+    Seen,
+    /// A register of this processor, and numbers.
+    Registers(Proc),
+    /// A place in this memory, and numbers.
+    Words(Memory),
+}
+
+/// The words that are looked at.
+const FORMS: [(&str, Form); 30] = [
+    ("status", Form::Numbers(Quantity::Status, Radix::Decimal)),
+    ("length", Form::Numbers(Quantity::Length, Radix::Decimal)),
+    ("end", Form::Numbers(Quantity::End, Radix::Decimal)),
+    ("stop", Form::Stop),
+    ("note", Form::Bytes(Text::Note)),
+    ("out", Form::Bytes(Text::Out)),
+    ("told", Form::Word(Quantity::Told, 1)),
+    ("untold", Form::Word(Quantity::Told, 0)),
+    ("front", Form::Word(Quantity::Kept, 1)),
+    ("same", Form::Word(Quantity::Kept, 2)),
+    ("at", Form::At),
+    ("upper", Form::Pixels(false)),
+    ("lower", Form::Pixels(true)),
+    ("frame", Form::Frame),
+    ("counts", Form::Numbers(Quantity::Counts, Radix::Decimal)),
+    ("next", Form::Numbers(Quantity::Next, Radix::Decimal)),
+    ("limit", Form::Numbers(Quantity::Limit, Radix::Decimal)),
+    ("console", Form::Word(Quantity::Consoles, 1)),
+    ("empty", Form::Word(Quantity::Consoles, 0)),
+    ("seen", Form::Seen),
+    ("nine", Form::Registers(Proc::Nine)),
+    ("seven", Form::Registers(Proc::Seven)),
+    ("main", Form::Words(Memory::Main)),
+    ("shared", Form::Words(Memory::Shared)),
+    ("own7", Form::Words(Memory::Own7)),
+    ("itcm", Form::Words(Memory::Itcm)),
+    ("dtcm", Form::Words(Memory::Dtcm)),
+    ("palette", Form::Words(Memory::Palette)),
+    ("vram", Form::Words(Memory::Vram)),
+    ("oam", Form::Words(Memory::Oam)),
+];
+
+/// What a word says is looked at.
+fn form_of(word: &str) -> Option<Form> {
+    for (name, form) in &FORMS {
+        if *name == word {
+            return Some(*form);
+        }
+    }
+    None
+}
+
 /// What a register's name stands for.
-fn register_of(proc: Proc, word: &str) -> Result<Quantity, BadLine> {
+fn register_of(proc: Proc, line: &mut Cursor<'_>) -> Quantity {
+    let word = line.word();
     if word == "cpsr_c" {
-        return Ok(Quantity::Control(proc));
+        return Quantity::Control(proc);
     }
     for (number, name) in REGISTERS.iter().enumerate() {
         if *name == word {
-            return Ok(Quantity::Registers(proc, number));
+            return Quantity::Registers(proc, number);
         }
     }
-    Err(BadLine::NoSuchWord)
-}
-
-/// A memory, by its name.
-fn memory_of(word: &str) -> Option<Memory> {
-    let memory = match word {
-        "main" => Memory::Main,
-        "shared" => Memory::Shared,
-        "own7" => Memory::Own7,
-        "itcm" => Memory::Itcm,
-        "dtcm" => Memory::Dtcm,
-        "palette" => Memory::Palette,
-        "vram" => Memory::Vram,
-        "oam" => Memory::Oam,
-        _ => return None,
-    };
-    Some(memory)
+    line.fail(BadLine::NoSuchWord);
+    Quantity::Control(proc)
 }
 
 /// Numbers, from what is left of a line.
-fn numbers(
-    alloc: Global,
-    of: Quantity,
-    radix: Radix,
-    line: &mut Cursor<'_>,
-) -> Result<Fact, BadLine> {
-    let wanted = line.numbers(alloc, radix)?;
-    if wanted.is_empty() {
-        return Err(BadLine::TooShort);
-    }
-    Ok(Fact::Numbers { of, wanted })
-}
-
-/// One number.
-fn number(alloc: Global, of: Quantity, number: u64) -> Result<Fact, BadLine> {
-    let wanted = Vec::from_slice(alloc, &[Some(number)])?;
-    Ok(Fact::Numbers { of, wanted })
+fn numbers(of: Quantity, radix: Radix, line: &mut Cursor<'_>) -> Fact {
+    let wanted = line.numbers(radix);
+    Fact::Numbers { of, wanted }
 }
 
 /// The record of a stop: tick, rank and kind in decimal digits, the value in hexadecimal ones.
-fn stop(alloc: Global, line: &mut Cursor<'_>) -> Result<Fact, BadLine> {
-    let tick = line.perhaps(Radix::Decimal)?;
-    let rank = line.perhaps(Radix::Decimal)?;
-    let kind = line.perhaps(Radix::Decimal)?;
-    let value = line.perhaps(Radix::Hex)?;
-    let of = Quantity::Stop;
-    let wanted = Vec::from_slice(alloc, &[tick, rank, kind, value])?;
-    Ok(Fact::Numbers { of, wanted })
-}
-
-/// The numbers of what a processor does next: `idle`, `irq R15`, `word AT WORD` or `half AT HALF`.
-fn seen_numbers(alloc: Global, line: &mut Cursor<'_>) -> Result<Vec<Option<u64>>, BadLine> {
-    match line.word()? {
-        "idle" => Ok(Vec::from_slice(alloc, &[Some(0)])?),
-        "irq" => {
-            let at = u64::from(line.hex()?);
-            Ok(Vec::from_slice(alloc, &[Some(1), Some(at)])?)
-        }
-        "word" => fetched(alloc, 2, line),
-        "half" => fetched(alloc, 3, line),
-        _ => Err(BadLine::NoSuchWord),
+fn stop(line: &mut Cursor<'_>) -> Fact {
+    let tick = line.perhaps(Radix::Decimal);
+    let rank = line.perhaps(Radix::Decimal);
+    let kind = line.perhaps(Radix::Decimal);
+    let value = line.perhaps(Radix::Hex);
+    let wanted = line.list(&[tick, rank, kind, value]);
+    Fact::Numbers {
+        of: Quantity::Stop,
+        wanted,
     }
 }
 
-/// The numbers of what was fetched: the kind's, its address, and itself.
-fn fetched(alloc: Global, kind: u64, line: &mut Cursor<'_>) -> Result<Vec<Option<u64>>, BadLine> {
-    let at = u64::from(line.hex()?);
-    let code = u64::from(line.hex()?);
-    Ok(Vec::from_slice(alloc, &[Some(kind), Some(at), Some(code)])?)
+/// The number of what a processor does next, by its name.
+fn seen_number(line: &mut Cursor<'_>) -> u64 {
+    match line.word() {
+        "idle" => 0,
+        "irq" => 1,
+        "word" => 2,
+        "half" => 3,
+        _ => {
+            line.fail(BadLine::NoSuchWord);
+            0
+        }
+    }
+}
+
+/// The numbers of what a processor does next: `idle`, `irq R15`, `word AT WORD` or `half AT HALF`.
+fn seen_numbers(line: &mut Cursor<'_>) -> Vec<Option<u64>> {
+    let kind = seen_number(line);
+    if kind == 0 {
+        return line.list(&[Some(kind)]);
+    }
+    let at = u64::from(line.hex());
+    if kind == 1 {
+        return line.list(&[Some(kind), Some(at)]);
+    }
+    let code = u64::from(line.hex());
+    line.list(&[Some(kind), Some(at), Some(code)])
 }
 
 /// What a processor does next.
-fn seen(alloc: Global, line: &mut Cursor<'_>) -> Result<Fact, BadLine> {
-    let of = Quantity::Seen(proc_of(line)?);
-    let wanted = seen_numbers(alloc, line)?;
-    Ok(Fact::Numbers { of, wanted })
+fn seen(line: &mut Cursor<'_>) -> Fact {
+    let of = Quantity::Seen(proc_of(line));
+    let wanted = seen_numbers(line);
+    Fact::Numbers { of, wanted }
 }
 
 /// The record of a frame has the letter, its tick, and then the upper screen's pixels and the lower's: 192 lines of 256 pixels of two bytes.
@@ -172,111 +221,48 @@ pub fn frame_at(number: usize) -> usize {
 }
 
 /// The place of a pixel of a screen, which is the upper or the lower one: `FRAME X Y`.
-fn pixel_at(is_lower: bool, line: &mut Cursor<'_>) -> Result<usize, BadLine> {
-    let frame = frame_at(line.length()?);
+fn pixel_at(is_lower: bool, line: &mut Cursor<'_>) -> usize {
+    let frame = frame_at(line.length());
     let screen = if is_lower { 98_313 } else { 9 };
-    let across = line.length()?.saturating_mul(2);
-    let down = line.length()?.saturating_mul(512);
+    let across = line.length().saturating_mul(2);
+    let down = line.length().saturating_mul(512);
     let place = frame.saturating_add(screen).saturating_add(across);
-    Ok(place.saturating_add(down))
+    place.saturating_add(down)
 }
 
 /// Bytes, from what is left of a line.
-fn bytes(alloc: Global, of: Text, line: &mut Cursor<'_>) -> Result<Fact, BadLine> {
-    let wanted = line.bytes(alloc)?;
-    Ok(Fact::Bytes { of, wanted })
+fn bytes(of: Text, line: &mut Cursor<'_>) -> Fact {
+    let wanted = line.bytes();
+    Fact::Bytes { of, wanted }
 }
 
-/// Bytes of the output from a place on.
-fn place(alloc: Global, line: &mut Cursor<'_>) -> Result<Fact, BadLine> {
-    let place = line.length()?;
-    bytes(alloc, Text::OutAt(place), line)
-}
-
-/// Bytes of the output from a pixel on.
-fn pixels(alloc: Global, is_lower: bool, line: &mut Cursor<'_>) -> Result<Fact, BadLine> {
-    let place = pixel_at(is_lower, line)?;
-    bytes(alloc, Text::OutAt(place), line)
-}
-
-/// The tick of a frame.
-fn frame(alloc: Global, line: &mut Cursor<'_>) -> Result<Fact, BadLine> {
-    let of = Quantity::Frame(line.length()?);
-    numbers(alloc, of, Radix::Decimal, line)
-}
-
-/// What a line says of a place of the output, or of a frame in it.
-fn place_line(alloc: Global, word: &str, line: &mut Cursor<'_>) -> Result<Option<Fact>, BadLine> {
-    let fact = match word {
-        "at" => place(alloc, line),
-        "upper" => pixels(alloc, false, line),
-        "lower" => pixels(alloc, true, line),
-        "frame" => frame(alloc, line),
-        _ => return Ok(None),
-    };
-    Ok(Some(fact?))
-}
-
-/// What a line says of what the call wrote and answered.
-fn answer_line(alloc: Global, word: &str, line: &mut Cursor<'_>) -> Result<Option<Fact>, BadLine> {
-    let fact = match word {
-        "status" => numbers(alloc, Quantity::Status, Radix::Decimal, line),
-        "length" => numbers(alloc, Quantity::Length, Radix::Decimal, line),
-        "end" => numbers(alloc, Quantity::End, Radix::Decimal, line),
-        "stop" => stop(alloc, line),
-        "note" => bytes(alloc, Text::Note, line),
-        "out" => bytes(alloc, Text::Out, line),
-        "told" => number(alloc, Quantity::Told, 1),
-        "untold" => number(alloc, Quantity::Told, 0),
-        "front" => number(alloc, Quantity::Kept, 1),
-        "same" => number(alloc, Quantity::Kept, 2),
-        _ => return Ok(None),
-    };
-    Ok(Some(fact?))
-}
-
-/// What a line says of the console that the call left.
-fn console_line(alloc: Global, word: &str, line: &mut Cursor<'_>) -> Result<Option<Fact>, BadLine> {
-    let fact = match word {
-        "counts" => numbers(alloc, Quantity::Counts, Radix::Decimal, line),
-        "next" => numbers(alloc, Quantity::Next, Radix::Decimal, line),
-        "limit" => numbers(alloc, Quantity::Limit, Radix::Decimal, line),
-        "console" => number(alloc, Quantity::Consoles, 1),
-        "empty" => number(alloc, Quantity::Consoles, 0),
-        "seen" => seen(alloc, line),
-        "nine" => registers(alloc, Proc::Nine, line),
-        "seven" => registers(alloc, Proc::Seven, line),
-        _ => return Ok(None),
-    };
-    Ok(Some(fact?))
-}
-
-/// Registers of a processor, from a named one on.
-fn registers(alloc: Global, proc: Proc, line: &mut Cursor<'_>) -> Result<Fact, BadLine> {
-    let of = register_of(proc, line.word()?)?;
-    numbers(alloc, of, Radix::Hex, line)
+/// What a line says of what a word says is looked at.
+fn fact_of(form: Form, line: &mut Cursor<'_>) -> Fact {
+    match form {
+        Form::Numbers(of, radix) => numbers(of, radix, line),
+        Form::Word(of, number) => Fact::Numbers {
+            of,
+            wanted: line.list(&[Some(number)]),
+        },
+        Form::Bytes(of) => bytes(of, line),
+        Form::At => bytes(Text::OutAt(line.length()), line),
+        Form::Pixels(is_lower) => bytes(Text::OutAt(pixel_at(is_lower, line)), line),
+        Form::Frame => numbers(Quantity::Frame(line.length()), Radix::Decimal, line),
+        Form::Stop => stop(line),
+        Form::Seen => seen(line),
+        Form::Registers(proc) => numbers(register_of(proc, line), Radix::Hex, line),
+        Form::Words(memory) => words(memory, line),
+    }
 }
 
 /// Words of a memory, from a place on.
-fn memory_line(alloc: Global, word: &str, line: &mut Cursor<'_>) -> Result<Fact, BadLine> {
-    let Some(memory) = memory_of(word) else {
-        return Err(BadLine::NoSuchWord);
-    };
-    let of = Quantity::Words(memory, line.hex()? as usize);
-    numbers(alloc, of, Radix::Hex, line)
+fn words(memory: Memory, line: &mut Cursor<'_>) -> Fact {
+    let place = line.hex() as usize;
+    numbers(Quantity::Words(memory, place), Radix::Hex, line)
 }
 
-/// What a line says after `is`.
-pub fn fact_line(alloc: Global, line: &mut Cursor<'_>) -> Result<Fact, BadLine> {
-    let word = line.word()?;
-    if let Some(fact) = answer_line(alloc, word, line)? {
-        return Ok(fact);
-    }
-    if let Some(fact) = console_line(alloc, word, line)? {
-        return Ok(fact);
-    }
-    if let Some(fact) = place_line(alloc, word, line)? {
-        return Ok(fact);
-    }
-    memory_line(alloc, word, line)
+/// What a line says after `is`; nothing where no such line has its word.
+pub fn fact_line(line: &mut Cursor<'_>) -> Option<Fact> {
+    let form = form_of(line.word())?;
+    Some(fact_of(form, line))
 }

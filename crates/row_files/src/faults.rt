@@ -1,38 +1,45 @@
 //! Why a line of a file of rows says nothing.
 
 use std::alloc::{AllocError, AllocFailed};
-use thiserror::Error;
 
 /// Why a line says nothing.
-#[derive(Clone, Copy, Debug, Error)]
+#[derive(Clone, Copy)]
 pub enum BadLine {
     /// There was no memory for it.
-    #[error("out of memory")]
     NoMemory,
     /// It begins with a word, or has one after `is`, that isn't of the language.
-    #[error("a word that isn't of the language")]
     NoSuchWord,
     /// Something is missing at its end.
-    #[error("something is missing at its end")]
     TooShort,
     /// Something is left over at its end.
-    #[error("something is left over at its end")]
     TooLong,
     /// A number is none, or too large.
-    #[error("a number is none, or too large")]
     NoNumber,
     /// What stands for bytes isn't a text in quotes, nor two, four or eight hexadecimal digits.
-    #[error("bytes that are none")]
     NoBytes,
     /// A text's closing quote is missing, or what follows a backslash in it isn't known.
-    #[error("a text that doesn't end well")]
     BadText,
     /// It stands before the first table, or before the first row of its table.
-    #[error("no row begins before it")]
     OutsideRow,
     /// The cartridge that it speaks of is refused, so that it has no console.
-    #[error("there is no console")]
     NoConsole,
+}
+
+impl BadLine {
+    /// What is told of it.
+    pub fn text(self) -> &'static str {
+        match self {
+            BadLine::NoMemory => "out of memory",
+            BadLine::NoSuchWord => "a word that isn't of the language",
+            BadLine::TooShort => "something is missing at its end",
+            BadLine::TooLong => "something is left over at its end",
+            BadLine::NoNumber => "a number is none, or too large",
+            BadLine::NoBytes => "bytes that are none",
+            BadLine::BadText => "a text that doesn't end well",
+            BadLine::OutsideRow => "no row begins before it",
+            BadLine::NoConsole => "there is no console",
+        }
+    }
 }
 
 impl From<AllocError> for BadLine {

@@ -2,6 +2,7 @@
 
 use crate::faults::BadLine;
 use crate::lines::{Line, Said, add_lines};
+use crate::lists::push;
 use crate::tokens::{Token, tokens_of};
 use std::alloc::{AllocError, Global};
 
@@ -17,18 +18,6 @@ fn goes_on(tokens: &[Token]) -> bool {
     match tokens {
         [first, ..] => first.is("+"),
         [] => false,
-    }
-}
-
-impl Begun {
-    /// Adds what stands behind the `+`.
-    fn add(&mut self, tokens: Vec<Token>) -> Result<(), AllocError> {
-        for (i, token) in tokens.into_iter().enumerate() {
-            if i > 0 {
-                self.tokens.push(token)?;
-            }
-        }
-        Ok(())
     }
 }
 
@@ -59,8 +48,7 @@ impl Reader {
     fn keep_bad(&mut self, bad: BadLine) -> Result<(), AllocError> {
         let number = self.number;
         let line = Line::Bad(bad);
-        self.said.push(Said { number, line })?;
-        Ok(())
+        push(&mut self.said, Said { number, line })
     }
 
     /// Ends the line that was begun.
@@ -79,8 +67,10 @@ impl Reader {
         if tokens.is_empty() {
             return Ok(());
         }
+        let mut tokens = tokens;
         if goes_on(tokens.as_slice()) {
-            return self.begun.add(tokens);
+            tokens.remove(0);
+            return self.begun.tokens.append(&mut tokens);
         }
         self.end()?;
         self.begun = Begun {

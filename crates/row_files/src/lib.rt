@@ -3,8 +3,8 @@
 //!
 //! `files` reads a file into what its lines say. A line goes through `tokens` (its words and texts), `cursors` (numbers and bytes), and `lines` with its
 //! kinds: `setups` (what a call goes over) and `facts` (what is seen). `parts` finds the lines of tables, rows and parts of rows, and `scenes` puts together what a
-//! call goes over. `answers` is what it came to, `views` looks at that, `checks` holds it beside the fact, and `players` tells of it. A further word of the language is
-//! a variant and a line in its kind, and what plays it.
+//! call goes over; `lists` adds to lists. `answers` is what it came to, `views` looks at that, `checks` holds it beside the fact, and `players` tells of it.
+//! A further word of the language is a variant and a line in its kind, and what plays it.
 //!
 //! Its functions promise nothing beside being safe: what is known of shelves, sinks and consoles stands in their own crates.
 #![tactic(auto)]
@@ -16,6 +16,7 @@ mod facts;
 mod faults;
 mod files;
 mod lines;
+mod lists;
 mod parts;
 mod players;
 mod scenes;

@@ -3,7 +3,8 @@
 use crate::cursors::Cursor;
 use crate::facts::{Fact, fact_line};
 use crate::faults::BadLine;
-use crate::setups::{Setup, call_line, cartridge_line};
+use crate::lists::push;
+use crate::setups::{Setup, setup_line};
 use crate::tokens::Token;
 use std::alloc::{AllocError, Global};
 
@@ -56,101 +57,93 @@ pub struct Said {
     pub line: Line,
 }
 
-/// What a turn answers, and its limit after it: the limit, the answer's number, and where it stopped the numbers of the stop: kind, tick, rank and value.
-fn answer_of(alloc: Global, line: &mut Cursor<'_>) -> Result<Vec<Option<u64>>, BadLine> {
-    let until = Some(line.number()?);
-    match line.word()? {
-        "ran" => Ok(Vec::from_slice(alloc, &[until, Some(0)])?),
-        "frame" => Ok(Vec::from_slice(alloc, &[until, Some(1)])?),
-        "stopped" => stopped(alloc, until, line),
-        "at_end" => Ok(Vec::from_slice(alloc, &[until, Some(3)])?),
-        _ => Err(BadLine::NoSuchWord),
+/// The number of the answer of a turn that stopped.
+const STOPPED: u64 = 2;
+
+/// The number of a turn's answer, by its name.
+fn answer_number(line: &mut Cursor<'_>) -> u64 {
+    match line.word() {
+        "ran" => 0,
+        "frame" => 1,
+        "stopped" => STOPPED,
+        "at_end" => 3,
+        _ => {
+            line.fail(BadLine::NoSuchWord);
+            0
+        }
     }
+}
+
+/// What a turn answers, and its limit after it: the limit, the answer's number, and where it stopped the numbers of the stop: kind, tick, rank and value.
+fn answer_of(line: &mut Cursor<'_>) -> Vec<Option<u64>> {
+    let until = Some(line.number());
+    let answer = answer_number(line);
+    if answer == STOPPED {
+        return stopped(until, line);
+    }
+    line.list(&[until, Some(answer)])
 }
 
 /// What a turn answers that stopped.
-fn stopped(
-    alloc: Global,
-    until: Option<u64>,
-    line: &mut Cursor<'_>,
-) -> Result<Vec<Option<u64>>, BadLine> {
-    let kind = Some(line.number()?);
-    let tick = Some(line.number()?);
-    let rank = Some(line.number()?);
-    let value = Some(u64::from(line.hex()?));
-    Ok(Vec::from_slice(alloc, &[until, Some(2), kind, tick, rank, value])?)
+fn stopped(until: Option<u64>, line: &mut Cursor<'_>) -> Vec<Option<u64>> {
+    let kind = Some(line.number());
+    let tick = Some(line.number());
+    let rank = Some(line.number());
+    let value = Some(u64::from(line.hex()));
+    line.list(&[until, Some(STOPPED), kind, tick, rank, value])
 }
 
 /// A turn.
-fn turn(alloc: Global, line: &mut Cursor<'_>) -> Result<Act, BadLine> {
-    let until = line.number()?;
-    let wanted = answer_of(alloc, line)?;
-    Ok(Act::Turn { until, wanted })
+fn turn(line: &mut Cursor<'_>) -> Act {
+    let until = line.number();
+    let wanted = answer_of(line);
+    Act::Turn { until, wanted }
 }
 
 /// Turns until a frame is whole.
-fn frame(line: &mut Cursor<'_>) -> Result<Act, BadLine> {
-    let until = line.number()?;
-    let turns = line.number()?;
-    Ok(Act::Frame { until, turns })
-}
-
-/// Going past records of frames.
-fn past(line: &mut Cursor<'_>) -> Result<Act, BadLine> {
-    Ok(Act::Past(line.length()?))
-}
-
-/// Playing to a tick.
-fn play(line: &mut Cursor<'_>) -> Result<Act, BadLine> {
-    let until = line.number()?;
-    Ok(Act::Play { until })
+fn frame(line: &mut Cursor<'_>) -> Act {
+    let until = line.number();
+    let turns = line.number();
+    Act::Frame { until, turns }
 }
 
 /// What a line that begins with this word does; nothing where the word isn't such a line's.
-fn act_line(alloc: Global, word: &str, line: &mut Cursor<'_>) -> Result<Option<Act>, BadLine> {
+fn act_line(word: &str, line: &mut Cursor<'_>) -> Option<Act> {
     let act = match word {
-        "keep" => Ok(Act::Keep),
-        "past" => past(line),
-        "turn" => turn(alloc, line),
+        "keep" => Act::Keep,
+        "past" => Act::Past(line.length()),
+        "turn" => turn(line),
         "frame" => frame(line),
-        "play" => play(line),
-        _ => return Ok(None),
+        "play" => Act::Play {
+            until: line.number(),
+        },
+        _ => return None,
     };
-    Ok(Some(act?))
+    Some(act)
 }
 
-/// The line that begins with this word.
-fn line_of(alloc: Global, word: &str, line: &mut Cursor<'_>) -> Result<Line, BadLine> {
+/// The line that begins with this word; nothing where no line does.
+fn line_of(word: &str, line: &mut Cursor<'_>) -> Option<Line> {
     match word {
-        "table" => return Ok(Line::Table(line.text(alloc)?)),
-        "is" => return Ok(Line::Is(fact_line(alloc, line)?)),
+        "table" => return Some(Line::Table(line.text())),
+        "is" => return Some(Line::Is(fact_line(line)?)),
         _ => {}
     }
-    if let Some(setup) = cartridge_line(alloc, word, line)? {
-        return Ok(Line::Setup(setup));
+    match setup_line(word, line) {
+        Some(setup) => Some(Line::Setup(setup)),
+        None => Some(Line::Act(act_line(word, line)?)),
     }
-    if let Some(setup) = call_line(alloc, word, line)? {
-        return Ok(Line::Setup(setup));
-    }
-    match act_line(alloc, word, line)? {
-        Some(act) => Ok(Line::Act(act)),
-        None => Err(BadLine::NoSuchWord),
-    }
-}
-
-/// The line that these words and texts are.
-fn read_line(alloc: Global, tokens: &[Token]) -> Result<Line, BadLine> {
-    let mut line = Cursor::new(tokens);
-    let word = line.word()?;
-    let read = line_of(alloc, word, &mut line)?;
-    line.end()?;
-    Ok(read)
 }
 
 /// The line that these words and texts are, or why they are none.
-fn line_or_bad(alloc: Global, tokens: &[Token]) -> Line {
-    match read_line(alloc, tokens) {
-        Ok(line) => line,
+fn read_line(alloc: Global, tokens: &[Token]) -> Line {
+    let mut line = Cursor::new(alloc, tokens);
+    let word = line.word();
+    let Some(read) = line_of(word, &mut line) else {
+        return Line::Bad(line.bad_or(BadLine::NoSuchWord));
+    };
+    match line.end() {
+        Ok(()) => read,
         Err(bad) => Line::Bad(bad),
     }
 }
@@ -166,17 +159,15 @@ fn add_part(
     if let [first, behind @ ..] = tokens
         && first.is("row")
     {
-        said.push(Said {
-            number,
-            line: Line::Row,
-        })?;
+        let line = Line::Row;
+        push(said, Said { number, line })?;
         rest = behind;
     }
-    if !rest.is_empty() {
-        let line = line_or_bad(alloc, rest);
-        said.push(Said { number, line })?;
+    if rest.is_empty() {
+        return Ok(());
     }
-    Ok(())
+    let line = read_line(alloc, rest);
+    push(said, Said { number, line })
 }
 
 /// Adds the lines that these words of a file's line are, which begins at this number.

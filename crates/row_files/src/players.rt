@@ -82,8 +82,7 @@ impl Player {
 
     /// Tells why a line says nothing.
     fn tell_bad(&mut self, number: u64, bad: BadLine) -> Result<(), AllocError> {
-        let text = bad.to_string(self.alloc)?;
-        self.tell(number, text.as_str())
+        self.tell(number, bad.text())
     }
 
     /// Tells what came of a fact.

@@ -1,5 +1,6 @@
 //! What a call goes over: a cartridge, a shelf, sinks and words.
 
+use crate::lists::push;
 use crate::setups::{Part, Setup, Whose};
 use ds_base::Proc;
 use ds_io::Files;
@@ -106,9 +107,8 @@ fn add(file: &mut Vec<u8>, field: usize, image: &Image) -> Result<(), AllocError
 }
 
 /// Puts a file on a shelf.
-fn put(files: &mut Files, name: &String, bytes: Vec<u8>) -> Result<(), AllocError> {
-    files.push(name.clone()?, bytes)?;
-    Ok(())
+fn put(files: &mut Files, entry: &Entry) -> Result<(), AllocError> {
+    files.push(entry.name.clone()?, entry.bytes.clone()?)
 }
 
 impl Scene {
@@ -158,9 +158,9 @@ impl Scene {
     pub fn shelf(&self, alloc: Global) -> Result<Files, AllocError> {
         let mut files = Files::new(alloc);
         for entry in &self.files {
-            put(&mut files, &entry.name, entry.bytes.clone()?)?;
+            put(&mut files, entry)?;
         }
-        put(&mut files, &self.name, self.cart(alloc)?)?;
+        files.push(self.name.clone()?, self.cart(alloc)?)?;
         Ok(files)
     }
 
@@ -194,8 +194,7 @@ impl Scene {
     /// Puts words into the header.
     fn patch(&mut self, at: usize, words: &Vec<u32>) -> Result<(), AllocError> {
         let words = words.clone()?;
-        self.patches.push(Patch { at, words })?;
-        Ok(())
+        push(&mut self.patches, Patch { at, words })
     }
 
     /// Calls the cartridge's file by a name.
@@ -206,8 +205,7 @@ impl Scene {
 
     /// Puts a file on the shelf.
     fn put_file(&mut self, name: String, bytes: Vec<u8>) -> Result<(), AllocError> {
-        self.files.push(Entry { name, bytes })?;
-        Ok(())
+        push(&mut self.files, Entry { name, bytes })
     }
 
     /// Puts the cartridge as it stands on the shelf.

@@ -3,7 +3,6 @@
 use crate::cursors::Cursor;
 use crate::faults::BadLine;
 use ds_base::Proc;
-use std::alloc::Global;
 
 /// Whose image a line tells.
 #[derive(Clone, Copy)]
@@ -78,156 +77,136 @@ pub enum Setup {
 }
 
 /// A processor, by its name.
-pub fn proc_of(line: &mut Cursor<'_>) -> Result<Proc, BadLine> {
-    match line.word()? {
-        "nine" => Ok(Proc::Nine),
-        "seven" => Ok(Proc::Seven),
-        _ => Err(BadLine::NoSuchWord),
+pub fn proc_of(line: &mut Cursor<'_>) -> Proc {
+    match line.word() {
+        "nine" => Proc::Nine,
+        "seven" => Proc::Seven,
+        _ => {
+            line.fail(BadLine::NoSuchWord);
+            Proc::Nine
+        }
     }
 }
 
 /// What fails, by its name.
-fn part_of(line: &mut Cursor<'_>) -> Result<Part, BadLine> {
-    match line.word()? {
-        "shelf" => Ok(Part::Shelf),
-        "out" => Ok(Part::Out),
-        "notes" => Ok(Part::Notes),
-        _ => Err(BadLine::NoSuchWord),
+fn part_of(line: &mut Cursor<'_>) -> Part {
+    match line.word() {
+        "shelf" => Part::Shelf,
+        "out" => Part::Out,
+        "notes" => Part::Notes,
+        _ => {
+            line.fail(BadLine::NoSuchWord);
+            Part::Shelf
+        }
     }
 }
 
-/// Whose image a word names, and whether bytes come behind it.
-fn image_of(word: &str) -> Option<(Whose, bool)> {
-    match word {
-        "nine" => Some((Whose::One(Proc::Nine), false)),
-        "nine+" => Some((Whose::One(Proc::Nine), true)),
-        "seven" => Some((Whose::One(Proc::Seven), false)),
-        "seven+" => Some((Whose::One(Proc::Seven), true)),
-        "both" => Some((Whose::Both, false)),
-        "both+" => Some((Whose::Both, true)),
-        _ => None,
-    }
-}
+/// The words that begin an image: whose it is, and whether its bytes come behind what stands there.
+const IMAGES: [(&str, Whose, bool); 6] = [
+    ("nine", Whose::One(Proc::Nine), false),
+    ("nine+", Whose::One(Proc::Nine), true),
+    ("seven", Whose::One(Proc::Seven), false),
+    ("seven+", Whose::One(Proc::Seven), true),
+    ("both", Whose::Both, false),
+    ("both+", Whose::Both, true),
+];
 
-/// An image, from what is left of a line.
-fn image(alloc: Global, whose: Whose, adds: bool, line: &mut Cursor<'_>) -> Result<Setup, BadLine> {
-    let bytes = line.bytes(alloc)?;
-    Ok(Setup::Image { whose, adds, bytes })
+/// An image, where the word begins one.
+fn image_line(word: &str, line: &mut Cursor<'_>) -> Option<Setup> {
+    for (name, whose, adds) in &IMAGES {
+        if *name == word {
+            let bytes = line.bytes();
+            return Some(Setup::Image {
+                whose: *whose,
+                adds: *adds,
+                bytes,
+            });
+        }
+    }
+    None
 }
 
 /// A word of an image.
-fn put(line: &mut Cursor<'_>) -> Result<Setup, BadLine> {
-    let proc = proc_of(line)?;
-    let number = line.length()?;
-    let word = line.hex()?;
-    Ok(Setup::Put { proc, number, word })
+fn put(line: &mut Cursor<'_>) -> Setup {
+    let proc = proc_of(line);
+    let number = line.length();
+    let word = line.hex();
+    Setup::Put { proc, number, word }
 }
 
 /// Where an image goes.
-fn place(line: &mut Cursor<'_>) -> Result<Setup, BadLine> {
-    let proc = proc_of(line)?;
-    let place = line.hex()?;
-    Ok(Setup::Place { proc, place })
+fn place(line: &mut Cursor<'_>) -> Setup {
+    let proc = proc_of(line);
+    let place = line.hex();
+    Setup::Place { proc, place }
 }
 
 /// Where an image is entered.
-fn entry(line: &mut Cursor<'_>) -> Result<Setup, BadLine> {
-    let proc = proc_of(line)?;
-    let entry = line.hex()?;
-    Ok(Setup::Entry { proc, entry })
+fn entry(line: &mut Cursor<'_>) -> Setup {
+    let proc = proc_of(line);
+    let entry = line.hex();
+    Setup::Entry { proc, entry }
 }
 
 /// Words of the header.
-fn header(alloc: Global, line: &mut Cursor<'_>) -> Result<Setup, BadLine> {
-    let at = line.hex()? as usize;
-    let words = line.words(alloc)?;
-    Ok(Setup::Header { at, words })
-}
-
-/// The length of the cartridge's file.
-fn size(line: &mut Cursor<'_>) -> Result<Setup, BadLine> {
-    Ok(Setup::Size(line.length()?))
-}
-
-/// The name of the cartridge's file.
-fn cart(alloc: Global, line: &mut Cursor<'_>) -> Result<Setup, BadLine> {
-    Ok(Setup::Cart(line.name(alloc)?))
-}
-
-/// The name under which the cartridge lies on the shelf too.
-fn shelve(alloc: Global, line: &mut Cursor<'_>) -> Result<Setup, BadLine> {
-    Ok(Setup::Shelve(line.name(alloc)?))
+fn header(line: &mut Cursor<'_>) -> Setup {
+    let at = line.hex() as usize;
+    let words = line.words();
+    Setup::Header { at, words }
 }
 
 /// A file of the shelf.
-fn file(alloc: Global, line: &mut Cursor<'_>) -> Result<Setup, BadLine> {
-    let name = line.name(alloc)?;
-    let bytes = line.bytes(alloc)?;
-    Ok(Setup::File { name, bytes })
+fn file(line: &mut Cursor<'_>) -> Setup {
+    let name = line.name();
+    let bytes = line.bytes();
+    Setup::File { name, bytes }
 }
 
 /// A call that fails.
-fn fails(line: &mut Cursor<'_>) -> Result<Setup, BadLine> {
-    let part = part_of(line)?;
-    let call = line.number()?;
-    Ok(Setup::Fails { part, call })
-}
-
-/// For how much the output has room.
-fn room(line: &mut Cursor<'_>) -> Result<Setup, BadLine> {
-    Ok(Setup::Room(line.length()?))
-}
-
-/// The words of the call.
-fn call(alloc: Global, line: &mut Cursor<'_>) -> Result<Setup, BadLine> {
-    Ok(Setup::Call(line.names(alloc)?))
+fn fails(line: &mut Cursor<'_>) -> Setup {
+    let part = part_of(line);
+    let call = line.number();
+    Setup::Fails { part, call }
 }
 
 /// The words of a run to a tick of the file `file`, without keys.
-fn run(alloc: Global, line: &mut Cursor<'_>) -> Result<Setup, BadLine> {
-    let ticks = line.word()?;
-    let mut words = Vec::new(alloc);
-    for word in ["run", "file", "none", ticks, "none"] {
-        words.push(String::from_str(alloc, word)?)?;
-    }
-    Ok(Setup::Call(words))
+fn run_words(line: &mut Cursor<'_>) -> Vec<String> {
+    let ticks = line.word();
+    line.texts(&["run", "file", "none", ticks, "none"])
 }
 
 /// What a line that begins with this word changes in the cartridge; nothing where the word isn't such a line's.
-pub fn cartridge_line(
-    alloc: Global,
-    word: &str,
-    line: &mut Cursor<'_>,
-) -> Result<Option<Setup>, BadLine> {
-    if let Some((whose, adds)) = image_of(word) {
-        return Ok(Some(image(alloc, whose, adds, line)?));
-    }
+fn cartridge_line(word: &str, line: &mut Cursor<'_>) -> Option<Setup> {
     let setup = match word {
         "put" => put(line),
         "place" => place(line),
         "entry" => entry(line),
-        "header" => header(alloc, line),
-        "size" => size(line),
-        "cart" => cart(alloc, line),
-        _ => return Ok(None),
+        "header" => header(line),
+        "size" => Setup::Size(line.length()),
+        "cart" => Setup::Cart(line.name()),
+        _ => return image_line(word, line),
     };
-    Ok(Some(setup?))
+    Some(setup)
 }
 
 /// What a line that begins with this word changes in the shelf, the sinks and the words; nothing where the word isn't such a line's.
-pub fn call_line(
-    alloc: Global,
-    word: &str,
-    line: &mut Cursor<'_>,
-) -> Result<Option<Setup>, BadLine> {
+fn call_line(word: &str, line: &mut Cursor<'_>) -> Option<Setup> {
     let setup = match word {
-        "shelve" => shelve(alloc, line),
-        "file" => file(alloc, line),
+        "shelve" => Setup::Shelve(line.name()),
+        "file" => file(line),
         "fails" => fails(line),
-        "room" => room(line),
-        "call" => call(alloc, line),
-        "run" => run(alloc, line),
-        _ => return Ok(None),
+        "room" => Setup::Room(line.length()),
+        "call" => Setup::Call(line.names()),
+        "run" => Setup::Call(run_words(line)),
+        _ => return None,
     };
-    Ok(Some(setup?))
+    Some(setup)
+}
+
+/// What a line that begins with this word changes in what calls go over; nothing where the word isn't such a line's.
+pub fn setup_line(word: &str, line: &mut Cursor<'_>) -> Option<Setup> {
+    match cartridge_line(word, line) {
+        Some(setup) => Some(setup),
+        None => call_line(word, line),
+    }
 }

@@ -2,6 +2,7 @@
 
 use crate::answers::Came;
 use crate::facts::{FRAME_SIZE, Quantity, frame_at};
+use crate::lists::push;
 use ds_base::{Memory, Proc};
 use std::alloc::{AllocError, Global};
 
@@ -50,8 +51,7 @@ impl Views {
     /// These numbers are seen.
     pub fn add(&mut self, numbers: &[u64]) -> Result<(), AllocError> {
         let numbers = Vec::from_slice(self.alloc, numbers)?;
-        self.places.push(numbers)?;
-        Ok(())
+        push(&mut self.places, numbers)
     }
 
     /// So many words are seen, from a place of these bytes on, as far as they are there.
@@ -60,11 +60,10 @@ impl Views {
         for i in 0..count {
             let at = at.saturating_add(i.saturating_mul(4));
             if let Some(word) = number_at(bytes, at, 4) {
-                words.push(word)?;
+                push(&mut words, word)?;
             }
         }
-        self.places.push(words)?;
-        Ok(())
+        push(&mut self.places, words)
     }
 
     /// So many registers are seen, from one on, as far as they are there.
@@ -77,11 +76,10 @@ impl Views {
         let mut numbers = Vec::new(self.alloc);
         for i in 0..count {
             if let Some(register) = registers.get(from.saturating_add(i)) {
-                numbers.push(u64::from(*register))?;
+                push(&mut numbers, u64::from(*register))?;
             }
         }
-        self.places.push(numbers)?;
-        Ok(())
+        push(&mut self.places, numbers)
     }
 }
 

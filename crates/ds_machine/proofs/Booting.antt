@@ -1,4 +1,4 @@
-use Rattle.std.proofs.Common.{ℕ, ◌≡◌, ◌≤◌, ◌+◌, inl, inr, false, List, [], ◌∷◌, length, take, refl, ◌∙◌, ap, arith}
+use Rattle.std.proofs.Common.{ℕ, ◌≡◌, ◌≤◌, ◌+◌, inl, inr, false, true, List, [], ◌∷◌, length, take, refl, ◌∙◌, ap, arith}
 use Rattle.std.specs.Prelude.{◌&&◌}
 use Rattle.ds_base.specs.declared.keys.KeyLine.{KeyLine}
 use Rattle.ds_base.specs.declared.memories.Width.TheVariants.{Byte}
@@ -7,12 +7,12 @@ use Rattle.ds_base.specs.declared.processors.Proc.TheVariants.{Nine, Seven}
 use Rattle.ds_base.specs.declared.ticks.Tick.{Tick}
 use Rattle.ds_header.specs.Fields.{image_of, image_place}
 use Rattle.ds_header.specs.Rules.{ImageLies}
-use Rattle.ds_ports.specs.Io.{IoState, io_at_boot, io_of}
+use Rattle.ds_ports.specs.Io.{IoState, io_at_boot, io_of, is_settled}
 use Rattle.ds_timers.specs.Irqs.{shares_bit}
 use Rattle.gx_geometry.specs.Numbers.{numbers_at_boot}
 use Rattle.ds_machine.specs.Booted.{header_bytes, header_place, machine_blank, machine_booted, with_image}
 use Rattle.ds_machine.specs.Boots.{copied, stored}
-use Rattle.ds_machine.specs.Reference.{AreAsleep, CountsWithin, HasCounted}
+use Rattle.ds_machine.specs.Reference.{AreAsleep, CountsWithin, HasCounted, HasSoundParts, IsSound}
 use Rattle.ds_machine.specs.States.{MachineState, ProcessorState, counts_of}
 use Rattle.ds_machine.specs.Steps.{map_of, processor_of}
 use Rattle.ds_machine.proofs.RamAccesses.{ram_write_io}
@@ -103,8 +103,15 @@ within_booted file keys =
     record { steps = λ proc. (let none = none_steps file keys proc in omega (arith, none)); events = omega (arith, events) }
 
 -- a machine whose units are as at boot is asleep
-pub asleep_booted : (s : MachineState) → s.io ≡ io_at_boot → AreAsleep s
+asleep_booted : (s : MachineState) → s.io ≡ io_at_boot → AreAsleep s
 asleep_booted s e proc = ap (λ (u : IoState). (io_of u proc).halted && shares_bit (io_of u proc).irq) e ∙ at_boot proc where
   at_boot : (proc : Proc) → ((io_of io_at_boot proc).halted && shares_bit (io_of io_at_boot proc).irq) ≡ false
   at_boot Nine = refl
   at_boot Seven = refl
+
+-- and settled
+settled_booted : (s : MachineState) → s.io ≡ io_at_boot → is_settled s.io ≡ true
+settled_booted s e = ap is_settled e ∙ refl
+
+pub sound_booted : (s : MachineState) → HasSoundParts s → s.io ≡ io_at_boot → IsSound s
+sound_booted s parts e = record { parts = parts; asleep = asleep_booted s e; settled = settled_booted s e }

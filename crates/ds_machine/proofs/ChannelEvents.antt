@@ -17,12 +17,13 @@ use Rattle.ds_map.specs.Accesses.{map_value}
 use Rattle.ds_map.specs.Maps.{MapState}
 use Rattle.ds_map.specs.Moves.{next_unit, after_unit, unit_read, unit_refusal, unit_taken}
 use Rattle.ds_map.proofs.Later.{map_read_unchanged, map_write_goes}
-use Rattle.ds_ports.specs.Dues.{IsIo, Goes, IsUnchanged, IsQuiet, ReschedulesEach, held_due, io_due}
+use Rattle.ds_ports.specs.Dues.{IsIo, IsTold, Goes, IsUnchanged, IsQuiet, ReschedulesEach, held_due, io_due}
 use Rattle.ds_ports.proofs.HeldDues.{held_later}
 use Rattle.ds_ports.specs.ProcessorIo.{ProcessorIoState}
 use Rattle.ds_ports.specs.Io.{IoState, io_of, is_held}
 use Rattle.ds_ports.proofs.Events.{MovedGoes, moved_goes, some_due}
 use Rattle.ds_ports.proofs.Later.{AreUnchanged, all_io_dues, goes_io, of_both, processor_io_is, still_later}
+use Rattle.ds_ports.proofs.Told.{told_on}
 use Rattle.ds_runs.specs.Runs.{MachineStep, Makes, Stops}
 use Rattle.ds_runs.specs.declared.actors.Actor.TheVariants.{Dma, Timer}
 use Rattle.ds_runs.proofs.RunLaws.{same_makes, same_stops, not_both}
@@ -181,6 +182,11 @@ module _ (proc : Proc) (channel : ℕ) (now : Tick) (unit : DmaUnit) (s : Machin
       left_after (io_of s.io (other_proc proc)) (io_of read (other_proc proc)) (io_of written.io (other_proc proc)) (left.processor_io (other_proc proc))
       (subst (λ (o : ProcessorIoState). IsUnchanged o (io_of written.io (other_proc proc))) moves.other goes.other)
 
+  told : IsTold (io_of s.io (other_proc proc)).irq (io_of written.io (other_proc proc)).irq
+  told =
+      told_on (io_of s.io (other_proc proc)).irq (io_of read (other_proc proc)).irq (io_of written.io (other_proc proc)).irq (left.told (other_proc proc))
+      (subst (λ (o : ProcessorIoState). IsTold o.irq (io_of written.io (other_proc proc)).irq) moves.other goes.told)
+
   -- the other processor is held as before
   other_as_before : is_held written.io (other_proc proc) ≡ is_held s.io (other_proc proc)
   other_as_before = other_held proc now taken.io written.io goes ∙ moved_held ∙ unchanged_held s.io read left (other_proc proc) where
@@ -214,6 +220,12 @@ module _ (proc : Proc) (channel : ℕ) (now : Tick) (unit : DmaUnit) (s : Machin
   unit_video =
       let b = put_beside proc (with_map proc s written) past in
       ap (λ (u : IoState). u.video.scan) b.io ∙ goes.scan ∙ ap (λ (v : VideoState). v.scan) moves.video ∙ left.scan
+
+  -- the other is told of the IPC interrupts and of nothing else
+  pub unit_told : IsTold (io_of s.io (other_proc proc)).irq (io_of (machine_after_unit proc now unit s).io (other_proc proc)).irq
+  unit_told =
+      let b = put_beside proc (with_map proc s written) past in
+      subst (λ (u : IoState). IsTold (io_of s.io (other_proc proc)).irq (io_of u (other_proc proc)).irq) (sym b.io) told
 
   pub unit_sound : HasSoundParts (machine_after_unit proc now unit s)
   unit_sound =

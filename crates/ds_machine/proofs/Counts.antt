@@ -28,13 +28,14 @@ use Rattle.ds_runs.proofs.RunExists.{place_rises}
 use Rattle.ds_runs.proofs.RunLaws.{same_makes, not_both}
 use Rattle.ds_timers.specs.Timing.{TimerState, timer_at, timer_due}
 use Rattle.ds_machine.specs.Channels.{channel_step}
-use Rattle.ds_machine.specs.Reference.{CountsAddUp, CountsWithin, Fences, HasCounted, HasSoundParts, MayStep, Shown, after_event, after_geometry, after_line, after_video, due_by, dues_of, geometry_before, is_to_be_triggered, keys_due, processor_due, reference, shown_at, step_by, reference_step, stepped_of}
+use Rattle.ds_machine.specs.Private.{MayStep}
+use Rattle.ds_machine.specs.Reference.{CountsAddUp, CountsWithin, Fences, HasCounted, HasSoundParts, Shown, after_event, after_geometry, after_line, after_video, due_by, dues_of, geometry_before, is_to_be_triggered, keys_due, processor_due, reference, shown_at, step_by, reference_step, stepped_of}
 use Rattle.ds_machine.specs.States.{MachineState, ProcessorState, counts_of}
 use Rattle.ds_machine.specs.Steps.{ended, gone_by, goes_on, is_blocked, is_halted, machine_settled, map_of, processor_of, wakes, went_on, with_halt, with_map, with_processor, woken, woken_one}
 use Rattle.ds_machine.specs.declared.answers.Done as answer
 use Rattle.ds_machine.specs.declared.answers.Done.TheVariants as answers
 use Rattle.ds_machine.proofs.ChannelEvents.{channel_unchanged, channel_made, event_counts, machine_after_unit, map_processor, read_unchanged, unit_counts, unit_gx, unit_other, unit_released, unit_video}
-use Rattle.ds_machine.proofs.DueTicks.{due_of_least, due_of_rank, due_of_step, due_then, low_rank, not_before, sort_rank}
+use Rattle.ds_machine.proofs.DueTicks.{due_of_least, due_of_may, due_of_rank, due_then, low_rank, not_before, sort_rank}
 use Rattle.ds_machine.proofs.MachineSchedule.{Steps, awake_stops, channel_timers, display_happens, operation, owes, owes_by, reference_schedules, step_made, steps_here, stopped}
 use Rattle.ds_machine.proofs.Moves.{moves_all}
 use Rattle.ds_machine.proofs.ProcessorSteps.{Operation, Took, came_by, concluded_stops, concludes, costs_some, goes, gone_counts, later_by, reached_by, reaches, step_is}
@@ -766,17 +767,17 @@ few_steps s proc tick has due early = let k = own_few proc tick s has due in ome
 
 pub may_few_steps : (s : MachineState) (rank : ℕ) (a : actor.Actor) → MayStep s rank → HasCounted s → actor_of rank ≡ a
     → (proc : Proc) → a ≡ Processor proc → (processor_of s proc).steps ≤ 2 ^ 61
-may_few_steps s rank a may has is proc e = few_steps s proc may.0 has (due_of_step s rank may.0 (Processor proc) may.1 (is ∙ e)) may.2
+may_few_steps s rank a may has is proc e = few_steps s proc may.tick has (due_of_may s rank (Processor proc) may (is ∙ e)) may.early
 
 pub may_few_events : (s : MachineState) (rank : ℕ) → MayStep s rank → HasCounted s → s.events ≤ 2 ^ 61
-may_few_events s rank may has = let k = has.events rank may.0 may.1.there in let early = may.2 in omega (arith, k, early)
+may_few_events s rank may has = let k = has.events rank may.tick may.due in let early = may.early in omega (arith, k, early)
 
 -- and where geometry steps the current run has room in the code
 pub may_fit_run : (s : MachineState) (rank : ℕ) (a : actor.Actor) → MayStep s rank → HasCounted s → actor_of rank ≡ a → a ≡ Geometry → run_of s ≤ 2 ^ 56
 may_fit_run s rank a may has is e =
-    let room = place_of_run rank (low_rank s rank may.0 may.1.there) in
+    let room = place_of_run rank (low_rank s rank may.tick may.due) in
     let most = run_before (rank + 1) in
     let one : runs_in (actor_of rank) ≡ 1 = ap runs_in (is ∙ e) in
-    let few = has.run rank may.0 may.1.there in
-    let early = may.2 in
+    let few = has.run rank may.tick may.due in
+    let early = may.early in
     omega (arith, room, most, one, few, early)

@@ -15,7 +15,8 @@ use Rattle.ds_runs.proofs.ActorTable.{due_of_actor}
 use Rattle.ds_runs.proofs.Firsts.{first_is_least, first_of_append}
 use Rattle.ds_runs.proofs.Lists.{at_rank, is_later, within}
 use Rattle.ds_machine.specs.NextEvents.{events_of}
-use Rattle.ds_machine.specs.Reference.{MayStep, Shown, awake, due_by, due_unless, dues_of, processor_due, step_by, reference_step}
+use Rattle.ds_machine.specs.Private.{MayStep}
+use Rattle.ds_machine.specs.Reference.{Shown, awake, due_by, due_unless, dues_of, processor_due, step_by, reference_step}
 use Rattle.ds_machine.specs.States.{MachineState, ProcessorState}
 use Rattle.ds_machine.specs.Steps.{is_blocked, processor_of, tick_of}
 
@@ -72,12 +73,16 @@ pub due_of_step : (s : MachineState) (rank : ℕ) (tick : Tick) (a : actor.Actor
 due_of_step s rank tick a least e = subst (λ (x : actor.Actor). due_by x s ≡ Some tick) e (due_of_least s rank tick least)
 
 -- where an actor may step, it is due at an early tick
+pub due_of_may : (s : MachineState) (rank : ℕ) (a : actor.Actor) (may : MayStep s rank) → actor_of rank ≡ a → due_by a s ≡ Some may.tick
+due_of_may s rank a may e =
+    subst (λ (x : actor.Actor). due_by x s ≡ Some may.tick) e (sym (due_of_rank s rank (low_rank s rank may.tick may.due)) ∙ may.due)
+
 pub may_due : (s : MachineState) (rank : ℕ) (a : actor.Actor) → MayStep s rank → actor_of rank ≡ a → due_by a s ≢ None
-may_due s rank a may is none = none-some may.0 (sym none ∙ due_of_step s rank may.0 a may.1 is)
+may_due s rank a may is none = none-some may.tick (sym none ∙ due_of_may s rank a may is)
 
 pub may_early : (s : MachineState) (rank : ℕ) (a : actor.Actor) (tick : Tick) → MayStep s rank → actor_of rank ≡ a → due_by a s ≡ Some tick → tick.0 ≤ 2 ^ 56
 may_early s rank a tick may is due =
-    subst (λ (t : Tick). t.0 ≤ 2 ^ 56) (same_Some may.0 tick (sym (due_of_step s rank may.0 a may.1 is) ∙ due)) may.2
+    subst (λ (t : Tick). t.0 ≤ 2 ^ 56) (same_Some may.tick tick (sym (due_of_may s rank a may is) ∙ due)) may.early
 
 pub due_is : (a : ℕ) (tick : Tick) → (let due : Option Tick = Some (record { 0 = a }) in due) ≡ Some tick → a ≡ tick.0
 due_is a tick h = ap (λ (x : Tick). x.0) (same_Some (record { 0 = a }) tick h)

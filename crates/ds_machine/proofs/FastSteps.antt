@@ -1,4 +1,4 @@
-use Rattle.std.proofs.Common.{ℕ, zero, suc, ◌≡◌, ◌<◌, ◌≤◌, ◌^◌, ◌⊎◌, min, inl, inr, Bool, true, false, true≢false, if◌then◌else◌, List, [], ◌∷◌, ◌++◌, length, Option, Some, refl, sym, ◌∙◌, ap, subst, arith}
+use Rattle.std.proofs.Common.{ℕ, zero, suc, ◌≡◌, ◌<◌, ◌≤◌, ◌^◌, ◌⊎◌, inl, inr, Bool, true, false, true≢false, if◌then◌else◌, List, [], ◌∷◌, ◌++◌, length, Option, Some, refl, sym, ◌∙◌, ap, subst, arith}
 use Rattle.std.specs.Prelude.{◌&&◌}
 use Rattle.std.proofs.lemmas.Option.{same_Some}
 use Rattle.ds_base.specs.declared.keys.KeyLine.{KeyLine}
@@ -12,21 +12,19 @@ use Rattle.ds_ipc.specs.Ipcs.{other_proc}
 use Rattle.ds_ports.specs.Dues.{IsIo, io_dues}
 use Rattle.ds_ports.specs.Io.{IoState, io_of, is_held, is_settled}
 use Rattle.ds_ports.proofs.Settles.{settled_stays}
-use Rattle.ds_runs.specs.Actors.{actor_of}
 use Rattle.ds_runs.specs.Order.{first_from}
 use Rattle.ds_runs.specs.Runs.{IsLeast, IsOver, Makes, MachineStep, due_at}
-use Rattle.ds_runs.specs.declared.actors.Actor as actor
 use Rattle.ds_runs.specs.declared.actors.Actor.TheVariants.{Processor}
 use Rattle.ds_runs.proofs.Firsts.{first_is_least}
 use Rattle.ds_timers.specs.Irqs.{line_is_up, shares_bit}
-use Rattle.ds_machine.specs.NextEvents.{IsNextEvent, events_of, least_of, due_at_least, until_of}
-use Rattle.ds_machine.specs.Reference.{AreAsleep, FastStep, HasCounted, HasSoundParts, Shown, awake, due_unless, dues_of, keys_due, processor_due, step_by, stepped_of}
+use Rattle.ds_machine.specs.NextEvents.{IsNextEvent, events_of, least_kept, least_of, due_at_least}
+use Rattle.ds_machine.specs.Private.{rank_of}
+use Rattle.ds_machine.specs.Reference.{AreAsleep, Shown, awake, due_unless, dues_of, keys_due, processor_due, step_by, stepped_of}
 use Rattle.ds_machine.specs.States.{MachineState, ProcessorState}
 use Rattle.ds_machine.specs.Steps.{ended, machine_concluded, goes_on, is_blocked, line_of, outcome_of, processor_of, tick_of, wakes, went_on, with_io, with_processor, woken, woken_one}
 use Rattle.ds_machine.specs.declared.answers.Done.TheVariants as answers
 use Rattle.ds_machine.specs.declared.next_events.NextEvent.{NextEvent}
-use Rattle.ds_machine.proofs.Counts.{counted_done, few_steps}
-use Rattle.ds_machine.proofs.DueTicks.{due_of_rank, due_of_step, due_then, dues_split, low_rank, sort_rank, steps_as, tick_is}
+use Rattle.ds_machine.proofs.DueTicks.{due_of_rank, due_then, dues_split, low_rank, sort_rank, tick_is}
 use Rattle.ds_machine.proofs.ProcessorSteps.{step_concluded}
 use Rattle.ds_machine.proofs.Quiet.{not_halted}
 use Rattle.ds_machine.proofs.Wakes.{Beside, put_beside}
@@ -37,41 +35,17 @@ use Rattle.ds_machine.proofs.Wakes.{Beside, put_beside}
 pub events_over : (s : MachineState) (first : Due) → Some first ≡ first_from 0 (events_of s) → IsOver (events_of s) first.tick.0
 events_over s first h = λ rank tick due. (let l = (first_is_least (events_of s) first (sym h)).least rank tick due in omega (arith, l))
 
--- what is found of a machine is kept of it; both processors have the same tick
-pub next_event_is : (s : MachineState) (until : Tick) (nine seven : ℕ) (nine_line seven_line : Bool) → IsOver (events_of s) until.0 → (0 < until.0 → AreAsleep s)
-    → (0 < until.0 → is_settled s.io ≡ true) → nine ≡ least_of (is_blocked s Nine) → seven ≡ least_of (is_blocked s Seven) → nine_line ≡ line_of s Nine → seven_line ≡ line_of s Seven
-    → IsNextEvent (record { nine_until = until; seven_until = until; nine_least = nine; seven_least = seven; nine_line = nine_line; seven_line = seven_line }) s
-next_event_is s until nine seven nine_line seven_line over asleep settled n m l k = record {
-  events = events;
-  asleep = each_asleep;
-  settled = each_settled;
-  nine_least = n;
-  seven_least = m;
-  nine_line = l;
-  seven_line = k;
-} where
-  next : NextEvent
-  next = record { nine_until = until; seven_until = until; nine_least = nine; seven_least = seven; nine_line = nine_line; seven_line = seven_line }
-
-  events : (proc : Proc) → IsOver (events_of s) (until_of next proc).0
-  events Nine = over
-  events Seven = over
-
-  each_asleep : (proc : Proc) → 0 < (until_of next proc).0 → AreAsleep s
-  each_asleep Nine = asleep
-  each_asleep Seven = asleep
-
-  each_settled : (proc : Proc) → 0 < (until_of next proc).0 → is_settled s.io ≡ true
-  each_settled Nine = settled
-  each_settled Seven = settled
+-- and one is at its tick
+pub event_first : (s : MachineState) (first : Due) → Some first ≡ first_from 0 (events_of s) → (rank : ℕ) × (due_at (events_of s) rank ≡ Some first.tick)
+event_first s first h = (first.rank, (first_is_least (events_of s) first (sym h)).there)
 
 -- an entry in the former of two lists
-in_front : (xs ys : List (Option Tick)) (rank : ℕ) → rank < length xs → due_at (xs ++ ys) rank ≡ due_at xs rank
+pub in_front : (xs ys : List (Option Tick)) (rank : ℕ) → rank < length xs → due_at (xs ++ ys) rank ≡ due_at xs rank
 in_front [] ys rank lt = absurd (omega (arith, lt))
 in_front (x ∷ xs) ys zero lt = refl
 in_front (x ∷ xs) ys (suc rank) lt = in_front xs ys rank (omega (arith, lt))
 
-event_there : (s : MachineState) (rank : ℕ) (at : Tick) → rank < 22 → due_at (dues_of s) rank ≡ Some at → due_at (events_of s) rank ≡ Some at
+pub event_there : (s : MachineState) (rank : ℕ) (at : Tick) → rank < 22 → due_at (dues_of s) rank ≡ Some at → due_at (events_of s) rank ≡ Some at
 event_there s rank at lt h =
     let back = processor_due s Nine ∷ processor_due s Seven ∷ [] in
     sym (in_front (events_of s) back rank lt) ∙ ap (λ (dues : List (Option Tick)). due_at dues rank) (sym (dues_split s)) ∙ h
@@ -114,91 +88,51 @@ seven_least s until tick over lt there after = record { there = due_of_rank s 23
 -- ---- by what is kept
 
 -- a processor that waits for an early tick isn't blocked, and is due then
-wait_ends : (blocked : Bool) (least due : ℕ) → least ≡ least_of blocked → due_at_least least due < 2 ^ 56 → (blocked ≡ false) × (due_at_least least due ≡ due)
+pub wait_ends : (blocked : Bool) (least due : ℕ) → least ≡ least_of blocked → due_at_least least due < 2 ^ 56 → (blocked ≡ false) × (due_at_least least due ≡ due)
 wait_ends true least due e lt = absurd (omega (arith, e, lt))
 wait_ends false least due e lt = (refl, omega (arith, e))
 
 -- a processor that is due waits for its tick
-wait_is : (blocked : Bool) (least : ℕ) (p : ProcessorState) (at : Tick) → least ≡ least_of blocked → due_unless blocked p ≡ Some at → due_at_least least p.due ≡ at.0
+pub wait_is : (blocked : Bool) (least : ℕ) (p : ProcessorState) (at : Tick) → least ≡ least_of blocked → due_unless blocked p ≡ Some at → due_at_least least p.due ≡ at.0
 wait_is blocked least p at e h =
     let k = due_then blocked p at h in
     let none : least ≡ 0 = e ∙ ap least_of k.0 in
     let there = k.1 in
     omega (arith, none, there)
 
-due_there : (blocked : Bool) (least : ℕ) (p : ProcessorState) (n : ℕ) → least ≡ least_of blocked → n ≡ due_at_least least p.due → n < 2 ^ 56 → due_unless blocked p ≡ Some (record { 0 = n })
+pub due_there : (blocked : Bool) (least : ℕ) (p : ProcessorState) (n : ℕ) → least ≡ least_of blocked → n ≡ due_at_least least p.due → n < 2 ^ 56 → due_unless blocked p ≡ Some (record { 0 = n })
 due_there blocked least p n e w lt =
     let k = wait_ends blocked least p.due e (omega (arith, w, lt)) in
     let t = tick_is p (record { 0 = n }) (sym (w ∙ k.1)) in
     rw k.0 (ap Some t)
 
--- what is kept of one processor, its rank, and that it is due before the other: ARM9 at equal ticks too
-abbrev pub least_kept : NextEvent → Proc → ℕ
-least_kept next_event Nine = next_event.nine_least
-least_kept next_event Seven = next_event.seven_least
-
-abbrev pub rank_of : Proc → ℕ
-rank_of Nine = 22
-rank_of Seven = 23
-
 abbrev pub ComesBefore : Proc → ℕ → ℕ → Type 0
 ComesBefore Nine n other = n ≤ other
 ComesBefore Seven n other = n < other
 
-processor_least : (proc : Proc) (s : MachineState) (until : ℕ) (tick : Tick) → IsOver (events_of s) until → tick.0 < until → processor_due s proc ≡ Some tick
+pub processor_least : (proc : Proc) (s : MachineState) (until : ℕ) (tick : Tick) → IsOver (events_of s) until → tick.0 < until → processor_due s proc ≡ Some tick
     → ((at : Tick) → processor_due s (other_proc proc) ≡ Some at → ComesBefore proc tick.0 at.0) → IsLeast (dues_of s) tick (rank_of proc)
 processor_least Nine s until tick over lt there after = nine_least s until tick over lt there after
 processor_least Seven s until tick over lt there after = seven_least s until tick over lt there after
 
-kept_is : (next_event : NextEvent) (s : MachineState) → IsNextEvent next_event s → (proc : Proc) → least_kept next_event proc ≡ least_of (is_blocked s proc)
+pub kept_is : (next_event : NextEvent) (s : MachineState) → IsNextEvent next_event s → (proc : Proc) → least_kept next_event proc ≡ least_of (is_blocked s proc)
 kept_is next_event s is Nine = is.nine_least
 kept_is next_event s is Seven = is.seven_least
-
--- a processor that is due before the other and before what is kept is the least, and took few steps
-pub record StepsFirst (proc : Proc) (n until : ℕ) (s : MachineState) : Type 0 where
-  pub least : IsLeast (dues_of s) (record { 0 = n }) (rank_of proc)
-  pub below : n < until
-  pub few : (processor_of s proc).steps ≤ 2 ^ 61
-
-pub steps_first : (next_event : NextEvent) (proc : Proc) (parts s : MachineState) (n other end until : ℕ) → IsNextEvent next_event s → HasCounted s → until ≤ 2 ^ 56 → parts ≡ s
-    → n ≡ due_at_least (least_kept next_event proc) (processor_of parts proc).due
-    → other ≡ due_at_least (least_kept next_event (other_proc proc)) (processor_of parts (other_proc proc)).due → end ≡ min (until_of next_event proc).0 until → ComesBefore proc n other
-    → n < end → StepsFirst proc n until s
-steps_first next_event proc parts s n other end until is has early same waits others stop before lt =
-    let kept = least_kept next_event proc in
-    let across = least_kept next_event (other_proc proc) in
-    let w : n ≡ due_at_least kept (processor_of s proc).due = waits ∙ ap (λ (m : MachineState). due_at_least kept (processor_of m proc).due) same in
-    let o : other ≡ due_at_least across (processor_of s (other_proc proc)).due = others ∙ ap (λ (m : MachineState). due_at_least across (processor_of m (other_proc proc)).due) same in
-    let there = due_there (is_blocked s proc) kept (processor_of s proc) n (kept_is next_event s is proc) w (omega (arith, stop, lt, early)) in
-    let after : (at : Tick) → processor_due s (other_proc proc) ≡ Some at → ComesBefore proc n at.0 = λ at h.
-    subst (ComesBefore proc n) (o ∙ wait_is (is_blocked s (other_proc proc)) across (processor_of s (other_proc proc)) at (kept_is next_event s is (other_proc proc)) h) before in
-    record {
-      least = processor_least proc s (until_of next_event proc).0 (record { 0 = n }) (is.events proc) (omega (arith, stop, lt)) there after;
-      below = omega (arith, stop, lt);
-      few = few_steps s proc (record { 0 = n }) has there (omega (arith, stop, lt, early));
-    }
-
--- ---- the step
-
-pub taken_fast : (s next : MachineState) (until rank : ℕ) (tick : Tick) (a : actor.Actor) (taken : Bool) → actor_of rank ≡ a → IsLeast (dues_of s) tick rank
-    → tick.0 < until → (taken ≡ false → next ≡ s) → (taken ≡ true → awake (Some tick) (step_by rank a s) ≡ stepped_of s answers.Made next) → FastStep until s taken next
-taken_fast s next until rank tick a false e least lt none made = none refl
-taken_fast s next until rank tick a true e least lt none made =
-    (record { tick = tick; rank = rank }, least, lt, steps_as s rank a (Some tick) (stepped_of s answers.Made next) e (due_of_step s rank tick a least e) (made refl))
-
--- what was taken at once is counted
-pub counted_fast : (s next : MachineState) (until : ℕ) (taken : Bool) → HasSoundParts s → HasCounted s → FastStep until s taken next → HasCounted next
-counted_fast s next until false sound has h = subst HasCounted (sym h) has
-counted_fast s next until true sound has h = counted_done s next h.0.tick h.0.rank answers.Made sound h.1 has h.3
 
 -- ---- what is kept stays so, while the units behind the ports and the script stay
 
 pub kept_stays : (next_event : NextEvent) (s next : MachineState) → IsNextEvent next_event s → Beside s next → IsNextEvent next_event next
 kept_stays next_event s next is b = record {
-  events = λ of. (let until = (until_of next_event of).0 in subst (λ (u : IoState). IsOver (keys_due next.keys ∷ io_dues u) until) (sym b.io)
-      (subst (λ (lines : List KeyLine). IsOver (keys_due lines ∷ io_dues s.io) until) (sym b.keys) (is.events of)));
-  asleep = λ of some proc. wakes_so proc (is.asleep of some proc);
-  settled = λ of some. ap is_settled b.io ∙ is.settled of some;
+  events = subst (λ (u : IoState). IsOver (keys_due next.keys ∷ io_dues u) next_event.events_until.0) (sym b.io)
+      (subst (λ (lines : List KeyLine). IsOver (keys_due lines ∷ io_dues s.io) next_event.events_until.0) (sym b.keys) is.events);
+  first = λ some.
+      (let k = is.first some in (
+        k.0,
+        subst (λ (u : IoState). due_at (keys_due next.keys ∷ io_dues u) k.0 ≡ Some next_event.events_until) (sym b.io)
+            (subst (λ (lines : List KeyLine). due_at (keys_due lines ∷ io_dues s.io) k.0 ≡ Some next_event.events_until) (sym b.keys) k.1),
+      ));
+  asleep = λ some proc. wakes_so proc (is.asleep some proc);
+  settled = λ some. ap is_settled b.io ∙ is.settled some;
   nine_least = is.nine_least ∙ ap least_of (blocked Nine);
   seven_least = is.seven_least ∙ ap least_of (blocked Seven);
   nine_line = is.nine_line ∙ line Nine;
@@ -227,16 +161,21 @@ unfolding ended
 end_stays tick s is settled asleep =
     ap (λ (u : IoState). woken tick (with_io s u)) (settled_stays tick s.io is settled) ∙ asleep_stays tick s asleep
 
-pub cost_fast : (next_event : NextEvent) (s : MachineState) (rank : ℕ) (proc : Proc) (tick : Tick) (clocks : ℕ) → IsIo s.io → IsNextEvent next_event s → 0 < (until_of next_event proc).0 → is_blocked s proc ≡ false
-    → awake (Some tick) (machine_concluded rank proc s (Cost clocks)) ≡ stepped_of s answers.Made (with_processor proc s (went_on proc clocks false (processor_of s proc)))
-cost_fast next_event s rank proc tick clocks sound is some blocked =
+-- so ends a step that costs
+pub cost_ends : (s : MachineState) (rank : ℕ) (proc : Proc) (tick : Tick) (clocks : ℕ) → IsIo s.io → is_settled s.io ≡ true → AreAsleep s → is_blocked s proc ≡ false
+    → awake (Some tick) (machine_concluded rank proc s (Cost clocks)) ≡ Makes (with_processor proc s (went_on proc clocks false (processor_of s proc))) []
+cost_ends s rank proc tick clocks sound settled asleep blocked =
     let p = went_on proc clocks false (processor_of s proc) in
     let next = with_processor proc s p in
-    let kept = kept_stays next_event s next is (put_beside proc s p) in
-    let io = subst IsIo (sym (put_beside proc s p).io) sound in
-    let halted = not_halted s proc blocked in
+    let io = (put_beside proc s p).io in
     let came : Bool → MachineStep MachineState Shown LeftOut = λ b. awake (Some tick) (Makes (with_processor proc s (went_on proc clocks b (processor_of s proc))) []) in
-    ap came halted ∙ ap (λ (m : MachineState). stepped_of s answers.Made m) (end_stays tick next io (kept.settled proc some) (kept.asleep proc some))
+    ap came (not_halted s proc blocked)
+    ∙ ap (λ (m : MachineState). (let step : MachineStep MachineState Shown LeftOut = Makes m [] in step)) (end_stays tick next (subst IsIo (sym io) sound) (ap is_settled io ∙ settled)
+    (λ who. ap (λ (u : IoState). (io_of u who).halted && shares_bit (io_of u who).irq) io ∙ asleep who))
+
+pub cost_fast : (next_event : NextEvent) (s : MachineState) (rank : ℕ) (proc : Proc) (tick : Tick) (clocks : ℕ) → IsIo s.io → IsNextEvent next_event s → 0 < next_event.events_until.0 → is_blocked s proc ≡ false
+    → awake (Some tick) (machine_concluded rank proc s (Cost clocks)) ≡ stepped_of s answers.Made (with_processor proc s (went_on proc clocks false (processor_of s proc)))
+cost_fast next_event s rank proc tick clocks sound is some blocked = cost_ends s rank proc tick clocks sound (is.settled some) (is.asleep some) blocked
 
 -- what is kept stays at it
 pub cost_keeps : (next_event : NextEvent) (s next : MachineState) (proc : Proc) (p : ProcessorState) → IsNextEvent next_event s → next ≡ with_processor proc s p → IsNextEvent next_event next
@@ -255,7 +194,7 @@ pub free_stays : (proc : Proc) (s next : MachineState) → next.io ≡ s.io → 
 free_stays proc s next io free = ap (λ (u : IoState). is_held u proc) io ∙ free
 
 -- the whole of it
-pub made_fast : (next_event : NextEvent) (s m next : MachineState) (rank : ℕ) (proc : Proc) (tick : Tick) (clocks : ℕ) → IsIo m.io → IsNextEvent next_event m → 0 < (until_of next_event proc).0 → is_blocked m proc ≡ false
+pub made_fast : (next_event : NextEvent) (s m next : MachineState) (rank : ℕ) (proc : Proc) (tick : Tick) (clocks : ℕ) → IsIo m.io → IsNextEvent next_event m → 0 < next_event.events_until.0 → is_blocked m proc ≡ false
     → tick ≡ tick_of (processor_of s proc) → m ≡ (outcome_of proc tick s).machine → Cost clocks ≡ (outcome_of proc tick s).stepped
     → next ≡ with_processor proc m (went_on proc clocks false (processor_of m proc))
     → awake (Some tick) (step_by rank (Processor proc) s) ≡ stepped_of s answers.Made next

@@ -12,7 +12,7 @@ use Rattle.ds_base.specs.declared.ticks.Tick.{Tick}
 use Rattle.ds_map.specs.Moves.{next_unit, unit_read}
 use Rattle.ds_ports.specs.Dues.{IsIo}
 use Rattle.ds_ports.specs.ProcessorIo.{blocks_processor}
-use Rattle.ds_ports.specs.Io.{IoState, io_event, keys_pressed, tick_after, video_done}
+use Rattle.ds_ports.specs.Io.{IoState, io_event, is_settled, keys_pressed, tick_after, video_done}
 use Rattle.gx_fifo.specs.GxStates.{gx_finished, is_stalled}
 use Rattle.ds_ports.proofs.Events.{Happens, event_goes, happens_on, keys_happen, show_goes}
 use Rattle.ds_ports.proofs.Settles.{geometry_goes, happens_held, swapped_happens}
@@ -25,7 +25,7 @@ use Rattle.ds_runs.specs.declared.actors.Actor.TheVariants.{KeyScript, Video, Ti
 use Rattle.ds_runs.proofs.AllActors.{is_numbered}
 use Rattle.ds_runs.proofs.RunLaws.{same_makes, not_both}
 use Rattle.ds_machine.specs.Channels.{channel_step, one_event}
-use Rattle.ds_machine.specs.Reference.{AreAsleep, HasSoundParts, Shown, after_event, after_geometry, after_line, after_video, awake, display_done, due_by, due_unless, dues_of, keys_due, processor_due, reference, step_by, swapped_if, reference_step}
+use Rattle.ds_machine.specs.Reference.{AreAsleep, HasSoundParts, IsSound, Shown, after_event, after_geometry, after_line, after_video, awake, display_done, due_by, due_unless, dues_of, keys_due, processor_due, reference, step_by, swapped_if, reference_step}
 use Rattle.ds_machine.specs.States.{MachineState, ProcessorState}
 use Rattle.ds_machine.specs.Steps.{ended, gone_by, is_blocked, map_of, processor_of, with_io, with_map}
 use Rattle.ds_machine.proofs.ChannelEvents.{machine_after_unit, channel_unchanged, channel_made, read_moves, read_sound, unit_later, unit_moves, unit_sound}
@@ -34,7 +34,7 @@ use Rattle.ds_machine.proofs.Moves.{Moves, blocked_moves, moves_all, moves_of, t
 use Rattle.ds_machine.proofs.ProcessorSteps.{Operation, came_by, concluded_stops, concludes, costs_some, gone_moves, gone_sound, processor_io_later, reached_by, reached_moves, reached_sound, step_is}
 use Rattle.ds_machine.proofs.Quiet.{comes_late, quiet_processor, timers_later}
 use Rattle.ds_machine.proofs.VideoEvents.{display_video, video_makes, video_stops}
-use Rattle.ds_machine.proofs.Wakes.{ended_asleep, ends}
+use Rattle.ds_machine.proofs.Wakes.{ended_asleep, ended_settled, ends}
 use Rattle.video2d.specs.Scans.{scan_due, scan_due_tick, starts_vblank}
 use Rattle.video2d.specs.Videos.{VideoState, video_stop}
 
@@ -252,6 +252,22 @@ reference_schedules = record {
 -- after a step that is taken no halted processor is to wake
 pub asleep_made : (s next : MachineState) (tick : Tick) (rank : ℕ) (outs : List Shown) → IsLeast (dues_of s) tick rank → reference_step rank s ≡ Makes next outs → AreAsleep next
 asleep_made s next tick rank outs least h = let k = step_made s next tick rank outs least h in subst AreAsleep k.2 (ended_asleep tick k.0)
+
+-- and the units are settled
+pub settled_made : (s next : MachineState) (tick : Tick) (rank : ℕ) (outs : List Shown) → HasSoundParts s → IsLeast (dues_of s) tick rank → reference_step rank s ≡ Makes next outs
+    → is_settled next.io ≡ true
+settled_made s next tick rank outs sound least h =
+    let k = step_made s next tick rank outs least h in
+    let o = owes_by (actor_of rank) rank tick s k.0 outs (steps_here s tick rank sound least) k.1 in
+    subst (λ (m : MachineState). is_settled m.io ≡ true) k.2 (ended_settled tick k.0 o.sound.io)
+
+pub sound_made : (s next : MachineState) (tick : Tick) (rank : ℕ) (outs : List Shown) → HasSoundParts s → IsLeast (dues_of s) tick rank → reference_step rank s ≡ Makes next outs
+    → IsSound next
+sound_made s next tick rank outs sound least h = record {
+  parts = (owes s next tick rank outs sound least h).sound;
+  asleep = asleep_made s next tick rank outs least h;
+  settled = settled_made s next tick rank outs sound least h;
+}
 
 -- ---- a step that stops leaves a sound machine, and each due tick as it was or later
 

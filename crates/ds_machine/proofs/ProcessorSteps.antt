@@ -77,7 +77,7 @@ reached_few proc tick s m machine few = subst (λ (x : MachineState). (processor
   by_proc Seven few = few
 
 -- the step is what it came to, concluded; it shows no frame
-none_shown : (shown : Shown) → (let none : List Shown = [] in none) ≡ shown ∷ [] → ⊥
+pub none_shown : (shown : Shown) → (let none : List Shown = [] in none) ≡ shown ∷ [] → ⊥
 none_shown shown e = true≢false (ap is_none e) where
   is_none : List Shown → Bool
   is_none [] = true

@@ -1,4 +1,4 @@
-use Rattle.std.proofs.Common.{ℕ, zero, suc, ◌≡◌, ◌<◌, ◌≤◌, inl, inr, Bool, true, false, true≢false, Option, Some, None, refl, sym, ◌∙◌, ap, arith}
+use Rattle.std.proofs.Common.{ℕ, zero, suc, ◌≡◌, ◌<◌, ◌≤◌, inl, inr, Bool, true, false, true≢false, Option, Some, None, refl, sym, ◌∙◌, ap, subst, arith}
 use Rattle.std.specs.Prelude.{◌||◌, is_some}
 use Rattle.ds_base.specs.Schedules.{IsLater}
 use Rattle.ds_base.specs.declared.processors.Proc.{Proc}
@@ -13,9 +13,10 @@ use Rattle.ds_runs.specs.Actors.{actor_of}
 use Rattle.ds_runs.specs.Runs.{IsLeast, due_at}
 use Rattle.ds_runs.specs.declared.actors.Actor as actor
 use Rattle.ds_runs.specs.declared.actors.Actor.TheVariants.{KeyScript, Video, Timer, Divider, SquareRoot, Geometry, Card, Dma, Processor}
-use Rattle.ds_machine.specs.Reference.{due_by, dues_of}
+use Rattle.ds_machine.specs.Private.{IsAhead, IsBelowFence}
+use Rattle.ds_machine.specs.Reference.{Fences, due_by, dues_of}
 use Rattle.ds_machine.specs.States.{MachineState}
-use Rattle.ds_machine.specs.Steps.{is_blocked, is_halted, processor_of}
+use Rattle.ds_machine.specs.Steps.{is_blocked, is_halted, processor_of, tick_of}
 use Rattle.ds_machine.proofs.DueTicks.{due_of_rank, due_of_step, due_then}
 use Rattle.ds_machine.proofs.Moves.{later_if}
 
@@ -109,3 +110,18 @@ quiet_processor s tick rank proc least is =
       timers = timers_later s tick rank least (ap comes_late is) proc;
       dma = none_blocked tick (io_of s.io proc) (own_blocks s proc (due_then (is_blocked s proc) (processor_of s proc) tick due).0);
     }
+
+-- and where it steps before its turn: its timers are in its fence
+fence_timers : (s : MachineState) (proc : Proc) (tick : Tick) → IsBelowFence s proc tick → (which : ℕ) → which < 4 → IsLater tick (io_due (Timer proc which) s.io)
+fence_timers s proc tick below which lt = later_if tick (io_due (Timer proc which) s.io) (λ at h.
+    (let has = timer_rank proc which lt in
+    let low = has.1.low in
+    let there : due_at (dues_of s) has.0 ≡ Some at = due_of_rank s has.0 (omega (arith, low)) ∙ ap (λ (a : actor.Actor). due_by a s) has.1.there ∙ h in
+    let P : actor.Actor → Type 0 = λ a. Fences a proc in
+    below has.0 at there (subst P (sym has.1.there) refl)))
+
+pub quiet_ahead : (s : MachineState) (proc : Proc) → IsAhead s proc → IsQuiet (tick_of (processor_of s proc)) (io_of s.io proc)
+quiet_ahead s proc ahead = record {
+  timers = fence_timers s proc (tick_of (processor_of s proc)) ahead.below;
+  dma = none_blocked (tick_of (processor_of s proc)) (io_of s.io proc) (own_blocks s proc ahead.private.free);
+}

@@ -33,7 +33,7 @@ use Rattle.video2d.specs.declared.videos.Shown as display
 use Rattle.ds_machine.specs.Booted.{header_bytes, header_place, machine_blank, stacks_of, with_image}
 use Rattle.ds_machine.specs.Boots.{copied, stored}
 use Rattle.ds_machine.specs.Channels.{channel_step, delayed_past, moved_by}
-use Rattle.ds_machine.specs.Reference.{FastStep, Shown, after_line, awake, due_by, reference, reference_step, step_by, stepped_of, video_step}
+use Rattle.ds_machine.specs.Reference.{Shown, after_line, awake, due_by, reference, reference_step, step_by, stepped_of, video_step}
 use Rattle.ds_machine.specs.Sides.{nine_side, seven_side, taken}
 use Rattle.ds_machine.specs.States.{MachineState}
 use Rattle.ds_machine.specs.declared.answers.Done as answer
@@ -156,10 +156,6 @@ statuses_done s next rank (answers.Frame swapped) h e =
     let P : MachineStep MachineState Shown LeftOut → Type 0 = λ m. HasBothStatuses (left_by m) in subst P e (steps_keep_statuses rank s h)
 statuses_done s next rank (answers.Stopped left) h e =
     let P : MachineStep MachineState Shown LeftOut → Type 0 = λ m. HasBothStatuses (left_by m) in subst P e (steps_keep_statuses rank s h)
-
-pub statuses_fast : (s next : MachineState) (until : ℕ) (taken : Bool) → HasBothStatuses s → FastStep until s taken next → HasBothStatuses next
-statuses_fast s next until false h e = subst HasBothStatuses (sym e) h
-statuses_fast s next until true h step = statuses_done s next step.0.rank answers.Made h step.3
 
 no_bits : (arch : Arch) → All (IsStatus arch) (0 ∷ 0 ∷ 0 ∷ 0 ∷ 0 ∷ [])
 no_bits arch =

@@ -11,14 +11,14 @@ use Rattle.ds_dma.specs.States.{awaits_geometry}
 use Rattle.ds_dma.specs.declared.controls.Cause.TheVariants as causes
 use Rattle.ds_dma.proofs.Wholes.{awaits_none}
 use Rattle.ds_ports.specs.ProcessorIo.{ProcessorIoState, processor_io_triggered}
-use Rattle.ds_ports.specs.Io.{IoState, io_of, level_told, settled, with_halted}
+use Rattle.ds_ports.specs.Io.{IoState, io_of, is_settled, level_told, settled, with_halted}
 use Rattle.ds_machine.specs.Reference.{AreAsleep, HasSoundParts, due_unless, is_to_be_triggered, keys_due, processor_due}
 use Rattle.ds_machine.specs.States.{MachineState, ProcessorState, counts_of}
 use Rattle.ds_machine.specs.Steps.{ended, goes_on, is_blocked, machine_settled, processor_of, wakes, with_halt, with_processor, woken, woken_one}
 use Rattle.gx_fifo.specs.GxStates.{AreWaiting, is_half_empty}
 use Rattle.ds_machine.proofs.Moves.{Moves, blocked_moves, later_unless, moves_of, then_all}
 use Rattle.ds_ports.proofs.Later.{each_processor_io, of_both, processor_io_each, processor_io_is, same_reschedules, io_is}
-use Rattle.ds_ports.proofs.Settles.{happens_held, settled_happens}
+use Rattle.ds_ports.proofs.Settles.{happens_held, settled_happens, settles}
 
 -- Processors that are put into the machine with other numbers, that are halted, and that wake.
 
@@ -207,3 +207,19 @@ ended_counts tick s = (wakes_both tick (machine_settled tick s)).counts
 pub ended_asleep : (tick : Tick) (s : MachineState) → AreAsleep (ended tick s)
 unfolding ended
 ended_asleep tick s = woken_asleep tick (machine_settled tick s)
+
+-- and the units are settled: waking leaves them so
+on_settled : (proc : Proc) (tick : Tick) (s : MachineState) → is_settled (goes_on proc tick s).io ≡ is_settled s.io
+on_settled Nine tick s = refl
+on_settled Seven tick s = refl
+
+one_settled : (b : Bool) (proc : Proc) (tick : Tick) (s : MachineState) → is_settled (if b then goes_on proc tick s else s).io ≡ is_settled s.io
+one_settled true proc tick s = on_settled proc tick s
+one_settled false proc tick s = refl
+
+pub ended_settled : (tick : Tick) (s : MachineState) → IsIo s.io → is_settled (ended tick s).io ≡ true
+unfolding ended
+ended_settled tick s is =
+    let first = machine_settled tick s in
+    let woke = woken_one Nine tick first in
+    one_settled (wakes woke Seven) Seven tick woke ∙ one_settled (wakes first Nine) Nine tick first ∙ settles tick s.io is

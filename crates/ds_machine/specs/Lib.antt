@@ -8,6 +8,9 @@ pub mod Reference
 pub mod Frames
 pub mod NextEvents
 pub mod Observed
+pub mod FenceTicks
+pub mod Private
+pub mod Touching
 pub mod Apart
 pub mod OwnSteps
 pub mod Processors

@@ -1,13 +1,15 @@
-use Rattle.std.specs.Prelude.{ℕ, ◌-◌, ◌^◌, ◌≡◌, ◌<◌, Bool, true, if◌then◌else◌, List, ◌∷◌, Option, max}
+use Rattle.std.specs.Prelude.{ℕ, ◌+◌, ◌-◌, ◌^◌, ◌≡◌, ◌<◌, ◌&&◌, nat_le, nat_lt, Bool, true, if◌then◌else◌, List, [], ◌∷◌, Option, Some, max, min}
 use Rattle.ds_base.specs.declared.processors.Proc.{Proc}
 use Rattle.ds_base.specs.declared.processors.Proc.TheVariants.{Nine, Seven}
 use Rattle.ds_base.specs.declared.ticks.Tick.{Tick}
 use Rattle.ds_ports.specs.Dues.{io_dues}
 use Rattle.ds_ports.specs.Io.{is_settled}
-use Rattle.ds_runs.specs.Runs.{IsOver}
-use Rattle.ds_machine.specs.Reference.{AreAsleep, keys_due}
+use Rattle.ds_ipc.specs.Ipcs.{other_proc}
+use Rattle.ds_runs.specs.Runs.{IsOver, Makes, due_at}
+use Rattle.ds_machine.specs.Private.{BelongsToTurn, own_remaining, rank_of}
+use Rattle.ds_machine.specs.Reference.{AreAsleep, HasCounted, keys_due, reference_step}
 use Rattle.ds_machine.specs.States.{MachineState}
-use Rattle.ds_machine.specs.Steps.{is_blocked, line_of}
+use Rattle.ds_machine.specs.Steps.{is_blocked, line_of, processor_of}
 use Rattle.ds_machine.specs.declared.next_events.NextEvent.{NextEvent}
 
 -- What is kept between steps of the fast path. No public clause speaks of it.
@@ -24,19 +26,54 @@ least_of blocked = if blocked then 2 ^ 64 - 1 else 0
 abbrev pub due_at_least : ℕ → ℕ → ℕ
 due_at_least least due = max due least
 
--- the tick before which nothing touches a processor but its own steps
-abbrev pub until_of : NextEvent → Proc → Tick
-until_of next_event Nine = next_event.nine_until
-until_of next_event Seven = next_event.seven_until
+-- what is kept of one processor
+abbrev pub least_kept : NextEvent → Proc → ℕ
+least_kept next_event Nine = next_event.nine_least
+least_kept next_event Seven = next_event.seven_least
 
--- what is kept is so of a machine: for each processor no actor but the processors is due before its tick; unless that is 0 no halted processor is to wake, and
--- the units behind the ports are settled;
--- each processor's least tick says whether it is blocked; and its interrupt line is up or isn't
+abbrev pub line_kept : NextEvent → Proc → Bool
+line_kept next_event Nine = next_event.nine_line
+line_kept next_event Seven = next_event.seven_line
+
+-- when a processor is due by it
+abbrev pub waits_until : NextEvent → MachineState → Proc → ℕ
+waits_until next_event s proc = due_at_least (least_kept next_event proc) (processor_of s proc).due
+
+-- a processor that is due at a tick comes before the other: ARM9 at equal ticks too
+abbrev pub comes_before : Proc → ℕ → ℕ → Bool
+comes_before Nine n other = nat_le n other
+comes_before Seven n other = nat_lt n other
+
+-- a processor is the least actor by it
+abbrev pub is_least_by : NextEvent → MachineState → Proc → Bool
+is_least_by next_event s proc =
+    nat_lt (waits_until next_event s proc) next_event.events_until.0 && comes_before proc (waits_until next_event s proc) (waits_until next_event s (other_proc proc))
+
+-- the first tick at which it isn't, or isn't due below a limit any more
+abbrev pub past_other : Proc → ℕ → ℕ
+past_other Nine other = min (other + 1) (2 ^ 64 - 1)
+past_other Seven other = other
+
+abbrev pub limit_by : NextEvent → MachineState → Proc → ℕ → ℕ
+limit_by next_event s proc until = min (min next_event.events_until.0 until) (past_other proc (waits_until next_event s (other_proc proc)))
+
+-- what is kept is so of a machine: no actor but the processors is due before a tick; unless that is 0 one is due at it, no halted processor is to wake, and the units behind
+-- the ports are settled; each processor's least tick says whether it is blocked; and its interrupt line is up or isn't
 pub record IsNextEvent (next_event : NextEvent) (s : MachineState) : Type 0 where
-  pub events : (proc : Proc) → IsOver (events_of s) (until_of next_event proc).0
-  pub asleep : (proc : Proc) → 0 < (until_of next_event proc).0 → AreAsleep s
-  pub settled : (proc : Proc) → 0 < (until_of next_event proc).0 → is_settled s.io ≡ true
+  pub events : IsOver (events_of s) next_event.events_until.0
+  pub first : 0 < next_event.events_until.0 → (rank : ℕ) × (due_at (events_of s) rank ≡ Some next_event.events_until)
+  pub asleep : 0 < next_event.events_until.0 → AreAsleep s
+  pub settled : 0 < next_event.events_until.0 → is_settled s.io ≡ true
   pub nine_least : next_event.nine_least ≡ least_of (is_blocked s Nine)
   pub seven_least : next_event.seven_least ≡ least_of (is_blocked s Seven)
   pub nine_line : next_event.nine_line ≡ line_of s Nine
   pub seven_line : next_event.seven_line ≡ line_of s Seven
+
+-- a processor took a step of its turn, and what is needed of machines stayed so
+pub record TookStep (until : ℕ) (proc : Proc) (s next : MachineState) : Type 0 where
+  pub belongs : BelongsToTurn until s proc
+  pub made : reference_step (rank_of proc) s ≡ Makes next []
+  pub counted : HasCounted next
+  pub fewer : own_remaining until next proc < own_remaining until s proc
+  pub io : next.io ≡ s.io
+  pub other : (processor_of next (other_proc proc)).due ≡ (processor_of s (other_proc proc)).due

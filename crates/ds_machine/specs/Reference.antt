@@ -1,4 +1,4 @@
-use Rattle.std.specs.Prelude.{ℕ, ◌+◌, ◌*◌, ◌≡◌, ◌<◌, ◌≤◌, ◌^◌, ◌&&◌, Bool, true, false, if◌then◌else◌, List, [], ◌∷◌, map, max, min, nat_lt, Option, Some, None, Result, Ok, Err}
+use Rattle.std.specs.Prelude.{ℕ, ◌+◌, ◌*◌, ◌≡◌, ◌≤◌, ◌&&◌, Bool, true, false, if◌then◌else◌, List, [], ◌∷◌, map, max, min, nat_lt, Option, Some, None, Result, Ok, Err}
 use Rattle.ds_base.specs.KeyLines.{AreKeyLines}
 use Rattle.ds_base.specs.declared.keys.KeyLine.{KeyLine}
 use Rattle.ds_base.specs.declared.left_out.LeftOut.{LeftOut}
@@ -9,7 +9,7 @@ use Rattle.ds_base.specs.declared.processors.Proc.{Proc}
 use Rattle.ds_base.specs.declared.processors.Proc.TheVariants.{Nine}
 use Rattle.ds_ports.specs.Dues.{IsIo, io_due}
 use Rattle.ds_dma.specs.States.{awaits_geometry}
-use Rattle.ds_ports.specs.Io.{IoState, geometry_swapped, io_event, keys_pressed, stall_ends, tick_after, video_done}
+use Rattle.ds_ports.specs.Io.{IoState, geometry_swapped, io_event, is_settled, keys_pressed, stall_ends, tick_after, video_done}
 use Rattle.ds_runs.specs.Actors.{actors, actor_of}
 use Rattle.ds_runs.specs.Runs.{TickMachine, MachineStep, Makes, Stops, IsLeast, due_at}
 use Rattle.ds_runs.specs.declared.actors.Actor as actor
@@ -118,10 +118,6 @@ reference_step rank s = awake (due_by (actor_of rank) s) (step_by rank (actor_of
 abbrev pub reference : TickMachine MachineState Shown LeftOut
 reference = record { dues = dues_of; step = reference_step }
 
--- the actor may take the next step: it is the least, and its tick is one of those that a run may come to
-abbrev pub MayStep : MachineState → ℕ → Type 0
-MayStep s rank = (tick : Tick) × IsLeast (dues_of s) tick rank × (tick.0 ≤ 2 ^ 56)
-
 -- what a step came to, by what is answered and by the machine afterwards
 abbrev pub stepped_of : MachineState → Done → MachineState → MachineStep MachineState Shown LeftOut
 stepped_of old Made new = Makes new []
@@ -136,11 +132,6 @@ Steps rank old done new = reference_step rank old ≡ stepped_of old done new
 abbrev pub IsDue : MachineState → Due → Type 0
 IsDue s due = IsLeast (dues_of s) due.tick due.rank
 
--- whether a step of the fast path was taken: the least actor, where it was due below a limit, took its step; where none was, nothing is changed
-abbrev pub FastStep : ℕ → MachineState → Bool → MachineState → Type 0
-FastStep until old false new = new ≡ old
-FastStep until old true new = (due : Due) × IsDue old due × (due.tick.0 < until) × Steps due.rank old Made new
-
 -- ---- the states that come up
 
 -- at every time: each unit's numbers are those that it can have, and the lines of the script that are to come rise
@@ -152,10 +143,11 @@ pub record HasSoundParts (s : MachineState) : Type 0 where
 abbrev pub AreAsleep : MachineState → Type 0
 AreAsleep s = (proc : Proc) → wakes s proc ≡ false
 
--- and unless a step stopped: after each step that is taken those woke that were to
+-- and unless a step stopped: after each step that is taken those woke that were to, and the units behind the ports are settled
 pub record IsSound (s : MachineState) : Type 0 where
   pub parts : HasSoundParts s
   pub asleep : AreAsleep s
+  pub settled : is_settled s.io ≡ true
 
 -- ---- counts, by owner
 

@@ -38,3 +38,12 @@ pub enum Seen {
     /// It isn't due.
     Idle,
 }
+
+/// Whether a processor's next step may be taken before its turn, but for when it is due.
+#[derive(Clone, Copy, PartialEq, Eq)]
+pub enum Private {
+    /// It may: it reaches private places alone, while nothing that another actor raises reaches the processor.
+    Yes,
+    /// It may not.
+    No,
+}

@@ -21,7 +21,7 @@ const SEVEN: u8 = 23;
 impl Parts {
     /// When a processor is due, if it is.
     #[inline(always)]
-    fn processor_due(&self, proc: Proc) -> Option<Tick>
+    pub fn processor_due(&self, proc: Proc) -> Option<Tick>
         ensures { result ≡ processor_due self.now proc }
     {
         if self.is_blocked(proc) {

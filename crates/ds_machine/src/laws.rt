@@ -4,6 +4,7 @@ ghost use Rattle.ds_runs.specs.Laws.{RunsJoin, RunsAreOne, RunsExist, RunsEnd};
 ghost use Rattle.ds_machine.specs.Apart.{DisplayLeavesNine, GeometryLeavesNine, LeaveNine, LeaveSeven};
 ghost use Rattle.ds_machine.specs.Frames.{StepsFollowFrames, StepsFollowLists, StopsLeaveFrames, StopsLeaveLists};
 ghost use Rattle.ds_machine.specs.OwnSteps.{IsStep7, IsStep9};
+ghost use Rattle.ds_machine.specs.Private.{AheadRuns, AheadSteps, TurnStepsFall};
 ghost use Rattle.ds_machine.specs.Reference.{reference, CountsAddUp, HasSoundParts};
 ghost use Rattle.ds_machine.specs.Statuses.{BootsWithStatuses, RunsKeepStatuses, StepsKeepStatuses};
 
@@ -49,6 +50,12 @@ pub fn count_laws()
     ensures { CountsAddUp }
 {}
 
+/// Does nothing; its contract states that a step of a processor's turn that is taken leaves the processor fewer ticks below the limit: it is due later afterwards, or not at
+/// all. So a loop over such steps ends.
+pub fn own_turn_laws()
+    ensures { TurnStepsFall }
+{}
+
 /// Does nothing; its contract states that the frame that a step puts out is the machine's last whole frame after it, and that a step that puts out none, or
 /// that stops, leaves the last whole frame; and so it is with the lists of the last swap.
 pub fn frame_laws()
@@ -56,4 +63,13 @@ pub fn frame_laws()
     ensures stop { StopsLeaveFrames }
     ensures lists_step { StepsFollowLists }
     ensures lists_stop { StopsLeaveLists }
+{}
+
+/// Does nothing; its contract states the laws of running ahead. A step that a processor may take before its turn, on a machine whose units are settled and on which nobody is
+/// to wake, is always taken, puts out nothing and leaves such a machine. And to each limit past its tick the run from the state after it ends where the run from the state before it
+/// ends, and puts out the same.
+#[tactic(auto, using(crate::proofs::AheadRuns::ahead_steps, crate::proofs::AheadRuns::ahead_runs))]
+pub fn ahead_laws()
+    ensures steps { AheadSteps }
+    ensures runs { AheadRuns }
 {}

@@ -8,7 +8,9 @@ mod answers;
 mod boots;
 mod dues;
 mod events;
+mod fences;
 mod geometry_laws;
+mod going;
 mod laws;
 mod machines;
 mod next_events;
@@ -18,10 +20,14 @@ mod scripts;
 mod sides;
 mod steps;
 mod stopping;
+mod touching;
 mod turns;
 
-pub use answers::{Done, Seen};
+pub use answers::{Done, Private, Seen};
 pub use geometry_laws::room_laws;
-pub use laws::{count_laws, frame_laws, own_part_laws, own_step_laws, reference_laws, status_laws};
+pub use laws::{
+    ahead_laws, count_laws, frame_laws, own_part_laws, own_step_laws, own_turn_laws,
+    reference_laws, status_laws,
+};
 pub use machines::Machine;
 pub use stopping::stop_laws;

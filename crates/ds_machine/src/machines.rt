@@ -1,6 +1,6 @@
 //! The machine.
 
-ghost use Rattle.std.specs.Prelude.{◌≡◌, ◌<◌, ◌≤◌, ◌^◌, slice_index, length, IfOk};
+ghost use Rattle.std.specs.Prelude.{◌≡◌, ◌↔◌, ◌<◌, ◌≤◌, ◌^◌, true, slice_index, length, IfOk, IfSome};
 ghost use Rattle.ds_base.specs.Memories.{memory_size};
 ghost use Rattle.ds_ipc.specs.Ipcs.{AreSides};
 ghost use Rattle.ds_ports.specs.Io.{io_at_boot};
@@ -8,11 +8,13 @@ ghost use Rattle.ds_runs.specs.Runs.{due_at};
 ghost use Rattle.ds_machine.specs.Booted.{machine_booted};
 ghost use Rattle.ds_machine.specs.Frames.{framed_of};
 ghost use Rattle.ds_machine.specs.Observed.{memory_of, registers_of, seen_of};
-ghost use Rattle.ds_machine.specs.Reference.{dues_of, FastStep, HasCounted, HasSoundParts, IsDue, MayStep, Steps};
+ghost use Rattle.ds_machine.specs.Private.{BelongsToTurn, IsFence, IsLeastBelow, IsPrivate, MayStep, TakesSteps};
+ghost use Rattle.ds_machine.specs.declared.answers.Private.TheVariants.{Yes};
+ghost use Rattle.ds_machine.specs.Reference.{dues_of, HasCounted, HasSoundParts, IsDue, Steps};
 ghost use Rattle.ds_machine.specs.Statuses.{HasBothStatuses};
 ghost use Rattle.ds_machine.specs.Steps.{processor_of};
 
-use crate::answers::{Done, Seen};
+use crate::answers::{Done, Private, Seen};
 use crate::next_events::NextEvent;
 use crate::parts::Parts;
 use ds_base::{Due, Keys, Memory, Proc, Tick};
@@ -71,9 +73,9 @@ impl Machine {
         self.parts.due_of(rank)
     }
 
-    /// The step of the actor that is due first; then the geometry FIFO's interrupt is told as it is and DMA is triggered that waits for it, and halted
-    /// processors wake whose IE and IF share a bit. A step that needs what is left out
-    /// stops; the accesses before the refused one stand, and registers and due ticks are as they were.
+    /// The step of the actor that is due first, or of a processor that may step before its turn; then the geometry FIFO's interrupt is told as it is and DMA is triggered
+    /// that waits for it, and halted processors wake whose IE and IF share a bit. A step that needs what is left out stops; the accesses before the refused one stand, and
+    /// registers and due ticks are as they were.
     #[inline(always)]
     pub fn step(&mut self, rank: u8) -> Done
         requires { MayStep self.old rank }
@@ -86,25 +88,59 @@ impl Machine {
         done
     }
 
-    /// One step, where it is one of the fast path: a processor is due before every other actor and before a tick. The answer is whether it was
-    /// taken; where it wasn't nothing is changed. The steps before it were as few as `due` says.
+    /// The processor that is the least actor and due below a limit, where that is known at once; None where it isn't, or where another actor is the least.
     #[inline(always)]
-    pub fn step_fast(&mut self, until: Tick) -> bool
+    pub fn first(&self, until: Tick) -> Option<Proc>
         requires { until.0 ≤ 2 ^ 56 }
-        ensures step { FastStep until.0 self.old result self.new }
+        ensures { IfSome result (λ proc. IsLeastBelow until.0 self.now proc) }
+    {
+        self.parts.first_by(self.next_event, until)
+    }
+
+    /// A processor takes steps of its turn with a limit, while they are of the fast path. The answer is whether its turn is over; where it isn't known to be, `belongs`
+    /// tells it, and the next step, where it belongs to the turn, is to be taken by `step`. No unit behind the ports changes: so no frame becomes whole, and no lists are swapped.
+    #[inline(always)]
+    pub fn go_fast(&mut self, proc: Proc, until: Tick) -> bool
+        requires { until.0 ≤ 2 ^ 56 }
+        ensures steps { TakesSteps until.0 proc self.old self.new }
+        ensures over { result ≡ true → BelongsToTurn until.0 self.new proc → ⊥ }
+        ensures io { self.new.io ≡ self.old.io }
         ensures counted { HasCounted self.old }
     {
-        self.parts.laws();
-        self.parts.step_fast(self.next_event, until)
+        self.parts.go_fast(self.next_event, proc, until)
+    }
+
+    /// Whether a processor's next step may be taken before its turn, but for when it is due: it is due, its interrupt line is down, nothing that another actor
+    /// raises reaches it, and the step reaches private places alone.
+    pub fn touches(&self, proc: Proc) -> Private
+        ensures { (result ≡ Yes) ↔ IsPrivate self.now proc }
+    {
+        self.parts.touches(proc)
+    }
+
+    /// The least tick at which one is due of those that may halt a processor, wake it or make it wait: the key script, the display, its timers, its DMA channels, and
+    /// geometry for ARM9.
+    pub fn fence(&self, proc: Proc) -> Tick
+        ensures { IsFence self.now proc result }
+    {
+        self.parts.fence(proc)
+    }
+
+    /// Whether a processor's next step belongs to its turn with a limit: it is due below the limit, and is the least step, or may be taken before its turn.
+    pub fn belongs(&self, proc: Proc, until: Tick) -> bool
+        ensures { (result ≡ true) ↔ BelongsToTurn until.0 self.now proc }
+    {
+        self.parts.belongs(proc, until)
     }
 
     /// Does nothing; its contract states what holds of every machine: each unit's numbers are those that it can have, and the lines of the key
     /// script that are to come rise; neither FIFO between the processors holds more than 16 words, each of 32 bits; and CPSR and each SPSR of both
-    /// processors have no bits but those that are kept.
+    /// processors have no bits but those that are kept; and there were as few steps as `due` says.
     pub fn laws(&self)
         ensures parts { HasSoundParts self.now }
         ensures ipc { AreSides self.now.io.ipc }
         ensures statuses { HasBothStatuses self.now }
+        ensures counted { HasCounted self.now }
     {
         self.parts.laws();
         self.parts.ipc_laws();

@@ -1,24 +1,21 @@
-//! What is kept between steps of the fast path, and those steps.
+//! What is kept between steps of the fast path.
 
-ghost use Rattle.std.specs.Prelude.{◌≡◌, ◌<◌, ◌≤◌, ◌^◌, ℕ, Some, false, true};
+ghost use Rattle.std.specs.Prelude.{◌≡◌, ◌<◌, ℕ, Some, true};
 ghost use Rattle.ds_ports.specs.Io.{is_settled};
-ghost use Rattle.ds_runs.specs.Runs.{IsOver};
-ghost use Rattle.ds_machine.specs.NextEvents.{events_of, least_of, due_at_least, until_of, IsNextEvent};
-ghost use Rattle.ds_machine.specs.Reference.{awake, step_by, stepped_of, AreAsleep, FastStep, HasCounted, HasSoundParts};
-ghost use Rattle.ds_machine.specs.Steps.{is_blocked, line_of, processor_of, tick_of};
-ghost use Rattle.ds_machine.specs.declared.answers.Done.TheVariants.{Made};
+ghost use Rattle.ds_runs.specs.Runs.{IsOver, due_at};
+ghost use Rattle.ds_machine.specs.NextEvents as kept;
+ghost use Rattle.ds_machine.specs.NextEvents.{events_of, least_of, due_at_least, least_kept, limit_by, line_kept, IsNextEvent};
+ghost use Rattle.ds_machine.specs.Reference.{AreAsleep};
+ghost use Rattle.ds_machine.specs.Steps.{is_blocked};
 
 use crate::parts::Parts;
 use ds_base::{Proc, Tick};
-use ds_runs::Actor;
 
 /// What the units behind the ports, the key script and the display tell: it stands still while a processor's steps change none of them.
 #[derive(Clone, Copy)]
 pub struct NextEvent {
-    /// Nothing touches ARM9 before this tick but its own steps; 0 where a halted processor is to wake, or the units behind the ports aren't settled. So far that is the tick of the first event.
-    pub nine_until: Tick,
-    /// So it is with ARM7.
-    pub seven_until: Tick,
+    /// No actor but the processors is due before this tick, and one is at it; 0 where a halted processor is to wake, or the units behind the ports aren't settled.
+    pub events_until: Tick,
     /// ARM9 is due at this tick at the earliest: 0, or past all ticks of a run while it is blocked.
     pub nine_least: u64,
     /// So is ARM7.
@@ -27,6 +24,30 @@ pub struct NextEvent {
     pub nine_line: bool,
     /// Whether ARM7's interrupt line is up.
     pub seven_line: bool,
+}
+
+impl NextEvent {
+    /// The earliest tick at which a processor may be due.
+    #[inline(always)]
+    pub fn least(&self, proc: Proc) -> u64
+        ensures { result ≡ least_kept self.now proc }
+    {
+        match proc {
+            Proc::Nine => self.nine_least,
+            Proc::Seven => self.seven_least,
+        }
+    }
+
+    /// Whether a processor's interrupt line is up.
+    #[inline(always)]
+    pub fn line(&self, proc: Proc) -> bool
+        ensures { result ≡ line_kept self.now proc }
+    {
+        match proc {
+            Proc::Nine => self.nine_line,
+            Proc::Seven => self.seven_line,
+        }
+    }
 }
 
 /// When a processor is due, in ticks; past all ticks of a run while it is blocked.
@@ -38,9 +59,10 @@ fn due_at_least(least: u64, due: u64) -> u64
 }
 
 impl Parts {
-    /// A tick before which no actor but the processors is due; 0 where a halted processor is to wake, or the units behind the ports aren't settled.
+    /// A tick before which no actor but the processors is due, and at which one is; 0 where a halted processor is to wake, or the units behind the ports aren't settled.
     fn next_event_tick(&self) -> Tick
         ensures events { IsOver (events_of self.now) result.0 }
+        ensures first { 0 < result.0 → (rank : ℕ) × (due_at (events_of self.now) rank ≡ Some result) }
         ensures asleep { 0 < result.0 → AreAsleep self.now }
         ensures settled { 0 < result.0 → is_settled self.now.io ≡ true }
     {
@@ -62,10 +84,8 @@ impl Parts {
     pub fn next_event(&self) -> NextEvent
         ensures { IsNextEvent result self.now }
     {
-        let until = self.next_event_tick();
         NextEvent {
-            nine_until: until,
-            seven_until: until,
+            events_until: self.next_event_tick(),
             nine_least: self.least_of(Proc::Nine),
             seven_least: self.least_of(Proc::Seven),
             nine_line: self.line(Proc::Nine),
@@ -73,63 +93,23 @@ impl Parts {
         }
     }
 
-    /// One step, where it is one of the fast path: a processor is due before every other actor and before a tick. The answer is whether it was
-    /// taken; where it wasn't nothing is changed.
+    /// When a processor is due, by what is kept.
     #[inline(always)]
-    pub fn step_fast(&mut self, next_event: NextEvent, until: Tick) -> bool
-        requires next_event { IsNextEvent next_event self.old }
-        requires sound { HasSoundParts self.old }
-        requires early { until.0 ≤ 2 ^ 56 }
-        requires counted { HasCounted self.old }
-        ensures step { FastStep until.0 self.old result self.new }
-        ensures next_event { IsNextEvent next_event self.new }
+    pub fn waits_until(&self, next_event: NextEvent, proc: Proc) -> u64
+        ensures { result ≡ kept.waits_until next_event self.now proc }
     {
-        let nine = due_at_least(next_event.nine_least, self.nine.processor.due);
-        let seven = due_at_least(next_event.seven_least, self.seven.processor.due);
-        if nine <= seven {
-            let end = next_event.nine_until.0.min(until.0);
-            if nine < end {
-                return self.processor_fast(
-                    next_event,
-                    Proc::Nine,
-                    next_event.nine_line,
-                    Tick(nine),
-                );
-            }
-        } else {
-            let end = next_event.seven_until.0.min(until.0);
-            if seven < end {
-                return self.processor_fast(
-                    next_event,
-                    Proc::Seven,
-                    next_event.seven_line,
-                    Tick(seven),
-                );
-            }
-        }
-        false
+        due_at_least(next_event.least(proc), self.processor(proc).due)
     }
 
-    /// A processor's step at its tick, where it is one of the fast path. It costs, and changes no unit: so no processor wakes, and what is kept stays.
+    /// The first tick at which a processor isn't the least actor, or isn't due below a limit any more, by what is kept.
     #[inline(always)]
-    fn processor_fast(&mut self, next_event: NextEvent, proc: Proc, line: bool, tick: Tick) -> bool
-        requires next_event { IsNextEvent next_event self.old }
-        requires sound { HasSoundParts self.old }
-        requires before { tick.0 < (until_of next_event proc).0 }
-        requires line { line ≡ line_of self.old proc }
-        requires blocked { is_blocked self.old proc ≡ false }
-        requires tick { tick ≡ tick_of (processor_of self.old proc) }
-        requires early { tick.0 ≤ 2 ^ 56 }
-        requires counted { (processor_of self.old proc).steps ≤ 2 ^ 61 }
-        ensures none { result ≡ false → self.new ≡ self.old }
-        ensures made { (rank : ℕ) → result ≡ true → awake (Some tick) (step_by rank (Actor.Processor proc) self.old) ≡ stepped_of self.old Made self.new }
-        ensures next_event { IsNextEvent next_event self.new }
+    pub fn limit_by(&self, next_event: NextEvent, proc: Proc, until: Tick) -> u64
+        ensures { result ≡ limit_by next_event self.now proc until.0 }
     {
-        let clocks = self.take_fast(proc, tick, line);
-        if clocks == 0 {
-            return false;
+        let end = next_event.events_until.0.min(until.0);
+        match proc {
+            Proc::Nine => end.min(self.waits_until(next_event, Proc::Seven).saturating_add(1)),
+            Proc::Seven => end.min(self.waits_until(next_event, Proc::Nine)),
         }
-        self.go_on(proc, clocks, false);
-        true
     }
 }

@@ -158,7 +158,7 @@ impl Parts {
     }
 
     /// What a processor fetches at an address.
-    fn fetch_of(&self, proc: Proc, at: u32, width: Width) -> u32
+    pub fn fetch_of(&self, proc: Proc, at: u32, width: Width) -> u32
         ensures { result ≡ fetch_of self.now proc at width }
     {
         match proc {

@@ -12,11 +12,12 @@ use arm_core::Core;
 use ds_base::{Proc, Tick};
 use ds_header::Cart;
 
-/// A processor: its core, the tick at which its next step is due, and how many steps it took.
+/// A processor: the tick at which its next step is due, its core, and how many steps it took. (The two numbers don't lie side by side: each step changes both, and they would be
+/// brought together and taken apart again.)
 #[derive(Drop)]
 pub struct Processor {
-    pub core: Core,
     pub due: u64,
+    pub core: Core,
     pub steps: u64,
 }
 

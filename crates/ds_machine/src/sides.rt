@@ -7,13 +7,17 @@ ghost use Rattle.arm_ops.specs.Meanings.{access_made};
 ghost use Rattle.arm_ops.specs.Operations.{is_other, HasAccess, HasOperation};
 ghost use Rattle.arm_words.specs.Fields.{HasFields};
 ghost use Rattle.ds_ports.specs.Io.{IoState};
-ghost use Rattle.ds_machine.specs.Sides.{operation_outcome, RunsAs, SideOf};
+ghost use Rattle.cp15_tcm.specs.TightlyCoupled.{tcm_of};
+ghost use Rattle.ds_machine.specs.Sides as sides;
+ghost use Rattle.ds_machine.specs.Sides.{is_private_tcm, operation_outcome, RunsAs, SideOf};
+ghost use Rattle.ds_machine.specs.Touching.{GoesByWords};
 
 use arm_core::{Core, Registers, Stepped};
 use arm_exec::{Fetched, execute_word};
 use arm_ops::{DataAccess, Operation, run, run_made};
 use arm7_exec::execute7;
 use arm9_exec::{in_rom, move_if, move_of};
+use cp15_tcm::{Cp15, Tcm};
 use ds_base::{Arch, Proc, Width};
 use ds_map::{NineView, SevenView, fetched_by_nine};
 
@@ -48,6 +52,14 @@ pub trait Side {
     /// Where the exception vectors begin.
     fn base(&self) -> u32
         ensures { result ≡ side.base (state self.now) };
+
+    /// Whether the byte at an address lies in the processor's private places, as a write, a fetch, or else a read reaches it.
+    fn is_private(&self, at: u32, writing: bool, fetching: bool) -> bool
+        ensures { result ≡ side.is_private (state self.now) writing fetching at };
+
+    /// Does nothing; its contract states that the four bytes of a word that is aligned are private together.
+    fn place_laws(&self)
+        ensures { GoesByWords side };
 
     /// Executes what was fetched.
     fn execute(&mut self, core: &mut Core, next: Fetched) -> Stepped
@@ -89,6 +101,25 @@ pub trait Side {
         ensures same { identity self.new ≡ identity self.old };
 }
 
+/// Whether the byte at an address lies in ARM9's private places, as a write, a fetch, or else a read reaches it.
+#[inline(always)]
+pub fn is_private_to_nine(cp: &Cp15, at: u32, writing: bool, fetching: bool) -> bool
+    ensures { result ≡ is_private_tcm (tcm_of cp.now at writing fetching) at }
+{
+    match cp.tcm_place(at, writing, fetching) {
+        Tcm::Past => at >= 0xFFFF_0000,
+        _ => true,
+    }
+}
+
+/// Whether the byte at an address lies in ARM7's private places.
+#[inline(always)]
+pub fn is_private_to_seven(at: u32) -> bool
+    ensures { result ≡ sides.is_private_to_seven at }
+{
+    at <= 0x3FFF || (at >= 0x0380_0000 && at <= 0x03FF_FFFF)
+}
+
 impl Side for NineView<'_> {
     ghost use Rattle.std.specs.Prelude.{◌∷◌};
     ghost use Rattle.ds_base.specs.declared.processors.Proc.TheVariants.{Nine};
@@ -122,6 +153,15 @@ impl Side for NineView<'_> {
     fn base(&self) -> u32 {
         self.cp.vectors()
     }
+
+    #[inline(always)]
+    fn is_private(&self, at: u32, writing: bool, fetching: bool) -> bool {
+        is_private_to_nine(self.cp, at, writing, fetching)
+    }
+
+    #[inline(always)]
+    #[tactic(auto, using(crate::proofs::PlacesByWords::nine_by_words))]
+    fn place_laws(&self) {}
 
     #[inline(always)]
     fn execute(&mut self, core: &mut Core, next: Fetched) -> Stepped {
@@ -191,6 +231,15 @@ impl Side for SevenView<'_> {
     fn base(&self) -> u32 {
         0
     }
+
+    #[inline(always)]
+    fn is_private(&self, at: u32, _writing: bool, _fetching: bool) -> bool {
+        is_private_to_seven(at)
+    }
+
+    #[inline(always)]
+    #[tactic(auto, using(crate::proofs::PlacesByWords::seven_by_words))]
+    fn place_laws(&self) {}
 
     #[inline(always)]
     fn execute(&mut self, core: &mut Core, next: Fetched) -> Stepped {

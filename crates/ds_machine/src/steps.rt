@@ -1,18 +1,21 @@
 //! The step of a processor over what it reaches, and of it what is fast: one function each for both processors.
 
-ghost use Rattle.std.specs.Prelude.{◌≡◌, ◌<◌, ◌%◌, ◌^◌, false, IfSome};
+ghost use Rattle.std.specs.Prelude.{◌≡◌, ◌<◌, ◌%◌, ◌^◌, false, true, IfSome};
 ghost use Rattle.arm_core.specs.Steps.{enters, fetched};
 ghost use Rattle.arm_core.specs.declared.outcomes.Stepped.TheVariants.{Cost};
 ghost use Rattle.decode_cache.specs.Known.{arch_of};
 ghost use Rattle.arm_ops.specs.Operations.{is_other, operation_of, HasOperation};
 ghost use Rattle.arm_words.specs.Fields.{HasFields};
 ghost use Rattle.arm_words.specs.ThumbTable.{decoded_thumb};
+ghost use Rattle.arm_ops.specs.Meanings.{access_made};
 ghost use Rattle.ds_machine.specs.Sides.{taken};
+ghost use Rattle.ds_machine.specs.Touching.{access_stays, stores, DataStays, GoesByWords};
 
 use crate::sides::Side;
 use arm_core::{Core, Registers, Stepped};
 use arm_exec::{Fetched, decoded_half, decoded_word, enters, interrupt};
-use arm_ops::{Operation, access_made, is_other};
+use arm_ops::{Operation, TransferOp, access_made, is_other};
+use arm_words::HalfOp;
 use decode_cache::Decoder;
 use ds_base::Width;
 
@@ -121,26 +124,78 @@ pub fn take<V: Side, const VERSION: u32>(
     take_operation(&mut core.registers, view, line, next)
 }
 
-/// The step, where it is fast: a frequent instruction, which reaches RAM alone. The result is its cost; 0 where it isn't taken, and then nothing is
-/// changed. No unit changes.
+/// What came of a fast step.
+#[derive(Clone, Copy)]
+pub struct Fast {
+    /// Its cost; 0 where it wasn't taken.
+    pub clocks: u32,
+    /// Whether it wasn't taken since it reaches past private places.
+    pub leaves: bool,
+}
+
+/// Whether a kind of access writes.
 #[inline(always)]
+fn stores(op: TransferOp) -> bool
+    ensures { result ≡ stores op }
+{
+    match op {
+        TransferOp::WordOrByte { load, .. } => !load,
+        TransferOp::HalfOrSigned { op } => matches!(op, HalfOp::Strh),
+    }
+}
+
+/// Whether an operation's access of data is to a private place, if it makes one.
+#[inline(always)]
+fn access_stays<V: Side>(s: &Registers, view: &V, next: &Operation) -> bool
+    requires { HasOperation next.now }
+    ensures stays { result ≡ access_stays V.side (V.state view.now) (access_made s.now next.now) }
+    ensures address { IfSome (access_made s.now next.now) (λ access. access.to.address < 2 ^ 32) }
+    ensures words { GoesByWords V.side }
+{
+    view.place_laws();
+    match access_made(s, next) {
+        Some(it) => view.is_private(it.to.address, stores(it.op), false),
+        None => true,
+    }
+}
+
+/// The step, where it is fast: a frequent instruction, which reaches RAM alone; where it is ahead of its turn, it also has to reach private places alone. Where it isn't taken
+/// nothing is changed. No unit changes.
+#[inline]
 pub fn take_fast<V: Side, const VERSION: u32>(
     s: &mut Registers,
     decoder: &mut Decoder<VERSION>,
     view: &mut V,
     line: bool,
-) -> u32
+    ahead: bool,
+) -> Fast
     requires version { arch_of VERSION ≡ V.side.arch }
-    ensures none { result ≡ 0 → (s.new ≡ s.old) × (V.state view.new ≡ V.state view.old) }
-    ensures registers { 0 < result → s.new ≡ (taken V.memory V.side line s.old (V.state view.old)).registers }
-    ensures state { 0 < result → V.state view.new ≡ (taken V.memory V.side line s.old (V.state view.old)).state }
-    ensures stepped { 0 < result → (taken V.memory V.side line s.old (V.state view.old)).stepped ≡ Cost result }
+    ensures none { result.clocks ≡ 0 → (s.new ≡ s.old) × (V.state view.new ≡ V.state view.old) }
+    ensures registers { 0 < result.clocks → s.new ≡ (taken V.memory V.side line s.old (V.state view.old)).registers }
+    ensures state { 0 < result.clocks → V.state view.new ≡ (taken V.memory V.side line s.old (V.state view.old)).state }
+    ensures stepped { 0 < result.clocks → (taken V.memory V.side line s.old (V.state view.old)).stepped ≡ Cost result.clocks }
+    ensures stays { ahead ≡ true → 0 < result.clocks → DataStays V.memory V.side s.old (V.state view.old) }
+    ensures leaves { result.leaves ≡ true → DataStays V.memory V.side s.old (V.state view.old) → ⊥ }
+    ensures left { result.leaves ≡ true → (result.clocks ≡ 0) × (ahead ≡ true) }
     ensures io { V.io (V.state view.new) ≡ V.io (V.state view.old) }
     ensures same { V.identity view.new ≡ V.identity view.old }
 {
     if enters(s, line) {
-        return 0;
+        return Fast {
+            clocks: 0,
+            leaves: false,
+        };
     }
     let next = next_operation(s, decoder, view);
-    view.run_fast(s, next)
+    if ahead && !access_stays(s, view, next) {
+        return Fast {
+            clocks: 0,
+            leaves: true,
+        };
+    }
+    let clocks = view.run_fast(s, next);
+    Fast {
+        clocks,
+        leaves: false,
+    }
 }

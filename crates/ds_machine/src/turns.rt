@@ -1,24 +1,26 @@
 //! The step of the actor that is due, and those of the processors.
 
-ghost use Rattle.std.specs.Prelude.{◌≡◌, ◌<◌, ◌≤◌, ◌^◌, Some};
+ghost use Rattle.std.specs.Prelude.{◌≡◌, ◌<◌, ◌≤◌, ◌^◌, Some, true};
 ghost use Rattle.arm_core.specs.declared.outcomes.Stepped.TheVariants.{Cost};
 ghost use Rattle.ds_base.specs.declared.processors.Proc.{Proc};
 ghost use Rattle.ds_runs.specs.Actors.{IsNumbered};
 ghost use Rattle.ds_runs.specs.declared.actors.Actor.TheVariants.{Geometry, Processor};
+ghost use Rattle.ds_machine.specs.Private.{MayStep};
 ghost use Rattle.ds_machine.specs.Processors.{stop_in};
-ghost use Rattle.ds_machine.specs.Reference.{awake, due_by, step_by, stepped_of, HasCounted, MayStep, Steps};
+ghost use Rattle.ds_machine.specs.Reference.{awake, due_by, step_by, stepped_of, HasCounted, Steps};
+ghost use Rattle.ds_machine.specs.Touching.{DataStaysPrivate};
 ghost use Rattle.ds_machine.specs.Steps.{machine_concluded, goes_on, gone_by, is_halted, line_of, outcome_of, processor_of, tick_of, wakes, went_on, with_processor, woken, woken_one, ended};
 
 use crate::answers::Done;
 use crate::parts::Parts;
-use crate::steps::{take, take_fast};
+use crate::steps::{Fast, take, take_fast};
 use arm_core::Stepped;
 use ds_base::{LeftOut, Proc, Stop, Tick};
 use ds_map::{NineView, SevenView};
 use ds_runs::Actor;
 
 impl Parts {
-    /// The step of the actor that is due first.
+    /// The step of the actor that is due first, or of a processor that may step before its turn.
     #[inline(always)]
     pub fn step(&mut self, rank: u8) -> Done
         requires may { MayStep self.old rank }
@@ -110,14 +112,17 @@ impl Parts {
         }
     }
 
-    /// Takes it where it is fast: its cost in the processor's clocks. Where it isn't taken that is 0, and nothing is changed. No unit changes.
+    /// Takes it where it is fast, and where it is ahead of its turn reaches private places alone. Where it isn't taken nothing is changed. No unit changes.
     #[inline(always)]
-    pub fn take_fast(&mut self, proc: Proc, now: Tick, line: bool) -> u32
+    pub fn take_fast(&mut self, proc: Proc, now: Tick, line: bool, ahead: bool) -> Fast
         requires early { now.0 ≤ 2 ^ 56 }
         requires line { line ≡ line_of self.old proc }
-        ensures none { result ≡ 0 → self.new ≡ self.old }
-        ensures machine { 0 < result → self.new ≡ (outcome_of proc now self.old).machine }
-        ensures stepped { 0 < result → (outcome_of proc now self.old).stepped ≡ Cost result }
+        ensures none { result.clocks ≡ 0 → self.new ≡ self.old }
+        ensures machine { 0 < result.clocks → self.new ≡ (outcome_of proc now self.old).machine }
+        ensures stepped { 0 < result.clocks → (outcome_of proc now self.old).stepped ≡ Cost result.clocks }
+        ensures stays { ahead ≡ true → 0 < result.clocks → DataStaysPrivate now self.old proc }
+        ensures leaves { result.leaves ≡ true → DataStaysPrivate now self.old proc → ⊥ }
+        ensures left { result.leaves ≡ true → (result.clocks ≡ 0) × (ahead ≡ true) }
         ensures io { self.new.io ≡ self.old.io }
     {
         match proc {
@@ -135,6 +140,7 @@ impl Parts {
                     &mut self.nine.decoder,
                     &mut view,
                     line,
+                    ahead,
                 )
             }
             Proc::Seven => {
@@ -148,6 +154,7 @@ impl Parts {
                     &mut self.seven.decoder,
                     &mut view,
                     line,
+                    ahead,
                 )
             }
         }

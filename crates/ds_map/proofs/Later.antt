@@ -40,7 +40,7 @@ map_read_unchanged proc m at width = place_unchanged proc (place_of proc m.io.wr
 module _ (proc : Proc) (now : Tick) where
   -- other bytes in video memory
   banks_go : (u : IoState) (vram : Banks) → Goes proc now u u → Goes proc now u (record u { vram = vram })
-  banks_go u vram g = record { is = g.is; quiet = g.quiet; each = g.each; other = g.other; scan = g.scan; whole = g.whole; geometry = leaves_all proc u (record u { vram = vram }) refl refl }
+  banks_go u vram g = record { is = g.is; quiet = g.quiet; each = g.each; other = g.other; told = g.told; scan = g.scan; whole = g.whole; geometry = leaves_all proc u (record u { vram = vram }) refl refl }
 
   either : (b : Bool) (u : IoState) (one other : MapState) → Goes proc now u one.io → Goes proc now u other.io → Goes proc now u (if b then one else other).io
   either true u one other h k = h

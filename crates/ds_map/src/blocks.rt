@@ -1,6 +1,7 @@
 //! Memories of a fixed size.
 
-ghost use Rattle.std.specs.Prelude.{◌≡◌, ◌<◌, ◌%◌, IfOk, slice_index, slice_set, length};
+ghost use Rattle.std.specs.Prelude.{◌≡◌, ◌<◌, ◌≤◌, ◌+◌, ◌%◌, IfOk, slice_index, slice_set, length};
+ghost use Rattle.ds_base.specs.declared.memories.Width.TheVariants.{Half, Word};
 ghost use Rattle.ds_base.specs.Numbers.{zeroes, aligned_down, number_at, with_number};
 
 use ds_base::Width;
@@ -30,6 +31,27 @@ fn zeroed(alloc: Global, count: usize) -> Result<Vec<u8>, AllocError>
     ensures long { IfOk result (λ v. length v.items ≡ count) }
 {
     Ok(vec![in alloc; 0; count]?)
+}
+
+/// Puts a half at a place, by one store.
+#[inline(always)]
+#[tactic(auto, using(crate::proofs::Puts::two_put))]
+fn put_half(bytes: &mut [u8], at: usize, value: u32)
+    requires { at + 2 ≤ length bytes.old }
+    ensures { bytes.new ≡ with_number Half bytes.old at value }
+{
+    let [first, second, _, _] = value.to_le_bytes();
+    bytes[at..at + 2].copy_from_slice(&[first, second]);
+}
+
+/// Puts a word at a place, by one store.
+#[inline(always)]
+#[tactic(auto, using(crate::proofs::Puts::four_put))]
+fn put_word(bytes: &mut [u8], at: usize, value: u32)
+    requires { at + 4 ≤ length bytes.old }
+    ensures { bytes.new ≡ with_number Word bytes.old at value }
+{
+    bytes[at..at + 4].copy_from_slice(&value.to_le_bytes());
 }
 
 impl<const N: usize> Block<N> {
@@ -99,21 +121,10 @@ impl<const N: usize> Block<N> {
         requires words { N % 4 ≡ 0 }
         ensures { self.new ≡ with_number width self.old (aligned_down width at) value }
     {
-        let [first, second, third, fourth] = value.to_le_bytes();
         match width {
-            Width::Byte => self.bytes[at] = first,
-            Width::Half => {
-                let at = at - at % 2;
-                self.bytes[at] = first;
-                self.bytes[at + 1] = second;
-            }
-            Width::Word => {
-                let at = at - at % 4;
-                self.bytes[at] = first;
-                self.bytes[at + 1] = second;
-                self.bytes[at + 2] = third;
-                self.bytes[at + 3] = fourth;
-            }
+            Width::Byte => self.bytes[at] = (value % 0x100) as u8,
+            Width::Half => put_half(&mut self.bytes, at - at % 2, value),
+            Width::Word => put_word(&mut self.bytes, at - at % 4, value),
         }
     }
 }

@@ -24,7 +24,7 @@ use Rattle.ds_timers.specs.Timing.{TimerState, AreTimers, control_set, kept_cont
 use Rattle.ds_timers.proofs.Changed.{control_schedules, control_set_is, reload_leaves, reload_set_is}
 use Rattle.ds_timers.proofs.Four.{one_reschedules}
 use Rattle.gx_fifo.specs.GxStates.{AreWaiting, GxState, is_stalled}
-use Rattle.ds_ports.specs.Dues.{IsIo, Goes, LeavesGeometry, IsUnchanged, IsProcessorIo, IsQuiet, ReschedulesEach, io_due}
+use Rattle.ds_ports.specs.Dues.{IsIo, IsTold, Goes, LeavesGeometry, IsUnchanged, IsProcessorIo, IsQuiet, ReschedulesEach, io_due}
 use Rattle.ds_ports.specs.ProcessorIo.{ProcessorIoState, dma_written, haltcnt_written, kept_keycnt, keycnt_written, keys_hold, keys_told, processor_io_raised}
 use Rattle.ds_ports.specs.Ports.{byte_written, half_written, ignores, port_read, port_refusal, port_written, read_unchanged, slot_joined, slot_written, unless_stopped, whole_if, whole_in, word_written, written_or}
 use Rattle.ds_ports.specs.RegisterMap.{IsSlot, slot_of}
@@ -37,6 +37,7 @@ use Rattle.ds_ports.proofs.HeldDues.{held_reschedules, stall_begins}
 use Rattle.ds_ports.proofs.GxPorts.{port_last, port_run, port_schedules, port_stalls, port_waiting}
 use Rattle.ds_ports.proofs.DisplayPorts.{written_scan, written_whole}
 use Rattle.ds_ports.proofs.RegisterMaps.{some_slot}
+use Rattle.ds_ports.proofs.Told.{AreIpcAtBoth, control_ipc, raised_told, receive_ipc, send_ipc, sync_ipc, told_nothing, told_on}
 use Rattle.video2d.specs.Scans.{ScanState, scan_due_tick}
 use Rattle.video2d.specs.Videos.{VideoState, video_written}
 
@@ -188,7 +189,7 @@ leaves_on proc a b c g h = record {
 }
 
 pub goes_nowhere : (proc : Proc) (now : Tick) (u : IoState) → IsProcessorIo (io_of u proc) → IsQuiet now (io_of u proc) → Goes proc now u u
-goes_nowhere proc now u is quiet = record { is = is; quiet = quiet; each = λ a l. inl refl; other = unchanged_same (io_of u (other_proc proc)); scan = refl; whole = refl; geometry = leaves_all proc u u refl refl }
+goes_nowhere proc now u is quiet = record { is = is; quiet = quiet; each = λ a l. inl refl; other = unchanged_same (io_of u (other_proc proc)); told = told_nothing (io_of u (other_proc proc)).irq; scan = refl; whole = refl; geometry = leaves_all proc u u refl refl }
 
 pub goes_on : (proc : Proc) (now : Tick) (a b c : IoState) → Goes proc now a b → Goes proc now b c → Goes proc now a c
 goes_on proc now a b c g h = record {
@@ -201,6 +202,7 @@ goes_on proc now a b c g h = record {
     halted = h.other.halted ∙ g.other.halted;
     dma = h.other.dma ∙ g.other.dma;
   };
+  told = told_on (io_of a (other_proc proc)).irq (io_of b (other_proc proc)).irq (io_of c (other_proc proc)).irq g.told h.told;
   scan = h.scan ∙ g.scan;
   whole = h.whole ∙ g.whole;
   geometry = leaves_on proc a b c g.geometry h.geometry;
@@ -210,8 +212,8 @@ goes_on proc now a b c g h = record {
 processor_io_goes : (proc : Proc) (now : Tick) (u : IoState) (processor_io : ProcessorIoState) → Stands now processor_io → Goes proc now u (with_io_of proc u processor_io)
 processor_io_goes proc now u processor_io s = by_proc proc (processor_io_each proc now u processor_io (processor_io_later now (io_of u proc) processor_io s)) where
   by_proc : (proc : Proc) → ReschedulesEach now u (with_io_of proc u processor_io) → Goes proc now u (with_io_of proc u processor_io)
-  by_proc Nine each = record { is = s.0; quiet = s.1; each = each; other = unchanged_same u.seven; scan = refl; whole = refl; geometry = leaves_all Nine u (with_io_of Nine u processor_io) refl refl }
-  by_proc Seven each = record { is = s.0; quiet = s.1; each = each; other = unchanged_same u.nine; scan = refl; whole = refl; geometry = leaves_all Seven u (with_io_of Seven u processor_io) refl refl }
+  by_proc Nine each = record { is = s.0; quiet = s.1; each = each; other = unchanged_same u.seven; told = told_nothing u.seven.irq; scan = refl; whole = refl; geometry = leaves_all Nine u (with_io_of Nine u processor_io) refl refl }
+  by_proc Seven each = record { is = s.0; quiet = s.1; each = each; other = unchanged_same u.nine; told = told_nothing u.nine.irq; scan = refl; whole = refl; geometry = leaves_all Seven u (with_io_of Seven u processor_io) refl refl }
 
 -- what changes neither's own
 shared_goes : (proc : Proc) (now : Tick) (u new : IoState) → ((each : Proc) → io_of new each ≡ io_of u each) → new.video.scan ≡ u.video.scan → new.video.whole ≡ u.video.whole
@@ -221,6 +223,7 @@ shared_goes proc now u new same scan whole geometry s each = record {
   quiet = subst (IsQuiet now) (sym (same proc)) s.1;
   each = each;
   other = subst (IsUnchanged (io_of u (other_proc proc))) (sym (same (other_proc proc))) (unchanged_same (io_of u (other_proc proc)));
+  told = subst (λ (o : ProcessorIoState). IsTold (io_of u (other_proc proc)).irq o.irq) (sym (same (other_proc proc))) (told_nothing (io_of u (other_proc proc)).irq);
   scan = scan;
   whole = whole;
   geometry = geometry;
@@ -231,9 +234,10 @@ shared_goes proc now u new same scan whole geometry s each = record {
 pub raised_unchanged : (processor_io : ProcessorIoState) (raised : ℕ) → IsUnchanged processor_io (processor_io_raised processor_io raised)
 raised_unchanged processor_io raised = record { timers = refl; keycnt = refl; halted = refl; dma = refl }
 
--- nothing changed of what is due behind the ports, or holds a processor
+-- nothing changed of what is due behind the ports, or holds a processor, and each is told of IPC interrupts at most
 pub record AreUnchanged (old new : IoState) : Type 0 where
   pub processor_io : (proc : Proc) → IsUnchanged (io_of old proc) (io_of new proc)
+  pub told : (proc : Proc) → IsTold (io_of old proc).irq (io_of new proc).irq
   pub dues : (a : actor.Actor) → io_due a new ≡ io_due a old
   pub scan : new.video.scan ≡ old.video.scan
   pub whole : new.video.whole ≡ old.video.whole
@@ -251,13 +255,17 @@ unchanged_quiet now old new l quiet = record {
 }
 
 pub all_unchanged : (u : IoState) → AreUnchanged u u
-all_unchanged u = record { processor_io = λ each. unchanged_same (io_of u each); dues = λ a. refl; scan = refl; whole = refl; gx = refl; released = refl }
+all_unchanged u = record { processor_io = λ each. unchanged_same (io_of u each); told = λ each. told_nothing (io_of u each).irq; dues = λ a. refl; scan = refl; whole = refl; gx = refl; released = refl }
 
-both_unchanged : (u : IoState) (ipc_after : IpcState) (raised : Raised) → AreUnchanged u (both_raised (record u { ipc = ipc_after }) raised)
-both_unchanged u ipc_after raised = record { processor_io = processor_io; dues = dues; scan = refl; whole = refl; gx = refl; released = refl } where
+both_unchanged : (u : IoState) (ipc_after : IpcState) (raised : Raised) → AreIpcAtBoth raised → AreUnchanged u (both_raised (record u { ipc = ipc_after }) raised)
+both_unchanged u ipc_after raised ipc = record { processor_io = processor_io; told = told; dues = dues; scan = refl; whole = refl; gx = refl; released = refl } where
   processor_io : (proc : Proc) → IsUnchanged (io_of u proc) (io_of (both_raised (record u { ipc = ipc_after }) raised) proc)
   processor_io Nine = raised_unchanged u.nine raised.nine
   processor_io Seven = raised_unchanged u.seven raised.seven
+
+  told : (proc : Proc) → IsTold (io_of u proc).irq (io_of (both_raised (record u { ipc = ipc_after }) raised) proc).irq
+  told Nine = raised_told u.nine.irq raised.nine ipc.0
+  told Seven = raised_told u.seven.irq raised.seven ipc.1
 
   dues : (a : actor.Actor) → io_due a (both_raised (record u { ipc = ipc_after }) raised) ≡ io_due a u
   dues (Timer Nine number) = refl
@@ -269,7 +277,7 @@ both_unchanged u ipc_after raised = record { processor_io = processor_io; dues =
 pub unchanged_goes : (proc : Proc) (now : Tick) (old new : IoState) → IsProcessorIo (io_of old proc) → IsQuiet now (io_of old proc) → AreUnchanged old new → Goes proc now old new
 unchanged_goes proc now old new is quiet left =
     let s = alike now (io_of old proc) (io_of new proc) (left.processor_io proc).timers (left.processor_io proc).dma (is, quiet) in
-    record { is = s.0; quiet = s.1; each = λ a l. inl (left.dues a); other = left.processor_io (other_proc proc); scan = left.scan; whole = left.whole; geometry = leaves_all proc old new left.gx left.released }
+    record { is = s.0; quiet = s.1; each = λ a l. inl (left.dues a); other = left.processor_io (other_proc proc); told = left.told (other_proc proc); scan = left.scan; whole = left.whole; geometry = leaves_all proc old new left.gx left.released }
 
 -- ---- what a write of a register leaves
 
@@ -348,9 +356,9 @@ register_goes proc now u s Ime number l value = processor_io_goes proc now u _ (
 register_goes proc now u s Ie number l value = processor_io_goes proc now u _ (alike now (io_of u proc) _ refl refl s)
 register_goes proc now u s If number l value = processor_io_goes proc now u _ (alike now (io_of u proc) _ refl refl s)
 register_goes proc now u s Haltcnt number l value = processor_io_goes proc now u _ (haltcnt_stands (io_of u proc) now (value % 2 ^ 8) s)
-register_goes proc now u s Ipcsync number l value = unchanged_goes proc now u _ s.0 s.1 (both_unchanged u _ _)
-register_goes proc now u s Ipcfifocnt number l value = unchanged_goes proc now u _ s.0 s.1 (both_unchanged u _ _)
-register_goes proc now u s Ipcfifosend number l value = unchanged_goes proc now u _ s.0 s.1 (both_unchanged u _ _)
+register_goes proc now u s Ipcsync number l value = unchanged_goes proc now u _ s.0 s.1 (both_unchanged u _ _ (sync_ipc u.ipc proc (value % 2 ^ 16)))
+register_goes proc now u s Ipcfifocnt number l value = unchanged_goes proc now u _ s.0 s.1 (both_unchanged u _ _ (control_ipc u.ipc proc (value % 2 ^ 16)))
+register_goes proc now u s Ipcfifosend number l value = unchanged_goes proc now u _ s.0 s.1 (both_unchanged u _ _ (send_ipc u.ipc proc))
 register_goes proc now u s Divcnt number l value =
     shared_goes proc now u _ (λ each. refl) refl refl (leaves_all proc u _ refl refl) s (divider_each now u (after_write proc now u Divcnt number value).divider (inr (division_later now _)))
 register_goes proc now u s DivNumer number l value =
@@ -433,7 +441,7 @@ put_goes proc now old new at width value is_new is quiet =
 -- ---- reads
 
 register_unchanged : (proc : Proc) (u : IoState) (register : Register) → AreUnchanged u ((meaning_of register).after_read proc u)
-register_unchanged proc u Ipcfiforecv = both_unchanged u _ _
+register_unchanged proc u Ipcfiforecv = both_unchanged u _ _ (receive_ipc u.ipc proc)
 register_unchanged proc u _ = all_unchanged u
 
 slot_unchanged : (proc : Proc) (u : IoState) (slot : Option Slot) → AreUnchanged u (read_unchanged proc u slot)

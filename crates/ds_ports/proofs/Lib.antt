@@ -8,6 +8,9 @@ pub mod Later
 pub mod Events
 pub mod Shows
 pub mod Settles
+pub mod Settled
 pub mod Spans
 pub mod Together
+pub mod Told
 pub mod Ascending
+pub mod Wholes

@@ -48,7 +48,7 @@ impl Model for Io {
     ghost invariant = { λ u. (Some u.due ≡ first_io_due u.units) × (u.settled ≡ true → is_settled u.units ≡ true) };
 }
 
-/// Whether a write of a register may change when something is due.
+/// Whether a write of a register may change when something is due, or leave something to settle.
 #[inline(always)]
 fn moves_dues(register: Register) -> bool
     ensures { result ≡ moves_dues register }
@@ -266,7 +266,8 @@ impl Io {
     }
 
     /// What follows each step at a tick: bit 21 of ARM9's IF tells geometry's level as it is, and ARM9's channels that wait for geometry are triggered
-    /// where its count is below 128. It costs nothing where only halts and video memory changed since the last such call.
+    /// where its count is below 128. It costs nothing where nothing happened since the last such call but halts, writes of video memory, reads of ports,
+    /// and writes of ports that move no due tick.
     #[inline(always)]
     #[tactic(auto, using(crate::proofs::Settles::settled_stays))]
     pub fn settle(&mut self, now: Tick)
@@ -329,16 +330,16 @@ impl Io {
     }
 
     /// What a read of a whole register leaves.
-    #[tactic(auto, using(crate::proofs::Dues::reads_move_none))]
+    #[inline(always)]
+    #[tactic(auto, using(crate::proofs::Dues::reads_move_none, crate::proofs::Settled::reads_leave_settled))]
     pub(crate) fn read_register(&mut self, proc: Proc, register: Register)
         ensures { self.new ≡ (meaning_of register).after_read proc self.old }
     {
-        self.settled = false;
         self.units.read_register(proc, register);
     }
 
     /// A write of all bytes of a register, for a processor at a tick.
-    #[tactic(auto, using(crate::proofs::Dues::writes_move_none))]
+    #[tactic(auto, using(crate::proofs::Dues::writes_move_none, crate::proofs::Settled::writes_leave_settled))]
     pub(crate) fn write_register(
         &mut self,
         proc: Proc,
@@ -351,11 +352,23 @@ impl Io {
         requires early { IsEarly (Some now) }
         ensures { self.new ≡ after_write proc now self.old register number value }
     {
+        if moves_dues(register) {
+            return self.write_moving(proc, now, register, number, value);
+        }
+        self.units
+            .write_register(proc, now, register, number, value);
+    }
+
+    /// The same, where it may change when something is due, or leave something to settle.
+    #[inline(never)]
+    fn write_moving(&mut self, proc: Proc, now: Tick, register: Register, number: u32, value: u32)
+        requires number { number < (meaning_of register).count }
+        requires early { IsEarly (Some now) }
+        ensures { self.new ≡ after_write proc now self.old register number value }
+    {
         self.settled = false;
         self.units
             .write_register(proc, now, register, number, value);
-        if moves_dues(register) {
-            self.due = self.units.first_due();
-        }
+        self.due = self.units.first_due();
     }
 }

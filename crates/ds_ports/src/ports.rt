@@ -13,7 +13,7 @@ ghost use Rattle.ds_ports.specs.RegisterMap.{IsSlot, StandsWhole, slot_of};
 ghost use Rattle.ds_ports.specs.Io.{IoState, io_of};
 
 use crate::io::Io;
-use crate::registers::{Register, Slot, slot_of};
+use crate::registers::{Register, Slot, slot_at, slot_of};
 use ds_base::{Proc, Stop, Tick, Width};
 
 /// How many bytes an access moves.
@@ -99,6 +99,7 @@ fn first_stop(first: Option<Stop>, other: Option<Stop>) -> Option<Stop>
 
 impl Io {
     /// What some bytes of a register read.
+    #[inline(always)]
     fn slot_value(&self, proc: Proc, now: Tick, width: Width, slot: Slot) -> u32
         requires { IsSlot slot }
         ensures { result ≡ slot_value proc now self.now width slot }
@@ -174,23 +175,21 @@ impl Io {
 
     /// What a processor's access reads at an offset from 4000000h, at a tick, and the read. A register in which it lies whole is
     /// found once.
-    #[tactic(auto, unfolding(crate::specs::Ports::port_value, crate::specs::Ports::port_read))]
+    #[tactic(auto, using(crate::proofs::Wholes::value_whole, crate::proofs::Wholes::read_whole, crate::proofs::Wholes::read_apart, crate::proofs::Wholes::read_narrow))]
     pub fn take(&mut self, proc: Proc, now: Tick, at: u32, width: Width) -> u32
         requires { at < 2 ^ 24 }
         ensures value { result ≡ port_value proc now self.old at width }
         ensures next { self.new ≡ port_read proc self.old at width }
     {
-        if width != Width::Word {
+        let Some(slot) = whole_in(width, slot_at(proc, at)) else {
             return self.value(proc, now, at, width);
+        };
+        let value = self.slot_value(proc, now, width, slot);
+        if width != Width::Word {
+            return value;
         }
-        match whole_in(Width::Word, slot_of(proc, at)) {
-            Some(slot) => {
-                let value = self.slot_value(proc, now, Width::Word, slot);
-                self.read_register(proc, slot.register);
-                value
-            }
-            None => self.read_word(proc, now, at),
-        }
+        self.read_register(proc, slot.register);
+        value
     }
 
     /// The number that a write of some bytes of a register gives it.
@@ -231,6 +230,7 @@ impl Io {
     }
 
     /// Writes some bytes of a register, unless it refuses this.
+    #[inline(always)]
     fn put_part(
         &mut self,
         proc: Proc,
@@ -357,10 +357,17 @@ impl Io {
         stop
     }
 
-    /// A write of any width, unless it is refused.
-    #[inline(always)]
+    /// A write of any width that lies in no one register, unless it is refused.
+    #[inline(never)]
     #[tactic(auto, unfolding(crate::specs::Ports::port_refusal, crate::specs::Ports::port_written))]
-    fn put_any(&mut self, proc: Proc, now: Tick, at: u32, width: Width, value: u32) -> Option<Stop>
+    fn put_apart(
+        &mut self,
+        proc: Proc,
+        now: Tick,
+        at: u32,
+        width: Width,
+        value: u32,
+    ) -> Option<Stop>
         requires at { at < 2 ^ 24 }
         requires early { IsEarly (Some now) }
         ensures refusal { result ≡ port_refusal proc self.old at width value }
@@ -370,6 +377,21 @@ impl Io {
             Width::Byte => self.put_byte(proc, now, at, value),
             Width::Half => self.put_half(proc, now, at, value),
             Width::Word => self.put_word(proc, now, at, value),
+        }
+    }
+
+    /// A write of any width, unless it is refused. A register in which it lies whole is found once.
+    #[inline(always)]
+    #[tactic(auto, using(crate::proofs::Wholes::refusal_whole, crate::proofs::Wholes::written_whole))]
+    fn put_any(&mut self, proc: Proc, now: Tick, at: u32, width: Width, value: u32) -> Option<Stop>
+        requires at { at < 2 ^ 24 }
+        requires early { IsEarly (Some now) }
+        ensures refusal { result ≡ port_refusal proc self.old at width value }
+        ensures next { self.new ≡ unless_stopped (port_refusal proc self.old at width value) self.old (port_written proc now self.old at width value) }
+    {
+        match whole_in(width, slot_at(proc, at)) {
+            Some(slot) => self.put_part(proc, now, width, slot, value),
+            None => self.put_apart(proc, now, at, width, value),
         }
     }
 

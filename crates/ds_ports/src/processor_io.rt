@@ -362,6 +362,7 @@ impl ProcessorIo {
     }
 
     /// The stop for which a write of a channel's control is refused: that of the same write of a copy.
+    #[inline(never)]
     pub fn control_refusal(&self, which: u32, value: u32) -> Option<Stop>
         requires { which < 4 }
         ensures { result ≡ channel_refusal self.now.dma.proc which Control value (channel_at self.now.dma.channels which) }

@@ -273,6 +273,7 @@ fn dma(at: u32) -> Option<Slot>
 }
 
 /// ARM9's timers, keys, and what passes between the processors.
+#[inline(always)]
 #[tactic(auto, unfolding(crate::specs::Parts::slot_among))]
 fn timers_and_ipc(at: u32) -> Option<Slot>
     ensures { result ≡ slot_among timer_and_ipc_rows at }
@@ -386,6 +387,7 @@ fn second_effects(at: u32) -> Option<Slot>
 }
 
 /// What the other processor sent.
+#[inline(always)]
 #[tactic(auto, unfolding(crate::specs::Parts::slot_among))]
 fn receive(at: u32) -> Option<Slot>
     ensures { result ≡ slot_among receive_rows at }
@@ -414,6 +416,7 @@ fn early_of_seven(at: u32) -> Option<Slot>
 }
 
 /// ARM7's timers, keys, and what passes between the processors.
+#[inline(always)]
 #[tactic(auto, unfolding(crate::specs::Parts::slot_among))]
 fn timers_and_ipc_of_seven(at: u32) -> Option<Slot>
     ensures { result ≡ slot_among seven_timer_and_ipc_rows at }
@@ -449,6 +452,7 @@ fn controls_of_seven(at: u32) -> Option<Slot>
 }
 
 /// The byte of one of ARM9's registers.
+#[inline(always)]
 fn slot_of_nine(at: u32) -> Option<Slot>
     ensures { result ≡ looked_up parts_of_nine at }
 {
@@ -469,6 +473,7 @@ fn slot_of_nine(at: u32) -> Option<Slot>
 }
 
 /// The byte of one of ARM7's registers.
+#[inline(always)]
 fn slot_of_seven(at: u32) -> Option<Slot>
     ensures { result ≡ looked_up parts_of_seven at }
 {
@@ -483,6 +488,7 @@ fn slot_of_seven(at: u32) -> Option<Slot>
 }
 
 /// By a processor's map.
+#[inline(always)]
 #[tactic(auto, using(crate::proofs::RegisterMaps::nine_by_parts, crate::proofs::RegisterMaps::seven_by_parts))]
 fn by_map(proc: Proc, at: u32) -> Option<Slot>
     ensures { result ≡ slot_of proc at }
@@ -493,11 +499,21 @@ fn by_map(proc: Proc, at: u32) -> Option<Slot>
     }
 }
 
-/// The register whose byte stands at an offset from 4000000h, for a processor; none where the offset isn't a port.
+/// The same as `slot_of`, laid in line where it is called.
+#[inline(always)]
 #[tactic(auto, using(crate::proofs::RegisterMaps::some_slot))]
-pub fn slot_of(proc: Proc, at: u32) -> Option<Slot>
+pub(crate) fn slot_at(proc: Proc, at: u32) -> Option<Slot>
     ensures value { result ≡ slot_of proc at }
     ensures within { IfSome result IsSlot }
 {
     by_map(proc, at)
+}
+
+/// The register whose byte stands at an offset from 4000000h, for a processor; none where the offset isn't a port.
+#[inline(never)]
+pub fn slot_of(proc: Proc, at: u32) -> Option<Slot>
+    ensures value { result ≡ slot_of proc at }
+    ensures within { IfSome result IsSlot }
+{
+    slot_at(proc, at)
 }

@@ -1,26 +1,43 @@
-use Rattle.std.proofs.Common.{◌≡◌, ◌∙◌, false, sym, ap}
+use Rattle.std.proofs.Common.{◌≡◌, ◌∙◌, false, true≢false, sym, ap}
 use Rattle.arm_core.specs.Effects.{Outcome}
 use Rattle.arm_core.specs.Steps.{enters}
+use Rattle.ds_machine.proofs.DecodedStays.{leaves_known, stays_known}
 use Rattle.ds_machine.proofs.Taken.{taken_operation}
+use Rattle.ds_machine.proofs.steps.take_fast.Goals.{else-ahead-via-then-ahead+else-not-access_stays, else-ahead-via-else-ahead}
 use Rattle.ds_machine.proofs.steps.take_fast.Goals as goal
 
 pub returns-clause-registers : goal.returns-clause-registers
 returns-clause-registers g c = λ some.
     (let none : enters c.args.line c.args.s.now ≡ false = sym c.if-enters.ensures in
-    let is = taken_operation g.V.Side.memory g.V.Side.side c.args.line c.args.s.now (g.V.Side.state c.args.view.now) c.next_operation-next.result.now (c.run_fast.ensures.executes some)
+    let is = taken_operation g.V.Side.memory g.V.Side.side c.args.line c.args.s.now (g.V.Side.state c.args.view.now) c.next_operation-next.result.now (c.run_fast-clocks.ensures.executes some)
     none c.next_operation-next.ensures.operation in
-    c.run_fast.ensures.registers some ∙ ap (λ (o : Outcome g.V.Side.State). o.registers) (sym is))
+    c.run_fast-clocks.ensures.registers some ∙ ap (λ (o : Outcome g.V.Side.State). o.registers) (sym is))
 
 pub returns-clause-state : goal.returns-clause-state
 returns-clause-state g c = λ some.
     (let none : enters c.args.line c.args.s.now ≡ false = sym c.if-enters.ensures in
-    let is = taken_operation g.V.Side.memory g.V.Side.side c.args.line c.args.s.now (g.V.Side.state c.args.view.now) c.next_operation-next.result.now (c.run_fast.ensures.executes some)
+    let is = taken_operation g.V.Side.memory g.V.Side.side c.args.line c.args.s.now (g.V.Side.state c.args.view.now) c.next_operation-next.result.now (c.run_fast-clocks.ensures.executes some)
     none c.next_operation-next.ensures.operation in
-    c.run_fast.ensures.state some ∙ ap (λ (o : Outcome g.V.Side.State). o.state) (sym is))
+    c.run_fast-clocks.ensures.state some ∙ ap (λ (o : Outcome g.V.Side.State). o.state) (sym is))
 
 pub returns-clause-stepped : goal.returns-clause-stepped
 returns-clause-stepped g c = λ some.
     (let none : enters c.args.line c.args.s.now ≡ false = sym c.if-enters.ensures in
-    let is = taken_operation g.V.Side.memory g.V.Side.side c.args.line c.args.s.now (g.V.Side.state c.args.view.now) c.next_operation-next.result.now (c.run_fast.ensures.executes some)
+    let is = taken_operation g.V.Side.memory g.V.Side.side c.args.line c.args.s.now (g.V.Side.state c.args.view.now) c.next_operation-next.result.now (c.run_fast-clocks.ensures.executes some)
     none c.next_operation-next.ensures.operation in
-    ap (λ (o : Outcome g.V.Side.State). o.stepped) is ∙ c.run_fast.ensures.stepped some)
+    ap (λ (o : Outcome g.V.Side.State). o.stepped) is ∙ c.run_fast-clocks.ensures.stepped some)
+
+pub returns-then-not-access_stays-clause-leaves : goal.returns-then-not-access_stays-clause-leaves
+returns-then-not-access_stays-clause-leaves g c = λ left.
+    leaves_known g.V.Side.memory g.V.Side.side (g.V.Side.state c.args.view.now) c.args.s.now c.next_operation-next.result.now c.access_stays.ensures.words
+    c.next_operation-next.ensures.operation c.access_stays.ensures.address (sym c.access_stays.ensures.stays ∙ c.if-not-access_stays.true)
+
+pub returns-clause-stays : goal.returns-clause-stays
+returns-clause-stays g c = λ ahead some.
+    elim c.else-ahead.branch [
+      | else-ahead-via-then-ahead+else-not-access_stays w ↦
+          stays_known g.V.Side.memory g.V.Side.side (g.V.Side.state c.args.view.now) c.args.s.now c.next_operation-next.result.now w.access_stays.ensures.words
+          c.next_operation-next.ensures.operation (c.run_fast-clocks.ensures.known some) w.access_stays.ensures.address
+          (sym w.access_stays.ensures.stays ∙ w.if-not-access_stays.false)
+      | else-ahead-via-else-ahead w ↦ absurd (true≢false (sym ahead ∙ w.if-ahead.false))
+    ]

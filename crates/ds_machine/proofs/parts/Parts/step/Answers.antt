@@ -5,7 +5,7 @@ use Rattle.ds_machine.proofs.DueTicks.{low_rank, may_due, may_early, steps_as}
 use Rattle.ds_machine.proofs.parts.Parts.step.Goals as goal
 
 pub of-actor-requires : goal.of-actor-requires
-of-actor-requires c = low_rank c.args.self.now c.args.rank c.requires.may.0 c.requires.may.1.there
+of-actor-requires c = low_rank c.args.self.now c.args.rank c.requires.may.tick c.requires.may.due
 
 pub step_at-requires-clause-early : goal.step_at-requires-clause-early
 step_at-requires-clause-early c =

@@ -1,0 +1,385 @@
+use Rattle.std.proofs.Common.{ℕ, ◌≡◌, ◌<◌, ◌≤◌, ◌^◌, ◌⊎◌, inl, inr, if◌then◌else◌, min, nat_le, nat_lt, Bool, true, false, true≢false, List, [], ◌∷◌, Option, Some, refl, sym, ◌∙◌, ap, subst, arith}
+use Rattle.std.specs.Prelude.{◌&&◌}
+use Rattle.std.proofs.lemmas.Option.{same_Some}
+use Rattle.ds_base.specs.declared.processors.Proc.{Proc}
+use Rattle.ds_base.specs.declared.processors.Proc.TheVariants.{Nine, Seven}
+use Rattle.ds_base.specs.declared.ticks.Tick.{Tick}
+use Rattle.ds_base.specs.declared.memories.Width.{Width}
+use Rattle.ds_base.specs.declared.memories.Width.TheVariants.{Half, Word}
+use Rattle.arm_core.specs.Registers.{RegisterState, is_thumb}
+use Rattle.ds_ipc.specs.Ipcs.{other_proc}
+use Rattle.ds_runs.specs.Actors.{actor_of}
+use Rattle.ds_runs.specs.Runs.{IsLeast, Makes, due_at}
+use Rattle.ds_runs.specs.declared.actors.Actor.TheVariants.{Processor}
+use Rattle.ds_runs.proofs.Lists.{within}
+use Rattle.ds_machine.specs.NextEvents.{IsNextEvent, TookStep, comes_before, due_at_least, events_of, is_least_by, least_kept, least_of, limit_by, line_kept, past_other, waits_until}
+use Rattle.ds_machine.specs.Private.{BelongsToTurn, IsAhead, IsBelowFence, ProcessorStaysPrivate, TakesSteps, more, none, rank_of}
+use Rattle.ds_machine.specs.Reference.{Fences, HasCounted, HasSoundParts, IsSound, awake, dues_of, processor_due, step_by, stepped_of}
+use Rattle.ds_machine.specs.States.{MachineState, ProcessorState}
+use Rattle.ds_machine.specs.Statuses.{HasBothStatuses}
+use Rattle.ds_machine.specs.Sides.{nine_side, seven_side}
+use Rattle.ds_machine.specs.Steps.{is_blocked, line_of, nine_reach, outcome_of, processor_of, seven_reach, tick_of, with_processor}
+use Rattle.ds_machine.specs.Touching.{DataStaysPrivate, FetchStaysPrivate, MayBeAhead, is_private_to}
+use Rattle.ds_machine.specs.declared.answers.Done.TheVariants as answers
+use Rattle.ds_machine.specs.declared.next_events.NextEvent.{NextEvent}
+use Rattle.ds_machine.proofs.DueTicks.{due_of_rank, due_then, dues_split, low_rank, own_tick, sort_rank, steps_as}
+use Rattle.ds_machine.proofs.DecodedStays.{fetch_by_words}
+use Rattle.ds_machine.proofs.FastSteps.{ComesBefore, due_there, event_there, in_front, kept_is, processor_least, wait_ends, wait_is}
+use Rattle.ds_machine.proofs.OwnRemaining.{turn_steps_fall}
+use Rattle.ds_machine.proofs.PlacesByWords.{nine_by_words, seven_by_words}
+use Rattle.ds_machine.proofs.PrivatePlaces.{private_itself}
+use Rattle.ds_machine.proofs.PrivateTests.{fetch_of_stays}
+use Rattle.ds_machine.proofs.Statuses.{statuses_done}
+use Rattle.ds_machine.proofs.TurnSteps.{turn_keeps}
+
+-- The steps of a processor's turn, by what is kept.
+
+-- ---- tests of numbers
+
+lt_cases : (x y : ℕ) → ((x < y) × (nat_lt x y ≡ true)) ⊎ ((y ≤ x) × (nat_lt x y ≡ false))
+lt_cases x y = grind arith
+
+le_cases : (x y : ℕ) → ((x ≤ y) × (nat_le x y ≡ true)) ⊎ ((y < x) × (nat_le x y ≡ false))
+le_cases x y = grind arith
+
+lt_so : (x y : ℕ) → nat_lt x y ≡ true → x < y
+lt_so x y h = elim (lt_cases x y) [ inl k ↦ k.0 | inr k ↦ absurd (true≢false (sym h ∙ k.1)) ]
+
+le_so : (x y : ℕ) → nat_le x y ≡ true → x ≤ y
+le_so x y h = elim (le_cases x y) [ inl k ↦ k.0 | inr k ↦ absurd (true≢false (sym h ∙ k.1)) ]
+
+not_lt : (x y : ℕ) → nat_lt x y ≡ false → y ≤ x
+not_lt x y h = elim (lt_cases x y) [ inl k ↦ absurd (true≢false (sym k.1 ∙ h)) | inr k ↦ k.0 ]
+
+not_le : (x y : ℕ) → nat_le x y ≡ false → y < x
+not_le x y h = elim (le_cases x y) [ inl k ↦ absurd (true≢false (sym k.1 ∙ h)) | inr k ↦ k.0 ]
+
+comes_so : (proc : Proc) (n other : ℕ) → comes_before proc n other ≡ true → ComesBefore proc n other
+comes_so Nine n other h = le_so n other h
+comes_so Seven n other h = lt_so n other h
+
+left_of : (a b : Bool) → (a && b) ≡ true → a ≡ true
+left_of true b h = refl
+left_of false b h = h
+
+right_of : (a b : Bool) → (a && b) ≡ true → b ≡ true
+right_of true b h = h
+right_of false b h = absurd (true≢false (sym h))
+
+one_false : (a b : Bool) → (a && b) ≡ false → (a ≡ false) ⊎ (b ≡ false)
+one_false true b h = inr h
+one_false false b h = inl refl
+
+-- ---- a processor that waits for a tick
+
+tick : ℕ → Tick
+tick n = record { 0 = n }
+
+actor_is : (proc : Proc) → actor_of (rank_of proc) ≡ Processor proc
+actor_is Nine = refl
+actor_is Seven = refl
+
+rank_at : (s : MachineState) (proc : Proc) → due_at (dues_of s) (rank_of proc) ≡ processor_due s proc
+rank_at s Nine = due_of_rank s 22 (omega arith)
+rank_at s Seven = due_of_rank s 23 (omega arith)
+
+pub record IsDueAt (s : MachineState) (proc : Proc) (n : ℕ) : Type 0 where
+  pub free : is_blocked s proc ≡ false
+  pub there : processor_due s proc ≡ Some (record { 0 = n })
+  pub own : (let t : Tick = record { 0 = n } in t) ≡ tick_of (processor_of s proc)
+
+pub due_when : (next_event : NextEvent) (s : MachineState) (proc : Proc) (n : ℕ) → IsNextEvent next_event s → n ≡ waits_until next_event s proc → n < 2 ^ 56 → IsDueAt s proc n
+due_when next_event s proc n is e lt =
+    let kept = kept_is next_event s is proc in
+    let there = due_there (is_blocked s proc) (least_kept next_event proc) (processor_of s proc) n kept e lt in
+    let k = wait_ends (is_blocked s proc) (least_kept next_event proc) (processor_of s proc).due kept (omega (arith, e, lt)) in
+    record { free = k.0; there = there; own = own_tick s proc (record { 0 = n }) there }
+
+-- where it waits for the limit or past it, none of its steps belongs to its turn
+pub over_when : (next_event : NextEvent) (s : MachineState) (proc : Proc) (until n : ℕ) → IsNextEvent next_event s → n ≡ waits_until next_event s proc → until ≤ n
+    → BelongsToTurn until s proc → ⊥
+over_when next_event s proc until n is e le b =
+    let at = wait_is (is_blocked s proc) (least_kept next_event proc) (processor_of s proc) b.tick (kept_is next_event s is proc) b.due in
+    let below = b.below in
+    absurd (omega (arith, e, at, le, below))
+
+pub below_when : (next_event : NextEvent) (s : MachineState) (proc : Proc) (until n : ℕ) → IsNextEvent next_event s → n ≡ waits_until next_event s proc → BelongsToTurn until s proc → n < until
+below_when next_event s proc until n is e b =
+    let at = wait_is (is_blocked s proc) (least_kept next_event proc) (processor_of s proc) b.tick (kept_is next_event s is proc) b.due in
+    let below = b.below in
+    omega (arith, e, at, below)
+
+-- ---- it is the least
+
+pub least_when : (next_event : NextEvent) (s : MachineState) (proc : Proc) (n : ℕ) → IsNextEvent next_event s → n ≡ waits_until next_event s proc → n < 2 ^ 56
+    → is_least_by next_event s proc ≡ true → IsLeast (dues_of s) (record { 0 = n }) (rank_of proc)
+least_when next_event s proc n is e lt h =
+    let w = waits_until next_event s proc in
+    let o = waits_until next_event s (other_proc proc) in
+    let first = lt_so w next_event.events_until.0 (left_of (nat_lt w next_event.events_until.0) (comes_before proc w o) h) in
+    let before = subst (λ (x : ℕ). ComesBefore proc x o) (sym e) (comes_so proc w o (right_of (nat_lt w next_event.events_until.0) (comes_before proc w o) h)) in
+    let d = due_when next_event s proc n is e lt in
+    let after : (at : Tick) → processor_due s (other_proc proc) ≡ Some at → ComesBefore proc n at.0 = λ at there.
+    subst (ComesBefore proc n) (wait_is (is_blocked s (other_proc proc)) (least_kept next_event (other_proc proc)) (processor_of s (other_proc proc)) at
+    (kept_is next_event s is (other_proc proc)) there) before in
+    processor_least proc s next_event.events_until.0 (record { 0 = n }) is.events (omega (arith, first, e)) d.there after
+
+-- ---- it isn't
+
+event_in : (s : MachineState) (rank : ℕ) (at : Tick) → due_at (events_of s) rank ≡ Some at → (rank < 22) × (due_at (dues_of s) rank ≡ Some at)
+event_in s rank at h =
+    let back = processor_due s Nine ∷ processor_due s Seven ∷ [] in
+    let lt = within (events_of s) rank at h in
+    (omega (arith, lt), ap (λ (dues : List (Option Tick)). due_at dues rank) (dues_split s) ∙ in_front (events_of s) back rank lt ∙ h)
+
+above_events : (proc : Proc) → 22 ≤ rank_of proc
+above_events Nine = omega arith
+above_events Seven = omega arith
+
+-- an event comes before it
+event_before : (next_event : NextEvent) (s : MachineState) (proc : Proc) (n : ℕ) → IsNextEvent next_event s → 0 < next_event.events_until.0 → next_event.events_until.0 ≤ n
+    → IsLeast (dues_of s) (record { 0 = n }) (rank_of proc) → ⊥
+event_before next_event s proc n is some le l =
+    let k = is.first some in
+    let at = event_in s k.0 next_event.events_until k.1 in
+    let low = at.0 in
+    let high = above_events proc in
+    elim (l.least k.0 next_event.events_until at.1) [ inl a ↦ omega (arith, a, le) | inr b ↦ (let r = b.1 in omega (arith, r, low, high)) ]
+
+-- the other processor does
+other_before : (proc : Proc) (s : MachineState) (n other : ℕ) → comes_before proc n other ≡ false → processor_due s (other_proc proc) ≡ Some (record { 0 = other })
+    → IsLeast (dues_of s) (record { 0 = n }) (rank_of proc) → ⊥
+other_before Nine s n other h there l =
+    let lt = not_le n other h in
+    elim (l.least 23 (record { 0 = other }) (rank_at s Seven ∙ there)) [ inl a ↦ omega (arith, a, lt) | inr b ↦ (let e = b.0 in omega (arith, e, lt)) ]
+other_before Seven s n other h there l =
+    let le = not_lt n other h in
+    elim (l.least 22 (record { 0 = other }) (rank_at s Nine ∙ there)) [ inl a ↦ omega (arith, a, le) | inr b ↦ (let r = b.1 in omega (arith, r)) ]
+
+low_other : (proc : Proc) (n other : ℕ) → comes_before proc n other ≡ false → other ≤ n
+low_other Nine n other h = let lt = not_le n other h in omega (arith, lt)
+low_other Seven n other h = not_lt n other h
+
+pub not_least_when : (next_event : NextEvent) (s : MachineState) (proc : Proc) (n : ℕ) → IsNextEvent next_event s → 0 < next_event.events_until.0 → n ≡ waits_until next_event s proc
+    → n < 2 ^ 56 → is_least_by next_event s proc ≡ false → IsLeast (dues_of s) (record { 0 = n }) (rank_of proc) → ⊥
+not_least_when next_event s proc n is some e lt h l =
+    let w = waits_until next_event s proc in
+    let o = waits_until next_event s (other_proc proc) in
+    elim (one_false (nat_lt w next_event.events_until.0) (comes_before proc w o) h) [
+      | inl a ↦ (let le = not_lt w next_event.events_until.0 a in event_before next_event s proc n is some (omega (arith, e, le)) l)
+      | inr b ↦
+          (let c : comes_before proc n o ≡ false = subst (λ (x : ℕ). comes_before proc x o ≡ false) (sym e) b in
+          let le = low_other proc n o c in
+          let d = due_when next_event s (other_proc proc) o is refl (omega (arith, le, lt)) in
+          other_before proc s n o c d.there l)
+    ]
+
+-- ---- what is ahead
+
+abbrev width_at : RegisterState → Width
+width_at r = if is_thumb r then Half else Word
+
+-- what is fetched at r15 lies in private places, where its first byte does
+pub fetched_if : (s : MachineState) (proc : Proc) (at : ℕ) → at ≡ (processor_of s proc).registers.pc → at < 2 ^ 32 → is_private_to s proc false true at ≡ true → FetchStaysPrivate s proc
+fetched_if s Nine at e lt h =
+    let r = s.nine.processor.registers in
+    fetch_by_words nine_side (nine_reach (tick_of s.nine.processor) s) nine_by_words r (width_at r) refl (subst (λ (x : ℕ). x < 2 ^ 32) e lt)
+    (subst (λ (x : ℕ). is_private_to s Nine false true x ≡ true) e h)
+fetched_if s Seven at e lt h =
+    let r = s.seven.processor.registers in
+    fetch_by_words seven_side (seven_reach (tick_of s.seven.processor) s) seven_by_words r (width_at r) refl (subst (λ (x : ℕ). x < 2 ^ 32) e lt)
+    (subst (λ (x : ℕ). is_private_to s Seven false true x ≡ true) e h)
+
+pub fetched_then : (s : MachineState) (proc : Proc) (at : ℕ) → at ≡ (processor_of s proc).registers.pc → at < 2 ^ 32 → FetchStaysPrivate s proc → is_private_to s proc false true at ≡ true
+fetched_then s Nine at e lt k =
+    let test = is_private_to s Nine false true in
+    let r = s.nine.processor.registers in
+    subst (λ (x : ℕ). test x ≡ true) (sym e) (private_itself test (width_at r) r.pc (subst (λ (x : ℕ). x < 2 ^ 32) e lt) k)
+fetched_then s Seven at e lt k =
+    let test = is_private_to s Seven false true in
+    let r = s.seven.processor.registers in
+    subst (λ (x : ℕ). test x ≡ true) (sym e) (private_itself test (width_at r) r.pc (subst (λ (x : ℕ). x < 2 ^ 32) e lt) k)
+
+-- what is due before every event is below the fence
+no_fence : (proc each : Proc) (rank : ℕ) → rank ≡ rank_of each → Fences (actor_of rank) proc → ⊥
+no_fence proc Nine rank e f = subst (λ (r : ℕ). Fences (actor_of r) proc) e f
+no_fence proc Seven rank e f = subst (λ (r : ℕ). Fences (actor_of r) proc) e f
+
+pub below_events : (next_event : NextEvent) (s : MachineState) (proc : Proc) (tick : Tick) → IsNextEvent next_event s → tick.0 < next_event.events_until.0 → IsBelowFence s proc tick
+below_events next_event s proc tick is lt rank at there f = elim (sort_rank rank (low_rank s rank at there)) [
+  | inl event ↦ (let k = is.events rank at (event_there s rank at event there) in omega (arith, k, lt))
+  | inr rest ↦ elim rest [ inl e ↦ absurd (no_fence proc Nine rank e f) | inr e ↦ absurd (no_fence proc Seven rank e f) ]
+]
+
+line_is : (next_event : NextEvent) (s : MachineState) → IsNextEvent next_event s → (proc : Proc) → line_kept next_event proc ≡ line_of s proc
+line_is next_event s is Nine = is.nine_line
+line_is next_event s is Seven = is.seven_line
+
+pub line_down : (next_event : NextEvent) (s : MachineState) (proc : Proc) (line : Bool) → IsNextEvent next_event s → line ≡ line_kept next_event proc → line ≡ false → line_of s proc ≡ false
+line_down next_event s proc line is e h = sym (line_is next_event s is proc) ∙ sym e ∙ h
+
+pub line_up : (next_event : NextEvent) (s : MachineState) (proc : Proc) (line : Bool) → IsNextEvent next_event s → line ≡ line_kept next_event proc → line_of s proc ≡ false → line ≡ false
+line_up next_event s proc line is e h = e ∙ line_is next_event s is proc ∙ h
+
+own_stays : (s : MachineState) (proc : Proc) → FetchStaysPrivate s proc → DataStaysPrivate (tick_of (processor_of s proc)) s proc → ProcessorStaysPrivate s proc
+own_stays s Nine fetch d = record { fetch = fetch; kind = d.kind; accesses = d.accesses }
+own_stays s Seven fetch d = record { fetch = fetch; kind = d.kind; accesses = d.accesses }
+
+data_of_own : (s : MachineState) (proc : Proc) → ProcessorStaysPrivate s proc → DataStaysPrivate (tick_of (processor_of s proc)) s proc
+data_of_own s Nine k = record { kind = k.kind; accesses = k.accesses }
+data_of_own s Seven k = record { kind = k.kind; accesses = k.accesses }
+
+pub ahead_if : (s : MachineState) (proc : Proc) (n : ℕ) → IsDueAt s proc n → MayBeAhead (record { 0 = n }) s proc → DataStaysPrivate (record { 0 = n }) s proc → IsAhead s proc
+ahead_if s proc n d may stays = record {
+  private = record { free = d.free; down = may.down; deaf = may.deaf; own = own_stays s proc may.fetch (subst (λ (t : Tick). DataStaysPrivate t s proc) d.own stays) };
+  below = subst (IsBelowFence s proc) d.own may.below;
+}
+
+pub ahead_may : (s : MachineState) (proc : Proc) (n : ℕ) → IsDueAt s proc n → IsAhead s proc → MayBeAhead (record { 0 = n }) s proc
+ahead_may s proc n d ahead =
+    record { fetch = fetch_of_stays s proc ahead.private.own; down = ahead.private.down; deaf = ahead.private.deaf; below = subst (IsBelowFence s proc) (sym d.own) ahead.below }
+
+pub ahead_data : (s : MachineState) (proc : Proc) (n : ℕ) → IsDueAt s proc n → IsAhead s proc → DataStaysPrivate (record { 0 = n }) s proc
+ahead_data s proc n d ahead = subst (λ (t : Tick). DataStaysPrivate t s proc) (sym d.own) (data_of_own s proc ahead.private.own)
+
+-- ---- none of its steps belongs to its turn, where it is neither the least nor ahead
+
+pub leaves_when : (next_event : NextEvent) (s : MachineState) (proc : Proc) (n until : ℕ) → IsNextEvent next_event s → 0 < next_event.events_until.0 → n ≡ waits_until next_event s proc
+    → n < 2 ^ 56 → is_least_by next_event s proc ≡ false → (IsAhead s proc → ⊥) → BelongsToTurn until s proc → ⊥
+leaves_when next_event s proc n until is some e lt h behind b = elim b.goes [
+  | inl least ↦
+      (let d = due_when next_event s proc n is e lt in
+      let same : b.tick ≡ record { 0 = n } = same_Some b.tick (record { 0 = n }) (sym b.due ∙ d.there) in
+      not_least_when next_event s proc n is some e lt h (subst (λ (t : Tick). IsLeast (dues_of s) t (rank_of proc)) same least))
+  | inr ahead ↦ behind ahead
+]
+
+-- ---- by the first tick at which it isn't the least any more
+
+pub waits_for : (next_event : NextEvent) (s : MachineState) (proc : Proc) (n : ℕ) → least_kept next_event proc ≡ 0 → n ≡ (processor_of s proc).due → n ≡ waits_until next_event s proc
+waits_for next_event s proc n free e = omega (arith, free, e)
+
+both_true : (a b : Bool) → a ≡ true → b ≡ true → (a && b) ≡ true
+both_true true b h k = k
+both_true false b h k = absurd (true≢false (sym h))
+
+first_false : (a b : Bool) → a ≡ false → (a && b) ≡ false
+first_false true b h = absurd (true≢false h)
+first_false false b h = refl
+
+last_false : (a b : Bool) → b ≡ false → (a && b) ≡ false
+last_false true b h = h
+last_false false b h = refl
+
+is_lt : (x y : ℕ) → x < y → nat_lt x y ≡ true
+is_lt x y lt = elim (lt_cases x y) [ inl k ↦ k.1 | inr k ↦ (let le = k.0 in absurd (omega (arith, le, lt))) ]
+
+is_le : (x y : ℕ) → x ≤ y → nat_le x y ≡ true
+is_le x y le = elim (le_cases x y) [ inl k ↦ k.1 | inr k ↦ (let lt = k.0 in absurd (omega (arith, le, lt))) ]
+
+isnt_lt : (x y : ℕ) → y ≤ x → nat_lt x y ≡ false
+isnt_lt x y le = elim (lt_cases x y) [ inl k ↦ (let lt = k.0 in absurd (omega (arith, le, lt))) | inr k ↦ k.1 ]
+
+isnt_le : (x y : ℕ) → y < x → nat_le x y ≡ false
+isnt_le x y lt = elim (le_cases x y) [ inl k ↦ (let le = k.0 in absurd (omega (arith, le, lt))) | inr k ↦ k.1 ]
+
+before_other : (proc : Proc) (n other : ℕ) → n < past_other proc other → comes_before proc n other ≡ true
+before_other Nine n other lt = is_le n other (omega (arith, lt))
+before_other Seven n other lt = is_lt n other lt
+
+not_before_other : (proc : Proc) (n other : ℕ) → n < 2 ^ 56 → past_other proc other ≤ n → comes_before proc n other ≡ false
+not_before_other Nine n other early le = isnt_le n other (omega (arith, le, early))
+not_before_other Seven n other early le = isnt_lt n other le
+
+pub record IsBelowLimit (next_event : NextEvent) (s : MachineState) (proc : Proc) (until n : ℕ) : Type 0 where
+  pub some : 0 < next_event.events_until.0
+  pub below : n < until
+  pub least : is_least_by next_event s proc ≡ true
+
+pub below_limit : (next_event : NextEvent) (s : MachineState) (proc : Proc) (until n limit : ℕ) → n ≡ waits_until next_event s proc → limit ≡ limit_by next_event s proc until → n < limit
+    → IsBelowLimit next_event s proc until n
+below_limit next_event s proc until n limit w l lt =
+    let o = past_other proc (waits_until next_event s (other_proc proc)) in
+    let all : n < min (min next_event.events_until.0 until) o = omega (arith, l, lt) in
+    let first : n < next_event.events_until.0 = omega (arith, all) in
+    record {
+      some = omega (arith, first);
+      below = omega (arith, all);
+      least = both_true (nat_lt (waits_until next_event s proc) next_event.events_until.0) (comes_before proc (waits_until next_event s proc) (waits_until next_event s (other_proc proc)))
+          (is_lt (waits_until next_event s proc) next_event.events_until.0 (omega (arith, first, w)))
+          (subst (λ (x : ℕ). comes_before proc x (waits_until next_event s (other_proc proc)) ≡ true) w
+          (before_other proc n (waits_until next_event s (other_proc proc)) (omega (arith, all))));
+    }
+
+pub past_limit : (next_event : NextEvent) (s : MachineState) (proc : Proc) (until n limit : ℕ) → n ≡ waits_until next_event s proc → limit ≡ limit_by next_event s proc until → limit ≤ n
+    → n < until → until ≤ 2 ^ 56 → is_least_by next_event s proc ≡ false
+past_limit next_event s proc until n limit w l le below early = elim (lt_cases n next_event.events_until.0) [
+  | inl k ↦
+      (let first = k.0 in
+      last_false (nat_lt (waits_until next_event s proc) next_event.events_until.0) (comes_before proc (waits_until next_event s proc) (waits_until next_event s (other_proc proc)))
+      (subst (λ (x : ℕ). comes_before proc x (waits_until next_event s (other_proc proc)) ≡ false) w
+      (not_before_other proc n (waits_until next_event s (other_proc proc)) (omega (arith, below, early)) (omega (arith, l, le, first, below)))))
+  | inr k ↦
+      (let last = k.0 in
+      first_false (nat_lt (waits_until next_event s proc) next_event.events_until.0) (comes_before proc (waits_until next_event s proc) (waits_until next_event s (other_proc proc)))
+      (isnt_lt (waits_until next_event s proc) next_event.events_until.0 (omega (arith, last, w))))
+]
+
+-- one that is blocked isn't due
+pub blocked_over : (next_event : NextEvent) (s : MachineState) (proc : Proc) (until : ℕ) → IsNextEvent next_event s → until ≤ 2 ^ 56 → (least_kept next_event proc ≡ 0 → ⊥)
+    → BelongsToTurn until s proc → ⊥
+blocked_over next_event s proc until is early some b =
+    let free = (due_then (is_blocked s proc) (processor_of s proc) b.tick b.due).0 in
+    some (kept_is next_event s is proc ∙ ap least_of free)
+
+-- ---- a step that is taken
+
+pub sound_kept : (next_event : NextEvent) (s : MachineState) → HasSoundParts s → IsNextEvent next_event s → 0 < next_event.events_until.0 → IsSound s
+sound_kept next_event s parts is some = record { parts = parts; asleep = is.asleep some; settled = is.settled some }
+
+pub took_when : (next_event : NextEvent) (s next : MachineState) (proc : Proc) (n until : ℕ) → IsSound s → HasCounted s → IsDueAt s proc n → n < until
+    → IsLeast (dues_of s) (record { 0 = n }) (rank_of proc) ⊎ IsAhead s proc
+    → awake (Some (record { 0 = n })) (step_by (rank_of proc) (Processor proc) s) ≡ stepped_of s answers.Made next → next.io ≡ s.io
+    → (processor_of next (other_proc proc)).due ≡ (processor_of s (other_proc proc)).due → TookStep until proc s next
+took_when next_event s next proc n until sound has d lt goes made io other =
+    let b : BelongsToTurn until s proc = record { tick = record { 0 = n }; due = d.there; below = lt; goes = goes } in
+    let step = steps_as s (rank_of proc) (Processor proc) (Some (record { 0 = n })) (Makes next []) (actor_is proc) d.there made in
+    record { belongs = b; made = step; counted = (turn_keeps until s next proc sound has b step).counted; fewer = turn_steps_fall until s next proc [] sound.parts b step; io = io; other = other }
+
+-- ---- a loop over them: the steps so far were of the turn, and what is needed of the machine stayed so
+
+pub record Goes (until : ℕ) (proc : Proc) (next_event : NextEvent) (limit : ℕ) (start now : MachineState) : Type 0 where
+  pub steps : TakesSteps until proc start now
+  pub kept : IsNextEvent next_event now
+  pub counted : HasCounted now
+  pub io : now.io ≡ start.io
+  pub least : limit ≡ limit_by next_event now proc until
+
+pub goes_on : (until : ℕ) (proc : Proc) (next_event : NextEvent) (limit : ℕ) (start before now : MachineState) → Goes until proc next_event limit start before
+    → TookStep until proc before now → IsNextEvent next_event now → Goes until proc next_event limit start now
+goes_on until proc next_event limit start before now g took is =
+    let across = least_kept next_event (other_proc proc) in
+    record {
+      steps = more start before now g.steps took.belongs took.made;
+      kept = is;
+      counted = took.counted;
+      io = took.io ∙ g.io;
+      least = g.least ∙ ap (λ (due : ℕ). min (min next_event.events_until.0 until) (past_other proc (due_at_least across due))) (sym took.other);
+    }
+
+-- ---- what some of them leave
+
+pub statuses_taken : (until : ℕ) (proc : Proc) (s next : MachineState) → TakesSteps until proc s next → HasBothStatuses s → HasBothStatuses next
+statuses_taken until proc s next (none start) h = h
+statuses_taken until proc s next (more start before last earlier b made) h =
+    statuses_done before last (rank_of proc) answers.Made (statuses_taken until proc start before earlier h) made
+
+-- ---- the other processor
+
+pub other_stays : (proc : Proc) (now : Tick) (s m next : MachineState) (p : ProcessorState) → m ≡ (outcome_of proc now s).machine → next ≡ with_processor proc m p
+    → (processor_of next (other_proc proc)).due ≡ (processor_of s (other_proc proc)).due
+other_stays proc now s m next p machine e =
+    ap (λ (x : MachineState). (processor_of x (other_proc proc)).due) (e ∙ ap (λ (x : MachineState). with_processor proc x p) machine) ∙ by_proc proc where
+      by_proc : (proc : Proc) → (processor_of (with_processor proc (outcome_of proc now s).machine p) (other_proc proc)).due ≡ (processor_of s (other_proc proc)).due
+      by_proc Nine = refl
+      by_proc Seven = refl

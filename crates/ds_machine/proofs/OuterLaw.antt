@@ -1,0 +1,350 @@
+use Rattle.std.specs.Prelude.{◌==◌, ◌||◌, ◌&&◌, not, if◌then◌else◌}
+use Rattle.std.specs.Int.{bit_at, bit_not, w32}
+use Rattle.std.proofs.Common.{ℕ, ◌≡◌, ◌≢◌, ◌<◌, ◌⊎◌, inl, inr, Bool, true, false, true≢false, List, [], Option, Some, None, bit_and, bit_or, refl, sym, ◌∙◌, ap, subst, arith}
+use Rattle.std.proofs.lemmas.Nat.Bits.{bit_at_and, bit_at_or, same_from_bits}
+use Rattle.ds_base.specs.Schedules.{IsLater}
+use Rattle.ds_base.specs.declared.left_out.LeftOut.{LeftOut}
+use Rattle.ds_base.specs.declared.processors.Proc.{Proc}
+use Rattle.ds_base.specs.declared.processors.Proc.TheVariants.{Nine, Seven}
+use Rattle.ds_base.specs.declared.ticks.Tick.{Tick}
+use Rattle.ds_ports.specs.Dues.{IsIo, IsTold, held_due, io_due, ipc_bits}
+use Rattle.ds_ports.specs.Io.{IoState, io_of, is_held, is_settled, level_told, settled}
+use Rattle.ds_ports.specs.ProcessorIo.{ProcessorIoState, blocks_processor, processor_io_triggered}
+use Rattle.ds_dma.specs.declared.controls.Cause.TheVariants as causes
+use Rattle.ds_ports.proofs.Later.{unchanged_same}
+use Rattle.ds_runs.specs.Actors.{actor_of}
+use Rattle.ds_runs.specs.Ahead.{HasOwnPart, MayRunAhead, MovesOn}
+use Rattle.ds_runs.specs.Runs.{IsLeast, MachineStep, Makes, Stops, due_at}
+use Rattle.ds_runs.specs.declared.actors.Actor as actor
+use Rattle.ds_runs.specs.declared.actors.Actor.TheVariants.{KeyScript, Video, Timer, Divider, SquareRoot, Geometry, Card, Dma, Processor}
+use Rattle.ds_dma.specs.States.{DmaState, any_runs, awaits_geometry, channel_due}
+use Rattle.ds_runs.proofs.Ahead.{ahead_from_own}
+use Rattle.ds_runs.proofs.AllActors.{actors_differ, moves_of_actors}
+use Rattle.ds_timers.specs.Irqs.{IrqState, irq_levelled, level}
+use Rattle.ds_timers.specs.Timing.{timer_at, timer_due}
+use Rattle.gx_fifo.specs.GxStates.{GxState, gx_level, is_half_empty, is_stalled}
+use Rattle.video2d.specs.Scans.{scan_due_tick}
+use Rattle.ds_machine.specs.Apart.{NinePart, ReachesOwn, step_with, with_nine_part, with_seven_part}
+use Rattle.arm_core.specs.Steps.{enters}
+use Rattle.ds_machine.specs.Private.{IsBelowFence, IsHarmless, RunsAhead, hears_nobody, rank_of}
+use Rattle.ds_machine.specs.Reference.{Fences, HasSoundParts, IsSound, Shown, awake, due_by, due_unless, dues_of, is_to_be_triggered, keys_due, reference, reference_step, step_by}
+use Rattle.ds_machine.specs.States.{MachineState, ProcessorState, SevenState}
+use Rattle.ds_machine.specs.Steps.{ended, goes_on, is_blocked, is_halted, line_of, machine_settled, nine_reach, processor_of, seven_reach, tick_of, wakes, woken, woken_one}
+use Rattle.ds_machine.proofs.DueTicks.{due_of_least, due_of_rank, low_rank}
+use Rattle.ds_machine.proofs.InnerLaw.{HasOwnOf, IsCalm, MovesAlone, after_nine, after_seven, harmless_by_part, inner_nine, inner_seven, nine_moves, nine_part_of, seven_moves}
+use Rattle.ds_machine.proofs.Apart.{leave_nine, leave_seven}
+use Rattle.ds_machine.proofs.MachineSchedule.{asleep_made, awake_stops, owes_by, reference_schedules, settled_made, step_made, steps_here}
+use Rattle.ds_machine.proofs.OuterLeaves.{HasPartOf, LeavesApart, leaves_apart, not_reached}
+use Rattle.ds_machine.proofs.OuterSteps.{nine_ended, not_woken, seven_ended, settled_halted, woken_halted}
+use Rattle.ds_machine.proofs.Quiet.{not_halted}
+use Rattle.ds_machine.proofs.Told.{IsOnlyTold, quiet_stays}
+use Rattle.ds_machine.proofs.Wakes.{settle_leaves, settled_dma}
+
+-- A step of another actor that is due before a harmless step leaves it harmless, and depends on nothing that the harmless step changes.
+
+-- ---- what follows the step: the units settle, which tells ARM9 nothing anew where geometry stayed
+
+-- the level is told once
+levelled_once : (irq : IrqState) (on : Bool) (old : ℕ) → bit_or irq.if_ ipc_bits ≡ bit_or old ipc_bits → (irq_levelled (record irq { if_ = old }) on).if_ ≡ old
+    → bit_or (irq_levelled irq on).if_ ipc_bits ≡ bit_or old ipc_bits
+levelled_once irq true old same stays =
+    same_from_bits (bit_or (bit_or irq.if_ level) ipc_bits) (bit_or old ipc_bits) (λ i.
+    let a = bit_at_or (bit_or irq.if_ level) ipc_bits i in
+    let b = bit_at_or irq.if_ level i in
+    let c = bit_at_or old ipc_bits i in
+    let d = bit_at_or irq.if_ ipc_bits i in
+    let e = bit_at_or old level i in
+    let f : bit_at (bit_or irq.if_ ipc_bits) i ≡ bit_at (bit_or old ipc_bits) i = ap (λ (n : ℕ). bit_at n i) same in
+    let g : bit_at (bit_or old level) i ≡ bit_at old i = ap (λ (n : ℕ). bit_at n i) stays in
+    omega (arith, a, b, c, d, e, f, g))
+levelled_once irq false old same stays =
+    let mask = bit_not w32 level in
+    same_from_bits (bit_or (bit_and irq.if_ mask) ipc_bits) (bit_or old ipc_bits) (λ i.
+    let a = bit_at_or (bit_and irq.if_ mask) ipc_bits i in
+    let b = bit_at_and irq.if_ mask i in
+    let c = bit_at_or old ipc_bits i in
+    let d = bit_at_or irq.if_ ipc_bits i in
+    let e = bit_at_and old mask i in
+    let f : bit_at (bit_or irq.if_ ipc_bits) i ≡ bit_at (bit_or old ipc_bits) i = ap (λ (n : ℕ). bit_at n i) same in
+    let g : bit_at (bit_and old mask) i ≡ bit_at old i = ap (λ (n : ℕ). bit_at n i) stays in
+    omega (arith, a, b, c, d, e, f, g))
+
+-- so what ARM9 is told, it is told still after the units settle
+told_settled : (old irq : IrqState) (on : Bool) → IsTold old irq → (irq_levelled old on).if_ ≡ old.if_ → IsTold old (irq_levelled irq on)
+told_settled old irq true told stays = record {
+  ime = told.ime;
+  ie = told.ie;
+  if_ = levelled_once irq true old.if_ told.if_ stays;
+}
+told_settled old irq false told stays = record {
+  ime = told.ime;
+  ie = told.ie;
+  if_ = levelled_once irq false old.if_ told.if_ stays;
+}
+
+equal_is : (x y : ℕ) → (x == y) ≡ true → x ≡ y
+equal_is x y h = grind (arith, h)
+
+both : (a b : Bool) → (a && b) ≡ true → (a ≡ true) × (b ≡ true)
+both true true h = (refl, refl)
+both true false h = absurd (true≢false (sym h))
+both false b h = absurd (true≢false (sym h))
+
+negated : (a : Bool) → not a ≡ true → a ≡ false
+negated true h = absurd (true≢false (sym h))
+negated false h = refl
+
+-- waking the other leaves what a processor has behind the ports, and the units
+pub record WakesApart (proc : Proc) (s next : MachineState) : Type 0 where
+  pub own : io_of next.io proc ≡ io_of s.io proc
+  pub keys : next.keys ≡ s.keys
+  pub scan : next.io.video.scan ≡ s.io.video.scan
+  pub gx : next.io.gx ≡ s.io.gx
+  pub released : next.io.released ≡ s.io.released
+
+wakes_seven : (tick : Tick) (m : MachineState) (b : Bool) → WakesApart Nine m (if b then goes_on Seven tick m else m)
+wakes_seven tick m true = record { own = refl; keys = refl; scan = refl; gx = refl; released = refl }
+wakes_seven tick m false = record { own = refl; keys = refl; scan = refl; gx = refl; released = refl }
+
+wakes_nine : (tick : Tick) (m : MachineState) (b : Bool) → WakesApart Seven m (if b then goes_on Nine tick m else m)
+wakes_nine tick m true = record { own = refl; keys = refl; scan = refl; gx = refl; released = refl }
+wakes_nine tick m false = record { own = refl; keys = refl; scan = refl; gx = refl; released = refl }
+
+ends_nine : (tick : Tick) (made : MachineState) → is_halted made Nine ≡ false → WakesApart Nine (machine_settled tick made) (ended tick made)
+unfolding ended
+ends_nine tick made h =
+    let m = machine_settled tick made in
+    let free : is_halted m Nine ≡ false = settled_halted tick made.io Nine ∙ h in
+    subst (λ (x : MachineState). WakesApart Nine m (woken_one Seven tick x)) (sym (not_woken Nine tick m free)) (wakes_seven tick m (wakes m Seven))
+
+ends_seven : (tick : Tick) (made : MachineState) → is_halted made Seven ≡ false → WakesApart Seven (machine_settled tick made) (ended tick made)
+unfolding ended
+ends_seven tick made h =
+    let m = machine_settled tick made in
+    let woke = woken_one Nine tick m in
+    let free : is_halted woke Seven ≡ false = woken_halted tick m (settled_halted tick made.io Seven ∙ h) in
+    subst (WakesApart Seven m) (sym (not_woken Seven tick woke free)) (wakes_nine tick m (wakes m Nine))
+
+-- so what an actor's step leaves of a processor, it leaves after what follows
+settled_irq : (tick : Tick) (u : IoState) → (settled tick u).nine.irq ≡ irq_levelled u.nine.irq (gx_level u.gx)
+settled_irq tick u = by_room (is_half_empty u.gx) where
+  by_room : (b : Bool) → (if b then record (level_told u) { nine = processor_io_triggered (level_told u).nine causes.Geometry tick } else level_told u).nine.irq ≡ irq_levelled u.nine.irq (gx_level u.gx)
+  by_room true = refl
+  by_room false = refl
+
+module _ (tick : Tick) (s made : MachineState) (sound : IsSound s) (parts : HasSoundParts made) where
+  not_due_dma : (gx : GxState) (dma : DmaState) → gx ≡ s.io.gx → dma ≡ s.io.nine.dma → (is_half_empty gx && awaits_geometry dma) ≡ false
+  not_due_dma gx dma same_gx same_dma =
+      rw (same_gx, same_dma) (negated (is_half_empty s.io.gx && awaits_geometry s.io.nine.dma)
+      (both ((irq_levelled s.io.nine.irq (gx_level s.io.gx)).if_ == s.io.nine.irq.if_) (not (is_half_empty s.io.gx && awaits_geometry s.io.nine.dma)) sound.settled).1)
+
+  nine_told : LeavesApart Nine s made → is_halted made Nine ≡ false → IsOnlyTold s.io.nine (ended tick made).io.nine
+  nine_told l h =
+      let e = ends_nine tick made h in
+      let k = settle_leaves tick made.io in
+      let gx = (l.geometry refl).0 in
+      let stays = equal_is (irq_levelled s.io.nine.irq (gx_level s.io.gx)).if_ s.io.nine.irq.if_
+      (both ((irq_levelled s.io.nine.irq (gx_level s.io.gx)).if_ == s.io.nine.irq.if_) (not (is_half_empty s.io.gx && awaits_geometry s.io.nine.dma)) sound.settled).0 in
+      let irq : IsTold s.io.nine.irq (irq_levelled made.io.nine.irq (gx_level made.io.gx)) =
+      subst (λ (g : GxState). IsTold s.io.nine.irq (irq_levelled made.io.nine.irq (gx_level g))) (sym gx)
+      (told_settled s.io.nine.irq made.io.nine.irq (gx_level s.io.gx) l.told.told stays) in
+      subst (IsOnlyTold s.io.nine) (sym e.own)
+      (record {
+        own = record {
+          timers = k.timers ∙ l.told.own.timers;
+          keycnt = k.keycnt ∙ l.told.own.keycnt;
+          halted = k.halted ∙ l.told.own.halted;
+          dma = settled_dma tick made.io parts.io (not_due_dma made.io.gx made.io.nine.dma gx l.told.own.dma) ∙ l.told.own.dma;
+        };
+        told = subst (IsTold s.io.nine.irq) (sym (settled_irq tick made.io)) irq;
+      })
+
+  nine_after : LeavesApart Nine s made → is_halted made Nine ≡ false → LeavesApart Nine s (ended tick made)
+  nine_after l h =
+      let e = ends_nine tick made h in
+      let k = settle_leaves tick made.io in
+      record {
+        own = ap nine_part_of (nine_ended tick (nine_part_of made) made h) ∙ l.own;
+        told = nine_told l h;
+        keys = e.keys ∙ l.keys;
+        scan = e.scan ∙ ap (λ v. v.scan) k.video ∙ l.scan;
+        geometry = λ nine. (e.gx ∙ k.gx ∙ (l.geometry refl).0, e.released ∙ k.released ∙ (l.geometry refl).1);
+      }
+
+  seven_after : LeavesApart Seven s made → is_halted made Seven ≡ false → LeavesApart Seven s (ended tick made)
+  seven_after l h =
+      let e = ends_seven tick made h in
+      let k = settle_leaves tick made.io in
+      record {
+        own = ap (λ (m : MachineState). m.seven) (seven_ended tick made.seven made h) ∙ l.own;
+        told = subst (IsOnlyTold s.io.seven) (sym (e.own ∙ k.seven)) l.told;
+        keys = e.keys ∙ l.keys;
+        scan = e.scan ∙ ap (λ v. v.scan) k.video ∙ l.scan;
+        geometry = λ nine. (e.gx ∙ k.gx ∙ (l.geometry nine).0, e.released ∙ k.released ∙ (l.geometry nine).1);
+      }
+
+  pub after_it : (proc : Proc) → LeavesApart proc s made → is_halted s proc ≡ false → LeavesApart proc s (ended tick made)
+  after_it Nine l h = nine_after l (l.told.own.halted ∙ h)
+  after_it Seven l h = seven_after l (l.told.own.halted ∙ h)
+
+-- ---- what is left so is harmless still, and below its fence
+
+proc_differs : Nine ≢ Seven
+proc_differs e = subst by e tt where
+  by : Proc → Type 0
+  by Nine = Unit {0}
+  by Seven = ⊥
+
+-- the processor is held as before
+held_so : (proc : Proc) (s next : MachineState) → LeavesApart proc s next → is_blocked next proc ≡ is_blocked s proc
+held_so Nine s next l = rw (l.told.own.halted, l.told.own.dma, (l.geometry refl).0) refl
+held_so Seven s next l = rw (l.told.own.halted, l.told.own.dma) refl
+
+processor_so : (proc : Proc) (s next : MachineState) → LeavesApart proc s next → processor_of next proc ≡ processor_of s proc
+processor_so Nine s next l = ap (λ (part : NinePart). part.nine.processor) l.own
+processor_so Seven s next l = ap (λ (part : SevenState). part.processor) l.own
+
+own_so : (proc : Proc) (s next : MachineState) → LeavesApart proc s next → HasOwnOf proc s next
+own_so Nine s next l = sym (ap (λ (part : NinePart). part.nine) l.own)
+own_so Seven s next l = sym l.own
+
+harmless_so : (proc : Proc) (s next : MachineState) → LeavesApart proc s next → IsHarmless s proc → IsHarmless next proc
+harmless_so proc s next l h =
+    let same = processor_so proc s next l in
+    let k = quiet_stays (processor_of s proc).registers (io_of s.io proc).irq (io_of next.io proc).irq h.deaf h.quiet l.told.told in
+    harmless_by_part proc s next (own_so proc s next l) (held_so proc s next l ∙ h.free)
+    (ap (λ (p : ProcessorState). enters (line_of next proc) p.registers) same ∙ k.0)
+    (ap (λ (p : ProcessorState). hears_nobody p.registers (io_of next.io proc).irq) same ∙ k.1)
+    h
+
+-- those of its fence are due as before
+fence_so : (proc : Proc) (s next : MachineState) → LeavesApart proc s next → (a : actor.Actor) → Fences a proc → due_by a next ≡ due_by a s
+fence_so proc s next l KeyScript f = ap keys_due l.keys
+fence_so proc s next l Video f = ap (λ scan. (let due : Option Tick = Some (scan_due_tick scan) in due)) l.scan
+fence_so Nine s next l (Timer Nine number) f = ap (λ timers. timer_due (timer_at timers number)) l.told.own.timers
+fence_so Seven s next l (Timer Seven number) f = ap (λ timers. timer_due (timer_at timers number)) l.told.own.timers
+fence_so Nine s next l (Timer Seven number) f = absurd (proc_differs (sym f))
+fence_so Seven s next l (Timer Nine number) f = absurd (proc_differs f)
+fence_so proc s next l Divider f = absurd f
+fence_so proc s next l SquareRoot f = absurd f
+fence_so Nine s next l Geometry f = ap (λ (gx : GxState). gx.due) (l.geometry refl).0
+fence_so Seven s next l Geometry f = absurd (proc_differs (sym f))
+fence_so proc s next l Card f = refl
+fence_so Nine s next l (Dma Nine channel) f =
+    rw ((l.geometry refl).0, (l.geometry refl).1, l.told.own.dma) refl
+fence_so Seven s next l (Dma Seven channel) f = ap (λ (dma : DmaState). channel_due dma channel) l.told.own.dma
+fence_so Nine s next l (Dma Seven channel) f = absurd (proc_differs (sym f))
+fence_so Seven s next l (Dma Nine channel) f = absurd (proc_differs f)
+fence_so proc s next l (Processor each) f = absurd f
+
+below_so : (proc : Proc) (s next : MachineState) (t : Tick) → LeavesApart proc s next → IsBelowFence s proc t → IsBelowFence next proc t
+below_so proc s next t l below rank at due f =
+    let lt = low_rank next rank at due in
+    below rank at (due_of_rank s rank lt ∙ sym (fence_so proc s next l (actor_of rank) f) ∙ sym (due_of_rank next rank lt) ∙ due) f
+
+-- ---- the two laws
+
+calm : (s : MachineState) → IsSound s → IsCalm s
+calm s sound = record { io = sound.parts.io; settled = sound.settled; asleep = sound.asleep }
+
+due_own : (proc : Proc) (s : MachineState) (t : Tick) → RunsAhead proc s t → due_at (dues_of s) (rank_of proc) ≡ Some t
+due_own Nine s t ahead = due_of_rank s 22 (omega arith) ∙ ap (λ (blocked : Bool). due_unless blocked s.nine.processor) ahead.harmless.free ∙ ap Some (sym ahead.tick)
+due_own Seven s t ahead = due_of_rank s 23 (omega arith) ∙ ap (λ (blocked : Bool). due_unless blocked s.seven.processor) ahead.harmless.free ∙ ap Some (sym ahead.tick)
+
+-- the least of the others isn't in its fence, and isn't the processor
+not_fencing : (proc : Proc) (s : MachineState) (t u : Tick) (r : ℕ) → RunsAhead proc s t → IsLeast (dues_of s) u r → Fences (actor_of r) proc → ⊥
+not_fencing proc s t u r ahead least f =
+    let later : t.0 < u.0 = ahead.below r u least.there f in
+    elim (least.least (rank_of proc) t (due_own proc s t ahead)) [ inl a ↦ omega (arith, later, a) | inr b ↦ (let e = b.0 in omega (arith, later, e)) ]
+
+not_own : (proc : Proc) (s : MachineState) (u : Tick) (r : ℕ) → IsLeast (dues_of s) u r → r ≢ rank_of proc → actor_of r ≢ Processor proc
+not_own Nine s u r least ne = actors_differ 22 r (omega arith) (low_rank s r u least.there) ne
+not_own Seven s u r least ne = actors_differ 23 r (omega arith) (low_rank s r u least.there) ne
+
+-- the outer law, but for what the step comes to with another own part
+record Outer (proc : Proc) (s next : MachineState) (t u : Tick) (r : ℕ) (outs : List Shown) : Type 0 where
+  made : MachineState
+  took : step_by r (actor_of r) s ≡ Makes made outs
+  ended_so : ended u made ≡ next
+  left : LeavesApart proc s next
+  awake_so : is_halted made proc ≡ false
+  again : RunsAhead proc next t
+
+outer_step : (proc : Proc) (s next : MachineState) (t u : Tick) (r : ℕ) (outs : List Shown) → RunsAhead proc s t → IsLeast (dues_of s) u r → r ≢ rank_of proc
+    → reference_step r s ≡ Makes next outs → Outer proc s next t u r outs
+outer_step proc s next t u r outs ahead least ne h =
+    let st = steps_here s u r ahead.sound.parts least in
+    let k = step_made s next u r outs least h in
+    let l = leaves_apart proc (actor_of r) r u s k.0 outs st (not_own proc s u r least ne) (not_fencing proc s t u r ahead least) k.1 in
+    let free = not_halted s proc ahead.harmless.free in
+    let parts = (owes_by (actor_of r) r u s k.0 outs st k.1).sound in
+    let left = subst (LeavesApart proc s) k.2 (after_it u s k.0 ahead.sound parts proc l free) in
+    record {
+      made = k.0;
+      took = k.1;
+      ended_so = k.2;
+      left = left;
+      awake_so = l.told.own.halted ∙ free;
+      again = record {
+        sound = record {
+          parts = reference_schedules.stays s next u r outs ahead.sound.parts least h;
+          asleep = asleep_made s next u r outs least h;
+          settled = settled_made s next u r outs ahead.sound.parts least h;
+        };
+        harmless = harmless_so proc s next left ahead.harmless;
+        tick = ahead.tick ∙ ap tick_of (sym (processor_so proc s next left));
+        below = below_so proc s next t left ahead.below;
+      };
+    }
+
+-- the due ticks by rank: the processor's moves on alone
+alone_moves : (proc : Proc) (s next : MachineState) → MovesAlone proc s next → MovesOn (rank_of proc) (tick_of (processor_of s proc)) (dues_of s) (dues_of next)
+unfolding dues_of
+alone_moves Nine s next m =
+    moves_of_actors (λ (a : actor.Actor). due_by a s) (λ (a : actor.Actor). due_by a next) 22 (tick_of s.nine.processor) (omega arith) m.there m.later (λ a numbered other. m.others a other)
+alone_moves Seven s next m =
+    moves_of_actors (λ (a : actor.Actor). due_by a s) (λ (a : actor.Actor). due_by a next) 23 (tick_of s.seven.processor) (omega arith) m.there m.later (λ a numbered other. m.others a other)
+
+-- Both laws for a processor whose own part is put into a machine so, by what is known of it: that others leave it and don't depend on it, nor does what follows a step
+-- while it isn't halted; and what a harmless step makes of it.
+module _ (proc : Proc) {Own : Type 0} (put : Own → MachineState → MachineState) (after : MachineState → Own)
+    (leave : (rank : ℕ) (a : actor.Actor) (own : Own) (s : MachineState) → (ReachesOwn a proc → ⊥) → step_by rank a (put own s) ≡ step_with (put own) (step_by rank a s))
+    (ends : (tick : Tick) (own : Own) (s : MachineState) → is_halted s proc ≡ false → ended tick (put own s) ≡ put own (ended tick s))
+    (inner : (s : MachineState) → IsCalm s → IsHarmless s proc → reference_step (rank_of proc) s ≡ Makes (put (after s) s) [])
+    (moves : (s : MachineState) → IsHarmless s proc → MovesAlone proc s (put (after s) s))
+    (same : (s next : MachineState) → LeavesApart proc s next → after next ≡ after s) where
+  -- what another's step comes to on the machine with the own part that the harmless step makes
+  there : (s : MachineState) (t u : Tick) (r : ℕ) (came : MachineStep MachineState Shown LeftOut) → RunsAhead proc s t → IsLeast (dues_of s) u r → r ≢ rank_of proc
+      → step_by r (actor_of r) s ≡ came → reference_step r (put (after s) s) ≡ awake (Some u) (step_with (put (after s)) came)
+  there s t u r came ahead least ne took =
+      let a = actor_of r in
+      let other = not_own proc s u r least ne in
+      let due = (moves s ahead.harmless).others a other ∙ due_of_least s r u least in
+      let step = leave r a (after s) s (not_reached a proc other (not_fencing proc s t u r ahead least)) ∙ ap (step_with (put (after s))) took in
+      ap (λ (d : Option Tick). awake d (step_by r a (put (after s) s))) due ∙ ap (awake (Some u)) step
+
+  pub own_part : HasOwnPart reference (rank_of proc) put after (RunsAhead proc)
+  own_part = record {
+    moves = λ s t ahead. subst (λ (x : Tick). MovesOn (rank_of proc) x (dues_of s) (dues_of (put (after s) s))) (sym ahead.tick) (alone_moves proc s (put (after s) s) (moves s ahead.harmless));
+    inner = λ s t ahead. inner s (calm s ahead.sound) ahead.harmless;
+    outer = λ s next t u r outs ahead least ne h.
+        (let o = outer_step proc s next t u r outs ahead least ne h in (
+          there s t u r (Makes o.made outs) ahead least ne o.took
+              ∙ ap (λ (m : MachineState). (let came : MachineStep MachineState Shown LeftOut = Makes m outs in came)) (ends u (after s) o.made o.awake_so ∙ ap (put (after s)) o.ended_so),
+          same s next o.left,
+          o.again,
+        ));
+    halts = λ s left t u r stop ahead least ne h.
+        (put (after s) left, there s t u r (Stops stop left) ahead least ne (awake_stops (due_by (actor_of r) s) (step_by r (actor_of r) s) left stop h));
+  }
+
+-- Each processor may run ahead. (What a harmless step makes of its own part is said beside what it reaches of some machine, whichever that is.)
+pub may_run_ahead : (beside : MachineState) (proc : Proc) → MayRunAhead reference (rank_of proc) (RunsAhead proc)
+may_run_ahead beside Nine =
+    let rest = nine_reach (tick_of beside.nine.processor) beside in
+    ahead_from_own reference 22 with_nine_part (λ s. after_nine rest (nine_part_of s)) (RunsAhead Nine)
+    (own_part Nine with_nine_part (λ s. after_nine rest (nine_part_of s)) leave_nine nine_ended (inner_nine rest) (nine_moves rest) (λ s next l. ap (after_nine rest) l.own))
+may_run_ahead beside Seven =
+    let rest = seven_reach (tick_of beside.seven.processor) beside in
+    ahead_from_own reference 23 with_seven_part (λ s. after_seven rest s.seven) (RunsAhead Seven)
+    (own_part Seven with_seven_part (λ s. after_seven rest s.seven) leave_seven seven_ended (inner_seven rest) (seven_moves rest) (λ s next l. ap (after_seven rest) l.own))

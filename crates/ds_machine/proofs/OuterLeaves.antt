@@ -1,0 +1,214 @@
+use Rattle.std.specs.Prelude.{◌||◌, not}
+use Rattle.std.specs.Int.{bit_not, w32}
+use Rattle.std.proofs.Common.{ℕ, ◌≡◌, ◌≢◌, ◌<◌, Bool, true, false, List, [], Option, Some, None, bit_and, bit_or, refl, sym, ◌∙◌, ap, subst, arith}
+use Rattle.std.proofs.lemmas.Nat.Bits.{bit_at_and, bit_at_or, same_from_bits}
+use Rattle.ds_base.specs.declared.keys.KeyLine.{KeyLine}
+use Rattle.ds_base.specs.declared.left_out.LeftOut.{LeftOut}
+use Rattle.ds_base.specs.declared.processors.Proc.{Proc}
+use Rattle.ds_base.specs.declared.processors.Proc.TheVariants.{Nine, Seven}
+use Rattle.ds_base.specs.declared.ticks.Tick.{Tick}
+use Rattle.arm_core.specs.declared.outcomes.Stepped as arm
+use Rattle.arm_core.specs.declared.outcomes.Stepped.TheVariants.{Cost, Halted, Left}
+use Rattle.ds_ipc.specs.Ipcs.{other_proc}
+use Rattle.ds_map.specs.Moves.{next_unit}
+use Rattle.ds_ports.specs.Dues.{IsTold, ipc_bits}
+use Rattle.ds_ports.specs.Io.{IoState, io_event, io_of}
+use Rattle.ds_ports.specs.ProcessorIo.{ProcessorIoState}
+use Rattle.ds_ports.proofs.Later.{unchanged_same}
+use Rattle.ds_runs.specs.Runs.{MachineStep, Makes}
+use Rattle.ds_runs.specs.declared.actors.Actor as actor
+use Rattle.ds_runs.specs.declared.actors.Actor.TheVariants.{KeyScript, Video, Timer, Divider, SquareRoot, Geometry, Card, Dma, Processor}
+use Rattle.ds_runs.proofs.RunLaws.{same_makes}
+use Rattle.ds_timers.specs.Irqs.{IrqState}
+use Rattle.gx_fifo.specs.GxStates.{GxState}
+use Rattle.ds_machine.specs.Apart.{NinePart, ReachesOwn, step_with, with_nine_part, with_seven_part}
+use Rattle.ds_machine.specs.Channels.{channel_step}
+use Rattle.ds_machine.specs.Reference.{Fences, Shown, after_event, after_geometry, step_by}
+use Rattle.ds_machine.specs.States.{MachineState, NineState, SevenState}
+use Rattle.ds_machine.specs.Statuses.{left_by}
+use Rattle.ds_machine.specs.Steps.{gone_by}
+use Rattle.ds_machine.proofs.Apart.{leave_nine, leave_seven}
+use Rattle.ds_machine.proofs.ChannelEvents.{channel_made, machine_after_unit, unit_gx, unit_released, unit_video}
+use Rattle.ds_machine.proofs.InnerLaw.{nine_part_of}
+use Rattle.ds_machine.proofs.MachineSchedule.{Steps, channel_timers, operation}
+use Rattle.ds_machine.proofs.ProcessorSteps.{came_by, concludes, costs_some, goes, reached_by, reaches, step_is}
+use Rattle.ds_machine.proofs.Told.{IsOnlyTold, channel_tells, step_tells}
+
+-- What a step leaves of a processor that is taken by an actor which is neither that processor nor in its fence.
+
+-- two machines have the same own part of a processor
+abbrev pub HasPartOf : Proc → MachineState → MachineState → Type 0
+HasPartOf Nine s t = nine_part_of s ≡ nine_part_of t
+HasPartOf Seven s t = s.seven ≡ t.seven
+
+-- its own part; what it has behind the ports, but that it is told of IPC interrupts; and when each actor in its fence is due
+pub record LeavesApart (proc : Proc) (s made : MachineState) : Type 0 where
+  pub own : HasPartOf proc made s
+  pub told : IsOnlyTold (io_of s.io proc) (io_of made.io proc)
+  pub keys : made.keys ≡ s.keys
+  pub scan : made.io.video.scan ≡ s.io.video.scan
+  pub geometry : proc ≡ Nine → (made.io.gx ≡ s.io.gx) × (made.io.released ≡ s.io.released)
+
+-- ---- the own part
+
+pub not_reached : (a : actor.Actor) (proc : Proc) → a ≢ Processor proc → (Fences a proc → ⊥) → ReachesOwn a proc → ⊥
+not_reached KeyScript proc other apart own = absurd own
+not_reached Video proc other apart own = apart tt
+not_reached (Timer each number) proc other apart own = absurd own
+not_reached Divider proc other apart own = absurd own
+not_reached SquareRoot proc other apart own = absurd own
+not_reached Geometry proc other apart own = apart own
+not_reached Card proc other apart own = absurd own
+not_reached (Dma each channel) proc other apart own = apart own
+not_reached (Processor each) proc other apart own = other (ap Processor own)
+
+own_left : (proc : Proc) (a : actor.Actor) (rank : ℕ) (s made : MachineState) (outs : List Shown) → (ReachesOwn a proc → ⊥) → step_by rank a s ≡ Makes made outs → HasPartOf proc made s
+own_left Nine a rank s made outs apart h =
+    let put = with_nine_part (nine_part_of s) in
+    let both : (let step : MachineStep MachineState Shown LeftOut = Makes made outs in step) ≡ Makes (put made) outs =
+    sym h ∙ leave_nine rank a (nine_part_of s) s apart ∙ ap (step_with put) h in
+    ap nine_part_of (same_makes made (put made) outs outs both).0
+own_left Seven a rank s made outs apart h =
+    let put = with_seven_part s.seven in
+    let both : (let step : MachineStep MachineState Shown LeftOut = Makes made outs in step) ≡ Makes (put made) outs =
+    sym h ∙ leave_seven rank a s.seven s apart ∙ ap (step_with put) h in
+    ap (λ (m : MachineState). m.seven) (same_makes made (put made) outs outs both).0
+
+-- ---- what stands behind the ports
+
+irq_same : (irq : IrqState) → IsTold irq irq
+irq_same irq = record { ime = refl; ie = refl; if_ = refl }
+
+not_told : (o : ProcessorIoState) → IsOnlyTold o o
+not_told o = record { own = unchanged_same o; told = irq_same o.irq }
+
+nine_is_not_seven : Seven ≢ Nine
+nine_is_not_seven e = (let P : Proc → Type 0 = λ p. (let t : Type 0 = by p in t) in subst P e tt) where
+  by : Proc → Type 0
+  by Nine = ⊥
+  by Seven = Unit {0}
+
+-- so much of it is said of a machine whose units are others
+pub record LeavesIo (proc : Proc) (old new : IoState) : Type 0 where
+  pub told : IsOnlyTold (io_of old proc) (io_of new proc)
+  pub scan : new.video.scan ≡ old.video.scan
+  pub geometry : proc ≡ Nine → (new.gx ≡ old.gx) × (new.released ≡ old.released)
+
+-- another unit's event
+event_leaves : (proc : Proc) (a : actor.Actor) (u : IoState) → a ≢ Processor proc → (Fences a proc → ⊥) → LeavesIo proc u (io_event a u)
+event_leaves proc KeyScript u other apart = absurd (apart tt)
+event_leaves proc Video u other apart = absurd (apart tt)
+event_leaves Nine (Timer Nine number) u other apart = absurd (apart refl)
+event_leaves Nine (Timer Seven number) u other apart = record { told = not_told u.nine; scan = refl; geometry = λ e. (refl, refl) }
+event_leaves Seven (Timer Nine number) u other apart = record { told = not_told u.seven; scan = refl; geometry = λ e. (refl, refl) }
+event_leaves Seven (Timer Seven number) u other apart = absurd (apart refl)
+event_leaves Nine Divider u other apart = record { told = not_told u.nine; scan = refl; geometry = λ e. (refl, refl) }
+event_leaves Seven Divider u other apart = record { told = not_told u.seven; scan = refl; geometry = λ e. (refl, refl) }
+event_leaves Nine SquareRoot u other apart = record { told = not_told u.nine; scan = refl; geometry = λ e. (refl, refl) }
+event_leaves Seven SquareRoot u other apart = record { told = not_told u.seven; scan = refl; geometry = λ e. (refl, refl) }
+event_leaves Nine Geometry u other apart = absurd (apart refl)
+event_leaves Seven Geometry u other apart = record { told = not_told u.seven; scan = refl; geometry = λ e. absurd (nine_is_not_seven e) }
+event_leaves proc Card u other apart = absurd (apart tt)
+event_leaves proc a u other apart = record { told = not_told (io_of u proc); scan = refl; geometry = λ e. (refl, refl) }
+
+-- the other processor's step
+gone_leaves : (proc : Proc) (came : arm.Stepped) (m : MachineState) → ((gone_by proc came m).keys ≡ m.keys) × ((gone_by proc came m).io.video ≡ m.io.video)
+    × ((gone_by proc came m).io.gx ≡ m.io.gx) × ((gone_by proc came m).io.released ≡ m.io.released)
+gone_leaves Nine (Cost clocks) m = (refl, refl, refl, refl)
+gone_leaves Seven (Cost clocks) m = (refl, refl, refl, refl)
+gone_leaves Nine (Halted clocks) m = (refl, refl, refl, refl)
+gone_leaves Seven (Halted clocks) m = (refl, refl, refl, refl)
+gone_leaves proc (Left stop) m = (refl, refl, refl, refl)
+
+-- ---- each actor
+
+pub record LeavesRest (proc : Proc) (s made : MachineState) : Type 0 where
+  pub keys : made.keys ≡ s.keys
+  pub io : LeavesIo proc s.io made.io
+
+event_rest : (proc : Proc) (a : actor.Actor) (s made : MachineState) (outs : List Shown) → a ≢ Processor proc → (Fences a proc → ⊥)
+    → (let step : MachineStep MachineState Shown LeftOut = Makes (after_event a s) [] in step) ≡ Makes made outs → LeavesRest proc s made
+event_rest proc a s made outs other apart h =
+    subst (LeavesRest proc s) (same_makes (after_event a s) made [] outs h).0 (record { keys = refl; io = event_leaves proc a s.io other apart })
+
+processor_rest : (proc : Proc) (rank : ℕ) (tick : Tick) (s made : MachineState) (outs : List Shown) → Steps (Processor (other_proc proc)) rank tick s
+    → step_by rank (Processor (other_proc proc)) s ≡ Makes made outs → (other_proc (other_proc proc) ≡ proc) → (proc ≡ Nine → other_proc proc ≡ Seven) → LeavesRest proc s made
+processor_rest proc rank tick s made outs st h twice seven =
+    let of = other_proc proc in
+    let came = came_by of s in
+    let m = reached_by of s in
+    let g = goes of tick s (operation of rank tick s st) in
+    let k = concludes rank of m made outs came (costs_some of s) (sym (step_is rank of s) ∙ h) in
+    let l = gone_leaves of came m in
+    let t : IsOnlyTold (io_of s.io proc) (io_of made.io proc) =
+    subst (λ (p : Proc). IsOnlyTold (io_of s.io p) (io_of made.io p)) twice
+    (subst (λ (came : MachineStep MachineState Shown LeftOut). IsOnlyTold (io_of s.io (other_proc of)) (io_of (left_by came).io (other_proc of))) h (step_tells rank of tick s st)) in
+    record {
+      keys = ap (λ (x : MachineState). x.keys) (sym k.1) ∙ l.0 ∙ (reaches of s).keys;
+      io = record {
+        told = t;
+        scan = ap (λ (x : MachineState). x.io.video.scan) (sym k.1) ∙ ap (λ v. v.scan) l.1 ∙ g.scan;
+        geometry = λ e. (
+          ap (λ (x : MachineState). x.io.gx) (sym k.1) ∙ l.2 ∙ g.geometry.of_seven (seven e),
+          ap (λ (x : MachineState). x.io.released) (sym k.1) ∙ l.3 ∙ g.geometry.released,
+        );
+      };
+    }
+
+channel_rest : (proc : Proc) (channel rank : ℕ) (tick : Tick) (s made : MachineState) (outs : List Shown) → Steps (Dma (other_proc proc) channel) rank tick s
+    → step_by rank (Dma (other_proc proc) channel) s ≡ Makes made outs → (other_proc (other_proc proc) ≡ proc) → (proc ≡ Nine → other_proc proc ≡ Seven) → LeavesRest proc s made
+channel_rest proc channel rank tick s made outs st h twice seven =
+    let of = other_proc proc in
+    let P : Option Tick → Type 0 = λ o. channel_step rank of o s ≡ Makes made outs in
+    let e = channel_made rank of tick s made outs (subst P st.due h) in
+    let unit = next_unit s.io of in
+    let timers = channel_timers of channel rank tick s st in
+    let t : IsOnlyTold (io_of s.io proc) (io_of made.io proc) =
+    subst (λ (p : Proc). IsOnlyTold (io_of s.io p) (io_of made.io p)) twice
+    (subst (λ (came : MachineStep MachineState Shown LeftOut). IsOnlyTold (io_of s.io (other_proc of)) (io_of (left_by came).io (other_proc of))) h (channel_tells rank of channel tick s st)) in
+    record {
+      keys = ap (λ (x : MachineState). x.keys) e ∙ unit_keys of;
+      io = record {
+        told = t;
+        scan = ap (λ (x : MachineState). x.io.video.scan) e ∙ unit_video of channel tick unit s st.sound st.numbered st.due timers;
+        geometry = λ nine. (
+          ap (λ (x : MachineState). x.io.gx) e ∙ unit_gx of channel tick unit s st.sound st.numbered st.due timers (seven nine),
+          ap (λ (x : MachineState). x.io.released) e ∙ unit_released of channel tick unit s st.sound st.numbered st.due timers,
+        );
+      };
+    } where
+      unit_keys : (of : Proc) → (machine_after_unit of tick (next_unit s.io of) s).keys ≡ s.keys
+      unit_keys Nine = refl
+      unit_keys Seven = refl
+
+seven_nine : Seven ≡ Nine → Nine ≡ Seven
+seven_nine e = sym e
+
+pub rest_left : (proc : Proc) (a : actor.Actor) (rank : ℕ) (tick : Tick) (s made : MachineState) (outs : List Shown) → Steps a rank tick s → a ≢ Processor proc → (Fences a proc → ⊥)
+    → step_by rank a s ≡ Makes made outs → LeavesRest proc s made
+rest_left proc KeyScript rank tick s made outs st other apart h = absurd (apart tt)
+rest_left proc Video rank tick s made outs st other apart h = absurd (apart tt)
+rest_left Nine Geometry rank tick s made outs st other apart h = absurd (apart refl)
+rest_left Seven Geometry rank tick s made outs st other apart h =
+    subst (LeavesRest Seven s) (same_makes (after_geometry s) made [] outs h).0 (record { keys = refl; io = event_leaves Seven Geometry s.io other apart })
+rest_left Nine (Dma Nine channel) rank tick s made outs st other apart h = absurd (apart refl)
+rest_left Nine (Dma Seven channel) rank tick s made outs st other apart h = channel_rest Nine channel rank tick s made outs st h refl (λ e. refl)
+rest_left Seven (Dma Nine channel) rank tick s made outs st other apart h = channel_rest Seven channel rank tick s made outs st h refl seven_nine
+rest_left Seven (Dma Seven channel) rank tick s made outs st other apart h = absurd (apart refl)
+rest_left Nine (Processor Nine) rank tick s made outs st other apart h = absurd (other refl)
+rest_left Nine (Processor Seven) rank tick s made outs st other apart h = processor_rest Nine rank tick s made outs st h refl (λ e. refl)
+rest_left Seven (Processor Nine) rank tick s made outs st other apart h = processor_rest Seven rank tick s made outs st h refl seven_nine
+rest_left Seven (Processor Seven) rank tick s made outs st other apart h = absurd (other refl)
+rest_left proc a rank tick s made outs st other apart h = event_rest proc a s made outs other apart h
+
+pub leaves_apart : (proc : Proc) (a : actor.Actor) (rank : ℕ) (tick : Tick) (s made : MachineState) (outs : List Shown) → Steps a rank tick s → a ≢ Processor proc → (Fences a proc → ⊥)
+    → step_by rank a s ≡ Makes made outs → LeavesApart proc s made
+leaves_apart proc a rank tick s made outs st other apart h =
+    let rest = rest_left proc a rank tick s made outs st other apart h in
+    record {
+      own = own_left proc a rank s made outs (not_reached a proc other apart) h;
+      told = rest.io.told;
+      keys = rest.keys;
+      scan = rest.io.scan;
+      geometry = rest.io.geometry;
+    }

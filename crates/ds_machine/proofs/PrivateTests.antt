@@ -1,0 +1,398 @@
+use Rattle.std.proofs.Common.{ℕ, suc, ◌≡◌, ◌<◌, ◌+◌, ◌-◌, ◌%◌, ◌^◌, ◌==◌, ◌↔◌, ◌⊎◌, inl, inr, if◌then◌else◌, Bool, true, false, true≢false, not, List, [], ◌∷◌, ◌++◌, length, map, Option, Some, None, Contains, refl, sym, ◌∙◌, ap, subst, arith}
+use Rattle.std.specs.Prelude.{◌&&◌, ◌||◌}
+use Rattle.std.specs.List.{list_all}
+use Rattle.std.proofs.lemmas.List.Elements.{All-contains, Contains-append_left, Contains-append_right, Contains-append_cases}
+use Rattle.std.proofs.lemmas.List.Sums.{AllPass-from_list_all}
+use Rattle.ds_base.specs.Accesses.{Access, Fetch, MemoryMachine, Read, Write}
+use Rattle.ds_base.specs.Processors.{architecture_of}
+use Rattle.ds_base.specs.declared.memories.Width.{Width}
+use Rattle.ds_base.specs.declared.memories.Width.TheVariants.{Byte, Half, Word}
+use Rattle.ds_base.specs.declared.processors.Arch.{Arch}
+use Rattle.ds_base.specs.declared.processors.Arch.TheVariants.{V4, V5}
+use Rattle.ds_base.specs.declared.processors.Proc.{Proc}
+use Rattle.ds_base.specs.declared.processors.Proc.TheVariants.{Nine, Seven}
+use Rattle.arm_words.specs.ArmTable.{decoded_arm}
+use Rattle.arm_words.specs.ThumbTable.{decoded_thumb}
+use Rattle.arm_words.specs.declared.instructions.Instr.{Instr}
+use Rattle.arm_words.specs.declared.instructions.Instr.TheVariants as instrs
+use Rattle.arm_words.specs.declared.operations.HalfOp.{HalfOp}
+use Rattle.arm_words.specs.declared.operations.HalfOp.TheVariants.{Strh, Ldrh, Ldrsb, Ldrsh}
+use Rattle.arm_core.specs.Addressing.{addressed, list_bytes, listed_registers, lowest, moved_base, offset_value, short_offset_value}
+use Rattle.arm_core.specs.Conditions.{holds}
+use Rattle.arm_core.specs.Doubles.{double_at}
+use Rattle.arm_core.specs.Footprints.{Covers, access_bytes, accessed_bytes, span, touched_bytes}
+use Rattle.arm_core.specs.Meanings.{act, act_processing, condition, meaning, skipped}
+use Rattle.arm_core.specs.Multiples as multiples
+use Rattle.arm_core.specs.Multiples.{multiple_meaning, reached_bank, stored_value, stores_new_base, transferred}
+use Rattle.arm_core.specs.Registers.{RegisterState, is_thumb, register}
+use Rattle.arm_core.specs.Steps.{fetched, fetched_half, fetched_word}
+use Rattle.arm_core.specs.Swaps.{swap_meaning}
+use Rattle.arm_core.specs.Thumb.{equivalent}
+use Rattle.arm_core.specs.Transfers.{half_or_signed_meaning, load_meaning, signed_byte, signed_half, signed_half_meaning, word_or_byte_meaning}
+use Rattle.arm_core.specs.declared.addresses.Addressed.{Addressed}
+use Rattle.arm_core.specs.declared.touches.Touch.{Touch}
+use Rattle.ds_map.specs.Views.{nine_memory, seven_memory}
+use Rattle.ds_machine.specs.Observed.{fetch_of}
+use Rattle.ds_machine.specs.Private.{AllReachPrivate, ProcessorStaysPrivate, ReachesPrivate, StaysPrivate, data_accesses, may_go_ahead, next_fetch}
+use Rattle.ds_machine.specs.Sides.{SideOf, nine_side, seven_side}
+use Rattle.ds_machine.specs.States.{MachineState}
+use Rattle.ds_machine.specs.Steps.{nine_reach, processor_of, seven_reach, tick_of}
+use Rattle.ds_machine.specs.Touching.{FetchStaysPrivate, InstrReaches, InstrStaysPrivate, IsFootprint, data_private, half_writes, instr_at, is_private_to, reads, writes}
+
+-- What the code tells of private places is so.
+
+-- ---- tests of all bytes
+
+both : (a b : Bool) → a ≡ true → b ≡ true → (a && b) ≡ true
+both true true h k = refl
+both true false h k = k
+both false b h k = h
+
+first_of : (a b : Bool) → (a && b) ≡ true → a ≡ true
+first_of true b h = refl
+first_of false b h = h
+
+last_of : (a b : Bool) → (a && b) ≡ true → b ≡ true
+last_of true b h = h
+last_of false b h = absurd (true≢false (sym h))
+
+all_of : (p : ℕ → Bool) (xs : List ℕ) → ((x : ℕ) → Contains xs x → p x ≡ true) → list_all p xs ≡ true
+all_of p [] h = refl
+all_of p (x ∷ xs) h = both (p x) (list_all p xs) (h x (0, omega arith, refl)) (all_of p xs (λ y c. h y (suc c.0, (let lt = c.1 in omega (arith, lt)), c.2)))
+
+each_of : (p : ℕ → Bool) (xs : List ℕ) → list_all p xs ≡ true → (x : ℕ) → Contains xs x → p x ≡ true
+each_of p xs h x c = All-contains (λ y. p y ≡ true) xs x (AllPass-from_list_all p xs h) c
+
+-- of a span, one byte on: a loop over it
+pub span_more : (p : ℕ → Bool) (first i length : ℕ) → i < length → p ((first + i) % 2 ^ 32) ≡ true
+    → list_all p (span (first + (i + 1)) (length - (i + 1))) ≡ list_all p (span (first + i) (length - i))
+span_more p first i length lt h =
+    let left : length - i ≡ suc (length - (i + 1)) = omega (arith, lt) in
+    let next : first + (i + 1) ≡ first + i + 1 = omega arith in
+    let rest = list_all p (span (first + i + 1) (length - (i + 1))) in
+    ap (λ (n : ℕ). list_all p (span n (length - (i + 1)))) next ∙ sym (ap (λ (b : Bool). b && rest) h)
+    ∙ ap (λ (n : ℕ). list_all p (span (first + i) n)) (sym left)
+
+pub span_ends : (p : ℕ → Bool) (first i length : ℕ) → i < length → p ((first + i) % 2 ^ 32) ≡ false → list_all p (span (first + i) (length - i)) ≡ false
+span_ends p first i length lt h =
+    let left : length - i ≡ suc (length - (i + 1)) = omega (arith, lt) in
+    let rest = list_all p (span (first + i + 1) (length - (i + 1))) in
+    ap (λ (n : ℕ). list_all p (span (first + i) n)) left ∙ ap (λ (b : Bool). b && rest) h
+
+-- ---- which accesses an instruction makes
+
+abbrev AreReads : List Access → Type 0
+AreReads [] = Unit {0}
+AreReads (Fetch at width ∷ rest) = ⊥
+AreReads (Read at width ∷ rest) = AreReads rest
+AreReads (Write at width value ∷ rest) = ⊥
+
+abbrev AreWrites : List Access → Type 0
+AreWrites [] = Unit {0}
+AreWrites (Fetch at width ∷ rest) = ⊥
+AreWrites (Read at width ∷ rest) = ⊥
+AreWrites (Write at width value ∷ rest) = AreWrites rest
+
+-- they are all reads, or all writes, or a read and a write of one place
+abbrev Suits : Bool → Bool → List Access → Type 0
+Suits true true accesses = (at : ℕ) × (width : Width) × (value : ℕ) × (accesses ≡ Read at width ∷ Write at width value ∷ [])
+Suits true false accesses = AreReads accesses
+Suits false true accesses = AreWrites accesses
+Suits false false accesses = accesses ≡ []
+
+reads_are : (at : ℕ) (rs : List ℕ) → AreReads (multiples.reads at rs)
+reads_are at [] = tt
+reads_are at (r ∷ rs) = reads_are ((at + 4) % 2 ^ 32) rs
+
+writes_are : (at : ℕ) (values : List ℕ) → AreWrites (multiples.writes at values)
+writes_are at [] = tt
+writes_are at (value ∷ values) = writes_are ((at + 4) % 2 ^ 32) values
+
+module _ (arch : Arch) (s : RegisterState) where
+  word_or_byte_suits : (load byte : Bool) (rn rd : ℕ) (to : Addressed) → Suits load (not load) (word_or_byte_meaning arch s load byte rn rd to).accesses
+  word_or_byte_suits true true rn rd to = tt
+  word_or_byte_suits true false rn rd to = tt
+  word_or_byte_suits false true rn rd to = tt
+  word_or_byte_suits false false rn rd to = tt
+
+  double_suits : (store : Bool) (rn rd : ℕ) (to : Addressed) → Suits (not store) store (double_at s store rn rd to).accesses
+  double_suits true rn rd to = tt
+  double_suits false rn rd to = tt
+
+  swap_suits : (byte : Bool) (rd rm rn : ℕ) → Suits true true (swap_meaning s byte rd rm rn).accesses
+  swap_suits true rd rm rn = (register s rn, Byte, _, refl)
+  swap_suits false rd rm rn = (register s rn, Word, _, refl)
+
+  multiple_suits : (pre up user write_back load : Bool) (rn list : ℕ) → Suits load (not load) (multiple_meaning arch s pre up user write_back load rn list).accesses
+  multiple_suits pre up user write_back true rn list = reads_are (lowest pre up (register s rn) (list_bytes list)) (listed_registers (transferred arch list))
+  multiple_suits pre up user write_back false rn list =
+      let value = stored_value s (reached_bank s user) rn (write_back && not (rn == 15) && stores_new_base arch rn list) (moved_base up (register s rn) (list_bytes list)) in
+      writes_are (lowest pre up (register s rn) (list_bytes list)) (map value (listed_registers (transferred arch list)))
+
+signed_half_suits : (arch : Arch) (s : RegisterState) (rn rd : ℕ) (to : Addressed) → AreReads (signed_half_meaning arch s rn rd to).accesses
+signed_half_suits V5 s rn rd to = tt
+signed_half_suits V4 s rn rd to = either (to.address % 2 == 0) where
+  either : (b : Bool) → AreReads (if b then load_meaning s rn rd to Half signed_half else load_meaning s rn rd to Byte signed_byte).accesses
+  either true = tt
+  either false = tt
+
+half_suits : (arch : Arch) (s : RegisterState) (op : HalfOp) (rn rd : ℕ) (to : Addressed)
+    → Suits (not (half_writes op)) (half_writes op) (half_or_signed_meaning arch s op rn rd to).accesses
+half_suits arch s Strh rn rd to = tt
+half_suits arch s Ldrh rn rd to = tt
+half_suits arch s Ldrsb rn rd to = tt
+half_suits arch s Ldrsh rn rd to = signed_half_suits arch s rn rd to
+
+plain_none : (arch : Arch) (base : ℕ) (s : RegisterState) (instr : Instr) → (act_processing arch base s instr).accesses ≡ []
+plain_none arch base s (instrs.Data cond op set_flags rn rd operand) = refl
+plain_none arch base s _ = refl
+
+act_suits : (arch : Arch) (base : ℕ) (s : RegisterState) (i : Instr) → Suits (reads i) (writes i) (act arch base s i).accesses
+act_suits arch base s (instrs.Transfer cond pre up byte write_back load rn rd offset) =
+    word_or_byte_suits arch s load byte rn rd (addressed s pre up write_back rn (offset_value s offset))
+act_suits arch base s (instrs.HalfTransfer cond op pre up write_back rn rd offset) =
+    half_suits arch s op rn rd (addressed s pre up write_back rn (short_offset_value s offset))
+act_suits arch base s (instrs.DoubleTransfer cond store pre up write_back rn rd offset) =
+    double_suits arch s store rn rd (addressed s pre up write_back rn (short_offset_value s offset))
+act_suits arch base s (instrs.Multiple cond pre up user write_back load rn list) = multiple_suits arch s pre up user write_back load rn list
+act_suits arch base s (instrs.Swap cond byte rd rm rn) = swap_suits arch s byte rd rm rn
+act_suits arch base s (instrs.ThumbLoadLiteral rd immed) = tt
+act_suits arch base s i = plain_none arch base s i
+
+meant_suits : (arch : Arch) (base : ℕ) (s : RegisterState) (i : Instr)
+    → Suits (reads (equivalent i)) (writes (equivalent i)) (meaning arch base s i).accesses ⊎ ((meaning arch base s i).accesses ≡ [])
+meant_suits arch base s i = by_condition (holds (condition i) s.cpsr) where
+  by_condition : (b : Bool) → Suits (reads (equivalent i)) (writes (equivalent i)) (if b then act arch base s (equivalent i) else skipped s).accesses
+      ⊎ ((if b then act arch base s (equivalent i) else skipped s).accesses ≡ [])
+  by_condition true = inl (act_suits arch base s (equivalent i))
+  by_condition false = inr refl
+
+-- ---- accesses by their bytes
+
+abbrev Passes : (ℕ → Bool) → List ℕ → Type 0
+Passes p bytes = (byte : ℕ) → Contains bytes byte → p byte ≡ true
+
+none_passes : (p : ℕ → Bool) (bytes : List ℕ) → bytes ≡ [] → Passes p bytes
+none_passes p [] h byte c = let lt = c.1 in absurd (omega (arith, lt))
+none_passes p (x ∷ xs) h byte c = let e = ap (λ (l : List ℕ). length l) h in absurd (omega (arith, e))
+
+module _ {S : Type 0} (side : SideOf S) (state : S) where
+  reads_reach : (accesses : List Access) → AreReads accesses → Passes (side.is_private state false false) (accessed_bytes accesses) → AllReachPrivate side state accesses
+  reads_reach [] are h = tt
+  reads_reach (Read at width ∷ rest) are h =
+      let one = access_bytes (Read at width) in (
+        λ byte c. h byte (Contains-append_left one (accessed_bytes rest) byte c),
+        reads_reach rest are (λ byte c. h byte (Contains-append_right one (accessed_bytes rest) byte c)),
+      )
+  reads_reach (Fetch at width ∷ rest) are h = absurd are
+  reads_reach (Write at width value ∷ rest) are h = absurd are
+
+  reads_reached : (accesses : List Access) → AreReads accesses → AllReachPrivate side state accesses → Passes (side.is_private state false false) (accessed_bytes accesses)
+  reads_reached [] are h = none_passes (side.is_private state false false) [] refl
+  reads_reached (Read at width ∷ rest) are h = λ byte c.
+      elim (Contains-append_cases (access_bytes (Read at width)) (accessed_bytes rest) byte c) [ inl here ↦ h.0 byte here | inr there ↦ reads_reached rest are h.1 byte there ]
+  reads_reached (Fetch at width ∷ rest) are h = absurd are
+  reads_reached (Write at width value ∷ rest) are h = absurd are
+
+  writes_reach : (accesses : List Access) → AreWrites accesses → Passes (side.is_private state true false) (accessed_bytes accesses) → AllReachPrivate side state accesses
+  writes_reach [] are h = tt
+  writes_reach (Write at width value ∷ rest) are h =
+      let one = access_bytes (Write at width value) in (
+        λ byte c. h byte (Contains-append_left one (accessed_bytes rest) byte c),
+        writes_reach rest are (λ byte c. h byte (Contains-append_right one (accessed_bytes rest) byte c)),
+      )
+  writes_reach (Fetch at width ∷ rest) are h = absurd are
+  writes_reach (Read at width ∷ rest) are h = absurd are
+
+  writes_reached : (accesses : List Access) → AreWrites accesses → AllReachPrivate side state accesses → Passes (side.is_private state true false) (accessed_bytes accesses)
+  writes_reached [] are h = none_passes (side.is_private state true false) [] refl
+  writes_reached (Write at width value ∷ rest) are h = λ byte c.
+      elim (Contains-append_cases (access_bytes (Write at width value)) (accessed_bytes rest) byte c) [ inl here ↦ h.0 byte here | inr there ↦ writes_reached rest are h.1 byte there ]
+  writes_reached (Fetch at width ∷ rest) are h = absurd are
+  writes_reached (Read at width ∷ rest) are h = absurd are
+
+  -- a read and a write of one place
+  swap_bytes : (at : ℕ) (width : Width) (value byte : ℕ) → Contains (accessed_bytes (Read at width ∷ Write at width value ∷ [])) byte → Contains (access_bytes (Read at width)) byte
+  swap_bytes at width value byte c =
+      let one = access_bytes (Read at width) in
+      elim (Contains-append_cases one (one ++ []) byte c) [
+        | inl here ↦ here
+        | inr there ↦ elim (Contains-append_cases one [] byte there) [ inl here ↦ here | inr none ↦ (let lt = none.1 in absurd (omega (arith, lt))) ]
+      ]
+
+  reach_by : (r w : Bool) (accesses : List Access) → Suits r w accesses → (r ≡ true → Passes (side.is_private state false false) (accessed_bytes accesses))
+      → (w ≡ true → Passes (side.is_private state true false) (accessed_bytes accesses)) → AllReachPrivate side state accesses
+  reach_by true true accesses suits h k =
+      let at = suits.0 in
+      let width = suits.1 in
+      let value = suits.2 in
+      let one = access_bytes (Read at width) in
+      let all = subst (λ (l : List Access). Passes (side.is_private state false false) (accessed_bytes l)) suits.3 (h refl) in
+      let all_w = subst (λ (l : List Access). Passes (side.is_private state true false) (accessed_bytes l)) suits.3 (k refl) in
+      subst (AllReachPrivate side state) (sym suits.3)
+      (λ byte c. all byte (Contains-append_left one (one ++ []) byte c), (λ byte c. all_w byte (Contains-append_left one (one ++ []) byte c), tt))
+  reach_by true false accesses suits h k = reads_reach accesses suits (h refl)
+  reach_by false true accesses suits h k = writes_reach accesses suits (k refl)
+  reach_by false false accesses suits h k = subst (AllReachPrivate side state) (sym suits) tt
+
+  reads_by : (r w : Bool) (accesses : List Access) → Suits r w accesses → AllReachPrivate side state accesses → r ≡ true → Passes (side.is_private state false false) (accessed_bytes accesses)
+  reads_by true true accesses suits h e =
+      let both_in = subst (AllReachPrivate side state) suits.3 h in
+      subst (λ (l : List Access). Passes (side.is_private state false false) (accessed_bytes l)) (sym suits.3)
+      (λ byte c. both_in.0 byte (swap_bytes suits.0 suits.1 suits.2 byte c))
+  reads_by true false accesses suits h e = reads_reached accesses suits h
+  reads_by false w accesses suits h e = absurd (true≢false (sym e))
+
+  writes_by : (r w : Bool) (accesses : List Access) → Suits r w accesses → AllReachPrivate side state accesses → w ≡ true → Passes (side.is_private state true false) (accessed_bytes accesses)
+  writes_by true true accesses suits h e =
+      let both_in = subst (AllReachPrivate side state) suits.3 h in
+      subst (λ (l : List Access). Passes (side.is_private state true false) (accessed_bytes l)) (sym suits.3)
+      (λ byte c. both_in.1.0 byte (swap_bytes suits.0 suits.1 suits.2 byte c))
+  writes_by false true accesses suits h e = writes_reached accesses suits h
+  writes_by r false accesses suits h e = absurd (true≢false (sym e))
+
+  -- ---- by a touch that covers them
+
+  over_touch : (p : ℕ → Bool) (touch : Touch) (accesses : List Access) → Covers touch accesses → list_all p (touched_bytes touch) ≡ true → Passes p (accessed_bytes accesses)
+  over_touch p touch accesses covers h byte c = each_of p (touched_bytes touch) h byte ((covers byte).1 c)
+
+  touch_over : (p : ℕ → Bool) (touch : Touch) (accesses : List Access) → Covers touch accesses → Passes p (accessed_bytes accesses) → list_all p (touched_bytes touch) ≡ true
+  touch_over p touch accesses covers h = all_of p (touched_bytes touch) (λ byte c. h byte ((covers byte).0 c))
+
+  abbrev tested : Bool → Bool → Touch → Bool
+  tested r w touch =
+      (not r || list_all (side.is_private state false false) (touched_bytes touch)) && (not w || list_all (side.is_private state true false) (touched_bytes touch))
+
+  where_so : (r b : Bool) → (not r || b) ≡ true → r ≡ true → b ≡ true
+  where_so true b h e = h
+  where_so false b h e = absurd (true≢false (sym e))
+
+  so_where : (r b : Bool) → (r ≡ true → b ≡ true) → (not r || b) ≡ true
+  so_where true b h = h refl
+  so_where false b h = refl
+
+  data_passes : (r w : Bool) (touch : Touch) (accesses : List Access) → Suits r w accesses ⊎ (accesses ≡ []) → Covers touch accesses → tested r w touch ≡ true → AllReachPrivate side state accesses
+  data_passes r w touch accesses (inl suits) covers h =
+      let p = side.is_private state false false in
+      let q = side.is_private state true false in
+      let a = not r || list_all p (touched_bytes touch) in
+      let b = not w || list_all q (touched_bytes touch) in
+      reach_by r w accesses suits (λ e. over_touch p touch accesses covers (where_so r (list_all p (touched_bytes touch)) (first_of a b h) e))
+      (λ e. over_touch q touch accesses covers (where_so w (list_all q (touched_bytes touch)) (last_of a b h) e))
+  data_passes r w touch accesses (inr none) covers h = subst (AllReachPrivate side state) (sym none) tt
+
+  data_passed : (r w : Bool) (touch : Touch) (accesses : List Access) → Suits r w accesses ⊎ (accesses ≡ []) → Covers touch accesses → AllReachPrivate side state accesses → tested r w touch ≡ true
+  data_passed r w touch accesses (inl suits) covers h =
+      let p = side.is_private state false false in
+      let q = side.is_private state true false in
+      let a = not r || list_all p (touched_bytes touch) in
+      let b = not w || list_all q (touched_bytes touch) in
+      both a b (so_where r (list_all p (touched_bytes touch)) (λ e. touch_over p touch accesses covers (reads_by r w accesses suits h e)))
+      (so_where w (list_all q (touched_bytes touch)) (λ e. touch_over q touch accesses covers (writes_by r w accesses suits h e)))
+  data_passed r w touch accesses (inr none) covers h =
+      let p = side.is_private state false false in
+      let q = side.is_private state true false in
+      let a = not r || list_all p (touched_bytes touch) in
+      let b = not w || list_all q (touched_bytes touch) in
+      let nothing = ap accessed_bytes none in
+      both a b (so_where r (list_all p (touched_bytes touch)) (λ e. touch_over p touch accesses covers (none_passes p (accessed_bytes accesses) nothing)))
+      (so_where w (list_all q (touched_bytes touch)) (λ e. touch_over q touch accesses covers (none_passes q (accessed_bytes accesses) nothing)))
+
+  instr_is : (s : RegisterState) (instr : Instr) (touch : Touch) → Covers touch (meaning side.arch (side.base state) s instr).accesses
+      → ((may_go_ahead side.arch (Some instr) && tested (reads (equivalent instr)) (writes (equivalent instr)) touch) ≡ true) ↔ InstrReaches side state s instr
+  instr_is s instr touch covers =
+      let m = meaning side.arch (side.base state) s instr in
+      let r = reads (equivalent instr) in
+      let w = writes (equivalent instr) in
+      let go = may_go_ahead side.arch (Some instr) in
+      let suits = meant_suits side.arch (side.base state) s instr in (
+        λ h. (first_of go (tested r w touch) h, data_passes r w touch m.accesses suits covers (last_of go (tested r w touch) h)),
+        λ k. both go (tested r w touch) k.0 (data_passed r w touch m.accesses suits covers k.1),
+      )
+
+  fetch_is : (s : RegisterState) (touch : Touch) (at : ℕ) (width : Width) → Fetch at width ≡ next_fetch s → touched_bytes touch ≡ access_bytes (Fetch at width)
+      → (list_all (side.is_private state false true) (touched_bytes touch) ≡ true) ↔ ReachesPrivate side state (next_fetch s)
+  fetch_is s touch at width e bytes =
+      let p = side.is_private state false true in (
+        λ h. subst (ReachesPrivate side state) e (each_of p (access_bytes (Fetch at width)) (subst (λ (l : List ℕ). list_all p l ≡ true) bytes h)),
+        λ k. subst (λ (l : List ℕ). list_all p l ≡ true) (sym bytes) (all_of p (access_bytes (Fetch at width)) (subst (ReachesPrivate side state) (sym e) k)),
+      )
+
+  stays_if : (memory : MemoryMachine S) (s : RegisterState) (instr : Instr) → Some instr ≡ (fetched memory side.arch s state).instr → ReachesPrivate side state (next_fetch s)
+      → InstrReaches side state s instr ↔ StaysPrivate memory side s state
+  stays_if memory s instr e fetch = (
+    λ h. record {
+      fetch = fetch;
+      kind = subst (λ (i : Option Instr). may_go_ahead side.arch i ≡ true) e h.0;
+      accesses = subst (λ (i : Option Instr). AllReachPrivate side state (data_accesses side.arch (side.base state) s i)) e h.1;
+    },
+    λ k. (
+      subst (λ (i : Option Instr). may_go_ahead side.arch i ≡ true) (sym e) k.kind,
+      subst (λ (i : Option Instr). AllReachPrivate side state (data_accesses side.arch (side.base state) s i)) (sym e) k.accesses,
+    ),
+  )
+
+  stays_not : (memory : MemoryMachine S) (s : RegisterState) → None ≡ (fetched memory side.arch s state).instr → StaysPrivate memory side s state → ⊥
+  stays_not memory s e k = true≢false (sym (subst (λ (i : Option Instr). may_go_ahead side.arch i ≡ true) (sym e) k.kind))
+
+-- ---- in the machine
+
+pub instr_stays : (s : MachineState) (proc : Proc) (instr : Instr) (touch : Touch) → IsFootprint s proc instr touch
+    → ((may_go_ahead (architecture_of proc) (Some instr) && data_private s proc (reads (equivalent instr)) (writes (equivalent instr)) touch) ≡ true) ↔ InstrStaysPrivate s proc instr
+instr_stays s Nine instr touch is =
+    let r = nine_reach (tick_of s.nine.processor) s in
+    instr_is nine_side r s.nine.processor.registers instr touch (is (nine_side.base r))
+instr_stays s Seven instr touch is =
+    let r = seven_reach (tick_of s.seven.processor) s in
+    instr_is seven_side r s.seven.processor.registers instr touch (is (seven_side.base r))
+
+pub fetch_stays : (s : MachineState) (proc : Proc) (touch : Touch) (at : ℕ) (width : Width) → Fetch at width ≡ next_fetch (processor_of s proc).registers
+    → touched_bytes touch ≡ access_bytes (Fetch at width) → (list_all (is_private_to s proc false true) (touched_bytes touch) ≡ true) ↔ FetchStaysPrivate s proc
+fetch_stays s Nine touch at width e bytes = fetch_is nine_side (nine_reach (tick_of s.nine.processor) s) s.nine.processor.registers touch at width e bytes
+fetch_stays s Seven touch at width e bytes = fetch_is seven_side (seven_reach (tick_of s.seven.processor) s) s.seven.processor.registers touch at width e bytes
+
+pub stays_by_instr : (s : MachineState) (proc : Proc) (instr : Instr) → Some instr ≡ instr_at s proc → FetchStaysPrivate s proc
+    → InstrStaysPrivate s proc instr ↔ ProcessorStaysPrivate s proc
+stays_by_instr s Nine instr e fetch = stays_if nine_side (nine_reach (tick_of s.nine.processor) s) nine_memory s.nine.processor.registers instr e fetch
+stays_by_instr s Seven instr e fetch = stays_if seven_side (seven_reach (tick_of s.seven.processor) s) seven_memory s.seven.processor.registers instr e fetch
+
+pub none_stays : (s : MachineState) (proc : Proc) → None ≡ instr_at s proc → ProcessorStaysPrivate s proc → ⊥
+none_stays s Nine e k = stays_not nine_side (nine_reach (tick_of s.nine.processor) s) nine_memory s.nine.processor.registers e k
+none_stays s Seven e k = stays_not seven_side (seven_reach (tick_of s.seven.processor) s) seven_memory s.seven.processor.registers e k
+
+pub fetch_of_stays : (s : MachineState) (proc : Proc) → ProcessorStaysPrivate s proc → FetchStaysPrivate s proc
+fetch_of_stays s Nine k = k.fetch
+fetch_of_stays s Seven k = k.fetch
+
+-- what is fetched, decoded
+abbrev fetched_by : {S : Type 0} → MemoryMachine S → Arch → RegisterState → S → Bool → Option Instr
+fetched_by memory arch r state b = (if b then fetched_half memory arch r state else fetched_word memory arch r state).instr
+
+half_at : (s : MachineState) (proc : Proc) → is_thumb (processor_of s proc).registers ≡ true
+    → decoded_thumb (architecture_of proc) (fetch_of s proc (processor_of s proc).registers.pc Half % 2 ^ 16) ≡ instr_at s proc
+half_at s Nine h = ap (fetched_by nine_memory V5 s.nine.processor.registers (nine_reach (tick_of s.nine.processor) s)) (sym h)
+half_at s Seven h = ap (fetched_by seven_memory V4 s.seven.processor.registers (seven_reach (tick_of s.seven.processor) s)) (sym h)
+
+word_at : (s : MachineState) (proc : Proc) → is_thumb (processor_of s proc).registers ≡ false
+    → decoded_arm (architecture_of proc) (fetch_of s proc (processor_of s proc).registers.pc Word) ≡ instr_at s proc
+word_at s Nine h = ap (fetched_by nine_memory V5 s.nine.processor.registers (nine_reach (tick_of s.nine.processor) s)) (sym h)
+word_at s Seven h = ap (fetched_by seven_memory V4 s.seven.processor.registers (seven_reach (tick_of s.seven.processor) s)) (sym h)
+
+pub half_is : (s : MachineState) (proc : Proc) (r : RegisterState) (half : ℕ) (instr : Option Instr) → r ≡ (processor_of s proc).registers → is_thumb r ≡ true
+    → half ≡ fetch_of s proc r.pc Half → instr ≡ decoded_thumb (architecture_of proc) (half % 2 ^ 16) → instr ≡ instr_at s proc
+half_is s proc r half instr same thumb got is =
+    is ∙ ap (λ (n : ℕ). decoded_thumb (architecture_of proc) (n % 2 ^ 16)) (got ∙ ap (λ (x : RegisterState). fetch_of s proc x.pc Half) same)
+    ∙ half_at s proc (ap (λ (x : RegisterState). is_thumb x) (sym same) ∙ thumb)
+
+pub word_is : (s : MachineState) (proc : Proc) (r : RegisterState) (word : ℕ) (instr : Option Instr) → r ≡ (processor_of s proc).registers → is_thumb r ≡ false
+    → word ≡ fetch_of s proc r.pc Word → instr ≡ decoded_arm (architecture_of proc) word → instr ≡ instr_at s proc
+word_is s proc r word instr same arm got is =
+    is ∙ ap (λ (n : ℕ). decoded_arm (architecture_of proc) n) (got ∙ ap (λ (x : RegisterState). fetch_of s proc x.pc Word) same)
+    ∙ word_at s proc (ap (λ (x : RegisterState). is_thumb x) (sym same) ∙ arm)
+
+-- a footprint by the core's registers and architecture
+pub footprint_as : (s : MachineState) (proc : Proc) (instr : Instr) (touch : Touch) (arch : Arch) (r : RegisterState) → arch ≡ architecture_of proc
+    → r ≡ (processor_of s proc).registers → ((base : ℕ) → Covers touch (meaning arch base r instr).accesses) → IsFootprint s proc instr touch
+footprint_as s proc instr touch arch r a e covers base =
+    subst (λ (x : RegisterState). Covers touch (meaning (architecture_of proc) base x instr).accesses) e
+    (subst (λ (x : Arch). Covers touch (meaning x base r instr).accesses) a (covers base))

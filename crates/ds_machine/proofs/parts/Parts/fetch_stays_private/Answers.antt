@@ -1,0 +1,13 @@
+use Rattle.std.proofs.Common.{ℕ, ◌≡◌, ◌↔◌, ◌∙◌, Bool, true, ap, sym, subst}
+use Rattle.ds_base.specs.Accesses.{Fetch}
+use Rattle.ds_machine.specs.Private.{next_fetch}
+use Rattle.ds_machine.specs.States.{ProcessorState}
+use Rattle.ds_machine.specs.Touching.{FetchStaysPrivate}
+use Rattle.ds_machine.proofs.PrivateTests.{fetch_stays}
+use Rattle.ds_machine.proofs.parts.Parts.fetch_stays_private.Goals as goal
+
+pub returns : goal.returns
+returns c =
+    subst (λ (b : Bool). (b ≡ true) ↔ FetchStaysPrivate c.args.self.now c.args.proc) (sym c.is_touch_private.ensures)
+    (fetch_stays c.args.self.now c.args.proc c.access_touch.result c.pc.result c.width_at.result
+    (ap (λ (at : ℕ). Fetch at c.width_at.result) c.pc.ensures ∙ c.width_at.ensures ∙ ap (λ (p : ProcessorState). next_fetch p.registers) c.processor.ensures) c.access_touch.ensures.bytes)

@@ -1,0 +1,12 @@
+use Rattle.std.proofs.Common.{◌≡◌, ◌∙◌, arith}
+use Rattle.ds_machine.proofs.FenceFirsts.{least_where, rank_where}
+use Rattle.ds_machine.proofs.parts.Parts.is_first.Goals as goal
+
+pub returns : goal.returns
+returns c =
+    let s = c.args.self.now in
+    let rank = c.rank_of.ensures in (
+      λ h. least_where s c.args.proc c.due.result c.args.tick c.due.ensures c.requires
+          ((let e : c.due.result.rank ≡ c.rank_of.result = grind (arith, h) in e) ∙ rank),
+      λ k. (let e = rank_where s c.args.proc c.due.result c.args.tick c.due.ensures k in grind (arith, e, rank)),
+    )

@@ -1,0 +1,23 @@
+use Rattle.std.proofs.Common.{ℕ, ◌∙◌, ◌%◌, ◌^◌, ap, sym}
+use Rattle.ds_base.specs.declared.memories.Width.TheVariants.{Half, Word}
+use Rattle.ds_base.specs.declared.processors.Arch.{Arch}
+use Rattle.arm_words.specs.ArmTable.{decoded_arm}
+use Rattle.arm_words.specs.ThumbTable.{decoded_thumb}
+use Rattle.ds_machine.specs.Observed.{fetch_of}
+use Rattle.ds_machine.specs.States.{ProcessorState}
+use Rattle.ds_machine.proofs.PrivateTests.{half_is, word_is}
+use Rattle.ds_machine.proofs.parts.Parts.next_instr.Goals as goal
+
+pub returns-then-is_thumb-clause-instr : goal.returns-then-is_thumb-clause-instr
+returns-then-is_thumb-clause-instr c =
+    let s = c.args.self.now in
+    half_is s c.args.proc c.processor.result.now.core.registers c.fetch_of.result c.decoded_half.result.instr (ap (λ (p : ProcessorState). p.registers) c.processor.ensures)
+    (sym c.is_thumb.ensures ∙ c.if-is_thumb.true) (c.fetch_of.ensures ∙ ap (λ (at : ℕ). fetch_of s c.args.proc at Half) c.pc-at.ensures)
+    (c.decoded_half.ensures.instr ∙ ap (λ (a : Arch). decoded_thumb a (c.fetch_of.result % 2 ^ 16)) c.architecture-arch.ensures)
+
+pub returns-clause-instr : goal.returns-clause-instr
+returns-clause-instr c =
+    let s = c.args.self.now in
+    word_is s c.args.proc c.processor.result.now.core.registers c.fetch_of-2.result c.decoded_word.result.instr (ap (λ (p : ProcessorState). p.registers) c.processor.ensures)
+    (sym c.is_thumb.ensures ∙ c.if-is_thumb.false) (c.fetch_of-2.ensures ∙ ap (λ (at : ℕ). fetch_of s c.args.proc at Word) c.pc-at.ensures)
+    (c.decoded_word.ensures.instr ∙ ap (λ (a : Arch). decoded_arm a c.fetch_of-2.result) c.architecture-arch.ensures)

@@ -1,0 +1,183 @@
+use Rattle.std.specs.Prelude.{ℕ, ◌↔◌, ◌-◌, ◌≡◌, ◌<◌, ◌≤◌, ◌^◌, ◌==◌, ◌⊎◌, ◌&&◌, ◌||◌, not, Bool, true, false, if◌then◌else◌, Contains, List, [], ◌∷◌, Option, Some, None}
+use Rattle.ds_base.specs.Accesses.{Access, Fetch, MemoryMachine, Read, Write}
+use Rattle.ds_base.specs.Bits.{bit, bits}
+use Rattle.ds_base.specs.declared.left_out.LeftOut.{LeftOut}
+use Rattle.ds_base.specs.declared.memories.Width.TheVariants.{Half, Word}
+use Rattle.ds_base.specs.declared.processors.Arch.{Arch}
+use Rattle.ds_base.specs.declared.processors.Proc.{Proc}
+use Rattle.ds_base.specs.declared.processors.Proc.TheVariants.{Nine, Seven}
+use Rattle.ds_base.specs.declared.ticks.Tick.{Tick}
+use Rattle.arm_words.specs.declared.instructions.Instr.{Instr}
+use Rattle.arm_words.specs.declared.instructions.Instr.TheVariants.{Bkpt, Coprocessor, Swi, ThumbBkpt, ThumbSwi}
+use Rattle.arm_core.specs.Footprints.{access_bytes}
+use Rattle.arm_core.specs.Meanings.{meaning}
+use Rattle.arm_core.specs.Registers.{RegisterState, is_thumb}
+use Rattle.arm_core.specs.Steps.{enters, fetched}
+use Rattle.arm_core.specs.Undefined.{is_undefined}
+use Rattle.ds_map.specs.Views.{nine_memory, seven_memory}
+use Rattle.ds_ports.specs.Io.{io_of}
+use Rattle.ds_runs.specs.Actors.{actor_of}
+use Rattle.ds_runs.specs.Runs.{IsLeast, Ending, Makes, Runs, due_at}
+use Rattle.ds_timers.specs.Irqs.{IrqState}
+use Rattle.ds_machine.specs.Reference.{Fences, HasSoundParts, IsSound, Shown, dues_of, processor_due, reference, reference_step}
+use Rattle.ds_machine.specs.Sides.{SideOf, nine_side, seven_side}
+use Rattle.ds_machine.specs.States.{MachineState}
+use Rattle.ds_machine.specs.Steps.{is_blocked, line_of, nine_reach, processor_of, seven_reach, tick_of}
+
+-- Which steps a processor may take before its turn: those that reach what it alone reaches, while it hears of nobody. Our choice; a console's turn rests on it.
+
+-- ---- over what a processor reaches
+
+-- each byte of an access lies in its private places, as an access of that kind reaches it
+abbrev pub ReachesPrivate : {S : Type 0} → SideOf S → S → Access → Type 0
+ReachesPrivate side state (Fetch at width) = (byte : ℕ) → Contains (access_bytes (Fetch at width)) byte → side.is_private state false true byte ≡ true
+ReachesPrivate side state (Read at width) = (byte : ℕ) → Contains (access_bytes (Read at width)) byte → side.is_private state false false byte ≡ true
+ReachesPrivate side state (Write at width value) = (byte : ℕ) → Contains (access_bytes (Write at width value)) byte → side.is_private state true false byte ≡ true
+
+abbrev pub AllReachPrivate : {S : Type 0} → SideOf S → S → List Access → Type 0
+AllReachPrivate side state [] = Unit {0}
+AllReachPrivate side state (access ∷ rest) = ReachesPrivate side state access × AllReachPrivate side state rest
+
+-- what enters an exception or changes CP15, whatever its condition: SWI, BKPT and MCR
+abbrev pub stays_behind : Instr → Bool
+stays_behind (Swi cond immed) = true
+stays_behind (ThumbSwi immed) = true
+stays_behind (Bkpt immed) = true
+stays_behind (ThumbBkpt immed) = true
+stays_behind (Coprocessor cond load op1 crn rd cp op2 crm) = not load
+stays_behind _ = false
+
+-- an instruction of another kind, which isn't undefined
+abbrev pub may_go_ahead : Arch → Option Instr → Bool
+may_go_ahead arch None = false
+may_go_ahead arch (Some instr) = not (is_undefined arch (Some instr)) && not (stays_behind instr)
+
+-- the accesses of data that it makes
+abbrev pub data_accesses : Arch → ℕ → RegisterState → Option Instr → List Access
+data_accesses arch base s None = []
+data_accesses arch base s (Some instr) = (meaning arch base s instr).accesses
+
+-- what is fetched at r15
+abbrev pub next_fetch : RegisterState → Access
+next_fetch s = Fetch s.pc (if is_thumb s then Half else Word)
+
+-- a step that enters no interrupt reaches private places alone: its fetch, and each access of its instruction, which is of such a kind
+pub record StaysPrivate {S : Type 0} (memory : MemoryMachine S) (side : SideOf S) (s : RegisterState) (state : S) : Type 0 where
+  pub fetch : ReachesPrivate side state (next_fetch s)
+  pub kind : may_go_ahead side.arch (fetched memory side.arch s state).instr ≡ true
+  pub accesses : AllReachPrivate side state (data_accesses side.arch (side.base state) s (fetched memory side.arch s state).instr)
+
+-- ---- in the machine
+
+abbrev pub ProcessorStaysPrivate : MachineState → Proc → Type 0
+ProcessorStaysPrivate s Nine = StaysPrivate nine_memory nine_side s.nine.processor.registers (nine_reach (tick_of s.nine.processor) s)
+ProcessorStaysPrivate s Seven = StaysPrivate seven_memory seven_side s.seven.processor.registers (seven_reach (tick_of s.seven.processor) s)
+
+-- nothing that another actor raises reaches a processor: its I flag is set, or its IME is 0, or its IE has none of the interrupts that the other processor
+-- raises, bits 16 to 18 (GBATEK, "DS Interrupts": IPC sync, send FIFO empty, receive FIFO not empty)
+abbrev pub hears_nobody : RegisterState → IrqState → Bool
+hears_nobody s irq = bit 7 s.cpsr || (not irq.ime || bits 16 3 irq.ie == 0)
+
+abbrev pub is_deaf : MachineState → Proc → Bool
+is_deaf s proc = hears_nobody (processor_of s proc).registers (io_of s.io proc).irq
+
+-- a processor's next step may be taken before its turn, but for when it is due: it is due, its interrupt line is down, it is deaf, and it stays in private places
+pub record IsPrivate (s : MachineState) (proc : Proc) : Type 0 where
+  pub free : is_blocked s proc ≡ false
+  pub down : line_of s proc ≡ false
+  pub deaf : is_deaf s proc ≡ true
+  pub own : ProcessorStaysPrivate s proc
+
+-- So it stays while others step, but for the line, which others may raise while the I flag is set.
+pub record IsHarmless (s : MachineState) (proc : Proc) : Type 0 where
+  pub free : is_blocked s proc ≡ false
+  pub quiet : enters (line_of s proc) (processor_of s proc).registers ≡ false
+  pub deaf : is_deaf s proc ≡ true
+  pub own : ProcessorStaysPrivate s proc
+
+-- the fence of a processor: the least tick at which one is due of those that may halt it, wake it or make it wait
+pub record IsFence (s : MachineState) (proc : Proc) (fence : Tick) : Type 0 where
+  pub rank : ℕ
+  pub there : due_at (dues_of s) rank ≡ Some fence
+  pub fences : Fences (actor_of rank) proc
+  pub least : (other : ℕ) (at : Tick) → due_at (dues_of s) other ≡ Some at → Fences (actor_of other) proc → fence.0 ≤ at.0
+
+-- a tick is below it
+abbrev pub IsBelowFence : MachineState → Proc → Tick → Type 0
+IsBelowFence s proc tick = (rank : ℕ) (at : Tick) → due_at (dues_of s) rank ≡ Some at → Fences (actor_of rank) proc → tick.0 < at.0
+
+-- a processor's next step may be taken before its turn
+pub record IsAhead (s : MachineState) (proc : Proc) : Type 0 where
+  pub private : IsPrivate s proc
+  pub below : IsBelowFence s proc (tick_of (processor_of s proc))
+
+-- a processor's rank
+abbrev pub rank_of : Proc → ℕ
+rank_of Nine = 22
+rank_of Seven = 23
+
+-- it is the least actor, and due below a limit: so a turn of its begins
+pub record IsLeastBelow (until : ℕ) (s : MachineState) (proc : Proc) : Type 0 where
+  pub tick : Tick
+  pub least : IsLeast (dues_of s) tick (rank_of proc)
+  pub below : tick.0 < until
+
+-- its next step belongs to its turn with a limit: it is due below the limit, and is the least step, or may be taken before its turn
+pub record BelongsToTurn (until : ℕ) (s : MachineState) (proc : Proc) : Type 0 where
+  pub tick : Tick
+  pub due : processor_due s proc ≡ Some tick
+  pub below : tick.0 < until
+  pub goes : IsLeast (dues_of s) tick (rank_of proc) ⊎ IsAhead s proc
+
+-- a processor took some steps of its turn, one after another
+pub data TakesSteps (until : ℕ) (proc : Proc) : MachineState → MachineState → Type 0 where
+  none : (start : MachineState) → TakesSteps until proc start start
+  more : (start before next : MachineState) → TakesSteps until proc start before → BelongsToTurn until before proc
+      → reference_step (rank_of proc) before ≡ Makes next [] → TakesSteps until proc start next
+
+-- an actor may take the next step: it is due at a tick that a run may come to, and is the least; or it is a processor that may step before its turn, on a machine whose
+-- units are settled and on which nobody is to wake, as they are unless a step stopped
+pub record MayStep (s : MachineState) (rank : ℕ) : Type 0 where
+  pub tick : Tick
+  pub due : due_at (dues_of s) rank ≡ Some tick
+  pub early : tick.0 ≤ 2 ^ 56
+  pub may : IsLeast (dues_of s) tick rank ⊎ ((proc : Proc) × (rank ≡ rank_of proc) × IsAhead s proc × IsSound s)
+
+-- ---- how many steps a processor may still take below a limit: fewer than ticks are left to it
+
+-- the ticks that are left below a limit from a due tick on
+abbrev pub ticks_left : ℕ → Option Tick → ℕ
+ticks_left until None = 0
+ticks_left until (Some tick) = until - tick.0
+
+-- those of a processor: a loop over its steps counts them down
+abbrev pub own_remaining : ℕ → MachineState → Proc → ℕ
+own_remaining until s proc = ticks_left until (processor_due s proc)
+
+-- a step of its turn that is taken leaves fewer
+abbrev pub TurnStepsFall : Type 0
+TurnStepsFall = (until : ℕ) (s next : MachineState) (proc : Proc) (outs : List Shown) → HasSoundParts s → BelongsToTurn until s proc
+    → reference_step (rank_of proc) s ≡ Makes next outs → own_remaining until next proc < own_remaining until s proc
+
+-- ---- what running ahead comes to
+
+-- a processor's step at a tick is one that others leave as it is, whoever steps first: it is harmless and below the processor's fence, and nothing is to be settled, or to be woken
+pub record RunsAhead (proc : Proc) (s : MachineState) (t : Tick) : Type 0 where
+  pub sound : IsSound s
+  pub harmless : IsHarmless s proc
+  pub tick : t ≡ tick_of (processor_of s proc)
+  pub below : IsBelowFence s proc t
+
+-- a step that may be taken before its turn is taken, puts out nothing, and leaves a sound machine
+pub record StepsAlone (s : MachineState) (proc : Proc) : Type 0 where
+  pub next : MachineState
+  pub makes : reference_step (rank_of proc) s ≡ Makes next []
+  pub sound : IsSound next
+
+abbrev pub AheadSteps : Type 0
+AheadSteps = (s : MachineState) (proc : Proc) → IsSound s → IsAhead s proc → StepsAlone s proc
+
+-- taken before its turn, it changes neither where a run to a later tick ends nor what that run puts out
+abbrev pub AheadRuns : Type 0
+AheadRuns = (s next : MachineState) (proc : Proc) (limit : ℕ) → IsSound s → IsAhead s proc → (processor_of s proc).due < limit → reference_step (rank_of proc) s ≡ Makes next []
+    → (end : Ending MachineState LeftOut) (outs : List Shown) → Runs reference limit end s outs ↔ Runs reference limit end next outs

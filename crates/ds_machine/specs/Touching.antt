@@ -1,0 +1,120 @@
+use Rattle.std.specs.Prelude.{◌≡◌, ◌/◌, ◌==◌, ◌||◌, ◌&&◌, not, ℕ, Bool, true, false, Option, Some, None}
+use Rattle.std.specs.List.{list_all}
+use Rattle.ds_base.specs.Accesses.{MemoryMachine}
+use Rattle.ds_base.specs.Bits.{bits}
+use Rattle.ds_base.specs.Processors.{architecture_of}
+use Rattle.ds_base.specs.declared.processors.Arch.TheVariants.{V4, V5}
+use Rattle.ds_base.specs.declared.processors.Proc.{Proc}
+use Rattle.ds_base.specs.declared.processors.Proc.TheVariants.{Nine, Seven}
+use Rattle.arm_words.specs.declared.instructions.Instr.{Instr}
+use Rattle.arm_words.specs.declared.instructions.Instr.TheVariants.{DoubleTransfer, HalfTransfer, Multiple, Swap, ThumbLoadLiteral, Transfer}
+use Rattle.arm_words.specs.declared.operations.HalfOp.{HalfOp}
+use Rattle.arm_words.specs.declared.operations.HalfOp.TheVariants.{Strh}
+use Rattle.arm_core.specs.Footprints.{Covers, touched_bytes}
+use Rattle.arm_core.specs.Meanings.{meaning}
+use Rattle.arm_core.specs.Registers.{RegisterState}
+use Rattle.arm_core.specs.Steps.{fetched}
+use Rattle.arm_core.specs.declared.touches.Touch.{Touch}
+use Rattle.arm_ops.specs.declared.operations.DataAccess.{DataAccess}
+use Rattle.arm_ops.specs.declared.operations.TransferOp.{TransferOp}
+use Rattle.arm_ops.specs.declared.operations.TransferOp.TheVariants.{WordOrByte, HalfOrSigned}
+use Rattle.ds_base.specs.declared.ticks.Tick.{Tick}
+use Rattle.ds_map.specs.Views.{nine_memory, seven_memory}
+use Rattle.ds_timers.specs.Irqs.{IrqState}
+use Rattle.ds_machine.specs.Private.{AllReachPrivate, IsBelowFence, ReachesPrivate, data_accesses, is_deaf, may_go_ahead, next_fetch}
+use Rattle.ds_machine.specs.Sides.{SideOf, is_private_to_seven, nine_side, seven_side}
+use Rattle.ds_machine.specs.States.{MachineState}
+use Rattle.ds_machine.specs.Steps.{line_of, nine_reach, processor_of, seven_reach, tick_of}
+
+-- What the code says of private places. No public clause speaks of it.
+
+-- the byte at an address lies in a processor's private places, as a write, a fetch, or else a read reaches it
+abbrev pub is_private_to : MachineState → Proc → (writing fetching : Bool) → ℕ → Bool
+is_private_to s Nine writing fetching at = nine_side.is_private (nine_reach (tick_of s.nine.processor) s) writing fetching at
+is_private_to s Seven writing fetching at = is_private_to_seven at
+
+-- the instruction that is fetched at r15, if it is one
+abbrev pub instr_at : MachineState → Proc → Option Instr
+instr_at s Nine = (fetched nine_memory V5 s.nine.processor.registers (nine_reach (tick_of s.nine.processor) s)).instr
+instr_at s Seven = (fetched seven_memory V4 s.seven.processor.registers (seven_reach (tick_of s.seven.processor) s)).instr
+
+-- which accesses of data an instruction in its form of ARM code makes, if it makes any
+abbrev pub half_writes : HalfOp → Bool
+half_writes Strh = true
+half_writes _ = false
+
+abbrev pub reads : Instr → Bool
+reads (Transfer cond pre up byte write_back load rn rd offset) = load
+reads (HalfTransfer cond op pre up write_back rn rd offset) = not (half_writes op)
+reads (DoubleTransfer cond store pre up write_back rn rd offset) = not store
+reads (Multiple cond pre up user write_back load rn list) = load
+reads (Swap cond byte rd rm rn) = true
+reads (ThumbLoadLiteral rd immed) = true
+reads _ = false
+
+abbrev pub writes : Instr → Bool
+writes (Transfer cond pre up byte write_back load rn rd offset) = not load
+writes (HalfTransfer cond op pre up write_back rn rd offset) = half_writes op
+writes (DoubleTransfer cond store pre up write_back rn rd offset) = store
+writes (Multiple cond pre up user write_back load rn list) = not load
+writes (Swap cond byte rd rm rn) = true
+writes _ = false
+
+-- a touch has exactly the bytes that an instruction of a processor's reaches
+abbrev pub IsFootprint : MachineState → Proc → Instr → Touch → Type 0
+IsFootprint s proc instr touch = (base : ℕ) → Covers touch (meaning (architecture_of proc) base (processor_of s proc).registers instr).accesses
+
+-- all of a touch's bytes lie in private places, as reads or as writes reach them, where there are any
+abbrev pub all_private : MachineState → Proc → (writing fetching : Bool) → Touch → Bool
+all_private s proc writing fetching touch = list_all (is_private_to s proc writing fetching) (touched_bytes touch)
+
+abbrev pub data_private : MachineState → Proc → (reads writes : Bool) → Touch → Bool
+data_private s proc reads writes touch = (not reads || all_private s proc false false touch) && (not writes || all_private s proc true false touch)
+
+-- what is fetched at r15 lies in private places; and an instruction is of a kind that may be taken before its turn, and its accesses of data stay there
+abbrev pub FetchStaysPrivate : MachineState → Proc → Type 0
+FetchStaysPrivate s Nine = ReachesPrivate nine_side (nine_reach (tick_of s.nine.processor) s) (next_fetch s.nine.processor.registers)
+FetchStaysPrivate s Seven = ReachesPrivate seven_side (seven_reach (tick_of s.seven.processor) s) (next_fetch s.seven.processor.registers)
+
+abbrev pub InstrReaches : {S : Type 0} → SideOf S → S → RegisterState → Instr → Type 0
+InstrReaches side state s instr = (may_go_ahead side.arch (Some instr) ≡ true) × AllReachPrivate side state (data_accesses side.arch (side.base state) s (Some instr))
+
+abbrev pub InstrStaysPrivate : MachineState → Proc → Instr → Type 0
+InstrStaysPrivate s Nine instr = InstrReaches nine_side (nine_reach (tick_of s.nine.processor) s) s.nine.processor.registers instr
+InstrStaysPrivate s Seven instr = InstrReaches seven_side (seven_reach (tick_of s.seven.processor) s) s.seven.processor.registers instr
+
+-- a processor's IME is 0, or its IE has none of the interrupts that the other processor raises
+abbrev pub is_told_nothing : IrqState → Bool
+is_told_nothing irq = not irq.ime || bits 16 3 irq.ie == 0
+
+-- ---- by decoded operations
+
+-- the four bytes of a word that is aligned are private together
+pub record GoesByWords {S : Type 0} (side : SideOf S) : Type 0 where
+  pub same : (state : S) (writing fetching : Bool) (a b : ℕ) → a / 4 ≡ b / 4 → side.is_private state writing fetching a ≡ side.is_private state writing fetching b
+
+-- an access writes
+abbrev pub stores : TransferOp → Bool
+stores (WordOrByte load byte) = not load
+stores (HalfOrSigned op) = half_writes op
+
+-- it is to a private place, if there is one
+abbrev pub access_stays : {S : Type 0} → SideOf S → S → Option DataAccess → Bool
+access_stays side state None = true
+access_stays side state (Some access) = side.is_private state (stores access.op) false access.to.address
+
+-- what is fetched is of a kind that may be taken before its turn, and its accesses of data stay in private places
+pub record DataStays {S : Type 0} (memory : MemoryMachine S) (side : SideOf S) (s : RegisterState) (state : S) : Type 0 where
+  pub kind : may_go_ahead side.arch (fetched memory side.arch s state).instr ≡ true
+  pub accesses : AllReachPrivate side state (data_accesses side.arch (side.base state) s (fetched memory side.arch s state).instr)
+
+abbrev pub DataStaysPrivate : Tick → MachineState → Proc → Type 0
+DataStaysPrivate now s Nine = DataStays nine_memory nine_side s.nine.processor.registers (nine_reach now s)
+DataStaysPrivate now s Seven = DataStays seven_memory seven_side s.seven.processor.registers (seven_reach now s)
+
+-- a processor's step at a tick may be taken before its turn, but for what it does
+pub record MayBeAhead (tick : Tick) (s : MachineState) (proc : Proc) : Type 0 where
+  pub fetch : FetchStaysPrivate s proc
+  pub down : line_of s proc ≡ false
+  pub deaf : is_deaf s proc ≡ true
+  pub below : IsBelowFence s proc tick

@@ -1,0 +1,122 @@
+//! When what may halt a processor, wake it or make it wait is due, and what belongs to a processor's turn.
+
+ghost use Rattle.std.specs.Prelude.{◌≡◌, ◌↔◌, ◌<◌, ◌^◌, Option, Some, true};
+ghost use Rattle.ds_base.specs.declared.processors.Proc.TheVariants.{Nine, Seven};
+ghost use Rattle.ds_base.specs.declared.ticks.Due.{Due};
+ghost use Rattle.ds_machine.specs.FenceTicks.{channel_dues, fence_dues, timer_dues};
+ghost use Rattle.ds_machine.specs.Private as private;
+ghost use Rattle.ds_machine.specs.Private.{BelongsToTurn, IsAhead, IsFence};
+ghost use Rattle.ds_machine.specs.Reference.{dues_of, keys_due, processor_due};
+ghost use Rattle.ds_runs.specs.Order as order;
+ghost use Rattle.ds_runs.specs.Order.{due_with_rank, first_from};
+ghost use Rattle.ds_runs.specs.Runs.{IsLeast};
+ghost use Rattle.video2d.specs.Scans.{scan_due_tick};
+
+use crate::answers::Private;
+use crate::parts::Parts;
+use ds_base::{Due, Proc, Tick};
+use ds_runs::{Actor, earlier, earlier_than, entry, later_than};
+
+/// A processor's rank.
+#[inline(always)]
+fn rank_of(proc: Proc) -> u8
+    ensures { result ≡ private.rank_of proc }
+{
+    match proc {
+        Proc::Nine => 22,
+        Proc::Seven => 23,
+    }
+}
+
+impl Parts {
+    /// The first of a processor's DMA channels that is due, whose ranks begin at one.
+    fn first_channel(&self, proc: Proc, rank: u8) -> Option<Due>
+        requires { rank < 2 ^ 6 }
+        ensures { result ≡ first_from rank (channel_dues self.now.io proc) }
+    {
+        let mut first = entry(rank + 3, self.io.io_due(Actor::Dma { proc, channel: 3 }));
+        first = earlier(
+            entry(rank + 2, self.io.io_due(Actor::Dma { proc, channel: 2 })),
+            first,
+        );
+        first = earlier(
+            entry(rank + 1, self.io.io_due(Actor::Dma { proc, channel: 1 })),
+            first,
+        );
+        earlier(
+            entry(rank, self.io.io_due(Actor::Dma { proc, channel: 0 })),
+            first,
+        )
+    }
+
+    /// The first of the key script, the display, a processor's timers, whose ranks begin at one, and some others.
+    fn first_before(&self, proc: Proc, rank: u8, others: Option<Due>) -> Due
+        requires { rank < 2 ^ 6 }
+        ensures { Some result ≡ order.earlier (due_with_rank 0 (keys_due self.now.keys)) (order.earlier (due_with_rank 1 (Some (scan_due_tick self.now.io.video.scan)))
+            (order.earlier (first_from rank (timer_dues self.now.io proc)) others)) }
+    {
+        let first = earlier(self.io.processor(proc).first_timer(rank), others);
+        let video = Due {
+            tick: self.io.video().due(),
+            rank: 1,
+        };
+        later_than(entry(0, self.script.due()), earlier_than(video, first))
+    }
+
+    /// The first of those that may halt ARM9, wake it or make it wait.
+    fn first_fence_of_nine(&self) -> Due
+        ensures { Some result ≡ first_from 0 (fence_dues self.now Nine) }
+    {
+        let geometry = entry(12, self.due_by(Actor::Geometry));
+        let others = earlier(geometry, self.first_channel(Proc::Nine, 14));
+        self.first_before(Proc::Nine, 2, others)
+    }
+
+    /// The first of those that may halt ARM7 or wake it.
+    fn first_fence_of_seven(&self) -> Due
+        ensures { Some result ≡ first_from 0 (fence_dues self.now Seven) }
+    {
+        let others = self.first_channel(Proc::Seven, 18);
+        self.first_before(Proc::Seven, 6, others)
+    }
+
+    /// The least tick at which one is due of those that may halt a processor, wake it or make it wait.
+    #[inline(never)]
+    pub fn fence(&self, proc: Proc) -> Tick
+        ensures { IsFence self.now proc result }
+    {
+        match proc {
+            Proc::Nine => self.first_fence_of_nine().tick,
+            Proc::Seven => self.first_fence_of_seven().tick,
+        }
+    }
+
+    /// Whether a processor is the actor that steps next.
+    fn is_first(&self, proc: Proc, tick: Tick) -> bool
+        requires { processor_due self.now proc ≡ Some tick }
+        ensures { (result ≡ true) ↔ IsLeast (dues_of self.now) tick (private.rank_of proc) }
+    {
+        let _ = tick;
+        self.due().rank == rank_of(proc)
+    }
+
+    /// Whether a processor's next step may be taken before its turn.
+    fn is_ahead(&self, proc: Proc, tick: Tick) -> bool
+        requires { processor_due self.now proc ≡ Some tick }
+        ensures { (result ≡ true) ↔ IsAhead self.now proc }
+    {
+        tick.0 < self.fence(proc).0 && matches!(self.touches(proc), Private::Yes)
+    }
+
+    /// Whether a processor's next step belongs to its turn with a limit: it is due below the limit, and is the least step, or may be taken before its turn.
+    pub fn belongs(&self, proc: Proc, until: Tick) -> bool
+        ensures { (result ≡ true) ↔ BelongsToTurn until.0 self.now proc }
+    {
+        match self.processor_due(proc) {
+            Some(tick) => {
+                tick.0 < until.0 && (self.is_first(proc, tick) || self.is_ahead(proc, tick))
+            }
+            None => false,
+        }
+    }
+}

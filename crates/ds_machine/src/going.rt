@@ -1,0 +1,209 @@
+//! The steps of the fast path.
+
+ghost use Rattle.std.specs.Prelude.{◌≡◌, ◌↔◌, ◌<◌, ◌≤◌, ◌^◌, ◌⊎◌, ℕ, Some, false, true, IfSome};
+ghost use Rattle.ds_ipc.specs.Ipcs.{other_proc};
+ghost use Rattle.ds_machine.specs.NextEvents.{least_kept, limit_by, IsNextEvent, TookStep};
+ghost use Rattle.ds_machine.specs.Private.{BelongsToTurn, IsBelowFence, IsLeastBelow, TakesSteps};
+ghost use Rattle.ds_machine.specs.Reference.{awake, step_by, stepped_of, HasCounted, HasSoundParts};
+ghost use Rattle.ds_machine.specs.Steps.{is_blocked, processor_of, tick_of};
+ghost use Rattle.ds_machine.specs.Touching.{DataStaysPrivate, FetchStaysPrivate, MayBeAhead};
+ghost use Rattle.ds_machine.specs.declared.answers.Done.TheVariants.{Made};
+ghost use Rattle.ds_machine.specs.declared.going.Gone.TheVariants as gone;
+
+use crate::next_events::NextEvent;
+use crate::parts::Parts;
+use ds_base::{Proc, Tick};
+use ds_runs::Actor;
+
+/// What came of trying a step of a processor's turn.
+#[derive(Clone, Copy, PartialEq, Eq)]
+pub enum Gone {
+    /// It was taken.
+    Took,
+    /// None belongs to the turn any more.
+    Over,
+    /// Neither is known here: the step isn't one of the fast path.
+    Unknown,
+}
+
+impl Parts {
+    /// A processor's step at its tick, where it is one of the fast path, and where it is ahead of its turn reaches private places alone. It costs, and changes no unit: so no
+    /// processor wakes, and what is kept stays.
+    #[inline(always)]
+    fn processor_fast(&mut self, next_event: NextEvent, proc: Proc, tick: Tick, ahead: bool) -> Gone
+        requires next_event { IsNextEvent next_event self.old }
+        requires sound { HasSoundParts self.old }
+        requires some { 0 < next_event.events_until.0 }
+        requires blocked { is_blocked self.old proc ≡ false }
+        requires tick { tick ≡ tick_of (processor_of self.old proc) }
+        requires early { tick.0 ≤ 2 ^ 56 }
+        requires counted { (processor_of self.old proc).steps ≤ 2 ^ 61 }
+        ensures over_same { result ≡ gone.Over → self.new ≡ self.old }
+        ensures unknown { result ≡ gone.Unknown → self.new ≡ self.old }
+        ensures made { (rank : ℕ) → result ≡ gone.Took → awake (Some tick) (step_by rank (Actor.Processor proc) self.old) ≡ stepped_of self.old Made self.new }
+        ensures stays { ahead ≡ true → result ≡ gone.Took → DataStaysPrivate tick self.old proc }
+        ensures over { result ≡ gone.Over → (ahead ≡ true) × (DataStaysPrivate tick self.old proc → ⊥) }
+        ensures next_event { IsNextEvent next_event self.new }
+        ensures io { self.new.io ≡ self.old.io }
+        ensures other { (processor_of self.new (other_proc proc)).due ≡ (processor_of self.old (other_proc proc)).due }
+    {
+        let fast = self.take_fast(proc, tick, next_event.line(proc), ahead);
+        if fast.clocks == 0 {
+            return if fast.leaves {
+                Gone::Over
+            } else {
+                Gone::Unknown
+            };
+        }
+        self.go_on(proc, fast.clocks, false);
+        Gone::Took
+    }
+
+    /// Whether what a processor fetches at r15 lies in private places.
+    #[inline(always)]
+    fn is_fetch_private(&self, proc: Proc) -> bool
+        ensures { (result ≡ true) ↔ FetchStaysPrivate self.now proc }
+    {
+        let at = self.processor(proc).core.registers.pc();
+        self.is_private(proc, at, false, true)
+    }
+
+    /// Whether a tick is below a processor's fence, which is asked for only from the first event of all on.
+    #[inline(always)]
+    fn is_below_fence(&self, next_event: NextEvent, proc: Proc, tick: Tick) -> bool
+        requires { IsNextEvent next_event self.now }
+        ensures { (result ≡ true) ↔ IsBelowFence self.now proc tick }
+    {
+        tick.0 < next_event.events_until.0 || tick.0 < self.fence(proc).0
+    }
+
+    /// Whether a processor's next step may be taken before its turn, but for what it does.
+    #[inline(always)]
+    fn may_be_ahead(&self, next_event: NextEvent, proc: Proc, tick: Tick) -> bool
+        requires { IsNextEvent next_event self.now }
+        ensures { (result ≡ true) ↔ MayBeAhead tick self.now proc }
+    {
+        self.is_fetch_private(proc)
+            && !next_event.line(proc)
+            && self.is_deaf(proc)
+            && self.is_below_fence(next_event, proc, tick)
+    }
+
+    /// Whether a processor's step that isn't the least belongs to its turn, but for what it does.
+    #[inline(always)]
+    fn may_go_on(&self, next_event: NextEvent, proc: Proc, until: Tick, tick: Tick) -> Gone
+        requires { IsNextEvent next_event self.now }
+        ensures over { result ≡ gone.Over → (until.0 ≤ tick.0) ⊎ ((0 < next_event.events_until.0) × (MayBeAhead tick self.now proc → ⊥)) }
+        ensures took { result ≡ gone.Took → (tick.0 < until.0) × (0 < next_event.events_until.0) × MayBeAhead tick self.now proc }
+    {
+        if until.0 <= tick.0 {
+            return Gone::Over;
+        }
+        if next_event.events_until.0 == 0 {
+            return Gone::Unknown;
+        }
+        if self.may_be_ahead(next_event, proc, tick) {
+            Gone::Took
+        } else {
+            Gone::Over
+        }
+    }
+
+    /// One step of a processor's turn, where it is one of the fast path; by the first tick at which it isn't the least any more.
+    #[inline(always)]
+    fn go_once(&mut self, next_event: NextEvent, proc: Proc, until: Tick, limit: u64) -> Gone
+        requires next_event { IsNextEvent next_event self.old }
+        requires parts { HasSoundParts self.old }
+        requires free { least_kept next_event proc ≡ 0 }
+        requires limit { limit ≡ limit_by next_event self.old proc until.0 }
+        requires early { until.0 ≤ 2 ^ 56 }
+        requires counted { HasCounted self.old }
+        ensures took { result ≡ gone.Took → TookStep until.0 proc self.old self.new }
+        ensures over { result ≡ gone.Over → BelongsToTurn until.0 self.new proc → ⊥ }
+        ensures over_same { result ≡ gone.Over → self.new ≡ self.old }
+        ensures unknown { result ≡ gone.Unknown → self.new ≡ self.old }
+        ensures next_event { IsNextEvent next_event self.new }
+    {
+        let due = self.processor(proc).due;
+        let ahead = limit <= due;
+        if ahead {
+            match self.may_go_on(next_event, proc, until, Tick(due)) {
+                Gone::Took => {}
+                Gone::Over => return Gone::Over,
+                Gone::Unknown => return Gone::Unknown,
+            }
+        }
+        self.processor_fast(next_event, proc, Tick(due), ahead)
+    }
+
+    /// A processor takes steps of its turn, while they are of the fast path. The answer is whether its turn is over; where it isn't known to be, the next step isn't one of the fast path.
+    #[inline(always)]
+    fn go_on_turn(&mut self, next_event: NextEvent, proc: Proc, until: Tick) -> bool
+        requires next_event { IsNextEvent next_event self.old }
+        requires early { until.0 ≤ 2 ^ 56 }
+        requires counted { HasCounted self.old }
+        ensures steps { TakesSteps until.0 proc self.old self.new }
+        ensures over { result ≡ true → BelongsToTurn until.0 self.new proc → ⊥ }
+        ensures next_event { IsNextEvent next_event self.new }
+        ensures counted { HasCounted self.new }
+        ensures io { self.new.io ≡ self.old.io }
+    {
+        if next_event.least(proc) != 0 {
+            return true;
+        }
+        let limit = self.limit_by(next_event, proc, until);
+        'steps: loop {
+            self.laws();
+            match self.go_once(next_event, proc, until, limit) {
+                Gone::Took => {}
+                Gone::Over => return true,
+                Gone::Unknown => return false,
+            }
+        }
+    }
+
+    /// A processor takes steps of its turn, while they are of the fast path. The answer is whether its turn is over; where it isn't known to be, the next step isn't one of the fast path.
+    /// There are two copies, one for each processor.
+    #[inline(always)]
+    pub fn go_fast(&mut self, next_event: NextEvent, proc: Proc, until: Tick) -> bool
+        requires next_event { IsNextEvent next_event self.old }
+        requires early { until.0 ≤ 2 ^ 56 }
+        requires counted { HasCounted self.old }
+        ensures steps { TakesSteps until.0 proc self.old self.new }
+        ensures over { result ≡ true → BelongsToTurn until.0 self.new proc → ⊥ }
+        ensures next_event { IsNextEvent next_event self.new }
+        ensures counted { HasCounted self.new }
+        ensures io { self.new.io ≡ self.old.io }
+    {
+        match proc {
+            Proc::Nine => self.go_on_turn(next_event, Proc::Nine, until),
+            Proc::Seven => self.go_on_turn(next_event, Proc::Seven, until),
+        }
+    }
+
+    /// The processor that is the least actor and due below a limit, where that is known; None where it isn't, or where another actor is the least.
+    #[inline(always)]
+    pub fn first_by(&self, next_event: NextEvent, until: Tick) -> Option<Proc>
+        requires next_event { IsNextEvent next_event self.now }
+        requires early { until.0 ≤ 2 ^ 56 }
+        ensures { IfSome result (λ proc. IsLeastBelow until.0 self.now proc) }
+    {
+        if self.is_first_below(next_event, Proc::Nine, until) {
+            return Some(Proc::Nine);
+        }
+        if self.is_first_below(next_event, Proc::Seven, until) {
+            return Some(Proc::Seven);
+        }
+        None
+    }
+
+    /// Whether a processor is known to be the least actor and due below a limit.
+    #[inline(always)]
+    fn is_first_below(&self, next_event: NextEvent, proc: Proc, until: Tick) -> bool
+        requires next_event { IsNextEvent next_event self.now }
+        requires early { until.0 ≤ 2 ^ 56 }
+        ensures { result ≡ true → IsLeastBelow until.0 self.now proc }
+    {
+        self.waits_until(next_event, proc) < self.limit_by(next_event, proc, until)
+    }
+}

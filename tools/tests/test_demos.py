@@ -69,7 +69,7 @@ class Demos(Room):
 
     def test_a_demo_to_tick_9_has_its_known_numbers(self):
         lines = self.called("demo", "0", "9").decode().splitlines()
-        self.assertEqual((lines[0], lines[1], lines[3]), ("demo 0 9", "bytes 5017938", "steps9 8 steps7 5 events 0 turns 13"))
+        self.assertEqual((lines[0], lines[1], lines[3]), ("demo 0 9", "bytes 5017938", "steps9 8 steps7 5 events 0 turns 3"))
         self.assertEqual(struct.unpack("<I", cartridge(0)[0x228:0x22C])[0], 0xE1D63003)
 
     def test_peeks_and_traces_of_the_cartridge_show_it(self):

@@ -5,7 +5,7 @@
 ghost use Rattle.std.specs.Prelude.{◌≡◌, None};
 
 use ds_io::{DiskShelf, Shelf, Sink, StdSink};
-use nds_top::{ds_main, number};
+use nds_top::{ds_main, empty_seat, let_go, number};
 use run_ahead::Console;
 use std::alloc::Global;
 use std::io::ErrorKind;
@@ -40,11 +40,6 @@ fn number_of_call<F: Shelf, O: Sink, N: Sink>(
     number(&ds_main(alloc, words, shelf, out, notes, seat))
 }
 
-/// Lets something go. (A console that is let go where it is owned is dear to prove.)
-fn let_go<T: Drop>(thing: T) {
-    let _thing = thing;
-}
-
 fn main(rt: HostRuntime) -> ExitCode {
     let words = match words(&rt) {
         Ok(words) => words,
@@ -54,7 +49,7 @@ fn main(rt: HostRuntime) -> ExitCode {
     let mut shelf = DiskShelf::new(&rt);
     let mut out = StdSink::new(io::writer(&rt));
     let mut notes = StdSink::new(rt.stderr());
-    let mut seat = None;
+    let mut seat = empty_seat();
     let status = number_of_call(
         rt.alloc(),
         words.as_slice(),

@@ -49,7 +49,11 @@ FromBoot c cart keys holds = (file : List ℕ) × (lines : List KeyLine) × IsCa
 
 -- a console that is switched on, with its machine at boot
 abbrev pub switched_on : MachineState → ConsoleState
-switched_on boot = record { machine = boot; limit = 0; stopped = None }
+switched_on boot = record { machine = boot; limit = 0; stopped = None; turns = 0 }
+
+-- the seat has such a console, with the cartridge's file and the key script's lines
+abbrev pub IsSwitchedOn : Option (List Named) → List ℕ → Option (List ℕ) → Option ConsoleState → Type 0
+IsSwitchedOn files cart keys seat = (file : List ℕ) × (lines : List KeyLine) × IsCart files cart file × AreKeys files keys lines × (seat ≡ Some (switched_on (machine_booted file lines)))
 
 -- the seat has a console that was switched on so, as after as many turns with the tick as its counts say, of which this holds
 abbrev pub Seated : {S : Type 0} → Call S → MachineState → ℕ → (ConsoleState → Type 0) → Type 0

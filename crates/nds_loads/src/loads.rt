@@ -1,9 +1,12 @@
 //! Finding and reading a file, a cartridge, a key script, and the files of a run.
 
-ghost use Rattle.std.specs.Prelude.{◌≡◌, ◌≤◌, ◌<◌, ◌^◌, IfOk, IfErr, Some, option_map};
+ghost use Rattle.std.specs.Prelude.{◌≡◌, ◌≤◌, ◌<◌, ◌^◌, length, IfOk, IfErr, Some, option_map};
 ghost use Rattle.ds_io.specs.Faults.{Rose};
 ghost use Rattle.ds_io.specs.Shelves.{files_of};
-ghost use Rattle.nds_loads.specs.Loads.{IsCart, IsFileRead, AreKeys, Refuses, RefusesCart, RefusesRun, RefusesScript};
+ghost use Rattle.ds_header.specs.Rules.{IsAccepted};
+ghost use Rattle.key_scripts.specs.Scripts.{IsScript};
+ghost use Rattle.nds_loads.specs.Inside.{RefusesBytes, RefusesText};
+ghost use Rattle.nds_loads.specs.Loads.{IsCart, IsFileRead, AreKeys, Refuses, RefusesCart, RefusesRun, RefusesScript, most_script};
 
 use ds_base::Keys;
 use ds_header::Cart;
@@ -53,6 +56,14 @@ pub fn load_cart<F: Shelf>(alloc: Global, shelf: &mut F, name: &str) -> Result<C
     ensures files { files_of (F.told shelf.new) ≡ files_of (F.told shelf.old) }
 {
     let bytes = load(alloc, shelf, name, MOST_BYTES)?;
+    cart_of(bytes)
+}
+
+/// The cartridge that the bytes of a file are, or the status that refuses it.
+fn cart_of(bytes: Vec<u8>) -> Result<Cart, Status>
+    ensures ok { IfOk result (λ cart. (cart ≡ bytes.items) × IsAccepted bytes.items) }
+    ensures err { IfErr result (RefusesBytes bytes.items) }
+{
     match Cart::read(bytes) {
         Ok(cart) => Ok(cart),
         Err(fault) => Err(Status::BadHeader(fault)),
@@ -67,7 +78,16 @@ fn load_script<F: Shelf>(alloc: Global, shelf: &mut F, name: &str) -> Result<Key
     ensures files { files_of (F.told shelf.new) ≡ files_of (F.told shelf.old) }
 {
     let text = load(alloc, shelf, name, MOST_SCRIPT)?;
-    match read_script(alloc, text.as_slice()) {
+    keys_of(alloc, text.as_slice())
+}
+
+/// The keys whose script a text is, or the status that refuses it.
+fn keys_of(alloc: Global, text: &[u8]) -> Result<Keys, Status>
+    requires { length text.now ≤ most_script }
+    ensures ok { IfOk result (IsScript text.now) }
+    ensures err { IfErr result (RefusesText text.now) }
+{
+    match read_script(alloc, text) {
         Ok(keys) => Ok(keys),
         Err(ScriptFault::NoMemory) => Err(Status::NoMemory),
         Err(ScriptFault::Bad { line, column }) => Err(Status::BadScript { line, column }),

@@ -5,13 +5,15 @@ use Rattle.std.proofs.lemmas.List.Concat.{flat_map-append}
 use Rattle.ds_base.specs.declared.left_out.LeftOut.{LeftOut}
 use Rattle.ds_io.specs.Sinks.{Appended, AppendedFront}
 use Rattle.ds_io.proofs.SinkLemmas.{append_twice, front_after, front_of_more}
-use Rattle.ds_runs.specs.Runs.{Runs}
+use Rattle.ds_runs.specs.Runs.{At, Runs}
 use Rattle.ds_machine.specs.Frames.{FollowFrames, FollowLists, WholeFrame, frame_shown, frames_shown, last_frame, last_lists, lists_shown}
 use Rattle.ds_machine.specs.States.{MachineState}
-use Rattle.ds_machine.specs.Reference.{Shown, reference}
+use Rattle.ds_machine.specs.Reference.{Shown, next_shown, reference}
 use Rattle.run_ahead.specs.Consoles.{ConsoleState}
-use Rattle.run_ahead.specs.Turns.{GoesOn, HasRuns, Turns, HasTurned, run_to, none, turn}
+use Rattle.run_ahead.specs.Turns.{GoesOn, HasRuns, RanOn, TurnsUpTo, HasTurned, none, turn}
 use Rattle.run_ahead.specs.declared.turns.Turned.{Turned}
+use Rattle.run_ahead.specs.declared.turns.Turned.TheVariants as answers
+use Rattle.run_ahead.proofs.RunningOn.{raised_again, turned_twice}
 use Rattle.gx_geometry.specs.States.{Swapped}
 use Rattle.list_records.specs.Records.{lists_records}
 use Rattle.nds_plays.specs.Inside.{ending, RunsTo, shown_after, shown_now, shown_while}
@@ -115,59 +117,60 @@ going_first until start open_ = record {
   limit = refl;
 }
 
-max_twice : (a b c : ℕ) → max a c ≡ max b c → max (max a c) c ≡ max b c
-max_twice a b c h = omega (arith, h)
-
--- a turn that took a step
-going_on : (until : ℕ) (start before now : ConsoleState) (answer : Turned) (outs after : List Shown) → Going until start outs before → Turns until before answer now
-    → now ≡ run_to before until now.machine → GoesOn until start.machine now.machine after → FollowFrames start.machine now.machine after
-    → FollowLists start.machine now.machine after → Going until start after now
-going_on until start before now answer outs after going turns is on frames lists = record {
-  still_open = ap (λ (x : ConsoleState). x.stopped) is ∙ going.still_open;
-  on = on;
-  frames = frames;
-  lists = lists;
-  turned = turn start before now answer going.turned turns;
-  limit = (let P : ℕ → Type 0 = λ x. max x until ≡ max start.limit until in
-      subst P (sym (ap (λ (x : ConsoleState). x.limit) is)) (max_twice before.limit start.limit until going.limit));
+-- turns that ran
+going_ran : (until : ℕ) (start old now : ConsoleState) (outs : List Shown) → Going until start outs old → RanOn until old now → Going until start outs now
+going_ran until start old now outs going ran = record {
+  still_open = ran.stopped ∙ going.still_open;
+  on = λ limit le end more run. going.on limit le end more (ran.goes_on limit le end more run);
+  frames = ran.frame ∙ going.frames;
+  lists = ran.lists ∙ going.lists;
+  turned = turned_twice until start old now going.turned ran.turned;
+  limit = ran.limit ∙ going.limit;
 }
-
--- one that put out nothing
-going_quiet : (until : ℕ) (start before now : ConsoleState) (answer : Turned) (outs : List Shown) → Going until start outs before → Turns until before answer now
-    → now ≡ run_to before until now.machine → GoesOn until before.machine now.machine [] → last_frame now.machine ≡ last_frame before.machine → last_lists now.machine ≡ last_lists before.machine
-    → Going until start outs now
-going_quiet until start before now answer outs going turns is on frames lists =
-    going_on until start before now answer outs outs going turns is
-    (λ limit le end more run. going.on limit le end more (on limit le end more run)) (frames ∙ going.frames) (lists ∙ going.lists)
 
 then_lists : (xs ys : List Shown) (before : Option Swapped) → last_or before (lists_shown (xs ++ ys)) ≡ last_or (last_or before (lists_shown xs)) (lists_shown ys)
 unfolding AreThen
 then_lists xs ys before = lists_then xs ys before
 
--- one that made a frame whole
-going_shown : (until : ℕ) (start before now : ConsoleState) (answer : Turned) (outs : List Shown) (shown : Shown) → Going until start outs before → Turns until before answer now
-    → now ≡ run_to before until now.machine → GoesOn until before.machine now.machine (shown ∷ []) → last_frame now.machine ≡ Some (frame_shown shown)
-    → FollowLists before.machine now.machine (shown ∷ []) → Going until start (outs ++ shown ∷ []) now
-going_shown until start before now answer outs shown going turns is on frames lists =
-    going_on until start before now answer outs (outs ++ shown ∷ []) going turns is
-    (goes_twice until start.machine before.machine now.machine outs (shown ∷ []) going.on on)
-    (frames ∙ sym (last_put (last_frame start.machine) outs shown))
-    (lists ∙ ap (λ (o : Option Swapped). last_or o (lists_shown (shown ∷ []))) going.lists ∙ sym (then_lists outs (shown ∷ []) (last_lists start.machine)))
+-- what turns up to one that made a frame whole put out
+abbrev shown_by : {until : ℕ} {old : ConsoleState} {swapped : Bool} {now : ConsoleState} → TurnsUpTo until old (answers.Frame swapped) now → Shown
+shown_by {until} {old} {swapped} {now} up = next_shown up.before.machine now.machine swapped
 
--- the turn that ends the run
-ends_here : (until : ℕ) (start before now : ConsoleState) (answer : Turned) (stop : Option LeftOut) (outs : List Shown) → Going until start outs before → Turns until before answer now
-    → now.stopped ≡ stop → now.limit ≡ max before.limit until → Runs reference until (ending stop now.machine) before.machine []
-    → last_frame now.machine ≡ last_frame before.machine → last_lists now.machine ≡ last_lists before.machine → RunsTo until start stop now
-ends_here until start before now answer stop outs going turns stopped limit run frames lists = record {
-  outs = outs;
-  ran = (let P : List Shown → Type 0 = λ x. Runs reference until (ending stop now.machine) start.machine x in
-      subst P (append-nil outs) (going.on until (omega arith) (ending stop now.machine) [] run));
-  stopped = stopped;
-  limit = limit ∙ going.limit;
-  frames = frames ∙ going.frames;
-  lists = lists ∙ going.lists;
-  turned = turn start before now answer going.turned turns;
-}
+going_shown : (until : ℕ) (start old now : ConsoleState) (outs : List Shown) (swapped : Bool) (up : TurnsUpTo until old (answers.Frame swapped) now) → Going until start outs old
+    → Going until start (outs ++ shown_by up ∷ []) now
+going_shown until start old now outs swapped up so_far =
+    let before = up.before in
+    let shown = shown_by up in
+    let going = going_ran until start old before outs so_far up.ran in
+    let is = up.last.2 in
+    record {
+      still_open = ap (λ (x : ConsoleState). x.stopped) is ∙ going.still_open;
+      on = goes_twice until start.machine before.machine now.machine outs (shown ∷ []) going.on (up.runs up.last.0);
+      frames = up.frames ∙ sym (last_put (last_frame start.machine) outs shown);
+      lists = up.lists ∙ ap (λ (o : Option Swapped). last_or o (lists_shown (shown ∷ []))) going.lists ∙ sym (then_lists outs (shown ∷ []) (last_lists start.machine));
+      turned = turn start before now (answers.Frame swapped) going.turned up.last;
+      limit = raised_again until start before now going.limit is;
+    }
+
+has_shown : (until : ℕ) (old now : ConsoleState) (swapped : Bool) (up : TurnsUpTo until old (answers.Frame swapped) now) → HasShown swapped now.machine (shown_by up)
+has_shown until old now swapped up = record { frame = up.frames; was_swapped = refl; lists = refl }
+
+-- turns up to the one that ends the run
+ends_here : (until : ℕ) (start old now : ConsoleState) (answer : Turned) (stop : Option LeftOut) (outs : List Shown) → Going until start outs old → (up : TurnsUpTo until old answer now)
+    → now.stopped ≡ stop → now.limit ≡ max up.before.limit until → Runs reference until (ending stop now.machine) up.before.machine []
+    → last_frame now.machine ≡ last_frame up.before.machine → last_lists now.machine ≡ last_lists up.before.machine → RunsTo until start stop now
+ends_here until start old now answer stop outs so_far up stopped limit run frames lists =
+    let going = going_ran until start old up.before outs so_far up.ran in
+    record {
+      outs = outs;
+      ran = (let P : List Shown → Type 0 = λ x. Runs reference until (ending stop now.machine) start.machine x in
+          subst P (append-nil outs) (going.on until (omega arith) (ending stop now.machine) [] run));
+      stopped = stopped;
+      limit = limit ∙ going.limit;
+      frames = frames ∙ going.frames;
+      lists = lists ∙ going.lists;
+      turned = turn start up.before now answer going.turned up.last;
+    }
 
 -- ---- with the sink
 
@@ -186,34 +189,25 @@ module _ {S : Type 0} (tells : S → Bool) (taken : S → List ℕ → Type 0) (
     nothing Last = none_yet
     nothing Nothing = none_yet
 
-  pub writing_quiet : (old now : ConsoleState) (after : S) (answer : Turned) → Writing old after → Turns until old answer now → now ≡ run_to old until now.machine
-      → GoesOn until old.machine now.machine [] → last_frame now.machine ≡ last_frame old.machine → last_lists now.machine ≡ last_lists old.machine → Writing now after
-  writing_quiet old now after answer w turns is on frames lists = record {
-    outs = w.outs;
-    going = going_quiet until start old now answer w.outs w.going turns is on frames lists;
-    written = w.written;
-    later = w.later;
-  }
-
-  pub writing_shown : (old now : ConsoleState) (mid after : S) (answer : Turned) (swapped : Bool) (shown : Shown) → Writing old mid → Turns until old answer now
-      → now ≡ run_to old until now.machine → GoesOn until old.machine now.machine (shown ∷ []) → HasShown swapped now.machine shown → FollowLists old.machine now.machine (shown ∷ [])
+  pub writing_shown : (old now : ConsoleState) (mid after : S) (swapped : Bool) → Writing old mid → TurnsUpTo until old (answers.Frame swapped) now
       → Appended tells taken mid after (shown_now keep swapped now.machine) → faults mid ≤ faults after → Writing now after
-  writing_shown old now mid after answer swapped shown w turns is on has lists put later =
+  writing_shown old now mid after swapped w up put later =
+      let shown = shown_by up in
       let P : List ℕ → Type 0 = λ x. Appended tells taken before after x in
       let first : faults before ≤ faults mid = w.later in record {
         outs = w.outs ++ shown ∷ [];
-        going = going_shown until start old now answer w.outs shown w.going turns is on has.frame lists;
-        written = subst P (now_written keep w.outs shown swapped now.machine has)
+        going = going_shown until start old now w.outs swapped up w.going;
+        written = subst P (now_written keep w.outs shown swapped now.machine (has_shown until old now swapped up))
             (append_twice tells taken before mid after (shown_while keep w.outs) (shown_now keep swapped now.machine) w.written put);
         later = omega (arith, first, later);
       }
 
   -- where the sink fails at a frame or its lists, a front of the run's output is written
-  pub front_at : (old now : ConsoleState) (mid after : S) (answer : Turned) (swapped : Bool) (shown : Shown) → Writing old mid → Turns until old answer now
-      → now ≡ run_to old until now.machine → GoesOn until old.machine now.machine (shown ∷ []) → HasShown swapped now.machine shown → FollowLists old.machine now.machine (shown ∷ [])
-      → HasRuns now.machine → AppendedFront tells taken mid after (shown_now keep swapped now.machine) → WroteFront tells taken until keep start.machine before after
-  front_at old now mid after answer swapped shown w turns is on has lists runs put =
-      let going = going_shown until start old now answer w.outs shown w.going turns is on has.frame lists in
+  pub front_at : (old now : ConsoleState) (mid after : S) (swapped : Bool) → Writing old mid → TurnsUpTo until old (answers.Frame swapped) now → HasRuns now.machine
+      → AppendedFront tells taken mid after (shown_now keep swapped now.machine) → WroteFront tells taken until now.turns keep start.machine before after × HasTurned until start now
+  front_at old now mid after swapped w up runs put =
+      let shown = shown_by up in
+      let going = going_shown until start old now w.outs swapped up w.going in
       let outs = w.outs ++ shown ∷ [] in
       let r = runs until in
       let end = r.0 in
@@ -221,40 +215,54 @@ module _ {S : Type 0} (tells : S → Bool) (taken : S → List ℕ → Type 0) (
       let P : List ℕ → Type 0 = λ x. AppendedFront tells taken before after x in
       let latest = latest_of start.machine in
       let front : AppendedFront tells taken before after (shown_while keep outs) =
-      subst P (now_written keep w.outs shown swapped now.machine has)
+      subst P (now_written keep w.outs shown swapped now.machine (has_shown until old now swapped up))
       (front_after tells taken before mid after (shown_while keep w.outs) (shown_now keep swapped now.machine) w.written put) in
-      let written : AppendedFront tells taken before after (output_of until keep latest end (outs ++ more)) =
+      let written : AppendedFront tells taken before after (output_of until now.turns keep latest end (outs ++ more)) =
       subst P
-      (ap (λ (x : List ℕ). x ++ last_records until end) (sym (goes_further keep latest outs more)))
-      (subst P (sym (append_assoc (shown_while keep outs) (rest_of keep latest outs more) (last_records until end)))
-      (front_of_more tells taken before after (shown_while keep outs) (rest_of keep latest outs more ++ last_records until end) front)) in
-      record { end = end; outs = outs ++ more; ran = going.on until (omega arith) end more r.2; written = written }
+      (ap (λ (x : List ℕ). x ++ last_records until now.turns end) (sym (goes_further keep latest outs more)))
+      (subst P (sym (append_assoc (shown_while keep outs) (rest_of keep latest outs more) (last_records until now.turns end)))
+      (front_of_more tells taken before after (shown_while keep outs) (rest_of keep latest outs more ++ last_records until now.turns end) front)) in
+      (record { end = end; outs = outs ++ more; ran = going.on until (omega arith) end more r.2; written = written }, going.turned)
 
-  -- the turn that ends the run
-  pub writing_ends : (old now : ConsoleState) (after : S) (answer : Turned) (stop : Option LeftOut) → Writing old after → Turns until old answer now → now.stopped ≡ stop
-      → now.limit ≡ max old.limit until → Runs reference until (ending stop now.machine) old.machine [] → last_frame now.machine ≡ last_frame old.machine
-      → last_lists now.machine ≡ last_lists old.machine → (runs : RunsTo until start stop now) × Appended tells taken before after (shown_while keep runs.outs)
+  -- the turns up to the one that ends the run
+  abbrev HasRunTo : Option LeftOut → ConsoleState → S → Type 0
+  HasRunTo stop now after = (runs : RunsTo until start stop now) × Appended tells taken before after (shown_while keep runs.outs)
+
+  pub writing_over : (old now : ConsoleState) (after : S) → Writing old after → TurnsUpTo until old answers.AtEnd now → HasRunTo None now after
   unfolding ends_here
-  writing_ends old now after answer stop w turns stopped limit run frames lists =
-      (ends_here until start old now answer stop w.outs w.going turns stopped limit run frames lists, w.written)
+  writing_over old now after w up =
+      let t = up.last in
+      let P : MachineState → Type 0 = λ x. Runs reference until (At x) up.before.machine [] in
+      let run = subst P (sym (ap (λ (x : ConsoleState). x.machine) t.2)) (up.runs t.0) in
+      (ends_here until start old now answers.AtEnd None w.outs w.going up (ap (λ (x : ConsoleState). x.stopped) t.2 ∙ t.0) (ap (λ (x : ConsoleState). x.limit) t.2) run up.frames up.lists, w.written)
+
+  pub writing_stopped : (old now : ConsoleState) (after : S) (left : LeftOut) → Writing old after → TurnsUpTo until old (answers.Stopped left) now → HasRunTo (Some left) now after
+  unfolding ends_here
+  writing_stopped old now after left w up =
+      let still_open = up.ran.stopped ∙ w.going.still_open in
+      let is = (up.last.0 still_open).1 in (
+        ends_here until start old now (answers.Stopped left) (Some left) w.outs w.going up (ap (λ (x : ConsoleState). x.stopped) is) (ap (λ (x : ConsoleState). x.limit) is) (up.runs still_open)
+            up.frames up.lists,
+        w.written,
+      )
 
 -- ---- and at the end
 
 -- what is written while a console runs, and after it, is the run's output
 whole_output : (until : ℕ) (keep : Keep) (old : ConsoleState) (stop : Option LeftOut) (new : ConsoleState) (r : RunsTo until old stop new)
-    → shown_while keep r.outs ++ (shown_after keep (latest_of new.machine) ++ last_records until (ending stop new.machine))
-    ≡ output_of until keep (latest_of old.machine) (ending stop new.machine) r.outs
+    → shown_while keep r.outs ++ (shown_after keep (latest_of new.machine) ++ last_records until new.turns (ending stop new.machine))
+    ≡ output_of until new.turns keep (latest_of old.machine) (ending stop new.machine) r.outs
 whole_output until keep old stop new r =
-    sym (append_assoc (shown_while keep r.outs) (shown_after keep (latest_of new.machine)) (last_records until (ending stop new.machine)))
-    ∙ ap (λ (x : List ℕ). x ++ last_records until (ending stop new.machine))
+    sym (append_assoc (shown_while keep r.outs) (shown_after keep (latest_of new.machine)) (last_records until new.turns (ending stop new.machine)))
+    ∙ ap (λ (x : List ℕ). x ++ last_records until new.turns (ending stop new.machine))
     (ap (λ (x : Latest). shown_while keep r.outs ++ shown_after keep x) (latest_follows old.machine new.machine r.outs r.frames r.lists) ∙ sym (split keep (latest_of old.machine) r.outs))
 
 module _ {S : Type 0} (tells : S → Bool) (taken : S → List ℕ → Type 0) (until : ℕ) (keep : Keep) (old : ConsoleState) (stop : Option LeftOut) (new : ConsoleState) (before mid after : S)
     (r : RunsTo until old stop new) (so_far : Appended tells taken before mid (shown_while keep r.outs)) where
   abbrev left_to_write : List ℕ
-  left_to_write = shown_after keep (latest_of new.machine) ++ last_records until (ending stop new.machine)
+  left_to_write = shown_after keep (latest_of new.machine) ++ last_records until new.turns (ending stop new.machine)
 
-  pub all_written : Appended tells taken mid after left_to_write → Wrote tells taken until keep old.machine (ending stop new.machine) before after
+  pub all_written : Appended tells taken mid after left_to_write → Wrote tells taken until new.turns keep old.machine (ending stop new.machine) before after
   all_written put =
       let P : List ℕ → Type 0 = λ x. Appended tells taken before after x in
       record {
@@ -264,7 +272,7 @@ module _ {S : Type 0} (tells : S → Bool) (taken : S → List ℕ → Type 0) (
             (append_twice tells taken before mid after (shown_while keep r.outs) left_to_write so_far put);
       }
 
-  pub front_written : AppendedFront tells taken mid after left_to_write → WroteFront tells taken until keep old.machine before after
+  pub front_written : AppendedFront tells taken mid after left_to_write → WroteFront tells taken until new.turns keep old.machine before after
   front_written put =
       let P : List ℕ → Type 0 = λ x. AppendedFront tells taken before after x in
       record {

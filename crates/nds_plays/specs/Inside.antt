@@ -59,4 +59,4 @@ abbrev pub Ran : {S : Type 0} → (S → Bool) → (S → List ℕ → Type 0) �
 Ran tells taken faults until keep old before (Ok stop) new after =
     (runs : RunsTo until old stop new) × Appended tells taken before after (shown_while keep runs.outs)
 Ran tells taken faults until keep old before (Err failed) new after =
-    WroteFront tells taken until keep old.machine before after × Rose (faults before) (faults after) × HasTurned until old new
+    WroteFront tells taken until new.turns keep old.machine before after × Rose (faults before) (faults after) × HasTurned until old new

@@ -14,25 +14,25 @@ use Rattle.nds_plays.specs.declared.plays.Played.TheVariants as answers
 
 -- What playing a console to a tick writes, and how it answers.
 
--- the whole output of the reference run from a state to a tick was written, and the run ends so
-pub record Wrote {S : Type 0} (tells : S → Bool) (taken : S → List ℕ → Type 0) (until : ℕ) (keep : Keep) (start : MachineState) (end : Ending MachineState LeftOut) (old new : S) : Type 0 where
+-- the whole output of the reference run from a state to a tick was written, with so many turns, and the run ends so
+pub record Wrote {S : Type 0} (tells : S → Bool) (taken : S → List ℕ → Type 0) (until turns : ℕ) (keep : Keep) (start : MachineState) (end : Ending MachineState LeftOut) (old new : S) : Type 0 where
   pub outs : List Shown
   pub ran : Runs reference until end start outs
-  pub written : Appended tells taken old new (output_of until keep (latest_of start) end outs)
+  pub written : Appended tells taken old new (output_of until turns keep (latest_of start) end outs)
 
 -- a front of the reference run's output was written
-pub record WroteFront {S : Type 0} (tells : S → Bool) (taken : S → List ℕ → Type 0) (until : ℕ) (keep : Keep) (start : MachineState) (old new : S) : Type 0 where
+pub record WroteFront {S : Type 0} (tells : S → Bool) (taken : S → List ℕ → Type 0) (until turns : ℕ) (keep : Keep) (start : MachineState) (old new : S) : Type 0 where
   pub end : Ending MachineState LeftOut
   pub outs : List Shown
   pub ran : Runs reference until end start outs
-  pub written : AppendedFront tells taken old new (output_of until keep (latest_of start) end outs)
+  pub written : AppendedFront tells taken old new (output_of until turns keep (latest_of start) end outs)
 
 -- by the answer: the whole output of the run, or a front of it where the sink's count of faults rose; and the console is as after
--- turns with that limit
+-- turns with that limit, of which as many count as its count says
 abbrev pub Plays : {S : Type 0} → (S → Bool) → (S → List ℕ → Type 0) → (S → ℕ) → ℕ → Keep → ConsoleState → S → played.Played → ConsoleState → S → Type 0
 Plays tells taken faults until keep old before answers.Done new after =
-    Wrote tells taken until keep old.machine (At new.machine) before after × (new.stopped ≡ None) × (new.limit ≡ max old.limit until) × HasTurned until old new
+    Wrote tells taken until new.turns keep old.machine (At new.machine) before after × (new.stopped ≡ None) × (new.limit ≡ max old.limit until) × HasTurned until old new
 Plays tells taken faults until keep old before (answers.LeftOut left) new after =
-    Wrote tells taken until keep old.machine (Stopped left) before after × (new.stopped ≡ Some left) × HasTurned until old new
+    Wrote tells taken until new.turns keep old.machine (Stopped left) before after × (new.stopped ≡ Some left) × HasTurned until old new
 Plays tells taken faults until keep old before answers.WriteFault new after =
-    WroteFront tells taken until keep old.machine before after × Rose (faults before) (faults after) × HasTurned until old new
+    WroteFront tells taken until new.turns keep old.machine before after × Rose (faults before) (faults after) × HasTurned until old new

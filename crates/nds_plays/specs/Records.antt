@@ -1,4 +1,4 @@
-use Rattle.std.specs.Prelude.{ℕ, Bool, ◌+◌, if◌then◌else◌, List, [], ◌∷◌, ◌++◌, map, flat_map, codes, Option, option_to_list}
+use Rattle.std.specs.Prelude.{ℕ, Bool, if◌then◌else◌, List, [], ◌∷◌, ◌++◌, map, flat_map, codes, Option, option_to_list}
 use Rattle.std.specs.List.{concat, last_or}
 use Rattle.ds_base.specs.declared.left_out.LeftOut.{LeftOut}
 use Rattle.ds_base.specs.declared.left_out.LeftKind.{LeftKind}
@@ -31,13 +31,10 @@ all_memories = Main ∷ Shared ∷ Own7 ∷ Itcm ∷ Dtcm ∷ Palette ∷ Vram �
 abbrev pub memory_record : MachineState → List (List ℕ)
 memory_record s = codes "M" ∷ map (memory_of s) all_memories ++ (words (registers_of s Nine) ∷ words (registers_of s Seven) ∷ [])
 
--- the record of the end: 'E', the tick run to, and how many steps ARM9, ARM7 and the other actors took, and in how many turns;
--- so far each step is a turn
-abbrev pub end_record : ℕ → MachineState → List (List ℕ)
-end_record until s =
-    let nine = s.nine.processor.steps in
-    let seven = s.seven.processor.steps in
-    codes "E" ∷ longs (until ∷ nine ∷ seven ∷ s.events ∷ (nine + seven + s.events) ∷ []) ∷ []
+-- the record of the end: 'E', the tick run to, how many steps ARM9, ARM7 and the other actors took, and how many turns counted
+abbrev pub end_record : (until turns : ℕ) → MachineState → List (List ℕ)
+end_record until turns s =
+    codes "E" ∷ longs (until ∷ s.nine.processor.steps ∷ s.seven.processor.steps ∷ s.events ∷ turns ∷ []) ∷ []
 
 -- the number of each kind of stop
 abbrev pub kind_number : LeftKind → ℕ
@@ -94,10 +91,10 @@ kept_records Last before outs = latest_records (latest_after before outs)
 kept_records Nothing before outs = []
 
 -- what comes after them
-abbrev pub last_records : ℕ → Ending MachineState LeftOut → List ℕ
-last_records until (At s) = concat (memory_record s ++ end_record until s)
-last_records until (Stopped left) = concat (stop_record left)
+abbrev pub last_records : (until turns : ℕ) → Ending MachineState LeftOut → List ℕ
+last_records until turns (At s) = concat (memory_record s ++ end_record until turns s)
+last_records until turns (Stopped left) = concat (stop_record left)
 
--- what a run to a tick writes
-abbrev pub output_of : ℕ → Keep → Latest → Ending MachineState LeftOut → List Shown → List ℕ
-output_of until keep before end outs = kept_records keep before outs ++ last_records until end
+-- what a run to a tick writes, by how many turns counted
+abbrev pub output_of : (until turns : ℕ) → Keep → Latest → Ending MachineState LeftOut → List Shown → List ℕ
+output_of until turns keep before end outs = kept_records keep before outs ++ last_records until turns end

@@ -44,7 +44,7 @@ pub fn play<O: Sink>(console: &mut Console, until: Tick, keep: Keep, out: &mut O
     }
 }
 
-/// Turns a console until no actor is due below a tick, or until it stops, and writes each frame and the lists that are swapped with it as they come, where all are kept.
+/// Runs a console until no actor is due below a tick, or until it stops, and writes each frame and the lists that are swapped with it as they come, where all are kept.
 fn run_to<O: Sink>(
     console: &mut Console,
     until: Tick,
@@ -57,17 +57,14 @@ fn run_to<O: Sink>(
     ensures later { O.faults out.old ≤ O.faults out.new }
 {
     'turns: loop {
-        if console.turn_fast(until) {
-            continue 'turns;
-        }
-        match console.turn(until) {
-            Turned::Ran => {}
+        match console.run_on(until) {
             Turned::Frame { swapped } => {
                 console.has_runs();
                 put_shown(out, keep, swapped, console)?;
             }
             Turned::Stopped(left) => return Ok(Some(left)),
             Turned::AtEnd => return Ok(None),
+            Turned::Ran => unreachable!(),
         }
     }
 }
@@ -104,7 +101,7 @@ fn put_ending<O: Sink>(
     stop: Option<LeftOut>,
     console: &Console,
 ) -> Result<(), Failed>
-    ensures { Puts O.tells O.taken O.faults (last_records until.0 (ending stop console.now.machine)) result out.old out.new }
+    ensures { Puts O.tells O.taken O.faults (last_records until.0 console.now.turns (ending stop console.now.machine)) result out.old out.new }
 {
     match stop {
         None => put_last(out, until, console),
@@ -120,7 +117,7 @@ fn put_records<O: Sink>(
     stop: Option<LeftOut>,
     console: &Console,
 ) -> Result<(), Failed>
-    ensures { Puts O.tells O.taken O.faults (shown_after keep (latest_of console.now.machine) ++ last_records until.0 (ending stop console.now.machine)) result out.old out.new }
+    ensures { Puts O.tells O.taken O.faults (shown_after keep (latest_of console.now.machine) ++ last_records until.0 console.now.turns (ending stop console.now.machine)) result out.old out.new }
 {
     put_kept(out, keep, console)?;
     put_ending(out, until, stop, console)

@@ -122,7 +122,7 @@ pub(crate) fn put_stop<O: Sink>(out: &mut O, left: LeftOut) -> Result<(), Failed
 
 /// The records of memories, from where they lie, and of the end.
 pub(crate) fn put_last<O: Sink>(out: &mut O, until: Tick, console: &Console) -> Result<(), Failed>
-    ensures { Puts O.tells O.taken O.faults (last_records until.0 (At console.now.machine)) result out.old out.new }
+    ensures { Puts O.tells O.taken O.faults (last_records until.0 console.now.turns (At console.now.machine)) result out.old out.new }
 {
     let counts = console.counts();
     let numbers = [

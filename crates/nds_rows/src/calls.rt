@@ -5,7 +5,7 @@ ghost use Rattle.std.specs.Prelude.{◌≡◌, IsTrue, None};
 use ds_base::{Keys, Tick};
 use ds_header::Cart;
 use ds_io::{Calls, MemShelf, MemSink, Shelf, Sink};
-use nds_top::{Keep, ds_main, number, play};
+use nds_top::{Keep, ds_main, number, play, switch_on};
 use row_files::{BadLine, Came, Scene};
 use run_ahead::{Console, Turned};
 use std::alloc::{AllocError, Global};
@@ -89,34 +89,22 @@ pub fn call(alloc: Global, scene: &Scene, seat: &mut Option<Console>) -> Result<
     call_over(alloc, scene, &mut shelf, seat)
 }
 
-/// Puts something where nothing is.
-fn put<T: Drop>(place: &mut Option<T>, value: T)
-    requires { place.old ≡ None }
-{
-    *place = Some(value);
-}
-
 /// The cartridge of a scene; nothing where it is refused.
 fn cart_of(alloc: Global, scene: &Scene) -> Result<Option<Cart>, AllocError> {
     let file = scene.cart(alloc)?;
     Ok(Cart::read(file).ok())
 }
 
-/// Puts a console of a cartridge, without keys, that hasn't run, into the seat, which is empty before.
-fn seat_console(alloc: Global, cart: Cart, seat: &mut Option<Console>) -> Result<(), AllocError>
-    requires { seat.old ≡ None }
-{
-    let console = Console::new(alloc, cart, Keys::new(alloc))?;
-    put(seat, console);
-    Ok(())
-}
-
-/// Puts such a console of a scene's cartridge into the seat, which is empty before; none where the cartridge is refused.
-pub fn switch_on(alloc: Global, scene: &Scene, seat: &mut Option<Console>) -> Result<(), AllocError>
+/// Puts a console of a scene's cartridge, without keys, that hasn't run, into the seat, which is empty before; none where the cartridge is refused.
+pub fn seat_scene(
+    alloc: Global,
+    scene: &Scene,
+    seat: &mut Option<Console>,
+) -> Result<(), AllocError>
     requires { seat.old ≡ None }
 {
     match cart_of(alloc, scene)? {
-        Some(cart) => seat_console(alloc, cart, seat),
+        Some(cart) => switch_on(alloc, cart, Keys::new(alloc), seat),
         None => Ok(()),
     }
 }

@@ -2,9 +2,10 @@
 
 ghost use Rattle.std.specs.Prelude.{◌≡◌, None};
 
-use crate::calls::{call, played, switch_on, turn, turns_to_a_frame};
+use crate::calls::{call, played, seat_scene, turn, turns_to_a_frame};
 use crate::checks::fact_differs;
 use crate::consoles::turned;
+use nds_top::{empty_seat, let_go};
 use row_files::{
     Act, BEGUN, BadLine, Came, Line, Player, Said, Scene, begins_part, change_all, go_past,
     has_call, has_facts, numbers_differ,
@@ -91,7 +92,7 @@ fn come(
     if has_call {
         return call(alloc, scene, seat);
     }
-    switch_on(alloc, scene, seat)?;
+    seat_scene(alloc, scene, seat)?;
     Ok(Came::new(alloc))
 }
 
@@ -150,18 +151,6 @@ fn play_seated(
         }
     }
     Ok(())
-}
-
-/// An empty seat.
-fn empty_seat() -> Option<Console>
-    ensures { result ≡ None }
-{
-    None
-}
-
-/// Lets something go. (A console that is let go where it is owned is dear to prove.)
-fn let_go<T: Drop>(thing: T) {
-    let _thing = thing;
 }
 
 /// Plays a part of a row over a scene, and the facts of all rows of its table. Its console lasts as long.

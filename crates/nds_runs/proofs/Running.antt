@@ -1,9 +1,8 @@
-use Rattle.std.proofs.Common.{ℕ, ◌≡◌, List, Bool, Option, max, subst, arith}
+use Rattle.std.proofs.Common.{ℕ, ◌≡◌, List, Bool, Option, max, sym, subst, arith}
 use Rattle.ds_base.specs.declared.keys.KeyLine.{KeyLine}
 use Rattle.ds_io.specs.Faults.{Rose}
 use Rattle.ds_machine.specs.Booted.{machine_booted}
 use Rattle.ds_machine.specs.States.{MachineState}
-use Rattle.ds_machine.proofs.Booting.{none_booted}
 use Rattle.run_ahead.specs.Consoles.{ConsoleState}
 use Rattle.run_ahead.specs.Turns.{HasTurned, IsAfterItsTurns, TurnsAddUp}
 use Rattle.nds_calls.specs.Calls.{Call, IsUntouched, switched_on}
@@ -25,12 +24,12 @@ played_from_boot tells taken faults ticks keep boot old new before after answer 
 pub at_ticks : (limit ticks : ℕ) → limit ≡ max 0 ticks → limit ≡ ticks
 at_ticks limit ticks e = omega (arith, e)
 
--- a console that was switched on counts the steps of its turns
+-- a console that was switched on counts its turns
 pub after_its_turns : (until : ℕ) (file : List ℕ) (lines : List KeyLine) (now : ConsoleState) → TurnsAddUp → HasTurned until (switched_on (machine_booted file lines)) now
     → IsAfterItsTurns until (switched_on (machine_booted file lines)) now
 after_its_turns until file lines now sum t = record {
   turned = t;
-  counted = (let e = sum until (switched_on (machine_booted file lines)) now t in let none = none_booted file lines in omega (arith, e, none));
+  counted = sym (sum until (switched_on (machine_booted file lines)) now t);
 }
 
 -- what a refusal of the files gives, where nothing was done

@@ -15,11 +15,11 @@ use Rattle.nds_plays.specs.Plays.{Wrote, WroteFront}
 abbrev pub RunGives : {S : Type 0} → Call S → List ℕ → Option (List ℕ) → ℕ → Keep → List ℕ → Status → Type 0
 -- the whole output of the reference run from boot was written, which comes to the tick
 RunGives c cart keys ticks keep named Done = FromBoot c cart keys (λ boot.
-    Seated c boot ticks (λ k. Wrote c.tells c.taken ticks keep boot (At k.machine) c.old c.new × (k.limit ≡ ticks) × (k.stopped ≡ None)))
+    Seated c boot ticks (λ k. Wrote c.tells c.taken ticks k.turns keep boot (At k.machine) c.old c.new × (k.limit ≡ ticks) × (k.stopped ≡ None)))
 -- the whole output of the reference run from boot was written, which stops there
 RunGives c cart keys ticks keep named (LeftOut left) = FromBoot c cart keys (λ boot.
-    Wrote c.tells c.taken ticks keep boot (Stopped left) c.old c.new × Seated c boot ticks (λ k. k.stopped ≡ Some left))
+    Seated c boot ticks (λ k. Wrote c.tells c.taken ticks k.turns keep boot (Stopped left) c.old c.new × (k.stopped ≡ Some left)))
 -- a front of it was written
 RunGives c cart keys ticks keep named WriteFault = Rose c.out_before c.out_after × FromBoot c cart keys (λ boot.
-    WroteFront c.tells c.taken ticks keep boot c.old c.new × Seated c boot ticks (λ k. Unit {0}))
+    Seated c boot ticks (λ k. WroteFront c.tells c.taken ticks k.turns keep boot c.old c.new))
 RunGives c cart keys ticks keep named other = IsUntouched c × RefusesRun c.files (Rose c.shelf_before c.shelf_after) cart keys other named

@@ -4,12 +4,13 @@ ghost use Rattle.std.specs.Prelude.{◌≡◌, ◌≤◌, None, option_map};
 ghost use Rattle.ds_io.specs.Shelves.{files_of};
 ghost use Rattle.nds_calls.specs.Calls.{around};
 ghost use Rattle.nds_runs.specs.Answers.{RunGives};
+ghost use Rattle.nds_runs.specs.Inside.{RunsSo};
 
 use command_words::{Keep, RunFiles};
 use ds_base::Tick;
 use ds_io::{Shelf, Sink};
 use nds_answers::{Ended, Status};
-use nds_loads::load_run;
+use nds_calls::seat_run;
 use nds_plays::{Played, play};
 use run_ahead::{Console, turn_laws};
 use std::alloc::Global;
@@ -29,30 +30,25 @@ pub fn run<'a, F: Shelf, O: Sink>(
     ensures answer { RunGives (around F.told F.faults O.tells O.taken O.faults shelf.old shelf.new out.old out.new seat.new) files.entry.cart.now (option_map (λ name. name.now) files.entry.keys) ticks keep result.file.now result.status }
     ensures files { files_of (F.told shelf.new) ≡ files_of (F.told shelf.old) }
 {
-    let file = files.cart;
-    let (cart, keys) = match load_run(alloc, shelf, files.cart, files.keys) {
-        Ok(both) => both,
-        Err(ended) => return ended,
-    };
-    let Ok(mut console) = Console::new(alloc, cart, keys) else {
-        let status = Status::NoMemory;
-        return Ended { status, file };
-    };
+    if let Err(ended) = seat_run(alloc, files.cart, files.keys, shelf, seat) {
+        return ended;
+    }
+    let Some(console) = seat else { unreachable!() };
     turn_laws();
-    let played = play(&mut console, Tick(ticks), keep, out);
-    *seat = Some(console);
-    match played {
-        Played::Done => Ended {
-            status: Status::Done,
-            file,
-        },
-        Played::LeftOut(left) => Ended {
-            status: Status::LeftOut(left),
-            file,
-        },
-        Played::WriteFault => Ended {
-            status: Status::WriteFault,
-            file,
-        },
+    let status = run_seated(console, ticks, keep, out);
+    let file = files.cart;
+    Ended { status, file }
+}
+
+/// Runs the console of a seat to a tick.
+fn run_seated<O: Sink>(console: &mut Console, ticks: u64, keep: Keep, out: &mut O) -> Status
+    requires early { ticks ≤ 100000000000 }
+    requires open { console.old.stopped ≡ None }
+    ensures { RunsSo O.tells O.taken O.faults ticks keep console.old out.old result console.new out.new }
+{
+    match play(console, Tick(ticks), keep, out) {
+        Played::Done => Status::Done,
+        Played::LeftOut(left) => Status::LeftOut(left),
+        Played::WriteFault => Status::WriteFault,
     }
 }

@@ -56,7 +56,7 @@ module _ {F S : Type 0} (told : F → Option Told) (shelf_faults : F → ℕ) (t
       (let P : ConsoleState → Type 0 = λ k. Traces tells taken faults ticks proc count k.machine old WriteFault new in let t = subst P is traced in (t.1, t.0, refl))
 
   -- what was written after a run, in the call
-  pub wrote_in : (ticks : ℕ) (bytes : MachineState → List Shown → List ℕ) (file : List ℕ) (lines : List KeyLine) (start console : ConsoleState) (answer : Played) → TurnsAddUp
+  pub wrote_in : (ticks : ℕ) (bytes : ConsoleState → List Shown → List ℕ) (file : List ℕ) (lines : List KeyLine) (start console : ConsoleState) (answer : Played) → TurnsAddUp
       → start ≡ switched_on (machine_booted file lines) → WritesAfter tells taken faults ticks bytes start old answer console new
       → WroteAfter (around told shelf_faults tells taken faults shelf_old shelf_new old new (Some console)) ticks bytes answer (machine_booted file lines)
   wrote_in ticks bytes file lines start console Done sum is wrote =

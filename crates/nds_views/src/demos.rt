@@ -10,6 +10,7 @@ use ds_base::{Keys, Tick};
 use ds_header::Cart;
 use ds_io::{Shelf, Sink};
 use nds_answers::Status;
+use nds_calls::switch_on;
 use run_ahead::{Console, turn_laws};
 use std::alloc::Global;
 
@@ -32,11 +33,11 @@ pub fn demo<F: Shelf, O: Sink>(
     let Ok(cart) = Cart::read(file) else {
         unreachable!()
     };
-    let Ok(mut console) = Console::new(alloc, cart, Keys::new(alloc)) else {
+    let Ok(()) = switch_on(alloc, cart, Keys::new(alloc), seat) else {
         return Status::NoMemory;
     };
+    let Some(console) = seat else { unreachable!() };
     turn_laws();
-    let played = nds_watch::demo(&mut console, number, Tick(ticks), out);
-    *seat = Some(console);
+    let played = nds_watch::demo(console, number, Tick(ticks), out);
     status_of(played)
 }

@@ -10,8 +10,8 @@ use crate::statuses::status_of;
 use command_words::RunFiles;
 use ds_base::{Memory, Tick};
 use ds_io::{Shelf, Sink};
-use nds_answers::{Ended, Status};
-use nds_loads::load_run;
+use nds_answers::Ended;
+use nds_calls::seat_run;
 use run_ahead::{Console, turn_laws};
 use std::alloc::Global;
 
@@ -34,18 +34,12 @@ pub fn peek<'a, F: Shelf, O: Sink>(
     ensures answer { PeekGives (around F.told F.faults O.tells O.taken O.faults shelf.old shelf.new out.old out.new seat.new) files.entry.cart.now (option_map (λ name. name.now) files.entry.keys) ticks memory place count result.file.now result.status }
     ensures files { files_of (F.told shelf.new) ≡ files_of (F.told shelf.old) }
 {
-    let file = files.cart;
-    let (cart, keys) = match load_run(alloc, shelf, files.cart, files.keys) {
-        Ok(both) => both,
-        Err(ended) => return ended,
-    };
-    let Ok(mut console) = Console::new(alloc, cart, keys) else {
-        let status = Status::NoMemory;
-        return Ended { status, file };
-    };
+    if let Err(ended) = seat_run(alloc, files.cart, files.keys, shelf, seat) {
+        return ended;
+    }
+    let Some(console) = seat else { unreachable!() };
     turn_laws();
-    let played = nds_watch::peek(&mut console, Tick(ticks), memory, place, count, out);
-    *seat = Some(console);
-    let status = status_of(played);
+    let played = nds_watch::peek(console, Tick(ticks), memory, place, count, out);
+    let (status, file) = (status_of(played), files.cart);
     Ended { status, file }
 }

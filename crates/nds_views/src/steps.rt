@@ -9,8 +9,8 @@ use crate::statuses::status_of;
 use command_words::RunFiles;
 use ds_base::{Proc, Tick};
 use ds_io::{Shelf, Sink};
-use nds_answers::{Ended, Status};
-use nds_loads::load_run;
+use nds_answers::Ended;
+use nds_calls::{empty_seat, let_go, seat_run};
 use run_ahead::Console;
 use std::alloc::Global;
 
@@ -28,16 +28,33 @@ pub fn trace<'a, F: Shelf, O: Sink>(
     ensures answer { TraceGives (around F.told F.faults O.tells O.taken O.faults shelf.old shelf.new out.old out.new None) files.entry.cart.now (option_map (λ name. name.now) files.entry.keys) ticks proc count result.file.now result.status }
     ensures files { files_of (F.told shelf.new) ≡ files_of (F.told shelf.old) }
 {
-    let file = files.cart;
-    let (cart, keys) = match load_run(alloc, shelf, files.cart, files.keys) {
-        Ok(both) => both,
-        Err(ended) => return ended,
-    };
-    let Ok(mut console) = Console::new(alloc, cart, keys) else {
-        let status = Status::NoMemory;
-        return Ended { status, file };
-    };
-    let played = nds_watch::trace(&mut console, Tick(ticks), proc, count, out);
-    let status = status_of(played);
+    let mut seat = empty_seat();
+    let ended = trace_seated(alloc, files, ticks, proc, count, shelf, out, &mut seat);
+    let_go(seat);
+    ended
+}
+
+/// The same, in a seat. Its console is let go by the caller.
+fn trace_seated<'a, F: Shelf, O: Sink>(
+    alloc: Global,
+    files: RunFiles<'a>,
+    ticks: u64,
+    proc: Proc,
+    count: u32,
+    shelf: &mut F,
+    out: &mut O,
+    seat: &mut Option<Console>,
+) -> Ended<'a>
+    requires early { ticks ≤ 100000000000 }
+    requires empty { seat.old ≡ None }
+    ensures answer { TraceGives (around F.told F.faults O.tells O.taken O.faults shelf.old shelf.new out.old out.new None) files.entry.cart.now (option_map (λ name. name.now) files.entry.keys) ticks proc count result.file.now result.status }
+    ensures files { files_of (F.told shelf.new) ≡ files_of (F.told shelf.old) }
+{
+    if let Err(ended) = seat_run(alloc, files.cart, files.keys, shelf, seat) {
+        return ended;
+    }
+    let Some(console) = seat else { unreachable!() };
+    let played = nds_watch::trace(console, Tick(ticks), proc, count, out);
+    let (status, file) = (status_of(played), files.cart);
     Ended { status, file }
 }

@@ -12,7 +12,8 @@ use Rattle.ds_runs.specs.Runs.{Ending, Runs, IsOver, At, Stopped, over, stops, m
 use Rattle.ds_runs.proofs.Lists.{least_unique}
 use Rattle.ds_machine.specs.Reference.{Shown, reference, dues_of}
 use Rattle.ds_machine.specs.States.{MachineState}
-use Rattle.run_ahead.specs.Turns.{TakesStep, MeetsStop, HasRuns}
+use Rattle.run_ahead.specs.OneSteps.{TakesStep, StepStops}
+use Rattle.run_ahead.specs.Turns.{HasRuns}
 use Rattle.nds_watch.specs.Inside.{IsLineDue}
 use Rattle.nds_watch.specs.Watches.{IsAt, line_of, lines_of, trace_of, Traces}
 use Rattle.nds_plays.specs.declared.plays.Played.TheVariants as answers
@@ -35,6 +36,17 @@ taken_line : (proc : Proc) (s : MachineState) (line : Option (List ℕ)) (until 
 taken_line proc s line until outs next due step =
     let same = least_unique (dues_of s) due.tick due.rank step.tick step.rank due.least step.least in
     due.is ∙ ap (λ (t : Tick). line_of proc due.rank t s) same.0 ∙ ap (λ (r : ℕ). line_of proc r step.tick s) same.1
+
+-- a step below a limit is one below a later limit
+pub later_step : (limit until : ℕ) (old new : MachineState) (outs : List Shown) → limit ≤ until → TakesStep limit old outs new → TakesStep until old outs new
+later_step limit until old new outs le step =
+    let below = step.below in
+    record { tick = step.tick; rank = step.rank; least = step.least; below = omega (arith, below, le); step = step.step }
+
+pub later_stop : (limit until : ℕ) (old new : MachineState) (stop : LeftOut) → limit ≤ until → StepStops limit old stop new → StepStops until old stop new
+later_stop limit until old new stop le step =
+    let below = step.below in
+    record { tick = step.tick; rank = step.rank; least = step.least; below = omega (arith, below, le); step = step.step }
 
 module _ {S : Type 0} (tells : S → Bool) (taken : S → List ℕ → Type 0) (faults : S → ℕ) (until : ℕ) (proc : Proc) (count : ℕ) (start : MachineState) (before : S) where
   -- between turns the lines so far are written, and so many are left
@@ -124,7 +136,7 @@ module _ {S : Type 0} (tells : S → Bool) (taken : S → List ℕ → Type 0) (
       let on = w.on (At now) [] run in
       (At now, on.all, on.whole, inr tt, ended now after left w (At now) run on refl)
 
-  pub tracing_stopped : (now : MachineState) (after : S) (left : ℕ) (w : Tracing now after left) (stop : LeftOut) (then : MachineState) → MeetsStop until now stop then → 0 < left
+  pub tracing_stopped : (now : MachineState) (after : S) (left : ℕ) (w : Tracing now after left) (stop : LeftOut) (then : MachineState) → StepStops until now stop then → 0 < left
       → Traces tells taken faults until proc count start before (answers.LeftOut stop) after
   tracing_stopped now after left w stop then meets some =
       let run : Runs reference until (Stopped stop) now [] = stops now then meets.tick meets.rank stop meets.least meets.below meets.step in

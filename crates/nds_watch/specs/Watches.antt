@@ -17,7 +17,7 @@ use Rattle.ds_machine.specs.States.{MachineState}
 use Rattle.ds_machine.specs.declared.answers.Seen.{Seen}
 use Rattle.ds_machine.specs.declared.answers.Seen.TheVariants.{Half, Idle, Irq, Word}
 use Rattle.run_ahead.specs.Consoles.{ConsoleState}
-use Rattle.run_ahead.specs.Turns.{HasTurned, turns_of}
+use Rattle.run_ahead.specs.Turns.{HasTurned}
 use Rattle.asm_text.specs.declared.sets.Set.TheVariants.{Arm, Thumb}
 use Rattle.traces.specs.Lines.{step_line, entry_line, peek_lines, digest_line}
 use Rattle.command_words.specs.declared.commands.Keep.TheVariants.{All}
@@ -94,32 +94,33 @@ abbrev pub RanTo : ℕ → ConsoleState → Option LeftOut → ConsoleState → 
 RanTo until old None new outs = Runs reference until (At new.machine) old.machine outs × (new.stopped ≡ None) × (new.limit ≡ max old.limit until) × HasTurned until old new
 RanTo until old (Some left) new outs = Runs reference until (Stopped left) old.machine outs × (new.stopped ≡ Some left) × HasTurned until old new
 
--- by the answer, these bytes of the state that the run comes to, and of what it put out, were written after it, or a front of them; where it stops nothing was
-abbrev pub WritesAfter : {S : Type 0} → (S → Bool) → (S → List ℕ → Type 0) → (S → ℕ) → ℕ → (MachineState → List Shown → List ℕ) → ConsoleState → S → played.Played → ConsoleState → S → Type 0
+-- by the answer, these bytes of the console that the run comes to, and of what it put out, were written after it, or a front of them; where it stops nothing was
+abbrev pub WritesAfter : {S : Type 0} → (S → Bool) → (S → List ℕ → Type 0) → (S → ℕ) → ℕ → (ConsoleState → List Shown → List ℕ) → ConsoleState → S → played.Played → ConsoleState → S → Type 0
 WritesAfter tells taken faults until bytes old before answers.Done new after =
-    (outs : List Shown) × RanTo until old None new outs × Appended tells taken before after (bytes new.machine outs)
+    (outs : List Shown) × RanTo until old None new outs × Appended tells taken before after (bytes new outs)
 WritesAfter tells taken faults until bytes old before (answers.LeftOut left) new after =
     (outs : List Shown) × RanTo until old (Some left) new outs × (after ≡ before)
 WritesAfter tells taken faults until bytes old before answers.WriteFault new after =
-    Rose (faults before) (faults after) × ((outs : List Shown) × RanTo until old None new outs × AppendedFront tells taken before after (bytes new.machine outs))
+    Rose (faults before) (faults after) × ((outs : List Shown) × RanTo until old None new outs × AppendedFront tells taken before after (bytes new outs))
 
 -- so many bytes of a memory from a place on
 abbrev pub bytes_at : Memory → ℕ → ℕ → MachineState → List ℕ
 bytes_at memory place count s = map (λ at. slice_index (memory_of s memory) at) (range_with_len place count)
 
 -- their lines
-abbrev pub peeked : Memory → ℕ → ℕ → MachineState → List Shown → List ℕ
-peeked memory place count s outs = peek_lines place (bytes_at memory place count s)
+abbrev pub peeked : Memory → ℕ → ℕ → ConsoleState → List Shown → List ℕ
+peeked memory place count k outs = peek_lines place (bytes_at memory place count k.machine)
 
--- what came of a run from a machine: how many bytes it would write where all frames and lists are kept, their SHA-256 (FIPS 180-4), and its counts. A run writes
+-- what came of a run, by the console that it comes to: how many bytes it would write where all frames and lists are kept, their SHA-256 (FIPS 180-4), and its counts. A run writes
 -- fewer than 2^64 bytes
-abbrev pub demo_lines : ℕ → ℕ → List ℕ → MachineState → List ℕ
-demo_lines number until output s =
+abbrev pub demo_lines : ℕ → ℕ → List ℕ → ConsoleState → List ℕ
+demo_lines number until output k =
+    let s = k.machine in
     concat (codes "demo " ∷ decimal number ∷ codes " " ∷ decimal until
     ∷ codes "\nbytes " ∷ decimal (length output % 2 ^ 64)
     ∷ codes "\n" ∷ digest_line (sha256 output)
     ∷ codes "steps9 " ∷ decimal s.nine.processor.steps ∷ codes " steps7 " ∷ decimal s.seven.processor.steps ∷ codes " events " ∷ decimal s.events
-    ∷ codes " turns " ∷ decimal (turns_of s) ∷ codes "\n" ∷ [])
+    ∷ codes " turns " ∷ decimal k.turns ∷ codes "\n" ∷ [])
 
-abbrev pub demo_of : ℕ → ℕ → MachineState → MachineState → List Shown → List ℕ
-demo_of number until start s outs = demo_lines number until (output_of until All (latest_of start) (At s) outs) s
+abbrev pub demo_of : ℕ → ℕ → MachineState → ConsoleState → List Shown → List ℕ
+demo_of number until start k outs = demo_lines number until (output_of until k.turns All (latest_of start) (At k.machine) outs) k

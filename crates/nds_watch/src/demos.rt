@@ -42,7 +42,7 @@ fn put_demo<O: Sink>(
     sink: HashSink,
     console: &Console,
 ) -> Result<(), Failed>
-    ensures { (output : List ℕ) → HasTaken sink output → Puts O.tells O.taken O.faults (demo_lines number until.0 output console.now.machine) result out.old out.new }
+    ensures { (output : List ℕ) → HasTaken sink output → Puts O.tells O.taken O.faults (demo_lines number until.0 output console.now) result out.old out.new }
 {
     let Counts {
         nine,

@@ -3,18 +3,19 @@
 ghost use Rattle.std.specs.Prelude.{◌≡◌, ◌≤◌, ◌<◌, ◌+◌, ◌^◌, None, length, option_to_list};
 ghost use Rattle.std.specs.List.{concat};
 ghost use Rattle.ds_machine.specs.Observed.{seen_of};
+ghost use Rattle.ds_machine.specs.Reference.{IsDue};
 ghost use Rattle.sink_parts.specs.Puts.{Puts};
 ghost use Rattle.nds_watch.specs.Inside.{IsLineDue, Took};
 ghost use Rattle.nds_watch.specs.Watches.{Traces, rank_of, seen_line};
 
 use asm_text::Set;
-use ds_base::{LeftOut, Proc, Tick};
+use ds_base::{Due, LeftOut, Proc, Tick};
 use ds_io::{Failed, Sink, put_all};
 use nds_plays::Played;
-use run_ahead::{Console, Seen, Turned};
+use run_ahead::{Console, Seen, Turned, one_step_laws};
 use traces::{OutLine, entry_line, step_line};
 
-/// What a turn of a console that hasn't stopped comes to.
+/// What a turn of one step comes to, of a console that hasn't stopped.
 #[derive(Clone, Copy)]
 pub(crate) enum Taken {
     /// It took a step.
@@ -49,40 +50,34 @@ fn seen_line(proc: Proc, tick: Tick, seen: Seen) -> OutLine
 }
 
 /// The line of the step that is taken next, where it is the processor's.
-fn line_due(console: &Console, proc: Proc) -> Option<OutLine>
+fn line_due(console: &Console, proc: Proc, due: Due) -> Option<OutLine>
+    requires { IsDue console.now.machine due }
     ensures { IsLineDue proc console.now.machine result }
 {
-    let due = console.due();
     if due.rank != rank_of(proc) {
         return None;
     }
     Some(seen_line(proc, due.tick, console.seen(proc)))
 }
 
-/// Takes a turn.
-fn take_slowly(console: &mut Console, until: Tick) -> Taken
+/// Takes the step of the actor that is due first, where it is due below a limit: a turn whose limit is the tick after.
+fn take(console: &mut Console, due: Due, until: Tick) -> Taken
     requires early { until.0 ≤ 2 ^ 56 }
+    requires due { IsDue console.old.machine due }
     requires open { console.old.stopped ≡ None }
     ensures { Took until.0 console.old result console.new }
 {
-    match console.turn(until) {
+    if until.0 <= due.tick.0 {
+        return Taken::Over;
+    }
+    console.laws();
+    one_step_laws();
+    match console.turn(Tick(due.tick.0 + 1)) {
         Turned::Ran => Taken::Step,
         Turned::Frame { swapped: _ } => Taken::Step,
         Turned::Stopped(left) => Taken::Stop(left),
         Turned::AtEnd => Taken::Over,
     }
-}
-
-/// The same, on the fast path where it is one.
-fn take(console: &mut Console, until: Tick) -> Taken
-    requires early { until.0 ≤ 2 ^ 56 }
-    requires open { console.old.stopped ≡ None }
-    ensures { Took until.0 console.old result console.new }
-{
-    if console.turn_fast(until) {
-        return Taken::Step;
-    }
-    take_slowly(console, until)
 }
 
 /// Writes a line, where there is one.
@@ -122,8 +117,9 @@ pub fn trace<O: Sink>(
             console.has_runs();
             return Played::Done;
         }
-        let line = line_due(console, proc);
-        match take(console, until) {
+        let due = console.due();
+        let line = line_due(console, proc, due);
+        match take(console, due, until) {
             Taken::Step => {}
             Taken::Over => return Played::Done,
             Taken::Stop(stop) => return Played::LeftOut(stop),

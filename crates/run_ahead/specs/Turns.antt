@@ -1,9 +1,12 @@
-use Rattle.std.specs.Prelude.{ℕ, ◌≡◌, ◌<◌, ◌≤◌, ◌+◌, List, [], ◌∷◌, ◌++◌, Some, None, IsSome, max}
+use Rattle.std.specs.Prelude.{ℕ, ◌≡◌, ◌<◌, ◌≤◌, ◌+◌, ◌⊎◌, List, [], ◌∷◌, ◌++◌, Some, None, IsSome, max}
 use Rattle.ds_base.specs.declared.left_out.LeftOut.{LeftOut}
 use Rattle.ds_base.specs.declared.ticks.Tick.{Tick}
 use Rattle.ds_runs.specs.Runs.{IsLeast, IsOver, Makes, Stops, Ending, At, Runs}
 use Rattle.ds_runs.specs.Runs as runs
 use Rattle.ds_runs.specs.Schedules.{places_remaining}
+use Rattle.ds_machine.specs.Frames.{FollowFrames, FollowLists, last_frame, last_lists}
+use Rattle.ds_base.specs.declared.processors.Proc.{Proc}
+use Rattle.ds_machine.specs.Private.{BelongsToTurn, TakesSteps, rank_of}
 use Rattle.ds_machine.specs.States.{MachineState}
 use Rattle.ds_machine.specs.Reference.{Shown, next_shown, dues_of, reference_step, reference}
 use Rattle.run_ahead.specs.Consoles.{ConsoleState}
@@ -12,31 +15,62 @@ use Rattle.run_ahead.specs.declared.turns.Turned.TheVariants.{Ran, Frame, AtEnd,
 
 -- A turn: what it does, and what that says of the reference run.
 
--- the least actor of a machine is due below the limit, and takes its step
-pub record TakesStep (until : ℕ) (old : MachineState) (outs : List Shown) (new : MachineState) : Type 0 where
+-- the least actor of a machine is due below the limit, and isn't a processor: its event is the turn
+pub record TakesEvent (until : ℕ) (old : MachineState) (outs : List Shown) (new : MachineState) : Type 0 where
   pub tick : Tick
   pub rank : ℕ
   pub least : IsLeast (dues_of old) tick rank
+  pub event : rank < 22
   pub below : tick.0 < until
   pub step : reference_step rank old ≡ Makes new outs
 
--- its step stops the machine, and leaves this state
-pub record MeetsStop (until : ℕ) (old : MachineState) (left : LeftOut) (new : MachineState) : Type 0 where
+-- it is a processor: the turn is its step and then the longest run of its further steps that belong to the turn
+pub record TakesStretch (until : ℕ) (old new : MachineState) : Type 0 where
+  pub proc : Proc
+  pub tick : Tick
+  pub least : IsLeast (dues_of old) tick (rank_of proc)
+  pub below : tick.0 < until
+  pub steps : TakesSteps until proc old new
+  pub longest : ¬ BelongsToTurn until new proc
+
+-- the event stops the machine, and leaves this state
+pub record EventStops (until : ℕ) (old : MachineState) (left : LeftOut) (new : MachineState) : Type 0 where
   pub tick : Tick
   pub rank : ℕ
   pub least : IsLeast (dues_of old) tick rank
+  pub event : rank < 22
   pub below : tick.0 < until
   pub step : reference_step rank old ≡ Stops left new
+
+-- so does a step of the processor that belongs to its turn, after the steps before it
+pub record StretchStops (until : ℕ) (old : MachineState) (left : LeftOut) (new : MachineState) : Type 0 where
+  pub proc : Proc
+  pub tick : Tick
+  pub least : IsLeast (dues_of old) tick (rank_of proc)
+  pub below : tick.0 < until
+  pub before : MachineState
+  pub steps : TakesSteps until proc old before
+  pub belongs : BelongsToTurn until before proc
+  pub step : reference_step (rank_of proc) before ≡ Stops left new
+
+-- a turn's step stops the machine
+abbrev pub MeetsStop : ℕ → MachineState → LeftOut → MachineState → Type 0
+MeetsStop until old left new = EventStops until old left new ⊎ StretchStops until old left new
 
 -- the machine is this now, and the limit was raised
 abbrev pub run_to : ConsoleState → ℕ → MachineState → ConsoleState
 run_to old until machine = record old { machine = machine; limit = max old.limit until }
 
--- what a turn with a limit does to a console, by its answer: one step of the reference machine; after a stop nothing any more
+-- and one more turn counts
+abbrev pub one_more_turn : ConsoleState → ConsoleState
+one_more_turn c = record c { turns = c.turns + 1 }
+
+-- what a turn with a limit does to a console, by its answer; a turn that takes a step and doesn't stop counts; after a stop nothing happens any more
 abbrev pub Turns : ℕ → ConsoleState → Turned → ConsoleState → Type 0
-Turns until old Ran new = (old.stopped ≡ None) × TakesStep until old.machine [] new.machine × (new ≡ run_to old until new.machine)
-Turns until old (Frame swapped) new = (old.stopped ≡ None) × TakesStep until old.machine (next_shown old.machine new.machine swapped ∷ []) new.machine
-    × (new ≡ run_to old until new.machine)
+Turns until old Ran new = (old.stopped ≡ None) × (TakesEvent until old.machine [] new.machine ⊎ TakesStretch until old.machine new.machine)
+    × (new ≡ one_more_turn (run_to old until new.machine))
+Turns until old (Frame swapped) new = (old.stopped ≡ None) × TakesEvent until old.machine (next_shown old.machine new.machine swapped ∷ []) new.machine
+    × (new ≡ one_more_turn (run_to old until new.machine))
 Turns until old AtEnd new = (old.stopped ≡ None) × IsOver (dues_of old.machine) until × (new ≡ run_to old until old.machine)
 Turns until old (Stopped left) new =
     (old.stopped ≡ None → MeetsStop until old.machine left new.machine × (new ≡ record (run_to old until new.machine) { stopped = Some left }))
@@ -66,10 +100,6 @@ RunsOn until old (Stopped left) new = Runs reference until (runs.Stopped left) o
 abbrev pub HasRuns : MachineState → Type 0
 HasRuns s = (limit : ℕ) → (end : Ending MachineState LeftOut) × (outs : List Shown) × Runs reference limit end s outs
 
--- how many turns a machine took: while a turn is one step, all its steps
-abbrev pub turns_of : MachineState → ℕ
-turns_of s = s.nine.processor.steps + s.seven.processor.steps + s.events
-
 -- a turn counts where it took a step
 abbrev pub counted_of : Turned → ℕ
 counted_of Ran = 1
@@ -94,9 +124,35 @@ turns_in (turn start before now answer earlier last) = counted_of answer + turns
 -- a console is as it was after as many turns with a limit as its counts say
 pub record IsAfterItsTurns (until : ℕ) (start now : ConsoleState) : Type 0 where
   pub turned : HasTurned until start now
-  pub counted : turns_in turned ≡ turns_of now.machine
+  pub counted : turns_in turned + start.turns ≡ now.turns
 
--- all turns together add as many steps to the counts as count
+-- all turns together add as many to the count of turns as count
 abbrev pub TurnsAddUp : Type 0
-TurnsAddUp = (until : ℕ) (start now : ConsoleState) (turned : HasTurned until start now)
-    → turns_of now.machine ≡ turns_in turned + turns_of start.machine
+TurnsAddUp = (until : ℕ) (start now : ConsoleState) (turned : HasTurned until start now) → now.turns ≡ turns_in turned + start.turns
+
+-- each of these turns ran
+abbrev pub EachRan : {until : ℕ} {start now : ConsoleState} → HasTurned until start now → Type 0
+EachRan (none start) = Unit {0}
+EachRan (turn start before now answer earlier last) = EachRan earlier × (answer ≡ Ran)
+
+-- a console ran on: it took some turns with a limit, each of which ran. What the reference run does from there is the rest of what it
+-- does from before them, and the last whole frame and the last lists are as they were
+pub record RanOn (until : ℕ) (old new : ConsoleState) : Type 0 where
+  pub turned : HasTurned until old new
+  pub each_ran : EachRan turned
+  pub stopped : new.stopped ≡ old.stopped
+  pub limit : max new.limit until ≡ max old.limit until
+  pub goes_on : GoesOn until old.machine new.machine []
+  pub frame : last_frame new.machine ≡ last_frame old.machine
+  pub lists : last_lists new.machine ≡ last_lists old.machine
+
+-- turns with a limit up to one of this answer: the console ran on, and was like `before` when it took that turn. What is said of the
+-- turn is what is said of each
+pub record TurnsUpTo (until : ℕ) (old : ConsoleState) (answer : Turned) (new : ConsoleState) : Type 0 where
+  pub before : ConsoleState
+  pub ran : RanOn until old before
+  pub last : Turns until before answer new
+  pub runs : before.stopped ≡ None → RunsOn until before.machine answer new.machine
+  pub frames : FollowFrames before.machine new.machine (shown_in answer before.machine new.machine)
+  pub lists : FollowLists before.machine new.machine (shown_in answer before.machine new.machine)
+  pub counted : new.turns ≡ counted_of answer + turns_in ran.turned + old.turns

@@ -1,16 +1,20 @@
 //! The console.
 
-ghost use Rattle.std.specs.Prelude.{◌≡◌, ◌≤◌, ◌<◌, ◌+◌, ◌*◌, ◌^◌, true, false, None, slice_index, IfOk, length};
+ghost use Rattle.std.specs.Prelude.{max, ◌≡◌, ◌≢◌, ◌≤◌, ◌<◌, ◌+◌, ◌*◌, ◌^◌, false, true, None, Some, slice_index, IfOk, IsSome, length};
 ghost use Rattle.ds_base.specs.Memories.{memory_size};
 ghost use Rattle.ds_machine.specs.Booted.{machine_booted};
-ghost use Rattle.ds_machine.specs.Frames.{framed_of, last_frame, last_lists, FollowFrames, FollowLists};
+ghost use Rattle.ds_machine.specs.Frames.{framed_of, FollowFrames, FollowLists};
 ghost use Rattle.ds_machine.specs.Observed.{memory_of, registers_of, seen_of};
 ghost use Rattle.ds_ipc.specs.Ipcs.{AreSides};
+ghost use Rattle.ds_machine.specs.Private.{IsLeastBelow};
 ghost use Rattle.ds_machine.specs.Reference.{HasSoundParts, IsDue, IsSound};
 ghost use Rattle.ds_machine.specs.Statuses.{HasBothStatuses};
-ghost use Rattle.run_ahead.specs.Turns.{Turns, RunsOn, HasRuns, turns_of, turns_remaining, counted_of, shown_in};
-ghost use Rattle.run_ahead.specs.declared.turns.Turned.TheVariants.{Ran};
+ghost use Rattle.run_ahead.specs.Turns.{Turns, TurnsUpTo, RunsOn, HasRuns, turns_remaining, counted_of, shown_in};
+ghost use Rattle.ds_base.specs.declared.left_out.LeftOut.{LeftOut};
+ghost use Rattle.run_ahead.specs.declared.consoles.AtOnce.TheVariants as once;
+ghost use Rattle.run_ahead.specs.declared.turns.Turned.TheVariants.{Ran, Stopped};
 
+use crate::machine_turns::{take_stretch, take_turn};
 use crate::turns::Turned;
 use ds_base::{Due, Keys, LeftOut, Memory, Proc, Tick};
 use ds_header::Cart;
@@ -19,7 +23,7 @@ use gx_geometry::Lists;
 use std::alloc::{AllocError, Global};
 use std::marker::Model;
 
-/// How many steps a console took, by who took them, and in how many turns.
+/// How many steps a console took, by who took them, and how many of its turns counted.
 #[derive(Clone, Copy, PartialEq, Eq)]
 pub struct Counts {
     /// Steps of ARM9.
@@ -28,68 +32,107 @@ pub struct Counts {
     pub seven: u64,
     /// Steps of all other actors.
     pub events: u64,
-    /// Turns.
+    /// Turns that took a step and didn't stop.
     pub turns: u64,
 }
 
-/// A console. No call but `turn` and `turn_fast` changes it.
+/// What came of trying to take a turn at once.
+#[derive(Clone, Copy)]
+pub enum AtOnce {
+    /// It was taken.
+    Ran,
+    /// It was taken, and stopped.
+    Stopped,
+    /// It isn't one that can be.
+    NotTaken,
+}
+
+/// A console. No call but `turn` and `run_on` changes it.
 #[derive(Drop)]
 pub struct Console {
     machine: Machine,
     limit: u64,
     stopped: Option<LeftOut>,
     open_until: u64,
+    turns: u64,
 }
 
 impl Model for Console {
     ghost use Rattle.run_ahead.specs.Consoles.{ConsoleState, open_of};
     ghost use Rattle.ds_machine.specs.Booted.{machine_booted};
-    ghost use Rattle.ds_machine.specs.Reference.{AreAsleep, CountsWithin};
+    ghost use Rattle.ds_machine.specs.Reference.{CountsWithin, IsSound};
+    ghost use Rattle.ds_machine.specs.States.{counts_of};
     ghost use Rattle.std.specs.Prelude.{◌≡◌, ◌≤◌, ◌^◌, None};
 
     ghost Value = { ConsoleState };
 
-    ghost view = { λ c. record { machine = c.machine; limit = c.limit; stopped = c.stopped } };
+    ghost view = { λ c. record { machine = c.machine; limit = c.limit; stopped = c.stopped; turns = c.turns } };
 
     // no step was taken at its limit or later; a turn whose limit isn't above the open one neither raises its limit nor comes after a stop; and unless it
-    // stopped no halted processor is to wake
-    ghost invariant = { λ c. CountsWithin c.limit c.machine × (c.limit ≤ 2 ^ 56) × (c.open_until ≡ open_of c.limit c.stopped) × (c.stopped ≡ None → AreAsleep c.machine) };
+    // stopped no halted processor is to wake, and the units behind the ports are settled; each turn that counts took a step
+    ghost invariant = { λ c. CountsWithin c.limit c.machine × (c.limit ≤ 2 ^ 56) × (c.open_until ≡ open_of c.limit c.stopped) × (c.stopped ≡ None → IsSound c.machine) × (c.turns ≤ counts_of c.machine) };
 }
 
 impl Console {
     /// A console that is switched on with a cartridge and a key script, and hasn't run. All memory of a run is taken here.
     pub fn new(alloc: Global, cart: Cart, keys: Keys) -> Result<Console, AllocError>
-        ensures { IfOk result (λ console. console ≡ record { machine = machine_booted cart keys; limit = 0; stopped = None }) }
+        ensures { IfOk result (λ console. console ≡ record { machine = machine_booted cart keys; limit = 0; stopped = None; turns = 0 }) }
     {
         let machine = Machine::new(alloc, &cart, keys)?;
+        machine.laws();
         Ok(Console {
             machine,
             limit: 0,
             stopped: None,
             open_until: 0,
+            turns: 0,
         })
     }
 
-    /// One turn: nothing where no actor is due below the limit, and otherwise the step of the actor that is due first. After a
-    /// stop every turn answers the same and changes nothing. The frame that a turn made whole is the last whole one after it, and every other turn
-    /// leaves the last whole one as it was; and so it is with the geometry lists that were swapped there. A turn that takes a step is one more of the counts, and fewer such turns
-    /// are left below the limit.
+    /// One turn: nothing where no actor is due below the limit, and otherwise the step of the actor that is due first, and where that is a processor then the longest run of
+    /// its further steps that belong to the turn: each is due below the limit, and is the least or may be taken before its turn. After a stop every turn answers the same and
+    /// changes nothing. The frame that a turn made whole is the last whole one after it, and every other turn leaves the last whole one as it was; and so it is with the
+    /// geometry lists that were swapped there. A turn that takes a step and doesn't stop counts, and fewer such turns are left below the limit.
+    #[inline(never)]
     pub fn turn(&mut self, until: Tick) -> Turned
         requires { until.0 ≤ 2 ^ 56 }
         ensures turn { Turns until.0 self.old result self.new }
         ensures runs { self.old.stopped ≡ None → RunsOn until.0 self.old.machine result self.new.machine }
         ensures frames { FollowFrames self.old.machine self.new.machine (shown_in result self.old.machine self.new.machine) }
         ensures lists { FollowLists self.old.machine self.new.machine (shown_in result self.old.machine self.new.machine) }
-        ensures counted { turns_of self.new.machine ≡ counted_of result + turns_of self.old.machine }
+        ensures counted { self.new.turns ≡ counted_of result + self.old.turns }
         ensures falls { counted_of result ≡ 1 → turns_remaining until.0 self.new.machine < turns_remaining until.0 self.old.machine }
     {
         self.laws();
         self.step(until)
     }
 
+    /// Turns up to one that answers anything but that it ran, whose answer this is: it made a frame whole, or no actor is due below the limit, or the
+    /// console has stopped. The loop over turns stands here alone: who runs a console calls this, and comes back where there is something to look at.
+    #[inline(never)]
+    pub fn run_on(&mut self, until: Tick) -> Turned
+        requires { until.0 ≤ 2 ^ 56 }
+        ensures turns { TurnsUpTo until.0 self.old result self.new }
+        ensures other { result ≢ Ran }
+        ensures falls { counted_of result ≡ 1 → turns_remaining until.0 self.new.machine < turns_remaining until.0 self.old.machine }
+    {
+        'run: loop {
+            self.laws();
+            match self.at_once(until) {
+                AtOnce::Ran => continue 'run,
+                AtOnce::Stopped => return self.stop_answer(),
+                AtOnce::NotTaken => {}
+            }
+            match self.turn(until) {
+                Turned::Ran => {}
+                answer => return answer,
+            }
+        }
+    }
+
     /// Does nothing; its contract states what holds of every console's machine: each unit's numbers are those that it can have, and the lines of the key
-    /// script that are to come rise; unless the console has stopped no halted processor is to wake; neither FIFO between the processors holds more than 16
-    /// words, each of 32 bits; and CPSR and each SPSR of both processors have no bits but those that are kept.
+    /// script that are to come rise; unless the console has stopped no halted processor is to wake, and the units behind the ports are settled; neither FIFO
+    /// between the processors holds more than 16 words, each of 32 bits; and CPSR and each SPSR of both processors have no bits but those that are kept.
     pub fn laws(&self)
         ensures parts { HasSoundParts self.now.machine }
         ensures sound { self.now.stopped ≡ None → IsSound self.now.machine }
@@ -99,42 +142,60 @@ impl Console {
         self.machine.laws();
     }
 
-    /// A turn, where it is one whose step is on the fast path; the result is whether it was. Where it wasn't nothing is changed, and the
-    /// turn is still to be taken.
+    /// A turn, where it raises no limit and the least actor is known to be a processor: the fast path stands here, and has one caller. Where it isn't taken nothing is changed. The
+    /// answer has no stop in it, which would be moved at each turn.
     #[inline(always)]
-    pub fn turn_fast(&mut self, until: Tick) -> bool
+    fn at_once(&mut self, until: Tick) -> AtOnce
         requires { until.0 ≤ 2 ^ 56 }
-        ensures none { result ≡ false → self.new ≡ self.old }
-        ensures turn { result ≡ true → Turns until.0 self.old Ran self.new }
-        ensures runs { result ≡ true → RunsOn until.0 self.old.machine Ran self.new.machine }
-        ensures frames { result ≡ true → last_frame self.new.machine ≡ last_frame self.old.machine }
-        ensures lists { result ≡ true → last_lists self.new.machine ≡ last_lists self.old.machine }
-        ensures counted { result ≡ true → turns_of self.new.machine ≡ 1 + turns_of self.old.machine }
-        ensures falls { result ≡ true → turns_remaining until.0 self.new.machine < turns_remaining until.0 self.old.machine }
+        ensures ran { result ≡ once.Ran → Turns until.0 self.old Ran self.new }
+        ensures stopped { result ≡ once.Stopped → (left : LeftOut) × (self.new.stopped ≡ Some left) × Turns until.0 self.old (Stopped left) self.new }
+        ensures none { result ≡ once.NotTaken → self.new ≡ self.old }
     {
-        self.laws();
-        self.step_fast(until)
+        if until.0 <= self.open_until
+            && let Some(proc) = self.machine.first(until)
+        {
+            if self.go(proc, until) {
+                return AtOnce::Stopped;
+            }
+            return AtOnce::Ran;
+        }
+        AtOnce::NotTaken
     }
 
-    /// A step of the fast path, where the console hasn't stopped and it raises no limit; the result is whether it was.
+    /// The turn of a processor that is the least actor, which raises no limit. The answer is whether it stopped.
     #[inline(always)]
-    fn step_fast(&mut self, until: Tick) -> bool
+    fn go(&mut self, proc: Proc, until: Tick) -> bool
         requires early { until.0 ≤ 2 ^ 56 }
-        requires parts { HasSoundParts self.old.machine }
-        ensures none { result ≡ false → self.new ≡ self.old }
-        ensures turn { result ≡ true → Turns until.0 self.old Ran self.new }
+        requires least { IsLeastBelow until.0 self.old.machine proc }
+        requires same { max self.old.limit until.0 ≡ self.old.limit }
+        requires still_open { self.old.stopped ≡ None }
+        ensures ran { result ≡ false → Turns until.0 self.old Ran self.new }
+        ensures stopped { result ≡ true → (left : LeftOut) × (self.new.stopped ≡ Some left) × Turns until.0 self.old (Stopped left) self.new }
     {
-        if until.0 <= self.open_until {
-            return self.machine.step_fast(until);
+        if take_stretch(&mut self.machine, &mut self.stopped, proc, until) {
+            self.open_until = 0;
+            return true;
         }
+        self.turns += 1;
         false
     }
 
-    /// A turn, as the one step that it is so far.
+    /// What a console answers that has stopped.
+    #[inline(never)]
+    fn stop_answer(&self) -> Turned
+        requires { IsSome self.now.stopped }
+        ensures { (left : LeftOut) → self.now.stopped ≡ Some left → result ≡ Stopped left }
+    {
+        match self.stopped {
+            Some(left) => Turned::Stopped(left),
+            None => unreachable!(),
+        }
+    }
+
+    /// A turn of any kind.
     #[inline(never)]
     fn step(&mut self, until: Tick) -> Turned
-        requires early { until.0 ≤ 2 ^ 56 }
-        requires parts { HasSoundParts self.old.machine }
+        requires { until.0 ≤ 2 ^ 56 }
         ensures { Turns until.0 self.old result self.new }
     {
         if let Some(left) = self.stopped {
@@ -147,9 +208,15 @@ impl Console {
             return Turned::AtEnd;
         }
         // what it stops at is kept before anything else is called: a machine that stopped may have a halted processor that is to wake
-        match self.machine.step(due.rank) {
-            Done::Made => Turned::Ran,
-            Done::Frame { swapped } => Turned::Frame { swapped },
+        match take_turn(&mut self.machine, due, until) {
+            Done::Made => {
+                self.turns += 1;
+                Turned::Ran
+            }
+            Done::Frame { swapped } => {
+                self.turns += 1;
+                Turned::Frame { swapped }
+            }
             Done::Stopped(left) => {
                 self.stopped = Some(left);
                 self.open_until = 0;
@@ -232,24 +299,22 @@ impl Console {
         Tick(self.limit)
     }
 
-    /// How many steps there were: of each processor at most one a tick below the limit, of all other actors 22. So they add up to at most 24 times the limit. Each
-    /// was a turn.
+    /// How many steps there were: of each processor at most one a tick below the limit, of all other actors 22. So they add up to at most 24 times the limit. And how
+    /// many turns counted: no more than steps.
     pub fn counts(&self) -> Counts
         ensures nine { result.nine ≡ self.now.machine.nine.processor.steps }
         ensures seven { result.seven ≡ self.now.machine.seven.processor.steps }
         ensures events { result.events ≡ self.now.machine.events }
-        ensures turns { result.turns ≡ turns_of self.now.machine }
+        ensures turns { result.turns ≡ self.now.turns }
         ensures each { (result.nine ≤ self.now.limit) × (result.seven ≤ self.now.limit) × (result.events ≤ 22 * self.now.limit) }
         ensures bound { result.nine + result.seven + result.events ≤ 24 * self.now.limit }
+        ensures fewer { result.turns ≤ result.nine + result.seven + result.events }
     {
-        let nine = self.machine.steps(Proc::Nine);
-        let seven = self.machine.steps(Proc::Seven);
-        let events = self.machine.events();
         Counts {
-            nine,
-            seven,
-            events,
-            turns: nine + seven + events,
+            nine: self.machine.steps(Proc::Nine),
+            seven: self.machine.steps(Proc::Seven),
+            events: self.machine.events(),
+            turns: self.turns,
         }
     }
 }

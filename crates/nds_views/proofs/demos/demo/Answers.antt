@@ -1,4 +1,5 @@
 use Rattle.std.proofs.Common.{refl, sym, ◌≡◌, ◌∙◌, ap, subst, Some, List, ℕ, []}
+use Rattle.std.proofs.lemmas.Option.{same_Some}
 use Rattle.ds_base.specs.declared.keys.KeyLine.{KeyLine}
 use Rattle.ds_machine.specs.Booted.{machine_booted}
 use Rattle.demo_carts.specs.Demos.{demo_file}
@@ -17,7 +18,7 @@ returns g c =
     let boot = switched_on (demo_booted number) in
     let call = around g.F.Shelf.told g.F.Shelf.faults g.O.Sink.tells g.O.Sink.taken g.O.Sink.faults c.args.shelf.now c.args.shelf.now c.args.out.now c.demo-played.new.out (Some c.demo-played.new.console) in
     let file_is : c.in-Ok-read.cart ≡ demo_file number = c.in-Ok-read.ensures.accepted.0 ∙ c.in-Ok.ensures.file in
-    let is : c.in-Ok-new.console ≡ boot = c.in-Ok-new.ensures ∙ ap (λ (f : List ℕ). switched_on (machine_booted f c.new.result)) file_is ∙ ap (λ (k : List KeyLine). switched_on (machine_booted (demo_file number) k)) c.new.ensures in
+    let is : c.in-Some.console ≡ boot = same_Some c.in-Some.console _ (sym c.in-Some.is ∙ c.in-Ok-switch_on.ensures.on) ∙ ap (λ (f : List ℕ). switched_on (machine_booted f c.new.result)) file_is ∙ ap (λ (k : List KeyLine). switched_on (machine_booted (demo_file number) k)) c.new.ensures in
     let P : ConsoleState → Type 0 = λ k. WritesAfter g.O.Sink.tells g.O.Sink.taken g.O.Sink.faults ticks (demo_of number ticks k.machine) k c.args.out.now c.demo-played.result c.demo-played.new.console c.demo-played.new.out in
     let wrote = wrote_in g.F.Shelf.told g.F.Shelf.faults g.O.Sink.tells g.O.Sink.taken g.O.Sink.faults c.args.shelf.now c.args.shelf.now c.args.out.now c.demo-played.new.out
     ticks (demo_of number ticks (demo_booted number)) (demo_file number) [] boot c.demo-played.new.console c.demo-played.result c.turn_laws.ensures refl (subst P is c.demo-played.ensures) in

@@ -10,10 +10,18 @@ returns-clause-each c =
     let nine = within.steps Nine in
     let seven = within.steps Seven in
     let events = within.events in
-    let n = c.steps-nine.ensures in
-    let s = c.steps-seven.ensures in
-    let e = c.events-events.ensures in
+    let n = c.steps.ensures in
+    let s = c.steps-2.ensures in
+    let e = c.events.ensures in
     (omega (arith, limit, nine, n), omega (arith, limit, seven, s), omega (arith, limit, events, e))
 
 pub returns-clause-bound : goal.returns-clause-bound
 returns-clause-bound c = let each = returns-clause-each c in let nine = each.0 in let seven = each.1 in let events = each.2 in omega (arith, nine, seven, events)
+
+pub returns-clause-fewer : goal.returns-clause-fewer
+returns-clause-fewer c =
+    let few = c.self.invariant.4 in
+    let n = c.steps.ensures in
+    let s = c.steps-2.ensures in
+    let e = c.events.ensures in
+    omega (arith, few, n, s, e)

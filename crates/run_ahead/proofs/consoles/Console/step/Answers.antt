@@ -1,31 +1,64 @@
-use Rattle.std.proofs.Common.{refl, sym, ap, subst, [], ◌∷◌}
+use Rattle.std.proofs.Common.{refl, sym, ap, arith}
 use Rattle.std.proofs.lemmas.Option.{none-some}
-use Rattle.ds_machine.specs.Reference.{HasSoundParts, next_shown}
-use Rattle.ds_machine.proofs.MachineSchedule.{asleep_made}
-use Rattle.run_ahead.specs.Consoles.{ConsoleState, open_of}
-use Rattle.run_ahead.proofs.StepTurns.{within_by}
+use Rattle.run_ahead.specs.Consoles.{open_of}
+use Rattle.run_ahead.proofs.StepTurns.{frame_taken, made_taken, one_fits, raised_within, stopped_counts, turn_within}
 use Rattle.run_ahead.proofs.consoles.Console.step.Goals as goal
+
+pub take_turn-requires-clause-sound : goal.take_turn-requires-clause-sound
+take_turn-requires-clause-sound c = c.self.invariant.3 c.in_default.is
+
+pub overflow_add-self : goal.overflow_add-self
+overflow_add-self c = one_fits c.self.inside.turns c.self.inside.limit c.self.inside.machine c.self.invariant.0 c.self.invariant.1 c.self.invariant.4
+
+pub overflow_add-self-in-Frame : goal.overflow_add-self-in-Frame
+overflow_add-self-in-Frame c = one_fits c.self.inside.turns c.self.inside.limit c.self.inside.machine c.self.invariant.0 c.self.invariant.1 c.self.invariant.4
 
 pub invariant_of-self-in-Made : goal.invariant_of-self-in-Made
 invariant_of-self-in-Made c =
-    let before = c.self.invariant in
-    let sound = subst (λ (x : ConsoleState). HasSoundParts x.machine) (sym c.self.view_is) c.requires.parts in
-    let within = within_by c.self.inside.machine c.step.new.self c.due-due.result c.step.result c.self.inside.limit c.args.until.0 c.max-self-inside.result
-    sound c.due-due.ensures.least c.step.ensures c.due-due.ensures.counted (before.0, before.1) c.if-until-due.false c.requires.early c.max-self-inside.ensures in
-    (within.0, within.1, sym (ap (open_of c.max-self-inside.result) c.in_default.is), λ none. asleep_made c.self.inside.machine c.step.new.self c.due-due.result.tick c.due-due.result.rank [] c.due-due.ensures.least c.in-Made.ensures)
+    let limit = c.max-self-inside.ensures in
+    let early = c.requires in
+    let most = c.self.invariant.1 in
+    let few = c.self.invariant.4 in
+    let sound = c.self.invariant.3 c.in_default.is in
+    let within = raised_within c.self.inside.limit c.max-self-inside.result c.self.inside.machine c.due-due.ensures.counted c.self.invariant.0 (omega (arith, limit)) in
+    let taken = made_taken c.args.until.0 c.self.inside.machine c.take_turn.new.machine sound c.in-Made.ensures in
+    let more = taken.more in (
+      turn_within c.args.until.0 c.max-self-inside.result c.self.inside.machine c.take_turn.new.machine c.take_turn.result (omega (arith, limit)) sound within c.take_turn.ensures,
+      omega (arith, limit, early, most),
+      sym (ap (open_of c.max-self-inside.result) c.in_default.is),
+      λ none. taken.sound,
+      omega (arith, few, more),
+    )
 
 pub invariant_of-self-in-Frame : goal.invariant_of-self-in-Frame
 invariant_of-self-in-Frame c =
-    let before = c.self.invariant in
-    let sound = subst (λ (x : ConsoleState). HasSoundParts x.machine) (sym c.self.view_is) c.requires.parts in
-    let within = within_by c.self.inside.machine c.step.new.self c.due-due.result c.step.result c.self.inside.limit c.args.until.0 c.max-self-inside.result
-    sound c.due-due.ensures.least c.step.ensures c.due-due.ensures.counted (before.0, before.1) c.if-until-due.false c.requires.early c.max-self-inside.ensures in
-    (within.0, within.1, sym (ap (open_of c.max-self-inside.result) c.in_default.is), λ none. asleep_made c.self.inside.machine c.step.new.self c.due-due.result.tick c.due-due.result.rank (next_shown c.self.inside.machine c.step.new.self c.in-Frame.swapped ∷ []) c.due-due.ensures.least c.in-Frame.ensures)
+    let limit = c.max-self-inside.ensures in
+    let early = c.requires in
+    let most = c.self.invariant.1 in
+    let few = c.self.invariant.4 in
+    let sound = c.self.invariant.3 c.in_default.is in
+    let within = raised_within c.self.inside.limit c.max-self-inside.result c.self.inside.machine c.due-due.ensures.counted c.self.invariant.0 (omega (arith, limit)) in
+    let taken = frame_taken c.args.until.0 c.self.inside.machine c.take_turn.new.machine c.in-Frame.swapped sound c.in-Frame.ensures in
+    let more = taken.more in (
+      turn_within c.args.until.0 c.max-self-inside.result c.self.inside.machine c.take_turn.new.machine c.take_turn.result (omega (arith, limit)) sound within c.take_turn.ensures,
+      omega (arith, limit, early, most),
+      sym (ap (open_of c.max-self-inside.result) c.in_default.is),
+      λ none. taken.sound,
+      omega (arith, few, more),
+    )
 
 pub invariant_of-self-in-Stopped : goal.invariant_of-self-in-Stopped
 invariant_of-self-in-Stopped c =
-    let before = c.self.invariant in
-    let sound = subst (λ (x : ConsoleState). HasSoundParts x.machine) (sym c.self.view_is) c.requires.parts in
-    let within = within_by c.self.inside.machine c.step.new.self c.due-due.result c.step.result c.self.inside.limit c.args.until.0 c.max-self-inside.result
-    sound c.due-due.ensures.least c.step.ensures c.due-due.ensures.counted (before.0, before.1) c.if-until-due.false c.requires.early c.max-self-inside.ensures in
-    (within.0, within.1, refl, λ none. absurd (none-some _ (sym none)))
+    let limit = c.max-self-inside.ensures in
+    let early = c.requires in
+    let most = c.self.invariant.1 in
+    let few = c.self.invariant.4 in
+    let sound = c.self.invariant.3 c.in_default.is in
+    let within = raised_within c.self.inside.limit c.max-self-inside.result c.self.inside.machine c.due-due.ensures.counted c.self.invariant.0 (omega (arith, limit)) in
+    let kept = stopped_counts c.args.until.0 c.self.inside.machine c.take_turn.new.machine c.in-Stopped.left sound c.in-Stopped.ensures in (
+      turn_within c.args.until.0 c.max-self-inside.result c.self.inside.machine c.take_turn.new.machine c.take_turn.result (omega (arith, limit)) sound within c.take_turn.ensures,
+      omega (arith, limit, early, most),
+      refl,
+      λ none. absurd (none-some _ (sym none)),
+      omega (arith, few, kept),
+    )

@@ -1,0 +1,39 @@
+use Rattle.std.proofs.Common.{[], Option, refl, sym, subst}
+use Rattle.ds_base.specs.declared.left_out.LeftOut.{LeftOut}
+use Rattle.ds_machine.specs.Private.{BelongsToTurn, TakesSteps, none, more}
+use Rattle.ds_machine.specs.States.{MachineState}
+use Rattle.ds_machine.proofs.OwnRemaining.{turn_steps_fall}
+use Rattle.run_ahead.specs.Inside.{TookStretch}
+use Rattle.run_ahead.proofs.Stretches.{sound_along}
+use Rattle.run_ahead.proofs.machine_turns.take_stretch_slowly.Goals as goal
+
+pub steps-init : goal.steps-init
+steps-init c = (none c.args.machine.now, refl)
+
+pub step_slowly-requires-clause-sound : goal.step_slowly-requires-clause-sound
+step_slowly-requires-clause-sound c = sound_along c.args.until.0 c.args.proc c.args.machine.now c.steps.machine c.requires.sound c.steps.invariant.0
+
+pub step_slowly-requires-clause-running : goal.step_slowly-requires-clause-running
+step_slowly-requires-clause-running c = c.steps.invariant.1
+
+pub returns-in-Over : goal.returns-in-Over
+returns-in-Over c =
+    let same = sym c.in-Over.ensures.1 in
+    subst (λ (o : Option LeftOut). TookStretch c.args.until.0 c.args.proc c.args.machine.now o c.step_slowly.new.machine) (sym c.in-Over.ensures.2) (
+      subst (λ (m : MachineState). TakesSteps c.args.until.0 c.args.proc c.args.machine.now m) same c.steps.invariant.0,
+      subst (λ (m : MachineState). (BelongsToTurn c.args.until.0 m c.args.proc → ⊥)) same c.in-Over.ensures.0,
+    )
+
+pub returns-in-Stopped : goal.returns-in-Stopped
+returns-in-Stopped c =
+    let stop = c.in-Stopped.ensures.1 in
+    subst (λ (o : Option LeftOut). TookStretch c.args.until.0 c.args.proc c.args.machine.now o c.step_slowly.new.machine) (sym stop.1)
+    (c.steps.machine, c.steps.invariant.0, c.in-Stopped.ensures.0, stop.2)
+
+pub steps-preserved : goal.steps-preserved
+steps-preserved c = (more c.args.machine.now c.steps.machine c.step_slowly.new.machine c.steps.invariant.0 c.in-Took.ensures.0 c.in-Took.ensures.1, c.in-Took.ensures.2)
+
+pub steps-smaller : goal.steps-smaller
+steps-smaller c =
+    let sound = sound_along c.args.until.0 c.args.proc c.args.machine.now c.steps.machine c.requires.sound c.steps.invariant.0 in
+    turn_steps_fall c.args.until.0 c.steps.machine c.step_slowly.new.machine c.args.proc [] sound.parts c.in-Took.ensures.0 c.in-Took.ensures.1

@@ -9,7 +9,6 @@ mod digits;
 mod interrupts;
 mod keys;
 mod left_out;
-mod matrices;
 mod memories;
 mod processors;
 mod ticks;
@@ -18,7 +17,6 @@ pub use digits::{hex_digit, hex_digits};
 pub use interrupts::Interrupt;
 pub use keys::{KeyLine, Keys};
 pub use left_out::{LeftKind, LeftOut, Stop};
-pub use matrices::Matrix;
 pub use memories::{
     DTCM_BYTES, ITCM_BYTES, MAIN_BYTES, Memory, OAM_BYTES, OWN7_BYTES, PALETTE_BYTES, SHARED_BYTES,
     Space, VRAM_BYTES, Width,

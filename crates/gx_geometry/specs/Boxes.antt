@@ -1,7 +1,7 @@
 use Rattle.std.specs.Prelude.{ℕ, Bool, true, false, ◌||◌, not, if◌then◌else◌, ℤ, pos, neg_ℤ, int_lt, ◌+ℤ◌, List, [], ◌∷◌, slice_index}
 use Rattle.std.specs.Int.{int_wrap, w16}
 use Rattle.std.specs.List.{list_all}
-use Rattle.ds_base.specs.declared.matrices.Matrix.{Matrix}
+use Rattle.line_lanes.specs.declared.matrices.Matrix.{Matrix}
 use Rattle.gx_matrix.specs.Algebra.{at, times}
 use Rattle.gx_geometry.specs.declared.numbers.Point.{Point}
 use Rattle.gx_geometry.specs.declared.boxes.Clipped.{Clipped}

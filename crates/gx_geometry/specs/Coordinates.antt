@@ -1,7 +1,7 @@
 use Rattle.std.specs.Prelude.{ℕ, ◌-◌, nat_lt, if◌then◌else◌, ℤ, pos, negsuc, unsigned_abs, ◌+ℤ◌, ◌*ℤ◌, List, [], ◌∷◌}
 use Rattle.std.specs.Int.{int_div_euclid, int_rem_euclid, int_wrap, w16}
 use Rattle.ds_base.specs.Bits.{bits}
-use Rattle.ds_base.specs.declared.matrices.Matrix.{Matrix}
+use Rattle.line_lanes.specs.declared.matrices.Matrix.{Matrix}
 use Rattle.gx_matrix.specs.Algebra.{cell}
 use Rattle.gx_geometry.specs.declared.numbers.Point.{Point}
 use Rattle.gx_geometry.specs.declared.numbers.Coordinates.{Coordinates}

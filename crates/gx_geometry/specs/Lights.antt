@@ -1,7 +1,7 @@
 use Rattle.std.specs.Prelude.{ℕ, ◌+◌, ◌*◌, ◌/◌, ◌%◌, ◌^◌, if◌then◌else◌, min, ℤ, pos, negsuc, neg_ℤ, ◌+ℤ◌, ◌-ℤ◌, ◌*ℤ◌, List, [], ◌∷◌, slice_index, slice_index_or}
 use Rattle.std.specs.Int.{int_div_euclid}
 use Rattle.ds_base.specs.Bits.{bits, bit}
-use Rattle.ds_base.specs.declared.matrices.Matrix.{Matrix}
+use Rattle.line_lanes.specs.declared.matrices.Matrix.{Matrix}
 use Rattle.gx_matrix.specs.Algebra.{at, times}
 use Rattle.gx_geometry.specs.declared.numbers.Light.{Light}
 use Rattle.gx_geometry.specs.declared.numbers.Material.{Material}

@@ -5,8 +5,7 @@ ghost use Rattle.gx_geometry.specs.Boxes.{through, far_side, corner, corners_of,
 
 use crate::exact::wrapped_sum;
 use crate::numbers::{Point, high_half, low_half};
-use ds_base::Matrix;
-use gx_matrix::times;
+use gx_matrix::{Matrix, times};
 
 /// A vertex in clip space: signed words with 12 fractional bits.
 #[derive(Clone, Copy)]

@@ -8,7 +8,7 @@ ghost use Rattle.gx_geometry.specs.Coordinates.{with_three, with_coordinates, ha
 
 use crate::exact::{product, wrapped_sum};
 use crate::numbers::{Coordinates, Point, ten};
-use ds_base::Matrix;
+use gx_matrix::Matrix;
 
 #[tactic(auto, using(gx_matrix::proofs::Sums::casts))]
 fn with_cell(a: i16, m: &Matrix, i: usize, j: usize) -> i64

@@ -5,8 +5,7 @@ ghost use Rattle.gx_geometry.specs.Lights.{turned, dot, facing, half, table_byte
 
 use crate::exact::{product, sum};
 use crate::numbers::{Light, Material, Numbers, ten};
-use ds_base::Matrix;
-use gx_matrix::times;
+use gx_matrix::{Matrix, times};
 
 /// How strongly a light shines on a normal.
 #[derive(Clone, Copy)]

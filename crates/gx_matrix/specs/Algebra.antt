@@ -1,6 +1,6 @@
 use Rattle.std.specs.Prelude.{ℕ, ◌+◌, ◌*◌, ◌==◌, ◌&&◌, nat_lt, if◌then◌else◌, ℤ, pos, ◌+ℤ◌, ◌*ℤ◌, List, [], ◌∷◌, ◌++◌, slice_index, slice_index_or}
 use Rattle.std.specs.Int.{cast_signed, int_div_euclid, int_wrap, w32}
-use Rattle.ds_base.specs.declared.matrices.Matrix.{Matrix}
+use Rattle.line_lanes.specs.declared.matrices.Matrix.{Matrix}
 
 -- Matrix algebra (GBATEK, "DS 3D Matrix Types"). Cells are signed words with 12 fractional bits, sums of products are exact whole
 -- numbers, and vectors are rows: a vector v goes through a matrix A and then through B as v A B.

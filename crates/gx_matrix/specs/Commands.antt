@@ -1,6 +1,6 @@
 use Rattle.std.specs.Prelude.{ℕ, ◌+◌, ◌-◌, ◌*◌, ◌^◌, ◌==◌, nat_lt, nat_le, if◌then◌else◌, Bool, true, false, ℤ, pos, negsuc, ◌-ℤ◌, Option, Some, None, List, replicate, slice_index, slice_index_or, slice_set}
 use Rattle.ds_base.specs.Bits.{bits, flag}
-use Rattle.ds_base.specs.declared.matrices.Matrix.{Matrix}
+use Rattle.line_lanes.specs.declared.matrices.Matrix.{Matrix}
 use Rattle.gx_matrix.specs.declared.commands.GeometryCommand.{GeometryCommand}
 use Rattle.gx_matrix.specs.declared.commands.GeometryCommand.TheVariants.{MtxMode, MtxPush, MtxPop, MtxStore, MtxRestore, MtxIdentity, MtxLoad4x4, MtxLoad4x3, MtxMult4x4, MtxMult4x3, MtxMult3x3, MtxScale, MtxTrans}
 use Rattle.gx_matrix.specs.declared.stacks.Mode.{Mode}

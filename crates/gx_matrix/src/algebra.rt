@@ -4,7 +4,7 @@ ghost use Rattle.std.specs.Prelude.{◌≡◌, ◌<◌, ◌≤◌, ◌*◌, ◌/
 ghost use Rattle.std.specs.Int.{int_wrap, w64, w32, cast_unsigned, cast_signed};
 ghost use Rattle.gx_matrix.specs.Algebra.{at, cell, row_of, sum_with_column, times_column, times, product, one, identity, given_cell, given, scaling_cell, scaling, translation_cell, translation};
 
-use ds_base::Matrix;
+use line_lanes::Matrix;
 
 /// The matrix whose cells a function gives by row and column.
 macro_rules! matrix_by {

@@ -11,4 +11,5 @@ mod stacks;
 
 pub use algebra::{given, identity, product, scaling, times, translation};
 pub use commands::GeometryCommand;
+pub use line_lanes::Matrix;
 pub use stacks::{Mode, Pose, Single, Stacks};

@@ -6,7 +6,7 @@ ghost use Rattle.gx_matrix.specs.CommandTable.{command_of, HasParameters, IsComm
 
 use crate::algebra::{given, identity, product, scaling, translation};
 use crate::commands::GeometryCommand;
-use ds_base::Matrix;
+use line_lanes::Matrix;
 use std::marker::Model;
 
 /// How many places the stack of position and vector matrices has.

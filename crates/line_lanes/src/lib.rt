@@ -7,9 +7,11 @@
 
 mod effects;
 mod lanes;
+mod matrices;
 mod mixes;
 mod nibbles;
 mod seconds;
 
 pub use effects::{blend, brighten, darken, master};
+pub use matrices::Matrix;
 pub use nibbles::unpack4;

@@ -3,9 +3,9 @@
 ghost use Rattle.std.specs.Prelude.{◌≤◌};
 
 use super::{Line, Which};
-use ds_base::{Matrix, Tick};
+use ds_base::Tick;
 use gx_geometry::{Geometry, Polygon, Vertex};
-use gx_matrix::{GeometryCommand, times};
+use gx_matrix::{GeometryCommand, Matrix, times};
 use std::alloc::{AllocError, Global};
 
 /// An engine, and the parameters that wait for a command of many.

@@ -1,5 +1,6 @@
-use Rattle.std.proofs.Common.{ℕ, ◌≡◌, ◌<◌, ◌+◌, ◌-◌, ◌*◌, ◌/◌, ◌%◌, ◌^◌, ℤ, pos, negsuc, ◌+ℤ◌, refl, sym, ◌∙◌, ap, arith}
-use Rattle.std.specs.Int.{cast_signed, cast_unsigned, int_wrap, w16, w64}
+use Rattle.std.proofs.Common.{ℕ, suc, ◌≡◌, ◌<◌, ◌+◌, ◌-◌, ◌*◌, ◌/◌, ◌%◌, ◌^◌, ℤ, pos, negsuc, ◌+ℤ◌, refl, sym, ◌∙◌, ap, arith}
+use Rattle.std.specs.Int.{cast_signed, cast_unsigned, int_wrap, w16, w32, w64}
+use Rattle.std.specs.Int.RustNames.{FitsSigned}
 use Rattle.std.proofs.lemmas.Int.{of_z-to_z, to_z-of_z}
 use Rattle.gx_geometry.specs.Coordinates.{half_of_sum, signed_13, tested_of_sum}
 
@@ -9,13 +10,7 @@ below n = omega arith
 below_top : (n : ℕ) → 2 ^ 64 - 1 - n % 2 ^ 64 < 2 ^ 64
 below_top n = omega arith
 
--- a sum of 64 bits that wrapped shows the bits of the exact sum: those of 2 ^ 12, 2 ^ 17 and 2 ^ 20 on, and of 2 ^ 9 on
-low_12 : (n : ℕ) → n % 2 ^ 64 / 4096 % 2 ^ 16 ≡ n / 4096 % 2 ^ 16
-low_12 n = omega arith
-
-top_12 : (n : ℕ) → (2 ^ 64 - 1 - n % 2 ^ 64) / 4096 % 2 ^ 16 ≡ 2 ^ 16 - 1 - n / 4096 % 2 ^ 16
-top_12 n = omega arith
-
+-- a sum of 64 bits that wrapped shows the bits of the exact sum: those of 2 ^ 17 and 2 ^ 20 on, and of 2 ^ 9 on
 low_17 : (n : ℕ) → n % 2 ^ 64 / 131072 % 2 ^ 16 ≡ n / 131072 % 2 ^ 16
 low_17 n = omega arith
 
@@ -34,11 +29,6 @@ low_9 n = omega arith
 top_9 : (n : ℕ) → (2 ^ 64 - 1 - n % 2 ^ 64) / 512 % 8192 ≡ 8192 - 1 - n / 512 % 8192
 top_9 n = omega arith
 
-pub half_12 : (z : ℤ) → cast_signed w16 (cast_unsigned w64 (int_wrap w64 z) / 4096 % 2 ^ 16) ≡ half_of_sum 4096 z
-unfolding int_wrap half_of_sum
-half_12 (pos n) = ap (λ (m : ℕ). cast_signed w16 (m / 4096 % 2 ^ 16)) (of_z-to_z w64 (n % 2 ^ 64) (below n)) ∙ ap (cast_signed w16) (low_12 n)
-half_12 (negsuc n) = ap (λ (m : ℕ). cast_signed w16 (m / 4096 % 2 ^ 16)) (of_z-to_z w64 (2 ^ 64 - 1 - n % 2 ^ 64) (below_top n)) ∙ ap (cast_signed w16) (top_12 n)
-
 pub half_17 : (z : ℤ) → cast_signed w16 (cast_unsigned w64 (int_wrap w64 z) / 131072 % 2 ^ 16) ≡ half_of_sum 131072 z
 unfolding int_wrap half_of_sum
 half_17 (pos n) = ap (λ (m : ℕ). cast_signed w16 (m / 131072 % 2 ^ 16)) (of_z-to_z w64 (n % 2 ^ 64) (below n)) ∙ ap (cast_signed w16) (low_17 n)
@@ -54,7 +44,18 @@ unfolding int_wrap tested_of_sum
 tested_13 (pos n) = ap (λ (m : ℕ). signed_13 (m / 512 % 8192)) (of_z-to_z w64 (n % 2 ^ 64) (below n)) ∙ ap signed_13 (low_9 n)
 tested_13 (negsuc n) = ap (λ (m : ℕ). signed_13 (m / 512 % 8192)) (of_z-to_z w64 (2 ^ 64 - 1 - n % 2 ^ 64) (below_top n)) ∙ ap signed_13 (top_9 n)
 
+-- the lower half of a word
+top_16 : (n : ℕ) → n < 2 ^ 31 → (2 ^ 32 - suc n) % 2 ^ 16 ≡ 2 ^ 16 - 1 - n % 2 ^ 16
+top_16 n h = omega arith
+
+pub low_half_of : (z : ℤ) → FitsSigned w32 z → cast_signed w16 (cast_unsigned w32 z % 2 ^ 16) ≡ int_wrap w16 z
+unfolding int_wrap
+low_half_of (pos n) f = refl
+low_half_of (negsuc n) f = ap (cast_signed w16) (top_16 n (omega (arith, f.sfits)))
+
 -- for the functions that take such bits
-pub ruleset halves = (arith, to_z-of_z, half_12, half_17, half_20)
+pub ruleset halves = (arith, to_z-of_z, half_17, half_20)
 
 pub ruleset tests = (arith, to_z-of_z, tested_13)
+
+pub ruleset low_halves = (arith, to_z-of_z, low_half_of)

@@ -1,8 +1,8 @@
 use Rattle.std.specs.Prelude.{ℕ, Bool, true, false, ◌||◌, not, if◌then◌else◌, ℤ, pos, neg_ℤ, int_lt, ◌+ℤ◌, List, [], ◌∷◌, slice_index}
 use Rattle.std.specs.Int.{int_wrap, w16}
 use Rattle.std.specs.List.{list_all}
+use Rattle.line_lanes.specs.Matrices.{at, transform4}
 use Rattle.line_lanes.specs.declared.matrices.Matrix.{Matrix}
-use Rattle.gx_matrix.specs.Algebra.{at, times}
 use Rattle.gx_geometry.specs.declared.numbers.Point.{Point}
 use Rattle.gx_geometry.specs.declared.boxes.Clipped.{Clipped}
 use Rattle.gx_geometry.specs.declared.boxes.Plane.{Plane}
@@ -14,7 +14,7 @@ abbrev pub clipped_of : List ℤ → Clipped
 clipped_of v = record { x = at v 0; y = at v 1; z = at v 2; w = at v 3 }
 
 unfoldable pub through : Point → Matrix → Clipped
-through p m = clipped_of (times (p.x ∷ p.y ∷ p.z ∷ pos 4096 ∷ []) m)
+through p m = clipped_of (transform4 (p.x ∷ p.y ∷ p.z ∷ pos 4096 ∷ []) m)
 
 -- The box test (GBATEK, BOX_TEST): x, y and z of a corner, and how wide, high and deep the box is; the other corners wrap to halves (our choice)
 unfoldable pub far_side : Bool → ℤ → ℤ → ℤ

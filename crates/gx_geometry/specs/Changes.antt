@@ -1,6 +1,6 @@
 use Rattle.std.specs.Prelude.{ℕ, ◌+◌, ◌==◌, if◌then◌else◌, Bool, true, false, ℤ, List, slice_index, slice_set}
 use Rattle.ds_base.specs.Bits.{bits, bit}
-use Rattle.gx_matrix.specs.Algebra.{at}
+use Rattle.line_lanes.specs.Matrices.{at}
 use Rattle.gx_matrix.specs.Commands.{commanded}
 use Rattle.gx_matrix.specs.declared.commands.GeometryCommand.{GeometryCommand}
 use Rattle.gx_matrix.specs.declared.commands.GeometryCommand.TheVariants.{Color, Normal, Texcoord, Vtx16, Vtx10, VtxXy, VtxXz, VtxYz, VtxDiff, PolygonAttr, TeximageParam, PlttBase, DifAmb, SpeEmi, LightVector, LightColor, Shininess, BeginVtxs, SwapBuffers, Viewport, PosTest}

@@ -1,8 +1,8 @@
 use Rattle.std.specs.Prelude.{ℕ, ◌-◌, nat_lt, if◌then◌else◌, ℤ, pos, negsuc, unsigned_abs, ◌+ℤ◌, ◌*ℤ◌, List, [], ◌∷◌}
 use Rattle.std.specs.Int.{int_div_euclid, int_rem_euclid, int_wrap, w16}
 use Rattle.ds_base.specs.Bits.{bits}
+use Rattle.line_lanes.specs.Matrices.{cell, column_of, dot4}
 use Rattle.line_lanes.specs.declared.matrices.Matrix.{Matrix}
-use Rattle.gx_matrix.specs.Algebra.{cell}
 use Rattle.gx_geometry.specs.declared.numbers.Point.{Point}
 use Rattle.gx_geometry.specs.declared.numbers.Coordinates.{Coordinates}
 use Rattle.gx_geometry.specs.Numbers.{ten}
@@ -17,17 +17,16 @@ transform_mode texture = bits 30 2 texture
 unfoldable pub with_three : ℤ → ℤ → ℤ → Matrix → ℕ → ℤ
 with_three a b c m j = ((a *ℤ cell m 0 j) +ℤ (b *ℤ cell m 1 j)) +ℤ (c *ℤ cell m 2 j)
 
--- mode 1: the coordinates themselves, and two cells that move them
-unfoldable pub with_coordinates : Coordinates → Matrix → ℕ → ℤ
-with_coordinates raw m j = (((raw.s *ℤ cell m 0 j) +ℤ (raw.t *ℤ cell m 1 j)) +ℤ cell m 2 j) +ℤ cell m 3 j
-
 -- floor(sum / divisor), wrapped to a signed half
 unfoldable pub half_of_sum : ℕ → ℤ → ℤ
 half_of_sum divisor sum = int_wrap w16 (int_div_euclid sum (pos divisor))
 
+-- mode 1: the row s, t, 1, 1, in sixteenths, times a column, wrapped to a signed half
+abbrev pub coordinate_given : Coordinates → List ℤ → ℤ
+coordinate_given raw column = int_wrap w16 (dot4 (raw.s ∷ raw.t ∷ pos 1 ∷ pos 1 ∷ []) column)
+
 unfoldable pub by_coordinates : Coordinates → Matrix → Coordinates
-by_coordinates raw m =
-    record { s = half_of_sum 4096 (with_coordinates raw m 0); t = half_of_sum 4096 (with_coordinates raw m 1) }
+by_coordinates raw m = record { s = coordinate_given raw (column_of m 0); t = coordinate_given raw (column_of m 1) }
 
 -- modes 2 and 3: three numbers, added to the coordinates
 abbrev pub coordinate_moved : ℕ → ℤ → ℤ → ℤ → Matrix → ℕ → ℤ → ℤ

@@ -1,8 +1,8 @@
 use Rattle.std.specs.Prelude.{ℕ, ◌+◌, ◌*◌, ◌/◌, ◌%◌, ◌^◌, if◌then◌else◌, min, ℤ, pos, negsuc, neg_ℤ, ◌+ℤ◌, ◌-ℤ◌, ◌*ℤ◌, List, [], ◌∷◌, slice_index, slice_index_or}
 use Rattle.std.specs.Int.{int_div_euclid}
 use Rattle.ds_base.specs.Bits.{bits, bit}
+use Rattle.line_lanes.specs.Matrices.{at, transform4}
 use Rattle.line_lanes.specs.declared.matrices.Matrix.{Matrix}
-use Rattle.gx_matrix.specs.Algebra.{at, times}
 use Rattle.gx_geometry.specs.declared.numbers.Light.{Light}
 use Rattle.gx_geometry.specs.declared.numbers.Material.{Material}
 use Rattle.gx_geometry.specs.declared.numbers.Numbers.{Numbers}
@@ -17,7 +17,7 @@ direction word = ten 0 word ∷ ten 1 word ∷ ten 2 word ∷ pos 0 ∷ []
 
 -- the same, turned by the vector matrix
 unfoldable pub turned : ℕ → Matrix → List ℤ
-turned word m = times (direction word) m
+turned word m = transform4 (direction word) m
 
 -- the sum of the products of two directions, exact
 abbrev pub dot : ℤ → ℤ → ℤ → List ℤ → ℤ

@@ -5,7 +5,7 @@ ghost use Rattle.gx_geometry.specs.Boxes.{through, far_side, corner, corners_of,
 
 use crate::exact::wrapped_sum;
 use crate::numbers::{Point, high_half, low_half};
-use gx_matrix::{Matrix, times};
+use line_lanes::{Matrix, transform4};
 
 /// A vertex in clip space: signed words with 12 fractional bits.
 #[derive(Clone, Copy)]
@@ -42,7 +42,7 @@ pub enum Plane {
 pub fn through(p: Point, m: &Matrix) -> Clipped
     ensures { result ≡ through p m.now }
 {
-    let v = times(&[p.x as i32, p.y as i32, p.z as i32, 0x1000], m);
+    let v = transform4([p.x as i32, p.y as i32, p.z as i32, 0x1000], m);
     Clipped {
         x: v[0],
         y: v[1],

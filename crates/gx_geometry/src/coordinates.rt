@@ -1,14 +1,14 @@
 //! Texture coordinates, and the vector test, which sums the same way.
 
 ghost use Rattle.std.specs.Prelude.{◌≡◌, ◌<◌, ◌/◌, ◌%◌, ◌^◌, ◌+ℤ◌, ◌*ℤ◌};
-ghost use Rattle.std.specs.Int.{int_wrap, w16, w64, cast_signed, cast_unsigned};
-ghost use Rattle.gx_matrix.specs.Algebra.{cell};
+ghost use Rattle.std.specs.Int.{int_wrap, w16, w32, w64, cast_signed, cast_unsigned};
+ghost use Rattle.line_lanes.specs.Matrices.{cell};
 ghost use Rattle.gx_geometry.specs.Numbers.{ten};
-ghost use Rattle.gx_geometry.specs.Coordinates.{with_three, with_coordinates, half_of_sum, coordinate_moved, by_coordinates, by_normal, by_vertex, signed_13, tested_cell, vector_test};
+ghost use Rattle.gx_geometry.specs.Coordinates.{with_three, half_of_sum, coordinate_given, coordinate_moved, by_coordinates, by_normal, by_vertex, signed_13, tested_cell, vector_test};
 
 use crate::exact::{product, wrapped_sum};
 use crate::numbers::{Coordinates, Point, ten};
-use gx_matrix::Matrix;
+use line_lanes::{Matrix, dot4};
 
 #[tactic(auto, using(gx_matrix::proofs::Sums::casts))]
 fn with_cell(a: i16, m: &Matrix, i: usize, j: usize) -> i64
@@ -24,15 +24,6 @@ fn wrapped_three(a: i64, b: i64, c: i64) -> i64
     ensures { result ≡ int_wrap w64 ((a +ℤ b) +ℤ c) }
 {
     a.wrapping_add(b).wrapping_add(c)
-}
-
-#[tactic(auto, using(std::proofs::lemmas::Int::wraps))]
-fn wrapped_four(a: i64, b: i64, c: i32, d: i32) -> i64
-    ensures { result ≡ int_wrap w64 (((a +ℤ b) +ℤ c) +ℤ d) }
-{
-    a.wrapping_add(b)
-        .wrapping_add(c as i64)
-        .wrapping_add(d as i64)
 }
 
 /// Three numbers times the first three cells of a column.
@@ -56,19 +47,6 @@ fn with_tens(word: u32, m: &Matrix, j: usize) -> i64
     with_three(ten(0, word), ten(10, word), ten(20, word), m, j)
 }
 
-#[tactic(auto, using(gx_matrix::proofs::Sums::casts), unfolding(crate::specs::Coordinates::with_coordinates))]
-fn with_coordinates(raw: Coordinates, m: &Matrix, j: usize) -> i64
-    requires { j < 4 }
-    ensures { result ≡ int_wrap w64 (with_coordinates raw m.now j) }
-{
-    wrapped_four(
-        with_cell(raw.s, m, 0, j),
-        with_cell(raw.t, m, 1, j),
-        m.cells[8 + j],
-        m.cells[12 + j],
-    )
-}
-
 /// Sixteen bits of a sum from a place on.
 fn half_from(from: u32, sum: i64) -> i16
     requires { from < 48 }
@@ -77,14 +55,28 @@ fn half_from(from: u32, sum: i64) -> i16
     ((sum.cast_unsigned() >> from & 0xFFFF) as u16).cast_signed()
 }
 
+/// The lower half of a word, signed.
+fn low_of(word: i32) -> i16
+    ensures { result ≡ cast_signed w16 (cast_unsigned w32 word % 2 ^ 16) }
+{
+    ((word.cast_unsigned() & 0xFFFF) as u16).cast_signed()
+}
+
+#[tactic(auto, using(crate::proofs::Halves::low_halves))]
+fn coordinate_given(raw: Coordinates, column: [i32; 4]) -> i16
+    ensures { result ≡ coordinate_given raw column }
+{
+    low_of(dot4([raw.s as i32, raw.t as i32, 1, 1], column))
+}
+
 /// The coordinates of mode 1.
-#[tactic(auto, using(crate::proofs::Halves::halves), unfolding(crate::specs::Coordinates::by_coordinates))]
+#[tactic(auto, using(gx_matrix::proofs::Sums::casts), unfolding(crate::specs::Coordinates::by_coordinates))]
 pub fn by_coordinates(raw: Coordinates, m: &Matrix) -> Coordinates
     ensures { result ≡ by_coordinates raw m.now }
 {
     Coordinates {
-        s: half_from(12, with_coordinates(raw, m, 0)),
-        t: half_from(12, with_coordinates(raw, m, 1)),
+        s: coordinate_given(raw, m.column(0)),
+        t: coordinate_given(raw, m.column(1)),
     }
 }
 

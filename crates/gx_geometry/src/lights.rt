@@ -5,7 +5,7 @@ ghost use Rattle.gx_geometry.specs.Lights.{turned, dot, facing, half, table_byte
 
 use crate::exact::{product, sum};
 use crate::numbers::{Light, Material, Numbers, ten};
-use gx_matrix::{Matrix, times};
+use line_lanes::{Matrix, transform4};
 
 /// How strongly a light shines on a normal.
 #[derive(Clone, Copy)]
@@ -21,8 +21,8 @@ pub struct Levels {
 pub fn turned(word: u32, m: &Matrix) -> [i32; 4]
     ensures { result ≡ turned word m.now }
 {
-    times(
-        &[
+    transform4(
+        [
             ten(0, word) as i32,
             ten(10, word) as i32,
             ten(20, word) as i32,

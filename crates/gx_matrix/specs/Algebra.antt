@@ -1,20 +1,9 @@
-use Rattle.std.specs.Prelude.{ℕ, ◌+◌, ◌*◌, ◌==◌, ◌&&◌, nat_lt, if◌then◌else◌, ℤ, pos, ◌+ℤ◌, ◌*ℤ◌, List, [], ◌∷◌, ◌++◌, slice_index, slice_index_or}
-use Rattle.std.specs.Int.{cast_signed, int_div_euclid, int_wrap, w32}
+use Rattle.std.specs.Prelude.{ℕ, ◌+◌, ◌*◌, ◌==◌, ◌&&◌, nat_lt, if◌then◌else◌, ℤ, pos, List, [], ◌∷◌, ◌++◌, slice_index}
+use Rattle.std.specs.Int.{cast_signed, w32}
+use Rattle.line_lanes.specs.Matrices.{row_of, column_of, dot4}
 use Rattle.line_lanes.specs.declared.matrices.Matrix.{Matrix}
 
--- Matrix algebra (GBATEK, "DS 3D Matrix Types"). Cells are signed words with 12 fractional bits, sums of products are exact whole
--- numbers, and vectors are rows: a vector v goes through a matrix A and then through B as v A B.
-
--- the number at a place of a row
-abbrev pub at : List ℤ → ℕ → ℤ
-at numbers i = slice_index_or numbers i (pos 0)
-
--- the cell of a row and a column
-abbrev pub cell : Matrix → ℕ → ℕ → ℤ
-cell m r c = at m.cells (4 * r + c)
-
-abbrev pub row_of : Matrix → ℕ → List ℤ
-row_of m r = cell m r 0 ∷ cell m r 1 ∷ cell m r 2 ∷ cell m r 3 ∷ []
+-- Matrix algebra (GBATEK, "DS 3D Matrix Types")
 
 -- the matrix whose cells a rule gives by row and column
 abbrev pub row_of_rule : (ℕ → ℕ → ℤ) → ℕ → List ℤ
@@ -23,25 +12,9 @@ row_of_rule rule r = rule r 0 ∷ rule r 1 ∷ rule r 2 ∷ rule r 3 ∷ []
 abbrev pub matrix_by : (ℕ → ℕ → ℤ) → Matrix
 matrix_by rule = record { cells = row_of_rule rule 0 ++ row_of_rule rule 1 ++ row_of_rule rule 2 ++ row_of_rule rule 3 }
 
--- an exact sum of products, which has 24 fractional bits, as a cell: floor(sum / 4096), wrapped to a signed word (our choice of rounding)
-unfoldable pub cell_of_sum : ℤ → ℤ
-cell_of_sum sum = int_wrap w32 (int_div_euclid sum (pos 4096))
-
--- a row of four numbers times a column
-abbrev pub sum_with_column : List ℤ → Matrix → ℕ → ℤ
-sum_with_column row m c =
-    (((at row 0 *ℤ cell m 0 c) +ℤ (at row 1 *ℤ cell m 1 c)) +ℤ (at row 2 *ℤ cell m 2 c)) +ℤ (at row 3 *ℤ cell m 3 c)
-
-unfoldable pub times_column : List ℤ → Matrix → ℕ → ℤ
-times_column row m c = cell_of_sum (sum_with_column row m c)
-
--- a row of four numbers times a matrix
-unfoldable pub times : List ℤ → Matrix → List ℤ
-times row m = times_column row m 0 ∷ times_column row m 1 ∷ times_column row m 2 ∷ times_column row m 3 ∷ []
-
--- the product A B
+-- the product A B: the cell of a row and a column is that row of A times that column of B
 unfoldable pub product : Matrix → Matrix → Matrix
-product a b = matrix_by (λ r c. times_column (row_of a r) b c)
+product a b = matrix_by (λ r c. dot4 (row_of a r) (column_of b c))
 
 -- the identity
 abbrev pub one : ℕ → ℕ → ℤ

@@ -1,10 +1,9 @@
-//! Matrix algebra: exact sums of products, floored to 12 fractional bits and wrapped to signed words.
+//! Matrix algebra.
 
-ghost use Rattle.std.specs.Prelude.{◌≡◌, ◌<◌, ◌≤◌, ◌*◌, ◌/◌, ◌^◌, ◌%◌, ◌*ℤ◌, ◌+ℤ◌, length};
-ghost use Rattle.std.specs.Int.{int_wrap, w64, w32, cast_unsigned, cast_signed};
-ghost use Rattle.gx_matrix.specs.Algebra.{at, cell, row_of, sum_with_column, times_column, times, product, one, identity, given_cell, given, scaling_cell, scaling, translation_cell, translation};
+ghost use Rattle.std.specs.Prelude.{◌≡◌, ◌<◌, ◌≤◌, ◌*◌, length};
+ghost use Rattle.gx_matrix.specs.Algebra.{product, one, identity, given_cell, given, scaling_cell, scaling, translation_cell, translation};
 
-use line_lanes::Matrix;
+use line_lanes::{Matrix, transform4};
 
 /// The matrix whose cells a function gives by row and column.
 macro_rules! matrix_by {
@@ -32,97 +31,20 @@ macro_rules! matrix_by {
     };
 }
 
-fn exact_product(a: i32, b: i32) -> i64
-    ensures { result ≡ a *ℤ b }
-{
-    a as i64 * b as i64
-}
-
-#[tactic(auto, using(crate::proofs::Sums::casts))]
-fn product_at(row: &[i32; 4], m: &Matrix, r: usize, c: usize) -> i64
-    requires row { r < 4 }
-    requires column { c < 4 }
-    ensures { result ≡ at row.now r *ℤ cell m.now r c }
-{
-    exact_product(row[r], m.cells[4 * r + c])
-}
-
-#[tactic(auto, using(std::proofs::lemmas::Int::wraps))]
-fn wrapped_sum(a: i64, b: i64, c: i64, d: i64) -> i64
-    ensures { result ≡ int_wrap w64 (((a +ℤ b) +ℤ c) +ℤ d) }
-{
-    a.wrapping_add(b).wrapping_add(c).wrapping_add(d)
-}
-
-fn cell_of_sum(sum: i64) -> i32
-    ensures { result ≡ cast_signed w32 (cast_unsigned w64 sum / 4096 % 2 ^ 32) }
-{
-    ((sum.cast_unsigned() >> 12 & 0xFFFF_FFFF) as u32).cast_signed()
-}
-
-#[tactic(auto, using(crate::proofs::Sums::casts))]
-fn sum_with_column(row: &[i32; 4], m: &Matrix, c: usize) -> i64
-    requires { c < 4 }
-    ensures { result ≡ int_wrap w64 (sum_with_column row.now m.now c) }
-{
-    wrapped_sum(
-        product_at(row, m, 0, c),
-        product_at(row, m, 1, c),
-        product_at(row, m, 2, c),
-        product_at(row, m, 3, c),
-    )
-}
-
-/// A row of four numbers times a column of a matrix.
-#[tactic(auto, using(crate::proofs::Sums::cells), unfolding(crate::specs::Algebra::times_column))]
-fn times_column(row: &[i32; 4], m: &Matrix, c: usize) -> i32
-    requires { c < 4 }
-    ensures { result ≡ times_column row.now m.now c }
-{
-    cell_of_sum(sum_with_column(row, m, c))
-}
-
-/// A row of four numbers times a matrix: each number is floor(sum / 4096) of the exact sum of products, wrapped to a signed word.
-#[tactic(auto, using(crate::proofs::Sums::casts), unfolding(crate::specs::Algebra::times))]
-pub fn times(row: &[i32; 4], m: &Matrix) -> [i32; 4]
-    ensures { result ≡ times row.now m.now }
-{
-    [
-        times_column(row, m, 0),
-        times_column(row, m, 1),
-        times_column(row, m, 2),
-        times_column(row, m, 3),
-    ]
-}
-
-#[tactic(auto, using(crate::proofs::Sums::casts))]
-fn row_of(m: &Matrix, r: usize) -> [i32; 4]
-    requires { r < 4 }
-    ensures { result ≡ row_of m.now r }
-{
-    [
-        m.cells[4 * r],
-        m.cells[4 * r + 1],
-        m.cells[4 * r + 2],
-        m.cells[4 * r + 3],
-    ]
-}
-
-#[tactic(auto, using(crate::proofs::Sums::casts))]
-fn product_cell(a: &Matrix, b: &Matrix, r: usize, c: usize) -> i32
-    requires row { r < 4 }
-    requires column { c < 4 }
-    ensures { result ≡ times_column (row_of a.now r) b.now c }
-{
-    times_column(&row_of(a, r), b, c)
-}
-
 /// The product of two matrices.
-#[tactic(auto, using(crate::proofs::Sums::casts), unfolding(crate::specs::Algebra::product))]
+#[tactic(auto, using(crate::proofs::Sums::casts), unfolding(crate::specs::Algebra::product, line_lanes::specs::Matrices::transform4))]
 pub fn product(a: &Matrix, b: &Matrix) -> Matrix
     ensures { result ≡ product a.now b.now }
 {
-    matrix_by!(product_cell(a, b))
+    let [a0, a1, a2, a3] = transform4(a.row(0), b);
+    let [b0, b1, b2, b3] = transform4(a.row(1), b);
+    let [c0, c1, c2, c3] = transform4(a.row(2), b);
+    let [d0, d1, d2, d3] = transform4(a.row(3), b);
+    Matrix {
+        cells: [
+            a0, a1, a2, a3, b0, b1, b2, b3, c0, c1, c2, c3, d0, d1, d2, d3,
+        ],
+    }
 }
 
 fn one(r: usize, c: usize) -> i32

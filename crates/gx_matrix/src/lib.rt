@@ -9,7 +9,7 @@ mod algebra;
 mod commands;
 mod stacks;
 
-pub use algebra::{given, identity, product, scaling, times, translation};
+pub use algebra::{given, identity, product, scaling, translation};
 pub use commands::GeometryCommand;
 pub use line_lanes::Matrix;
 pub use stacks::{Mode, Pose, Single, Stacks};

@@ -45,8 +45,6 @@ enum Line {
     /// A row of a matrix; a matrix with this number on its diagonal, and 0 elsewhere.
     Cells(Which, usize, i32, i32, i32, i32),
     Diagonal(Which, i32),
-    /// A row times a column, as a cell.
-    Product(i32, i32, i32, i32, i32, i32, i32, i32, i32),
     /// The levels, and the stacks' error.
     Levels(u32, bool),
     /// A command with a parameter, the level and the error then, and the number on the clip matrix's diagonal; the error is cleared.

@@ -4,3 +4,4 @@ pub mod NibbleLemmas
 pub mod RowLemmas
 pub mod SecondLemmas
 pub mod ClearLemmas
+pub mod ProductLemmas

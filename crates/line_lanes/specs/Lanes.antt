@@ -1,4 +1,7 @@
-use Rattle.std.specs.Prelude.{ℕ, ◌+◌, ◌*◌, ◌/◌, ◌%◌, ◌^◌, min, List, [], ◌∷◌}
+use Rattle.std.specs.Prelude.{ℕ, ℤ, ◌+◌, ◌*◌, ◌/◌, ◌%◌, ◌^◌, min, List, [], ◌∷◌, slice_index}
+use Rattle.std.specs.Int.{cast_signed, cast_unsigned, w32, w64}
+use Rattle.std.specs.Int.RustNames.{FitsSigned}
+use Rattle.line_lanes.specs.Matrices.{at}
 use Rattle.line_lanes.specs.Pixels.{by_channels, top_bit}
 
 -- How the kernels go, lane by lane. No public clause speaks of it.
@@ -25,3 +28,20 @@ joined_pixels _ _ _ _ = []
 abbrev pub woven : List ℕ → List ℕ → List ℕ
 woven (x ∷ xs) (y ∷ ys) = x ∷ (y ∷ woven xs ys)
 woven _ _ = []
+
+-- four numbers are signed words
+abbrev pub AreWords : List ℤ → Type 0
+AreWords numbers = FitsSigned w32 (at numbers 0) × FitsSigned w32 (at numbers 1) × FitsSigned w32 (at numbers 2) × FitsSigned w32 (at numbers 3)
+
+-- four numbers, each in 64 bits
+abbrev pub wide : List ℤ → List ℕ
+wide numbers =
+    cast_unsigned w64 (at numbers 0) ∷ cast_unsigned w64 (at numbers 1) ∷ cast_unsigned w64 (at numbers 2) ∷ cast_unsigned w64 (at numbers 3) ∷ []
+
+-- a sum in 64 bits as a cell, and four of them
+abbrev pub cell_of : ℕ → ℤ
+cell_of sum = cast_signed w32 (sum / 4096 % 2 ^ 32)
+
+abbrev pub cells_of : List ℕ → List ℤ
+cells_of sums =
+    cell_of (slice_index sums 0) ∷ cell_of (slice_index sums 1) ∷ cell_of (slice_index sums 2) ∷ cell_of (slice_index sums 3) ∷ []

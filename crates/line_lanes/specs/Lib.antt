@@ -1,4 +1,5 @@
 pub mod Lanes
+pub mod Matrices
 pub mod Nibbles
 pub mod Pixels
 pub mod Seconds

@@ -1,42 +1,9 @@
-//! Matrices, products and roundings.
+//! Matrices and products.
 
 use super::{Line, Which, try_lines};
-use Line::{Cells, Diagonal, Four, Give, Levels, Many, Product, Run, Three, Triple};
+use Line::{Cells, Diagonal, Four, Give, Levels, Many, Run, Three, Triple};
 use Which::{Clip, Texture, Vector};
 use std::alloc::AllocError;
-
-const CELLS_ARE_FLOORS_OF_EXACT_SUMS_THAT_WRAP: [Line; 10] = [
-    Product(1, 1, 0, 0, 2048, 2048, 0, 0, 1),
-    Product(1, 0, 0, 0, 4095, 0, 0, 0, 0),
-    Product(-1, 0, 0, 0, 1, 0, 0, 0, -1),
-    Product(-1, 0, 0, 0, 4096, 0, 0, 0, -1),
-    Product(-1, 0, 0, 0, 4097, 0, 0, 0, -2),
-    Product(0x7FFF_FFFF, 0, 0, 0, 0x2000, 0, 0, 0, -2),
-    Product(0x4000_0000, 0, 0, 0, 0x2000, 0, 0, 0, -0x8000_0000),
-    Product(
-        -0x8000_0000,
-        -0x8000_0000,
-        20480,
-        0,
-        -0x8000_0000,
-        -0x8000_0000,
-        1,
-        0,
-        5,
-    ),
-    Product(
-        -0x8000_0000,
-        -0x8000_0000,
-        -0x8000_0000,
-        -0x8000_0000,
-        -0x8000_0000,
-        -0x8000_0000,
-        -0x8000_0000,
-        0x7FFF_FFFF,
-        0x8_0000,
-    ),
-    Product(1, 2, 3, 4, 0x1000, 0x2000, 0x3000, 0x4000, 30),
-];
 
 const EACH_COMMAND_HAS_ITS_MATRIX_AND_MULTIPLIES_FROM_THE_LEFT: [Line; 46] = [
     Give(0x10, 1),
@@ -172,11 +139,7 @@ const BOTH_MATRICES_GO_TOGETHER_BUT_FOR_SCALING: [Line; 57] = [
 
 #[test]
 fn each_table_holds(rt: HostRuntime) -> Result<(), AllocError> {
-    let tables: [(&str, &[Line]); 4] = [
-        (
-            "cells are floors of exact sums that wrap",
-            &CELLS_ARE_FLOORS_OF_EXACT_SUMS_THAT_WRAP,
-        ),
+    let tables: [(&str, &[Line]); 3] = [
         (
             "each command has its matrix and multiplies from the left",
             &EACH_COMMAND_HAS_ITS_MATRIX_AND_MULTIPLIES_FROM_THE_LEFT,

@@ -5,7 +5,7 @@ ghost use Rattle.std.specs.Prelude.{◌≤◌};
 use super::{Line, Which};
 use ds_base::Tick;
 use gx_geometry::{Geometry, Polygon, Vertex};
-use gx_matrix::{GeometryCommand, Matrix, times};
+use gx_matrix::{GeometryCommand, Matrix};
 use std::alloc::{AllocError, Global};
 
 /// An engine, and the parameters that wait for a command of many.
@@ -108,13 +108,6 @@ impl Rig {
             ),
             Line::Cells(which, row, a, b, c, d) => (self.other_cells(which, row, [a, b, c, d]), 0),
             Line::Diagonal(which, n) => (self.other_diagonal(which, n), 0),
-            Line::Product(a, b, c, d, e, f, g, h, wanted) => {
-                let m = Matrix {
-                    cells: [e, 0, 0, 1, f, 0, 0, 1, g, 0, 0, 1, h, 0, 0, 1],
-                };
-                let row = times(&[a, b, c, d], &m);
-                ((row[0] != wanted || row[1] != 0) as u32, 0)
-            }
             Line::Levels(levels, error) => {
                 let stacks = self.engine.stacks();
                 (

@@ -1,7 +1,7 @@
-//! The kernels over rows of pixels, worked by hand from GBATEK's formulas.
+//! The kernels, worked by hand from GBATEK's formulas.
 
 use super::lanes::Lane;
-use Lane::{Blended, Brightened, Darkened, Each, Long, Mastered, Nibbles};
+use Lane::{Blended, Brightened, Cell, Darkened, Each, Long, Mastered, Nibbles, Through};
 use std::process::Abort;
 
 fn try_lanes(rt: &impl Abort, lanes: &[Lane]) {
@@ -154,6 +154,45 @@ fn unpacks_low_nibbles_first_at_every_length(rt: HostRuntime) {
             Nibbles(16),
             Nibbles(17),
             Nibbles(40),
+        ],
+    );
+}
+
+#[test]
+fn rows_times_columns_by_hand(rt: HostRuntime) {
+    try_lanes(
+        &rt,
+        &[
+            Cell(1, 1, 0, 0, 2048, 2048, 0, 0, 1),
+            Cell(1, 0, 0, 0, 4095, 0, 0, 0, 0),
+            // below 0 rounded down
+            Cell(-1, 0, 0, 0, 1, 0, 0, 0, -1),
+            Cell(-1, 0, 0, 0, 4096, 0, 0, 0, -1),
+            Cell(-1, 0, 0, 0, 4097, 0, 0, 0, -2),
+            // each place
+            Cell(0x1000, 0, 0, 0, 5, 6, 7, 8, 5),
+            Cell(0, 0x1000, 0, 0, 5, 6, 7, 8, 6),
+            Cell(0, 0, 0x1000, 0, 5, 6, 7, 8, 7),
+            Cell(0, 0, 0, 0x1000, 5, 6, 7, 8, 8),
+            Cell(1, 2, 3, 4, 0x1000, 0x2000, 0x3000, 0x4000, 30),
+            // a cell is a signed word, so sums wrap at 2^43 and every 2^44 on
+            Cell(0x7FFF_FFFF, 0, 0, 0, 0x2000, 0, 0, 0, -2),
+            Cell(0x4000_0000, 0, 0, 0, 0x2000, 0, 0, 0, -0x8000_0000),
+            Cell(-0x8000_0000, 1, 0, 0, -0x1000, -1, 0, 0, 0x7FFF_FFFF),
+            Cell(-0x8000_0000, 0, 0, 0, 0x1000, 0, 0, 0, -0x8000_0000),
+            Cell(-0x8000_0000, -1, 0, 0, 0x1000, 1, 0, 0, 0x7FFF_FFFF),
+            Cell(-0x8000_0000, -0x8000_0000, 0, 0, -0x1000, -0x1000, 0, 0, 0),
+            Cell(-0x8000_0000, -0x8000_0000, 0x1000, 0, -0x1000, -0x1000, 1, 0, 1),
+            // sums of more than 63 and of 64 bits
+            Cell(-0x8000_0000, -0x8000_0000, 20480, 0, -0x8000_0000, -0x8000_0000, 1, 0, 5),
+            Cell(-0x8000_0000, -0x8000_0000, -0x8000_0000, -0x8000_0000, -0x8000_0000, -0x8000_0000, -0x8000_0000, 0x7FFF_FFFF, 0x8_0000),
+            Cell(-0x8000_0000, -0x8000_0000, -0x8000_0000, -0x8000_0000, -0x8000_0000, -0x8000_0000, -0x8000_0000, -0x8000_0000, 0),
+            Through(1, 0, 0, 0, 1, 2, 3, 4),
+            Through(0, 1, 0, 0, 5, 6, 7, 8),
+            Through(0, 0, 1, 0, 9, 10, 11, 12),
+            Through(0, 0, 0, 1, 13, 14, 15, 16),
+            Through(-1, 0, 0, 0, -1, -2, -3, -4),
+            Through(1, 10, 100, 1000, 13951, 15062, 16173, 17284),
         ],
     );
 }

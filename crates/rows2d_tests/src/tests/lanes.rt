@@ -1,8 +1,8 @@
-//! What is done to a row and to packed bytes. Each pixel is tried at nine places: eight are a block of lanes, the ninth is alone.
+//! What is done to a row and to packed bytes, and rows times columns and matrices. Each pixel is tried at nine places: eight are a block of lanes, the ninth is alone.
 
 ghost use Rattle.std.specs.Prelude.{◌≤◌};
 
-use line_lanes::{blend, brighten, darken, master, unpack4};
+use line_lanes::{Matrix, blend, brighten, darken, dot4, master, transform4, unpack4};
 
 /// One line of a table.
 #[derive(Clone, Copy)]
@@ -22,6 +22,10 @@ pub enum Lane {
     /// Nibbles taken apart, by the number of bytes. They are 0 to 15 in turn, and from the 32nd on one more, so that no block of sixteen
     /// bytes is another.
     Nibbles(usize),
+    /// A row times a column, as a cell. The column gives it in each place of a matrix, whose other cells are 0.
+    Cell(i32, i32, i32, i32, i32, i32, i32, i32, i32),
+    /// A row through the matrix of the cells 1, 2, 3 and so on to 16.
+    Through(i32, i32, i32, i32, i32, i32, i32, i32),
 }
 
 impl Lane {
@@ -31,6 +35,8 @@ impl Lane {
             Lane::Long(len) => long(len % 257),
             Lane::Each(len) => each(len % 33),
             Lane::Nibbles(len) => nibbles(len % 41),
+            Lane::Cell(a, b, c, d, e, f, g, h, wanted) => cell([a, b, c, d], [e, f, g, h], wanted),
+            Lane::Through(a, b, c, d, e, f, g, h) => through([a, b, c, d], [e, f, g, h]),
             Lane::Brightened(pixel, evy, wanted) => {
                 let mut row = [pixel; 9];
                 brighten(&mut row, evy);
@@ -125,4 +131,26 @@ fn nibbles(len: usize) -> usize
         wrong |= (*nibble as usize != wanted) as usize;
     }
     wrong
+}
+
+fn cell(row: [i32; 4], column: [i32; 4], wanted: i32) -> usize {
+    let mut wrong = (dot4(row, column) != wanted) as usize;
+    for place in 0..4usize {
+        let mut cells = [0; 16];
+        let mut all = [0; 4];
+        for (number, part) in column.iter().enumerate() {
+            cells[4 * (number % 4) + place] = *part;
+        }
+        all[place] = wanted;
+        wrong |= (transform4(row, &Matrix { cells }) != all) as usize;
+    }
+    wrong
+}
+
+fn through(row: [i32; 4], wanted: [i32; 4]) -> usize {
+    let mut cells = [0; 16];
+    for (place, cell) in cells.iter_mut().enumerate() {
+        *cell = 0x1000 * (place % 16 + 1) as i32;
+    }
+    (transform4(row, &Matrix { cells }) != wanted) as usize
 }

@@ -3,10 +3,10 @@ use Rattle.ds_base.specs.Bits.{bits, flag}
 use Rattle.line_lanes.specs.declared.matrices.Matrix.{Matrix}
 use Rattle.gx_matrix.specs.declared.commands.GeometryCommand.{GeometryCommand}
 use Rattle.gx_matrix.specs.declared.commands.GeometryCommand.TheVariants.{MtxMode, MtxPush, MtxPop, MtxStore, MtxRestore, MtxIdentity, MtxLoad4x4, MtxLoad4x3, MtxMult4x4, MtxMult4x3, MtxMult3x3, MtxScale, MtxTrans}
-use Rattle.gx_matrix.specs.declared.stacks.Mode.{Mode}
-use Rattle.gx_matrix.specs.declared.stacks.Mode.TheVariants.{Projection, Position, PositionAndVector, Texture}
-use Rattle.gx_matrix.specs.declared.stacks.Pose.{Pose}
-use Rattle.gx_matrix.specs.declared.stacks.Single.{Single}
+use Rattle.gx_matrix.specs.declared.currents.Mode.{Mode}
+use Rattle.gx_matrix.specs.declared.currents.Mode.TheVariants.{Projection, Position, PositionAndVector, Texture}
+use Rattle.gx_matrix.specs.declared.currents.Pose.{Pose}
+use Rattle.gx_matrix.specs.declared.currents.Single.{Single}
 use Rattle.gx_matrix.specs.Algebra.{product, identity, given, scaling, translation}
 
 -- The current matrices and their stacks (GBATEK, "DS 3D Matrix Stack"): the projection and the texture matrix with a stack of one place each,

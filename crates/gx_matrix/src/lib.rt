@@ -7,9 +7,11 @@
 
 mod algebra;
 mod commands;
+mod currents;
 mod stacks;
 
 pub use algebra::{given, identity, product, scaling, translation};
 pub use commands::GeometryCommand;
+pub use currents::{Mode, Pose, Single};
 pub use line_lanes::Matrix;
-pub use stacks::{Mode, Pose, Single, Stacks};
+pub use stacks::Stacks;

@@ -1,11 +1,12 @@
-use Rattle.std.specs.Prelude.{ℕ, ◌≡◌, List}
+use Rattle.std.specs.Prelude.{ℕ, ◌≡◌, ◌≢◌, List}
 use Rattle.ds_base.specs.declared.left_out.LeftOut.{LeftOut}
 use Rattle.ds_base.specs.declared.processors.Proc.{Proc}
 use Rattle.ds_base.specs.declared.processors.Proc.TheVariants.{Nine, Seven}
 use Rattle.ds_runs.specs.Runs.{MachineStep, Makes, Stops}
 use Rattle.ds_runs.specs.declared.actors.Actor as actor
 use Rattle.ds_runs.specs.declared.actors.Actor.TheVariants.{Video, Geometry, Dma, Processor}
-use Rattle.ds_machine.specs.Reference.{Shown, past_stall, step_by}
+use Rattle.ds_map.specs.Shares.{IsSharedSo, SharedPart, shared_of, shared_put, shares_put}
+use Rattle.ds_machine.specs.Reference.{Fences, Shown, past_stall, step_by}
 use Rattle.ds_machine.specs.States.{MachineState, NineState, SevenState}
 use Rattle.ds_machine.specs.Statuses.{left_by}
 
@@ -48,6 +49,27 @@ LeaveNine = (rank : ℕ) (a : actor.Actor) (own : NinePart) (s : MachineState) �
 abbrev pub LeaveSeven : Type 0
 LeaveSeven = (rank : ℕ) (a : actor.Actor) (own : SevenState) (s : MachineState) → (ReachesOwn a Seven → ⊥)
     → step_by rank a (with_seven_part own s) ≡ step_with (with_seven_part own) (step_by rank a s)
+
+-- ---- what ARM9 and its channels alone reach by the present map: also its bytes of shared work RAM and of video memory, and how those are shared out
+
+pub record NineOwn : Type 0 where
+  pub part : NinePart
+  pub share : SharedPart
+
+abbrev pub with_nine_own : NineOwn → MachineState → MachineState
+with_nine_own own s = with_nine_part own.part (record s { shared = shared_put own.share s.shared; io = shares_put own.share s.io })
+
+abbrev pub nine_own_of : MachineState → NineOwn
+nine_own_of s = record { part = record { nine = s.nine; palette = s.palette; oam = s.oam }; share = shared_of s.shared s.io }
+
+-- with other bytes there, shared out as they are, a step of an actor that isn't in ARM9's fence comes to the same, and what ARM9 alone reaches is as it was. (ARM7 and its channels reach
+-- the rest of shared work RAM and of video memory, and never change how they are shared out.)
+abbrev pub IsOutside : actor.Actor → Type 0
+IsOutside a = (a ≢ Processor Nine) × (Fences a Nine → ⊥)
+
+abbrev pub LeaveNineOwn : Type 0
+LeaveNineOwn = (rank : ℕ) (a : actor.Actor) (own : NineOwn) (s : MachineState) → IsOutside a → IsSharedSo own.share s.shared s.io
+    → step_by rank a (with_nine_own own s) ≡ step_with (with_nine_own own) (step_by rank a s)
 
 -- the display, with another processor, CP15 and tightly coupled memories of ARM9's, comes to the same, and all of ARM9's part is as it was
 pub record ShowLeaves (rank : ℕ) (own : NineState) (s : MachineState) : Type 0 where

@@ -18,6 +18,10 @@ use Rattle.cp15_tcm.specs.Registers.{vectors_of}
 use Rattle.cp15_tcm.specs.TightlyCoupled.{tcm_of}
 use Rattle.cp15_tcm.specs.declared.answers.Tcm.{Tcm}
 use Rattle.cp15_tcm.specs.declared.answers.Tcm.TheVariants.{Itcm, Dtcm, Past}
+use Rattle.ds_base.specs.declared.processors.Proc.TheVariants.{Nine}
+use Rattle.ds_places.specs.AddressTables.{place_of}
+use Rattle.ds_map.specs.Maps.{MapState}
+use Rattle.ds_map.specs.Shares.{is_private_place}
 use Rattle.ds_map.specs.Views.{NineReach, SevenReach, nine_memory, seven_memory}
 
 -- A processor's step over what it reaches, said once for both, and what parts one from the other.
@@ -40,11 +44,12 @@ taken memory side line s state =
 
 -- ---- the places that a processor alone reaches, and whose bytes no other actor changes (our choice of which)
 
--- ARM9's are ITCM, DTCM and its boot ROM
-abbrev pub is_private_tcm : Tcm → ℕ → Bool
-is_private_tcm (Itcm place) at = true
-is_private_tcm (Dtcm place) at = true
-is_private_tcm Past at = nat_le 0xFFFF0000 at
+-- ARM9's are ITCM and DTCM, and past them by the present map the bytes of shared work RAM that WRAMCNT shows to it, palettes, OAM, the addresses of video memory none of
+-- whose cells lies in a bank that is allotted to ARM7, and its boot ROM
+abbrev pub is_private_tcm : Tcm → MapState → ℕ → Bool
+is_private_tcm (Itcm place) m at = true
+is_private_tcm (Dtcm place) m at = true
+is_private_tcm Past m at = is_private_place m.io.vram.controls (place_of Nine m.io.wramcnt at)
 
 -- ARM7's are its own work RAM from 3800000h to 3FFFFFFh and its boot ROM; what WRAMCNT shows to it below 3800000h isn't
 abbrev pub is_private_to_seven : ℕ → Bool
@@ -62,7 +67,7 @@ abbrev pub nine_side : SideOf NineReach
 nine_side = record {
   arch = V5;
   base = λ r. vectors_of r.cp15;
-  is_private = λ r writing fetching at. is_private_tcm (tcm_of r.cp15 at writing fetching) at;
+  is_private = λ r writing fetching at. is_private_tcm (tcm_of r.cp15 at writing fetching) r.map at;
   executed = λ s r number instr. nine_executed s r number instr (move_of instr);
 }
 

@@ -2,3 +2,4 @@ pub mod Maps
 pub mod Accesses
 pub mod Views
 pub mod Moves
+pub mod Shares

@@ -63,6 +63,10 @@ io_at_boot = record {
   seven = processor_io_at_boot Seven;
 }
 
+-- other banks of video memory, and another WRAMCNT
+abbrev pub with_shares : Banks → ℕ → IoState → IoState
+with_shares vram wramcnt u = record u { vram = vram; wramcnt = wramcnt }
+
 abbrev pub io_of : IoState → Proc → ProcessorIoState
 io_of u Nine = u.nine
 io_of u Seven = u.seven

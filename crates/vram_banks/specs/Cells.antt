@@ -1,4 +1,4 @@
-use Rattle.std.specs.Prelude.{ℕ, zero, suc, ◌≡◌, ◌<◌, ◌+◌, ◌-◌, ◌*◌, ◌/◌, ◌%◌, ◌^◌, ◌↔◌, ◌==◌, ◌&&◌, nat_le, nat_lt, if◌then◌else◌, Option, Some, None, List, [], ◌∷◌, length, slice_index, slice_set, bit_or}
+use Rattle.std.specs.Prelude.{ℕ, zero, suc, ◌≡◌, ◌<◌, ◌+◌, ◌-◌, ◌*◌, ◌/◌, ◌%◌, ◌^◌, ◌↔◌, ◌==◌, ◌&&◌, ◌||◌, Bool, false, nat_le, nat_lt, if◌then◌else◌, Option, Some, None, List, [], ◌∷◌, length, slice_index, slice_set, bit_or}
 use Rattle.std.specs.Int.{bit_at}
 use Rattle.ds_base.specs.Bits.{bits}
 use Rattle.ds_base.specs.Memories.{space_size}
@@ -89,6 +89,20 @@ allotted_bit control = if bits 7 1 control == 1 && control % 8 == 2 then 1 else 
 
 abbrev pub allotted_of : List ℕ → ℕ
 allotted_of controls = allotted_bit (slice_index controls 2) + 2 * allotted_bit (slice_index controls 3)
+
+-- a byte of the memory of all banks lies in a bank that is allotted to ARM7: C's are the 128K from 40000h on, D's those from 60000h on
+abbrev pub is_allotted : List ℕ → ℕ → Bool
+is_allotted controls cell =
+    ((cell / 0x20000 == 2) && (allotted_bit (slice_index controls 2) == 1)) || ((cell / 0x20000 == 3) && (allotted_bit (slice_index controls 3) == 1))
+
+-- so does the byte that stands somewhere, if one does
+abbrev pub is_allotted_there : List ℕ → Option ℕ → Bool
+is_allotted_there controls None = false
+is_allotted_there controls (Some cell) = is_allotted controls cell
+
+-- one of the cells at an address of a space lies in such a bank
+unfoldable pub meets_allotted : List ℕ → Space → ℕ → Bool
+meets_allotted controls space at = is_allotted_there controls (cell_there controls space at 2) || is_allotted_there controls (cell_there controls space at 3)
 
 -- ---- the same as relations over the set of cells that stand at an address
 

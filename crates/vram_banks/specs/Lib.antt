@@ -1,3 +1,4 @@
 pub mod BankMap
 pub mod Cells
+pub mod Mixes
 pub mod paging

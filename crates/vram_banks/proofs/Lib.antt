@@ -1,5 +1,6 @@
 pub mod Cases
 pub mod CellLemmas
 pub mod MapLaws
+pub mod Mixes
 pub mod PageLemmas
 pub mod SetLaws

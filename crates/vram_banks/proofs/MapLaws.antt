@@ -32,7 +32,7 @@ pub record Fits (n : ℕ) (r : BankRow) : Type 0 where
 fits_first : (n : ℕ) (r : BankRow) (rs : List BankRow) → all_fit n (r ∷ rs) ≡ true → Fits n r × (all_fit n rs ≡ true)
 fits_first n r rs h = (record { in_space = grind (arith, h); in_bank = grind (arith, h) }, grind (arith, h))
 
-row_by-first : (r : BankRow) (rs : List BankRow) (mst : ℕ) → ((mst ≡ r.mst) × (row_by (r ∷ rs) mst ≡ Some r)) ⊎ ((mst ≢ r.mst) × (row_by (r ∷ rs) mst ≡ row_by rs mst))
+pub row_by-first : (r : BankRow) (rs : List BankRow) (mst : ℕ) → ((mst ≡ r.mst) × (row_by (r ∷ rs) mst ≡ Some r)) ⊎ ((mst ≢ r.mst) × (row_by (r ∷ rs) mst ≡ row_by rs mst))
 row_by-first r rs mst = grind arith
 
 row_by-fits : (n : ℕ) (rows : List BankRow) (mst : ℕ) (r : BankRow) → all_fit n rows ≡ true → row_by rows mst ≡ Some r → Fits n r
@@ -251,7 +251,7 @@ space_of_its_number BBgPalette = refl
 space_of_its_number AObjPalette = refl
 space_of_its_number BObjPalette = refl
 
-same_numbers : (a b : Space) → space_number a ≡ space_number b → a ≡ b
+pub same_numbers : (a b : Space) → space_number a ≡ space_number b → a ≡ b
 same_numbers a b e = sym (space_of_its_number a) ∙ ap space_of_number e ∙ space_of_its_number b
 
 before_or_not : (x y : ℕ) → (x < y) ⊎ (y ≤ x)

@@ -160,7 +160,7 @@ flat_first space at width lt =
 
 -- ---- reads
 
-or_below-same : (n : ℕ) (f g : ℕ → ℕ) → ((b : ℕ) → b < n → f b ≡ g b) → or_below n f ≡ or_below n g
+pub or_below-same : (n : ℕ) (f g : ℕ → ℕ) → ((b : ℕ) → b < n → f b ≡ g b) → or_below n f ≡ or_below n g
 unfolding or_below
 or_below-same zero f g h = refl
 or_below-same (suc n) f g h = rw (or_below-same n f g (λ b lt. h b (omega arith)), h n (omega arith)) refl
@@ -228,7 +228,7 @@ put_length : (o : Option ℕ) (x : ℕ) (bytes : List ℕ) → length (put_there
 put_length None x bytes = refl
 put_length (Some i) x bytes = length-set bytes i x
 
-put_below-length : (n : ℕ) (f : ℕ → Option ℕ) (x : ℕ) (bytes : List ℕ) → length (put_below n f x bytes) ≡ length bytes
+pub put_below-length : (n : ℕ) (f : ℕ → Option ℕ) (x : ℕ) (bytes : List ℕ) → length (put_below n f x bytes) ≡ length bytes
 unfolding put_below
 put_below-length zero f x bytes = refl
 put_below-length (suc n) f x bytes = put_length (f n) x (put_below n f x bytes) ∙ put_below-length n f x bytes

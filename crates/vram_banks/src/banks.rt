@@ -1,11 +1,11 @@
 //! The banks of video memory, and how they are read and written where they stand.
 
-ghost use Rattle.std.specs.Prelude.{◌≡◌, ◌<◌, ◌≤◌, ◌+◌, ◌/◌, ◌%◌, ◌^◌, ◌↔◌, ℕ, IfSome, IfOk, slice_index, slice_set, length};
+ghost use Rattle.std.specs.Prelude.{◌≡◌, ◌<◌, ◌≤◌, ◌+◌, ◌/◌, ◌%◌, ◌^◌, ◌↔◌, ℕ, true, IfSome, IfOk, slice_index, slice_set, length};
 ghost use Rattle.ds_base.specs.declared.memories.Width.TheVariants.{Byte, Half, Word};
 ghost use Rattle.ds_base.specs.declared.memories.Space.TheVariants.{Arm7};
 ghost use Rattle.ds_base.specs.Numbers.{width_bytes, aligned_down, value_by, put_by};
 ghost use Rattle.vram_banks.specs.BankMap.{kept_bank_control, StandsIn};
-ghost use Rattle.vram_banks.specs.Cells.{Banks, AreBanks, blank_banks, byte_or_0, put_there, vram_byte, vram_value, vram_written, allotted_bit, allotted_of, IsCellAt, IsOr, IsRead, IsWritten};
+ghost use Rattle.vram_banks.specs.Cells.{Banks, AreBanks, blank_banks, byte_or_0, put_there, vram_byte, vram_value, vram_written, allotted_bit, allotted_of, is_allotted, IsCellAt, IsOr, IsRead, IsWritten};
 ghost use Rattle.vram_banks.specs.paging.Flat.{or_at, put_in_cells};
 
 use crate::cells::Cells;
@@ -308,10 +308,12 @@ impl Vram {
     }
 
     /// Does nothing; its contract tells that the bytes are 671,744 and the controls nine, each below 256 and with no bits but those
-    /// that its bank keeps, and that what stands at an address is a byte.
+    /// that its bank keeps; that what stands at an address is a byte; and that a cell that stands at an address lies in a bank that is
+    /// allotted to ARM7 exactly where the space is ARM7's.
     pub fn bank_laws(&self)
         ensures state { AreBanks self.now }
         ensures narrow { (space : Space) → (at : ℕ) → vram_byte self.now space at < 256 }
+        ensures allotted { (space : Space) → (at cell : ℕ) → IsCellAt self.now space at cell → (is_allotted self.now.controls cell ≡ true) ↔ (space ≡ Arm7) }
     {
         self.cells.byte_laws();
         self.map.control_laws();

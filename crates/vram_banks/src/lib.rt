@@ -1,7 +1,7 @@
 //! The nine banks of video memory (GBATEK, "DS Memory Control - VRAM").
 //!
 //! A reviewer reads `specs/BankMap` (the bank table, controls, and which cell stands where) and `specs/Cells` (what is read and written).
-//! `specs/paging` has what the code keeps beside bytes and controls; no public call speaks of it. Tests stand in `vram_banks_tests`.
+//! `specs/paging` has what the code keeps beside bytes and controls; no public call speaks of it. Tests stand in `rows2d_tests`.
 #![tactic(auto)]
 
 mod banks;

@@ -35,8 +35,8 @@ enum Line {
     Cell(u32, u8),
     /// How many bytes there are of all banks.
     Cells(usize),
-    /// A bank with a control stands at an address of a space, with so many bytes; and what is one past it, where its first byte is 5Ah.
-    Stands(u8, u8, Space, u32, u32, u32),
+    /// A bank with a control stands at an address of a space, with so many bytes from its first on, and nothing else stands there.
+    Stands(u8, u8, Space, u32, u32),
     /// A bank with a control is seen in no space.
     Nowhere(u8, u8),
     /// A bank with a control, where an address past a space's size is one inside.

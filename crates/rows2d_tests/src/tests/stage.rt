@@ -1,6 +1,6 @@
 //! What the lines are tried on: video memory, and the rows that are drawn from it.
 
-ghost use Rattle.std.specs.Prelude.{◌<◌};
+ghost use Rattle.std.specs.Prelude.{◌<◌, ◌≤◌};
 
 use super::Line;
 use bg2d::{AffineLayer, Row, TextLayer, affine_row, text_row};
@@ -13,6 +13,42 @@ use vram_banks::Vram;
 const STARTS: [u32; 9] = [
     0, 0x20000, 0x40000, 0x60000, 0x80000, 0x90000, 0x94000, 0x98000, 0xa0000,
 ];
+
+/// A page's size: each entry of the table begins and ends at the border of one.
+const PAGE: u32 = 0x2000;
+
+/// How many pages each bank has.
+const BANK_PAGES: [u32; 9] = [16, 16, 16, 16, 8, 2, 2, 4, 2];
+
+/// How many pages a space has.
+fn pages_of(space: Space) -> u32
+    ensures some { 0 < result }
+    ensures few { result ≤ 128 }
+{
+    match space {
+        Space::ABg => 64,
+        Space::AObj | Space::Arm7 => 32,
+        Space::BBg | Space::BObj => 16,
+        Space::Lcdc => 128,
+        Space::ABgPalette | Space::BBgPalette => 4,
+        Space::AObjPalette | Space::BObjPalette => 1,
+    }
+}
+
+/// What marks the first and the last byte of a bank's page.
+fn marks(page: u32) -> (u32, u32) {
+    (0x10 + page % 0x10, 0x80 + page % 0x10)
+}
+
+/// What is seen at both ends of a page of a space where an entry's bytes alone are seen, from its base on.
+fn entry_ends(page: u32, base: u32, size: u32) -> (u32, u32) {
+    let first = base / PAGE;
+    if first <= page && page - first < size / PAGE {
+        marks(page - first)
+    } else {
+        (0, 0)
+    }
+}
 
 /// All spaces but that of the banks one after another.
 const MAPPED: [Space; 9] = [
@@ -70,8 +106,8 @@ impl Stage {
             Line::Row(space, at, count, a, b, c, d, e, f) => {
                 self.bytes(space, at, count, [a, b, c, d, e, f])
             }
-            Line::Stands(bank, control, space, base, size, past) => {
-                self.stands(bank % 9, control, space, base, size, past)
+            Line::Stands(bank, control, space, base, size) => {
+                (self.others(bank % 9, control, space, base, size), 0)
             }
             Line::Nowhere(bank, control) => (self.somewhere(bank % 9, control), 0),
             Line::Around(bank, control, space, size) => {
@@ -201,34 +237,38 @@ impl Stage {
         ((row != wanted) as u32, 0)
     }
 
-    /// What is read at the first and the last byte of an entry, and one past it, where the bank's first byte is 5Ah and the last that
-    /// stands there is A5h.
-    fn stands(
-        &mut self,
-        bank: u8,
-        control: u8,
-        space: Space,
-        base: u32,
-        size: u32,
-        past: u32,
-    ) -> (u32, u32)
+    /// Marks both ends of each page of a bank.
+    fn mark(&mut self, bank: u8)
         requires { bank < 9 }
     {
-        let start = STARTS[bank as usize] % 0x100000;
-        let (base, last) = (base % 0x100000, (size % 0x100000).max(1) - 1);
         self.vram.set_control(bank, 0x80);
-        self.vram.write(Space::Lcdc, start, Width::Byte, 0x5a);
-        self.vram
-            .write(Space::Lcdc, start + last, Width::Byte, 0xa5);
+        for page in 0..BANK_PAGES[bank as usize] % 0x20 {
+            let at = STARTS[bank as usize] % 0x100000 + PAGE * page;
+            let (first, last) = marks(page);
+            self.vram.write(Space::Lcdc, at, Width::Byte, first);
+            self.vram
+                .write(Space::Lcdc, at + PAGE - 1, Width::Byte, last);
+        }
+    }
+
+    /// The bits that aren't as wanted at both ends of each page of a space, from the byte before its first to the byte past its last, where an
+    /// entry of a bank stands there alone.
+    fn others(&mut self, bank: u8, control: u8, space: Space, base: u32, size: u32) -> u32
+        requires { bank < 9 }
+    {
+        self.mark(bank);
         self.vram.set_control(bank, control);
-        let first = self.vram.read(space, base, Width::Byte) % 0x100;
-        let end = self.vram.read(space, base + last, Width::Byte) % 0x100;
-        let next = self.vram.read(space, base + last + 1, Width::Byte) % 0x100;
+        let pages = pages_of(space);
+        let mut others = 0u32;
+        for page in 0..=pages {
+            let at = PAGE * page;
+            let (first, _) = entry_ends(page % pages, base, size);
+            let (_, last) = entry_ends((page + pages - 1) % pages, base, size);
+            others |= self.vram.read(space, at, Width::Byte) ^ first;
+            others |= self.vram.read(space, at.wrapping_sub(1), Width::Byte) ^ last;
+        }
         self.vram.set_control(bank, 0);
-        (
-            0x1_0000 * first + 0x100 * end + next,
-            0x5a_a500 + past % 0x100,
-        )
+        others
     }
 
     /// In how many places something is seen of a bank whose first byte is 5Ah.

@@ -1,5 +1,5 @@
 pub mod Mains
-pub mod Puts
+pub mod NineShares
 pub mod Reached
 pub mod Later
 pub mod TakenBack

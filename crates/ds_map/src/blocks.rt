@@ -35,7 +35,7 @@ fn zeroed(alloc: Global, count: usize) -> Result<Vec<u8>, AllocError>
 
 /// Puts a half at a place, by one store.
 #[inline(always)]
-#[tactic(auto, using(crate::proofs::Puts::two_put))]
+#[tactic(auto, using(vram_banks::proofs::Puts::two_put))]
 fn put_half(bytes: &mut [u8], at: usize, value: u32)
     requires { at + 2 ≤ length bytes.old }
     ensures { bytes.new ≡ with_number Half bytes.old at value }
@@ -46,7 +46,7 @@ fn put_half(bytes: &mut [u8], at: usize, value: u32)
 
 /// Puts a word at a place, by one store.
 #[inline(always)]
-#[tactic(auto, using(crate::proofs::Puts::four_put))]
+#[tactic(auto, using(vram_banks::proofs::Puts::four_put))]
 fn put_word(bytes: &mut [u8], at: usize, value: u32)
     requires { at + 4 ≤ length bytes.old }
     ensures { bytes.new ≡ with_number Word bytes.old at value }

@@ -4,4 +4,5 @@ pub mod CellLemmas
 pub mod MapLaws
 pub mod Mixes
 pub mod PageLemmas
+pub mod Puts
 pub mod SetLaws

@@ -2,7 +2,7 @@
 
 ghost use Rattle.std.specs.Prelude.{◌≡◌, ◌<◌, ◌≤◌, ◌+◌, ℕ, IfOk, slice_index, slice_range, slice_set, length};
 ghost use Rattle.ds_base.specs.declared.memories.Width.TheVariants.{Half, Word};
-ghost use Rattle.ds_base.specs.Numbers.{zeroes, value_by, put_by};
+ghost use Rattle.ds_base.specs.Numbers.{zeroes, value_by, put_by, with_number};
 
 use ds_base::VRAM_BYTES;
 use std::alloc::{AllocError, Global};
@@ -37,6 +37,26 @@ fn are_narrow(bytes: &[u8])
     ensures { (i : ℕ) → slice_index bytes.now i < 256 }
 {
     let _ = bytes;
+}
+
+/// Puts a half at a place, by one store.
+#[inline(always)]
+#[tactic(auto, using(crate::proofs::Puts::two_put))]
+fn put_half(bytes: &mut [u8], at: usize, value: u16)
+    requires { at + 2 ≤ length bytes.old }
+    ensures { bytes.new ≡ with_number Half bytes.old at value }
+{
+    bytes[at..at + 2].copy_from_slice(&value.to_le_bytes());
+}
+
+/// Puts a word at a place, by one store.
+#[inline(always)]
+#[tactic(auto, using(crate::proofs::Puts::four_put))]
+fn put_word(bytes: &mut [u8], at: usize, value: u32)
+    requires { at + 4 ≤ length bytes.old }
+    ensures { bytes.new ≡ with_number Word bytes.old at value }
+{
+    bytes[at..at + 4].copy_from_slice(&value.to_le_bytes());
 }
 
 impl Cells {
@@ -102,22 +122,14 @@ impl Cells {
         requires { at + 2 ≤ 0xA4000 }
         ensures { self.new ≡ put_by Half (λ a x bytes. slice_set bytes a x) at value self.old }
     {
-        let at = at as usize;
-        let bytes = value.to_le_bytes();
-        self.bytes[at] = bytes[0];
-        self.bytes[at + 1] = bytes[1];
+        put_half(&mut self.bytes, at as usize, value);
     }
 
     pub fn put_word(&mut self, at: u32, value: u32)
         requires { at + 4 ≤ 0xA4000 }
         ensures { self.new ≡ put_by Word (λ a x bytes. slice_set bytes a x) at value self.old }
     {
-        let at = at as usize;
-        let bytes = value.to_le_bytes();
-        self.bytes[at] = bytes[0];
-        self.bytes[at + 1] = bytes[1];
-        self.bytes[at + 2] = bytes[2];
-        self.bytes[at + 3] = bytes[3];
+        put_word(&mut self.bytes, at as usize, value);
     }
 
     /// Copies the bytes from a place on.

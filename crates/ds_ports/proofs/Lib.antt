@@ -14,3 +14,5 @@ pub mod Together
 pub mod Told
 pub mod Ascending
 pub mod Wholes
+pub mod Covered
+pub mod Shares

@@ -67,6 +67,10 @@ io_at_boot = record {
 abbrev pub with_shares : Banks → ℕ → IoState → IoState
 with_shares vram wramcnt u = record u { vram = vram; wramcnt = wramcnt }
 
+-- another geometry engine, with what waits for it
+abbrev pub with_gx : GxState → IoState → IoState
+with_gx gx u = record u { gx = gx }
+
 abbrev pub io_of : IoState → Proc → ProcessorIoState
 io_of u Nine = u.nine
 io_of u Seven = u.seven

@@ -1,0 +1,253 @@
+use Rattle.std.proofs.Common.{ℕ, ◌≡◌, ◌<◌, ◌+◌, ◌-◌, ◌*◌, ◌/◌, ◌^◌, ◌⊎◌, inl, inr, Bool, true, false, true≢false, ◌&&◌, nat_le, nat_lt, if◌then◌else◌, List, [], ◌∷◌, Option, Some, None, refl, sym, ◌∙◌, ap, subst, arith}
+use Rattle.std.specs.Prelude.{◌||◌, IfSome}
+use Rattle.std.proofs.Math.Nat.{div-lt_iff_lt-mul}
+use Rattle.ds_base.specs.Numbers.{width_bytes}
+use Rattle.ds_base.specs.declared.left_out.Stop.{Stop}
+use Rattle.ds_base.specs.declared.memories.Width.{Width}
+use Rattle.ds_base.specs.declared.memories.Width.TheVariants.{Byte, Half, Word}
+use Rattle.ds_base.specs.declared.processors.Proc.{Proc}
+use Rattle.ds_base.specs.declared.ticks.Tick.{Tick}
+use Rattle.ds_ports.specs.Io.{IoState}
+use Rattle.ds_ports.specs.Ports.{byte_refusal, byte_written, first_stop, half_refusal, half_written, ignores, part, port_byte, port_half, port_read, port_refusal, port_value, port_word, port_written, read_or, read_unchanged, refusal_or, slot_joined, slot_refusal, slot_value, slot_written, whole_if, whole_in, with_bytes_from, word_refusal, word_written, written_or}
+use Rattle.ds_ports.specs.RegisterMap.{PortRow, register_map, row_bytes, slot_by, slot_in, slot_of}
+use Rattle.ds_ports.specs.Registers.{after_write, meaning_of}
+use Rattle.ds_ports.specs.declared.registers.Register.{Register}
+use Rattle.ds_ports.specs.declared.registers.Slot.{Slot}
+use Rattle.ds_ports.proofs.RegisterMaps.{both, each_below, of_each}
+
+-- A law of the registers of which an access covers bytes is a law of the access.
+
+-- a choice of what is changed is what is chosen, changed
+pub chosen : {A B : Type 0} (f : A → B) (b : Bool) (x y : A) → (if b then f x else f y) ≡ f (if b then x else y)
+chosen f true x y = refl
+chosen f false x y = refl
+
+-- ---- the registers that rows of a map have
+
+abbrev pub OfKind : (Register → Bool) → Option Slot → Type 0
+OfKind kind slot = IfSome slot (λ s. kind s.register ≡ true)
+
+abbrev pub is_of_row : (Register → Bool) → PortRow → ℕ → Bool
+is_of_row kind r place = kind (r.register place)
+
+abbrev pub row_is : (Register → Bool) → PortRow → Bool
+row_is kind r = nat_lt 0 r.bytes && each_below r.count (is_of_row kind r)
+
+-- all rows have registers of a kind, but for those that are skipped
+abbrev pub rows_are : (PortRow → Bool) → (Register → Bool) → List PortRow → Bool
+rows_are skips kind [] = true
+rows_are skips kind (r ∷ rows) = (skips r || row_is kind r) && rows_are skips kind rows
+
+-- none is
+abbrev pub no_row : PortRow → Bool
+no_row r = false
+
+-- an offset lies in a row
+abbrev pub lies_in : PortRow → ℕ → Bool
+lies_in r at = nat_le r.offset at && nat_lt at (r.offset + row_bytes r)
+
+some_of : (n : ℕ) → nat_lt 0 n ≡ true → 0 < n
+some_of n h = grind (arith, h)
+
+this_or_that : (a b : Bool) → (a || b) ≡ true → (a ≡ true) ⊎ (b ≡ true)
+this_or_that true b h = inl refl
+this_or_that false b h = inr h
+
+row_has : (kind : Register → Bool) (r : PortRow) (offset : ℕ) → row_is kind r ≡ true → offset < row_bytes r → kind (slot_in r offset).register ≡ true
+row_has kind r offset h inside =
+    let two = both (nat_lt 0 r.bytes) (each_below r.count (is_of_row kind r)) h in
+    of_each r.count (is_of_row kind r) (offset / r.bytes) two.1 ((div-lt_iff_lt-mul (some_of r.bytes two.0)).1 (omega (arith, inside)))
+
+inside_or_not : (offset bytes at : ℕ) → ((at - offset < bytes) × ((nat_le offset at && nat_lt at (offset + bytes)) ≡ true)) ⊎ ((nat_le offset at && nat_lt at (offset + bytes)) ≡ false)
+inside_or_not offset bytes at = grind arith
+
+slot_by_is : (skips : PortRow → Bool) (kind : Register → Bool) (rows : List PortRow) (at : ℕ) → rows_are skips kind rows ≡ true
+    → ((r : PortRow) → skips r ≡ true → lies_in r at ≡ false) → OfKind kind (slot_by rows at)
+slot_by_is skips kind [] at h out = tt
+slot_by_is skips kind (r ∷ rows) at h out =
+    let two = both (skips r || row_is kind r) (rows_are skips kind rows) h in
+    elim (inside_or_not r.offset (row_bytes r) at) [
+      | inl inside ↦
+          rw inside.1 (elim (this_or_that (skips r) (row_is kind r) two.0) [
+            | inl skipped ↦ absurd (true≢false (sym inside.1 ∙ out r skipped))
+            | inr has ↦ row_has kind r (at - r.offset) has inside.0
+          ])
+      | inr outside ↦ rw outside (slot_by_is skips kind rows at two.1 out)
+    ]
+
+-- an offset that no skipped row has
+pub slot_is : (skips : PortRow → Bool) (kind : Register → Bool) (proc : Proc) (at : ℕ) → rows_are skips kind (register_map proc) ≡ true
+    → ((r : PortRow) → skips r ≡ true → lies_in r at ≡ false) → IfSome (slot_of proc at) (λ s. kind s.register ≡ true)
+unfolding slot_of
+slot_is skips kind proc at h out = slot_by_is skips kind (register_map proc) at h out
+
+-- ---- the registers of which an access covers bytes
+
+abbrev pub ByteIs : (Register → Bool) → Proc → ℕ → Type 0
+ByteIs kind proc at = OfKind kind (slot_of proc at)
+
+abbrev pub HalfIs : (Register → Bool) → Proc → ℕ → Type 0
+HalfIs kind proc at = ByteIs kind proc at × ByteIs kind proc (at + 1)
+
+abbrev pub WordIs : (Register → Bool) → Proc → ℕ → Type 0
+WordIs kind proc at = HalfIs kind proc at × HalfIs kind proc (at + 2)
+
+-- they are of a kind
+abbrev pub Covers : (Register → Bool) → Proc → ℕ → Width → Type 0
+Covers kind proc at Byte = ByteIs kind proc at
+Covers kind proc at Half = HalfIs kind proc at
+Covers kind proc at Word = WordIs kind proc at
+
+-- so it is where each of its bytes is of one
+module _ (kind : Register → Bool) (proc : Proc) where
+  byte_at : (at k j : ℕ) → at + k ≡ j → ByteIs kind proc (at + k) → ByteIs kind proc j
+  byte_at at k j e h = subst (ByteIs kind proc) e h
+
+  pub covers : (at : ℕ) (width : Width) → ((k : ℕ) → k < width_bytes width → IfSome (slot_of proc (at + k)) (λ s. kind s.register ≡ true)) → Covers kind proc at width
+  covers at Byte h = byte_at at 0 at (omega arith) (h 0 (omega arith))
+  covers at Half h = (byte_at at 0 at (omega arith) (h 0 (omega arith)), h 1 (omega arith))
+  covers at Word h =
+      ((byte_at at 0 at (omega arith) (h 0 (omega arith)), h 1 (omega arith)), (h 2 (omega arith), byte_at at 3 (at + 2 + 1) (omega arith) (h 3 (omega arith))))
+
+-- the register in which it lies is one of them
+whole_if_is : (kind : Register → Bool) (b : Bool) (slot : Slot) → kind slot.register ≡ true → OfKind kind (whole_if b slot)
+whole_if_is kind true slot h = h
+whole_if_is kind false slot h = tt
+
+whole_is : (kind : Register → Bool) (width : Width) (slot : Option Slot) → OfKind kind slot → OfKind kind (whole_in width slot)
+whole_is kind width None h = tt
+whole_is kind width (Some slot) h = whole_if_is kind _ slot h
+
+-- ---- a change of the units that registers of a kind don't see, and leave as it is
+
+pub record Passes (kind : Register → Bool) (proc : Proc) (change : IoState → IoState) : Type 0 where
+  pub kept : (u : IoState) (register : Register) (n : ℕ) → kind register ≡ true → (meaning_of register).kept proc (change u) n ≡ (meaning_of register).kept proc u n
+  pub refusal : (u : IoState) (register : Register) (n word : ℕ) → kind register ≡ true
+      → (meaning_of register).refusal proc (change u) n word ≡ (meaning_of register).refusal proc u n word
+  pub after_read : (u : IoState) (register : Register) → kind register ≡ true → (meaning_of register).after_read proc (change u) ≡ change ((meaning_of register).after_read proc u)
+  pub written : (now : Tick) (u : IoState) (register : Register) (n word : ℕ) → kind register ≡ true
+      → after_write proc now (change u) register n word ≡ change (after_write proc now u register n word)
+
+module _ (kind : Register → Bool) (proc : Proc) (change : IoState → IoState) (passes : Passes kind proc change) where
+  -- writes
+  module _ (now : Tick) where
+    slot_passes : (u : IoState) (width : Width) (slot : Slot) (value : ℕ) → kind slot.register ≡ true
+        → slot_written proc now (change u) width slot value ≡ change (slot_written proc now u width slot value)
+    slot_passes u width slot value h =
+        ap (λ (n : ℕ). if ignores width slot.register then change u else after_write proc now (change u) slot.register slot.number (with_bytes_from width slot.byte n value))
+        (passes.kept u slot.register slot.number h)
+        ∙ ap (λ (v : IoState). if ignores width slot.register then change u else v) (passes.written now u slot.register slot.number (slot_joined proc u width slot value) h)
+        ∙ chosen change (ignores width slot.register) u (after_write proc now u slot.register slot.number (slot_joined proc u width slot value))
+
+    or_passes : (u : IoState) (width : Width) (slot : Option Slot) (value : ℕ) (other : IoState) → OfKind kind slot
+        → written_or proc now (change u) width slot value (change other) ≡ change (written_or proc now u width slot value other)
+    or_passes u width None value other h = refl
+    or_passes u width (Some slot) value other h = slot_passes u width slot value h
+
+    byte_passes : (u : IoState) (at value : ℕ) → ByteIs kind proc at → byte_written proc now (change u) at value ≡ change (byte_written proc now u at value)
+    byte_passes u at value h = or_passes u Byte (slot_of proc at) value u h
+
+    half_passes : (u : IoState) (at value : ℕ) → HalfIs kind proc at → half_written proc now (change u) at value ≡ change (half_written proc now u at value)
+    half_passes u at value h =
+        let whole = whole_in Half (slot_of proc at) in
+        let first = byte_written proc now u at value in
+        ap (λ (v : IoState). written_or proc now (change u) Half whole value (byte_written proc now v (at + 1) (value / 2 ^ 8))) (byte_passes u at value h.0)
+        ∙ ap (λ (v : IoState). written_or proc now (change u) Half whole value v) (byte_passes first (at + 1) (value / 2 ^ 8) h.1)
+        ∙ or_passes u Half whole value (byte_written proc now first (at + 1) (value / 2 ^ 8)) (whole_is kind Half (slot_of proc at) h.0)
+
+    word_passes : (u : IoState) (at value : ℕ) → WordIs kind proc at → word_written proc now (change u) at value ≡ change (word_written proc now u at value)
+    word_passes u at value h =
+        let whole = whole_in Word (slot_of proc at) in
+        let first = half_written proc now u at value in
+        ap (λ (v : IoState). written_or proc now (change u) Word whole value (half_written proc now v (at + 2) (value / 2 ^ 16))) (half_passes u at value h.0)
+        ∙ ap (λ (v : IoState). written_or proc now (change u) Word whole value v) (half_passes first (at + 2) (value / 2 ^ 16) h.1)
+        ∙ or_passes u Word whole value (half_written proc now first (at + 2) (value / 2 ^ 16)) (whole_is kind Word (slot_of proc at) h.0.0)
+
+    pub write_passes : (u : IoState) (at : ℕ) (width : Width) (value : ℕ) → Covers kind proc at width
+        → port_written proc now (change u) at width value ≡ change (port_written proc now u at width value)
+    unfolding port_written
+    write_passes u at Byte value h = byte_passes u at value h
+    write_passes u at Half value h = half_passes u at value h
+    write_passes u at Word value h = word_passes u at value h
+
+  -- reads
+  unchanged_passes : (u : IoState) (slot : Option Slot) → OfKind kind slot → read_unchanged proc (change u) slot ≡ change (read_unchanged proc u slot)
+  unchanged_passes u None h = refl
+  unchanged_passes u (Some slot) h = passes.after_read u slot.register h
+
+  pub read_passes : (u : IoState) (at : ℕ) (width : Width) → Covers kind proc at width → port_read proc (change u) at width ≡ change (port_read proc u at width)
+  unfolding port_read
+  read_passes u at Byte h = refl
+  read_passes u at Half h = refl
+  read_passes u at Word h = unchanged_passes u (whole_in Word (slot_of proc at)) (whole_is kind Word (slot_of proc at) h.0.0)
+
+  -- refusals
+  slot_refuses : (u : IoState) (width : Width) (slot : Slot) (value : ℕ) → kind slot.register ≡ true → slot_refusal proc (change u) width slot value ≡ slot_refusal proc u width slot value
+  slot_refuses u width slot value h =
+      ap (λ (n : ℕ). if ignores width slot.register then None else (meaning_of slot.register).refusal proc (change u) slot.number (with_bytes_from width slot.byte n value))
+      (passes.kept u slot.register slot.number h)
+      ∙ ap (λ (stop : Option Stop). if ignores width slot.register then None else stop) (passes.refusal u slot.register slot.number (slot_joined proc u width slot value) h)
+
+  or_refuses : (u : IoState) (width : Width) (slot : Option Slot) (value : ℕ) (other : Option Stop) → OfKind kind slot
+      → refusal_or proc (change u) width slot value other ≡ refusal_or proc u width slot value other
+  or_refuses u width None value other h = refl
+  or_refuses u width (Some slot) value other h = slot_refuses u width slot value h
+
+  byte_refuses : (u : IoState) (at value : ℕ) → ByteIs kind proc at → byte_refusal proc (change u) at value ≡ byte_refusal proc u at value
+  byte_refuses u at value h = or_refuses u Byte (slot_of proc at) value None h
+
+  half_refuses : (u : IoState) (at value : ℕ) → HalfIs kind proc at → half_refusal proc (change u) at value ≡ half_refusal proc u at value
+  half_refuses u at value h =
+      let whole = whole_in Half (slot_of proc at) in
+      ap (λ (stop : Option Stop). refusal_or proc (change u) Half whole value (first_stop stop (byte_refusal proc (change u) (at + 1) (value / 2 ^ 8)))) (byte_refuses u at value h.0)
+      ∙ ap (λ (stop : Option Stop). refusal_or proc (change u) Half whole value (first_stop (byte_refusal proc u at value) stop)) (byte_refuses u (at + 1) (value / 2 ^ 8) h.1)
+      ∙ or_refuses u Half whole value (first_stop (byte_refusal proc u at value) (byte_refusal proc u (at + 1) (value / 2 ^ 8))) (whole_is kind Half (slot_of proc at) h.0)
+
+  word_refuses : (u : IoState) (at value : ℕ) → WordIs kind proc at → word_refusal proc (change u) at value ≡ word_refusal proc u at value
+  word_refuses u at value h =
+      let whole = whole_in Word (slot_of proc at) in
+      ap (λ (stop : Option Stop). refusal_or proc (change u) Word whole value (first_stop stop (half_refusal proc (change u) (at + 2) (value / 2 ^ 16)))) (half_refuses u at value h.0)
+      ∙ ap (λ (stop : Option Stop). refusal_or proc (change u) Word whole value (first_stop (half_refusal proc u at value) stop)) (half_refuses u (at + 2) (value / 2 ^ 16) h.1)
+      ∙ or_refuses u Word whole value (first_stop (half_refusal proc u at value) (half_refusal proc u (at + 2) (value / 2 ^ 16))) (whole_is kind Word (slot_of proc at) h.0.0)
+
+  pub refusal_passes : (u : IoState) (at : ℕ) (width : Width) (value : ℕ) → Covers kind proc at width → port_refusal proc (change u) at width value ≡ port_refusal proc u at width value
+  unfolding port_refusal
+  refusal_passes u at Byte value h = byte_refuses u at value h
+  refusal_passes u at Half value h = half_refuses u at value h
+  refusal_passes u at Word value h = word_refuses u at value h
+
+-- ---- two states in which registers of a kind read the same
+
+abbrev pub ReadTheSame : (Register → Bool) → Proc → Tick → IoState → IoState → Type 0
+ReadTheSame kind proc now u v = (register : Register) (n : ℕ) → kind register ≡ true → (meaning_of register).value proc now v n ≡ (meaning_of register).value proc now u n
+
+module _ (kind : Register → Bool) (proc : Proc) (now : Tick) (u v : IoState) (same : ReadTheSame kind proc now u v) where
+  slot_same : (width : Width) (slot : Slot) → kind slot.register ≡ true → slot_value proc now v width slot ≡ slot_value proc now u width slot
+  slot_same width slot h = ap (λ (n : ℕ). if ignores width slot.register then 0 else part width slot.byte n) (same slot.register slot.number h)
+
+  or_same : (width : Width) (slot : Option Slot) (other : ℕ) → OfKind kind slot → read_or proc now v width slot other ≡ read_or proc now u width slot other
+  or_same width None other h = refl
+  or_same width (Some slot) other h = slot_same width slot h
+
+  byte_same : (at : ℕ) → ByteIs kind proc at → port_byte proc now v at ≡ port_byte proc now u at
+  byte_same at h = or_same Byte (slot_of proc at) 0 h
+
+  half_same : (at : ℕ) → HalfIs kind proc at → port_half proc now v at ≡ port_half proc now u at
+  half_same at h =
+      let whole = whole_in Half (slot_of proc at) in
+      ap (λ (n : ℕ). read_or proc now v Half whole (n + 2 ^ 8 * port_byte proc now v (at + 1))) (byte_same at h.0)
+      ∙ ap (λ (n : ℕ). read_or proc now v Half whole (port_byte proc now u at + 2 ^ 8 * n)) (byte_same (at + 1) h.1)
+      ∙ or_same Half whole (port_byte proc now u at + 2 ^ 8 * port_byte proc now u (at + 1)) (whole_is kind Half (slot_of proc at) h.0)
+
+  word_same : (at : ℕ) → WordIs kind proc at → port_word proc now v at ≡ port_word proc now u at
+  word_same at h =
+      let whole = whole_in Word (slot_of proc at) in
+      ap (λ (n : ℕ). read_or proc now v Word whole (n + 2 ^ 16 * port_half proc now v (at + 2))) (half_same at h.0)
+      ∙ ap (λ (n : ℕ). read_or proc now v Word whole (port_half proc now u at + 2 ^ 16 * n)) (half_same (at + 2) h.1)
+      ∙ or_same Word whole (port_half proc now u at + 2 ^ 16 * port_half proc now u (at + 2)) (whole_is kind Word (slot_of proc at) h.0.0)
+
+  pub value_same : (at : ℕ) (width : Width) → Covers kind proc at width → port_value proc now v at width ≡ port_value proc now u at width
+  unfolding port_value
+  value_same at Byte h = byte_same at h
+  value_same at Half h = half_same at h
+  value_same at Word h = word_same at h

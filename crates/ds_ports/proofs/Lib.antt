@@ -16,3 +16,4 @@ pub mod Ascending
 pub mod Wholes
 pub mod Covered
 pub mod Shares
+pub mod GxApart

@@ -17,3 +17,4 @@ pub mod Wholes
 pub mod Covered
 pub mod Shares
 pub mod GxApart
+pub mod Arms

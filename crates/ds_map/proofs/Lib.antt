@@ -3,3 +3,4 @@ pub mod NineShares
 pub mod Reached
 pub mod Later
 pub mod TakenBack
+pub mod SevenShares

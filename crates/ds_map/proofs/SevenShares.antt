@@ -1,0 +1,329 @@
+use Rattle.std.proofs.Common.{ℕ, ◌≡◌, ◌<◌, ◌+◌, ◌-◌, ◌%◌, ◌==◌, Bool, true, false, ◌&&◌, nat_le, nat_lt, if◌then◌else◌, Option, Some, None, List, [], ◌∷◌, length, refl, sym, ◌∙◌, ap, subst, arith}
+use Rattle.ds_base.specs.Memories.{memory_size}
+use Rattle.ds_base.specs.Numbers.{aligned_down, width_bytes}
+use Rattle.ds_base.specs.declared.left_out.Stop.{Stop}
+use Rattle.ds_base.specs.declared.memories.Memory.TheVariants.{Shared, Own7}
+use Rattle.ds_base.specs.declared.memories.Space.{Space}
+use Rattle.ds_base.specs.declared.memories.Space.TheVariants.{Arm7}
+use Rattle.ds_base.specs.declared.memories.Width.{Width}
+use Rattle.ds_base.specs.declared.memories.Width.TheVariants.{Byte, Half, Word}
+use Rattle.ds_base.specs.declared.processors.Proc.TheVariants.{Seven}
+use Rattle.ds_base.specs.declared.ticks.Tick.{Tick}
+use Rattle.ds_dma.specs.declared.channels.Unit.{Unit as DmaUnit}
+use Rattle.ds_places.specs.AddressTables.{Cells, Content, Region, place_at, place_by, place_of, regions_of_seven}
+use Rattle.ds_places.specs.declared.kinds.Place.{Place}
+use Rattle.ds_places.specs.declared.kinds.Place.TheVariants.{Banks, Cell, Nothing, Port, Rom}
+use Rattle.ds_ports.specs.Io.{IoState, channel_moved, with_shares}
+use Rattle.ds_ports.specs.Ports.{port_read, port_refusal, port_written, unless_stopped}
+use Rattle.ds_ports.proofs.Shares.{seven_read_stays, seven_reads, seven_refusals, seven_values, seven_write_stays, seven_writes}
+use Rattle.vram_banks.specs.Cells as cells
+use Rattle.vram_banks.specs.Cells.{vram_value, vram_written}
+use Rattle.vram_banks.proofs.Allotted.{value_allotted, written_allotted, written_controls, written_length}
+use Rattle.vram_banks.proofs.Mixes.{IsAll, number_other, with_number_length, with_number_other}
+use Rattle.ds_map.specs.Accesses.{after_read_at, fetched_at, map_fetched, map_read, map_refusal, map_value, map_written, refusal_at, value_at, written_at}
+use Rattle.ds_map.specs.Maps.{MapState}
+use Rattle.ds_map.specs.Moves.{after_unit, unit_moved, unit_read, unit_refusal, unit_taken}
+use Rattle.ds_map.specs.Shares.{IsSharedSo, SharedPart, is_shown_to_nine, map_put, mixed_banks, shares_put}
+
+-- ARM7's accesses of the map, where ARM9's bytes of the memories that both reach are others: they come to the same, and those bytes stay.
+
+-- ---- ARM7's places: of shared work RAM the bytes that WRAMCNT doesn't show to ARM9, and of video memory the space that is ARM7's alone
+
+-- a place has none of ARM9's bytes, of those bytes that an access of a width reaches there
+abbrev IsPast : (ℕ → Bool) → Width → Place → Type 0
+IsPast shown width (Cell Shared at) = IsAll shown false width (aligned_down width at)
+IsPast shown width (Banks space at) = space ≡ Arm7
+IsPast shown width place = Unit {0}
+
+abbrev ArePast : (ℕ → Bool) → Width → List Region → Type 0
+ArePast shown width [] = Unit {0}
+ArePast shown width (r ∷ rs) = ((offset : ℕ) → IsPast shown width (place_at r.content offset)) × ArePast shown width rs
+
+either : (shown : ℕ → Bool) (width : Width) (b : Bool) (one other : Place) → IsPast shown width one → IsPast shown width other → IsPast shown width (if b then one else other)
+either shown width true one other h k = h
+either shown width false one other h k = k
+
+by_regions : (shown : ℕ → Bool) (width : Width) (rs : List Region) (at : ℕ) → ArePast shown width rs → IsPast shown width (place_by rs at)
+by_regions shown width [] at h = tt
+by_regions shown width (r ∷ rs) at h =
+    either shown width (nat_le r.first at && nat_le at r.last) (place_at r.content (at - r.first)) (place_by rs at) (h.0 (at - r.first)) (by_regions shown width rs at h.1)
+
+-- an access lies in one half of shared work RAM
+in_first_half : (width : Width) (offset k : ℕ) → k < width_bytes width → nat_le 0x4000 (aligned_down width (0 + offset % 0x4000) + k) ≡ false
+in_first_half Byte offset k h = grind (arith, h)
+in_first_half Half offset k h = grind (arith, h)
+in_first_half Word offset k h = grind (arith, h)
+
+in_second_half : (width : Width) (offset k : ℕ) → nat_lt (aligned_down width (0x4000 + offset % 0x4000) + k) 0x4000 ≡ false
+in_second_half Byte offset k = grind arith
+in_second_half Half offset k = grind arith
+in_second_half Word offset k = grind arith
+
+-- what ARM9 and ARM7 see of shared work RAM, by the tests of WRAMCNT
+abbrev shown_by : Bool → Bool → Bool → ℕ → Bool
+shown_by is_0 is_1 is_2 at = if is_0 then true else (if is_1 then nat_le 0x4000 at else (if is_2 then nat_lt at 0x4000 else false))
+
+abbrev seen_by : Bool → Bool → Bool → Content
+seen_by is_0 is_1 is_2 =
+    if is_0 then Cells Own7 0 (memory_size Own7) else (
+    if is_1 then Cells Shared 0 0x4000 else (if is_2 then Cells Shared 0x4000 0x4000 else Cells Shared 0 (memory_size Shared)))
+
+shared_past : (is_0 is_1 is_2 : Bool) (width : Width) (offset : ℕ) → IsPast (shown_by is_0 is_1 is_2) width (place_at (seen_by is_0 is_1 is_2) offset)
+shared_past true is_1 is_2 width offset = tt
+shared_past false true is_2 width offset = λ k h. in_first_half width offset k h
+shared_past false false true width offset = λ k h. in_second_half width offset k
+shared_past false false false width offset = λ k h. refl
+
+all_past : (wramcnt : ℕ) (width : Width) → ArePast (is_shown_to_nine wramcnt) width (regions_of_seven wramcnt)
+all_past wramcnt width =
+    let shared = shared_past (wramcnt == 0) (wramcnt == 1) (wramcnt == 2) width in
+    (λ offset. tt, (λ offset. tt, (shared, (λ offset. tt, (λ offset. tt, (λ offset. refl, tt))))))
+
+place_past : (wramcnt at : ℕ) (width : Width) → IsPast (is_shown_to_nine wramcnt) width (place_of Seven wramcnt at)
+place_past wramcnt at width = by_regions (is_shown_to_nine wramcnt) width (regions_of_seven wramcnt) at (all_past wramcnt width)
+
+pub shared_seven : (wramcnt at : ℕ) (width : Width) (place : ℕ) → place_of Seven wramcnt at ≡ Cell Shared place
+    → IsAll (is_shown_to_nine wramcnt) false width (aligned_down width place)
+shared_seven wramcnt at width place e = subst (λ (p : Place). IsPast (is_shown_to_nine wramcnt) width p) e (place_past wramcnt at width)
+
+pub banks_seven : (wramcnt at : ℕ) (space : Space) (place : ℕ) → place_of Seven wramcnt at ≡ Banks space place → space ≡ Arm7
+banks_seven wramcnt at space place e = subst (λ (p : Place). IsPast (is_shown_to_nine wramcnt) Byte p) e (place_past wramcnt at Byte)
+
+-- ---- video memory at ARM7's addresses, with other bytes of ARM9's
+
+module _ (own theirs : cells.Banks) (controls : own.controls ≡ theirs.controls) (long : length own.bytes ≡ length theirs.bytes) where
+  banks_value : (at : ℕ) (width : Width) → vram_value (mixed_banks own theirs.bytes) Arm7 at width ≡ vram_value theirs Arm7 at width
+  banks_value at width =
+      value_allotted own.controls own.bytes theirs.bytes at width long
+      ∙ ap (λ (c : List ℕ). vram_value (let v : cells.Banks = record { bytes = theirs.bytes; controls = c } in v) Arm7 at width) controls
+
+  banks_written : (at : ℕ) (width : Width) (value : ℕ)
+      → vram_written (mixed_banks own theirs.bytes) Arm7 at width value ≡ mixed_banks own (vram_written theirs Arm7 at width value).bytes
+  banks_written at width value =
+      written_allotted own.controls own.bytes theirs.bytes at width value long
+      ∙ ap (λ (c : List ℕ). mixed_banks own (vram_written (let v : cells.Banks = record { bytes = theirs.bytes; controls = c } in v) Arm7 at width value).bytes) controls
+
+-- ---- ports: no access of ARM7's changes how the memories are shared out
+
+-- units that have the banks and WRAMCNT of others
+record AreSharedAlike (u v : IoState) : Type 0 where
+  pub vram : v.vram ≡ u.vram
+  pub wramcnt : v.wramcnt ≡ u.wramcnt
+
+read_alike : (u : IoState) (at : ℕ) (width : Width) → AreSharedAlike u (port_read Seven u at width)
+read_alike u at width = let h = seven_read_stays u at width in record { vram = h.0; wramcnt = h.1 }
+
+write_alike : (now : Tick) (u : IoState) (at : ℕ) (width : Width) (value : ℕ) → AreSharedAlike u (port_written Seven now u at width value)
+write_alike now u at width value = let h = seven_write_stays now u at width value in record { vram = h.0; wramcnt = h.1 }
+
+put_alike : (own : SharedPart) (u v : IoState) → AreSharedAlike u v → with_shares (mixed_banks own.vram u.vram.bytes) own.wramcnt v ≡ shares_put own v
+put_alike own u v alike = ap (λ (b : cells.Banks). with_shares (mixed_banks own.vram b.bytes) own.wramcnt v) (sym alike.vram)
+
+so_alike : (own : SharedPart) (shared : List ℕ) (u v : IoState) → AreSharedAlike u v → IsSharedSo own shared u → IsSharedSo own shared v
+so_alike own shared u v alike so = record {
+  wramcnt = so.wramcnt ∙ sym alike.wramcnt;
+  controls = so.controls ∙ ap (λ (b : cells.Banks). b.controls) (sym alike.vram);
+  shared = so.shared;
+  bytes = so.bytes ∙ ap (λ (b : cells.Banks). length b.bytes) (sym alike.vram);
+}
+
+stop_alike : (refused : Option Stop) (u v : IoState) → AreSharedAlike u v → AreSharedAlike u (unless_stopped refused u v)
+stop_alike None u v alike = alike
+stop_alike (Some stop) u v alike = record { vram = refl; wramcnt = refl }
+
+stop_put : (refused : Option Stop) (own : SharedPart) (u v : IoState) → unless_stopped refused (shares_put own u) (shares_put own v) ≡ shares_put own (unless_stopped refused u v)
+stop_put None own u v = refl
+stop_put (Some stop) own u v = refl
+
+-- ---- accesses
+
+module _ (own : SharedPart) (m : MapState) (so : IsSharedSo own m.memories.shared m.io) where
+  abbrev OwnPast : Width → Place → Type 0
+  OwnPast width place = IsPast (is_shown_to_nine own.wramcnt) width place
+
+  -- the banks that are put in
+  abbrev put_banks : cells.Banks
+  put_banks = mixed_banks own.vram m.io.vram.bytes
+
+  banks_there : (space : Space) (at : ℕ) (width : Width) → space ≡ Arm7 → vram_value put_banks space at width ≡ vram_value m.io.vram space at width
+  banks_there space at width e =
+      let P : Space → Type 0 = λ s. vram_value put_banks s at width ≡ vram_value m.io.vram s at width in
+      subst P (sym e) (banks_value own.vram m.io.vram so.controls so.bytes at width)
+
+  -- what is read
+  value_there : (now : Tick) (place : Place) (width : Width) → OwnPast width place → value_at Seven now place (map_put own m) width ≡ value_at Seven now place m width
+  value_there now (Cell Shared at) width past = number_other (is_shown_to_nine own.wramcnt) own.shared m.memories.shared width (aligned_down width at) so.shared past
+  value_there now (Cell _ at) width past = refl
+  value_there now (Banks space at) width past = banks_there space at width past
+  value_there now (Port at) width past = seven_values put_banks own.wramcnt now m.io (aligned_down width at) width so.controls so.wramcnt
+  value_there now (Rom at) width past = refl
+  value_there now Nothing width past = refl
+
+  pub value : (now : Tick) (at : ℕ) (width : Width) → map_value Seven now (map_put own m) at width ≡ map_value Seven now m at width
+  unfolding map_value
+  value now at width =
+      value_there now (place_of Seven own.wramcnt at) width (place_past own.wramcnt at width)
+      ∙ ap (λ (w : ℕ). value_at Seven now (place_of Seven w at) m width) so.wramcnt
+
+  -- what is fetched
+  fetched_there : (place : Place) (width : Width) → OwnPast width place → fetched_at Seven place (map_put own m) width ≡ fetched_at Seven place m width
+  fetched_there (Cell Shared at) width past = number_other (is_shown_to_nine own.wramcnt) own.shared m.memories.shared width (aligned_down width at) so.shared past
+  fetched_there (Cell _ at) width past = refl
+  fetched_there (Banks space at) width past = banks_there space at width past
+  fetched_there (Port at) width past = refl
+  fetched_there (Rom at) width past = refl
+  fetched_there Nothing width past = refl
+
+  pub fetched : (at : ℕ) (width : Width) → map_fetched Seven (map_put own m) at width ≡ map_fetched Seven m at width
+  unfolding map_fetched
+  fetched at width =
+      fetched_there (place_of Seven own.wramcnt at) width (place_past own.wramcnt at width)
+      ∙ ap (λ (w : ℕ). fetched_at Seven (place_of Seven w at) m width) so.wramcnt
+
+  -- what a read leaves
+  read_there : (place : Place) (width : Width) → after_read_at Seven place (map_put own m) width ≡ map_put own (after_read_at Seven place m width)
+  read_there (Cell memory at) width = refl
+  read_there (Banks space at) width = refl
+  read_there (Port at) width =
+      let down = aligned_down width at in
+      ap (λ (u : IoState). (let left : MapState = record (map_put own m) { io = u } in left))
+      (seven_reads put_banks own.wramcnt m.io down width ∙ put_alike own m.io (port_read Seven m.io down width) (read_alike m.io down width))
+  read_there (Rom at) width = refl
+  read_there Nothing width = refl
+
+  pub read : (at : ℕ) (width : Width) → map_read Seven (map_put own m) at width ≡ map_put own (map_read Seven m at width)
+  unfolding map_read
+  read at width =
+      read_there (place_of Seven own.wramcnt at) width
+      ∙ ap (λ (w : ℕ). map_put own (after_read_at Seven (place_of Seven w at) m width)) so.wramcnt
+
+  read_stays_there : (place : Place) (width : Width) → (let left = after_read_at Seven place m width in IsSharedSo own left.memories.shared left.io)
+  read_stays_there (Cell memory at) width = so
+  read_stays_there (Banks space at) width = so
+  read_stays_there (Port at) width =
+      let down = aligned_down width at in so_alike own m.memories.shared m.io (port_read Seven m.io down width) (read_alike m.io down width) so
+  read_stays_there (Rom at) width = so
+  read_stays_there Nothing width = so
+
+  pub read_stays : (at : ℕ) (width : Width) → IsSharedSo own (map_read Seven m at width).memories.shared (map_read Seven m at width).io
+  unfolding map_read
+  read_stays at width = read_stays_there (place_of Seven m.io.wramcnt at) width
+
+  -- why a write is refused
+  refusal_there : (place : Place) (width : Width) (number : ℕ) → refusal_at Seven place (map_put own m) width number ≡ refusal_at Seven place m width number
+  refusal_there (Cell memory at) width number = refl
+  refusal_there (Banks space at) width number = refl
+  refusal_there (Port at) width number = seven_refusals put_banks own.wramcnt m.io (aligned_down width at) width number
+  refusal_there (Rom at) width number = refl
+  refusal_there Nothing width number = refl
+
+  pub refusal : (at : ℕ) (width : Width) (number : ℕ) → map_refusal Seven (map_put own m) at width number ≡ map_refusal Seven m at width number
+  unfolding map_refusal
+  refusal at width number =
+      refusal_there (place_of Seven own.wramcnt at) width number
+      ∙ ap (λ (w : ℕ). refusal_at Seven (place_of Seven w at) m width number) so.wramcnt
+
+  -- what a write leaves
+  port_there : (now : Tick) (at : ℕ) (width : Width) (number : ℕ)
+      → unless_stopped (port_refusal Seven (shares_put own m.io) at width number) (shares_put own m.io) (port_written Seven now (shares_put own m.io) at width number)
+      ≡ shares_put own (unless_stopped (port_refusal Seven m.io at width number) m.io (port_written Seven now m.io at width number))
+  port_there now at width number =
+      let after = port_written Seven now m.io at width number in
+      ap (λ (r : Option Stop). unless_stopped r (shares_put own m.io) (port_written Seven now (shares_put own m.io) at width number))
+      (seven_refusals put_banks own.wramcnt m.io at width number)
+      ∙ ap (λ (u : IoState). unless_stopped (port_refusal Seven m.io at width number) (shares_put own m.io) u)
+      (seven_writes put_banks own.wramcnt now m.io at width number ∙ put_alike own m.io after (write_alike now m.io at width number))
+      ∙ stop_put (port_refusal Seven m.io at width number) own m.io after
+
+  written_there : (now : Tick) (place : Place) (width : Width) (number : ℕ) → OwnPast width place
+      → written_at Seven now place (map_put own m) width number ≡ map_put own (written_at Seven now place m width number)
+  written_there now (Cell Shared at) width number past =
+      ap (λ (bytes : List ℕ). (let left : MapState = record m { memories = record m.memories { shared = bytes }; io = shares_put own m.io } in left))
+      (with_number_other (is_shown_to_nine own.wramcnt) own.shared m.memories.shared width (aligned_down width at) number so.shared past)
+  written_there now (Cell _ at) width number past = refl
+  written_there now (Banks space at) width number past =
+      let P : Space → Type 0 = λ s. written_at Seven now (Banks s at) (map_put own m) width number ≡ map_put own (written_at Seven now (Banks s at) m width number) in
+      subst P (sym past)
+      (ap (λ (b : cells.Banks). (let left : MapState = record (map_put own m) { io = with_shares b own.wramcnt m.io } in left))
+      (banks_written own.vram m.io.vram so.controls so.bytes at width number))
+  written_there now (Port at) width number past =
+      ap (λ (u : IoState). (let left : MapState = record (map_put own m) { io = u } in left)) (port_there now (aligned_down width at) width number)
+  written_there now (Rom at) width number past = refl
+  written_there now Nothing width number past = refl
+
+  pub written : (now : Tick) (at : ℕ) (width : Width) (number : ℕ) → map_written Seven now (map_put own m) at width number ≡ map_put own (map_written Seven now m at width number)
+  unfolding map_written
+  written now at width number =
+      written_there now (place_of Seven own.wramcnt at) width number (place_past own.wramcnt at width)
+      ∙ ap (λ (w : ℕ). map_put own (written_at Seven now (place_of Seven w at) m width number)) so.wramcnt
+
+  written_stays_there : (now : Tick) (place : Place) (width : Width) (number : ℕ)
+      → (let left = written_at Seven now place m width number in IsSharedSo own left.memories.shared left.io)
+  written_stays_there now (Cell Shared at) width number = record {
+    wramcnt = so.wramcnt;
+    controls = so.controls;
+    shared = so.shared ∙ sym (with_number_length width m.memories.shared (aligned_down width at) number);
+    bytes = so.bytes;
+  }
+  written_stays_there now (Cell _ at) width number = so
+  written_stays_there now (Banks space at) width number = record {
+    wramcnt = so.wramcnt;
+    controls = so.controls ∙ sym (written_controls m.io.vram space at width number);
+    shared = so.shared;
+    bytes = so.bytes ∙ sym (written_length m.io.vram space at width number);
+  }
+  written_stays_there now (Port at) width number =
+      let down = aligned_down width at in
+      let after = port_written Seven now m.io down width number in
+      let refused = port_refusal Seven m.io down width number in
+      so_alike own m.memories.shared m.io (unless_stopped refused m.io after) (stop_alike refused m.io after (write_alike now m.io down width number)) so
+  written_stays_there now (Rom at) width number = so
+  written_stays_there now Nothing width number = so
+
+  pub written_stays : (now : Tick) (at : ℕ) (width : Width) (number : ℕ)
+      → IsSharedSo own (map_written Seven now m at width number).memories.shared (map_written Seven now m at width number).io
+  unfolding map_written
+  written_stays now at width number = written_stays_there now (place_of Seven m.io.wramcnt at) width number
+
+-- ---- the DMA unit
+
+module _ (own : SharedPart) (m : MapState) (so : IsSharedSo own m.memories.shared m.io) (now : Tick) (unit : DmaUnit) where
+  abbrev taken : MapState
+  taken = unit_taken Seven now unit m
+
+  abbrev number : ℕ
+  number = map_value Seven now m unit.from unit.width
+
+  unit_taken_same : unit_taken Seven now unit (map_put own m) ≡ map_put own taken
+  unit_taken_same = ap (λ (x : MapState). (let left : MapState = record x { io = channel_moved Seven now x.io } in left)) (read own m so unit.from unit.width)
+
+  -- taking it from the plan changes the channels alone
+  taken_stays : IsSharedSo own taken.memories.shared taken.io
+  taken_stays =
+      let left = unit_read Seven unit m in
+      so_alike own left.memories.shared left.io taken.io (record { vram = refl; wramcnt = refl }) (read_stays own m so unit.from unit.width)
+
+  pub unit_refuses : unit_refusal Seven now unit (map_put own m) ≡ unit_refusal Seven now unit m
+  unit_refuses =
+      ap (λ (x : MapState). map_refusal Seven x unit.to unit.width (map_value Seven now (map_put own m) unit.from unit.width)) unit_taken_same
+      ∙ ap (λ (n : ℕ). map_refusal Seven (map_put own taken) unit.to unit.width n) (value own m so now unit.from unit.width)
+      ∙ refusal own taken taken_stays unit.to unit.width number
+
+  after_same : (refused : Option Stop) → after_unit refused Seven now unit (map_put own m) ≡ map_put own (after_unit refused Seven now unit m)
+  after_same None =
+      ap (λ (x : MapState). map_written Seven now x unit.to unit.width (map_value Seven now (map_put own m) unit.from unit.width)) unit_taken_same
+      ∙ ap (λ (n : ℕ). map_written Seven now (map_put own taken) unit.to unit.width n) (value own m so now unit.from unit.width)
+      ∙ written own taken taken_stays now unit.to unit.width number
+  after_same (Some stop) = read own m so unit.from unit.width
+
+  pub unit_moves : unit_moved Seven now unit (map_put own m) ≡ map_put own (unit_moved Seven now unit m)
+  unit_moves =
+      ap (λ (r : Option Stop). after_unit r Seven now unit (map_put own m)) unit_refuses
+      ∙ after_same (unit_refusal Seven now unit m)
+
+  after_stays : (refused : Option Stop) → (let left = after_unit refused Seven now unit m in IsSharedSo own left.memories.shared left.io)
+  after_stays None = written_stays own taken taken_stays now unit.to unit.width number
+  after_stays (Some stop) = read_stays own m so unit.from unit.width
+
+  pub unit_stays : IsSharedSo own (unit_moved Seven now unit m).memories.shared (unit_moved Seven now unit m).io
+  unit_stays = after_stays (unit_refusal Seven now unit m)

@@ -1,5 +1,6 @@
 pub mod Mains
 pub mod NineShares
+pub mod Puts
 pub mod Reached
 pub mod Later
 pub mod TakenBack

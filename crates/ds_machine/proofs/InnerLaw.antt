@@ -1,30 +1,37 @@
-use Rattle.std.proofs.Common.{ℕ, ◌≡◌, ◌≢◌, ◌<◌, Bool, true, false, [], Some, refl, sym, ◌∙◌, ap, subst}
+use Rattle.std.proofs.Common.{ℕ, ◌≡◌, ◌≢◌, ◌<◌, ◌&&◌, Bool, true, false, List, [], Some, refl, sym, ◌∙◌, ap, subst}
 use Rattle.ds_base.specs.Schedules.{IsLater}
 use Rattle.ds_base.specs.declared.left_out.LeftOut.{LeftOut}
 use Rattle.ds_base.specs.declared.processors.Proc.{Proc}
 use Rattle.ds_base.specs.declared.processors.Proc.TheVariants.{Nine, Seven}
+use Rattle.ds_base.specs.declared.ticks.Tick.{Tick}
 use Rattle.arm_core.specs.Effects.{Outcome}
 use Rattle.arm_core.specs.Registers.{RegisterState}
 use Rattle.arm_core.specs.Steps.{enters}
 use Rattle.arm_core.specs.declared.outcomes.Stepped as arm
 use Rattle.arm_core.specs.declared.outcomes.Stepped.TheVariants.{Cost, Halted, Left}
 use Rattle.ds_map.specs.Views.{NineReach, SevenReach, nine_memory, seven_memory}
+use Rattle.ds_map.specs.Shares.{IsSharedSo, is_apart, is_shown_to_nine, shared_put}
 use Rattle.ds_ports.specs.Dues.{IsIo}
-use Rattle.ds_ports.specs.Io.{is_settled}
+use Rattle.ds_ports.specs.Io.{IoState, is_settled, with_shares}
+use Rattle.ds_ports.specs.ProcessorIo.{ProcessorIoState}
 use Rattle.ds_runs.specs.Runs.{MachineStep, Makes}
 use Rattle.ds_runs.specs.declared.actors.Actor as actor
 use Rattle.ds_runs.specs.declared.actors.Actor.TheVariants.{Processor}
-use Rattle.ds_machine.specs.Apart.{NinePart, with_nine_part, with_seven_part}
+use Rattle.ds_timers.specs.Irqs.{shares_bit}
+use Rattle.vram_banks.specs.Cells as cells
+use Rattle.vram_banks.specs.Mixes.{mixed}
+use Rattle.vram_banks.proofs.Mixes.{mixed_length, mixed_same, mixed_twice}
+use Rattle.ds_machine.specs.Apart.{NineOwn, nine_own_of, with_nine_own, with_nine_part, with_seven_part}
 use Rattle.ds_machine.specs.Private.{IsHarmless, IsPrivate, ProcessorStaysPrivate, StaysPrivate, is_deaf}
 use Rattle.ds_machine.specs.Reference.{AreAsleep, Shown, awake, due_by, due_unless, processor_due, reference_step}
 use Rattle.ds_machine.specs.Sides.{nine_side, seven_side, taken}
-use Rattle.ds_machine.specs.States.{MachineState, NineState, ProcessorState, SevenState}
-use Rattle.ds_machine.specs.Steps.{is_blocked, line_of, machine_concluded, nine_reach, processor_of, seven_reach, tick_of, went_on, with_nine, with_seven}
+use Rattle.ds_machine.specs.States.{MachineState, ProcessorState, SevenState}
+use Rattle.ds_machine.specs.Steps.{is_blocked, line_of, machine_concluded, nine_reach, processor_of, seven_reach, tick_of, went_on, with_nine, with_processor, with_seven}
 use Rattle.ds_machine.proofs.DueTicks.{steps_as}
 use Rattle.ds_machine.proofs.FastSteps.{cost_ends}
 use Rattle.ds_machine.proofs.Moves.{later_unless}
 use Rattle.ds_machine.proofs.PrivateAccesses.{StepsAlike, costing}
-use Rattle.ds_machine.proofs.PrivateSides.{NineOwn, nine_apart, nine_executes, nine_wrote, put_nine, put_seven, seven_apart, seven_executes, seven_wrote}
+use Rattle.ds_machine.proofs.PrivateSides.{NineReachOwn, NineShared, nine_apart, nine_executes, put_nine, put_shared, shared_wrote, put_seven, seven_apart, seven_executes, seven_wrote}
 use Rattle.ds_machine.proofs.PrivateSteps.{private_alike, taken_alike}
 use Rattle.ds_machine.proofs.ProcessorSteps.{later_by}
 
@@ -41,19 +48,27 @@ abbrev pub went_by : Proc → ProcessorState → RegisterState → arm.Stepped �
 went_by proc p registers stepped = went_on proc (clocks_of stepped) false (record p { registers = registers })
 
 -- ARM9's
-abbrev pub nine_part_of : MachineState → NinePart
-nine_part_of s = record { nine = s.nine; palette = s.palette; oam = s.oam }
-
-abbrev pub nine_own_of : NineState → NineOwn
-nine_own_of nine = record { cp15 = nine.cp15; itcm = nine.itcm; dtcm = nine.dtcm }
-
-abbrev pub nine_by : NinePart → Outcome NineReach → NinePart
-nine_by part o = record part {
-  nine = record { processor = went_by Nine part.nine.processor o.registers o.stepped; cp15 = o.state.cp15; itcm = o.state.itcm; dtcm = o.state.dtcm };
+abbrev pub nine_reached : NineOwn → NineReachOwn
+nine_reached own = record {
+  cp15 = own.part.nine.cp15;
+  itcm = own.part.nine.itcm;
+  dtcm = own.part.nine.dtcm;
+  bytes = record { palette = own.part.palette; oam = own.part.oam; share = own.share };
 }
 
-abbrev pub after_nine : NineReach → NinePart → NinePart
-after_nine rest part = nine_by part (taken nine_memory nine_side false part.nine.processor.registers (put_nine (nine_own_of part.nine) rest))
+-- of shared work RAM and of video memory those bytes count that it alone reaches
+abbrev pub nine_by : NineOwn → Outcome NineReach → NineOwn
+nine_by own o = record {
+  part = record {
+    nine = record { processor = went_by Nine own.part.nine.processor o.registers o.stepped; cp15 = o.state.cp15; itcm = o.state.itcm; dtcm = o.state.dtcm };
+    palette = o.state.map.memories.palette;
+    oam = o.state.map.memories.oam;
+  };
+  share = record { shared = o.state.map.memories.shared; vram = o.state.map.io.vram; wramcnt = o.state.map.io.wramcnt };
+}
+
+abbrev pub after_nine : NineReach → NineOwn → NineOwn
+after_nine rest own = nine_by own (taken nine_memory nine_side false own.part.nine.processor.registers (put_nine (nine_reached own) rest))
 
 -- ARM7's
 abbrev pub seven_by : SevenState → Outcome SevenReach → SevenState
@@ -76,13 +91,45 @@ due_there s proc free = ap (λ (blocked : Bool). due_unless blocked (processor_o
 line_down : (s : RegisterState) → enters false s ≡ false
 line_down s = refl
 
+-- what ARM9 reaches of a machine has its own bytes, put into it
+fits : (s : MachineState) → IsSharedSo (nine_own_of s).share s.shared s.io
+fits s = record {
+  wramcnt = refl;
+  controls = refl;
+  shared = mixed_length (is_shown_to_nine s.io.wramcnt) s.shared [];
+  bytes = mixed_length (is_apart s.io.vram.controls) s.io.vram.bytes [];
+}
+
+own_again : (own : ℕ → Bool) (xs ys : List ℕ) → mixed own (mixed own xs ys) xs ≡ xs
+own_again own xs ys = mixed_twice own xs ys xs ∙ mixed_same own xs
+
+put_again : (tick : Tick) (s : MachineState) → put_nine (nine_reached (nine_own_of s)) (nine_reach tick s) ≡ nine_reach tick s
+put_again tick s =
+    let there = nine_reach tick s in
+    let with_bytes : List ℕ → List ℕ → NineReach = λ shared bytes. record there {
+      map = record {
+        memories = record there.map.memories { shared = shared };
+        io = record s.io { vram = record s.io.vram { bytes = bytes } };
+      };
+    } in
+    let bytes = s.io.vram.bytes in
+    let apart = is_apart s.io.vram.controls in
+    ap (λ (xs : List ℕ). with_bytes xs (mixed apart (mixed apart bytes []) bytes)) (own_again (is_shown_to_nine s.io.wramcnt) s.shared [])
+    ∙ ap (with_bytes s.shared) (own_again apart bytes [])
+
 nine_taken : (rest : NineReach) (s : MachineState) → IsHarmless s Nine
-    → StepsAlike put_nine (nine_reach (tick_of s.nine.processor) s) rest
+    → StepsAlike (put_shared s.shared s.io) (nine_reach (tick_of s.nine.processor) s) rest
     (taken nine_memory nine_side (line_of s Nine) s.nine.processor.registers (nine_reach (tick_of s.nine.processor) s))
-    (taken nine_memory nine_side false s.nine.processor.registers (put_nine (nine_own_of s.nine) rest))
+    (taken nine_memory nine_side false s.nine.processor.registers (put_nine (nine_reached (nine_own_of s)) rest))
 nine_taken rest s h =
-    taken_alike nine_memory nine_side put_nine nine_wrote nine_apart nine_executes s.nine.processor.registers (nine_own_of s.nine) (nine_reach (tick_of s.nine.processor) s) rest
-    (line_of s Nine) false h.quiet (line_down s.nine.processor.registers) h.own
+    let registers = s.nine.processor.registers in
+    let there = nine_reach (tick_of s.nine.processor) s in
+    let k : NineShared s.shared s.io = record { own = nine_reached (nine_own_of s); so = fits s } in
+    let again = put_again (tick_of s.nine.processor) s in
+    subst (λ (r : NineReach). StepsAlike (put_shared s.shared s.io) there rest (taken nine_memory nine_side (line_of s Nine) registers r)
+    (taken nine_memory nine_side false registers (put_nine k.own rest))) again
+    (taken_alike nine_memory nine_side (put_shared s.shared s.io) (shared_wrote s.shared s.io) (nine_apart s.shared s.io) (nine_executes s.shared s.io) registers k there rest
+    (line_of s Nine) false h.quiet (line_down registers) (subst (StaysPrivate nine_memory nine_side registers) (sym again) h.own))
 
 seven_taken : (rest : SevenReach) (s : MachineState) → IsHarmless s Seven
     → StepsAlike put_seven (seven_reach (tick_of s.seven.processor) s) rest
@@ -92,16 +139,43 @@ seven_taken rest s h =
     taken_alike seven_memory seven_side put_seven seven_wrote seven_apart seven_executes s.seven.processor.registers s.seven.wram (seven_reach (tick_of s.seven.processor) s) rest
     (line_of s Seven) false h.quiet (line_down s.seven.processor.registers) h.own
 
-pub inner_nine : (rest : NineReach) (s : MachineState) → IsCalm s → IsHarmless s Nine → reference_step 22 s ≡ Makes (with_nine_part (after_nine rest (nine_part_of s)) s) []
+-- of the units behind the ports video memory's bytes alone change
+io_stays : (v : cells.Banks) (wramcnt : ℕ) (u : IoState) → IsIo u → IsIo (with_shares v wramcnt u)
+io_stays v wramcnt u is = record { nine = is.nine; seven = is.seven; gx = is.gx }
+
+asleep_by : (s m : MachineState) → m.io.nine ≡ s.io.nine → m.io.seven ≡ s.io.seven → AreAsleep s → AreAsleep m
+asleep_by s m nine seven asleep Nine = ap (λ (each : ProcessorIoState). each.halted && shares_bit each.irq) nine ∙ asleep Nine
+asleep_by s m nine seven asleep Seven = ap (λ (each : ProcessorIoState). each.halted && shares_bit each.irq) seven ∙ asleep Seven
+
+-- what a step left beside a machine's rest, and beside another, is the same once it is put into the machine
+put_after : (s : MachineState) (rest : NineReach) (own : NineReachOwn) (registers : RegisterState) (clocks : ℕ)
+    → (let m = with_nine s (costing registers (put_nine own (nine_reach (tick_of s.nine.processor) s)) clocks) in with_processor Nine m (went_on Nine clocks false (processor_of m Nine)))
+    ≡ with_nine_own (nine_by (nine_own_of s) (costing registers (put_nine own rest) clocks)) s
+put_after s rest own registers clocks =
+    let share = own.bytes.share in
+    let apart = is_apart share.vram.controls in
+    let shown = is_shown_to_nine share.wramcnt in
+    let after = nine_by (nine_own_of s) (costing registers (put_nine own rest) clocks) in
+    let with_bytes : List ℕ → List ℕ → MachineState = λ shared bytes. with_nine_part after.part (record s {
+      shared = shared;
+      io = with_shares (record share.vram { bytes = bytes }) share.wramcnt s.io;
+    }) in
+    ap (λ (xs : List ℕ). with_bytes xs (mixed apart share.vram.bytes s.io.vram.bytes)) (sym (mixed_twice shown share.shared rest.map.memories.shared s.shared))
+    ∙ ap (with_bytes (shared_put after.share s.shared)) (sym (mixed_twice apart share.vram.bytes rest.map.io.vram.bytes s.io.vram.bytes))
+
+pub inner_nine : (rest : NineReach) (s : MachineState) → IsCalm s → IsHarmless s Nine → reference_step 22 s ≡ Makes (with_nine_own (after_nine rest (nine_own_of s)) s) []
 inner_nine rest s calm h =
     let tick = tick_of s.nine.processor in
     let a = nine_taken rest s h in
-    let m = with_nine s (costing a.registers (put_nine a.own (nine_reach tick s)) a.clocks) in
-    let came : MachineStep MachineState Shown LeftOut = Makes (with_nine_part (after_nine rest (nine_part_of s)) s) [] in
+    let own = a.own.own in
+    let m = with_nine s (costing a.registers (put_nine own (nine_reach tick s)) a.clocks) in
+    let came : MachineStep MachineState Shown LeftOut = Makes (with_nine_own (after_nine rest (nine_own_of s)) s) [] in
+    let made : MachineState → MachineStep MachineState Shown LeftOut = λ next. Makes next [] in
     steps_as s 22 (Processor Nine) (Some tick) came refl (due_there s Nine h.free)
     (ap (λ (o : Outcome NineReach). awake (Some tick) (machine_concluded 22 Nine (with_nine s o) o.stepped)) a.here
-    ∙ cost_ends m 22 Nine tick a.clocks calm.io calm.settled calm.asleep h.free
-    ∙ ap (λ (o : Outcome NineReach). (let step : MachineStep MachineState Shown LeftOut = Makes (with_nine_part (nine_by (nine_part_of s) o) s) [] in step)) (sym a.there))
+    ∙ cost_ends m 22 Nine tick a.clocks (io_stays m.io.vram m.io.wramcnt s.io calm.io) calm.settled (asleep_by s m refl refl calm.asleep) h.free
+    ∙ ap made (put_after s rest own a.registers a.clocks)
+    ∙ ap (λ (o : Outcome NineReach). made (with_nine_own (nine_by (nine_own_of s) o) s)) (sym a.there))
 
 pub inner_seven : (rest : SevenReach) (s : MachineState) → IsCalm s → IsHarmless s Seven → reference_step 23 s ≡ Makes (with_seven_part (after_seven rest s.seven) s) []
 inner_seven rest s calm h =
@@ -115,15 +189,28 @@ inner_seven rest s calm h =
     ∙ ap (λ (o : Outcome SevenReach). (let step : MachineStep MachineState Shown LeftOut = Makes (with_seven_part (seven_by s.seven o) s) [] in step)) (sym a.there))
 
 -- after it the processor is due later
-pub nine_later : (rest : NineReach) (s : MachineState) → IsHarmless s Nine → s.nine.processor.due < (after_nine rest (nine_part_of s)).nine.processor.due
+pub nine_later : (rest : NineReach) (s : MachineState) → IsHarmless s Nine → s.nine.processor.due < (after_nine rest (nine_own_of s)).part.nine.processor.due
 nine_later rest s h =
     let a = nine_taken rest s h in
-    subst (λ (o : Outcome NineReach). s.nine.processor.due < (nine_by (nine_part_of s) o).nine.processor.due) (sym a.there) (later_by Nine s.nine.processor.due a.clocks a.some)
+    subst (λ (o : Outcome NineReach). s.nine.processor.due < (nine_by (nine_own_of s) o).part.nine.processor.due) (sym a.there) (later_by Nine s.nine.processor.due a.clocks a.some)
 
 pub seven_later : (rest : SevenReach) (s : MachineState) → IsHarmless s Seven → s.seven.processor.due < (after_seven rest s.seven).processor.due
 seven_later rest s h =
     let a = seven_taken rest s h in
     subst (λ (o : Outcome SevenReach). s.seven.processor.due < (seven_by s.seven o).processor.due) (sym a.there) (later_by Seven s.seven.processor.due a.clocks a.some)
+
+-- the memories are shared out as before
+pub nine_fits : (rest : NineReach) (s : MachineState) → IsHarmless s Nine → IsSharedSo (after_nine rest (nine_own_of s)).share s.shared s.io
+nine_fits rest s h =
+    let a = nine_taken rest s h in
+    let share = a.own.own.bytes.share in
+    let so = a.own.so in
+    subst (λ (o : Outcome NineReach). IsSharedSo (nine_by (nine_own_of s) o).share s.shared s.io) (sym a.there) (record {
+      wramcnt = so.wramcnt;
+      controls = so.controls;
+      shared = mixed_length (is_shown_to_nine share.wramcnt) share.shared rest.map.memories.shared ∙ so.shared;
+      bytes = mixed_length (is_apart share.vram.controls) share.vram.bytes rest.map.io.vram.bytes ∙ so.bytes;
+    })
 
 -- ---- when actors are due after it: no other's due tick moves, and the processor's becomes later
 
@@ -132,21 +219,21 @@ pub record MovesAlone (proc : Proc) (s next : MachineState) : Type 0 where
   pub later : IsLater (tick_of (processor_of s proc)) (due_by (Processor proc) next)
   pub others : (a : actor.Actor) → a ≢ Processor proc → due_by a next ≡ due_by a s
 
-nine_others : (part : NinePart) (s : MachineState) (a : actor.Actor) → a ≢ Processor Nine → due_by a (with_nine_part part s) ≡ due_by a s
-nine_others part s (Processor Nine) other = absurd (other refl)
-nine_others part s a other = refl
+nine_others : (own : NineOwn) (s : MachineState) (a : actor.Actor) → a ≢ Processor Nine → due_by a (with_nine_own own s) ≡ due_by a s
+nine_others own s (Processor Nine) other = absurd (other refl)
+nine_others own s a other = refl
 
 seven_others : (part : SevenState) (s : MachineState) (a : actor.Actor) → a ≢ Processor Seven → due_by a (with_seven_part part s) ≡ due_by a s
 seven_others part s (Processor Seven) other = absurd (other refl)
 seven_others part s a other = refl
 
-pub nine_moves : (rest : NineReach) (s : MachineState) → IsHarmless s Nine → MovesAlone Nine s (with_nine_part (after_nine rest (nine_part_of s)) s)
+pub nine_moves : (rest : NineReach) (s : MachineState) → IsHarmless s Nine → MovesAlone Nine s (with_nine_own (after_nine rest (nine_own_of s)) s)
 nine_moves rest s h =
-    let part = after_nine rest (nine_part_of s) in
+    let own = after_nine rest (nine_own_of s) in
     record {
       there = due_there s Nine h.free;
-      later = later_unless (tick_of s.nine.processor) (is_blocked s Nine) part.nine.processor (nine_later rest s h);
-      others = nine_others part s;
+      later = later_unless (tick_of s.nine.processor) (is_blocked s Nine) own.part.nine.processor (nine_later rest s h);
+      others = nine_others own s;
     }
 
 pub seven_moves : (rest : SevenReach) (s : MachineState) → IsHarmless s Seven → MovesAlone Seven s (with_seven_part (after_seven rest s.seven) s)
@@ -160,16 +247,20 @@ seven_moves rest s h =
 
 -- ---- harmless is what the own part is, but for what others tell the processor
 
--- two machines have the same own part of a processor; palettes and OAM don't matter, since no private place is there
+-- two machines have the same own part of a processor
 abbrev pub HasOwnOf : Proc → MachineState → MachineState → Type 0
-HasOwnOf Nine s t = s.nine ≡ t.nine
+HasOwnOf Nine s t = nine_own_of s ≡ nine_own_of t
 HasOwnOf Seven s t = s.seven ≡ t.seven
 
 stays_by_part : (proc : Proc) (s t : MachineState) → HasOwnOf proc s t → ProcessorStaysPrivate s proc → ProcessorStaysPrivate t proc
 stays_by_part Nine s t same stays =
-    subst (λ (n : NineState). StaysPrivate nine_memory nine_side n.processor.registers (put_nine (nine_own_of n) (nine_reach (tick_of t.nine.processor) t))) same
-    (private_alike nine_memory nine_side put_nine nine_wrote nine_apart s.nine.processor.registers (nine_own_of s.nine) (nine_reach (tick_of s.nine.processor) s)
-    (nine_reach (tick_of t.nine.processor) t) stays)
+    let there = nine_reach (tick_of t.nine.processor) t in
+    let k : NineShared s.shared s.io = record { own = nine_reached (nine_own_of s); so = fits s } in
+    let moved = private_alike nine_memory nine_side (put_shared s.shared s.io) (shared_wrote s.shared s.io) (nine_apart s.shared s.io) s.nine.processor.registers k
+    (nine_reach (tick_of s.nine.processor) s) there
+    (subst (StaysPrivate nine_memory nine_side s.nine.processor.registers) (sym (put_again (tick_of s.nine.processor) s)) stays) in
+    subst (StaysPrivate nine_memory nine_side t.nine.processor.registers) (put_again (tick_of t.nine.processor) t)
+    (subst (λ (own : NineOwn). StaysPrivate nine_memory nine_side own.part.nine.processor.registers (put_nine (nine_reached own) there)) same moved)
 stays_by_part Seven s t same stays =
     subst (λ (n : SevenState). StaysPrivate seven_memory seven_side n.processor.registers (put_seven n.wram (seven_reach (tick_of t.seven.processor) t))) same
     (private_alike seven_memory seven_side put_seven seven_wrote seven_apart s.seven.processor.registers s.seven.wram (seven_reach (tick_of s.seven.processor) s)

@@ -5,18 +5,17 @@ use Rattle.ds_base.specs.Numbers.{aligned_down, width_bytes, with_number}
 use Rattle.ds_base.specs.declared.memories.Memory.TheVariants.{Own7}
 use Rattle.ds_base.specs.declared.memories.Width.{Width}
 use Rattle.ds_base.specs.declared.memories.Width.TheVariants.{Byte, Half, Word}
-use Rattle.ds_base.specs.declared.processors.Proc.{Proc}
-use Rattle.ds_base.specs.declared.processors.Proc.TheVariants.{Nine, Seven}
+use Rattle.ds_base.specs.declared.processors.Proc.TheVariants.{Seven}
 use Rattle.ds_base.specs.declared.ticks.Tick.{Tick}
 use Rattle.arm_core.specs.Footprints.{span}
 use Rattle.ds_places.specs.AddressTables.{place_of}
 use Rattle.ds_places.specs.declared.kinds.Place.{Place}
 use Rattle.ds_places.specs.declared.kinds.Place.TheVariants.{Cell, Rom, Nothing}
 use Rattle.ds_map.specs.Accesses.{after_read_at, fetched_at, map_fetched, map_read, map_refusal, map_value, map_written, refusal_at, value_at, written_at}
-use Rattle.ds_map.specs.Maps.{MapState, bytes_by}
+use Rattle.ds_map.specs.Maps.{MapState}
 use Rattle.ds_machine.specs.Sides.{is_private_to_seven}
 
--- The private places past the tightly coupled memories: the same stands there whatever WRAMCNT says, and an access of it reaches the own work RAM alone.
+-- An access's own address is private where all of its bytes are. ARM7's private places: the same stands there whatever WRAMCNT says, and an access of it reaches its own work RAM alone.
 
 -- ---- an access's own address is one of its bytes
 
@@ -49,59 +48,30 @@ private_itself is_private width at lt h =
     let same : at % 2 ^ 32 ≡ at = omega (arith, lt) in
     subst (λ (x : ℕ). is_private x ≡ true) same (h (at % 2 ^ 32) (own_byte width at))
 
--- ---- what stands there
+-- ---- what stands at ARM7's private places
 
--- the boot ROM, or nothing, and for ARM7 its own work RAM
-abbrev pub is_own : Proc → Place → Bool
-is_own proc (Rom at) = true
-is_own proc Nothing = true
-is_own Seven (Cell Own7 at) = true
-is_own proc place = false
+-- the boot ROM, its own work RAM, or nothing
+abbrev pub is_own : Place → Bool
+is_own (Rom at) = true
+is_own Nothing = true
+is_own (Cell Own7 at) = true
+is_own place = false
 
-pub record IsFixed (proc : Proc) (at : ℕ) (place : Place) : Type 0 where
-  pub own : is_own proc place ≡ true
-  pub stands : (wramcnt : ℕ) → place_of proc wramcnt at ≡ place
+pub record IsFixed (at : ℕ) (place : Place) : Type 0 where
+  pub own : is_own place ≡ true
+  pub stands : (wramcnt : ℕ) → place_of Seven wramcnt at ≡ place
 
 not_in : (first last at : ℕ) → last < at → (nat_le first at && nat_le at last) ≡ false
 not_in first last at lt = grind arith
 
-not_yet : (first last at : ℕ) → at < first → (nat_le first at && nat_le at last) ≡ false
-not_yet first last at lt = grind arith
-
--- ARM9's, from FFFF0000h on
-abbrev pub high_place : ℕ → Place
-high_place at = if nat_le 0xFFFF0000 at && nat_le at 0xFFFFFFFF then Rom (at - 0xFFFF0000) else Nothing
-
-high_own : (b : Bool) (place : ℕ) → is_own Nine (if b then Rom place else Nothing) ≡ true
-high_own true place = refl
-high_own false place = refl
-
-pub high_fixed : (at : ℕ) → 0xFFFF0000 ≤ at → IsFixed Nine at (high_place at)
-high_fixed at le = record {
-  own = high_own (nat_le 0xFFFF0000 at && nat_le at 0xFFFFFFFF) (at - 0xFFFF0000);
-  stands = λ wramcnt.
-      rw (
-        not_in 0x02000000 0x02FFFFFF at (omega (arith, le)),
-        not_in 0x03000000 0x03FFFFFF at (omega (arith, le)),
-        not_in 0x04000000 0x04FFFFFF at (omega (arith, le)),
-        not_in 0x05000000 0x05FFFFFF at (omega (arith, le)),
-        not_in 0x06000000 0x061FFFFF at (omega (arith, le)),
-        not_in 0x06200000 0x063FFFFF at (omega (arith, le)),
-        not_in 0x06400000 0x065FFFFF at (omega (arith, le)),
-        not_in 0x06600000 0x067FFFFF at (omega (arith, le)),
-        not_in 0x06800000 0x06FFFFFF at (omega (arith, le)),
-        not_in 0x07000000 0x07FFFFFF at (omega (arith, le)),
-      ) refl;
-}
-
--- ARM7's, below 4000h, and from 3800000h to 3FFFFFFh, and where there is no address
+-- they are below 4000h, and from 3800000h to 3FFFFFFh, or there is no address
 abbrev pub low_place : ℕ → Place
 low_place at =
     if nat_le 0x00000000 at && nat_le at 0x00003FFF then Rom (at - 0)
     else if nat_le 0x03800000 at && nat_le at 0x03FFFFFF then Cell Own7 (0 + (at - 0x03800000) % memory_size Own7)
     else Nothing
 
-low_own : (a b : Bool) (x y : ℕ) → is_own Seven (if a then Rom x else if b then Cell Own7 y else Nothing) ≡ true
+low_own : (a b : Bool) (x y : ℕ) → is_own (if a then Rom x else if b then Cell Own7 y else Nothing) ≡ true
 low_own true b x y = refl
 low_own false true x y = refl
 low_own false false x y = refl
@@ -137,7 +107,7 @@ low_stands wramcnt at (inr (inr le)) =
       not_in 0x06000000 0x06FFFFFF at (omega (arith, le)),
     ) refl
 
-pub low_fixed : (at : ℕ) → IsLow at → IsFixed Seven at (low_place at)
+pub low_fixed : (at : ℕ) → IsLow at → IsFixed at (low_place at)
 low_fixed at h = record {
   own = low_own (nat_le 0x00000000 at && nat_le at 0x00003FFF) (nat_le 0x03800000 at && nat_le at 0x03FFFFFF) (at - 0) (0 + (at - 0x03800000) % memory_size Own7);
   stands = λ wramcnt. low_stands wramcnt at (low_cases at h);
@@ -145,74 +115,74 @@ low_fixed at h = record {
 
 -- ---- accesses of it
 
--- the map with another own work RAM of ARM7's; ARM9 has none in it
-abbrev pub with_wram : Proc → List ℕ → MapState → MapState
-with_wram proc wram m = record m { memories = record m.memories { wram = bytes_by proc m.memories.wram wram } }
+-- the map with another own work RAM
+abbrev pub with_wram : List ℕ → MapState → MapState
+with_wram wram m = record m { memories = record m.memories { wram = wram } }
 
 -- what a write leaves of it
 abbrev pub wram_written : Place → List ℕ → Width → ℕ → List ℕ
 wram_written (Cell memory at) wram width value = with_number width wram (aligned_down width at) value
 wram_written place wram width value = wram
 
-value_alike : (proc : Proc) (place : Place) (now later : Tick) (wram : List ℕ) (m n : MapState) (width : Width) → is_own proc place ≡ true
-    → value_at proc now place (with_wram proc wram m) width ≡ value_at proc later place (with_wram proc wram n) width
-value_alike proc (Rom at) now later wram m n width own = refl
-value_alike proc Nothing now later wram m n width own = refl
-value_alike Seven (Cell Own7 at) now later wram m n width own = refl
-value_alike proc place now later wram m n width own = absurd (true≢false (sym own))
+value_alike : (place : Place) (now later : Tick) (wram : List ℕ) (m n : MapState) (width : Width) → is_own place ≡ true
+    → value_at Seven now place (with_wram wram m) width ≡ value_at Seven later place (with_wram wram n) width
+value_alike (Rom at) now later wram m n width own = refl
+value_alike Nothing now later wram m n width own = refl
+value_alike (Cell Own7 at) now later wram m n width own = refl
+value_alike place now later wram m n width own = absurd (true≢false (sym own))
 
-fetch_alike : (proc : Proc) (place : Place) (wram : List ℕ) (m n : MapState) (width : Width) → is_own proc place ≡ true
-    → fetched_at proc place (with_wram proc wram m) width ≡ fetched_at proc place (with_wram proc wram n) width
-fetch_alike proc (Rom at) wram m n width own = refl
-fetch_alike proc Nothing wram m n width own = refl
-fetch_alike Seven (Cell Own7 at) wram m n width own = refl
-fetch_alike proc place wram m n width own = absurd (true≢false (sym own))
+fetch_alike : (place : Place) (wram : List ℕ) (m n : MapState) (width : Width) → is_own place ≡ true
+    → fetched_at Seven place (with_wram wram m) width ≡ fetched_at Seven place (with_wram wram n) width
+fetch_alike (Rom at) wram m n width own = refl
+fetch_alike Nothing wram m n width own = refl
+fetch_alike (Cell Own7 at) wram m n width own = refl
+fetch_alike place wram m n width own = absurd (true≢false (sym own))
 
-read_leaves : (proc : Proc) (place : Place) (m : MapState) (width : Width) → is_own proc place ≡ true → after_read_at proc place m width ≡ m
-read_leaves proc (Rom at) m width own = refl
-read_leaves proc Nothing m width own = refl
-read_leaves Seven (Cell Own7 at) m width own = refl
-read_leaves proc place m width own = absurd (true≢false (sym own))
+read_leaves : (place : Place) (m : MapState) (width : Width) → is_own place ≡ true → after_read_at Seven place m width ≡ m
+read_leaves (Rom at) m width own = refl
+read_leaves Nothing m width own = refl
+read_leaves (Cell Own7 at) m width own = refl
+read_leaves place m width own = absurd (true≢false (sym own))
 
-none_refused : (proc : Proc) (place : Place) (m : MapState) (width : Width) (value : ℕ) → is_own proc place ≡ true → refusal_at proc place m width value ≡ None
-none_refused proc (Rom at) m width value own = refl
-none_refused proc Nothing m width value own = refl
-none_refused Seven (Cell Own7 at) m width value own = refl
-none_refused proc place m width value own = absurd (true≢false (sym own))
+none_refused : (place : Place) (m : MapState) (width : Width) (value : ℕ) → is_own place ≡ true → refusal_at Seven place m width value ≡ None
+none_refused (Rom at) m width value own = refl
+none_refused Nothing m width value own = refl
+none_refused (Cell Own7 at) m width value own = refl
+none_refused place m width value own = absurd (true≢false (sym own))
 
-write_leaves : (proc : Proc) (place : Place) (now : Tick) (wram : List ℕ) (m : MapState) (width : Width) (value : ℕ) → is_own proc place ≡ true
-    → written_at proc now place (with_wram proc wram m) width value ≡ with_wram proc (wram_written place wram width value) m
-write_leaves proc (Rom at) now wram m width value own = refl
-write_leaves proc Nothing now wram m width value own = refl
-write_leaves Seven (Cell Own7 at) now wram m width value own = refl
-write_leaves proc place now wram m width value own = absurd (true≢false (sym own))
+write_leaves : (place : Place) (now : Tick) (wram : List ℕ) (m : MapState) (width : Width) (value : ℕ) → is_own place ≡ true
+    → written_at Seven now place (with_wram wram m) width value ≡ with_wram (wram_written place wram width value) m
+write_leaves (Rom at) now wram m width value own = refl
+write_leaves Nothing now wram m width value own = refl
+write_leaves (Cell Own7 at) now wram m width value own = refl
+write_leaves place now wram m width value own = absurd (true≢false (sym own))
 
-module _ (proc : Proc) (at : ℕ) (place : Place) (fixed : IsFixed proc at place) (width : Width) where
+module _ (at : ℕ) (place : Place) (fixed : IsFixed at place) (width : Width) where
   pub map_value_alike : (now later : Tick) (wram : List ℕ) (m n : MapState)
-      → map_value proc now (with_wram proc wram m) at width ≡ map_value proc later (with_wram proc wram n) at width
+      → map_value Seven now (with_wram wram m) at width ≡ map_value Seven later (with_wram wram n) at width
   unfolding map_value
   map_value_alike now later wram m n =
-      ap (λ (p : Place). value_at proc now p (with_wram proc wram m) width) (fixed.stands m.io.wramcnt)
-      ∙ value_alike proc place now later wram m n width fixed.own
-      ∙ ap (λ (p : Place). value_at proc later p (with_wram proc wram n) width) (sym (fixed.stands n.io.wramcnt))
+      ap (λ (p : Place). value_at Seven now p (with_wram wram m) width) (fixed.stands m.io.wramcnt)
+      ∙ value_alike place now later wram m n width fixed.own
+      ∙ ap (λ (p : Place). value_at Seven later p (with_wram wram n) width) (sym (fixed.stands n.io.wramcnt))
 
-  pub map_fetched_alike : (wram : List ℕ) (m n : MapState) → map_fetched proc (with_wram proc wram m) at width ≡ map_fetched proc (with_wram proc wram n) at width
+  pub map_fetched_alike : (wram : List ℕ) (m n : MapState) → map_fetched Seven (with_wram wram m) at width ≡ map_fetched Seven (with_wram wram n) at width
   unfolding map_fetched
   map_fetched_alike wram m n =
-      ap (λ (p : Place). fetched_at proc p (with_wram proc wram m) width) (fixed.stands m.io.wramcnt)
-      ∙ fetch_alike proc place wram m n width fixed.own
-      ∙ ap (λ (p : Place). fetched_at proc p (with_wram proc wram n) width) (sym (fixed.stands n.io.wramcnt))
+      ap (λ (p : Place). fetched_at Seven p (with_wram wram m) width) (fixed.stands m.io.wramcnt)
+      ∙ fetch_alike place wram m n width fixed.own
+      ∙ ap (λ (p : Place). fetched_at Seven p (with_wram wram n) width) (sym (fixed.stands n.io.wramcnt))
 
-  pub map_read_leaves : (m : MapState) → map_read proc m at width ≡ m
+  pub map_read_leaves : (m : MapState) → map_read Seven m at width ≡ m
   unfolding map_read
-  map_read_leaves m = ap (λ (p : Place). after_read_at proc p m width) (fixed.stands m.io.wramcnt) ∙ read_leaves proc place m width fixed.own
+  map_read_leaves m = ap (λ (p : Place). after_read_at Seven p m width) (fixed.stands m.io.wramcnt) ∙ read_leaves place m width fixed.own
 
-  pub map_none_refused : (m : MapState) (value : ℕ) → map_refusal proc m at width value ≡ None
+  pub map_none_refused : (m : MapState) (value : ℕ) → map_refusal Seven m at width value ≡ None
   unfolding map_refusal
-  map_none_refused m value = ap (λ (p : Place). refusal_at proc p m width value) (fixed.stands m.io.wramcnt) ∙ none_refused proc place m width value fixed.own
+  map_none_refused m value = ap (λ (p : Place). refusal_at Seven p m width value) (fixed.stands m.io.wramcnt) ∙ none_refused place m width value fixed.own
 
   pub map_write_leaves : (now : Tick) (wram : List ℕ) (m : MapState) (value : ℕ)
-      → map_written proc now (with_wram proc wram m) at width value ≡ with_wram proc (wram_written place wram width value) m
+      → map_written Seven now (with_wram wram m) at width value ≡ with_wram (wram_written place wram width value) m
   unfolding map_written
   map_write_leaves now wram m value =
-      ap (λ (p : Place). written_at proc now p (with_wram proc wram m) width value) (fixed.stands m.io.wramcnt) ∙ write_leaves proc place now wram m width value fixed.own
+      ap (λ (p : Place). written_at Seven now p (with_wram wram m) width value) (fixed.stands m.io.wramcnt) ∙ write_leaves place now wram m width value fixed.own

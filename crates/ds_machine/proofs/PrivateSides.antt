@@ -4,7 +4,7 @@ use Rattle.std.proofs.lemmas.Option.{none-some, same_Some}
 use Rattle.ds_base.specs.Numbers.{aligned_down, width_bytes, with_number}
 use Rattle.ds_base.specs.declared.memories.Width.{Width}
 use Rattle.ds_base.specs.declared.processors.Arch.TheVariants.{V5}
-use Rattle.ds_base.specs.declared.processors.Proc.TheVariants.{Nine, Seven}
+use Rattle.ds_base.specs.declared.processors.Proc.TheVariants.{Nine}
 use Rattle.arm_words.specs.declared.instructions.Instr.{Instr}
 use Rattle.arm_words.specs.declared.instructions.Instr.TheVariants.{Coprocessor}
 use Rattle.arm_core.specs.Conditions.{holds}
@@ -25,97 +25,147 @@ use Rattle.cp15_tcm.specs.TightlyCoupled.{tcm_of}
 use Rattle.cp15_tcm.specs.declared.answers.Tcm.{Tcm}
 use Rattle.cp15_tcm.specs.declared.answers.Tcm.TheVariants.{Itcm, Dtcm, Past}
 use Rattle.ds_map.specs.Views.{NineReach, SevenReach, nine_memory, seven_memory, tcm_fetched, tcm_read, tcm_refusal, tcm_value, tcm_written}
+use Rattle.ds_places.specs.AddressTables.{place_of}
+use Rattle.ds_ports.specs.Io.{IoState}
 use Rattle.ds_map.specs.Maps.{MapState}
+use Rattle.ds_map.specs.Shares.{IsSharedSo, is_private_place}
+use Rattle.ds_map.proofs.NineShares.{IsOwnAddress, IsSharedAlike, NineBytes, nine_fetched_alike, nine_none_refused, nine_put, nine_read_leaves, nine_value_alike, nine_write_leaves, nine_wrote_alike, nine_wrote_at, no_address, private_address, so_shared, stays_alike}
 use Rattle.ds_machine.specs.Private.{AllReachPrivate, data_accesses, stays_behind}
 use Rattle.ds_machine.specs.Sides.{is_private_tcm, is_private_to_seven, nine_executed, nine_side, seven_side}
-use Rattle.ds_machine.proofs.PrivateAccesses.{IsApart, StepsAlike}
-use Rattle.ds_machine.proofs.PrivatePlaces.{IsLow, high_fixed, high_place, low_fixed, low_place, map_fetched_alike, map_none_refused, map_read_leaves, map_value_alike, map_write_leaves, private_itself, wram_written, word_or_not, with_wram}
+use Rattle.ds_machine.proofs.PrivateAccesses.{AsPrivate, IsApart, StepsAlike}
+use Rattle.ds_machine.proofs.PrivatePlaces.{IsLow, low_fixed, low_place, map_fetched_alike, map_none_refused, map_read_leaves, map_value_alike, map_write_leaves, private_itself, word_or_not, wram_written, with_wram}
 use Rattle.ds_machine.proofs.PrivateSteps.{ExecutesAlike, both_down, word_alike}
 
 -- What either processor reaches in private places stands apart from the rest.
 
--- ---- ARM9's: CP15 and the tightly coupled memories
+-- ---- ARM9's: CP15, the tightly coupled memories, and its bytes of the map
 
-pub record NineOwn : Type 0 where
+pub record NineReachOwn : Type 0 where
   pub cp15 : Cp15State
   pub itcm : List ℕ
   pub dtcm : List ℕ
+  pub bytes : NineBytes
 
-abbrev pub put_nine : NineOwn → NineReach → NineReach
-put_nine own r = record r { cp15 = own.cp15; itcm = own.itcm; dtcm = own.dtcm }
+abbrev pub put_nine : NineReachOwn → NineReach → NineReach
+put_nine own r = record r { map = nine_put own.bytes r.map; cp15 = own.cp15; itcm = own.itcm; dtcm = own.dtcm }
 
-abbrev tcm_put : Tcm → NineOwn → Width → ℕ → NineOwn
-tcm_put (Itcm place) own width value = record own { itcm = with_number width own.itcm (aligned_down width place) value }
-tcm_put (Dtcm place) own width value = record own { dtcm = with_number width own.dtcm (aligned_down width place) value }
-tcm_put Past own width value = own
+abbrev tcm_put : Tcm → NineReachOwn → ℕ → Width → ℕ → NineReachOwn
+tcm_put (Itcm place) own at width value = record own { itcm = with_number width own.itcm (aligned_down width place) value }
+tcm_put (Dtcm place) own at width value = record own { dtcm = with_number width own.dtcm (aligned_down width place) value }
+tcm_put Past own at width value = record own { bytes = nine_wrote_at own.bytes at width value }
 
-abbrev pub nine_wrote : NineOwn → ℕ → Width → ℕ → NineOwn
-nine_wrote own at width value = tcm_put (tcm_of own.cp15 at true false) own width value
+abbrev pub nine_wrote : NineReachOwn → ℕ → Width → ℕ → NineReachOwn
+nine_wrote own at width value = tcm_put (tcm_of own.cp15 at true false) own at width value
 
--- past them it is the boot ROM, or no address
-high : (at : ℕ) → is_private_tcm Past at ≡ true → 0xFFFF0000 ≤ at
-high at h = grind arith
+-- where a tightly coupled memory answers; past both at an address that ARM9 alone reaches
+abbrev IsOwnThere : Tcm → ℕ → ℕ → Type 0
+IsOwnThere (Itcm place) wramcnt at = Unit {0}
+IsOwnThere (Dtcm place) wramcnt at = Unit {0}
+IsOwnThere Past wramcnt at = IsOwnAddress wramcnt at
 
-no_address : (t : Tcm) (at : ℕ) → 2 ^ 32 ≤ at → is_private_tcm t at ≡ true
-no_address (Itcm place) at le = refl
-no_address (Dtcm place) at le = refl
-no_address Past at le = (let most : 0xFFFF0000 ≤ at = omega (arith, le) in grind arith)
+private_there : (t : Tcm) (m : MapState) (at : ℕ) → is_private_tcm t m at ≡ true → IsOwnThere t m.io.wramcnt at
+private_there (Itcm place) m at h = tt
+private_there (Dtcm place) m at h = tt
+private_there Past m at h = private_address m.io.vram.controls m.io.wramcnt at h
 
-at_nine : (cp : Cp15State) (writing fetching : Bool) (width : Width) (at : ℕ)
-    → ((byte : ℕ) → Contains (span (aligned_down width at) (width_bytes width)) byte → is_private_tcm (tcm_of cp byte writing fetching) byte ≡ true)
-    → is_private_tcm (tcm_of cp at writing fetching) at ≡ true
-at_nine cp writing fetching width at h = elim (word_or_not at) [
-  | inl lt ↦ private_itself (λ x. is_private_tcm (tcm_of cp x writing fetching) x) width at lt h
-  | inr le ↦ no_address (tcm_of cp at writing fetching) at le
+none_there : (t : Tcm) (wramcnt at : ℕ) → 2 ^ 32 ≤ at → IsOwnThere t wramcnt at
+none_there (Itcm place) wramcnt at le = tt
+none_there (Dtcm place) wramcnt at le = tt
+none_there Past wramcnt at le = no_address wramcnt at le
+
+at_nine : (cp : Cp15State) (m : MapState) (writing fetching : Bool) (width : Width) (at : ℕ)
+    → ((byte : ℕ) → Contains (span (aligned_down width at) (width_bytes width)) byte → is_private_tcm (tcm_of cp byte writing fetching) m byte ≡ true)
+    → IsOwnThere (tcm_of cp at writing fetching) m.io.wramcnt at
+at_nine cp m writing fetching width at h = elim (word_or_not at) [
+  | inl lt ↦ private_there (tcm_of cp at writing fetching) m at (private_itself (λ x. is_private_tcm (tcm_of cp x writing fetching) m x) width at lt h)
+  | inr le ↦ none_there (tcm_of cp at writing fetching) m.io.wramcnt at le
 ]
 
-fetched_by : (t : Tcm) (own : NineOwn) (at : ℕ) (width : Width) (r u : NineReach) → is_private_tcm t at ≡ true
+fetched_by : (t : Tcm) (own : NineReachOwn) (at : ℕ) (width : Width) (r u : NineReach) → IsOwnThere t own.bytes.share.wramcnt at
     → tcm_fetched t (put_nine own r) at width ≡ tcm_fetched t (put_nine own u) at width
-fetched_by (Itcm place) own at width r u h = refl
-fetched_by (Dtcm place) own at width r u h = refl
-fetched_by Past own at width r u h = map_fetched_alike Nine at (high_place at) (high_fixed at (high at h)) width [] r.map u.map
+fetched_by (Itcm place) own at width r u is = refl
+fetched_by (Dtcm place) own at width r u is = refl
+fetched_by Past own at width r u is = nine_fetched_alike own.bytes at is width r.map u.map
 
-value_by : (t : Tcm) (own : NineOwn) (at : ℕ) (width : Width) (r u : NineReach) → is_private_tcm t at ≡ true
+value_by : (t : Tcm) (own : NineReachOwn) (at : ℕ) (width : Width) (r u : NineReach) → IsOwnThere t own.bytes.share.wramcnt at
     → tcm_value t (put_nine own r) at width ≡ tcm_value t (put_nine own u) at width
-value_by (Itcm place) own at width r u h = refl
-value_by (Dtcm place) own at width r u h = refl
-value_by Past own at width r u h = map_value_alike Nine at (high_place at) (high_fixed at (high at h)) width r.now u.now [] r.map u.map
+value_by (Itcm place) own at width r u is = refl
+value_by (Dtcm place) own at width r u is = refl
+value_by Past own at width r u is = nine_value_alike own.bytes at is width r.now u.now r.map u.map
 
-read_by_tcm : (t : Tcm) (at : ℕ) (width : Width) (r : NineReach) → is_private_tcm t at ≡ true → tcm_read t r at width ≡ r
-read_by_tcm (Itcm place) at width r h = refl
-read_by_tcm (Dtcm place) at width r h = refl
-read_by_tcm Past at width r h = ap (λ (m : MapState). (let left : NineReach = record r { map = m } in left)) (map_read_leaves Nine at (high_place at) (high_fixed at (high at h)) width r.map)
+read_by_tcm : (t : Tcm) (own : NineReachOwn) (at : ℕ) (width : Width) (r : NineReach) → IsOwnThere t own.bytes.share.wramcnt at
+    → tcm_read t (put_nine own r) at width ≡ put_nine own r
+read_by_tcm (Itcm place) own at width r is = refl
+read_by_tcm (Dtcm place) own at width r is = refl
+read_by_tcm Past own at width r is =
+    ap (λ (m : MapState). (let left : NineReach = record (put_nine own r) { map = m } in left)) (nine_read_leaves own.bytes at is width r.map)
 
-refused_by : (t : Tcm) (at : ℕ) (width : Width) (value : ℕ) (r : NineReach) → is_private_tcm t at ≡ true → tcm_refusal t r at width value ≡ None
-refused_by (Itcm place) at width value r h = refl
-refused_by (Dtcm place) at width value r h = refl
-refused_by Past at width value r h = map_none_refused Nine at (high_place at) (high_fixed at (high at h)) width r.map value
+refused_by : (t : Tcm) (own : NineReachOwn) (at : ℕ) (width : Width) (value : ℕ) (r : NineReach) → IsOwnThere t own.bytes.share.wramcnt at
+    → tcm_refusal t (put_nine own r) at width value ≡ None
+refused_by (Itcm place) own at width value r is = refl
+refused_by (Dtcm place) own at width value r is = refl
+refused_by Past own at width value r is = nine_none_refused own.bytes at is width r.map value
 
-written_by_tcm : (t : Tcm) (own : NineOwn) (at : ℕ) (width : Width) (value : ℕ) (r : NineReach) → is_private_tcm t at ≡ true
-    → tcm_written t (put_nine own r) at width value ≡ put_nine (tcm_put t own width value) r
-written_by_tcm (Itcm place) own at width value r h = refl
-written_by_tcm (Dtcm place) own at width value r h = refl
-written_by_tcm Past own at width value r h =
-    ap (λ (m : MapState). (let left : NineReach = record (put_nine own r) { map = m } in left)) (map_write_leaves Nine at (high_place at) (high_fixed at (high at h)) width r.now [] r.map value)
+written_by_tcm : (t : Tcm) (own : NineReachOwn) (at : ℕ) (width : Width) (value : ℕ) (r : NineReach) → IsOwnThere t own.bytes.share.wramcnt at
+    → tcm_written t (put_nine own r) at width value ≡ put_nine (tcm_put t own at width value) r
+written_by_tcm (Itcm place) own at width value r is = refl
+written_by_tcm (Dtcm place) own at width value r is = refl
+written_by_tcm Past own at width value r is =
+    ap (λ (m : MapState). (let left : NineReach = record (put_nine own r) { map = m } in left)) (nine_write_leaves own.bytes at is width r.now r.map value)
 
-same_cp15 : (t : Tcm) (own : NineOwn) (width : Width) (value : ℕ) → own.cp15 ≡ (tcm_put t own width value).cp15
-same_cp15 (Itcm place) own width value = refl
-same_cp15 (Dtcm place) own width value = refl
-same_cp15 Past own width value = refl
+same_cp15 : (t : Tcm) (own : NineReachOwn) (at : ℕ) (width : Width) (value : ℕ) → (tcm_put t own at width value).cp15 ≡ own.cp15
+same_cp15 (Itcm place) own at width value = refl
+same_cp15 (Dtcm place) own at width value = refl
+same_cp15 Past own at width value = refl
 
-pub nine_apart : IsApart nine_memory nine_side put_nine nine_wrote
-nine_apart = record {
-  base = λ own r t. refl;
-  moves = λ own r t writing fetching byte. refl;
-  keeps = λ own at width value r writing fetching byte.
-      ap (λ (cp : Cp15State). is_private_tcm (tcm_of cp byte writing fetching) byte) (same_cp15 (tcm_of own.cp15 at true false) own width value);
-  fetched = λ own at width r t h. fetched_by (tcm_of own.cp15 at false true) own at width r t (at_nine own.cp15 false true width at h);
-  read = λ own at width r t h. value_by (tcm_of own.cp15 at false false) own at width r t (at_nine own.cp15 false false width at h);
-  fetches = λ own at width r h. refl;
-  reads = λ own at width r h. read_by_tcm (tcm_of own.cp15 at false false) at width (put_nine own r) (at_nine own.cp15 false false width at h);
-  refuses = λ own at width value r h. refused_by (tcm_of own.cp15 at true false) at width value (put_nine own r) (at_nine own.cp15 true false width at h);
-  writes = λ own at width value r h. written_by_tcm (tcm_of own.cp15 at true false) own at width value r (at_nine own.cp15 true false width at h);
-}
+pub tcm_alike : (t : Tcm) (own : NineReachOwn) (at : ℕ) (width : Width) (value : ℕ) → IsSharedAlike own.bytes.share (tcm_put t own at width value).bytes.share
+tcm_alike (Itcm place) own at width value = stays_alike own.bytes.share
+tcm_alike (Dtcm place) own at width value = stays_alike own.bytes.share
+tcm_alike Past own at width value = nine_wrote_alike own.bytes at width value
+
+-- what is private is told by CP15 and by how the memories are shared out
+same_private : (t : Tcm) (m n : MapState) (at : ℕ) → m.io.vram.controls ≡ n.io.vram.controls → m.io.wramcnt ≡ n.io.wramcnt → is_private_tcm t m at ≡ is_private_tcm t n at
+same_private (Itcm place) m n at controls wramcnt = refl
+same_private (Dtcm place) m n at controls wramcnt = refl
+same_private Past m n at controls wramcnt =
+    ap (λ (c : List ℕ). is_private_place c (place_of Nine m.io.wramcnt at)) controls ∙ ap (λ (w : ℕ). is_private_place n.io.vram.controls (place_of Nine w at)) wramcnt
+
+keeps_private : (own : NineReachOwn) (at : ℕ) (width : Width) (value : ℕ) (r : NineReach) → AsPrivate nine_side (put_nine own r) (put_nine (nine_wrote own at width value) r)
+keeps_private own at width value r writing fetching byte =
+    let new = nine_wrote own at width value in
+    let t = tcm_of own.cp15 at true false in
+    let alike = tcm_alike t own at width value in
+    ap (λ (cp : Cp15State). is_private_tcm (tcm_of cp byte writing fetching) (put_nine own r).map byte) (sym (same_cp15 t own at width value))
+    ∙ same_private (tcm_of new.cp15 byte writing fetching) (put_nine own r).map (put_nine new r).map byte (sym alike.controls) (sym alike.wramcnt)
+
+-- ---- the same of what is shared out as some memories are, and has as many bytes: no private write changes that
+
+pub record NineShared (shared : List ℕ) (u : IoState) : Type 0 where
+  pub own : NineReachOwn
+  pub so : IsSharedSo own.bytes.share shared u
+
+module _ (shared : List ℕ) (u : IoState) where
+  abbrev pub put_shared : NineShared shared u → NineReach → NineReach
+  put_shared k r = put_nine k.own r
+
+  abbrev pub shared_wrote : NineShared shared u → ℕ → Width → ℕ → NineShared shared u
+  shared_wrote k at width value = record {
+    own = nine_wrote k.own at width value;
+    so = so_shared k.own.bytes.share (nine_wrote k.own at width value).bytes.share shared u (tcm_alike (tcm_of k.own.cp15 at true false) k.own at width value) k.so;
+  }
+
+  pub nine_apart : IsApart nine_memory nine_side put_shared shared_wrote
+  nine_apart = record {
+    base = λ k r t. refl;
+    moves = λ k r t writing fetching byte. same_private (tcm_of k.own.cp15 byte writing fetching) (put_nine k.own r).map (put_nine k.own t).map byte refl refl;
+    keeps = λ k at width value r. keeps_private k.own at width value r;
+    fetched = λ k at width r t h. fetched_by (tcm_of k.own.cp15 at false true) k.own at width r t (at_nine k.own.cp15 (put_nine k.own r).map false true width at h);
+    read = λ k at width r t h. value_by (tcm_of k.own.cp15 at false false) k.own at width r t (at_nine k.own.cp15 (put_nine k.own r).map false false width at h);
+    fetches = λ k at width r h. refl;
+    reads = λ k at width r h. read_by_tcm (tcm_of k.own.cp15 at false false) k.own at width r (at_nine k.own.cp15 (put_nine k.own r).map false false width at h);
+    refuses = λ k at width value r h. refused_by (tcm_of k.own.cp15 at true false) k.own at width value r (at_nine k.own.cp15 (put_nine k.own r).map true false width at h);
+    writes = λ k at width value r h. written_by_tcm (tcm_of k.own.cp15 at true false) k.own at width value r (at_nine k.own.cp15 (put_nine k.own r).map true false width at h);
+  }
 
 -- a move that may go ahead reads CP15
 reads_of : (instr : Instr) → stays_behind instr ≡ false → (m : Moved) → move_of (Some instr) ≡ Some m → m.load ≡ true
@@ -141,33 +191,36 @@ move_leaves s cp m load = rw load (by_condition (holds m.cond s.cpsr)) where
   by_condition true = record { clocks = move_clocks; some = omega arith; cost = refl; stays = refl }
   by_condition false = record { clocks = cost_of V5 (skipped s); some = some_cost V5 (skipped s); cost = refl; stays = refl }
 
-moved_alike : (s : RegisterState) (own : NineOwn) (r t : NineReach) (number : ℕ) (instr : Option Instr) (m : Moved) → m.load ≡ true
-    → StepsAlike put_nine r t (nine_executed s (put_nine own r) number instr (Some m)) (nine_executed s (put_nine own t) number instr (Some m))
-moved_alike s own r t number instr m load =
-    let o = moved_if s own.cp15 m in
-    let k = move_leaves s own.cp15 m load in
-    record { own = own; registers = o.registers; clocks = k.clocks; some = k.some; here = left o r k; there = left o t k } where
-      left : (o : MoveOutcome) (r : NineReach) (k : LeavesCp15 own.cp15 o)
-          → (let out : Outcome NineReach = record { registers = o.registers; state = record (put_nine own r) { cp15 = o.cp }; stepped = o.stepped } in out)
-          ≡ record { registers = o.registers; state = put_nine own r; stepped = Cost k.clocks }
-      left o r k =
-          ap (λ (c : Cp15State). (let out : Outcome NineReach = record { registers = o.registers; state = record (put_nine own r) { cp15 = c }; stepped = o.stepped } in out)) k.stays
-          ∙ ap (λ (x : Stepped). (let out : Outcome NineReach = record { registers = o.registers; state = put_nine own r; stepped = x } in out)) k.cost
+left_by : (own : NineReachOwn) (o : MoveOutcome) (r : NineReach) (k : LeavesCp15 own.cp15 o)
+    → (let out : Outcome NineReach = record { registers = o.registers; state = record (put_nine own r) { cp15 = o.cp }; stepped = o.stepped } in out)
+    ≡ record { registers = o.registers; state = put_nine own r; stepped = Cost k.clocks }
+left_by own o r k =
+    ap (λ (c : Cp15State). (let out : Outcome NineReach = record { registers = o.registers; state = record (put_nine own r) { cp15 = c }; stepped = o.stepped } in out)) k.stays
+    ∙ ap (λ (x : Stepped). (let out : Outcome NineReach = record { registers = o.registers; state = put_nine own r; stepped = x } in out)) k.cost
 
-nine_alike : (s : RegisterState) (own : NineOwn) (r t : NineReach) (number : ℕ) (instr : Instr) (move : Option Moved) → move_of (Some instr) ≡ move → stays_behind instr ≡ false
-    → AllReachPrivate nine_side (put_nine own r) (data_accesses nine_side.arch (nine_side.base (put_nine own r)) s (Some instr))
-    → StepsAlike put_nine r t (nine_executed s (put_nine own r) number (Some instr) move) (nine_executed s (put_nine own t) number (Some instr) move)
-nine_alike s own r t number instr None e ahead h = word_alike nine_memory nine_side put_nine nine_wrote nine_apart (arm9 own.cp15) s number instr own r t ahead h
-nine_alike s own r t number instr (Some m) e ahead h = moved_alike s own r t number (Some instr) m (reads_of instr ahead m e)
+module _ (shared : List ℕ) (u : IoState) where
+  moved_alike : (s : RegisterState) (k : NineShared shared u) (r t : NineReach) (number : ℕ) (instr : Option Instr) (m : Moved) → m.load ≡ true
+      → StepsAlike (put_shared shared u) r t (nine_executed s (put_nine k.own r) number instr (Some m)) (nine_executed s (put_nine k.own t) number instr (Some m))
+  moved_alike s k r t number instr m load =
+      let o = moved_if s k.own.cp15 m in
+      let leaves = move_leaves s k.own.cp15 m load in
+      record { own = k; registers = o.registers; clocks = leaves.clocks; some = leaves.some; here = left_by k.own o r leaves; there = left_by k.own o t leaves }
 
-pub nine_executes : ExecutesAlike nine_side put_nine
-nine_executes s own r t number instr ahead h =
-    nine_alike s own r t number instr (move_of (Some instr)) refl (both_down (is_undefined nine_side.arch (Some instr)) (stays_behind instr) ahead).1 h
+  nine_alike : (s : RegisterState) (k : NineShared shared u) (r t : NineReach) (number : ℕ) (instr : Instr) (move : Option Moved) → move_of (Some instr) ≡ move → stays_behind instr ≡ false
+      → AllReachPrivate nine_side (put_nine k.own r) (data_accesses nine_side.arch (nine_side.base (put_nine k.own r)) s (Some instr))
+      → StepsAlike (put_shared shared u) r t (nine_executed s (put_nine k.own r) number (Some instr) move) (nine_executed s (put_nine k.own t) number (Some instr) move)
+  nine_alike s k r t number instr None e ahead h =
+      word_alike nine_memory nine_side (put_shared shared u) (shared_wrote shared u) (nine_apart shared u) (arm9 k.own.cp15) s number instr k r t ahead h
+  nine_alike s k r t number instr (Some m) e ahead h = moved_alike s k r t number (Some instr) m (reads_of instr ahead m e)
+
+  pub nine_executes : ExecutesAlike nine_side (put_shared shared u)
+  nine_executes s k r t number instr ahead h =
+      nine_alike s k r t number instr (move_of (Some instr)) refl (both_down (is_undefined nine_side.arch (Some instr)) (stays_behind instr) ahead).1 h
 
 -- ---- ARM7's: its work RAM
 
 abbrev pub put_seven : List ℕ → SevenReach → SevenReach
-put_seven own r = record r { map = with_wram Seven own r.map }
+put_seven own r = record r { map = with_wram own r.map }
 
 abbrev pub seven_wrote : List ℕ → ℕ → Width → ℕ → List ℕ
 seven_wrote own at width value = wram_written (low_place at) own width value
@@ -183,14 +236,14 @@ seven_apart = record {
   base = λ own r t. refl;
   moves = λ own r t writing fetching byte. refl;
   keeps = λ own at width value r writing fetching byte. refl;
-  fetched = λ own at width r t h. map_fetched_alike Seven at (low_place at) (low_fixed at (at_seven width at h)) width own r.map t.map;
-  read = λ own at width r t h. map_value_alike Seven at (low_place at) (low_fixed at (at_seven width at h)) width r.now t.now own r.map t.map;
+  fetched = λ own at width r t h. map_fetched_alike at (low_place at) (low_fixed at (at_seven width at h)) width own r.map t.map;
+  read = λ own at width r t h. map_value_alike at (low_place at) (low_fixed at (at_seven width at h)) width r.now t.now own r.map t.map;
   fetches = λ own at width r h. refl;
   reads = λ own at width r h.
-      ap (λ (m : MapState). (let left : SevenReach = record r { map = m } in left)) (map_read_leaves Seven at (low_place at) (low_fixed at (at_seven width at h)) width (with_wram Seven own r.map));
-  refuses = λ own at width value r h. map_none_refused Seven at (low_place at) (low_fixed at (at_seven width at h)) width (with_wram Seven own r.map) value;
+      ap (λ (m : MapState). (let left : SevenReach = record r { map = m } in left)) (map_read_leaves at (low_place at) (low_fixed at (at_seven width at h)) width (with_wram own r.map));
+  refuses = λ own at width value r h. map_none_refused at (low_place at) (low_fixed at (at_seven width at h)) width (with_wram own r.map) value;
   writes = λ own at width value r h.
-      ap (λ (m : MapState). (let left : SevenReach = record r { map = m } in left)) (map_write_leaves Seven at (low_place at) (low_fixed at (at_seven width at h)) width r.now own r.map value);
+      ap (λ (m : MapState). (let left : SevenReach = record r { map = m } in left)) (map_write_leaves at (low_place at) (low_fixed at (at_seven width at h)) width r.now own r.map value);
 }
 
 pub seven_executes : ExecutesAlike seven_side put_seven

@@ -8,7 +8,7 @@ use Rattle.ds_base.specs.declared.memories.Width.{Width}
 use Rattle.ds_base.specs.declared.memories.Width.TheVariants.{Byte, Half, Word}
 use Rattle.ds_base.specs.declared.processors.Proc.TheVariants.{Nine}
 use Rattle.ds_base.specs.declared.ticks.Tick.{Tick}
-use Rattle.ds_places.specs.AddressTables.{Cells, Content, Empty, Region, place_at, place_by, place_of, regions_of_nine, shared_for_nine}
+use Rattle.ds_places.specs.AddressTables.{Cells, Empty, Region, place_at, place_by, place_of, regions_of_nine, shared_for_nine}
 use Rattle.ds_places.specs.declared.kinds.Place.{Place}
 use Rattle.ds_places.specs.declared.kinds.Place.TheVariants.{Cell, Banks, Rom, Nothing}
 use Rattle.ds_ports.specs.Io.{IoState}
@@ -19,7 +19,7 @@ use Rattle.vram_banks.proofs.Allotted.{value_apart, written_apart, written_contr
 use Rattle.vram_banks.proofs.Mixes.{IsAll, number_own, with_number_length, with_number_own}
 use Rattle.ds_map.specs.Accesses.{after_read_at, cell_put, fetched_at, map_fetched, map_read, map_refusal, map_value, map_written, refusal_at, value_at, written_at}
 use Rattle.ds_map.specs.Maps.{MapState, MemoriesState}
-use Rattle.ds_map.specs.Shares.{IsSharedSo, SharedPart, is_apart, is_private_place, is_shown_to_nine, mixed_banks, shared_put, shares_put}
+use Rattle.ds_map.specs.Shares.{IsSharedSo, SharedPart, is_private_place, is_shown_to_nine, mixed_banks, shared_put, shares_put}
 
 -- ARM9's accesses of the places that it alone reaches, past its tightly coupled memories, change its own bytes alone, depend on them alone, and aren't refused.
 
@@ -77,7 +77,9 @@ nine_places w at =
     (λ o. tt, (shared_so w, (λ o. tt, (λ o. tt, (λ o. refl, (λ o. refl, (λ o. refl, (λ o. refl, (λ o. refl, (λ o. tt, (λ o. tt, tt)))))))))))
 
 pub shared_nine : (wramcnt at place : ℕ) → place_of Nine wramcnt at ≡ Cell Shared place → (width : Width) → IsAll (is_shown_to_nine wramcnt) true width (aligned_down width place)
-shared_nine wramcnt at place e width k lt = (let of : IsOf (is_shown_to_nine wramcnt) (Cell Shared place) = subst (IsOf (is_shown_to_nine wramcnt)) e (nine_places wramcnt at) in of width k lt)
+shared_nine wramcnt at place e width k lt =
+    let of : IsOf (is_shown_to_nine wramcnt) (Cell Shared place) = subst (IsOf (is_shown_to_nine wramcnt)) e (nine_places wramcnt at) in
+    of width k lt
 
 pub banks_nine : (wramcnt at : ℕ) (space : Space) (place : ℕ) → place_of Nine wramcnt at ≡ Banks space place → same_space space Arm7 ≡ false
 banks_nine wramcnt at space place e = subst (IsOf (is_shown_to_nine wramcnt)) e (nine_places wramcnt at)

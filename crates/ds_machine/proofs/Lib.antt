@@ -8,6 +8,7 @@ pub mod Counts
 pub mod DueTicks
 pub mod Frames
 pub mod Keeps
+pub mod Commutes
 pub mod MachineSchedule
 pub mod Moves
 pub mod RamAccesses
@@ -41,6 +42,7 @@ pub mod Statuses
 pub mod StepsAhead
 pub mod StopKinds
 pub mod OuterSteps
+pub mod OwnShares
 pub mod OuterLeaves
 pub mod OuterLaw
 pub mod AheadRuns

@@ -1,7 +1,7 @@
 //! The laws of the reference run.
 
 ghost use Rattle.ds_runs.specs.Laws.{RunsJoin, RunsAreOne, RunsExist, RunsEnd};
-ghost use Rattle.ds_machine.specs.Apart.{DisplayLeavesNine, GeometryLeavesNine, LeaveNine, LeaveSeven};
+ghost use Rattle.ds_machine.specs.Apart.{DisplayLeavesNine, GeometryLeavesNine, LeaveNine, LeaveNineOwn, LeaveSeven};
 ghost use Rattle.ds_machine.specs.Frames.{StepsFollowFrames, StepsFollowLists, StopsLeaveFrames, StopsLeaveLists};
 ghost use Rattle.ds_machine.specs.OwnSteps.{IsStep7, IsStep9};
 ghost use Rattle.ds_machine.specs.Private.{AheadRuns, AheadSteps, TurnStepsFall};
@@ -20,11 +20,14 @@ pub fn reference_laws()
 
 /// Does nothing; its contract states that a step neither changes a processor's own part nor depends on it, but for that processor's steps and those of its
 /// DMA channels. The display reads palettes and OAM, which stand with ARM9's part; `display` says that it changes none of that part, and depends on nothing else of it;
-/// `geometry` says that geometry's step changes the tick at which ARM9 is due and nothing else of that part, and depends on nothing else of it.
+/// `geometry` says that geometry's step changes the tick at which ARM9 is due and nothing else of that part, and depends on nothing else of it. `shares` says it of all that ARM9
+/// alone reaches by the present map, also its bytes of shared work RAM and of video memory, and how those are shared out: the actors outside its fence neither change it nor
+/// depend on those bytes.
 #[tactic(auto, using(crate::proofs::Apart::leave_nine, crate::proofs::Apart::leave_seven))]
 pub fn own_part_laws()
     ensures nine { LeaveNine }
     ensures seven { LeaveSeven }
+    ensures shares { LeaveNineOwn }
     ensures display { DisplayLeavesNine }
     ensures geometry { GeometryLeavesNine }
 {}

@@ -1,0 +1,251 @@
+use Rattle.std.proofs.Common.{ℕ, ◌≡◌, Bool, true, false, if◌then◌else◌, List, [], Option, Some, None, refl, sym, ◌∙◌, ap, subst}
+use Rattle.ds_base.specs.declared.left_out.LeftOut.{LeftOut}
+use Rattle.ds_base.specs.declared.left_out.Stop.{Stop}
+use Rattle.ds_base.specs.declared.processors.Proc.TheVariants.{Nine, Seven}
+use Rattle.ds_base.specs.declared.ticks.Tick.{Tick}
+use Rattle.arm7_exec.specs.Arm7.{arm7}
+use Rattle.arm_core.specs.Effects.{Outcome}
+use Rattle.arm_core.specs.declared.outcomes.Stepped as arm
+use Rattle.arm_core.specs.declared.outcomes.Stepped.TheVariants.{Cost, Halted, Left}
+use Rattle.ds_dma.specs.declared.controls.Cause.TheVariants as causes
+use Rattle.ds_map.specs.Maps.{MapState}
+use Rattle.ds_map.specs.Moves.{next_unit, unit_moved, unit_refusal}
+use Rattle.ds_map.specs.Shares.{IsSharedSo, SharedPart, is_apart, is_shown_to_nine, map_put, shares_put}
+use Rattle.ds_map.specs.Views.{SevenReach, seven_memory}
+use Rattle.ds_map.proofs.SevenShares as seven_map
+use Rattle.ds_ports.specs.Dues.{io_due}
+use Rattle.ds_ports.specs.Io.{IoState, level_told, settled}
+use Rattle.ds_ports.specs.ProcessorIo.{processor_io_triggered}
+use Rattle.ds_runs.specs.Runs.{MachineStep, Makes}
+use Rattle.ds_runs.specs.declared.actors.Actor as actor
+use Rattle.ds_runs.specs.declared.actors.Actor.TheVariants.{KeyScript, Video, Timer, Divider, SquareRoot, Geometry, Card, Dma, Processor}
+use Rattle.ds_runs.proofs.RunLaws.{same_makes}
+use Rattle.gx_fifo.specs.GxStates.{is_half_empty}
+use Rattle.vram_banks.proofs.Mixes.{mixed_length, mixed_same, mixed_twice}
+use Rattle.vram_banks.specs.Mixes.{mixed}
+use Rattle.ds_machine.specs.Apart.{IsOutside, LeaveNineOwn, NineOwn, nine_own_of, step_with, with_nine_own}
+use Rattle.ds_machine.specs.Channels.{channel_step, moved_by}
+use Rattle.ds_machine.specs.Reference.{Shown, step_by}
+use Rattle.ds_machine.specs.Sides.{seven_side, taken}
+use Rattle.ds_machine.specs.States.{MachineState}
+use Rattle.ds_machine.specs.Statuses.{left_by}
+use Rattle.ds_machine.specs.Steps.{ended, goes_on, is_halted, line_of, machine_concluded, machine_settled, map_of, seven_reach, tick_of, wakes, with_map, with_seven, woken, woken_one}
+use Rattle.ds_machine.proofs.Commutes.{Commutes, taken_commutes, word_commutes}
+use Rattle.ds_machine.proofs.Keeps.{Follows, taken_follows, word_follows}
+use Rattle.ds_machine.proofs.OuterSteps.{not_woken, settled_halted}
+
+-- A step of an actor outside ARM9's fence comes to the same with other bytes in what ARM9 alone reaches by the present map, and leaves that as it was.
+
+-- ---- putting it and taking it
+
+pub put_own_of : (s : MachineState) → with_nine_own (nine_own_of s) s ≡ s
+put_own_of s =
+    let shown = is_shown_to_nine s.io.wramcnt in
+    let apart = is_apart s.io.vram.controls in
+    let own = nine_own_of s in
+    ap (λ (bytes : List ℕ). (let m : MachineState = record s { shared = bytes; io = shares_put own.share s.io } in m))
+    (mixed_twice shown s.shared [] s.shared ∙ mixed_same shown s.shared)
+    ∙ ap (λ (bytes : List ℕ). (let m : MachineState = record s { io = record s.io { vram = record s.io.vram { bytes = bytes } } } in m))
+    (mixed_twice apart s.io.vram.bytes [] s.io.vram.bytes ∙ mixed_same apart s.io.vram.bytes)
+
+pub own_of_put : (t s : MachineState) → nine_own_of (with_nine_own (nine_own_of t) s) ≡ nine_own_of t
+own_of_put t s =
+    let shown = is_shown_to_nine t.io.wramcnt in
+    let apart = is_apart t.io.vram.controls in
+    let own = nine_own_of t in
+    let vram = mixed apart (mixed apart own.share.vram.bytes s.io.vram.bytes) [] in
+    ap (λ (bytes : List ℕ). (let o : NineOwn = record own { share = record own.share { shared = bytes; vram = record own.share.vram { bytes = vram } } } in o))
+    (mixed_twice shown own.share.shared s.shared [] ∙ mixed_twice shown t.shared [] [])
+    ∙ ap (λ (bytes : List ℕ). (let o : NineOwn = record own { share = record own.share { vram = record own.share.vram { bytes = bytes } } } in o))
+    (mixed_twice apart own.share.vram.bytes s.io.vram.bytes [] ∙ mixed_twice apart t.io.vram.bytes [] [])
+
+-- a machine's memories are shared out as its own part says
+pub is_shared_so : (s : MachineState) → IsSharedSo (nine_own_of s).share s.shared s.io
+is_shared_so s = record {
+  wramcnt = refl;
+  controls = refl;
+  shared = mixed_length (is_shown_to_nine s.io.wramcnt) s.shared [];
+  bytes = mixed_length (is_apart s.io.vram.controls) s.io.vram.bytes [];
+}
+
+-- ---- what ARM7 reaches
+
+abbrev reach_put : SharedPart → SevenReach → SevenReach
+reach_put own r = record r { map = map_put own r.map }
+
+abbrev IsReachedSo : SharedPart → SevenReach → Type 0
+IsReachedSo own r = IsSharedSo own r.map.memories.shared r.map.io
+
+seven_commutes : (own : SharedPart) → Commutes seven_memory (IsReachedSo own) (reach_put own)
+seven_commutes own = record {
+  fetched = λ r at width i. seven_map.fetched own r.map i at width;
+  read = λ r at width i. seven_map.value own r.map i r.now at width;
+  refuses = λ r at width value i. seven_map.refusal own r.map i at width value;
+  fetches = λ r at width i. refl;
+  reads = λ r at width i. ap (λ (m : MapState). (let left : SevenReach = record r { map = m } in left)) (seven_map.read own r.map i at width);
+  writes = λ r at width value i. ap (λ (m : MapState). (let left : SevenReach = record r { map = m } in left)) (seven_map.written own r.map i r.now at width value);
+  fetch_stays = λ r at width i. i;
+  read_stays = λ r at width i. seven_map.read_stays own r.map i at width;
+  write_stays = λ r at width value i. seven_map.written_stays own r.map i r.now at width value;
+}
+
+seven_follows : (own : SharedPart) → Follows seven_memory (IsReachedSo own) (λ r t. IsReachedSo own t)
+seven_follows own = record {
+  stays = λ r i. i;
+  joins = λ r t u i k. k;
+  ends = λ r t k. k;
+  fetches = λ r at width i. i;
+  reads = λ r at width i. seven_map.read_stays own r.map i at width;
+  writes = λ r at width value i. seven_map.written_stays own r.map i r.now at width value;
+}
+
+-- ---- ARM7's step
+
+abbrev seven_taken : MachineState → Outcome SevenReach
+seven_taken s = taken seven_memory seven_side (line_of s Seven) s.seven.processor.registers (seven_reach (tick_of s.seven.processor) s)
+
+seven_concluded : (rank : ℕ) (own : NineOwn) (s : MachineState) (came : arm.Stepped)
+    → (let step : MachineStep MachineState Shown LeftOut = machine_concluded rank Seven (with_nine_own own s) came in step)
+    ≡ step_with (with_nine_own own) (machine_concluded rank Seven s came)
+seven_concluded rank own s (Cost clocks) = refl
+seven_concluded rank own s (Halted clocks) = refl
+seven_concluded rank own s (Left stop) = refl
+
+seven_steps : (rank : ℕ) (own : NineOwn) (s : MachineState) → IsSharedSo own.share s.shared s.io
+    → step_by rank (Processor Seven) (with_nine_own own s) ≡ step_with (with_nine_own own) (step_by rank (Processor Seven) s)
+seven_steps rank own s shared =
+    let f = reach_put own.share in
+    let I = IsReachedSo own.share in
+    let c = seven_commutes own.share in
+    let o = seven_taken s in
+    ap (λ (o : Outcome SevenReach). (let step : MachineStep MachineState Shown LeftOut = machine_concluded rank Seven (with_seven (with_nine_own own s) o) o.stepped in step))
+    (taken_commutes seven_memory I f c seven_side (λ r i. refl) (λ old r number instr i. word_commutes seven_memory I f c arm7 old r number instr i)
+    (line_of s Seven) s.seven.processor.registers (seven_reach (tick_of s.seven.processor) s) shared)
+    ∙ seven_concluded rank own (with_seven s o) o.stepped
+
+shared_after : (rank : ℕ) (own : SharedPart) (s : MachineState) (came : arm.Stepped) → IsSharedSo own s.shared s.io
+    → (let left : MachineState = left_by (let step : MachineStep MachineState Shown LeftOut = machine_concluded rank Seven s came in step) in IsSharedSo own left.shared left.io)
+shared_after rank own s (Cost clocks) h = record { wramcnt = h.wramcnt; controls = h.controls; shared = h.shared; bytes = h.bytes }
+shared_after rank own s (Halted clocks) h = record { wramcnt = h.wramcnt; controls = h.controls; shared = h.shared; bytes = h.bytes }
+shared_after rank own s (Left stop) h = record { wramcnt = h.wramcnt; controls = h.controls; shared = h.shared; bytes = h.bytes }
+
+seven_stays : (own : SharedPart) (s : MachineState) → IsSharedSo own s.shared s.io → IsReachedSo own (seven_taken s).state
+seven_stays own s shared =
+    let I = IsReachedSo own in
+    let k = seven_follows own in
+    taken_follows seven_memory I (λ r t. I t) k seven_side (λ old r number instr i. word_follows seven_memory I (λ r t. I t) k arm7 old r number instr i)
+    (line_of s Seven) s.seven.processor.registers (seven_reach (tick_of s.seven.processor) s) shared
+
+-- ---- a unit that a channel of ARM7's moves
+
+seven_moved : (rank : ℕ) (now : Tick) (refused : Option Stop) (own : NineOwn) (s : MachineState)
+    → (let step : MachineStep MachineState Shown LeftOut = moved_by rank Seven now refused (with_nine_own own s) in step)
+    ≡ step_with (with_nine_own own) (moved_by rank Seven now refused s)
+seven_moved rank now None own s = refl
+seven_moved rank now (Some stop) own s = refl
+
+seven_channel : (rank : ℕ) (due : Option Tick) (own : NineOwn) (s : MachineState) → IsSharedSo own.share s.shared s.io
+    → (let step : MachineStep MachineState Shown LeftOut = channel_step rank Seven due (with_nine_own own s) in step)
+    ≡ step_with (with_nine_own own) (channel_step rank Seven due s)
+seven_channel rank None own s shared = refl
+seven_channel rank (Some now) own s shared =
+    let unit = next_unit s.io Seven in
+    let m = map_of Seven s in
+    let put = with_nine_own own s in
+    let moved = with_map Seven put (unit_moved Seven now unit (map_put own.share m)) in
+    ap (λ (refused : Option Stop). (let step : MachineStep MachineState Shown LeftOut = moved_by rank Seven now refused moved in step))
+    (seven_map.unit_refuses own.share m shared now unit)
+    ∙ ap (λ (left : MapState). (let step : MachineStep MachineState Shown LeftOut = moved_by rank Seven now (unit_refusal Seven now unit m) (with_map Seven put left) in step))
+    (seven_map.unit_moves own.share m shared now unit)
+    ∙ seven_moved rank now (unit_refusal Seven now unit m) own (with_map Seven s (unit_moved Seven now unit m))
+
+shared_moved : (rank : ℕ) (now : Tick) (refused : Option Stop) (own : SharedPart) (s : MachineState) → IsSharedSo own s.shared s.io
+    → (let left : MachineState = left_by (let step : MachineStep MachineState Shown LeftOut = moved_by rank Seven now refused s in step) in IsSharedSo own left.shared left.io)
+shared_moved rank now None own s h = record { wramcnt = h.wramcnt; controls = h.controls; shared = h.shared; bytes = h.bytes }
+shared_moved rank now (Some stop) own s h = record { wramcnt = h.wramcnt; controls = h.controls; shared = h.shared; bytes = h.bytes }
+
+channel_shared : (rank : ℕ) (due : Option Tick) (own : SharedPart) (s : MachineState) → IsSharedSo own s.shared s.io
+    → (let left : MachineState = left_by (let step : MachineStep MachineState Shown LeftOut = channel_step rank Seven due s in step) in IsSharedSo own left.shared left.io)
+channel_shared rank None own s h = h
+channel_shared rank (Some now) own s h =
+    let unit = next_unit s.io Seven in
+    let m = map_of Seven s in
+    shared_moved rank now (unit_refusal Seven now unit m) own (with_map Seven s (unit_moved Seven now unit m)) (seven_map.unit_stays own m h now unit)
+
+-- ---- each actor
+
+pub leave_nine_own : LeaveNineOwn
+leave_nine_own rank KeyScript own s outside shared = absurd (outside.1 tt)
+leave_nine_own rank Video own s outside shared = absurd (outside.1 tt)
+leave_nine_own rank (Timer Nine number) own s outside shared = absurd (outside.1 refl)
+leave_nine_own rank (Timer Seven number) own s outside shared = refl
+leave_nine_own rank Divider own s outside shared = refl
+leave_nine_own rank SquareRoot own s outside shared = refl
+leave_nine_own rank Geometry own s outside shared = absurd (outside.1 refl)
+leave_nine_own rank Card own s outside shared = absurd (outside.1 tt)
+leave_nine_own rank (Dma Nine channel) own s outside shared = absurd (outside.1 refl)
+leave_nine_own rank (Dma Seven channel) own s outside shared = seven_channel rank (io_due (Dma Seven channel) s.io) own s shared
+leave_nine_own rank (Processor Nine) own s outside shared = absurd (outside.0 refl)
+leave_nine_own rank (Processor Seven) own s outside shared = seven_steps rank own s shared
+
+-- such an actor doesn't share the memories out anew
+shares_left : (rank : ℕ) (a : actor.Actor) (own : SharedPart) (s : MachineState) → IsOutside a → IsSharedSo own s.shared s.io
+    → IsSharedSo own (left_by (step_by rank a s)).shared (left_by (step_by rank a s)).io
+shares_left rank KeyScript own s outside h = absurd (outside.1 tt)
+shares_left rank Video own s outside h = absurd (outside.1 tt)
+shares_left rank (Timer Nine number) own s outside h = absurd (outside.1 refl)
+shares_left rank (Timer Seven number) own s outside h = record { wramcnt = h.wramcnt; controls = h.controls; shared = h.shared; bytes = h.bytes }
+shares_left rank Divider own s outside h = record { wramcnt = h.wramcnt; controls = h.controls; shared = h.shared; bytes = h.bytes }
+shares_left rank SquareRoot own s outside h = record { wramcnt = h.wramcnt; controls = h.controls; shared = h.shared; bytes = h.bytes }
+shares_left rank Geometry own s outside h = absurd (outside.1 refl)
+shares_left rank Card own s outside h = absurd (outside.1 tt)
+shares_left rank (Dma Nine channel) own s outside h = absurd (outside.1 refl)
+shares_left rank (Dma Seven channel) own s outside h = channel_shared rank (io_due (Dma Seven channel) s.io) own s h
+shares_left rank (Processor Nine) own s outside h = absurd (outside.0 refl)
+shares_left rank (Processor Seven) own s outside h = let o = seven_taken s in shared_after rank own (with_seven s o) o.stepped (seven_stays own s h)
+
+pub shares_stay : (rank : ℕ) (a : actor.Actor) (own : SharedPart) (s made : MachineState) (outs : List Shown) → IsOutside a → step_by rank a s ≡ Makes made outs
+    → IsSharedSo own s.shared s.io → IsSharedSo own made.shared made.io
+shares_stay rank a own s made outs outside h shared =
+    subst (λ (came : MachineStep MachineState Shown LeftOut). IsSharedSo own (left_by came).shared (left_by came).io) h (shares_left rank a own s outside shared)
+
+-- so it leaves all that ARM9 alone reaches
+pub own_stays : (rank : ℕ) (a : actor.Actor) (s made : MachineState) (outs : List Shown) → IsOutside a → step_by rank a s ≡ Makes made outs
+    → nine_own_of made ≡ nine_own_of s
+own_stays rank a s made outs outside h =
+    let put = with_nine_own (nine_own_of s) in
+    let both : (let step : MachineStep MachineState Shown LeftOut = Makes made outs in step) ≡ Makes (put made) outs =
+    sym h ∙ ap (λ (m : MachineState). step_by rank a m) (sym (put_own_of s)) ∙ leave_nine_own rank a (nine_own_of s) s outside (is_shared_so s) ∙ ap (step_with put) h in
+    ap nine_own_of (same_makes made (put made) outs outs both).0 ∙ own_of_put s made
+
+-- ---- what follows a step, where ARM9 isn't halted
+
+abbrev triggered : Tick → IoState → IoState
+triggered tick u = record (level_told u) { nine = processor_io_triggered (level_told u).nine causes.Geometry tick }
+
+settled_so : (tick : Tick) (own : SharedPart) (u : IoState) → settled tick (shares_put own u) ≡ shares_put own (settled tick u)
+settled_so tick own u = by_room (is_half_empty u.gx) where
+  by_room : (b : Bool) → (if b then triggered tick (shares_put own u) else level_told (shares_put own u)) ≡ shares_put own (if b then triggered tick u else level_told u)
+  by_room true = refl
+  by_room false = refl
+
+wakes_so : (tick : Tick) (own : NineOwn) (m : MachineState) → woken_one Seven tick (with_nine_own own m) ≡ with_nine_own own (woken_one Seven tick m)
+wakes_so tick own m = by_wake (wakes m Seven) where
+  by_wake : (b : Bool) → (if b then goes_on Seven tick (with_nine_own own m) else with_nine_own own m) ≡ with_nine_own own (if b then goes_on Seven tick m else m)
+  by_wake true = refl
+  by_wake false = refl
+
+pub ends_nine_own : (tick : Tick) (own : NineOwn) (s : MachineState) → is_halted s Nine ≡ false → ended tick (with_nine_own own s) ≡ with_nine_own own (ended tick s)
+unfolding ended
+ends_nine_own tick own s h =
+    let m = machine_settled tick s in
+    let free : is_halted m Nine ≡ false = settled_halted tick s.io Nine ∙ h in
+    let free_put : is_halted (with_nine_own own m) Nine ≡ false = free in
+    ap (λ (u : IoState). woken tick (let n : MachineState = record (with_nine_own own s) { io = u } in n)) (settled_so tick own.share s.io)
+    ∙ ap (woken_one Seven tick) (not_woken Nine tick (with_nine_own own m) free_put)
+    ∙ wakes_so tick own m
+    ∙ ap (λ (x : MachineState). with_nine_own own (woken_one Seven tick x)) (sym (not_woken Nine tick m free))
+
+pub own_ends : (tick : Tick) (s : MachineState) → is_halted s Nine ≡ false → nine_own_of (ended tick s) ≡ nine_own_of s
+own_ends tick s h =
+    ap nine_own_of (ap (ended tick) (sym (put_own_of s)) ∙ ends_nine_own tick (nine_own_of s) s h) ∙ own_of_put s (ended tick s)

@@ -1,41 +1,41 @@
-use Rattle.std.specs.Prelude.{◌==◌, ◌||◌, ◌&&◌, not, if◌then◌else◌}
+use Rattle.std.specs.Prelude.{◌==◌, ◌&&◌, not, if◌then◌else◌}
 use Rattle.std.specs.Int.{bit_at, bit_not, w32}
-use Rattle.std.proofs.Common.{ℕ, ◌≡◌, ◌≢◌, ◌<◌, ◌⊎◌, inl, inr, Bool, true, false, true≢false, List, [], Option, Some, None, bit_and, bit_or, refl, sym, ◌∙◌, ap, subst, arith}
+use Rattle.std.proofs.Common.{ℕ, ◌≡◌, ◌≢◌, ◌<◌, inl, inr, Bool, true, false, true≢false, List, [], Option, Some, bit_and, bit_or, refl, sym, ◌∙◌, ap, subst, arith}
 use Rattle.std.proofs.lemmas.Nat.Bits.{bit_at_and, bit_at_or, same_from_bits}
-use Rattle.ds_base.specs.Schedules.{IsLater}
 use Rattle.ds_base.specs.declared.left_out.LeftOut.{LeftOut}
 use Rattle.ds_base.specs.declared.processors.Proc.{Proc}
 use Rattle.ds_base.specs.declared.processors.Proc.TheVariants.{Nine, Seven}
 use Rattle.ds_base.specs.declared.ticks.Tick.{Tick}
-use Rattle.ds_ports.specs.Dues.{IsIo, IsTold, held_due, io_due, ipc_bits}
-use Rattle.ds_ports.specs.Io.{IoState, io_of, is_held, is_settled, level_told, settled}
-use Rattle.ds_ports.specs.ProcessorIo.{ProcessorIoState, blocks_processor, processor_io_triggered}
+use Rattle.ds_map.specs.Shares.{IsSharedSo}
+use Rattle.ds_ports.specs.Dues.{IsTold, ipc_bits}
+use Rattle.ds_ports.specs.Io.{IoState, io_of, level_told, settled}
+use Rattle.ds_ports.specs.ProcessorIo.{processor_io_triggered}
 use Rattle.ds_dma.specs.declared.controls.Cause.TheVariants as causes
-use Rattle.ds_ports.proofs.Later.{unchanged_same}
 use Rattle.ds_runs.specs.Actors.{actor_of}
 use Rattle.ds_runs.specs.Ahead.{HasOwnPart, MayRunAhead, MovesOn}
 use Rattle.ds_runs.specs.Runs.{IsLeast, MachineStep, Makes, Stops, due_at}
 use Rattle.ds_runs.specs.declared.actors.Actor as actor
 use Rattle.ds_runs.specs.declared.actors.Actor.TheVariants.{KeyScript, Video, Timer, Divider, SquareRoot, Geometry, Card, Dma, Processor}
-use Rattle.ds_dma.specs.States.{DmaState, any_runs, awaits_geometry, channel_due}
+use Rattle.ds_dma.specs.States.{DmaState, awaits_geometry, channel_due}
 use Rattle.ds_runs.proofs.Ahead.{ahead_from_own}
 use Rattle.ds_runs.proofs.AllActors.{actors_differ, moves_of_actors}
 use Rattle.ds_timers.specs.Irqs.{IrqState, irq_levelled, level}
 use Rattle.ds_timers.specs.Timing.{timer_at, timer_due}
-use Rattle.gx_fifo.specs.GxStates.{GxState, gx_level, is_half_empty, is_stalled}
+use Rattle.gx_fifo.specs.GxStates.{GxState, gx_level, is_half_empty}
 use Rattle.video2d.specs.Scans.{scan_due_tick}
-use Rattle.ds_machine.specs.Apart.{NinePart, ReachesOwn, step_with, with_nine_part, with_seven_part}
+use Rattle.ds_machine.specs.Apart.{NineOwn, nine_own_of, step_with, with_nine_own, with_seven_part}
 use Rattle.arm_core.specs.Steps.{enters}
 use Rattle.ds_machine.specs.Private.{IsBelowFence, IsHarmless, RunsAhead, hears_nobody, rank_of}
-use Rattle.ds_machine.specs.Reference.{Fences, HasSoundParts, IsSound, Shown, awake, due_by, due_unless, dues_of, is_to_be_triggered, keys_due, reference, reference_step, step_by}
+use Rattle.ds_machine.specs.Reference.{Fences, HasSoundParts, IsSound, Shown, awake, due_by, due_unless, dues_of, keys_due, reference, reference_step, step_by}
 use Rattle.ds_machine.specs.States.{MachineState, ProcessorState, SevenState}
-use Rattle.ds_machine.specs.Steps.{ended, goes_on, is_blocked, is_halted, line_of, machine_settled, nine_reach, processor_of, seven_reach, tick_of, wakes, woken, woken_one}
+use Rattle.ds_machine.specs.Steps.{ended, goes_on, is_blocked, is_halted, line_of, machine_settled, nine_reach, processor_of, seven_reach, tick_of, wakes, woken_one}
 use Rattle.ds_machine.proofs.DueTicks.{due_of_least, due_of_rank, low_rank}
-use Rattle.ds_machine.proofs.InnerLaw.{HasOwnOf, IsCalm, MovesAlone, after_nine, after_seven, harmless_by_part, inner_nine, inner_seven, nine_moves, nine_part_of, seven_moves}
-use Rattle.ds_machine.proofs.Apart.{leave_nine, leave_seven}
+use Rattle.ds_machine.proofs.InnerLaw.{HasOwnOf, IsCalm, MovesAlone, after_nine, after_seven, harmless_by_part, inner_nine, inner_seven, nine_fits, nine_moves, seven_moves}
+use Rattle.ds_machine.proofs.Apart.{leave_seven}
 use Rattle.ds_machine.proofs.MachineSchedule.{asleep_made, awake_stops, owes_by, reference_schedules, settled_made, step_made, steps_here}
-use Rattle.ds_machine.proofs.OuterLeaves.{HasPartOf, LeavesApart, leaves_apart, not_reached}
-use Rattle.ds_machine.proofs.OuterSteps.{nine_ended, not_woken, seven_ended, settled_halted, woken_halted}
+use Rattle.ds_machine.proofs.OuterLeaves.{LeavesApart, leaves_apart, not_reached}
+use Rattle.ds_machine.proofs.OuterSteps.{not_woken, seven_ended, settled_halted, woken_halted}
+use Rattle.ds_machine.proofs.OwnShares.{ends_nine_own, leave_nine_own, own_ends}
 use Rattle.ds_machine.proofs.Quiet.{not_halted}
 use Rattle.ds_machine.proofs.Told.{IsOnlyTold, quiet_stays}
 use Rattle.ds_machine.proofs.Wakes.{settle_leaves, settled_dma}
@@ -164,7 +164,7 @@ module _ (tick : Tick) (s made : MachineState) (sound : IsSound s) (parts : HasS
       let e = ends_nine tick made h in
       let k = settle_leaves tick made.io in
       record {
-        own = ap nine_part_of (nine_ended tick (nine_part_of made) made h) ∙ l.own;
+        own = own_ends tick made h ∙ l.own;
         told = nine_told l h;
         keys = e.keys ∙ l.keys;
         scan = e.scan ∙ ap (λ v. v.scan) k.video ∙ l.scan;
@@ -201,11 +201,11 @@ held_so Nine s next l = rw (l.told.own.halted, l.told.own.dma, (l.geometry refl)
 held_so Seven s next l = rw (l.told.own.halted, l.told.own.dma) refl
 
 processor_so : (proc : Proc) (s next : MachineState) → LeavesApart proc s next → processor_of next proc ≡ processor_of s proc
-processor_so Nine s next l = ap (λ (part : NinePart). part.nine.processor) l.own
+processor_so Nine s next l = ap (λ (own : NineOwn). own.part.nine.processor) l.own
 processor_so Seven s next l = ap (λ (part : SevenState). part.processor) l.own
 
 own_so : (proc : Proc) (s next : MachineState) → LeavesApart proc s next → HasOwnOf proc s next
-own_so Nine s next l = sym (ap (λ (part : NinePart). part.nine) l.own)
+own_so Nine s next l = sym l.own
 own_so Seven s next l = sym l.own
 
 harmless_so : (proc : Proc) (s next : MachineState) → LeavesApart proc s next → IsHarmless s proc → IsHarmless next proc
@@ -305,13 +305,15 @@ alone_moves Nine s next m =
 alone_moves Seven s next m =
     moves_of_actors (λ (a : actor.Actor). due_by a s) (λ (a : actor.Actor). due_by a next) 23 (tick_of s.seven.processor) (omega arith) m.there m.later (λ a numbered other. m.others a other)
 
--- Both laws for a processor whose own part is put into a machine so, by what is known of it: that others leave it and don't depend on it, nor does what follows a step
--- while it isn't halted; and what a harmless step makes of it.
-module _ (proc : Proc) {Own : Type 0} (put : Own → MachineState → MachineState) (after : MachineState → Own)
-    (leave : (rank : ℕ) (a : actor.Actor) (own : Own) (s : MachineState) → (ReachesOwn a proc → ⊥) → step_by rank a (put own s) ≡ step_with (put own) (step_by rank a s))
+-- Both laws for a processor whose own part is put into a machine so, by what is known of it: that others leave it and don't depend on it where it fits the machine, nor does
+-- what follows a step while the processor isn't halted; and what a harmless step makes of it, which fits.
+module _ (proc : Proc) {Own : Type 0} (put : Own → MachineState → MachineState) (after : MachineState → Own) (Fits : Own → MachineState → Type 0)
+    (leave : (rank : ℕ) (a : actor.Actor) (own : Own) (s : MachineState) → a ≢ Processor proc → (Fences a proc → ⊥) → Fits own s
+    → step_by rank a (put own s) ≡ step_with (put own) (step_by rank a s))
     (ends : (tick : Tick) (own : Own) (s : MachineState) → is_halted s proc ≡ false → ended tick (put own s) ≡ put own (ended tick s))
     (inner : (s : MachineState) → IsCalm s → IsHarmless s proc → reference_step (rank_of proc) s ≡ Makes (put (after s) s) [])
     (moves : (s : MachineState) → IsHarmless s proc → MovesAlone proc s (put (after s) s))
+    (fits : (s : MachineState) → IsHarmless s proc → Fits (after s) s)
     (same : (s next : MachineState) → LeavesApart proc s next → after next ≡ after s) where
   -- what another's step comes to on the machine with the own part that the harmless step makes
   there : (s : MachineState) (t u : Tick) (r : ℕ) (came : MachineStep MachineState Shown LeftOut) → RunsAhead proc s t → IsLeast (dues_of s) u r → r ≢ rank_of proc
@@ -320,7 +322,7 @@ module _ (proc : Proc) {Own : Type 0} (put : Own → MachineState → MachineSta
       let a = actor_of r in
       let other = not_own proc s u r least ne in
       let due = (moves s ahead.harmless).others a other ∙ due_of_least s r u least in
-      let step = leave r a (after s) s (not_reached a proc other (not_fencing proc s t u r ahead least)) ∙ ap (step_with (put (after s))) took in
+      let step = leave r a (after s) s other (not_fencing proc s t u r ahead least) (fits s ahead.harmless) ∙ ap (step_with (put (after s))) took in
       ap (λ (d : Option Tick). awake d (step_by r a (put (after s) s))) due ∙ ap (awake (Some u)) step
 
   pub own_part : HasOwnPart reference (rank_of proc) put after (RunsAhead proc)
@@ -342,9 +344,13 @@ module _ (proc : Proc) {Own : Type 0} (put : Own → MachineState → MachineSta
 pub may_run_ahead : (beside : MachineState) (proc : Proc) → MayRunAhead reference (rank_of proc) (RunsAhead proc)
 may_run_ahead beside Nine =
     let rest = nine_reach (tick_of beside.nine.processor) beside in
-    ahead_from_own reference 22 with_nine_part (λ s. after_nine rest (nine_part_of s)) (RunsAhead Nine)
-    (own_part Nine with_nine_part (λ s. after_nine rest (nine_part_of s)) leave_nine nine_ended (inner_nine rest) (nine_moves rest) (λ s next l. ap (after_nine rest) l.own))
+    ahead_from_own reference 22 with_nine_own (λ s. after_nine rest (nine_own_of s)) (RunsAhead Nine)
+    (own_part Nine with_nine_own (λ s. after_nine rest (nine_own_of s)) (λ own s. IsSharedSo own.share s.shared s.io)
+    (λ rank a own s other apart fits. leave_nine_own rank a own s (other, apart) fits) ends_nine_own (inner_nine rest) (nine_moves rest) (nine_fits rest)
+    (λ s next l. ap (after_nine rest) l.own))
 may_run_ahead beside Seven =
     let rest = seven_reach (tick_of beside.seven.processor) beside in
     ahead_from_own reference 23 with_seven_part (λ s. after_seven rest s.seven) (RunsAhead Seven)
-    (own_part Seven with_seven_part (λ s. after_seven rest s.seven) leave_seven seven_ended (inner_seven rest) (seven_moves rest) (λ s next l. ap (after_seven rest) l.own))
+    (own_part Seven with_seven_part (λ s. after_seven rest s.seven) (λ own s. Unit {0})
+    (λ rank a own s other apart fits. leave_seven rank a own s (not_reached a Seven other apart)) seven_ended (inner_seven rest) (seven_moves rest) (λ s h. tt)
+    (λ s next l. ap (after_seven rest) l.own))

@@ -1,8 +1,4 @@
-use Rattle.std.specs.Prelude.{◌||◌, not}
-use Rattle.std.specs.Int.{bit_not, w32}
-use Rattle.std.proofs.Common.{ℕ, ◌≡◌, ◌≢◌, ◌<◌, Bool, true, false, List, [], Option, Some, None, bit_and, bit_or, refl, sym, ◌∙◌, ap, subst, arith}
-use Rattle.std.proofs.lemmas.Nat.Bits.{bit_at_and, bit_at_or, same_from_bits}
-use Rattle.ds_base.specs.declared.keys.KeyLine.{KeyLine}
+use Rattle.std.proofs.Common.{ℕ, ◌≡◌, ◌≢◌, List, [], Option, refl, sym, ◌∙◌, ap, subst}
 use Rattle.ds_base.specs.declared.left_out.LeftOut.{LeftOut}
 use Rattle.ds_base.specs.declared.processors.Proc.{Proc}
 use Rattle.ds_base.specs.declared.processors.Proc.TheVariants.{Nine, Seven}
@@ -11,7 +7,7 @@ use Rattle.arm_core.specs.declared.outcomes.Stepped as arm
 use Rattle.arm_core.specs.declared.outcomes.Stepped.TheVariants.{Cost, Halted, Left}
 use Rattle.ds_ipc.specs.Ipcs.{other_proc}
 use Rattle.ds_map.specs.Moves.{next_unit}
-use Rattle.ds_ports.specs.Dues.{IsTold, ipc_bits}
+use Rattle.ds_ports.specs.Dues.{IsTold}
 use Rattle.ds_ports.specs.Io.{IoState, io_event, io_of}
 use Rattle.ds_ports.specs.ProcessorIo.{ProcessorIoState}
 use Rattle.ds_ports.proofs.Later.{unchanged_same}
@@ -20,25 +16,24 @@ use Rattle.ds_runs.specs.declared.actors.Actor as actor
 use Rattle.ds_runs.specs.declared.actors.Actor.TheVariants.{KeyScript, Video, Timer, Divider, SquareRoot, Geometry, Card, Dma, Processor}
 use Rattle.ds_runs.proofs.RunLaws.{same_makes}
 use Rattle.ds_timers.specs.Irqs.{IrqState}
-use Rattle.gx_fifo.specs.GxStates.{GxState}
-use Rattle.ds_machine.specs.Apart.{NinePart, ReachesOwn, step_with, with_nine_part, with_seven_part}
+use Rattle.ds_machine.specs.Apart.{ReachesOwn, nine_own_of, step_with, with_seven_part}
 use Rattle.ds_machine.specs.Channels.{channel_step}
 use Rattle.ds_machine.specs.Reference.{Fences, Shown, after_event, after_geometry, step_by}
-use Rattle.ds_machine.specs.States.{MachineState, NineState, SevenState}
+use Rattle.ds_machine.specs.States.{MachineState}
 use Rattle.ds_machine.specs.Statuses.{left_by}
 use Rattle.ds_machine.specs.Steps.{gone_by}
-use Rattle.ds_machine.proofs.Apart.{leave_nine, leave_seven}
+use Rattle.ds_machine.proofs.Apart.{leave_seven}
 use Rattle.ds_machine.proofs.ChannelEvents.{channel_made, machine_after_unit, unit_gx, unit_released, unit_video}
-use Rattle.ds_machine.proofs.InnerLaw.{nine_part_of}
 use Rattle.ds_machine.proofs.MachineSchedule.{Steps, channel_timers, operation}
+use Rattle.ds_machine.proofs.OwnShares.{own_stays}
 use Rattle.ds_machine.proofs.ProcessorSteps.{came_by, concludes, costs_some, goes, reached_by, reaches, step_is}
 use Rattle.ds_machine.proofs.Told.{IsOnlyTold, channel_tells, step_tells}
 
 -- What a step leaves of a processor that is taken by an actor which is neither that processor nor in its fence.
 
--- two machines have the same own part of a processor
+-- two machines have the same own part of a processor: ARM9's by the present map
 abbrev pub HasPartOf : Proc → MachineState → MachineState → Type 0
-HasPartOf Nine s t = nine_part_of s ≡ nine_part_of t
+HasPartOf Nine s t = nine_own_of s ≡ nine_own_of t
 HasPartOf Seven s t = s.seven ≡ t.seven
 
 -- its own part; what it has behind the ports, but that it is told of IPC interrupts; and when each actor in its fence is due
@@ -62,16 +57,13 @@ not_reached Card proc other apart own = absurd own
 not_reached (Dma each channel) proc other apart own = apart own
 not_reached (Processor each) proc other apart own = other (ap Processor own)
 
-own_left : (proc : Proc) (a : actor.Actor) (rank : ℕ) (s made : MachineState) (outs : List Shown) → (ReachesOwn a proc → ⊥) → step_by rank a s ≡ Makes made outs → HasPartOf proc made s
-own_left Nine a rank s made outs apart h =
-    let put = with_nine_part (nine_part_of s) in
-    let both : (let step : MachineStep MachineState Shown LeftOut = Makes made outs in step) ≡ Makes (put made) outs =
-    sym h ∙ leave_nine rank a (nine_part_of s) s apart ∙ ap (step_with put) h in
-    ap nine_part_of (same_makes made (put made) outs outs both).0
-own_left Seven a rank s made outs apart h =
+own_left : (proc : Proc) (a : actor.Actor) (rank : ℕ) (s made : MachineState) (outs : List Shown) → a ≢ Processor proc → (Fences a proc → ⊥) → step_by rank a s ≡ Makes made outs
+    → HasPartOf proc made s
+own_left Nine a rank s made outs other apart h = own_stays rank a s made outs (other, apart) h
+own_left Seven a rank s made outs other apart h =
     let put = with_seven_part s.seven in
     let both : (let step : MachineStep MachineState Shown LeftOut = Makes made outs in step) ≡ Makes (put made) outs =
-    sym h ∙ leave_seven rank a s.seven s apart ∙ ap (step_with put) h in
+    sym h ∙ leave_seven rank a s.seven s (not_reached a Seven other apart) ∙ ap (step_with put) h in
     ap (λ (m : MachineState). m.seven) (same_makes made (put made) outs outs both).0
 
 -- ---- what stands behind the ports
@@ -206,7 +198,7 @@ pub leaves_apart : (proc : Proc) (a : actor.Actor) (rank : ℕ) (tick : Tick) (s
 leaves_apart proc a rank tick s made outs st other apart h =
     let rest = rest_left proc a rank tick s made outs st other apart h in
     record {
-      own = own_left proc a rank s made outs (not_reached a proc other apart) h;
+      own = own_left proc a rank s made outs other apart h;
       told = rest.io.told;
       keys = rest.keys;
       scan = rest.io.scan;

@@ -1,21 +1,12 @@
-use Rattle.std.specs.Prelude.{◌&&◌}
-use Rattle.std.proofs.Common.{ℕ, ◌≡◌, Bool, true, false, true≢false, if◌then◌else◌, List, [], Option, Some, None, refl, sym, ◌∙◌, ap, subst}
-use Rattle.ds_base.specs.declared.left_out.LeftOut.{LeftOut}
+use Rattle.std.proofs.Common.{◌≡◌, Bool, true, false, if◌then◌else◌, refl, sym, ◌∙◌, ap}
 use Rattle.ds_base.specs.declared.processors.Proc.{Proc}
 use Rattle.ds_base.specs.declared.processors.Proc.TheVariants.{Nine, Seven}
 use Rattle.ds_base.specs.declared.ticks.Tick.{Tick}
 use Rattle.ds_ports.specs.Io.{IoState, io_of, settled}
 use Rattle.ds_ports.specs.ProcessorIo.{ProcessorIoState}
-use Rattle.ds_runs.specs.Actors.{actor_of}
-use Rattle.ds_runs.specs.Runs.{MachineStep, Makes, Stops}
-use Rattle.ds_runs.specs.declared.actors.Actor as actor
-use Rattle.ds_runs.specs.declared.actors.Actor.TheVariants.{Dma, Geometry, Processor, Video}
-use Rattle.gx_fifo.specs.GxStates.{is_half_empty}
-use Rattle.ds_machine.specs.Apart.{NinePart, ReachesOwn, step_with, with_nine_part, with_seven_part}
-use Rattle.ds_machine.specs.Reference.{Shown, awake, due_by, reference_step, step_by}
+use Rattle.ds_machine.specs.Apart.{with_seven_part}
 use Rattle.ds_machine.specs.States.{MachineState, SevenState}
-use Rattle.ds_machine.specs.Steps.{ended, goes_on, is_halted, machine_settled, wakes, woken, woken_one}
-use Rattle.ds_machine.proofs.Apart.{leave_nine, leave_seven}
+use Rattle.ds_machine.specs.Steps.{ended, goes_on, is_halted, machine_settled, wakes, woken_one}
 use Rattle.ds_machine.proofs.Wakes.{settle_leaves}
 
 -- A step of an actor that doesn't reach a processor's own part comes to the same with another own part, also with what follows it, where the processor isn't halted.
@@ -29,12 +20,6 @@ settled_halted tick u Seven = ap (λ (o : ProcessorIoState). o.halted) (settle_l
 pub not_woken : (proc : Proc) (tick : Tick) (s : MachineState) → is_halted s proc ≡ false → woken_one proc tick s ≡ s
 not_woken proc tick s h = rw h refl
 
-nine_wakes_seven : (tick : Tick) (own : NinePart) (m : MachineState) → woken_one Seven tick (with_nine_part own m) ≡ with_nine_part own (woken_one Seven tick m)
-nine_wakes_seven tick own m = by_wake (wakes m Seven) where
-  by_wake : (b : Bool) → (if b then goes_on Seven tick (with_nine_part own m) else with_nine_part own m) ≡ with_nine_part own (if b then goes_on Seven tick m else m)
-  by_wake true = refl
-  by_wake false = refl
-
 seven_wakes_nine : (tick : Tick) (own : SevenState) (m : MachineState) → woken_one Nine tick (with_seven_part own m) ≡ with_seven_part own (woken_one Nine tick m)
 seven_wakes_nine tick own m = by_wake (wakes m Nine) where
   by_wake : (b : Bool) → (if b then goes_on Nine tick (with_seven_part own m) else with_seven_part own m) ≡ with_seven_part own (if b then goes_on Nine tick m else m)
@@ -46,16 +31,6 @@ woken_halted tick m h = by_wake (wakes m Nine) where
   by_wake : (b : Bool) → is_halted (if b then goes_on Nine tick m else m) Seven ≡ false
   by_wake true = h
   by_wake false = h
-
-pub nine_ended : (tick : Tick) (own : NinePart) (s : MachineState) → is_halted s Nine ≡ false → ended tick (with_nine_part own s) ≡ with_nine_part own (ended tick s)
-unfolding ended
-nine_ended tick own s h =
-    let m = machine_settled tick s in
-    let free : is_halted m Nine ≡ false = settled_halted tick s.io Nine ∙ h in
-    let free_put : is_halted (with_nine_part own m) Nine ≡ false = free in
-    ap (woken_one Seven tick) (not_woken Nine tick (with_nine_part own m) free_put)
-    ∙ nine_wakes_seven tick own m
-    ∙ ap (λ (x : MachineState). with_nine_part own (woken_one Seven tick x)) (sym (not_woken Nine tick m free))
 
 pub seven_ended : (tick : Tick) (own : SevenState) (s : MachineState) → is_halted s Seven ≡ false → ended tick (with_seven_part own s) ≡ with_seven_part own (ended tick s)
 unfolding ended

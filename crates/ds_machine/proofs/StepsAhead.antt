@@ -1,4 +1,4 @@
-use Rattle.std.proofs.Common.{ℕ, ◌≡◌, ◌<◌, ◌≤◌, ◌+◌, ◌*◌, ◌⊎◌, min, inl, inr, Bool, true, false, true≢false, [], ◌∷◌, Some, refl, sym, ◌∙◌, ap, subst, arith}
+use Rattle.std.proofs.Common.{ℕ, ◌≡◌, ◌<◌, ◌≤◌, ◌+◌, ◌*◌, ◌⊎◌, min, inl, inr, Bool, true, false, true≢false, List, [], ◌∷◌, Some, refl, sym, ◌∙◌, ap, subst, arith}
 use Rattle.std.specs.Prelude.{◌&&◌, not}
 use Rattle.ds_base.specs.KeyLines.{AreKeyLines}
 use Rattle.ds_base.specs.Schedules.{IsLater, Reschedules}
@@ -18,7 +18,8 @@ use Rattle.ds_runs.specs.declared.actors.Actor.TheVariants.{KeyScript, Divider, 
 use Rattle.ds_runs.proofs.Lists.{at_rank, is_later}
 use Rattle.ds_runs.proofs.RunLaws.{same_makes, not_both}
 use Rattle.ds_timers.specs.Irqs.{shares_bit}
-use Rattle.ds_machine.specs.Apart.{NinePart, with_nine_part, with_seven_part}
+use Rattle.ds_map.specs.Shares.{IsSharedSo}
+use Rattle.ds_machine.specs.Apart.{NineOwn, nine_own_of, with_nine_own, with_seven_part}
 use Rattle.ds_machine.specs.Private.{IsAhead, IsHarmless, MayStep, rank_of}
 use Rattle.ds_machine.specs.Reference.{CountsWithin, Fences, HasCounted, HasSoundParts, IsSound, Shown, due_by, due_unless, dues_of, geometry_before, is_to_be_triggered, keys_due, processor_due, reference_step, shown_at, stepped_of}
 use Rattle.ds_machine.specs.States.{MachineState, ProcessorState, SevenState}
@@ -27,7 +28,7 @@ use Rattle.ds_machine.specs.declared.answers.Done as answer
 use Rattle.ds_machine.specs.declared.answers.Done.TheVariants as answers
 use Rattle.ds_machine.proofs.Counts.{counted_done}
 use Rattle.ds_machine.proofs.DueTicks.{due_of_rank, low_rank}
-use Rattle.ds_machine.proofs.InnerLaw.{IsCalm, after_nine, after_seven, inner_nine, inner_seven, nine_later, nine_part_of, private_is_harmless, seven_later}
+use Rattle.ds_machine.proofs.InnerLaw.{IsCalm, after_nine, after_seven, inner_nine, inner_seven, nine_later, nine_fits, private_is_harmless, seven_later}
 use Rattle.ds_machine.proofs.Moves.{Moves, later_unless, moves_all, moves_of, same_keys}
 use Rattle.ds_machine.proofs.ProcessorSteps.{none_shown}
 use Rattle.ds_machine.proofs.Quiet.{not_halted}
@@ -36,9 +37,9 @@ use Rattle.video2d.specs.Scans.{scan_due}
 
 -- A processor's step before its turn: what it leaves, and that the counts stay in their bounds.
 
--- a machine is as another but for a processor's own part
+-- a machine is as another but for a processor's own part; ARM9's shares the memories out as they were
 abbrev pub DiffersInOwn : Proc → MachineState → MachineState → Type 0
-DiffersInOwn Nine s next = (own : NinePart) × (next ≡ with_nine_part own s)
+DiffersInOwn Nine s next = (own : NineOwn) × IsSharedSo own.share s.shared s.io × (next ≡ with_nine_own own s)
 DiffersInOwn Seven s next = (own : SevenState) × (next ≡ with_seven_part own s)
 
 -- what such a step makes of a machine: its own part alone changes, and the processor took one more step and is due later
@@ -60,11 +61,11 @@ calm s sound = record { io = sound.parts.io; settled = sound.settled; asleep = s
 pub harmless_goes : (s : MachineState) (proc : Proc) → IsHarmless s proc → IsSound s → GoesAhead s proc
 harmless_goes s Nine is sound =
     let rest = nine_reach (tick_of s.nine.processor) s in
-    let own = after_nine rest (nine_part_of s) in
+    let own = after_nine rest (nine_own_of s) in
     record {
-      next = with_nine_part own s;
+      next = with_nine_own own s;
       makes = inner_nine rest s (calm s sound) is;
-      steps = record { own = (own, refl); steps = refl; later = nine_later rest s is };
+      steps = record { own = (own, nine_fits rest s is, refl); steps = refl; later = nine_later rest s is };
     }
 harmless_goes s Seven is sound =
     let rest = seven_reach (tick_of s.seven.processor) s in
@@ -77,15 +78,28 @@ harmless_goes s Seven is sound =
 
 -- ---- what it leaves
 
+-- the units are as they were, but for the bytes of video memory
+abbrev with_bytes : List ℕ → IoState → IoState
+with_bytes bytes u = record u { vram = record u.vram { bytes = bytes } }
+
 record Leaves (proc : Proc) (s next : MachineState) : Type 0 where
-  io : next.io ≡ s.io
+  bytes : List ℕ
+  io : next.io ≡ with_bytes bytes s.io
   keys : next.keys ≡ s.keys
   events : next.events ≡ s.events
   other : processor_of next (other_proc proc) ≡ processor_of s (other_proc proc)
 
+shared_io : (own : NineOwn) (s : MachineState) → IsSharedSo own.share s.shared s.io → (with_nine_own own s).io ≡ with_bytes (with_nine_own own s).io.vram.bytes s.io
+shared_io own s is =
+    let u = (with_nine_own own s).io in
+    ap (λ (w : ℕ). (let v : IoState = record u { wramcnt = w } in v)) is.wramcnt
+    ∙ ap (λ (controls : List ℕ). (let v : IoState = record s.io { vram = record u.vram { controls = controls } } in v)) is.controls
+
 leaves : (proc : Proc) (s next : MachineState) → DiffersInOwn proc s next → Leaves proc s next
-leaves Nine s next own = subst (Leaves Nine s) (sym own.1) (record { io = refl; keys = refl; events = refl; other = refl })
-leaves Seven s next own = subst (Leaves Seven s) (sym own.1) (record { io = refl; keys = refl; events = refl; other = refl })
+leaves Nine s next own =
+    subst (Leaves Nine s) (sym own.2)
+    (record { bytes = (with_nine_own own.0 s).io.vram.bytes; io = shared_io own.0 s own.1; keys = refl; events = refl; other = refl })
+leaves Seven s next own = subst (Leaves Seven s) (sym own.1) (record { bytes = s.io.vram.bytes; io = refl; keys = refl; events = refl; other = refl })
 
 module _ (s next : MachineState) (proc : Proc) (st : StepsAhead s next proc) where
   left : Leaves proc s next
@@ -131,7 +145,10 @@ module _ (s next : MachineState) (proc : Proc) (st : StepsAhead s next proc) whe
   -- ---- a sound machine stays so
 
   pub ahead_parts : HasSoundParts s → HasSoundParts next
-  ahead_parts is = record { io = subst IsIo (sym left.io) is.io; keys = subst AreKeyLines (sym left.keys) is.keys }
+  ahead_parts is = record {
+    io = subst IsIo (sym left.io) (record { nine = is.io.nine; seven = is.io.seven; gx = is.io.gx });
+    keys = subst AreKeyLines (sym left.keys) is.keys;
+  }
 
   pub ahead_sound : IsSound s → IsSound next
   ahead_sound is = record {

@@ -8,6 +8,10 @@ ghost use Rattle.arm_ops.specs.Operations.{is_other, HasAccess, HasOperation};
 ghost use Rattle.arm_words.specs.Fields.{HasFields};
 ghost use Rattle.ds_ports.specs.Io.{IoState};
 ghost use Rattle.cp15_tcm.specs.TightlyCoupled.{tcm_of};
+ghost use Rattle.ds_base.specs.declared.processors.Proc.TheVariants.{Nine};
+ghost use Rattle.ds_places.specs.AddressTables.{place_of};
+ghost use Rattle.ds_map.specs.Maps.{MemoriesState};
+ghost use Rattle.ds_map.specs.Shares.{is_private_place};
 ghost use Rattle.ds_machine.specs.Sides as sides;
 ghost use Rattle.ds_machine.specs.Sides.{is_private_tcm, operation_outcome, RunsAs, SideOf};
 ghost use Rattle.ds_machine.specs.Touching.{GoesByWords};
@@ -20,6 +24,7 @@ use arm9_exec::{in_rom, move_if, move_of};
 use cp15_tcm::{Cp15, Tcm};
 use ds_base::{Arch, Proc, Width};
 use ds_map::{NineView, SevenView, fetched_by_nine};
+use ds_ports::Io;
 
 /// What a processor reaches at its step: a memory machine, with what parts it from what the other reaches.
 pub trait Side {
@@ -101,13 +106,28 @@ pub trait Side {
         ensures same { identity self.new ≡ identity self.old };
 }
 
+/// Whether the byte at an address past the tightly coupled memories lies in ARM9's private places, by what WRAMCNT keeps. Video memory does, whatever is allotted to ARM7: no address of
+/// ARM9's reaches that.
+#[inline(always)]
+#[tactic(auto, using(crate::proofs::PlacesByWords::private_by_rows))]
+fn is_private_past(wramcnt: u8, at: u32) -> bool
+    ensures { (controls : List ℕ) → result ≡ is_private_place controls (place_of Nine wramcnt at) }
+{
+    match at >> 24 {
+        3 => wramcnt < 3,
+        5 | 6 | 7 => true,
+        255 => at >= 0xFFFF_0000,
+        _ => false,
+    }
+}
+
 /// Whether the byte at an address lies in ARM9's private places, as a write, a fetch, or else a read reaches it.
 #[inline(always)]
-pub fn is_private_to_nine(cp: &Cp15, at: u32, writing: bool, fetching: bool) -> bool
-    ensures { result ≡ is_private_tcm (tcm_of cp.now at writing fetching) at }
+pub fn is_private_to_nine(cp: &Cp15, io: &Io, at: u32, writing: bool, fetching: bool) -> bool
+    ensures { (memories : MemoriesState) → result ≡ is_private_tcm (tcm_of cp.now at writing fetching) (record { memories = memories; io = io.now }) at }
 {
     match cp.tcm_place(at, writing, fetching) {
-        Tcm::Past => at >= 0xFFFF_0000,
+        Tcm::Past => is_private_past(io.wramcnt(), at),
         _ => true,
     }
 }
@@ -156,7 +176,7 @@ impl Side for NineView<'_> {
 
     #[inline(always)]
     fn is_private(&self, at: u32, writing: bool, fetching: bool) -> bool {
-        is_private_to_nine(self.cp, at, writing, fetching)
+        is_private_to_nine(self.cp, self.io, at, writing, fetching)
     }
 
     #[inline(always)]
@@ -170,15 +190,7 @@ impl Side for NineView<'_> {
         }
         let base = self.cp.vectors();
         let rom = in_rom(self.cp);
-        execute_word(
-            Arch::V5,
-            base,
-            rom,
-            &mut core.registers,
-            self,
-            next.number,
-            next.instr,
-        )
+        execute_word(Arch::V5, base, rom, s, self, next.number, next.instr)
     }
 
     #[inline(always)]

@@ -79,7 +79,7 @@ impl Parts {
         ensures { result ≡ is_private_to self.now proc writing fetching at }
     {
         match proc {
-            Proc::Nine => is_private_to_nine(&self.nine.cp15, at, writing, fetching),
+            Proc::Nine => { is_private_to_nine(&self.nine.cp15, &self.io, at, writing, fetching) }
             Proc::Seven => is_private_to_seven(at),
         }
     }

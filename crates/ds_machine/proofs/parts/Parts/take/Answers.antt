@@ -1,7 +1,6 @@
 use Rattle.std.proofs.Common.{sym, ◌∙◌, ap}
 use Rattle.ds_base.specs.declared.processors.Proc.{Proc}
 use Rattle.ds_base.specs.declared.processors.Proc.TheVariants.{Seven}
-use Rattle.arm_core.specs.declared.cores.Core.{Core}
 use Rattle.ds_map.specs.Maps.{unreached}
 use Rattle.ds_machine.specs.States.{MachineState}
 use Rattle.ds_machine.specs.Steps.{line_of, outcome_of}
@@ -14,8 +13,8 @@ returns-in-Seven-clause-machine c =
     let s = the_view c.self.inside in
     let m = c.take-in-Seven.new.view.map.now in
     let line = c.requires.line ∙ ap (λ (x : MachineState). line_of x c.args.proc) (sym c.self.view_is) ∙ ap (λ (p : Proc). line_of s p) c.in-Seven.is in
-    seven_went s m c.take-in-Seven.new.view.io.now c.take-in-Seven.new.core.registers c.args.now c.take-in-Seven.new.view.now c.args.line
+    seven_went s m c.take-in-Seven.new.view.io.now c.take-in-Seven.new.s c.args.now c.take-in-Seven.new.view.now c.args.line
     (apart_of _ _ _ _ (unreached Seven m) (unreached Seven c.self.inside.map) c.take-in-Seven.ensures.same) line c.take-in-Seven.ensures.state
-    (ap (λ (core : Core). core.registers) c.take-in-Seven.ensures.core)
+    c.take-in-Seven.ensures.registers
     ∙ ap (λ (x : MachineState). (outcome_of Seven c.args.now x).machine) c.self.view_is
     ∙ ap (λ (p : Proc). (outcome_of p c.args.now c.args.self.now).machine) (sym c.in-Seven.is)

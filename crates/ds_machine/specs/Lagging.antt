@@ -1,0 +1,119 @@
+use Rattle.std.specs.Prelude.{ℕ, ◌/◌, ◌==◌, ◌≡◌, ◌≢◌, ◌<◌, ◌↔◌, ◌&&◌, ◌||◌, not, nat_le, Bool, true, false, if◌then◌else◌, List, [], ◌∷◌, ◌++◌, map, Option, Some, None, is_some}
+use Rattle.ds_base.specs.Accesses.{Access, Fetch, Read, Write}
+use Rattle.ds_base.specs.declared.left_out.LeftOut.{LeftOut}
+use Rattle.ds_base.specs.declared.processors.Proc.TheVariants.{Nine}
+use Rattle.ds_base.specs.declared.ticks.Tick.{Tick}
+use Rattle.arm_core.specs.Steps.{enters, fetched}
+use Rattle.cp15_tcm.specs.TightlyCoupled.{tcm_of}
+use Rattle.cp15_tcm.specs.declared.answers.Tcm.{Tcm}
+use Rattle.cp15_tcm.specs.declared.answers.Tcm.TheVariants.{Past}
+use Rattle.ds_dma.specs.Controls.{is_enabled, waits_for}
+use Rattle.ds_dma.specs.States.{DmaState, channel_at}
+use Rattle.ds_dma.specs.declared.controls.Cause.TheVariants as causes
+use Rattle.ds_map.specs.Moves.{next_unit}
+use Rattle.ds_map.specs.Views.{NineReach, nine_memory}
+use Rattle.ds_places.specs.AddressTables.{place_of}
+use Rattle.ds_places.specs.declared.kinds.Place.{Place}
+use Rattle.ds_places.specs.declared.kinds.Place.TheVariants.{Port}
+use Rattle.ds_ports.specs.Io.{IoState}
+use Rattle.ds_runs.specs.Actors.{actor_of, actors}
+use Rattle.ds_runs.specs.Runs.{Ending, IsLeast, Makes, Runs, Stopped, Stops}
+use Rattle.ds_runs.specs.declared.actors.Actor as actor
+use Rattle.ds_runs.specs.declared.actors.Actor.TheVariants.{Dma, Geometry, Processor, Video}
+use Rattle.gx_fifo.specs.GxStates.{is_stalled}
+use Rattle.video2d.specs.Scans.{starts_vblank}
+use Rattle.ds_machine.specs.Private.{data_accesses}
+use Rattle.ds_machine.specs.Reference.{IsSound, Shown, due_by, reference, reference_step}
+use Rattle.ds_machine.specs.Sides.{nine_side}
+use Rattle.ds_machine.specs.States.{MachineState}
+use Rattle.ds_machine.specs.Steps.{line_of, nine_reach, tick_of}
+
+-- Geometry may lag: while nobody sees how far it is, others step though its steps are due before theirs. Our choice.
+
+-- ---- quiet geometry
+
+-- a channel is enabled with the start of the geometry FIFO, whether or not it runs (GBATEK, "DS DMA Transfers")
+abbrev pub is_armed : DmaState → ℕ → Bool
+is_armed dma which = is_enabled (channel_at dma.channels which).cnt && waits_for dma.proc causes.Geometry (channel_at dma.channels which).cnt
+
+abbrev pub any_armed : DmaState → Bool
+any_armed dma = is_armed dma 0 || is_armed dma 1 || is_armed dma 2 || is_armed dma 3
+
+-- Geometry is due, and nobody hears of what it does: GXSTAT's selector is 0, so that no interrupt follows how much waits; it starts no channel of ARM9's; and no stall holds ARM9
+-- (GBATEK, "GXSTAT", "GXFIFO").
+abbrev pub is_quiet : IoState → Bool
+is_quiet u = is_some u.gx.due && ((u.gx.selector == 0) && (not (any_armed u.nine.dma) && not (is_stalled u.gx)))
+
+-- when an acting actor is due: all act that are due, but quiet geometry
+abbrev pub acting_due : actor.Actor → MachineState → Option Tick
+acting_due Geometry s = if is_quiet s.io then None else due_by Geometry s
+acting_due a s = due_by a s
+
+-- by rank
+unfoldable pub acting_dues : MachineState → List (Option Tick)
+acting_dues s = map (λ (a : actor.Actor). acting_due a s) actors
+
+-- ---- steps that observe geometry
+
+-- a port that shows how far geometry is, gives it something to do, or makes it heard: DISP3DCNT at 60h; what stands from 400h to 6FFh; and DMA0CNT to DMA3CNT at B8h, C4h, D0h and DCh
+abbrev pub is_observed_port : ℕ → Bool
+is_observed_port at =
+    let word = at / 4 in
+    (word == 0x18) || ((nat_le 0x100 word && nat_le word 0x1BF) || ((word == 0x2E) || ((word == 0x31) || ((word == 0x34) || (word == 0x37)))))
+
+abbrev pub is_observed_place : Place → Bool
+is_observed_place (Port at) = is_observed_port at
+is_observed_place place = false
+
+-- ARM9 reads or writes such a port past its tightly coupled memories; a fetch is neither
+abbrev pub is_observed_past : Tcm → ℕ → ℕ → Bool
+is_observed_past Past wramcnt at = is_observed_place (place_of Nine wramcnt at)
+is_observed_past tcm wramcnt at = false
+
+abbrev pub access_observes : NineReach → Access → Bool
+access_observes r (Fetch at width) = false
+access_observes r (Read at width) = is_observed_past (tcm_of r.cp15 at false false) r.map.io.wramcnt at
+access_observes r (Write at width value) = is_observed_past (tcm_of r.cp15 at true false) r.map.io.wramcnt at
+
+abbrev pub any_observes : NineReach → List Access → Bool
+any_observes r [] = false
+any_observes r (access ∷ rest) = access_observes r access || any_observes r rest
+
+-- ARM9's next step does, by the accesses that its instruction makes: none where its condition fails, and none where an interrupt is entered
+abbrev pub nine_observes : MachineState → Bool
+nine_observes s =
+    let r = nine_reach (tick_of s.nine.processor) s in
+    let registers = s.nine.processor.registers in
+    not (enters (line_of s Nine) registers)
+    && any_observes r (data_accesses nine_side.arch (nine_side.base r) registers (fetched nine_memory nine_side.arch registers r).instr)
+
+-- the next unit of ARM9's channels does
+abbrev pub channel_observes : IoState → Bool
+channel_observes u =
+    let unit = next_unit u Nine in is_observed_place (place_of Nine u.wramcnt unit.from) || is_observed_place (place_of Nine u.wramcnt unit.to)
+
+-- an actor's next step observes geometry; the display's at the start of line 192, where lists are swapped
+abbrev pub observes_by : actor.Actor → MachineState → Bool
+observes_by Video s = starts_vblank s.io.video.scan
+observes_by (Dma Nine channel) s = channel_observes s.io
+observes_by (Processor Nine) s = nine_observes s
+observes_by a s = false
+
+-- ---- what lagging comes to
+
+-- the least acting actor's step, which doesn't observe geometry, on a sound machine
+pub record StepsBeforeGeometry (s : MachineState) (rank : ℕ) (tick : Tick) : Type 0 where
+  pub sound : IsSound s
+  pub least : IsLeast (acting_dues s) tick rank
+  pub apart : observes_by (actor_of rank) s ≡ false
+  pub other : actor_of rank ≢ Geometry
+
+-- taken before quiet geometry's steps that are due before it, it changes neither where a run to a later tick ends nor what that run puts out
+abbrev pub LagRuns : Type 0
+LagRuns = (s next : MachineState) (rank : ℕ) (tick : Tick) (limit : ℕ) (outs : List Shown) → StepsBeforeGeometry s rank tick → tick.0 < limit → reference_step rank s ≡ Makes next outs
+    → (end : Ending MachineState LeftOut) (rest : List Shown) → Runs reference limit end s (outs ++ rest) ↔ Runs reference limit end next rest
+
+-- and where it stops the machine, the run stops so
+abbrev pub LagStops : Type 0
+LagStops = (s after : MachineState) (rank : ℕ) (tick : Tick) (limit : ℕ) (stop : LeftOut) → StepsBeforeGeometry s rank tick → tick.0 < limit → reference_step rank s ≡ Stops stop after
+    → Runs reference limit (Stopped stop) s []

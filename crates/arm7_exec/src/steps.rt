@@ -8,7 +8,7 @@ ghost use Rattle.arm7_exec.specs.Arm7.{arm7, step7_of};
 ghost use Rattle.arm_exec.specs.Stopped.{KeepsWhereStopped};
 ghost use Rattle.arm_exec.specs.Statuses.{HasStatuses};
 
-use arm_core::{Bus, Core, Stepped};
+use arm_core::{Bus, Core, Registers, Stepped};
 use arm_exec::{Fetched, execute_word, step};
 use ds_base::Arch;
 
@@ -30,21 +30,13 @@ pub fn step7<B: Bus>(core: &mut Core, bus: &mut B, line: bool) -> Stepped
 
 /// What is left of a step of ARM7 that enters no interrupt, once its word or half is fetched.
 #[inline]
-pub fn execute7<B: Bus>(core: &mut Core, bus: &mut B, next: Fetched) -> Stepped
+pub fn execute7<B: Bus>(s: &mut Registers, bus: &mut B, next: Fetched) -> Stepped
     requires low { next.number < 16 }
     requires fields { IfSome next.instr HasFields }
-    ensures core { core.new ≡ record core.old { registers = (executed_word B.memory arm7 core.old.registers (B.state bus.old) next.number next.instr).registers } }
-    ensures state { B.state bus.new ≡ (executed_word B.memory arm7 core.old.registers (B.state bus.old) next.number next.instr).state }
-    ensures stepped { result ≡ (executed_word B.memory arm7 core.old.registers (B.state bus.old) next.number next.instr).stepped }
+    ensures registers { s.new ≡ (executed_word B.memory arm7 s.old (B.state bus.old) next.number next.instr).registers }
+    ensures state { B.state bus.new ≡ (executed_word B.memory arm7 s.old (B.state bus.old) next.number next.instr).state }
+    ensures stepped { result ≡ (executed_word B.memory arm7 s.old (B.state bus.old) next.number next.instr).stepped }
     ensures same { B.identity bus.new ≡ B.identity bus.old }
 {
-    execute_word(
-        Arch::V4,
-        0,
-        true,
-        &mut core.registers,
-        bus,
-        next.number,
-        next.instr,
-    )
+    execute_word(Arch::V4, 0, true, s, bus, next.number, next.instr)
 }

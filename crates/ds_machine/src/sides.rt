@@ -16,7 +16,7 @@ ghost use Rattle.ds_machine.specs.Sides as sides;
 ghost use Rattle.ds_machine.specs.Sides.{is_private_tcm, operation_outcome, RunsAs, SideOf};
 ghost use Rattle.ds_machine.specs.Touching.{GoesByWords};
 
-use arm_core::{Core, Registers, Stepped};
+use arm_core::{Registers, Stepped};
 use arm_exec::{Fetched, execute_word};
 use arm_ops::{DataAccess, Operation, run, run_made};
 use arm7_exec::execute7;
@@ -67,12 +67,12 @@ pub trait Side {
         ensures { GoesByWords side };
 
     /// Executes what was fetched.
-    fn execute(&mut self, core: &mut Core, next: Fetched) -> Stepped
+    fn execute(&mut self, s: &mut Registers, next: Fetched) -> Stepped
         requires low { next.number < 16 }
         requires fields { IfSome next.instr HasFields }
-        ensures core { core.new ≡ record core.old { registers = (side.executed core.old.registers (state self.old) next.number next.instr).registers } }
-        ensures state { state self.new ≡ (side.executed core.old.registers (state self.old) next.number next.instr).state }
-        ensures stepped { result ≡ (side.executed core.old.registers (state self.old) next.number next.instr).stepped }
+        ensures registers { s.new ≡ (side.executed s.old (state self.old) next.number next.instr).registers }
+        ensures state { state self.new ≡ (side.executed s.old (state self.old) next.number next.instr).state }
+        ensures stepped { result ≡ (side.executed s.old (state self.old) next.number next.instr).stepped }
         ensures same { identity self.new ≡ identity self.old };
 
     /// Runs an operation, wherever its access is, which was asked for: it is what its instruction comes to.
@@ -184,13 +184,21 @@ impl Side for NineView<'_> {
     fn place_laws(&self) {}
 
     #[inline(always)]
-    fn execute(&mut self, core: &mut Core, next: Fetched) -> Stepped {
+    fn execute(&mut self, s: &mut Registers, next: Fetched) -> Stepped {
         if let Some(move_) = move_of(next.instr) {
-            return move_if(&mut core.registers, self.cp, move_);
+            return move_if(s, self.cp, move_);
         }
         let base = self.cp.vectors();
         let rom = in_rom(self.cp);
-        execute_word(Arch::V5, base, rom, s, self, next.number, next.instr)
+        execute_word(
+            Arch::V5,
+            base,
+            rom,
+            s,
+            self,
+            next.number,
+            next.instr,
+        )
     }
 
     #[inline(always)]
@@ -254,8 +262,8 @@ impl Side for SevenView<'_> {
     fn place_laws(&self) {}
 
     #[inline(always)]
-    fn execute(&mut self, core: &mut Core, next: Fetched) -> Stepped {
-        execute7(core, self, next)
+    fn execute(&mut self, s: &mut Registers, next: Fetched) -> Stepped {
+        execute7(s, self, next)
     }
 
     #[inline(always)]

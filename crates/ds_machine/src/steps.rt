@@ -12,7 +12,7 @@ ghost use Rattle.ds_machine.specs.Sides.{taken};
 ghost use Rattle.ds_machine.specs.Touching.{access_stays, stores, DataStays, GoesByWords};
 
 use crate::sides::Side;
-use arm_core::{Core, Registers, Stepped};
+use arm_core::{Registers, Stepped};
 use arm_exec::{Fetched, decoded_half, decoded_word, enters, interrupt};
 use arm_ops::{Operation, TransferOp, access_made, is_other};
 use arm_words::HalfOp;
@@ -67,17 +67,16 @@ fn next_decoded<V: Side>(s: &Registers, view: &V) -> Fetched
 
 /// The step of an instruction that isn't decoded, where no interrupt is entered.
 #[inline(never)]
-fn take_other<V: Side>(core: &mut Core, view: &mut V, line: bool) -> Stepped
-    requires arch { core.old.arch ≡ V.side.arch }
-    requires none { enters line core.old.registers ≡ false }
-    ensures core { core.new ≡ record core.old { registers = (taken V.memory V.side line core.old.registers (V.state view.old)).registers } }
-    ensures state { V.state view.new ≡ (taken V.memory V.side line core.old.registers (V.state view.old)).state }
-    ensures stepped { result ≡ (taken V.memory V.side line core.old.registers (V.state view.old)).stepped }
+fn take_other<V: Side>(s: &mut Registers, view: &mut V, line: bool) -> Stepped
+    requires { enters line s.old ≡ false }
+    ensures registers { s.new ≡ (taken V.memory V.side line s.old (V.state view.old)).registers }
+    ensures state { V.state view.new ≡ (taken V.memory V.side line s.old (V.state view.old)).state }
+    ensures stepped { result ≡ (taken V.memory V.side line s.old (V.state view.old)).stepped }
     ensures same { V.identity view.new ≡ V.identity view.old }
 {
     let _ = line;
-    let next = next_decoded(&core.registers, view);
-    view.execute(core, next)
+    let next = next_decoded(s, view);
+    view.execute(s, next)
 }
 
 /// The step of an instruction that was decoded, where no interrupt is entered.
@@ -101,27 +100,26 @@ fn take_operation<V: Side>(s: &mut Registers, view: &mut V, line: bool, next: &O
 #[inline(always)]
 #[tactic(auto, using(crate::proofs::Taken::taken_entered))]
 pub fn take<V: Side, const VERSION: u32>(
-    core: &mut Core,
+    s: &mut Registers,
     decoder: &mut Decoder<VERSION>,
     view: &mut V,
     line: bool,
 ) -> Stepped
     requires version { arch_of VERSION ≡ V.side.arch }
-    requires arch { core.old.arch ≡ V.side.arch }
-    ensures core { core.new ≡ record core.old { registers = (taken V.memory V.side line core.old.registers (V.state view.old)).registers } }
-    ensures state { V.state view.new ≡ (taken V.memory V.side line core.old.registers (V.state view.old)).state }
-    ensures stepped { result ≡ (taken V.memory V.side line core.old.registers (V.state view.old)).stepped }
+    ensures registers { s.new ≡ (taken V.memory V.side line s.old (V.state view.old)).registers }
+    ensures state { V.state view.new ≡ (taken V.memory V.side line s.old (V.state view.old)).state }
+    ensures stepped { result ≡ (taken V.memory V.side line s.old (V.state view.old)).stepped }
     ensures same { V.identity view.new ≡ V.identity view.old }
 {
-    if enters(&core.registers, line) {
+    if enters(s, line) {
         let base = view.base();
-        return Stepped::Cost(interrupt(view.arch(), &mut core.registers, base));
+        return Stepped::Cost(interrupt(view.arch(), s, base));
     }
-    let next = next_operation(&core.registers, decoder, view);
+    let next = next_operation(s, decoder, view);
     if is_other(next) {
-        return take_other(core, view, line);
+        return take_other(s, view, line);
     }
-    take_operation(&mut core.registers, view, line, next)
+    take_operation(s, view, line, next)
 }
 
 /// What came of a fast step.

@@ -90,7 +90,7 @@ impl Parts {
                     now,
                 };
                 take(
-                    &mut self.nine.processor.core,
+                    &mut self.nine.processor.core.registers,
                     &mut self.nine.decoder,
                     &mut view,
                     line,
@@ -103,7 +103,7 @@ impl Parts {
                     now,
                 };
                 take(
-                    &mut self.seven.processor.core,
+                    &mut self.seven.processor.core.registers,
                     &mut self.seven.decoder,
                     &mut view,
                     line,

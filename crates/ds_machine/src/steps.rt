@@ -111,7 +111,8 @@ pub fn take<V: Side, const VERSION: u32>(
     ensures stepped { result ≡ (taken V.memory V.side line s.old (V.state view.old)).stepped }
     ensures same { V.identity view.new ≡ V.identity view.old }
 {
-    if enters(s, line) {
+    let entered = enters(s, line);
+    if entered {
         let base = view.base();
         return Stepped::Cost(interrupt(view.arch(), s, base));
     }

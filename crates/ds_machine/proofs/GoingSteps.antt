@@ -12,7 +12,7 @@ use Rattle.ds_runs.specs.Actors.{actor_of}
 use Rattle.ds_runs.specs.Runs.{IsLeast, Makes, due_at}
 use Rattle.ds_runs.specs.declared.actors.Actor.TheVariants.{Processor}
 use Rattle.ds_runs.proofs.Lists.{within}
-use Rattle.ds_machine.specs.NextEvents.{IsNextEvent, TookStep, comes_before, due_at_least, events_of, is_least_by, least_kept, least_of, limit_by, line_kept, past_other, waits_until}
+use Rattle.ds_machine.specs.NextEvents.{HasLimit, IsNextEvent, TookStep, comes_before, due_at_least, events_of, is_least_by, least_kept, least_of, limit_by, line_kept, past_other, waits_until}
 use Rattle.ds_machine.specs.Private.{BelongsToTurn, IsAhead, IsBelowFence, ProcessorStaysPrivate, TakesSteps, more, none, rank_of}
 use Rattle.ds_machine.specs.Reference.{Fences, HasCounted, HasSoundParts, IsSound, awake, dues_of, processor_due, step_by, stepped_of}
 use Rattle.ds_machine.specs.States.{MachineState, ProcessorState}
@@ -22,7 +22,7 @@ use Rattle.ds_machine.specs.Steps.{is_blocked, line_of, nine_reach, outcome_of, 
 use Rattle.ds_machine.specs.Touching.{DataStaysPrivate, FetchStaysPrivate, MayBeAhead, is_private_to}
 use Rattle.ds_machine.specs.declared.answers.Done.TheVariants as answers
 use Rattle.ds_machine.specs.declared.next_events.NextEvent.{NextEvent}
-use Rattle.ds_machine.proofs.DueTicks.{due_of_rank, due_then, dues_split, low_rank, own_tick, sort_rank, steps_as}
+use Rattle.ds_machine.proofs.DueTicks.{due_of_rank, dues_split, low_rank, own_tick, sort_rank, steps_as}
 use Rattle.ds_machine.proofs.DecodedStays.{fetch_by_words}
 use Rattle.ds_machine.proofs.FastSteps.{ComesBefore, due_there, event_there, in_front, kept_is, processor_least, wait_ends, wait_is}
 use Rattle.ds_machine.proofs.OwnRemaining.{turn_steps_fall}
@@ -325,12 +325,31 @@ past_limit next_event s proc until n limit w l le below early = elim (lt_cases n
       (isnt_lt (waits_until next_event s proc) next_event.events_until.0 (omega (arith, last, w))))
 ]
 
--- one that is blocked isn't due
-pub blocked_over : (next_event : NextEvent) (s : MachineState) (proc : Proc) (until : ℕ) → IsNextEvent next_event s → until ≤ 2 ^ 56 → (least_kept next_event proc ≡ 0 → ⊥)
-    → BelongsToTurn until s proc → ⊥
-blocked_over next_event s proc until is early some b =
-    let free = (due_then (is_blocked s proc) (processor_of s proc) b.tick b.due).0 in
-    some (kept_is next_event s is proc ∙ ap least_of free)
+-- two that are kept of a machine on which nobody is to wake tell the same tick of the first event, and so the same limit
+first_alike : (one other : NextEvent) (s : MachineState) → IsNextEvent one s → IsNextEvent other s → 0 < other.events_until.0 → one.events_until.0 ≤ other.events_until.0
+first_alike one other s is also some = let k = also.first some in is.events k.0 other.events_until k.1
+
+pub limit_alike : (one other : NextEvent) (s : MachineState) (proc : Proc) (until : ℕ) → IsNextEvent one s → IsNextEvent other s → 0 < one.events_until.0 → 0 < other.events_until.0
+    → limit_by one s proc until ≡ limit_by other s proc until
+limit_alike one other s proc until is also some also_some =
+    let le = first_alike one other s is also also_some in
+    let ge = first_alike other one s also is some in
+    let first : one.events_until.0 ≡ other.events_until.0 = omega (arith, le, ge) in
+    let least : least_kept one (other_proc proc) ≡ least_kept other (other_proc proc) = kept_is one s is (other_proc proc) ∙ sym (kept_is other s also (other_proc proc)) in
+    ap (λ (e : ℕ). min (min e until) (past_other proc (waits_until one s (other_proc proc)))) first
+    ∙ ap (λ (l : ℕ). min (min other.events_until.0 until) (past_other proc (due_at_least l (processor_of s (other_proc proc)).due))) least
+
+-- what is known of a machine is so by what is kept of it
+pub limit_here : (next_event : NextEvent) (s : MachineState) (proc : Proc) (until limit : ℕ) → IsNextEvent next_event s → 0 < next_event.events_until.0 → HasLimit until s proc limit
+    → limit ≡ limit_by next_event s proc until
+limit_here next_event s proc until limit is some has = has.same ∙ limit_alike has.next_event next_event s proc until has.is is has.some some
+
+pub free_here : (next_event : NextEvent) (s : MachineState) (proc : Proc) (until limit : ℕ) → IsNextEvent next_event s → HasLimit until s proc limit → least_kept next_event proc ≡ 0
+free_here next_event s proc until limit is has = kept_is next_event s is proc ∙ sym (kept_is has.next_event s has.is proc) ∙ has.free
+
+-- one that is due early isn't blocked
+pub free_when : (next_event : NextEvent) (s : MachineState) (proc : Proc) (n : ℕ) → IsNextEvent next_event s → n ≡ waits_until next_event s proc → n < 2 ^ 56 → least_kept next_event proc ≡ 0
+free_when next_event s proc n is e lt = kept_is next_event s is proc ∙ ap least_of (due_when next_event s proc n is e lt).free
 
 -- ---- a step that is taken
 

@@ -2,15 +2,15 @@
 
 ghost use Rattle.std.specs.Prelude.{◌≡◌, ◌↔◌, ◌<◌, ◌≤◌, ◌^◌, ◌⊎◌, ℕ, Some, false, true, IfSome};
 ghost use Rattle.ds_ipc.specs.Ipcs.{other_proc};
-ghost use Rattle.ds_machine.specs.NextEvents.{least_kept, limit_by, IsNextEvent, TookStep};
-ghost use Rattle.ds_machine.specs.Private.{BelongsToTurn, IsBelowFence, IsLeastBelow, TakesSteps};
+ghost use Rattle.ds_machine.specs.NextEvents.{least_kept, limit_by, HasLimit, IsFirst, IsNextEvent, TookStep};
+ghost use Rattle.ds_machine.specs.Private.{BelongsToTurn, IsBelowFence, TakesSteps};
 ghost use Rattle.ds_machine.specs.Reference.{awake, step_by, stepped_of, HasCounted, HasSoundParts};
 ghost use Rattle.ds_machine.specs.Steps.{is_blocked, processor_of, tick_of};
 ghost use Rattle.ds_machine.specs.Touching.{DataStaysPrivate, FetchStaysPrivate, MayBeAhead};
 ghost use Rattle.ds_machine.specs.declared.answers.Done.TheVariants.{Made};
 ghost use Rattle.ds_machine.specs.declared.going.Gone.TheVariants as gone;
 
-use crate::next_events::NextEvent;
+use crate::next_events::{First, NextEvent};
 use crate::parts::Parts;
 use ds_base::{Proc, Tick};
 use ds_runs::Actor;
@@ -91,22 +91,12 @@ impl Parts {
 
     /// Whether a processor's step that isn't the least belongs to its turn, but for what it does.
     #[inline(always)]
-    fn may_go_on(&self, next_event: NextEvent, proc: Proc, until: Tick, tick: Tick) -> Gone
+    fn may_go_on(&self, next_event: NextEvent, proc: Proc, until: Tick, tick: Tick) -> bool
         requires { IsNextEvent next_event self.now }
-        ensures over { result ≡ gone.Over → (until.0 ≤ tick.0) ⊎ ((0 < next_event.events_until.0) × (MayBeAhead tick self.now proc → ⊥)) }
-        ensures took { result ≡ gone.Took → (tick.0 < until.0) × (0 < next_event.events_until.0) × MayBeAhead tick self.now proc }
+        ensures no { result ≡ false → (until.0 ≤ tick.0) ⊎ (MayBeAhead tick self.now proc → ⊥) }
+        ensures yes { result ≡ true → (tick.0 < until.0) × MayBeAhead tick self.now proc }
     {
-        if until.0 <= tick.0 {
-            return Gone::Over;
-        }
-        if next_event.events_until.0 == 0 {
-            return Gone::Unknown;
-        }
-        if self.may_be_ahead(next_event, proc, tick) {
-            Gone::Took
-        } else {
-            Gone::Over
-        }
+        self.may_be_ahead(next_event, proc, tick) && tick.0 < until.0
     }
 
     /// One step of a processor's turn, where it is one of the fast path; by the first tick at which it isn't the least any more.
@@ -114,6 +104,7 @@ impl Parts {
     fn go_once(&mut self, next_event: NextEvent, proc: Proc, until: Tick, limit: u64) -> Gone
         requires next_event { IsNextEvent next_event self.old }
         requires parts { HasSoundParts self.old }
+        requires some { 0 < next_event.events_until.0 }
         requires free { least_kept next_event proc ≡ 0 }
         requires limit { limit ≡ limit_by next_event self.old proc until.0 }
         requires early { until.0 ≤ 2 ^ 56 }
@@ -126,32 +117,29 @@ impl Parts {
     {
         let due = self.processor(proc).due;
         let ahead = limit <= due;
-        if ahead {
-            match self.may_go_on(next_event, proc, until, Tick(due)) {
-                Gone::Took => {}
-                Gone::Over => return Gone::Over,
-                Gone::Unknown => return Gone::Unknown,
-            }
+        if ahead && !self.may_go_on(next_event, proc, until, Tick(due)) {
+            return Gone::Over;
         }
         self.processor_fast(next_event, proc, Tick(due), ahead)
     }
 
-    /// A processor takes steps of its turn, while they are of the fast path. The answer is whether its turn is over; where it isn't known to be, the next step isn't one of the fast path.
+    /// A processor takes steps of its turn, while they are of the fast path; by the first tick at which it isn't the least any more. The answer is whether its turn is over; where it
+    /// isn't known to be, the next step isn't one of the fast path.
     #[inline(always)]
-    fn go_on_turn(&mut self, next_event: NextEvent, proc: Proc, until: Tick) -> bool
+    pub fn go_fast(&mut self, next_event: NextEvent, proc: Proc, until: Tick, limit: u64) -> bool
         requires next_event { IsNextEvent next_event self.old }
         requires early { until.0 ≤ 2 ^ 56 }
         requires counted { HasCounted self.old }
+        requires limit { HasLimit until.0 self.old proc limit }
         ensures steps { TakesSteps until.0 proc self.old self.new }
         ensures over { result ≡ true → BelongsToTurn until.0 self.new proc → ⊥ }
         ensures next_event { IsNextEvent next_event self.new }
         ensures counted { HasCounted self.new }
         ensures io { self.new.io ≡ self.old.io }
     {
-        if next_event.least(proc) != 0 {
-            return true;
+        if next_event.events_until.0 == 0 {
+            return false;
         }
-        let limit = self.limit_by(next_event, proc, until);
         'steps: loop {
             self.laws();
             match self.go_once(next_event, proc, until, limit) {
@@ -162,48 +150,41 @@ impl Parts {
         }
     }
 
-    /// A processor takes steps of its turn, while they are of the fast path. The answer is whether its turn is over; where it isn't known to be, the next step isn't one of the fast path.
-    /// There are two copies, one for each processor.
-    #[inline(always)]
-    pub fn go_fast(&mut self, next_event: NextEvent, proc: Proc, until: Tick) -> bool
-        requires next_event { IsNextEvent next_event self.old }
-        requires early { until.0 ≤ 2 ^ 56 }
-        requires counted { HasCounted self.old }
-        ensures steps { TakesSteps until.0 proc self.old self.new }
-        ensures over { result ≡ true → BelongsToTurn until.0 self.new proc → ⊥ }
-        ensures next_event { IsNextEvent next_event self.new }
-        ensures counted { HasCounted self.new }
-        ensures io { self.new.io ≡ self.old.io }
-    {
-        match proc {
-            Proc::Nine => self.go_on_turn(next_event, Proc::Nine, until),
-            Proc::Seven => self.go_on_turn(next_event, Proc::Seven, until),
-        }
-    }
-
     /// The processor that is the least actor and due below a limit, where that is known; None where it isn't, or where another actor is the least.
     #[inline(always)]
-    pub fn first_by(&self, next_event: NextEvent, until: Tick) -> Option<Proc>
+    pub fn first_by(&self, next_event: NextEvent, until: Tick) -> Option<First>
         requires next_event { IsNextEvent next_event self.now }
         requires early { until.0 ≤ 2 ^ 56 }
-        ensures { IfSome result (λ proc. IsLeastBelow until.0 self.now proc) }
+        ensures { IfSome result (λ first. IsFirst until.0 self.now first) }
     {
-        if self.is_first_below(next_event, Proc::Nine, until) {
-            return Some(Proc::Nine);
+        if let Some(first) = self.first_below(next_event, Proc::Nine, until) {
+            return Some(first);
         }
-        if self.is_first_below(next_event, Proc::Seven, until) {
-            return Some(Proc::Seven);
-        }
-        None
+        self.first_below(next_event, Proc::Seven, until)
     }
 
-    /// Whether a processor is known to be the least actor and due below a limit.
+    /// A processor, where it is known to be the least actor and due below a limit.
     #[inline(always)]
-    fn is_first_below(&self, next_event: NextEvent, proc: Proc, until: Tick) -> bool
+    fn first_below(&self, next_event: NextEvent, proc: Proc, until: Tick) -> Option<First>
         requires next_event { IsNextEvent next_event self.now }
         requires early { until.0 ≤ 2 ^ 56 }
-        ensures { result ≡ true → IsLeastBelow until.0 self.now proc }
+        ensures { IfSome result (λ first. IsFirst until.0 self.now first) }
     {
-        self.waits_until(next_event, proc) < self.limit_by(next_event, proc, until)
+        let limit = self.limit_by(next_event, proc, until);
+        if limit <= self.waits_until(next_event, proc) {
+            return None;
+        }
+        Some(First { proc, limit })
+    }
+
+    /// The first tick at which a processor isn't the least actor, or isn't due below a limit, any more, where that is known.
+    pub fn limit_of(&self, next_event: NextEvent, proc: Proc, until: Tick) -> Option<u64>
+        requires next_event { IsNextEvent next_event self.now }
+        ensures { IfSome result (λ limit. HasLimit until.0 self.now proc limit) }
+    {
+        if next_event.events_until.0 == 0 || next_event.least(proc) != 0 {
+            return None;
+        }
+        Some(self.limit_by(next_event, proc, until))
     }
 }

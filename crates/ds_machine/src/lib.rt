@@ -30,4 +30,5 @@ pub use laws::{
     reference_laws, status_laws,
 };
 pub use machines::Machine;
+pub use next_events::First;
 pub use stopping::stop_laws;

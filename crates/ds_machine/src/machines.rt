@@ -7,15 +7,16 @@ ghost use Rattle.ds_ports.specs.Io.{io_at_boot};
 ghost use Rattle.ds_runs.specs.Runs.{due_at};
 ghost use Rattle.ds_machine.specs.Booted.{machine_booted};
 ghost use Rattle.ds_machine.specs.Frames.{framed_of};
+ghost use Rattle.ds_machine.specs.NextEvents.{HasLimit, IsFirst};
 ghost use Rattle.ds_machine.specs.Observed.{memory_of, registers_of, seen_of};
-ghost use Rattle.ds_machine.specs.Private.{BelongsToTurn, IsFence, IsLeastBelow, IsPrivate, MayStep, TakesSteps};
+ghost use Rattle.ds_machine.specs.Private.{BelongsToTurn, IsFence, IsPrivate, MayStep, TakesSteps};
 ghost use Rattle.ds_machine.specs.declared.answers.Private.TheVariants.{Yes};
 ghost use Rattle.ds_machine.specs.Reference.{dues_of, HasCounted, HasSoundParts, IsDue, Steps};
 ghost use Rattle.ds_machine.specs.Statuses.{HasBothStatuses};
 ghost use Rattle.ds_machine.specs.Steps.{processor_of};
 
 use crate::answers::{Done, Private, Seen};
-use crate::next_events::NextEvent;
+use crate::next_events::{First, NextEvent};
 use crate::parts::Parts;
 use ds_base::{Due, Keys, Memory, Proc, Tick};
 use ds_header::Cart;
@@ -90,24 +91,32 @@ impl Machine {
 
     /// The processor that is the least actor and due below a limit, where that is known at once; None where it isn't, or where another actor is the least.
     #[inline(always)]
-    pub fn first(&self, until: Tick) -> Option<Proc>
+    pub fn first(&self, until: Tick) -> Option<First>
         requires { until.0 ≤ 2 ^ 56 }
-        ensures { IfSome result (λ proc. IsLeastBelow until.0 self.now proc) }
+        ensures { IfSome result (λ first. IsFirst until.0 self.now first) }
     {
         self.parts.first_by(self.next_event, until)
     }
 
-    /// A processor takes steps of its turn with a limit, while they are of the fast path. The answer is whether its turn is over; where it isn't known to be, `belongs`
+    /// A processor takes steps of its turn with a limit, while they are of the fast path; by the first tick at which it isn't the least any more. The answer is whether its turn is over; where it isn't known to be, `belongs`
     /// tells it, and the next step, where it belongs to the turn, is to be taken by `step`. No unit behind the ports changes: so no frame becomes whole, and no lists are swapped.
     #[inline(always)]
-    pub fn go_fast(&mut self, proc: Proc, until: Tick) -> bool
-        requires { until.0 ≤ 2 ^ 56 }
+    pub fn go_fast(&mut self, proc: Proc, until: Tick, limit: u64) -> bool
+        requires early { until.0 ≤ 2 ^ 56 }
+        requires limit { HasLimit until.0 self.old proc limit }
         ensures steps { TakesSteps until.0 proc self.old self.new }
         ensures over { result ≡ true → BelongsToTurn until.0 self.new proc → ⊥ }
         ensures io { self.new.io ≡ self.old.io }
         ensures counted { HasCounted self.old }
     {
-        self.parts.go_fast(self.next_event, proc, until)
+        self.parts.go_fast(self.next_event, proc, until, limit)
+    }
+
+    /// The first tick at which a processor isn't the least actor, or isn't due below a limit, any more, while it alone takes steps, where that is known.
+    pub fn limit_of(&self, proc: Proc, until: Tick) -> Option<u64>
+        ensures { IfSome result (λ limit. HasLimit until.0 self.now proc limit) }
+    {
+        self.parts.limit_of(self.next_event, proc, until)
     }
 
     /// Whether a processor's next step may be taken before its turn, but for when it is due: it is due, its interrupt line is down, nothing that another actor

@@ -1,6 +1,6 @@
 //! What is kept between steps of the fast path.
 
-ghost use Rattle.std.specs.Prelude.{◌≡◌, ◌<◌, ℕ, Some, true};
+ghost use Rattle.std.specs.Prelude.{◌≡◌, ◌<◌, ◌+◌, ◌-◌, ◌^◌, min, ℕ, Some, true};
 ghost use Rattle.ds_ports.specs.Io.{is_settled};
 ghost use Rattle.ds_runs.specs.Runs.{IsOver, due_at};
 ghost use Rattle.ds_machine.specs.NextEvents as kept;
@@ -24,6 +24,15 @@ pub struct NextEvent {
     pub nine_line: bool,
     /// Whether ARM7's interrupt line is up.
     pub seven_line: bool,
+}
+
+/// The processor that is the least actor.
+#[derive(Clone, Copy)]
+pub struct First {
+    /// Which one it is.
+    pub proc: Proc,
+    /// From this tick on it isn't the least actor, or isn't due below a limit, any more, while it alone takes steps.
+    pub limit: u64,
 }
 
 impl NextEvent {
@@ -56,6 +65,14 @@ fn due_at_least(least: u64, due: u64) -> u64
     ensures { result ≡ due_at_least least due }
 {
     due.max(least)
+}
+
+/// The tick after one that is below an end, and else the end.
+#[inline(always)]
+fn past_if_below(tick: u64, end: u64) -> u64
+    ensures { result ≡ min end (min (tick + 1) (2 ^ 64 - 1)) }
+{
+    if tick < end { tick + 1 } else { end }
 }
 
 impl Parts {
@@ -108,7 +125,7 @@ impl Parts {
     {
         let end = next_event.events_until.0.min(until.0);
         match proc {
-            Proc::Nine => end.min(self.waits_until(next_event, Proc::Seven).saturating_add(1)),
+            Proc::Nine => past_if_below(self.waits_until(next_event, Proc::Seven), end),
             Proc::Seven => end.min(self.waits_until(next_event, Proc::Nine)),
         }
     }

@@ -1,4 +1,4 @@
-use Rattle.std.proofs.Common.{ℕ, ◌≤◌, ◌<◌, ◌+◌, ◌^◌, inl, inr, [], ◌∷◌, Fits, w64, List, Some, None, Bool, arith}
+use Rattle.std.proofs.Common.{ℕ, ◌≡◌, ◌≤◌, ◌<◌, ◌+◌, ◌^◌, inl, inr, max, [], ◌∷◌, Fits, w64, List, Option, Some, None, Bool, sym, ◌∙◌, ap, arith}
 use Rattle.std.proofs.Math.Facts.{Fits-of_lt}
 use Rattle.ds_base.specs.declared.left_out.LeftOut.{LeftOut}
 use Rattle.ds_base.specs.declared.processors.Proc.{Proc}
@@ -9,8 +9,9 @@ use Rattle.ds_machine.specs.declared.answers.Done as answer
 use Rattle.ds_machine.specs.declared.answers.Done.TheVariants as answers
 use Rattle.ds_machine.proofs.Counts.{counts_add_up, counts_within, one_more, stop_counts, stop_within}
 use Rattle.ds_machine.proofs.MachineSchedule.{sound_made}
+use Rattle.run_ahead.specs.Consoles.{ConsoleState}
 use Rattle.run_ahead.specs.Inside.{TookStretch, TookTurn}
-use Rattle.run_ahead.specs.Turns.{EventStops, TakesEvent}
+use Rattle.run_ahead.specs.Turns.{EventStops, TakesEvent, one_more_turn, run_to}
 use Rattle.run_ahead.proofs.Stretches.{IsWithin, sound_along, stop_stays_within, stop_takes_none_back, stretch_took, within_along}
 
 -- What a machine's turn leaves, by what it came to.
@@ -87,3 +88,12 @@ pub one_fits : (turns limit : ℕ) (s : MachineState) → CountsWithin limit s �
 one_fits turns limit s is most few =
     let all = counts_add_up limit s is in
     Fits-of_lt (omega (arith, all, most, few))
+
+-- ---- a turn that raises no limit, and that runs: what the console is after it
+
+pub ran_is : (until limit turns : ℕ) (m next : MachineState) (stopped stop : Option LeftOut) → max limit until ≡ limit → stopped ≡ None → stop ≡ None
+    → (let new : ConsoleState = record { machine = next; limit = limit; stopped = stop; turns = turns + 1 } in new)
+    ≡ one_more_turn (run_to (record { machine = m; limit = limit; stopped = stopped; turns = turns }) until next)
+ran_is until limit turns m next stopped stop same was none =
+    ap (λ (l : ℕ). (let c : ConsoleState = record { machine = next; limit = l; stopped = stop; turns = turns + 1 } in c)) (sym same)
+    ∙ ap (λ (o : Option LeftOut). (let c : ConsoleState = record { machine = next; limit = max limit until; stopped = o; turns = turns + 1 } in c)) (none ∙ sym was)

@@ -65,8 +65,8 @@ module _ (until : ℕ) (s next : MachineState) (proc : Proc) (sound : IsSound s)
     of_own : (proc : Proc) → StepsAhead s next proc → counts_of next ≡ counts_of s + 1
     of_own Nine st =
         let nine : next.nine.processor.steps ≡ s.nine.processor.steps + 1 = st.steps in
-        let seven : next.seven.processor.steps ≡ s.seven.processor.steps = ap (λ (m : MachineState). m.seven.processor.steps) st.own.1 in
-        let events : next.events ≡ s.events = ap (λ (m : MachineState). m.events) st.own.1 in
+        let seven : next.seven.processor.steps ≡ s.seven.processor.steps = ap (λ (m : MachineState). m.seven.processor.steps) st.own.2 in
+        let events : next.events ≡ s.events = ap (λ (m : MachineState). m.events) st.own.2 in
         omega (arith, nine, seven, events)
     of_own Seven st =
         let seven : next.seven.processor.steps ≡ s.seven.processor.steps + 1 = st.steps in
@@ -80,7 +80,7 @@ module _ (until : ℕ) (s next : MachineState) (proc : Proc) (sound : IsSound s)
     | inr ahead ↦ of_own proc (goes_ahead ahead)
   ] where
     of_own : (proc : Proc) → StepsAhead s next proc → last_frame next ≡ last_frame s
-    of_own Nine st = ap last_frame st.own.1
+    of_own Nine st = ap last_frame st.own.2
     of_own Seven st = ap last_frame st.own.1
 
   step_lists : last_lists next ≡ last_lists s
@@ -89,7 +89,7 @@ module _ (until : ℕ) (s next : MachineState) (proc : Proc) (sound : IsSound s)
     | inr ahead ↦ of_own proc (goes_ahead ahead)
   ] where
     of_own : (proc : Proc) → StepsAhead s next proc → last_lists next ≡ last_lists s
-    of_own Nine st = ap last_lists st.own.1
+    of_own Nine st = ap last_lists st.own.2
     of_own Seven st = ap last_lists st.own.1
 
 -- where it doesn't stop it makes the next machine, and puts out nothing

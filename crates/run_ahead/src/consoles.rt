@@ -6,6 +6,7 @@ ghost use Rattle.ds_machine.specs.Booted.{machine_booted};
 ghost use Rattle.ds_machine.specs.Frames.{framed_of, FollowFrames, FollowLists};
 ghost use Rattle.ds_machine.specs.Observed.{memory_of, registers_of, seen_of};
 ghost use Rattle.ds_ipc.specs.Ipcs.{AreSides};
+ghost use Rattle.ds_machine.specs.NextEvents.{HasLimit};
 ghost use Rattle.ds_machine.specs.Private.{IsLeastBelow};
 ghost use Rattle.ds_machine.specs.Reference.{HasSoundParts, IsDue, IsSound};
 ghost use Rattle.ds_machine.specs.Statuses.{HasBothStatuses};
@@ -14,11 +15,11 @@ ghost use Rattle.ds_base.specs.declared.left_out.LeftOut.{LeftOut};
 ghost use Rattle.run_ahead.specs.declared.consoles.AtOnce.TheVariants as once;
 ghost use Rattle.run_ahead.specs.declared.turns.Turned.TheVariants.{Ran, Stopped};
 
-use crate::machine_turns::{take_stretch, take_turn};
+use crate::machine_turns::{take_first, take_turn};
 use crate::turns::Turned;
 use ds_base::{Due, Keys, LeftOut, Memory, Proc, Tick};
 use ds_header::Cart;
-use ds_machine::{Done, Machine, Seen};
+use ds_machine::{Done, First, Machine, Seen};
 use gx_geometry::Lists;
 use std::alloc::{AllocError, Global};
 use std::marker::Model;
@@ -152,9 +153,9 @@ impl Console {
         ensures none { result ≡ once.NotTaken → self.new ≡ self.old }
     {
         if until.0 <= self.open_until
-            && let Some(proc) = self.machine.first(until)
+            && let Some(first) = self.machine.first(until)
         {
-            if self.go(proc, until) {
+            if self.go(first, until) {
                 return AtOnce::Stopped;
             }
             return AtOnce::Ran;
@@ -164,15 +165,16 @@ impl Console {
 
     /// The turn of a processor that is the least actor, which raises no limit. The answer is whether it stopped.
     #[inline(always)]
-    fn go(&mut self, proc: Proc, until: Tick) -> bool
+    fn go(&mut self, first: First, until: Tick) -> bool
         requires early { until.0 ≤ 2 ^ 56 }
-        requires least { IsLeastBelow until.0 self.old.machine proc }
+        requires least { IsLeastBelow until.0 self.old.machine first.proc }
+        requires limit { HasLimit until.0 self.old.machine first.proc first.limit }
         requires same { max self.old.limit until.0 ≡ self.old.limit }
         requires still_open { self.old.stopped ≡ None }
         ensures ran { result ≡ false → Turns until.0 self.old Ran self.new }
         ensures stopped { result ≡ true → (left : LeftOut) × (self.new.stopped ≡ Some left) × Turns until.0 self.old (Stopped left) self.new }
     {
-        if take_stretch(&mut self.machine, &mut self.stopped, proc, until) {
+        if take_first(&mut self.machine, &mut self.stopped, first, until) {
             self.open_until = 0;
             return true;
         }

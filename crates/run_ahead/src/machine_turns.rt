@@ -2,12 +2,13 @@
 
 ghost use Rattle.std.specs.Prelude.{◌≡◌, ◌<◌, ◌≤◌, ◌^◌, false, true, None, Some};
 ghost use Rattle.ds_base.specs.declared.left_out.LeftOut.{LeftOut};
+ghost use Rattle.ds_machine.specs.NextEvents.{HasLimit};
 ghost use Rattle.ds_machine.specs.Private as private;
 ghost use Rattle.ds_machine.specs.Reference.{HasCounted, IsDue, IsSound};
 ghost use Rattle.run_ahead.specs.Inside.{HasProcessor, TookSlowly, TookStretch, TookTurn};
 
 use ds_base::{Due, LeftOut, Proc, Tick};
-use ds_machine::{Done, Machine};
+use ds_machine::{Done, First, Machine};
 
 /// A processor's rank.
 fn rank_of(proc: Proc) -> u8
@@ -61,17 +62,42 @@ fn step_slowly(machine: &mut Machine, stop: &mut Option<LeftOut>, proc: Proc, un
     }
 }
 
-/// Takes a processor's steps that belong to its turn with a limit, one after another, up to the first that doesn't, or to one that stops the machine, whose stop is put where
-/// stops are kept. The answer is whether there is one.
+/// Takes the steps of a turn whose processor is the first. There are two copies of the loop over them, one for each processor.
 #[inline(always)]
-pub fn take_stretch(
+pub fn take_first(
     machine: &mut Machine,
     stop: &mut Option<LeftOut>,
-    proc: Proc,
+    first: First,
     until: Tick,
 ) -> bool
     requires early { until.0 ≤ 2 ^ 56 }
     requires sound { IsSound machine.old }
+    requires running { stop.old ≡ None }
+    requires limit { HasLimit until.0 machine.old first.proc first.limit }
+    ensures took { TookStretch until.0 first.proc machine.old stop.new machine.new }
+    ensures counted { HasCounted machine.old }
+    ensures goes { result ≡ false → stop.new ≡ None }
+    ensures stops { result ≡ true → (left : LeftOut) × (stop.new ≡ Some left) }
+{
+    match first.proc {
+        Proc::Nine => take_stretch(machine, stop, Proc::Nine, until, first.limit),
+        Proc::Seven => take_stretch(machine, stop, Proc::Seven, until, first.limit),
+    }
+}
+
+/// Takes a processor's steps that belong to its turn with a limit, one after another, up to the first that doesn't, or to one that stops the machine, whose stop is put where
+/// stops are kept. The answer is whether there is one. It begins with the first tick at which the processor isn't the least any more.
+#[inline(always)]
+fn take_stretch(
+    machine: &mut Machine,
+    stop: &mut Option<LeftOut>,
+    proc: Proc,
+    until: Tick,
+    first: u64,
+) -> bool
+    requires early { until.0 ≤ 2 ^ 56 }
+    requires sound { IsSound machine.old }
+    requires limit { HasLimit until.0 machine.old proc first }
     requires running { stop.old ≡ None }
     ensures took { TookStretch until.0 proc machine.old stop.new machine.new }
     ensures counted { HasCounted machine.old }
@@ -79,8 +105,9 @@ pub fn take_stretch(
     ensures stops { result ≡ true → (left : LeftOut) × (stop.new ≡ Some left) }
 {
     machine.laws();
+    let mut limit = first;
     'steps: loop {
-        if machine.go_fast(proc, until) {
+        if machine.go_fast(proc, until, limit) {
             return false;
         }
         match step_slowly(machine, stop, proc, until) {
@@ -88,7 +115,24 @@ pub fn take_stretch(
             Slow::Over => return false,
             Slow::Stopped => return true,
         }
+        match machine.limit_of(proc, until) {
+            Some(next) => limit = next,
+            None => return end_slowly(machine, stop, proc, until),
+        }
     }
+}
+
+/// Takes the rest of a processor's steps that belong to its turn, where it isn't known when it isn't the least any more.
+#[inline(never)]
+fn end_slowly(machine: &mut Machine, stop: &mut Option<LeftOut>, proc: Proc, until: Tick) -> bool
+    requires early { until.0 ≤ 2 ^ 56 }
+    requires sound { IsSound machine.old }
+    ensures took { TookStretch until.0 proc machine.old stop.new machine.new }
+    ensures goes { result ≡ false → stop.new ≡ None }
+    ensures stops { result ≡ true → (left : LeftOut) × (stop.new ≡ Some left) }
+{
+    *stop = take_stretch_slowly(machine, proc, until);
+    stop.is_some()
 }
 
 /// The same, where the turn isn't taken at once: the fast path stands elsewhere.

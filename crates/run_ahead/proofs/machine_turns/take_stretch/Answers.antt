@@ -4,11 +4,11 @@ use Rattle.ds_machine.specs.Private.{BelongsToTurn, TakesSteps, none, more, own_
 use Rattle.ds_machine.specs.States.{MachineState}
 use Rattle.ds_machine.proofs.OwnRemaining.{turn_steps_fall}
 use Rattle.run_ahead.specs.Inside.{TookStretch}
-use Rattle.run_ahead.proofs.Stretches.{own_along, sound_along, takes_twice}
+use Rattle.run_ahead.proofs.Stretches.{own_along, sound_along, takes_twice, took_twice}
 use Rattle.run_ahead.proofs.machine_turns.take_stretch.Goals as goal
 
 pub steps-init : goal.steps-init
-steps-init c = (none c.args.machine.now, c.requires.running)
+steps-init c = (none c.args.machine.now, c.requires.running, c.requires.limit)
 
 pub returns-then-go_fast : goal.returns-then-go_fast
 returns-then-go_fast c = record {
@@ -50,7 +50,15 @@ returns-in-Stopped c =
     }
 
 pub steps-preserved : goal.steps-preserved
-steps-preserved c = (more c.args.machine.now c.go_fast.new.self c.step_slowly.new.machine (takes_twice c.args.until.0 c.args.proc c.args.machine.now c.steps.machine c.go_fast.new.self c.steps.invariant.0 c.go_fast.ensures.steps) c.in-Took.ensures.0 c.in-Took.ensures.1, c.in-Took.ensures.2)
+steps-preserved c = (more c.args.machine.now c.go_fast.new.self c.step_slowly.new.machine (takes_twice c.args.until.0 c.args.proc c.args.machine.now c.steps.machine c.go_fast.new.self c.steps.invariant.0 c.go_fast.ensures.steps) c.in-Took.ensures.0 c.in-Took.ensures.1, c.in-Took.ensures.2, c.in-Some.ensures)
+
+pub end_slowly-requires-clause-sound : goal.end_slowly-requires-clause-sound
+end_slowly-requires-clause-sound c = sound_along c.args.until.0 c.args.proc c.args.machine.now c.step_slowly.new.machine c.requires.sound
+    (more c.args.machine.now c.go_fast.new.self c.step_slowly.new.machine (takes_twice c.args.until.0 c.args.proc c.args.machine.now c.steps.machine c.go_fast.new.self c.steps.invariant.0 c.go_fast.ensures.steps) c.in-Took.ensures.0 c.in-Took.ensures.1)
+
+pub returns-in-None-clause-took : goal.returns-in-None-clause-took
+returns-in-None-clause-took c = took_twice c.args.until.0 c.args.proc c.args.machine.now c.step_slowly.new.machine c.end_slowly.new.machine c.end_slowly.new.stop
+    (more c.args.machine.now c.go_fast.new.self c.step_slowly.new.machine (takes_twice c.args.until.0 c.args.proc c.args.machine.now c.steps.machine c.go_fast.new.self c.steps.invariant.0 c.go_fast.ensures.steps) c.in-Took.ensures.0 c.in-Took.ensures.1) c.end_slowly.ensures.took
 
 pub steps-smaller : goal.steps-smaller
 steps-smaller c =

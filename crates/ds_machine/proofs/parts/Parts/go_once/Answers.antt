@@ -2,11 +2,11 @@ use Rattle.std.proofs.Common.{◌<◌, ◌^◌, inl, inr, ap, subst, arith}
 use Rattle.ds_machine.specs.Private.{BelongsToTurn, rank_of}
 use Rattle.ds_machine.specs.States.{MachineState, ProcessorState}
 use Rattle.ds_machine.proofs.GoingSteps.{ahead_data, ahead_if, ahead_may, below_limit, below_when, due_when, least_when, leaves_when, over_when, past_limit, sound_kept, took_when, waits_for}
-use Rattle.ds_machine.proofs.parts.Parts.go_once.Goals.{then-ahead+in-Took, else-ahead}
+use Rattle.ds_machine.proofs.parts.Parts.go_once.Goals.{else-ahead-via-then-ahead+else-not-may_go_on, else-ahead-via-else-ahead}
 use Rattle.ds_machine.proofs.parts.Parts.go_once.Goals as goal
 
-pub returns-in-Over-clause-over : goal.returns-in-Over-clause-over
-returns-in-Over-clause-over c = λ over b.
+pub returns-then-not-may_go_on-clause-over : goal.returns-then-not-may_go_on-clause-over
+returns-then-not-may_go_on-clause-over c = λ over b.
     (let s = c.args.self.now in
     let proc = c.args.proc in
     let until = c.args.until.0 in
@@ -15,14 +15,14 @@ returns-in-Over-clause-over c = λ over b.
     let early = c.requires.early in
     let past = c.if-ahead.true in
     let w = waits_for c.args.next_event s proc n c.requires.free (ap (λ (p : ProcessorState). p.due) c.processor.ensures) in
-    elim (c.may_go_on.ensures.over c.in-Over.is) [
+    elim (c.may_go_on.ensures.no c.if-not-may_go_on.true) [
       | inl le ↦ over_when c.args.next_event s proc until n is w le b
       | inr k ↦
           (let lt : n < until = below_when c.args.next_event s proc until n is w b in
           let low : n < 2 ^ 56 = omega (arith, lt, early) in
           let d = due_when c.args.next_event s proc n is w low in
-          leaves_when c.args.next_event s proc n until is k.0 w low (past_limit c.args.next_event s proc until n c.args.limit w c.requires.limit (omega (arith, past)) lt early)
-          (λ ahead. k.1 (ahead_may s proc n d ahead)) b)
+          leaves_when c.args.next_event s proc n until is c.requires.some w low (past_limit c.args.next_event s proc until n c.args.limit w c.requires.limit (omega (arith, past)) lt early)
+          (λ ahead. k (ahead_may s proc n d ahead)) b)
     ])
 
 pub returns-clause-took : goal.returns-clause-took
@@ -35,16 +35,16 @@ returns-clause-took c = λ took.
     let early = c.requires.early in
     let w = waits_for c.args.next_event s proc n c.requires.free (ap (λ (p : ProcessorState). p.due) c.processor.ensures) in
     let made = c.processor_fast.ensures.made (rank_of proc) took in
-    elim c.if-ahead.branch [
-      | then-ahead+in-Took x ↦
+    elim c.else-ahead.branch [
+      | else-ahead-via-then-ahead+else-not-may_go_on x ↦
           (let past = x.if-ahead.true in
-          let k = x.may_go_on.ensures.took x.in-Took.is in
+          let k = x.may_go_on.ensures.yes x.if-not-may_go_on.false in
           let lt = k.0 in
           let low : n < 2 ^ 56 = omega (arith, lt, early) in
           let d = due_when c.args.next_event s proc n is w low in
-          took_when c.args.next_event s c.processor_fast.new.self proc n until (sound_kept c.args.next_event s c.requires.parts is k.1) c.requires.counted d lt
-          (inr (ahead_if s proc n d k.2 (c.processor_fast.ensures.stays (grind (arith, past)) took))) made c.processor_fast.ensures.io c.processor_fast.ensures.other)
-      | else-ahead x ↦
+          took_when c.args.next_event s c.processor_fast.new.self proc n until (sound_kept c.args.next_event s c.requires.parts is c.requires.some) c.requires.counted d lt
+          (inr (ahead_if s proc n d k.1 (c.processor_fast.ensures.stays (grind (arith, past)) took))) made c.processor_fast.ensures.io c.processor_fast.ensures.other)
+      | else-ahead-via-else-ahead x ↦
           (let lt = x.if-ahead.false in
           let k = below_limit c.args.next_event s proc until n c.args.limit w c.requires.limit (omega (arith, lt)) in
           let below = k.below in
@@ -64,14 +64,14 @@ returns-clause-over c = λ over b.
     let w = waits_for c.args.next_event s proc n c.requires.free (ap (λ (p : ProcessorState). p.due) c.processor.ensures) in
     let k = c.processor_fast.ensures.over over in
     let was = subst (λ (m : MachineState). BelongsToTurn until m proc) (c.processor_fast.ensures.over_same over) b in
-    elim c.if-ahead.branch [
-      | then-ahead+in-Took x ↦
+    elim c.else-ahead.branch [
+      | else-ahead-via-then-ahead+else-not-may_go_on x ↦
           (let past = x.if-ahead.true in
-          let go = x.may_go_on.ensures.took x.in-Took.is in
+          let go = x.may_go_on.ensures.yes x.if-not-may_go_on.false in
           let lt = go.0 in
           let low : n < 2 ^ 56 = omega (arith, lt, early) in
           let d = due_when c.args.next_event s proc n is w low in
-          leaves_when c.args.next_event s proc n until is go.1 w low (past_limit c.args.next_event s proc until n c.args.limit w c.requires.limit (omega (arith, past)) lt early)
+          leaves_when c.args.next_event s proc n until is c.requires.some w low (past_limit c.args.next_event s proc until n c.args.limit w c.requires.limit (omega (arith, past)) lt early)
           (λ ahead. k.1 (ahead_data s proc n d ahead)) was)
-      | else-ahead x ↦ (let lt = x.if-ahead.false in let e = k.0 in absurd (grind (arith, lt, e)))
+      | else-ahead-via-else-ahead x ↦ (let lt = x.if-ahead.false in let e = k.0 in absurd (grind (arith, lt, e)))
     ])

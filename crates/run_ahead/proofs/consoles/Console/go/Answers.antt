@@ -1,18 +1,24 @@
-use Rattle.std.proofs.Common.{◌≡◌, max, Option, refl, sym, ◌∙◌, ap, subst, arith}
+use Rattle.std.proofs.Common.{◌≡◌, ◌+◌, ◌⊎◌, max, [], Option, None, refl, sym, ◌∙◌, ap, subst, arith}
 use Rattle.std.proofs.lemmas.Option.{none-some}
 use Rattle.ds_base.specs.declared.left_out.LeftOut.{LeftOut}
+use Rattle.ds_machine.specs.NextEvents.{HasLimit}
 use Rattle.ds_machine.specs.Private.{IsLeastBelow}
 use Rattle.ds_machine.specs.declared.answers.Done.TheVariants.{Made, Stopped}
 use Rattle.run_ahead.specs.Consoles.{ConsoleState, open_of}
 use Rattle.run_ahead.specs.Inside.{TookStretch}
-use Rattle.run_ahead.proofs.StepTurns.{is_stop, is_stretch, made_taken, one_fits, stopped_counts, turn_within}
+use Rattle.run_ahead.specs.Turns.{TakesEvent, TakesStretch, one_more_turn, run_to}
+use Rattle.run_ahead.proofs.StepTurns.{is_stop, is_stretch, made_taken, one_fits, ran_is, stopped_counts, turn_within}
 use Rattle.run_ahead.proofs.consoles.Console.go.Goals as goal
 
-pub take_stretch-requires-clause-sound : goal.take_stretch-requires-clause-sound
-take_stretch-requires-clause-sound c = c.self.invariant.3 (ap (λ (x : ConsoleState). x.stopped) c.self.view_is ∙ c.requires.still_open)
+pub take_first-requires-clause-sound : goal.take_first-requires-clause-sound
+take_first-requires-clause-sound c = c.self.invariant.3 (ap (λ (x : ConsoleState). x.stopped) c.self.view_is ∙ c.requires.still_open)
 
-pub take_stretch-requires-clause-running : goal.take_stretch-requires-clause-running
-take_stretch-requires-clause-running c = ap (λ (x : ConsoleState). x.stopped) c.self.view_is ∙ c.requires.still_open
+pub take_first-requires-clause-running : goal.take_first-requires-clause-running
+take_first-requires-clause-running c = ap (λ (x : ConsoleState). x.stopped) c.self.view_is ∙ c.requires.still_open
+
+pub take_first-requires-clause-limit : goal.take_first-requires-clause-limit
+take_first-requires-clause-limit c =
+    subst (λ (x : ConsoleState). HasLimit c.args.until.0 x.machine c.args.first.proc c.args.first.limit) (sym c.self.view_is) c.requires.limit
 
 pub overflow_add-self : goal.overflow_add-self
 overflow_add-self c = one_fits c.self.inside.turns c.self.inside.limit c.self.inside.machine c.self.invariant.0 c.self.invariant.1 c.self.invariant.4
@@ -20,17 +26,17 @@ overflow_add-self c = one_fits c.self.inside.turns c.self.inside.limit c.self.in
 pub invariant_of-self : goal.invariant_of-self
 invariant_of-self c =
     let m = c.self.inside.machine in
-    let next = c.take_stretch.new.machine in
+    let next = c.take_first.new.machine in
     let few = c.self.invariant.4 in
     let sound = c.self.invariant.3 (ap (λ (x : ConsoleState). x.stopped) c.self.view_is ∙ c.requires.still_open) in
-    let first = subst (λ (x : ConsoleState). IsLeastBelow c.args.until.0 x.machine c.args.proc) (sym c.self.view_is) c.requires.least in
+    let first = subst (λ (x : ConsoleState). IsLeastBelow c.args.until.0 x.machine c.args.first.proc) (sym c.self.view_is) c.requires.least in
     let same : max c.self.inside.limit c.args.until.0 ≡ c.self.inside.limit = subst (λ (x : ConsoleState). max x.limit c.args.until.0 ≡ x.limit) (sym c.self.view_is) c.requires.same in
-    let stop = c.take_stretch.ensures.stops c.if-take_stretch.true in
-    let took = subst (λ (o : Option LeftOut). TookStretch c.args.until.0 c.args.proc m o next) stop.1 c.take_stretch.ensures.took in
-    let turn = is_stop c.args.until.0 c.args.proc m next stop.0 first took in
+    let stop = c.take_first.ensures.stops c.if-take_first.true in
+    let took = subst (λ (o : Option LeftOut). TookStretch c.args.until.0 c.args.first.proc m o next) stop.1 c.take_first.ensures.took in
+    let turn = is_stop c.args.until.0 c.args.first.proc m next stop.0 first took in
     let kept = stopped_counts c.args.until.0 m next stop.0 sound turn in (
       turn_within c.args.until.0 c.self.inside.limit m next (Stopped stop.0) (omega (arith, same)) sound
-          (record { counted = c.take_stretch.ensures.counted; within = c.self.invariant.0 }) turn,
+          (record { counted = c.take_first.ensures.counted; within = c.self.invariant.0 }) turn,
       c.self.invariant.1,
       rw stop.1 refl,
       λ none. absurd (none-some stop.0 (sym none ∙ stop.1)),
@@ -40,20 +46,35 @@ invariant_of-self c =
 pub invariant_of-self-2 : goal.invariant_of-self-2
 invariant_of-self-2 c =
     let m = c.self.inside.machine in
-    let next = c.take_stretch.new.machine in
+    let next = c.take_first.new.machine in
     let few = c.self.invariant.4 in
     let sound = c.self.invariant.3 (ap (λ (x : ConsoleState). x.stopped) c.self.view_is ∙ c.requires.still_open) in
-    let first = subst (λ (x : ConsoleState). IsLeastBelow c.args.until.0 x.machine c.args.proc) (sym c.self.view_is) c.requires.least in
+    let first = subst (λ (x : ConsoleState). IsLeastBelow c.args.until.0 x.machine c.args.first.proc) (sym c.self.view_is) c.requires.least in
     let same : max c.self.inside.limit c.args.until.0 ≡ c.self.inside.limit = subst (λ (x : ConsoleState). max x.limit c.args.until.0 ≡ x.limit) (sym c.self.view_is) c.requires.same in
-    let none = c.take_stretch.ensures.goes c.if-take_stretch.false in
+    let none = c.take_first.ensures.goes c.if-take_first.false in
     let running = ap (λ (x : ConsoleState). x.stopped) c.self.view_is ∙ c.requires.still_open in
-    let took = subst (λ (o : Option LeftOut). TookStretch c.args.until.0 c.args.proc m o next) none c.take_stretch.ensures.took in
-    let turn = is_stretch c.args.until.0 c.args.proc m next first took in
+    let took = subst (λ (o : Option LeftOut). TookStretch c.args.until.0 c.args.first.proc m o next) none c.take_first.ensures.took in
+    let turn = is_stretch c.args.until.0 c.args.first.proc m next first took in
     let taken = made_taken c.args.until.0 m next sound turn in
     let more = taken.more in (
-      turn_within c.args.until.0 c.self.inside.limit m next Made (omega (arith, same)) sound (record { counted = c.take_stretch.ensures.counted; within = c.self.invariant.0 }) turn,
+      turn_within c.args.until.0 c.self.inside.limit m next Made (omega (arith, same)) sound (record { counted = c.take_first.ensures.counted; within = c.self.invariant.0 }) turn,
       c.self.invariant.1,
       c.self.invariant.2 ∙ ap (open_of c.self.inside.limit) (running ∙ sym none),
       λ none. taken.sound,
       omega (arith, few, more),
     )
+
+pub returns-clause-ran : goal.returns-clause-ran
+returns-clause-ran c = λ ran.
+    (let m = c.self.inside.machine in
+    let next = c.take_first.new.machine in
+    let until = c.args.until.0 in
+    let first = subst (λ (x : ConsoleState). IsLeastBelow until x.machine c.args.first.proc) (sym c.self.view_is) c.requires.least in
+    let same : max c.self.inside.limit until ≡ c.self.inside.limit = subst (λ (x : ConsoleState). max x.limit until ≡ x.limit) (sym c.self.view_is) c.requires.same in
+    let none = c.take_first.ensures.goes c.if-take_first.false in
+    let running = ap (λ (x : ConsoleState). x.stopped) c.self.view_is ∙ c.requires.still_open in
+    let took = subst (λ (o : Option LeftOut). TookStretch until c.args.first.proc m o next) none c.take_first.ensures.took in
+    subst (λ (x : ConsoleState). (x.stopped ≡ None) × (TakesEvent until x.machine [] next ⊎ TakesStretch until x.machine next)
+    × ((let new : ConsoleState = record { machine = next; limit = c.self.inside.limit; stopped = c.take_first.new.stop; turns = c.self.inside.turns + 1 } in new)
+    ≡ one_more_turn (run_to x until next))) c.self.view_is
+    (running, is_stretch until c.args.first.proc m next first took, ran_is until c.self.inside.limit c.self.inside.turns m next c.self.inside.stopped c.take_first.new.stop same running none))

@@ -1,6 +1,6 @@
 use Rattle.ds_machine.specs.Private.{own_remaining}
 use Rattle.ds_machine.proofs.GoingSteps.{Goes}
-use Rattle.ds_machine.proofs.parts.Parts.go_on_turn.Given as goal
+use Rattle.ds_machine.proofs.parts.Parts.go_fast.Given as goal
 
 abbrev pub invariant-steps : goal.invariant-steps
 invariant-steps l = Goes l.until.0 l.proc l.next_event l.limit l.initial.self l.self

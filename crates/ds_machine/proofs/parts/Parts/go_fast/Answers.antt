@@ -1,0 +1,39 @@
+use Rattle.std.proofs.Common.{refl, sym, ◌∙◌, ap, subst, arith}
+use Rattle.ds_machine.specs.Private.{TakesSteps, none}
+use Rattle.ds_machine.specs.States.{MachineState}
+use Rattle.ds_machine.proofs.GoingSteps.{free_here, goes_on, limit_here}
+use Rattle.ds_machine.proofs.parts.Parts.go_fast.Goals as goal
+
+pub steps-init : goal.steps-init
+steps-init c =
+    let some = c.if-next_event-eq0.false in
+    record {
+      steps = none c.args.self.now;
+      kept = c.requires.next_event;
+      counted = c.requires.counted;
+      io = refl;
+      least = limit_here c.args.next_event c.args.self.now c.args.proc c.args.until.0 c.args.limit c.requires.next_event (omega (arith, some)) c.requires.limit;
+    }
+
+pub steps-preserved : goal.steps-preserved
+steps-preserved c =
+    goes_on c.args.until.0 c.args.proc c.args.next_event c.args.limit c.args.self.now c.steps.self c.go_once.new.self c.steps.invariant (c.go_once.ensures.took c.in-Took.is)
+    c.go_once.ensures.next_event
+
+pub go_once-requires-clause-free : goal.go_once-requires-clause-free
+go_once-requires-clause-free c = free_here c.args.next_event c.args.self.now c.args.proc c.args.until.0 c.args.limit c.requires.next_event c.requires.limit
+
+pub returns-then-next_event-eq0-clause-steps : goal.returns-then-next_event-eq0-clause-steps
+returns-then-next_event-eq0-clause-steps c = none c.args.self.now
+
+pub returns-in-Over-clause-steps : goal.returns-in-Over-clause-steps
+returns-in-Over-clause-steps c = subst (TakesSteps c.args.until.0 c.args.proc c.args.self.now) (sym (c.go_once.ensures.over_same c.in-Over.is)) c.steps.invariant.steps
+
+pub returns-in-Over-clause-io : goal.returns-in-Over-clause-io
+returns-in-Over-clause-io c = ap (λ (m : MachineState). m.io) (c.go_once.ensures.over_same c.in-Over.is) ∙ c.steps.invariant.io
+
+pub returns-in-Unknown-clause-steps : goal.returns-in-Unknown-clause-steps
+returns-in-Unknown-clause-steps c = subst (TakesSteps c.args.until.0 c.args.proc c.args.self.now) (sym (c.go_once.ensures.unknown c.in-Unknown.is)) c.steps.invariant.steps
+
+pub returns-in-Unknown-clause-io : goal.returns-in-Unknown-clause-io
+returns-in-Unknown-clause-io c = ap (λ (m : MachineState). m.io) (c.go_once.ensures.unknown c.in-Unknown.is) ∙ c.steps.invariant.io

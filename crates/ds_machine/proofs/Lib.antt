@@ -46,3 +46,4 @@ pub mod OwnShares
 pub mod OuterLeaves
 pub mod OuterLaw
 pub mod AheadRuns
+pub mod LagCommutes

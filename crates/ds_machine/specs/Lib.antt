@@ -12,6 +12,7 @@ pub mod FenceTicks
 pub mod Private
 pub mod Touching
 pub mod Apart
+pub mod Lagging
 pub mod OwnSteps
 pub mod Processors
 pub mod Rooms

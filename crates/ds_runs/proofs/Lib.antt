@@ -5,4 +5,5 @@ pub mod ActorTable
 pub mod RunLaws
 pub mod RunExists
 pub mod Ahead
+pub mod Lags
 pub mod AllActors

@@ -1,5 +1,6 @@
 pub mod Actors
 pub mod Ahead
+pub mod Lags
 pub mod Laws
 pub mod Order
 pub mod Owed

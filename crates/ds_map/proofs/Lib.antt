@@ -5,3 +5,4 @@ pub mod Reached
 pub mod Later
 pub mod TakenBack
 pub mod SevenShares
+pub mod GxApart

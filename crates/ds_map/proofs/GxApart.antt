@@ -1,0 +1,299 @@
+use Rattle.std.specs.Prelude.{◌||◌}
+use Rattle.std.proofs.Common.{ℕ, ◌≡◌, ◌<◌, ◌+◌, ◌-◌, ◌/◌, ◌==◌, ◌&&◌, nat_le, Bool, true, false, true≢false, if◌then◌else◌, [], ◌∷◌, Option, Some, None, refl, ◌∙◌, ap, arith}
+use Rattle.ds_base.specs.Memories.{memory_size}
+use Rattle.ds_base.specs.Numbers.{aligned_down, width_bytes}
+use Rattle.ds_base.specs.declared.left_out.Stop.{Stop}
+use Rattle.ds_base.specs.declared.memories.Memory.TheVariants.{Main, Shared, Palette, Vram, Oam}
+use Rattle.ds_base.specs.declared.memories.Space.TheVariants.{ABg, BBg, AObj, BObj, Lcdc}
+use Rattle.ds_base.specs.declared.memories.Width.{Width}
+use Rattle.ds_base.specs.declared.memories.Width.TheVariants.{Byte, Half, Word}
+use Rattle.ds_base.specs.declared.processors.Proc.{Proc}
+use Rattle.ds_base.specs.declared.processors.Proc.TheVariants.{Nine, Seven}
+use Rattle.ds_base.specs.declared.ticks.Tick.{Tick}
+use Rattle.ds_dma.specs.declared.channels.Unit.{Unit as DmaUnit}
+use Rattle.ds_places.specs.AddressTables.{BootRom, Cells, Empty, Ports, Video, place_at, place_by, place_of, region, shared_for_nine}
+use Rattle.ds_places.specs.declared.kinds.Place.{Place}
+use Rattle.ds_places.specs.declared.kinds.Place.TheVariants.{Banks, Cell, Nothing, Port, Rom}
+use Rattle.ds_ports.specs.Io.{IoState, channel_moved, with_gx}
+use Rattle.ds_ports.specs.Ports.{port_refusal, port_written, unless_stopped}
+use Rattle.ds_ports.proofs.Arms.{ArmsNoMore, KeepsControls, arms_by, arms_kept, arms_then, finished_arms, is_control_word, keeps_by, keeps_same, read_dma, seven_write_dma, write_keeps}
+use Rattle.ds_ports.proofs.Covered.{chosen}
+use Rattle.ds_ports.proofs.GxApart.{IsApartFromGeometry, is_geometry_offset, moved_apart, reads_apart, refusals_apart, values_apart, writes_apart}
+use Rattle.gx_fifo.specs.GxStates.{GxState}
+use Rattle.vram_banks.specs.Cells.{vram_written}
+use Rattle.ds_map.specs.Accesses.{after_read_at, fetched_at, is_byte_of_nine, map_fetched, map_read, map_refusal, map_value, map_written, refusal_at, takes_no_bytes, value_at, written_at}
+use Rattle.ds_map.specs.Maps.{MapState}
+use Rattle.ds_map.specs.Moves.{after_unit, unit_moved, unit_read, unit_refusal, unit_taken}
+
+-- Accesses of the map that neither see geometry nor change it: ARM7's, and ARM9's but for some ports. They enable no channel of ARM9's with the start of the geometry FIFO.
+
+-- ---- the ports
+
+-- DISP3DCNT; what stands from 400h to 6FFh; and DMA0CNT to DMA3CNT (GBATEK, "DS I/O Maps")
+abbrev pub is_seen_port : ℕ → Bool
+is_seen_port at =
+    let word = at / 4 in
+    (word == 0x18) || ((nat_le 0x100 word && nat_le word 0x1BF) || ((word == 0x2E) || ((word == 0x31) || ((word == 0x34) || (word == 0x37)))))
+
+-- a place is none of them, or ARM7's
+abbrev pub IsApartPlace : Proc → Place → Type 0
+IsApartPlace Nine (Port at) = is_seen_port at ≡ false
+IsApartPlace proc place = Unit {0}
+
+or_false : (a b : Bool) → (a || b) ≡ false → (a ≡ false) × (b ≡ false)
+or_false true b h = absurd (true≢false h)
+or_false false b h = (refl, h)
+
+-- each byte of an access stands in the same word
+same_word : (width : Width) (at k : ℕ) → k < width_bytes width → (aligned_down width at + k) / 4 ≡ at / 4
+same_word Byte at k l = omega (arith, l)
+same_word Half at k l = omega (arith, l)
+same_word Word at k l = omega (arith, l)
+
+elsewhere : (at word : ℕ) → at / 4 ≡ word → (word == 0x18) ≡ false → (nat_le 0x100 word && nat_le word 0x1BF) ≡ false → is_geometry_offset at ≡ false
+elsewhere at word e h k = grind (arith, e, h, k)
+
+module _ (width : Width) (at k : ℕ) (l : k < width_bytes width) (h : is_seen_port at ≡ false) where
+  no_geometry : is_geometry_offset (aligned_down width at + k) ≡ false
+  no_geometry =
+      let word = at / 4 in
+      let a = or_false (word == 0x18) ((nat_le 0x100 word && nat_le word 0x1BF) || is_control_word word) h in
+      let b = or_false (nat_le 0x100 word && nat_le word 0x1BF) (is_control_word word) a.1 in
+      elsewhere (aligned_down width at + k) word (same_word width at k l) a.0 b.0
+
+  no_control : is_control_word ((aligned_down width at + k) / 4) ≡ false
+  no_control =
+      let word = at / 4 in
+      let a = or_false (word == 0x18) ((nat_le 0x100 word && nat_le word 0x1BF) || is_control_word word) h in
+      let b = or_false (nat_le 0x100 word && nat_le word 0x1BF) (is_control_word word) a.1 in
+      ap is_control_word (same_word width at k l) ∙ b.1
+
+port_apart : (proc : Proc) (width : Width) (at : ℕ) → IsApartPlace proc (Port at) → IsApartFromGeometry proc (aligned_down width at) width
+port_apart Nine width at h = λ k l. no_geometry width at k l h
+port_apart Seven width at h = tt
+
+-- ---- they stand at the same addresses whatever WRAMCNT is
+
+shared_apart : (w offset : ℕ) → IsApartPlace Nine (place_at (shared_for_nine w) offset)
+shared_apart w offset = by_tests (w == 0) (w == 1) (w == 2) where
+  by_tests : (a b c : Bool)
+      → IsApartPlace Nine (place_at (if a then Cells Shared 0 (memory_size Shared) else (if b then Cells Shared 0x4000 0x4000 else (if c then Cells Shared 0 0x4000 else Empty))) offset)
+  by_tests true b c = tt
+  by_tests false true c = tt
+  by_tests false false true = tt
+  by_tests false false false = tt
+
+other_shared : (a b : Bool) (main one other rest : Place) → IsApartPlace Nine other
+    → IsApartPlace Nine (if a then main else (if b then one else rest)) → IsApartPlace Nine (if a then main else (if b then other else rest))
+other_shared true b main one other rest apart h = h
+other_shared false true main one other rest apart h = apart
+other_shared false false main one other rest apart h = h
+
+abbrev past_shared : ℕ → Place
+past_shared at = place_by (
+    region 0x04000000 0x04FFFFFF Ports
+    ∷ region 0x05000000 0x05FFFFFF (Cells Palette 0 (memory_size Palette))
+    ∷ region 0x06000000 0x061FFFFF (Video ABg)
+    ∷ region 0x06200000 0x063FFFFF (Video BBg)
+    ∷ region 0x06400000 0x065FFFFF (Video AObj)
+    ∷ region 0x06600000 0x067FFFFF (Video BObj)
+    ∷ region 0x06800000 0x06FFFFFF (Video Lcdc)
+    ∷ region 0x07000000 0x07FFFFFF (Cells Oam 0 (memory_size Oam))
+    ∷ region 0xFFFF0000 0xFFFFFFFF BootRom
+    ∷ []) at
+
+pub apart_anyhow : (proc : Proc) (w v at : ℕ) → IsApartPlace proc (place_of proc w at) → IsApartPlace proc (place_of proc v at)
+apart_anyhow Nine w v at h =
+    other_shared (nat_le 0x02000000 at && nat_le at 0x02FFFFFF) (nat_le 0x03000000 at && nat_le at 0x03FFFFFF)
+    (place_at (Cells Main 0 (memory_size Main)) (at - 0x02000000)) (place_at (shared_for_nine w) (at - 0x03000000)) (place_at (shared_for_nine v) (at - 0x03000000))
+    (past_shared at) (shared_apart v (at - 0x03000000)) h
+apart_anyhow Seven w v at h = tt
+
+-- ---- accesses, with another geometry engine
+
+abbrev pub gx_in_map : GxState → MapState → MapState
+gx_in_map g m = record m { io = with_gx g m.io }
+
+stop_so : (g : GxState) (refused : Option Stop) (u v : IoState) → unless_stopped refused (with_gx g u) (with_gx g v) ≡ with_gx g (unless_stopped refused u v)
+stop_so g None u v = refl
+stop_so g (Some stop) u v = refl
+
+module _ (g : GxState) (proc : Proc) (m : MapState) where
+  -- what is read
+  value_there : (now : Tick) (place : Place) (width : Width) → IsApartPlace proc place → value_at proc now place (gx_in_map g m) width ≡ value_at proc now place m width
+  value_there now (Cell memory at) width h = refl
+  value_there now (Banks space at) width h = refl
+  value_there now (Port at) width h = values_apart g proc now m.io (aligned_down width at) width (port_apart proc width at h)
+  value_there now (Rom at) width h = refl
+  value_there now Nothing width h = refl
+
+  pub value : (now : Tick) (at : ℕ) (width : Width) → IsApartPlace proc (place_of proc m.io.wramcnt at) → map_value proc now (gx_in_map g m) at width ≡ map_value proc now m at width
+  unfolding map_value
+  value now at width h = value_there now (place_of proc m.io.wramcnt at) width h
+
+  -- what is fetched, at every address
+  fetched_there : (place : Place) (width : Width) → fetched_at proc place (gx_in_map g m) width ≡ fetched_at proc place m width
+  fetched_there (Cell memory at) width = refl
+  fetched_there (Banks space at) width = refl
+  fetched_there (Port at) width = refl
+  fetched_there (Rom at) width = refl
+  fetched_there Nothing width = refl
+
+  pub fetched : (at : ℕ) (width : Width) → map_fetched proc (gx_in_map g m) at width ≡ map_fetched proc m at width
+  unfolding map_fetched
+  fetched at width = fetched_there (place_of proc m.io.wramcnt at) width
+
+  -- what a read leaves
+  read_there : (place : Place) (width : Width) → IsApartPlace proc place → after_read_at proc place (gx_in_map g m) width ≡ gx_in_map g (after_read_at proc place m width)
+  read_there (Cell memory at) width h = refl
+  read_there (Banks space at) width h = refl
+  read_there (Port at) width h =
+      ap (λ (u : IoState). (let left : MapState = record m { io = u } in left)) (reads_apart g proc m.io (aligned_down width at) width (port_apart proc width at h))
+  read_there (Rom at) width h = refl
+  read_there Nothing width h = refl
+
+  pub read : (at : ℕ) (width : Width) → IsApartPlace proc (place_of proc m.io.wramcnt at) → map_read proc (gx_in_map g m) at width ≡ gx_in_map g (map_read proc m at width)
+  unfolding map_read
+  read at width h = read_there (place_of proc m.io.wramcnt at) width h
+
+  -- why a write is refused
+  refusal_there : (place : Place) (width : Width) (number : ℕ) → IsApartPlace proc place → refusal_at proc place (gx_in_map g m) width number ≡ refusal_at proc place m width number
+  refusal_there (Cell memory at) width number h = refl
+  refusal_there (Banks space at) width number h = refl
+  refusal_there (Port at) width number h = refusals_apart g proc m.io (aligned_down width at) width number (port_apart proc width at h)
+  refusal_there (Rom at) width number h = refl
+  refusal_there Nothing width number h = refl
+
+  pub refusal : (at : ℕ) (width : Width) (number : ℕ) → IsApartPlace proc (place_of proc m.io.wramcnt at)
+      → map_refusal proc (gx_in_map g m) at width number ≡ map_refusal proc m at width number
+  unfolding map_refusal
+  refusal at width number h = refusal_there (place_of proc m.io.wramcnt at) width number h
+
+  -- what a write leaves
+  port_there : (now : Tick) (at : ℕ) (width : Width) (number : ℕ) → IsApartFromGeometry proc at width
+      → unless_stopped (port_refusal proc (with_gx g m.io) at width number) (with_gx g m.io) (port_written proc now (with_gx g m.io) at width number)
+      ≡ with_gx g (unless_stopped (port_refusal proc m.io at width number) m.io (port_written proc now m.io at width number))
+  port_there now at width number h =
+      let after = port_written proc now m.io at width number in
+      ap (λ (r : Option Stop). unless_stopped r (with_gx g m.io) (port_written proc now (with_gx g m.io) at width number)) (refusals_apart g proc m.io at width number h)
+      ∙ ap (λ (u : IoState). unless_stopped (port_refusal proc m.io at width number) (with_gx g m.io) u) (writes_apart g proc now m.io at width number h)
+      ∙ stop_so g (port_refusal proc m.io at width number) m.io after
+
+  written_there : (now : Tick) (place : Place) (width : Width) (number : ℕ) → IsApartPlace proc place
+      → written_at proc now place (gx_in_map g m) width number ≡ gx_in_map g (written_at proc now place m width number)
+  written_there now (Cell memory at) width number h = refl
+  written_there now (Banks space at) width number h =
+      chosen (λ (x : MapState). gx_in_map g x) (is_byte_of_nine proc width && takes_no_bytes Vram) m (record m { io = record m.io { vram = vram_written m.io.vram space at width number } })
+  written_there now (Port at) width number h =
+      ap (λ (u : IoState). (let left : MapState = record m { io = u } in left)) (port_there now (aligned_down width at) width number (port_apart proc width at h))
+  written_there now (Rom at) width number h = refl
+  written_there now Nothing width number h = refl
+
+  pub written : (now : Tick) (at : ℕ) (width : Width) (number : ℕ) → IsApartPlace proc (place_of proc m.io.wramcnt at)
+      → map_written proc now (gx_in_map g m) at width number ≡ gx_in_map g (map_written proc now m at width number)
+  unfolding map_written
+  written now at width number h = written_there now (place_of proc m.io.wramcnt at) width number h
+
+-- ---- the DMA unit
+
+module _ (g : GxState) (proc : Proc) (m : MapState) (now : Tick) (unit : DmaUnit) (from : IsApartPlace proc (place_of proc m.io.wramcnt unit.from))
+    (to : IsApartPlace proc (place_of proc m.io.wramcnt unit.to)) where
+  abbrev taken : MapState
+  taken = unit_taken proc now unit m
+
+  abbrev moved_number : ℕ
+  moved_number = map_value proc now m unit.from unit.width
+
+  taken_so : unit_taken proc now unit (gx_in_map g m) ≡ gx_in_map g taken
+  taken_so =
+      let left = unit_read proc unit m in
+      ap (λ (x : MapState). (let next : MapState = record x { io = channel_moved proc now x.io } in next)) (read g proc m unit.from unit.width from)
+      ∙ ap (λ (u : IoState). (let next : MapState = record left { io = u } in next)) (moved_apart g proc now left.io)
+
+  to_taken : IsApartPlace proc (place_of proc taken.io.wramcnt unit.to)
+  to_taken = apart_anyhow proc m.io.wramcnt taken.io.wramcnt unit.to to
+
+  pub unit_refuses : unit_refusal proc now unit (gx_in_map g m) ≡ unit_refusal proc now unit m
+  unit_refuses =
+      ap (λ (x : MapState). map_refusal proc x unit.to unit.width (map_value proc now (gx_in_map g m) unit.from unit.width)) taken_so
+      ∙ ap (λ (n : ℕ). map_refusal proc (gx_in_map g taken) unit.to unit.width n) (value g proc m now unit.from unit.width from)
+      ∙ refusal g proc taken unit.to unit.width moved_number to_taken
+
+  after_so : (refused : Option Stop) → after_unit refused proc now unit (gx_in_map g m) ≡ gx_in_map g (after_unit refused proc now unit m)
+  after_so None =
+      ap (λ (x : MapState). map_written proc now x unit.to unit.width (map_value proc now (gx_in_map g m) unit.from unit.width)) taken_so
+      ∙ ap (λ (n : ℕ). map_written proc now (gx_in_map g taken) unit.to unit.width n) (value g proc m now unit.from unit.width from)
+      ∙ written g proc taken now unit.to unit.width moved_number to_taken
+  after_so (Some stop) = read g proc m unit.from unit.width from
+
+  pub unit_moves : unit_moved proc now unit (gx_in_map g m) ≡ gx_in_map g (unit_moved proc now unit m)
+  unit_moves =
+      ap (λ (r : Option Stop). after_unit r proc now unit (gx_in_map g m)) unit_refuses
+      ∙ after_so (unit_refusal proc now unit m)
+
+-- ---- ARM9's channels
+
+-- a read leaves them
+read_dma_there : (proc : Proc) (place : Place) (m : MapState) (width : Width) → (after_read_at proc place m width).io.nine.dma ≡ m.io.nine.dma
+read_dma_there proc (Cell memory at) m width = refl
+read_dma_there proc (Banks space at) m width = refl
+read_dma_there proc (Port at) m width = read_dma proc m.io (aligned_down width at) width
+read_dma_there proc (Rom at) m width = refl
+read_dma_there proc Nothing m width = refl
+
+pub map_read_dma : (proc : Proc) (m : MapState) (at : ℕ) (width : Width) → (map_read proc m at width).io.nine.dma ≡ m.io.nine.dma
+unfolding map_read
+map_read_dma proc m at width = read_dma_there proc (place_of proc m.io.wramcnt at) m width
+
+-- a write leaves their controls
+port_keeps : (proc : Proc) (now : Tick) (u : IoState) (at : ℕ) (width : Width) (number : ℕ) → IsApartPlace proc (Port at)
+    → KeepsControls u.nine.dma (port_written proc now u (aligned_down width at) width number).nine.dma
+port_keeps Nine now u at width number h = write_keeps now u (aligned_down width at) width number (λ k l. no_control width at k l h)
+port_keeps Seven now u at width number h = keeps_by u.nine.dma _ (seven_write_dma now u (aligned_down width at) width number)
+
+unless_keeps : (refused : Option Stop) (u v : IoState) → KeepsControls u.nine.dma v.nine.dma → KeepsControls u.nine.dma (unless_stopped refused u v).nine.dma
+unless_keeps None u v k = k
+unless_keeps (Some stop) u v k = keeps_same u.nine.dma
+
+banks_keep : (b : Bool) (m n : MapState) → n.io.nine.dma ≡ m.io.nine.dma → (if b then m else n).io.nine.dma ≡ m.io.nine.dma
+banks_keep true m n e = refl
+banks_keep false m n e = e
+
+written_keeps_there : (proc : Proc) (now : Tick) (place : Place) (m : MapState) (width : Width) (number : ℕ) → IsApartPlace proc place
+    → KeepsControls m.io.nine.dma (written_at proc now place m width number).io.nine.dma
+written_keeps_there proc now (Cell memory at) m width number h = keeps_same m.io.nine.dma
+written_keeps_there proc now (Banks space at) m width number h =
+    keeps_by m.io.nine.dma _
+    (banks_keep (is_byte_of_nine proc width && takes_no_bytes Vram) m (record m { io = record m.io { vram = vram_written m.io.vram space at width number } }) refl)
+written_keeps_there proc now (Port at) m width number h =
+    unless_keeps (port_refusal proc m.io (aligned_down width at) width number) m.io (port_written proc now m.io (aligned_down width at) width number)
+    (port_keeps proc now m.io at width number h)
+written_keeps_there proc now (Rom at) m width number h = keeps_same m.io.nine.dma
+written_keeps_there proc now Nothing m width number h = keeps_same m.io.nine.dma
+
+pub map_written_keeps : (proc : Proc) (now : Tick) (m : MapState) (at : ℕ) (width : Width) (number : ℕ) → IsApartPlace proc (place_of proc m.io.wramcnt at)
+    → KeepsControls m.io.nine.dma (map_written proc now m at width number).io.nine.dma
+unfolding map_written
+map_written_keeps proc now m at width number h = written_keeps_there proc now (place_of proc m.io.wramcnt at) m width number h
+
+-- a channel of ARM9's that took a unit may be disabled
+moved_arms : (proc : Proc) (now : Tick) (u : IoState) → ArmsNoMore u.nine.dma (channel_moved proc now u).nine.dma
+moved_arms Nine now u = finished_arms u.nine.dma now
+moved_arms Seven now u = arms_by u.nine.dma u.nine.dma refl
+
+module _ (proc : Proc) (m : MapState) (now : Tick) (unit : DmaUnit) (to : IsApartPlace proc (place_of proc m.io.wramcnt unit.to)) where
+  after_arms : (refused : Option Stop) → ArmsNoMore m.io.nine.dma (after_unit refused proc now unit m).io.nine.dma
+  after_arms None =
+      let left = unit_read proc unit m in
+      let taken = unit_taken proc now unit m in
+      let number = map_value proc now m unit.from unit.width in
+      let dma = m.io.nine.dma in
+      let end = map_written proc now taken unit.to unit.width number in
+      arms_then dma taken.io.nine.dma end.io.nine.dma
+      (arms_then dma left.io.nine.dma taken.io.nine.dma (arms_by dma left.io.nine.dma (map_read_dma proc m unit.from unit.width)) (moved_arms proc now left.io))
+      (arms_kept taken.io.nine.dma end.io.nine.dma
+      (map_written_keeps proc now taken unit.to unit.width number (apart_anyhow proc m.io.wramcnt taken.io.wramcnt unit.to to)))
+  after_arms (Some stop) = arms_by m.io.nine.dma _ (map_read_dma proc m unit.from unit.width)
+
+  pub unit_arms : ArmsNoMore m.io.nine.dma (unit_moved proc now unit m).io.nine.dma
+  unit_arms = after_arms (unit_refusal proc now unit m)

@@ -1,5 +1,5 @@
 use Rattle.std.specs.Prelude.{◌||◌, not}
-use Rattle.std.proofs.Common.{ℕ, ◌≡◌, ◌≢◌, ◌+◌, ◌/◌, ◌%◌, ◌^◌, ◌==◌, ◌&&◌, Bool, true, false, true≢false, if◌then◌else◌, List, [], ◌∷◌, length, Option, Some, None, Result, Ok, Err, refl, sym, ◌∙◌, ap, subst}
+use Rattle.std.proofs.Common.{ℕ, ◌≡◌, ◌≢◌, ◌+◌, ◌/◌, ◌%◌, ◌^◌, ◌==◌, ◌&&◌, Bool, true, false, true≢false, if◌then◌else◌, List, [], ◌∷◌, length, Option, Some, None, Result, Ok, Err, refl, sym, ◌∙◌, ap, subst, arith}
 use Rattle.ds_base.specs.Accesses.{Access, Fetch, Performed, Read, Write, perform, refused_or, with_value}
 use Rattle.ds_base.specs.declared.keys.KeyLine.{KeyLine}
 use Rattle.ds_base.specs.declared.left_out.LeftOut.{LeftOut}
@@ -21,7 +21,7 @@ use Rattle.arm_core.specs.Exceptions.{interrupt_meaning, undefined_meaning}
 use Rattle.arm_core.specs.Meanings.{meaning, skipped}
 use Rattle.arm_core.specs.Registers.{RegisterState, is_thumb}
 use Rattle.arm_core.specs.Steps as steps
-use Rattle.arm_core.specs.Steps.{Setting, enters, executed_word, fetched, fetched_half, fetched_word, stop_of}
+use Rattle.arm_core.specs.Steps.{FetchOutcome, Setting, enters, executed_word, fetched, fetched_half, fetched_word, stop_of}
 use Rattle.arm_core.specs.declared.outcomes.Stepped as arm
 use Rattle.arm_core.specs.declared.outcomes.Stepped.TheVariants.{Cost, Halted, Left}
 use Rattle.arm7_exec.specs.Arm7.{arm7}
@@ -296,9 +296,9 @@ module _ (g : GxState) (old : RegisterState) (r : NineReach) where
   entry_puts : (enter : Bool) → (not enter && any_observes r (data_accesses V5 (vectors_of r.cp15) old (fetched nine_memory V5 old r).instr)) ≡ false
       → Puts g r
       (if enter then carried_out nine_memory V5 old (nine_put g r) (interrupt_meaning (vectors_of r.cp15) old)
-        else let f = fetched nine_memory V5 old (nine_put g r) in nine_executed old (nine_put g r) f.number f.instr (move_of f.instr))
+      else let f = fetched nine_memory V5 old (nine_put g r) in nine_executed old (nine_put g r) f.number f.instr (move_of f.instr))
       (if enter then carried_out nine_memory V5 old r (interrupt_meaning (vectors_of r.cp15) old)
-        else let f = fetched nine_memory V5 old r in nine_executed old r f.number f.instr (move_of f.instr))
+      else let f = fetched nine_memory V5 old r in nine_executed old r f.number f.instr (move_of f.instr))
   entry_puts true h = carried_puts V5 (interrupt_meaning (vectors_of r.cp15) old) refl
   entry_puts false h =
       let there = fetched nine_memory V5 old (nine_put g r) in
@@ -421,9 +421,9 @@ moved_dma rank proc now (Some stop) s = refl
 unit_lets : (rank : ℕ) (proc : Proc) (now : Tick) (g : GxState) (s : MachineState) (unit : DmaUnit) → IsApartPlace proc (place_of proc s.io.wramcnt unit.from)
     → IsApartPlace proc (place_of proc s.io.wramcnt unit.to)
     → (let m = map_of proc s in
-      let n = gx_in_map g m in
-      Lets g s (moved_by rank proc now (unit_refusal proc now unit n) (with_map proc (gx_put g s) (unit_moved proc now unit n)))
-      (moved_by rank proc now (unit_refusal proc now unit m) (with_map proc s (unit_moved proc now unit m))))
+    let n = gx_in_map g m in
+    Lets g s (moved_by rank proc now (unit_refusal proc now unit n) (with_map proc (gx_put g s) (unit_moved proc now unit n)))
+    (moved_by rank proc now (unit_refusal proc now unit m) (with_map proc s (unit_moved proc now unit m))))
 unit_lets rank proc now g s unit from to =
     let m = map_of proc s in
     let n = gx_in_map g m in

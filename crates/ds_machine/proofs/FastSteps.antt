@@ -156,7 +156,7 @@ asleep_stays tick s asleep = ap (λ (m : MachineState). woken_one Seven tick m) 
   one proc false e = refl
 
 -- so such a step ends where it is
-end_stays : (tick : Tick) (s : MachineState) → IsIo s.io → is_settled s.io ≡ true → AreAsleep s → ended tick s ≡ s
+pub end_stays : (tick : Tick) (s : MachineState) → IsIo s.io → is_settled s.io ≡ true → AreAsleep s → ended tick s ≡ s
 unfolding ended
 end_stays tick s is settled asleep =
     ap (λ (u : IoState). woken tick (with_io s u)) (settled_stays tick s.io is settled) ∙ asleep_stays tick s asleep

@@ -46,4 +46,5 @@ pub mod OwnShares
 pub mod OuterLeaves
 pub mod OuterLaw
 pub mod AheadRuns
-pub mod LagCommutes
+pub mod LagSteps
+pub mod LagLaw

@@ -1,0 +1,369 @@
+use Rattle.std.proofs.Common.{ℕ, ◌≡◌, ◌≢◌, ◌<◌, ◌≤◌, ◌⊎◌, inl, inr, Bool, true, false, true≢false, if◌then◌else◌, List, [], length, Option, Some, None, refl, sym, ◌∙◌, ap, subst, arith}
+use Rattle.std.specs.Prelude.{is_some}
+use Rattle.std.proofs.lemmas.Option.{same_Some}
+use Rattle.ds_base.specs.Schedules.{IsLater, Reschedules}
+use Rattle.ds_base.specs.declared.left_out.LeftOut.{LeftOut}
+use Rattle.ds_base.specs.declared.ticks.Tick.{Tick}
+use Rattle.ds_ports.specs.Io.{IoState}
+use Rattle.ds_runs.specs.Actors.{IsNumbered, actor_of, actors}
+use Rattle.ds_runs.specs.Lags.{MayLag, MayStepFirst, StepsBefore}
+use Rattle.ds_runs.specs.Runs.{Ending, IsLeast, MachineStep, Makes, Runs, Stopped, Stops, due_at}
+use Rattle.ds_runs.specs.declared.actors.Actor as actor
+use Rattle.ds_runs.specs.declared.actors.Actor.TheVariants.{Geometry}
+use Rattle.ds_runs.proofs.ActorTable.{due_of_actor}
+use Rattle.ds_runs.proofs.AllActors.{actors_differ}
+use Rattle.ds_runs.proofs.Lags as lags
+use Rattle.ds_runs.proofs.Lists.{at_rank, is_later, least_unique, within}
+use Rattle.ds_runs.proofs.RunLaws.{same_makes}
+use Rattle.gx_fifo.specs.GxStates.{AreWaiting, GxState, gx_finished, is_stalled}
+use Rattle.ds_machine.specs.Apart.{step_with}
+use Rattle.ds_machine.specs.Lagging.{LagRuns, LagStops, StepsBeforeGeometry, acting_due, acting_dues, any_armed, is_quiet, observes_by}
+use Rattle.ds_machine.specs.Reference.{HasSoundParts, IsSound, Shown, awake, due_by, dues_of, reference, reference_step, step_by}
+use Rattle.ds_machine.specs.States.{MachineState}
+use Rattle.ds_machine.specs.Steps.{ended}
+use Rattle.ds_machine.proofs.DueTicks.{due_of_least, due_of_rank, low_rank, steps_as}
+use Rattle.ds_machine.proofs.LagSteps.{QuietLeaves, QuietParts, acting_same, acts_where_due, due_so, gx_put, is_geometry, late_put, maps_same, observes_same, others_due, quiet_acts_never, quiet_leaves, quiet_parts, quiet_step, quiet_where_due, sound_late}
+use Rattle.ds_machine.proofs.MachineSchedule.{Owes, awake_makes, awake_stops, owes_by, steps_here}
+use Rattle.ds_machine.proofs.Moves.{Moves, moves_all, then_all}
+use Rattle.ds_machine.proofs.Wakes.{ended_asleep, ended_settled, ends}
+
+-- A step that doesn't observe geometry may be taken before quiet geometry's steps that are due before it.
+
+-- ---- what is due, by rank
+
+acting_entries : (s : MachineState) → length (acting_dues s) ≡ 24
+unfolding acting_dues
+acting_entries s = refl
+
+acting_of_rank : (s : MachineState) (rank : ℕ) → rank < 24 → due_at (acting_dues s) rank ≡ acting_due (actor_of rank) s
+unfolding acting_dues
+acting_of_rank s rank lt = due_of_actor (λ (a : actor.Actor). acting_due a s) rank lt
+
+acting_low : (s : MachineState) (rank : ℕ) (tick : Tick) → due_at (acting_dues s) rank ≡ Some tick → rank < 24
+acting_low s rank tick h = let k = within (acting_dues s) rank tick h in let e = acting_entries s in omega (arith, k, e)
+
+-- where geometry isn't quiet, all act that are due
+loud_by : (s : MachineState) → is_quiet s.io ≡ false → (a : actor.Actor) → acting_due a s ≡ due_by a s
+loud_by s loud Geometry = ap (λ (b : Bool). if b then None else due_by Geometry s) loud
+loud_by s loud _ = refl
+
+loud_same : (s : MachineState) → is_quiet s.io ≡ false → acting_dues s ≡ dues_of s
+unfolding acting_dues dues_of
+loud_same s loud = maps_same (λ (a : actor.Actor). acting_due a s) (λ (a : actor.Actor). due_by a s) (loud_by s loud) actors
+
+same_or_not : (a b : ℕ) → (a ≡ b) ⊎ (a ≢ b)
+same_or_not a b = grind arith
+
+-- an actor that is due is geometry, or it acts then
+acts_then : (s : MachineState) (other : ℕ) (at : Tick) → due_at (dues_of s) other ≡ Some at → (other ≡ 12) ⊎ (due_at (acting_dues s) other ≡ Some at)
+acts_then s other at h = elim (same_or_not other 12) [
+  | inl same ↦ inl same
+  | inr ne ↦ (let lt = low_rank s other at h in
+      inr (acting_of_rank s other lt ∙ acts_where_due (actor_of other) s (actors_differ 12 other (omega arith) lt ne) ∙ sym (due_of_rank s other lt) ∙ h))
+]
+
+-- the step of which all this is said
+module _ (s : MachineState) (r : ℕ) (t : Tick) (b : StepsBeforeGeometry s r t) where
+  own_low : r < 24
+  own_low = acting_low s r t b.least.there
+
+  not_twelve : r ≢ 12
+  not_twelve same = b.other (subst (λ (x : ℕ). actor_of x ≡ Geometry) (sym same) refl)
+
+  own_due : due_by (actor_of r) s ≡ Some t
+  own_due = sym (acts_where_due (actor_of r) s b.other) ∙ sym (acting_of_rank s r own_low) ∙ b.least.there
+
+  own_there : due_at (dues_of s) r ≡ Some t
+  own_there = due_of_rank s r own_low ∙ own_due
+
+-- ---- it is the least, or quiet geometry is
+
+abbrev ComesFirst : ℕ → ℕ → ℕ → ℕ → Type 0
+ComesFirst u p t r = (u < t) ⊎ ((u ≡ t) × (p ≤ r))
+
+le_or_lt : (x y : ℕ) → (x ≤ y) ⊎ (y < x)
+le_or_lt x y = grind arith
+
+-- one of two comes first
+one_first : (u p t r : ℕ) → ComesFirst u p t r ⊎ ComesFirst t r u p
+one_first u p t r = elim (le_or_lt t u) [
+  | inr lt ↦ inl (inl lt)
+  | inl le ↦ elim (le_or_lt u t) [
+    | inr lt ↦ inr (inl lt)
+    | inl back ↦ elim (le_or_lt p r) [
+      | inl low ↦ inl (inr (omega (arith, le, back), low))
+      | inr high ↦ inr (inr (omega (arith, le, back), omega (arith, high)))
+    ]
+  ]
+]
+
+then_first : (u p t r at other : ℕ) → ComesFirst u p t r → ComesFirst t r at other → ComesFirst u p at other
+then_first u p t r at other one two = elim one [
+  | inl a ↦ elim two [ inl c ↦ inl (omega (arith, a, c)) | inr d ↦ (let e = d.0 in inl (omega (arith, a, e))) ]
+  | inr b ↦ (let same = b.0 in
+      let low = b.1 in
+      elim two [ inl c ↦ inl (omega (arith, same, c)) | inr d ↦ (let e = d.0 in let more = d.1 in inr (omega (arith, same, e), omega (arith, low, more))) ])
+]
+
+not_later : (u p t r : ℕ) → ComesFirst u p t r → u ≤ t
+not_later u p t r h = elim h [ inl a ↦ omega (arith, a) | inr b ↦ (let e = b.0 in omega (arith, e)) ]
+
+-- geometry's due tick is one
+geometry_due : (s : MachineState) (u : Tick) (other : ℕ) (at : Tick) → s.io.gx.due ≡ Some u → other ≡ 12 → due_at (dues_of s) other ≡ Some at → u ≡ at
+geometry_due s u other at due e h =
+    same_Some u at (sym due ∙ sym (due_of_rank s 12 (omega arith)) ∙ subst (λ (x : ℕ). due_at (dues_of s) x ≡ Some at) e h)
+
+module _ (s : MachineState) (r : ℕ) (t : Tick) (b : StepsBeforeGeometry s r t) (u : Tick) (due : s.io.gx.due ≡ Some u) where
+  itself_first : ComesFirst t.0 r u.0 12 → IsLeast (dues_of s) t r
+  itself_first first = record { there = own_there s r t b; least = go } where
+    go : (other : ℕ) (at : Tick) → due_at (dues_of s) other ≡ Some at → (t.0 < at.0) ⊎ ((t.0 ≡ at.0) × (r ≤ other))
+    go other at h = elim (acts_then s other at h) [
+      | inl e ↦ (let same = geometry_due s u other at due e h in
+          subst (λ (x : Tick). ComesFirst t.0 r x.0 other) same (subst (λ (x : ℕ). ComesFirst t.0 r u.0 x) (sym e) first))
+      | inr acts ↦ b.least.least other at acts
+    ]
+
+  geometry_first : ComesFirst u.0 12 t.0 r → IsLeast (dues_of s) u 12
+  geometry_first first = record { there = due_of_rank s 12 (omega arith) ∙ due; least = go } where
+    go : (other : ℕ) (at : Tick) → due_at (dues_of s) other ≡ Some at → (u.0 < at.0) ⊎ ((u.0 ≡ at.0) × (12 ≤ other))
+    go other at h = elim (acts_then s other at h) [
+      | inl e ↦ (let same = geometry_due s u other at due e h in inr (ap (λ (x : Tick). x.0) same, omega (arith, e)))
+      | inr acts ↦ then_first u.0 12 t.0 r at.0 other first (b.least.least other at acts)
+    ]
+
+quiet_or_loud : (quiet : Bool) → (quiet ≡ true) ⊎ (quiet ≡ false)
+quiet_or_loud true = inl refl
+quiet_or_loud false = inr refl
+
+steps_first : (s : MachineState) (r : ℕ) (t : Tick) → StepsBeforeGeometry s r t → MayStepFirst reference 12 r s t
+steps_first s r t b = record { other = not_twelve s r t b; there = own_there s r t b; least = go } where
+  go : IsLeast (dues_of s) t r ⊎ ((u : Tick) × IsLeast (dues_of s) u 12 × (u.0 ≤ t.0))
+  go = elim (quiet_or_loud (is_quiet s.io)) [
+    | inr loud ↦ inl (subst (λ (dues : List (Option Tick)). IsLeast dues t r) (loud_same s loud) b.least)
+    | inl quiet ↦ (let k = quiet_parts s.io quiet in
+        elim (one_first k.tick.0 12 t.0 r) [
+          | inl late ↦ inr (k.tick, geometry_first s r t b k.tick k.due late, not_later k.tick.0 12 t.0 r late)
+          | inr early ↦ inl (itself_first s r t b k.tick k.due early)
+        ])
+  ]
+
+-- ---- geometry's step that is due before it
+
+module _ (s : MachineState) (r : ℕ) (t u : Tick) (b : StepsBeforeGeometry s r t) (least : IsLeast (dues_of s) u 12) where
+  is_quiet_then : is_quiet s.io ≡ true
+  is_quiet_then = elim (quiet_or_loud (is_quiet s.io)) [
+    | inl quiet ↦ quiet
+    | inr loud ↦ (let same = subst (λ (dues : List (Option Tick)). IsLeast dues t r) (loud_same s loud) b.least in
+        absurd (not_twelve s r t b (least_unique (dues_of s) t r u 12 same least).1))
+  ]
+
+  is_due_then : s.io.gx.due ≡ Some u
+  is_due_then = due_of_least s 12 u least
+
+  is_before : u.0 ≤ t.0
+  is_before = not_later u.0 12 t.0 r (least.least r t (own_there s r t b))
+
+  abbrev finished : GxState
+  finished = gx_finished s.io.gx
+
+  after_it : QuietLeaves s.io.gx u
+  after_it = quiet_leaves s u b.sound is_quiet_then is_due_then
+
+  waits_still : StepsBeforeGeometry (late_put finished s) r t
+  waits_still = record {
+    sound = sound_late s b.sound is_quiet_then;
+    least = subst (λ (dues : List (Option Tick)). IsLeast dues t r) (sym (acting_same s b.sound is_quiet_then)) b.least;
+    apart = observes_same (actor_of r) finished s ∙ b.apart;
+    other = b.other;
+  }
+
+  geometry_steps : StepsBefore reference 12 r StepsBeforeGeometry s t u
+  geometry_steps = record {
+    next = late_put finished s;
+    makes = quiet_step s b.sound is_quiet_then;
+    later = subst (IsLater u) (sym (due_of_rank (late_put finished s) 12 (omega arith))) after_it.later;
+    still = waits_still;
+  }
+
+-- ---- what is known of a step that doesn't observe geometry
+
+pub record StepsApart : Type 0 where
+  pub late : (rank : ℕ) (a : actor.Actor) (g : GxState) (s : MachineState) → a ≢ Geometry → observes_by a s ≡ false → is_stalled g ≡ false → is_stalled s.io.gx ≡ false
+      → step_by rank a (late_put g s) ≡ step_with (late_put g) (step_by rank a s)
+  pub put : (rank : ℕ) (a : actor.Actor) (g : GxState) (s : MachineState) → a ≢ Geometry → observes_by a s ≡ false → is_stalled g ≡ false → is_stalled s.io.gx ≡ false
+      → step_by rank a (gx_put g s) ≡ step_with (gx_put g) (step_by rank a s)
+  pub gx : (rank : ℕ) (a : actor.Actor) (s made : MachineState) (outs : List Shown) → a ≢ Geometry → observes_by a s ≡ false → is_stalled s.io.gx ≡ false
+      → step_by rank a s ≡ Makes made outs → made.io.gx ≡ s.io.gx
+  pub arms : (rank : ℕ) (a : actor.Actor) (s made : MachineState) (outs : List Shown) → a ≢ Geometry → observes_by a s ≡ false → is_stalled s.io.gx ≡ false
+      → step_by rank a s ≡ Makes made outs → any_armed s.io.nine.dma ≡ false → any_armed made.io.nine.dma ≡ false
+  pub ends_late : (tick : Tick) (g : GxState) (m : MachineState) → HasSoundParts m → any_armed m.io.nine.dma ≡ false → m.io.gx.selector ≡ 0 → g.selector ≡ 0
+      → ended tick (late_put g m) ≡ late_put g (ended tick m)
+  pub ends_gx : (tick : Tick) (m : MachineState) → (ended tick m).io.gx ≡ m.io.gx
+  pub ends_arms : (tick : Tick) (m : MachineState) → HasSoundParts m → any_armed m.io.nine.dma ≡ false → any_armed (ended tick m).io.nine.dma ≡ false
+
+-- ---- what the step makes of due ticks: where geometry is hidden, as though a swap waited, the actor is the least of all
+
+abbrev hidden : GxState → GxState
+hidden g = record g { due = None; swap_waits = true }
+
+hides : (s : MachineState) → is_quiet s.io ≡ true → (a : actor.Actor) → acting_due a s ≡ due_by a (gx_put (hidden s.io.gx) s)
+hides s quiet Geometry = quiet_acts_never s quiet
+hides s quiet a = sym (due_so a (hidden s.io.gx) s refl refl)
+
+hidden_dues : (s : MachineState) → is_quiet s.io ≡ true → acting_dues s ≡ dues_of (gx_put (hidden s.io.gx) s)
+unfolding acting_dues dues_of
+hidden_dues s quiet = maps_same (λ (a : actor.Actor). acting_due a s) (λ (a : actor.Actor). due_by a (gx_put (hidden s.io.gx) s)) (hides s quiet) actors
+
+hidden_sound : (s : MachineState) → HasSoundParts s → HasSoundParts (gx_put (hidden s.io.gx) s)
+hidden_sound s sound =
+    let waits = sound.io.gx in
+    record {
+      io = record { nine = sound.io.nine; seven = sound.io.seven; gx = record { entries = waits.entries; left = waits.left; given = waits.given; due = refl } };
+      keys = sound.keys;
+    }
+
+-- what such a step comes to, and what follows it
+record Steps (s next : MachineState) (r : ℕ) (t : Tick) (outs : List Shown) : Type 0 where
+  made : MachineState
+  took : step_by r (actor_of r) s ≡ Makes made outs
+  ended_so : ended t made ≡ next
+  parts : HasSoundParts made
+  moves : Moves t s next
+  sound : IsSound next
+  gx : next.io.gx ≡ s.io.gx
+  made_gx : made.io.gx ≡ s.io.gx
+  made_arms : any_armed made.io.nine.dma ≡ false
+  arms : any_armed next.io.nine.dma ≡ false
+
+module _ (c : StepsApart) where
+  module _ (s made : MachineState) (r : ℕ) (t : Tick) (outs : List Shown) (b : StepsBeforeGeometry s r t) (quiet : is_quiet s.io ≡ true)
+      (took : step_by r (actor_of r) s ≡ Makes made outs) where
+    is_free : is_stalled s.io.gx ≡ false
+    is_free = (quiet_parts s.io quiet).free
+
+    gx_stays : made.io.gx ≡ s.io.gx
+    gx_stays = c.gx r (actor_of r) s made outs b.other b.apart is_free took
+
+    arms_stay : any_armed made.io.nine.dma ≡ false
+    arms_stay = c.arms r (actor_of r) s made outs b.other b.apart is_free took (quiet_parts s.io quiet).disarmed
+
+    hidden_step : step_by r (actor_of r) (gx_put (hidden s.io.gx) s) ≡ Makes (gx_put (hidden s.io.gx) made) outs
+    hidden_step = c.put r (actor_of r) (hidden s.io.gx) s b.other b.apart is_free is_free ∙ ap (step_with (gx_put (hidden s.io.gx))) took
+
+    hidden_owes : Owes (actor_of r) t (gx_put (hidden s.io.gx) s) (gx_put (hidden s.io.gx) made)
+    hidden_owes =
+        let s0 = gx_put (hidden s.io.gx) s in
+        let least = subst (λ (dues : List (Option Tick)). IsLeast dues t r) (hidden_dues s quiet) b.least in
+        owes_by (actor_of r) r t s0 (gx_put (hidden s.io.gx) made) outs (steps_here s0 t r (hidden_sound s b.sound.parts) least) hidden_step
+
+    shown_moves : (a : actor.Actor) → is_geometry a ≡ false → IsNumbered a → Reschedules t (due_by a s) (due_by a made)
+    shown_moves a other n =
+        let g = hidden s.io.gx in
+        let stalled : is_stalled g ≡ is_stalled made.io.gx = ap (λ (x : GxState). is_stalled x) (sym gx_stays) in
+        subst (λ (o : Option Tick). Reschedules t o (due_by a made)) (due_so a g s other refl)
+        (subst (λ (o : Option Tick). Reschedules t (due_by a (gx_put g s)) o) (due_so a g made other stalled) (hidden_owes.moves a n))
+
+    made_moves : Moves t s made
+    made_moves Geometry n = inl (ap (λ (g : GxState). g.due) gx_stays)
+    made_moves a n = shown_moves a refl n
+
+    made_parts : HasSoundParts made
+    made_parts = record {
+      io = record { nine = hidden_owes.sound.io.nine; seven = hidden_owes.sound.io.seven; gx = subst AreWaiting (sym gx_stays) b.sound.parts.io.gx };
+      keys = hidden_owes.sound.keys;
+    }
+
+    end_made : Steps s (ended t made) r t outs
+    end_made =
+        let w = ends t made made_parts in
+        record {
+          made = made;
+          took = took;
+          ended_so = refl;
+          parts = made_parts;
+          moves = then_all t s made (ended t made) made_moves w.moves;
+          sound = record { parts = w.sound; asleep = ended_asleep t made; settled = ended_settled t made made_parts.io };
+          gx = c.ends_gx t made ∙ gx_stays;
+          made_gx = gx_stays;
+          made_arms = arms_stay;
+          arms = c.ends_arms t made made_parts arms_stay;
+        }
+
+  -- ---- the two steps in either order
+
+  module _ (s late : MachineState) (r : ℕ) (t u : Tick) (b : StepsBeforeGeometry s r t) (least : IsLeast (dues_of s) u 12) (goes : reference_step 12 s ≡ Makes late []) where
+    quiet : is_quiet s.io ≡ true
+    quiet = is_quiet_then s r t u b least
+
+    abbrev g : GxState
+    g = gx_finished s.io.gx
+
+    leaves : QuietLeaves s.io.gx u
+    leaves = after_it s r t u b least
+
+    late_is : late_put g s ≡ late
+    late_is = (same_makes (late_put g s) late [] [] (sym (quiet_step s b.sound quiet) ∙ goes)).0
+
+    -- what it comes to after geometry's
+    there : (came : MachineStep MachineState Shown LeftOut) → step_by r (actor_of r) s ≡ came → reference_step r late ≡ awake (Some t) (step_with (late_put g) came)
+    there came took =
+        let a = actor_of r in
+        let free = (quiet_parts s.io quiet).free in
+        let due = others_due a g s b.other (leaves.free ∙ sym free) ∙ own_due s r t b in
+        let step = c.late r a g s b.other b.apart leaves.free free ∙ ap (step_with (late_put g)) took in
+        subst (λ (m : MachineState). reference_step r m ≡ awake (Some t) (step_with (late_put g) came)) late_is
+        (steps_as (late_put g s) r a (Some t) (awake (Some t) (step_with (late_put g) came)) refl due (ap (awake (Some t)) step))
+
+    steps_so : (next : MachineState) (outs : List Shown) → reference_step r s ≡ Makes next outs → Steps s next r t outs
+    steps_so next outs h =
+        let came = step_by r (actor_of r) s in
+        let k = awake_makes t came next outs (subst (λ (o : Option Tick). awake o came ≡ Makes next outs) (own_due s r t b) h) in
+        subst (λ (m : MachineState). Steps s m r t outs) k.2 (end_made s k.0 r t outs b quiet k.1)
+
+    halts : (left : MachineState) (stop : LeftOut) → reference_step r s ≡ Stops stop left → (after : MachineState) × (reference_step r late ≡ Stops stop after)
+    halts left stop h = (late_put g left, there (Stops stop left) (awake_stops (due_by (actor_of r) s) (step_by r (actor_of r) s) left stop h))
+
+    module _ (next : MachineState) (outs : List Shown) (k : Steps s next r t outs) where
+      least_still : IsLeast (dues_of next) u 12
+      least_still = record { there = due_of_rank next 12 (omega arith) ∙ ap (λ (x : GxState). x.due) k.gx ∙ is_due_then s r t u b least; least = go } where
+        go : (other : ℕ) (at : Tick) → due_at (dues_of next) other ≡ Some at → (u.0 < at.0) ⊎ ((u.0 ≡ at.0) × (12 ≤ other))
+        go other at h = elim (at_rank t (dues_of s) (dues_of next) (moves_all t s next k.moves) other) [
+          | inl same ↦ least.least other at (sym same ∙ h)
+          | inr later ↦ (let lt = is_later t (due_at (dues_of next) other) at later h in let le = is_before s r t u b least in inl (omega (arith, lt, le)))
+        ]
+
+      own_after : reference_step r late ≡ Makes (late_put g next) outs
+      own_after =
+          let q = quiet_parts s.io quiet in
+          let made : ended t (late_put g k.made) ≡ late_put g next =
+          c.ends_late t g k.made k.parts k.made_arms (ap (λ (x : GxState). x.selector) k.made_gx ∙ q.selector) leaves.selector ∙ ap (late_put g) k.ended_so in
+          there (Makes k.made outs) k.took ∙ ap (λ (m : MachineState). (let step : MachineStep MachineState Shown LeftOut = Makes m outs in step)) made
+
+      still_quiet : is_quiet next.io ≡ true
+      still_quiet =
+          let q = quiet_parts s.io quiet in
+          quiet_where_due next.io (ap (λ (x : GxState). x.selector) k.gx ∙ q.selector) k.arms (ap (λ (x : GxState). is_stalled x) k.gx ∙ q.free)
+          ∙ ap is_some (ap (λ (x : GxState). x.due) k.gx ∙ q.due)
+
+      geometry_after_it : reference_step 12 next ≡ Makes (late_put g next) []
+      geometry_after_it =
+          quiet_step next k.sound still_quiet
+          ∙ ap (λ (x : GxState). (let step : MachineStep MachineState Shown LeftOut = Makes (late_put (gx_finished x) next) [] in step)) k.gx
+
+  pub may_lag : MayLag reference 12 StepsBeforeGeometry
+  may_lag = record {
+    first = steps_first;
+    steps = λ s r t u b least. geometry_steps s r t u b least;
+    commutes = λ s late next r t u outs b least goes h.
+        (let k = steps_so s late r t u b least goes next outs h in (
+          least_still s late r t u b least goes next outs k,
+          (late_put (gx_finished s.io.gx) next, own_after s late r t u b least goes next outs k, geometry_after_it s late r t u b least goes next outs k),
+        ));
+    halts = λ s late left r t u stop b least goes h. halts s late r t u b least goes left stop h;
+  }
+
+  pub runs_late : LagRuns
+  runs_late s next rank tick limit outs b lt h end rest = lags.lag_agrees reference 12 StepsBeforeGeometry may_lag limit end outs rest s next rank tick b lt h
+
+  pub stops_late : LagStops
+  stops_late s after rank tick limit stop b lt h = lags.lag_stops reference 12 StepsBeforeGeometry may_lag limit s after rank tick stop b lt h

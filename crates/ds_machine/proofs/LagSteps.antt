@@ -1,0 +1,336 @@
+use Rattle.std.proofs.Common.{ℕ, ◌≡◌, ◌≢◌, ◌+◌, ◌%◌, ◌^◌, ◌==◌, Bool, true, false, true≢false, if◌then◌else◌, List, [], ◌∷◌, map, Option, Some, None, refl, sym, ◌∙◌, ap, arith}
+use Rattle.std.specs.Prelude.{◌&&◌, ◌||◌, not, max, is_some}
+use Rattle.ds_base.specs.Accesses.{Access, Fetch, Read, Write}
+use Rattle.ds_base.specs.Schedules.{IsLater}
+use Rattle.ds_base.specs.declared.left_out.LeftOut.{LeftOut}
+use Rattle.ds_base.specs.declared.memories.Width.{Width}
+use Rattle.ds_base.specs.declared.memories.Width.TheVariants.{Half, Word}
+use Rattle.ds_base.specs.declared.processors.Arch.{Arch}
+use Rattle.ds_base.specs.declared.processors.Proc.{Proc}
+use Rattle.ds_base.specs.declared.processors.Proc.TheVariants.{Nine, Seven}
+use Rattle.ds_base.specs.declared.ticks.Tick.{Tick}
+use Rattle.arm_core.specs.Registers.{RegisterState, is_thumb}
+use Rattle.arm_core.specs.Steps.{enters, fetched, fetched_half, fetched_word}
+use Rattle.arm_words.specs.ArmTable.{decoded_arm}
+use Rattle.arm_words.specs.ThumbTable.{decoded_thumb}
+use Rattle.arm_words.specs.declared.instructions.Instr.{Instr}
+use Rattle.cp15_tcm.specs.TightlyCoupled.{tcm_of}
+use Rattle.cp15_tcm.specs.declared.answers.Tcm.{Tcm}
+use Rattle.cp15_tcm.specs.declared.answers.Tcm.TheVariants.{Itcm, Dtcm, Past}
+use Rattle.ds_dma.specs.Controls.{is_enabled, waits_for}
+use Rattle.ds_dma.specs.States.{DmaState, awaits_geometry, channel_at, channel_due}
+use Rattle.ds_dma.specs.Channels.{is_running, is_triggered}
+use Rattle.ds_dma.specs.declared.controls.Cause.TheVariants as causes
+use Rattle.ds_map.specs.Accesses.{fetched_at, map_fetched}
+use Rattle.ds_map.specs.Maps.{MapState}
+use Rattle.ds_map.specs.Views.{NineReach, nine_memory, tcm_fetched}
+use Rattle.ds_places.specs.AddressTables.{place_of}
+use Rattle.ds_places.specs.declared.kinds.Place.{Place}
+use Rattle.ds_places.specs.declared.kinds.Place.TheVariants.{Cell, Banks, Port, Rom, Nothing}
+use Rattle.ds_ports.specs.Dues.{IsIo, held_due}
+use Rattle.ds_ports.specs.Io.{IoState, is_settled, tick_after, stall_ends, with_gx}
+use Rattle.ds_ports.specs.ProcessorIo.{blocks_processor}
+use Rattle.ds_ports.proofs.Settles.{no_stall_begins}
+use Rattle.ds_runs.specs.Runs.{MachineStep, Makes}
+use Rattle.ds_runs.specs.declared.actors.Actor as actor
+use Rattle.ds_runs.specs.declared.actors.Actor.TheVariants.{KeyScript, Video, Timer, Divider, SquareRoot, Geometry, Card, Dma, Processor}
+use Rattle.ds_runs.specs.Actors.{actors}
+use Rattle.ds_timers.specs.Irqs.{irq_levelled}
+use Rattle.gx_fifo.specs.Entries.{complete_command}
+use Rattle.gx_fifo.specs.GxStates.{AreWaiting, GxState, done_by, gx_finished, gx_level, is_half_empty, is_stalled, shown_count}
+use Rattle.gx_fifo.proofs.Laws.{finished_later, finished_waiting}
+use Rattle.gx_matrix.specs.declared.commands.GeometryCommand.{GeometryCommand}
+use Rattle.ds_machine.specs.Channels.{one_event}
+use Rattle.ds_machine.specs.Lagging.{access_observes, acting_due, acting_dues, any_armed, any_observes, is_armed, is_quiet, nine_observes, observes_by}
+use Rattle.ds_machine.specs.Private.{data_accesses}
+use Rattle.ds_machine.specs.Reference.{AreAsleep, HasSoundParts, IsSound, Shown, after_geometry, awake, due_by, due_unless, reference_step}
+use Rattle.ds_machine.specs.Sides.{nine_side}
+use Rattle.ds_machine.specs.States.{MachineState}
+use Rattle.ds_machine.specs.Steps.{ended, line_of, nine_reach, tick_of, wakes, with_io, with_processor}
+use Rattle.ds_machine.proofs.DueTicks.{steps_as}
+use Rattle.ds_machine.proofs.FastSteps.{end_stays}
+use Rattle.ds_machine.proofs.Quiet.{neither}
+
+-- The step of quiet geometry: nobody hears of it, so that it changes geometry and no more.
+
+-- another geometry engine in the machine, and that with another event taken
+abbrev pub gx_put : GxState → MachineState → MachineState
+gx_put g s = record s { io = with_gx g s.io }
+
+abbrev pub late_put : GxState → MachineState → MachineState
+late_put g s = record s { io = with_gx g s.io; events = s.events + 1 }
+
+-- ---- what is so where geometry is quiet
+
+pub record QuietParts (u : IoState) : Type 0 where
+  pub tick : Tick
+  pub due : u.gx.due ≡ Some tick
+  pub selector : u.gx.selector ≡ 0
+  pub disarmed : any_armed u.nine.dma ≡ false
+  pub free : is_stalled u.gx ≡ false
+
+two : (a b : Bool) → (a && b) ≡ true → (a ≡ true) × (b ≡ true)
+two true true h = (refl, refl)
+two true false h = absurd (true≢false (sym h))
+two false b h = absurd (true≢false (sym h))
+
+negated : (a : Bool) → not a ≡ true → a ≡ false
+negated true h = absurd (true≢false (sym h))
+negated false h = refl
+
+equal_is : (x y : ℕ) → (x == y) ≡ true → x ≡ y
+equal_is x y h = grind (arith, h)
+
+is_equal : (x y : ℕ) → x ≡ y → (x == y) ≡ true
+is_equal x y h = grind (arith, h)
+
+some_is : (o : Option Tick) → is_some o ≡ true → (tick : Tick) × (o ≡ Some tick)
+some_is None h = absurd (true≢false (sym h))
+some_is (Some tick) h = (tick, refl)
+
+pub quiet_parts : (u : IoState) → is_quiet u ≡ true → QuietParts u
+quiet_parts u h =
+    let a = two (is_some u.gx.due) ((u.gx.selector == 0) && (not (any_armed u.nine.dma) && not (is_stalled u.gx))) h in
+    let b = two (u.gx.selector == 0) (not (any_armed u.nine.dma) && not (is_stalled u.gx)) a.1 in
+    let c = two (not (any_armed u.nine.dma)) (not (is_stalled u.gx)) b.1 in
+    let some = some_is u.gx.due a.0 in
+    record {
+      tick = some.0;
+      due = some.1;
+      selector = equal_is u.gx.selector 0 b.0;
+      disarmed = negated (any_armed u.nine.dma) c.0;
+      free = negated (is_stalled u.gx) c.1;
+    }
+
+-- else geometry is quiet exactly where it is due
+quiet_by : (some none armed stalled : Bool) → none ≡ true → armed ≡ false → stalled ≡ false → (some && (none && (not armed && not stalled))) ≡ some
+quiet_by true none armed stalled a b c = rw (a, b, c) refl
+quiet_by false none armed stalled a b c = refl
+
+pub quiet_where_due : (u : IoState) → u.gx.selector ≡ 0 → any_armed u.nine.dma ≡ false → is_stalled u.gx ≡ false → is_quiet u ≡ is_some u.gx.due
+quiet_where_due u selector disarmed free =
+    quiet_by (is_some u.gx.due) (u.gx.selector == 0) (any_armed u.nine.dma) (is_stalled u.gx) (is_equal u.gx.selector 0 selector) disarmed free
+
+-- ---- what its step leaves of geometry
+
+done_selector : (due : Option Tick) (head : Option GeometryCommand) (s : GxState) → (done_by due head s).selector ≡ s.selector
+done_selector None head s = refl
+done_selector (Some now) None s = refl
+done_selector (Some now) (Some command) s = refl
+
+pub record QuietLeaves (s : GxState) (tick : Tick) : Type 0 where
+  pub free : is_stalled (gx_finished s) ≡ false
+  pub selector : (gx_finished s).selector ≡ 0
+  pub later : IsLater tick (gx_finished s).due
+
+pub quiet_leaves : (s : MachineState) (tick : Tick) → IsSound s → is_quiet s.io ≡ true → s.io.gx.due ≡ Some tick → QuietLeaves s.io.gx tick
+quiet_leaves s tick sound quiet due =
+    let k = quiet_parts s.io quiet in
+    record {
+      free = no_stall_begins s.io.gx k.free;
+      selector = done_selector s.io.gx.due (complete_command s.io.gx.fifo.entries) s.io.gx ∙ k.selector;
+      later = finished_later s.io.gx tick sound.parts.io.gx due;
+    }
+
+-- ---- the units are settled as before with another geometry of which nobody hears
+
+level_none : (n : ℕ) (a b : Bool) → n ≡ 0 → ((n == 1 && a) || (n == 2 && b)) ≡ false
+level_none n a b h = rw h refl
+
+pub silent_level : (g : GxState) → g.selector ≡ 0 → gx_level g ≡ false
+silent_level g h = level_none g.selector (is_half_empty g) (shown_count g == 0) h
+
+-- a channel that waits for geometry is armed
+one_waits : (on start runs : Bool) → (on && start) ≡ false → (on && start && not runs) ≡ false
+one_waits true true runs h = absurd (true≢false h)
+one_waits true false runs h = refl
+one_waits false start runs h = refl
+
+waits_armed : (dma : DmaState) (which : ℕ) → is_armed dma which ≡ false → is_triggered dma.proc causes.Geometry (channel_at dma.channels which) ≡ false
+waits_armed dma which h =
+    let c = channel_at dma.channels which in one_waits (is_enabled c.cnt) (waits_for dma.proc causes.Geometry c.cnt) (is_running c) h
+
+none_of : (a b c d : Bool) → a ≡ false → b ≡ false → c ≡ false → d ≡ false → (a || b || c || d) ≡ false
+none_of a b c d h i j k = rw (h, i, j, k) refl
+
+pub none_awaits : (dma : DmaState) → any_armed dma ≡ false → awaits_geometry dma ≡ false
+none_awaits dma h =
+    let l = neither (is_armed dma 0 || is_armed dma 1 || is_armed dma 2) (is_armed dma 3) h in
+    let m = neither (is_armed dma 0 || is_armed dma 1) (is_armed dma 2) l.0 in
+    let n = neither (is_armed dma 0) (is_armed dma 1) m.0 in
+    none_of _ _ _ _ (waits_armed dma 0 n.0) (waits_armed dma 1 n.1) (waits_armed dma 2 m.1) (waits_armed dma 3 l.1)
+
+no_room : (a b waits : Bool) → waits ≡ false → (a && waits) ≡ (b && waits)
+no_room true true waits h = refl
+no_room true false waits h = h
+no_room false true waits h = sym h
+no_room false false waits h = refl
+
+pub settled_so : (u : IoState) (g : GxState) → g.selector ≡ 0 → u.gx.selector ≡ 0 → any_armed u.nine.dma ≡ false → is_settled (with_gx g u) ≡ is_settled u
+settled_so u g here there disarmed =
+    ap (λ (on : Bool). ((irq_levelled u.nine.irq on).if_ == u.nine.irq.if_) && not (is_half_empty g && awaits_geometry u.nine.dma)) (silent_level g here ∙ sym (silent_level u.gx there))
+    ∙ ap (λ (b : Bool). ((irq_levelled u.nine.irq (gx_level u.gx)).if_ == u.nine.irq.if_) && not b)
+    (no_room (is_half_empty g) (is_half_empty u.gx) (awaits_geometry u.nine.dma) (none_awaits u.nine.dma disarmed))
+
+-- ---- the machine after it is sound
+
+pub sound_late : (s : MachineState) → IsSound s → is_quiet s.io ≡ true → IsSound (late_put (gx_finished s.io.gx) s)
+sound_late s sound quiet =
+    let k = quiet_parts s.io quiet in
+    record {
+      parts = record {
+        io = record { nine = sound.parts.io.nine; seven = sound.parts.io.seven; gx = finished_waiting s.io.gx sound.parts.io.gx };
+        keys = sound.parts.keys;
+      };
+      asleep = asleep;
+      settled =
+          settled_so s.io (gx_finished s.io.gx) (done_selector s.io.gx.due (complete_command s.io.gx.fifo.entries) s.io.gx ∙ k.selector) k.selector k.disarmed ∙ sound.settled;
+    } where
+      asleep : (proc : Proc) → wakes (late_put (gx_finished s.io.gx) s) proc ≡ false
+      asleep Nine = sound.asleep Nine
+      asleep Seven = sound.asleep Seven
+
+-- ---- the step
+
+no_stall_ends : (s : MachineState) → is_stalled s.io.gx ≡ false → stall_ends s.io ≡ false
+no_stall_ends s h = ap (λ (b : Bool). b && not (is_stalled (gx_finished s.io.gx))) h
+
+geometry_late : (s : MachineState) → stall_ends s.io ≡ false → after_geometry s ≡ late_put (gx_finished s.io.gx) s
+geometry_late s h =
+    ap (λ (b : Bool).
+    with_processor Nine
+    (one_event (with_io s (record s.io { gx = gx_finished s.io.gx; released = if b then tick_after s.io.gx.due s.io.released else s.io.released })))
+    (record s.nine.processor { due = if b then max s.nine.processor.due (tick_after s.io.gx.due s.nine.processor.due) else s.nine.processor.due })) h
+
+pub quiet_step : (s : MachineState) → IsSound s → is_quiet s.io ≡ true → reference_step 12 s ≡ Makes (late_put (gx_finished s.io.gx) s) []
+quiet_step s sound quiet =
+    let k = quiet_parts s.io quiet in
+    let late = late_put (gx_finished s.io.gx) s in
+    let after = sound_late s sound quiet in
+    let same : ended k.tick (after_geometry s) ≡ late =
+    ap (ended k.tick) (geometry_late s (no_stall_ends s k.free)) ∙ end_stays k.tick late after.parts.io after.settled after.asleep in
+    let came : MachineStep MachineState Shown LeftOut = Makes late [] in
+    steps_as s 12 Geometry (Some k.tick) came refl k.due (ap (λ (m : MachineState). (let step : MachineStep MachineState Shown LeftOut = Makes m [] in step)) same)
+
+-- ---- when the others are due
+
+abbrev pub is_geometry : actor.Actor → Bool
+is_geometry Geometry = true
+is_geometry _ = false
+
+not_geometry : (a : actor.Actor) → a ≢ Geometry → is_geometry a ≡ false
+not_geometry Geometry other = absurd (other refl)
+not_geometry _ other = refl
+
+pub due_so : (a : actor.Actor) (g : GxState) (s : MachineState) → is_geometry a ≡ false → is_stalled g ≡ is_stalled s.io.gx → due_by a (gx_put g s) ≡ due_by a s
+due_so Geometry g s other same = absurd (true≢false other)
+due_so (Timer Nine number) g s other same = refl
+due_so (Timer Seven number) g s other same = refl
+due_so (Dma Nine channel) g s other same = ap (λ (stalled : Bool). held_due stalled s.io.released (channel_due s.io.nine.dma channel)) same
+due_so (Dma Seven channel) g s other same = refl
+due_so (Processor Nine) g s other same = ap (λ (stalled : Bool). due_unless (blocks_processor s.io.nine || stalled) s.nine.processor) same
+due_so (Processor Seven) g s other same = refl
+due_so _ g s other same = refl
+
+-- a count of events changes no due tick
+due_counted : (a : actor.Actor) (g : GxState) (s : MachineState) → due_by a (late_put g s) ≡ due_by a (gx_put g s)
+due_counted (Processor Nine) g s = refl
+due_counted (Processor Seven) g s = refl
+due_counted _ g s = refl
+
+pub others_due : (a : actor.Actor) (g : GxState) (s : MachineState) → a ≢ Geometry → is_stalled g ≡ is_stalled s.io.gx → due_by a (late_put g s) ≡ due_by a s
+others_due a g s other same = due_counted a g s ∙ due_so a g s (not_geometry a other) same
+
+pub others_due_put : (a : actor.Actor) (g : GxState) (s : MachineState) → a ≢ Geometry → is_stalled g ≡ is_stalled s.io.gx → due_by a (gx_put g s) ≡ due_by a s
+others_due_put a g s other same = due_so a g s (not_geometry a other) same
+
+-- all act that are due, but quiet geometry
+pub maps_same : (f g : actor.Actor → Option Tick) → ((a : actor.Actor) → f a ≡ g a) → (all : List actor.Actor) → map f all ≡ map g all
+maps_same f g same [] = refl
+maps_same f g same (a ∷ rest) = ap (λ (o : Option Tick). o ∷ map f rest) (same a) ∙ ap (λ (l : List (Option Tick)). g a ∷ l) (maps_same f g same rest)
+
+quiet_never : (quiet : Bool) (due : Option Tick) → quiet ≡ is_some due → (if quiet then None else due) ≡ None
+quiet_never true due h = refl
+quiet_never false None h = refl
+quiet_never false (Some tick) h = absurd (true≢false (sym h))
+
+pub quiet_acts_never : (s : MachineState) → is_quiet s.io ≡ true → acting_due Geometry s ≡ None
+quiet_acts_never s quiet = ap (λ (b : Bool). if b then None else due_by Geometry s) quiet
+
+pub acts_where_due : (a : actor.Actor) (s : MachineState) → a ≢ Geometry → acting_due a s ≡ due_by a s
+acts_where_due Geometry s other = absurd (other refl)
+acts_where_due _ s other = refl
+
+acting_so : (s : MachineState) (g : GxState) → is_quiet s.io ≡ true → g.selector ≡ 0 → is_stalled g ≡ false → (a : actor.Actor) → acting_due a (late_put g s) ≡ acting_due a s
+acting_so s g quiet selector free Geometry =
+    let k = quiet_parts s.io quiet in
+    quiet_never (is_quiet (with_gx g s.io)) g.due (quiet_where_due (with_gx g s.io) selector k.disarmed free) ∙ sym (quiet_acts_never s quiet)
+acting_so s g quiet selector free (Dma Nine channel) = due_so (Dma Nine channel) g s refl (free ∙ sym (quiet_parts s.io quiet).free)
+acting_so s g quiet selector free (Processor Nine) = due_so (Processor Nine) g s refl (free ∙ sym (quiet_parts s.io quiet).free)
+acting_so s g quiet selector free (Timer Nine number) = refl
+acting_so s g quiet selector free (Timer Seven number) = refl
+acting_so s g quiet selector free (Dma Seven channel) = refl
+acting_so s g quiet selector free (Processor Seven) = refl
+acting_so s g quiet selector free _ = refl
+
+pub acting_same : (s : MachineState) → IsSound s → is_quiet s.io ≡ true → acting_dues (late_put (gx_finished s.io.gx) s) ≡ acting_dues s
+unfolding acting_dues
+acting_same s sound quiet =
+    let k = quiet_parts s.io quiet in
+    let l = quiet_leaves s k.tick sound quiet k.due in
+    maps_same (λ (a : actor.Actor). acting_due a (late_put (gx_finished s.io.gx) s)) (λ (a : actor.Actor). acting_due a s) (acting_so s (gx_finished s.io.gx) quiet l.selector l.free) actors
+
+-- ---- what observes geometry doesn't depend on it
+
+-- what is fetched, of ports too, is the same
+place_fetched : (place : Place) (g : GxState) (m : MapState) (width : Width) → fetched_at Nine place (record m { io = with_gx g m.io }) width ≡ fetched_at Nine place m width
+place_fetched (Cell memory at) g m width = refl
+place_fetched (Banks space at) g m width = refl
+place_fetched (Port at) g m width = refl
+place_fetched (Rom at) g m width = refl
+place_fetched Nothing g m width = refl
+
+past_fetched : (g : GxState) (m : MapState) (at : ℕ) (width : Width) → map_fetched Nine (record m { io = with_gx g m.io }) at width ≡ map_fetched Nine m at width
+unfolding map_fetched
+past_fetched g m at width = place_fetched (place_of Nine m.io.wramcnt at) g m width
+
+abbrev reach_put : GxState → NineReach → NineReach
+reach_put g r = record r { map = record r.map { io = with_gx g r.map.io } }
+
+tcm_fetch : (tcm : Tcm) (g : GxState) (r : NineReach) (at : ℕ) (width : Width) → tcm_fetched tcm (reach_put g r) at width ≡ tcm_fetched tcm r at width
+tcm_fetch (Itcm place) g r at width = refl
+tcm_fetch (Dtcm place) g r at width = refl
+tcm_fetch Past g r at width = past_fetched g r.map at width
+
+fetch_so : (thumb : Bool) (arch : Arch) (g : GxState) (registers : RegisterState) (r : NineReach)
+    → (if thumb then fetched_half nine_memory arch registers (reach_put g r) else fetched_word nine_memory arch registers (reach_put g r)).instr
+    ≡ (if thumb then fetched_half nine_memory arch registers r else fetched_word nine_memory arch registers r).instr
+fetch_so true arch g registers r = ap (λ (n : ℕ). decoded_thumb arch (n % 2 ^ 16)) (tcm_fetch (tcm_of r.cp15 registers.pc false true) g r registers.pc Half)
+fetch_so false arch g registers r = ap (λ (n : ℕ). decoded_arm arch n) (tcm_fetch (tcm_of r.cp15 registers.pc false true) g r registers.pc Word)
+
+access_so : (g : GxState) (r : NineReach) (access : Access) → access_observes (reach_put g r) access ≡ access_observes r access
+access_so g r (Fetch at width) = refl
+access_so g r (Read at width) = refl
+access_so g r (Write at width value) = refl
+
+accesses_so : (g : GxState) (r : NineReach) (accesses : List Access) → any_observes (reach_put g r) accesses ≡ any_observes r accesses
+accesses_so g r [] = refl
+accesses_so g r (access ∷ rest) =
+    ap (λ (b : Bool). b || any_observes (reach_put g r) rest) (access_so g r access) ∙ ap (λ (b : Bool). access_observes r access || b) (accesses_so g r rest)
+
+nine_so : (g : GxState) (s : MachineState) → nine_observes (late_put g s) ≡ nine_observes s
+nine_so g s =
+    let registers = s.nine.processor.registers in
+    let r = nine_reach (tick_of s.nine.processor) s in
+    let list : Option Instr → List Access = λ instr. data_accesses nine_side.arch (nine_side.base r) registers instr in
+    let free = not (enters (line_of s Nine) registers) in
+    ap (λ (instr : Option Instr). free && any_observes (reach_put g r) (list instr)) (fetch_so (is_thumb registers) nine_side.arch g registers r)
+    ∙ ap (λ (b : Bool). free && b) (accesses_so g r (list (fetched nine_memory nine_side.arch registers r).instr))
+
+pub observes_same : (a : actor.Actor) (g : GxState) (s : MachineState) → observes_by a (late_put g s) ≡ observes_by a s
+observes_same Video g s = refl
+observes_same (Dma Nine channel) g s = refl
+observes_same (Dma Seven channel) g s = refl
+observes_same (Processor Nine) g s = nine_so g s
+observes_same (Processor Seven) g s = refl
+observes_same _ g s = refl

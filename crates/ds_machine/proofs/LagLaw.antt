@@ -1,13 +1,12 @@
-use Rattle.std.proofs.Common.{ℕ, ◌≡◌, ◌≢◌, ◌<◌, ◌≤◌, ◌⊎◌, inl, inr, Bool, true, false, true≢false, if◌then◌else◌, List, [], length, Option, Some, None, refl, sym, ◌∙◌, ap, subst, arith}
+use Rattle.std.proofs.Common.{ℕ, ◌≡◌, ◌≢◌, ◌<◌, ◌≤◌, ◌⊎◌, inl, inr, Bool, true, false, if◌then◌else◌, List, [], length, Option, Some, None, refl, sym, ◌∙◌, ap, subst, arith}
 use Rattle.std.specs.Prelude.{is_some}
 use Rattle.std.proofs.lemmas.Option.{same_Some}
 use Rattle.ds_base.specs.Schedules.{IsLater, Reschedules}
 use Rattle.ds_base.specs.declared.left_out.LeftOut.{LeftOut}
 use Rattle.ds_base.specs.declared.ticks.Tick.{Tick}
-use Rattle.ds_ports.specs.Io.{IoState}
 use Rattle.ds_runs.specs.Actors.{IsNumbered, actor_of, actors}
 use Rattle.ds_runs.specs.Lags.{MayLag, MayStepFirst, StepsBefore}
-use Rattle.ds_runs.specs.Runs.{Ending, IsLeast, MachineStep, Makes, Runs, Stopped, Stops, due_at}
+use Rattle.ds_runs.specs.Runs.{IsLeast, MachineStep, Makes, Stops, due_at}
 use Rattle.ds_runs.specs.declared.actors.Actor as actor
 use Rattle.ds_runs.specs.declared.actors.Actor.TheVariants.{Geometry}
 use Rattle.ds_runs.proofs.ActorTable.{due_of_actor}
@@ -17,12 +16,13 @@ use Rattle.ds_runs.proofs.Lists.{at_rank, is_later, least_unique, within}
 use Rattle.ds_runs.proofs.RunLaws.{same_makes}
 use Rattle.gx_fifo.specs.GxStates.{AreWaiting, GxState, gx_finished, is_stalled}
 use Rattle.ds_machine.specs.Apart.{step_with}
-use Rattle.ds_machine.specs.Lagging.{LagRuns, LagStops, StepsBeforeGeometry, acting_due, acting_dues, any_armed, is_quiet, observes_by}
+use Rattle.ds_machine.specs.Lagging.{LagRuns, LagStops, StepsBeforeGeometry, acting_due, acting_dues, any_armed, is_quiet}
 use Rattle.ds_machine.specs.Reference.{HasSoundParts, IsSound, Shown, awake, due_by, dues_of, reference, reference_step, step_by}
 use Rattle.ds_machine.specs.States.{MachineState}
 use Rattle.ds_machine.specs.Steps.{ended}
 use Rattle.ds_machine.proofs.DueTicks.{due_of_least, due_of_rank, low_rank, steps_as}
-use Rattle.ds_machine.proofs.LagSteps.{QuietLeaves, QuietParts, acting_same, acts_where_due, due_so, gx_put, is_geometry, late_put, maps_same, observes_same, others_due, quiet_acts_never, quiet_leaves, quiet_parts, quiet_step, quiet_where_due, sound_late}
+use Rattle.ds_machine.proofs.LagCommutes.{apart_commutes, arms_left, ended_disarmed, ended_gx_left, ended_late, gx_commutes, gx_left, gx_put, late_put}
+use Rattle.ds_machine.proofs.LagSteps.{QuietLeaves, acting_same, acts_where_due, due_so, is_geometry, maps_same, observes_same, others_due, quiet_acts_never, quiet_leaves, quiet_parts, quiet_step, quiet_where_due, sound_late}
 use Rattle.ds_machine.proofs.MachineSchedule.{Owes, awake_makes, awake_stops, owes_by, steps_here}
 use Rattle.ds_machine.proofs.Moves.{Moves, moves_all, then_all}
 use Rattle.ds_machine.proofs.Wakes.{ended_asleep, ended_settled, ends}
@@ -185,22 +185,6 @@ module _ (s : MachineState) (r : ℕ) (t u : Tick) (b : StepsBeforeGeometry s r 
     still = waits_still;
   }
 
--- ---- what is known of a step that doesn't observe geometry
-
-pub record StepsApart : Type 0 where
-  pub late : (rank : ℕ) (a : actor.Actor) (g : GxState) (s : MachineState) → a ≢ Geometry → observes_by a s ≡ false → is_stalled g ≡ false → is_stalled s.io.gx ≡ false
-      → step_by rank a (late_put g s) ≡ step_with (late_put g) (step_by rank a s)
-  pub put : (rank : ℕ) (a : actor.Actor) (g : GxState) (s : MachineState) → a ≢ Geometry → observes_by a s ≡ false → is_stalled g ≡ false → is_stalled s.io.gx ≡ false
-      → step_by rank a (gx_put g s) ≡ step_with (gx_put g) (step_by rank a s)
-  pub gx : (rank : ℕ) (a : actor.Actor) (s made : MachineState) (outs : List Shown) → a ≢ Geometry → observes_by a s ≡ false → is_stalled s.io.gx ≡ false
-      → step_by rank a s ≡ Makes made outs → made.io.gx ≡ s.io.gx
-  pub arms : (rank : ℕ) (a : actor.Actor) (s made : MachineState) (outs : List Shown) → a ≢ Geometry → observes_by a s ≡ false → is_stalled s.io.gx ≡ false
-      → step_by rank a s ≡ Makes made outs → any_armed s.io.nine.dma ≡ false → any_armed made.io.nine.dma ≡ false
-  pub ends_late : (tick : Tick) (g : GxState) (m : MachineState) → HasSoundParts m → any_armed m.io.nine.dma ≡ false → m.io.gx.selector ≡ 0 → g.selector ≡ 0
-      → ended tick (late_put g m) ≡ late_put g (ended tick m)
-  pub ends_gx : (tick : Tick) (m : MachineState) → (ended tick m).io.gx ≡ m.io.gx
-  pub ends_arms : (tick : Tick) (m : MachineState) → HasSoundParts m → any_armed m.io.nine.dma ≡ false → any_armed (ended tick m).io.nine.dma ≡ false
-
 -- ---- what the step makes of due ticks: where geometry is hidden, as though a swap waited, the actor is the least of all
 
 abbrev hidden : GxState → GxState
@@ -235,135 +219,131 @@ record Steps (s next : MachineState) (r : ℕ) (t : Tick) (outs : List Shown) : 
   made_arms : any_armed made.io.nine.dma ≡ false
   arms : any_armed next.io.nine.dma ≡ false
 
-module _ (c : StepsApart) where
-  module _ (s made : MachineState) (r : ℕ) (t : Tick) (outs : List Shown) (b : StepsBeforeGeometry s r t) (quiet : is_quiet s.io ≡ true)
-      (took : step_by r (actor_of r) s ≡ Makes made outs) where
-    is_free : is_stalled s.io.gx ≡ false
-    is_free = (quiet_parts s.io quiet).free
+module _ (s made : MachineState) (r : ℕ) (t : Tick) (outs : List Shown) (b : StepsBeforeGeometry s r t) (quiet : is_quiet s.io ≡ true)
+    (took : step_by r (actor_of r) s ≡ Makes made outs) where
+  gx_stays : made.io.gx ≡ s.io.gx
+  gx_stays = gx_left r (actor_of r) s made outs b.other b.apart took
 
-    gx_stays : made.io.gx ≡ s.io.gx
-    gx_stays = c.gx r (actor_of r) s made outs b.other b.apart is_free took
+  arms_stay : any_armed made.io.nine.dma ≡ false
+  arms_stay = arms_left r (actor_of r) s made outs b.other b.apart took (quiet_parts s.io quiet).disarmed
 
-    arms_stay : any_armed made.io.nine.dma ≡ false
-    arms_stay = c.arms r (actor_of r) s made outs b.other b.apart is_free took (quiet_parts s.io quiet).disarmed
+  hidden_step : step_by r (actor_of r) (gx_put (hidden s.io.gx) s) ≡ Makes (gx_put (hidden s.io.gx) made) outs
+  hidden_step = gx_commutes r (actor_of r) (hidden s.io.gx) s b.other b.apart refl ∙ ap (step_with (gx_put (hidden s.io.gx))) took
 
-    hidden_step : step_by r (actor_of r) (gx_put (hidden s.io.gx) s) ≡ Makes (gx_put (hidden s.io.gx) made) outs
-    hidden_step = c.put r (actor_of r) (hidden s.io.gx) s b.other b.apart is_free is_free ∙ ap (step_with (gx_put (hidden s.io.gx))) took
+  hidden_owes : Owes (actor_of r) t (gx_put (hidden s.io.gx) s) (gx_put (hidden s.io.gx) made)
+  hidden_owes =
+      let s0 = gx_put (hidden s.io.gx) s in
+      let least = subst (λ (dues : List (Option Tick)). IsLeast dues t r) (hidden_dues s quiet) b.least in
+      owes_by (actor_of r) r t s0 (gx_put (hidden s.io.gx) made) outs (steps_here s0 t r (hidden_sound s b.sound.parts) least) hidden_step
 
-    hidden_owes : Owes (actor_of r) t (gx_put (hidden s.io.gx) s) (gx_put (hidden s.io.gx) made)
-    hidden_owes =
-        let s0 = gx_put (hidden s.io.gx) s in
-        let least = subst (λ (dues : List (Option Tick)). IsLeast dues t r) (hidden_dues s quiet) b.least in
-        owes_by (actor_of r) r t s0 (gx_put (hidden s.io.gx) made) outs (steps_here s0 t r (hidden_sound s b.sound.parts) least) hidden_step
+  shown_moves : (a : actor.Actor) → is_geometry a ≡ false → IsNumbered a → Reschedules t (due_by a s) (due_by a made)
+  shown_moves a other n =
+      let g = hidden s.io.gx in
+      let stalled : is_stalled g ≡ is_stalled made.io.gx = ap (λ (x : GxState). is_stalled x) (sym gx_stays) in
+      subst (λ (o : Option Tick). Reschedules t o (due_by a made)) (due_so a g s other refl)
+      (subst (λ (o : Option Tick). Reschedules t (due_by a (gx_put g s)) o) (due_so a g made other stalled) (hidden_owes.moves a n))
 
-    shown_moves : (a : actor.Actor) → is_geometry a ≡ false → IsNumbered a → Reschedules t (due_by a s) (due_by a made)
-    shown_moves a other n =
-        let g = hidden s.io.gx in
-        let stalled : is_stalled g ≡ is_stalled made.io.gx = ap (λ (x : GxState). is_stalled x) (sym gx_stays) in
-        subst (λ (o : Option Tick). Reschedules t o (due_by a made)) (due_so a g s other refl)
-        (subst (λ (o : Option Tick). Reschedules t (due_by a (gx_put g s)) o) (due_so a g made other stalled) (hidden_owes.moves a n))
+  made_moves : Moves t s made
+  made_moves Geometry n = inl (ap (λ (g : GxState). g.due) gx_stays)
+  made_moves a n = shown_moves a refl n
 
-    made_moves : Moves t s made
-    made_moves Geometry n = inl (ap (λ (g : GxState). g.due) gx_stays)
-    made_moves a n = shown_moves a refl n
-
-    made_parts : HasSoundParts made
-    made_parts = record {
-      io = record { nine = hidden_owes.sound.io.nine; seven = hidden_owes.sound.io.seven; gx = subst AreWaiting (sym gx_stays) b.sound.parts.io.gx };
-      keys = hidden_owes.sound.keys;
-    }
-
-    end_made : Steps s (ended t made) r t outs
-    end_made =
-        let w = ends t made made_parts in
-        record {
-          made = made;
-          took = took;
-          ended_so = refl;
-          parts = made_parts;
-          moves = then_all t s made (ended t made) made_moves w.moves;
-          sound = record { parts = w.sound; asleep = ended_asleep t made; settled = ended_settled t made made_parts.io };
-          gx = c.ends_gx t made ∙ gx_stays;
-          made_gx = gx_stays;
-          made_arms = arms_stay;
-          arms = c.ends_arms t made made_parts arms_stay;
-        }
-
-  -- ---- the two steps in either order
-
-  module _ (s late : MachineState) (r : ℕ) (t u : Tick) (b : StepsBeforeGeometry s r t) (least : IsLeast (dues_of s) u 12) (goes : reference_step 12 s ≡ Makes late []) where
-    quiet : is_quiet s.io ≡ true
-    quiet = is_quiet_then s r t u b least
-
-    abbrev g : GxState
-    g = gx_finished s.io.gx
-
-    leaves : QuietLeaves s.io.gx u
-    leaves = after_it s r t u b least
-
-    late_is : late_put g s ≡ late
-    late_is = (same_makes (late_put g s) late [] [] (sym (quiet_step s b.sound quiet) ∙ goes)).0
-
-    -- what it comes to after geometry's
-    there : (came : MachineStep MachineState Shown LeftOut) → step_by r (actor_of r) s ≡ came → reference_step r late ≡ awake (Some t) (step_with (late_put g) came)
-    there came took =
-        let a = actor_of r in
-        let free = (quiet_parts s.io quiet).free in
-        let due = others_due a g s b.other (leaves.free ∙ sym free) ∙ own_due s r t b in
-        let step = c.late r a g s b.other b.apart leaves.free free ∙ ap (step_with (late_put g)) took in
-        subst (λ (m : MachineState). reference_step r m ≡ awake (Some t) (step_with (late_put g) came)) late_is
-        (steps_as (late_put g s) r a (Some t) (awake (Some t) (step_with (late_put g) came)) refl due (ap (awake (Some t)) step))
-
-    steps_so : (next : MachineState) (outs : List Shown) → reference_step r s ≡ Makes next outs → Steps s next r t outs
-    steps_so next outs h =
-        let came = step_by r (actor_of r) s in
-        let k = awake_makes t came next outs (subst (λ (o : Option Tick). awake o came ≡ Makes next outs) (own_due s r t b) h) in
-        subst (λ (m : MachineState). Steps s m r t outs) k.2 (end_made s k.0 r t outs b quiet k.1)
-
-    halts : (left : MachineState) (stop : LeftOut) → reference_step r s ≡ Stops stop left → (after : MachineState) × (reference_step r late ≡ Stops stop after)
-    halts left stop h = (late_put g left, there (Stops stop left) (awake_stops (due_by (actor_of r) s) (step_by r (actor_of r) s) left stop h))
-
-    module _ (next : MachineState) (outs : List Shown) (k : Steps s next r t outs) where
-      least_still : IsLeast (dues_of next) u 12
-      least_still = record { there = due_of_rank next 12 (omega arith) ∙ ap (λ (x : GxState). x.due) k.gx ∙ is_due_then s r t u b least; least = go } where
-        go : (other : ℕ) (at : Tick) → due_at (dues_of next) other ≡ Some at → (u.0 < at.0) ⊎ ((u.0 ≡ at.0) × (12 ≤ other))
-        go other at h = elim (at_rank t (dues_of s) (dues_of next) (moves_all t s next k.moves) other) [
-          | inl same ↦ least.least other at (sym same ∙ h)
-          | inr later ↦ (let lt = is_later t (due_at (dues_of next) other) at later h in let le = is_before s r t u b least in inl (omega (arith, lt, le)))
-        ]
-
-      own_after : reference_step r late ≡ Makes (late_put g next) outs
-      own_after =
-          let q = quiet_parts s.io quiet in
-          let made : ended t (late_put g k.made) ≡ late_put g next =
-          c.ends_late t g k.made k.parts k.made_arms (ap (λ (x : GxState). x.selector) k.made_gx ∙ q.selector) leaves.selector ∙ ap (late_put g) k.ended_so in
-          there (Makes k.made outs) k.took ∙ ap (λ (m : MachineState). (let step : MachineStep MachineState Shown LeftOut = Makes m outs in step)) made
-
-      still_quiet : is_quiet next.io ≡ true
-      still_quiet =
-          let q = quiet_parts s.io quiet in
-          quiet_where_due next.io (ap (λ (x : GxState). x.selector) k.gx ∙ q.selector) k.arms (ap (λ (x : GxState). is_stalled x) k.gx ∙ q.free)
-          ∙ ap is_some (ap (λ (x : GxState). x.due) k.gx ∙ q.due)
-
-      geometry_after_it : reference_step 12 next ≡ Makes (late_put g next) []
-      geometry_after_it =
-          quiet_step next k.sound still_quiet
-          ∙ ap (λ (x : GxState). (let step : MachineStep MachineState Shown LeftOut = Makes (late_put (gx_finished x) next) [] in step)) k.gx
-
-  pub may_lag : MayLag reference 12 StepsBeforeGeometry
-  may_lag = record {
-    first = steps_first;
-    steps = λ s r t u b least. geometry_steps s r t u b least;
-    commutes = λ s late next r t u outs b least goes h.
-        (let k = steps_so s late r t u b least goes next outs h in (
-          least_still s late r t u b least goes next outs k,
-          (late_put (gx_finished s.io.gx) next, own_after s late r t u b least goes next outs k, geometry_after_it s late r t u b least goes next outs k),
-        ));
-    halts = λ s late left r t u stop b least goes h. halts s late r t u b least goes left stop h;
+  made_parts : HasSoundParts made
+  made_parts = record {
+    io = record { nine = hidden_owes.sound.io.nine; seven = hidden_owes.sound.io.seven; gx = subst AreWaiting (sym gx_stays) b.sound.parts.io.gx };
+    keys = hidden_owes.sound.keys;
   }
 
-  pub runs_late : LagRuns
-  runs_late s next rank tick limit outs b lt h end rest = lags.lag_agrees reference 12 StepsBeforeGeometry may_lag limit end outs rest s next rank tick b lt h
+  end_made : Steps s (ended t made) r t outs
+  end_made =
+      let w = ends t made made_parts in
+      record {
+        made = made;
+        took = took;
+        ended_so = refl;
+        parts = made_parts;
+        moves = then_all t s made (ended t made) made_moves w.moves;
+        sound = record { parts = w.sound; asleep = ended_asleep t made; settled = ended_settled t made made_parts.io };
+        gx = ended_gx_left t made made_parts.io.nine.dma.four arms_stay ∙ gx_stays;
+        made_gx = gx_stays;
+        made_arms = arms_stay;
+        arms = ended_disarmed t made made_parts.io.nine.dma.four arms_stay;
+      }
 
-  pub stops_late : LagStops
-  stops_late s after rank tick limit stop b lt h = lags.lag_stops reference 12 StepsBeforeGeometry may_lag limit s after rank tick stop b lt h
+-- ---- the two steps in either order
+
+module _ (s late : MachineState) (r : ℕ) (t u : Tick) (b : StepsBeforeGeometry s r t) (least : IsLeast (dues_of s) u 12) (goes : reference_step 12 s ≡ Makes late []) where
+  quiet : is_quiet s.io ≡ true
+  quiet = is_quiet_then s r t u b least
+
+  abbrev g : GxState
+  g = gx_finished s.io.gx
+
+  leaves : QuietLeaves s.io.gx u
+  leaves = after_it s r t u b least
+
+  late_is : late_put g s ≡ late
+  late_is = (same_makes (late_put g s) late [] [] (sym (quiet_step s b.sound quiet) ∙ goes)).0
+
+  -- what it comes to after geometry's
+  there : (came : MachineStep MachineState Shown LeftOut) → step_by r (actor_of r) s ≡ came → reference_step r late ≡ awake (Some t) (step_with (late_put g) came)
+  there came took =
+      let a = actor_of r in
+      let free = (quiet_parts s.io quiet).free in
+      let due = others_due a g s b.other (leaves.free ∙ sym free) ∙ own_due s r t b in
+      let step = apart_commutes r a g s b.other b.apart leaves.free free ∙ ap (step_with (late_put g)) took in
+      subst (λ (m : MachineState). reference_step r m ≡ awake (Some t) (step_with (late_put g) came)) late_is
+      (steps_as (late_put g s) r a (Some t) (awake (Some t) (step_with (late_put g) came)) refl due (ap (awake (Some t)) step))
+
+  steps_so : (next : MachineState) (outs : List Shown) → reference_step r s ≡ Makes next outs → Steps s next r t outs
+  steps_so next outs h =
+      let came = step_by r (actor_of r) s in
+      let k = awake_makes t came next outs (subst (λ (o : Option Tick). awake o came ≡ Makes next outs) (own_due s r t b) h) in
+      subst (λ (m : MachineState). Steps s m r t outs) k.2 (end_made s k.0 r t outs b quiet k.1)
+
+  halts : (left : MachineState) (stop : LeftOut) → reference_step r s ≡ Stops stop left → (after : MachineState) × (reference_step r late ≡ Stops stop after)
+  halts left stop h = (late_put g left, there (Stops stop left) (awake_stops (due_by (actor_of r) s) (step_by r (actor_of r) s) left stop h))
+
+  module _ (next : MachineState) (outs : List Shown) (k : Steps s next r t outs) where
+    least_still : IsLeast (dues_of next) u 12
+    least_still = record { there = due_of_rank next 12 (omega arith) ∙ ap (λ (x : GxState). x.due) k.gx ∙ is_due_then s r t u b least; least = go } where
+      go : (other : ℕ) (at : Tick) → due_at (dues_of next) other ≡ Some at → (u.0 < at.0) ⊎ ((u.0 ≡ at.0) × (12 ≤ other))
+      go other at h = elim (at_rank t (dues_of s) (dues_of next) (moves_all t s next k.moves) other) [
+        | inl same ↦ least.least other at (sym same ∙ h)
+        | inr later ↦ (let lt = is_later t (due_at (dues_of next) other) at later h in let le = is_before s r t u b least in inl (omega (arith, lt, le)))
+      ]
+
+    own_after : reference_step r late ≡ Makes (late_put g next) outs
+    own_after =
+        let q = quiet_parts s.io quiet in
+        let made : ended t (late_put g k.made) ≡ late_put g next =
+        ended_late t g k.made k.parts.io.nine.dma.four k.made_arms (ap (λ (x : GxState). x.selector) k.made_gx ∙ q.selector) leaves.selector ∙ ap (late_put g) k.ended_so in
+        there (Makes k.made outs) k.took ∙ ap (λ (m : MachineState). (let step : MachineStep MachineState Shown LeftOut = Makes m outs in step)) made
+
+    still_quiet : is_quiet next.io ≡ true
+    still_quiet =
+        let q = quiet_parts s.io quiet in
+        quiet_where_due next.io (ap (λ (x : GxState). x.selector) k.gx ∙ q.selector) k.arms (ap (λ (x : GxState). is_stalled x) k.gx ∙ q.free)
+        ∙ ap is_some (ap (λ (x : GxState). x.due) k.gx ∙ q.due)
+
+    geometry_after_it : reference_step 12 next ≡ Makes (late_put g next) []
+    geometry_after_it =
+        quiet_step next k.sound still_quiet
+        ∙ ap (λ (x : GxState). (let step : MachineStep MachineState Shown LeftOut = Makes (late_put (gx_finished x) next) [] in step)) k.gx
+
+pub may_lag : MayLag reference 12 StepsBeforeGeometry
+may_lag = record {
+  first = steps_first;
+  steps = λ s r t u b least. geometry_steps s r t u b least;
+  commutes = λ s late next r t u outs b least goes h.
+      (let k = steps_so s late r t u b least goes next outs h in (
+        least_still s late r t u b least goes next outs k,
+        (late_put (gx_finished s.io.gx) next, own_after s late r t u b least goes next outs k, geometry_after_it s late r t u b least goes next outs k),
+      ));
+  halts = λ s late left r t u stop b least goes h. halts s late r t u b least goes left stop h;
+}
+
+pub lag_runs : LagRuns
+lag_runs s next rank tick limit outs b lt h end rest = lags.lag_agrees reference 12 StepsBeforeGeometry may_lag limit end outs rest s next rank tick b lt h
+
+pub lag_stops : LagStops
+lag_stops s after rank tick limit stop b lt h = lags.lag_stops reference 12 StepsBeforeGeometry may_lag limit s after rank tick stop b lt h

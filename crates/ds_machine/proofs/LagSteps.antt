@@ -27,38 +27,32 @@ use Rattle.ds_map.specs.Views.{NineReach, nine_memory, tcm_fetched}
 use Rattle.ds_places.specs.AddressTables.{place_of}
 use Rattle.ds_places.specs.declared.kinds.Place.{Place}
 use Rattle.ds_places.specs.declared.kinds.Place.TheVariants.{Cell, Banks, Port, Rom, Nothing}
-use Rattle.ds_ports.specs.Dues.{IsIo, held_due}
+use Rattle.ds_ports.specs.Dues.{held_due}
 use Rattle.ds_ports.specs.Io.{IoState, is_settled, tick_after, stall_ends, with_gx}
 use Rattle.ds_ports.specs.ProcessorIo.{blocks_processor}
 use Rattle.ds_ports.proofs.Settles.{no_stall_begins}
 use Rattle.ds_runs.specs.Runs.{MachineStep, Makes}
 use Rattle.ds_runs.specs.declared.actors.Actor as actor
-use Rattle.ds_runs.specs.declared.actors.Actor.TheVariants.{KeyScript, Video, Timer, Divider, SquareRoot, Geometry, Card, Dma, Processor}
+use Rattle.ds_runs.specs.declared.actors.Actor.TheVariants.{Video, Timer, Geometry, Dma, Processor}
 use Rattle.ds_runs.specs.Actors.{actors}
 use Rattle.ds_timers.specs.Irqs.{irq_levelled}
 use Rattle.gx_fifo.specs.Entries.{complete_command}
-use Rattle.gx_fifo.specs.GxStates.{AreWaiting, GxState, done_by, gx_finished, gx_level, is_half_empty, is_stalled, shown_count}
+use Rattle.gx_fifo.specs.GxStates.{GxState, done_by, gx_finished, gx_level, is_half_empty, is_stalled, shown_count}
 use Rattle.gx_fifo.proofs.Laws.{finished_later, finished_waiting}
 use Rattle.gx_matrix.specs.declared.commands.GeometryCommand.{GeometryCommand}
 use Rattle.ds_machine.specs.Channels.{one_event}
 use Rattle.ds_machine.specs.Lagging.{access_observes, acting_due, acting_dues, any_armed, any_observes, is_armed, is_quiet, nine_observes, observes_by}
 use Rattle.ds_machine.specs.Private.{data_accesses}
-use Rattle.ds_machine.specs.Reference.{AreAsleep, HasSoundParts, IsSound, Shown, after_geometry, awake, due_by, due_unless, reference_step}
+use Rattle.ds_machine.specs.Reference.{IsSound, Shown, after_geometry, due_by, due_unless, reference_step}
 use Rattle.ds_machine.specs.Sides.{nine_side}
 use Rattle.ds_machine.specs.States.{MachineState}
 use Rattle.ds_machine.specs.Steps.{ended, line_of, nine_reach, tick_of, wakes, with_io, with_processor}
 use Rattle.ds_machine.proofs.DueTicks.{steps_as}
 use Rattle.ds_machine.proofs.FastSteps.{end_stays}
+use Rattle.ds_machine.proofs.LagCommutes.{gx_put, late_put}
 use Rattle.ds_machine.proofs.Quiet.{neither}
 
 -- The step of quiet geometry: nobody hears of it, so that it changes geometry and no more.
-
--- another geometry engine in the machine, and that with another event taken
-abbrev pub gx_put : GxState → MachineState → MachineState
-gx_put g s = record s { io = with_gx g s.io }
-
-abbrev pub late_put : GxState → MachineState → MachineState
-late_put g s = record s { io = with_gx g s.io; events = s.events + 1 }
 
 -- ---- what is so where geometry is quiet
 
@@ -261,7 +255,8 @@ pub acts_where_due : (a : actor.Actor) (s : MachineState) → a ≢ Geometry →
 acts_where_due Geometry s other = absurd (other refl)
 acts_where_due _ s other = refl
 
-acting_so : (s : MachineState) (g : GxState) → is_quiet s.io ≡ true → g.selector ≡ 0 → is_stalled g ≡ false → (a : actor.Actor) → acting_due a (late_put g s) ≡ acting_due a s
+acting_so : (s : MachineState) (g : GxState) → is_quiet s.io ≡ true → g.selector ≡ 0 → is_stalled g ≡ false
+    → (a : actor.Actor) → acting_due a (late_put g s) ≡ acting_due a s
 acting_so s g quiet selector free Geometry =
     let k = quiet_parts s.io quiet in
     quiet_never (is_quiet (with_gx g s.io)) g.due (quiet_where_due (with_gx g s.io) selector k.disarmed free) ∙ sym (quiet_acts_never s quiet)
@@ -278,7 +273,8 @@ unfolding acting_dues
 acting_same s sound quiet =
     let k = quiet_parts s.io quiet in
     let l = quiet_leaves s k.tick sound quiet k.due in
-    maps_same (λ (a : actor.Actor). acting_due a (late_put (gx_finished s.io.gx) s)) (λ (a : actor.Actor). acting_due a s) (acting_so s (gx_finished s.io.gx) quiet l.selector l.free) actors
+    maps_same (λ (a : actor.Actor). acting_due a (late_put (gx_finished s.io.gx) s)) (λ (a : actor.Actor). acting_due a s)
+    (acting_so s (gx_finished s.io.gx) quiet l.selector l.free) actors
 
 -- ---- what observes geometry doesn't depend on it
 

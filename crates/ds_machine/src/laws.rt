@@ -3,6 +3,7 @@
 ghost use Rattle.ds_runs.specs.Laws.{RunsJoin, RunsAreOne, RunsExist, RunsEnd};
 ghost use Rattle.ds_machine.specs.Apart.{DisplayLeavesNine, GeometryLeavesNine, LeaveNine, LeaveNineOwn, LeaveSeven};
 ghost use Rattle.ds_machine.specs.Frames.{StepsFollowFrames, StepsFollowLists, StopsLeaveFrames, StopsLeaveLists};
+ghost use Rattle.ds_machine.specs.Lagging.{LagRuns, LagStops};
 ghost use Rattle.ds_machine.specs.OwnSteps.{IsStep7, IsStep9};
 ghost use Rattle.ds_machine.specs.Private.{AheadRuns, AheadSteps, TurnStepsFall};
 ghost use Rattle.ds_machine.specs.Reference.{reference, CountsAddUp, HasSoundParts};
@@ -75,4 +76,12 @@ pub fn frame_laws()
 pub fn ahead_laws()
     ensures steps { AheadSteps }
     ensures runs { AheadRuns }
+{}
+
+/// Does nothing; its contract states the laws of lagging. The step of the least actor that acts, where quiet geometry doesn't, may be taken before geometry's steps that are due
+/// before it, if it doesn't observe geometry: to each limit past its tick the run from the state after it ends where the run from the state before it ends, and puts out the rest
+/// of the same. And where such a step stops the machine, the run stops so.
+pub fn lag_laws()
+    ensures runs { LagRuns }
+    ensures stops { LagStops }
 {}

@@ -49,7 +49,7 @@ in_word Byte at k byte lt few e = omega (arith, lt, few, e)
 in_word Half at k byte lt few e = omega (arith, lt, few, e)
 in_word Word at k byte lt few e = omega (arith, lt, few, e)
 
-same_word : (width : Width) (at byte : ℕ) → at < 2 ^ 32 → Contains (span (aligned_down width at) (width_bytes width)) byte → byte / 4 ≡ at / 4
+pub same_word : (width : Width) (at byte : ℕ) → at < 2 ^ 32 → Contains (span (aligned_down width at) (width_bytes width)) byte → byte / 4 ≡ at / 4
 same_word width at byte lt c =
     let first = aligned_down width at in
     let below = c.1 in

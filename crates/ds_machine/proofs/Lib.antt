@@ -48,3 +48,4 @@ pub mod OuterLaw
 pub mod AheadRuns
 pub mod LagSteps
 pub mod LagLaw
+pub mod ObservedTests

@@ -34,13 +34,13 @@ below_same a b k e = elim (lt_cases a (4 * k)) [
   | inr x ↦ elim (lt_cases b (4 * k)) [ inl y ↦ (let p = x.0 in let q = y.0 in absurd (omega (arith, e, p, q))) | inr y ↦ x.1 ∙ sym y.1 ]
 ]
 
-from_same : (a b first : ℕ) → first % 4 ≡ 0 → a / 4 ≡ b / 4 → nat_le first a ≡ nat_le first b
+pub from_same : (a b first : ℕ) → first % 4 ≡ 0 → a / 4 ≡ b / 4 → nat_le first a ≡ nat_le first b
 from_same a b first h e = elim (le_cases first a) [
   | inl x ↦ elim (le_cases first b) [ inl y ↦ x.1 ∙ sym y.1 | inr y ↦ (let p = x.0 in let q = y.0 in absurd (omega (arith, h, e, p, q))) ]
   | inr x ↦ elim (le_cases first b) [ inl y ↦ (let p = x.0 in let q = y.0 in absurd (omega (arith, h, e, p, q))) | inr y ↦ x.1 ∙ sym y.1 ]
 ]
 
-upto_same : (a b last : ℕ) → last % 4 ≡ 3 → a / 4 ≡ b / 4 → nat_le a last ≡ nat_le b last
+pub upto_same : (a b last : ℕ) → last % 4 ≡ 3 → a / 4 ≡ b / 4 → nat_le a last ≡ nat_le b last
 upto_same a b last h e = elim (le_cases a last) [
   | inl x ↦ elim (le_cases b last) [ inl y ↦ x.1 ∙ sym y.1 | inr y ↦ (let p = x.0 in let q = y.0 in absurd (omega (arith, h, e, p, q))) ]
   | inr x ↦ elim (le_cases b last) [ inl y ↦ (let p = x.0 in let q = y.0 in absurd (omega (arith, h, e, p, q))) | inr y ↦ x.1 ∙ sym y.1 ]
@@ -63,15 +63,15 @@ is_private_in [] at = false
 is_private_in (r ∷ rs) at = if nat_le r.first at && nat_le at r.last then is_private_content r.content else is_private_in rs at
 
 -- a region begins and ends where words do, and isn't ARM7's space
-abbrev is_of_nine : Content → Bool
+abbrev pub is_of_nine : Content → Bool
 is_of_nine (Video space) = not (same_space space Arm7)
 is_of_nine content = true
 
-abbrev are_rows : List Region → Bool
+abbrev pub are_rows : List Region → Bool
 are_rows [] = true
 are_rows (r ∷ rs) = (r.first % 4 == 0) && (r.last % 4 == 3) && is_of_nine r.content && are_rows rs
 
-row_facts : (r : Region) (rs : List Region) → are_rows (r ∷ rs) ≡ true → (r.first % 4 ≡ 0) × (r.last % 4 ≡ 3) × (is_of_nine r.content ≡ true) × (are_rows rs ≡ true)
+pub row_facts : (r : Region) (rs : List Region) → are_rows (r ∷ rs) ≡ true → (r.first % 4 ≡ 0) × (r.last % 4 ≡ 3) × (is_of_nine r.content ≡ true) × (are_rows rs ≡ true)
 row_facts r rs h = facts (r.first % 4) (r.last % 4) (is_of_nine r.content) (are_rows rs) h where
   facts : (first last : ℕ) (own rest : Bool) → ((first == 0) && (last == 3) && own && rest) ≡ true → (first ≡ 0) × (last ≡ 3) × (own ≡ true) × (rest ≡ true)
   facts first last own rest h = grind arith
@@ -109,7 +109,7 @@ shared_of_nine w = by_tests (w == 0) (w == 1) (w == 2) where
   by_tests false false true = refl
   by_tests false false false = refl
 
-rows_of_nine : (w : ℕ) → are_rows (regions_of_nine w) ≡ true
+pub rows_of_nine : (w : ℕ) → are_rows (regions_of_nine w) ≡ true
 rows_of_nine w = ap (λ (b : Bool). b && true) (shared_of_nine w)
 
 -- a byte's place is private to ARM9 by the row of its address
@@ -175,13 +175,13 @@ covered_fours register = by_fours (2 ^ bits 1 5 register)
 base_fours : (register : ℕ) → dtcm_base register ≡ 4 * (register / 2 ^ 12 * 2 ^ 10)
 base_fours register = omega arith
 
-itcm_same : (s : Cp15State) (writing : Bool) (a b : ℕ) → a / 4 ≡ b / 4 → in_itcm s a writing ≡ in_itcm s b writing
+pub itcm_same : (s : Cp15State) (writing : Bool) (a b : ℕ) → a / 4 ≡ b / 4 → in_itcm s a writing ≡ in_itcm s b writing
 itcm_same s writing a b e =
     let c = covered_fours s.itcm in
     let on = answers (bit 18 s.control) (bit 19 s.control) writing in
     ap (λ (n : ℕ). on && nat_lt a n) c ∙ ap (λ (t : Bool). on && t) (below_same a b (min (128 * 2 ^ bits 1 5 s.itcm) (2 ^ 30)) e) ∙ ap (λ (n : ℕ). on && nat_lt b n) (sym c)
 
-dtcm_same : (s : Cp15State) (writing : Bool) (a b : ℕ) → a / 4 ≡ b / 4 → in_dtcm s a writing ≡ in_dtcm s b writing
+pub dtcm_same : (s : Cp15State) (writing : Bool) (a b : ℕ) → a / 4 ≡ b / 4 → in_dtcm s a writing ≡ in_dtcm s b writing
 dtcm_same s writing a b e =
     let base = s.dtcm / 2 ^ 12 * 2 ^ 10 in
     let wide = min (128 * 2 ^ bits 1 5 s.dtcm) (2 ^ 30) in

@@ -81,20 +81,20 @@ span_ends p first i length lt h =
 
 -- ---- which accesses an instruction makes
 
-abbrev AreReads : List Access → Type 0
+abbrev pub AreReads : List Access → Type 0
 AreReads [] = Unit {0}
 AreReads (Fetch at width ∷ rest) = ⊥
 AreReads (Read at width ∷ rest) = AreReads rest
 AreReads (Write at width value ∷ rest) = ⊥
 
-abbrev AreWrites : List Access → Type 0
+abbrev pub AreWrites : List Access → Type 0
 AreWrites [] = Unit {0}
 AreWrites (Fetch at width ∷ rest) = ⊥
 AreWrites (Read at width ∷ rest) = ⊥
 AreWrites (Write at width value ∷ rest) = AreWrites rest
 
 -- they are all reads, or all writes, or a read and a write of one place
-abbrev Suits : Bool → Bool → List Access → Type 0
+abbrev pub Suits : Bool → Bool → List Access → Type 0
 Suits true true accesses = (at : ℕ) × (width : Width) × (value : ℕ) × (accesses ≡ Read at width ∷ Write at width value ∷ [])
 Suits true false accesses = AreReads accesses
 Suits false true accesses = AreWrites accesses
@@ -143,7 +143,7 @@ half_suits arch s Ldrh rn rd to = tt
 half_suits arch s Ldrsb rn rd to = tt
 half_suits arch s Ldrsh rn rd to = signed_half_suits arch s rn rd to
 
-plain_none : (arch : Arch) (base : ℕ) (s : RegisterState) (instr : Instr) → (act_processing arch base s instr).accesses ≡ []
+pub plain_none : (arch : Arch) (base : ℕ) (s : RegisterState) (instr : Instr) → (act_processing arch base s instr).accesses ≡ []
 plain_none arch base s (instrs.Data cond op set_flags rn rd operand) = refl
 plain_none arch base s _ = refl
 
@@ -159,7 +159,7 @@ act_suits arch base s (instrs.Swap cond byte rd rm rn) = swap_suits arch s byte 
 act_suits arch base s (instrs.ThumbLoadLiteral rd immed) = tt
 act_suits arch base s i = plain_none arch base s i
 
-meant_suits : (arch : Arch) (base : ℕ) (s : RegisterState) (i : Instr)
+pub meant_suits : (arch : Arch) (base : ℕ) (s : RegisterState) (i : Instr)
     → Suits (reads (equivalent i)) (writes (equivalent i)) (meaning arch base s i).accesses ⊎ ((meaning arch base s i).accesses ≡ [])
 meant_suits arch base s i = by_condition (holds (condition i) s.cpsr) where
   by_condition : (b : Bool) → Suits (reads (equivalent i)) (writes (equivalent i)) (if b then act arch base s (equivalent i) else skipped s).accesses
@@ -259,7 +259,7 @@ module _ {S : Type 0} (side : SideOf S) (state : S) where
   touch_over : (p : ℕ → Bool) (touch : Touch) (accesses : List Access) → Covers touch accesses → Passes p (accessed_bytes accesses) → list_all p (touched_bytes touch) ≡ true
   touch_over p touch accesses covers h = all_of p (touched_bytes touch) (λ byte c. h byte ((covers byte).0 c))
 
-  abbrev tested : Bool → Bool → Touch → Bool
+  abbrev pub tested : Bool → Bool → Touch → Bool
   tested r w touch =
       (not r || list_all (side.is_private state false false) (touched_bytes touch)) && (not w || list_all (side.is_private state true false) (touched_bytes touch))
 
@@ -271,7 +271,7 @@ module _ {S : Type 0} (side : SideOf S) (state : S) where
   so_where true b h = h refl
   so_where false b h = refl
 
-  data_passes : (r w : Bool) (touch : Touch) (accesses : List Access) → Suits r w accesses ⊎ (accesses ≡ []) → Covers touch accesses → tested r w touch ≡ true → AllReachPrivate side state accesses
+  pub data_passes : (r w : Bool) (touch : Touch) (accesses : List Access) → Suits r w accesses ⊎ (accesses ≡ []) → Covers touch accesses → tested r w touch ≡ true → AllReachPrivate side state accesses
   data_passes r w touch accesses (inl suits) covers h =
       let p = side.is_private state false false in
       let q = side.is_private state true false in
@@ -281,7 +281,7 @@ module _ {S : Type 0} (side : SideOf S) (state : S) where
       (λ e. over_touch q touch accesses covers (where_so w (list_all q (touched_bytes touch)) (last_of a b h) e))
   data_passes r w touch accesses (inr none) covers h = subst (AllReachPrivate side state) (sym none) tt
 
-  data_passed : (r w : Bool) (touch : Touch) (accesses : List Access) → Suits r w accesses ⊎ (accesses ≡ []) → Covers touch accesses → AllReachPrivate side state accesses → tested r w touch ≡ true
+  pub data_passed : (r w : Bool) (touch : Touch) (accesses : List Access) → Suits r w accesses ⊎ (accesses ≡ []) → Covers touch accesses → AllReachPrivate side state accesses → tested r w touch ≡ true
   data_passed r w touch accesses (inl suits) covers h =
       let p = side.is_private state false false in
       let q = side.is_private state true false in

@@ -13,6 +13,7 @@ pub mod Private
 pub mod Touching
 pub mod Apart
 pub mod Lagging
+pub mod Observing
 pub mod OwnSteps
 pub mod Processors
 pub mod Rooms

@@ -11,6 +11,7 @@ mod events;
 mod fences;
 mod geometry_laws;
 mod going;
+mod lagging;
 mod laws;
 mod machines;
 mod next_events;

@@ -1,12 +1,14 @@
 //! The machine.
 
-ghost use Rattle.std.specs.Prelude.{◌≡◌, ◌↔◌, ◌<◌, ◌≤◌, ◌^◌, true, slice_index, length, IfOk, IfSome};
+ghost use Rattle.std.specs.Prelude.{◌≡◌, ◌↔◌, ◌<◌, ◌≤◌, ◌^◌, true, slice_index, length, IfOk, IfSome, IsSome};
 ghost use Rattle.ds_base.specs.Memories.{memory_size};
 ghost use Rattle.ds_ipc.specs.Ipcs.{AreSides};
 ghost use Rattle.ds_ports.specs.Io.{io_at_boot};
+ghost use Rattle.ds_runs.specs.Actors.{actor_of};
 ghost use Rattle.ds_runs.specs.Runs.{due_at};
 ghost use Rattle.ds_machine.specs.Booted.{machine_booted};
 ghost use Rattle.ds_machine.specs.Frames.{framed_of};
+ghost use Rattle.ds_machine.specs.Lagging.{observes_by};
 ghost use Rattle.ds_machine.specs.NextEvents.{HasLimit, IsFirst};
 ghost use Rattle.ds_machine.specs.Observed.{memory_of, registers_of, seen_of};
 ghost use Rattle.ds_machine.specs.Private.{BelongsToTurn, IsFence, IsPrivate, MayStep, TakesSteps};
@@ -140,6 +142,15 @@ impl Machine {
         ensures { (result ≡ true) ↔ BelongsToTurn until.0 self.now proc }
     {
         self.parts.belongs(proc, until)
+    }
+
+    /// Whether the next step of the actor of a rank, which is due, observes geometry: the start of line 192, a unit of ARM9's channels that reads or writes an observed port, or a
+    /// step of ARM9's whose instruction does; a fetch doesn't, nor an instruction whose condition fails, nor the entry of an interrupt.
+    pub fn observes(&self, rank: u8) -> bool
+        requires { IsSome (due_at (dues_of self.now) rank) }
+        ensures { result ≡ observes_by (actor_of rank) self.now }
+    {
+        self.parts.observes(rank)
     }
 
     /// Does nothing; its contract states what holds of every machine: each unit's numbers are those that it can have, and the lines of the key

@@ -34,7 +34,7 @@ fn may_go_ahead(arch: Arch, instr: &Instr) -> bool
 }
 
 /// Whether the data accesses of an instruction in its form of ARM code are reads, or a read and a write.
-fn reads(instr: &Instr) -> bool
+pub fn reads(instr: &Instr) -> bool
     ensures { result ≡ touching.reads instr.now }
 {
     match *instr {
@@ -48,7 +48,7 @@ fn reads(instr: &Instr) -> bool
 }
 
 /// Whether they are writes, or a read and a write.
-fn writes(instr: &Instr) -> bool
+pub fn writes(instr: &Instr) -> bool
     ensures { result ≡ touching.writes instr.now }
 {
     match *instr {
@@ -116,7 +116,7 @@ impl Parts {
     }
 
     /// What a processor fetches at r15, as an instruction.
-    fn next_instr(&self, proc: Proc) -> Option<Instr>
+    pub fn next_instr(&self, proc: Proc) -> Option<Instr>
         ensures instr { result ≡ instr_at self.now proc }
         ensures fields { IfSome result HasFields }
     {
@@ -130,7 +130,7 @@ impl Parts {
     }
 
     /// The bytes that an instruction of a processor's reaches as data.
-    fn footprint_of(&self, proc: Proc, instr: &Instr) -> Touch
+    pub fn footprint_of(&self, proc: Proc, instr: &Instr) -> Touch
         requires { HasFields instr.now }
         ensures { IsFootprint self.now proc instr.now result }
     {

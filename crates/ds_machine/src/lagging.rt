@@ -1,0 +1,197 @@
+//! Whether an actor's next step observes geometry, which may lag until one does.
+
+ghost use Rattle.std.specs.Prelude.{◌≡◌, ◌<◌, ◌%◌, ◌^◌, Some, IsSome};
+ghost use Rattle.std.specs.List.{list_all};
+ghost use Rattle.arm_core.specs.Footprints.{span};
+ghost use Rattle.arm_words.specs.Fields.{HasFields};
+ghost use Rattle.ds_base.specs.declared.processors.Arch.TheVariants.{V5};
+ghost use Rattle.ds_base.specs.declared.processors.Proc.TheVariants.{Nine};
+ghost use Rattle.ds_dma.specs.States.{dma_due};
+ghost use Rattle.ds_machine.specs.Lagging as lagging;
+ghost use Rattle.ds_machine.specs.Lagging.{any_observes, channel_observes, nine_observes, observes_by};
+ghost use Rattle.ds_machine.specs.Observing.{all_apart, data_apart, is_apart_at, is_observed_at, HasBase};
+ghost use Rattle.ds_machine.specs.Private.{data_accesses};
+ghost use Rattle.ds_machine.specs.Reference.{dues_of, due_by};
+ghost use Rattle.ds_machine.specs.Sides.{nine_side};
+ghost use Rattle.ds_machine.specs.Steps.{nine_reach, tick_of};
+ghost use Rattle.ds_machine.specs.Touching as touching;
+ghost use Rattle.ds_runs.specs.Actors.{actor_of, IsNumbered};
+ghost use Rattle.ds_runs.specs.Runs.{due_at};
+ghost use Rattle.video2d.specs.Scans.{framed_by, scan_due_tick, starts_vblank, ScanState};
+
+use crate::parts::Parts;
+use crate::touching::{reads, writes};
+use arm_core::{Registers, Touch, equivalent};
+use arm_exec::enters;
+use arm_words::Instr;
+use cp15_tcm::Tcm;
+use ds_base::{Proc, Tick};
+use ds_places::{Place, place};
+use ds_runs::Actor;
+
+/// VCOUNT's offset from 4000000h.
+const VCOUNT: u32 = 6;
+
+/// Whether a port shows how far geometry is, gives it something to do, or makes it heard, by its offset from 4000000h.
+#[inline(always)]
+fn is_observed_port(at: u32) -> bool
+    ensures { result ≡ lagging.is_observed_port at }
+{
+    matches!(at / 4, 0x18 | 0x100..=0x1BF | 0x2E | 0x31 | 0x34 | 0x37)
+}
+
+/// Whether a place is such a port.
+#[inline(always)]
+fn is_observed_place(place: Place) -> bool
+    ensures { result ≡ lagging.is_observed_place place }
+{
+    match place {
+        Place::Port(at) => is_observed_port(at),
+        _ => false,
+    }
+}
+
+/// Does nothing; its contract states that the register from which the addresses of an instruction in its form of ARM code go is a word.
+#[inline(always)]
+fn base_laws(s: &Registers, instr: &Instr)
+    requires { HasFields instr.now }
+    ensures { HasBase s.now instr.now }
+{
+    match *instr {
+        Instr::Transfer { rn, .. } => {
+            let _base = s.get(rn);
+        }
+        Instr::HalfTransfer { rn, .. } => {
+            let _base = s.get(rn);
+        }
+        Instr::DoubleTransfer { rn, .. } => {
+            let _base = s.get(rn);
+        }
+        Instr::Multiple { rn, .. } => {
+            let _base = s.get(rn);
+        }
+        Instr::Swap { rn, .. } => {
+            let _base = s.get(rn);
+        }
+        _ => {}
+    }
+}
+
+/// Whether the display's next event is the start of line 192, by its tick, by when the last whole frame became so, and by the lower byte of VCOUNT: that tick
+/// is 1,120,380 ticks after the one before it, and the first one's is 817,920.
+fn is_vblank(due: Tick, framed: Option<Tick>, count: u8) -> bool
+    ensures { (scan : ScanState) → due ≡ scan_due_tick scan → framed ≡ framed_by scan → count ≡ scan.line % 2 ^ 8 → result ≡ starts_vblank scan }
+{
+    match framed {
+        None => due.0 == 817_920,
+        Some(last) => due.0 >= last.0 && due.0 - last.0 == 1_120_380 && count == 191,
+    }
+}
+
+impl Parts {
+    /// Whether the display's next event is the start of line 192.
+    fn starts_vblank(&self) -> bool
+        ensures { result ≡ starts_vblank self.now.io.video.scan }
+    {
+        let video = self.io.video();
+        is_vblank(video.due(), video.framed(), video.port_read(Proc::Nine, VCOUNT))
+    }
+
+    /// Whether what an address of ARM9's names past its tightly coupled memories is an observed port, as a write or else a read reaches it.
+    #[inline(always)]
+    fn is_observed(&self, at: u32, writing: bool) -> bool
+        ensures { result ≡ is_observed_at self.now writing at }
+    {
+        match self.nine.cp15.tcm_place(at, writing, false) {
+            Tcm::Past => is_observed_place(place(Proc::Nine, self.io.wramcnt(), at)),
+            _ => false,
+        }
+    }
+
+    /// Whether none of so many bytes from an address up is one.
+    fn is_span_apart(&self, first: u32, length: u32, writing: bool) -> bool
+        ensures { result ≡ list_all (is_apart_at self.now writing) (span first length) }
+    {
+        for i in 0..length {
+            if self.is_observed(first.wrapping_add(i), writing) {
+                return false;
+            }
+        }
+        true
+    }
+
+    /// Whether none of some bytes is one.
+    fn is_touch_apart(&self, touch: Touch, writing: bool) -> bool
+        ensures { result ≡ all_apart self.now writing touch }
+    {
+        match touch {
+            Touch::Nothing => true,
+            Touch::Span { first, length } => self.is_span_apart(first, length, writing),
+        }
+    }
+
+    /// Whether none of the bytes that are reached as data is one, by what an instruction does with them.
+    fn is_data_apart(&self, instr: &Instr, touch: Touch) -> bool
+        ensures { result ≡ data_apart self.now (touching.reads instr.now) (touching.writes instr.now) touch }
+    {
+        (!reads(instr) || self.is_touch_apart(touch, false))
+            && (!writes(instr) || self.is_touch_apart(touch, true))
+    }
+
+    /// Whether an access of data of an instruction of ARM9's is of an observed port.
+    fn instr_observes(&self, instr: &Instr) -> bool
+        requires { HasFields instr.now }
+        ensures { result ≡ (let r = nine_reach (tick_of self.now.nine.processor) self.now in any_observes r (data_accesses V5 (nine_side.base r) self.now.nine.processor.registers (Some instr.now))) }
+    {
+        let form = equivalent(instr);
+        base_laws(&self.processor(Proc::Nine).core.registers, &form);
+        !self.is_data_apart(&form, self.footprint_of(Proc::Nine, instr))
+    }
+
+    /// Whether ARM9's next step observes geometry.
+    fn nine_observes(&self) -> bool
+        ensures { result ≡ nine_observes self.now }
+    {
+        if enters(&self.processor(Proc::Nine).core.registers, self.line(Proc::Nine)) {
+            return false;
+        }
+        match self.next_instr(Proc::Nine) {
+            Some(instr) => self.instr_observes(&instr),
+            None => false,
+        }
+    }
+
+    /// Whether the next unit of ARM9's channels does.
+    fn channel_observes(&self) -> bool
+        requires { IsSome (dma_due self.now.io.nine.dma) }
+        ensures { result ≡ channel_observes self.now.io }
+    {
+        let unit = self.io.processor(Proc::Nine).unit();
+        let wramcnt = self.io.wramcnt();
+        is_observed_place(place(Proc::Nine, wramcnt, unit.from))
+            || is_observed_place(place(Proc::Nine, wramcnt, unit.to))
+    }
+
+    /// Whether the next step of an actor that is due does.
+    fn observes_by(&self, actor: Actor) -> bool
+        requires { IsSome (due_by actor self.now) }
+        ensures { result ≡ observes_by actor self.now }
+    {
+        match actor {
+            Actor::Video => self.starts_vblank(),
+            Actor::Dma {
+                proc: Proc::Nine, ..
+            } => self.channel_observes(),
+            Actor::Processor(Proc::Nine) => self.nine_observes(),
+            _ => false,
+        }
+    }
+
+    /// Whether the next step of the actor of a rank does, which is due.
+    pub fn observes(&self, rank: u8) -> bool
+        requires { IsSome (due_at (dues_of self.now) rank) }
+        ensures { result ≡ observes_by (actor_of rank) self.now }
+    {
+        self.observes_by(Actor::of(rank))
+    }
+}

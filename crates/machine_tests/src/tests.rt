@@ -3,5 +3,6 @@
 
 mod display;
 mod geometry;
+mod observed;
 mod room;
 mod told;

@@ -1,7 +1,8 @@
 //! Machines of two small programs, and what they tell after some steps. All ticks are worked by hand from the instructions' costs.
 
 use Line::{
-    Due, First, Frame, Lists, Main, NotDue, Pixel, Sees, Steps, Stops, SwappedFrame, Took, Until,
+    Due, First, Frame, Lists, Main, NotDue, Observes, Pixel, Sees, Steps, Stops, SwappedFrame,
+    Took, Until,
 };
 use ds_base::Proc::{Nine, Seven};
 use ds_base::{KeyLine, Keys, Memory, Proc, Stop, Tick};
@@ -58,6 +59,8 @@ pub enum Line {
     Stops(u64, u8, Stop),
     /// A pixel of the last whole frame.
     Pixel(u32, u16),
+    /// The actor of a rank is due, and its next step observes geometry, or doesn't.
+    Observes(u8, bool),
 }
 
 fn put(file: &mut Vec<u8>, at: usize, word: u32) {
@@ -134,6 +137,14 @@ fn stops(machine: &mut Machine, tick: u64, rank: u8, stop: Stop) -> bool {
     }
 }
 
+/// Whether the next step of the actor of a rank observes geometry, where it is due.
+fn observes(machine: &Machine, rank: u8) -> Option<bool> {
+    if rank >= 24 || machine.due_of(rank).is_none() {
+        return None;
+    }
+    Some(machine.observes(rank))
+}
+
 /// Whether a line holds.
 fn holds(machine: &mut Machine, line: Line) -> bool {
     match line {
@@ -166,6 +177,7 @@ fn holds(machine: &mut Machine, line: Line) -> bool {
         }
         Stops(tick, rank, stop) => stops(machine, tick, rank, stop),
         Pixel(at, value) => machine.frame()[(at % 98_304) as usize] == value,
+        Observes(rank, so) => observes(machine, rank % 24) == Some(so),
     }
 }
 

@@ -1,10 +1,7 @@
-use Rattle.std.proofs.Common.{ℕ, ◌≡◌, ◌<◌, List, [], refl}
-use Rattle.std.specs.Prelude.{◌↔◌}
-use Rattle.ds_base.specs.declared.left_out.LeftOut.{LeftOut}
+use Rattle.std.proofs.Common.{refl}
 use Rattle.ds_base.specs.declared.processors.Proc.{Proc}
-use Rattle.ds_runs.specs.Runs.{Ending, Makes, Runs}
 use Rattle.ds_runs.proofs.Ahead.{ahead_agrees}
-use Rattle.ds_machine.specs.Private.{AheadRuns, AheadSteps, IsAhead, RunsAhead, StepsAlone, rank_of}
+use Rattle.ds_machine.specs.Private.{AheadRuns, AheadSteps, IsAhead, RunsAhead, rank_of}
 use Rattle.ds_machine.specs.Reference.{IsSound, reference}
 use Rattle.ds_machine.specs.States.{MachineState}
 use Rattle.ds_machine.specs.Steps.{processor_of, tick_of}

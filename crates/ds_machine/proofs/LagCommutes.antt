@@ -1,5 +1,5 @@
 use Rattle.std.specs.Prelude.{◌||◌, not}
-use Rattle.std.proofs.Common.{ℕ, ◌≡◌, ◌≢◌, ◌+◌, ◌/◌, ◌%◌, ◌^◌, ◌==◌, ◌&&◌, Bool, true, false, true≢false, if◌then◌else◌, List, [], ◌∷◌, length, Option, Some, None, Result, Ok, Err, refl, sym, ◌∙◌, ap, subst, arith}
+use Rattle.std.proofs.Common.{ℕ, ◌≡◌, ◌≢◌, ◌+◌, ◌/◌, ◌%◌, ◌^◌, ◌==◌, ◌&&◌, Bool, true, false, true≢false, if◌then◌else◌, List, [], ◌∷◌, length, Option, Some, None, Result, Ok, Err, refl, sym, ◌∙◌, ap, subst}
 use Rattle.ds_base.specs.Accesses.{Access, Fetch, Performed, Read, Write, perform, refused_or, with_value}
 use Rattle.ds_base.specs.declared.keys.KeyLine.{KeyLine}
 use Rattle.ds_base.specs.declared.left_out.LeftOut.{LeftOut}
@@ -21,7 +21,7 @@ use Rattle.arm_core.specs.Exceptions.{interrupt_meaning, undefined_meaning}
 use Rattle.arm_core.specs.Meanings.{meaning, skipped}
 use Rattle.arm_core.specs.Registers.{RegisterState, is_thumb}
 use Rattle.arm_core.specs.Steps as steps
-use Rattle.arm_core.specs.Steps.{FetchOutcome, Setting, enters, executed_word, fetched, fetched_half, fetched_word, stop_of}
+use Rattle.arm_core.specs.Steps.{Setting, enters, executed_word, fetched, fetched_half, fetched_word, stop_of}
 use Rattle.arm_core.specs.declared.outcomes.Stepped as arm
 use Rattle.arm_core.specs.declared.outcomes.Stepped.TheVariants.{Cost, Halted, Left}
 use Rattle.arm7_exec.specs.Arm7.{arm7}

@@ -46,6 +46,7 @@ pub mod OwnShares
 pub mod OuterLeaves
 pub mod OuterLaw
 pub mod AheadRuns
+pub mod LagCommutes
 pub mod LagSteps
 pub mod LagLaw
 pub mod ObservedTests

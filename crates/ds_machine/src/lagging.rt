@@ -94,7 +94,11 @@ impl Parts {
         ensures { result ≡ starts_vblank self.now.io.video.scan }
     {
         let video = self.io.video();
-        is_vblank(video.due(), video.framed(), video.port_read(Proc::Nine, VCOUNT))
+        is_vblank(
+            video.due(),
+            video.framed(),
+            video.port_read(Proc::Nine, VCOUNT),
+        )
     }
 
     /// Whether what an address of ARM9's names past its tightly coupled memories is an observed port, as a write or else a read reaches it.
@@ -152,7 +156,10 @@ impl Parts {
     fn nine_observes(&self) -> bool
         ensures { result ≡ nine_observes self.now }
     {
-        if enters(&self.processor(Proc::Nine).core.registers, self.line(Proc::Nine)) {
+        if enters(
+            &self.processor(Proc::Nine).core.registers,
+            self.line(Proc::Nine),
+        ) {
             return false;
         }
         match self.next_instr(Proc::Nine) {
@@ -180,7 +187,8 @@ impl Parts {
         match actor {
             Actor::Video => self.starts_vblank(),
             Actor::Dma {
-                proc: Proc::Nine, ..
+                proc: Proc::Nine,
+                ..
             } => self.channel_observes(),
             Actor::Processor(Proc::Nine) => self.nine_observes(),
             _ => false,

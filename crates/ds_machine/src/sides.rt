@@ -190,15 +190,7 @@ impl Side for NineView<'_> {
         }
         let base = self.cp.vectors();
         let rom = in_rom(self.cp);
-        execute_word(
-            Arch::V5,
-            base,
-            rom,
-            s,
-            self,
-            next.number,
-            next.instr,
-        )
+        execute_word(Arch::V5, base, rom, s, self, next.number, next.instr)
     }
 
     #[inline(always)]

@@ -1,6 +1,5 @@
 pub mod Mains
 pub mod NineShares
-pub mod Puts
 pub mod Reached
 pub mod Later
 pub mod TakenBack

@@ -57,8 +57,8 @@ shared_of shared u = record {
 }
 
 -- the memories are shared out so, and have as many bytes
-pub record IsSharedSo (own : SharedPart) (others : List ℕ) (u : IoState) : Type 0 where
+pub record IsSharedSo (own : SharedPart) (theirs : List ℕ) (u : IoState) : Type 0 where
   pub wramcnt : own.wramcnt ≡ u.wramcnt
   pub controls : own.vram.controls ≡ u.vram.controls
-  pub shared : length own.shared ≡ length others
+  pub shared : length own.shared ≡ length theirs
   pub bytes : length own.vram.bytes ≡ length u.vram.bytes

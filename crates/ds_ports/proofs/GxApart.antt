@@ -11,14 +11,14 @@ use Rattle.ds_dma.specs.declared.controls.Cause.TheVariants.{VBlank, HBlank}
 use Rattle.ds_runs.specs.declared.actors.Actor as actor
 use Rattle.ds_runs.specs.declared.actors.Actor.TheVariants.{Timer, Geometry, Dma}
 use Rattle.ds_ports.specs.Dues.{held_due, io_due}
-use Rattle.ds_ports.specs.Io.{IoState, both_raised, channel_moved, channel_put_back, channels_shown, channels_triggered, io_event, keys_pressed, shown_to_others, video_done, with_gx, with_halted}
+use Rattle.ds_ports.specs.Io.{IoState, both_raised, channel_moved, channel_put_back, channels_triggered, io_event, keys_pressed, shown_to_others, video_done, with_gx, with_halted}
 use Rattle.ds_ports.specs.Ports.{port_read, port_refusal, port_value, port_written}
 use Rattle.ds_ports.specs.ProcessorIo.{BeforeMove}
 use Rattle.ds_ports.specs.RegisterMap.{PortRow, row_bytes}
 use Rattle.ds_ports.specs.Registers.{after_write, meaning_of}
 use Rattle.ds_ports.specs.declared.registers.Register.{Register}
 use Rattle.ds_ports.specs.declared.registers.Register.TheVariants.{GxWord, GxCommand}
-use Rattle.ds_ports.proofs.Covered.{Covers, Passes, ReadTheSame, chosen, covers, lies_in, no_row, read_passes, refusal_passes, slot_is, value_same, write_passes}
+use Rattle.ds_ports.proofs.Covered.{Covers, Passes, ReadTheSame, chosen, covers, no_row, read_passes, refusal_passes, slot_is, value_same, write_passes}
 use Rattle.gx_fifo.specs.GxStates.{GxState, is_stalled}
 use Rattle.video2d.specs.Scans.{scan_due_tick}
 use Rattle.video2d.specs.Videos.{unless_stop, video_after_event, video_shown, video_stop}

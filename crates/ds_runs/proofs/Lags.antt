@@ -46,7 +46,7 @@ module _ {S O L : Type 0} (m : TickMachine S O L) (limit : ℕ) where
 
 module _ {S O L : Type 0} (m : TickMachine S O L) (limit p : ℕ) (Before : S → ℕ → Tick → Type 0) (laws : MayLag m p Before) where
   -- fewer than so many ticks lie between p's due tick and r's
-  IsWithin : ℕ → S → Tick → Type 0
+  abbrev IsWithin : ℕ → S → Tick → Type 0
   IsWithin n s t = (u : Tick) → due_at (m.dues s) p ≡ Some u → t.0 < u.0 + n
 
   within_less : (n : ℕ) (s : S) (t u : Tick) (next : S) (is : t.0 < u.0 + suc n) → ((v : Tick) → due_at (m.dues next) p ≡ Some v → u.0 < v.0) → IsWithin n next t
@@ -54,34 +54,40 @@ module _ {S O L : Type 0} (m : TickMachine S O L) (limit p : ℕ) (Before : S �
 
   lags : (n : ℕ) (end : Ending S L) (outs rest : List O) (s next : S) (r : ℕ) (t : Tick) → IsWithin n s t → Before s r t → t.0 < limit → m.step r s ≡ Makes next outs
       → Runs m limit end s (outs ++ rest) ↔ Runs m limit end next rest
-  lags n end outs rest s next r t within b lt e = by_first n within (laws.first s r t b).least where
-    by_first : (n : ℕ) → IsWithin n s t → IsLeast (m.dues s) t r ⊎ ((u : Tick) × IsLeast (m.dues s) u p × (u.0 ≤ t.0)) → Runs m limit end s (outs ++ rest) ↔ Runs m limit end next rest
-    by_first n within (inl least) = one_step m limit end s next outs rest t r least lt e
-    by_first zero within (inr late) = absurd (let a = within late.0 late.1.there in let le = late.2 in omega (arith, a, le))
-    by_first (suc n) within (inr late) =
-        let u = late.0 in
-        let below : u.0 < limit = (let le = late.2 in omega (arith, le, lt)) in
+  lags zero end outs rest s next r t within b lt e = elim (laws.first s r t b).least [
+    | inl least ↦ one_step m limit end s next outs rest t r least lt e
+    | inr late ↦ (let a = within late.0 late.1.there in let le = late.2 in absurd (omega (arith, a, le)))
+  ]
+  lags (suc n) end outs rest s next r t within b lt e = elim (laws.first s r t b).least [
+    | inl least ↦ one_step m limit end s next outs rest t r least lt e
+    | inr late ↦ (let u = late.0 in
+        let le = late.2 in
+        let below : u.0 < limit = omega (arith, le, lt) in
         let k = laws.steps s r t u b late.1 in
         let c = laws.commutes s k.next next r t u outs b late.1 k.makes e in
         let here = one_step m limit end s k.next [] (outs ++ rest) u p late.1 below k.makes in
         let there = one_step m limit end next c.1.0 [] rest u p c.0 below c.1.2 in
-        let again = lags n end outs rest k.next c.1.0 r t
-            (within_less n s t u k.next (within u late.1.there) (λ v h. is_later u (due_at (m.dues k.next) p) v k.later h)) k.still lt c.1.1 in
-        (λ run. there.1 (again.0 (here.0 run)), λ run. here.1 (again.1 (there.0 run)))
+        let later : (v : Tick) → due_at (m.dues k.next) p ≡ Some v → u.0 < v.0 = λ v h. is_later u (due_at (m.dues k.next) p) v k.later h in
+        let again = lags n end outs rest k.next c.1.0 r t (within_less n s t u k.next (within u late.1.there) later) k.still lt c.1.1 in
+        (λ run. there.1 (again.0 (here.0 run)), λ run. here.1 (again.1 (there.0 run))))
+  ]
 
   stops_late : (n : ℕ) (s left : S) (r : ℕ) (t : Tick) (stop : L) → IsWithin n s t → Before s r t → t.0 < limit → m.step r s ≡ Stops stop left → Runs m limit (Stopped stop) s []
-  stops_late n s left r t stop within b lt e = by_first n within (laws.first s r t b).least where
-    by_first : (n : ℕ) → IsWithin n s t → IsLeast (m.dues s) t r ⊎ ((u : Tick) × IsLeast (m.dues s) u p × (u.0 ≤ t.0)) → Runs m limit (Stopped stop) s []
-    by_first n within (inl least) = stops s left t r stop least lt e
-    by_first zero within (inr late) = absurd (let a = within late.0 late.1.there in let le = late.2 in omega (arith, a, le))
-    by_first (suc n) within (inr late) =
-        let u = late.0 in
-        let below : u.0 < limit = (let le = late.2 in omega (arith, le, lt)) in
+  stops_late zero s left r t stop within b lt e = elim (laws.first s r t b).least [
+    | inl least ↦ stops s left t r stop least lt e
+    | inr late ↦ (let a = within late.0 late.1.there in let le = late.2 in absurd (omega (arith, a, le)))
+  ]
+  stops_late (suc n) s left r t stop within b lt e = elim (laws.first s r t b).least [
+    | inl least ↦ stops s left t r stop least lt e
+    | inr late ↦ (let u = late.0 in
+        let le = late.2 in
+        let below : u.0 < limit = omega (arith, le, lt) in
         let k = laws.steps s r t u b late.1 in
         let c = laws.halts s k.next left r t u stop b late.1 k.makes e in
-        let again = stops_late n k.next c.0 r t stop
-            (within_less n s t u k.next (within u late.1.there) (λ v h. is_later u (due_at (m.dues k.next) p) v k.later h)) k.still lt c.1 in
-        more (Stopped stop) s k.next u p [] [] late.1 below k.makes again
+        let later : (v : Tick) → due_at (m.dues k.next) p ≡ Some v → u.0 < v.0 = λ v h. is_later u (due_at (m.dues k.next) p) v k.later h in
+        let again = stops_late n k.next c.0 r t stop (within_less n s t u k.next (within u late.1.there) later) k.still lt c.1 in
+        more (Stopped stop) s k.next u p [] [] late.1 below k.makes again)
+  ]
 
 pub lag_agrees : {S O L : Type 0} (m : TickMachine S O L) (p : ℕ) (Before : S → ℕ → Tick → Type 0) → MayLag m p Before → LagAgrees m Before
 lag_agrees m p Before laws limit end outs rest s next r t b lt e =

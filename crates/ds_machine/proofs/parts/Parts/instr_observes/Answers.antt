@@ -15,6 +15,6 @@ returns c =
     let s = c.args.self.now in
     let touch = c.footprint_of.result in
     let has = subst (λ (i : Instr). HasBase s.nine.processor.registers i) c.equivalent-form.ensures.instr
-        (subst (λ (r : RegisterState). HasBase r c.equivalent-form.result) (ap (λ (p : ProcessorState). p.registers) c.processor.ensures) c.base_laws.ensures) in
+    (subst (λ (r : RegisterState). HasBase r c.equivalent-form.result) (ap (λ (p : ProcessorState). p.registers) c.processor.ensures) c.base_laws.ensures) in
     ap not (c.is_data_apart.ensures ∙ ap (λ (i : Instr). data_apart s (reads i) (writes i) touch) c.equivalent-form.ensures.instr)
     ∙ instr_observes_by s c.args.instr.now touch has (c.footprint_of.ensures (nine_side.base (nine_reach (tick_of s.nine.processor) s)))

@@ -16,6 +16,7 @@ use Rattle.ds_dma.specs.Controls.{disabled, burst_of, is_armed_again, is_enabled
 use Rattle.ds_dma.specs.States.{DmaState, channel_at, dma_finished, dma_triggered, due_channel, least_running}
 use Rattle.ds_dma.specs.declared.controls.Cause.{Cause}
 use Rattle.ds_dma.specs.declared.controls.Cause.TheVariants.{Geometry}
+use Rattle.ds_ports.specs.Acting.{is_armed}
 use Rattle.ds_ports.specs.Io.{IoState}
 use Rattle.ds_ports.specs.Ports.{byte_written, half_written, ignores, port_read, port_written, read_unchanged, slot_joined, slot_written, whole_if, whole_in, word_written, written_or}
 use Rattle.ds_ports.specs.ProcessorIo.{ProcessorIoState, haltcnt_written, kept_keycnt, keys_hold, keys_told, processor_io_raised}
@@ -29,13 +30,10 @@ use Rattle.ds_ports.proofs.RegisterMaps.{both, each_below, of_each}
 
 -- Which of ARM9's channels are enabled with the start of the geometry FIFO is told by their controls, and of ports those are changed by writes of DMAxCNT alone.
 
--- ---- a channel is enabled with that start
-
-abbrev pub armed_by : Proc → ℕ → Bool
-armed_by proc cnt = is_enabled cnt && waits_for proc Geometry cnt
+-- ---- a channel is enabled with that start, by its control word
 
 abbrev pub armed : DmaState → ℕ → Bool
-armed dma which = armed_by dma.proc (channel_at dma.channels which).cnt
+armed dma which = is_armed (channel_at dma.channels which).cnt
 
 -- there are as many channels, and their controls are as they were; or no more of them are so enabled
 pub record KeepsControls (old new : DmaState) : Type 0 where
@@ -68,8 +66,7 @@ arms_then a b c k l = record { long = l.long ∙ k.long; none = λ which h. l.no
 pub arms_kept : (old new : DmaState) → KeepsControls old new → ArmsNoMore old new
 arms_kept old new k = record {
   long = k.long;
-  none = λ which h.
-      ap (λ (p : Proc). armed_by p (channel_at new.channels which).cnt) k.proc ∙ ap (armed_by old.proc) (k.cnt which) ∙ h;
+  none = λ which h. ap is_armed (k.cnt which) ∙ h;
 }
 
 -- ---- lists of channels of which one is another, or each
@@ -110,21 +107,21 @@ triggered_keeps dma cause now =
 off : (control : ℕ) → is_enabled (disabled control) ≡ false
 off control = grind (arith, rules)
 
-unit_arms : (proc : Proc) (which : ℕ) (c : ChannelState) → armed_by proc c.cnt ≡ false → armed_by proc (after_unit proc which c).cnt ≡ false
+unit_arms : (proc : Proc) (which : ℕ) (c : ChannelState) → is_armed c.cnt ≡ false → is_armed (after_unit proc which c).cnt ≡ false
 unit_arms proc which c h = by_kind (is_last_unit c) (is_last_of_burst c) (is_armed_again proc c.cnt) where
   by_kind : (last burst again : Bool)
-      → armed_by proc (if not last then (if burst then record (rest_of c) { trigger = None } else rest_of c) else (if again then armed_again proc which c else emptied c (disabled c.cnt))).cnt
+      → is_armed (if not last then (if burst then record (rest_of c) { trigger = None } else rest_of c) else (if again then armed_again proc which c else emptied c (disabled c.cnt))).cnt
       ≡ false
   by_kind false true again = h
   by_kind false false again = h
   by_kind true burst true = h
-  by_kind true burst false = ap (λ (b : Bool). b && waits_for proc Geometry (disabled c.cnt)) (off c.cnt)
+  by_kind true burst false = ap (λ (b : Bool). b && waits_for Nine Geometry (disabled c.cnt)) (off c.cnt)
 
 pub finished_arms : (dma : DmaState) (now : Tick) → ArmsNoMore dma (dma_finished dma now)
 finished_arms dma now =
     let which = least_running dma.channels in
     let c = after_unit dma.proc which (due_channel dma) in
-    let Q : ChannelState → ChannelState → Type 0 = λ x y. armed_by dma.proc x.cnt ≡ false → armed_by dma.proc y.cnt ≡ false in
+    let Q : ChannelState → ChannelState → Type 0 = λ x y. is_armed x.cnt ≡ false → is_armed y.cnt ≡ false in
     record {
       long = length-set dma.channels which c;
       none = set_each Q (λ x h. h) dma.channels which c (unit_arms dma.proc which (due_channel dma));

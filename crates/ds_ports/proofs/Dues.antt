@@ -12,8 +12,9 @@ use Rattle.ds_runs.specs.declared.actors.Actor.TheVariants.{Video}
 use Rattle.ds_runs.specs.Order.{due_with_rank, earlier, first_from}
 use Rattle.ds_runs.proofs.Firsts.{first_of_append}
 use Rattle.ds_timers.specs.Timing.{timer_at, timer_due}
-use Rattle.ds_ports.specs.Dues.{dma_due_in, first_io_due, io_due}
-use Rattle.ds_ports.specs.Inside.{moves_dues}
+use Rattle.ds_ports.specs.Acting.{first_acting_io_due}
+use Rattle.ds_ports.specs.Dues.{dma_due_in, io_due}
+use Rattle.ds_ports.specs.Inside.{first_with, moves_dues}
 use Rattle.ds_ports.specs.ProcessorIo.{ProcessorIoState, haltcnt_written, ie_written, if_written, ime_written, keycnt_written, kept_keycnt, keys_hold, keys_told}
 use Rattle.ds_ports.specs.Registers.{after_write, meaning_of}
 use Rattle.ds_ports.specs.Io.{IoState, keys_pressed, io_of, with_halted, with_io_of}
@@ -22,7 +23,7 @@ use Rattle.ds_ports.specs.declared.registers.Register.TheVariants.{DisplayHalf, 
 use Rattle.vram_banks.specs.Cells.{Banks}
 use Rattle.ds_ports.proofs.DisplayPorts.{written_scan}
 
--- The first of what is due behind the ports: how it is found, and what leaves it as it is.
+-- The first of what is due behind the ports: how it is found; and what leaves the first of what acts as it is.
 
 -- ---- a processor's channels, of which one is due
 
@@ -68,32 +69,32 @@ first_channel rank s =
 
 -- ---- the first of all
 
-pub first_by_parts : (u : IoState) → first_io_due u
+pub first_by_parts : (geometry : Option Tick) (u : IoState) → first_with geometry u
     ≡ earlier (due_with_rank 1 (io_due Video u))
     (earlier (first_from 2 (timer_due (timer_at u.nine.timers 0) ∷ timer_due (timer_at u.nine.timers 1) ∷ timer_due (timer_at u.nine.timers 2) ∷ timer_due (timer_at u.nine.timers 3) ∷ []))
     (earlier (first_from 6 (timer_due (timer_at u.seven.timers 0) ∷ timer_due (timer_at u.seven.timers 1) ∷ timer_due (timer_at u.seven.timers 2) ∷ timer_due (timer_at u.seven.timers 3) ∷ []))
     (earlier (due_with_rank 10 u.divider.due)
     (earlier (due_with_rank 11 u.root.due)
-    (earlier (due_with_rank 12 u.gx.due)
+    (earlier (due_with_rank 12 geometry)
     (earlier (first_from 14 (dma_due_in u Nine 0 ∷ dma_due_in u Nine 1 ∷ dma_due_in u Nine 2 ∷ dma_due_in u Nine 3 ∷ []))
     (first_from 18 (channel_due u.seven.dma 0 ∷ channel_due u.seven.dma 1 ∷ channel_due u.seven.dma 2 ∷ channel_due u.seven.dma 3 ∷ []))))))))
-unfolding first_io_due
-first_by_parts u =
+unfolding first_with
+first_by_parts geometry u =
     let n : List (Option Tick) = timer_due (timer_at u.nine.timers 0) ∷ timer_due (timer_at u.nine.timers 1) ∷ timer_due (timer_at u.nine.timers 2) ∷ timer_due (timer_at u.nine.timers 3) ∷ [] in
     let s : List (Option Tick) = timer_due (timer_at u.seven.timers 0) ∷ timer_due (timer_at u.seven.timers 1) ∷ timer_due (timer_at u.seven.timers 2) ∷ timer_due (timer_at u.seven.timers 3) ∷ [] in
     let nd : List (Option Tick) = dma_due_in u Nine 0 ∷ dma_due_in u Nine 1 ∷ dma_due_in u Nine 2 ∷ dma_due_in u Nine 3 ∷ [] in
     let sd : List (Option Tick) = channel_due u.seven.dma 0 ∷ channel_due u.seven.dma 1 ∷ channel_due u.seven.dma 2 ∷ channel_due u.seven.dma 3 ∷ [] in
-    let maths : List (Option Tick) = u.divider.due ∷ u.root.due ∷ u.gx.due ∷ None ∷ nd ++ sd in
+    let maths : List (Option Tick) = u.divider.due ∷ u.root.due ∷ geometry ∷ None ∷ nd ++ sd in
     let video : Option Due = due_with_rank 1 (io_due Video u) in
     ap (λ (d : Option Due). earlier video d) (first_of_append 2 n (s ++ maths)
     ∙ ap (λ (d : Option Due). earlier (first_from 2 n) d) (first_of_append 6 s maths)
-    ∙ ap (λ (d : Option Due). earlier (first_from 2 n) (earlier (first_from 6 s) (earlier (due_with_rank 10 u.divider.due) (earlier (due_with_rank 11 u.root.due) (earlier (due_with_rank 12 u.gx.due) d))))) (first_of_append 14 nd sd))
+    ∙ ap (λ (d : Option Due). earlier (first_from 2 n) (earlier (first_from 6 s) (earlier (due_with_rank 10 u.divider.due) (earlier (due_with_rank 11 u.root.due) (earlier (due_with_rank 12 geometry) d))))) (first_of_append 14 nd sd))
 
--- ---- what leaves it
+-- ---- what leaves the first that acts
 
 same : (u v : IoState) → v.video.scan ≡ u.video.scan → v.nine.timers ≡ u.nine.timers → v.nine.dma ≡ u.nine.dma → v.seven.timers ≡ u.seven.timers → v.seven.dma ≡ u.seven.dma
-    → v.divider ≡ u.divider → v.root ≡ u.root → v.gx ≡ u.gx → v.released ≡ u.released → first_io_due v ≡ first_io_due u
-unfolding first_io_due
+    → v.divider ≡ u.divider → v.root ≡ u.root → v.gx ≡ u.gx → v.released ≡ u.released → first_acting_io_due v ≡ first_acting_io_due u
+unfolding first_acting_io_due
 same u v scan a b c d e f g r = rw (scan, a, b, c, d, e, f, g, r) refl
 
 -- of a processor's own the timers and the channels stay
@@ -106,25 +107,25 @@ told_still processor_io pressed = go (keys_hold processor_io.keycnt pressed) ref
   go true e = rw e (refl, refl)
   go false e = rw e (refl, refl)
 
-still : (proc : Proc) (u : IoState) (processor_io : ProcessorIoState) → IsStill (io_of u proc) processor_io → first_io_due (with_io_of proc u processor_io) ≡ first_io_due u
+still : (proc : Proc) (u : IoState) (processor_io : ProcessorIoState) → IsStill (io_of u proc) processor_io → first_acting_io_due (with_io_of proc u processor_io) ≡ first_acting_io_due u
 still Nine u processor_io h = same u (with_io_of Nine u processor_io) refl h.0 h.1 refl refl refl refl refl refl
 still Seven u processor_io h = same u (with_io_of Seven u processor_io) refl refl refl h.0 h.1 refl refl refl refl
 
-pub vram_moves_none : (u : IoState) (vram : Banks) → first_io_due (record u { vram = vram }) ≡ first_io_due u
-unfolding first_io_due
+pub vram_moves_none : (u : IoState) (vram : Banks) → first_acting_io_due (record u { vram = vram }) ≡ first_acting_io_due u
+unfolding first_acting_io_due
 vram_moves_none u vram = refl
 
-pub halts_move_none : (proc : Proc) (u : IoState) (halted : Bool) → first_io_due (with_halted proc u halted) ≡ first_io_due u
+pub halts_move_none : (proc : Proc) (u : IoState) (halted : Bool) → first_acting_io_due (with_halted proc u halted) ≡ first_acting_io_due u
 halts_move_none proc u halted = still proc u (record (io_of u proc) { halted = halted }) (refl, refl)
 
-pub keys_move_none : (u : IoState) (pressed : ℕ) → first_io_due (keys_pressed u pressed) ≡ first_io_due u
+pub keys_move_none : (u : IoState) (pressed : ℕ) → first_acting_io_due (keys_pressed u pressed) ≡ first_acting_io_due u
 keys_move_none u pressed =
     let n = told_still u.nine pressed in
     let s = told_still u.seven pressed in
     same u (keys_pressed u pressed) refl n.0 n.1 s.0 s.1 refl refl refl refl
 
-pub reads_move_none : (proc : Proc) (u : IoState) (register : Register) → first_io_due ((meaning_of register).after_read proc u) ≡ first_io_due u
-unfolding first_io_due
+pub reads_move_none : (proc : Proc) (u : IoState) (register : Register) → first_acting_io_due ((meaning_of register).after_read proc u) ≡ first_acting_io_due u
+unfolding first_acting_io_due
 reads_move_none proc u Ipcfiforecv = refl
 reads_move_none proc u _ = refl
 
@@ -135,7 +136,7 @@ halt_still processor_io value = go (bits 6 2 value == 2) refl where
   go false e = rw e (refl, refl)
 
 pub writes_move_none : (proc : Proc) (now : Tick) (u : IoState) (register : Register) (number value : ℕ) → moves_dues register ≡ false
-    → first_io_due (after_write proc now u register number value) ≡ first_io_due u
+    → first_acting_io_due (after_write proc now u register number value) ≡ first_acting_io_due u
 writes_move_none proc now u Dmasad number value h = absurd (grind (arith, h))
 writes_move_none proc now u Dmadad number value h = absurd (grind (arith, h))
 writes_move_none proc now u Dmacnt number value h = absurd (grind (arith, h))

@@ -4,6 +4,7 @@ pub mod HeldDues
 pub mod GxPorts
 pub mod Grows
 pub mod Dues
+pub mod Acting
 pub mod Later
 pub mod Events
 pub mod Shows

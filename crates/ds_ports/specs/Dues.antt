@@ -48,21 +48,24 @@ due_in_io u _ = None
 abbrev pub io_due : actor.Actor → IoState → Option Tick
 io_due a u = due_in_io u a
 
--- those of ranks 1 to 21, in their order
-abbrev pub io_dues : IoState → List (Option Tick)
-io_dues u =
+-- those of ranks 1 to 21, in their order, where geometry is due when it is told
+abbrev pub dues_with : Option Tick → IoState → List (Option Tick)
+dues_with geometry u =
     io_due Video u
     ∷ io_due (Timer Nine 0) u ∷ io_due (Timer Nine 1) u ∷ io_due (Timer Nine 2) u ∷ io_due (Timer Nine 3) u
     ∷ io_due (Timer Seven 0) u ∷ io_due (Timer Seven 1) u ∷ io_due (Timer Seven 2) u ∷ io_due (Timer Seven 3) u
     ∷ io_due Divider u
     ∷ io_due SquareRoot u
-    ∷ io_due Geometry u
+    ∷ geometry
     ∷ io_due Card u
     ∷ io_due (Dma Nine 0) u ∷ io_due (Dma Nine 1) u ∷ io_due (Dma Nine 2) u ∷ io_due (Dma Nine 3) u
     ∷ io_due (Dma Seven 0) u ∷ io_due (Dma Seven 1) u ∷ io_due (Dma Seven 2) u ∷ io_due (Dma Seven 3) u
     ∷ []
 
--- the first of them, which is kept: the display is always due; it doesn't unfold by itself
+abbrev pub io_dues : IoState → List (Option Tick)
+io_dues u = dues_with (io_due Geometry u) u
+
+-- the first of them: the display is always due; it doesn't unfold by itself
 unfoldable pub first_io_due : IoState → Option Due
 first_io_due u = first_from 1 (io_dues u)
 

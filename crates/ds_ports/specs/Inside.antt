@@ -1,4 +1,9 @@
-use Rattle.std.specs.Prelude.{Bool, true, false}
+use Rattle.std.specs.Prelude.{Bool, true, false, Option}
+use Rattle.ds_base.specs.declared.ticks.Due.{Due}
+use Rattle.ds_base.specs.declared.ticks.Tick.{Tick}
+use Rattle.ds_runs.specs.Order.{first_from}
+use Rattle.ds_ports.specs.Dues.{dues_with}
+use Rattle.ds_ports.specs.Io.{IoState}
 use Rattle.ds_ports.specs.declared.registers.Register.{Register}
 use Rattle.ds_ports.specs.declared.registers.Register.TheVariants.{DisplayHalf, DisplayWord, GxWord, GxCommand, Dmasad, Dmadad, Dmacnt, TmcntL, TmcntH, Vramcnt, Vramstat, Divcnt, DivNumer, DivDenom, DivResult, DivremResult, Sqrtcnt, SqrtResult, SqrtParam}
 
@@ -19,6 +24,10 @@ moves_dues SqrtParam = true
 moves_dues GxWord = true
 moves_dues GxCommand = true
 moves_dues _ = false
+
+-- the first of the units that are due, where geometry is due when it is told
+unfoldable pub first_with : Option Tick → IoState → Option Due
+first_with geometry u = first_from 1 (dues_with geometry u)
 
 -- a register is video's, the maths unit's or geometry's
 abbrev pub is_of_unit : Register → Bool

@@ -1,3 +1,4 @@
+pub mod Acting
 pub mod Dues
 pub mod Inside
 pub mod ProcessorIo

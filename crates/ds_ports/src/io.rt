@@ -1,4 +1,4 @@
-//! The units behind the ports, with the first of them that is due.
+//! The units behind the ports, with the first of them that is due and acts.
 
 ghost use Rattle.std.specs.Prelude.{◌≡◌, ◌<◌, ◌≤◌, ◌^◌, true, IfOk, IsSome, Some, length};
 ghost use Rattle.ds_base.specs.Schedules.{IsEarly};
@@ -10,7 +10,8 @@ ghost use Rattle.ds_runs.specs.Order.{first_from};
 ghost use Rattle.gx_fifo.specs.GxStates.{AddsOneVertex, IsGx, gx_finished, is_stalled};
 ghost use Rattle.gx_geometry.specs.States.{AreListsSince};
 ghost use Rattle.vram_banks.specs.Cells.{vram_written};
-ghost use Rattle.ds_ports.specs.Dues.{IsIo, io_due, io_dues, first_io_due};
+ghost use Rattle.ds_ports.specs.Acting.{acting_io_dues, is_quiet};
+ghost use Rattle.ds_ports.specs.Dues.{IsIo, io_due, io_dues};
 ghost use Rattle.ds_ports.specs.Inside.{moves_dues};
 ghost use Rattle.ds_ports.specs.ProcessorIo.{before_move};
 ghost use Rattle.ds_ports.specs.Registers.{after_write, meaning_of};
@@ -32,20 +33,20 @@ use vram_banks::Vram;
 #[derive(Drop)]
 pub struct Io {
     units: Units,
-    due: Due,
+    first: Due,
     settled: bool,
 }
 
 impl Model for Io {
     ghost use Rattle.std.specs.Prelude.{◌≡◌, true, Some};
-    ghost use Rattle.ds_ports.specs.Dues.{first_io_due};
+    ghost use Rattle.ds_ports.specs.Acting.{first_acting_io_due};
     ghost use Rattle.ds_ports.specs.Io.{IoState, is_settled};
 
     ghost Value = { IoState };
 
     ghost view = { λ u. u.units };
 
-    ghost invariant = { λ u. (Some u.due ≡ first_io_due u.units) × (u.settled ≡ true → is_settled u.units ≡ true) };
+    ghost invariant = { λ u. (Some u.first ≡ first_acting_io_due u.units) × (u.settled ≡ true → is_settled u.units ≡ true) };
 }
 
 /// Whether a write of a register may change when something is due, or leave something to settle.
@@ -77,10 +78,10 @@ impl Io {
         ensures { IfOk result (λ io. io ≡ io_at_boot) }
     {
         let units = Units::new(alloc)?;
-        let due = units.first_due();
+        let first = units.first_acting();
         Ok(Io {
             units,
-            due,
+            first,
             settled: false,
         })
     }
@@ -151,14 +152,30 @@ impl Io {
         self.units.io_due(actor)
     }
 
-    /// The first actor behind the ports that is due, by tick and then by rank. It is kept, and found again only where one of them had its event, or a
-    /// timer, a DMA channel, the divider, the square root unit or geometry changed.
-    #[inline(always)]
+    /// The first actor behind the ports that is due, by tick and then by rank, quiet geometry among them. It is found at each call.
     #[tactic(auto, unfolding(crate::specs::Dues::first_io_due))]
     pub fn first_due(&self) -> Due
         ensures { Some result ≡ first_from 1 (io_dues self.now) }
     {
-        self.due
+        self.units.first_due()
+    }
+
+    /// The first that acts of those that are due: all do but quiet geometry. It is kept, and found again only where one of them had its event, or a
+    /// timer, a DMA channel, the divider, the square root unit or geometry changed.
+    #[inline(always)]
+    #[tactic(auto, unfolding(crate::specs::Acting::first_acting_io_due))]
+    pub fn first_acting(&self) -> Due
+        ensures { Some result ≡ first_from 1 (acting_io_dues self.now) }
+    {
+        self.first
+    }
+
+    /// Whether geometry is due and quiet: nobody hears of what it does, since GXSTAT's selector is 0, no channel of ARM9's is enabled with the start of
+    /// the geometry FIFO, whether or not it runs, and no stall holds ARM9.
+    pub fn is_quiet(&self) -> bool
+        ensures { result ≡ is_quiet self.now }
+    {
+        self.units.is_quiet()
     }
 
     /// The event of an actor behind the ports that is due: a timer overflows and its interrupts are raised, a division or a square root is done,
@@ -172,7 +189,7 @@ impl Io {
     {
         self.settled = false;
         self.units.event(actor);
-        self.due = self.units.first_due();
+        self.first = self.units.first_acting();
     }
 
     /// The display's event, with the memories of palettes and of objects: it goes on, and where a line is drawn it draws it; interrupts are raised by
@@ -187,7 +204,7 @@ impl Io {
     {
         self.settled = false;
         let shown = self.units.show(palette, oam);
-        self.due = self.units.first_due();
+        self.first = self.units.first_acting();
         shown
     }
 
@@ -201,7 +218,7 @@ impl Io {
     {
         self.settled = false;
         let before = self.units.move_channel(proc, now);
-        self.due = self.units.first_due();
+        self.first = self.units.first_acting();
         before
     }
 
@@ -211,7 +228,7 @@ impl Io {
     {
         self.settled = false;
         self.units.put_back(proc, before);
-        self.due = self.units.first_due();
+        self.first = self.units.first_acting();
     }
 
     /// Line 192 begins at a tick: a swap of geometry's lists that waits is made. Gives whether one waited; nothing changes where none did.
@@ -223,7 +240,7 @@ impl Io {
     {
         self.settled = false;
         let waited = self.units.swap(now);
-        self.due = self.units.first_due();
+        self.first = self.units.first_acting();
         waited
     }
 
@@ -289,7 +306,7 @@ impl Io {
         self.units.laws();
         if !self.units.is_settled() {
             self.units.settle(now);
-            self.due = self.units.first_due();
+            self.first = self.units.first_acting();
         }
         self.settled = true;
     }
@@ -369,6 +386,6 @@ impl Io {
         self.settled = false;
         self.units
             .write_register(proc, now, register, number, value);
-        self.due = self.units.first_due();
+        self.first = self.units.first_acting();
     }
 }

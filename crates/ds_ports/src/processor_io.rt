@@ -9,6 +9,7 @@ ghost use Rattle.ds_dma.specs.declared.controls.DmaPort.TheVariants.{Control};
 ghost use Rattle.ds_runs.specs.Order.{first_from};
 ghost use Rattle.ds_timers.specs.Irqs.{irq_levelled, line_is_up, shares_bit};
 ghost use Rattle.ds_timers.specs.Timing.{counter_of, overflow_of, timer_at, timer_due};
+ghost use Rattle.ds_ports.specs.Acting.{any_armed, is_armed};
 ghost use Rattle.ds_ports.specs.Dues.{IsProcessorIo};
 ghost use Rattle.ds_ports.specs.ProcessorIo.{before_move, control_written, dma_written, extkeyin_word, haltcnt_written, ie_written, if_written, ime_written, interrupts_of, blocks_processor, keycnt_written, keyinput_word, keys_hold, keys_told, processor_io_at_boot, processor_io_moved, processor_io_put_back, processor_io_raised, processor_io_triggered, reload_written};
 ghost use Rattle.ds_ports.specs.Registers.{meaning_of, processor_io_after};
@@ -108,6 +109,13 @@ fn keys_hold(keycnt: u16, pressed: u16) -> bool
         })
 }
 
+/// Whether a control word enables a channel of ARM9's with the start of the geometry FIFO.
+fn is_armed(control: u32) -> bool
+    ensures { result ≡ is_armed control }
+{
+    (control >> 31) & 1 == 1 && (control >> 27) & 7 == 7
+}
+
 impl ProcessorIo {
     /// All of a processor's at boot: no interrupt, no timer, no channel, and the processor runs.
     pub fn new(proc: Proc) -> ProcessorIo
@@ -192,6 +200,16 @@ impl ProcessorIo {
         ensures { result ≡ awaits_geometry self.now.dma }
     {
         self.dma.awaits_geometry()
+    }
+
+    /// Whether a channel of ARM9's is enabled with the start of the geometry FIFO, whether or not it runs.
+    pub fn any_armed(&self) -> bool
+        ensures { result ≡ any_armed self.now.dma }
+    {
+        is_armed(self.channel(DmaPort::Control, 0))
+            || is_armed(self.channel(DmaPort::Control, 1))
+            || is_armed(self.channel(DmaPort::Control, 2))
+            || is_armed(self.channel(DmaPort::Control, 3))
     }
 
     /// When a timer overflows, if it is due.

@@ -11,5 +11,6 @@ mod keys;
 mod lines;
 mod map;
 mod maths;
+mod quiet;
 mod room;
 mod timers;

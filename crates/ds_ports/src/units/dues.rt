@@ -1,14 +1,20 @@
 //! When the units are due.
 
-ghost use Rattle.std.specs.Prelude.{◌≡◌, ◌<◌, ◌∷◌, [], Some};
+ghost use Rattle.std.specs.Prelude.{◌≡◌, ◌<◌, ◌==◌, ◌∷◌, [], Some};
 ghost use Rattle.ds_base.specs.declared.processors.Proc.TheVariants.{Nine};
 ghost use Rattle.ds_runs.specs.Actors.{IsNumbered};
+ghost use Rattle.ds_runs.specs.declared.actors.Actor.TheVariants.{Geometry};
 ghost use Rattle.ds_runs.specs.Order.{first_from};
+ghost use Rattle.ds_ports.specs.Acting.{acting_io_due, first_acting_io_due, is_quiet};
 ghost use Rattle.ds_ports.specs.Dues.{dma_due_in, io_due, first_io_due, released_at};
+ghost use Rattle.ds_ports.specs.Inside.{first_with};
 
 use crate::units::Units;
 use ds_base::{Due, Proc, Tick};
 use ds_runs::{Actor, earlier, earlier_than, entry};
+
+/// The offset of GXSTAT.
+const GXSTAT: u32 = 0x600;
 
 /// When a channel is due that isn't before a number of ticks.
 fn released_at(released: u64, due: Option<Tick>) -> Option<Tick>
@@ -68,13 +74,57 @@ impl Units {
         })
     }
 
+    /// Whether GXSTAT's selector is 0, so that no interrupt follows how much waits: it is all that is kept of GXSTAT.
+    #[tactic(auto, using(crate::proofs::Acting::unselected))]
+    fn is_unselected(&self) -> bool
+        ensures { result ≡ (self.now.gx.selector == 0) }
+    {
+        self.gx.port_kept(GXSTAT) == 0
+    }
+
+    /// Whether geometry is due, and nobody hears of what it does.
+    pub fn is_quiet(&self) -> bool
+        ensures { result ≡ is_quiet self.now }
+    {
+        self.gx.due().is_some()
+            && self.is_unselected()
+            && !self.nine.any_armed()
+            && !self.gx.stalled()
+    }
+
+    /// When geometry is due, if it is and isn't quiet.
+    fn geometry_acting(&self) -> Option<Tick>
+        ensures { result ≡ acting_io_due Geometry self.now }
+    {
+        if self.is_quiet() {
+            return None;
+        }
+        self.gx.due()
+    }
+
     /// The first actor behind the ports that is due.
-    #[tactic(auto, using(crate::proofs::Dues::first_by_parts))]
+    #[tactic(auto, using(crate::proofs::Acting::all_due))]
     pub fn first_due(&self) -> Due
         ensures { Some result ≡ first_io_due self.now }
     {
+        self.first_with(self.gx.due())
+    }
+
+    /// The first actor behind the ports that is due and acts: all that are due do, but quiet geometry.
+    #[tactic(auto, using(crate::proofs::Acting::all_acting))]
+    pub fn first_acting(&self) -> Due
+        ensures { Some result ≡ first_acting_io_due self.now }
+    {
+        self.first_with(self.geometry_acting())
+    }
+
+    /// The first of them, where geometry is due when it is told.
+    #[tactic(auto, using(crate::proofs::Dues::first_by_parts))]
+    fn first_with(&self, geometry: Option<Tick>) -> Due
+        ensures { Some result ≡ first_with geometry self.now }
+    {
         let mut first = earlier(self.first_channel_of_nine(), self.seven.first_channel(18));
-        first = earlier(entry(12, self.gx.due()), first);
+        first = earlier(entry(12, geometry), first);
         first = earlier(entry(11, self.root.due()), first);
         first = earlier(entry(10, self.divider.due()), first);
         first = earlier(self.seven.first_timer(6), first);

@@ -5,7 +5,7 @@ ghost use Rattle.ds_ports.specs.Dues.{io_due};
 ghost use Rattle.ds_runs.specs.Actors.{IsNumbered};
 ghost use Rattle.ds_runs.specs.declared.actors.Actor.TheVariants as actors;
 
-use ds_base::{LeftKind, Proc, Space, Stop, Tick, Width};
+use ds_base::{Due, LeftKind, Proc, Space, Stop, Tick, Width};
 use ds_ports::{Before, Io};
 use ds_runs::Actor;
 use std::alloc::{AllocError, Global};
@@ -52,8 +52,12 @@ pub enum Line {
     DivisionDue(u64),
     /// When the running square root is done.
     RootDue(u64),
-    /// What is due first: its tick and its rank.
+    /// What is due first: its tick and its rank. Where geometry isn't quiet, it acts first, too.
     First(u64, u8),
+    /// What acts first of what is due: its tick and its rank.
+    Acts(u64, u8),
+    /// Only the display's first event is due and acts.
+    NoneActs,
     /// Nothing but the display's first event is due.
     NoneDue,
     /// A processor's timer overflows when it is due.
@@ -66,6 +70,8 @@ pub enum Line {
     Settles,
     /// Whether they are settled.
     Settled(bool),
+    /// Whether geometry is due and quiet.
+    Quiet(bool),
     /// When geometry's head command is done.
     GeometryDue(u64),
     /// Geometry's head command is done when it is due.
@@ -134,6 +140,11 @@ fn tick_of(due: Option<Tick>) -> Seen {
     (due.map_or(NEVER, |due| due.0), 0, 0)
 }
 
+/// A due tick and its rank.
+fn seen_due(due: Due) -> Seen {
+    (due.tick.0, due.rank.into(), 0)
+}
+
 /// An actor that numbers name, as its tick.
 fn timer_due(io: &Io, proc: Proc, number: u8) -> Option<Tick> {
     io.io_due(Actor::Timer {
@@ -178,10 +189,13 @@ impl Bench {
         }
     }
 
-    /// What is due first.
+    /// What is due first. Where geometry isn't quiet, it is what acts first.
     fn first(&self) -> Seen {
-        let due = self.io.first_due();
-        (due.tick.0, due.rank.into(), 0)
+        let seen = seen_due(self.io.first_due());
+        if !self.io.is_quiet() && seen_due(self.io.first_acting()) != seen {
+            return NOTHING;
+        }
+        seen
     }
 
     /// The event of an actor, where it is due.
@@ -229,6 +243,9 @@ impl Bench {
     fn geometry(&mut self, line: Line) -> (Seen, Seen) {
         match line {
             Line::Settled(settled) => ((self.io.is_settled().into(), 0, 0), (settled.into(), 0, 0)),
+            Line::Acts(tick, rank) => (seen_due(self.io.first_acting()), (tick, rank.into(), 0)),
+            Line::NoneActs => (seen_due(self.io.first_acting()), FIRST_BLANK),
+            Line::Quiet(quiet) => ((self.io.is_quiet().into(), 0, 0), (quiet.into(), 0, 0)),
             Line::GeometryDue(tick) => (tick_of(self.io.io_due(Actor::Geometry)), (tick, 0, 0)),
             Line::Finishes => (self.event(Actor::Geometry), DONE),
             Line::Fills(times, at, value) => (self.put_all(times, at, value, false), DONE),

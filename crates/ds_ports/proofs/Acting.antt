@@ -1,0 +1,27 @@
+use Rattle.std.proofs.Common.{ℕ, ◌≡◌, ◌*◌, ◌^◌, ◌==◌, Option, ap, arith}
+use Rattle.ds_base.specs.declared.ticks.Tick.{Tick}
+use Rattle.ds_runs.specs.declared.actors.Actor.TheVariants.{Geometry}
+use Rattle.gx_fifo.specs.GxPorts.{gx_port}
+use Rattle.gx_fifo.specs.GxStates.{GxState, gx_kept, kept_port}
+use Rattle.ds_ports.specs.Acting.{acting_io_due, first_acting_io_due}
+use Rattle.ds_ports.specs.Dues.{first_io_due}
+use Rattle.ds_ports.specs.Inside.{first_with}
+use Rattle.ds_ports.specs.Io.{IoState}
+
+-- The first of what is due behind the ports, and of what acts of it; and what is asked of GXSTAT.
+
+-- of GXSTAT its selector alone is kept
+no_bits : (selector kept : ℕ) → kept ≡ selector * 2 ^ 30 → (kept == 0) ≡ (selector == 0)
+no_bits selector kept e = grind (arith, e)
+
+pub unselected : (s : GxState) (kept : ℕ) → kept ≡ gx_kept s 0x600 → (kept == 0) ≡ (s.selector == 0)
+unfolding gx_port kept_port
+unselected s kept e = no_bits s.selector kept e
+
+pub all_due : (u : IoState) (geometry : Option Tick) → geometry ≡ u.gx.due → first_with geometry u ≡ first_io_due u
+unfolding first_with first_io_due
+all_due u geometry e = ap (λ (d : Option Tick). first_with d u) e
+
+pub all_acting : (u : IoState) (geometry : Option Tick) → geometry ≡ acting_io_due Geometry u → first_with geometry u ≡ first_acting_io_due u
+unfolding first_with first_acting_io_due
+all_acting u geometry e = ap (λ (d : Option Tick). first_with d u) e

@@ -1,4 +1,4 @@
-use Rattle.std.proofs.Common.{ℕ, ◌≡◌, ◌≤◌, ◌+◌, inl, inr, false, true, List, [], ◌∷◌, length, take, refl, ◌∙◌, ap, arith}
+use Rattle.std.proofs.Common.{ℕ, ◌≡◌, ◌≤◌, ◌+◌, ◌^◌, inl, inr, false, true, List, [], ◌∷◌, length, take, Option, Some, None, refl, ◌∙◌, ap, arith}
 use Rattle.std.specs.Prelude.{◌&&◌}
 use Rattle.ds_base.specs.declared.keys.KeyLine.{KeyLine}
 use Rattle.ds_base.specs.declared.memories.Width.TheVariants.{Byte}
@@ -12,7 +12,8 @@ use Rattle.ds_timers.specs.Irqs.{shares_bit}
 use Rattle.gx_geometry.specs.Numbers.{numbers_at_boot}
 use Rattle.ds_machine.specs.Booted.{header_bytes, header_place, machine_blank, machine_booted, with_image}
 use Rattle.ds_machine.specs.Boots.{copied, stored}
-use Rattle.ds_machine.specs.Reference.{AreAsleep, CountsWithin, HasCounted, HasSoundParts, IsSound}
+use Rattle.ds_machine.specs.Reference.{AreAsleep, HasSoundParts, IsSound}
+use Rattle.ds_machine.specs.Counting.{CountsWithin, HasCounted, owed_before}
 use Rattle.ds_machine.specs.States.{MachineState, ProcessorState, counts_of}
 use Rattle.ds_machine.specs.Steps.{map_of, processor_of}
 use Rattle.ds_machine.proofs.RamAccesses.{ram_write_io}
@@ -88,19 +89,27 @@ unfolding numbers_at_boot
 counted_booted file keys io =
     let events = none_events file keys in
     let run : (machine_booted file keys).io.gx.geometry.numbers.run ≡ 0 = ap (λ (u : IoState). u.gx.geometry.numbers.run) io in
+    let none : (tick rank : ℕ) → owed_before (machine_booted file keys).io.gx.due tick rank ≡ 0 = λ tick rank. ap (λ (u : IoState). owed_before u.gx.due tick rank) io in
     record {
       own = λ proc free. (let none = none_steps file keys proc in omega (arith, none));
       fenced = λ proc rank tick due f. (let none = none_steps file keys proc in omega (arith, none));
       halted = λ proc rank tick is due. (let none = none_steps file keys proc in omega (arith, none));
       triggered = λ rank tick is due. (let none = none_steps file keys Nine in omega (arith, none));
-      events = λ rank tick due. omega (arith, events);
+      events = λ rank tick due. (let owed = none tick.0 rank in omega (arith, events, owed));
+      most = (let owed = none (2 ^ 56 + 1) 0 in omega (arith, events, owed));
       run = λ rank tick due. omega (arith, run);
     }
+
+-- before the first tick geometry has no place
+none_at_start : (due : Option Tick) → owed_before due 0 0 ≡ 0
+none_at_start None = refl
+none_at_start (Some due) = omega arith
 
 pub within_booted : (file : List ℕ) (keys : List KeyLine) → CountsWithin 0 (machine_booted file keys)
 within_booted file keys =
     let events = none_events file keys in
-    record { steps = λ proc. (let none = none_steps file keys proc in omega (arith, none)); events = omega (arith, events) }
+    let owed = none_at_start (machine_booted file keys).io.gx.due in
+    record { steps = λ proc. (let none = none_steps file keys proc in omega (arith, none)); events = omega (arith, events, owed) }
 
 -- a machine whose units are as at boot is asleep
 asleep_booted : (s : MachineState) → s.io ≡ io_at_boot → AreAsleep s

@@ -1,553 +1,89 @@
-use Rattle.std.proofs.Common.{ℕ, ◌≡◌, ◌<◌, ◌≤◌, ◌+◌, ◌*◌, ◌^◌, ◌⊎◌, inl, inr, Bool, true, false, true≢false, if◌then◌else◌, min, List, [], ◌∷◌, Option, Some, None, refl, sym, ◌∙◌, ap, subst, arith}
-use Rattle.std.specs.Prelude.{max, ◌&&◌}
-use Rattle.std.proofs.Math.Nat.{le-max_left, le-max_right}
-use Rattle.std.proofs.lemmas.Option.{none-some}
-use Rattle.ds_base.specs.Processors.{ticks_per_clock}
-use Rattle.ds_base.specs.declared.keys.KeyLine.{KeyLine}
+use Rattle.std.proofs.Common.{ℕ, ◌≡◌, ◌≢◌, ◌<◌, ◌≤◌, ◌+◌, ◌*◌, ◌^◌, ◌⊎◌, inl, inr, true, false, List, Some, refl, sym, ◌∙◌, ap, subst, arith}
 use Rattle.ds_base.specs.declared.left_out.LeftOut.{LeftOut}
 use Rattle.ds_base.specs.declared.processors.Proc.{Proc}
 use Rattle.ds_base.specs.declared.processors.Proc.TheVariants.{Nine, Seven}
 use Rattle.ds_base.specs.declared.ticks.Tick.{Tick}
-use Rattle.arm_core.specs.declared.outcomes.Stepped as arm
-use Rattle.arm_core.specs.declared.outcomes.Stepped.TheVariants.{Cost, Halted, Left}
-use Rattle.ds_dma.specs.States.{DmaState, awaits_geometry, channel_due}
-use Rattle.ds_dma.specs.declared.channels.Unit.{Unit as DmaUnit}
-use Rattle.ds_ipc.specs.Ipcs.{other_proc}
-use Rattle.ds_map.specs.Moves.{next_unit, unit_read}
-use Rattle.ds_ports.specs.Dues.{Goes, IsIo, IsUnchanged, held_due, io_due}
-use Rattle.ds_ports.specs.Io.{IoState, division_done, io_event, io_of, root_done, settled, stall_ends, tick_after}
-use Rattle.gx_fifo.specs.GxStates.{GxState, is_half_empty, is_stalled}
-use Rattle.ds_ports.proofs.Events.{HasEvent, event_goes, keys_happen, timer_leaves}
-use Rattle.ds_ports.proofs.Later.{of_both, unchanged_same}
+use Rattle.gx_fifo.specs.GxStates.{GxState}
 use Rattle.ds_runs.specs.Actors.{actor_of}
 use Rattle.ds_runs.specs.Owed.{AllReschedule}
-use Rattle.ds_runs.specs.Runs.{IsLeast, MachineStep, Makes, Stops, due_at}
+use Rattle.ds_runs.specs.Runs.{IsLeast, Makes, Stops, due_at}
 use Rattle.ds_runs.specs.declared.actors.Actor as actor
-use Rattle.ds_runs.specs.declared.actors.Actor.TheVariants.{KeyScript, Video, Timer, Divider, SquareRoot, Geometry, Card, Dma, Processor}
+use Rattle.ds_runs.specs.declared.actors.Actor.TheVariants.{Geometry}
 use Rattle.ds_runs.proofs.RunExists.{place_rises}
-use Rattle.ds_runs.proofs.RunLaws.{same_makes, not_both}
-use Rattle.ds_timers.specs.Timing.{TimerState, timer_at, timer_due}
-use Rattle.ds_machine.specs.Channels.{channel_step}
-use Rattle.ds_machine.specs.Private.{MayStep}
-use Rattle.ds_machine.specs.Reference.{CountsAddUp, CountsWithin, Fences, HasCounted, HasSoundParts, Shown, after_event, after_geometry, after_line, after_video, due_by, dues_of, geometry_before, is_to_be_triggered, keys_due, processor_due, reference, shown_at, step_by, reference_step, stepped_of}
-use Rattle.ds_machine.specs.States.{MachineState, ProcessorState, counts_of}
-use Rattle.ds_machine.specs.Steps.{ended, gone_by, goes_on, is_blocked, is_halted, machine_settled, map_of, processor_of, wakes, went_on, with_halt, with_map, with_processor, woken, woken_one}
-use Rattle.ds_machine.specs.declared.answers.Done as answer
-use Rattle.ds_machine.specs.declared.answers.Done.TheVariants as answers
-use Rattle.ds_machine.proofs.ChannelEvents.{channel_unchanged, channel_made, event_counts, machine_after_unit, map_processor, read_unchanged, unit_counts, unit_gx, unit_other, unit_released, unit_video}
-use Rattle.ds_machine.proofs.DueTicks.{due_of_least, due_of_may, due_of_rank, due_then, low_rank, not_before, sort_rank}
-use Rattle.ds_machine.proofs.MachineSchedule.{Steps, awake_stops, channel_timers, display_happens, operation, owes, owes_by, reference_schedules, step_made, steps_here, stopped}
-use Rattle.ds_machine.proofs.Moves.{moves_all}
-use Rattle.ds_machine.proofs.ProcessorSteps.{Operation, Took, came_by, concluded_stops, concludes, costs_some, goes, gone_counts, later_by, reached_by, reaches, step_is}
-use Rattle.ds_machine.proofs.Quiet.{not_halted}
-use Rattle.ds_machine.proofs.VideoEvents.{ended_leaves, video_makes, video_stops}
+use Rattle.ds_machine.specs.Reference.{Fences, HasSoundParts, Shown, due_by, dues_of, geometry_before, processor_due, reference, step_by, reference_step}
+use Rattle.ds_machine.specs.Counting.{CountsAddUp, CountsWithin, HasCounted, is_to_be_triggered}
+use Rattle.ds_machine.specs.States.{MachineState}
+use Rattle.ds_machine.specs.Steps.{ended, is_halted, machine_settled, processor_of}
+use Rattle.ds_machine.proofs.DueTicks.{due_of_rank, low_rank}
+use Rattle.ds_machine.proofs.GeometryFirst.{le_or_lt}
+use Rattle.ds_machine.proofs.MachineSchedule.{Steps, awake_stops, owes_as, owes_by, reference_schedules, step_made_as, stopped_as}
+use Rattle.ds_machine.proofs.VideoEvents.{ended_leaves}
 use Rattle.ds_machine.proofs.VertexRuns.{later_run, left_run, made_run, place_of_run, run_before, run_of, runs_in}
-use Rattle.ds_machine.proofs.Wakes.{ended_counts, settle_leaves, settled_dma}
-use Rattle.video2d.specs.Scans.{ScanState, scan_due, scan_due_tick}
-use Rattle.video2d.specs.Videos.{VideoState, video_stop}
+use Rattle.ds_base.specs.Schedules.{IsLater}
+use Rattle.ds_runs.proofs.Lists.{at_rank, is_later}
+use Rattle.ds_machine.specs.Acting.{acting_dues}
+use Rattle.ds_machine.proofs.ActingDues.{acting_low, acting_of_rank, due_where_acts}
+use Rattle.ds_machine.proofs.CountPlaces.{HasRoom, owed_falls, owed_stays, room_grows}
+use Rattle.ds_machine.proofs.CountStands.{CountStands, few_before, made_stands, own_few, settle_stands, stopped_stands, woken_events, woken_stands}
+use Rattle.ds_machine.proofs.CountSteps.{events_in, left_events, made_events, place_of_event}
+use Rattle.ds_machine.proofs.Moves.{Moves, moves_all}
 
--- How steps are counted.
+-- The counts stay in their bounds, whatever the step of an actor that acts comes to.
 
--- ---- one more for each step that is taken, whatever the machine is
+-- ---- what acts after a step
 
-keys_count : (tick : Tick) (s : MachineState) (lines : List KeyLine) → keys_due lines ≡ Some tick → counts_of (after_line lines s) ≡ counts_of s + 1
-keys_count tick s [] due = absurd (none-some tick due)
-keys_count tick s (line ∷ rest) due = event_counts s
+-- what acts then, and was due then before the step, comes after its place
+abbrev pub ActsAfter : Tick → ℕ → MachineState → MachineState → Type 0
+ActsAfter tick rank s next =
+    (other : ℕ) (at : Tick) → due_at (dues_of s) other ≡ Some at → due_at (acting_dues next) other ≡ Some at → (tick.0 < at.0) ⊎ ((tick.0 ≡ at.0) × (rank ≤ other))
 
-made_counts : (a : actor.Actor) (rank : ℕ) (tick : Tick) (s made : MachineState) (outs : List Shown) → due_by a s ≡ Some tick → step_by rank a s ≡ Makes made outs
-    → counts_of made ≡ counts_of s + 1
-made_counts KeyScript rank tick s made outs due h =
-    ap counts_of (sym (same_makes (after_line s.keys s) made [] outs h).0) ∙ keys_count tick s s.keys due
-made_counts Video rank tick s made outs due h = ap counts_of (sym (video_makes rank s made outs h).0) ∙ event_counts s
-made_counts Geometry rank tick s made outs due h = ap counts_of (sym (same_makes (after_geometry s) made [] outs h).0) ∙ event_counts s
-made_counts (Dma proc channel) rank tick s made outs due h =
-    let P : Option Tick → Type 0 = λ o. channel_step rank proc o s ≡ Makes made outs in
-    ap counts_of (channel_made rank proc tick s made outs (subst P due h)) ∙ unit_counts proc tick (next_unit s.io proc) s
-made_counts (Processor proc) rank tick s made outs due h =
-    let m = reached_by proc s in
-    let k = concludes rank proc m made outs (came_by proc s) (costs_some proc s) (sym (step_is rank proc s) ∙ h) in
-    ap counts_of (sym k.1) ∙ gone_counts proc m (came_by proc s) k.0 ∙ ap (λ (n : ℕ). n + 1) (reaches proc s).counts
-made_counts a rank tick s made outs due h = ap counts_of (sym (same_makes (after_event a s) made [] outs h).0) ∙ event_counts s
+module _ (s next : MachineState) (tick : Tick) (rank : ℕ) (low : rank < 24) (all : AllReschedule tick (dues_of s) (dues_of next)) (after : ActsAfter tick rank s next) where
+  -- so all that acts does: it was due before, or is due later
+  comes_after : (other : ℕ) (at : Tick) → due_at (acting_dues next) other ≡ Some at → (tick.0 < at.0) ⊎ ((tick.0 ≡ at.0) × (rank ≤ other))
+  comes_after other at acts =
+      let due = due_where_acts next other at acts in
+      elim (at_rank tick (dues_of s) (dues_of next) all other) [
+        | inl same ↦ after other at (sym same ∙ due) acts
+        | inr later ↦ inl (is_later tick (due_at (dues_of next) other) at later due)
+      ]
 
-pub one_more : (s next : MachineState) (tick : Tick) (rank : ℕ) (outs : List Shown) → IsLeast (dues_of s) tick rank → reference_step rank s ≡ Makes next outs
-    → counts_of next ≡ counts_of s + 1
-one_more s next tick rank outs least h =
-    let k = step_made s next tick rank outs least h in
-    ap counts_of (sym k.2) ∙ ended_counts tick k.0 ∙ made_counts (actor_of rank) rank tick s k.0 outs (due_of_least s rank tick least) k.1
+  acts_since : (other : ℕ) (at : Tick) → due_at (acting_dues next) other ≡ Some at → tick.0 ≤ at.0
+  acts_since other at acts = elim (comes_after other at acts) [ inl lt ↦ omega (arith, lt) | inr e ↦ (let k = e.0 in omega (arith, k)) ]
 
--- a step that stops leaves the counts as they were
+  place_after : (other : ℕ) (at : Tick) → due_at (acting_dues next) other ≡ Some at → 24 * tick.0 + rank ≤ 24 * at.0 + other
+  place_after other at acts =
+      elim (comes_after other at acts) [ inl lt ↦ omega (arith, lt, low) | inr e ↦ (let same = e.0 in let more = e.1 in omega (arith, same, more)) ]
 
-channel_counts : (proc : Proc) (due : Option Tick) (rank : ℕ) (s left : MachineState) (stop : LeftOut)
-    → (let step : MachineStep MachineState Shown LeftOut = channel_step rank proc due s in step ≡ Stops stop left) → counts_of left ≡ counts_of s
-channel_counts proc None rank s left stop h = absurd (not_both s left [] stop h)
-channel_counts proc (Some now) rank s left stop h = ap counts_of (sym (channel_unchanged rank proc now s left stop h))
-
-left_counts : (a : actor.Actor) (rank : ℕ) (s left : MachineState) (stop : LeftOut) → step_by rank a s ≡ Stops stop left → counts_of left ≡ counts_of s
-left_counts KeyScript rank s left stop h = absurd (not_both (after_line s.keys s) left [] stop h)
-left_counts Video rank s left stop h = ap counts_of (sym (video_stops rank s left stop h))
-left_counts (Dma proc channel) rank s left stop h = channel_counts proc (due_by (Dma proc channel) s) rank s left stop h
-left_counts (Processor proc) rank s left stop h =
-    let e = concluded_stops rank proc (reached_by proc s) left stop (came_by proc s) (sym (step_is rank proc s) ∙ h) in
-    ap counts_of (sym e) ∙ (reaches proc s).counts
-left_counts Geometry rank s left stop h = absurd (not_both (after_geometry s) left [] stop h)
-left_counts a rank s left stop h = absurd (not_both (after_event a s) left [] stop h)
-
-pub stop_counts : (s left : MachineState) (rank : ℕ) (stop : LeftOut) → reference_step rank s ≡ Stops stop left → counts_of left ≡ counts_of s
-stop_counts s left rank stop h =
-    left_counts (actor_of rank) rank s left stop (awake_stops (due_by (actor_of rank) s) (step_by rank (actor_of rank) s) left stop h)
-
--- ---- and at whose step: an event is one more of the events, and a processor's step of that processor's alone
-
--- how many events an actor's step adds
-abbrev events_in : actor.Actor → ℕ
-events_in (Processor proc) = 0
-events_in a = 1
-
-put_events : (proc : Proc) (s : MachineState) (p : ProcessorState) → (with_processor proc s p).events ≡ s.events
-put_events Nine s p = refl
-put_events Seven s p = refl
-
-reached_events : (proc : Proc) (s : MachineState) → (reached_by proc s).events ≡ s.events
-reached_events Nine s = refl
-reached_events Seven s = refl
-
-gone_events : (proc : Proc) (m : MachineState) (came : arm.Stepped) → (gone_by proc came m).events ≡ m.events
-gone_events proc m (Cost clocks) = put_events proc m (went_on proc clocks (is_halted m proc) (processor_of m proc))
-gone_events proc m (Halted clocks) = put_events proc (with_halt proc m true) (went_on proc clocks true (processor_of m proc))
-gone_events proc m (Left stop) = refl
-
-keys_events : (tick : Tick) (s : MachineState) (lines : List KeyLine) → keys_due lines ≡ Some tick → (after_line lines s).events ≡ s.events + 1
-keys_events tick s [] due = absurd (none-some tick due)
-keys_events tick s (line ∷ rest) due = refl
-
-unit_events : (proc : Proc) (now : Tick) (unit : DmaUnit) (s : MachineState) → (machine_after_unit proc now unit s).events ≡ s.events + 1
-unit_events Nine now unit s = refl
-unit_events Seven now unit s = refl
-
-made_events : (a : actor.Actor) (rank : ℕ) (tick : Tick) (s made : MachineState) (outs : List Shown) → due_by a s ≡ Some tick → step_by rank a s ≡ Makes made outs
-    → made.events ≡ s.events + events_in a
-made_events KeyScript rank tick s made outs due h =
-    ap (λ (m : MachineState). m.events) (sym (same_makes (after_line s.keys s) made [] outs h).0) ∙ keys_events tick s s.keys due
-made_events (Dma proc channel) rank tick s made outs due h =
-    let P : Option Tick → Type 0 = λ o. channel_step rank proc o s ≡ Makes made outs in
-    ap (λ (m : MachineState). m.events) (channel_made rank proc tick s made outs (subst P due h)) ∙ unit_events proc tick (next_unit s.io proc) s
-made_events (Processor proc) rank tick s made outs due h =
-    let m = reached_by proc s in
-    let k = concludes rank proc m made outs (came_by proc s) (costs_some proc s) (sym (step_is rank proc s) ∙ h) in
-    let e = ap (λ (x : MachineState). x.events) (sym k.1) ∙ gone_events proc m (came_by proc s) ∙ reached_events proc s in
-    omega (arith, e)
-made_events Video rank tick s made outs due h = ap (λ (m : MachineState). m.events) (sym (video_makes rank s made outs h).0)
-made_events Geometry rank tick s made outs due h = ap (λ (m : MachineState). m.events) (sym (same_makes (after_geometry s) made [] outs h).0)
-made_events a rank tick s made outs due h = ap (λ (m : MachineState). m.events) (sym (same_makes (after_event a s) made [] outs h).0)
-
--- events have ranks below 22
-few_events_in : (a : actor.Actor) → events_in a ≤ 1
-few_events_in (Processor proc) = omega arith
-few_events_in a = omega arith
-
-place_of_event : (rank : ℕ) → rank < 24 → min rank 22 + events_in (actor_of rank) ≤ min (rank + 1) 22
-place_of_event rank lt = elim (sort_rank rank lt) [
-  | inl low ↦ (let few = few_events_in (actor_of rank) in omega (arith, low, few))
-  | inr rest ↦ elim rest [
-    | inl e ↦ (let none : events_in (actor_of rank) ≡ 0 = ap (λ (n : ℕ). events_in (actor_of n)) e in omega (arith, none, e))
-    | inr e ↦ (let none : events_in (actor_of rank) ≡ 0 = ap (λ (n : ℕ). events_in (actor_of n)) e in omega (arith, none, e))
+  -- where the actor that stepped is due later
+  past_place : IsLater tick (due_at (dues_of next) rank) → (other : ℕ) (at : Tick) → due_at (acting_dues next) other ≡ Some at → 24 * tick.0 + (rank + 1) ≤ 24 * at.0 + other
+  past_place own other at acts = elim (le_or_lt other rank) [
+    | inr gt ↦ elim (comes_after other at acts) [ inl lt ↦ omega (arith, lt, low) | inr e ↦ (let same = e.0 in omega (arith, same, gt)) ]
+    | inl le ↦ elim (comes_after other at acts) [
+      | inl lt ↦ omega (arith, lt, low)
+      | inr e ↦
+          (let most = e.1 in
+          let one : other ≡ rank = omega (arith, le, most) in
+          let due = subst (λ (r : ℕ). due_at (dues_of next) r ≡ Some at) one (due_where_acts next other at acts) in
+          let lt = is_later tick (due_at (dues_of next) rank) at own due in
+          omega (arith, lt, low))
+    ]
   ]
-]
 
--- ---- what a step at a tick makes of a processor's numbers
+-- ---- whatever a step comes to
 
--- it had few steps by that tick
-pub record HasFew (tick : Tick) (proc : Proc) (next : MachineState) : Type 0 where
-  pub steps : (processor_of next proc).steps ≤ tick.0 + 1
-  pub due : is_halted next proc ≡ false → (processor_of next proc).steps ≤ (processor_of next proc).due
-
--- of ARM9 geometry stays that may hold it, and that triggers its channels
-abbrev GeometryStays : Proc → IoState → IoState → Type 0
-GeometryStays Nine old new = (new.gx ≡ old.gx) × (new.released ≡ old.released)
-GeometryStays Seven old new = Unit {0}
-
-geometry_same : (proc : Proc) (old new : IoState) → new.gx ≡ old.gx → new.released ≡ old.released → GeometryStays proc old new
-geometry_same Nine old new gx released = (gx, released)
-geometry_same Seven old new gx released = tt
-
--- its channels are to be triggered as before
-abbrev IsTriggeredAs : Proc → IoState → IoState → Type 0
-IsTriggeredAs Nine old new = is_to_be_triggered new ≡ is_to_be_triggered old
-IsTriggeredAs Seven old new = Unit {0}
-
-triggered_on : (proc : Proc) (a b c : IoState) → IsTriggeredAs proc a b → IsTriggeredAs proc b c → IsTriggeredAs proc a c
-triggered_on Nine a b c one two = two ∙ one
-triggered_on Seven a b c one two = tt
-
--- or nothing of it changed, nor when what may halt it is due
-pub record IsUntouched (proc : Proc) (s next : MachineState) : Type 0 where
-  pub steps : (processor_of next proc).steps ≡ (processor_of s proc).steps
-  pub due : (processor_of next proc).due ≡ (processor_of s proc).due
-  pub halted : is_halted next proc ≡ is_halted s proc
-  pub triggered : IsTriggeredAs proc s.io next.io
-  pub fences : (a : actor.Actor) → Fences a proc → due_by a next ≡ due_by a s
-
-abbrev pub CountStands : Tick → Proc → MachineState → MachineState → Type 0
-CountStands tick proc s next = HasFew tick proc next ⊎ IsUntouched proc s next
-
-apart_by : (proc : Proc) (s next : MachineState) → (processor_of next proc).steps ≡ (processor_of s proc).steps → (processor_of next proc).due ≡ (processor_of s proc).due
-    → IsUnchanged (io_of s.io proc) (io_of next.io proc) → next.io.video.scan ≡ s.io.video.scan → next.keys ≡ s.keys → GeometryStays proc s.io next.io → IsUntouched proc s next
-apart_by proc s next steps due left scan keys stays = record { steps = steps; due = due; halted = left.halted; triggered = as_before proc left stays; fences = fences } where
-  as_before : (proc : Proc) → IsUnchanged (io_of s.io proc) (io_of next.io proc) → GeometryStays proc s.io next.io → IsTriggeredAs proc s.io next.io
-  as_before Nine left stays = ap (λ (g : GxState). is_half_empty g && awaits_geometry next.io.nine.dma) stays.0 ∙ ap (λ (d : DmaState). is_half_empty s.io.gx && awaits_geometry d) left.dma
-  as_before Seven left stays = tt
-
-  channels : (proc : Proc) (channel : ℕ) → IsUnchanged (io_of s.io proc) (io_of next.io proc) → GeometryStays proc s.io next.io → due_by (Dma proc channel) next ≡ due_by (Dma proc channel) s
-  channels Nine channel left stays =
-      ap (λ (g : GxState). held_due (is_stalled g) next.io.released (channel_due next.io.nine.dma channel)) stays.0
-      ∙ ap (λ (n : ℕ). held_due (is_stalled s.io.gx) n (channel_due next.io.nine.dma channel)) stays.1
-      ∙ ap (λ (d : DmaState). held_due (is_stalled s.io.gx) s.io.released (channel_due d channel)) left.dma
-  channels Seven channel left stays = ap (λ (d : DmaState). channel_due d channel) left.dma
-
-  commands : (proc : Proc) → proc ≡ Nine → GeometryStays proc s.io next.io → due_by Geometry next ≡ due_by Geometry s
-  commands Nine f stays = ap (λ (g : GxState). g.due) stays.0
-  commands Seven f stays = absurd (true≢false (ap is_seven f)) where
-    is_seven : Proc → Bool
-    is_seven Nine = false
-    is_seven Seven = true
-
-  fences : (a : actor.Actor) → Fences a proc → due_by a next ≡ due_by a s
-  fences KeyScript f = ap keys_due keys
-  fences Video f = ap (λ (at : ScanState). Some (scan_due_tick at)) scan
-  fences (Timer each number) f =
-      subst (λ (p : Proc). due_by (Timer p number) next ≡ due_by (Timer p number) s) (sym f) (ap (λ (ts : List TimerState). timer_due (timer_at ts number)) left.timers)
-  fences (Dma each channel) f =
-      subst (λ (p : Proc). due_by (Dma p channel) next ≡ due_by (Dma p channel) s) (sym f) (channels proc channel left stays)
-  fences Card f = refl
-  fences Geometry f = commands proc f stays
-  fences Divider f = absurd f
-  fences SquareRoot f = absurd f
-  fences (Processor each) f = absurd f
-
-apart_on : (proc : Proc) (tick : Tick) (s m n : MachineState) → CountStands tick proc s m → IsUntouched proc m n → CountStands tick proc s n
-apart_on proc tick s m n (inl near) on =
-    let few = near.steps in
-    let same = on.steps in
-    let there = on.due in
-    inl (record {
-      steps = omega (arith, few, same);
-      due = λ free. (let k = near.due (sym on.halted ∙ free) in omega (arith, k, same, there));
-    })
-apart_on proc tick s m n (inr apart) on =
-    inr (record {
-      steps = on.steps ∙ apart.steps;
-      due = on.due ∙ apart.due;
-      halted = on.halted ∙ apart.halted;
-      triggered = triggered_on proc s.io m.io n.io apart.triggered on.triggered;
-      fences = λ a f. on.fences a f ∙ apart.fences a f;
-    })
-
--- by the due tick of its own step, of what may halt it, or of any actor while it is halted, they were few
-few_fenced : (proc : Proc) (s next : MachineState) (tick : Tick) (rank : ℕ) (a : actor.Actor) → Steps a rank tick s → HasCounted s → Fences a proc
-    → (processor_of next proc).steps ≡ (processor_of s proc).steps → (is_halted next proc ≡ false → (processor_of s proc).steps ≤ (processor_of next proc).due) → HasFew tick proc next
-few_fenced proc s next tick rank a st has f same free =
-    let k = has.fenced proc rank tick st.least.there (subst (λ (x : actor.Actor). Fences x proc) (sym st.is) f) in
-    record { steps = omega (arith, k, same); due = λ h. (let d = free h in omega (arith, d, same)) }
-
--- an event behind the ports that may halt a processor, but doesn't
-event_near : (proc : Proc) (s next : MachineState) (tick : Tick) (rank : ℕ) (a : actor.Actor) → Steps a rank tick s → HasCounted s → Fences a proc
-    → (processor_of next proc).steps ≡ (processor_of s proc).steps → (processor_of next proc).due ≡ (processor_of s proc).due → is_halted next proc ≡ is_halted s proc → HasFew tick proc next
-event_near proc s next tick rank a st has f same due halted =
-    few_fenced proc s next tick rank a st has f same (λ free. (let k = has.own proc (sym halted ∙ free) in omega (arith, k, due)))
-
--- ---- where it is taken
-
-line_stands : (proc : Proc) (tick : Tick) (rank : ℕ) (s : MachineState) (lines : List KeyLine) → Steps KeyScript rank tick s → HasCounted s → keys_due lines ≡ Some tick
-    → HasFew tick proc (after_line lines s)
-line_stands proc tick rank s [] st has due = absurd (none-some tick due)
-line_stands proc tick rank s (line ∷ rest) st has due =
-    let next = after_line (line ∷ rest) s in
-    let same = same_by proc in
-    event_near proc s next tick rank KeyScript st has tt same.0 same.1 ((keys_happen tick s.io line.pressed st.sound.io).halted proc) where
-      same_by : (proc : Proc) → ((processor_of (after_line (line ∷ rest) s) proc).steps ≡ (processor_of s proc).steps)
-          × ((processor_of (after_line (line ∷ rest) s) proc).due ≡ (processor_of s proc).due)
-      same_by Nine = (refl, refl)
-      same_by Seven = (refl, refl)
-
-event_same : (proc : Proc) (a : actor.Actor) (s : MachineState) → ((processor_of (after_event a s) proc).steps ≡ (processor_of s proc).steps)
-    × ((processor_of (after_event a s) proc).due ≡ (processor_of s proc).due)
-event_same Nine a s = (refl, refl)
-event_same Seven a s = (refl, refl)
-
--- one of an actor that may halt the processor
-near_event : (proc : Proc) (a : actor.Actor) (rank : ℕ) (tick : Tick) (s : MachineState) → Steps a rank tick s → HasCounted s → Fences a proc → HasEvent a
-    → io_due a s.io ≡ Some tick → CountStands tick proc s (after_event a s)
-near_event proc a rank tick s st has f event due =
-    let same = event_same proc a s in
-    let h = (event_goes a tick s.io st.sound.io event st.numbered due).0 in
-    inl (event_near proc s (after_event a s) tick rank a st has f same.0 same.1 (h.halted proc))
-
--- the display's
-video_same : (proc : Proc) (s : MachineState) → ((processor_of (after_video s) proc).steps ≡ (processor_of s proc).steps) × ((processor_of (after_video s) proc).due ≡ (processor_of s proc).due)
-video_same Nine s = (refl, refl)
-video_same Seven s = (refl, refl)
-
-video_near : (proc : Proc) (rank : ℕ) (tick : Tick) (s : MachineState) → Steps Video rank tick s → HasCounted s → video_stop s.oam s.io.video ≡ None → HasFew tick proc (after_video s)
-video_near proc rank tick s st has none =
-    let same = video_same proc s in
-    event_near proc s (after_video s) tick rank Video st has tt same.0 same.1 ((display_happens s st.sound.io none).halted proc)
-
--- and of one that may not
-apart_event : (proc : Proc) (a : actor.Actor) (tick : Tick) (s : MachineState) → IsUnchanged (io_of s.io proc) (io_of (io_event a s.io) proc) → (io_event a s.io).video.scan ≡ s.io.video.scan
-    → GeometryStays proc s.io (io_event a s.io) → CountStands tick proc s (after_event a s)
-apart_event proc a tick s left scan stays =
-    let same = event_same proc a s in
-    inr (apart_by proc s (after_event a s) same.0 same.1 left scan refl stays)
-
-both_same : (proc : Proc) (u new : IoState) → new.nine ≡ u.nine → new.seven ≡ u.seven → IsUnchanged (io_of u proc) (io_of new proc)
-both_same Nine u new nine seven = subst (IsUnchanged u.nine) (sym nine) (unchanged_same u.nine)
-both_same Seven u new nine seven = subst (IsUnchanged u.seven) (sym seven) (unchanged_same u.seven)
-
-event_stands : (proc : Proc) (a : actor.Actor) (rank : ℕ) (tick : Tick) (s : MachineState) → Steps a rank tick s → HasCounted s → HasEvent a → CountStands tick proc s (after_event a s)
-event_stands proc Video rank tick s st has event = absurd event
-event_stands Nine (Timer Nine number) rank tick s st has event = near_event Nine (Timer Nine number) rank tick s st has refl tt st.due
-event_stands Seven (Timer Seven number) rank tick s st has event = near_event Seven (Timer Seven number) rank tick s st has refl tt st.due
-event_stands Nine (Timer Seven number) rank tick s st has event =
-    let k = timer_leaves Seven number s.io in apart_event Nine (Timer Seven number) tick s k.0 (ap (λ (v : VideoState). v.scan) k.1) (refl, refl)
-event_stands Seven (Timer Nine number) rank tick s st has event =
-    let k = timer_leaves Nine number s.io in apart_event Seven (Timer Nine number) tick s k.0 (ap (λ (v : VideoState). v.scan) k.1) tt
-event_stands proc Divider rank tick s st has event = apart_event proc Divider tick s (both_same proc s.io (division_done s.io) refl refl) refl (geometry_same proc s.io (division_done s.io) refl refl)
-event_stands proc SquareRoot rank tick s st has event = apart_event proc SquareRoot tick s (both_same proc s.io (root_done s.io) refl refl) refl (geometry_same proc s.io (root_done s.io) refl refl)
-event_stands proc Geometry rank tick s st has event = absurd event
-event_stands proc Card rank tick s st has event = apart_event proc Card tick s (unchanged_same (io_of s.io proc)) refl (geometry_same proc s.io s.io refl refl)
-event_stands proc KeyScript rank tick s st has event = absurd event
-event_stands proc (Dma each channel) rank tick s st has event = absurd event
-event_stands proc (Processor each) rank tick s st has event = absurd event
-
--- geometry's: ARM9 isn't due earlier for it
-past_grows : (b : Bool) (due other : ℕ) → due ≤ (if b then max due other else due)
-past_grows true due other = le-max_left due other
-past_grows false due other = omega arith
-
-geometry_stands : (proc : Proc) (rank : ℕ) (tick : Tick) (s : MachineState) → Steps Geometry rank tick s → HasCounted s → CountStands tick proc s (after_geometry s)
-geometry_stands Nine rank tick s st has =
-    let later = past_grows (stall_ends s.io) s.nine.processor.due (tick_after s.io.gx.due s.nine.processor.due) in
-    inl (few_fenced Nine s (after_geometry s) tick rank Geometry st has refl refl (λ free. (let k = has.own Nine free in omega (arith, k, later))))
-geometry_stands Seven rank tick s st has = inr (apart_by Seven s (after_geometry s) refl refl (unchanged_same s.io.seven) refl refl tt)
-
--- a DMA channel's: its processor is due after it, and the other is left alone
-unit_own : (proc : Proc) (now : Tick) (unit : DmaUnit) (s : MachineState)
-    → (let next = machine_after_unit proc now unit s in ((processor_of next proc).steps ≡ (processor_of s proc).steps) × (now.0 + 1 ≤ (processor_of next proc).due))
-unit_own Nine now unit s = (refl, le-max_right s.nine.processor.due (now.0 + 1))
-unit_own Seven now unit s = (refl, le-max_right s.seven.processor.due (now.0 + 1))
-
-unit_others : (proc : Proc) (now : Tick) (unit : DmaUnit) (s : MachineState)
-    → (let next = machine_after_unit proc now unit s in ((processor_of next (other_proc proc)).steps ≡ (processor_of s (other_proc proc)).steps)
-    × ((processor_of next (other_proc proc)).due ≡ (processor_of s (other_proc proc)).due) × (next.keys ≡ s.keys))
-unit_others Nine now unit s = (refl, refl, refl)
-unit_others Seven now unit s = (refl, refl, refl)
-
-unit_geometry : (proc : Proc) (channel rank : ℕ) (tick : Tick) (s : MachineState) → Steps (Dma proc channel) rank tick s
-    → GeometryStays (other_proc proc) s.io (machine_after_unit proc tick (next_unit s.io proc) s).io
-unit_geometry Nine channel rank tick s st = tt
-unit_geometry Seven channel rank tick s st =
-    let unit = next_unit s.io Seven in
-    let timers = channel_timers Seven channel rank tick s st in
-    (unit_gx Seven channel tick unit s st.sound st.numbered st.due timers refl, unit_released Seven channel tick unit s st.sound st.numbered st.due timers)
-
-unit_stands : (proc each : Proc) (channel rank : ℕ) (tick : Tick) (s : MachineState) → Steps (Dma proc channel) rank tick s → HasCounted s
-    → CountStands tick each s (machine_after_unit proc tick (next_unit s.io proc) s)
-unit_stands proc each channel rank tick s st has =
-    let unit = next_unit s.io proc in
-    let next = machine_after_unit proc tick unit s in
-    let timers = channel_timers proc channel rank tick s st in
-    let own = unit_own proc tick unit s in
-    let k = has.fenced proc rank tick st.least.there (subst (λ (x : actor.Actor). Fences x proc) (sym st.is) refl) in
-    let late = own.1 in
-    let others = unit_others proc tick unit s in
-    of_both (λ p. CountStands tick p s next) proc
-    (inl (few_fenced proc s next tick rank (Dma proc channel) st has refl own.0 (λ free. omega (arith, k, late))))
-    (inr (apart_by (other_proc proc) s next others.0 others.1 (unit_other proc channel tick unit s st.sound st.numbered st.due timers)
-    (unit_video proc channel tick unit s st.sound st.numbered st.due timers) others.2 (unit_geometry proc channel rank tick s st)))
-    each
-
--- a processor's: one more step, and it is due later unless it is halted
-gone_own : (proc : Proc) (m : MachineState) (came : arm.Stepped) → Took came → (processor_of (gone_by proc came m) proc).steps ≡ (processor_of m proc).steps + 1
-gone_own Nine m (Cost clocks) took = refl
-gone_own Seven m (Cost clocks) took = refl
-gone_own Nine m (Halted clocks) took = refl
-gone_own Seven m (Halted clocks) took = refl
-gone_own proc m (Left stop) took = absurd took
-
-went_past : (proc : Proc) (due clocks : ℕ) (halted : Bool) → 0 < clocks → halted ≡ false → due < (if halted then due else due + ticks_per_clock proc * clocks)
-went_past proc due clocks true some free = absurd (true≢false free)
-went_past proc due clocks false some free = later_by proc due clocks some
-
-gone_due : (proc : Proc) (m : MachineState) (came : arm.Stepped) → Took came → is_halted (gone_by proc came m) proc ≡ false
-    → (processor_of m proc).due < (processor_of (gone_by proc came m) proc).due
-gone_due Nine m (Cost clocks) took free = went_past Nine m.nine.processor.due clocks m.io.nine.halted took free
-gone_due Seven m (Cost clocks) took free = went_past Seven m.seven.processor.due clocks m.io.seven.halted took free
-gone_due Nine m (Halted clocks) took free = absurd (true≢false free)
-gone_due Seven m (Halted clocks) took free = absurd (true≢false free)
-gone_due proc m (Left stop) took free = absurd took
-
-gone_apart : (proc : Proc) (m : MachineState) (came : arm.Stepped) → Took came → IsUntouched (other_proc proc) m (gone_by proc came m)
-gone_apart Nine m (Cost clocks) took = apart_by Seven m (gone_by Nine (Cost clocks) m) refl refl (unchanged_same m.io.seven) refl refl tt
-gone_apart Seven m (Cost clocks) took = apart_by Nine m (gone_by Seven (Cost clocks) m) refl refl (unchanged_same m.io.nine) refl refl (refl, refl)
-gone_apart Nine m (Halted clocks) took = apart_by Seven m (gone_by Nine (Halted clocks) m) refl refl (unchanged_same m.io.seven) refl refl tt
-gone_apart Seven m (Halted clocks) took = apart_by Nine m (gone_by Seven (Halted clocks) m) refl refl (unchanged_same m.io.nine) refl refl (refl, refl)
-gone_apart proc m (Left stop) took = absurd took
-
-reached_steps : (proc : Proc) (s : MachineState) → (processor_of (reached_by proc s) proc).steps ≡ (processor_of s proc).steps
-reached_steps Nine s = refl
-reached_steps Seven s = refl
-
--- what its accesses leave
-access_geometry : (proc : Proc) (tick : Tick) (old new : IoState) → Goes proc tick old new → GeometryStays (other_proc proc) old new
-access_geometry Nine tick old new g = tt
-access_geometry Seven tick old new g = (g.geometry.of_seven refl, g.geometry.released)
-
-reached_apart : (proc : Proc) (tick : Tick) (s : MachineState) → Operation proc tick s → IsUntouched (other_proc proc) s (reached_by proc s)
-reached_apart proc tick s r =
-    let m = reached_by proc s in
-    let g = goes proc tick s r in
-    let re = reaches proc s in
-    apart_by (other_proc proc) s m (ap (λ (p : ProcessorState). p.steps) re.other) (ap (λ (p : ProcessorState). p.due) re.other) g.other g.scan re.keys (access_geometry proc tick s.io m.io g)
-
--- a processor that takes its step had no more than ticks before it
-own_few : (proc : Proc) (tick : Tick) (s : MachineState) → HasCounted s → processor_due s proc ≡ Some tick → (processor_of s proc).steps ≤ tick.0
-own_few proc tick s has due =
-    let k = due_then (is_blocked s proc) (processor_of s proc) tick due in
-    let few = has.own proc (not_halted s proc k.0) in
-    let at = k.1 in
-    omega (arith, few, at)
-
-processor_stands : (proc each : Proc) (rank : ℕ) (tick : Tick) (s : MachineState) → Steps (Processor proc) rank tick s → HasCounted s → (came : arm.Stepped) → Took came
-    → CountStands tick each s (gone_by proc came (reached_by proc s))
-processor_stands proc each rank tick s st has came took =
-    let m = reached_by proc s in
-    let next = gone_by proc came m in
-    let r = operation proc rank tick s st in
-    let few = own_few proc tick s has st.due in
-    let own = gone_own proc m came took in
-    let same = reached_steps proc s in
-    let at = (reaches proc s).due in
-    let due = (due_then (is_blocked s proc) (processor_of s proc) tick st.due).1 in
-    let near : HasFew tick proc next = record {
-      steps = omega (arith, few, own, same);
-      due = λ free. (let past = gone_due proc m came took free in omega (arith, few, own, same, at, due, past));
-    } in
-    of_both (λ p. CountStands tick p s next) proc (inl near)
-    (apart_on (other_proc proc) tick s m next (inr (reached_apart proc tick s r)) (gone_apart proc m came took)) each
-
-made_stands : (a : actor.Actor) (each : Proc) (rank : ℕ) (tick : Tick) (s made : MachineState) (outs : List Shown) → Steps a rank tick s → HasCounted s
-    → step_by rank a s ≡ Makes made outs → CountStands tick each s made
-made_stands KeyScript each rank tick s made outs st has h =
-    subst (CountStands tick each s) (same_makes (after_line s.keys s) made [] outs h).0 (inl (line_stands each tick rank s s.keys st has st.due))
-made_stands Geometry each rank tick s made outs st has h =
-    subst (CountStands tick each s) (same_makes (after_geometry s) made [] outs h).0 (geometry_stands each rank tick s st has)
-made_stands (Dma proc channel) each rank tick s made outs st has h =
-    let P : Option Tick → Type 0 = λ o. channel_step rank proc o s ≡ Makes made outs in
-    subst (CountStands tick each s) (sym (channel_made rank proc tick s made outs (subst P st.due h))) (unit_stands proc each channel rank tick s st has)
-made_stands (Processor proc) each rank tick s made outs st has h =
-    let came = came_by proc s in
-    let k = concludes rank proc (reached_by proc s) made outs came (costs_some proc s) (sym (step_is rank proc s) ∙ h) in
-    subst (CountStands tick each s) k.1 (processor_stands proc each rank tick s st has came k.0)
-made_stands Video each rank tick s made outs st has h =
-    let k = video_makes rank s made outs h in
-    subst (CountStands tick each s) k.0 (inl (video_near each rank tick s st has k.1))
-made_stands a each rank tick s made outs st has h =
-    subst (CountStands tick each s) (same_makes (after_event a s) made [] outs h).0 (event_stands each a rank tick s st has tt)
-
--- ---- where the units settle
-
--- of ARM9 either channels are triggered, and then it had few steps, or all stays
-settled_apart : (tick : Tick) (m : MachineState) → IsIo m.io → is_to_be_triggered m.io ≡ false → IsUntouched Nine m (machine_settled tick m)
-settled_apart tick m is none =
-    let k = settle_leaves tick m.io in
-    apart_by Nine m (machine_settled tick m) refl refl (record { timers = k.timers; keycnt = k.keycnt; halted = k.halted; dma = settled_dma tick m.io is none })
-    (ap (λ (v : VideoState). v.scan) k.video) refl (k.gx, k.released)
-
-settle_stands : (each : Proc) (tick : Tick) (s m : MachineState) → IsIo m.io → (is_to_be_triggered s.io ≡ true → s.nine.processor.steps ≤ tick.0 + 1)
-    → (is_halted s Nine ≡ false → s.nine.processor.steps ≤ s.nine.processor.due) → CountStands tick each s m → CountStands tick each s (machine_settled tick m)
-settle_stands Seven tick s m is few own stands =
-    let k = settle_leaves tick m.io in
-    let same : IsUnchanged m.io.seven (settled tick m.io).seven = subst (IsUnchanged m.io.seven) (sym k.seven) (unchanged_same m.io.seven) in
-    apart_on Seven tick s m (machine_settled tick m) stands (apart_by Seven m (machine_settled tick m) refl refl same (ap (λ (v : VideoState). v.scan) k.video) refl tt)
-settle_stands Nine tick s m is few own (inl near) =
-    inl (record { steps = near.steps; due = λ free. near.due (sym (settle_leaves tick m.io).halted ∙ free) })
-settle_stands Nine tick s m is few own (inr apart) = by_need (is_to_be_triggered m.io) refl where
-  by_need : (b : Bool) → is_to_be_triggered m.io ≡ b → CountStands tick Nine s (machine_settled tick m)
-  by_need true e =
-      let k = few (sym apart.triggered ∙ e) in
-      let steps = apart.steps in
-      let due = apart.due in
-      inl (record {
-        steps = omega (arith, k, steps);
-        due = λ free. (let d = own (sym apart.halted ∙ sym (settle_leaves tick m.io).halted ∙ free) in omega (arith, d, steps, due));
-      })
-  by_need false e = apart_on Nine tick s m (machine_settled tick m) (inr apart) (settled_apart tick m is e)
-
--- ---- and where processors wake
-
-on_own : (proc : Proc) (tick : Tick) (s m : MachineState) → (processor_of m proc).steps ≤ tick.0 + 1 → HasFew tick proc (goes_on proc tick m)
-on_own Nine tick s m few = record { steps = few; due = λ free. few }
-on_own Seven tick s m few = record { steps = few; due = λ free. few }
-
-on_apart : (proc : Proc) (tick : Tick) (m : MachineState) → IsUntouched (other_proc proc) m (goes_on proc tick m)
-on_apart Nine tick m = apart_by Seven m (goes_on Nine tick m) refl refl (unchanged_same m.io.seven) refl refl tt
-on_apart Seven tick m = apart_by Nine m (goes_on Seven tick m) refl refl (unchanged_same m.io.nine) refl refl (refl, refl)
-
-both_hold : (a b : Bool) → (a && b) ≡ true → a ≡ true
-both_hold true b h = refl
-both_hold false b h = absurd (true≢false (sym h))
-
--- the processor that wakes had few steps: it was halted before, or its numbers changed
-woke_few : (proc : Proc) (tick : Tick) (s m : MachineState) → (is_halted s proc ≡ true → (processor_of s proc).steps ≤ tick.0 + 1) → is_halted m proc ≡ true → CountStands tick proc s m
-    → (processor_of m proc).steps ≤ tick.0 + 1
-woke_few proc tick s m halted is (inl near) = near.steps
-woke_few proc tick s m halted is (inr apart) = let few = halted (sym apart.halted ∙ is) in let same = apart.steps in omega (arith, few, same)
-
-one_stands : (b : Bool) (proc each : Proc) (tick : Tick) (s m : MachineState) → ((p : Proc) → is_halted s p ≡ true → (processor_of s p).steps ≤ tick.0 + 1) → wakes m proc ≡ b
-    → ((p : Proc) → CountStands tick p s m) → CountStands tick each s (if b then goes_on proc tick m else m)
-one_stands true proc each tick s m halted woke stands =
-    of_both (λ p. CountStands tick p s (goes_on proc tick m)) proc
-    (inl (on_own proc tick s m (woke_few proc tick s m (halted proc) (both_hold _ _ woke) (stands proc))))
-    (apart_on (other_proc proc) tick s m (goes_on proc tick m) (stands (other_proc proc)) (on_apart proc tick m)) each
-one_stands false proc each tick s m halted woke stands = stands each
-
-woken_stands : (each : Proc) (tick : Tick) (s m : MachineState) → ((p : Proc) → is_halted s p ≡ true → (processor_of s p).steps ≤ tick.0 + 1)
-    → ((p : Proc) → CountStands tick p s m) → CountStands tick each s (woken tick m)
-woken_stands each tick s m halted stands =
-    let first = woken_one Nine tick m in
-    one_stands (wakes first Seven) Seven each tick s first halted refl (λ p. one_stands (wakes m Nine) Nine p tick s m halted refl stands)
-
-woken_events : (tick : Tick) (m : MachineState) → (woken tick m).events ≡ m.events
-woken_events tick m = one Seven (wakes (woken_one Nine tick m) Seven) (woken_one Nine tick m) ∙ one Nine (wakes m Nine) m where
-  one : (proc : Proc) (b : Bool) (s : MachineState) → (if b then goes_on proc tick s else s).events ≡ s.events
-  one Nine true s = refl
-  one Seven true s = refl
-  one proc false s = refl
-
--- ---- the counts stay in their bounds, whatever a step comes to
-
--- what is due after a step isn't due before it
-due_since : (s next : MachineState) (tick : Tick) (rank : ℕ) → IsLeast (dues_of s) tick rank → AllReschedule tick (dues_of s) (dues_of next)
-    → (other : ℕ) (at : Tick) → due_at (dues_of next) other ≡ Some at → tick.0 ≤ at.0
-due_since s next tick rank least all other at h = elim (not_before s next tick rank least all other at h) [
-  | inl same ↦ elim (least.least other at same) [ inl lt ↦ omega (arith, lt) | inr e ↦ (let k = e.0 in omega (arith, k)) ]
-  | inr later ↦ omega (arith, later)
-]
-
-has_next : (s next : MachineState) (tick : Tick) (rank : ℕ) → IsLeast (dues_of s) tick rank → AllReschedule tick (dues_of s) (dues_of next) → HasCounted s
-    → ((proc : Proc) → CountStands tick proc s next) → ((other : ℕ) (at : Tick) → due_at (dues_of next) other ≡ Some at → next.events ≤ 22 * at.0 + min other 22)
-    → ((other : ℕ) (at : Tick) → due_at (dues_of next) other ≡ Some at → next.io.gx.geometry.numbers.run ≤ at.0 + geometry_before other) → HasCounted next
-has_next s next tick rank least all has stands events run = record {
+has_next : (s next : MachineState) (tick : Tick) (rank : ℕ) → due_at (acting_dues s) rank ≡ Some tick
+    → ((other : ℕ) (at : Tick) → due_at (acting_dues next) other ≡ Some at → tick.0 ≤ at.0) → HasCounted s → ((proc : Proc) → CountStands tick proc s next)
+    → ((other : ℕ) (at : Tick) → due_at (acting_dues next) other ≡ Some at → HasRoom next.events next.io.gx.due at.0 other) → HasRoom next.events next.io.gx.due (2 ^ 56 + 1) 0
+    → ((other : ℕ) (at : Tick) → due_at (dues_of next) other ≡ Some at → run_of next ≤ at.0 + geometry_before other) → HasCounted next
+has_next s next tick rank acts since has stands events most run = record {
   own = λ proc. own proc (stands proc);
   fenced = λ proc. fenced proc (stands proc);
   halted = λ proc. halted proc (stands proc);
   triggered = triggered (stands Nine);
   events = events;
+  most = omega (arith, most);
   run = run;
 } where
-  since : (other : ℕ) (at : Tick) → due_at (dues_of next) other ≡ Some at → tick.0 ≤ at.0
-  since = due_since s next tick rank least all
-
   own : (proc : Proc) → CountStands tick proc s next → is_halted next proc ≡ false → (processor_of next proc).steps ≤ (processor_of next proc).due
   own proc (inl near) free = near.due free
   own proc (inr apart) free =
@@ -556,202 +92,186 @@ has_next s next tick rank least all has stands events run = record {
       let due = apart.due in
       omega (arith, k, steps, due)
 
-  triggered : CountStands tick Nine s next → (other : ℕ) (at : Tick) → is_to_be_triggered next.io ≡ true → due_at (dues_of next) other ≡ Some at
+  triggered : CountStands tick Nine s next → (other : ℕ) (at : Tick) → is_to_be_triggered next.io ≡ true → due_at (acting_dues next) other ≡ Some at
       → next.nine.processor.steps ≤ at.0 + 1
   triggered (inl near) other at is due = let few = near.steps in let k = since other at due in omega (arith, few, k)
   triggered (inr apart) other at is due =
-      let few = has.triggered rank tick (sym apart.triggered ∙ is) least.there in
+      let few = has.triggered rank tick (sym apart.triggered ∙ is) acts in
       let same = apart.steps in
       let k = since other at due in
       omega (arith, few, same, k)
 
-  fenced : (proc : Proc) → CountStands tick proc s next → (other : ℕ) (at : Tick) → due_at (dues_of next) other ≡ Some at → Fences (actor_of other) proc
+  fenced : (proc : Proc) → CountStands tick proc s next → (other : ℕ) (at : Tick) → due_at (acting_dues next) other ≡ Some at → Fences (actor_of other) proc
       → (processor_of next proc).steps ≤ at.0 + 1
   fenced proc (inl near) other at due f = let few = near.steps in let k = since other at due in omega (arith, few, k)
   fenced proc (inr apart) other at due f =
-      let lt = low_rank next other at due in
-      let there : due_at (dues_of s) other ≡ Some at = due_of_rank s other lt ∙ sym (apart.fences (actor_of other) f) ∙ sym (due_of_rank next other lt) ∙ due in
+      let lt = acting_low next other at due in
+      let there : due_at (acting_dues s) other ≡ Some at = acting_of_rank s other lt ∙ sym (apart.fences (actor_of other) f) ∙ sym (acting_of_rank next other lt) ∙ due in
       let few = has.fenced proc other at there f in
       let same = apart.steps in
       omega (arith, few, same)
 
-  halted : (proc : Proc) → CountStands tick proc s next → (other : ℕ) (at : Tick) → is_halted next proc ≡ true → due_at (dues_of next) other ≡ Some at
+  halted : (proc : Proc) → CountStands tick proc s next → (other : ℕ) (at : Tick) → is_halted next proc ≡ true → due_at (acting_dues next) other ≡ Some at
       → (processor_of next proc).steps ≤ at.0 + 1
   halted proc (inl near) other at is due = let few = near.steps in let k = since other at due in omega (arith, few, k)
   halted proc (inr apart) other at is due =
-      let few = has.halted proc rank tick (sym apart.halted ∙ is) least.there in
+      let few = has.halted proc rank tick (sym apart.halted ∙ is) acts in
       let same = apart.steps in
       let k = since other at due in
       omega (arith, few, same, k)
+
+-- ---- where it is taken
 
 -- what a step makes of all
 pub record CountsAfter (tick : Tick) (rank : ℕ) (s next : MachineState) : Type 0 where
   pub stands : (proc : Proc) → CountStands tick proc s next
   pub events : next.events ≡ s.events + events_in (actor_of rank)
-  pub run : next.io.gx.geometry.numbers.run ≤ s.io.gx.geometry.numbers.run + runs_in (actor_of rank)
+  pub run : run_of next ≤ run_of s + runs_in (actor_of rank)
 
-pub makes_all : (s next : MachineState) (tick : Tick) (rank : ℕ) (outs : List Shown) → HasSoundParts s → IsLeast (dues_of s) tick rank → HasCounted s
-    → reference_step rank s ≡ Makes next outs → CountsAfter tick rank s next
+-- an actor that acts steps
+pub record Acts (s : MachineState) (tick : Tick) (rank : ℕ) : Type 0 where
+  pub steps : Steps (actor_of rank) rank tick s
+  pub acts : due_at (acting_dues s) rank ≡ Some tick
+
+makes_all : (s next : MachineState) (tick : Tick) (rank : ℕ) (outs : List Shown) → Acts s tick rank → HasCounted s → reference_step rank s ≡ Makes next outs → CountsAfter tick rank s next
 unfolding ended
-makes_all s next tick rank outs sound least has h =
-    let k = step_made s next tick rank outs least h in
+makes_all s next tick rank outs here has h =
+    let st = here.steps in
+    let k = step_made_as s next tick rank outs st h in
     let a = actor_of rank in
-    let st = steps_here s tick rank sound least in
-    let halted : (p : Proc) → is_halted s p ≡ true → (processor_of s p).steps ≤ tick.0 + 1 = λ p is. has.halted p rank tick is least.there in
+    let few = few_before s rank tick here.acts has in
     let rest = machine_settled tick k.0 in
     let is = (owes_by a rank tick s k.0 outs st k.1).sound.io in
-    let few : is_to_be_triggered s.io ≡ true → s.nine.processor.steps ≤ tick.0 + 1 = λ e. has.triggered rank tick e least.there in
     let made = made_run a rank tick s k.0 outs st k.1 in
     let same = ap (λ (g : GxState). g.geometry.numbers.run) (ended_leaves tick k.0).gx in
     let woke : CountsAfter tick rank s (ended tick k.0) = record {
-      stands = λ proc. woken_stands proc tick s rest halted (λ p. settle_stands p tick s k.0 is few (has.own Nine) (made_stands a p rank tick s k.0 outs st has k.1));
-      events = woken_events tick rest ∙ made_events a rank tick s k.0 outs (due_of_least s rank tick least) k.1;
+      stands = λ proc.
+          woken_stands proc tick s rest few.halted (λ p. settle_stands p tick s k.0 is few.triggered (few.own Nine) (made_stands a p rank tick s k.0 outs st few k.1));
+      events = woken_events tick rest ∙ made_events a rank tick s k.0 outs st.due k.1;
       run = omega (arith, made, same);
     } in
     subst (CountsAfter tick rank s) k.2 woke
 
--- of an actor whose place comes after another's
-later_events : (tick at rank other : ℕ) → 24 * tick + rank < 24 * at + other → rank < 24 → other < 24 → 22 * tick + min (rank + 1) 22 ≤ 22 * at + min other 22
-later_events tick at rank other before low small = grind (arith, before, low, small)
+-- there is room before the place after its own
+room_past : (s next : MachineState) (tick : Tick) (rank : ℕ) (outs : List Shown) → Acts s tick rank → HasCounted s → reference_step rank s ≡ Makes next outs
+    → HasRoom next.events next.io.gx.due tick.0 (rank + 1)
+room_past s next tick rank outs here has h =
+    let owes = owes_as s next tick rank outs here.steps h in
+    let later : rank ≡ 12 → IsLater tick next.io.gx.due = λ e. subst (λ (r : ℕ). IsLater tick (due_by (actor_of r) next)) e owes.own in
+    let owed = owed_falls tick rank s.io.gx.due next.io.gx.due (owes.moves Geometry tt) later in
+    let more = (makes_all s next tick rank outs here has h).events in
+    let room = place_of_event rank (low_rank s rank tick here.steps.there) in
+    let few = has.events rank tick here.acts in
+    omega (arith, owed, more, room, few)
 
-pub counted_made : (s next : MachineState) (tick : Tick) (rank : ℕ) (outs : List Shown) → HasSoundParts s → IsLeast (dues_of s) tick rank → HasCounted s
-    → reference_step rank s ≡ Makes next outs → HasCounted next
-counted_made s next tick rank outs sound least has h =
-    let made = makes_all s next tick rank outs sound least has h in
-    let low = low_rank s rank tick least.there in
-    has_next s next tick rank least (moves_all tick s next (owes s next tick rank outs sound least h).moves) has made.stands (λ other at due.
-    (let before = place_rises reference 24 HasSoundParts reference_schedules s next tick rank outs at other sound least h due in
-    let past = later_events tick.0 at.0 rank other before low (low_rank next other at due) in
-    let more = made.events in
-    let room = place_of_event rank low in
-    let few = has.events rank tick least.there in
-    omega (arith, past, more, room, few))) (λ other at due.
-    (let before = place_rises reference 24 HasSoundParts reference_schedules s next tick rank outs at other sound least h due in
-    let past = later_run tick.0 at.0 rank other before low (low_rank next other at due) in
-    let more = made.run in
-    let room = place_of_run rank low in
-    let few = has.run rank tick least.there in
-    omega (arith, past, more, room, few)))
+-- and the current run has, where the actor is the least of all, or isn't geometry
+not_runs : (a : actor.Actor) → a ≢ Geometry → runs_in a ≡ 0
+not_runs Geometry other = absurd (other refl)
+not_runs _ other = refl
+
+module _ (s next : MachineState) (tick : Tick) (rank : ℕ) (outs : List Shown) (here : Acts s tick rank) (has : HasCounted s) (h : reference_step rank s ≡ Makes next outs) where
+  low : rank < 24
+  low = low_rank s rank tick here.steps.there
+
+  all : AllReschedule tick (dues_of s) (dues_of next)
+  all = moves_all tick s next (owes_as s next tick rank outs here.steps h).moves
+
+  run_least : IsLeast (dues_of s) tick rank → (other : ℕ) (at : Tick) → due_at (dues_of next) other ≡ Some at → run_of next ≤ at.0 + geometry_before other
+  run_least least other at due =
+      let before = place_rises reference 24 HasSoundParts reference_schedules s next tick rank outs at other here.steps.sound least h due in
+      let past = later_run tick.0 at.0 rank other before low (low_rank next other at due) in
+      let more = (makes_all s next tick rank outs here has h).run in
+      let room = place_of_run rank low in
+      let few = has.run rank tick here.steps.there in
+      omega (arith, past, more, room, few)
+
+  run_other : actor_of rank ≢ Geometry → (other : ℕ) (at : Tick) → due_at (dues_of next) other ≡ Some at → run_of next ≤ at.0 + geometry_before other
+  run_other differs other at due =
+      let more = (makes_all s next tick rank outs here has h).run in
+      let none = not_runs (actor_of rank) differs in
+      elim (at_rank tick (dues_of s) (dues_of next) all other) [
+        | inl same ↦ (let few = has.run other at (sym same ∙ due) in omega (arith, few, more, none))
+        | inr later ↦
+            (let lt = is_later tick (due_at (dues_of next) other) at later due in
+            let few = has.run rank tick here.steps.there in
+            let one = run_before rank in
+            omega (arith, few, more, none, lt, one))
+      ]
+
+  pub counted_next : ActsAfter tick rank s next → IsLeast (dues_of s) tick rank ⊎ (actor_of rank ≢ Geometry) → tick.0 ≤ 2 ^ 56 → HasCounted next
+  counted_next after first early =
+      let past = room_past s next tick rank outs here has h in
+      let own = subst (IsLater tick) (sym (due_of_rank next rank low)) (owes_as s next tick rank outs here.steps h).own in
+      has_next s next tick rank here.acts (acts_since s next tick rank low all after) has (makes_all s next tick rank outs here has h).stands
+      (λ other at acts.
+      room_grows next.events next.io.gx.due tick.0 (rank + 1) at.0 other (past_place s next tick rank low all after own other at acts) (omega (arith, low)) (acting_low next other at acts) past)
+      (room_grows next.events next.io.gx.due tick.0 (rank + 1) (2 ^ 56 + 1) 0 (omega (arith, early, low)) (omega (arith, low)) (omega arith) past)
+      (elim first [ inl least ↦ run_least least | inr differs ↦ run_other differs ])
+
+  -- a step below a limit leaves all counts within it
+  pub within_next : (before limit : ℕ) → CountsWithin before s → before ≤ limit → tick.0 < limit → CountsWithin limit next
+  within_next before limit within le lt =
+      let all_of = makes_all s next tick rank outs here has h in
+      let past = room_past s next tick rank outs here has h in
+      let room = room_grows next.events next.io.gx.due tick.0 (rank + 1) limit 0 (omega (arith, lt, low)) (omega (arith, low)) (omega arith) past in
+      record { steps = λ proc. steps proc (all_of.stands proc); events = omega (arith, room) } where
+        steps : (proc : Proc) → CountStands tick proc s next → (processor_of next proc).steps ≤ limit
+        steps proc (inl near) = let k = near.steps in omega (arith, k, lt)
+        steps proc (inr apart) = let k = within.steps proc in let same = apart.steps in omega (arith, k, same, le)
 
 -- ---- where it stops
 
-all_same : (proc : Proc) (s : MachineState) → IsUntouched proc s s
-all_same proc s = apart_by proc s s refl refl (unchanged_same (io_of s.io proc)) refl refl (geometry_same proc s.io s.io refl refl)
+module _ (s left : MachineState) (tick : Tick) (rank : ℕ) (stop : LeftOut) (here : Acts s tick rank) (has : HasCounted s) (h : reference_step rank s ≡ Stops stop left) where
+  stops_by : step_by rank (actor_of rank) s ≡ Stops stop left
+  stops_by = awake_stops (due_by (actor_of rank) s) (step_by rank (actor_of rank) s) left stop h
 
-read_apart : (proc each : Proc) (s left : MachineState) → with_map proc s (unit_read proc (next_unit s.io proc) (map_of proc s)) ≡ left → IsUntouched each s left
-read_apart proc each s left read =
-    let unit = next_unit s.io proc in
-    let next = with_map proc s (unit_read proc unit (map_of proc s)) in
-    let u = read_unchanged proc unit s in
-    let p = map_processor proc s (unit_read proc unit (map_of proc s)) each in
-    subst (IsUntouched each s) read (apart_by each s next (ap (λ (x : ProcessorState). x.steps) p) (ap (λ (x : ProcessorState). x.due) p) (u.processor_io each) u.scan refl (geometry_same each s.io next.io u.gx u.released))
+  stands : (proc : Proc) → CountStands tick proc s left
+  stands proc = stopped_stands (actor_of rank) proc rank tick s left stop here.steps (few_before s rank tick here.acts has) stops_by
 
-stopped_stands : (a : actor.Actor) (each : Proc) (rank : ℕ) (tick : Tick) (s left : MachineState) (stop : LeftOut) → Steps a rank tick s → HasCounted s
-    → step_by rank a s ≡ Stops stop left → CountStands tick each s left
-stopped_stands KeyScript each rank tick s left stop st has h = absurd (not_both (after_line s.keys s) left [] stop h)
-stopped_stands (Dma proc channel) each rank tick s left stop st has h =
-    let P : Option Tick → Type 0 = λ o. (let step : MachineStep MachineState Shown LeftOut = channel_step rank proc o s in step ≡ Stops stop left) in
-    inr (read_apart proc each s left (channel_unchanged rank proc tick s left stop (subst P st.due h)))
-stopped_stands (Processor proc) each rank tick s left stop st has h =
-    let e = concluded_stops rank proc (reached_by proc s) left stop (came_by proc s) (sym (step_is rank proc s) ∙ h) in
-    let few = own_few proc tick s has st.due in
-    let same = reached_steps proc s in
-    let at = (reaches proc s).due in
-    let due = (due_then (is_blocked s proc) (processor_of s proc) tick st.due).1 in
-    let near : HasFew tick proc (reached_by proc s) = record { steps = omega (arith, few, same); due = λ free. omega (arith, few, same, at, due) } in
-    subst (CountStands tick each s) e (of_both (λ p. CountStands tick p s (reached_by proc s)) proc (inl near) (inr (reached_apart proc tick s (operation proc rank tick s st))) each)
-stopped_stands Video each rank tick s left stop st has h = subst (CountStands tick each s) (video_stops rank s left stop h) (inr (all_same each s))
-stopped_stands Geometry each rank tick s left stop st has h = absurd (not_both (after_geometry s) left [] stop h)
-stopped_stands a each rank tick s left stop st has h = absurd (not_both (after_event a s) left [] stop h)
+  left_moves : Moves tick s left
+  left_moves = (stopped_as s left tick rank stop here.steps h).moves
 
-channel_events : (proc : Proc) (due : Option Tick) (rank : ℕ) (s left : MachineState) (stop : LeftOut)
-    → (let step : MachineStep MachineState Shown LeftOut = channel_step rank proc due s in step ≡ Stops stop left) → left.events ≡ s.events
-channel_events proc None rank s left stop h = absurd (not_both s left [] stop h)
-channel_events proc (Some now) rank s left stop h = ap (λ (m : MachineState). m.events) (sym (channel_unchanged rank proc now s left stop h))
+  room_left : HasRoom left.events left.io.gx.due tick.0 rank
+  room_left =
+      let owed = owed_stays tick rank s.io.gx.due left.io.gx.due (left_moves Geometry tt) in
+      let same = left_events (actor_of rank) rank s left stop stops_by in
+      let few = has.events rank tick here.acts in
+      omega (arith, owed, same, few)
 
-left_events : (a : actor.Actor) (rank : ℕ) (s left : MachineState) (stop : LeftOut) → step_by rank a s ≡ Stops stop left → left.events ≡ s.events
-left_events KeyScript rank s left stop h = absurd (not_both (after_line s.keys s) left [] stop h)
-left_events (Dma proc channel) rank s left stop h = channel_events proc (due_by (Dma proc channel) s) rank s left stop h
-left_events (Processor proc) rank s left stop h =
-    let e = concluded_stops rank proc (reached_by proc s) left stop (came_by proc s) (sym (step_is rank proc s) ∙ h) in
-    ap (λ (m : MachineState). m.events) (sym e) ∙ reached_events proc s
-left_events Video rank s left stop h = ap (λ (m : MachineState). m.events) (sym (video_stops rank s left stop h))
-left_events Geometry rank s left stop h = absurd (not_both (after_geometry s) left [] stop h)
-left_events a rank s left stop h = absurd (not_both (after_event a s) left [] stop h)
+  left_low : rank < 24
+  left_low = low_rank s rank tick here.steps.there
 
--- a stop leaves the counts
-pub record CountsLeft (tick : Tick) (s left : MachineState) : Type 0 where
-  pub stands : (proc : Proc) → CountStands tick proc s left
-  pub events : left.events ≡ s.events
-  pub run : run_of left ≡ run_of s
+  run_still : (other : ℕ) (at : Tick) → due_at (dues_of left) other ≡ Some at → run_of left ≤ at.0 + geometry_before other
+  run_still other at due =
+      let run = left_run (actor_of rank) rank tick s left stop here.steps stops_by in
+      elim (at_rank tick (dues_of s) (dues_of left) (moves_all tick s left left_moves) other) [
+        | inl same ↦ (let few = has.run other at (sym same ∙ due) in omega (arith, few, run))
+        | inr later ↦
+            (let lt = is_later tick (due_at (dues_of left) other) at later due in
+            let few = has.run rank tick here.steps.there in
+            let one = run_before rank in
+            omega (arith, few, run, lt, one))
+      ]
 
-pub stops_all : (s left : MachineState) (tick : Tick) (rank : ℕ) (stop : LeftOut) → HasSoundParts s → IsLeast (dues_of s) tick rank → HasCounted s
-    → reference_step rank s ≡ Stops stop left → CountsLeft tick s left
-stops_all s left tick rank stop sound least has h =
-    let a = actor_of rank in
-    let k = awake_stops (due_by a s) (step_by rank a s) left stop h in
-    record {
-      stands = λ proc. stopped_stands a proc rank tick s left stop (steps_here s tick rank sound least) has k;
-      events = left_events a rank s left stop k;
-      run = left_run a rank tick s left stop (steps_here s tick rank sound least) k;
-    }
+  pub counted_left : ActsAfter tick rank s left → tick.0 ≤ 2 ^ 56 → HasCounted left
+  counted_left after early =
+      let all = moves_all tick s left left_moves in
+      has_next s left tick rank here.acts (acts_since s left tick rank left_low all after) has stands
+      (λ other at acts.
+      room_grows left.events left.io.gx.due tick.0 rank at.0 other (place_after s left tick rank left_low all after other at acts) (omega (arith, left_low)) (acting_low left other at acts)
+      room_left)
+      (room_grows left.events left.io.gx.due tick.0 rank (2 ^ 56 + 1) 0 (omega (arith, early, left_low)) (omega (arith, left_low)) (omega arith) room_left) run_still
 
-pub counted_left : (s left : MachineState) (tick : Tick) (rank : ℕ) (stop : LeftOut) → HasSoundParts s → IsLeast (dues_of s) tick rank → HasCounted s
-    → reference_step rank s ≡ Stops stop left → HasCounted left
-counted_left s left tick rank stop sound least has h =
-    let all = moves_all tick s left (stopped s left tick rank stop sound least h).moves in
-    let stop_is = stops_all s left tick rank stop sound least has h in
-    let same = stop_is.events in
-    let run = stop_is.run in
-    has_next s left tick rank least all has stop_is.stands (λ other at due.
-    elim (not_before s left tick rank least all other at due) [
-      | inl there ↦ (let few = has.events other at there in omega (arith, few, same))
-      | inr later ↦ (let few = has.events rank tick least.there in omega (arith, few, same, later))
-    ]) (λ other at due.
-    elim (not_before s left tick rank least all other at due) [
-      | inl there ↦ (let few = has.run other at there in omega (arith, few, run))
-      | inr later ↦ (let few = has.run rank tick least.there in let one = run_before rank in omega (arith, few, run, later, one))
-    ])
+  -- and it leaves all counts within a limit
+  pub within_left : (before limit : ℕ) → CountsWithin before s → before ≤ limit → tick.0 < limit → CountsWithin limit left
+  within_left before limit within le lt =
+      let room = room_grows left.events left.io.gx.due tick.0 rank limit 0 (omega (arith, lt, left_low)) (omega (arith, left_low)) (omega arith) room_left in
+      record { steps = λ proc. steps proc (stands proc); events = omega (arith, room) } where
+        steps : (proc : Proc) → CountStands tick proc s left → (processor_of left proc).steps ≤ limit
+        steps proc (inl near) = let k = near.steps in omega (arith, k, lt)
+        steps proc (inr apart) = let k = within.steps proc in let e = apart.steps in omega (arith, k, e, le)
 
--- whatever is answered
-pub counted_done : (s next : MachineState) (tick : Tick) (rank : ℕ) (done : answer.Done) → HasSoundParts s → IsLeast (dues_of s) tick rank → HasCounted s
-    → reference_step rank s ≡ stepped_of s done next → HasCounted next
-counted_done s next tick rank answers.Made sound least has h = counted_made s next tick rank [] sound least has h
-counted_done s next tick rank (answers.Frame swapped) sound least has h = counted_made s next tick rank (shown_at (scan_due s.io.video.scan) next swapped ∷ []) sound least has h
-counted_done s next tick rank (answers.Stopped left) sound least has h = counted_left s next tick rank left sound least has h
-
-pub sound_done : (s next : MachineState) (tick : Tick) (rank : ℕ) (done : answer.Done) → HasSoundParts s → IsLeast (dues_of s) tick rank
-    → reference_step rank s ≡ stepped_of s done next → HasSoundParts next
-sound_done s next tick rank answers.Made sound least h = (owes s next tick rank [] sound least h).sound
-sound_done s next tick rank (answers.Frame swapped) sound least h = (owes s next tick rank (shown_at (scan_due s.io.video.scan) next swapped ∷ []) sound least h).sound
-sound_done s next tick rank (answers.Stopped left) sound least h = (stopped s next tick rank left sound least h).sound
-
--- ---- within a limit
-
--- a step below a limit leaves all counts within it
-pub counts_within : (s next : MachineState) (tick : Tick) (rank : ℕ) (outs : List Shown) (before limit : ℕ) → HasSoundParts s → IsLeast (dues_of s) tick rank
-    → reference_step rank s ≡ Makes next outs → HasCounted s → CountsWithin before s → before ≤ limit → tick.0 < limit → CountsWithin limit next
-counts_within s next tick rank outs before limit sound least h has within le lt =
-    let made = makes_all s next tick rank outs sound least has h in
-    let room = place_of_event rank (low_rank s rank tick least.there) in
-    let more = made.events in
-    let few = has.events rank tick least.there in
-    record { steps = λ proc. steps proc (made.stands proc); events = omega (arith, room, more, few, lt) } where
-      steps : (proc : Proc) → CountStands tick proc s next → (processor_of next proc).steps ≤ limit
-      steps proc (inl near) = let k = near.steps in omega (arith, k, lt)
-      steps proc (inr apart) = let k = within.steps proc in let same = apart.steps in omega (arith, k, same, le)
-
--- and a stop leaves them
-pub stop_within : (s left : MachineState) (tick : Tick) (rank : ℕ) (stop : LeftOut) (before limit : ℕ) → HasSoundParts s → IsLeast (dues_of s) tick rank
-    → reference_step rank s ≡ Stops stop left → HasCounted s → CountsWithin before s → before ≤ limit → tick.0 < limit → CountsWithin limit left
-stop_within s left tick rank stop before limit sound least h has within le lt =
-    let all = stops_all s left tick rank stop sound least has h in
-    let same = all.events in
-    let few = within.events in
-    record { steps = λ proc. steps proc (all.stands proc); events = omega (arith, same, few, le) } where
-      steps : (proc : Proc) → CountStands tick proc s left → (processor_of left proc).steps ≤ limit
-      steps proc (inl near) = let k = near.steps in omega (arith, k, lt)
-      steps proc (inr apart) = let k = within.steps proc in let e = apart.steps in omega (arith, k, e, le)
+-- ---- all of them
 
 pub counts_add_up : CountsAddUp
 counts_add_up limit s within =
@@ -760,24 +280,14 @@ counts_add_up limit s within =
     let events = within.events in
     omega (arith, nine, seven, events)
 
+-- and within a later limit too
+pub within_more : (s : MachineState) (before limit : ℕ) → CountsWithin before s → before ≤ limit → CountsWithin limit s
+within_more s before limit within le =
+    let events = within.events in
+    let room = room_grows s.events s.io.gx.due before 0 limit 0 (omega (arith, le)) (omega arith) (omega arith) (omega (arith, events)) in
+    record { steps = λ proc. (let k = within.steps proc in omega (arith, k, le)); events = omega (arith, room) }
+
 -- ---- before a step at an early tick they were few
 
 pub few_steps : (s : MachineState) (proc : Proc) (tick : Tick) → HasCounted s → processor_due s proc ≡ Some tick → tick.0 ≤ 2 ^ 56 → (processor_of s proc).steps ≤ 2 ^ 61
-few_steps s proc tick has due early = let k = own_few proc tick s has due in omega (arith, k, early)
-
-pub may_few_steps : (s : MachineState) (rank : ℕ) (a : actor.Actor) → MayStep s rank → HasCounted s → actor_of rank ≡ a
-    → (proc : Proc) → a ≡ Processor proc → (processor_of s proc).steps ≤ 2 ^ 61
-may_few_steps s rank a may has is proc e = few_steps s proc may.tick has (due_of_may s rank (Processor proc) may (is ∙ e)) may.early
-
-pub may_few_events : (s : MachineState) (rank : ℕ) → MayStep s rank → HasCounted s → s.events ≤ 2 ^ 61
-may_few_events s rank may has = let k = has.events rank may.tick may.due in let early = may.early in omega (arith, k, early)
-
--- and where geometry steps the current run has room in the code
-pub may_fit_run : (s : MachineState) (rank : ℕ) (a : actor.Actor) → MayStep s rank → HasCounted s → actor_of rank ≡ a → a ≡ Geometry → run_of s ≤ 2 ^ 56
-may_fit_run s rank a may has is e =
-    let room = place_of_run rank (low_rank s rank may.tick may.due) in
-    let most = run_before (rank + 1) in
-    let one : runs_in (actor_of rank) ≡ 1 = ap runs_in (is ∙ e) in
-    let few = has.run rank may.tick may.due in
-    let early = may.early in
-    omega (arith, room, most, one, few, early)
+few_steps s proc tick has due early = let k = own_few proc tick s (has.own proc) due in omega (arith, k, early)

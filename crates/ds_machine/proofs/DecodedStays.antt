@@ -59,11 +59,11 @@ same_word width at byte lt c =
 
 -- ---- an access reads or writes at its address
 
-abbrev IsOne : Bool → ℕ → List Access → Type 0
+abbrev pub IsOne : Bool → ℕ → List Access → Type 0
 IsOne false at accesses = (width : Width) × (accesses ≡ Read at width ∷ [])
 IsOne true at accesses = (width : Width) × (value : ℕ) × (accesses ≡ Write at width value ∷ [])
 
-one_by : (arch : Arch) (s : RegisterState) (op : TransferOp) (rn rd : ℕ) (to : Addressed) → IsOne (stores op) to.address (transferred arch s op rn rd to).accesses
+pub one_by : (arch : Arch) (s : RegisterState) (op : TransferOp) (rn rd : ℕ) (to : Addressed) → IsOne (stores op) to.address (transferred arch s op rn rd to).accesses
 one_by arch s (WordOrByte true true) rn rd to = (Byte, refl)
 one_by arch s (WordOrByte true false) rn rd to = (Word, refl)
 one_by arch s (WordOrByte false true) rn rd to = (Byte, _, refl)

@@ -1,4 +1,4 @@
-use Rattle.std.proofs.Common.{ℕ, ◌≡◌, ◌≢◌, ◌<◌, ◌≤◌, ◌^◌, ◌⊎◌, inl, inr, Bool, true, false, List, [], ◌∷◌, ◌++◌, length, Option, Some, None, refl, sym, ◌∙◌, ap, subst, arith}
+use Rattle.std.proofs.Common.{ℕ, ◌≡◌, ◌≢◌, ◌<◌, ◌≤◌, ◌+◌, ◌^◌, ◌⊎◌, inl, inr, Bool, true, false, List, [], ◌∷◌, ◌++◌, length, Option, Some, None, refl, sym, ◌∙◌, ap, subst, arith}
 use Rattle.std.proofs.lemmas.Option.{same_Some, none-some}
 use Rattle.ds_base.specs.declared.left_out.LeftOut.{LeftOut}
 use Rattle.ds_base.specs.declared.processors.Proc.{Proc}
@@ -15,7 +15,8 @@ use Rattle.ds_runs.proofs.ActorTable.{due_of_actor}
 use Rattle.ds_runs.proofs.Firsts.{first_is_least, first_of_append}
 use Rattle.ds_runs.proofs.Lists.{at_rank, is_later, within}
 use Rattle.ds_machine.specs.NextEvents.{events_of}
-use Rattle.ds_machine.specs.Private.{MayStep}
+use Rattle.ds_machine.specs.Private.{rank_of}
+use Rattle.ds_machine.specs.TurnSteps.{MayStep}
 use Rattle.ds_machine.specs.Reference.{Shown, awake, due_by, due_unless, dues_of, processor_due, step_by, reference_step}
 use Rattle.ds_machine.specs.States.{MachineState, ProcessorState}
 use Rattle.ds_machine.specs.Steps.{is_blocked, processor_of, tick_of}
@@ -34,6 +35,11 @@ due_of_rank s rank lt = due_of_actor (λ (a : actor.Actor). due_by a s) rank lt
 pub low_rank : (s : MachineState) (rank : ℕ) (tick : Tick) → due_at (dues_of s) rank ≡ Some tick → rank < 24
 low_rank s rank tick h = let k = within (dues_of s) rank tick h in let e = entries_are s in omega (arith, k, e)
 
+-- a processor's
+pub rank_there : (s : MachineState) (proc : Proc) → due_at (dues_of s) (rank_of proc) ≡ processor_due s proc
+rank_there s Nine = due_of_rank s 22 (omega arith)
+rank_there s Seven = due_of_rank s 23 (omega arith)
+
 -- the last two ranks are the processors'
 pub sort_rank : (rank : ℕ) → rank < 24 → (rank < 22) ⊎ ((rank ≡ 22) ⊎ (rank ≡ 23))
 sort_rank rank lt = grind (arith, lt)
@@ -43,22 +49,27 @@ pub dues_split : (s : MachineState) → dues_of s ≡ events_of s ++ processor_d
 unfolding dues_of
 dues_split s = refl
 
-alone : (d : Option Due) → earlier d None ≡ d
+pub alone : (d : Option Due) → earlier d None ≡ d
 alone None = refl
 alone (Some one) = refl
 
--- the first of its parts is the least
+-- the first of a list's parts is the least in it
+pub least_by_parts : (dues events : List (Option Tick)) (nine seven : Option Tick) (first : Due) → dues ≡ events ++ nine ∷ seven ∷ []
+    → Some first ≡ earlier (first_from 0 events) (earlier (due_with_rank 22 nine) (due_with_rank 23 seven)) → length events ≡ 22 → IsLeast dues first.tick first.rank
+least_by_parts dues events nine seven first split h long =
+    let at : length events + 0 ≡ 22 = omega (arith, long) in
+    let there : Option Due = due_with_rank 22 nine in
+    let all : first_from 0 dues ≡ Some first =
+    ap (λ (dues : List (Option Tick)). first_from 0 dues) split
+    ∙ first_of_append 0 events (nine ∷ seven ∷ [])
+    ∙ ap (λ (n : ℕ). earlier (first_from 0 events) (first_from n (nine ∷ seven ∷ []))) at
+    ∙ ap (λ (d : Option Due). earlier (first_from 0 events) (earlier there d)) (alone (due_with_rank 23 seven)) ∙ sym h in
+    first_is_least dues first all
+
 pub first_found : (s : MachineState) (first : Due)
     → Some first ≡ earlier (first_from 0 (events_of s)) (earlier (due_with_rank 22 (processor_due s Nine)) (due_with_rank 23 (processor_due s Seven)))
     → IsLeast (dues_of s) first.tick first.rank
-first_found s first h =
-    let events = events_of s in
-    let nine = due_with_rank 22 (processor_due s Nine) in
-    let all : first_from 0 (dues_of s) ≡ Some first =
-    ap (λ (dues : List (Option Tick)). first_from 0 dues) (dues_split s)
-    ∙ first_of_append 0 events (processor_due s Nine ∷ processor_due s Seven ∷ [])
-    ∙ ap (λ (d : Option Due). earlier (first_from 0 events) (earlier nine d)) (alone (due_with_rank 23 (processor_due s Seven))) ∙ sym h in
-    first_is_least (dues_of s) first all
+first_found s first h = least_by_parts (dues_of s) (events_of s) (processor_due s Nine) (processor_due s Seven) first (dues_split s) h refl
 
 -- the display is always due
 pub somebody_is : (s : MachineState) → due_at (dues_of s) 1 ≡ Some (scan_due_tick s.io.video.scan)

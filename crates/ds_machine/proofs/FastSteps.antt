@@ -9,7 +9,8 @@ use Rattle.ds_base.specs.declared.ticks.Due.{Due}
 use Rattle.ds_base.specs.declared.ticks.Tick.{Tick}
 use Rattle.arm_core.specs.declared.outcomes.Stepped.TheVariants.{Cost}
 use Rattle.ds_ipc.specs.Ipcs.{other_proc}
-use Rattle.ds_ports.specs.Dues.{IsIo, io_dues}
+use Rattle.ds_ports.specs.Acting.{acting_io_dues}
+use Rattle.ds_ports.specs.Dues.{IsIo}
 use Rattle.ds_ports.specs.Io.{IoState, io_of, is_held, is_settled}
 use Rattle.ds_ports.proofs.Settles.{settled_stays}
 use Rattle.ds_runs.specs.Order.{first_from}
@@ -17,27 +18,29 @@ use Rattle.ds_runs.specs.Runs.{IsLeast, IsOver, Makes, MachineStep, due_at}
 use Rattle.ds_runs.specs.declared.actors.Actor.TheVariants.{Processor}
 use Rattle.ds_runs.proofs.Firsts.{first_is_least}
 use Rattle.ds_timers.specs.Irqs.{line_is_up, shares_bit}
-use Rattle.ds_machine.specs.NextEvents.{IsNextEvent, events_of, least_kept, least_of, due_at_least}
+use Rattle.ds_machine.specs.Acting.{acting_dues}
+use Rattle.ds_machine.specs.NextEvents.{IsNextEvent, acting_events_of, least_kept, least_of, due_at_least}
 use Rattle.ds_machine.specs.Private.{rank_of}
-use Rattle.ds_machine.specs.Reference.{AreAsleep, Shown, awake, due_unless, dues_of, keys_due, processor_due, step_by, stepped_of}
+use Rattle.ds_machine.specs.Reference.{AreAsleep, Shown, awake, due_unless, keys_due, processor_due, step_by, stepped_of}
 use Rattle.ds_machine.specs.States.{MachineState, ProcessorState}
 use Rattle.ds_machine.specs.Steps.{ended, machine_concluded, goes_on, is_blocked, line_of, outcome_of, processor_of, tick_of, wakes, went_on, with_io, with_processor, woken, woken_one}
 use Rattle.ds_machine.specs.declared.answers.Done.TheVariants as answers
 use Rattle.ds_machine.specs.declared.next_events.NextEvent.{NextEvent}
-use Rattle.ds_machine.proofs.DueTicks.{due_of_rank, due_then, dues_split, low_rank, sort_rank, tick_is}
+use Rattle.ds_machine.proofs.ActingDues.{acting_low, acting_processor, acting_split}
+use Rattle.ds_machine.proofs.DueTicks.{due_then, sort_rank, tick_is}
 use Rattle.ds_machine.proofs.ProcessorSteps.{step_concluded}
 use Rattle.ds_machine.proofs.Quiet.{not_halted}
 use Rattle.ds_machine.proofs.Wakes.{Beside, put_beside}
 
--- A processor that is due before every other actor.
+-- A processor that is due before every other actor that acts.
 
--- no event is due before the first
-pub events_over : (s : MachineState) (first : Due) → Some first ≡ first_from 0 (events_of s) → IsOver (events_of s) first.tick.0
-events_over s first h = λ rank tick due. (let l = (first_is_least (events_of s) first (sym h)).least rank tick due in omega (arith, l))
+-- no event acts before the first
+pub events_over : (s : MachineState) (first : Due) → Some first ≡ first_from 0 (acting_events_of s) → IsOver (acting_events_of s) first.tick.0
+events_over s first h = λ rank tick due. (let l = (first_is_least (acting_events_of s) first (sym h)).least rank tick due in omega (arith, l))
 
 -- and one is at its tick
-pub event_first : (s : MachineState) (first : Due) → Some first ≡ first_from 0 (events_of s) → (rank : ℕ) × (due_at (events_of s) rank ≡ Some first.tick)
-event_first s first h = (first.rank, (first_is_least (events_of s) first (sym h)).there)
+pub event_first : (s : MachineState) (first : Due) → Some first ≡ first_from 0 (acting_events_of s) → (rank : ℕ) × (due_at (acting_events_of s) rank ≡ Some first.tick)
+event_first s first h = (first.rank, (first_is_least (acting_events_of s) first (sym h)).there)
 
 -- an entry in the former of two lists
 pub in_front : (xs ys : List (Option Tick)) (rank : ℕ) → rank < length xs → due_at (xs ++ ys) rank ≡ due_at xs rank
@@ -45,26 +48,26 @@ in_front [] ys rank lt = absurd (omega (arith, lt))
 in_front (x ∷ xs) ys zero lt = refl
 in_front (x ∷ xs) ys (suc rank) lt = in_front xs ys rank (omega (arith, lt))
 
-pub event_there : (s : MachineState) (rank : ℕ) (at : Tick) → rank < 22 → due_at (dues_of s) rank ≡ Some at → due_at (events_of s) rank ≡ Some at
+pub event_there : (s : MachineState) (rank : ℕ) (at : Tick) → rank < 22 → due_at (acting_dues s) rank ≡ Some at → due_at (acting_events_of s) rank ≡ Some at
 event_there s rank at lt h =
     let back = processor_due s Nine ∷ processor_due s Seven ∷ [] in
-    sym (in_front (events_of s) back rank lt) ∙ ap (λ (dues : List (Option Tick)). due_at dues rank) (sym (dues_split s)) ∙ h
+    sym (in_front (acting_events_of s) back rank lt) ∙ ap (λ (dues : List (Option Tick)). due_at dues rank) (sym (acting_split s)) ∙ h
 
-nine_there : (s : MachineState) (rank : ℕ) (at : Tick) → rank ≡ 22 → due_at (dues_of s) rank ≡ Some at → processor_due s Nine ≡ Some at
-nine_there s rank at e h = sym (due_of_rank s 22 (omega arith)) ∙ subst (λ (r : ℕ). due_at (dues_of s) r ≡ Some at) e h
+nine_there : (s : MachineState) (rank : ℕ) (at : Tick) → rank ≡ 22 → due_at (acting_dues s) rank ≡ Some at → processor_due s Nine ≡ Some at
+nine_there s rank at e h = sym (acting_processor s Nine) ∙ subst (λ (r : ℕ). due_at (acting_dues s) r ≡ Some at) e h
 
-seven_there : (s : MachineState) (rank : ℕ) (at : Tick) → rank ≡ 23 → due_at (dues_of s) rank ≡ Some at → processor_due s Seven ≡ Some at
-seven_there s rank at e h = sym (due_of_rank s 23 (omega arith)) ∙ subst (λ (r : ℕ). due_at (dues_of s) r ≡ Some at) e h
+seven_there : (s : MachineState) (rank : ℕ) (at : Tick) → rank ≡ 23 → due_at (acting_dues s) rank ≡ Some at → processor_due s Seven ≡ Some at
+seven_there s rank at e h = sym (acting_processor s Seven) ∙ subst (λ (r : ℕ). due_at (acting_dues s) r ≡ Some at) e h
 
 lt_or_same : (x y : ℕ) → x ≤ y → (x < y) ⊎ (x ≡ y)
 lt_or_same x y h = grind (arith, h)
 
--- ARM9 is the least, where no event is due at its tick or before it, and ARM7 isn't due before it
-nine_least : (s : MachineState) (until : ℕ) (tick : Tick) → IsOver (events_of s) until → tick.0 < until → processor_due s Nine ≡ Some tick
-    → ((at : Tick) → processor_due s Seven ≡ Some at → tick.0 ≤ at.0) → IsLeast (dues_of s) tick 22
-nine_least s until tick over lt there after = record { there = due_of_rank s 22 (omega arith) ∙ there; least = go } where
-  go : (other : ℕ) (at : Tick) → due_at (dues_of s) other ≡ Some at → (tick.0 < at.0) ⊎ ((tick.0 ≡ at.0) × (22 ≤ other))
-  go other at h = elim (sort_rank other (low_rank s other at h)) [
+-- ARM9 is the least, where no event acts at its tick or before it, and ARM7 isn't due before it
+nine_least : (s : MachineState) (until : ℕ) (tick : Tick) → IsOver (acting_events_of s) until → tick.0 < until → processor_due s Nine ≡ Some tick
+    → ((at : Tick) → processor_due s Seven ≡ Some at → tick.0 ≤ at.0) → IsLeast (acting_dues s) tick 22
+nine_least s until tick over lt there after = record { there = acting_processor s Nine ∙ there; least = go } where
+  go : (other : ℕ) (at : Tick) → due_at (acting_dues s) other ≡ Some at → (tick.0 < at.0) ⊎ ((tick.0 ≡ at.0) × (22 ≤ other))
+  go other at h = elim (sort_rank other (acting_low s other at h)) [
     | inl event ↦ inl (let k = over other at (event_there s other at event h) in omega (arith, k, lt))
     | inr rest ↦ elim rest [
       | inl e ↦ inr (ap (λ (x : Tick). x.0) (same_Some tick at (sym there ∙ nine_there s other at e h)), omega (arith, e))
@@ -73,11 +76,11 @@ nine_least s until tick over lt there after = record { there = due_of_rank s 22 
   ]
 
 -- and ARM7, where ARM9 is due after it
-seven_least : (s : MachineState) (until : ℕ) (tick : Tick) → IsOver (events_of s) until → tick.0 < until → processor_due s Seven ≡ Some tick
-    → ((at : Tick) → processor_due s Nine ≡ Some at → tick.0 < at.0) → IsLeast (dues_of s) tick 23
-seven_least s until tick over lt there after = record { there = due_of_rank s 23 (omega arith) ∙ there; least = go } where
-  go : (other : ℕ) (at : Tick) → due_at (dues_of s) other ≡ Some at → (tick.0 < at.0) ⊎ ((tick.0 ≡ at.0) × (23 ≤ other))
-  go other at h = elim (sort_rank other (low_rank s other at h)) [
+seven_least : (s : MachineState) (until : ℕ) (tick : Tick) → IsOver (acting_events_of s) until → tick.0 < until → processor_due s Seven ≡ Some tick
+    → ((at : Tick) → processor_due s Nine ≡ Some at → tick.0 < at.0) → IsLeast (acting_dues s) tick 23
+seven_least s until tick over lt there after = record { there = acting_processor s Seven ∙ there; least = go } where
+  go : (other : ℕ) (at : Tick) → due_at (acting_dues s) other ≡ Some at → (tick.0 < at.0) ⊎ ((tick.0 ≡ at.0) × (23 ≤ other))
+  go other at h = elim (sort_rank other (acting_low s other at h)) [
     | inl event ↦ inl (let k = over other at (event_there s other at event h) in omega (arith, k, lt))
     | inr rest ↦ elim rest [
       | inl e ↦ inl (after at (nine_there s other at e h))
@@ -110,8 +113,8 @@ abbrev pub ComesBefore : Proc → ℕ → ℕ → Type 0
 ComesBefore Nine n other = n ≤ other
 ComesBefore Seven n other = n < other
 
-pub processor_least : (proc : Proc) (s : MachineState) (until : ℕ) (tick : Tick) → IsOver (events_of s) until → tick.0 < until → processor_due s proc ≡ Some tick
-    → ((at : Tick) → processor_due s (other_proc proc) ≡ Some at → ComesBefore proc tick.0 at.0) → IsLeast (dues_of s) tick (rank_of proc)
+pub processor_least : (proc : Proc) (s : MachineState) (until : ℕ) (tick : Tick) → IsOver (acting_events_of s) until → tick.0 < until → processor_due s proc ≡ Some tick
+    → ((at : Tick) → processor_due s (other_proc proc) ≡ Some at → ComesBefore proc tick.0 at.0) → IsLeast (acting_dues s) tick (rank_of proc)
 processor_least Nine s until tick over lt there after = nine_least s until tick over lt there after
 processor_least Seven s until tick over lt there after = seven_least s until tick over lt there after
 
@@ -123,13 +126,13 @@ kept_is next_event s is Seven = is.seven_least
 
 pub kept_stays : (next_event : NextEvent) (s next : MachineState) → IsNextEvent next_event s → Beside s next → IsNextEvent next_event next
 kept_stays next_event s next is b = record {
-  events = subst (λ (u : IoState). IsOver (keys_due next.keys ∷ io_dues u) next_event.events_until.0) (sym b.io)
-      (subst (λ (lines : List KeyLine). IsOver (keys_due lines ∷ io_dues s.io) next_event.events_until.0) (sym b.keys) is.events);
+  events = subst (λ (u : IoState). IsOver (keys_due next.keys ∷ acting_io_dues u) next_event.events_until.0) (sym b.io)
+      (subst (λ (lines : List KeyLine). IsOver (keys_due lines ∷ acting_io_dues s.io) next_event.events_until.0) (sym b.keys) is.events);
   first = λ some.
       (let k = is.first some in (
         k.0,
-        subst (λ (u : IoState). due_at (keys_due next.keys ∷ io_dues u) k.0 ≡ Some next_event.events_until) (sym b.io)
-            (subst (λ (lines : List KeyLine). due_at (keys_due lines ∷ io_dues s.io) k.0 ≡ Some next_event.events_until) (sym b.keys) k.1),
+        subst (λ (u : IoState). due_at (keys_due next.keys ∷ acting_io_dues u) k.0 ≡ Some next_event.events_until) (sym b.io)
+            (subst (λ (lines : List KeyLine). due_at (keys_due lines ∷ acting_io_dues s.io) k.0 ≡ Some next_event.events_until) (sym b.keys) k.1),
       ));
   asleep = λ some proc. wakes_so proc (is.asleep some proc);
   settled = λ some. ap is_settled b.io ∙ is.settled some;
@@ -149,7 +152,7 @@ kept_stays next_event s next is b = record {
 
 -- ---- a step at once that costs and no more: nothing settles, and nobody wakes at it
 
-asleep_stays : (tick : Tick) (s : MachineState) → AreAsleep s → woken tick s ≡ s
+pub asleep_stays : (tick : Tick) (s : MachineState) → AreAsleep s → woken tick s ≡ s
 asleep_stays tick s asleep = ap (λ (m : MachineState). woken_one Seven tick m) (one Nine (wakes s Nine) (asleep Nine)) ∙ one Seven (wakes s Seven) (asleep Seven) where
   one : (proc : Proc) (b : Bool) → b ≡ false → (if b then goes_on proc tick s else s) ≡ s
   one proc true e = absurd (true≢false e)

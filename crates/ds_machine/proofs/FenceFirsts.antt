@@ -1,10 +1,10 @@
-use Rattle.std.proofs.Common.{ℕ, ◌≡◌, ◌<◌, ◌≤◌, ◌⊎◌, inl, inr, List, [], ◌∷◌, ◌++◌, length, Option, Some, None, refl, sym, ◌∙◌, ap, subst, arith}
+use Rattle.std.proofs.Common.{ℕ, ◌≡◌, ◌<◌, ◌≤◌, [], ◌∷◌, ◌++◌, length, Option, Some, None, refl, sym, ◌∙◌, ap, subst, arith}
 use Rattle.std.proofs.lemmas.Option.{none-some, same_Some}
 use Rattle.ds_base.specs.declared.processors.Proc.{Proc}
 use Rattle.ds_base.specs.declared.processors.Proc.TheVariants.{Nine, Seven}
 use Rattle.ds_base.specs.declared.ticks.Due.{Due}
 use Rattle.ds_base.specs.declared.ticks.Tick.{Tick}
-use Rattle.ds_ports.specs.Dues.{io_due}
+use Rattle.ds_ports.specs.Acting.{acting_io_due}
 use Rattle.ds_runs.specs.Actors.{actor_of}
 use Rattle.ds_runs.specs.Order.{due_with_rank, earlier, first_from}
 use Rattle.ds_runs.specs.Runs.{IsLeast, due_at}
@@ -12,33 +12,31 @@ use Rattle.ds_runs.specs.declared.actors.Actor as actor
 use Rattle.ds_runs.specs.declared.actors.Actor.TheVariants.{KeyScript, Video, Timer, Divider, SquareRoot, Geometry, Card, Dma, Processor}
 use Rattle.ds_runs.proofs.ActorTable.{due_of_actor}
 use Rattle.ds_runs.proofs.Firsts.{first_is_least, first_of_append}
-use Rattle.ds_runs.proofs.Lists.{within}
+use Rattle.ds_runs.proofs.Lists.{least_unique, within}
 use Rattle.video2d.specs.Scans.{scan_due_tick}
+use Rattle.ds_machine.specs.Acting.{acting_due, acting_dues}
 use Rattle.ds_machine.specs.FenceTicks.{channel_dues, fence_due, fence_dues, timer_dues}
 use Rattle.ds_machine.specs.Private.{IsAhead, IsBelowFence, IsFence, IsPrivate, rank_of}
-use Rattle.ds_machine.specs.Reference.{Fences, due_by, dues_of, keys_due, processor_due}
+use Rattle.ds_machine.specs.Reference.{Fences, keys_due, processor_due}
 use Rattle.ds_machine.specs.States.{MachineState}
-use Rattle.ds_machine.proofs.DueTicks.{due_of_rank, low_rank, own_tick}
+use Rattle.ds_machine.proofs.ActingDues.{acting_low, acting_of_rank, acting_processor}
+use Rattle.ds_machine.proofs.DueTicks.{alone, own_tick}
 
 -- The first of those that may halt a processor, wake it or make it wait.
 
 -- ---- by parts
 
-alone : (d : Option Due) → earlier d None ≡ d
-alone None = refl
-alone (Some one) = refl
-
 pub nine_by_parts : (s : MachineState) → first_from 0 (fence_dues s Nine)
     ≡ earlier (due_with_rank 0 (keys_due s.keys)) (earlier (due_with_rank 1 (Some (scan_due_tick s.io.video.scan)))
-    (earlier (first_from 2 (timer_dues s.io Nine)) (earlier (due_with_rank 12 (io_due Geometry s.io)) (first_from 14 (channel_dues s.io Nine)))))
+    (earlier (first_from 2 (timer_dues s.io Nine)) (earlier (due_with_rank 12 (acting_io_due Geometry s.io)) (first_from 14 (channel_dues s.io Nine)))))
 unfolding fence_dues
 nine_by_parts s =
     let timers = timer_dues s.io Nine in
     let channels = channel_dues s.io Nine in
     let rest = None ∷ None ∷ None ∷ None ∷ None ∷ None ∷ [] in
     let front : Option Due → Option Due = λ d. earlier (due_with_rank 0 (keys_due s.keys)) (earlier (due_with_rank 1 (Some (scan_due_tick s.io.video.scan))) d) in
-    ap front (first_of_append 2 timers (None ∷ None ∷ None ∷ None ∷ None ∷ None ∷ io_due Geometry s.io ∷ None ∷ channels ++ rest)
-    ∙ ap (λ (d : Option Due). earlier (first_from 2 timers) (earlier (due_with_rank 12 (io_due Geometry s.io)) d))
+    ap front (first_of_append 2 timers (None ∷ None ∷ None ∷ None ∷ None ∷ None ∷ acting_io_due Geometry s.io ∷ None ∷ channels ++ rest)
+    ∙ ap (λ (d : Option Due). earlier (first_from 2 timers) (earlier (due_with_rank 12 (acting_io_due Geometry s.io)) d))
     (first_of_append 14 channels rest ∙ alone (first_from 14 channels)))
 
 pub seven_by_parts : (s : MachineState) → first_from 0 (fence_dues s Seven)
@@ -54,7 +52,7 @@ seven_by_parts s =
 
 -- ---- it is the fence
 
-fences_there : (s : MachineState) (proc : Proc) (a : actor.Actor) (at : Tick) → fence_due s proc a ≡ Some at → (due_by a s ≡ Some at) × Fences a proc
+fences_there : (s : MachineState) (proc : Proc) (a : actor.Actor) (at : Tick) → fence_due s proc a ≡ Some at → (acting_due a s ≡ Some at) × Fences a proc
 fences_there s proc KeyScript at h = (h, tt)
 fences_there s proc Video at h = (h, tt)
 fences_there s Nine (Timer Nine number) at h = (h, refl)
@@ -72,15 +70,15 @@ fences_there s Nine (Dma Seven channel) at h = absurd (none-some at h)
 fences_there s Seven (Dma Seven channel) at h = (h, refl)
 fences_there s proc (Processor each) at h = absurd (none-some at h)
 
-timer_own : (s : MachineState) (proc each : Proc) (number : ℕ) (at : Tick) → each ≡ proc → due_by (Timer each number) s ≡ Some at → fence_due s proc (Timer each number) ≡ Some at
-timer_own s Nine each number at e h = subst (λ (p : Proc). fence_due s Nine (Timer p number) ≡ Some at) (sym e) (subst (λ (p : Proc). due_by (Timer p number) s ≡ Some at) e h)
-timer_own s Seven each number at e h = subst (λ (p : Proc). fence_due s Seven (Timer p number) ≡ Some at) (sym e) (subst (λ (p : Proc). due_by (Timer p number) s ≡ Some at) e h)
+timer_own : (s : MachineState) (proc each : Proc) (number : ℕ) (at : Tick) → each ≡ proc → acting_due (Timer each number) s ≡ Some at → fence_due s proc (Timer each number) ≡ Some at
+timer_own s Nine each number at e h = subst (λ (p : Proc). fence_due s Nine (Timer p number) ≡ Some at) (sym e) (subst (λ (p : Proc). acting_due (Timer p number) s ≡ Some at) e h)
+timer_own s Seven each number at e h = subst (λ (p : Proc). fence_due s Seven (Timer p number) ≡ Some at) (sym e) (subst (λ (p : Proc). acting_due (Timer p number) s ≡ Some at) e h)
 
-channel_own : (s : MachineState) (proc each : Proc) (channel : ℕ) (at : Tick) → each ≡ proc → due_by (Dma each channel) s ≡ Some at → fence_due s proc (Dma each channel) ≡ Some at
-channel_own s Nine each channel at e h = subst (λ (p : Proc). fence_due s Nine (Dma p channel) ≡ Some at) (sym e) (subst (λ (p : Proc). due_by (Dma p channel) s ≡ Some at) e h)
-channel_own s Seven each channel at e h = subst (λ (p : Proc). fence_due s Seven (Dma p channel) ≡ Some at) (sym e) (subst (λ (p : Proc). due_by (Dma p channel) s ≡ Some at) e h)
+channel_own : (s : MachineState) (proc each : Proc) (channel : ℕ) (at : Tick) → each ≡ proc → acting_due (Dma each channel) s ≡ Some at → fence_due s proc (Dma each channel) ≡ Some at
+channel_own s Nine each channel at e h = subst (λ (p : Proc). fence_due s Nine (Dma p channel) ≡ Some at) (sym e) (subst (λ (p : Proc). acting_due (Dma p channel) s ≡ Some at) e h)
+channel_own s Seven each channel at e h = subst (λ (p : Proc). fence_due s Seven (Dma p channel) ≡ Some at) (sym e) (subst (λ (p : Proc). acting_due (Dma p channel) s ≡ Some at) e h)
 
-there_fences : (s : MachineState) (proc : Proc) (a : actor.Actor) (at : Tick) → due_by a s ≡ Some at → Fences a proc → fence_due s proc a ≡ Some at
+there_fences : (s : MachineState) (proc : Proc) (a : actor.Actor) (at : Tick) → acting_due a s ≡ Some at → Fences a proc → fence_due s proc a ≡ Some at
 there_fences s proc KeyScript at h f = h
 there_fences s proc Video at h f = h
 there_fences s proc (Timer each number) at h f = timer_own s proc each number at f h
@@ -106,11 +104,11 @@ fence_is s proc first h =
     let all = long s proc in
     let lt : first.rank < 24 = omega (arith, low, all) in
     let k = fences_there s proc (actor_of first.rank) first.tick (sym (by_actor s proc first.rank lt) ∙ l.there) in
-    record { rank = first.rank; there = due_of_rank s first.rank lt ∙ k.0; fences = k.1; least = least } where
-      least : (other : ℕ) (at : Tick) → due_at (dues_of s) other ≡ Some at → Fences (actor_of other) proc → first.tick.0 ≤ at.0
+    record { rank = first.rank; there = acting_of_rank s first.rank lt ∙ k.0; fences = k.1; least = least } where
+      least : (other : ℕ) (at : Tick) → due_at (acting_dues s) other ≡ Some at → Fences (actor_of other) proc → first.tick.0 ≤ at.0
       least other at there f =
-          let lt = low_rank s other at there in
-          let due = sym (due_of_rank s other lt) ∙ there in
+          let lt = acting_low s other at there in
+          let due = sym (acting_of_rank s other lt) ∙ there in
           let before = (first_is_least (fence_dues s proc) first (sym h)).least other at (by_actor s proc other lt ∙ there_fences s proc (actor_of other) at due f) in
           omega (arith, before)
 
@@ -121,30 +119,18 @@ below_is s proc fence tick is lt rank at there f = let l = is.least rank at ther
 pub below_then : (s : MachineState) (proc : Proc) (fence tick : Tick) → IsFence s proc fence → IsBelowFence s proc tick → tick.0 < fence.0
 below_then s proc fence tick is below = below is.rank fence is.there is.fences
 
--- ---- a processor's step is the least, or is ahead
+-- ---- a processor's step is the least acting one, or is ahead
 
-rank_at : (s : MachineState) (proc : Proc) → due_at (dues_of s) (rank_of proc) ≡ processor_due s proc
-rank_at s Nine = due_of_rank s 22 (omega arith)
-rank_at s Seven = due_of_rank s 23 (omega arith)
-
-one_least : (dues : List (Option Tick)) (t u : Tick) (q r : ℕ) → IsLeast dues t q → IsLeast dues u r → q ≡ r
-one_least dues t u q r l k = between (l.least r u k.there) (k.least q t l.there) where
-  between : (t.0 < u.0) ⊎ ((t.0 ≡ u.0) × (q ≤ r)) → (u.0 < t.0) ⊎ ((u.0 ≡ t.0) × (r ≤ q)) → q ≡ r
-  between (inl a) (inl b) = absurd (omega (arith, a, b))
-  between (inl a) (inr b) = (let e = b.0 in absurd (omega (arith, a, e)))
-  between (inr a) (inl b) = (let e = a.0 in absurd (omega (arith, e, b)))
-  between (inr a) (inr b) = (let x = a.1 in let y = b.1 in omega (arith, x, y))
-
-pub least_where : (s : MachineState) (proc : Proc) (first : Due) (tick : Tick) → IsLeast (dues_of s) first.tick first.rank → processor_due s proc ≡ Some tick
-    → first.rank ≡ rank_of proc → IsLeast (dues_of s) tick (rank_of proc)
+pub least_where : (s : MachineState) (proc : Proc) (first : Due) (tick : Tick) → IsLeast (acting_dues s) first.tick first.rank → processor_due s proc ≡ Some tick
+    → first.rank ≡ rank_of proc → IsLeast (acting_dues s) tick (rank_of proc)
 least_where s proc first tick l due e =
-    let there = subst (λ (r : ℕ). due_at (dues_of s) r ≡ Some first.tick) e l.there in
-    let same : first.tick ≡ tick = same_Some first.tick tick (sym there ∙ rank_at s proc ∙ due) in
-    subst (λ (t : Tick). IsLeast (dues_of s) t (rank_of proc)) same (subst (λ (r : ℕ). IsLeast (dues_of s) first.tick r) e l)
+    let there = subst (λ (r : ℕ). due_at (acting_dues s) r ≡ Some first.tick) e l.there in
+    let same : first.tick ≡ tick = same_Some first.tick tick (sym there ∙ acting_processor s proc ∙ due) in
+    subst (λ (t : Tick). IsLeast (acting_dues s) t (rank_of proc)) same (subst (λ (r : ℕ). IsLeast (acting_dues s) first.tick r) e l)
 
-pub rank_where : (s : MachineState) (proc : Proc) (first : Due) (tick : Tick) → IsLeast (dues_of s) first.tick first.rank → IsLeast (dues_of s) tick (rank_of proc)
+pub rank_where : (s : MachineState) (proc : Proc) (first : Due) (tick : Tick) → IsLeast (acting_dues s) first.tick first.rank → IsLeast (acting_dues s) tick (rank_of proc)
     → first.rank ≡ rank_of proc
-rank_where s proc first tick l k = one_least (dues_of s) first.tick tick first.rank (rank_of proc) l k
+rank_where s proc first tick l k = (least_unique (acting_dues s) first.tick first.rank tick (rank_of proc) l k).1
 
 pub ahead_where : (s : MachineState) (proc : Proc) (fence tick : Tick) → IsFence s proc fence → processor_due s proc ≡ Some tick → tick.0 < fence.0 → IsPrivate s proc → IsAhead s proc
 ahead_where s proc fence tick is due lt private =

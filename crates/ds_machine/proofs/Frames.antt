@@ -18,17 +18,17 @@ use Rattle.gx_geometry.specs.States.{Swapped, geometry_after, swapped}
 use Rattle.gx_matrix.specs.declared.commands.GeometryCommand.{GeometryCommand}
 use Rattle.ds_ports.proofs.Events.{done_video, happened_scan, happened_whole, timer_leaves}
 use Rattle.ds_runs.specs.Actors.{actor_of}
-use Rattle.ds_runs.specs.Runs.{IsLeast, MachineStep, Makes, Stops}
+use Rattle.ds_runs.specs.Runs.{MachineStep, Makes, Stops}
 use Rattle.ds_runs.specs.declared.actors.Actor as actor
 use Rattle.ds_runs.specs.declared.actors.Actor.TheVariants.{KeyScript, Video, Timer, Divider, SquareRoot, Geometry, Card, Dma, Processor}
 use Rattle.ds_runs.proofs.RunLaws.{same_makes, not_both}
 use Rattle.ds_machine.specs.Channels.{channel_step, moved_by}
 use Rattle.ds_machine.specs.Frames.{FollowFrames, FollowLists, StepsFollowFrames, StepsFollowLists, StopsLeaveFrames, StopsLeaveLists, WholeFrame, frames_shown, framed_of, last_frame, last_lists, lists_shown}
-use Rattle.ds_machine.specs.Reference.{HasSoundParts, Shown, after_event, after_geometry, after_line, after_video, due_by, dues_of, reference_step, shown_at, step_by, swapped_if, video_step}
+use Rattle.ds_machine.specs.Reference.{Shown, after_event, after_geometry, after_line, after_video, due_by, reference_step, shown_at, step_by, swapped_if, video_step}
 use Rattle.ds_machine.specs.States.{MachineState}
 use Rattle.ds_machine.specs.Steps.{ended, gone_by, machine_concluded, map_of, with_map}
 use Rattle.ds_machine.proofs.ChannelEvents.{channel_made, channel_unchanged, read_unchanged, unit_lists, unit_video, unit_whole}
-use Rattle.ds_machine.proofs.MachineSchedule.{Steps, awake_stops, channel_timers, operation, step_made, steps_here}
+use Rattle.ds_machine.proofs.MachineSchedule.{Steps, awake_stops, channel_timers, operation, step_made_as, steps_here}
 use Rattle.ds_machine.proofs.ProcessorSteps.{Took, came_by, concluded_stops, concludes, costs_some, goes, reached_by, step_is}
 use Rattle.ds_machine.proofs.VideoEvents.{display_video, done_gx, ended_leaves, video_makes, video_stops}
 use Rattle.video2d.specs.Scans.{ScanState, framed_by, scan_after, scan_due, scan_due_tick, starts_vblank}
@@ -73,7 +73,7 @@ Follows old new outs = FollowFrames old new outs × FollowLists old new outs
 
 -- ---- what a step puts out
 
-abbrev outs_of : MachineStep MachineState Shown LeftOut → List Shown
+abbrev pub outs_of : MachineStep MachineState Shown LeftOut → List Shown
 outs_of (Makes next outs) = outs
 outs_of (Stops stop left) = []
 
@@ -81,12 +81,12 @@ moved_outs : (rank : ℕ) (proc : Proc) (now : Tick) (refusal : Option Stop) (s 
 moved_outs rank proc now None s = refl
 moved_outs rank proc now (Some stop) s = refl
 
-channel_outs : (rank : ℕ) (proc : Proc) (due : Option Tick) (s : MachineState) → outs_of (channel_step rank proc due s) ≡ []
+pub channel_outs : (rank : ℕ) (proc : Proc) (due : Option Tick) (s : MachineState) → outs_of (channel_step rank proc due s) ≡ []
 channel_outs rank proc None s = refl
 channel_outs rank proc (Some now) s =
     let unit = next_unit s.io proc in moved_outs rank proc now (unit_refusal proc now unit (map_of proc s)) (with_map proc s (unit_moved proc now unit (map_of proc s)))
 
-processor_outs : (rank : ℕ) (proc : Proc) (m : MachineState) (came : arm.Stepped) → outs_of (machine_concluded rank proc m came) ≡ []
+pub processor_outs : (rank : ℕ) (proc : Proc) (m : MachineState) (came : arm.Stepped) → outs_of (machine_concluded rank proc m came) ≡ []
 processor_outs rank proc m (Cost clocks) = refl
 processor_outs rank proc m (Halted clocks) = refl
 processor_outs rank proc m (Left stop) = refl
@@ -257,19 +257,21 @@ follows_by (Processor proc) rank tick s made outs st h =
 end_keeps : (tick : Tick) (s : MachineState) → KeepFrames s.io (ended tick s).io
 end_keeps tick s = let k = ended_leaves tick s in same_video s.io (ended tick s).io k.video (ap (λ (g : GxState). g.geometry.last) k.gx)
 
--- the frame that it puts out is its machine's last whole frame; where it puts out none that is as it was
-pub step_follows : StepsFollowFrames
-step_follows s next tick rank outs sound least h =
-    let k = step_made s next tick rank outs least h in
+-- the frame that it puts out is its machine's last whole frame; where it puts out none that is as it was; and so with the lists of the last swap
+pub follows_as : (s next : MachineState) (tick : Tick) (rank : ℕ) (outs : List Shown) → Steps (actor_of rank) rank tick s → reference_step rank s ≡ Makes next outs
+    → FollowFrames s next outs × FollowLists s next outs
+follows_as s next tick rank outs st h =
+    let k = step_made_as s next tick rank outs st h in
     let made = k.0 in
-    sym (ap last_frame k.2) ∙ kept_last made (ended tick made) (end_keeps tick made) ∙ (follows_by (actor_of rank) rank tick s made outs (steps_here s tick rank sound least) k.1).0
+    let follows = follows_by (actor_of rank) rank tick s made outs st k.1 in
+    let kept = end_keeps tick made in
+    (sym (ap last_frame k.2) ∙ kept_last made (ended tick made) kept ∙ follows.0, sym (ap last_lists k.2) ∙ kept_lists made (ended tick made) kept ∙ follows.1)
 
--- and so with the lists of the last swap
+pub step_follows : StepsFollowFrames
+step_follows s next tick rank outs sound least h = (follows_as s next tick rank outs (steps_here s tick rank sound least) h).0
+
 pub step_follows_lists : StepsFollowLists
-step_follows_lists s next tick rank outs sound least h =
-    let k = step_made s next tick rank outs least h in
-    let made = k.0 in
-    sym (ap last_lists k.2) ∙ kept_lists made (ended tick made) (end_keeps tick made) ∙ (follows_by (actor_of rank) rank tick s made outs (steps_here s tick rank sound least) k.1).1
+step_follows_lists s next tick rank outs sound least h = (follows_as s next tick rank outs (steps_here s tick rank sound least) h).1
 
 -- a step that stops leaves it
 leaves_by : (a : actor.Actor) (rank : ℕ) (tick : Tick) (s left : MachineState) (stop : LeftOut) → Steps a rank tick s → step_by rank a s ≡ Stops stop left → KeepFrames s.io left.io
@@ -289,13 +291,14 @@ leaves_by (Processor proc) rank tick s left stop st h =
 leaves_by Geometry rank tick s left stop st h = absurd (not_both (after_geometry s) left [] stop h)
 leaves_by a rank tick s left stop st h = absurd (not_both (after_event a s) left [] stop h)
 
-stop_keeps : (s left : MachineState) (tick : Tick) (rank : ℕ) (stop : LeftOut) → HasSoundParts s → IsLeast (dues_of s) tick rank → reference_step rank s ≡ Stops stop left
-    → KeepFrames s.io left.io
-stop_keeps s left tick rank stop sound least h =
-    leaves_by (actor_of rank) rank tick s left stop (steps_here s tick rank sound least) (awake_stops (due_by (actor_of rank) s) (step_by rank (actor_of rank) s) left stop h)
+pub stop_keeps_as : (s left : MachineState) (tick : Tick) (rank : ℕ) (stop : LeftOut) → Steps (actor_of rank) rank tick s → reference_step rank s ≡ Stops stop left
+    → (last_frame left ≡ last_frame s) × (last_lists left ≡ last_lists s)
+stop_keeps_as s left tick rank stop st h =
+    let k = leaves_by (actor_of rank) rank tick s left stop st (awake_stops (due_by (actor_of rank) s) (step_by rank (actor_of rank) s) left stop h) in
+    (kept_last s left k, kept_lists s left k)
 
 pub stop_leaves : StopsLeaveFrames
-stop_leaves s left tick rank stop sound least h = kept_last s left (stop_keeps s left tick rank stop sound least h)
+stop_leaves s left tick rank stop sound least h = (stop_keeps_as s left tick rank stop (steps_here s tick rank sound least) h).0
 
 pub stop_leaves_lists : StopsLeaveLists
-stop_leaves_lists s left tick rank stop sound least h = kept_lists s left (stop_keeps s left tick rank stop sound least h)
+stop_leaves_lists s left tick rank stop sound least h = (stop_keeps_as s left tick rank stop (steps_here s tick rank sound least) h).1

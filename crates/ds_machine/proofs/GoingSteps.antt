@@ -1,6 +1,6 @@
 use Rattle.std.proofs.Common.{ℕ, ◌≡◌, ◌<◌, ◌≤◌, ◌^◌, ◌⊎◌, inl, inr, if◌then◌else◌, min, nat_le, nat_lt, Bool, true, false, true≢false, List, [], ◌∷◌, Option, Some, refl, sym, ◌∙◌, ap, subst, arith}
-use Rattle.std.specs.Prelude.{◌&&◌}
 use Rattle.std.proofs.lemmas.Option.{same_Some}
+use Rattle.std.proofs.lemmas.Bool.{and_cases, and_from, and_left, and_parts, and_right}
 use Rattle.ds_base.specs.declared.processors.Proc.{Proc}
 use Rattle.ds_base.specs.declared.processors.Proc.TheVariants.{Nine, Seven}
 use Rattle.ds_base.specs.declared.ticks.Tick.{Tick}
@@ -10,11 +10,17 @@ use Rattle.arm_core.specs.Registers.{RegisterState, is_thumb}
 use Rattle.ds_ipc.specs.Ipcs.{other_proc}
 use Rattle.ds_runs.specs.Actors.{actor_of}
 use Rattle.ds_runs.specs.Runs.{IsLeast, Makes, due_at}
+use Rattle.ds_runs.specs.declared.actors.Actor as actor
 use Rattle.ds_runs.specs.declared.actors.Actor.TheVariants.{Processor}
 use Rattle.ds_runs.proofs.Lists.{within}
-use Rattle.ds_machine.specs.NextEvents.{HasLimit, IsNextEvent, TookStep, comes_before, due_at_least, events_of, is_least_by, least_kept, least_of, limit_by, line_kept, past_other, waits_until}
-use Rattle.ds_machine.specs.Private.{BelongsToTurn, IsAhead, IsBelowFence, ProcessorStaysPrivate, TakesSteps, more, none, rank_of}
-use Rattle.ds_machine.specs.Reference.{Fences, HasCounted, HasSoundParts, IsSound, awake, dues_of, processor_due, step_by, stepped_of}
+use Rattle.ds_machine.specs.Acting.{acting_dues}
+use Rattle.ds_machine.specs.Lagging as geometry
+use Rattle.ds_machine.specs.Lagging.{CatchesUpFor, CatchesUpIf, TakesGeometry, observes_by}
+use Rattle.ds_machine.specs.NextEvents.{HasLimit, IsNextEvent, TookStep, acting_events_of, comes_before, due_at_least, is_least_by, least_kept, least_of, limit_by, line_kept, past_other, waits_until}
+use Rattle.ds_machine.specs.Private.{IsAhead, IsBelowFence, ProcessorStaysPrivate, rank_of}
+use Rattle.ds_machine.specs.TurnSteps.{BelongsToTurn, MayStep, TakesSteps, more, none}
+use Rattle.ds_machine.specs.Reference.{Fences, HasSoundParts, IsSound, awake, geometry_rank, processor_due, step_by, stepped_of}
+use Rattle.ds_machine.specs.Counting.{HasCounted}
 use Rattle.ds_machine.specs.States.{MachineState, ProcessorState}
 use Rattle.ds_machine.specs.Statuses.{HasBothStatuses}
 use Rattle.ds_machine.specs.Sides.{nine_side, seven_side}
@@ -22,25 +28,20 @@ use Rattle.ds_machine.specs.Steps.{is_blocked, line_of, nine_reach, outcome_of, 
 use Rattle.ds_machine.specs.Touching.{DataStaysPrivate, FetchStaysPrivate, MayBeAhead, is_private_to}
 use Rattle.ds_machine.specs.declared.answers.Done.TheVariants as answers
 use Rattle.ds_machine.specs.declared.next_events.NextEvent.{NextEvent}
-use Rattle.ds_machine.proofs.DueTicks.{due_of_rank, dues_split, low_rank, own_tick, sort_rank, steps_as}
+use Rattle.ds_machine.proofs.ActingDues.{acting_low, acting_processor, acting_split}
+use Rattle.ds_machine.proofs.CountsMay.{counted_may}
+use Rattle.ds_machine.proofs.DueTicks.{own_tick, rank_there, sort_rank, steps_as}
 use Rattle.ds_machine.proofs.DecodedStays.{fetch_by_words}
 use Rattle.ds_machine.proofs.FastSteps.{ComesBefore, due_there, event_there, in_front, kept_is, processor_least, wait_ends, wait_is}
 use Rattle.ds_machine.proofs.OwnRemaining.{turn_steps_fall}
-use Rattle.ds_machine.proofs.PlacesByWords.{nine_by_words, seven_by_words}
+use Rattle.ds_machine.proofs.PlacesByWords.{le_cases, lt_cases, nine_by_words, seven_by_words}
 use Rattle.ds_machine.proofs.PrivatePlaces.{private_itself}
 use Rattle.ds_machine.proofs.PrivateTests.{fetch_of_stays}
 use Rattle.ds_machine.proofs.Statuses.{statuses_done}
-use Rattle.ds_machine.proofs.TurnSteps.{turn_keeps}
 
 -- The steps of a processor's turn, by what is kept.
 
 -- ---- tests of numbers
-
-lt_cases : (x y : ℕ) → ((x < y) × (nat_lt x y ≡ true)) ⊎ ((y ≤ x) × (nat_lt x y ≡ false))
-lt_cases x y = grind arith
-
-le_cases : (x y : ℕ) → ((x ≤ y) × (nat_le x y ≡ true)) ⊎ ((y < x) × (nat_le x y ≡ false))
-le_cases x y = grind arith
 
 lt_so : (x y : ℕ) → nat_lt x y ≡ true → x < y
 lt_so x y h = elim (lt_cases x y) [ inl k ↦ k.0 | inr k ↦ absurd (true≢false (sym h ∙ k.1)) ]
@@ -58,18 +59,6 @@ comes_so : (proc : Proc) (n other : ℕ) → comes_before proc n other ≡ true 
 comes_so Nine n other h = le_so n other h
 comes_so Seven n other h = lt_so n other h
 
-left_of : (a b : Bool) → (a && b) ≡ true → a ≡ true
-left_of true b h = refl
-left_of false b h = h
-
-right_of : (a b : Bool) → (a && b) ≡ true → b ≡ true
-right_of true b h = h
-right_of false b h = absurd (true≢false (sym h))
-
-one_false : (a b : Bool) → (a && b) ≡ false → (a ≡ false) ⊎ (b ≡ false)
-one_false true b h = inr h
-one_false false b h = inl refl
-
 -- ---- a processor that waits for a tick
 
 tick : ℕ → Tick
@@ -78,10 +67,6 @@ tick n = record { 0 = n }
 actor_is : (proc : Proc) → actor_of (rank_of proc) ≡ Processor proc
 actor_is Nine = refl
 actor_is Seven = refl
-
-rank_at : (s : MachineState) (proc : Proc) → due_at (dues_of s) (rank_of proc) ≡ processor_due s proc
-rank_at s Nine = due_of_rank s 22 (omega arith)
-rank_at s Seven = due_of_rank s 23 (omega arith)
 
 pub record IsDueAt (s : MachineState) (proc : Proc) (n : ℕ) : Type 0 where
   pub free : is_blocked s proc ≡ false
@@ -112,12 +97,12 @@ below_when next_event s proc until n is e b =
 -- ---- it is the least
 
 pub least_when : (next_event : NextEvent) (s : MachineState) (proc : Proc) (n : ℕ) → IsNextEvent next_event s → n ≡ waits_until next_event s proc → n < 2 ^ 56
-    → is_least_by next_event s proc ≡ true → IsLeast (dues_of s) (record { 0 = n }) (rank_of proc)
+    → is_least_by next_event s proc ≡ true → IsLeast (acting_dues s) (record { 0 = n }) (rank_of proc)
 least_when next_event s proc n is e lt h =
     let w = waits_until next_event s proc in
     let o = waits_until next_event s (other_proc proc) in
-    let first = lt_so w next_event.events_until.0 (left_of (nat_lt w next_event.events_until.0) (comes_before proc w o) h) in
-    let before = subst (λ (x : ℕ). ComesBefore proc x o) (sym e) (comes_so proc w o (right_of (nat_lt w next_event.events_until.0) (comes_before proc w o) h)) in
+    let first = lt_so w next_event.events_until.0 (and_parts (nat_lt w next_event.events_until.0) (comes_before proc w o) h).0 in
+    let before = subst (λ (x : ℕ). ComesBefore proc x o) (sym e) (comes_so proc w o (and_parts (nat_lt w next_event.events_until.0) (comes_before proc w o) h).1) in
     let d = due_when next_event s proc n is e lt in
     let after : (at : Tick) → processor_due s (other_proc proc) ≡ Some at → ComesBefore proc n at.0 = λ at there.
     subst (ComesBefore proc n) (wait_is (is_blocked s (other_proc proc)) (least_kept next_event (other_proc proc)) (processor_of s (other_proc proc)) at
@@ -126,11 +111,11 @@ least_when next_event s proc n is e lt h =
 
 -- ---- it isn't
 
-event_in : (s : MachineState) (rank : ℕ) (at : Tick) → due_at (events_of s) rank ≡ Some at → (rank < 22) × (due_at (dues_of s) rank ≡ Some at)
+event_in : (s : MachineState) (rank : ℕ) (at : Tick) → due_at (acting_events_of s) rank ≡ Some at → (rank < 22) × (due_at (acting_dues s) rank ≡ Some at)
 event_in s rank at h =
     let back = processor_due s Nine ∷ processor_due s Seven ∷ [] in
-    let lt = within (events_of s) rank at h in
-    (omega (arith, lt), ap (λ (dues : List (Option Tick)). due_at dues rank) (dues_split s) ∙ in_front (events_of s) back rank lt ∙ h)
+    let lt = within (acting_events_of s) rank at h in
+    (omega (arith, lt), ap (λ (dues : List (Option Tick)). due_at dues rank) (acting_split s) ∙ in_front (acting_events_of s) back rank lt ∙ h)
 
 above_events : (proc : Proc) → 22 ≤ rank_of proc
 above_events Nine = omega arith
@@ -138,7 +123,7 @@ above_events Seven = omega arith
 
 -- an event comes before it
 event_before : (next_event : NextEvent) (s : MachineState) (proc : Proc) (n : ℕ) → IsNextEvent next_event s → 0 < next_event.events_until.0 → next_event.events_until.0 ≤ n
-    → IsLeast (dues_of s) (record { 0 = n }) (rank_of proc) → ⊥
+    → IsLeast (acting_dues s) (record { 0 = n }) (rank_of proc) → ⊥
 event_before next_event s proc n is some le l =
     let k = is.first some in
     let at = event_in s k.0 next_event.events_until k.1 in
@@ -148,24 +133,24 @@ event_before next_event s proc n is some le l =
 
 -- the other processor does
 other_before : (proc : Proc) (s : MachineState) (n other : ℕ) → comes_before proc n other ≡ false → processor_due s (other_proc proc) ≡ Some (record { 0 = other })
-    → IsLeast (dues_of s) (record { 0 = n }) (rank_of proc) → ⊥
+    → IsLeast (acting_dues s) (record { 0 = n }) (rank_of proc) → ⊥
 other_before Nine s n other h there l =
     let lt = not_le n other h in
-    elim (l.least 23 (record { 0 = other }) (rank_at s Seven ∙ there)) [ inl a ↦ omega (arith, a, lt) | inr b ↦ (let e = b.0 in omega (arith, e, lt)) ]
+    elim (l.least 23 (record { 0 = other }) (acting_processor s Seven ∙ there)) [ inl a ↦ omega (arith, a, lt) | inr b ↦ (let e = b.0 in omega (arith, e, lt)) ]
 other_before Seven s n other h there l =
     let le = not_lt n other h in
-    elim (l.least 22 (record { 0 = other }) (rank_at s Nine ∙ there)) [ inl a ↦ omega (arith, a, le) | inr b ↦ (let r = b.1 in omega (arith, r)) ]
+    elim (l.least 22 (record { 0 = other }) (acting_processor s Nine ∙ there)) [ inl a ↦ omega (arith, a, le) | inr b ↦ (let r = b.1 in omega (arith, r)) ]
 
 low_other : (proc : Proc) (n other : ℕ) → comes_before proc n other ≡ false → other ≤ n
 low_other Nine n other h = let lt = not_le n other h in omega (arith, lt)
 low_other Seven n other h = not_lt n other h
 
 pub not_least_when : (next_event : NextEvent) (s : MachineState) (proc : Proc) (n : ℕ) → IsNextEvent next_event s → 0 < next_event.events_until.0 → n ≡ waits_until next_event s proc
-    → n < 2 ^ 56 → is_least_by next_event s proc ≡ false → IsLeast (dues_of s) (record { 0 = n }) (rank_of proc) → ⊥
+    → n < 2 ^ 56 → is_least_by next_event s proc ≡ false → IsLeast (acting_dues s) (record { 0 = n }) (rank_of proc) → ⊥
 not_least_when next_event s proc n is some e lt h l =
     let w = waits_until next_event s proc in
     let o = waits_until next_event s (other_proc proc) in
-    elim (one_false (nat_lt w next_event.events_until.0) (comes_before proc w o) h) [
+    elim (and_cases (nat_lt w next_event.events_until.0) (comes_before proc w o) h) [
       | inl a ↦ (let le = not_lt w next_event.events_until.0 a in event_before next_event s proc n is some (omega (arith, e, le)) l)
       | inr b ↦
           (let c : comes_before proc n o ≡ false = subst (λ (x : ℕ). comes_before proc x o ≡ false) (sym e) b in
@@ -206,7 +191,7 @@ no_fence proc Nine rank e f = subst (λ (r : ℕ). Fences (actor_of r) proc) e f
 no_fence proc Seven rank e f = subst (λ (r : ℕ). Fences (actor_of r) proc) e f
 
 pub below_events : (next_event : NextEvent) (s : MachineState) (proc : Proc) (tick : Tick) → IsNextEvent next_event s → tick.0 < next_event.events_until.0 → IsBelowFence s proc tick
-below_events next_event s proc tick is lt rank at there f = elim (sort_rank rank (low_rank s rank at there)) [
+below_events next_event s proc tick is lt rank at there f = elim (sort_rank rank (acting_low s rank at there)) [
   | inl event ↦ (let k = is.events rank at (event_there s rank at event there) in omega (arith, k, lt))
   | inr rest ↦ elim rest [ inl e ↦ absurd (no_fence proc Nine rank e f) | inr e ↦ absurd (no_fence proc Seven rank e f) ]
 ]
@@ -250,7 +235,7 @@ leaves_when next_event s proc n until is some e lt h behind b = elim b.goes [
   | inl least ↦
       (let d = due_when next_event s proc n is e lt in
       let same : b.tick ≡ record { 0 = n } = same_Some b.tick (record { 0 = n }) (sym b.due ∙ d.there) in
-      not_least_when next_event s proc n is some e lt h (subst (λ (t : Tick). IsLeast (dues_of s) t (rank_of proc)) same least))
+      not_least_when next_event s proc n is some e lt h (subst (λ (t : Tick). IsLeast (acting_dues s) t (rank_of proc)) same least))
   | inr ahead ↦ behind ahead
 ]
 
@@ -258,18 +243,6 @@ leaves_when next_event s proc n until is some e lt h behind b = elim b.goes [
 
 pub waits_for : (next_event : NextEvent) (s : MachineState) (proc : Proc) (n : ℕ) → least_kept next_event proc ≡ 0 → n ≡ (processor_of s proc).due → n ≡ waits_until next_event s proc
 waits_for next_event s proc n free e = omega (arith, free, e)
-
-both_true : (a b : Bool) → a ≡ true → b ≡ true → (a && b) ≡ true
-both_true true b h k = k
-both_true false b h k = absurd (true≢false (sym h))
-
-first_false : (a b : Bool) → a ≡ false → (a && b) ≡ false
-first_false true b h = absurd (true≢false h)
-first_false false b h = refl
-
-last_false : (a b : Bool) → b ≡ false → (a && b) ≡ false
-last_false true b h = h
-last_false false b h = refl
 
 is_lt : (x y : ℕ) → x < y → nat_lt x y ≡ true
 is_lt x y lt = elim (lt_cases x y) [ inl k ↦ k.1 | inr k ↦ (let le = k.0 in absurd (omega (arith, le, lt))) ]
@@ -305,7 +278,7 @@ below_limit next_event s proc until n limit w l lt =
     record {
       some = omega (arith, first);
       below = omega (arith, all);
-      least = both_true (nat_lt (waits_until next_event s proc) next_event.events_until.0) (comes_before proc (waits_until next_event s proc) (waits_until next_event s (other_proc proc)))
+      least = and_from (nat_lt (waits_until next_event s proc) next_event.events_until.0) (comes_before proc (waits_until next_event s proc) (waits_until next_event s (other_proc proc)))
           (is_lt (waits_until next_event s proc) next_event.events_until.0 (omega (arith, first, w)))
           (subst (λ (x : ℕ). comes_before proc x (waits_until next_event s (other_proc proc)) ≡ true) w
           (before_other proc n (waits_until next_event s (other_proc proc)) (omega (arith, all))));
@@ -316,12 +289,12 @@ pub past_limit : (next_event : NextEvent) (s : MachineState) (proc : Proc) (unti
 past_limit next_event s proc until n limit w l le below early = elim (lt_cases n next_event.events_until.0) [
   | inl k ↦
       (let first = k.0 in
-      last_false (nat_lt (waits_until next_event s proc) next_event.events_until.0) (comes_before proc (waits_until next_event s proc) (waits_until next_event s (other_proc proc)))
+      and_right (nat_lt (waits_until next_event s proc) next_event.events_until.0) (comes_before proc (waits_until next_event s proc) (waits_until next_event s (other_proc proc)))
       (subst (λ (x : ℕ). comes_before proc x (waits_until next_event s (other_proc proc)) ≡ false) w
       (not_before_other proc n (waits_until next_event s (other_proc proc)) (omega (arith, below, early)) (omega (arith, l, le, first, below)))))
   | inr k ↦
       (let last = k.0 in
-      first_false (nat_lt (waits_until next_event s proc) next_event.events_until.0) (comes_before proc (waits_until next_event s proc) (waits_until next_event s (other_proc proc)))
+      and_left (nat_lt (waits_until next_event s proc) next_event.events_until.0) (comes_before proc (waits_until next_event s proc) (waits_until next_event s (other_proc proc)))
       (isnt_lt (waits_until next_event s proc) next_event.events_until.0 (omega (arith, last, w))))
 ]
 
@@ -356,14 +329,42 @@ free_when next_event s proc n is e lt = kept_is next_event s is proc ∙ ap leas
 pub sound_kept : (next_event : NextEvent) (s : MachineState) → HasSoundParts s → IsNextEvent next_event s → 0 < next_event.events_until.0 → IsSound s
 sound_kept next_event s parts is some = record { parts = parts; asleep = is.asleep some; settled = is.settled some }
 
-pub took_when : (next_event : NextEvent) (s next : MachineState) (proc : Proc) (n until : ℕ) → IsSound s → HasCounted s → IsDueAt s proc n → n < until
-    → IsLeast (dues_of s) (record { 0 = n }) (rank_of proc) ⊎ IsAhead s proc
+-- one that doesn't observe geometry needs no catching up, and may be taken
+apart_rank : (s : MachineState) (proc : Proc) → observes_by (Processor proc) s ≡ false → observes_by (actor_of (rank_of proc)) s ≡ false
+apart_rank s proc apart = ap (λ (a : actor.Actor). observes_by a s) (actor_is proc) ∙ apart
+
+pub needs_none : (s : MachineState) (proc : Proc) → observes_by (Processor proc) s ≡ false → CatchesUpFor (processor_of s proc).due (rank_of proc) s s
+needs_none s proc apart = subst (λ (b : Bool). CatchesUpIf b (processor_of s proc).due (rank_of proc) s s) (sym (apart_rank s proc apart)) refl
+
+apart_may : (s : MachineState) (proc : Proc) (n : ℕ) → IsSound s → IsDueAt s proc n → n ≤ 2 ^ 56 → IsLeast (acting_dues s) (record { 0 = n }) (rank_of proc) ⊎ IsAhead s proc
+    → observes_by (Processor proc) s ≡ false → MayStep s (rank_of proc)
+apart_may s proc n sound d early goes apart = record {
+  tick = record { 0 = n };
+  due = rank_there s proc ∙ d.there;
+  early = early;
+  may = elim goes [
+    | inl least ↦ inr (inl (record { least = least; apart = apart_rank s proc apart }))
+    | inr ahead ↦ inr (inr (proc, refl, ahead, sound))
+  ];
+  asleep = λ e quiet. sound.asleep;
+}
+
+pub took_when : (next_event : NextEvent) (s next : MachineState) (proc : Proc) (n until : ℕ) → IsSound s → HasCounted s → IsDueAt s proc n → n < until → until ≤ 2 ^ 56
+    → IsLeast (acting_dues s) (record { 0 = n }) (rank_of proc) ⊎ IsAhead s proc → observes_by (Processor proc) s ≡ false
     → awake (Some (record { 0 = n })) (step_by (rank_of proc) (Processor proc) s) ≡ stepped_of s answers.Made next → next.io ≡ s.io
     → (processor_of next (other_proc proc)).due ≡ (processor_of s (other_proc proc)).due → TookStep until proc s next
-took_when next_event s next proc n until sound has d lt goes made io other =
+took_when next_event s next proc n until sound has d lt early goes apart made io other =
     let b : BelongsToTurn until s proc = record { tick = record { 0 = n }; due = d.there; below = lt; goes = goes } in
     let step = steps_as s (rank_of proc) (Processor proc) (Some (record { 0 = n })) (Makes next []) (actor_is proc) d.there made in
-    record { belongs = b; made = step; counted = (turn_keeps until s next proc sound has b step).counted; fewer = turn_steps_fall until s next proc [] sound.parts b step; io = io; other = other }
+    record {
+      belongs = b;
+      apart = apart;
+      made = step;
+      counted = counted_may s next (rank_of proc) answers.Made sound.parts (apart_may s proc n sound d (omega (arith, lt, early)) goes apart) has step;
+      fewer = turn_steps_fall until s s next proc [] sound b (needs_none s proc apart) step;
+      io = io;
+      other = other;
+    }
 
 -- ---- a loop over them: the steps so far were of the turn, and what is needed of the machine stayed so
 
@@ -379,7 +380,7 @@ pub goes_on : (until : ℕ) (proc : Proc) (next_event : NextEvent) (limit : ℕ)
 goes_on until proc next_event limit start before now g took is =
     let across = least_kept next_event (other_proc proc) in
     record {
-      steps = more start before now g.steps took.belongs took.made;
+      steps = more start before before now g.steps took.belongs (needs_none before proc took.apart) took.made;
       kept = is;
       counted = took.counted;
       io = took.io ∙ g.io;
@@ -388,10 +389,20 @@ goes_on until proc next_event limit start before now g took is =
 
 -- ---- what some of them leave
 
+statuses_caught : (tick rank : ℕ) (s now : MachineState) → TakesGeometry tick rank s now → HasBothStatuses s → HasBothStatuses now
+statuses_caught tick rank s now (geometry.none start) h = h
+statuses_caught tick rank s now (geometry.more start before next earlier behind made) h =
+    statuses_done before next geometry_rank answers.Made (statuses_caught tick rank start before earlier h) made
+
+statuses_if : (observes : Bool) (tick rank : ℕ) (s caught : MachineState) → CatchesUpIf observes tick rank s caught → HasBothStatuses s → HasBothStatuses caught
+statuses_if true tick rank s caught catches h = statuses_caught tick rank s caught catches.steps h
+statuses_if false tick rank s caught catches h = subst HasBothStatuses (sym catches) h
+
 pub statuses_taken : (until : ℕ) (proc : Proc) (s next : MachineState) → TakesSteps until proc s next → HasBothStatuses s → HasBothStatuses next
 statuses_taken until proc s next (none start) h = h
-statuses_taken until proc s next (more start before last earlier b made) h =
-    statuses_done before last (rank_of proc) answers.Made (statuses_taken until proc start before earlier h) made
+statuses_taken until proc s next (more start before caught last earlier b catches made) h =
+    statuses_done caught last (rank_of proc) answers.Made
+    (statuses_if (observes_by (actor_of (rank_of proc)) before) (processor_of before proc).due (rank_of proc) before caught catches (statuses_taken until proc start before earlier h)) made
 
 -- ---- the other processor
 

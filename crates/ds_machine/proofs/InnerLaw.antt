@@ -23,7 +23,7 @@ use Rattle.vram_banks.specs.Mixes.{mixed}
 use Rattle.vram_banks.proofs.Mixes.{mixed_length, mixed_same, mixed_twice}
 use Rattle.ds_machine.specs.Apart.{NineOwn, nine_own_of, with_nine_own, with_nine_part, with_seven_part}
 use Rattle.ds_machine.specs.Private.{IsHarmless, IsPrivate, ProcessorStaysPrivate, StaysPrivate, is_deaf}
-use Rattle.ds_machine.specs.Reference.{AreAsleep, Shown, awake, due_by, due_unless, processor_due, reference_step}
+use Rattle.ds_machine.specs.Reference.{AreAsleep, IsSound, Shown, awake, due_by, due_unless, processor_due, reference_step}
 use Rattle.ds_machine.specs.Sides.{nine_side, seven_side, taken}
 use Rattle.ds_machine.specs.States.{MachineState, ProcessorState, SevenState}
 use Rattle.ds_machine.specs.Steps.{is_blocked, line_of, machine_concluded, nine_reach, processor_of, seven_reach, tick_of, went_on, with_nine, with_processor, with_seven}
@@ -84,6 +84,9 @@ pub record IsCalm (s : MachineState) : Type 0 where
   pub io : IsIo s.io
   pub settled : is_settled s.io ≡ true
   pub asleep : AreAsleep s
+
+pub calm : (s : MachineState) → IsSound s → IsCalm s
+calm s sound = record { io = sound.parts.io; settled = sound.settled; asleep = sound.asleep }
 
 due_there : (s : MachineState) (proc : Proc) → is_blocked s proc ≡ false → processor_due s proc ≡ Some (tick_of (processor_of s proc))
 due_there s proc free = ap (λ (blocked : Bool). due_unless blocked (processor_of s proc)) free

@@ -1,5 +1,6 @@
 use Rattle.std.specs.Prelude.{◌||◌, not}
 use Rattle.std.proofs.Common.{ℕ, ◌≡◌, ◌≢◌, ◌+◌, ◌/◌, ◌%◌, ◌^◌, ◌==◌, ◌&&◌, Bool, true, false, true≢false, if◌then◌else◌, List, [], ◌∷◌, length, Option, Some, None, Result, Ok, Err, refl, sym, ◌∙◌, ap, subst}
+use Rattle.std.proofs.lemmas.Bool.{or_from, or_parts}
 use Rattle.ds_base.specs.Accesses.{Access, Fetch, Performed, Read, Write, perform, refused_or, with_value}
 use Rattle.ds_base.specs.declared.keys.KeyLine.{KeyLine}
 use Rattle.ds_base.specs.declared.left_out.LeftOut.{LeftOut}
@@ -32,7 +33,7 @@ use Rattle.cp15_tcm.specs.Registers.{Cp15State, vectors_of}
 use Rattle.cp15_tcm.specs.TightlyCoupled.{tcm_of}
 use Rattle.cp15_tcm.specs.declared.answers.Tcm.{Tcm}
 use Rattle.cp15_tcm.specs.declared.answers.Tcm.TheVariants.{Dtcm, Itcm, Past}
-use Rattle.ds_dma.specs.Channels.{is_running, is_triggered}
+use Rattle.ds_dma.specs.Channels.{ChannelState, is_running, is_triggered}
 use Rattle.ds_dma.specs.Controls.{is_enabled, waits_for}
 use Rattle.ds_dma.specs.States.{DmaState, awaits_geometry, channel_at}
 use Rattle.ds_dma.specs.declared.channels.Unit.{Unit as DmaUnit}
@@ -62,7 +63,8 @@ use Rattle.video2d.specs.Videos.{answer_unless, unless_stop, video_after_event, 
 use Rattle.video2d.specs.declared.videos.Shown as display
 use Rattle.ds_machine.specs.Apart.{step_with}
 use Rattle.ds_machine.specs.Channels.{channel_step, moved_by, one_event}
-use Rattle.ds_machine.specs.Lagging.{access_observes, any_armed, any_observes, channel_observes, is_observed_past, is_observed_place, nine_observes, observes_by}
+use Rattle.ds_machine.specs.Lagging.{access_observes, any_observes, channel_observes, is_observed_past, is_observed_place, nine_observes, observes_by}
+use Rattle.ds_ports.specs.Acting.{any_armed, is_armed}
 use Rattle.ds_machine.specs.Private.{data_accesses}
 use Rattle.ds_machine.specs.Reference.{Shown, after_event, after_line, after_video, shown_at, step_by, swapped_if, video_step}
 use Rattle.ds_machine.specs.Sides.{nine_executed, nine_side, seven_side, taken}
@@ -81,10 +83,6 @@ abbrev pub late_put : GxState → MachineState → MachineState
 late_put g s = record s { io = with_gx g s.io; events = s.events + 1 }
 
 -- ---- places
-
-or_false : (a b : Bool) → (a || b) ≡ false → (a ≡ false) × (b ≡ false)
-or_false true b h = absurd (true≢false h)
-or_false false b h = (refl, h)
 
 pub place_apart : (place : Place) → is_observed_place place ≡ false → IsApartPlace Nine place
 place_apart (Cell memory at) h = tt
@@ -129,14 +127,11 @@ access_again r left (Read at width) e h =
 access_again r left (Write at width value) e h =
     ap (λ (cp : Cp15State). is_observed_past (tcm_of cp at true false) left.map.io.wramcnt at) e ∙ past_again (tcm_of r.cp15 at true false) r.map.io.wramcnt left.map.io.wramcnt at h
 
-neither_is : (a b : Bool) → a ≡ false → b ≡ false → (a || b) ≡ false
-neither_is a b h k = rw (h, k) refl
-
 any_again : (r left : NineReach) (accesses : List Access) → left.cp15 ≡ r.cp15 → any_observes r accesses ≡ false → any_observes left accesses ≡ false
 any_again r left [] e h = refl
 any_again r left (access ∷ rest) e h =
-    let k = or_false (access_observes r access) (any_observes r rest) h in
-    neither_is (access_observes left access) (any_observes left rest) (access_again r left access e k.0) (any_again r left rest e k.1)
+    let k = or_parts (access_observes r access) (any_observes r rest) h in
+    or_from (access_observes left access) (any_observes left rest) (access_again r left access e k.0) (any_again r left rest e k.1)
 
 module _ (g : GxState) where
   fetched_so : (tcm : Tcm) (r : NineReach) (at : ℕ) (width : Width) → tcm_fetched tcm (nine_put g r) at width ≡ tcm_fetched tcm r at width
@@ -198,7 +193,7 @@ performed_put g r (Fetch at width ∷ rest) h =
     ∙ ap (with_value value) (performed_put g r rest h)
 performed_put g r (Read at width ∷ rest) h =
     let tcm = tcm_of r.cp15 at false false in
-    let k = or_false (access_observes r (Read at width)) (any_observes r rest) h in
+    let k = or_parts (access_observes r (Read at width)) (any_observes r rest) h in
     let value = tcm_value tcm r at width in
     let next = tcm_read tcm r at width in
     ap (λ (v : ℕ). with_value v (perform nine_memory (tcm_read tcm (nine_put g r) at width) rest)) (value_so g tcm r at width k.0)
@@ -206,7 +201,7 @@ performed_put g r (Read at width ∷ rest) h =
     ∙ ap (with_value value) (performed_put g next rest (any_again r next rest (read_goes tcm r at width).cp15 k.1))
 performed_put g r (Write at width value ∷ rest) h =
     let tcm = tcm_of r.cp15 at true false in
-    let k = or_false (access_observes r (Write at width value)) (any_observes r rest) h in
+    let k = or_parts (access_observes r (Write at width value)) (any_observes r rest) h in
     let stop = tcm_refusal tcm r at width value in
     let next = tcm_written tcm r at width value in
     let put = tcm_written tcm (nine_put g r) at width value in
@@ -224,13 +219,13 @@ performed_goes r [] h = goes_same r
 performed_goes r (Fetch at width ∷ rest) h = performed_goes r rest h
 performed_goes r (Read at width ∷ rest) h =
     let tcm = tcm_of r.cp15 at false false in
-    let k = or_false (access_observes r (Read at width)) (any_observes r rest) h in
+    let k = or_parts (access_observes r (Read at width)) (any_observes r rest) h in
     let next = tcm_read tcm r at width in
     let one = read_goes tcm r at width in
     goes_on_so r next (perform nine_memory next rest).state one (performed_goes next rest (any_again r next rest one.cp15 k.1))
 performed_goes r (Write at width value ∷ rest) h =
     let tcm = tcm_of r.cp15 at true false in
-    let k = or_false (access_observes r (Write at width value)) (any_observes r rest) h in
+    let k = or_parts (access_observes r (Write at width value)) (any_observes r rest) h in
     let next = tcm_written tcm r at width value in
     let one = written_goes tcm r at width value k.0 in
     refused_goes r (tcm_refusal tcm r at width value) next (perform nine_memory next rest) one (performed_goes next rest (any_again r next rest one.cp15 k.1))
@@ -441,7 +436,7 @@ nine_channel : (rank : ℕ) (due : Option Tick) (g : GxState) (s : MachineState)
 nine_channel rank None g s h = record { same = refl; arms = arms_same s.io.nine.dma }
 nine_channel rank (Some now) g s h =
     let unit = next_unit s.io Nine in
-    let k = or_false (is_observed_place (place_of Nine s.io.wramcnt unit.from)) (is_observed_place (place_of Nine s.io.wramcnt unit.to)) h in
+    let k = or_parts (is_observed_place (place_of Nine s.io.wramcnt unit.from)) (is_observed_place (place_of Nine s.io.wramcnt unit.to)) h in
     unit_lets rank Nine now g s unit (place_apart (place_of Nine s.io.wramcnt unit.from) k.0) (place_apart (place_of Nine s.io.wramcnt unit.to) k.1)
 
 seven_channel : (rank : ℕ) (due : Option Tick) (g : GxState) (s : MachineState) → Lets g s (channel_step rank Seven due (gx_put g s)) (channel_step rank Seven due s)
@@ -601,6 +596,14 @@ pub apart_commutes : (rank : ℕ) (a : actor.Actor) (g : GxState) (s : MachineSt
     → step_by rank a (late_put g s) ≡ step_with (late_put g) (step_by rank a s)
 apart_commutes rank a g s other h here there = late_commutes rank a g s other h (here ∙ sym there)
 
+none_armed : (old new : DmaState) → ArmsNoMore old new → any_armed old ≡ false → any_armed new ≡ false
+none_armed old new more none =
+    let l = or_parts (armed old 0 || armed old 1 || armed old 2) (armed old 3) none in
+    let m = or_parts (armed old 0 || armed old 1) (armed old 2) l.0 in
+    let n = or_parts (armed old 0) (armed old 1) m.0 in
+    let a : ℕ → Bool = λ which. armed new which in
+    none_of (a 0) (a 1) (a 2) (a 3) (more.none 0 n.0) (more.none 1 n.1) (more.none 2 m.1) (more.none 3 l.1)
+
 module _ (rank : ℕ) (a : actor.Actor) (s made : MachineState) (outs : List Shown) (other : a ≢ Geometry) (apart : observes_by a s ≡ false) (came : step_by rank a s ≡ Makes made outs) where
   pub gx_left : made.io.gx ≡ s.io.gx
   gx_left =
@@ -615,43 +618,55 @@ module _ (rank : ℕ) (a : actor.Actor) (s made : MachineState) (outs : List Sho
   four_left four = made_arms.long ∙ four
 
   pub arms_left : any_armed s.io.nine.dma ≡ false → any_armed made.io.nine.dma ≡ false
-  arms_left none =
-      let dma = s.io.nine.dma in
-      let k = made_arms.none in
-      let l = or_false (armed dma 0 || armed dma 1 || armed dma 2) (armed dma 3) none in
-      let m = or_false (armed dma 0 || armed dma 1) (armed dma 2) l.0 in
-      let n = or_false (armed dma 0) (armed dma 1) m.0 in
-      let a : ℕ → Bool = λ which. armed made.io.nine.dma which in
-      none_of (a 0) (a 1) (a 2) (a 3) (k 0 n.0) (k 1 n.1) (k 2 m.1) (k 3 l.1)
+  arms_left = none_armed s.io.nine.dma made.io.nine.dma made_arms
+
+-- and so where it stops
+module _ (rank : ℕ) (a : actor.Actor) (s left : MachineState) (stop : LeftOut) (other : a ≢ Geometry) (apart : observes_by a s ≡ false) (came : step_by rank a s ≡ Stops stop left) where
+  pub stopped_gx : left.io.gx ≡ s.io.gx
+  stopped_gx =
+      let both : (let step : Step = Stops stop left in step) ≡ Stops stop (gx_put s.io.gx left) =
+      sym came ∙ gx_commutes rank a s.io.gx s other apart refl ∙ ap (step_with (gx_put s.io.gx)) came in
+      ap (λ (x : Step). (left_by x).io.gx) both
+
+  pub stopped_arms : any_armed s.io.nine.dma ≡ false → any_armed left.io.nine.dma ≡ false
+  stopped_arms =
+      none_armed s.io.nine.dma left.io.nine.dma (subst (λ (x : Step). ArmsNoMore s.io.nine.dma (left_by x).io.nine.dma) came (lets rank a s.io.gx s other apart refl).arms)
 
 -- ---- what follows a step, where no channel is armed and nothing is told by GXSTAT's selector
 
 selector_never : (n : ℕ) (a b : Bool) → n ≡ 0 → ((n == 1 && a) || (n == 2 && b)) ≡ false
 selector_never n a b e = ap (λ (k : ℕ). (k == 1 && a) || (k == 2 && b)) e
 
-never_told : (g : GxState) → g.selector ≡ 0 → gx_level g ≡ false
-never_told g e = selector_never g.selector (is_half_empty g) (shown_count g == 0) e
+pub silent_level : (g : GxState) → g.selector ≡ 0 → gx_level g ≡ false
+silent_level g e = selector_never g.selector (is_half_empty g) (shown_count g == 0) e
 
 waits_none : (enabled waits runs : Bool) → (enabled && waits) ≡ false → (enabled && waits && not runs) ≡ false
 waits_none true true runs h = absurd (true≢false h)
 waits_none true false runs h = refl
 waits_none false waits runs h = refl
 
-waits_armed : (dma : DmaState) (which : ℕ) → armed dma which ≡ false → is_triggered dma.proc causes.Geometry (channel_at dma.channels which) ≡ false
-waits_armed dma which h =
-    let c = channel_at dma.channels which in waits_none (is_enabled c.cnt) (waits_for dma.proc causes.Geometry c.cnt) (is_running c) h
+-- (a channel of ARM7's never waits for it)
+waits_never : (enabled runs : Bool) → (enabled && false && not runs) ≡ false
+waits_never true runs = refl
+waits_never false runs = refl
 
-none_awaits : (dma : DmaState) → any_armed dma ≡ false → awaits_geometry dma ≡ false
+waits_armed : (proc : Proc) (c : ChannelState) → is_armed c.cnt ≡ false → is_triggered proc causes.Geometry c ≡ false
+waits_armed Nine c h = waits_none (is_enabled c.cnt) (waits_for Nine causes.Geometry c.cnt) (is_running c) h
+waits_armed Seven c h = waits_never (is_enabled c.cnt) (is_running c)
+
+pub none_awaits : (dma : DmaState) → any_armed dma ≡ false → awaits_geometry dma ≡ false
 none_awaits dma none =
-    let l = or_false (armed dma 0 || armed dma 1 || armed dma 2) (armed dma 3) none in
-    let m = or_false (armed dma 0 || armed dma 1) (armed dma 2) l.0 in
-    let n = or_false (armed dma 0) (armed dma 1) m.0 in
-    let t : ℕ → Bool = λ which. is_triggered dma.proc causes.Geometry (channel_at dma.channels which) in
-    none_of (t 0) (t 1) (t 2) (t 3) (waits_armed dma 0 n.0) (waits_armed dma 1 n.1) (waits_armed dma 2 m.1) (waits_armed dma 3 l.1)
+    let l = or_parts (armed dma 0 || armed dma 1 || armed dma 2) (armed dma 3) none in
+    let m = or_parts (armed dma 0 || armed dma 1) (armed dma 2) l.0 in
+    let n = or_parts (armed dma 0) (armed dma 1) m.0 in
+    let at : ℕ → ChannelState = λ which. channel_at dma.channels which in
+    let t : ℕ → Bool = λ which. is_triggered dma.proc causes.Geometry (at which) in
+    let none : (which : ℕ) → armed dma which ≡ false → t which ≡ false = λ which h. waits_armed dma.proc (at which) h in
+    none_of (t 0) (t 1) (t 2) (t 3) (none 0 n.0) (none 1 n.1) (none 2 m.1) (none 3 l.1)
 
-level_so : (g : GxState) (u : IoState) → g.selector ≡ 0 → u.gx.selector ≡ 0 → level_told (with_gx g u) ≡ with_gx g (level_told u)
+pub level_so : (g : GxState) (u : IoState) → g.selector ≡ 0 → u.gx.selector ≡ 0 → level_told (with_gx g u) ≡ with_gx g (level_told u)
 level_so g u here there =
-    ap (λ (b : Bool). (let told : IoState = record u { gx = g; nine = record u.nine { irq = irq_levelled u.nine.irq b } } in told)) (never_told g here ∙ sym (never_told u.gx there))
+    ap (λ (b : Bool). (let told : IoState = record u { gx = g; nine = record u.nine { irq = irq_levelled u.nine.irq b } } in told)) (silent_level g here ∙ sym (silent_level u.gx there))
 
 room_none : (tick : Tick) (room : Bool) (u : IoState) → length u.nine.dma.channels ≡ 4 → awaits_geometry u.nine.dma ≡ false
     → (if room then record u { nine = processor_io_triggered u.nine causes.Geometry tick } else u) ≡ u
@@ -659,7 +674,7 @@ room_none tick true u four none =
     ap (λ (d : DmaState). (let told : IoState = record u { nine = record u.nine { dma = d } } in told)) (awaits_none u.nine.dma tick four none)
 room_none tick false u four none = refl
 
-settled_told : (tick : Tick) (u : IoState) → length u.nine.dma.channels ≡ 4 → any_armed u.nine.dma ≡ false → settled tick u ≡ level_told u
+pub settled_told : (tick : Tick) (u : IoState) → length u.nine.dma.channels ≡ 4 → any_armed u.nine.dma ≡ false → settled tick u ≡ level_told u
 settled_told tick u four none = room_none tick (is_half_empty u.gx) (level_told u) four (none_awaits u.nine.dma none)
 
 settled_so : (tick : Tick) (g : GxState) (u : IoState) → length u.nine.dma.channels ≡ 4 → any_armed u.nine.dma ≡ false → g.selector ≡ 0 → u.gx.selector ≡ 0
@@ -687,28 +702,6 @@ ended_late tick g m four none there here =
     ap (λ (u : IoState). woken tick (with_io (late_put g m) u)) (settled_so tick g m.io four none here there)
     ∙ ap (woken_one Seven tick) (nine_wakes tick g rest)
     ∙ seven_wakes tick g (woken_one Nine tick rest)
-
--- the same without another event
-gx_nine_wakes : (tick : Tick) (g : GxState) (m : MachineState) → woken_one Nine tick (gx_put g m) ≡ gx_put g (woken_one Nine tick m)
-gx_nine_wakes tick g m = by_wake (wakes m Nine) where
-  by_wake : (b : Bool) → (if b then goes_on Nine tick (gx_put g m) else gx_put g m) ≡ gx_put g (if b then goes_on Nine tick m else m)
-  by_wake true = refl
-  by_wake false = refl
-
-gx_seven_wakes : (tick : Tick) (g : GxState) (m : MachineState) → woken_one Seven tick (gx_put g m) ≡ gx_put g (woken_one Seven tick m)
-gx_seven_wakes tick g m = by_wake (wakes m Seven) where
-  by_wake : (b : Bool) → (if b then goes_on Seven tick (gx_put g m) else gx_put g m) ≡ gx_put g (if b then goes_on Seven tick m else m)
-  by_wake true = refl
-  by_wake false = refl
-
-pub ended_gx : (tick : Tick) (g : GxState) (m : MachineState) → length m.io.nine.dma.channels ≡ 4 → any_armed m.io.nine.dma ≡ false → m.io.gx.selector ≡ 0 → g.selector ≡ 0
-    → ended tick (gx_put g m) ≡ gx_put g (ended tick m)
-unfolding ended
-ended_gx tick g m four none there here =
-    let rest = machine_settled tick m in
-    ap (λ (u : IoState). woken tick (with_io (gx_put g m) u)) (settled_so tick g m.io four none here there)
-    ∙ ap (woken_one Seven tick) (gx_nine_wakes tick g rest)
-    ∙ gx_seven_wakes tick g (woken_one Nine tick rest)
 
 -- it leaves geometry, and ARM9's channels
 record Stays (old new : IoState) : Type 0 where

@@ -1,6 +1,5 @@
-use Rattle.std.proofs.Common.{ℕ, ◌≡◌, ◌≢◌, ◌<◌, ◌≤◌, ◌⊎◌, inl, inr, Bool, true, false, if◌then◌else◌, List, [], length, Option, Some, None, refl, sym, ◌∙◌, ap, subst, arith}
+use Rattle.std.proofs.Common.{ℕ, ◌≡◌, ◌≢◌, ◌<◌, ◌≤◌, ◌⊎◌, inl, inr, true, false, List, [], Option, Some, None, refl, sym, ◌∙◌, ap, subst, arith}
 use Rattle.std.specs.Prelude.{is_some}
-use Rattle.std.proofs.lemmas.Option.{same_Some}
 use Rattle.ds_base.specs.Schedules.{IsLater, Reschedules}
 use Rattle.ds_base.specs.declared.left_out.LeftOut.{LeftOut}
 use Rattle.ds_base.specs.declared.ticks.Tick.{Tick}
@@ -9,20 +8,22 @@ use Rattle.ds_runs.specs.Lags.{MayLag, MayStepFirst, StepsBefore}
 use Rattle.ds_runs.specs.Runs.{IsLeast, MachineStep, Makes, Stops, due_at}
 use Rattle.ds_runs.specs.declared.actors.Actor as actor
 use Rattle.ds_runs.specs.declared.actors.Actor.TheVariants.{Geometry}
-use Rattle.ds_runs.proofs.ActorTable.{due_of_actor}
-use Rattle.ds_runs.proofs.AllActors.{actors_differ}
 use Rattle.ds_runs.proofs.Lags as lags
-use Rattle.ds_runs.proofs.Lists.{at_rank, is_later, least_unique, within}
+use Rattle.ds_runs.proofs.Lists.{at_rank, is_later, least_unique}
 use Rattle.ds_runs.proofs.RunLaws.{same_makes}
 use Rattle.gx_fifo.specs.GxStates.{AreWaiting, GxState, gx_finished, is_stalled}
 use Rattle.ds_machine.specs.Apart.{step_with}
-use Rattle.ds_machine.specs.Lagging.{LagRuns, LagStops, StepsBeforeGeometry, acting_due, acting_dues, any_armed, is_quiet}
+use Rattle.ds_machine.specs.Lagging.{LagRuns, LagStops, StepsBeforeGeometry}
+use Rattle.ds_ports.specs.Acting.{any_armed, is_quiet}
+use Rattle.ds_machine.specs.Acting.{acting_due, acting_dues}
 use Rattle.ds_machine.specs.Reference.{HasSoundParts, IsSound, Shown, awake, due_by, dues_of, reference, reference_step, step_by}
 use Rattle.ds_machine.specs.States.{MachineState}
 use Rattle.ds_machine.specs.Steps.{ended}
-use Rattle.ds_machine.proofs.DueTicks.{due_of_least, due_of_rank, low_rank, steps_as}
+use Rattle.ds_machine.proofs.ActingDues.{acting_low, acting_of_rank, acts_where_due, loud_same, maps_same, quiet_or_loud}
+use Rattle.ds_machine.proofs.DueTicks.{due_of_least, due_of_rank, steps_as}
+use Rattle.ds_machine.proofs.GeometryFirst.{least_acting, least_geometry, not_later, one_first}
 use Rattle.ds_machine.proofs.LagCommutes.{apart_commutes, arms_left, ended_disarmed, ended_gx_left, ended_late, gx_commutes, gx_left, gx_put, late_put}
-use Rattle.ds_machine.proofs.LagSteps.{QuietLeaves, acting_same, acts_where_due, due_so, is_geometry, maps_same, observes_same, others_due, quiet_acts_never, quiet_leaves, quiet_parts, quiet_step, quiet_where_due, sound_late}
+use Rattle.ds_machine.proofs.LagSteps.{QuietLeaves, acting_same, due_so, is_geometry, observes_same, others_due, quiet_acts_never, quiet_leaves, quiet_parts, quiet_step, quiet_where_due, sound_late}
 use Rattle.ds_machine.proofs.MachineSchedule.{Owes, awake_makes, awake_stops, owes_by, steps_here}
 use Rattle.ds_machine.proofs.Moves.{Moves, moves_all, then_all}
 use Rattle.ds_machine.proofs.Wakes.{ended_asleep, ended_settled, ends}
@@ -31,119 +32,31 @@ use Rattle.ds_machine.proofs.Wakes.{ended_asleep, ended_settled, ends}
 
 -- ---- what is due, by rank
 
-acting_entries : (s : MachineState) → length (acting_dues s) ≡ 24
-unfolding acting_dues
-acting_entries s = refl
-
-acting_of_rank : (s : MachineState) (rank : ℕ) → rank < 24 → due_at (acting_dues s) rank ≡ acting_due (actor_of rank) s
-unfolding acting_dues
-acting_of_rank s rank lt = due_of_actor (λ (a : actor.Actor). acting_due a s) rank lt
-
-acting_low : (s : MachineState) (rank : ℕ) (tick : Tick) → due_at (acting_dues s) rank ≡ Some tick → rank < 24
-acting_low s rank tick h = let k = within (acting_dues s) rank tick h in let e = acting_entries s in omega (arith, k, e)
-
--- where geometry isn't quiet, all act that are due
-loud_by : (s : MachineState) → is_quiet s.io ≡ false → (a : actor.Actor) → acting_due a s ≡ due_by a s
-loud_by s loud Geometry = ap (λ (b : Bool). if b then None else due_by Geometry s) loud
-loud_by s loud _ = refl
-
-loud_same : (s : MachineState) → is_quiet s.io ≡ false → acting_dues s ≡ dues_of s
-unfolding acting_dues dues_of
-loud_same s loud = maps_same (λ (a : actor.Actor). acting_due a s) (λ (a : actor.Actor). due_by a s) (loud_by s loud) actors
-
-same_or_not : (a b : ℕ) → (a ≡ b) ⊎ (a ≢ b)
-same_or_not a b = grind arith
-
--- an actor that is due is geometry, or it acts then
-acts_then : (s : MachineState) (other : ℕ) (at : Tick) → due_at (dues_of s) other ≡ Some at → (other ≡ 12) ⊎ (due_at (acting_dues s) other ≡ Some at)
-acts_then s other at h = elim (same_or_not other 12) [
-  | inl same ↦ inl same
-  | inr ne ↦ (let lt = low_rank s other at h in
-      inr (acting_of_rank s other lt ∙ acts_where_due (actor_of other) s (actors_differ 12 other (omega arith) lt ne) ∙ sym (due_of_rank s other lt) ∙ h))
-]
-
 -- the step of which all this is said
 module _ (s : MachineState) (r : ℕ) (t : Tick) (b : StepsBeforeGeometry s r t) where
   own_low : r < 24
-  own_low = acting_low s r t b.least.there
+  own_low = acting_low s r t b.acts.least.there
 
   not_twelve : r ≢ 12
   not_twelve same = b.other (subst (λ (x : ℕ). actor_of x ≡ Geometry) (sym same) refl)
 
   own_due : due_by (actor_of r) s ≡ Some t
-  own_due = sym (acts_where_due (actor_of r) s b.other) ∙ sym (acting_of_rank s r own_low) ∙ b.least.there
+  own_due = sym (acts_where_due (actor_of r) s b.other) ∙ sym (acting_of_rank s r own_low) ∙ b.acts.least.there
 
   own_there : due_at (dues_of s) r ≡ Some t
   own_there = due_of_rank s r own_low ∙ own_due
 
 -- ---- it is the least, or quiet geometry is
 
-abbrev ComesFirst : ℕ → ℕ → ℕ → ℕ → Type 0
-ComesFirst u p t r = (u < t) ⊎ ((u ≡ t) × (p ≤ r))
-
-le_or_lt : (x y : ℕ) → (x ≤ y) ⊎ (y < x)
-le_or_lt x y = grind arith
-
--- one of two comes first
-one_first : (u p t r : ℕ) → ComesFirst u p t r ⊎ ComesFirst t r u p
-one_first u p t r = elim (le_or_lt t u) [
-  | inr lt ↦ inl (inl lt)
-  | inl le ↦ elim (le_or_lt u t) [
-    | inr lt ↦ inr (inl lt)
-    | inl back ↦ elim (le_or_lt p r) [
-      | inl low ↦ inl (inr (omega (arith, le, back), low))
-      | inr high ↦ inr (inr (omega (arith, le, back), omega (arith, high)))
-    ]
-  ]
-]
-
-then_first : (u p t r at other : ℕ) → ComesFirst u p t r → ComesFirst t r at other → ComesFirst u p at other
-then_first u p t r at other one two = elim one [
-  | inl a ↦ elim two [ inl c ↦ inl (omega (arith, a, c)) | inr d ↦ (let e = d.0 in inl (omega (arith, a, e))) ]
-  | inr b ↦ (let same = b.0 in
-      let low = b.1 in
-      elim two [ inl c ↦ inl (omega (arith, same, c)) | inr d ↦ (let e = d.0 in let more = d.1 in inr (omega (arith, same, e), omega (arith, low, more))) ])
-]
-
-not_later : (u p t r : ℕ) → ComesFirst u p t r → u ≤ t
-not_later u p t r h = elim h [ inl a ↦ omega (arith, a) | inr b ↦ (let e = b.0 in omega (arith, e)) ]
-
--- geometry's due tick is one
-geometry_due : (s : MachineState) (u : Tick) (other : ℕ) (at : Tick) → s.io.gx.due ≡ Some u → other ≡ 12 → due_at (dues_of s) other ≡ Some at → u ≡ at
-geometry_due s u other at due e h =
-    same_Some u at (sym due ∙ sym (due_of_rank s 12 (omega arith)) ∙ subst (λ (x : ℕ). due_at (dues_of s) x ≡ Some at) e h)
-
-module _ (s : MachineState) (r : ℕ) (t : Tick) (b : StepsBeforeGeometry s r t) (u : Tick) (due : s.io.gx.due ≡ Some u) where
-  itself_first : ComesFirst t.0 r u.0 12 → IsLeast (dues_of s) t r
-  itself_first first = record { there = own_there s r t b; least = go } where
-    go : (other : ℕ) (at : Tick) → due_at (dues_of s) other ≡ Some at → (t.0 < at.0) ⊎ ((t.0 ≡ at.0) × (r ≤ other))
-    go other at h = elim (acts_then s other at h) [
-      | inl e ↦ (let same = geometry_due s u other at due e h in
-          subst (λ (x : Tick). ComesFirst t.0 r x.0 other) same (subst (λ (x : ℕ). ComesFirst t.0 r u.0 x) (sym e) first))
-      | inr acts ↦ b.least.least other at acts
-    ]
-
-  geometry_first : ComesFirst u.0 12 t.0 r → IsLeast (dues_of s) u 12
-  geometry_first first = record { there = due_of_rank s 12 (omega arith) ∙ due; least = go } where
-    go : (other : ℕ) (at : Tick) → due_at (dues_of s) other ≡ Some at → (u.0 < at.0) ⊎ ((u.0 ≡ at.0) × (12 ≤ other))
-    go other at h = elim (acts_then s other at h) [
-      | inl e ↦ (let same = geometry_due s u other at due e h in inr (ap (λ (x : Tick). x.0) same, omega (arith, e)))
-      | inr acts ↦ then_first u.0 12 t.0 r at.0 other first (b.least.least other at acts)
-    ]
-
-quiet_or_loud : (quiet : Bool) → (quiet ≡ true) ⊎ (quiet ≡ false)
-quiet_or_loud true = inl refl
-quiet_or_loud false = inr refl
-
 steps_first : (s : MachineState) (r : ℕ) (t : Tick) → StepsBeforeGeometry s r t → MayStepFirst reference 12 r s t
 steps_first s r t b = record { other = not_twelve s r t b; there = own_there s r t b; least = go } where
   go : IsLeast (dues_of s) t r ⊎ ((u : Tick) × IsLeast (dues_of s) u 12 × (u.0 ≤ t.0))
   go = elim (quiet_or_loud (is_quiet s.io)) [
-    | inr loud ↦ inl (subst (λ (dues : List (Option Tick)). IsLeast dues t r) (loud_same s loud) b.least)
+    | inr loud ↦ inl (subst (λ (dues : List (Option Tick)). IsLeast dues t r) (loud_same s loud) b.acts.least)
     | inl quiet ↦ (let k = quiet_parts s.io quiet in
         elim (one_first k.tick.0 12 t.0 r) [
-          | inl late ↦ inr (k.tick, geometry_first s r t b k.tick k.due late, not_later k.tick.0 12 t.0 r late)
-          | inr early ↦ inl (itself_first s r t b k.tick k.due early)
+          | inl late ↦ inr (k.tick, least_geometry s k.tick k.due t.0 r (λ other at h. b.acts.least.least other at h) late, not_later k.tick.0 12 t.0 r late)
+          | inr early ↦ inl (least_acting s k.tick k.due t r b.acts.least (own_there s r t b) early)
         ])
   ]
 
@@ -153,7 +66,7 @@ module _ (s : MachineState) (r : ℕ) (t u : Tick) (b : StepsBeforeGeometry s r 
   is_quiet_then : is_quiet s.io ≡ true
   is_quiet_then = elim (quiet_or_loud (is_quiet s.io)) [
     | inl quiet ↦ quiet
-    | inr loud ↦ (let same = subst (λ (dues : List (Option Tick)). IsLeast dues t r) (loud_same s loud) b.least in
+    | inr loud ↦ (let same = subst (λ (dues : List (Option Tick)). IsLeast dues t r) (loud_same s loud) b.acts.least in
         absurd (not_twelve s r t b (least_unique (dues_of s) t r u 12 same least).1))
   ]
 
@@ -172,8 +85,10 @@ module _ (s : MachineState) (r : ℕ) (t u : Tick) (b : StepsBeforeGeometry s r 
   waits_still : StepsBeforeGeometry (late_put finished s) r t
   waits_still = record {
     sound = sound_late s b.sound is_quiet_then;
-    least = subst (λ (dues : List (Option Tick)). IsLeast dues t r) (sym (acting_same s b.sound is_quiet_then)) b.least;
-    apart = observes_same (actor_of r) finished s ∙ b.apart;
+    acts = record {
+      least = subst (λ (dues : List (Option Tick)). IsLeast dues t r) (sym (acting_same s b.sound is_quiet_then)) b.acts.least;
+      apart = observes_same (actor_of r) finished s ∙ b.acts.apart;
+    };
     other = b.other;
   }
 
@@ -222,18 +137,18 @@ record Steps (s next : MachineState) (r : ℕ) (t : Tick) (outs : List Shown) : 
 module _ (s made : MachineState) (r : ℕ) (t : Tick) (outs : List Shown) (b : StepsBeforeGeometry s r t) (quiet : is_quiet s.io ≡ true)
     (took : step_by r (actor_of r) s ≡ Makes made outs) where
   gx_stays : made.io.gx ≡ s.io.gx
-  gx_stays = gx_left r (actor_of r) s made outs b.other b.apart took
+  gx_stays = gx_left r (actor_of r) s made outs b.other b.acts.apart took
 
   arms_stay : any_armed made.io.nine.dma ≡ false
-  arms_stay = arms_left r (actor_of r) s made outs b.other b.apart took (quiet_parts s.io quiet).disarmed
+  arms_stay = arms_left r (actor_of r) s made outs b.other b.acts.apart took (quiet_parts s.io quiet).disarmed
 
   hidden_step : step_by r (actor_of r) (gx_put (hidden s.io.gx) s) ≡ Makes (gx_put (hidden s.io.gx) made) outs
-  hidden_step = gx_commutes r (actor_of r) (hidden s.io.gx) s b.other b.apart refl ∙ ap (step_with (gx_put (hidden s.io.gx))) took
+  hidden_step = gx_commutes r (actor_of r) (hidden s.io.gx) s b.other b.acts.apart refl ∙ ap (step_with (gx_put (hidden s.io.gx))) took
 
   hidden_owes : Owes (actor_of r) t (gx_put (hidden s.io.gx) s) (gx_put (hidden s.io.gx) made)
   hidden_owes =
       let s0 = gx_put (hidden s.io.gx) s in
-      let least = subst (λ (dues : List (Option Tick)). IsLeast dues t r) (hidden_dues s quiet) b.least in
+      let least = subst (λ (dues : List (Option Tick)). IsLeast dues t r) (hidden_dues s quiet) b.acts.least in
       owes_by (actor_of r) r t s0 (gx_put (hidden s.io.gx) made) outs (steps_here s0 t r (hidden_sound s b.sound.parts) least) hidden_step
 
   shown_moves : (a : actor.Actor) → is_geometry a ≡ false → IsNumbered a → Reschedules t (due_by a s) (due_by a made)
@@ -290,7 +205,7 @@ module _ (s late : MachineState) (r : ℕ) (t u : Tick) (b : StepsBeforeGeometry
       let a = actor_of r in
       let free = (quiet_parts s.io quiet).free in
       let due = others_due a g s b.other (leaves.free ∙ sym free) ∙ own_due s r t b in
-      let step = apart_commutes r a g s b.other b.apart leaves.free free ∙ ap (step_with (late_put g)) took in
+      let step = apart_commutes r a g s b.other b.acts.apart leaves.free free ∙ ap (step_with (late_put g)) took in
       subst (λ (m : MachineState). reference_step r m ≡ awake (Some t) (step_with (late_put g) came)) late_is
       (steps_as (late_put g s) r a (Some t) (awake (Some t) (step_with (late_put g) came)) refl due (ap (awake (Some t)) step))
 

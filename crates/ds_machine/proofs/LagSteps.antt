@@ -1,5 +1,6 @@
-use Rattle.std.proofs.Common.{ℕ, ◌≡◌, ◌≢◌, ◌%◌, ◌^◌, ◌==◌, Bool, true, false, true≢false, if◌then◌else◌, List, [], ◌∷◌, map, Option, Some, None, refl, sym, ◌∙◌, ap, arith}
+use Rattle.std.proofs.Common.{ℕ, ◌≡◌, ◌≢◌, ◌%◌, ◌^◌, ◌==◌, Bool, true, false, true≢false, if◌then◌else◌, List, [], ◌∷◌, Option, Some, None, refl, sym, ◌∙◌, ap, arith}
 use Rattle.std.specs.Prelude.{◌&&◌, ◌||◌, not, max, is_some}
+use Rattle.std.proofs.lemmas.Bool.{and_parts, not-true}
 use Rattle.ds_base.specs.Accesses.{Access, Fetch, Read, Write}
 use Rattle.ds_base.specs.Schedules.{IsLater}
 use Rattle.ds_base.specs.declared.left_out.LeftOut.{LeftOut}
@@ -17,10 +18,7 @@ use Rattle.arm_words.specs.declared.instructions.Instr.{Instr}
 use Rattle.cp15_tcm.specs.TightlyCoupled.{tcm_of}
 use Rattle.cp15_tcm.specs.declared.answers.Tcm.{Tcm}
 use Rattle.cp15_tcm.specs.declared.answers.Tcm.TheVariants.{Itcm, Dtcm, Past}
-use Rattle.ds_dma.specs.Controls.{is_enabled, waits_for}
-use Rattle.ds_dma.specs.States.{DmaState, awaits_geometry, channel_at, channel_due}
-use Rattle.ds_dma.specs.Channels.{is_running, is_triggered}
-use Rattle.ds_dma.specs.declared.controls.Cause.TheVariants as causes
+use Rattle.ds_dma.specs.States.{awaits_geometry, channel_due}
 use Rattle.ds_map.specs.Accesses.{fetched_at, map_fetched}
 use Rattle.ds_map.specs.Maps.{MapState}
 use Rattle.ds_map.specs.Views.{NineReach, nine_memory, tcm_fetched}
@@ -37,20 +35,22 @@ use Rattle.ds_runs.specs.declared.actors.Actor.TheVariants.{Video, Timer, Geomet
 use Rattle.ds_runs.specs.Actors.{actors}
 use Rattle.ds_timers.specs.Irqs.{irq_levelled}
 use Rattle.gx_fifo.specs.Entries.{complete_command}
-use Rattle.gx_fifo.specs.GxStates.{GxState, done_by, gx_finished, gx_level, is_half_empty, is_stalled, shown_count}
+use Rattle.gx_fifo.specs.GxStates.{GxState, done_by, gx_finished, gx_level, is_half_empty, is_stalled}
 use Rattle.gx_fifo.proofs.Laws.{finished_later, finished_waiting}
 use Rattle.gx_matrix.specs.declared.commands.GeometryCommand.{GeometryCommand}
 use Rattle.ds_machine.specs.Channels.{one_event}
-use Rattle.ds_machine.specs.Lagging.{access_observes, acting_due, acting_dues, any_armed, any_observes, is_armed, is_quiet, nine_observes, observes_by}
+use Rattle.ds_machine.specs.Lagging.{access_observes, any_observes, nine_observes, observes_by}
+use Rattle.ds_ports.specs.Acting.{any_armed, is_quiet}
+use Rattle.ds_machine.specs.Acting.{acting_due, acting_dues}
 use Rattle.ds_machine.specs.Private.{data_accesses}
 use Rattle.ds_machine.specs.Reference.{IsSound, Shown, after_geometry, due_by, due_unless, reference_step}
 use Rattle.ds_machine.specs.Sides.{nine_side}
 use Rattle.ds_machine.specs.States.{MachineState}
 use Rattle.ds_machine.specs.Steps.{ended, line_of, nine_reach, tick_of, wakes, with_io, with_processor}
+use Rattle.ds_machine.proofs.ActingDues.{maps_same}
 use Rattle.ds_machine.proofs.DueTicks.{steps_as}
 use Rattle.ds_machine.proofs.FastSteps.{end_stays}
-use Rattle.ds_machine.proofs.LagCommutes.{gx_put, late_put}
-use Rattle.ds_machine.proofs.Quiet.{neither}
+use Rattle.ds_machine.proofs.LagCommutes.{gx_put, late_put, none_awaits, silent_level}
 
 -- The step of quiet geometry: nobody hears of it, so that it changes geometry and no more.
 
@@ -63,16 +63,7 @@ pub record QuietParts (u : IoState) : Type 0 where
   pub disarmed : any_armed u.nine.dma ≡ false
   pub free : is_stalled u.gx ≡ false
 
-two : (a b : Bool) → (a && b) ≡ true → (a ≡ true) × (b ≡ true)
-two true true h = (refl, refl)
-two true false h = absurd (true≢false (sym h))
-two false b h = absurd (true≢false (sym h))
-
-negated : (a : Bool) → not a ≡ true → a ≡ false
-negated true h = absurd (true≢false (sym h))
-negated false h = refl
-
-equal_is : (x y : ℕ) → (x == y) ≡ true → x ≡ y
+pub equal_is : (x y : ℕ) → (x == y) ≡ true → x ≡ y
 equal_is x y h = grind (arith, h)
 
 is_equal : (x y : ℕ) → x ≡ y → (x == y) ≡ true
@@ -84,16 +75,16 @@ some_is (Some tick) h = (tick, refl)
 
 pub quiet_parts : (u : IoState) → is_quiet u ≡ true → QuietParts u
 quiet_parts u h =
-    let a = two (is_some u.gx.due) ((u.gx.selector == 0) && (not (any_armed u.nine.dma) && not (is_stalled u.gx))) h in
-    let b = two (u.gx.selector == 0) (not (any_armed u.nine.dma) && not (is_stalled u.gx)) a.1 in
-    let c = two (not (any_armed u.nine.dma)) (not (is_stalled u.gx)) b.1 in
+    let a = and_parts (is_some u.gx.due) ((u.gx.selector == 0) && (not (any_armed u.nine.dma) && not (is_stalled u.gx))) h in
+    let b = and_parts (u.gx.selector == 0) (not (any_armed u.nine.dma) && not (is_stalled u.gx)) a.1 in
+    let c = and_parts (not (any_armed u.nine.dma)) (not (is_stalled u.gx)) b.1 in
     let some = some_is u.gx.due a.0 in
     record {
       tick = some.0;
       due = some.1;
       selector = equal_is u.gx.selector 0 b.0;
-      disarmed = negated (any_armed u.nine.dma) c.0;
-      free = negated (is_stalled u.gx) c.1;
+      disarmed = not-true (any_armed u.nine.dma) c.0;
+      free = not-true (is_stalled u.gx) c.1;
     }
 
 -- else geometry is quiet exactly where it is due
@@ -128,32 +119,6 @@ quiet_leaves s tick sound quiet due =
 
 -- ---- the units are settled as before with another geometry of which nobody hears
 
-level_none : (n : ℕ) (a b : Bool) → n ≡ 0 → ((n == 1 && a) || (n == 2 && b)) ≡ false
-level_none n a b h = rw h refl
-
-pub silent_level : (g : GxState) → g.selector ≡ 0 → gx_level g ≡ false
-silent_level g h = level_none g.selector (is_half_empty g) (shown_count g == 0) h
-
--- a channel that waits for geometry is armed
-one_waits : (on start runs : Bool) → (on && start) ≡ false → (on && start && not runs) ≡ false
-one_waits true true runs h = absurd (true≢false h)
-one_waits true false runs h = refl
-one_waits false start runs h = refl
-
-waits_armed : (dma : DmaState) (which : ℕ) → is_armed dma which ≡ false → is_triggered dma.proc causes.Geometry (channel_at dma.channels which) ≡ false
-waits_armed dma which h =
-    let c = channel_at dma.channels which in one_waits (is_enabled c.cnt) (waits_for dma.proc causes.Geometry c.cnt) (is_running c) h
-
-none_of : (a b c d : Bool) → a ≡ false → b ≡ false → c ≡ false → d ≡ false → (a || b || c || d) ≡ false
-none_of a b c d h i j k = rw (h, i, j, k) refl
-
-pub none_awaits : (dma : DmaState) → any_armed dma ≡ false → awaits_geometry dma ≡ false
-none_awaits dma h =
-    let l = neither (is_armed dma 0 || is_armed dma 1 || is_armed dma 2) (is_armed dma 3) h in
-    let m = neither (is_armed dma 0 || is_armed dma 1) (is_armed dma 2) l.0 in
-    let n = neither (is_armed dma 0) (is_armed dma 1) m.0 in
-    none_of _ _ _ _ (waits_armed dma 0 n.0) (waits_armed dma 1 n.1) (waits_armed dma 2 m.1) (waits_armed dma 3 l.1)
-
 no_room : (a b waits : Bool) → waits ≡ false → (a && waits) ≡ (b && waits)
 no_room true true waits h = refl
 no_room true false waits h = h
@@ -186,10 +151,10 @@ sound_late s sound quiet =
 
 -- ---- the step
 
-no_stall_ends : (s : MachineState) → is_stalled s.io.gx ≡ false → stall_ends s.io ≡ false
+pub no_stall_ends : (s : MachineState) → is_stalled s.io.gx ≡ false → stall_ends s.io ≡ false
 no_stall_ends s h = ap (λ (b : Bool). b && not (is_stalled (gx_finished s.io.gx))) h
 
-geometry_late : (s : MachineState) → stall_ends s.io ≡ false → after_geometry s ≡ late_put (gx_finished s.io.gx) s
+pub geometry_late : (s : MachineState) → stall_ends s.io ≡ false → after_geometry s ≡ late_put (gx_finished s.io.gx) s
 geometry_late s h =
     ap (λ (b : Bool).
     with_processor Nine
@@ -239,10 +204,6 @@ pub others_due_put : (a : actor.Actor) (g : GxState) (s : MachineState) → a �
 others_due_put a g s other same = due_so a g s (not_geometry a other) same
 
 -- all act that are due, but quiet geometry
-pub maps_same : (f g : actor.Actor → Option Tick) → ((a : actor.Actor) → f a ≡ g a) → (all : List actor.Actor) → map f all ≡ map g all
-maps_same f g same [] = refl
-maps_same f g same (a ∷ rest) = ap (λ (o : Option Tick). o ∷ map f rest) (same a) ∙ ap (λ (l : List (Option Tick)). g a ∷ l) (maps_same f g same rest)
-
 quiet_never : (quiet : Bool) (due : Option Tick) → quiet ≡ is_some due → (if quiet then None else due) ≡ None
 quiet_never true due h = refl
 quiet_never false None h = refl
@@ -250,10 +211,6 @@ quiet_never false (Some tick) h = absurd (true≢false (sym h))
 
 pub quiet_acts_never : (s : MachineState) → is_quiet s.io ≡ true → acting_due Geometry s ≡ None
 quiet_acts_never s quiet = ap (λ (b : Bool). if b then None else due_by Geometry s) quiet
-
-pub acts_where_due : (a : actor.Actor) (s : MachineState) → a ≢ Geometry → acting_due a s ≡ due_by a s
-acts_where_due Geometry s other = absurd (other refl)
-acts_where_due _ s other = refl
 
 acting_so : (s : MachineState) (g : GxState) → is_quiet s.io ≡ true → g.selector ≡ 0 → is_stalled g ≡ false
     → (a : actor.Actor) → acting_due a (late_put g s) ≡ acting_due a s

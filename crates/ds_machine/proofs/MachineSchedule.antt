@@ -12,13 +12,13 @@ use Rattle.ds_base.specs.declared.ticks.Tick.{Tick}
 use Rattle.ds_map.specs.Moves.{next_unit, unit_read}
 use Rattle.ds_ports.specs.Dues.{IsIo}
 use Rattle.ds_ports.specs.ProcessorIo.{blocks_processor}
-use Rattle.ds_ports.specs.Io.{IoState, io_event, is_settled, keys_pressed, tick_after, video_done}
+use Rattle.ds_ports.specs.Io.{IoState, io_event, io_of, is_settled, keys_pressed, tick_after, video_done}
 use Rattle.gx_fifo.specs.GxStates.{gx_finished, is_stalled}
 use Rattle.ds_ports.proofs.Events.{Happens, event_goes, happens_on, keys_happen, show_goes}
 use Rattle.ds_ports.proofs.Settles.{geometry_goes, happens_held, swapped_happens}
 use Rattle.ds_ports.proofs.Later.{still_later}
 use Rattle.ds_runs.specs.Actors.{IsNumbered, actor_of}
-use Rattle.ds_runs.specs.Runs.{IsLeast, MachineStep, Makes, Stops}
+use Rattle.ds_runs.specs.Runs.{IsLeast, MachineStep, Makes, Stops, due_at}
 use Rattle.ds_runs.specs.Owed.{Schedules}
 use Rattle.ds_runs.specs.declared.actors.Actor as actor
 use Rattle.ds_runs.specs.declared.actors.Actor.TheVariants.{KeyScript, Video, Timer, Geometry, Dma, Processor}
@@ -29,10 +29,10 @@ use Rattle.ds_machine.specs.Reference.{AreAsleep, HasSoundParts, IsSound, Shown,
 use Rattle.ds_machine.specs.States.{MachineState, ProcessorState}
 use Rattle.ds_machine.specs.Steps.{ended, gone_by, is_blocked, map_of, processor_of, with_io, with_map}
 use Rattle.ds_machine.proofs.ChannelEvents.{machine_after_unit, channel_unchanged, channel_made, read_moves, read_sound, unit_later, unit_moves, unit_sound}
-use Rattle.ds_machine.proofs.DueTicks.{due_of_least, due_of_rank, entries_are, low_rank, somebody_is}
+use Rattle.ds_machine.proofs.DueTicks.{due_of_least, due_of_rank, due_then, entries_are, low_rank, somebody_is}
 use Rattle.ds_machine.proofs.Moves.{Moves, blocked_moves, moves_all, moves_of, then_all}
 use Rattle.ds_machine.proofs.ProcessorSteps.{Operation, came_by, concluded_stops, concludes, costs_some, gone_moves, gone_sound, processor_io_later, reached_by, reached_moves, reached_sound, step_is}
-use Rattle.ds_machine.proofs.Quiet.{comes_late, quiet_processor, timers_later}
+use Rattle.ds_machine.proofs.Quiet.{comes_late, none_blocked, own_blocks, timers_later}
 use Rattle.ds_machine.proofs.VideoEvents.{display_video, video_makes, video_stops}
 use Rattle.ds_machine.proofs.Wakes.{ended_asleep, ended_settled, ends}
 use Rattle.video2d.specs.Scans.{scan_due, scan_due_tick, starts_vblank}
@@ -146,20 +146,34 @@ geometry_owes tick s due sound =
 
 -- ---- each actor, where it is due
 
--- what is so where an actor steps
+-- an actor is a processor, or a DMA channel of it
+abbrev pub IsPartOf : Proc → actor.Actor → Type 0
+IsPartOf proc (Dma each channel) = each ≡ proc
+IsPartOf proc (Processor each) = each ≡ proc
+IsPartOf proc a = ⊥
+
+-- what is so where an actor steps: it is due, and where it is a processor or a channel that one's timers are due later
 pub record Steps (a : actor.Actor) (rank : ℕ) (tick : Tick) (s : MachineState) : Type 0 where
   pub sound : HasSoundParts s
-  pub least : IsLeast (dues_of s) tick rank
+  pub there : due_at (dues_of s) rank ≡ Some tick
   pub is : actor_of rank ≡ a
   pub numbered : IsNumbered a
   pub due : due_by a s ≡ Some tick
+  pub timers : (proc : Proc) → IsPartOf proc a → (which : ℕ) → which < 4 → IsLater tick (due_by (Timer proc which) s)
 
 pub operation : (proc : Proc) (rank : ℕ) (tick : Tick) (s : MachineState) → Steps (Processor proc) rank tick s → Operation proc tick s
-operation proc rank tick s st = record { sound = st.sound; quiet = quiet_processor s tick rank proc st.least st.is; due = st.due }
+operation proc rank tick s st = record {
+  sound = st.sound;
+  quiet = record {
+    timers = st.timers proc refl;
+    dma = none_blocked tick (io_of s.io proc) (own_blocks s proc (due_then (is_blocked s proc) (processor_of s proc) tick st.due).0);
+  };
+  due = st.due;
+}
 
 pub channel_timers : (proc : Proc) (channel rank : ℕ) (tick : Tick) (s : MachineState) → Steps (Dma proc channel) rank tick s
     → (which : ℕ) → which < 4 → IsLater tick (due_by (Timer proc which) s)
-channel_timers proc channel rank tick s st = timers_later s tick rank st.least (ap comes_late st.is) proc
+channel_timers proc channel rank tick s st = st.timers proc refl
 
 pub owes_by : (a : actor.Actor) (rank : ℕ) (tick : Tick) (s made : MachineState) (outs : List Shown) → Steps a rank tick s → step_by rank a s ≡ Makes made outs → Owes a tick s made
 owes_by KeyScript rank tick s made outs st h = subst (Owes KeyScript tick s) (same_makes (after_line s.keys s) made [] outs h).0 (owes_keys tick s s.keys refl st.due st.sound)
@@ -205,28 +219,41 @@ awake_stops None came left stop h = h
 awake_stops (Some tick) (Makes made out) left stop h = absurd (not_both (ended tick made) left out stop h)
 awake_stops (Some tick) (Stops why was) left stop h = h
 
+-- one that is part of a processor has a high rank
+pub part_late : (proc : Proc) (a : actor.Actor) → IsPartOf proc a → comes_late a ≡ true
+part_late proc (Dma each channel) part = refl
+part_late proc (Processor each) part = refl
+part_late proc _ part = absurd part
+
+-- the least actor steps so
 pub steps_here : (s : MachineState) (tick : Tick) (rank : ℕ) → HasSoundParts s → IsLeast (dues_of s) tick rank → Steps (actor_of rank) rank tick s
 steps_here s tick rank sound least = record {
   sound = sound;
-  least = least;
+  there = least.there;
   is = refl;
   numbered = is_numbered rank (low_rank s rank tick least.there);
   due = due_of_least s rank tick least;
+  timers = λ proc part. timers_later s tick rank least (part_late proc (actor_of rank) part) proc;
 }
 
--- what came of the step of the actor that is least
+-- what came of a step
+pub step_made_as : (s next : MachineState) (tick : Tick) (rank : ℕ) (outs : List Shown) → Steps (actor_of rank) rank tick s → reference_step rank s ≡ Makes next outs
+    → (made : MachineState) × (step_by rank (actor_of rank) s ≡ Makes made outs) × (ended tick made ≡ next)
+step_made_as s next tick rank outs st h =
+    let came = step_by rank (actor_of rank) s in
+    awake_makes tick came next outs (subst (λ (o : Option Tick). awake o came ≡ Makes next outs) st.due h)
+
 pub step_made : (s next : MachineState) (tick : Tick) (rank : ℕ) (outs : List Shown) → IsLeast (dues_of s) tick rank → reference_step rank s ≡ Makes next outs
     → (made : MachineState) × (step_by rank (actor_of rank) s ≡ Makes made outs) × (ended tick made ≡ next)
 step_made s next tick rank outs least h =
     let came = step_by rank (actor_of rank) s in
     awake_makes tick came next outs (subst (λ (o : Option Tick). awake o came ≡ Makes next outs) (due_of_least s rank tick least) h)
 
-pub owes : (s next : MachineState) (tick : Tick) (rank : ℕ) (outs : List Shown) → HasSoundParts s → IsLeast (dues_of s) tick rank → reference_step rank s ≡ Makes next outs
+pub owes_as : (s next : MachineState) (tick : Tick) (rank : ℕ) (outs : List Shown) → Steps (actor_of rank) rank tick s → reference_step rank s ≡ Makes next outs
     → Owes (actor_of rank) tick s next
-owes s next tick rank outs sound least h =
+owes_as s next tick rank outs st h =
     let a = actor_of rank in
-    let st = steps_here s tick rank sound least in
-    let k = step_made s next tick rank outs least h in
+    let k = step_made_as s next tick rank outs st h in
     let o = owes_by a rank tick s k.0 outs st k.1 in
     let w = ends tick k.0 o.sound in
     let last = ended tick k.0 in
@@ -236,6 +263,10 @@ owes s next tick rank outs sound least h =
       sound = w.sound;
     } in
     subst (Owes a tick s) k.2 woke
+
+pub owes : (s next : MachineState) (tick : Tick) (rank : ℕ) (outs : List Shown) → HasSoundParts s → IsLeast (dues_of s) tick rank → reference_step rank s ≡ Makes next outs
+    → Owes (actor_of rank) tick s next
+owes s next tick rank outs sound least h = owes_as s next tick rank outs (steps_here s tick rank sound least) h
 
 -- what the reference machine owes of its due ticks
 pub reference_schedules : Schedules reference 24 HasSoundParts
@@ -249,25 +280,27 @@ reference_schedules = record {
   stays = λ s next tick rank outs sound least goes. (owes s next tick rank outs sound least goes).sound;
 }
 
--- after a step that is taken no halted processor is to wake
-pub asleep_made : (s next : MachineState) (tick : Tick) (rank : ℕ) (outs : List Shown) → IsLeast (dues_of s) tick rank → reference_step rank s ≡ Makes next outs → AreAsleep next
-asleep_made s next tick rank outs least h = let k = step_made s next tick rank outs least h in subst AreAsleep k.2 (ended_asleep tick k.0)
-
--- and the units are settled
-pub settled_made : (s next : MachineState) (tick : Tick) (rank : ℕ) (outs : List Shown) → HasSoundParts s → IsLeast (dues_of s) tick rank → reference_step rank s ≡ Makes next outs
-    → is_settled next.io ≡ true
-settled_made s next tick rank outs sound least h =
-    let k = step_made s next tick rank outs least h in
-    let o = owes_by (actor_of rank) rank tick s k.0 outs (steps_here s tick rank sound least) k.1 in
-    subst (λ (m : MachineState). is_settled m.io ≡ true) k.2 (ended_settled tick k.0 o.sound.io)
+-- after a step that is taken no halted processor is to wake, and the units are settled
+pub sound_as : (s next : MachineState) (tick : Tick) (rank : ℕ) (outs : List Shown) → Steps (actor_of rank) rank tick s → reference_step rank s ≡ Makes next outs → IsSound next
+sound_as s next tick rank outs st h =
+    let k = step_made_as s next tick rank outs st h in
+    let o = owes_by (actor_of rank) rank tick s k.0 outs st k.1 in
+    record {
+      parts = (owes_as s next tick rank outs st h).sound;
+      asleep = subst AreAsleep k.2 (ended_asleep tick k.0);
+      settled = subst (λ (m : MachineState). is_settled m.io ≡ true) k.2 (ended_settled tick k.0 o.sound.io);
+    }
 
 pub sound_made : (s next : MachineState) (tick : Tick) (rank : ℕ) (outs : List Shown) → HasSoundParts s → IsLeast (dues_of s) tick rank → reference_step rank s ≡ Makes next outs
     → IsSound next
-sound_made s next tick rank outs sound least h = record {
-  parts = (owes s next tick rank outs sound least h).sound;
-  asleep = asleep_made s next tick rank outs least h;
-  settled = settled_made s next tick rank outs sound least h;
-}
+sound_made s next tick rank outs sound least h = sound_as s next tick rank outs (steps_here s tick rank sound least) h
+
+pub asleep_made : (s next : MachineState) (tick : Tick) (rank : ℕ) (outs : List Shown) → IsLeast (dues_of s) tick rank → reference_step rank s ≡ Makes next outs → AreAsleep next
+asleep_made s next tick rank outs least h = let k = step_made s next tick rank outs least h in subst AreAsleep k.2 (ended_asleep tick k.0)
+
+pub settled_made : (s next : MachineState) (tick : Tick) (rank : ℕ) (outs : List Shown) → HasSoundParts s → IsLeast (dues_of s) tick rank → reference_step rank s ≡ Makes next outs
+    → is_settled next.io ≡ true
+settled_made s next tick rank outs sound least h = (sound_made s next tick rank outs sound least h).settled
 
 -- ---- a step that stops leaves a sound machine, and each due tick as it was or later
 
@@ -292,6 +325,9 @@ leaves_by (Processor proc) rank tick s left stop st h =
 leaves_by Geometry rank tick s left stop st h = absurd (not_both (after_geometry s) left [] stop h)
 leaves_by a rank tick s left stop st h = absurd (not_both (after_event a s) left [] stop h)
 
+pub stopped_as : (s left : MachineState) (tick : Tick) (rank : ℕ) (stop : LeftOut) → Steps (actor_of rank) rank tick s → reference_step rank s ≡ Stops stop left → Leaves tick s left
+stopped_as s left tick rank stop st h =
+    leaves_by (actor_of rank) rank tick s left stop st (awake_stops (due_by (actor_of rank) s) (step_by rank (actor_of rank) s) left stop h)
+
 pub stopped : (s left : MachineState) (tick : Tick) (rank : ℕ) (stop : LeftOut) → HasSoundParts s → IsLeast (dues_of s) tick rank → reference_step rank s ≡ Stops stop left → Leaves tick s left
-stopped s left tick rank stop sound least h =
-    leaves_by (actor_of rank) rank tick s left stop (steps_here s tick rank sound least) (awake_stops (due_by (actor_of rank) s) (step_by rank (actor_of rank) s) left stop h)
+stopped s left tick rank stop sound least h = stopped_as s left tick rank stop (steps_here s tick rank sound least) h

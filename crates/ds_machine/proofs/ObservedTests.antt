@@ -1,8 +1,7 @@
-use Rattle.std.proofs.Common.{ℕ, ◌≡◌, ◌<◌, ◌≤◌, ◌+◌, ◌-◌, ◌*◌, ◌/◌, ◌%◌, ◌^◌, ◌==◌, ◌⊎◌, inl, inr, nat_le, nat_lt, not, if◌then◌else◌, Bool, true, false, true≢false, List, [], ◌∷◌, map, Option, Some, None, refl, sym, ◌∙◌, ap, subst, arith}
+use Rattle.std.proofs.Common.{ℕ, ◌≡◌, ◌<◌, ◌+◌, ◌-◌, ◌*◌, ◌/◌, ◌%◌, ◌^◌, ◌==◌, nat_le, not, if◌then◌else◌, Bool, true, false, true≢false, List, [], ◌∷◌, map, Option, Some, None, refl, sym, ◌∙◌, ap, subst, arith}
 use Rattle.std.specs.Prelude.{◌&&◌, ◌||◌, IsSome}
+use Rattle.std.proofs.lemmas.Bool.{not-true, or_from, or_parts}
 use Rattle.ds_base.specs.Accesses.{Access, Fetch, Read, Write}
-use Rattle.ds_base.specs.declared.memories.Width.{Width}
-use Rattle.ds_base.specs.declared.memories.Width.TheVariants.{Byte, Half, Word}
 use Rattle.ds_base.specs.declared.processors.Arch.TheVariants.{V5}
 use Rattle.ds_base.specs.declared.processors.Proc.TheVariants.{Nine}
 use Rattle.ds_base.specs.declared.ticks.Tick.{Tick}
@@ -32,7 +31,7 @@ use Rattle.ds_places.specs.declared.kinds.Place.{Place}
 use Rattle.ds_runs.specs.Actors.{actor_of}
 use Rattle.ds_runs.specs.Runs.{due_at}
 use Rattle.ds_runs.specs.declared.actors.Actor as actor
-use Rattle.ds_machine.specs.Lagging.{any_observes, is_observed_past, is_observed_place, is_observed_port}
+use Rattle.ds_machine.specs.Lagging.{any_observes, is_observed_past, is_observed_place}
 use Rattle.ds_machine.specs.Observing.{HasBase, data_apart}
 use Rattle.ds_machine.specs.Private.{AllReachPrivate, data_accesses}
 use Rattle.ds_machine.specs.Reference.{due_by, dues_of}
@@ -183,22 +182,6 @@ apart_by_words = record { same = λ r writing fetching a b e. ap not (past_same 
 
 -- ---- accesses by their addresses
 
-negated : (b : Bool) → not b ≡ true → b ≡ false
-negated true h = absurd (true≢false (sym h))
-negated false h = refl
-
-neither : (a b : Bool) → a ≡ false → b ≡ false → (a || b) ≡ false
-neither true b h k = absurd (true≢false h)
-neither false b h k = k
-
-not_first : (a b : Bool) → (a || b) ≡ false → a ≡ false
-not_first true b h = h
-not_first false b h = refl
-
-not_last : (a b : Bool) → (a || b) ≡ false → b ≡ false
-not_last true b h = absurd (true≢false h)
-not_last false b h = h
-
 module _ (r : NineReach) where
   abbrev at_read : ℕ → Bool
   at_read at = is_observed_past (tcm_of r.cp15 at false false) r.map.io.wramcnt at
@@ -210,20 +193,20 @@ module _ (r : NineReach) where
   none_by [] low h = refl
   none_by (Fetch at width ∷ rest) low h = absurd low
   none_by (Read at width ∷ rest) low h =
-      neither (at_read at) (any_observes r rest) (negated (at_read at) (private_itself (apart_side.is_private r false false) width at low.0 h.0)) (none_by rest low.1 h.1)
+      or_from (at_read at) (any_observes r rest) (not-true (at_read at) (private_itself (apart_side.is_private r false false) width at low.0 h.0)) (none_by rest low.1 h.1)
   none_by (Write at width value ∷ rest) low h =
-      neither (at_write at) (any_observes r rest) (negated (at_write at) (private_itself (apart_side.is_private r true false) width at low.0 h.0)) (none_by rest low.1 h.1)
+      or_from (at_write at) (any_observes r rest) (not-true (at_write at) (private_itself (apart_side.is_private r true false) width at low.0 h.0)) (none_by rest low.1 h.1)
 
   by_none : (accesses : List Access) → AreBelow accesses → any_observes r accesses ≡ false → AllReachPrivate apart_side r accesses
   by_none [] low h = tt
   by_none (Fetch at width ∷ rest) low h = absurd low
   by_none (Read at width ∷ rest) low h = (
-    λ byte c. apart_by_words.same r false false byte at (same_word width at byte low.0 c) ∙ ap not (not_first (at_read at) (any_observes r rest) h),
-    by_none rest low.1 (not_last (at_read at) (any_observes r rest) h),
+    λ byte c. apart_by_words.same r false false byte at (same_word width at byte low.0 c) ∙ ap not (or_parts (at_read at) (any_observes r rest) h).0,
+    by_none rest low.1 (or_parts (at_read at) (any_observes r rest) h).1,
   )
   by_none (Write at width value ∷ rest) low h = (
-    λ byte c. apart_by_words.same r true false byte at (same_word width at byte low.0 c) ∙ ap not (not_first (at_write at) (any_observes r rest) h),
-    by_none rest low.1 (not_last (at_write at) (any_observes r rest) h),
+    λ byte c. apart_by_words.same r true false byte at (same_word width at byte low.0 c) ∙ ap not (or_parts (at_write at) (any_observes r rest) h).0,
+    by_none rest low.1 (or_parts (at_write at) (any_observes r rest) h).1,
   )
 
 -- ---- in the machine

@@ -1,15 +1,18 @@
-use Rattle.std.specs.Prelude.{◌==◌, ◌&&◌, not, if◌then◌else◌}
+use Rattle.std.specs.Prelude.{◌==◌, ◌&&◌, ◌||◌, not, if◌then◌else◌}
 use Rattle.std.specs.Int.{bit_at, bit_not, w32}
-use Rattle.std.proofs.Common.{ℕ, ◌≡◌, ◌≢◌, ◌<◌, inl, inr, Bool, true, false, true≢false, List, [], Option, Some, bit_and, bit_or, refl, sym, ◌∙◌, ap, subst, arith}
+use Rattle.std.proofs.Common.{ℕ, ◌≡◌, ◌≢◌, ◌<◌, ◌⊎◌, inl, inr, Bool, true, false, List, [], Option, Some, None, bit_and, bit_or, refl, sym, ◌∙◌, ap, subst, arith}
 use Rattle.std.proofs.lemmas.Nat.Bits.{bit_at_and, bit_at_or, same_from_bits}
+use Rattle.std.proofs.lemmas.Bool.{and_parts, not-true}
 use Rattle.ds_base.specs.declared.left_out.LeftOut.{LeftOut}
 use Rattle.ds_base.specs.declared.processors.Proc.{Proc}
 use Rattle.ds_base.specs.declared.processors.Proc.TheVariants.{Nine, Seven}
 use Rattle.ds_base.specs.declared.ticks.Tick.{Tick}
 use Rattle.ds_map.specs.Shares.{IsSharedSo}
+use Rattle.ds_map.specs.Views.{NineReach, SevenReach}
+use Rattle.ds_ports.specs.Acting.{is_quiet}
 use Rattle.ds_ports.specs.Dues.{IsTold, ipc_bits}
 use Rattle.ds_ports.specs.Io.{IoState, io_of, level_told, settled}
-use Rattle.ds_ports.specs.ProcessorIo.{processor_io_triggered}
+use Rattle.ds_ports.specs.ProcessorIo.{blocks_processor, processor_io_triggered}
 use Rattle.ds_dma.specs.declared.controls.Cause.TheVariants as causes
 use Rattle.ds_runs.specs.Actors.{actor_of}
 use Rattle.ds_runs.specs.Ahead.{HasOwnPart, MayRunAhead, MovesOn}
@@ -19,19 +22,24 @@ use Rattle.ds_runs.specs.declared.actors.Actor.TheVariants.{KeyScript, Video, Ti
 use Rattle.ds_dma.specs.States.{DmaState, awaits_geometry, channel_due}
 use Rattle.ds_runs.proofs.Ahead.{ahead_from_own}
 use Rattle.ds_runs.proofs.AllActors.{actors_differ, moves_of_actors}
+use Rattle.ds_runs.proofs.RunLaws.{same_makes, not_both}
 use Rattle.ds_timers.specs.Irqs.{IrqState, irq_levelled, level}
 use Rattle.ds_timers.specs.Timing.{timer_at, timer_due}
-use Rattle.gx_fifo.specs.GxStates.{GxState, gx_level, is_half_empty}
+use Rattle.gx_fifo.specs.GxStates.{GxState, gx_finished, gx_level, is_half_empty, is_stalled}
 use Rattle.video2d.specs.Scans.{scan_due_tick}
+use Rattle.ds_machine.specs.Acting.{acting_due, acting_dues}
 use Rattle.ds_machine.specs.Apart.{NineOwn, nine_own_of, step_with, with_nine_own, with_seven_part}
 use Rattle.arm_core.specs.Steps.{enters}
 use Rattle.ds_machine.specs.Private.{IsBelowFence, IsHarmless, RunsAhead, hears_nobody, rank_of}
 use Rattle.ds_machine.specs.Reference.{Fences, HasSoundParts, IsSound, Shown, awake, due_by, due_unless, dues_of, keys_due, reference, reference_step, step_by}
 use Rattle.ds_machine.specs.States.{MachineState, ProcessorState, SevenState}
 use Rattle.ds_machine.specs.Steps.{ended, goes_on, is_blocked, is_halted, line_of, machine_settled, nine_reach, processor_of, seven_reach, tick_of, wakes, woken_one}
+use Rattle.ds_machine.proofs.ActingDues.{acting_low, acting_of_rank, acts_then, loud_same, quiet_or_loud}
 use Rattle.ds_machine.proofs.DueTicks.{due_of_least, due_of_rank, low_rank}
-use Rattle.ds_machine.proofs.InnerLaw.{HasOwnOf, IsCalm, MovesAlone, after_nine, after_seven, harmless_by_part, inner_nine, inner_seven, nine_fits, nine_moves, seven_moves}
+use Rattle.ds_machine.proofs.InnerLaw.{HasOwnOf, IsCalm, MovesAlone, after_nine, after_seven, calm, harmless_by_part, inner_nine, inner_seven, nine_fits, nine_moves, seven_moves}
 use Rattle.ds_machine.proofs.Apart.{leave_seven}
+use Rattle.ds_machine.proofs.LagCommutes.{late_put}
+use Rattle.ds_machine.proofs.LagSteps.{acting_same, equal_is, quiet_leaves, quiet_parts, quiet_step, sound_late}
 use Rattle.ds_machine.proofs.MachineSchedule.{asleep_made, awake_stops, owes_by, reference_schedules, settled_made, step_made, steps_here}
 use Rattle.ds_machine.proofs.OuterLeaves.{LeavesApart, leaves_apart, not_reached}
 use Rattle.ds_machine.proofs.OuterSteps.{not_woken, seven_ended, settled_halted, woken_halted}
@@ -82,18 +90,6 @@ told_settled old irq false told stays = record {
   if_ = levelled_once irq false old.if_ told.if_ stays;
 }
 
-equal_is : (x y : ℕ) → (x == y) ≡ true → x ≡ y
-equal_is x y h = grind (arith, h)
-
-both : (a b : Bool) → (a && b) ≡ true → (a ≡ true) × (b ≡ true)
-both true true h = (refl, refl)
-both true false h = absurd (true≢false (sym h))
-both false b h = absurd (true≢false (sym h))
-
-negated : (a : Bool) → not a ≡ true → a ≡ false
-negated true h = absurd (true≢false (sym h))
-negated false h = refl
-
 -- waking the other leaves what a processor has behind the ports, and the units
 pub record WakesApart (proc : Proc) (s next : MachineState) : Type 0 where
   pub own : io_of next.io proc ≡ io_of s.io proc
@@ -135,8 +131,8 @@ settled_irq tick u = by_room (is_half_empty u.gx) where
 module _ (tick : Tick) (s made : MachineState) (sound : IsSound s) (parts : HasSoundParts made) where
   not_due_dma : (gx : GxState) (dma : DmaState) → gx ≡ s.io.gx → dma ≡ s.io.nine.dma → (is_half_empty gx && awaits_geometry dma) ≡ false
   not_due_dma gx dma same_gx same_dma =
-      rw (same_gx, same_dma) (negated (is_half_empty s.io.gx && awaits_geometry s.io.nine.dma)
-      (both ((irq_levelled s.io.nine.irq (gx_level s.io.gx)).if_ == s.io.nine.irq.if_) (not (is_half_empty s.io.gx && awaits_geometry s.io.nine.dma)) sound.settled).1)
+      rw (same_gx, same_dma) (not-true (is_half_empty s.io.gx && awaits_geometry s.io.nine.dma)
+      (and_parts ((irq_levelled s.io.nine.irq (gx_level s.io.gx)).if_ == s.io.nine.irq.if_) (not (is_half_empty s.io.gx && awaits_geometry s.io.nine.dma)) sound.settled).1)
 
   nine_told : LeavesApart Nine s made → is_halted made Nine ≡ false → IsOnlyTold s.io.nine (ended tick made).io.nine
   nine_told l h =
@@ -144,7 +140,7 @@ module _ (tick : Tick) (s made : MachineState) (sound : IsSound s) (parts : HasS
       let k = settle_leaves tick made.io in
       let gx = (l.geometry refl).0 in
       let stays = equal_is (irq_levelled s.io.nine.irq (gx_level s.io.gx)).if_ s.io.nine.irq.if_
-      (both ((irq_levelled s.io.nine.irq (gx_level s.io.gx)).if_ == s.io.nine.irq.if_) (not (is_half_empty s.io.gx && awaits_geometry s.io.nine.dma)) sound.settled).0 in
+      (and_parts ((irq_levelled s.io.nine.irq (gx_level s.io.gx)).if_ == s.io.nine.irq.if_) (not (is_half_empty s.io.gx && awaits_geometry s.io.nine.dma)) sound.settled).0 in
       let irq : IsTold s.io.nine.irq (irq_levelled made.io.nine.irq (gx_level made.io.gx)) =
       subst (λ (g : GxState). IsTold s.io.nine.irq (irq_levelled made.io.nine.irq (gx_level g))) (sym gx)
       (told_settled s.io.nine.irq made.io.nine.irq (gx_level s.io.gx) l.told.told stays) in
@@ -217,8 +213,11 @@ harmless_so proc s next l h =
     (ap (λ (p : ProcessorState). hears_nobody p.registers (io_of next.io proc).irq) same ∙ k.1)
     h
 
--- those of its fence are due as before
-fence_so : (proc : Proc) (s next : MachineState) → LeavesApart proc s next → (a : actor.Actor) → Fences a proc → due_by a next ≡ due_by a s
+-- those of its fence act as before: geometry is quiet or isn't, as it was
+quiet_so : (old new : IoState) → new.gx ≡ old.gx → new.nine.dma ≡ old.nine.dma → is_quiet new ≡ is_quiet old
+quiet_so old new gx dma = rw (gx, dma) refl
+
+fence_so : (proc : Proc) (s next : MachineState) → LeavesApart proc s next → (a : actor.Actor) → Fences a proc → acting_due a next ≡ acting_due a s
 fence_so proc s next l KeyScript f = ap keys_due l.keys
 fence_so proc s next l Video f = ap (λ scan. (let due : Option Tick = Some (scan_due_tick scan) in due)) l.scan
 fence_so Nine s next l (Timer Nine number) f = ap (λ timers. timer_due (timer_at timers number)) l.told.own.timers
@@ -227,7 +226,10 @@ fence_so Nine s next l (Timer Seven number) f = absurd (proc_differs (sym f))
 fence_so Seven s next l (Timer Nine number) f = absurd (proc_differs f)
 fence_so proc s next l Divider f = absurd f
 fence_so proc s next l SquareRoot f = absurd f
-fence_so Nine s next l Geometry f = ap (λ (gx : GxState). gx.due) (l.geometry refl).0
+fence_so Nine s next l Geometry f =
+    let gx = (l.geometry refl).0 in
+    ap (λ (quiet : Bool). if quiet then None else next.io.gx.due) (quiet_so s.io next.io gx l.told.own.dma)
+    ∙ ap (λ (g : GxState). if is_quiet s.io then None else g.due) gx
 fence_so Seven s next l Geometry f = absurd (proc_differs (sym f))
 fence_so proc s next l Card f = refl
 fence_so Nine s next l (Dma Nine channel) f =
@@ -238,24 +240,37 @@ fence_so Seven s next l (Dma Nine channel) f = absurd (proc_differs f)
 fence_so proc s next l (Processor each) f = absurd f
 
 below_so : (proc : Proc) (s next : MachineState) (t : Tick) → LeavesApart proc s next → IsBelowFence s proc t → IsBelowFence next proc t
-below_so proc s next t l below rank at due f =
-    let lt = low_rank next rank at due in
-    below rank at (due_of_rank s rank lt ∙ sym (fence_so proc s next l (actor_of rank) f) ∙ sym (due_of_rank next rank lt) ∙ due) f
+below_so proc s next t l below rank at acts f =
+    let lt = acting_low next rank at acts in
+    below rank at (acting_of_rank s rank lt ∙ sym (fence_so proc s next l (actor_of rank) f) ∙ sym (acting_of_rank next rank lt) ∙ acts) f
 
--- ---- the two laws
-
-calm : (s : MachineState) → IsSound s → IsCalm s
-calm s sound = record { io = sound.parts.io; settled = sound.settled; asleep = sound.asleep }
+-- ---- who steps before it
 
 due_own : (proc : Proc) (s : MachineState) (t : Tick) → RunsAhead proc s t → due_at (dues_of s) (rank_of proc) ≡ Some t
 due_own Nine s t ahead = due_of_rank s 22 (omega arith) ∙ ap (λ (blocked : Bool). due_unless blocked s.nine.processor) ahead.harmless.free ∙ ap Some (sym ahead.tick)
 due_own Seven s t ahead = due_of_rank s 23 (omega arith) ∙ ap (λ (blocked : Bool). due_unless blocked s.seven.processor) ahead.harmless.free ∙ ap Some (sym ahead.tick)
 
--- the least of the others isn't in its fence, and isn't the processor
-not_fencing : (proc : Proc) (s : MachineState) (t u : Tick) (r : ℕ) → RunsAhead proc s t → IsLeast (dues_of s) u r → Fences (actor_of r) proc → ⊥
-not_fencing proc s t u r ahead least f =
-    let later : t.0 < u.0 = ahead.below r u least.there f in
+-- the least of the others isn't in its fence, and isn't the processor; or it is quiet geometry, which isn't in ARM7's fence
+abbrev IsApartFrom : Proc → MachineState → ℕ → Type 0
+IsApartFrom proc s r = (Fences (actor_of r) proc → ⊥) ⊎ ((proc ≡ Nine) × (r ≡ 12) × (is_quiet s.io ≡ true))
+
+acts_after : (proc : Proc) (s : MachineState) (t u : Tick) (r : ℕ) → RunsAhead proc s t → IsLeast (dues_of s) u r → due_at (acting_dues s) r ≡ Some u → Fences (actor_of r) proc → ⊥
+acts_after proc s t u r ahead least acts f =
+    let later : t.0 < u.0 = ahead.below r u acts f in
     elim (least.least (rank_of proc) t (due_own proc s t ahead)) [ inl a ↦ omega (arith, later, a) | inr b ↦ (let e = b.0 in omega (arith, later, e)) ]
+
+quiet_apart : (proc : Proc) (s : MachineState) (r : ℕ) → r ≡ 12 → is_quiet s.io ≡ true → IsApartFrom proc s r
+quiet_apart Nine s r e quiet = inr (refl, e, quiet)
+quiet_apart Seven s r e quiet = inl (λ f. proc_differs (sym (subst (λ (x : ℕ). Fences (actor_of x) Seven) e f)))
+
+apart_from : (proc : Proc) (s : MachineState) (t u : Tick) (r : ℕ) → RunsAhead proc s t → IsLeast (dues_of s) u r → IsApartFrom proc s r
+apart_from proc s t u r ahead least = elim (quiet_or_loud (is_quiet s.io)) [
+  | inr loud ↦ inl (acts_after proc s t u r ahead least (subst (λ (dues : List (Option Tick)). due_at dues r ≡ Some u) (sym (loud_same s loud)) least.there))
+  | inl quiet ↦ elim (acts_then s r u least.there) [
+    | inl e ↦ quiet_apart proc s r e quiet
+    | inr acts ↦ inl (acts_after proc s t u r ahead least acts)
+  ]
+]
 
 not_own : (proc : Proc) (s : MachineState) (u : Tick) (r : ℕ) → IsLeast (dues_of s) u r → r ≢ rank_of proc → actor_of r ≢ Processor proc
 not_own Nine s u r least ne = actors_differ 22 r (omega arith) (low_rank s r u least.there) ne
@@ -271,11 +286,11 @@ record Outer (proc : Proc) (s next : MachineState) (t u : Tick) (r : ℕ) (outs 
   again : RunsAhead proc next t
 
 outer_step : (proc : Proc) (s next : MachineState) (t u : Tick) (r : ℕ) (outs : List Shown) → RunsAhead proc s t → IsLeast (dues_of s) u r → r ≢ rank_of proc
-    → reference_step r s ≡ Makes next outs → Outer proc s next t u r outs
-outer_step proc s next t u r outs ahead least ne h =
+    → (Fences (actor_of r) proc → ⊥) → reference_step r s ≡ Makes next outs → Outer proc s next t u r outs
+outer_step proc s next t u r outs ahead least ne apart h =
     let st = steps_here s u r ahead.sound.parts least in
     let k = step_made s next u r outs least h in
-    let l = leaves_apart proc (actor_of r) r u s k.0 outs st (not_own proc s u r least ne) (not_fencing proc s t u r ahead least) k.1 in
+    let l = leaves_apart proc (actor_of r) r u s k.0 outs st (not_own proc s u r least ne) apart k.1 in
     let free = not_halted s proc ahead.harmless.free in
     let parts = (owes_by (actor_of r) r u s k.0 outs st k.1).sound in
     let left = subst (LeavesApart proc s) k.2 (after_it u s k.0 ahead.sound parts proc l free) in
@@ -305,6 +320,72 @@ alone_moves Nine s next m =
 alone_moves Seven s next m =
     moves_of_actors (λ (a : actor.Actor). due_by a s) (λ (a : actor.Actor). due_by a next) 23 (tick_of s.seven.processor) (omega arith) m.there m.later (λ a numbered other. m.others a other)
 
+-- ---- a step of quiet geometry before it: nobody hears of it, and it changes no due tick but its own
+
+-- what it leaves of ARM9
+module _ (s : MachineState) (t : Tick) (ahead : RunsAhead Nine s t) (quiet : is_quiet s.io ≡ true) where
+  abbrev late : MachineState
+  late = late_put (gx_finished s.io.gx) s
+
+  still_free : is_stalled (gx_finished s.io.gx) ≡ is_stalled s.io.gx
+  still_free = (let k = quiet_parts s.io quiet in (quiet_leaves s k.tick ahead.sound quiet k.due).free ∙ sym k.free)
+
+  late_harmless : IsHarmless late Nine
+  late_harmless =
+      harmless_by_part Nine s late refl (ap (λ (stalled : Bool). blocks_processor s.io.nine || stalled) still_free ∙ ahead.harmless.free) ahead.harmless.quiet ahead.harmless.deaf
+      ahead.harmless
+
+  late_ahead : RunsAhead Nine late t
+  late_ahead = record {
+    sound = sound_late s ahead.sound quiet;
+    harmless = late_harmless;
+    tick = ahead.tick;
+    below = below;
+  } where
+    below : IsBelowFence late Nine t
+    below rank at acts f = ahead.below rank at (subst (λ (dues : List (Option Tick)). due_at dues rank ≡ Some at) (acting_same s ahead.sound quiet) acts) f
+
+-- with another own part it comes to the same
+put_sound : (own : NineOwn) (s : MachineState) → IsSound s → IsSound (with_nine_own own s)
+put_sound own s sound = record {
+  parts = record { io = record { nine = sound.parts.io.nine; seven = sound.parts.io.seven; gx = sound.parts.io.gx }; keys = sound.parts.keys };
+  asleep = asleep;
+  settled = sound.settled;
+} where
+  asleep : (proc : Proc) → wakes (with_nine_own own s) proc ≡ false
+  asleep Nine = sound.asleep Nine
+  asleep Seven = sound.asleep Seven
+
+late_there : (own : NineOwn) (s : MachineState) → IsSound s → is_quiet s.io ≡ true
+    → reference_step 12 (with_nine_own own s) ≡ Makes (with_nine_own own (late_put (gx_finished s.io.gx) s)) []
+late_there own s sound quiet = quiet_step (with_nine_own own s) (put_sound own s sound) quiet
+
+-- it doesn't stop
+never_stops : (s left : MachineState) (stop : LeftOut) → IsSound s → is_quiet s.io ≡ true → reference_step 12 s ≡ Stops stop left → ⊥
+never_stops s left stop sound quiet h = not_both (late_put (gx_finished s.io.gx) s) left [] stop (sym (quiet_step s sound quiet) ∙ h)
+
+-- ---- both laws
+
+-- where quiet geometry steps before a processor's step, the outer law holds
+abbrev PassesQuiet : {Own : Type 0} → Proc → (Own → MachineState → MachineState) → (MachineState → Own) → Type 0
+PassesQuiet proc put after =
+    (s next : MachineState) (t : Tick) (outs : List Shown) → proc ≡ Nine → RunsAhead proc s t → is_quiet s.io ≡ true → reference_step 12 s ≡ Makes next outs
+    → (reference_step 12 (put (after s) s) ≡ Makes (put (after s) next) outs) × (after next ≡ after s) × RunsAhead proc next t
+
+nine_passes : (rest : NineReach) → PassesQuiet Nine with_nine_own (λ s. after_nine rest (nine_own_of s))
+nine_passes rest s next t outs nine ahead quiet h =
+    let after : MachineState → NineOwn = λ m. after_nine rest (nine_own_of m) in
+    let same = same_makes (late_put (gx_finished s.io.gx) s) next [] outs (sym (quiet_step s ahead.sound quiet) ∙ h) in
+    let P : MachineState → Type 0 = λ m. (reference_step 12 (with_nine_own (after s) s) ≡ Makes (with_nine_own (after s) m) outs) × (after m ≡ after s) × RunsAhead Nine m t in
+    subst P same.0 (
+      late_there (after s) s ahead.sound quiet ∙ ap (λ (shown : List Shown). (let came : MachineStep MachineState Shown LeftOut = Makes (with_nine_own (after s) (late_put (gx_finished s.io.gx) s)) shown in came)) same.1,
+      refl,
+      late_ahead s t ahead quiet,
+    )
+
+seven_passes : (rest : SevenReach) → PassesQuiet Seven with_seven_part (λ s. after_seven rest s.seven)
+seven_passes rest s next t outs nine ahead quiet h = absurd (proc_differs (sym nine))
+
 -- Both laws for a processor whose own part is put into a machine so, by what is known of it: that others leave it and don't depend on it where it fits the machine, nor does
 -- what follows a step while the processor isn't halted; and what a harmless step makes of it, which fits.
 module _ (proc : Proc) {Own : Type 0} (put : Own → MachineState → MachineState) (after : MachineState → Own) (Fits : Own → MachineState → Type 0)
@@ -314,30 +395,42 @@ module _ (proc : Proc) {Own : Type 0} (put : Own → MachineState → MachineSta
     (inner : (s : MachineState) → IsCalm s → IsHarmless s proc → reference_step (rank_of proc) s ≡ Makes (put (after s) s) [])
     (moves : (s : MachineState) → IsHarmless s proc → MovesAlone proc s (put (after s) s))
     (fits : (s : MachineState) → IsHarmless s proc → Fits (after s) s)
-    (same : (s next : MachineState) → LeavesApart proc s next → after next ≡ after s) where
+    (same : (s next : MachineState) → LeavesApart proc s next → after next ≡ after s)
+    (passes : PassesQuiet proc put after) where
   -- what another's step comes to on the machine with the own part that the harmless step makes
   there : (s : MachineState) (t u : Tick) (r : ℕ) (came : MachineStep MachineState Shown LeftOut) → RunsAhead proc s t → IsLeast (dues_of s) u r → r ≢ rank_of proc
-      → step_by r (actor_of r) s ≡ came → reference_step r (put (after s) s) ≡ awake (Some u) (step_with (put (after s)) came)
-  there s t u r came ahead least ne took =
+      → (Fences (actor_of r) proc → ⊥) → step_by r (actor_of r) s ≡ came → reference_step r (put (after s) s) ≡ awake (Some u) (step_with (put (after s)) came)
+  there s t u r came ahead least ne apart took =
       let a = actor_of r in
       let other = not_own proc s u r least ne in
       let due = (moves s ahead.harmless).others a other ∙ due_of_least s r u least in
-      let step = leave r a (after s) s other (not_fencing proc s t u r ahead least) (fits s ahead.harmless) ∙ ap (step_with (put (after s))) took in
+      let step = leave r a (after s) s other apart (fits s ahead.harmless) ∙ ap (step_with (put (after s))) took in
       ap (λ (d : Option Tick). awake d (step_by r a (put (after s) s))) due ∙ ap (awake (Some u)) step
+
+  apart_outer : (s next : MachineState) (t u : Tick) (r : ℕ) (outs : List Shown) → RunsAhead proc s t → IsLeast (dues_of s) u r → r ≢ rank_of proc
+      → (Fences (actor_of r) proc → ⊥) → reference_step r s ≡ Makes next outs
+      → (reference_step r (put (after s) s) ≡ Makes (put (after s) next) outs) × (after next ≡ after s) × RunsAhead proc next t
+  apart_outer s next t u r outs ahead least ne apart h =
+      let o = outer_step proc s next t u r outs ahead least ne apart h in (
+        there s t u r (Makes o.made outs) ahead least ne apart o.took
+            ∙ ap (λ (m : MachineState). (let came : MachineStep MachineState Shown LeftOut = Makes m outs in came)) (ends u (after s) o.made o.awake_so ∙ ap (put (after s)) o.ended_so),
+        same s next o.left,
+        o.again,
+      )
 
   pub own_part : HasOwnPart reference (rank_of proc) put after (RunsAhead proc)
   own_part = record {
     moves = λ s t ahead. subst (λ (x : Tick). MovesOn (rank_of proc) x (dues_of s) (dues_of (put (after s) s))) (sym ahead.tick) (alone_moves proc s (put (after s) s) (moves s ahead.harmless));
     inner = λ s t ahead. inner s (calm s ahead.sound) ahead.harmless;
-    outer = λ s next t u r outs ahead least ne h.
-        (let o = outer_step proc s next t u r outs ahead least ne h in (
-          there s t u r (Makes o.made outs) ahead least ne o.took
-              ∙ ap (λ (m : MachineState). (let came : MachineStep MachineState Shown LeftOut = Makes m outs in came)) (ends u (after s) o.made o.awake_so ∙ ap (put (after s)) o.ended_so),
-          same s next o.left,
-          o.again,
-        ));
-    halts = λ s left t u r stop ahead least ne h.
-        (put (after s) left, there s t u r (Stops stop left) ahead least ne (awake_stops (due_by (actor_of r) s) (step_by r (actor_of r) s) left stop h));
+    outer = λ s next t u r outs ahead least ne h. elim (apart_from proc s t u r ahead least) [
+      | inl apart ↦ apart_outer s next t u r outs ahead least ne apart h
+      | inr k ↦ (let P : ℕ → Type 0 = λ x. (reference_step x (put (after s) s) ≡ Makes (put (after s) next) outs) × (after next ≡ after s) × RunsAhead proc next t in
+          subst P (sym k.1) (passes s next t outs k.0 ahead k.2 (subst (λ (x : ℕ). reference_step x s ≡ Makes next outs) k.1 h)))
+    ];
+    halts = λ s left t u r stop ahead least ne h. elim (apart_from proc s t u r ahead least) [
+      | inl apart ↦ (put (after s) left, there s t u r (Stops stop left) ahead least ne apart (awake_stops (due_by (actor_of r) s) (step_by r (actor_of r) s) left stop h))
+      | inr k ↦ absurd (never_stops s left stop ahead.sound k.2 (subst (λ (x : ℕ). reference_step x s ≡ Stops stop left) k.1 h))
+    ];
   }
 
 -- Each processor may run ahead. (What a harmless step makes of its own part is said beside what it reaches of some machine, whichever that is.)
@@ -347,10 +440,10 @@ may_run_ahead beside Nine =
     ahead_from_own reference 22 with_nine_own (λ s. after_nine rest (nine_own_of s)) (RunsAhead Nine)
     (own_part Nine with_nine_own (λ s. after_nine rest (nine_own_of s)) (λ own s. IsSharedSo own.share s.shared s.io)
     (λ rank a own s other apart fits. leave_nine_own rank a own s (other, apart) fits) ends_nine_own (inner_nine rest) (nine_moves rest) (nine_fits rest)
-    (λ s next l. ap (after_nine rest) l.own))
+    (λ s next l. ap (after_nine rest) l.own) (nine_passes rest))
 may_run_ahead beside Seven =
     let rest = seven_reach (tick_of beside.seven.processor) beside in
     ahead_from_own reference 23 with_seven_part (λ s. after_seven rest s.seven) (RunsAhead Seven)
     (own_part Seven with_seven_part (λ s. after_seven rest s.seven) (λ own s. Unit {0})
     (λ rank a own s other apart fits. leave_seven rank a own s (not_reached a Seven other apart)) seven_ended (inner_seven rest) (seven_moves rest) (λ s h. tt)
-    (λ s next l. ap (after_seven rest) l.own))
+    (λ s next l. ap (after_seven rest) l.own) (seven_passes rest))

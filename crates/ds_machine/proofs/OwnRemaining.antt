@@ -1,4 +1,4 @@
-use Rattle.std.proofs.Common.{ℕ, ◌≡◌, ◌<◌, inl, inr, List, [], Option, Some, None, refl, sym, ◌∙◌, ap, subst, arith}
+use Rattle.std.proofs.Common.{ℕ, ◌≡◌, ◌<◌, inl, inr, Bool, true, false, true≢false, List, [], Option, Some, None, refl, sym, ◌∙◌, ap, subst, arith}
 use Rattle.ds_base.specs.Schedules.{IsLater}
 use Rattle.ds_base.specs.declared.processors.Proc.{Proc}
 use Rattle.ds_base.specs.declared.processors.Proc.TheVariants.{Nine, Seven}
@@ -8,29 +8,33 @@ use Rattle.arm_core.specs.declared.outcomes.Stepped.TheVariants.{Cost, Halted, L
 use Rattle.ds_ports.specs.Dues.{IsQuiet}
 use Rattle.ds_ports.specs.Io.{io_of}
 use Rattle.ds_ports.proofs.Later.{still_later}
-use Rattle.ds_runs.specs.Runs.{IsLeast, Makes}
+use Rattle.ds_runs.specs.Actors.{actor_of}
+use Rattle.ds_runs.specs.Runs.{IsLeast, Makes, due_at}
 use Rattle.ds_runs.specs.declared.actors.Actor.TheVariants.{Processor}
 use Rattle.ds_runs.proofs.RunLaws.{same_makes, not_both}
-use Rattle.ds_machine.specs.Private.{BelongsToTurn, TurnStepsFall, rank_of, ticks_left}
-use Rattle.ds_machine.specs.Reference.{HasSoundParts, Shown, awake, dues_of, processor_due, reference_step, step_by}
+use Rattle.ds_machine.specs.Acting.{acting_dues}
+use Rattle.ds_machine.specs.Lagging.{CatchesUpIf, observes_by}
+use Rattle.ds_machine.specs.Private.{rank_of}
+use Rattle.ds_machine.specs.TurnSteps.{BelongsToTurn, TurnStepsFall, own_remaining, ticks_left}
+use Rattle.ds_machine.specs.Reference.{HasSoundParts, Shown, awake, processor_due, reference_step, step_by}
 use Rattle.ds_machine.specs.States.{MachineState}
-use Rattle.ds_machine.specs.Steps.{ended, gone_by, machine_concluded}
+use Rattle.ds_machine.specs.Steps.{ended, gone_by, machine_concluded, processor_of}
+use Rattle.ds_machine.proofs.ActingDues.{acting_processor}
+use Rattle.ds_machine.proofs.CatchingUp.{caught_so}
 use Rattle.ds_machine.proofs.DueTicks.{own_tick}
 use Rattle.ds_machine.proofs.MachineSchedule.{awake_makes}
 use Rattle.ds_machine.proofs.ProcessorSteps.{Operation, came_by, concludes, costs_some, gone_sound, processor_io_later, reached_by}
-use Rattle.ds_machine.proofs.Quiet.{quiet_ahead, quiet_processor}
+use Rattle.ds_machine.proofs.PrivateApart.{rank_apart}
+use Rattle.ds_machine.proofs.Quiet.{quiet_acting, quiet_ahead}
 use Rattle.ds_machine.proofs.Wakes.{ends}
 
 -- A step of a processor's turn that is taken leaves the processor due later, or not at all: so a loop over such steps ends.
 
 quiet_turn : (until : ℕ) (s : MachineState) (proc : Proc) (b : BelongsToTurn until s proc) → IsQuiet b.tick (io_of s.io proc)
 quiet_turn until s proc b = elim b.goes [
-  | inl least ↦ least_quiet proc least
+  | inl least ↦ quiet_acting s b.tick proc least
   | inr ahead ↦ subst (λ (t : Tick). IsQuiet t (io_of s.io proc)) (sym (own_tick s proc b.tick b.due)) (quiet_ahead s proc ahead)
-] where
-  least_quiet : (proc : Proc) → IsLeast (dues_of s) b.tick (rank_of proc) → IsQuiet b.tick (io_of s.io proc)
-  least_quiet Nine least = quiet_processor s b.tick 22 Nine least refl
-  least_quiet Seven least = quiet_processor s b.tick 23 Seven least refl
+]
 
 -- what came of it
 came_of : (s next : MachineState) (proc : Proc) (tick : Tick) (outs : List Shown) → processor_due s proc ≡ Some tick → reference_step (rank_of proc) s ≡ Makes next outs
@@ -58,16 +62,41 @@ concluded_silent rank proc m made outs (Cost clocks) h = sym (same_makes (gone_b
 concluded_silent rank proc m made outs (Halted clocks) h = sym (same_makes (gone_by proc (Halted clocks) m) made [] outs h).1
 concluded_silent rank proc m made outs (Left stop) h = absurd (not_both made m outs _ (sym h))
 
-pub turn_silent : (until : ℕ) (s next : MachineState) (proc : Proc) (outs : List Shown) → BelongsToTurn until s proc → reference_step (rank_of proc) s ≡ Makes next outs → outs ≡ []
-turn_silent until s next proc outs b h =
-    let k = awake_makes b.tick (step_by (rank_of proc) (Processor proc) s) next outs (came_of s next proc b.tick outs b.due h) in
+pub turn_silent : (s next : MachineState) (proc : Proc) (tick : Tick) (outs : List Shown) → processor_due s proc ≡ Some tick → reference_step (rank_of proc) s ≡ Makes next outs → outs ≡ []
+turn_silent s next proc tick outs due h =
+    let k = awake_makes tick (step_by (rank_of proc) (Processor proc) s) next outs (came_of s next proc tick outs due h) in
     concluded_silent (rank_of proc) proc (reached_by proc s) k.0 outs (came_by proc s) k.1
 
 fewer_left : (until : ℕ) (tick : Tick) (due : Option Tick) → tick.0 < until → IsLater tick due → ticks_left until due < ticks_left until (Some tick)
 fewer_left until tick None lt later = omega (arith, lt)
 fewer_left until tick (Some at) lt later = omega (arith, lt, later)
 
-pub turn_steps_fall : TurnStepsFall
-turn_steps_fall until s next proc outs sound b h =
+pub step_falls : (until : ℕ) (s next : MachineState) (proc : Proc) (outs : List Shown) → HasSoundParts s → BelongsToTurn until s proc
+    → reference_step (rank_of proc) s ≡ Makes next outs → own_remaining until next proc < own_remaining until s proc
+step_falls until s next proc outs sound b h =
     subst (λ (o : Option Tick). ticks_left until (processor_due next proc) < ticks_left until o) (sym b.due)
     (fewer_left until b.tick (processor_due next proc) b.below (turn_later until s next proc outs sound b h))
+
+-- ---- where the step observes geometry, geometry caught up before it, which leaves what acts
+
+pub still_belongs : (until : ℕ) (s caught : MachineState) (proc : Proc) (b : BelongsToTurn until s proc) → acting_dues caught ≡ acting_dues s
+    → IsLeast (acting_dues s) b.tick (rank_of proc) → BelongsToTurn until caught proc
+still_belongs until s caught proc b same least =
+    let still = subst (λ (dues : List (Option Tick)). IsLeast dues b.tick (rank_of proc)) (sym same) least in
+    record { tick = b.tick; due = sym (acting_processor caught proc) ∙ still.there; below = b.below; goes = inl still }
+
+pub still_due : (s caught : MachineState) (proc : Proc) → acting_dues caught ≡ acting_dues s → processor_due caught proc ≡ processor_due s proc
+still_due s caught proc same =
+    sym (acting_processor caught proc) ∙ ap (λ (dues : List (Option Tick)). due_at dues (rank_of proc)) same ∙ acting_processor s proc
+
+pub turn_steps_fall : TurnStepsFall
+turn_steps_fall until s caught next proc outs sound b catches h = by_test (observes_by (actor_of (rank_of proc)) s) refl catches where
+  by_test : (observes : Bool) → observes_by (actor_of (rank_of proc)) s ≡ observes → CatchesUpIf observes (processor_of s proc).due (rank_of proc) s caught
+      → own_remaining until next proc < own_remaining until s proc
+  by_test false e same = step_falls until s next proc outs sound.parts b (subst (λ (m : MachineState). reference_step (rank_of proc) m ≡ Makes next outs) same h)
+  by_test true e up = elim b.goes [
+    | inl least ↦ (let k = caught_so (processor_of s proc).due (rank_of proc) s caught sound up.steps in
+        subst (λ (o : Option Tick). own_remaining until next proc < ticks_left until o) (still_due s caught proc k.dues)
+        (step_falls until caught next proc outs k.sound.parts (still_belongs until s caught proc b k.dues least) h))
+    | inr ahead ↦ absurd (true≢false (sym e ∙ rank_apart s proc ahead.private))
+  ]

@@ -1,5 +1,6 @@
-use Rattle.std.proofs.Common.{ℕ, ◌≡◌, ◌<◌, ◌≤◌, ◌+◌, ◌-◌, ◌*◌, ◌/◌, ◌%◌, ◌^◌, ◌==◌, ◌⊎◌, inl, inr, min, nat_le, nat_lt, not, if◌then◌else◌, Bool, true, false, true≢false, List, [], ◌∷◌, refl, sym, ◌∙◌, ap, arith}
+use Rattle.std.proofs.Common.{ℕ, ◌≡◌, ◌<◌, ◌≤◌, ◌+◌, ◌-◌, ◌*◌, ◌/◌, ◌%◌, ◌^◌, ◌==◌, ◌⊎◌, inl, inr, min, nat_le, nat_lt, not, if◌then◌else◌, Bool, true, false, List, [], ◌∷◌, refl, sym, ◌∙◌, ap, arith}
 use Rattle.std.specs.Prelude.{◌&&◌, ◌||◌}
+use Rattle.std.proofs.lemmas.Bool.{not-true}
 use Rattle.ds_base.specs.Bits.{bit, bits}
 use Rattle.ds_base.specs.Memories.{memory_size, space_size}
 use Rattle.ds_base.specs.declared.memories.Memory.TheVariants.{Shared, Palette, Oam}
@@ -22,10 +23,10 @@ use Rattle.ds_machine.specs.Touching.{GoesByWords}
 
 -- ---- tests against a multiple of 4
 
-lt_cases : (x y : ℕ) → ((x < y) × (nat_lt x y ≡ true)) ⊎ ((y ≤ x) × (nat_lt x y ≡ false))
+pub lt_cases : (x y : ℕ) → ((x < y) × (nat_lt x y ≡ true)) ⊎ ((y ≤ x) × (nat_lt x y ≡ false))
 lt_cases x y = grind arith
 
-le_cases : (x y : ℕ) → ((x ≤ y) × (nat_le x y ≡ true)) ⊎ ((y < x) × (nat_le x y ≡ false))
+pub le_cases : (x y : ℕ) → ((x ≤ y) × (nat_le x y ≡ true)) ⊎ ((y < x) × (nat_le x y ≡ false))
 le_cases x y = grind arith
 
 below_same : (a b k : ℕ) → a / 4 ≡ b / 4 → nat_lt a (4 * k) ≡ nat_lt b (4 * k)
@@ -76,14 +77,10 @@ row_facts r rs h = facts (r.first % 4) (r.last % 4) (is_of_nine r.content) (are_
   facts : (first last : ℕ) (own rest : Bool) → ((first == 0) && (last == 3) && own && rest) ≡ true → (first ≡ 0) × (last ≡ 3) × (own ≡ true) × (rest ≡ true)
   facts first last own rest h = grind arith
 
-not_so : (b : Bool) → not b ≡ true → b ≡ false
-not_so true h = absurd (true≢false (sym h))
-not_so false h = refl
-
 content_private : (controls : List ℕ) (content : Content) (offset : ℕ) → is_of_nine content ≡ true → is_private_place controls (place_at content offset) ≡ is_private_content content
 content_private controls (Cells Shared from bytes) offset h = refl
 content_private controls (Cells memory from bytes) offset h = refl
-content_private controls (Video space) offset h = ap not (not_met controls space (offset % space_size space) (not_so (same_space space Arm7) h))
+content_private controls (Video space) offset h = ap not (not_met controls space (offset % space_size space) (not-true (same_space space Arm7) h))
 content_private controls Ports offset h = refl
 content_private controls BootRom offset h = refl
 content_private controls Empty offset h = refl
@@ -117,7 +114,10 @@ pub private_by_rows : (controls : List ℕ) (wramcnt at : ℕ) → is_private_pl
 private_by_rows controls wramcnt at = rows_private controls (regions_of_nine wramcnt) at (rows_of_nine wramcnt)
 
 -- so are palettes, video memory and OAM
-past_row : (first last at : ℕ) → last < at → (nat_le first at && nat_le at last) ≡ false
+pub in_row : (first last at : ℕ) → first ≤ at → at ≤ last → (nat_le first at && nat_le at last) ≡ true
+in_row first last at low high = grind (arith, low, high)
+
+pub past_row : (first last at : ℕ) → last < at → (nat_le first at && nat_le at last) ≡ false
 past_row first last at h = grind arith
 
 palettes_private : (w at : ℕ) → at / 2 ^ 24 ≡ 5 → is_private_in (regions_of_nine w) at ≡ true

@@ -14,6 +14,7 @@ use Rattle.ds_places.specs.declared.kinds.Place.TheVariants.{Cell, Rom, Nothing}
 use Rattle.ds_map.specs.Accesses.{after_read_at, fetched_at, map_fetched, map_read, map_refusal, map_value, map_written, refusal_at, value_at, written_at}
 use Rattle.ds_map.specs.Maps.{MapState}
 use Rattle.ds_machine.specs.Sides.{is_private_to_seven}
+use Rattle.ds_machine.proofs.PlacesByWords.{in_row, past_row}
 
 -- An access's own address is private where all of its bytes are. ARM7's private places: the same stands there whatever WRAMCNT says, and an access of it reaches its own work RAM alone.
 
@@ -61,9 +62,6 @@ pub record IsFixed (at : ℕ) (place : Place) : Type 0 where
   pub own : is_own place ≡ true
   pub stands : (wramcnt : ℕ) → place_of Seven wramcnt at ≡ place
 
-not_in : (first last at : ℕ) → last < at → (nat_le first at && nat_le at last) ≡ false
-not_in first last at lt = grind arith
-
 -- they are below 4000h, and from 3800000h to 3FFFFFFh, or there is no address
 abbrev pub low_place : ℕ → Place
 low_place at =
@@ -83,28 +81,25 @@ low_cases : (at : ℕ) → IsLow at → (at ≤ 0x3FFF) ⊎ (((0x03800000 ≤ at
 low_cases at (inl h) = grind arith
 low_cases at (inr h) = inr (inr h)
 
-is_in : (first last at : ℕ) → first ≤ at → at ≤ last → (nat_le first at && nat_le at last) ≡ true
-is_in first last at low high = grind arith
-
 low_stands : (wramcnt at : ℕ) → (at ≤ 0x3FFF) ⊎ (((0x03800000 ≤ at) × (at ≤ 0x03FFFFFF)) ⊎ (2 ^ 32 ≤ at)) → place_of Seven wramcnt at ≡ low_place at
-low_stands wramcnt at (inl le) = rw (is_in 0x00000000 0x00003FFF at (omega arith) le) refl
+low_stands wramcnt at (inl le) = rw (in_row 0x00000000 0x00003FFF at (omega arith) le) refl
 low_stands wramcnt at (inr (inl b)) =
     let low = b.0 in
     let high = b.1 in
     rw (
-      not_in 0x00000000 0x00003FFF at (omega (arith, low)),
-      not_in 0x02000000 0x02FFFFFF at (omega (arith, low)),
-      not_in 0x03000000 0x037FFFFF at (omega (arith, low)),
-      is_in 0x03800000 0x03FFFFFF at low high,
+      past_row 0x00000000 0x00003FFF at (omega (arith, low)),
+      past_row 0x02000000 0x02FFFFFF at (omega (arith, low)),
+      past_row 0x03000000 0x037FFFFF at (omega (arith, low)),
+      in_row 0x03800000 0x03FFFFFF at low high,
     ) refl
 low_stands wramcnt at (inr (inr le)) =
     rw (
-      not_in 0x00000000 0x00003FFF at (omega (arith, le)),
-      not_in 0x02000000 0x02FFFFFF at (omega (arith, le)),
-      not_in 0x03000000 0x037FFFFF at (omega (arith, le)),
-      not_in 0x03800000 0x03FFFFFF at (omega (arith, le)),
-      not_in 0x04000000 0x04FFFFFF at (omega (arith, le)),
-      not_in 0x06000000 0x06FFFFFF at (omega (arith, le)),
+      past_row 0x00000000 0x00003FFF at (omega (arith, le)),
+      past_row 0x02000000 0x02FFFFFF at (omega (arith, le)),
+      past_row 0x03000000 0x037FFFFF at (omega (arith, le)),
+      past_row 0x03800000 0x03FFFFFF at (omega (arith, le)),
+      past_row 0x04000000 0x04FFFFFF at (omega (arith, le)),
+      past_row 0x06000000 0x06FFFFFF at (omega (arith, le)),
     ) refl
 
 pub low_fixed : (at : ℕ) → IsLow at → IsFixed at (low_place at)

@@ -3,6 +3,7 @@ use Rattle.std.specs.Prelude.{◌&&◌, ◌||◌}
 use Rattle.std.specs.List.{list_all}
 use Rattle.std.proofs.lemmas.List.Elements.{All-contains, Contains-append_left, Contains-append_right, Contains-append_cases}
 use Rattle.std.proofs.lemmas.List.Sums.{AllPass-from_list_all}
+use Rattle.std.proofs.lemmas.Bool.{and_from, and_parts}
 use Rattle.ds_base.specs.Accesses.{Access, Fetch, MemoryMachine, Read, Write}
 use Rattle.ds_base.specs.Processors.{architecture_of}
 use Rattle.ds_base.specs.declared.memories.Width.{Width}
@@ -43,22 +44,9 @@ use Rattle.ds_machine.specs.Touching.{FetchStaysPrivate, InstrReaches, InstrStay
 
 -- ---- tests of all bytes
 
-both : (a b : Bool) → a ≡ true → b ≡ true → (a && b) ≡ true
-both true true h k = refl
-both true false h k = k
-both false b h k = h
-
-first_of : (a b : Bool) → (a && b) ≡ true → a ≡ true
-first_of true b h = refl
-first_of false b h = h
-
-last_of : (a b : Bool) → (a && b) ≡ true → b ≡ true
-last_of true b h = h
-last_of false b h = absurd (true≢false (sym h))
-
 all_of : (p : ℕ → Bool) (xs : List ℕ) → ((x : ℕ) → Contains xs x → p x ≡ true) → list_all p xs ≡ true
 all_of p [] h = refl
-all_of p (x ∷ xs) h = both (p x) (list_all p xs) (h x (0, omega arith, refl)) (all_of p xs (λ y c. h y (suc c.0, (let lt = c.1 in omega (arith, lt)), c.2)))
+all_of p (x ∷ xs) h = and_from (p x) (list_all p xs) (h x (0, omega arith, refl)) (all_of p xs (λ y c. h y (suc c.0, (let lt = c.1 in omega (arith, lt)), c.2)))
 
 each_of : (p : ℕ → Bool) (xs : List ℕ) → list_all p xs ≡ true → (x : ℕ) → Contains xs x → p x ≡ true
 each_of p xs h x c = All-contains (λ y. p y ≡ true) xs x (AllPass-from_list_all p xs h) c
@@ -277,8 +265,8 @@ module _ {S : Type 0} (side : SideOf S) (state : S) where
       let q = side.is_private state true false in
       let a = not r || list_all p (touched_bytes touch) in
       let b = not w || list_all q (touched_bytes touch) in
-      reach_by r w accesses suits (λ e. over_touch p touch accesses covers (where_so r (list_all p (touched_bytes touch)) (first_of a b h) e))
-      (λ e. over_touch q touch accesses covers (where_so w (list_all q (touched_bytes touch)) (last_of a b h) e))
+      reach_by r w accesses suits (λ e. over_touch p touch accesses covers (where_so r (list_all p (touched_bytes touch)) (and_parts a b h).0 e))
+      (λ e. over_touch q touch accesses covers (where_so w (list_all q (touched_bytes touch)) (and_parts a b h).1 e))
   data_passes r w touch accesses (inr none) covers h = subst (AllReachPrivate side state) (sym none) tt
 
   pub data_passed : (r w : Bool) (touch : Touch) (accesses : List Access) → Suits r w accesses ⊎ (accesses ≡ []) → Covers touch accesses → AllReachPrivate side state accesses → tested r w touch ≡ true
@@ -287,7 +275,7 @@ module _ {S : Type 0} (side : SideOf S) (state : S) where
       let q = side.is_private state true false in
       let a = not r || list_all p (touched_bytes touch) in
       let b = not w || list_all q (touched_bytes touch) in
-      both a b (so_where r (list_all p (touched_bytes touch)) (λ e. touch_over p touch accesses covers (reads_by r w accesses suits h e)))
+      and_from a b (so_where r (list_all p (touched_bytes touch)) (λ e. touch_over p touch accesses covers (reads_by r w accesses suits h e)))
       (so_where w (list_all q (touched_bytes touch)) (λ e. touch_over q touch accesses covers (writes_by r w accesses suits h e)))
   data_passed r w touch accesses (inr none) covers h =
       let p = side.is_private state false false in
@@ -295,7 +283,7 @@ module _ {S : Type 0} (side : SideOf S) (state : S) where
       let a = not r || list_all p (touched_bytes touch) in
       let b = not w || list_all q (touched_bytes touch) in
       let nothing = ap accessed_bytes none in
-      both a b (so_where r (list_all p (touched_bytes touch)) (λ e. touch_over p touch accesses covers (none_passes p (accessed_bytes accesses) nothing)))
+      and_from a b (so_where r (list_all p (touched_bytes touch)) (λ e. touch_over p touch accesses covers (none_passes p (accessed_bytes accesses) nothing)))
       (so_where w (list_all q (touched_bytes touch)) (λ e. touch_over q touch accesses covers (none_passes q (accessed_bytes accesses) nothing)))
 
   instr_is : (s : RegisterState) (instr : Instr) (touch : Touch) → Covers touch (meaning side.arch (side.base state) s instr).accesses
@@ -306,8 +294,8 @@ module _ {S : Type 0} (side : SideOf S) (state : S) where
       let w = writes (equivalent instr) in
       let go = may_go_ahead side.arch (Some instr) in
       let suits = meant_suits side.arch (side.base state) s instr in (
-        λ h. (first_of go (tested r w touch) h, data_passes r w touch m.accesses suits covers (last_of go (tested r w touch) h)),
-        λ k. both go (tested r w touch) k.0 (data_passed r w touch m.accesses suits covers k.1),
+        λ h. ((and_parts go (tested r w touch) h).0, data_passes r w touch m.accesses suits covers (and_parts go (tested r w touch) h).1),
+        λ k. and_from go (tested r w touch) k.0 (data_passed r w touch m.accesses suits covers k.1),
       )
 
   fetch_is : (s : RegisterState) (touch : Touch) (at : ℕ) (width : Width) → Fetch at width ≡ next_fetch s → touched_bytes touch ≡ access_bytes (Fetch at width)

@@ -1,5 +1,6 @@
-use Rattle.std.proofs.Common.{ℕ, zero, suc, ◌≡◌, ◌<◌, ◌≤◌, inl, inr, Bool, true, false, true≢false, Option, Some, None, refl, sym, ◌∙◌, ap, subst, arith}
-use Rattle.std.specs.Prelude.{◌||◌, is_some}
+use Rattle.std.proofs.Common.{ℕ, zero, suc, ◌≡◌, ◌<◌, ◌≤◌, inl, inr, Bool, true, false, true≢false, List, Option, Some, None, refl, sym, ◌∙◌, ap, subst, arith}
+use Rattle.std.specs.Prelude.{is_some}
+use Rattle.std.proofs.lemmas.Bool.{or_parts}
 use Rattle.ds_base.specs.Schedules.{IsLater}
 use Rattle.ds_base.specs.declared.processors.Proc.{Proc}
 use Rattle.ds_base.specs.declared.processors.Proc.TheVariants.{Nine, Seven}
@@ -13,10 +14,12 @@ use Rattle.ds_runs.specs.Actors.{actor_of}
 use Rattle.ds_runs.specs.Runs.{IsLeast, due_at}
 use Rattle.ds_runs.specs.declared.actors.Actor as actor
 use Rattle.ds_runs.specs.declared.actors.Actor.TheVariants.{KeyScript, Video, Timer, Divider, SquareRoot, Geometry, Card, Dma, Processor}
-use Rattle.ds_machine.specs.Private.{IsAhead, IsBelowFence}
-use Rattle.ds_machine.specs.Reference.{Fences, due_by, dues_of}
+use Rattle.ds_machine.specs.Acting.{acting_dues}
+use Rattle.ds_machine.specs.Private.{IsAhead, IsBelowFence, rank_of}
+use Rattle.ds_machine.specs.Reference.{Fences, due_by, dues_of, processor_due}
 use Rattle.ds_machine.specs.States.{MachineState}
 use Rattle.ds_machine.specs.Steps.{is_blocked, is_halted, processor_of, tick_of}
+use Rattle.ds_machine.proofs.ActingDues.{acting_processor, other_acts}
 use Rattle.ds_machine.proofs.DueTicks.{due_of_rank, due_of_step, due_then}
 use Rattle.ds_machine.proofs.Moves.{later_if}
 
@@ -63,60 +66,77 @@ timer_rank Seven (suc (suc zero)) lt = (8, record { low = omega arith; there = r
 timer_rank Seven (suc (suc (suc zero))) lt = (9, record { low = omega arith; there = refl })
 timer_rank proc (suc (suc (suc (suc n)))) lt = absurd (omega (arith, lt))
 
-pub timers_later : (s : MachineState) (tick : Tick) (rank : ℕ) → IsLeast (dues_of s) tick rank → comes_late (actor_of rank) ≡ true
-    → (proc : Proc) (which : ℕ) → which < 4 → IsLater tick (io_due (Timer proc which) s.io)
-timers_later s tick rank least late proc which lt = later_if tick (io_due (Timer proc which) s.io) (λ at h.
+-- the least of some due ticks, among which the timers' are
+timers_past : (s : MachineState) (dues : List (Option Tick)) (tick : Tick) (rank : ℕ) → IsLeast dues tick rank → comes_late (actor_of rank) ≡ true
+    → ((each : ℕ) → each < 10 → due_at dues each ≡ due_by (actor_of each) s) → (proc : Proc) (which : ℕ) → which < 4 → IsLater tick (io_due (Timer proc which) s.io)
+timers_past s dues tick rank least late by proc which lt = later_if tick (io_due (Timer proc which) s.io) (λ at h.
     (let high = late_rank rank late in
     let has = timer_rank proc which lt in
     let low = has.1.low in
-    let there : due_at (dues_of s) has.0 ≡ Some at = due_of_rank s has.0 (omega (arith, low)) ∙ ap (λ (a : actor.Actor). due_by a s) has.1.there ∙ h in
+    let there : due_at dues has.0 ≡ Some at = by has.0 low ∙ ap (λ (a : actor.Actor). due_by a s) has.1.there ∙ h in
     elim (least.least has.0 at there) [ inl before ↦ before | inr same ↦ absurd (omega (arith, same.1, high, low)) ]))
+
+pub timers_later : (s : MachineState) (tick : Tick) (rank : ℕ) → IsLeast (dues_of s) tick rank → comes_late (actor_of rank) ≡ true
+    → (proc : Proc) (which : ℕ) → which < 4 → IsLater tick (io_due (Timer proc which) s.io)
+timers_later s tick rank least late = timers_past s (dues_of s) tick rank least late (λ each low. due_of_rank s each (omega (arith, low)))
+
+-- those below geometry's rank act where they are due
+low_acts : (s : MachineState) (rank : ℕ) → rank < 10 → due_at (acting_dues s) rank ≡ due_by (actor_of rank) s
+low_acts s rank low = other_acts s rank (omega (arith, low)) (λ e. omega (arith, low, e)) ∙ due_of_rank s rank (omega (arith, low))
+
+pub acting_timers_later : (s : MachineState) (tick : Tick) (rank : ℕ) → IsLeast (acting_dues s) tick rank → comes_late (actor_of rank) ≡ true
+    → (proc : Proc) (which : ℕ) → which < 4 → IsLater tick (io_due (Timer proc which) s.io)
+acting_timers_later s tick rank least late = timers_past s (acting_dues s) tick rank least late (low_acts s)
 
 -- a channel that doesn't run is never ready
 never_ready : (now : Tick) (last trigger : Option Tick) → is_some trigger ≡ false → IsLater now (ready_by last trigger)
 never_ready now last None h = tt
 never_ready now last (Some trigger) h = absurd (true≢false h)
 
-pub neither : (a b : Bool) → (a || b) ≡ false → (a ≡ false) × (b ≡ false)
-neither true b h = absurd (true≢false h)
-neither false b h = (refl, h)
-
 -- where no channel runs none is ready
 none_ready : (now : Tick) (dma : DmaState) → any_runs dma.channels ≡ false → AreReadyLater now dma
-none_ready now dma none zero lt = never_ready now dma.last (channel_at dma.channels 0).trigger (neither _ _ (neither _ _ (neither _ _ none).0).0).0
-none_ready now dma none (suc zero) lt = never_ready now dma.last (channel_at dma.channels 1).trigger (neither _ _ (neither _ _ (neither _ _ none).0).0).1
-none_ready now dma none (suc (suc zero)) lt = never_ready now dma.last (channel_at dma.channels 2).trigger (neither _ _ (neither _ _ none).0).1
-none_ready now dma none (suc (suc (suc zero))) lt = never_ready now dma.last (channel_at dma.channels 3).trigger (neither _ _ none).1
+none_ready now dma none zero lt = never_ready now dma.last (channel_at dma.channels 0).trigger (or_parts _ _ (or_parts _ _ (or_parts _ _ none).0).0).0
+none_ready now dma none (suc zero) lt = never_ready now dma.last (channel_at dma.channels 1).trigger (or_parts _ _ (or_parts _ _ (or_parts _ _ none).0).0).1
+none_ready now dma none (suc (suc zero)) lt = never_ready now dma.last (channel_at dma.channels 2).trigger (or_parts _ _ (or_parts _ _ none).0).1
+none_ready now dma none (suc (suc (suc zero))) lt = never_ready now dma.last (channel_at dma.channels 3).trigger (or_parts _ _ none).1
 none_ready now dma none (suc (suc (suc (suc n)))) lt = absurd (omega (arith, lt))
 
 -- a processor that isn't blocked runs alone
 pub none_blocked : (now : Tick) (o : ProcessorIoState) → blocks_processor o ≡ false → AreReadyLater now o.dma
-none_blocked now o h = none_ready now o.dma (neither o.halted (any_runs o.dma.channels) h).1
+none_blocked now o h = none_ready now o.dma (or_parts o.halted (any_runs o.dma.channels) h).1
 
 -- what holds a processor holds it by more than its own
 pub own_blocks : (s : MachineState) (proc : Proc) → is_blocked s proc ≡ false → blocks_processor (io_of s.io proc) ≡ false
-own_blocks s Nine h = (neither _ _ h).0
+own_blocks s Nine h = (or_parts _ _ h).0
 own_blocks s Seven h = h
 
 pub not_halted : (s : MachineState) (proc : Proc) → is_blocked s proc ≡ false → is_halted s proc ≡ false
-not_halted s proc h = (neither _ _ (own_blocks s proc h)).0
+not_halted s proc h = (or_parts _ _ (own_blocks s proc h)).0
 
--- so where a processor takes its step
+-- so where a processor takes its step, as the least of all or as the least acting actor
+quiet_due : (s : MachineState) (tick : Tick) (proc : Proc) → processor_due s proc ≡ Some tick
+    → ((which : ℕ) → which < 4 → IsLater tick (io_due (Timer proc which) s.io)) → IsQuiet tick (io_of s.io proc)
+quiet_due s tick proc due timers = record {
+  timers = timers;
+  dma = none_blocked tick (io_of s.io proc) (own_blocks s proc (due_then (is_blocked s proc) (processor_of s proc) tick due).0);
+}
+
 pub quiet_processor : (s : MachineState) (tick : Tick) (rank : ℕ) (proc : Proc) → IsLeast (dues_of s) tick rank → actor_of rank ≡ Processor proc
     → IsQuiet tick (io_of s.io proc)
 quiet_processor s tick rank proc least is =
-    let due = due_of_step s rank tick (Processor proc) least is in
-    record {
-      timers = timers_later s tick rank least (ap comes_late is) proc;
-      dma = none_blocked tick (io_of s.io proc) (own_blocks s proc (due_then (is_blocked s proc) (processor_of s proc) tick due).0);
-    }
+    quiet_due s tick proc (due_of_step s rank tick (Processor proc) least is) (timers_later s tick rank least (ap comes_late is) proc)
+
+pub quiet_acting : (s : MachineState) (tick : Tick) (proc : Proc) → IsLeast (acting_dues s) tick (rank_of proc) → IsQuiet tick (io_of s.io proc)
+quiet_acting s tick proc least = quiet_due s tick proc (sym (acting_processor s proc) ∙ least.there) (acting_timers_later s tick (rank_of proc) least (late proc) proc) where
+  late : (proc : Proc) → comes_late (actor_of (rank_of proc)) ≡ true
+  late Nine = refl
+  late Seven = refl
 
 -- and where it steps before its turn: its timers are in its fence
 fence_timers : (s : MachineState) (proc : Proc) (tick : Tick) → IsBelowFence s proc tick → (which : ℕ) → which < 4 → IsLater tick (io_due (Timer proc which) s.io)
 fence_timers s proc tick below which lt = later_if tick (io_due (Timer proc which) s.io) (λ at h.
     (let has = timer_rank proc which lt in
-    let low = has.1.low in
-    let there : due_at (dues_of s) has.0 ≡ Some at = due_of_rank s has.0 (omega (arith, low)) ∙ ap (λ (a : actor.Actor). due_by a s) has.1.there ∙ h in
+    let there : due_at (acting_dues s) has.0 ≡ Some at = low_acts s has.0 has.1.low ∙ ap (λ (a : actor.Actor). due_by a s) has.1.there ∙ h in
     let P : actor.Actor → Type 0 = λ a. Fences a proc in
     below has.0 at there (subst P (sym has.1.there) refl)))
 

@@ -28,7 +28,7 @@ use Rattle.ds_map.specs.Views.{NineReach, SevenReach, nine_memory, seven_memory,
 -- ---- what stands there
 
 -- cells of a memory, or nothing
-abbrev is_cells : Place → Bool
+abbrev pub is_cells : Place → Bool
 is_cells (Cell memory at) = true
 is_cells (Banks space at) = false
 is_cells (Port at) = false
@@ -58,7 +58,7 @@ shared_seven w offset = by_tests (w == 0) (w == 1) (w == 2) where
 below_or_not : (at bound : ℕ) → (at < bound) ⊎ (bound ≤ at)
 below_or_not at bound = grind arith
 
-ram_cells : (proc : Proc) (w at : ℕ) → 0x02000000 ≤ at → at < 0x04000000 → is_cells (place_of proc w at) ≡ true
+pub ram_cells : (proc : Proc) (w at : ℕ) → 0x02000000 ≤ at → at < 0x04000000 → is_cells (place_of proc w at) ≡ true
 ram_cells Nine w at low high = elim (lies_or_not 0x02000000 0x02FFFFFF at) [
   | inl in_main ↦ rw in_main.2 refl
   | inr past_main ↦ rw past_main.1 (elim (lies_or_not 0x03000000 0x03FFFFFF at) [
@@ -90,7 +90,7 @@ ram_cells Seven w at low high = elim (lies_or_not 0x00000000 0x00003FFF at) [
 ]
 
 -- an address of them
-ram_bounds : (at : ℕ) → is_ram at ≡ true → (0x02000000 ≤ at) × (at < 0x04000000)
+pub ram_bounds : (at : ℕ) → is_ram at ≡ true → (0x02000000 ≤ at) × (at < 0x04000000)
 ram_bounds at h = grind arith
 
 -- ---- no access of them changes a unit

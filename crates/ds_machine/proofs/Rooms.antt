@@ -1,6 +1,7 @@
 use Rattle.std.proofs.Common.{ℕ, ◌≡◌, ◌≤◌, ◌+◌, ◌*◌, nat_lt, if◌then◌else◌, Bool, true, false, true≢false, List, [], ◌∷◌, length, Option, Some, None, IsSome, refl, sym, ◌∙◌, ap, subst, arith}
-use Rattle.std.specs.Prelude.{◌&&◌, ◌||◌}
+use Rattle.std.specs.Prelude.{◌&&◌}
 use Rattle.std.proofs.lemmas.Option.{none-some}
+use Rattle.std.proofs.lemmas.Bool.{or_parts}
 use Rattle.ds_base.specs.Accesses.{Access, Fetch, Performed, Read, Write, perform, refused_or}
 use Rattle.ds_base.specs.declared.left_out.Stop.{Stop}
 use Rattle.ds_base.specs.declared.memories.Width.{Width}
@@ -287,15 +288,11 @@ by_actor : (P : MachineState → Type 0) (rank : ℕ) (a : actor.Actor) (s : Mac
     → P (left_by (reference_step rank s))
 by_actor P rank a s is h = rw is h
 
-unstalled : (blocks stalled : Bool) → (blocks || stalled) ≡ false → stalled ≡ false
-unstalled true stalled h = absurd (true≢false h)
-unstalled false stalled h = h
-
 pub nine_steps_find_room : NineStepsFindRoom
 nine_steps_find_room s w free =
     let now : Tick = tick_of s.nine.processor in
     let step : StepFindsRoom (line_of s Nine) s.nine.processor.registers (nine_reach now s) =
-    steps_find_room (line_of s Nine) s.nine.processor.registers (nine_reach now s) w (unstalled (blocks_processor s.io.nine) (is_stalled s.io.gx) free) in record {
+    steps_find_room (line_of s Nine) s.nine.processor.registers (nine_reach now s) w (or_parts (blocks_processor s.io.nine) (is_stalled s.io.gx) free).1 in record {
       step = step;
       after = λ rank is.
           by_actor (λ (x : MachineState). waiting_entries x.io.gx ≤ 324) rank (Processor Nine) s is

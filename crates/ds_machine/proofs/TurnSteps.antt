@@ -1,39 +1,56 @@
-use Rattle.std.proofs.Common.{ℕ, ◌≡◌, ◌<◌, ◌≤◌, ◌^◌, inl, inr, List, [], ◌∷◌, Some, refl, sym, ◌∙◌, ap, arith}
+use Rattle.std.specs.Prelude.{◌↔◌}
+use Rattle.std.proofs.Common.{ℕ, ◌≡◌, ◌<◌, ◌≤◌, ◌^◌, inl, inr, List, [], Option, Some, refl, ◌∙◌, ap, subst, arith}
+use Rattle.ds_base.specs.declared.left_out.LeftOut.{LeftOut}
 use Rattle.ds_base.specs.declared.processors.Proc.{Proc}
-use Rattle.ds_base.specs.declared.processors.Proc.TheVariants.{Nine, Seven}
 use Rattle.ds_base.specs.declared.ticks.Tick.{Tick}
-use Rattle.ds_runs.specs.Runs.{IsLeast, Makes, due_at}
-use Rattle.ds_machine.specs.Private.{BelongsToTurn, IsAhead, MayStep, TakesSteps, more, none, rank_of}
-use Rattle.ds_machine.specs.Reference.{CountsWithin, HasCounted, HasSoundParts, IsSound, Shown, dues_of, next_shown, processor_due, reference_step, stepped_of}
-use Rattle.ds_machine.specs.States.{MachineState}
+use Rattle.ds_runs.specs.Runs.{Ending, IsLeast, Makes, Runs, Stops}
+use Rattle.ds_machine.specs.Acting.{acting_dues}
+use Rattle.ds_machine.specs.Counting.{CountsWithin, HasCounted}
+use Rattle.ds_machine.specs.Frames.{last_frame, last_lists}
+use Rattle.ds_machine.specs.Lagging.{CatchesUpFor}
+use Rattle.ds_machine.specs.Private.{rank_of}
+use Rattle.ds_machine.specs.Reference.{IsSound, Shown, reference, reference_step}
+use Rattle.ds_machine.specs.States.{MachineState, counts_of}
 use Rattle.ds_machine.specs.Statuses.{HasBothStatuses}
-use Rattle.ds_machine.specs.Steps.{is_blocked, processor_of}
-use Rattle.ds_machine.specs.declared.answers.Done as answer
-use Rattle.ds_machine.specs.declared.answers.Done.TheVariants as answers
-use Rattle.ds_machine.proofs.Counts.{counted_made, counts_within, stop_within}
-use Rattle.ds_machine.proofs.DueTicks.{due_of_rank, due_then}
-use Rattle.ds_machine.proofs.MachineSchedule.{sound_made}
-use Rattle.ds_machine.proofs.Statuses.{statuses_done}
-use Rattle.ds_machine.proofs.StepsAhead.{ahead_sound, counted_ahead, steps_ahead, within_ahead}
+use Rattle.ds_machine.specs.Steps.{processor_of, tick_of}
+use Rattle.ds_machine.specs.TurnSteps.{BelongsToTurn, MayAct, TakesSteps, more, none}
+use Rattle.ds_machine.proofs.ActingCounts.{acted_counted, acted_within}
+use Rattle.ds_machine.proofs.ActingDues.{acting_processor}
+use Rattle.ds_machine.proofs.ActingSteps.{Acted, ActedStops, acted_keeps, acting_runs}
+use Rattle.ds_machine.proofs.Counts.{within_more}
+use Rattle.ds_machine.proofs.DueTicks.{own_tick}
 
--- What the steps of a processor's turn leave: a sound machine, whose counts stay in their bounds.
+-- What the steps of a processor's turn leave: a sound machine, whose counts stay in their bounds, and from which the reference run goes on.
 
-rank_there : (s : MachineState) (proc : Proc) → due_at (dues_of s) (rank_of proc) ≡ processor_due s proc
-rank_there s Nine = due_of_rank s 22 (omega arith)
-rank_there s Seven = due_of_rank s 23 (omega arith)
-
--- a step of a turn may be taken
-pub belongs_may : (until : ℕ) (s : MachineState) (proc : Proc) → until ≤ 2 ^ 56 → IsSound s → BelongsToTurn until s proc → MayStep s (rank_of proc)
-belongs_may until s proc most sound b =
-    let below = b.below in
+-- a step of a turn is one that may be taken
+pub belongs_acts : (until : ℕ) (s : MachineState) (proc : Proc) → BelongsToTurn until s proc → MayAct s (tick_of (processor_of s proc)) (rank_of proc)
+belongs_acts until s proc b =
+    let at = own_tick s proc b.tick b.due in
     record {
-      tick = b.tick;
-      due = rank_there s proc ∙ b.due;
-      early = omega (arith, below, most);
-      may = elim b.goes [ inl least ↦ inl least | inr ahead ↦ inr (proc, refl, ahead, sound) ];
+      due = acting_processor s proc ∙ b.due ∙ ap (λ (t : Tick). (let due : Option Tick = Some t in due)) at;
+      may = elim b.goes [
+        | inl least ↦ inl (subst (λ (t : Tick). IsLeast (acting_dues s) t (rank_of proc)) at least)
+        | inr ahead ↦ inr (proc, refl, ahead)
+      ];
     }
 
--- ---- one step
+pub belongs_below : (until : ℕ) (s : MachineState) (proc : Proc) → BelongsToTurn until s proc → (processor_of s proc).due < until
+belongs_below until s proc b =
+    let at = ap (λ (t : Tick). t.0) (own_tick s proc b.tick b.due) in
+    let below = b.below in
+    omega (arith, at, below)
+
+pub belongs_acted : (until : ℕ) (s caught next : MachineState) (proc : Proc) (outs : List Shown) → BelongsToTurn until s proc
+    → CatchesUpFor (processor_of s proc).due (rank_of proc) s caught → reference_step (rank_of proc) caught ≡ Makes next outs
+    → Acted s next (tick_of (processor_of s proc)) (rank_of proc) outs
+belongs_acted until s caught next proc outs b catches h = record { caught = caught; may = belongs_acts until s proc b; catches = catches; makes = h }
+
+pub belongs_stops : (until : ℕ) (s caught left : MachineState) (proc : Proc) (stop : LeftOut) → BelongsToTurn until s proc
+    → CatchesUpFor (processor_of s proc).due (rank_of proc) s caught → reference_step (rank_of proc) caught ≡ Stops stop left
+    → ActedStops s left (tick_of (processor_of s proc)) (rank_of proc) stop
+belongs_stops until s caught left proc stop b catches h = record { caught = caught; may = belongs_acts until s proc b; catches = catches; stops = h }
+
+-- ---- the counts
 
 pub record KeepsOn (until : ℕ) (s next : MachineState) : Type 0 where
   pub sound : IsSound next
@@ -41,79 +58,65 @@ pub record KeepsOn (until : ℕ) (s next : MachineState) : Type 0 where
   pub statuses : HasBothStatuses s → HasBothStatuses next
   pub within : (before limit : ℕ) → CountsWithin before s → before ≤ limit → until ≤ limit → CountsWithin limit next
 
-least_keeps : (until : ℕ) (s next : MachineState) (tick : Tick) (rank : ℕ) → IsSound s → HasCounted s → IsLeast (dues_of s) tick rank → tick.0 < until
-    → reference_step rank s ≡ Makes next [] → KeepsOn until s next
-least_keeps until s next tick rank sound has least below h = record {
-  sound = sound_made s next tick rank [] sound.parts least h;
-  counted = counted_made s next tick rank [] sound.parts least has h;
-  statuses = λ kept. statuses_done s next rank answers.Made kept h;
-  within = λ before limit within le most. counts_within s next tick rank [] before limit sound.parts least h has within le (omega (arith, below, most));
-}
-
-ahead_keeps : (until : ℕ) (s next : MachineState) (proc : Proc) → IsSound s → HasCounted s → IsAhead s proc → (processor_of s proc).due < until
-    → reference_step (rank_of proc) s ≡ Makes next [] → KeepsOn until s next
-ahead_keeps until s next proc sound has ahead below h =
-    let steps = steps_ahead s next proc (rank_of proc) answers.Made refl ahead sound h in
+pub turn_keeps : (until : ℕ) (s caught next : MachineState) (proc : Proc) → until ≤ 2 ^ 56 → IsSound s → HasCounted s → BelongsToTurn until s proc
+    → CatchesUpFor (processor_of s proc).due (rank_of proc) s caught → reference_step (rank_of proc) caught ≡ Makes next [] → KeepsOn until s next
+turn_keeps until s caught next proc most sound has b catches h =
+    let tick = tick_of (processor_of s proc) in
+    let below = belongs_below until s proc b in
+    let early : tick.0 ≤ 2 ^ 56 = omega (arith, below, most) in
+    let acted = belongs_acted until s caught next proc [] b catches h in
+    let kept = acted_keeps s next tick (rank_of proc) [] sound acted in
     record {
-      sound = ahead_sound s next proc steps sound;
-      counted = counted_ahead s next proc steps ahead sound has;
-      statuses = λ kept. statuses_done s next (rank_of proc) answers.Made kept h;
-      within = λ before limit within le most. within_ahead s next proc before limit steps ahead has within le (omega (arith, below, most));
+      sound = kept.sound;
+      counted = acted_counted s next tick (rank_of proc) [] sound acted early has;
+      statuses = kept.statuses;
+      within = λ before limit within le room. acted_within s next tick (rank_of proc) [] sound acted early has before limit within le (omega (arith, below, room));
     }
 
-pub turn_keeps : (until : ℕ) (s next : MachineState) (proc : Proc) → IsSound s → HasCounted s → BelongsToTurn until s proc → reference_step (rank_of proc) s ≡ Makes next []
-    → KeepsOn until s next
-turn_keeps until s next proc sound has b h = elim b.goes [
-  | inl least ↦ least_keeps until s next b.tick (rank_of proc) sound has least b.below h
-  | inr ahead ↦
-      (let at = (due_then (is_blocked s proc) (processor_of s proc) b.tick b.due).1 in
-      let below = b.below in
-      ahead_keeps until s next proc sound has ahead (omega (arith, at, below)) h)
-]
-
--- ---- some of them
-
-pub takes_keep : (until : ℕ) (proc : Proc) (s next : MachineState) → IsSound s → HasCounted s → TakesSteps until proc s next → KeepsOn until s next
-takes_keep until proc s next sound has (none start) = record {
+-- of some steps
+pub takes_keep : (until : ℕ) (proc : Proc) (s next : MachineState) → until ≤ 2 ^ 56 → IsSound s → HasCounted s → TakesSteps until proc s next → KeepsOn until s next
+takes_keep until proc s next most sound has (none start) = record {
   sound = sound;
   counted = has;
   statuses = λ kept. kept;
-  within = λ before limit within le most.
-      (let events = within.events in
-      record { steps = λ each. (let few = within.steps each in omega (arith, few, le)); events = omega (arith, events, le) });
+  within = λ before limit within le room. within_more s before limit within le;
 }
-takes_keep until proc s next sound has (more start before last earlier b h) =
-    let first = takes_keep until proc start before sound has earlier in
-    let then = turn_keeps until before last proc first.sound first.counted b h in
+takes_keep until proc s next most sound has (more start before caught last earlier b catches h) =
+    let first = takes_keep until proc start before most sound has earlier in
+    let then = turn_keeps until before caught last proc most first.sound first.counted b catches h in
     record {
       sound = then.sound;
       counted = then.counted;
       statuses = λ kept. then.statuses (first.statuses kept);
-      within = λ few limit within le most. then.within limit limit (first.within few limit within le most) (omega arith) most;
+      within = λ few limit within le room. then.within limit limit (first.within few limit within le room) (omega arith) room;
     }
 
--- ---- the step of any actor that may take it
+-- ---- frames and lists stay, and no step is taken back
 
-pub sound_may : (s next : MachineState) (rank : ℕ) (outs : List Shown) (done : answer.Done) → HasSoundParts s → MayStep s rank → stepped_of s done next ≡ Makes next outs
-    → reference_step rank s ≡ stepped_of s done next → IsSound next
-sound_may s next rank outs done parts may made h = elim may.may [
-  | inl least ↦ sound_made s next may.tick rank outs parts least (h ∙ made)
-  | inr k ↦ ahead_sound s next k.0 (steps_ahead s next k.0 rank done k.1 k.2 k.3 h) k.3
-]
+pub record KeptAlong (s next : MachineState) : Type 0 where
+  pub sound : IsSound next
+  pub frame : last_frame next ≡ last_frame s
+  pub lists : last_lists next ≡ last_lists s
+  pub more : counts_of s ≤ counts_of next
 
-within_least : (s next : MachineState) (tick : Tick) (rank : ℕ) (done : answer.Done) (before limit : ℕ) → HasSoundParts s → IsLeast (dues_of s) tick rank → HasCounted s
-    → reference_step rank s ≡ stepped_of s done next → CountsWithin before s → before ≤ limit → tick.0 < limit → CountsWithin limit next
-within_least s next tick rank answers.Made before limit parts least has h within le lt = counts_within s next tick rank [] before limit parts least h has within le lt
-within_least s next tick rank (answers.Frame swapped) before limit parts least has h within le lt =
-    counts_within s next tick rank (next_shown s next swapped ∷ []) before limit parts least h has within le lt
-within_least s next tick rank (answers.Stopped left) before limit parts least has h within le lt = stop_within s next tick rank left before limit parts least h has within le lt
+pub takes_along : (until : ℕ) (proc : Proc) (s next : MachineState) → IsSound s → TakesSteps until proc s next → KeptAlong s next
+takes_along until proc s next sound (none start) = record { sound = sound; frame = refl; lists = refl; more = omega arith }
+takes_along until proc s next sound (more start before caught last earlier b catches h) =
+    let first = takes_along until proc start before sound earlier in
+    let then = acted_keeps before last (tick_of (processor_of before proc)) (rank_of proc) [] first.sound (belongs_acted until before caught last proc [] b catches h) in
+    let one = first.more in
+    let two = then.more in
+    record { sound = then.sound; frame = then.frames ∙ first.frame; lists = then.lists ∙ first.lists; more = omega (arith, one, two) }
 
-pub within_may : (s next : MachineState) (rank : ℕ) (done : answer.Done) (before limit : ℕ) → HasSoundParts s → (may : MayStep s rank) → HasCounted s
-    → reference_step rank s ≡ stepped_of s done next → CountsWithin before s → before ≤ limit → may.tick.0 < limit → CountsWithin limit next
-within_may s next rank done before limit parts may has h within le lt = elim may.may [
-  | inl least ↦ within_least s next may.tick rank done before limit parts least has h within le lt
-  | inr k ↦
-      (let due : processor_due s k.0 ≡ Some may.tick = sym (rank_there s k.0) ∙ ap (λ (r : ℕ). due_at (dues_of s) r) (sym k.1) ∙ may.due in
-      let at = (due_then (is_blocked s k.0) (processor_of s k.0) may.tick due).1 in
-      within_ahead s next k.0 before limit (steps_ahead s next k.0 rank done k.1 k.2 k.3 h) k.2 has within le (omega (arith, at, lt)))
-]
+-- ---- the reference run goes on
+
+pub takes_run : (until : ℕ) (proc : Proc) (s next : MachineState) → IsSound s → TakesSteps until proc s next → (limit : ℕ) → until ≤ limit
+    → (end : Ending MachineState LeftOut) (outs : List Shown) → Runs reference limit end s outs ↔ Runs reference limit end next outs
+takes_run until proc s next sound (none start) limit room end outs = (λ run. run, λ run. run)
+takes_run until proc s next sound (more start before caught last earlier b catches h) limit room end outs =
+    let below = belongs_below until before proc b in
+    let first = takes_run until proc start before sound earlier limit room end outs in
+    let then =
+    acting_runs before caught last (tick_of (processor_of before proc)) (rank_of proc) limit [] (takes_along until proc start before sound earlier).sound
+    (belongs_acts until before proc b) catches (omega (arith, below, room)) h end outs in
+    (λ run. then.0 (first.0 run), λ run. first.1 (then.1 run))

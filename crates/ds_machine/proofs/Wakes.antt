@@ -12,7 +12,8 @@ use Rattle.ds_dma.specs.declared.controls.Cause.TheVariants as causes
 use Rattle.ds_dma.proofs.Wholes.{awaits_none}
 use Rattle.ds_ports.specs.ProcessorIo.{ProcessorIoState, processor_io_triggered}
 use Rattle.ds_ports.specs.Io.{IoState, io_of, is_settled, level_told, settled, with_halted}
-use Rattle.ds_machine.specs.Reference.{AreAsleep, HasSoundParts, due_unless, is_to_be_triggered, keys_due, processor_due}
+use Rattle.ds_machine.specs.Reference.{AreAsleep, HasSoundParts, due_unless, keys_due, processor_due}
+use Rattle.ds_machine.specs.Counting.{is_to_be_triggered}
 use Rattle.ds_machine.specs.States.{MachineState, ProcessorState, counts_of}
 use Rattle.ds_machine.specs.Steps.{ended, goes_on, is_blocked, machine_settled, processor_of, wakes, with_halt, with_processor, woken, woken_one}
 use Rattle.gx_fifo.specs.GxStates.{AreWaiting, is_half_empty}

@@ -2,6 +2,7 @@ use Rattle.std.specs.Prelude.{List, [], ◌∷◌, map, Option, None}
 use Rattle.ds_base.specs.declared.processors.Proc.{Proc}
 use Rattle.ds_base.specs.declared.processors.Proc.TheVariants.{Nine, Seven}
 use Rattle.ds_base.specs.declared.ticks.Tick.{Tick}
+use Rattle.ds_ports.specs.Acting.{acting_io_due}
 use Rattle.ds_ports.specs.Dues.{io_due}
 use Rattle.ds_ports.specs.Io.{IoState}
 use Rattle.ds_runs.specs.Actors.{actors}
@@ -10,7 +11,7 @@ use Rattle.ds_runs.specs.declared.actors.Actor.TheVariants.{KeyScript, Video, Ti
 use Rattle.ds_machine.specs.Reference.{keys_due}
 use Rattle.ds_machine.specs.States.{MachineState}
 
--- When those are due that may halt a processor, wake it or make it wait. No public clause speaks of it.
+-- When those act that may halt a processor, wake it or make it wait. No public clause speaks of it.
 
 -- what is a processor's, for that processor
 abbrev pub of_proc : Proc → Proc → Option Tick → Option Tick
@@ -23,7 +24,7 @@ abbrev pub fence_due : MachineState → Proc → actor.Actor → Option Tick
 fence_due s proc KeyScript = keys_due s.keys
 fence_due s proc Video = io_due Video s.io
 fence_due s proc (Timer each number) = of_proc each proc (io_due (Timer each number) s.io)
-fence_due s proc Geometry = of_proc Nine proc (io_due Geometry s.io)
+fence_due s proc Geometry = of_proc Nine proc (acting_io_due Geometry s.io)
 fence_due s proc (Dma each channel) = of_proc each proc (io_due (Dma each channel) s.io)
 fence_due s proc a = None
 

@@ -1,4 +1,4 @@
-use Rattle.std.specs.Prelude.{ℕ, ◌/◌, ◌==◌, ◌≡◌, ◌≢◌, ◌<◌, ◌↔◌, ◌&&◌, ◌||◌, not, nat_le, Bool, true, false, if◌then◌else◌, List, [], ◌∷◌, ◌++◌, map, Option, None, is_some}
+use Rattle.std.specs.Prelude.{ℕ, ◌/◌, ◌+◌, ◌*◌, ◌==◌, ◌≡◌, ◌≢◌, ◌<◌, ◌≤◌, ◌⊎◌, ◌↔◌, ◌&&◌, ◌||◌, not, nat_le, Bool, true, false, List, [], ◌∷◌, ◌++◌, Some}
 use Rattle.ds_base.specs.Accesses.{Access, Fetch, Read, Write}
 use Rattle.ds_base.specs.declared.left_out.LeftOut.{LeftOut}
 use Rattle.ds_base.specs.declared.processors.Proc.TheVariants.{Nine}
@@ -7,55 +7,30 @@ use Rattle.arm_core.specs.Steps.{enters, fetched}
 use Rattle.cp15_tcm.specs.TightlyCoupled.{tcm_of}
 use Rattle.cp15_tcm.specs.declared.answers.Tcm.{Tcm}
 use Rattle.cp15_tcm.specs.declared.answers.Tcm.TheVariants.{Past}
-use Rattle.ds_dma.specs.Controls.{is_enabled, waits_for}
-use Rattle.ds_dma.specs.States.{DmaState, channel_at}
-use Rattle.ds_dma.specs.declared.controls.Cause.TheVariants as causes
 use Rattle.ds_map.specs.Moves.{next_unit}
 use Rattle.ds_map.specs.Views.{NineReach, nine_memory}
 use Rattle.ds_places.specs.AddressTables.{place_of}
 use Rattle.ds_places.specs.declared.kinds.Place.{Place}
 use Rattle.ds_places.specs.declared.kinds.Place.TheVariants.{Port}
 use Rattle.ds_ports.specs.Io.{IoState}
-use Rattle.ds_runs.specs.Actors.{actor_of, actors}
-use Rattle.ds_runs.specs.Runs.{Ending, IsLeast, Makes, Runs, Stopped, Stops}
+use Rattle.ds_runs.specs.Actors.{actor_of}
+use Rattle.ds_runs.specs.Runs.{Ending, IsLeast, Makes, Runs, Stopped, Stops, due_at}
 use Rattle.ds_runs.specs.declared.actors.Actor as actor
 use Rattle.ds_runs.specs.declared.actors.Actor.TheVariants.{Dma, Geometry, Processor, Video}
-use Rattle.gx_fifo.specs.GxStates.{is_stalled}
 use Rattle.video2d.specs.Scans.{starts_vblank}
+use Rattle.ds_machine.specs.Acting.{acting_dues, is_behind}
 use Rattle.ds_machine.specs.Private.{data_accesses}
-use Rattle.ds_machine.specs.Reference.{IsSound, Shown, due_by, reference, reference_step}
+use Rattle.ds_machine.specs.Reference.{IsSound, Shown, geometry_rank, reference, reference_step}
 use Rattle.ds_machine.specs.Sides.{nine_side}
 use Rattle.ds_machine.specs.States.{MachineState}
 use Rattle.ds_machine.specs.Steps.{line_of, nine_reach, tick_of}
 
--- Geometry may lag: while nobody sees how far it is, others step though its steps are due before theirs. Our choice.
-
--- ---- quiet geometry
-
--- a channel is enabled with the start of the geometry FIFO, whether or not it runs (GBATEK, "DS DMA Transfers")
-abbrev pub is_armed : DmaState → ℕ → Bool
-is_armed dma which = is_enabled (channel_at dma.channels which).cnt && waits_for dma.proc causes.Geometry (channel_at dma.channels which).cnt
-
-abbrev pub any_armed : DmaState → Bool
-any_armed dma = is_armed dma 0 || is_armed dma 1 || is_armed dma 2 || is_armed dma 3
-
--- Geometry is due, and nobody hears of what it does: GXSTAT's selector is 0, so that no interrupt follows how much waits; it starts no channel of ARM9's; and no stall holds ARM9
--- (GBATEK, "GXSTAT", "GXFIFO").
-abbrev pub is_quiet : IoState → Bool
-is_quiet u = is_some u.gx.due && ((u.gx.selector == 0) && (not (any_armed u.nine.dma) && not (is_stalled u.gx)))
-
--- when an acting actor is due: all act that are due, but quiet geometry
-abbrev pub acting_due : actor.Actor → MachineState → Option Tick
-acting_due Geometry s = if is_quiet s.io then None else due_by Geometry s
-acting_due a s = due_by a s
-
--- by rank
-unfoldable pub acting_dues : MachineState → List (Option Tick)
-acting_dues s = map (λ (a : actor.Actor). acting_due a s) actors
+-- Geometry may lag: while nobody sees how far it is, others step though its steps are due before theirs; it catches up before a step that observes it. Our choice.
 
 -- ---- steps that observe geometry
 
--- a port that shows how far geometry is, gives it something to do, or makes it heard: DISP3DCNT at 60h; what stands from 400h to 6FFh; and DMA0CNT to DMA3CNT at B8h, C4h, D0h and DCh
+-- a port that shows how far geometry is, gives it something to do, or makes it heard: DISP3DCNT at 60h; what stands from 400h to 6FFh; and DMA0CNT to DMA3CNT at B8h, C4h, D0h
+-- and DCh
 abbrev pub is_observed_port : ℕ → Bool
 is_observed_port at =
     let word = at / 4 in
@@ -99,13 +74,48 @@ observes_by (Dma Nine channel) s = channel_observes s.io
 observes_by (Processor Nine) s = nine_observes s
 observes_by a s = false
 
+-- ---- catching up
+
+-- some steps of quiet geometry, one after another, each due before the place of a rank at a tick
+pub data TakesGeometry (tick rank : ℕ) : MachineState → MachineState → Type 0 where
+  none : (start : MachineState) → TakesGeometry tick rank start start
+  more : (start before next : MachineState) → TakesGeometry tick rank start before → is_behind tick rank before ≡ true → reference_step geometry_rank before ≡ Makes next []
+      → TakesGeometry tick rank start next
+
+-- all of them: geometry caught up with that place
+pub record CatchesUp (tick rank : ℕ) (s caught : MachineState) : Type 0 where
+  pub steps : TakesGeometry tick rank s caught
+  pub level : is_behind tick rank caught ≡ false
+
+-- it does where a step observes it
+abbrev pub CatchesUpIf : Bool → ℕ → ℕ → MachineState → MachineState → Type 0
+CatchesUpIf true tick rank s caught = CatchesUp tick rank s caught
+CatchesUpIf false tick rank s caught = caught ≡ s
+
+-- what comes before the step that the actor of a rank takes at a tick
+abbrev pub CatchesUpFor : ℕ → ℕ → MachineState → MachineState → Type 0
+CatchesUpFor tick rank s caught = CatchesUpIf (observes_by (actor_of rank) s) tick rank s caught
+
+-- no actor acts before a place
+abbrev pub ComesBeforeAll : ℕ → ℕ → MachineState → Type 0
+ComesBeforeAll tick rank s = (other : ℕ) (at : Tick) → due_at (acting_dues s) other ≡ Some at → (tick < at.0) ⊎ ((tick ≡ at.0) × (rank ≤ other))
+
+-- then catching up with it changes neither where a run past it ends nor what that run puts out
+abbrev pub CatchingUpRuns : Type 0
+CatchingUpRuns = (s caught : MachineState) (tick rank limit : ℕ) → IsSound s → ComesBeforeAll tick rank s → CatchesUp tick rank s caught → 24 * tick + rank ≤ 24 * limit
+    → (end : Ending MachineState LeftOut) (outs : List Shown) → Runs reference limit end s outs ↔ Runs reference limit end caught outs
+
 -- ---- what lagging comes to
 
--- the least acting actor's step, which doesn't observe geometry, on a sound machine
-pub record StepsBeforeGeometry (s : MachineState) (rank : ℕ) (tick : Tick) : Type 0 where
-  pub sound : IsSound s
+-- the least acting actor, whose step doesn't observe geometry
+pub record ActsApart (s : MachineState) (rank : ℕ) (tick : Tick) : Type 0 where
   pub least : IsLeast (acting_dues s) tick rank
   pub apart : observes_by (actor_of rank) s ≡ false
+
+-- on a sound machine, and it isn't geometry itself
+pub record StepsBeforeGeometry (s : MachineState) (rank : ℕ) (tick : Tick) : Type 0 where
+  pub sound : IsSound s
+  pub acts : ActsApart s rank tick
   pub other : actor_of rank ≢ Geometry
 
 -- taken before quiet geometry's steps that are due before it, it changes neither where a run to a later tick ends nor what that run puts out

@@ -1,23 +1,31 @@
-use Rattle.std.specs.Prelude.{ℕ, ◌+◌, ◌-◌, ◌^◌, ◌≡◌, ◌<◌, ◌&&◌, nat_le, nat_lt, Bool, true, if◌then◌else◌, List, [], ◌∷◌, Option, Some, max, min}
+use Rattle.std.specs.Prelude.{ℕ, ◌+◌, ◌-◌, ◌^◌, ◌≡◌, ◌<◌, ◌&&◌, nat_le, nat_lt, Bool, true, false, if◌then◌else◌, List, [], ◌∷◌, Option, Some, max, min}
 use Rattle.ds_base.specs.declared.processors.Proc.{Proc}
 use Rattle.ds_base.specs.declared.processors.Proc.TheVariants.{Nine, Seven}
 use Rattle.ds_base.specs.declared.ticks.Tick.{Tick}
+use Rattle.ds_ports.specs.Acting.{acting_io_dues}
 use Rattle.ds_ports.specs.Dues.{io_dues}
 use Rattle.ds_ports.specs.Io.{is_settled}
 use Rattle.ds_ipc.specs.Ipcs.{other_proc}
 use Rattle.ds_runs.specs.Runs.{IsOver, Makes, due_at}
-use Rattle.ds_machine.specs.Private.{BelongsToTurn, IsLeastBelow, own_remaining, rank_of}
-use Rattle.ds_machine.specs.Reference.{AreAsleep, HasCounted, keys_due, reference_step}
+use Rattle.ds_runs.specs.declared.actors.Actor.TheVariants.{Processor}
+use Rattle.ds_machine.specs.Counting.{HasCounted}
+use Rattle.ds_machine.specs.Lagging.{observes_by}
+use Rattle.ds_machine.specs.Private.{rank_of}
+use Rattle.ds_machine.specs.Reference.{AreAsleep, keys_due, reference_step}
 use Rattle.ds_machine.specs.States.{MachineState}
 use Rattle.ds_machine.specs.Steps.{is_blocked, line_of, processor_of}
+use Rattle.ds_machine.specs.TurnSteps.{BelongsToTurn, IsLeastBelow, own_remaining}
 use Rattle.ds_machine.specs.declared.next_events.First.{First}
 use Rattle.ds_machine.specs.declared.next_events.NextEvent.{NextEvent}
 
--- What is kept between steps of the fast path. Of public clauses those of `Machine::first`, `limit_of` and `go_fast` speak of it, and say no more than that the limit is this one.
+-- What is kept between steps of the fast path. Of public clauses those of `Machine::first`, `limit_of`, `go_fast` and `load_quietly` speak of it, and say no more than that the limit is this one.
 
--- when each actor but the processors is due, by rank
+-- when each actor but the processors is due, by rank; and when each of them acts
 abbrev pub events_of : MachineState → List (Option Tick)
 events_of s = keys_due s.keys ∷ io_dues s.io
+
+abbrev pub acting_events_of : MachineState → List (Option Tick)
+acting_events_of s = keys_due s.keys ∷ acting_io_dues s.io
 
 -- the earliest tick at which a processor may be due: past all ticks of a run while it is blocked
 abbrev pub least_of : Bool → ℕ
@@ -45,7 +53,7 @@ abbrev pub comes_before : Proc → ℕ → ℕ → Bool
 comes_before Nine n other = nat_le n other
 comes_before Seven n other = nat_lt n other
 
--- a processor is the least actor by it
+-- a processor is the least acting actor by it
 abbrev pub is_least_by : NextEvent → MachineState → Proc → Bool
 is_least_by next_event s proc =
     nat_lt (waits_until next_event s proc) next_event.events_until.0 && comes_before proc (waits_until next_event s proc) (waits_until next_event s (other_proc proc))
@@ -58,11 +66,11 @@ past_other Seven other = other
 abbrev pub limit_by : NextEvent → MachineState → Proc → ℕ → ℕ
 limit_by next_event s proc until = min (min next_event.events_until.0 until) (past_other proc (waits_until next_event s (other_proc proc)))
 
--- what is kept is so of a machine: no actor but the processors is due before a tick; unless that is 0 one is due at it, no halted processor is to wake, and the units behind
+-- what is kept is so of a machine: no actor but the processors acts before a tick; unless that is 0 one acts at it, no halted processor is to wake, and the units behind
 -- the ports are settled; each processor's least tick says whether it is blocked; and its interrupt line is up or isn't
 pub record IsNextEvent (next_event : NextEvent) (s : MachineState) : Type 0 where
-  pub events : IsOver (events_of s) next_event.events_until.0
-  pub first : 0 < next_event.events_until.0 → (rank : ℕ) × (due_at (events_of s) rank ≡ Some next_event.events_until)
+  pub events : IsOver (acting_events_of s) next_event.events_until.0
+  pub first : 0 < next_event.events_until.0 → (rank : ℕ) × (due_at (acting_events_of s) rank ≡ Some next_event.events_until)
   pub asleep : 0 < next_event.events_until.0 → AreAsleep s
   pub settled : 0 < next_event.events_until.0 → is_settled s.io ≡ true
   pub nine_least : next_event.nine_least ≡ least_of (is_blocked s Nine)
@@ -70,8 +78,8 @@ pub record IsNextEvent (next_event : NextEvent) (s : MachineState) : Type 0 wher
   pub nine_line : next_event.nine_line ≡ line_of s Nine
   pub seven_line : next_event.seven_line ≡ line_of s Seven
 
--- from this tick on a processor isn't the least actor, or isn't due below a limit, any more, while it alone takes steps: it isn't blocked, no halted processor is to wake, and the
--- units behind the ports are settled
+-- from this tick on a processor isn't the least acting actor, or isn't due below a limit, any more, while it alone takes steps: it isn't blocked, no halted processor is to wake,
+-- and the units behind the ports are settled
 pub record HasLimit (until : ℕ) (s : MachineState) (proc : Proc) (limit : ℕ) : Type 0 where
   pub next_event : NextEvent
   pub is : IsNextEvent next_event s
@@ -79,14 +87,15 @@ pub record HasLimit (until : ℕ) (s : MachineState) (proc : Proc) (limit : ℕ)
   pub free : least_kept next_event proc ≡ 0
   pub same : limit ≡ limit_by next_event s proc until
 
--- a processor is the least actor and due below a limit, up to such a tick
+-- a processor is the least acting actor and due below a limit, up to such a tick
 pub record IsFirst (until : ℕ) (s : MachineState) (first : First) : Type 0 where
   pub least : IsLeastBelow until s first.proc
   pub limit : HasLimit until s first.proc first.limit
 
--- a processor took a step of its turn, and what is needed of machines stayed so
+-- a processor took a step of its turn that doesn't observe geometry, and what is needed of machines stayed so
 pub record TookStep (until : ℕ) (proc : Proc) (s next : MachineState) : Type 0 where
   pub belongs : BelongsToTurn until s proc
+  pub apart : observes_by (Processor proc) s ≡ false
   pub made : reference_step (rank_of proc) s ≡ Makes next []
   pub counted : HasCounted next
   pub fewer : own_remaining until next proc < own_remaining until s proc

@@ -1,4 +1,4 @@
-use Rattle.std.specs.Prelude.{ℕ, ◌↔◌, ◌-◌, ◌≡◌, ◌<◌, ◌≤◌, ◌^◌, ◌==◌, ◌⊎◌, ◌&&◌, ◌||◌, not, Bool, true, false, if◌then◌else◌, Contains, List, [], ◌∷◌, Option, Some, None}
+use Rattle.std.specs.Prelude.{ℕ, ◌↔◌, ◌≡◌, ◌<◌, ◌≤◌, ◌==◌, ◌&&◌, ◌||◌, not, Bool, true, false, if◌then◌else◌, Contains, List, [], ◌∷◌, Option, Some, None}
 use Rattle.ds_base.specs.Accesses.{Access, Fetch, MemoryMachine, Read, Write}
 use Rattle.ds_base.specs.Bits.{bit, bits}
 use Rattle.ds_base.specs.declared.left_out.LeftOut.{LeftOut}
@@ -17,9 +17,10 @@ use Rattle.arm_core.specs.Undefined.{is_undefined}
 use Rattle.ds_map.specs.Views.{nine_memory, seven_memory}
 use Rattle.ds_ports.specs.Io.{io_of}
 use Rattle.ds_runs.specs.Actors.{actor_of}
-use Rattle.ds_runs.specs.Runs.{IsLeast, Ending, Makes, Runs, due_at}
+use Rattle.ds_runs.specs.Runs.{Ending, Makes, Runs, due_at}
 use Rattle.ds_timers.specs.Irqs.{IrqState}
-use Rattle.ds_machine.specs.Reference.{Fences, HasSoundParts, IsSound, Shown, dues_of, processor_due, reference, reference_step}
+use Rattle.ds_machine.specs.Acting.{acting_dues}
+use Rattle.ds_machine.specs.Reference.{Fences, IsSound, Shown, reference, reference_step}
 use Rattle.ds_machine.specs.Sides.{SideOf, nine_side, seven_side}
 use Rattle.ds_machine.specs.States.{MachineState}
 use Rattle.ds_machine.specs.Steps.{is_blocked, line_of, nine_reach, processor_of, seven_reach, tick_of}
@@ -95,16 +96,16 @@ pub record IsHarmless (s : MachineState) (proc : Proc) : Type 0 where
   pub deaf : is_deaf s proc ≡ true
   pub own : ProcessorStaysPrivate s proc
 
--- the fence of a processor: the least tick at which one is due of those that may halt it, wake it or make it wait
+-- the fence of a processor: the least tick at which one acts of those that may halt it, wake it or make it wait
 pub record IsFence (s : MachineState) (proc : Proc) (fence : Tick) : Type 0 where
   pub rank : ℕ
-  pub there : due_at (dues_of s) rank ≡ Some fence
+  pub there : due_at (acting_dues s) rank ≡ Some fence
   pub fences : Fences (actor_of rank) proc
-  pub least : (other : ℕ) (at : Tick) → due_at (dues_of s) other ≡ Some at → Fences (actor_of other) proc → fence.0 ≤ at.0
+  pub least : (other : ℕ) (at : Tick) → due_at (acting_dues s) other ≡ Some at → Fences (actor_of other) proc → fence.0 ≤ at.0
 
 -- a tick is below it
 abbrev pub IsBelowFence : MachineState → Proc → Tick → Type 0
-IsBelowFence s proc tick = (rank : ℕ) (at : Tick) → due_at (dues_of s) rank ≡ Some at → Fences (actor_of rank) proc → tick.0 < at.0
+IsBelowFence s proc tick = (rank : ℕ) (at : Tick) → due_at (acting_dues s) rank ≡ Some at → Fences (actor_of rank) proc → tick.0 < at.0
 
 -- a processor's next step may be taken before its turn
 pub record IsAhead (s : MachineState) (proc : Proc) : Type 0 where
@@ -115,49 +116,6 @@ pub record IsAhead (s : MachineState) (proc : Proc) : Type 0 where
 abbrev pub rank_of : Proc → ℕ
 rank_of Nine = 22
 rank_of Seven = 23
-
--- it is the least actor, and due below a limit: so a turn of its begins
-pub record IsLeastBelow (until : ℕ) (s : MachineState) (proc : Proc) : Type 0 where
-  pub tick : Tick
-  pub least : IsLeast (dues_of s) tick (rank_of proc)
-  pub below : tick.0 < until
-
--- its next step belongs to its turn with a limit: it is due below the limit, and is the least step, or may be taken before its turn
-pub record BelongsToTurn (until : ℕ) (s : MachineState) (proc : Proc) : Type 0 where
-  pub tick : Tick
-  pub due : processor_due s proc ≡ Some tick
-  pub below : tick.0 < until
-  pub goes : IsLeast (dues_of s) tick (rank_of proc) ⊎ IsAhead s proc
-
--- a processor took some steps of its turn, one after another
-pub data TakesSteps (until : ℕ) (proc : Proc) : MachineState → MachineState → Type 0 where
-  none : (start : MachineState) → TakesSteps until proc start start
-  more : (start before next : MachineState) → TakesSteps until proc start before → BelongsToTurn until before proc
-      → reference_step (rank_of proc) before ≡ Makes next [] → TakesSteps until proc start next
-
--- an actor may take the next step: it is due at a tick that a run may come to, and is the least; or it is a processor that may step before its turn, on a machine whose
--- units are settled and on which nobody is to wake, as they are unless a step stopped
-pub record MayStep (s : MachineState) (rank : ℕ) : Type 0 where
-  pub tick : Tick
-  pub due : due_at (dues_of s) rank ≡ Some tick
-  pub early : tick.0 ≤ 2 ^ 56
-  pub may : IsLeast (dues_of s) tick rank ⊎ ((proc : Proc) × (rank ≡ rank_of proc) × IsAhead s proc × IsSound s)
-
--- ---- how many steps a processor may still take below a limit: fewer than ticks are left to it
-
--- the ticks that are left below a limit from a due tick on
-abbrev pub ticks_left : ℕ → Option Tick → ℕ
-ticks_left until None = 0
-ticks_left until (Some tick) = until - tick.0
-
--- those of a processor: a loop over its steps counts them down
-abbrev pub own_remaining : ℕ → MachineState → Proc → ℕ
-own_remaining until s proc = ticks_left until (processor_due s proc)
-
--- a step of its turn that is taken leaves fewer
-abbrev pub TurnStepsFall : Type 0
-TurnStepsFall = (until : ℕ) (s next : MachineState) (proc : Proc) (outs : List Shown) → HasSoundParts s → BelongsToTurn until s proc
-    → reference_step (rank_of proc) s ≡ Makes next outs → own_remaining until next proc < own_remaining until s proc
 
 -- ---- what running ahead comes to
 

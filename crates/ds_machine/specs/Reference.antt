@@ -1,4 +1,4 @@
-use Rattle.std.specs.Prelude.{ℕ, ◌+◌, ◌*◌, ◌≡◌, ◌≤◌, ◌&&◌, Bool, true, false, if◌then◌else◌, List, [], ◌∷◌, map, max, min, nat_lt, Option, Some, None, Result, Ok, Err}
+use Rattle.std.specs.Prelude.{ℕ, ◌≡◌, Bool, true, false, if◌then◌else◌, List, [], ◌∷◌, map, max, nat_lt, Option, Some, None, Result, Ok, Err}
 use Rattle.ds_base.specs.KeyLines.{AreKeyLines}
 use Rattle.ds_base.specs.declared.keys.KeyLine.{KeyLine}
 use Rattle.ds_base.specs.declared.left_out.LeftOut.{LeftOut}
@@ -8,16 +8,14 @@ use Rattle.ds_base.specs.declared.ticks.Tick.{Tick}
 use Rattle.ds_base.specs.declared.processors.Proc.{Proc}
 use Rattle.ds_base.specs.declared.processors.Proc.TheVariants.{Nine}
 use Rattle.ds_ports.specs.Dues.{IsIo, io_due}
-use Rattle.ds_dma.specs.States.{awaits_geometry}
 use Rattle.ds_ports.specs.Io.{IoState, geometry_swapped, io_event, is_settled, keys_pressed, stall_ends, tick_after, video_done}
 use Rattle.ds_runs.specs.Actors.{actors, actor_of}
-use Rattle.ds_runs.specs.Runs.{TickMachine, MachineStep, Makes, Stops, IsLeast, due_at}
+use Rattle.ds_runs.specs.Runs.{TickMachine, MachineStep, Makes, Stops, IsLeast}
 use Rattle.ds_runs.specs.declared.actors.Actor as actor
 use Rattle.ds_runs.specs.declared.actors.Actor.TheVariants.{KeyScript, Video, Timer, Geometry, Card, Dma, Processor}
 use Rattle.ds_machine.specs.Channels.{channel_step, one_event, stopped_at}
-use Rattle.ds_machine.specs.States.{MachineState, ProcessorState, counts_of}
-use Rattle.ds_machine.specs.Steps.{ended, is_blocked, is_halted, processor_of, processor_step, tick_of, wakes, with_io, with_processor}
-use Rattle.gx_fifo.specs.GxStates.{is_half_empty}
+use Rattle.ds_machine.specs.States.{MachineState, ProcessorState}
+use Rattle.ds_machine.specs.Steps.{ended, is_blocked, processor_of, processor_step, tick_of, wakes, with_io, with_processor}
 use Rattle.gx_geometry.specs.States.{Swapped}
 use Rattle.video2d.specs.Scans.{scan_due, scan_due_tick, starts_vblank}
 use Rattle.video2d.specs.Videos.{video_answer}
@@ -149,7 +147,7 @@ pub record IsSound (s : MachineState) : Type 0 where
   pub asleep : AreAsleep s
   pub settled : is_settled s.io ≡ true
 
--- ---- counts, by owner
+-- ---- whom a processor hears of
 
 -- the actors that may halt a processor, or wake it, or make it wait: the key script, the display, its timers, its DMA channels, the card, and geometry for ARM9
 -- (our choice; the card isn't built yet)
@@ -162,36 +160,9 @@ Fences Card proc = Unit {0}
 Fences Geometry proc = proc ≡ Nine
 Fences a proc = ⊥
 
--- a channel of ARM9's waits for geometry, and its FIFO has room: the next step that is taken triggers it. So it can be only after a step that stopped.
-abbrev pub is_to_be_triggered : IoState → Bool
-is_to_be_triggered u = is_half_empty u.gx && awaits_geometry u.nine.dma
-
--- geometry's rank, and how many of its steps there may have been at a tick before the actor of a rank
+-- geometry's rank, and how many of its steps there may be at a tick before the actor of a rank
 abbrev pub geometry_rank : ℕ
 geometry_rank = 12
 
 abbrev pub geometry_before : ℕ → ℕ
 geometry_before rank = if nat_lt geometry_rank rank then 1 else 0
-
--- A processor took each step at a tick of its own, and the other actors each event at a place of its own in the order of events, which has 22 places for each
--- tick: so there were no more of them than ticks, or places, before what is due. Geometry took each of its steps at a tick of its own, and adds a vertex at most.
-pub record HasCounted (s : MachineState) : Type 0 where
-  -- before the processor's own due tick, while it isn't halted
-  pub own : (proc : Proc) → is_halted s proc ≡ false → (processor_of s proc).steps ≤ (processor_of s proc).due
-  -- up to the due tick of what may halt it
-  pub fenced : (proc : Proc) (rank : ℕ) (tick : Tick) → due_at (dues_of s) rank ≡ Some tick → Fences (actor_of rank) proc → (processor_of s proc).steps ≤ tick.0 + 1
-  -- up to any due tick, while it is halted
-  pub halted : (proc : Proc) (rank : ℕ) (tick : Tick) → is_halted s proc ≡ true → due_at (dues_of s) rank ≡ Some tick → (processor_of s proc).steps ≤ tick.0 + 1
-  -- up to any due tick, while a channel of ARM9's is to be triggered
-  pub triggered : (rank : ℕ) (tick : Tick) → is_to_be_triggered s.io ≡ true → due_at (dues_of s) rank ≡ Some tick → s.nine.processor.steps ≤ tick.0 + 1
-  pub events : (rank : ℕ) (tick : Tick) → due_at (dues_of s) rank ≡ Some tick → s.events ≤ 22 * tick.0 + min rank 22
-  pub run : (rank : ℕ) (tick : Tick) → due_at (dues_of s) rank ≡ Some tick → s.io.gx.geometry.numbers.run ≤ tick.0 + geometry_before rank
-
--- all steps were taken below a limit
-pub record CountsWithin (limit : ℕ) (s : MachineState) : Type 0 where
-  pub steps : (proc : Proc) → (processor_of s proc).steps ≤ limit
-  pub events : s.events ≤ 22 * limit
-
--- so they add up to at most 24 times the limit
-abbrev pub CountsAddUp : Type 0
-CountsAddUp = (limit : ℕ) (s : MachineState) → CountsWithin limit s → counts_of s ≤ 24 * limit

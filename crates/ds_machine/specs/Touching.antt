@@ -15,6 +15,7 @@ use Rattle.arm_core.specs.Meanings.{meaning}
 use Rattle.arm_core.specs.Registers.{RegisterState}
 use Rattle.arm_core.specs.Steps.{fetched}
 use Rattle.arm_core.specs.declared.touches.Touch.{Touch}
+use Rattle.arm_ops.specs.Meanings.{IsInRam}
 use Rattle.arm_ops.specs.declared.operations.DataAccess.{DataAccess}
 use Rattle.arm_ops.specs.declared.operations.TransferOp.{TransferOp}
 use Rattle.arm_ops.specs.declared.operations.TransferOp.TheVariants.{WordOrByte, HalfOrSigned}
@@ -111,6 +112,14 @@ pub record DataStays {S : Type 0} (memory : MemoryMachine S) (side : SideOf S) (
 abbrev pub DataStaysPrivate : Tick → MachineState → Proc → Type 0
 DataStaysPrivate now s Nine = DataStays nine_memory nine_side s.nine.processor.registers (nine_reach now s)
 DataStaysPrivate now s Seven = DataStays seven_memory seven_side s.seven.processor.registers (seven_reach now s)
+
+-- what is fetched makes one access of data at most, and that one of RAM
+abbrev pub DataInRam : {S : Type 0} → MemoryMachine S → SideOf S → RegisterState → S → Type 0
+DataInRam memory side s state = IsInRam (data_accesses side.arch (side.base state) s (fetched memory side.arch s state).instr)
+
+abbrev pub DataStaysInRam : Tick → MachineState → Proc → Type 0
+DataStaysInRam now s Nine = DataInRam nine_memory nine_side s.nine.processor.registers (nine_reach now s)
+DataStaysInRam now s Seven = DataInRam seven_memory seven_side s.seven.processor.registers (seven_reach now s)
 
 -- a processor's step at a tick may be taken before its turn, but for what it does
 pub record MayBeAhead (tick : Tick) (s : MachineState) (proc : Proc) : Type 0 where

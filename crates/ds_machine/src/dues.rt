@@ -1,10 +1,15 @@
-//! When the machine's actors are due.
+//! When the machine's actors are due, and when they act.
 
 ghost use Rattle.std.specs.Prelude.{◌≡◌, ◌<◌, Some};
+ghost use Rattle.ds_base.specs.declared.processors.Proc.TheVariants.{Nine, Seven};
+ghost use Rattle.ds_ports.specs.Acting.{acting_io_due};
 ghost use Rattle.ds_runs.specs.Actors.{IsNumbered};
-ghost use Rattle.ds_runs.specs.Order.{first_from};
+ghost use Rattle.ds_runs.specs.Order as order;
+ghost use Rattle.ds_runs.specs.Order.{due_with_rank, first_from};
 ghost use Rattle.ds_runs.specs.Runs.{due_at};
-ghost use Rattle.ds_machine.specs.NextEvents.{events_of};
+ghost use Rattle.ds_runs.specs.declared.actors.Actor.TheVariants.{Geometry};
+ghost use Rattle.ds_machine.specs.Acting.{IsActing};
+ghost use Rattle.ds_machine.specs.NextEvents.{acting_events_of, events_of};
 ghost use Rattle.ds_machine.specs.Reference.{dues_of, due_by, keys_due, processor_due, IsDue};
 
 use crate::parts::Parts;
@@ -38,24 +43,55 @@ impl Parts {
         self.script.due()
     }
 
+    /// When geometry is due, if it is and acts: quiet geometry doesn't.
+    pub fn geometry_due(&self) -> Option<Tick>
+        ensures { result ≡ acting_io_due Geometry self.now.io }
+    {
+        if self.io.is_quiet() {
+            return None;
+        }
+        self.io.io_due(Actor::Geometry)
+    }
+
     /// The first actor that is due, but for the processors.
-    #[inline(always)]
-    pub fn first_event(&self) -> Due
+    fn first_event(&self) -> Due
         ensures { Some result ≡ first_from 0 (events_of self.now) }
     {
         later_than(entry(SCRIPT, self.script_due()), self.io.first_due())
     }
 
-    /// The actor that steps next.
+    /// The first of them that acts.
     #[inline(always)]
+    pub fn acting_event(&self) -> Due
+        ensures { Some result ≡ first_from 0 (acting_events_of self.now) }
+    {
+        later_than(entry(SCRIPT, self.script_due()), self.io.first_acting())
+    }
+
+    /// The first of the processors that is due, if one is.
+    #[inline(always)]
+    fn first_processor(&self) -> Option<Due>
+        ensures { result ≡ order.earlier (due_with_rank 22 (processor_due self.now Nine)) (due_with_rank 23 (processor_due self.now Seven)) }
+    {
+        earlier(
+            entry(NINE, self.processor_due(Proc::Nine)),
+            entry(SEVEN, self.processor_due(Proc::Seven)),
+        )
+    }
+
+    /// The actor that is due first.
     pub fn due(&self) -> Due
         ensures { IsDue self.now result }
     {
-        let processors = earlier(
-            entry(NINE, self.processor_due(Proc::Nine)),
-            entry(SEVEN, self.processor_due(Proc::Seven)),
-        );
-        earlier_than(self.first_event(), processors)
+        earlier_than(self.first_event(), self.first_processor())
+    }
+
+    /// The actor that acts next: the least that is due, but for quiet geometry.
+    #[inline(always)]
+    pub fn acting(&self) -> Due
+        ensures { IsActing self.now result }
+    {
+        earlier_than(self.acting_event(), self.first_processor())
     }
 
     /// When the actor of a rank is due, if it is.

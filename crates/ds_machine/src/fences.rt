@@ -3,10 +3,12 @@
 ghost use Rattle.std.specs.Prelude.{◌≡◌, ◌↔◌, ◌<◌, ◌^◌, Option, Some, true};
 ghost use Rattle.ds_base.specs.declared.processors.Proc.TheVariants.{Nine, Seven};
 ghost use Rattle.ds_base.specs.declared.ticks.Due.{Due};
+ghost use Rattle.ds_machine.specs.Acting.{acting_dues};
 ghost use Rattle.ds_machine.specs.FenceTicks.{channel_dues, fence_dues, timer_dues};
 ghost use Rattle.ds_machine.specs.Private as private;
-ghost use Rattle.ds_machine.specs.Private.{BelongsToTurn, IsAhead, IsFence};
-ghost use Rattle.ds_machine.specs.Reference.{dues_of, keys_due, processor_due};
+ghost use Rattle.ds_machine.specs.Private.{IsAhead, IsFence};
+ghost use Rattle.ds_machine.specs.TurnSteps.{BelongsToTurn};
+ghost use Rattle.ds_machine.specs.Reference.{keys_due, processor_due};
 ghost use Rattle.ds_runs.specs.Order as order;
 ghost use Rattle.ds_runs.specs.Order.{due_with_rank, first_from};
 ghost use Rattle.ds_runs.specs.Runs.{IsLeast};
@@ -63,11 +65,11 @@ impl Parts {
         later_than(entry(0, self.script.due()), earlier_than(video, first))
     }
 
-    /// The first of those that may halt ARM9, wake it or make it wait.
+    /// The first that acts of those that may halt ARM9, wake it or make it wait.
     fn first_fence_of_nine(&self) -> Due
         ensures { Some result ≡ first_from 0 (fence_dues self.now Nine) }
     {
-        let geometry = entry(12, self.due_by(Actor::Geometry));
+        let geometry = entry(12, self.geometry_due());
         let others = earlier(geometry, self.first_channel(Proc::Nine, 14));
         self.first_before(Proc::Nine, 2, others)
     }
@@ -80,7 +82,7 @@ impl Parts {
         self.first_before(Proc::Seven, 6, others)
     }
 
-    /// The least tick at which one is due of those that may halt a processor, wake it or make it wait.
+    /// The least tick at which one acts of those that may halt a processor, wake it or make it wait: quiet geometry doesn't.
     #[inline(never)]
     pub fn fence(&self, proc: Proc) -> Tick
         ensures { IsFence self.now proc result }
@@ -91,13 +93,13 @@ impl Parts {
         }
     }
 
-    /// Whether a processor is the actor that steps next.
+    /// Whether a processor is the actor that acts next.
     fn is_first(&self, proc: Proc, tick: Tick) -> bool
         requires { processor_due self.now proc ≡ Some tick }
-        ensures { (result ≡ true) ↔ IsLeast (dues_of self.now) tick (private.rank_of proc) }
+        ensures { (result ≡ true) ↔ IsLeast (acting_dues self.now) tick (private.rank_of proc) }
     {
         let _ = tick;
-        self.due().rank == rank_of(proc)
+        self.acting().rank == rank_of(proc)
     }
 
     /// Whether a processor's next step may be taken before its turn.
@@ -108,7 +110,7 @@ impl Parts {
         tick.0 < self.fence(proc).0 && matches!(self.touches(proc), Private::Yes)
     }
 
-    /// Whether a processor's next step belongs to its turn with a limit: it is due below the limit, and is the least step, or may be taken before its turn.
+    /// Whether a processor's next step belongs to its turn with a limit: it is due below the limit, and is the least acting step, or may be taken before its turn.
     pub fn belongs(&self, proc: Proc, until: Tick) -> bool
         ensures { (result ≡ true) ↔ BelongsToTurn until.0 self.now proc }
     {

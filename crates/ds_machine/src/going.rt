@@ -2,9 +2,12 @@
 
 ghost use Rattle.std.specs.Prelude.{◌≡◌, ◌↔◌, ◌<◌, ◌≤◌, ◌^◌, ◌⊎◌, ℕ, Some, false, true, IfSome};
 ghost use Rattle.ds_ipc.specs.Ipcs.{other_proc};
+ghost use Rattle.ds_machine.specs.Lagging.{observes_by};
 ghost use Rattle.ds_machine.specs.NextEvents.{least_kept, limit_by, HasLimit, IsFirst, IsNextEvent, TookStep};
-ghost use Rattle.ds_machine.specs.Private.{BelongsToTurn, IsBelowFence, TakesSteps};
-ghost use Rattle.ds_machine.specs.Reference.{awake, step_by, stepped_of, HasCounted, HasSoundParts};
+ghost use Rattle.ds_machine.specs.Private.{IsBelowFence};
+ghost use Rattle.ds_machine.specs.TurnSteps.{BelongsToTurn, TakesSteps};
+ghost use Rattle.ds_machine.specs.Reference.{awake, step_by, stepped_of, HasSoundParts};
+ghost use Rattle.ds_machine.specs.Counting.{HasCounted};
 ghost use Rattle.ds_machine.specs.Steps.{is_blocked, processor_of, tick_of};
 ghost use Rattle.ds_machine.specs.Touching.{DataStaysPrivate, FetchStaysPrivate, MayBeAhead};
 ghost use Rattle.ds_machine.specs.declared.answers.Done.TheVariants.{Made};
@@ -28,7 +31,7 @@ pub enum Gone {
 
 impl Parts {
     /// A processor's step at its tick, where it is one of the fast path, and where it is ahead of its turn reaches private places alone. It costs, and changes no unit: so no
-    /// processor wakes, and what is kept stays.
+    /// processor wakes, and what is kept stays. It observes nothing of geometry: it reaches RAM alone.
     #[inline(always)]
     fn processor_fast(&mut self, next_event: NextEvent, proc: Proc, tick: Tick, ahead: bool) -> Gone
         requires next_event { IsNextEvent next_event self.old }
@@ -42,6 +45,7 @@ impl Parts {
         ensures unknown { result ≡ gone.Unknown → self.new ≡ self.old }
         ensures made { (rank : ℕ) → result ≡ gone.Took → awake (Some tick) (step_by rank (Actor.Processor proc) self.old) ≡ stepped_of self.old Made self.new }
         ensures stays { ahead ≡ true → result ≡ gone.Took → DataStaysPrivate tick self.old proc }
+        ensures apart { result ≡ gone.Took → observes_by (Actor.Processor proc) self.old ≡ false }
         ensures over { result ≡ gone.Over → (ahead ≡ true) × (DataStaysPrivate tick self.old proc → ⊥) }
         ensures next_event { IsNextEvent next_event self.new }
         ensures io { self.new.io ≡ self.old.io }
@@ -68,7 +72,7 @@ impl Parts {
         self.is_private(proc, at, false, true)
     }
 
-    /// Whether a tick is below a processor's fence, which is asked for only from the first event of all on.
+    /// Whether a tick is below a processor's fence, which is asked for only from the first event that acts on.
     #[inline(always)]
     fn is_below_fence(&self, next_event: NextEvent, proc: Proc, tick: Tick) -> bool
         requires { IsNextEvent next_event self.now }
@@ -89,7 +93,7 @@ impl Parts {
             && self.is_below_fence(next_event, proc, tick)
     }
 
-    /// Whether a processor's step that isn't the least belongs to its turn, but for what it does.
+    /// Whether a processor's step that isn't the least acting one belongs to its turn, but for what it does.
     #[inline(always)]
     fn may_go_on(&self, next_event: NextEvent, proc: Proc, until: Tick, tick: Tick) -> bool
         requires { IsNextEvent next_event self.now }
@@ -99,7 +103,7 @@ impl Parts {
         self.may_be_ahead(next_event, proc, tick) && tick.0 < until.0
     }
 
-    /// One step of a processor's turn, where it is one of the fast path; by the first tick at which it isn't the least any more.
+    /// One step of a processor's turn, where it is one of the fast path; by the first tick at which it isn't the least acting one any more.
     #[inline(always)]
     fn go_once(&mut self, next_event: NextEvent, proc: Proc, until: Tick, limit: u64) -> Gone
         requires next_event { IsNextEvent next_event self.old }
@@ -123,8 +127,8 @@ impl Parts {
         self.processor_fast(next_event, proc, Tick(due), ahead)
     }
 
-    /// A processor takes steps of its turn, while they are of the fast path; by the first tick at which it isn't the least any more. The answer is whether its turn is over; where it
-    /// isn't known to be, the next step isn't one of the fast path.
+    /// A processor takes steps of its turn, while they are of the fast path; by the first tick at which it isn't the least acting one any more. The answer is whether its turn is
+    /// over; where it isn't known to be, the next step isn't one of the fast path.
     #[inline(always)]
     pub fn go_fast(&mut self, next_event: NextEvent, proc: Proc, until: Tick, limit: u64) -> bool
         requires next_event { IsNextEvent next_event self.old }
@@ -136,6 +140,7 @@ impl Parts {
         ensures next_event { IsNextEvent next_event self.new }
         ensures counted { HasCounted self.new }
         ensures io { self.new.io ≡ self.old.io }
+        ensures limit { HasLimit until.0 self.new proc limit }
     {
         if next_event.events_until.0 == 0 {
             return false;
@@ -150,7 +155,7 @@ impl Parts {
         }
     }
 
-    /// The processor that is the least actor and due below a limit, where that is known; None where it isn't, or where another actor is the least.
+    /// The processor that is the least acting actor and due below a limit, where that is known; None where it isn't, or where another actor is the least that acts.
     #[inline(always)]
     pub fn first_by(&self, next_event: NextEvent, until: Tick) -> Option<First>
         requires next_event { IsNextEvent next_event self.now }
@@ -163,7 +168,7 @@ impl Parts {
         self.first_below(next_event, Proc::Seven, until)
     }
 
-    /// A processor, where it is known to be the least actor and due below a limit.
+    /// A processor, where it is known to be the least acting actor and due below a limit.
     #[inline(always)]
     fn first_below(&self, next_event: NextEvent, proc: Proc, until: Tick) -> Option<First>
         requires next_event { IsNextEvent next_event self.now }
@@ -177,7 +182,7 @@ impl Parts {
         Some(First { proc, limit })
     }
 
-    /// The first tick at which a processor isn't the least actor, or isn't due below a limit, any more, where that is known.
+    /// The first tick at which a processor isn't the least acting actor, or isn't due below a limit, any more, where that is known.
     pub fn limit_of(&self, next_event: NextEvent, proc: Proc, until: Tick) -> Option<u64>
         requires next_event { IsNextEvent next_event self.now }
         ensures { IfSome result (λ limit. HasLimit until.0 self.now proc limit) }

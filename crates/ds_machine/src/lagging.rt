@@ -15,7 +15,7 @@ ghost use Rattle.ds_machine.specs.Reference.{dues_of, due_by};
 ghost use Rattle.ds_machine.specs.Sides.{nine_side};
 ghost use Rattle.ds_machine.specs.Steps.{nine_reach, tick_of};
 ghost use Rattle.ds_machine.specs.Touching as touching;
-ghost use Rattle.ds_runs.specs.Actors.{actor_of, IsNumbered};
+ghost use Rattle.ds_runs.specs.Actors.{actor_of};
 ghost use Rattle.ds_runs.specs.Runs.{due_at};
 ghost use Rattle.video2d.specs.Scans.{framed_by, scan_due_tick, starts_vblank, ScanState};
 
@@ -34,7 +34,7 @@ const VCOUNT: u32 = 6;
 
 /// Whether a port shows how far geometry is, gives it something to do, or makes it heard, by its offset from 4000000h.
 #[inline(always)]
-fn is_observed_port(at: u32) -> bool
+pub fn is_observed_port(at: u32) -> bool
     ensures { result ≡ lagging.is_observed_port at }
 {
     matches!(at / 4, 0x18 | 0x100..=0x1BF | 0x2E | 0x31 | 0x34 | 0x37)

@@ -3,10 +3,12 @@
 ghost use Rattle.ds_runs.specs.Laws.{RunsJoin, RunsAreOne, RunsExist, RunsEnd};
 ghost use Rattle.ds_machine.specs.Apart.{DisplayLeavesNine, GeometryLeavesNine, LeaveNine, LeaveNineOwn, LeaveSeven};
 ghost use Rattle.ds_machine.specs.Frames.{StepsFollowFrames, StepsFollowLists, StopsLeaveFrames, StopsLeaveLists};
-ghost use Rattle.ds_machine.specs.Lagging.{LagRuns, LagStops};
+ghost use Rattle.ds_machine.specs.Lagging.{CatchingUpRuns, LagRuns, LagStops};
 ghost use Rattle.ds_machine.specs.OwnSteps.{IsStep7, IsStep9};
-ghost use Rattle.ds_machine.specs.Private.{AheadRuns, AheadSteps, TurnStepsFall};
-ghost use Rattle.ds_machine.specs.Reference.{reference, CountsAddUp, HasSoundParts};
+ghost use Rattle.ds_machine.specs.Private.{AheadRuns, AheadSteps};
+ghost use Rattle.ds_machine.specs.TurnSteps.{ActingMayStep, ActingRuns, ActingStops, TurnStepsFall};
+ghost use Rattle.ds_machine.specs.Reference.{reference, HasSoundParts};
+ghost use Rattle.ds_machine.specs.Counting.{CountsAddUp};
 ghost use Rattle.ds_machine.specs.Statuses.{BootsWithStatuses, RunsKeepStatuses, StepsKeepStatuses};
 
 /// Does nothing; its contract states the laws of the reference run, which hold for every state and every limit: the run to a
@@ -54,8 +56,8 @@ pub fn count_laws()
     ensures { CountsAddUp }
 {}
 
-/// Does nothing; its contract states that a step of a processor's turn that is taken leaves the processor fewer ticks below the limit: it is due later afterwards, or not at
-/// all. So a loop over such steps ends.
+/// Does nothing; its contract states that a step of a processor's turn that is taken, after geometry caught up where the step observes it, leaves the processor fewer ticks
+/// below the limit: it is due later afterwards, or not at all. So a loop over such steps ends.
 pub fn own_turn_laws()
     ensures { TurnStepsFall }
 {}
@@ -69,8 +71,8 @@ pub fn frame_laws()
     ensures lists_stop { StopsLeaveLists }
 {}
 
-/// Does nothing; its contract states the laws of running ahead. A step that a processor may take before its turn, on a machine whose units are settled and on which nobody is
-/// to wake, is always taken, puts out nothing and leaves such a machine. And to each limit past its tick the run from the state after it ends where the run from the state before it
+/// Does nothing; its contract states the laws of running ahead. A step that a processor may take before its turn, on a machine whose units are settled and on which nobody is to
+/// wake, is always taken, puts out nothing and leaves such a machine. And to each limit past its tick the run from the state after it ends where the run from the state before it
 /// ends, and puts out the same.
 #[tactic(auto, using(crate::proofs::AheadRuns::ahead_steps, crate::proofs::AheadRuns::ahead_runs))]
 pub fn ahead_laws()
@@ -84,4 +86,15 @@ pub fn ahead_laws()
 pub fn lag_laws()
     ensures runs { LagRuns }
     ensures stops { LagStops }
+{}
+
+/// Does nothing; its contract states the laws of a turn's steps. `caught` says that to each limit from a place on, before which no actor acts, the run from the state in which
+/// geometry caught up with that place ends where the run from the state before it ends, and puts out the same. Once geometry caught up, where the step observes it, the step of the
+/// least acting actor, or of a processor that may step before its turn, may be taken (`may`); to each limit past its tick the run from the state after it ends where the run from
+/// the state before it ends, and puts out the rest of the same (`runs`); and where it stops the machine, the run stops so (`stops`).
+pub fn acting_laws()
+    ensures caught { CatchingUpRuns }
+    ensures may { ActingMayStep }
+    ensures runs { ActingRuns }
+    ensures stops { ActingStops }
 {}

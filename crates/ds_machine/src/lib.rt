@@ -6,6 +6,7 @@
 
 mod answers;
 mod boots;
+mod catching_up;
 mod dues;
 mod events;
 mod fences;
@@ -17,6 +18,7 @@ mod machines;
 mod next_events;
 mod parts;
 mod processors;
+mod quiet_loads;
 mod scripts;
 mod sides;
 mod steps;
@@ -27,8 +29,8 @@ mod turns;
 pub use answers::{Done, Private, Seen};
 pub use geometry_laws::room_laws;
 pub use laws::{
-    ahead_laws, count_laws, frame_laws, lag_laws, own_part_laws, own_step_laws, own_turn_laws,
-    reference_laws, status_laws,
+    acting_laws, ahead_laws, count_laws, frame_laws, lag_laws, own_part_laws, own_step_laws,
+    own_turn_laws, reference_laws, status_laws,
 };
 pub use machines::Machine;
 pub use next_events::First;

@@ -1,25 +1,30 @@
 //! The machine.
 
-ghost use Rattle.std.specs.Prelude.{◌≡◌, ◌↔◌, ◌<◌, ◌≤◌, ◌^◌, true, slice_index, length, IfOk, IfSome, IsSome};
+ghost use Rattle.std.specs.Prelude.{◌≡◌, ◌↔◌, ◌<◌, ◌≤◌, ◌^◌, false, true, slice_index, length, IfOk, IfSome, IsSome};
 ghost use Rattle.ds_base.specs.Memories.{memory_size};
 ghost use Rattle.ds_ipc.specs.Ipcs.{AreSides};
+ghost use Rattle.ds_ports.specs.Acting.{is_quiet};
 ghost use Rattle.ds_ports.specs.Io.{io_at_boot};
 ghost use Rattle.ds_runs.specs.Actors.{actor_of};
 ghost use Rattle.ds_runs.specs.Runs.{due_at};
+ghost use Rattle.ds_machine.specs.Acting.{is_behind, IsActing};
 ghost use Rattle.ds_machine.specs.Booted.{machine_booted};
 ghost use Rattle.ds_machine.specs.Frames.{framed_of};
-ghost use Rattle.ds_machine.specs.Lagging.{observes_by};
-ghost use Rattle.ds_machine.specs.NextEvents.{HasLimit, IsFirst};
+ghost use Rattle.ds_machine.specs.Lagging.{observes_by, CatchesUp, CatchesUpFor, ComesBeforeAll};
+ghost use Rattle.ds_machine.specs.NextEvents.{HasLimit, IsFirst, TookStep};
 ghost use Rattle.ds_machine.specs.Observed.{memory_of, registers_of, seen_of};
-ghost use Rattle.ds_machine.specs.Private.{BelongsToTurn, IsFence, IsPrivate, MayStep, TakesSteps};
+ghost use Rattle.ds_machine.specs.Private.{IsFence, IsPrivate};
+ghost use Rattle.ds_machine.specs.TurnSteps.{BelongsToTurn, MayAct, MayStep, TakesSteps};
 ghost use Rattle.ds_machine.specs.declared.answers.Private.TheVariants.{Yes};
-ghost use Rattle.ds_machine.specs.Reference.{dues_of, HasCounted, HasSoundParts, IsDue, Steps};
+ghost use Rattle.ds_machine.specs.Reference.{dues_of, HasSoundParts, IsDue, IsSound, Steps};
+ghost use Rattle.ds_machine.specs.Counting.{HasCounted};
 ghost use Rattle.ds_machine.specs.Statuses.{HasBothStatuses};
-ghost use Rattle.ds_machine.specs.Steps.{processor_of};
+ghost use Rattle.ds_machine.specs.Steps.{processor_of, tick_of};
 
 use crate::answers::{Done, Private, Seen};
 use crate::next_events::{First, NextEvent};
 use crate::parts::Parts;
+use crate::quiet_loads::Refused;
 use ds_base::{Due, Keys, Memory, Proc, Tick};
 use ds_header::Cart;
 use gx_geometry::Lists;
@@ -31,11 +36,12 @@ use std::marker::Model;
 pub struct Machine {
     parts: Parts,
     next_event: NextEvent,
+    refused: Refused,
 }
 
 impl Model for Machine {
     ghost use Rattle.ds_machine.specs.NextEvents.{IsNextEvent};
-    ghost use Rattle.ds_machine.specs.Reference.{HasCounted};
+    ghost use Rattle.ds_machine.specs.Counting.{HasCounted};
     ghost use Rattle.ds_machine.specs.States.{MachineState};
     ghost use Rattle.ds_machine.specs.Statuses.{HasBothStatuses};
 
@@ -43,7 +49,7 @@ impl Model for Machine {
 
     ghost view = { λ m. m.parts };
 
-    // the counts are within what is due, what is kept is so, and the status registers have only bits that are kept
+    // the counts are within what acts, what is kept is so, and the status registers have only bits that are kept
     ghost invariant = { λ m. HasCounted m.parts × IsNextEvent m.next_event m.parts × HasBothStatuses m.parts };
 }
 
@@ -56,16 +62,29 @@ impl Machine {
     {
         let parts = Parts::new(alloc, cart, keys)?;
         let next_event = parts.next_event();
-        Ok(Machine { parts, next_event })
+        Ok(Machine {
+            parts,
+            next_event,
+            refused: Refused::new(),
+        })
     }
 
-    /// The actor that steps next. Each processor's steps so far were at most as many as ticks before what may change it, and the events as places before what is due.
+    /// The actor that is due first, quiet geometry among them. Each processor's steps so far were at most as many as ticks before what acts and may change it, and the events as
+    /// places before what acts, less those that geometry still has.
     #[inline(always)]
     pub fn due(&self) -> Due
         ensures least { IsDue self.now result }
         ensures counted { HasCounted self.now }
     {
         self.parts.due()
+    }
+
+    /// The actor that acts next: the least of all that are due but quiet geometry, of whose steps nobody hears.
+    #[inline(always)]
+    pub fn acting(&self) -> Due
+        ensures { IsActing self.now result }
+    {
+        self.parts.acting()
     }
 
     /// When the actor of a rank is due, if it is.
@@ -76,9 +95,10 @@ impl Machine {
         self.parts.due_of(rank)
     }
 
-    /// The step of the actor that is due first, or of a processor that may step before its turn; then the geometry FIFO's interrupt is told as it is and DMA is triggered
-    /// that waits for it, and halted processors wake whose IE and IF share a bit. A step that needs what is left out stops; the accesses before the refused one stand, and
-    /// registers and due ticks are as they were.
+    /// The step of the actor that is due first; or of the first that acts, where its step doesn't observe geometry, though quiet geometry may be due before it; or of a processor
+    /// that may step before its turn, on a machine whose units are settled and on which nobody is to wake, as it is unless the last step stopped. Quiet geometry's own step is
+    /// taken only where nobody is to wake. Then the geometry FIFO's interrupt is told as it is and DMA is triggered that waits for it, and halted processors wake whose IE and IF
+    /// share a bit. A step that needs what is left out stops; the accesses before the refused one stand, and registers and due ticks are as they were.
     #[inline(always)]
     pub fn step(&mut self, rank: u8) -> Done
         requires { MayStep self.old rank }
@@ -91,7 +111,7 @@ impl Machine {
         done
     }
 
-    /// The processor that is the least actor and due below a limit, where that is known at once; None where it isn't, or where another actor is the least.
+    /// The processor that is the least acting actor and due below a limit, where that is known at once; None where it isn't, or where another actor is the least that acts.
     #[inline(always)]
     pub fn first(&self, until: Tick) -> Option<First>
         requires { until.0 ≤ 2 ^ 56 }
@@ -100,8 +120,9 @@ impl Machine {
         self.parts.first_by(self.next_event, until)
     }
 
-    /// A processor takes steps of its turn with a limit, while they are of the fast path; by the first tick at which it isn't the least any more. The answer is whether its turn is over; where it isn't known to be, `belongs`
-    /// tells it, and the next step, where it belongs to the turn, is to be taken by `step`. No unit behind the ports changes: so no frame becomes whole, and no lists are swapped.
+    /// A processor takes steps of its turn with a limit, while they are of the fast path; by the first tick at which it isn't the least acting one any more. The answer is whether
+    /// its turn is over; where it isn't known to be, `belongs` tells it, and the next step, where it belongs to the turn, is to be taken by `step`. No unit behind the ports
+    /// changes: so no frame becomes whole, and no lists are swapped.
     #[inline(always)]
     pub fn go_fast(&mut self, proc: Proc, until: Tick, limit: u64) -> bool
         requires early { until.0 ≤ 2 ^ 56 }
@@ -110,11 +131,48 @@ impl Machine {
         ensures over { result ≡ true → BelongsToTurn until.0 self.new proc → ⊥ }
         ensures io { self.new.io ≡ self.old.io }
         ensures counted { HasCounted self.old }
+        ensures limit { HasLimit until.0 self.new proc limit }
     {
         self.parts.go_fast(self.next_event, proc, until, limit)
     }
 
-    /// The first tick at which a processor isn't the least actor, or isn't due below a limit, any more, while it alone takes steps, where that is known.
+    /// A processor's next step, where the processor is the least acting actor, and the step is a load from a port that changes no unit and doesn't observe geometry; by the first
+    /// tick at which it isn't the least acting one any more, which stays. The answer is whether it was taken; where it wasn't, nothing is changed. Programs that wait for something
+    /// take such steps again and again. It is tried only where the step at that address wasn't of another kind when it was last tried.
+    #[inline(always)]
+    pub fn load_quietly(&mut self, proc: Proc, until: Tick, limit: u64) -> bool
+        requires early { until.0 ≤ 2 ^ 56 }
+        requires limit { HasLimit until.0 self.old proc limit }
+        ensures took { result ≡ true → TookStep until.0 proc self.old self.new }
+        ensures none { result ≡ false → self.new ≡ self.old }
+        ensures limit { HasLimit until.0 self.new proc limit }
+    {
+        let processor = self.parts.processor(proc);
+        if limit <= processor.due
+            || self.next_event.line(proc)
+            || self.refused.has(processor.core.registers.pc())
+        {
+            return false;
+        }
+        self.try_load(proc, until, limit)
+    }
+
+    /// The same, which keeps where it was of no use.
+    #[inline(never)]
+    fn try_load(&mut self, proc: Proc, until: Tick, limit: u64) -> bool
+        requires early { until.0 ≤ 2 ^ 56 }
+        requires limit { HasLimit until.0 self.old proc limit }
+        ensures took { result ≡ true → TookStep until.0 proc self.old self.new }
+        ensures none { result ≡ false → self.new ≡ self.old }
+        ensures limit { HasLimit until.0 self.new proc limit }
+    {
+        let at = self.parts.processor(proc).core.registers.pc();
+        let took = self.parts.load_quietly(self.next_event, proc, until, limit);
+        self.refused.note(at, took);
+        took
+    }
+
+    /// The first tick at which a processor isn't the least acting actor, or isn't due below a limit, any more, while it alone takes steps, where that is known.
     pub fn limit_of(&self, proc: Proc, until: Tick) -> Option<u64>
         ensures { IfSome result (λ limit. HasLimit until.0 self.now proc limit) }
     {
@@ -129,15 +187,15 @@ impl Machine {
         self.parts.touches(proc)
     }
 
-    /// The least tick at which one is due of those that may halt a processor, wake it or make it wait: the key script, the display, its timers, its DMA channels, and
-    /// geometry for ARM9.
+    /// The least tick at which one acts of those that may halt a processor, wake it or make it wait: the key script, the display, its timers, its DMA channels, and for
+    /// ARM9 geometry, unless it is quiet.
     pub fn fence(&self, proc: Proc) -> Tick
         ensures { IsFence self.now proc result }
     {
         self.parts.fence(proc)
     }
 
-    /// Whether a processor's next step belongs to its turn with a limit: it is due below the limit, and is the least step, or may be taken before its turn.
+    /// Whether a processor's next step belongs to its turn with a limit: it is due below the limit, and is the least acting step, or may be taken before its turn.
     pub fn belongs(&self, proc: Proc, until: Tick) -> bool
         ensures { (result ≡ true) ↔ BelongsToTurn until.0 self.now proc }
     {
@@ -151,6 +209,53 @@ impl Machine {
         ensures { result ≡ observes_by (actor_of rank) self.now }
     {
         self.parts.observes(rank)
+    }
+
+    /// Whether geometry is due and quiet: GXSTAT's selector is 0, no channel of ARM9's is enabled with the start of the geometry FIFO, and at most 260 entries wait. Its steps may
+    /// then be taken later than those of others, since nobody hears of them.
+    pub fn quiet(&self) -> bool
+        ensures { result ≡ is_quiet self.now.io }
+    {
+        self.parts.is_quiet()
+    }
+
+    /// Whether quiet geometry is due before the place of a rank at a tick: earlier, or at that tick, where its own rank is lower.
+    #[inline(always)]
+    pub fn is_behind(&self, tick: Tick, rank: u8) -> bool
+        ensures { result ≡ is_behind tick.0 rank self.now }
+    {
+        self.parts.is_behind(tick, rank)
+    }
+
+    /// On a machine whose units are settled and on which nobody is to wake, takes the steps of quiet geometry that are due before the place of a rank at a tick, before which
+    /// nobody acts.
+    pub fn catch_up(&mut self, tick: Tick, rank: u8)
+        requires sound { IsSound self.old }
+        requires before { ComesBeforeAll tick.0 rank self.old }
+        requires early { tick.0 ≤ 2 ^ 56 }
+        ensures caught { CatchesUp tick.0 rank self.old self.new }
+    {
+        if self.parts.is_behind(tick, rank) {
+            self.parts.catch_up(tick, rank);
+            let next_event = self.parts.next_event();
+            self.next_event = next_event;
+        }
+    }
+
+    /// Before a step of a turn, on a machine whose units are settled and on which nobody is to wake, takes the steps of quiet geometry that are due before it, where that step
+    /// observes geometry. Else nothing changes. The step is that of the actor of a rank, which acts at a tick: it is the first that acts, or a processor that may step before its
+    /// turn.
+    #[inline(always)]
+    pub fn catch_up_before(&mut self, tick: Tick, rank: u8)
+        requires sound { IsSound self.old }
+        requires early { tick.0 ≤ 2 ^ 56 }
+        requires may { MayAct self.old tick rank }
+        ensures caught { CatchesUpFor tick.0 rank self.old self.new }
+    {
+        if self.parts.catch_up_before(tick, rank) {
+            let next_event = self.parts.next_event();
+            self.next_event = next_event;
+        }
     }
 
     /// Does nothing; its contract states what holds of every machine: each unit's numbers are those that it can have, and the lines of the key
@@ -217,6 +322,14 @@ impl Machine {
         ensures { result ≡ registers_of self.now proc }
     {
         self.parts.processor(proc).core.registers()
+    }
+
+    /// The tick at which a processor's next step is due, while nothing blocks it.
+    #[inline(always)]
+    pub fn tick_of(&self, proc: Proc) -> Tick
+        ensures { result ≡ tick_of (processor_of self.now proc) }
+    {
+        Tick(self.parts.processor(proc).due)
     }
 
     /// How many steps a processor took.

@@ -4,7 +4,7 @@ ghost use Rattle.std.specs.Prelude.{◌≡◌, ◌<◌, ◌+◌, ◌-◌, ◌^�
 ghost use Rattle.ds_ports.specs.Io.{is_settled};
 ghost use Rattle.ds_runs.specs.Runs.{IsOver, due_at};
 ghost use Rattle.ds_machine.specs.NextEvents as kept;
-ghost use Rattle.ds_machine.specs.NextEvents.{events_of, least_of, due_at_least, least_kept, limit_by, line_kept, IsNextEvent};
+ghost use Rattle.ds_machine.specs.NextEvents.{acting_events_of, least_of, due_at_least, least_kept, limit_by, line_kept, IsNextEvent};
 ghost use Rattle.ds_machine.specs.Reference.{AreAsleep};
 ghost use Rattle.ds_machine.specs.Steps.{is_blocked};
 
@@ -14,7 +14,7 @@ use ds_base::{Proc, Tick};
 /// What the units behind the ports, the key script and the display tell: it stands still while a processor's steps change none of them.
 #[derive(Clone, Copy)]
 pub struct NextEvent {
-    /// No actor but the processors is due before this tick, and one is at it; 0 where a halted processor is to wake, or the units behind the ports aren't settled.
+    /// No actor but the processors acts before this tick, and one does at it; 0 where a halted processor is to wake, or the units behind the ports aren't settled.
     pub events_until: Tick,
     /// ARM9 is due at this tick at the earliest: 0, or past all ticks of a run while it is blocked.
     pub nine_least: u64,
@@ -26,12 +26,12 @@ pub struct NextEvent {
     pub seven_line: bool,
 }
 
-/// The processor that is the least actor.
+/// The processor that is the least acting actor.
 #[derive(Clone, Copy)]
 pub struct First {
     /// Which one it is.
     pub proc: Proc,
-    /// From this tick on it isn't the least actor, or isn't due below a limit, any more, while it alone takes steps.
+    /// From this tick on it isn't the least acting actor, or isn't due below a limit, any more, while it alone takes steps.
     pub limit: u64,
 }
 
@@ -76,17 +76,17 @@ fn past_if_below(tick: u64, end: u64) -> u64
 }
 
 impl Parts {
-    /// A tick before which no actor but the processors is due, and at which one is; 0 where a halted processor is to wake, or the units behind the ports aren't settled.
+    /// A tick before which no actor but the processors acts, and at which one does; 0 where a halted processor is to wake, or the units behind the ports aren't settled.
     fn next_event_tick(&self) -> Tick
-        ensures events { IsOver (events_of self.now) result.0 }
-        ensures first { 0 < result.0 → (rank : ℕ) × (due_at (events_of self.now) rank ≡ Some result) }
+        ensures events { IsOver (acting_events_of self.now) result.0 }
+        ensures first { 0 < result.0 → (rank : ℕ) × (due_at (acting_events_of self.now) rank ≡ Some result) }
         ensures asleep { 0 < result.0 → AreAsleep self.now }
         ensures settled { 0 < result.0 → is_settled self.now.io ≡ true }
     {
         if self.wakes(Proc::Nine) || self.wakes(Proc::Seven) || !self.io.is_settled() {
             return Tick(0);
         }
-        self.first_event().tick
+        self.acting_event().tick
     }
 
     /// The earliest tick at which a processor may be due: 0, or past all ticks of a run while it is blocked.
@@ -118,7 +118,7 @@ impl Parts {
         due_at_least(next_event.least(proc), self.processor(proc).due)
     }
 
-    /// The first tick at which a processor isn't the least actor, or isn't due below a limit any more, by what is kept.
+    /// The first tick at which a processor isn't the least acting actor, or isn't due below a limit any more, by what is kept.
     #[inline(always)]
     pub fn limit_by(&self, next_event: NextEvent, proc: Proc, until: Tick) -> u64
         ensures { result ≡ limit_by next_event self.now proc until.0 }

@@ -3,7 +3,7 @@
 ghost use Rattle.std.specs.Prelude.{◌≡◌, ◌<◌, ℕ, List, false, IfSome};
 ghost use Rattle.ds_base.specs.Accesses.{MemoryMachine};
 ghost use Rattle.arm_core.specs.declared.outcomes.Stepped.TheVariants.{Cost};
-ghost use Rattle.arm_ops.specs.Meanings.{access_made};
+ghost use Rattle.arm_ops.specs.Meanings.{access_made, operation_meaning, IsInRam};
 ghost use Rattle.arm_ops.specs.Operations.{is_other, HasAccess, HasOperation};
 ghost use Rattle.arm_words.specs.Fields.{HasFields};
 ghost use Rattle.ds_ports.specs.Io.{IoState};
@@ -102,6 +102,7 @@ pub trait Side {
         ensures state { 0 < result → state self.new ≡ (operation_outcome memory side s.old (state self.old) operation.now).state }
         ensures stepped { 0 < result → (operation_outcome memory side s.old (state self.old) operation.now).stepped ≡ Cost result }
         ensures executes { 0 < result → RunsAs memory side s.old (state self.old) operation.now }
+        ensures ram { 0 < result → IsInRam (operation_meaning side.arch s.old operation.now).accesses }
         ensures io { io (state self.new) ≡ io (state self.old) }
         ensures same { identity self.new ≡ identity self.old };
 }

@@ -8,7 +8,6 @@ ghost use Rattle.ds_base.specs.Accesses.{Fetch};
 ghost use Rattle.ds_machine.specs.declared.answers.Private.TheVariants.{Yes};
 ghost use Rattle.ds_machine.specs.Private as private;
 ghost use Rattle.ds_machine.specs.Private.{is_deaf, next_fetch, IsPrivate, ProcessorStaysPrivate};
-ghost use Rattle.ds_machine.specs.Steps.{processor_of};
 ghost use Rattle.ds_ports.specs.Io.{io_of};
 ghost use Rattle.ds_machine.specs.Touching as touching;
 ghost use Rattle.ds_machine.specs.Touching.{all_private, data_private, instr_at, is_private_to, is_told_nothing, FetchStaysPrivate, InstrStaysPrivate, IsFootprint};

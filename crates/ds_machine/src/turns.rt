@@ -5,11 +5,12 @@ ghost use Rattle.arm_core.specs.declared.outcomes.Stepped.TheVariants.{Cost};
 ghost use Rattle.ds_base.specs.declared.processors.Proc.{Proc};
 ghost use Rattle.ds_runs.specs.Actors.{IsNumbered};
 ghost use Rattle.ds_runs.specs.declared.actors.Actor.TheVariants.{Geometry, Processor};
-ghost use Rattle.ds_machine.specs.Private.{MayStep};
+ghost use Rattle.ds_machine.specs.TurnSteps.{MayStep};
 ghost use Rattle.ds_machine.specs.Processors.{stop_in};
-ghost use Rattle.ds_machine.specs.Reference.{awake, due_by, step_by, stepped_of, HasCounted, Steps};
-ghost use Rattle.ds_machine.specs.Touching.{DataStaysPrivate};
-ghost use Rattle.ds_machine.specs.Steps.{machine_concluded, goes_on, gone_by, is_halted, line_of, outcome_of, processor_of, tick_of, wakes, went_on, with_processor, woken, woken_one, ended};
+ghost use Rattle.ds_machine.specs.Reference.{awake, due_by, step_by, stepped_of, Steps};
+ghost use Rattle.ds_machine.specs.Counting.{HasCounted};
+ghost use Rattle.ds_machine.specs.Touching.{DataStaysInRam, DataStaysPrivate};
+ghost use Rattle.ds_machine.specs.Steps.{machine_concluded, goes_on, gone_by, is_halted, line_of, outcome_of, processor_of, wakes, went_on, with_processor, woken, woken_one, ended};
 
 use crate::answers::Done;
 use crate::parts::Parts;
@@ -20,7 +21,8 @@ use ds_map::{NineView, SevenView};
 use ds_runs::Actor;
 
 impl Parts {
-    /// The step of the actor that is due first, or of a processor that may step before its turn.
+    /// The step of the least actor, or of the least acting one, where its step doesn't observe geometry, or of a processor that may step before its turn, on a sound machine. Quiet
+    /// geometry steps where nobody is to wake.
     #[inline(always)]
     pub fn step(&mut self, rank: u8) -> Done
         requires may { MayStep self.old rank }
@@ -123,6 +125,7 @@ impl Parts {
         ensures stays { ahead ≡ true → 0 < result.clocks → DataStaysPrivate now self.old proc }
         ensures leaves { result.leaves ≡ true → DataStaysPrivate now self.old proc → ⊥ }
         ensures left { result.leaves ≡ true → (result.clocks ≡ 0) × (ahead ≡ true) }
+        ensures ram { 0 < result.clocks → DataStaysInRam now self.old proc }
         ensures io { self.new.io ≡ self.old.io }
     {
         match proc {

@@ -1,6 +1,8 @@
 //! Which steps observe geometry. All ticks are worked by hand from the instructions' costs.
 
-use crate::tests::told::Line::{Due, NotDue, Observes, Sees, Steps, Until};
+use crate::tests::told::Line::{
+    ActingSteps, Acts, Behind, Due, First, NotDue, Observes, Quiet, Sees, Steps, Took, Until,
+};
 use crate::tests::told::{Line, file, script, try_lines};
 use ds_base::Proc::Nine;
 use ds_machine::Seen;
@@ -174,6 +176,57 @@ fn the_start_of_line_192_observes(rt: HostRuntime) -> Result<(), AllocError> {
             Due(1, 821_132),
             Observes(1, false),
             NotDue(22),
+        ],
+    )
+}
+
+#[test]
+fn quiet_geometry_waits_for_a_step_that_observes_it(rt: HostRuntime) -> Result<(), AllocError> {
+    try_program(
+        &rt,
+        rt.alloc(),
+        &[
+            PORTS,
+            0xE580_1454, // str r1, [r0, #0x454], at 1: MTX_IDENTITY, done at 39
+            0xE3A0_2009, // mov r2, #9
+            0xE252_2001, // subs r2, r2, #1, at 3, 7, .., 35
+            0x1AFF_FFFD, // bne to it
+            0xE1A0_0000, // mov r0, r0, at 37
+            0xE1A0_0000,
+            0xE1A0_0000,
+            0xE590_1600, // ldr r1, [r0, #0x600], at 40: GXSTAT
+            LOOP,
+        ],
+        &[
+            Quiet(false),
+            Behind(1000, 23, false),
+            // ARM9 at 0 and 1, ARM7 at 0
+            ActingSteps(3),
+            Quiet(true),
+            Due(12, 39),
+            First(2, 22),
+            Acts(2, 22),
+            Behind(39, 0, false),
+            Behind(39, 12, false),
+            Behind(39, 13, true),
+            Behind(40, 0, true),
+            // ARM7 at 2 and 4, ARM9 up to 39
+            ActingSteps(24),
+            Took(24, 3, 0),
+            First(39, 12),
+            Acts(40, 22),
+            Quiet(true),
+            Behind(40, 22, true),
+            Observes(12, false),
+            Observes(22, true),
+            // geometry's step, and then the load
+            ActingSteps(1),
+            Took(25, 3, 1),
+            NotDue(12),
+            Quiet(false),
+            Behind(40, 22, false),
+            First(42, 22),
+            Acts(42, 22),
         ],
     )
 }

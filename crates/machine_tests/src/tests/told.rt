@@ -1,14 +1,15 @@
 //! Machines of two small programs, and what they tell after some steps. All ticks are worked by hand from the instructions' costs.
 
 use Line::{
-    Due, First, Frame, Lists, Main, NotDue, Observes, Pixel, Sees, Steps, Stops, SwappedFrame,
-    Took, Until,
+    ActingSteps, Acts, Behind, First, Frame, Lists, Main, NotDue, Observes, Pixel, Quiet, Sees,
+    Steps, Stops, SwappedFrame, Took, Until,
 };
 use ds_base::Proc::{Nine, Seven};
-use ds_base::{KeyLine, Keys, Memory, Proc, Stop, Tick};
+use ds_base::{Due, KeyLine, Keys, Memory, Proc, Stop, Tick};
 use ds_header::Cart;
-use ds_machine::{Done, Machine, Seen};
+use ds_machine::{Done, Machine, Seen, acting_laws};
 use std::alloc::{AllocError, Global};
+use std::marker::Model;
 use std::process::Abort;
 
 /// A cartridge's header: both images have 80h bytes, and begin to run where they are put.
@@ -39,8 +40,16 @@ pub enum Line {
     Due(u8, u64),
     /// It isn't due.
     NotDue(u8),
-    /// The tick and the rank of the actor that steps next.
+    /// The tick and the rank of the actor that is due first.
     First(u64, u8),
+    /// The tick and the rank of the actor that acts next.
+    Acts(u64, u8),
+    /// So many steps are taken, of whichever actor acts first; geometry catches up before one that observes it.
+    ActingSteps(u32),
+    /// Whether geometry is due and quiet.
+    Quiet(bool),
+    /// Whether quiet geometry is due before the place of a rank at a tick.
+    Behind(u64, u8, bool),
     /// What a processor does next.
     Sees(Proc, Seen),
     /// A byte of main memory, by its place.
@@ -97,44 +106,136 @@ pub fn script(alloc: Global, tick: u64, pressed: u16) -> Result<Keys, AllocError
     Ok(keys)
 }
 
-/// The step of the actor that is due first, where its tick is early.
-fn step(machine: &mut Machine) -> Option<Done> {
-    let due = machine.due();
-    if due.tick.0 > 0x10_0000 {
-        return None;
-    }
-    Some(machine.step(due.rank))
+/// A machine, and whether its last step stopped.
+#[derive(Drop)]
+struct Tested {
+    machine: Machine,
+    stopped: bool,
 }
 
-/// Whether a step was taken.
-fn steps(machine: &mut Machine) -> bool {
-    matches!(step(machine), Some(Done::Made | Done::Frame { .. }))
+impl Model for Tested {
+    ghost use Rattle.std.specs.Prelude.{◌≡◌, false};
+    ghost use Rattle.ds_machine.specs.Reference.{IsSound};
+    ghost use Rattle.ds_machine.specs.States.{MachineState};
+
+    ghost Value = { MachineState };
+
+    ghost view = { λ t. t.machine };
+
+    ghost invariant = { λ t. t.stopped ≡ false → IsSound t.machine };
 }
 
-/// Whether all steps up to a tick were taken.
-fn steps_until(machine: &mut Machine, tick: u64) -> bool {
-    for _ in 0..0x1_0000 {
-        if machine.due().tick.0 >= tick {
-            return true;
+impl Tested {
+    /// A machine at boot.
+    fn new(alloc: Global, cart: &Cart, keys: Keys) -> Result<Tested, AllocError> {
+        let machine = Machine::new(alloc, cart, keys)?;
+        machine.laws();
+        Ok(Tested {
+            machine,
+            stopped: false,
+        })
+    }
+
+    /// The step of the actor that is due first, where its tick is early; but quiet geometry's right after a step that stopped, where somebody may be to wake.
+    fn step(&mut self) -> Option<Done> {
+        let due = self.machine.due();
+        if due.tick.0 > 0x10_0000 || (self.stopped && self.machine.quiet()) {
+            return None;
         }
-        if !steps(machine) {
-            return false;
+        self.machine.laws();
+        match self.machine.step(due.rank) {
+            Done::Made => {
+                self.stopped = false;
+                Some(Done::Made)
+            }
+            Done::Frame { swapped } => {
+                self.stopped = false;
+                Some(Done::Frame { swapped })
+            }
+            Done::Stopped(left) => {
+                self.stopped = true;
+                Some(Done::Stopped(left))
+            }
         }
     }
-    false
+
+    /// The step of the actor that acts first, where its tick is early; where it observes geometry, geometry catches up before it.
+    fn act(&mut self) -> Option<Done> {
+        let acting = self.machine.acting();
+        if self.stopped || acting.tick.0 > 0x10_0000 {
+            return None;
+        }
+        acting_laws();
+        self.machine.catch_up_before(acting.tick, acting.rank);
+        self.machine.laws();
+        match self.machine.step(acting.rank) {
+            Done::Made => Some(Done::Made),
+            Done::Frame { swapped } => Some(Done::Frame { swapped }),
+            Done::Stopped(left) => {
+                self.stopped = true;
+                Some(Done::Stopped(left))
+            }
+        }
+    }
+
+    /// Whether a step was taken.
+    fn steps(&mut self) -> bool {
+        is_taken(self.step())
+    }
+
+    /// Whether so many steps were taken, each of the actor that is due first, or that acts first.
+    fn steps_of(&mut self, count: u32, acting: bool) -> bool {
+        let mut all = true;
+        for _ in 0..count {
+            let done = if acting { self.act() } else { self.step() };
+            all = is_taken(done) && all;
+        }
+        all
+    }
+
+    /// Whether all steps up to a tick were taken.
+    fn steps_until(&mut self, tick: u64) -> bool {
+        for _ in 0..0x1_0000 {
+            if self.machine.due().tick.0 >= tick {
+                return true;
+            }
+            if !self.steps() {
+                return false;
+            }
+        }
+        false
+    }
+
+    /// Whether the next step stops so.
+    fn stops(&mut self, tick: u64, rank: u8, stop: Stop) -> bool {
+        match self.step() {
+            Some(Done::Stopped(left)) => {
+                left.tick.0 == tick
+                    && left.rank == rank
+                    && left.kind == stop.kind
+                    && left.value == stop.value
+            }
+            _ => false,
+        }
+    }
+
+    /// Whether a line holds.
+    fn holds(&mut self, line: Line) -> bool {
+        match line {
+            Steps(count) => self.steps_of(count, false),
+            ActingSteps(count) => self.steps_of(count, true),
+            Until(tick) => self.steps_until(tick),
+            Frame => matches!(self.step(), Some(Done::Frame { swapped: false })),
+            SwappedFrame => matches!(self.step(), Some(Done::Frame { swapped: true })),
+            Stops(tick, rank, stop) => self.stops(tick, rank, stop),
+            _ => tells(&self.machine, line),
+        }
+    }
 }
 
-/// Whether the next step stops so.
-fn stops(machine: &mut Machine, tick: u64, rank: u8, stop: Stop) -> bool {
-    match step(machine) {
-        Some(Done::Stopped(left)) => {
-            left.tick.0 == tick
-                && left.rank == rank
-                && left.kind == stop.kind
-                && left.value == stop.value
-        }
-        _ => false,
-    }
+/// Whether it is a step that was taken.
+fn is_taken(done: Option<Done>) -> bool {
+    matches!(done, Some(Done::Made | Done::Frame { .. }))
 }
 
 /// Whether the next step of the actor of a rank observes geometry, where it is due.
@@ -145,22 +246,20 @@ fn observes(machine: &Machine, rank: u8) -> Option<bool> {
     Some(machine.observes(rank))
 }
 
-/// Whether a line holds.
-fn holds(machine: &mut Machine, line: Line) -> bool {
+/// Whether a place is this.
+fn is_at(due: Due, tick: u64, rank: u8) -> bool {
+    due.tick.0 == tick && due.rank == rank
+}
+
+/// Whether a machine tells so.
+fn tells(machine: &Machine, line: Line) -> bool {
     match line {
-        Steps(count) => {
-            let mut all = true;
-            for _ in 0..count {
-                all = steps(machine) && all;
-            }
-            all
-        }
-        Due(rank, tick) => machine.due_of(rank % 24) == Some(Tick(tick)),
+        Line::Due(rank, tick) => machine.due_of(rank % 24) == Some(Tick(tick)),
         NotDue(rank) => machine.due_of(rank % 24).is_none(),
-        First(tick, rank) => {
-            let due = machine.due();
-            due.tick.0 == tick && due.rank == rank
-        }
+        First(tick, rank) => is_at(machine.due(), tick, rank),
+        Acts(tick, rank) => is_at(machine.acting(), tick, rank),
+        Quiet(so) => machine.quiet() == so,
+        Behind(tick, rank, so) => machine.is_behind(Tick(tick), rank) == so,
         Sees(proc, seen) => machine.seen(proc) == seen,
         Main(at, byte) => machine.byte_of(Memory::Main, at % 0x40_0000) == byte,
         Took(nine, seven, events) => {
@@ -168,16 +267,13 @@ fn holds(machine: &mut Machine, line: Line) -> bool {
                 && machine.steps(Seven) == seven
                 && machine.events() == events
         }
-        Until(tick) => steps_until(machine, tick),
-        Frame => matches!(step(machine), Some(Done::Frame { swapped: false })),
-        SwappedFrame => matches!(step(machine), Some(Done::Frame { swapped: true })),
         Lists(tick, vertices) => {
             let lists = machine.lists();
             lists.tick().0 == tick && lists.vertices().len() == vertices as usize
         }
-        Stops(tick, rank, stop) => stops(machine, tick, rank, stop),
         Pixel(at, value) => machine.frame()[(at % 98_304) as usize] == value,
         Observes(rank, so) => observes(machine, rank % 24) == Some(so),
+        _ => false,
     }
 }
 
@@ -191,9 +287,9 @@ pub fn try_lines(
 ) -> Result<(), AllocError> {
     match Cart::read(file) {
         Ok(cart) => {
-            let mut machine = Machine::new(alloc, &cart, keys)?;
+            let mut tested = Tested::new(alloc, &cart, keys)?;
             for (number, line) in lines.iter().enumerate() {
-                let held = holds(&mut machine, *line);
+                let held = tested.holds(*line);
                 assert!(rt; held, "line {number}");
             }
             Ok(())
@@ -216,10 +312,10 @@ fn each_actor_is_due_by_its_rank(rt: HostRuntime) -> Result<(), AllocError> {
         keys,
         &[
             // at boot both processors are due; the first H-blank is at 3,212, and the line of keys at 5
-            Due(22, 0),
-            Due(23, 0),
-            Due(0, 5),
-            Due(1, 3212),
+            Line::Due(22, 0),
+            Line::Due(23, 0),
+            Line::Due(0, 5),
+            Line::Due(1, 3212),
             // no timer, divider, root, channel; geometry has no command, and the card never is
             NotDue(2),
             NotDue(9),
@@ -248,15 +344,15 @@ fn each_actor_is_due_by_its_rank(rt: HostRuntime) -> Result<(), AllocError> {
             // a branch takes 3 ticks on ARM9 and 6 on ARM7
             Steps(1),
             First(0, 23),
-            Due(22, 3),
-            Due(23, 0),
+            Line::Due(22, 3),
+            Line::Due(23, 0),
             Steps(1),
             First(3, 22),
-            Due(23, 6),
+            Line::Due(23, 6),
             Took(1, 1, 0),
             Steps(1),
             First(5, 0),
-            Due(22, 6),
+            Line::Due(22, 6),
             Steps(1),
             NotDue(0),
             First(6, 22),
@@ -302,24 +398,24 @@ fn units_behind_ports_are_due_by_their_ranks(rt: HostRuntime) -> Result<(), Allo
             // ARM9 at 0 to 4, ARM7 at 0
             Steps(6),
             First(5, 22),
-            Due(2, 10),
+            Line::Due(2, 10),
             NotDue(10),
             Took(5, 1, 0),
             // ARM9 at 5 to 15, ARM7 at 6 and 12, and the overflow at 10, after which the next is at 16
             Steps(14),
             Took(16, 3, 1),
             First(16, 2),
-            Due(2, 16),
+            Line::Due(2, 16),
             NotDue(3),
             NotDue(6),
-            Due(10, 43),
-            Due(11, 34),
-            Due(14, 19),
+            Line::Due(10, 43),
+            Line::Due(11, 34),
+            Line::Due(14, 19),
             NotDue(15),
             NotDue(18),
             // while its channel runs ARM9 isn't due
             NotDue(22),
-            Due(23, 18),
+            Line::Due(23, 18),
             Sees(Nine, Seen::Idle),
             Main(0x20_0000, 0),
             // the overflow at 16, ARM7 at 18, the unit at 19
@@ -327,9 +423,9 @@ fn units_behind_ports_are_due_by_their_ranks(rt: HostRuntime) -> Result<(), Allo
             Took(16, 4, 3),
             First(20, 22),
             NotDue(14),
-            Due(2, 22),
-            Due(22, 20),
-            Due(23, 24),
+            Line::Due(2, 22),
+            Line::Due(22, 20),
+            Line::Due(23, 24),
             Sees(
                 Nine,
                 Seen::Word {
@@ -378,7 +474,7 @@ fn a_halted_processor_is_not_due(rt: HostRuntime) -> Result<(), AllocError> {
                 },
             ),
             Steps(2),
-            Due(23, 4),
+            Line::Due(23, 4),
             Sees(
                 Seven,
                 Seen::Word {
@@ -450,7 +546,7 @@ fn the_entry_of_an_interrupt_is_told(rt: HostRuntime) -> Result<(), AllocError> 
             ),
             // the entry takes 3 ticks; the boot ROM's word there is a branch
             Steps(1),
-            Due(22, 20),
+            Line::Due(22, 20),
             Sees(
                 Nine,
                 Seen::Word {

@@ -1,5 +1,5 @@
 use Rattle.std.proofs.Common.{subst}
-use Rattle.ds_machine.specs.Reference.{HasCounted}
+use Rattle.ds_machine.specs.Counting.{HasCounted}
 use Rattle.ds_machine.proofs.GoingSteps.{statuses_taken}
 use Rattle.ds_machine.proofs.machines.Machine.go_fast.Goals as goal
 

@@ -1,6 +1,6 @@
 use Rattle.std.proofs.Common.{◌∙◌, sym, ap, subst}
 use Rattle.ds_machine.specs.States.{MachineState}
-use Rattle.ds_machine.specs.Reference.{HasCounted}
+use Rattle.ds_machine.specs.Counting.{HasCounted}
 use Rattle.ds_machine.specs.Statuses.{HasBothStatuses}
 use Rattle.ds_machine.proofs.Booting.{counted_booted}
 use Rattle.ds_machine.proofs.Statuses.{boots_with_statuses}

@@ -1,8 +1,8 @@
 use Rattle.std.proofs.Common.{sym, subst}
-use Rattle.ds_machine.specs.Private.{MayStep}
+use Rattle.ds_machine.specs.TurnSteps.{MayStep}
 use Rattle.ds_machine.specs.States.{MachineState}
 use Rattle.ds_machine.proofs.Statuses.{statuses_done}
-use Rattle.ds_machine.proofs.StepsAhead.{counted_may}
+use Rattle.ds_machine.proofs.CountsMay.{counted_may}
 use Rattle.ds_machine.proofs.machines.Machine.step.Goals as goal
 
 pub invariant_of-self : goal.invariant_of-self

@@ -8,9 +8,5 @@ returns c =
     (rw (
       c.earlier_than.ensures,
       c.first_event.ensures,
-      c.earlier-processors.ensures,
-      c.entry.ensures,
-      c.entry-2.ensures,
-      c.processor_due.ensures,
-      c.processor_due-2.ensures,
+      c.first_processor.ensures,
     ) refl)

@@ -1,5 +1,6 @@
 use Rattle.std.proofs.Common.{refl, sym, ◌∙◌, ap, subst, arith}
-use Rattle.ds_machine.specs.Private.{TakesSteps, none}
+use Rattle.ds_machine.specs.NextEvents.{HasLimit}
+use Rattle.ds_machine.specs.TurnSteps.{TakesSteps, none}
 use Rattle.ds_machine.specs.States.{MachineState}
 use Rattle.ds_machine.proofs.GoingSteps.{free_here, goes_on, limit_here}
 use Rattle.ds_machine.proofs.parts.Parts.go_fast.Goals as goal
@@ -37,3 +38,28 @@ returns-in-Unknown-clause-steps c = subst (TakesSteps c.args.until.0 c.args.proc
 
 pub returns-in-Unknown-clause-io : goal.returns-in-Unknown-clause-io
 returns-in-Unknown-clause-io c = ap (λ (m : MachineState). m.io) (c.go_once.ensures.unknown c.in-Unknown.is) ∙ c.steps.invariant.io
+
+pub returns-then-next_event-eq0-clause-limit : goal.returns-then-next_event-eq0-clause-limit
+returns-then-next_event-eq0-clause-limit c = c.requires.limit
+
+pub returns-in-Over-clause-limit : goal.returns-in-Over-clause-limit
+returns-in-Over-clause-limit c =
+    let some = c.if-next_event-eq0.false in
+    subst (λ (m : MachineState). HasLimit c.args.until.0 m c.args.proc c.args.limit) (sym (c.go_once.ensures.over_same c.in-Over.is)) (record {
+      next_event = c.args.next_event;
+      is = c.steps.invariant.kept;
+      some = omega (arith, some);
+      free = free_here c.args.next_event c.args.self.now c.args.proc c.args.until.0 c.args.limit c.requires.next_event c.requires.limit;
+      same = c.steps.invariant.least;
+    })
+
+pub returns-in-Unknown-clause-limit : goal.returns-in-Unknown-clause-limit
+returns-in-Unknown-clause-limit c =
+    let some = c.if-next_event-eq0.false in
+    subst (λ (m : MachineState). HasLimit c.args.until.0 m c.args.proc c.args.limit) (sym (c.go_once.ensures.unknown c.in-Unknown.is)) (record {
+      next_event = c.args.next_event;
+      is = c.steps.invariant.kept;
+      some = omega (arith, some);
+      free = free_here c.args.next_event c.args.self.now c.args.proc c.args.until.0 c.args.limit c.requires.next_event c.requires.limit;
+      same = c.steps.invariant.least;
+    })

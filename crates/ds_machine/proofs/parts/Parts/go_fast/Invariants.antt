@@ -1,4 +1,4 @@
-use Rattle.ds_machine.specs.Private.{own_remaining}
+use Rattle.ds_machine.specs.TurnSteps.{own_remaining}
 use Rattle.ds_machine.proofs.GoingSteps.{Goes}
 use Rattle.ds_machine.proofs.parts.Parts.go_fast.Given as goal
 

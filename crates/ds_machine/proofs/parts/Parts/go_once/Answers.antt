@@ -1,5 +1,6 @@
 use Rattle.std.proofs.Common.{◌<◌, ◌^◌, inl, inr, ap, subst, arith}
-use Rattle.ds_machine.specs.Private.{BelongsToTurn, rank_of}
+use Rattle.ds_machine.specs.Private.{rank_of}
+use Rattle.ds_machine.specs.TurnSteps.{BelongsToTurn}
 use Rattle.ds_machine.specs.States.{MachineState, ProcessorState}
 use Rattle.ds_machine.proofs.GoingSteps.{ahead_data, ahead_if, ahead_may, below_limit, below_when, due_when, least_when, leaves_when, over_when, past_limit, sound_kept, took_when, waits_for}
 use Rattle.ds_machine.proofs.parts.Parts.go_once.Goals.{else-ahead-via-then-ahead+else-not-may_go_on, else-ahead-via-else-ahead}
@@ -42,15 +43,15 @@ returns-clause-took c = λ took.
           let lt = k.0 in
           let low : n < 2 ^ 56 = omega (arith, lt, early) in
           let d = due_when c.args.next_event s proc n is w low in
-          took_when c.args.next_event s c.processor_fast.new.self proc n until (sound_kept c.args.next_event s c.requires.parts is c.requires.some) c.requires.counted d lt
-          (inr (ahead_if s proc n d k.1 (c.processor_fast.ensures.stays (grind (arith, past)) took))) made c.processor_fast.ensures.io c.processor_fast.ensures.other)
+          took_when c.args.next_event s c.processor_fast.new.self proc n until (sound_kept c.args.next_event s c.requires.parts is c.requires.some) c.requires.counted d lt early
+          (inr (ahead_if s proc n d k.1 (c.processor_fast.ensures.stays (grind (arith, past)) took))) (c.processor_fast.ensures.apart took) made c.processor_fast.ensures.io c.processor_fast.ensures.other)
       | else-ahead-via-else-ahead x ↦
           (let lt = x.if-ahead.false in
           let k = below_limit c.args.next_event s proc until n c.args.limit w c.requires.limit (omega (arith, lt)) in
           let below = k.below in
           let low : n < 2 ^ 56 = omega (arith, below, early) in
           took_when c.args.next_event s c.processor_fast.new.self proc n until (sound_kept c.args.next_event s c.requires.parts is k.some) c.requires.counted
-          (due_when c.args.next_event s proc n is w low) below (inl (least_when c.args.next_event s proc n is w low k.least)) made c.processor_fast.ensures.io c.processor_fast.ensures.other)
+          (due_when c.args.next_event s proc n is w low) below early (inl (least_when c.args.next_event s proc n is w low k.least)) (c.processor_fast.ensures.apart took) made c.processor_fast.ensures.io c.processor_fast.ensures.other)
     ])
 
 pub returns-clause-over : goal.returns-clause-over

@@ -1,5 +1,4 @@
-use Rattle.std.proofs.Common.{◌∙◌, Bool, not, ap, sym, subst}
-use Rattle.arm_core.specs.Thumb.{equivalent}
+use Rattle.std.proofs.Common.{◌∙◌, not, ap, subst}
 use Rattle.arm_core.specs.Registers.{RegisterState}
 use Rattle.arm_words.specs.declared.instructions.Instr.{Instr}
 use Rattle.ds_machine.specs.Observing.{HasBase, data_apart}

@@ -1,4 +1,4 @@
-use Rattle.std.proofs.Common.{Bool, not, ◌∙◌, ap, sym, arith}
+use Rattle.std.proofs.Common.{not, ◌∙◌, ap, sym, arith}
 use Rattle.ds_machine.specs.Observing.{is_apart_at}
 use Rattle.ds_machine.proofs.PrivateTests.{span_ends, span_more}
 use Rattle.ds_machine.proofs.parts.Parts.is_span_apart.Goals as goal

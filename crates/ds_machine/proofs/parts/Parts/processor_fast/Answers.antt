@@ -3,6 +3,7 @@ use Rattle.ds_ports.specs.Dues.{IsIo}
 use Rattle.ds_machine.proofs.GoingSteps.{other_stays}
 use Rattle.ds_machine.proofs.FastSteps.{cost_keeps, free_stays, made_fast, reach_keeps}
 use Rattle.ds_machine.proofs.ProcessorSteps.{reached_early, reached_few}
+use Rattle.ds_machine.proofs.RamApart.{in_ram_apart}
 use Rattle.ds_machine.proofs.parts.Parts.processor_fast.Goals as goal
 
 pub go_on-requires-clause-early : goal.go_on-requires-clause-early
@@ -25,6 +26,11 @@ returns-clause-made c = λ rank taken.
     let is = reach_keeps c.args.next_event s m c.args.proc c.args.tick c.requires.next_event machine io in
     made_fast c.args.next_event s m c.go_on.new.self rank c.args.proc c.args.tick c.take_fast-fast.result.clocks (subst IsIo (sym io) c.requires.sound.io) is c.requires.some
     (free_stays c.args.proc s m io c.requires.blocked) c.requires.tick machine (sym (c.take_fast-fast.ensures.stepped some)) c.go_on.ensures)
+
+pub returns-clause-apart : goal.returns-clause-apart
+returns-clause-apart c = λ taken.
+    (let some : 0 < c.take_fast-fast.result.clocks = (let more = c.if-fast-eq0.false in omega (arith, more)) in
+    in_ram_apart c.args.self.now c.args.proc c.args.tick c.requires.tick (c.take_fast-fast.ensures.ram some))
 
 pub returns-clause-next_event : goal.returns-clause-next_event
 returns-clause-next_event c =

@@ -1,0 +1,68 @@
+use Rattle.std.proofs.Common.{ℕ, ◌≡◌, ◌<◌, ◌≤◌, ◌⊎◌, inl, inr, Some, sym, ◌∙◌, ap, subst, arith}
+use Rattle.std.proofs.lemmas.Option.{same_Some}
+use Rattle.ds_base.specs.declared.ticks.Tick.{Tick}
+use Rattle.ds_runs.specs.Runs.{IsLeast, due_at}
+use Rattle.ds_machine.specs.Acting.{acting_dues}
+use Rattle.ds_machine.specs.Lagging.{ComesBeforeAll}
+use Rattle.ds_machine.specs.Reference.{dues_of}
+use Rattle.ds_machine.specs.States.{MachineState}
+use Rattle.ds_machine.proofs.ActingDues.{acts_then}
+use Rattle.ds_machine.proofs.DueTicks.{due_of_rank}
+
+-- Of an actor that is the least acting one and of geometry, the one that comes first is the least of all.
+
+-- ---- places, each of a rank at a tick
+
+abbrev pub ComesFirst : ℕ → ℕ → ℕ → ℕ → Type 0
+ComesFirst u p t r = (u < t) ⊎ ((u ≡ t) × (p ≤ r))
+
+pub le_or_lt : (x y : ℕ) → (x ≤ y) ⊎ (y < x)
+le_or_lt x y = grind arith
+
+-- one of two comes first
+pub one_first : (u p t r : ℕ) → ComesFirst u p t r ⊎ ComesFirst t r u p
+one_first u p t r = elim (le_or_lt t u) [
+  | inr lt ↦ inl (inl lt)
+  | inl le ↦ elim (le_or_lt u t) [
+    | inr lt ↦ inr (inl lt)
+    | inl back ↦ elim (le_or_lt p r) [
+      | inl low ↦ inl (inr (omega (arith, le, back), low))
+      | inr high ↦ inr (inr (omega (arith, le, back), omega (arith, high)))
+    ]
+  ]
+]
+
+then_first : (u p t r at other : ℕ) → ComesFirst u p t r → ComesFirst t r at other → ComesFirst u p at other
+then_first u p t r at other one two = elim one [
+  | inl a ↦ elim two [ inl c ↦ inl (omega (arith, a, c)) | inr d ↦ (let e = d.0 in inl (omega (arith, a, e))) ]
+  | inr b ↦ (let same = b.0 in
+      let low = b.1 in
+      elim two [ inl c ↦ inl (omega (arith, same, c)) | inr d ↦ (let e = d.0 in let more = d.1 in inr (omega (arith, same, e), omega (arith, low, more))) ])
+]
+
+pub not_later : (u p t r : ℕ) → ComesFirst u p t r → u ≤ t
+not_later u p t r h = elim h [ inl a ↦ omega (arith, a) | inr b ↦ (let e = b.0 in omega (arith, e)) ]
+
+-- ---- geometry's due tick is one
+
+geometry_due : (s : MachineState) (u : Tick) (other : ℕ) (at : Tick) → s.io.gx.due ≡ Some u → other ≡ 12 → due_at (dues_of s) other ≡ Some at → u ≡ at
+geometry_due s u other at due e h =
+    same_Some u at (sym due ∙ sym (due_of_rank s 12 (omega arith)) ∙ subst (λ (x : ℕ). due_at (dues_of s) x ≡ Some at) e h)
+
+module _ (s : MachineState) (u : Tick) (due : s.io.gx.due ≡ Some u) where
+  pub least_acting : (t : Tick) (r : ℕ) → IsLeast (acting_dues s) t r → due_at (dues_of s) r ≡ Some t → ComesFirst t.0 r u.0 12 → IsLeast (dues_of s) t r
+  least_acting t r least there first = record { there = there; least = go } where
+    go : (other : ℕ) (at : Tick) → due_at (dues_of s) other ≡ Some at → (t.0 < at.0) ⊎ ((t.0 ≡ at.0) × (r ≤ other))
+    go other at h = elim (acts_then s other at h) [
+      | inl e ↦ (let same = geometry_due s u other at due e h in
+          subst (λ (x : Tick). ComesFirst t.0 r x.0 other) same (subst (λ (x : ℕ). ComesFirst t.0 r u.0 x) (sym e) first))
+      | inr acts ↦ least.least other at acts
+    ]
+
+  pub least_geometry : (tick rank : ℕ) → ComesBeforeAll tick rank s → ComesFirst u.0 12 tick rank → IsLeast (dues_of s) u 12
+  least_geometry tick rank before first = record { there = due_of_rank s 12 (omega arith) ∙ due; least = go } where
+    go : (other : ℕ) (at : Tick) → due_at (dues_of s) other ≡ Some at → (u.0 < at.0) ⊎ ((u.0 ≡ at.0) × (12 ≤ other))
+    go other at h = elim (acts_then s other at h) [
+      | inl e ↦ (let same = geometry_due s u other at due e h in inr (ap (λ (x : Tick). x.0) same, omega (arith, e)))
+      | inr acts ↦ then_first u.0 12 tick rank at.0 other first (before other at acts)
+    ]

@@ -1,0 +1,78 @@
+use Rattle.std.proofs.Common.{ℕ, ◌≡◌, true, false, true≢false, List, [], ◌∷◌, Option, Some, None, refl, sym, subst}
+use Rattle.std.specs.Prelude.{not}
+use Rattle.std.proofs.lemmas.Bool.{and_right, or_from}
+use Rattle.ds_base.specs.Accesses.{Access, Fetch, MemoryMachine, Read, Write}
+use Rattle.ds_base.specs.declared.processors.Proc.{Proc}
+use Rattle.ds_base.specs.declared.processors.Proc.TheVariants.{Nine, Seven}
+use Rattle.ds_base.specs.declared.ticks.Tick.{Tick}
+use Rattle.arm_core.specs.Effects.{Meaning}
+use Rattle.arm_core.specs.Registers.{RegisterState}
+use Rattle.arm_core.specs.Steps.{enters, fetched}
+use Rattle.arm_ops.specs.Meanings.{IsInRam, is_ram, operation_meaning}
+use Rattle.arm_ops.specs.Operations.{is_other, operation_of}
+use Rattle.arm_ops.specs.declared.operations.Operation.{Operation}
+use Rattle.arm_ops.proofs.Laws.{operation_means}
+use Rattle.arm_words.specs.declared.instructions.Instr.{Instr}
+use Rattle.cp15_tcm.specs.TightlyCoupled.{tcm_of}
+use Rattle.cp15_tcm.specs.declared.answers.Tcm.{Tcm}
+use Rattle.cp15_tcm.specs.declared.answers.Tcm.TheVariants.{Itcm, Dtcm, Past}
+use Rattle.ds_map.specs.Views.{NineReach, nine_memory}
+use Rattle.ds_places.specs.AddressTables.{place_of}
+use Rattle.ds_places.specs.declared.kinds.Place.{Place}
+use Rattle.ds_places.specs.declared.kinds.Place.TheVariants.{Cell, Banks, Port, Rom, Nothing}
+use Rattle.ds_runs.specs.declared.actors.Actor.TheVariants.{Processor}
+use Rattle.ds_machine.specs.Lagging.{any_observes, is_observed_past, is_observed_place, observes_by}
+use Rattle.ds_machine.specs.Private.{data_accesses}
+use Rattle.ds_machine.specs.Sides.{SideOf, nine_side}
+use Rattle.ds_machine.specs.States.{MachineState}
+use Rattle.ds_machine.specs.Steps.{line_of, nine_reach, processor_of, tick_of}
+use Rattle.ds_machine.specs.Touching.{DataInRam, DataStaysInRam}
+use Rattle.ds_machine.proofs.RamAccesses.{is_cells, ram_bounds, ram_cells}
+
+-- A step that reaches RAM alone observes nothing of geometry: no port stands there.
+
+cells_apart : (place : Place) → is_cells place ≡ true → is_observed_place place ≡ false
+cells_apart (Cell memory at) h = refl
+cells_apart (Banks space at) h = refl
+cells_apart (Port at) h = absurd (true≢false (sym h))
+cells_apart (Rom at) h = refl
+cells_apart Nothing h = refl
+
+past_apart : (t : Tcm) (wramcnt at : ℕ) → is_ram at ≡ true → is_observed_past t wramcnt at ≡ false
+past_apart (Itcm place) wramcnt at ram = refl
+past_apart (Dtcm place) wramcnt at ram = refl
+past_apart Past wramcnt at ram = let b = ram_bounds at ram in cells_apart (place_of Nine wramcnt at) (ram_cells Nine wramcnt at b.0 b.1)
+
+ram_apart : (r : NineReach) (accesses : List Access) → IsInRam accesses → any_observes r accesses ≡ false
+ram_apart r [] ram = refl
+ram_apart r (Fetch at width ∷ []) ram = refl
+ram_apart r (Read at width ∷ []) ram =
+    let t = tcm_of r.cp15 at false false in or_from (is_observed_past t r.map.io.wramcnt at) false (past_apart t r.map.io.wramcnt at ram) refl
+ram_apart r (Write at width value ∷ []) ram =
+    let t = tcm_of r.cp15 at true false in or_from (is_observed_past t r.map.io.wramcnt at) false (past_apart t r.map.io.wramcnt at ram) refl
+ram_apart r (access ∷ other ∷ rest) ram = absurd ram
+
+-- ---- of a decoded operation
+
+meant : {S : Type 0} (side : SideOf S) (base : ℕ) (s : RegisterState) (instr : Option Instr) → is_other (operation_of instr).op ≡ false
+    → IsInRam (operation_meaning side.arch s (operation_of instr)).accesses → IsInRam (data_accesses side.arch base s instr)
+meant side base s None known ram = absurd (true≢false known)
+meant side base s (Some instr) known ram = subst (λ (m : Meaning). IsInRam m.accesses) (sym (operation_means side.arch base s instr known)) ram
+
+pub ram_known : {S : Type 0} (memory : MemoryMachine S) (side : SideOf S) (state : S) (s : RegisterState) (op : Operation)
+    → op ≡ operation_of (fetched memory side.arch s state).instr → is_other op.op ≡ false → IsInRam (operation_meaning side.arch s op).accesses → DataInRam memory side s state
+ram_known memory side state s op e known ram =
+    meant side (side.base state) s (fetched memory side.arch s state).instr (subst (λ (o : Operation). is_other o.op ≡ false) e known)
+    (subst (λ (o : Operation). IsInRam (operation_meaning side.arch s o).accesses) e ram)
+
+-- ---- in the machine
+
+pub in_ram_apart : (s : MachineState) (proc : Proc) (tick : Tick) → tick ≡ tick_of (processor_of s proc) → DataStaysInRam tick s proc → observes_by (Processor proc) s ≡ false
+in_ram_apart s Nine tick e ram =
+    let now = tick_of s.nine.processor in
+    let registers = s.nine.processor.registers in
+    let r = nine_reach now s in
+    let accesses = data_accesses nine_side.arch (nine_side.base r) registers (fetched nine_memory nine_side.arch registers r).instr in
+    let there : DataStaysInRam now s Nine = subst (λ (t : Tick). DataStaysInRam t s Nine) e ram in
+    and_right (not (enters (line_of s Nine) registers)) (any_observes r accesses) (ram_apart r accesses there)
+in_ram_apart s Seven tick e ram = refl

@@ -1,0 +1,84 @@
+use Rattle.std.proofs.Common.{ℕ, ◌≡◌, ◌%◌, ◌^◌, Bool, true, false, if◌then◌else◌, Some, refl, sym, ◌∙◌, ap}
+use Rattle.ds_base.specs.declared.memories.Width.{Width}
+use Rattle.ds_base.specs.declared.memories.Width.TheVariants as width
+use Rattle.ds_base.specs.declared.processors.Proc.{Proc}
+use Rattle.ds_base.specs.declared.processors.Proc.TheVariants.{Nine, Seven}
+use Rattle.ds_base.specs.declared.ticks.Tick.{Tick}
+use Rattle.arm_core.specs.Registers.{is_thumb}
+use Rattle.arm_core.specs.Steps.{enters}
+use Rattle.cp15_tcm.specs.TightlyCoupled.{tcm_of}
+use Rattle.cp15_tcm.specs.declared.answers.Tcm.{Tcm}
+use Rattle.cp15_tcm.specs.declared.answers.Tcm.TheVariants.{Itcm, Dtcm, Past}
+use Rattle.ds_map.specs.Accesses.{fetched_at, map_fetched}
+use Rattle.ds_map.specs.Maps.{MapState}
+use Rattle.ds_map.specs.Views.{tcm_fetched}
+use Rattle.ds_places.specs.AddressTables.{place_of}
+use Rattle.ds_places.specs.declared.kinds.Place.{Place}
+use Rattle.ds_places.specs.declared.kinds.Place.TheVariants.{Cell, Banks, Port, Rom, Nothing}
+use Rattle.ds_ports.specs.Io.{with_gx}
+use Rattle.gx_fifo.specs.GxStates.{GxState}
+use Rattle.ds_machine.specs.Observed.{fetch_of, seen_by, seen_of}
+use Rattle.ds_machine.specs.Reference.{processor_due}
+use Rattle.ds_machine.specs.States.{MachineState, ProcessorState}
+use Rattle.ds_machine.specs.Steps.{is_blocked, line_of, nine_reach, processor_of, seven_reach, tick_of}
+use Rattle.ds_machine.specs.declared.answers.Seen.{Seen}
+use Rattle.ds_machine.specs.declared.answers.Seen.TheVariants.{Half, Irq, Word}
+use Rattle.ds_machine.proofs.CatchingUp.{CaughtSo}
+use Rattle.ds_machine.proofs.DueTicks.{due_then}
+use Rattle.ds_machine.proofs.OwnRemaining.{still_due}
+
+-- What a processor that is due does next is the same after steps of quiet geometry: no fetch sees geometry.
+
+abbrev with_geometry : GxState → ℕ → MachineState → MachineState
+with_geometry g events s = record s { io = with_gx g s.io; events = events }
+
+place_fetched : (proc : Proc) (place : Place) (g : GxState) (m : MapState) (width : Width) → fetched_at proc place (record m { io = with_gx g m.io }) width ≡ fetched_at proc place m width
+place_fetched proc (Cell memory at) g m width = refl
+place_fetched proc (Banks space at) g m width = refl
+place_fetched proc (Port at) g m width = refl
+place_fetched proc (Rom at) g m width = refl
+place_fetched proc Nothing g m width = refl
+
+past_fetched : (proc : Proc) (g : GxState) (m : MapState) (at : ℕ) (width : Width) → map_fetched proc (record m { io = with_gx g m.io }) at width ≡ map_fetched proc m at width
+unfolding map_fetched
+past_fetched proc g m at width = place_fetched proc (place_of proc m.io.wramcnt at) g m width
+
+module _ (g : GxState) (events : ℕ) (s : MachineState) where
+  nine_fetched : (tcm : Tcm) (now : Tick) (at : ℕ) (width : Width) → tcm_fetched tcm (nine_reach now (with_geometry g events s)) at width ≡ tcm_fetched tcm (nine_reach now s) at width
+  nine_fetched (Itcm place) now at width = refl
+  nine_fetched (Dtcm place) now at width = refl
+  nine_fetched Past now at width = past_fetched Nine g (nine_reach now s).map at width
+
+  fetch_same : (proc : Proc) (at : ℕ) (width : Width) → fetch_of (with_geometry g events s) proc at width ≡ fetch_of s proc at width
+  fetch_same Nine at width = nine_fetched (tcm_of s.nine.cp15 at false true) (tick_of s.nine.processor) at width
+  fetch_same Seven at width = past_fetched Seven g (seven_reach (tick_of s.seven.processor) s).map at width
+
+-- by what it fetches
+module _ (p : ProcessorState) (first second : ℕ → Width → ℕ) (same : (at : ℕ) (width : Width) → first at width ≡ second at width) where
+  by_tests : (enters thumb : Bool) → (if enters then Irq p.registers.pc else if thumb then Half p.registers.pc (first p.registers.pc width.Half % 2 ^ 16) else Word p.registers.pc (first p.registers.pc width.Word))
+      ≡ (if enters then Irq p.registers.pc else if thumb then Half p.registers.pc (second p.registers.pc width.Half % 2 ^ 16) else Word p.registers.pc (second p.registers.pc width.Word))
+  by_tests true thumb = refl
+  by_tests false true = ap (λ (n : ℕ). (let seen : Seen = Half p.registers.pc (n % 2 ^ 16) in seen)) (same p.registers.pc width.Half)
+  by_tests false false = ap (λ (n : ℕ). (let seen : Seen = Word p.registers.pc n in seen)) (same p.registers.pc width.Word)
+
+  fetches_same : (line : Bool) → seen_by false line p first ≡ seen_by false line p second
+  fetches_same line = by_tests (enters line p.registers) (is_thumb p.registers)
+
+-- by its state, where it isn't blocked
+abbrev unblocked : MachineState → Proc → Seen
+unblocked s proc = seen_by false (line_of s proc) (processor_of s proc) (fetch_of s proc)
+
+unblocked_same : (g : GxState) (events : ℕ) (s : MachineState) (proc : Proc) → unblocked (with_geometry g events s) proc ≡ unblocked s proc
+unblocked_same g events s Nine = fetches_same s.nine.processor (fetch_of (with_geometry g events s) Nine) (fetch_of s Nine) (fetch_same g events s Nine) (line_of s Nine)
+unblocked_same g events s Seven = fetches_same s.seven.processor (fetch_of (with_geometry g events s) Seven) (fetch_of s Seven) (fetch_same g events s Seven) (line_of s Seven)
+
+where_due : (s : MachineState) (proc : Proc) (tick : Tick) → processor_due s proc ≡ Some tick → seen_of s proc ≡ unblocked s proc
+where_due s proc tick due =
+    ap (λ (blocked : Bool). seen_by blocked (line_of s proc) (processor_of s proc) (fetch_of s proc)) (due_then (is_blocked s proc) (processor_of s proc) tick due).0
+
+pub seen_same : (s now : MachineState) (proc : Proc) (tick : Tick) → CaughtSo s now → processor_due s proc ≡ Some tick → seen_of now proc ≡ seen_of s proc
+seen_same s now proc tick so due =
+    where_due now proc tick (still_due s now proc so.dues ∙ due)
+    ∙ ap (λ (m : MachineState). unblocked m proc) so.same
+    ∙ unblocked_same now.io.gx now.events s proc
+    ∙ sym (where_due s proc tick due)

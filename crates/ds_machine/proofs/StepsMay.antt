@@ -1,0 +1,145 @@
+use Rattle.std.proofs.Common.{ℕ, ◌≡◌, ◌<◌, ◌⊎◌, inl, inr, Bool, true, false, if◌then◌else◌, List, [], ◌∷◌, Some, Result, Ok, Err, refl, sym, ◌∙◌, ap, subst}
+use Rattle.ds_base.specs.Schedules.{IsLater}
+use Rattle.ds_base.specs.declared.left_out.LeftOut.{LeftOut}
+use Rattle.ds_base.specs.declared.left_out.Stop.{Stop}
+use Rattle.ds_base.specs.declared.processors.Proc.{Proc}
+use Rattle.ds_base.specs.declared.processors.Proc.TheVariants.{Nine, Seven}
+use Rattle.ds_base.specs.declared.ticks.Tick.{Tick}
+use Rattle.ds_ports.specs.Dues.{io_due}
+use Rattle.ds_runs.specs.Actors.{actor_of}
+use Rattle.ds_runs.specs.Runs.{IsLeast, MachineStep, Makes, due_at}
+use Rattle.ds_runs.specs.declared.actors.Actor as actor
+use Rattle.ds_runs.specs.declared.actors.Actor.TheVariants.{KeyScript, Video, Timer, Geometry, Dma, Processor}
+use Rattle.ds_runs.proofs.AllActors.{is_numbered}
+use Rattle.ds_runs.proofs.RunLaws.{same_makes, not_both}
+use Rattle.gx_fifo.specs.GxStates.{GxState}
+use Rattle.gx_geometry.specs.States.{Swapped}
+use Rattle.video2d.specs.Scans.{scan_due, scan_due_tick}
+use Rattle.video2d.specs.Videos.{VideoState, video_answer}
+use Rattle.video2d.specs.declared.videos.Shown as display
+use Rattle.ds_machine.specs.Acting.{acting_dues}
+use Rattle.ds_machine.specs.Channels.{stopped_at}
+use Rattle.ds_machine.specs.Lagging.{ActsApart}
+use Rattle.ds_machine.specs.Private.{IsAhead, rank_of}
+use Rattle.ds_machine.specs.Reference.{HasSoundParts, IsSound, Shown, after_event, after_geometry, after_line, after_video, dues_of, reference_step, shown_at, step_by, stepped_of, video_step}
+use Rattle.ds_machine.specs.States.{MachineState}
+use Rattle.ds_machine.specs.Steps.{ended, processor_of, tick_of}
+use Rattle.ds_machine.specs.TurnSteps.{MayStep}
+use Rattle.ds_machine.specs.declared.answers.Done as answer
+use Rattle.ds_machine.specs.declared.answers.Done.TheVariants as answers
+use Rattle.ds_machine.proofs.ActingDues.{due_where_acts}
+use Rattle.ds_machine.proofs.DueTicks.{due_of_rank, low_rank, own_tick, rank_there}
+use Rattle.ds_machine.proofs.Frames.{channel_outs, outs_of, processor_outs}
+use Rattle.ds_machine.proofs.MachineSchedule.{IsPartOf, Steps, part_late, step_made_as, steps_here}
+use Rattle.ds_machine.proofs.ProcessorSteps.{came_by, reached_by, step_is}
+use Rattle.ds_machine.proofs.Quiet.{acting_timers_later, quiet_ahead}
+use Rattle.ds_machine.proofs.VideoEvents.{ended_leaves}
+
+-- Where an actor may step, as the least of all, as the least that acts, or before its turn: what is so there, and what its step answers.
+
+-- ---- the least that acts
+
+pub steps_acting : (s : MachineState) (tick : Tick) (rank : ℕ) → HasSoundParts s → IsLeast (acting_dues s) tick rank → Steps (actor_of rank) rank tick s
+steps_acting s tick rank sound least =
+    let there = due_where_acts s rank tick least.there in
+    let low = low_rank s rank tick there in
+    record {
+      sound = sound;
+      there = there;
+      is = refl;
+      numbered = is_numbered rank low;
+      due = sym (due_of_rank s rank low) ∙ there;
+      timers = λ proc part. acting_timers_later s tick rank least (part_late proc (actor_of rank) part) proc;
+    }
+
+-- ---- a processor before its turn
+
+own_timers : (s : MachineState) (proc each : Proc) → IsAhead s proc → IsPartOf each (actor_of (rank_of proc)) → (which : ℕ) → which < 4
+    → IsLater (tick_of (processor_of s proc)) (io_due (Timer each which) s.io)
+own_timers s Nine each ahead part which lt =
+    subst (λ (p : Proc). IsLater (tick_of (processor_of s Nine)) (io_due (Timer p which) s.io)) part ((quiet_ahead s Nine ahead).timers which lt)
+own_timers s Seven each ahead part which lt =
+    subst (λ (p : Proc). IsLater (tick_of (processor_of s Seven)) (io_due (Timer p which) s.io)) part ((quiet_ahead s Seven ahead).timers which lt)
+
+pub steps_alone : (s : MachineState) (proc : Proc) (tick : Tick) → HasSoundParts s → IsAhead s proc → due_at (dues_of s) (rank_of proc) ≡ Some tick
+    → Steps (actor_of (rank_of proc)) (rank_of proc) tick s
+steps_alone s proc tick sound ahead there =
+    let low = low_rank s (rank_of proc) tick there in
+    let at = own_tick s proc tick (sym (rank_there s proc) ∙ there) in
+    record {
+      sound = sound;
+      there = there;
+      is = refl;
+      numbered = is_numbered (rank_of proc) low;
+      due = sym (due_of_rank s (rank_of proc) low) ∙ there;
+      timers = λ each part which lt. subst (λ (t : Tick). IsLater t (io_due (Timer each which) s.io)) (sym at) (own_timers s proc each ahead part which lt);
+    }
+
+-- ---- any of these, at its tick
+
+abbrev pub MayThen : MachineState → ℕ → Tick → Type 0
+MayThen s rank tick = IsLeast (dues_of s) tick rank ⊎ (ActsApart s rank tick ⊎ ((proc : Proc) × (rank ≡ rank_of proc) × IsAhead s proc × IsSound s))
+
+pub steps_then : (s : MachineState) (rank : ℕ) (tick : Tick) → HasSoundParts s → due_at (dues_of s) rank ≡ Some tick → MayThen s rank tick → Steps (actor_of rank) rank tick s
+steps_then s rank tick sound there may = elim may [
+  | inl least ↦ steps_here s tick rank sound least
+  | inr other ↦ elim other [
+    | inl apart ↦ steps_acting s tick rank sound apart.least
+    | inr k ↦
+        (let own : due_at (dues_of s) (rank_of k.0) ≡ Some tick = subst (λ (r : ℕ). due_at (dues_of s) r ≡ Some tick) k.1 there in
+        subst (λ (r : ℕ). Steps (actor_of r) r tick s) (sym k.1) (steps_alone s k.0 tick sound k.2 own))
+  ]
+]
+
+pub steps_may : (s : MachineState) (rank : ℕ) → HasSoundParts s → (may : MayStep s rank) → Steps (actor_of rank) rank may.tick s
+steps_may s rank sound may = steps_then s rank may.tick sound may.due may.may
+
+-- ---- what is answered of it: nothing is put out, or a frame at the display's tick
+
+abbrev Answers : MachineState → MachineState → List Shown → Type 0
+Answers s next outs = (outs ≡ []) ⊎ ((swapped : Bool) × (outs ≡ shown_at (scan_due s.io.video.scan) next swapped ∷ []))
+
+frame_answers : (frame waits : Bool) (s made : MachineState) (outs : List Shown) → after_video s ≡ made
+    → (if frame then shown_at (scan_due s.io.video.scan) (after_video s) waits ∷ [] else []) ≡ outs → Answers s made outs
+frame_answers true waits s made outs same e = inr (waits, sym e ∙ ap (λ (m : MachineState). shown_at (scan_due s.io.video.scan) m waits ∷ []) same)
+frame_answers false waits s made outs same e = inl (sym e)
+
+video_answers : (rank : ℕ) (s made : MachineState) (outs : List Shown) (came : Result display.Shown Stop) → video_step rank came s ≡ Makes made outs → Answers s made outs
+video_answers rank s made outs (Ok shown) h =
+    let put : List Shown = if shown.frame then shown_at (scan_due s.io.video.scan) (after_video s) s.io.gx.swap_waits ∷ [] else [] in
+    let k = same_makes (after_video s) made put outs h in
+    frame_answers shown.frame s.io.gx.swap_waits s made outs k.0 k.1
+video_answers rank s made outs (Err stop) h = absurd (not_both made s outs (stopped_at rank (scan_due_tick s.io.video.scan) stop) (sym h))
+
+made_answers : (a : actor.Actor) (rank : ℕ) (s made : MachineState) (outs : List Shown) → step_by rank a s ≡ Makes made outs → Answers s made outs
+made_answers KeyScript rank s made outs h = inl (sym (same_makes (after_line s.keys s) made [] outs h).1)
+made_answers Video rank s made outs h = video_answers rank s made outs (video_answer s.oam s.io.video) h
+made_answers Geometry rank s made outs h = inl (sym (same_makes (after_geometry s) made [] outs h).1)
+made_answers (Dma proc channel) rank s made outs h = inl (sym (ap outs_of h) ∙ channel_outs rank proc (io_due (Dma proc channel) s.io) s)
+made_answers (Processor proc) rank s made outs h = inl (sym (ap outs_of (sym (step_is rank proc s) ∙ h)) ∙ processor_outs rank proc (reached_by proc s) (came_by proc s))
+made_answers a rank s made outs h = inl (sym (same_makes (after_event a s) made [] outs h).1)
+
+-- what follows the step leaves the frame and the lists
+shown_same : (at : ℕ) (tick : Tick) (made : MachineState) (swapped : Bool) → shown_at at made swapped ≡ shown_at at (ended tick made) swapped
+shown_same at tick made swapped =
+    let k = ended_leaves tick made in
+    let shown : List ℕ → Swapped → Shown = λ frame lists. record { tick = at; frame = frame; swapped = swapped; lists = lists } in
+    sym (ap (λ (v : VideoState). shown v.whole (ended tick made).io.gx.geometry.last) k.video ∙ ap (λ (g : GxState). shown made.io.video.whole g.geometry.last) k.gx)
+
+answers_as : (s next : MachineState) (tick : Tick) (rank : ℕ) (outs : List Shown) → Steps (actor_of rank) rank tick s → reference_step rank s ≡ Makes next outs → Answers s next outs
+answers_as s next tick rank outs st h =
+    let k = step_made_as s next tick rank outs st h in
+    subst (λ (m : MachineState). Answers s m outs) k.2
+    (elim (made_answers (actor_of rank) rank s k.0 outs k.1) [
+      | inl none ↦ inl none
+      | inr some ↦ inr (some.0, some.1 ∙ ap (λ (shown : Shown). shown ∷ []) (shown_same (scan_due s.io.video.scan) tick k.0 some.0))
+    ])
+
+pub answer_of : (s next : MachineState) (tick : Tick) (rank : ℕ) (outs : List Shown) → Steps (actor_of rank) rank tick s → reference_step rank s ≡ Makes next outs
+    → (done : answer.Done) × (reference_step rank s ≡ stepped_of s done next)
+answer_of s next tick rank outs st h =
+    let step : List Shown → MachineStep MachineState Shown LeftOut = λ o. Makes next o in
+    elim (answers_as s next tick rank outs st h) [
+      | inl none ↦ (answers.Made, h ∙ ap step none)
+      | inr some ↦ (answers.Frame some.0, h ∙ ap step some.1)
+    ]

@@ -1,0 +1,29 @@
+use Rattle.std.proofs.Common.{sym, ◌∙◌, ap}
+use Rattle.ds_base.specs.declared.processors.Proc.{Proc}
+use Rattle.ds_base.specs.declared.processors.Proc.TheVariants.{Seven}
+use Rattle.ds_map.specs.Maps.{unreached}
+use Rattle.ds_machine.specs.States.{MachineState}
+use Rattle.ds_machine.specs.Steps.{line_of, outcome_of}
+use Rattle.ds_machine.specs.contracts.parts.Parts.{the_view}
+use Rattle.ds_machine.proofs.Reached.{apart_of, seven_stood, seven_went}
+use Rattle.ds_machine.proofs.parts.Parts.take_load.Goals as goal
+
+pub returns-in-Seven-clause-none : goal.returns-in-Seven-clause-none
+returns-in-Seven-clause-none c = λ none.
+    (let s = the_view c.self.inside in
+    let m = c.load-in-Seven.new.view.map.now in
+    seven_stood s m c.load-in-Seven.new.view.io.now c.load-in-Seven.new.s c.args.now c.load-in-Seven.new.view.now
+    (apart_of _ _ _ _ (unreached Seven m) (unreached Seven c.self.inside.map) c.load-in-Seven.ensures.same)
+    (c.load-in-Seven.ensures.none none).1 (c.load-in-Seven.ensures.none none).0
+    ∙ c.self.view_is)
+
+pub returns-in-Seven-clause-machine : goal.returns-in-Seven-clause-machine
+returns-in-Seven-clause-machine c = λ some.
+    (let s = the_view c.self.inside in
+    let m = c.load-in-Seven.new.view.map.now in
+    let line = c.requires.line ∙ ap (λ (x : MachineState). line_of x c.args.proc) (sym c.self.view_is) ∙ ap (λ (p : Proc). line_of s p) c.in-Seven.is in
+    seven_went s m c.load-in-Seven.new.view.io.now c.load-in-Seven.new.s c.args.now c.load-in-Seven.new.view.now c.args.line
+    (apart_of _ _ _ _ (unreached Seven m) (unreached Seven c.self.inside.map) c.load-in-Seven.ensures.same) line
+    (c.load-in-Seven.ensures.state some) (c.load-in-Seven.ensures.registers some)
+    ∙ ap (λ (x : MachineState). (outcome_of Seven c.args.now x).machine) c.self.view_is
+    ∙ ap (λ (p : Proc). (outcome_of p c.args.now c.args.self.now).machine) (sym c.in-Seven.is))

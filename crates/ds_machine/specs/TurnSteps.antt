@@ -1,0 +1,86 @@
+use Rattle.std.specs.Prelude.{ℕ, true, ◌-◌, ◌≡◌, ◌<◌, ◌≤◌, ◌^◌, ◌⊎◌, ◌↔◌, List, [], ◌++◌, Option, Some, None}
+use Rattle.ds_base.specs.declared.left_out.LeftOut.{LeftOut}
+use Rattle.ds_base.specs.declared.processors.Proc.{Proc}
+use Rattle.ds_base.specs.declared.ticks.Tick.{Tick}
+use Rattle.ds_ports.specs.Acting.{is_quiet}
+use Rattle.ds_runs.specs.Runs.{Ending, IsLeast, Makes, Runs, Stopped, Stops, due_at}
+use Rattle.ds_machine.specs.Acting.{acting_dues}
+use Rattle.ds_machine.specs.Lagging.{ActsApart, CatchesUpFor}
+use Rattle.ds_machine.specs.Private.{IsAhead, rank_of}
+use Rattle.ds_machine.specs.Reference.{AreAsleep, IsSound, Shown, dues_of, geometry_rank, processor_due, reference, reference_step}
+use Rattle.ds_machine.specs.States.{MachineState}
+use Rattle.ds_machine.specs.Steps.{processor_of}
+
+-- Which steps belong to a turn, and which may be taken. Our choice; a console's turn rests on it.
+
+-- a processor is the least acting actor, and due below a limit: so a turn of its begins
+pub record IsLeastBelow (until : ℕ) (s : MachineState) (proc : Proc) : Type 0 where
+  pub tick : Tick
+  pub least : IsLeast (acting_dues s) tick (rank_of proc)
+  pub below : tick.0 < until
+
+-- its next step belongs to its turn with a limit: it is due below the limit, and is the least acting step, or may be taken before its turn
+pub record BelongsToTurn (until : ℕ) (s : MachineState) (proc : Proc) : Type 0 where
+  pub tick : Tick
+  pub due : processor_due s proc ≡ Some tick
+  pub below : tick.0 < until
+  pub goes : IsLeast (acting_dues s) tick (rank_of proc) ⊎ IsAhead s proc
+
+-- a processor took some steps of its turn, one after another; before one that observes geometry, geometry caught up
+pub data TakesSteps (until : ℕ) (proc : Proc) : MachineState → MachineState → Type 0 where
+  none : (start : MachineState) → TakesSteps until proc start start
+  more : (start before caught next : MachineState) → TakesSteps until proc start before → BelongsToTurn until before proc
+      → CatchesUpFor (processor_of before proc).due (rank_of proc) before caught → reference_step (rank_of proc) caught ≡ Makes next [] → TakesSteps until proc start next
+
+-- an actor may take the next step: it is due at a tick that a run may come to, and is the least; or it is the least acting actor, whose step doesn't observe geometry; or it is a
+-- processor that may step before its turn, on a machine whose units are settled and on which nobody is to wake, as it is unless the last step stopped
+-- (quiet geometry takes its own step where nobody is to wake: a processor that it woke could have stepped at later ticks already, since geometry lagged)
+pub record MayStep (s : MachineState) (rank : ℕ) : Type 0 where
+  pub tick : Tick
+  pub due : due_at (dues_of s) rank ≡ Some tick
+  pub early : tick.0 ≤ 2 ^ 56
+  pub may : IsLeast (dues_of s) tick rank ⊎ (ActsApart s rank tick ⊎ ((proc : Proc) × (rank ≡ rank_of proc) × IsAhead s proc × IsSound s))
+  pub asleep : rank ≡ geometry_rank → is_quiet s.io ≡ true → AreAsleep s
+
+-- ---- a step of a turn: that of the least acting actor, or of a processor that may step before its turn
+
+-- the actor of a rank acts at a tick, and may take the next step of a turn
+pub record MayAct (s : MachineState) (tick : Tick) (rank : ℕ) : Type 0 where
+  pub due : due_at (acting_dues s) rank ≡ Some tick
+  pub may : IsLeast (acting_dues s) tick rank ⊎ ((proc : Proc) × (rank ≡ rank_of proc) × IsAhead s proc)
+
+-- once geometry caught up where the step observes it, the step may be taken
+pub record ActsThen (caught : MachineState) (rank : ℕ) : Type 0 where
+  pub may : MayStep caught rank
+  pub sound : IsSound caught
+
+abbrev pub ActingMayStep : Type 0
+ActingMayStep = (s caught : MachineState) (tick : Tick) (rank : ℕ) → IsSound s → MayAct s tick rank → tick.0 ≤ 2 ^ 56 → CatchesUpFor tick.0 rank s caught → ActsThen caught rank
+
+-- and changes neither where a run to a later tick ends nor, after what it puts out, what that run puts out
+abbrev pub ActingRuns : Type 0
+ActingRuns = (s caught next : MachineState) (tick : Tick) (rank limit : ℕ) (outs : List Shown) → IsSound s → MayAct s tick rank → CatchesUpFor tick.0 rank s caught → tick.0 < limit
+    → reference_step rank caught ≡ Makes next outs → (end : Ending MachineState LeftOut) (rest : List Shown)
+    → Runs reference limit end s (outs ++ rest) ↔ Runs reference limit end next rest
+
+-- where it stops the machine, the run stops so
+abbrev pub ActingStops : Type 0
+ActingStops = (s caught after : MachineState) (tick : Tick) (rank limit : ℕ) (stop : LeftOut) → IsSound s → MayAct s tick rank → CatchesUpFor tick.0 rank s caught → tick.0 < limit
+    → reference_step rank caught ≡ Stops stop after → Runs reference limit (Stopped stop) s []
+
+-- ---- how many steps a processor may still take below a limit: fewer than ticks are left to it
+
+-- the ticks that are left below a limit from a due tick on
+abbrev pub ticks_left : ℕ → Option Tick → ℕ
+ticks_left until None = 0
+ticks_left until (Some tick) = until - tick.0
+
+-- those of a processor: a loop over its steps counts them down
+abbrev pub own_remaining : ℕ → MachineState → Proc → ℕ
+own_remaining until s proc = ticks_left until (processor_due s proc)
+
+-- a step of its turn that is taken leaves fewer
+abbrev pub TurnStepsFall : Type 0
+TurnStepsFall = (until : ℕ) (s caught next : MachineState) (proc : Proc) (outs : List Shown) → IsSound s → BelongsToTurn until s proc
+    → CatchesUpFor (processor_of s proc).due (rank_of proc) s caught → reference_step (rank_of proc) caught ≡ Makes next outs
+    → own_remaining until next proc < own_remaining until s proc

@@ -1,0 +1,93 @@
+//! Quiet geometry, whose steps wait until one observes what they do: it catches up then.
+
+ghost use Rattle.std.specs.Prelude.{◌≡◌, ◌≤◌, ◌^◌, [], false, true};
+ghost use Rattle.ds_base.specs.Schedules.{IsEarly};
+ghost use Rattle.ds_ports.specs.Acting.{is_quiet};
+ghost use Rattle.ds_runs.specs.Runs.{Makes};
+ghost use Rattle.ds_machine.specs.Acting as acting;
+ghost use Rattle.ds_machine.specs.Acting.{is_behind};
+ghost use Rattle.ds_machine.specs.Counting.{HasCounted};
+ghost use Rattle.ds_machine.specs.Lagging.{CatchesUp, CatchesUpFor, ComesBeforeAll};
+ghost use Rattle.ds_machine.specs.Reference.{geometry_rank, reference_step, IsSound};
+ghost use Rattle.ds_machine.specs.TurnSteps.{MayAct};
+
+use crate::parts::Parts;
+use ds_base::Tick;
+use ds_runs::Actor;
+
+/// Geometry's rank.
+const GEOMETRY: u8 = 12;
+
+/// Whether a due tick, if there is one, is geometry's before the place of a rank at a tick.
+#[inline(always)]
+fn is_due_before(due: Option<Tick>, tick: Tick, rank: u8) -> bool
+    ensures { result ≡ acting.is_due_before due tick.0 rank }
+{
+    match due {
+        Some(due) => due.0 < tick.0 || (due.0 == tick.0 && GEOMETRY < rank),
+        None => false,
+    }
+}
+
+impl Parts {
+    /// Whether geometry is due and quiet.
+    pub fn is_quiet(&self) -> bool
+        ensures { result ≡ is_quiet self.now.io }
+    {
+        self.io.is_quiet()
+    }
+
+    /// Whether quiet geometry is due before the place of a rank at a tick.
+    #[inline(always)]
+    pub fn is_behind(&self, tick: Tick, rank: u8) -> bool
+        ensures { result ≡ is_behind tick.0 rank self.now }
+    {
+        self.is_quiet() && is_due_before(self.io.io_due(Actor::Geometry), tick, rank)
+    }
+
+    /// The step of quiet geometry. Nobody hears of it: on a sound machine nothing is to settle after it, and nobody is to wake.
+    fn step_quiet(&mut self)
+        requires sound { IsSound self.old }
+        requires quiet { is_quiet self.old.io ≡ true }
+        requires early { IsEarly self.old.io.gx.due }
+        requires counted { self.old.events ≤ 2 ^ 61 }
+        requires run { self.old.io.gx.geometry.numbers.run ≤ 2 ^ 56 }
+        ensures { reference_step geometry_rank self.old ≡ Makes self.new [] }
+    {
+        self.io.event(Actor::Geometry);
+        self.events += 1;
+    }
+
+    /// Takes the steps of quiet geometry that are due before the place of a rank at a tick.
+    #[inline(never)]
+    pub fn catch_up(&mut self, tick: Tick, rank: u8)
+        requires sound { IsSound self.old }
+        requires before { ComesBeforeAll tick.0 rank self.old }
+        requires early { tick.0 ≤ 2 ^ 56 }
+        requires counted { HasCounted self.old }
+        ensures caught { CatchesUp tick.0 rank self.old self.new }
+        ensures counted { HasCounted self.new }
+    {
+        'steps: while self.is_behind(tick, rank) {
+            self.step_quiet();
+        }
+    }
+
+    /// Catches up with a step that may be taken, where that observes geometry. The answer is whether anything changed.
+    #[inline(always)]
+    pub fn catch_up_before(&mut self, tick: Tick, rank: u8) -> bool
+        requires sound { IsSound self.old }
+        requires early { tick.0 ≤ 2 ^ 56 }
+        requires counted { HasCounted self.old }
+        requires may { MayAct self.old tick rank }
+        ensures caught { CatchesUpFor tick.0 rank self.old self.new }
+        ensures counted { HasCounted self.new }
+        ensures same { result ≡ false → self.new ≡ self.old }
+    {
+        if !self.is_behind(tick, rank) || !self.observes(rank) {
+            return false;
+        }
+        self.catch_up(tick, rank);
+        true
+    }
+}

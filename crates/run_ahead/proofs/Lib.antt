@@ -1,5 +1,5 @@
-pub mod OneSteps
 pub mod RunningOn
 pub mod StepTurns
 pub mod Stretches
+pub mod TickTurns
 pub mod TurnLaws

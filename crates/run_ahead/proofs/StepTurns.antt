@@ -1,50 +1,146 @@
-use Rattle.std.proofs.Common.{ℕ, ◌≡◌, ◌≤◌, ◌<◌, ◌+◌, ◌^◌, inl, inr, max, [], ◌∷◌, Fits, w64, List, Option, Some, None, Bool, sym, ◌∙◌, ap, arith}
+use Rattle.std.proofs.Common.{ℕ, ◌≡◌, ◌≤◌, ◌<◌, ◌+◌, ◌^◌, ◌⊎◌, inl, inr, ◌==◌, ◌&&◌, ◌||◌, nat_lt, max, [], ◌∷◌, Fits, w64, List, Option, Some, None, Bool, true, false, true≢false, refl, sym, ◌∙◌, ap, subst, arith}
+use Rattle.std.specs.Prelude.{IsSome}
 use Rattle.std.proofs.Math.Facts.{Fits-of_lt}
+use Rattle.std.proofs.lemmas.Bool.{ltb-false, or_parts}
 use Rattle.ds_base.specs.declared.left_out.LeftOut.{LeftOut}
 use Rattle.ds_base.specs.declared.processors.Proc.{Proc}
-use Rattle.ds_machine.specs.Private.{IsLeastBelow}
-use Rattle.ds_machine.specs.Reference.{CountsWithin, HasCounted, IsSound, Shown, next_shown}
+use Rattle.ds_base.specs.declared.ticks.Tick.{Tick}
+use Rattle.ds_runs.specs.Actors.{actor_of}
+use Rattle.ds_runs.specs.Runs.{IsLeast, IsOver, MachineStep, Makes, due_at}
+use Rattle.ds_machine.specs.Acting.{acting_dues, is_behind, is_due_before}
+use Rattle.ds_machine.specs.Counting.{CountsWithin, HasCounted}
+use Rattle.ds_machine.specs.Lagging.{CatchesUpFor, CatchesUpIf, ComesBeforeAll, observes_by}
+use Rattle.ds_machine.specs.Reference.{IsSound, Shown, Steps, dues_of, next_shown, reference_step}
 use Rattle.ds_machine.specs.States.{MachineState, counts_of}
+use Rattle.ds_machine.specs.TurnSteps.{IsLeastBelow}
 use Rattle.ds_machine.specs.declared.answers.Done as answer
 use Rattle.ds_machine.specs.declared.answers.Done.TheVariants as answers
-use Rattle.ds_machine.proofs.Counts.{counts_add_up, counts_within, one_more, stop_counts, stop_within}
-use Rattle.ds_machine.proofs.MachineSchedule.{sound_made}
+use Rattle.ds_machine.proofs.ActingDues.{acts_then, loud_same}
+use Rattle.ds_machine.proofs.ActingCounts.{acted_within, stops_within}
+use Rattle.ds_machine.proofs.ActingSteps.{Acted, ActedKeeps, ActedLeaves, ActedStops, acted_keeps, acted_stops}
+use Rattle.ds_machine.proofs.CatchingUp.{caught_more, caught_so}
+use Rattle.ds_machine.proofs.CaughtCounts.{caught_within}
+use Rattle.ds_machine.proofs.Counts.{counts_add_up, within_more}
+use Rattle.ds_machine.proofs.DueTicks.{due_of_rank}
 use Rattle.run_ahead.specs.Consoles.{ConsoleState}
 use Rattle.run_ahead.specs.Inside.{TookStretch, TookTurn}
-use Rattle.run_ahead.specs.Turns.{EventStops, TakesEvent, one_more_turn, run_to}
+use Rattle.run_ahead.specs.Turns.{EventStops, MeetsStop, TakesEvent, TakesQuiet, Turns, one_more_turn, run_to}
+use Rattle.run_ahead.specs.declared.turns.Turned.TheVariants as turned
 use Rattle.run_ahead.proofs.Stretches.{IsWithin, sound_along, stop_stays_within, stop_takes_none_back, stretch_took, within_along}
 
 -- What a machine's turn leaves, by what it came to.
 
--- a stretch is a turn of the processor that is the least
+-- a stretch is a turn of the processor that is the least of those who act
 pub is_stretch : (until : ℕ) (proc : Proc) (s next : MachineState) → IsLeastBelow until s proc → TookStretch until proc s None next → TookTurn until s answers.Made next
-is_stretch until proc s next first t = inr (record { proc = proc; tick = first.tick; least = first.least; below = first.below; steps = t.0; longest = t.1 })
+is_stretch until proc s next first t = inr (inl (record { proc = proc; tick = first.tick; least = first.least; below = first.below; steps = t.0; longest = t.1 }))
 
 pub is_stop : (until : ℕ) (proc : Proc) (s next : MachineState) (left : LeftOut) → IsLeastBelow until s proc → TookStretch until proc s (Some left) next
     → TookTurn until s (answers.Stopped left) next
 is_stop until proc s next left first t =
-    inr (record { proc = proc; tick = first.tick; least = first.least; below = first.below; before = t.0; steps = t.1; belongs = t.2; step = t.3 })
+    inr (record {
+      proc = proc;
+      tick = first.tick;
+      least = first.least;
+      below = first.below;
+      before = t.0;
+      steps = t.1;
+      belongs = t.2;
+      caught = t.3.0;
+      catches = t.3.1;
+      step = t.3.2;
+    })
+
+-- an event is a step of the least of those who act
+pub event_acted : (until : ℕ) (s next : MachineState) (outs : List Shown) (t : TakesEvent until s outs next) → Acted s next t.tick t.rank outs
+event_acted until s next outs t = record { caught = t.caught; may = record { due = t.least.there; may = inl t.least }; catches = t.catches; makes = t.step }
+
+pub event_keeps : (until : ℕ) (s next : MachineState) (outs : List Shown) → IsSound s → (t : TakesEvent until s outs next) → ActedKeeps s next t.tick outs
+event_keeps until s next outs sound t = acted_keeps s next t.tick t.rank outs sound (event_acted until s next outs t)
+
+event_stops : (until : ℕ) (s next : MachineState) (left : LeftOut) (t : EventStops until s left next) → ActedStops s next t.tick t.rank left
+event_stops until s next left t = record { caught = t.caught; may = record { due = t.least.there; may = inl t.least }; catches = t.catches; stops = t.step }
+
+pub event_leaves : (until : ℕ) (s next : MachineState) (left : LeftOut) → IsSound s → (t : EventStops until s left next) → ActedLeaves s next t.tick
+event_leaves until s next left sound t = acted_stops s next t.tick t.rank left sound (event_stops until s next left t)
+
+-- whether geometry caught up or not, the display is where it was
+scan_if : (observes : Bool) (tick rank : ℕ) (s caught : MachineState) → IsSound s → CatchesUpIf observes tick rank s caught → caught.io.video.scan ≡ s.io.video.scan
+scan_if true tick rank s caught sound k = (caught_so tick rank s caught sound k.steps).scan
+scan_if false tick rank s caught sound k = ap (λ (m : MachineState). m.io.video.scan) k
+
+shown_same : (s caught next : MachineState) (swapped : Bool) → caught.io.video.scan ≡ s.io.video.scan → next_shown caught next swapped ≡ next_shown s next swapped
+shown_same s caught next swapped same = rw same refl
+
+-- so an event's step is a turn
+pub event_took : (until : ℕ) (s caught next : MachineState) (tick : Tick) (rank : ℕ) (done : answer.Done) → IsSound s → IsLeast (acting_dues s) tick rank → rank < 22 → tick.0 < until
+    → CatchesUpFor tick.0 rank s caught → Steps rank caught done next → TookTurn until s done next
+event_took until s caught next tick rank answers.Made sound least event below catches h =
+    inl (record { tick = tick; rank = rank; least = least; event = event; below = below; caught = caught; catches = catches; step = h })
+event_took until s caught next tick rank (answers.Frame swapped) sound least event below catches h =
+    let same = scan_if (observes_by (actor_of rank) s) tick.0 rank s caught sound catches in
+    let step : reference_step rank caught ≡ Makes next (next_shown s next swapped ∷ []) =
+    h ∙ ap (λ (shown : Shown). (let made : MachineStep MachineState Shown LeftOut = Makes next (shown ∷ []) in made)) (shown_same s caught next swapped same) in
+    record { tick = tick; rank = rank; least = least; event = event; below = below; caught = caught; catches = catches; step = step }
+event_took until s caught next tick rank (answers.Stopped left) sound least event below catches h =
+    inl (record { tick = tick; rank = rank; least = least; event = event; below = below; caught = caught; catches = catches; step = h })
+
+-- where nobody acts below a limit, nobody acts before it
+from_limit : (until at other : ℕ) → until ≤ at → (until < at) ⊎ ((until ≡ at) × (0 ≤ other))
+from_limit until at other le = grind (arith, le)
+
+pub over_from : (until : ℕ) (s : MachineState) (tick : Tick) (rank : ℕ) → IsLeast (acting_dues s) tick rank → until ≤ tick.0 → IsOver (acting_dues s) until
+over_from until s tick rank least le other at due = elim (least.least other at due) [ inl later ↦ omega (arith, later, le) | inr same ↦ (let e = same.0 in omega (arith, e, le)) ]
+
+pub before_all : (until : ℕ) (s : MachineState) → IsOver (acting_dues s) until → ComesBeforeAll until 0 s
+before_all until s none other at due = from_limit until at.0 other (none other at due)
+
+-- and where quiet geometry isn't behind it either, nobody is due below it
+not_behind : (due until : ℕ) → (nat_lt due until || ((due == until) && nat_lt 12 0)) ≡ false → until ≤ due
+not_behind due until h = ltb-false due until (or_parts (nat_lt due until) ((due == until) && nat_lt 12 0) h).0
+
+over_by : (quiet : Bool) (until : ℕ) (s : MachineState) (tick : Tick) → (quiet ≡ false → acting_dues s ≡ dues_of s) → (quiet && is_due_before s.io.gx.due until 0) ≡ false
+    → IsOver (acting_dues s) until → due_at (dues_of s) 12 ≡ Some tick → until ≤ tick.0
+over_by false until s tick loud level none h = none 12 tick (subst (λ (dues : List (Option Tick)). due_at dues 12 ≡ Some tick) (sym (loud refl)) h)
+over_by true until s tick loud level none h =
+    let due : s.io.gx.due ≡ Some tick = sym (due_of_rank s 12 (omega arith)) ∙ h in
+    not_behind tick.0 until (subst (λ (o : Option Tick). is_due_before o until 0 ≡ false) due level)
+
+pub over_all : (until : ℕ) (s : MachineState) → IsOver (acting_dues s) until → is_behind until 0 s ≡ false → IsOver (dues_of s) until
+over_all until s none level rank tick h = elim (acts_then s rank tick h) [
+  | inr acts ↦ none rank tick acts
+  | inl twelve ↦ over_by _ until s tick (loud_same s) level none (subst (λ (r : ℕ). due_at (dues_of s) r ≡ Some tick) twelve h)
+]
 
 -- all counts stay within a limit that isn't below the turn's
-event_within : (until limit : ℕ) (s next : MachineState) (outs : List Shown) → until ≤ limit → IsSound s → IsWithin limit s → TakesEvent until s outs next → CountsWithin limit next
-event_within until limit s next outs le sound is t =
+event_within : (until limit : ℕ) (s next : MachineState) (outs : List Shown) → until ≤ 2 ^ 56 → until ≤ limit → IsSound s → IsWithin limit s → TakesEvent until s outs next
+    → CountsWithin limit next
+event_within until limit s next outs early le sound is t =
     let below = t.below in
-    counts_within s next t.tick t.rank outs limit limit sound.parts t.least t.step is.counted is.within (omega arith) (omega (arith, below, le))
+    acted_within s next t.tick t.rank outs sound (event_acted until s next outs t) (omega (arith, below, early)) is.counted limit limit is.within (omega arith) (omega (arith, below, le))
 
-stop_event_within : (until limit : ℕ) (s next : MachineState) (left : LeftOut) → until ≤ limit → IsSound s → IsWithin limit s → EventStops until s left next → CountsWithin limit next
-stop_event_within until limit s next left le sound is t =
+stop_event_within : (until limit : ℕ) (s next : MachineState) (left : LeftOut) → until ≤ 2 ^ 56 → until ≤ limit → IsSound s → IsWithin limit s → EventStops until s left next
+    → CountsWithin limit next
+stop_event_within until limit s next left early le sound is t =
     let below = t.below in
-    stop_within s next t.tick t.rank left limit limit sound.parts t.least t.step is.counted is.within (omega arith) (omega (arith, below, le))
+    stops_within s next t.tick t.rank left sound (event_stops until s next left t) (omega (arith, below, early)) is.counted limit limit is.within (omega arith) (omega (arith, below, le))
 
-pub turn_within : (until limit : ℕ) (s next : MachineState) (done : answer.Done) → until ≤ limit → IsSound s → IsWithin limit s → TookTurn until s done next → CountsWithin limit next
-turn_within until limit s next answers.Made le sound is t = elim t [
-  | inl event ↦ event_within until limit s next [] le sound is event
-  | inr stretch ↦ (within_along until limit stretch.proc s next le sound is stretch.steps).within
+quiet_within : (until limit : ℕ) (s next : MachineState) → until ≤ 2 ^ 56 → until ≤ limit → IsSound s → IsWithin limit s → TakesQuiet until s next → CountsWithin limit next
+quiet_within until limit s next early le sound is t =
+    caught_within until 0 s next sound (before_all until s t.none) early t.catches.steps is.counted limit limit is.within (omega arith) (omega (arith, le))
+
+pub turn_within : (until limit : ℕ) (s next : MachineState) (done : answer.Done) → until ≤ 2 ^ 56 → until ≤ limit → IsSound s → IsWithin limit s → TookTurn until s done next
+    → CountsWithin limit next
+turn_within until limit s next answers.Made early le sound is t = elim t [
+  | inl event ↦ event_within until limit s next [] early le sound is event
+  | inr other ↦ elim other [
+    | inl stretch ↦ (within_along until limit stretch.proc s next early le sound is stretch.steps).within
+    | inr quiet ↦ quiet_within until limit s next early le sound is quiet
+  ]
 ]
-turn_within until limit s next (answers.Frame swapped) le sound is t = event_within until limit s next (next_shown s next swapped ∷ []) le sound is t
-turn_within until limit s next (answers.Stopped left) le sound is t = elim t [
-  | inl event ↦ stop_event_within until limit s next left le sound is event
-  | inr stretch ↦ stop_stays_within until s next left sound stretch limit le is
+turn_within until limit s next (answers.Frame swapped) early le sound is t = event_within until limit s next (next_shown s next swapped ∷ []) early le sound is t
+turn_within until limit s next (answers.Stopped left) early le sound is t = elim t [
+  | inl event ↦ stop_event_within until limit s next left early le sound is event
+  | inr stretch ↦ stop_stays_within until s next left sound stretch limit early le is
 ]
 
 -- the machine is sound after one that took a step and didn't stop, and that step counts
@@ -53,14 +149,18 @@ pub record IsTaken (s next : MachineState) : Type 0 where
   pub more : counts_of s < counts_of next
 
 event_taken : (until : ℕ) (s next : MachineState) (outs : List Shown) → IsSound s → TakesEvent until s outs next → IsTaken s next
-event_taken until s next outs sound t =
-    let one = one_more s next t.tick t.rank outs t.least t.step in
-    record { sound = sound_made s next t.tick t.rank outs sound.parts t.least t.step; more = omega (arith, one) }
+event_taken until s next outs sound t = (let k = event_keeps until s next outs sound t in record { sound = k.sound; more = k.more })
+
+quiet_taken : (until : ℕ) (s next : MachineState) → IsSound s → TakesQuiet until s next → IsTaken s next
+quiet_taken until s next sound t = record { sound = (caught_so until 0 s next sound t.catches.steps).sound; more = caught_more until 0 s next sound t.some t.catches }
 
 pub made_taken : (until : ℕ) (s next : MachineState) → IsSound s → TookTurn until s answers.Made next → IsTaken s next
 made_taken until s next sound t = elim t [
   | inl event ↦ event_taken until s next [] sound event
-  | inr stretch ↦ record { sound = sound_along until stretch.proc s next sound stretch.steps; more = stretch_took until s next sound stretch }
+  | inr other ↦ elim other [
+    | inl stretch ↦ record { sound = sound_along until stretch.proc s next sound stretch.steps; more = stretch_took until s next sound stretch }
+    | inr quiet ↦ quiet_taken until s next sound quiet
+  ]
 ]
 
 pub frame_taken : (until : ℕ) (s next : MachineState) (swapped : Bool) → IsSound s → TookTurn until s (answers.Frame swapped) next → IsTaken s next
@@ -69,20 +169,13 @@ frame_taken until s next swapped sound t = event_taken until s next (next_shown 
 -- and no step is taken back by one that stopped
 pub stopped_counts : (until : ℕ) (s next : MachineState) (left : LeftOut) → IsSound s → TookTurn until s (answers.Stopped left) next → counts_of s ≤ counts_of next
 stopped_counts until s next left sound t = elim t [
-  | inl event ↦ (let same = stop_counts s next event.rank left event.step in omega (arith, same))
+  | inl event ↦ (event_leaves until s next left sound event).more
   | inr stretch ↦ stop_takes_none_back until s next left sound stretch
 ]
 
--- a raised limit
-raised : (before limit : ℕ) (s : MachineState) → CountsWithin before s → before ≤ limit → CountsWithin limit s
-raised before limit s is le = record {
-  steps = λ proc. (let k = is.steps proc in omega (arith, k, le));
-  events = (let k = is.events in omega (arith, k, le));
-}
-
 -- a console's numbers where its limit is raised to this, and one more turn fits its count
 pub raised_within : (before limit : ℕ) (s : MachineState) → HasCounted s → CountsWithin before s → before ≤ limit → IsWithin limit s
-raised_within before limit s has is le = record { counted = has; within = raised before limit s is le }
+raised_within before limit s has is le = record { counted = has; within = within_more s before limit is le }
 
 pub one_fits : (turns limit : ℕ) (s : MachineState) → CountsWithin limit s → limit ≤ 2 ^ 56 → turns ≤ counts_of s → Fits w64 (turns + 1)
 one_fits turns limit s is most few =
@@ -97,3 +190,19 @@ pub ran_is : (until limit turns : ℕ) (m next : MachineState) (stopped stop : O
 ran_is until limit turns m next stopped stop same was none =
     ap (λ (l : ℕ). (let c : ConsoleState = record { machine = next; limit = l; stopped = stop; turns = turns + 1 } in c)) (sym same)
     ∙ ap (λ (o : Option LeftOut). (let c : ConsoleState = record { machine = next; limit = max limit until; stopped = o; turns = turns + 1 } in c)) (none ∙ sym was)
+
+-- and one that stops
+abbrev pub StopsNow : ℕ → LeftOut → ConsoleState → ConsoleState → Type 0
+StopsNow until left old new = Turns until old (turned.Stopped left) new
+
+pub stops_now : (until limit turns : ℕ) (m next : MachineState) (stopped stop : Option LeftOut) (left : LeftOut) → max limit until ≡ limit → stopped ≡ None → stop ≡ Some left
+    → MeetsStop until m left next
+    → StopsNow until left (record { machine = m; limit = limit; stopped = stopped; turns = turns }) (record { machine = next; limit = limit; stopped = stop; turns = turns })
+stops_now until limit turns m next stopped stop left same was is meets = (
+  λ none. (
+    meets,
+    ap (λ (l : ℕ). (let c : ConsoleState = record { machine = next; limit = l; stopped = stop; turns = turns } in c)) (sym same)
+        ∙ ap (λ (o : Option LeftOut). (let c : ConsoleState = record { machine = next; limit = max limit until; stopped = o; turns = turns } in c)) is,
+  ),
+  λ some. absurd (true≢false (sym (subst (λ (o : Option LeftOut). IsSome o) was some))),
+)

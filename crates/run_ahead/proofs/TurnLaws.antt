@@ -1,17 +1,24 @@
-use Rattle.std.proofs.Common.{ℕ, ◌≡◌, ◌<◌, ◌+◌, inl, inr, List, [], ◌∷◌, Option, Some, None, refl, ap, arith}
+use Rattle.std.proofs.Common.{ℕ, ◌≡◌, ◌<◌, ◌≤◌, ◌+◌, inl, inr, Bool, true, false, List, [], ◌∷◌, Option, Some, None, refl, ap, arith}
 use Rattle.ds_base.specs.declared.left_out.LeftOut.{LeftOut}
-use Rattle.ds_runs.specs.Runs.{over, stops, more}
-use Rattle.ds_runs.proofs.RunExists.{run_exists, fewer_remaining}
+use Rattle.ds_base.specs.declared.ticks.Tick.{Tick}
+use Rattle.ds_runs.specs.Runs.{over}
+use Rattle.ds_runs.specs.Schedules.{places_remaining}
+use Rattle.ds_runs.proofs.RunExists.{run_exists}
+use Rattle.ds_machine.specs.Acting.{is_behind}
 use Rattle.ds_machine.specs.Frames.{FollowFrames, FollowLists, last_frame, last_lists}
 use Rattle.ds_machine.specs.States.{MachineState}
 use Rattle.ds_machine.specs.Reference.{HasSoundParts, IsSound, Shown, next_shown, reference}
-use Rattle.ds_machine.proofs.Frames.{step_follows, step_follows_lists, stop_leaves, stop_leaves_lists}
+use Rattle.ds_machine.proofs.ActingPlaces.{acted_fewer}
+use Rattle.ds_machine.proofs.ActingSteps.{acting_runs, acting_stops}
+use Rattle.ds_machine.proofs.CatchingUp.{caught_so, catching_up_runs}
 use Rattle.ds_machine.proofs.MachineSchedule.{reference_schedules}
+use Rattle.ds_machine.proofs.TurnSteps.{takes_along}
 use Rattle.run_ahead.specs.Consoles.{ConsoleState}
-use Rattle.run_ahead.specs.Turns.{TakesEvent, MeetsStop, Turns, RunsOn, GoesOn, HasRuns, turns_remaining, counted_of, shown_in, turns_in, HasTurned, none, turn, TurnsAddUp}
+use Rattle.run_ahead.specs.Turns.{TakesEvent, TakesQuiet, MeetsStop, Turns, RunsOn, GoesOn, HasRuns, turns_remaining, one_if, counted_of, shown_in, turns_in, HasTurned, none, turn, TurnsAddUp}
 use Rattle.run_ahead.specs.declared.turns.Turned as turned
 use Rattle.run_ahead.specs.declared.turns.Turned.TheVariants as answers
-use Rattle.run_ahead.proofs.Stretches.{frame_along, goes_along, lists_along, stop_frame, stop_lists, stretch_fewer, stretch_stops}
+use Rattle.run_ahead.proofs.StepTurns.{before_all, event_acted, event_keeps, event_leaves}
+use Rattle.run_ahead.proofs.Stretches.{goes_along, places_left, stop_frame, stop_lists, stretch_fewer, stretch_stops}
 
 -- The laws of turns.
 
@@ -24,26 +31,54 @@ pub has_runs : (s : MachineState) → HasSoundParts s → HasRuns s
 has_runs s sound = λ limit. run_exists reference 24 HasSoundParts reference_schedules limit s sound
 
 -- the reference run from before an event goes through it
-event_goes_on : (until : ℕ) (old new : MachineState) (front : List Shown) → TakesEvent until old front new → GoesOn until old new front
-event_goes_on until old new front step = λ limit le end outs run.
-    (let lt : step.tick.0 < until = step.below in
-    more end old new step.tick step.rank front outs step.least (omega arith) step.step run)
+event_goes_on : (until : ℕ) (old new : MachineState) (front : List Shown) → IsSound old → TakesEvent until old front new → GoesOn until old new front
+event_goes_on until old new front sound t = λ limit le end outs run.
+    (let below = t.below in
+    let a = event_acted until old new front t in
+    (acting_runs old t.caught new t.tick t.rank limit front sound a.may t.catches (omega (arith, below, le)) t.step end outs).1 run)
 
--- and it leaves fewer turns below the limit
-event_fewer : (until : ℕ) (old new : MachineState) (front : List Shown) → HasSoundParts old → TakesEvent until old front new → turns_remaining until new < turns_remaining until old
-event_fewer until old new front sound step = fewer_remaining reference 24 HasSoundParts reference_schedules until old new step.tick step.rank front sound step.least step.below step.step
+-- and so from before quiet geometry caught up with the limit
+quiet_goes_on : (until : ℕ) (old new : MachineState) → IsSound old → TakesQuiet until old new → GoesOn until old new []
+quiet_goes_on until old new sound t = λ limit le end outs run.
+    (catching_up_runs old new until 0 limit sound (before_all until old t.none) t.catches (omega (arith, le)) end outs).1 run
 
--- what a turn says of the reference run
+-- ---- each leaves fewer turns below the limit
+
+one_at_most : (b : Bool) → one_if b ≤ 1
+one_at_most true = omega arith
+one_at_most false = omega arith
+
+-- fewer places of acting actors: whether geometry is behind the limit or not
+fewer_turns : (until : ℕ) (old new : MachineState) → places_left until new < places_left until old → turns_remaining until new < turns_remaining until old
+fewer_turns until old new fewer = (let one = one_at_most (is_behind until 0 new) in omega (arith, fewer, one))
+
+event_fewer : (until : ℕ) (old new : MachineState) (front : List Shown) → IsSound old → TakesEvent until old front new → turns_remaining until new < turns_remaining until old
+event_fewer until old new front sound t =
+    fewer_turns until old new (acted_fewer old new t.tick t.rank front until sound t.least t.below (event_acted until old new front t))
+
+-- the same places, and geometry isn't behind the limit any more
+quiet_fewer : (until : ℕ) (old new : MachineState) → IsSound old → TakesQuiet until old new → turns_remaining until new < turns_remaining until old
+quiet_fewer until old new sound t =
+    let same : places_left until new ≡ places_left until old = ap (λ (dues : List (Option Tick)). places_remaining 24 until 0 dues) (caught_so until 0 old new sound t.catches.steps).dues in
+    let before : one_if (is_behind until 0 old) ≡ 1 = ap one_if t.some in
+    let after : one_if (is_behind until 0 new) ≡ 0 = ap one_if t.catches.level in
+    omega (arith, same, before, after)
+
+-- ---- what a turn says of the reference run
+
 pub runs_on : (until : ℕ) (old : ConsoleState) (answer : turned.Turned) (new : ConsoleState) → IsSoundUnlessStopped old → Turns until old answer new → old.stopped ≡ None
     → RunsOn until old.machine answer new.machine
 runs_on until old answers.Ran new sound t open_ = elim t.1 [
-  | inl event ↦ event_goes_on until old.machine new.machine [] event
-  | inr stretch ↦ goes_along until stretch.proc old.machine new.machine (sound open_) stretch.steps
+  | inl event ↦ event_goes_on until old.machine new.machine [] (sound open_) event
+  | inr other ↦ elim other [
+    | inl stretch ↦ goes_along until stretch.proc old.machine new.machine (sound open_) stretch.steps
+    | inr quiet ↦ quiet_goes_on until old.machine new.machine (sound open_) quiet
+  ]
 ]
-runs_on until old (answers.Frame swapped) new sound t open_ = event_goes_on until old.machine new.machine (next_shown old.machine new.machine swapped ∷ []) t.1
+runs_on until old (answers.Frame swapped) new sound t open_ = event_goes_on until old.machine new.machine (next_shown old.machine new.machine swapped ∷ []) (sound open_) t.1
 runs_on until old answers.AtEnd new sound t open_ = over old.machine t.1
 runs_on until old (answers.Stopped left) new sound t open_ = elim (t.0 open_).0 [
-  | inl event ↦ stops old.machine new.machine event.tick event.rank left event.least event.below event.step
+  | inl event ↦ acting_stops old.machine event.caught new.machine event.tick event.rank until left (sound open_) (record { due = event.least.there; may = inl event.least }) event.catches event.below event.step
   | inr stretch ↦ stretch_stops until old.machine new.machine left (sound open_) stretch
 ]
 
@@ -51,11 +86,14 @@ runs_on until old (answers.Stopped left) new sound t open_ = elim (t.0 open_).0 
 pub turn_falls : (until : ℕ) (old : ConsoleState) (answer : turned.Turned) (new : ConsoleState) → IsSoundUnlessStopped old → Turns until old answer new → counted_of answer ≡ 1
     → turns_remaining until new.machine < turns_remaining until old.machine
 turn_falls until old answers.Ran new sound t counts = elim t.1 [
-  | inl event ↦ event_fewer until old.machine new.machine [] (sound t.0).parts event
-  | inr stretch ↦ stretch_fewer until old.machine new.machine (sound t.0) stretch
+  | inl event ↦ event_fewer until old.machine new.machine [] (sound t.0) event
+  | inr other ↦ elim other [
+    | inl stretch ↦ fewer_turns until old.machine new.machine (stretch_fewer until old.machine new.machine (sound t.0) stretch)
+    | inr quiet ↦ quiet_fewer until old.machine new.machine (sound t.0) quiet
+  ]
 ]
 turn_falls until old (answers.Frame swapped) new sound t counts =
-    event_fewer until old.machine new.machine (next_shown old.machine new.machine swapped ∷ []) (sound t.0).parts t.1
+    event_fewer until old.machine new.machine (next_shown old.machine new.machine swapped ∷ []) (sound t.0) t.1
 turn_falls until old answers.AtEnd new sound t counts = absurd (omega (arith, counts))
 turn_falls until old (answers.Stopped left) new sound t counts = absurd (omega (arith, counts))
 
@@ -84,12 +122,9 @@ turns_add_up until start now t = add t where
 
 -- ---- the frame that a turn made whole is the last whole one after it, and the others leave that one
 
-event_frames : (until : ℕ) (old new : MachineState) (outs : List Shown) → HasSoundParts old → TakesEvent until old outs new → FollowFrames old new outs
-event_frames until old new outs sound step = step_follows old new step.tick step.rank outs sound step.least step.step
-
 stop_frames : (until : ℕ) (old new : MachineState) (left : LeftOut) → IsSound old → MeetsStop until old left new → last_frame new ≡ last_frame old
 stop_frames until old new left sound t = elim t [
-  | inl event ↦ stop_leaves old new event.tick event.rank left sound.parts event.least event.step
+  | inl event ↦ (event_leaves until old new left sound event).frame
   | inr stretch ↦ stop_frame until old new left sound stretch
 ]
 
@@ -101,20 +136,20 @@ stopped_frames until old new (Some l) e left sound t = ap (λ (x : ConsoleState)
 pub turn_frames : (until : ℕ) (old : ConsoleState) (answer : turned.Turned) (new : ConsoleState) → IsSoundUnlessStopped old → Turns until old answer new
     → FollowFrames old.machine new.machine (shown_in answer old.machine new.machine)
 turn_frames until old answers.Ran new sound t = elim t.1 [
-  | inl event ↦ event_frames until old.machine new.machine [] (sound t.0).parts event
-  | inr stretch ↦ frame_along until stretch.proc old.machine new.machine (sound t.0) stretch.steps
+  | inl event ↦ (event_keeps until old.machine new.machine [] (sound t.0) event).frames
+  | inr other ↦ elim other [
+    | inl stretch ↦ (takes_along until stretch.proc old.machine new.machine (sound t.0) stretch.steps).frame
+    | inr quiet ↦ (caught_so until 0 old.machine new.machine (sound t.0) quiet.catches.steps).frame
+  ]
 ]
-turn_frames until old (answers.Frame swapped) new sound t = event_frames until old.machine new.machine (next_shown old.machine new.machine swapped ∷ []) (sound t.0).parts t.1
+turn_frames until old (answers.Frame swapped) new sound t = (event_keeps until old.machine new.machine (next_shown old.machine new.machine swapped ∷ []) (sound t.0) t.1).frames
 turn_frames until old answers.AtEnd new sound t = ap (λ (x : ConsoleState). last_frame x.machine) t.2
 turn_frames until old (answers.Stopped left) new sound t = stopped_frames until old new old.stopped refl left sound t
 
 -- and so with the lists of a swap
-event_lists : (until : ℕ) (old new : MachineState) (outs : List Shown) → HasSoundParts old → TakesEvent until old outs new → FollowLists old new outs
-event_lists until old new outs sound step = step_follows_lists old new step.tick step.rank outs sound step.least step.step
-
 stop_keeps_lists : (until : ℕ) (old new : MachineState) (left : LeftOut) → IsSound old → MeetsStop until old left new → last_lists new ≡ last_lists old
 stop_keeps_lists until old new left sound t = elim t [
-  | inl event ↦ stop_leaves_lists old new event.tick event.rank left sound.parts event.least event.step
+  | inl event ↦ (event_leaves until old new left sound event).lists
   | inr stretch ↦ stop_lists until old new left sound stretch
 ]
 
@@ -126,9 +161,12 @@ stopped_lists until old new (Some l) e left sound t = ap (λ (x : ConsoleState).
 pub turn_lists : (until : ℕ) (old : ConsoleState) (answer : turned.Turned) (new : ConsoleState) → IsSoundUnlessStopped old → Turns until old answer new
     → FollowLists old.machine new.machine (shown_in answer old.machine new.machine)
 turn_lists until old answers.Ran new sound t = elim t.1 [
-  | inl event ↦ event_lists until old.machine new.machine [] (sound t.0).parts event
-  | inr stretch ↦ lists_along until stretch.proc old.machine new.machine (sound t.0) stretch.steps
+  | inl event ↦ (event_keeps until old.machine new.machine [] (sound t.0) event).lists
+  | inr other ↦ elim other [
+    | inl stretch ↦ (takes_along until stretch.proc old.machine new.machine (sound t.0) stretch.steps).lists
+    | inr quiet ↦ (caught_so until 0 old.machine new.machine (sound t.0) quiet.catches.steps).lists
+  ]
 ]
-turn_lists until old (answers.Frame swapped) new sound t = event_lists until old.machine new.machine (next_shown old.machine new.machine swapped ∷ []) (sound t.0).parts t.1
+turn_lists until old (answers.Frame swapped) new sound t = (event_keeps until old.machine new.machine (next_shown old.machine new.machine swapped ∷ []) (sound t.0) t.1).lists
 turn_lists until old answers.AtEnd new sound t = ap (λ (x : ConsoleState). last_lists x.machine) t.2
 turn_lists until old (answers.Stopped left) new sound t = stopped_lists until old new old.stopped refl left sound t

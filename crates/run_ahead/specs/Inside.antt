@@ -2,14 +2,17 @@ use Rattle.std.specs.Prelude.{ℕ, ◌≡◌, ◌<◌, ◌⊎◌, [], ◌∷◌,
 use Rattle.ds_base.specs.declared.left_out.LeftOut.{LeftOut}
 use Rattle.ds_base.specs.declared.processors.Proc.{Proc}
 use Rattle.ds_runs.specs.Runs.{Makes, Stops}
-use Rattle.ds_machine.specs.Private.{BelongsToTurn, TakesSteps, rank_of}
+use Rattle.ds_machine.specs.Lagging.{CatchesUpFor}
+use Rattle.ds_machine.specs.Private.{rank_of}
+use Rattle.ds_machine.specs.TurnSteps.{BelongsToTurn, TakesSteps}
 use Rattle.ds_machine.specs.Reference.{next_shown, reference_step}
 use Rattle.ds_machine.specs.States.{MachineState}
+use Rattle.ds_machine.specs.Steps.{processor_of}
 use Rattle.ds_machine.specs.declared.answers.Done.{Done}
 use Rattle.ds_machine.specs.declared.answers.Done.TheVariants as answers
 use Rattle.run_ahead.specs.declared.machine_turns.Slow.{Slow}
 use Rattle.run_ahead.specs.declared.machine_turns.Slow.TheVariants as slow
-use Rattle.run_ahead.specs.Turns.{MeetsStop, TakesEvent, TakesStretch}
+use Rattle.run_ahead.specs.Turns.{MeetsStop, TakesEvent, TakesQuiet, TakesStretch}
 
 -- What the machine's side of a turn says. No public clause speaks of it.
 
@@ -22,16 +25,21 @@ HasProcessor rank (Some proc) = rank ≡ rank_of proc
 abbrev pub TookStretch : ℕ → Proc → MachineState → Option LeftOut → MachineState → Type 0
 TookStretch until proc old None new = TakesSteps until proc old new × ¬ BelongsToTurn until new proc
 TookStretch until proc old (Some left) new =
-    (before : MachineState) × TakesSteps until proc old before × BelongsToTurn until before proc × (reference_step (rank_of proc) before ≡ Stops left new)
+    (before : MachineState) × TakesSteps until proc old before × BelongsToTurn until before proc
+    × ((caught : MachineState) × CatchesUpFor (processor_of before proc).due (rank_of proc) before caught × (reference_step (rank_of proc) caught ≡ Stops left new))
 
 -- a step of a processor's turn, wherever it isn't known to be of the fast path, by what came of it, with the stop if there is one
 abbrev pub TookSlowly : ℕ → Proc → MachineState → Slow → Option LeftOut → MachineState → Type 0
-TookSlowly until proc old slow.Took stop new = BelongsToTurn until old proc × (reference_step (rank_of proc) old ≡ Makes new []) × (stop ≡ None)
+TookSlowly until proc old slow.Took stop new =
+    BelongsToTurn until old proc × ((caught : MachineState) × CatchesUpFor (processor_of old proc).due (rank_of proc) old caught
+    × (reference_step (rank_of proc) caught ≡ Makes new [])) × (stop ≡ None)
 TookSlowly until proc old slow.Over stop new = (¬ BelongsToTurn until old proc) × (new ≡ old) × (stop ≡ None)
-TookSlowly until proc old slow.Stopped stop new = BelongsToTurn until old proc × ((left : LeftOut) × (stop ≡ Some left) × (reference_step (rank_of proc) old ≡ Stops left new))
+TookSlowly until proc old slow.Stopped stop new =
+    BelongsToTurn until old proc × ((left : LeftOut) × (stop ≡ Some left) × ((caught : MachineState) × CatchesUpFor (processor_of old proc).due (rank_of proc) old caught
+    × (reference_step (rank_of proc) caught ≡ Stops left new)))
 
 -- a machine took a turn below a limit, by what it came to
 abbrev pub TookTurn : ℕ → MachineState → Done → MachineState → Type 0
-TookTurn until old answers.Made new = TakesEvent until old [] new ⊎ TakesStretch until old new
+TookTurn until old answers.Made new = TakesEvent until old [] new ⊎ (TakesStretch until old new ⊎ TakesQuiet until old new)
 TookTurn until old (answers.Frame swapped) new = TakesEvent until old (next_shown old new swapped ∷ []) new
 TookTurn until old (answers.Stopped left) new = MeetsStop until old left new

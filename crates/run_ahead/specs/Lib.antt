@@ -1,4 +1,4 @@
 pub mod Consoles
 pub mod Inside
-pub mod OneSteps
+pub mod TickTurns
 pub mod Turns

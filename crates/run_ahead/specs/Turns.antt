@@ -1,4 +1,4 @@
-use Rattle.std.specs.Prelude.{ℕ, ◌≡◌, ◌<◌, ◌≤◌, ◌+◌, ◌⊎◌, List, [], ◌∷◌, ◌++◌, Some, None, IsSome, max}
+use Rattle.std.specs.Prelude.{ℕ, ◌≡◌, ◌<◌, ◌≤◌, ◌+◌, ◌*◌, ◌⊎◌, Bool, true, false, List, [], ◌∷◌, ◌++◌, Some, None, IsSome, max}
 use Rattle.ds_base.specs.declared.left_out.LeftOut.{LeftOut}
 use Rattle.ds_base.specs.declared.ticks.Tick.{Tick}
 use Rattle.ds_runs.specs.Runs.{IsLeast, IsOver, Makes, Stops, Ending, At, Runs}
@@ -6,7 +6,11 @@ use Rattle.ds_runs.specs.Runs as runs
 use Rattle.ds_runs.specs.Schedules.{places_remaining}
 use Rattle.ds_machine.specs.Frames.{FollowFrames, FollowLists, last_frame, last_lists}
 use Rattle.ds_base.specs.declared.processors.Proc.{Proc}
-use Rattle.ds_machine.specs.Private.{BelongsToTurn, TakesSteps, rank_of}
+use Rattle.ds_machine.specs.Acting.{acting_dues, is_behind}
+use Rattle.ds_machine.specs.Lagging.{CatchesUp, CatchesUpFor}
+use Rattle.ds_machine.specs.Private.{rank_of}
+use Rattle.ds_machine.specs.Steps.{processor_of}
+use Rattle.ds_machine.specs.TurnSteps.{BelongsToTurn, TakesSteps}
 use Rattle.ds_machine.specs.States.{MachineState}
 use Rattle.ds_machine.specs.Reference.{Shown, next_shown, dues_of, reference_step, reference}
 use Rattle.run_ahead.specs.Consoles.{ConsoleState}
@@ -15,43 +19,55 @@ use Rattle.run_ahead.specs.declared.turns.Turned.TheVariants.{Ran, Frame, AtEnd,
 
 -- A turn: what it does, and what that says of the reference run.
 
--- the least actor of a machine is due below the limit, and isn't a processor: its event is the turn
+-- the least acting actor of a machine is due below the limit, and isn't a processor: its event is the turn; where it observes geometry, geometry catches up before it
 pub record TakesEvent (until : ℕ) (old : MachineState) (outs : List Shown) (new : MachineState) : Type 0 where
   pub tick : Tick
   pub rank : ℕ
-  pub least : IsLeast (dues_of old) tick rank
+  pub least : IsLeast (acting_dues old) tick rank
   pub event : rank < 22
   pub below : tick.0 < until
-  pub step : reference_step rank old ≡ Makes new outs
+  pub caught : MachineState
+  pub catches : CatchesUpFor tick.0 rank old caught
+  pub step : reference_step rank caught ≡ Makes new outs
 
 -- it is a processor: the turn is its step and then the longest run of its further steps that belong to the turn
 pub record TakesStretch (until : ℕ) (old new : MachineState) : Type 0 where
   pub proc : Proc
   pub tick : Tick
-  pub least : IsLeast (dues_of old) tick (rank_of proc)
+  pub least : IsLeast (acting_dues old) tick (rank_of proc)
   pub below : tick.0 < until
   pub steps : TakesSteps until proc old new
   pub longest : ¬ BelongsToTurn until new proc
+
+-- quiet geometry alone is due below the limit: all its steps that are due below it are the turn
+pub record TakesQuiet (until : ℕ) (old new : MachineState) : Type 0 where
+  pub none : IsOver (acting_dues old) until
+  pub some : is_behind until 0 old ≡ true
+  pub catches : CatchesUp until 0 old new
 
 -- the event stops the machine, and leaves this state
 pub record EventStops (until : ℕ) (old : MachineState) (left : LeftOut) (new : MachineState) : Type 0 where
   pub tick : Tick
   pub rank : ℕ
-  pub least : IsLeast (dues_of old) tick rank
+  pub least : IsLeast (acting_dues old) tick rank
   pub event : rank < 22
   pub below : tick.0 < until
-  pub step : reference_step rank old ≡ Stops left new
+  pub caught : MachineState
+  pub catches : CatchesUpFor tick.0 rank old caught
+  pub step : reference_step rank caught ≡ Stops left new
 
 -- so does a step of the processor that belongs to its turn, after the steps before it
 pub record StretchStops (until : ℕ) (old : MachineState) (left : LeftOut) (new : MachineState) : Type 0 where
   pub proc : Proc
   pub tick : Tick
-  pub least : IsLeast (dues_of old) tick (rank_of proc)
+  pub least : IsLeast (acting_dues old) tick (rank_of proc)
   pub below : tick.0 < until
   pub before : MachineState
   pub steps : TakesSteps until proc old before
   pub belongs : BelongsToTurn until before proc
-  pub step : reference_step (rank_of proc) before ≡ Stops left new
+  pub caught : MachineState
+  pub catches : CatchesUpFor (processor_of before proc).due (rank_of proc) before caught
+  pub step : reference_step (rank_of proc) caught ≡ Stops left new
 
 -- a turn's step stops the machine
 abbrev pub MeetsStop : ℕ → MachineState → LeftOut → MachineState → Type 0
@@ -67,7 +83,8 @@ one_more_turn c = record c { turns = c.turns + 1 }
 
 -- what a turn with a limit does to a console, by its answer; a turn that takes a step and doesn't stop counts; after a stop nothing happens any more
 abbrev pub Turns : ℕ → ConsoleState → Turned → ConsoleState → Type 0
-Turns until old Ran new = (old.stopped ≡ None) × (TakesEvent until old.machine [] new.machine ⊎ TakesStretch until old.machine new.machine)
+Turns until old Ran new = (old.stopped ≡ None)
+    × (TakesEvent until old.machine [] new.machine ⊎ (TakesStretch until old.machine new.machine ⊎ TakesQuiet until old.machine new.machine))
     × (new ≡ one_more_turn (run_to old until new.machine))
 Turns until old (Frame swapped) new = (old.stopped ≡ None) × TakesEvent until old.machine (next_shown old.machine new.machine swapped ∷ []) new.machine
     × (new ≡ one_more_turn (run_to old until new.machine))
@@ -107,9 +124,14 @@ counted_of (Frame swapped) = 1
 counted_of AtEnd = 0
 counted_of (Stopped left) = 0
 
--- no more turns than this take a step below a limit, from a state on: a loop over turns counts it down
+-- no more turns than this take a step below a limit, from a state on: a loop over turns counts it down. Each turn but that of quiet geometry alone leaves fewer places of acting
+-- actors, and after that one no geometry is left to catch up
+abbrev pub one_if : Bool → ℕ
+one_if true = 1
+one_if false = 0
+
 abbrev pub turns_remaining : ℕ → MachineState → ℕ
-turns_remaining until s = places_remaining 24 until 0 (dues_of s)
+turns_remaining until s = 2 * places_remaining 24 until 0 (acting_dues s) + one_if (is_behind until 0 s)
 
 -- a console is as it was after some turns with a limit
 pub data HasTurned (until : ℕ) : ConsoleState → ConsoleState → Type 0 where

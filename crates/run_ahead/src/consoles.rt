@@ -2,12 +2,13 @@
 
 ghost use Rattle.std.specs.Prelude.{max, ◌≡◌, ◌≢◌, ◌≤◌, ◌<◌, ◌+◌, ◌*◌, ◌^◌, false, true, None, Some, slice_index, IfOk, IsSome, length};
 ghost use Rattle.ds_base.specs.Memories.{memory_size};
+ghost use Rattle.ds_machine.specs.Acting.{IsActing};
 ghost use Rattle.ds_machine.specs.Booted.{machine_booted};
 ghost use Rattle.ds_machine.specs.Frames.{framed_of, FollowFrames, FollowLists};
 ghost use Rattle.ds_machine.specs.Observed.{memory_of, registers_of, seen_of};
 ghost use Rattle.ds_ipc.specs.Ipcs.{AreSides};
 ghost use Rattle.ds_machine.specs.NextEvents.{HasLimit};
-ghost use Rattle.ds_machine.specs.Private.{IsLeastBelow};
+ghost use Rattle.ds_machine.specs.TurnSteps.{IsLeastBelow};
 ghost use Rattle.ds_machine.specs.Reference.{HasSoundParts, IsDue, IsSound};
 ghost use Rattle.ds_machine.specs.Statuses.{HasBothStatuses};
 ghost use Rattle.run_ahead.specs.Turns.{Turns, TurnsUpTo, RunsOn, HasRuns, turns_remaining, counted_of, shown_in};
@@ -48,7 +49,7 @@ pub enum AtOnce {
     NotTaken,
 }
 
-/// A console. No call but `turn` and `run_on` changes it.
+/// A console. No call but `turn` and `run_on`, which is turns alone, changes it.
 #[derive(Drop)]
 pub struct Console {
     machine: Machine,
@@ -61,7 +62,8 @@ pub struct Console {
 impl Model for Console {
     ghost use Rattle.run_ahead.specs.Consoles.{ConsoleState, open_of};
     ghost use Rattle.ds_machine.specs.Booted.{machine_booted};
-    ghost use Rattle.ds_machine.specs.Reference.{CountsWithin, IsSound};
+    ghost use Rattle.ds_machine.specs.Reference.{IsSound};
+    ghost use Rattle.ds_machine.specs.Counting.{CountsWithin};
     ghost use Rattle.ds_machine.specs.States.{counts_of};
     ghost use Rattle.std.specs.Prelude.{◌≡◌, ◌≤◌, ◌^◌, None};
 
@@ -90,10 +92,11 @@ impl Console {
         })
     }
 
-    /// One turn: nothing where no actor is due below the limit, and otherwise the step of the actor that is due first, and where that is a processor then the longest run of
-    /// its further steps that belong to the turn: each is due below the limit, and is the least or may be taken before its turn. After a stop every turn answers the same and
-    /// changes nothing. The frame that a turn made whole is the last whole one after it, and every other turn leaves the last whole one as it was; and so it is with the
-    /// geometry lists that were swapped there. A turn that takes a step and doesn't stop counts, and fewer such turns are left below the limit.
+    /// One turn: nothing where no actor is due below the limit; where quiet geometry alone is, all its steps below the limit; and otherwise the step of the first actor that acts,
+    /// as quiet geometry doesn't, and where that is a processor then the longest run of its further steps that belong to the turn: each is due below the limit, and is the least
+    /// acting one or may be taken before its turn. Before a step that observes geometry, geometry catches up. After a stop every turn answers the same and changes nothing. The
+    /// frame that a turn made whole is the last whole one after it, and every other turn leaves the last whole one as it was; and so it is with the geometry lists that were
+    /// swapped there. A turn that takes a step and doesn't stop counts, and fewer such turns are left below the limit.
     #[inline(never)]
     pub fn turn(&mut self, until: Tick) -> Turned
         requires { until.0 ≤ 2 ^ 56 }
@@ -133,18 +136,20 @@ impl Console {
 
     /// Does nothing; its contract states what holds of every console's machine: each unit's numbers are those that it can have, and the lines of the key
     /// script that are to come rise; unless the console has stopped no halted processor is to wake, and the units behind the ports are settled; neither FIFO
-    /// between the processors holds more than 16 words, each of 32 bits; and CPSR and each SPSR of both processors have no bits but those that are kept.
+    /// between the processors holds more than 16 words, each of 32 bits; CPSR and each SPSR of both processors have no bits but those that are kept; and no more
+    /// turns counted than 24 times the limit.
     pub fn laws(&self)
         ensures parts { HasSoundParts self.now.machine }
         ensures sound { self.now.stopped ≡ None → IsSound self.now.machine }
         ensures ipc { AreSides self.now.machine.io.ipc }
         ensures statuses { HasBothStatuses self.now.machine }
+        ensures turns { self.now.turns ≤ 24 * self.now.limit }
     {
         self.machine.laws();
     }
 
-    /// A turn, where it raises no limit and the least actor is known to be a processor: the fast path stands here, and has one caller. Where it isn't taken nothing is changed. The
-    /// answer has no stop in it, which would be moved at each turn.
+    /// A turn, where it raises no limit and the least acting actor is known to be a processor: the fast path stands here, and has one caller. Where it isn't taken nothing is
+    /// changed. The answer has no stop in it, which would be moved at each turn.
     #[inline(always)]
     fn at_once(&mut self, until: Tick) -> AtOnce
         requires { until.0 ≤ 2 ^ 56 }
@@ -163,7 +168,7 @@ impl Console {
         AtOnce::NotTaken
     }
 
-    /// The turn of a processor that is the least actor, which raises no limit. The answer is whether it stopped.
+    /// The turn of a processor that is the least acting actor, which raises no limit. The answer is whether it stopped.
     #[inline(always)]
     fn go(&mut self, first: First, until: Tick) -> bool
         requires early { until.0 ≤ 2 ^ 56 }
@@ -205,12 +210,13 @@ impl Console {
         }
         self.limit = self.limit.max(until.0);
         self.open_until = self.limit;
-        let due = self.machine.due();
-        if until.0 <= due.tick.0 {
+        self.machine.laws();
+        let acting = self.machine.acting();
+        if until.0 <= acting.tick.0 && !self.machine.is_behind(until, 0) {
             return Turned::AtEnd;
         }
         // what it stops at is kept before anything else is called: a machine that stopped may have a halted processor that is to wake
-        match take_turn(&mut self.machine, due, until) {
+        match take_turn(&mut self.machine, acting, until) {
             Done::Made => {
                 self.turns += 1;
                 Turned::Ran
@@ -227,11 +233,18 @@ impl Console {
         }
     }
 
-    /// The actor that steps next, and when.
+    /// The actor that is due first, and when: quiet geometry too, which doesn't act.
     pub fn due(&self) -> Due
         ensures { IsDue self.now.machine result }
     {
         self.machine.due()
+    }
+
+    /// The actor that acts next, and when: the least of all that are due but quiet geometry.
+    pub fn acting(&self) -> Due
+        ensures { IsActing self.now.machine result }
+    {
+        self.machine.acting()
     }
 
     /// Does nothing; its contract states that the reference run goes on from this machine to every limit.

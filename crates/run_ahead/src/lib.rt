@@ -8,5 +8,5 @@ mod turns;
 
 pub use consoles::{Console, Counts};
 pub use ds_machine::{Seen, reference_laws};
-pub use laws::{one_step_laws, turn_laws};
+pub use laws::{tick_turn_laws, turn_laws};
 pub use turns::Turned;

@@ -3,8 +3,11 @@
 ghost use Rattle.std.specs.Prelude.{◌≡◌, ◌<◌, ◌≤◌, ◌^◌, false, true, None, Some};
 ghost use Rattle.ds_base.specs.declared.left_out.LeftOut.{LeftOut};
 ghost use Rattle.ds_machine.specs.NextEvents.{HasLimit};
+ghost use Rattle.ds_machine.specs.Acting.{IsActing, is_behind};
 ghost use Rattle.ds_machine.specs.Private as private;
-ghost use Rattle.ds_machine.specs.Reference.{HasCounted, IsDue, IsSound};
+ghost use Rattle.ds_machine.specs.Reference.{IsSound};
+ghost use Rattle.ds_machine.specs.Counting.{HasCounted};
+ghost use Rattle.ds_machine.specs.TurnSteps.{BelongsToTurn, TakesSteps};
 ghost use Rattle.run_ahead.specs.Inside.{HasProcessor, TookSlowly, TookStretch, TookTurn};
 
 use ds_base::{Due, LeftOut, Proc, Tick};
@@ -42,7 +45,8 @@ pub enum Slow {
     Stopped,
 }
 
-/// Takes a processor's next step, where it belongs to its turn with a limit. A stop is put where stops are kept: an answer that carried it would be moved at each turn.
+/// Takes a processor's next step, where it belongs to its turn with a limit; where it observes geometry, geometry catches up before it. A stop is put where stops are kept: an
+/// answer that carried it would be moved at each turn.
 #[inline(never)]
 fn step_slowly(machine: &mut Machine, stop: &mut Option<LeftOut>, proc: Proc, until: Tick) -> Slow
     requires early { until.0 ≤ 2 ^ 56 }
@@ -53,7 +57,10 @@ fn step_slowly(machine: &mut Machine, stop: &mut Option<LeftOut>, proc: Proc, un
     if !machine.belongs(proc, until) {
         return Slow::Over;
     }
-    match machine.step(rank_of(proc)) {
+    let rank = rank_of(proc);
+    let tick = machine.tick_of(proc);
+    machine.catch_up_before(tick, rank);
+    match machine.step(rank) {
         Done::Stopped(left) => {
             *stop = Some(left);
             Slow::Stopped
@@ -85,8 +92,28 @@ pub fn take_first(
     }
 }
 
+/// Takes a processor's steps that belong to its turn with a limit, while they are of the fast path, or loads from ports that change no unit; by the first tick at which it isn't
+/// the least acting one any more. The answer is whether its turn is over; where it isn't known to be, the next step is neither.
+#[inline(always)]
+fn go_quietly(machine: &mut Machine, proc: Proc, until: Tick, limit: u64) -> bool
+    requires early { until.0 ≤ 2 ^ 56 }
+    requires sound { IsSound machine.old }
+    requires limit { HasLimit until.0 machine.old proc limit }
+    ensures steps { TakesSteps until.0 proc machine.old machine.new }
+    ensures over { result ≡ true → BelongsToTurn until.0 machine.new proc → ⊥ }
+{
+    'steps: loop {
+        if machine.go_fast(proc, until, limit) {
+            return true;
+        }
+        if !machine.load_quietly(proc, until, limit) {
+            return false;
+        }
+    }
+}
+
 /// Takes a processor's steps that belong to its turn with a limit, one after another, up to the first that doesn't, or to one that stops the machine, whose stop is put where
-/// stops are kept. The answer is whether there is one. It begins with the first tick at which the processor isn't the least any more.
+/// stops are kept. The answer is whether there is one. It begins with the first tick at which the processor isn't the least acting one any more.
 #[inline(always)]
 fn take_stretch(
     machine: &mut Machine,
@@ -107,7 +134,7 @@ fn take_stretch(
     machine.laws();
     let mut limit = first;
     'steps: loop {
-        if machine.go_fast(proc, until, limit) {
+        if go_quietly(machine, proc, until, limit) {
             return false;
         }
         match step_slowly(machine, stop, proc, until) {
@@ -122,7 +149,7 @@ fn take_stretch(
     }
 }
 
-/// Takes the rest of a processor's steps that belong to its turn, where it isn't known when it isn't the least any more.
+/// Takes the rest of a processor's steps that belong to its turn, where it isn't known when it isn't the least acting one any more.
 #[inline(never)]
 fn end_slowly(machine: &mut Machine, stop: &mut Option<LeftOut>, proc: Proc, until: Tick) -> bool
     requires early { until.0 ≤ 2 ^ 56 }
@@ -152,16 +179,34 @@ fn take_stretch_slowly(machine: &mut Machine, proc: Proc, until: Tick) -> Option
     }
 }
 
-/// Takes a turn of a machine whose least actor is due below a limit: an event's step, or the steps of a processor that belong to its turn.
-pub fn take_turn(machine: &mut Machine, due: Due, until: Tick) -> Done
+/// Takes an event's step that is the least of those who act; where it observes geometry, geometry catches up before it.
+fn take_event(machine: &mut Machine, acting: Due, until: Tick) -> Done
     requires early { until.0 ≤ 2 ^ 56 }
     requires sound { IsSound machine.old }
-    requires due { IsDue machine.old due }
-    requires below { due.tick.0 < until.0 }
+    requires acting { IsActing machine.old acting }
+    requires event { acting.rank < 22 }
+    requires below { acting.tick.0 < until.0 }
     ensures { TookTurn until.0 machine.old result machine.new }
 {
-    let Some(proc) = processor_of(due.rank) else {
-        return machine.step(due.rank);
+    machine.catch_up_before(acting.tick, acting.rank);
+    machine.step(acting.rank)
+}
+
+/// Takes a turn of a machine, of which the least actor that acts is given: where it is due below a limit, an event's step, or the steps of a processor that belong to its turn;
+/// where quiet geometry alone is, all its steps below the limit.
+pub fn take_turn(machine: &mut Machine, acting: Due, until: Tick) -> Done
+    requires early { until.0 ≤ 2 ^ 56 }
+    requires sound { IsSound machine.old }
+    requires acting { IsActing machine.old acting }
+    requires some { until.0 ≤ acting.tick.0 → is_behind until.0 0 machine.old ≡ true }
+    ensures { TookTurn until.0 machine.old result machine.new }
+{
+    if until.0 <= acting.tick.0 {
+        machine.catch_up(until, 0);
+        return Done::Made;
+    }
+    let Some(proc) = processor_of(acting.rank) else {
+        return take_event(machine, acting, until);
     };
     match take_stretch_slowly(machine, proc, until) {
         Some(left) => Done::Stopped(left),

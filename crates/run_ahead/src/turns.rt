@@ -5,9 +5,9 @@ use ds_base::LeftOut;
 /// What a turn did.
 #[derive(Clone, Copy, PartialEq, Eq)]
 pub enum Turned {
-    /// It took a step.
+    /// It took steps, one at least.
     Ran,
-    /// It was the start of line 192, which made a frame whole.
+    /// It was the start of line 192, behind the steps of geometry that it observes, and made a frame whole.
     Frame {
         /// Whether waiting geometry lists were swapped there.
         swapped: bool,

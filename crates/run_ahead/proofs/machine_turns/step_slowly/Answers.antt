@@ -1,28 +1,42 @@
-use Rattle.std.proofs.Common.{ℕ, true≢false, refl, ap, sym, ◌∙◌, subst}
-use Rattle.ds_machine.specs.Private.{MayStep}
+use Rattle.std.proofs.Common.{ℕ, true≢false, refl, ap, sym, ◌∙◌, arith}
 use Rattle.ds_machine.specs.Reference.{reference_step}
-use Rattle.ds_machine.proofs.TurnSteps.{belongs_may}
-use Rattle.run_ahead.proofs.Stretches.{step_makes}
+use Rattle.ds_machine.proofs.ActingSteps.{acting_may_step}
+use Rattle.run_ahead.proofs.Stretches.{told_acts, told_below, told_catches, told_makes}
 use Rattle.run_ahead.proofs.machine_turns.step_slowly.Goals as goal
 
 pub returns-then-not-belongs : goal.returns-then-not-belongs
 returns-then-not-belongs c = (λ belongs. true≢false (sym (c.belongs.ensures.1 belongs) ∙ c.if-not-belongs.true), refl, c.requires.running)
 
+pub catch_up_before-requires-clause-early : goal.catch_up_before-requires-clause-early
+catch_up_before-requires-clause-early c =
+    let below = told_below c.args.until.0 c.args.machine.now c.args.proc c.rank_of-rank.result c.tick_of-tick.result c.rank_of-rank.ensures c.tick_of-tick.ensures (c.belongs.ensures.0 c.if-not-belongs.false) in
+    let early = c.requires.early in
+    omega (arith, early, below)
+
+pub catch_up_before-requires-clause-may : goal.catch_up_before-requires-clause-may
+catch_up_before-requires-clause-may c = told_acts c.args.until.0 c.args.machine.now c.args.proc c.rank_of-rank.result c.tick_of-tick.result c.rank_of-rank.ensures c.tick_of-tick.ensures (c.belongs.ensures.0 c.if-not-belongs.false)
+
 pub step-requires : goal.step-requires
 step-requires c =
-    subst (MayStep c.args.machine.now) (sym c.rank_of.ensures)
-    (belongs_may c.args.until.0 c.args.machine.now c.args.proc c.requires.early c.requires.sound (c.belongs.ensures.0 c.if-not-belongs.false))
+    let belongs = c.belongs.ensures.0 c.if-not-belongs.false in
+    let below = told_below c.args.until.0 c.args.machine.now c.args.proc c.rank_of-rank.result c.tick_of-tick.result c.rank_of-rank.ensures c.tick_of-tick.ensures belongs in
+    let early = c.requires.early in
+    let acts = told_acts c.args.until.0 c.args.machine.now c.args.proc c.rank_of-rank.result c.tick_of-tick.result c.rank_of-rank.ensures c.tick_of-tick.ensures belongs in
+    (acting_may_step c.args.machine.now c.catch_up_before.new.self c.tick_of-tick.result c.rank_of-rank.result c.requires.sound acts (omega (arith, early, below)) c.catch_up_before.ensures.caught).may
 
 pub returns-in-Stopped : goal.returns-in-Stopped
-returns-in-Stopped c = (
-  c.belongs.ensures.0 c.if-not-belongs.false,
-  (c.in-Stopped.left, refl, sym (ap (λ (r : ℕ). reference_step r c.args.machine.now) c.rank_of.ensures) ∙ c.in-Stopped.ensures),
-)
+returns-in-Stopped c =
+    let catches = told_catches c.args.until.0 c.args.machine.now c.args.proc c.rank_of-rank.result c.tick_of-tick.result c.rank_of-rank.ensures c.tick_of-tick.ensures c.catch_up_before.new.self c.catch_up_before.ensures.caught in (
+      c.belongs.ensures.0 c.if-not-belongs.false,
+      (
+        c.in-Stopped.left,
+        refl,
+        (c.catch_up_before.new.self, catches, sym (ap (λ (r : ℕ). reference_step r c.catch_up_before.new.self) c.rank_of-rank.ensures) ∙ c.in-Stopped.ensures),
+      ),
+    )
 
 pub returns-in_default : goal.returns-in_default
 returns-in_default c =
-    let belongs = c.belongs.ensures.0 c.if-not-belongs.false in (
-      belongs,
-      step_makes c.args.until.0 c.args.machine.now c.step.new.self c.args.proc c.rank_of.result c.step.result c.rank_of.ensures belongs c.step.ensures c.in_default.not-Stopped,
-      c.requires.running,
-    )
+    let catches = told_catches c.args.until.0 c.args.machine.now c.args.proc c.rank_of-rank.result c.tick_of-tick.result c.rank_of-rank.ensures c.tick_of-tick.ensures c.catch_up_before.new.self c.catch_up_before.ensures.caught in
+    let made = told_makes c.args.until.0 c.args.machine.now c.args.proc c.rank_of-rank.result c.tick_of-tick.result c.rank_of-rank.ensures c.tick_of-tick.ensures (c.belongs.ensures.0 c.if-not-belongs.false) c.catch_up_before.new.self c.step.new.self c.step.result c.requires.sound c.catch_up_before.ensures.caught c.step.ensures c.in_default.not-Stopped in
+    (c.belongs.ensures.0 c.if-not-belongs.false, (c.catch_up_before.new.self, catches, made), c.requires.running)

@@ -1,6 +1,6 @@
 use Rattle.std.proofs.Common.{[], Option, refl, sym, subst}
 use Rattle.ds_base.specs.declared.left_out.LeftOut.{LeftOut}
-use Rattle.ds_machine.specs.Private.{BelongsToTurn, TakesSteps, none, more}
+use Rattle.ds_machine.specs.TurnSteps.{BelongsToTurn, TakesSteps, none, more}
 use Rattle.ds_machine.specs.States.{MachineState}
 use Rattle.ds_machine.proofs.OwnRemaining.{turn_steps_fall}
 use Rattle.run_ahead.specs.Inside.{TookStretch}
@@ -31,9 +31,9 @@ returns-in-Stopped c =
     (c.steps.machine, c.steps.invariant.0, c.in-Stopped.ensures.0, stop.2)
 
 pub steps-preserved : goal.steps-preserved
-steps-preserved c = (more c.args.machine.now c.steps.machine c.step_slowly.new.machine c.steps.invariant.0 c.in-Took.ensures.0 c.in-Took.ensures.1, c.in-Took.ensures.2)
+steps-preserved c = (more c.args.machine.now c.steps.machine c.in-Took.ensures.1.0 c.step_slowly.new.machine c.steps.invariant.0 c.in-Took.ensures.0 c.in-Took.ensures.1.1 c.in-Took.ensures.1.2, c.in-Took.ensures.2)
 
 pub steps-smaller : goal.steps-smaller
 steps-smaller c =
     let sound = sound_along c.args.until.0 c.args.proc c.args.machine.now c.steps.machine c.requires.sound c.steps.invariant.0 in
-    turn_steps_fall c.args.until.0 c.steps.machine c.step_slowly.new.machine c.args.proc [] sound.parts c.in-Took.ensures.0 c.in-Took.ensures.1
+    turn_steps_fall c.args.until.0 c.steps.machine c.in-Took.ensures.1.0 c.step_slowly.new.machine c.args.proc [] sound c.in-Took.ensures.0 c.in-Took.ensures.1.1 c.in-Took.ensures.1.2

@@ -2,12 +2,12 @@ use Rattle.std.proofs.Common.{◌≡◌, ◌+◌, ◌⊎◌, max, [], Option, No
 use Rattle.std.proofs.lemmas.Option.{none-some}
 use Rattle.ds_base.specs.declared.left_out.LeftOut.{LeftOut}
 use Rattle.ds_machine.specs.NextEvents.{HasLimit}
-use Rattle.ds_machine.specs.Private.{IsLeastBelow}
+use Rattle.ds_machine.specs.TurnSteps.{IsLeastBelow}
 use Rattle.ds_machine.specs.declared.answers.Done.TheVariants.{Made, Stopped}
 use Rattle.run_ahead.specs.Consoles.{ConsoleState, open_of}
 use Rattle.run_ahead.specs.Inside.{TookStretch}
-use Rattle.run_ahead.specs.Turns.{TakesEvent, TakesStretch, one_more_turn, run_to}
-use Rattle.run_ahead.proofs.StepTurns.{is_stop, is_stretch, made_taken, one_fits, ran_is, stopped_counts, turn_within}
+use Rattle.run_ahead.specs.Turns.{TakesEvent, TakesQuiet, TakesStretch, one_more_turn, run_to}
+use Rattle.run_ahead.proofs.StepTurns.{is_stop, is_stretch, made_taken, one_fits, StopsNow, ran_is, stopped_counts, stops_now, turn_within}
 use Rattle.run_ahead.proofs.consoles.Console.go.Goals as goal
 
 pub take_first-requires-clause-sound : goal.take_first-requires-clause-sound
@@ -35,7 +35,7 @@ invariant_of-self c =
     let took = subst (λ (o : Option LeftOut). TookStretch c.args.until.0 c.args.first.proc m o next) stop.1 c.take_first.ensures.took in
     let turn = is_stop c.args.until.0 c.args.first.proc m next stop.0 first took in
     let kept = stopped_counts c.args.until.0 m next stop.0 sound turn in (
-      turn_within c.args.until.0 c.self.inside.limit m next (Stopped stop.0) (omega (arith, same)) sound
+      turn_within c.args.until.0 c.self.inside.limit m next (Stopped stop.0) c.requires.early (omega (arith, same)) sound
           (record { counted = c.take_first.ensures.counted; within = c.self.invariant.0 }) turn,
       c.self.invariant.1,
       rw stop.1 refl,
@@ -57,12 +57,29 @@ invariant_of-self-2 c =
     let turn = is_stretch c.args.until.0 c.args.first.proc m next first took in
     let taken = made_taken c.args.until.0 m next sound turn in
     let more = taken.more in (
-      turn_within c.args.until.0 c.self.inside.limit m next Made (omega (arith, same)) sound (record { counted = c.take_first.ensures.counted; within = c.self.invariant.0 }) turn,
+      turn_within c.args.until.0 c.self.inside.limit m next Made c.requires.early (omega (arith, same)) sound (record { counted = c.take_first.ensures.counted; within = c.self.invariant.0 }) turn,
       c.self.invariant.1,
       c.self.invariant.2 ∙ ap (open_of c.self.inside.limit) (running ∙ sym none),
       λ none. taken.sound,
       omega (arith, few, more),
     )
+
+pub returns-then-take_first-clause-stopped : goal.returns-then-take_first-clause-stopped
+returns-then-take_first-clause-stopped c = λ is.
+    (let m = c.self.inside.machine in
+    let next = c.take_first.new.machine in
+    let until = c.args.until.0 in
+    let first = subst (λ (x : ConsoleState). IsLeastBelow until x.machine c.args.first.proc) (sym c.self.view_is) c.requires.least in
+    let same : max c.self.inside.limit until ≡ c.self.inside.limit = subst (λ (x : ConsoleState). max x.limit until ≡ x.limit) (sym c.self.view_is) c.requires.same in
+    let stop = c.take_first.ensures.stops c.if-take_first.true in
+    let running = ap (λ (x : ConsoleState). x.stopped) c.self.view_is ∙ c.requires.still_open in
+    let took = subst (λ (o : Option LeftOut). TookStretch until c.args.first.proc m o next) stop.1 c.take_first.ensures.took in
+    let turn = is_stop until c.args.first.proc m next stop.0 first took in (
+      stop.0,
+      stop.1,
+      subst (λ (x : ConsoleState). StopsNow until stop.0 x (record { machine = next; limit = c.self.inside.limit; stopped = c.take_first.new.stop; turns = c.self.inside.turns })) c.self.view_is
+          (stops_now until c.self.inside.limit c.self.inside.turns m next c.self.inside.stopped c.take_first.new.stop stop.0 same running stop.1 turn),
+    ))
 
 pub returns-clause-ran : goal.returns-clause-ran
 returns-clause-ran c = λ ran.
@@ -74,7 +91,7 @@ returns-clause-ran c = λ ran.
     let none = c.take_first.ensures.goes c.if-take_first.false in
     let running = ap (λ (x : ConsoleState). x.stopped) c.self.view_is ∙ c.requires.still_open in
     let took = subst (λ (o : Option LeftOut). TookStretch until c.args.first.proc m o next) none c.take_first.ensures.took in
-    subst (λ (x : ConsoleState). (x.stopped ≡ None) × (TakesEvent until x.machine [] next ⊎ TakesStretch until x.machine next)
+    subst (λ (x : ConsoleState). (x.stopped ≡ None) × (TakesEvent until x.machine [] next ⊎ (TakesStretch until x.machine next ⊎ TakesQuiet until x.machine next))
     × ((let new : ConsoleState = record { machine = next; limit = c.self.inside.limit; stopped = c.take_first.new.stop; turns = c.self.inside.turns + 1 } in new)
     ≡ one_more_turn (run_to x until next))) c.self.view_is
     (running, is_stretch until c.args.first.proc m next first took, ran_is until c.self.inside.limit c.self.inside.turns m next c.self.inside.stopped c.take_first.new.stop same running none))

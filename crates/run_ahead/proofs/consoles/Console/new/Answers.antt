@@ -1,5 +1,5 @@
 use Rattle.std.proofs.Common.{refl, sym, subst, arith}
-use Rattle.ds_machine.specs.Reference.{CountsWithin}
+use Rattle.ds_machine.specs.Counting.{CountsWithin}
 use Rattle.ds_machine.proofs.Booting.{sound_booted, within_booted}
 use Rattle.run_ahead.proofs.consoles.Console.new.Goals as goal
 

@@ -1,8 +1,12 @@
-use Rattle.std.proofs.Common.{refl, sym, ap, arith}
+use Rattle.std.proofs.Common.{ℕ, ◌≡◌, None, refl, sym, ◌∙◌, ap, subst, arith}
 use Rattle.std.proofs.lemmas.Option.{none-some}
-use Rattle.run_ahead.specs.Consoles.{open_of}
-use Rattle.run_ahead.proofs.StepTurns.{frame_taken, made_taken, one_fits, raised_within, stopped_counts, turn_within}
+use Rattle.ds_runs.specs.Runs.{IsOver}
+use Rattle.ds_machine.specs.Reference.{dues_of}
+use Rattle.run_ahead.specs.Consoles.{ConsoleState, open_of}
+use Rattle.run_ahead.specs.Turns.{run_to}
+use Rattle.run_ahead.proofs.StepTurns.{frame_taken, made_taken, one_fits, over_all, over_from, raised_within, stopped_counts, turn_within}
 use Rattle.run_ahead.proofs.consoles.Console.step.Goals as goal
+use Rattle.run_ahead.proofs.consoles.Console.step.Goals.{else-until-acting-via-then-until-acting+else-not-is_behind, else-until-acting-via-else-until-acting}
 
 pub take_turn-requires-clause-sound : goal.take_turn-requires-clause-sound
 take_turn-requires-clause-sound c = c.self.invariant.3 c.in_default.is
@@ -20,10 +24,10 @@ invariant_of-self-in-Made c =
     let most = c.self.invariant.1 in
     let few = c.self.invariant.4 in
     let sound = c.self.invariant.3 c.in_default.is in
-    let within = raised_within c.self.inside.limit c.max-self-inside.result c.self.inside.machine c.due-due.ensures.counted c.self.invariant.0 (omega (arith, limit)) in
+    let within = raised_within c.self.inside.limit c.max-self-inside.result c.self.inside.machine c.laws.ensures.counted c.self.invariant.0 (omega (arith, limit)) in
     let taken = made_taken c.args.until.0 c.self.inside.machine c.take_turn.new.machine sound c.in-Made.ensures in
     let more = taken.more in (
-      turn_within c.args.until.0 c.max-self-inside.result c.self.inside.machine c.take_turn.new.machine c.take_turn.result (omega (arith, limit)) sound within c.take_turn.ensures,
+      turn_within c.args.until.0 c.max-self-inside.result c.self.inside.machine c.take_turn.new.machine c.take_turn.result early (omega (arith, limit)) sound within c.take_turn.ensures,
       omega (arith, limit, early, most),
       sym (ap (open_of c.max-self-inside.result) c.in_default.is),
       λ none. taken.sound,
@@ -37,10 +41,10 @@ invariant_of-self-in-Frame c =
     let most = c.self.invariant.1 in
     let few = c.self.invariant.4 in
     let sound = c.self.invariant.3 c.in_default.is in
-    let within = raised_within c.self.inside.limit c.max-self-inside.result c.self.inside.machine c.due-due.ensures.counted c.self.invariant.0 (omega (arith, limit)) in
+    let within = raised_within c.self.inside.limit c.max-self-inside.result c.self.inside.machine c.laws.ensures.counted c.self.invariant.0 (omega (arith, limit)) in
     let taken = frame_taken c.args.until.0 c.self.inside.machine c.take_turn.new.machine c.in-Frame.swapped sound c.in-Frame.ensures in
     let more = taken.more in (
-      turn_within c.args.until.0 c.max-self-inside.result c.self.inside.machine c.take_turn.new.machine c.take_turn.result (omega (arith, limit)) sound within c.take_turn.ensures,
+      turn_within c.args.until.0 c.max-self-inside.result c.self.inside.machine c.take_turn.new.machine c.take_turn.result early (omega (arith, limit)) sound within c.take_turn.ensures,
       omega (arith, limit, early, most),
       sym (ap (open_of c.max-self-inside.result) c.in_default.is),
       λ none. taken.sound,
@@ -54,11 +58,28 @@ invariant_of-self-in-Stopped c =
     let most = c.self.invariant.1 in
     let few = c.self.invariant.4 in
     let sound = c.self.invariant.3 c.in_default.is in
-    let within = raised_within c.self.inside.limit c.max-self-inside.result c.self.inside.machine c.due-due.ensures.counted c.self.invariant.0 (omega (arith, limit)) in
+    let within = raised_within c.self.inside.limit c.max-self-inside.result c.self.inside.machine c.laws.ensures.counted c.self.invariant.0 (omega (arith, limit)) in
     let kept = stopped_counts c.args.until.0 c.self.inside.machine c.take_turn.new.machine c.in-Stopped.left sound c.in-Stopped.ensures in (
-      turn_within c.args.until.0 c.max-self-inside.result c.self.inside.machine c.take_turn.new.machine c.take_turn.result (omega (arith, limit)) sound within c.take_turn.ensures,
+      turn_within c.args.until.0 c.max-self-inside.result c.self.inside.machine c.take_turn.new.machine c.take_turn.result early (omega (arith, limit)) sound within c.take_turn.ensures,
       omega (arith, limit, early, most),
       refl,
       λ none. absurd (none-some _ (sym none)),
       omega (arith, few, kept),
     )
+
+pub take_turn-requires-clause-some : goal.take_turn-requires-clause-some
+take_turn-requires-clause-some c = λ le.
+    (elim c.else-until-acting.branch [
+      | else-until-acting-via-then-until-acting+else-not-is_behind w ↦ sym w.is_behind.ensures ∙ w.if-not-is_behind.false
+      | else-until-acting-via-else-until-acting w ↦ absurd (omega (arith, le, w.if-until-acting.false))
+    ])
+
+pub returns-then-not-is_behind : goal.returns-then-not-is_behind
+returns-then-not-is_behind c =
+    let m = c.self.inside.machine in
+    let until = c.args.until.0 in
+    let none = over_from until m c.acting-acting.result.tick c.acting-acting.result.rank c.acting-acting.ensures c.if-until-acting.true in
+    let over = over_all until m none (sym c.is_behind.ensures ∙ c.if-not-is_behind.true) in
+    subst (λ (x : ConsoleState). (x.stopped ≡ None) × IsOver (dues_of x.machine) until
+    × ((let new : ConsoleState = record { machine = m; limit = c.max-self-inside.result; stopped = c.self.inside.stopped; turns = c.self.inside.turns } in new) ≡ run_to x until x.machine)) c.self.view_is
+    (c.in_default.is, over, ap (λ (l : ℕ). (let new : ConsoleState = record { machine = m; limit = l; stopped = c.self.inside.stopped; turns = c.self.inside.turns } in new)) c.max-self-inside.ensures)

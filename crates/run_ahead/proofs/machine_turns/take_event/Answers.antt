@@ -1,0 +1,23 @@
+use Rattle.std.proofs.Common.{inl, arith}
+use Rattle.ds_machine.specs.TurnSteps.{MayAct}
+use Rattle.ds_machine.proofs.ActingSteps.{acting_may_step}
+use Rattle.run_ahead.proofs.StepTurns.{event_took}
+use Rattle.run_ahead.proofs.machine_turns.take_event.Goals as goal
+
+pub catch_up_before-requires-clause-early : goal.catch_up_before-requires-clause-early
+catch_up_before-requires-clause-early c = let early = c.requires.early in let below = c.requires.below in omega (arith, early, below)
+
+pub catch_up_before-requires-clause-may : goal.catch_up_before-requires-clause-may
+catch_up_before-requires-clause-may c = record { due = c.requires.acting.there; may = inl c.requires.acting }
+
+pub step-requires : goal.step-requires
+step-requires c =
+    let early = c.requires.early in
+    let below = c.requires.below in
+    let may : MayAct c.args.machine.now c.args.acting.tick c.args.acting.rank = record { due = c.requires.acting.there; may = inl c.requires.acting } in
+    (acting_may_step c.args.machine.now c.catch_up_before.new.self c.args.acting.tick c.args.acting.rank c.requires.sound may (omega (arith, early, below)) c.catch_up_before.ensures.caught).may
+
+pub returns : goal.returns
+returns c =
+    event_took c.args.until.0 c.args.machine.now c.catch_up_before.new.self c.step.new.self c.args.acting.tick c.args.acting.rank c.step.result c.requires.sound c.requires.acting c.requires.event
+    c.requires.below c.catch_up_before.ensures.caught c.step.ensures

@@ -3,25 +3,24 @@
 ghost use Rattle.std.specs.Prelude.{◌≡◌, ◌≤◌, ◌<◌, ◌+◌, ◌^◌, None, length, option_to_list};
 ghost use Rattle.std.specs.List.{concat};
 ghost use Rattle.ds_machine.specs.Observed.{seen_of};
-ghost use Rattle.ds_machine.specs.Reference.{IsDue};
+ghost use Rattle.ds_machine.specs.Reference.{IsSound};
 ghost use Rattle.sink_parts.specs.Puts.{Puts};
+ghost use Rattle.run_ahead.specs.TickTurns.{IsTickBefore};
 ghost use Rattle.nds_watch.specs.Inside.{IsLineDue, Took};
 ghost use Rattle.nds_watch.specs.Watches.{Traces, rank_of, seen_line};
 
 use asm_text::Set;
-use ds_base::{Due, LeftOut, Proc, Tick};
+use ds_base::{LeftOut, Proc, Tick};
 use ds_io::{Failed, Sink, put_all};
 use nds_plays::Played;
-use run_ahead::{Console, Seen, Turned, one_step_laws};
+use run_ahead::{Console, Seen, Turned, tick_turn_laws};
 use traces::{OutLine, entry_line, step_line};
 
-/// What a turn of one step comes to, of a console that hasn't stopped.
+/// What a turn of one tick comes to, of a console that hasn't stopped.
 #[derive(Clone, Copy)]
 pub(crate) enum Taken {
-    /// It took a step.
+    /// It took its steps.
     Step,
-    /// No actor is due below the limit.
-    Over,
     /// It met a stop.
     Stop(LeftOut),
 }
@@ -49,34 +48,31 @@ fn seen_line(proc: Proc, tick: Tick, seen: Seen) -> OutLine
     }
 }
 
-/// The line of the step that is taken next, where it is the processor's.
-fn line_due(console: &Console, proc: Proc, due: Due) -> Option<OutLine>
-    requires { IsDue console.now.machine due }
-    ensures { IsLineDue proc console.now.machine result }
+/// The line of the actor that acts next, where it is the processor and acts below a limit.
+fn line_due(console: &Console, proc: Proc, limit: Tick) -> Option<OutLine>
+    ensures { IsLineDue limit.0 proc console.now.machine result }
 {
-    if due.rank != rank_of(proc) {
+    let acting = console.acting();
+    if acting.rank != rank_of(proc) || limit.0 <= acting.tick.0 {
         return None;
     }
-    Some(seen_line(proc, due.tick, console.seen(proc)))
+    Some(seen_line(proc, acting.tick, console.seen(proc)))
 }
 
-/// Takes the step of the actor that is due first, where it is due below a limit: a turn whose limit is the tick after.
-fn take(console: &mut Console, due: Due, until: Tick) -> Taken
-    requires early { until.0 ≤ 2 ^ 56 }
-    requires due { IsDue console.old.machine due }
+/// Takes a turn whose limit is the tick after the one at which the first actor is due: one step of an actor that acts, or those of quiet geometry alone.
+fn take(console: &mut Console, limit: Tick) -> Taken
+    requires early { limit.0 ≤ 2 ^ 56 }
+    requires sound { IsSound console.old.machine }
+    requires before { IsTickBefore limit.0 console.old.machine }
     requires open { console.old.stopped ≡ None }
-    ensures { Took until.0 console.old result console.new }
+    ensures { Took limit.0 console.old result console.new }
 {
-    if until.0 <= due.tick.0 {
-        return Taken::Over;
-    }
-    console.laws();
-    one_step_laws();
-    match console.turn(Tick(due.tick.0 + 1)) {
+    tick_turn_laws();
+    match console.turn(limit) {
         Turned::Ran => Taken::Step,
         Turned::Frame { swapped: _ } => Taken::Step,
         Turned::Stopped(left) => Taken::Stop(left),
-        Turned::AtEnd => Taken::Over,
+        Turned::AtEnd => unreachable!(),
     }
 }
 
@@ -99,7 +95,8 @@ fn fewer(left: u32, line: &Option<OutLine>) -> u32
 }
 
 /// Runs a console to a tick, and writes the first steps of a processor, so many at most: a line a step, which is found before the step is taken and
-/// written once it was. A step at which it stops has no line. It runs no further than to the last line.
+/// written once it was. A step at which it stops has no line. It runs no further than to the last line. Each turn is one of a single tick, so that it takes one step of the processor
+/// at most.
 pub fn trace<O: Sink>(
     console: &mut Console,
     until: Tick,
@@ -113,15 +110,19 @@ pub fn trace<O: Sink>(
 {
     let mut left = count;
     'turns: loop {
+        console.laws();
         if left == 0 {
             console.has_runs();
             return Played::Done;
         }
         let due = console.due();
-        let line = line_due(console, proc, due);
-        match take(console, due, until) {
+        if until.0 <= due.tick.0 {
+            return Played::Done;
+        }
+        let limit = Tick(due.tick.0 + 1);
+        let line = line_due(console, proc, limit);
+        match take(console, limit) {
             Taken::Step => {}
-            Taken::Over => return Played::Done,
             Taken::Stop(stop) => return Played::LeftOut(stop),
         }
         match put_line(out, &line) {

@@ -1,4 +1,4 @@
-use Rattle.std.proofs.Common.{ℕ, ◌≡◌, ◌+◌, ◌<◌, ◌++◌, ◌∷◌, [], List, length, length-set, take, slice_index, refl, sym, ◌∙◌, ap, arith}
+use Rattle.std.proofs.Common.{ℕ, ◌+◌, ◌++◌, ◌∷◌, [], List, length-set, slice_index, refl, sym, ◌∙◌, ap}
 use Rattle.std.proofs.lemmas.List.{take_more_set}
 use Rattle.std.proofs.lemmas.List.FromFn.{map-range_with_len_more}
 use Rattle.ds_machine.specs.Observed.{memory_of}

@@ -1,5 +1,4 @@
-use Rattle.std.proofs.Common.{◌≡◌, None}
-use Rattle.run_ahead.specs.Turns.{turns_remaining}
+use Rattle.std.proofs.Common.{◌≡◌, ◌+◌, ◌*◌, ◌-◌, None, max}
 use Rattle.nds_watch.proofs.Tracing.{Tracing}
 use Rattle.nds_watch.proofs.steps.trace.Given as goal
 
@@ -10,5 +9,6 @@ invariant-turns g l = record {
   tracing : Tracing g.O.Sink.tells g.O.Sink.taken g.O.Sink.faults l.until.0 l.proc l.count l.initial.console.machine l.initial.out l.console.machine l.out l.left;
 }
 
+-- no more turns count than 24 times the greatest limit that they come to
 abbrev pub decreases-turns : goal.decreases-turns
-decreases-turns g l = turns_remaining l.until.0 l.console.machine
+decreases-turns g l = 24 * max l.console.limit l.until.0 + 1 - l.console.turns

@@ -1,4 +1,6 @@
+pub mod Below
 pub mod Layouts
+pub mod Masks
 pub mod Places
 pub mod Presents
 pub mod Powers

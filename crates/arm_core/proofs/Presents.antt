@@ -1,34 +1,13 @@
-use Rattle.std.proofs.Common.{ℕ, zero, suc, ◌≡◌, ◌≢◌, ◌<◌, ◌≤◌, ◌+◌, ◌⊎◌, inl, inr, Bool, true, false, List, [], ◌∷◌, length, refl, sym, ◌∙◌, ap, subst, arith, slice_index, slice_set, add-one, length-set}
+use Rattle.std.proofs.Common.{ℕ, zero, suc, ◌≡◌, ◌≢◌, ◌<◌, ◌≤◌, ◌+◌, inl, inr, Bool, true, List, [], ◌∷◌, length, refl, sym, ◌∙◌, ap, subst, arith, slice_index, slice_set, add-one, length-set}
 use Rattle.std.specs.Prelude.{◌&&◌, ◌==◌, nat_lt}
 use Rattle.std.proofs.lemmas.List.{get_or-set_same, get_or-set_other, set-get_or, set-set}
 use Rattle.std.proofs.lemmas.Bool.Decides.{nat_tests}
 use Rattle.arm_core.specs.declared.banks.Bank.{Bank}
 use Rattle.arm_core.specs.declared.banks.Bank.TheVariants.{System, Fiq, Supervisor, Abort, Irq, Undefined}
 use Rattle.arm_core.specs.Registers.{general_of, place}
+use Rattle.arm_core.proofs.Below.{all_below, all_below_holds, both, same_or_not}
 
 -- Where registers stand, by computing.
-
-all_below : ℕ → (ℕ → Bool) → Bool
-all_below zero p = true
-all_below (suc n) p = p n && all_below n p
-
-both : (a b : Bool) → (a && b) ≡ true → (a ≡ true) × (b ≡ true)
-both true true h = (refl, refl)
-both true false h = cc
-both false b h = cc
-
-same_or_not : (a b : ℕ) → (a ≡ b) ⊎ (a ≢ b)
-same_or_not a b = grind arith
-
-all_below_holds : (n r : ℕ) (p : ℕ → Bool) → r < n → all_below n p ≡ true → p r ≡ true
-unfolding all_below
-all_below_holds zero r p lt h = absurd (omega (arith, lt))
-all_below_holds (suc n) r p lt h =
-    let k = both (p n) (all_below n p) h in
-    elim (same_or_not r n) [
-      | inl e ↦ (let P : ℕ → Type 0 = λ x. p x ≡ true in subst P (sym e) k.0)
-      | inr ne ↦ all_below_holds n r p (omega arith) k.1
-    ]
 
 -- the number of the register at a place, the same in every bank
 numbers : List ℕ

@@ -1,4 +1,4 @@
-use Rattle.std.specs.Prelude.{ℕ, ◌+◌, ◌-◌, ◌*◌, ◌%◌, ◌^◌, ◌==◌, Bool, true, false, if◌then◌else◌, [], ◌∷◌, slice_index}
+use Rattle.std.specs.Prelude.{ℕ, ◌+◌, ◌*◌, ◌%◌, ◌^◌, ◌==◌, Bool, true, false, if◌then◌else◌, [], ◌∷◌, slice_index}
 use Rattle.std.specs.Int.{rotate_right, w32}
 use Rattle.ds_base.specs.Accesses.{Read, Write}
 use Rattle.ds_base.specs.Bits.{bit}
@@ -11,7 +11,7 @@ use Rattle.arm_words.specs.declared.parts.Offset.{Offset}
 use Rattle.arm_words.specs.declared.parts.ShortOffset.{ShortOffset}
 use Rattle.arm_words.specs.declared.operations.HalfOp.{HalfOp}
 use Rattle.arm_words.specs.declared.operations.HalfOp.TheVariants.{Strh, Ldrh, Ldrsb, Ldrsh}
-use Rattle.arm_core.specs.Registers.{RegisterState, register, late_register, next, put}
+use Rattle.arm_core.specs.Registers.{RegisterState, late_register, next, put}
 use Rattle.arm_core.specs.Addressing.{addressed, addressed_literal, offset_value, short_offset_value, with_base}
 use Rattle.arm_core.specs.Branches.{exchanged}
 use Rattle.arm_core.specs.declared.addresses.Addressed.{Addressed}

@@ -236,7 +236,7 @@ impl Registers {
     /// A register below r15.
     #[inline(always)]
     #[tactic(auto, using(crate::proofs::Presents::shown))]
-    fn low(&self, r: u8) -> u32
+    pub fn low(&self, r: u8) -> u32
         requires { r < 15 }
         ensures { (as_r15 : ℕ) → result ≡ register_in (bank self.now) as_r15 self.now r }
     {
@@ -261,7 +261,7 @@ impl Registers {
     /// Writes a register below r15.
     #[inline(always)]
     #[tactic(auto, using(crate::proofs::Presents::put_shown))]
-    fn set_low(&mut self, r: u8, value: u32)
+    pub fn set_low(&mut self, r: u8, value: u32)
         requires { r < 15 }
         ensures { self.new ≡ put_in (bank self.old) r value self.old }
     {

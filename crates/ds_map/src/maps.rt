@@ -7,7 +7,7 @@ ghost use Rattle.ds_base.specs.declared.memories.Memory.TheVariants.{Main, Own7}
 ghost use Rattle.ds_base.specs.declared.processors.Proc.{Proc};
 ghost use Rattle.ds_base.specs.declared.processors.Proc.TheVariants.{Seven};
 ghost use Rattle.ds_places.specs.AddressTables.{IsInside, place_of};
-ghost use Rattle.ds_places.specs.declared.kinds.Place.TheVariants.{Cell};
+ghost use Rattle.ds_places.specs.declared.kinds.Place.TheVariants.{Cell, Port};
 ghost use Rattle.ds_map.specs.Maps.{blank_memories, cells_of, is_reached, map_seen, reached, reaches, unreached, with_cells};
 ghost use Rattle.ds_base.specs.Schedules.{IsEarly};
 ghost use Rattle.ds_ports.specs.Io.{video_done};
@@ -184,6 +184,19 @@ impl Map {
         self.read_at(io, proc, now, place, width)
     }
 
+    /// The same as `read_any`. A port is found at once.
+    #[inline(never)]
+    #[tactic(auto, unfolding(crate::specs::Accesses::map_value, crate::specs::Accesses::map_read))]
+    fn read_past(&self, io: &mut Io, proc: Proc, now: Tick, at: u32, width: Width) -> u32
+        ensures value { result ≡ map_value proc now (map_seen proc self.now io.old) at width }
+        ensures next { map_seen proc self.now io.new ≡ map_read proc (map_seen proc self.now io.old) at width }
+    {
+        if let Some(port) = port_at(at) {
+            return io.take(proc, now, aligned_down(width, port), width);
+        }
+        self.read_any(io, proc, now, at, width)
+    }
+
     /// What a processor reads at an address at a tick, past the tightly coupled memories, and the read: of a port it may change what stands there.
     #[inline(always)]
     #[tactic(auto, unfolding(crate::specs::Accesses::map_value, crate::specs::Accesses::map_read))]
@@ -197,7 +210,7 @@ impl Map {
         if let Some(cell) = own_cell(proc, at) {
             return self.wram.number(cell as usize, width);
         }
-        self.read_any(io, proc, now, at, width)
+        self.read_past(io, proc, now, at, width)
     }
 
     /// What a processor fetches at an address, wherever it is.
@@ -336,6 +349,19 @@ fn own_cell(proc: Proc, at: u32) -> Option<u32>
 {
     if proc == Proc::Seven && at >= 0x0380_0000 && at < 0x0400_0000 {
         return Some((at - 0x0380_0000) % OWN7_BYTES as u32);
+    }
+    None
+}
+
+/// The offset of a port at an address, where one is there. A read asks it third.
+#[inline(always)]
+#[tactic(auto, using(crate::proofs::Mains::port_place))]
+fn port_at(at: u32) -> Option<u32>
+    ensures place { IfSome result (λ port. (proc : Proc) → (wramcnt : ℕ) → place_of proc wramcnt at ≡ Port port) }
+    ensures inside { IfSome result (λ port. port < 2 ^ 24) }
+{
+    if at >= 0x0400_0000 && at < 0x0500_0000 {
+        return Some(at - 0x0400_0000);
     }
     None
 }

@@ -15,6 +15,7 @@ pub mod Together
 pub mod Told
 pub mod Ascending
 pub mod Wholes
+pub mod Often
 pub mod Covered
 pub mod Shares
 pub mod GxApart

@@ -173,10 +173,10 @@ impl Io {
         }
     }
 
-    /// What a processor's access reads at an offset from 4000000h, at a tick, and the read. A register in which it lies whole is
-    /// found once.
+    /// The same as `take`, by the register map. A register in which the access lies whole is found once.
+    #[inline(never)]
     #[tactic(auto, using(crate::proofs::Wholes::value_whole, crate::proofs::Wholes::read_whole, crate::proofs::Wholes::read_apart, crate::proofs::Wholes::read_narrow))]
-    pub fn take(&mut self, proc: Proc, now: Tick, at: u32, width: Width) -> u32
+    fn take_by_map(&mut self, proc: Proc, now: Tick, at: u32, width: Width) -> u32
         requires { at < 2 ^ 24 }
         ensures value { result ≡ port_value proc now self.old at width }
         ensures next { self.new ≡ port_read proc self.old at width }
@@ -190,6 +190,19 @@ impl Io {
         }
         self.read_register(proc, slot.register);
         value
+    }
+
+    /// What a processor's access reads at an offset from 4000000h, at a tick, and the read. What is read most is asked first.
+    #[inline(always)]
+    pub fn take(&mut self, proc: Proc, now: Tick, at: u32, width: Width) -> u32
+        requires { at < 2 ^ 24 }
+        ensures value { result ≡ port_value proc now self.old at width }
+        ensures next { self.new ≡ port_read proc self.old at width }
+    {
+        if let Some(value) = self.units().value_often(proc, at, width) {
+            return value;
+        }
+        self.take_by_map(proc, now, at, width)
     }
 
     /// The number that a write of some bytes of a register gives it.

@@ -1,6 +1,7 @@
 //! The units behind the ports.
 //!
-//! `dues` tells when they are due, `events` what happens then; `values` is what each register reads and keeps, `writes` what a write of it does.
+//! `dues` tells when they are due, `events` what happens then; `values` is what each register reads and keeps, `often` those that are read
+//! most, `writes` what a write does.
 
 ghost use Rattle.std.specs.Prelude.{◌≡◌, ◌<◌, ◌^◌, true, IfOk, Some};
 ghost use Rattle.ds_base.specs.Schedules.{IsEarly};
@@ -13,6 +14,7 @@ ghost use Rattle.ds_ports.specs.Io.{both_raised, geometry_swapped, io_at_boot, i
 
 mod dues;
 mod events;
+mod often;
 mod values;
 mod writes;
 

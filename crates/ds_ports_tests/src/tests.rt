@@ -11,6 +11,7 @@ mod keys;
 mod lines;
 mod map;
 mod maths;
+mod often;
 mod quiet;
 mod room;
 mod timers;

@@ -4,6 +4,7 @@ ghost use Rattle.std.specs.Prelude.{◌≡◌, ◌<◌, ◌≤◌, ◌^◌, ◌+
 ghost use Rattle.video2d.specs.Kept.{kept_byte};
 ghost use Rattle.video2d.specs.Pictures.{screen_of, line_place};
 ghost use Rattle.video2d.specs.Scans.{scan_due, scan_due_tick, is_drawn_line, framed_by};
+ghost use Rattle.video2d.specs.Statuses.{status_word};
 ghost use Rattle.video2d.specs.Videos.{video_at_boot, status_of, video_shown, video_byte, video_byte_written, video_written, video_stop, drawn_with, video_blanked, video_line_started, video_raised, video_after_event, video_answer};
 
 use crate::engines::Engine;
@@ -126,6 +127,22 @@ impl Video {
             Proc::Nine => self.nine,
             Proc::Seven => self.seven,
         }
+    }
+
+    /// A processor's DISPSTAT as it is read, both bytes.
+    #[inline(always)]
+    pub fn status_read(&self, proc: Proc) -> u16
+        ensures { result ≡ status_word self.now.scan (status_of self.now proc) }
+    {
+        self.status(proc).word(&self.scan)
+    }
+
+    /// VCOUNT as it is read, both bytes.
+    #[inline(always)]
+    pub fn line_read(&self) -> u16
+        ensures { result ≡ self.now.scan.line }
+    {
+        self.scan.line()
     }
 
     /// The byte that a processor reads at an offset from 4000000h; 0 where the display has no port. A read changes nothing.

@@ -1,0 +1,100 @@
+use Rattle.std.proofs.Common.{ℕ, ◌≡◌, ◌<◌, ◌+◌, ◌*◌, ◌/◌, ◌%◌, ◌^◌, Bool, true, false, refl, arith}
+use Rattle.ds_base.specs.Bits.{flag}
+use Rattle.ds_base.specs.declared.memories.Width.TheVariants.{Half, Word}
+use Rattle.ds_base.specs.declared.processors.Proc.{Proc}
+use Rattle.ds_base.specs.declared.processors.Proc.TheVariants.{Nine, Seven}
+use Rattle.ds_base.specs.declared.ticks.Tick.{Tick}
+use Rattle.ds_ipc.specs.Ipcs.{ipc_control_word, ipc_sync_word}
+use Rattle.ds_ports.specs.Ports.{part, port_read, port_value}
+use Rattle.ds_ports.specs.ProcessorIo.{keyinput_word}
+use Rattle.ds_ports.specs.RegisterMap.{slot_of}
+use Rattle.ds_ports.specs.Io.{IoState, io_of}
+use Rattle.video2d.specs.Statuses.{status_word}
+use Rattle.video2d.specs.Videos.{status_of}
+
+-- The registers that are read most, each from its first byte on: what an access of them reads, and that it leaves all as it was.
+
+-- a half of which both bytes are read
+joined : (half : ℕ) → half < 2 ^ 16 → part Half 0 (half % 256 + 256 * (half / 256)) ≡ half
+joined half l = omega (arith, l)
+
+-- a number that is all of the part that is read
+all_of_half : (number : ℕ) → number < 2 ^ 16 → part Half 0 number ≡ number
+all_of_half number l = omega (arith, l)
+
+all_of_word : (number : ℕ) → number < 2 ^ 32 → part Word 0 number ≡ number
+all_of_word number l = omega (arith, l)
+
+pub status_half : (proc : Proc) (now : Tick) (u : IoState) → status_word u.video.scan (status_of u.video proc) < 2 ^ 16
+    → port_value proc now u 0x004 Half ≡ status_word u.video.scan (status_of u.video proc)
+unfolding port_value slot_of
+status_half Nine now u l = joined (status_word u.video.scan u.video.nine) l
+status_half Seven now u l = joined (status_word u.video.scan u.video.seven) l
+
+pub line_half : (proc : Proc) (now : Tick) (u : IoState) → u.video.scan.line < 2 ^ 16 → port_value proc now u 0x006 Half ≡ u.video.scan.line
+unfolding port_value slot_of
+line_half Nine now u l = joined u.video.scan.line l
+line_half Seven now u l = joined u.video.scan.line l
+
+few_keys : (pressed : ℕ) → keyinput_word pressed < 2 ^ 16
+few_keys pressed = omega arith
+
+pub keys_half : (proc : Proc) (now : Tick) (u : IoState) → port_value proc now u 0x130 Half ≡ keyinput_word u.pressed
+unfolding port_value slot_of
+keys_half Nine now u = all_of_half (keyinput_word u.pressed) (few_keys u.pressed)
+keys_half Seven now u = all_of_half (keyinput_word u.pressed) (few_keys u.pressed)
+
+pub sync_half : (proc : Proc) (now : Tick) (u : IoState) → ipc_sync_word u.ipc proc < 2 ^ 16 → port_value proc now u 0x180 Half ≡ ipc_sync_word u.ipc proc
+unfolding port_value slot_of
+sync_half Nine now u l = all_of_half (ipc_sync_word u.ipc Nine) l
+sync_half Seven now u l = all_of_half (ipc_sync_word u.ipc Seven) l
+
+pub fifo_half : (proc : Proc) (now : Tick) (u : IoState) → ipc_control_word u.ipc proc < 2 ^ 16 → port_value proc now u 0x184 Half ≡ ipc_control_word u.ipc proc
+unfolding port_value slot_of
+fifo_half Nine now u l = all_of_half (ipc_control_word u.ipc Nine) l
+fifo_half Seven now u l = all_of_half (ipc_control_word u.ipc Seven) l
+
+-- IME is one bit
+a_bit : (b : Bool) → flag 0 b < 2 ^ 16
+a_bit true = omega arith
+a_bit false = omega arith
+
+a_bit_of_word : (b : Bool) → part Word 0 (flag 0 b) ≡ flag 0 b
+a_bit_of_word true = refl
+a_bit_of_word false = refl
+
+pub ime_half : (proc : Proc) (now : Tick) (u : IoState) → port_value proc now u 0x208 Half ≡ flag 0 (io_of u proc).irq.ime
+unfolding port_value slot_of
+ime_half Nine now u = all_of_half (flag 0 u.nine.irq.ime) (a_bit u.nine.irq.ime)
+ime_half Seven now u = all_of_half (flag 0 u.seven.irq.ime) (a_bit u.seven.irq.ime)
+
+pub ime_word : (proc : Proc) (now : Tick) (u : IoState) → port_value proc now u 0x208 Word ≡ flag 0 (io_of u proc).irq.ime
+unfolding port_value slot_of
+ime_word Nine now u = a_bit_of_word u.nine.irq.ime
+ime_word Seven now u = a_bit_of_word u.seven.irq.ime
+
+pub ie_word : (proc : Proc) (now : Tick) (u : IoState) → (io_of u proc).irq.ie < 2 ^ 32 → port_value proc now u 0x210 Word ≡ (io_of u proc).irq.ie
+unfolding port_value slot_of
+ie_word Nine now u l = all_of_word u.nine.irq.ie l
+ie_word Seven now u l = all_of_word u.seven.irq.ie l
+
+pub if_word : (proc : Proc) (now : Tick) (u : IoState) → (io_of u proc).irq.if_ < 2 ^ 32 → port_value proc now u 0x214 Word ≡ (io_of u proc).irq.if_
+unfolding port_value slot_of
+if_word Nine now u l = all_of_word u.nine.irq.if_ l
+if_word Seven now u l = all_of_word u.seven.irq.if_ l
+
+-- a read of their words leaves all
+pub ime_left : (proc : Proc) (u : IoState) → port_read proc u 0x208 Word ≡ u
+unfolding port_read slot_of
+ime_left Nine u = refl
+ime_left Seven u = refl
+
+pub ie_left : (proc : Proc) (u : IoState) → port_read proc u 0x210 Word ≡ u
+unfolding port_read slot_of
+ie_left Nine u = refl
+ie_left Seven u = refl
+
+pub if_left : (proc : Proc) (u : IoState) → port_read proc u 0x214 Word ≡ u
+unfolding port_read slot_of
+if_left Nine u = refl
+if_left Seven u = refl

@@ -30,7 +30,7 @@ pub use laws::undefined_laws;
 pub use links::{link_exchange, link_suffix, link_target};
 pub use multiples::{load_multiple, multiple, store_multiple};
 pub use multiplies::{long_multiply, multiply};
-pub use processing::{compare, compute_compare, compute_data, compute_move, data, move_};
+pub use processing::{compare, data, move_};
 pub use saturating::saturate;
 pub use statuses::{mrs, msr};
 pub use steps::{Fetched, decoded_half, decoded_word, enters, execute, execute_word, fetch, step};

@@ -67,7 +67,7 @@ fn move_of(s: &Registers, op: MoveOp, second: Shifted32) -> Computed
 
 /// Computes from two operands: the result goes to `rd`, and r15 goes on first.
 #[inline(always)]
-pub fn compute_data(
+fn compute_data(
     s: &mut Registers,
     op: DataOp,
     set_flags: bool,
@@ -92,7 +92,7 @@ pub fn compute_data(
 
 /// Computes from two operands and sets the flags alone; r15 goes on.
 #[inline(always)]
-pub fn compute_compare(s: &mut Registers, op: CompareOp, first: u32, second: Shifted32)
+fn compute_compare(s: &mut Registers, op: CompareOp, first: u32, second: Shifted32)
     ensures { s.new ≡ with_flags (processing.compare_result op first second (v_flag s.old.cpsr)) (next s.old) }
 {
     let r = compare_result(op, first, second, (s.cpsr() >> 28) & 1 == 1);
@@ -102,7 +102,7 @@ pub fn compute_compare(s: &mut Registers, op: CompareOp, first: u32, second: Shi
 
 /// Computes from one operand: the result goes to `rd`, and r15 goes on first.
 #[inline(always)]
-pub fn compute_move(s: &mut Registers, op: MoveOp, set_flags: bool, rd: u8, second: Shifted32)
+fn compute_move(s: &mut Registers, op: MoveOp, set_flags: bool, rd: u8, second: Shifted32)
     requires { rd < 16 }
     ensures { s.new ≡ finished set_flags rd (processing.move_result op second (v_flag s.old.cpsr)) (next s.old) }
 {

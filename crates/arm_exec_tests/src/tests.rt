@@ -10,6 +10,7 @@ mod footprints;
 mod lines;
 mod lists;
 mod multiplies;
+mod near;
 mod operations;
 mod statuses;
 mod thumb;

@@ -1,8 +1,15 @@
-use Rattle.std.proofs.Common.{ℕ, ◌≡◌, ◌<◌, arith, [], Bool, true, false, true≢false, if◌then◌else◌, Some, None, refl, sym, ap}
+use Rattle.std.proofs.Common.{ℕ, ◌≡◌, ◌<◌, ◌==◌, ◌||◌, ◌&&◌, arith, [], Bool, true, false, true≢false, if◌then◌else◌, Some, None, refl, sym, ◌∙◌, ap}
+use Rattle.std.specs.Prelude.{not}
 use Rattle.std.proofs.lemmas.Option.{none-some}
 use Rattle.ds_base.specs.declared.processors.Arch.{Arch}
 use Rattle.arm_words.specs.declared.instructions.Instr.{Instr}
 use Rattle.arm_words.specs.declared.instructions.Instr.TheVariants as instrs
+use Rattle.arm_words.specs.declared.operations.CompareOp.{CompareOp}
+use Rattle.arm_words.specs.declared.operations.CompareOp.TheVariants.{Tst, Teq, Cmp, Cmn}
+use Rattle.arm_words.specs.declared.operations.DataOp.{DataOp}
+use Rattle.arm_words.specs.declared.operations.DataOp.TheVariants.{And, Eor, Sub, Rsb, Add, Adc, Sbc, Rsc, Orr, Bic}
+use Rattle.arm_words.specs.declared.operations.MoveOp.{MoveOp}
+use Rattle.arm_words.specs.declared.operations.MoveOp.TheVariants.{Mov, Mvn}
 use Rattle.arm_words.specs.declared.parts.Condition.{Condition}
 use Rattle.arm_words.specs.declared.parts.Offset.{Offset}
 use Rattle.arm_words.specs.declared.parts.Offset.TheVariants as offsets
@@ -11,28 +18,25 @@ use Rattle.arm_words.specs.declared.parts.Operand.TheVariants.{Immediate, Shifte
 use Rattle.arm_words.specs.declared.parts.Shift.{Shift}
 use Rattle.arm_words.specs.declared.parts.Shift.TheVariants.{Lsl, Lsr, Asr, Ror}
 use Rattle.arm_words.specs.declared.parts.ShortOffset.TheVariants.{ShortNumber, ShortRegister}
-use Rattle.arm_core.specs.Addressing.{addressed}
 use Rattle.arm_core.specs.Conditions.{holds}
 use Rattle.arm_core.specs.DataProcessing.{compare_meaning, data_meaning, move_meaning}
 use Rattle.arm_core.specs.Effects.{Meaning, cost_of}
 use Rattle.arm_core.specs.Meanings.{act, act_processing, condition, meaning, skipped}
-use Rattle.arm_core.specs.Registers.{RegisterState}
+use Rattle.arm_core.specs.Registers.{RegisterState, register}
 use Rattle.arm_core.specs.Steps.{swi_stop}
 use Rattle.arm_core.specs.Thumb.{equivalent}
-use Rattle.arm_core.specs.Transfers.{transfer_meaning, word_or_byte_meaning}
+use Rattle.arm_core.specs.Transfers.{transfer_meaning}
 use Rattle.arm_core.specs.declared.shifter.Shifted32.{Shifted32}
 use Rattle.arm_exec.proofs.Costs.{some_cost}
-use Rattle.arm_ops.specs.Meanings.{access_made, access_meaning, access_of, accesses_by, compare_by, data_by, meaning_by, move_by, op_meaning, operation_meaning, register_operand, shifted_operand}
-use Rattle.arm_ops.specs.Operations.{compare_op, data_op, is_other, is_plain, move_op, op_of, operation_of, shifted_register, transfer_op}
-use Rattle.arm_ops.specs.declared.operations.Comparison.{Comparison}
-use Rattle.arm_ops.specs.declared.operations.Data.{Data}
+use Rattle.arm_ops.specs.Meanings.{access_by, access_made, access_meaning, access_of, accesses_by, compare_by, data_by, meaning_by, op_meaning, operation_meaning, register_operand, shifted_operand}
+use Rattle.arm_ops.specs.Operations.{compare_number, compare_op, compare_register, data_by_shift, data_number, data_op, data_register, data_shifted, is_other, is_plain, mla_op, move_number, move_op, move_shifted, mul_op, number_transfer, op_of, operation_of, register_transfer, rotated_number, shifted_register, transfer_op}
 use Rattle.arm_ops.specs.declared.operations.DataAccess.{DataAccess}
-use Rattle.arm_ops.specs.declared.operations.MoveTo.{MoveTo}
 use Rattle.arm_ops.specs.declared.operations.Op.{Op}
-use Rattle.arm_ops.specs.declared.operations.Op.TheVariants.{CompareRegister, CompareShifted, DataRegister, DataShifted, MoveRegister, MoveShifted, TransferRegister, TransferShifted, Plain}
+use Rattle.arm_ops.specs.declared.operations.Op.TheVariants.{Plain}
 use Rattle.arm_ops.specs.declared.operations.Operation.{Operation}
 use Rattle.arm_ops.specs.declared.operations.Transfer.{Transfer}
-use Rattle.arm_ops.specs.declared.operations.TransferOp.TheVariants.{WordOrByte}
+use Rattle.arm_ops.specs.declared.operations.TransferOp.{TransferOp}
+use Rattle.arm_ops.specs.declared.operations.TransferOp.TheVariants.{WordOrByte, HalfOrSigned}
 
 -- An instruction that is decoded means what it meant.
 
@@ -43,67 +47,193 @@ plain_operand s rm Lsr amount h = absurd (true≢false (sym h))
 plain_operand s rm Asr amount h = absurd (true≢false (sym h))
 plain_operand s rm Ror amount h = absurd (true≢false (sym h))
 
+-- one of two means what is wanted where each does, the first by the answer that chooses it
+one_means : (arch : Arch) (s : RegisterState) (m : Meaning) (b : Bool) (x y : Op) → (b ≡ true → op_meaning arch s x ≡ m) → op_meaning arch s y ≡ m → op_meaning arch s (if b then x else y) ≡ m
+one_means arch s m true x y h k = h refl
+one_means arch s m false x y h k = k
+
 -- data processing, by its second operand
-data_means : (arch : Arch) (s : RegisterState) (cond : Condition) (it : Data) (operand : Operand)
-    → op_meaning arch s (data_op (instrs.Data cond it.op it.set_flags it.rn it.rd operand) it operand) ≡ data_meaning s it.op it.set_flags it.rn it.rd operand
-data_means arch s cond it (Immediate rotate immed) = refl
-data_means arch s cond it (ShiftedByRegister rm shift rs) = refl
-data_means arch s cond it (Shifted rm shift amount) = by_plain (is_plain shift amount) refl where
-  by_plain : (b : Bool) → is_plain shift amount ≡ b
-      → op_meaning arch s (if b then DataRegister it rm else DataShifted it (shifted_register rm shift amount))
-      ≡ data_meaning s it.op it.set_flags it.rn it.rd (Shifted rm shift amount)
-  by_plain true h = ap (data_by s it) (sym (plain_operand s rm shift amount h))
-  by_plain false h = refl
+number_means : (arch : Arch) (s : RegisterState) (cond : Condition) (op : DataOp) (set_flags : Bool) (rd rn rotate immed : ℕ)
+    → op_meaning arch s (data_number (instrs.Data cond op set_flags rn rd (Immediate rotate immed)) op set_flags rd rn (rotated_number rotate immed).value)
+    ≡ data_meaning s op set_flags rn rd (Immediate rotate immed)
+number_means arch s cond And false rd rn rotate immed = refl
+number_means arch s cond And true rd rn rotate immed = refl
+number_means arch s cond Eor false rd rn rotate immed = refl
+number_means arch s cond Eor true rd rn rotate immed = refl
+number_means arch s cond Sub false rd rn rotate immed = refl
+number_means arch s cond Sub true rd rn rotate immed = refl
+number_means arch s cond Rsb false rd rn rotate immed = refl
+number_means arch s cond Rsb true rd rn rotate immed = refl
+number_means arch s cond Add false rd rn rotate immed = refl
+number_means arch s cond Add true rd rn rotate immed = refl
+number_means arch s cond Adc false rd rn rotate immed = refl
+number_means arch s cond Adc true rd rn rotate immed = refl
+number_means arch s cond Sbc false rd rn rotate immed = refl
+number_means arch s cond Sbc true rd rn rotate immed = refl
+number_means arch s cond Rsc false rd rn rotate immed = refl
+number_means arch s cond Rsc true rd rn rotate immed = refl
+number_means arch s cond Orr false rd rn rotate immed = refl
+number_means arch s cond Orr true rd rn rotate immed = refl
+number_means arch s cond Bic false rd rn rotate immed = refl
+number_means arch s cond Bic true rd rn rotate immed = refl
 
-compare_means : (arch : Arch) (s : RegisterState) (cond : Condition) (it : Comparison) (operand : Operand)
-    → op_meaning arch s (compare_op (instrs.Compare cond it.op it.rn operand) it operand) ≡ compare_meaning s it.op it.rn operand
-compare_means arch s cond it (Immediate rotate immed) = refl
-compare_means arch s cond it (ShiftedByRegister rm shift rs) = refl
-compare_means arch s cond it (Shifted rm shift amount) = by_plain (is_plain shift amount) refl where
-  by_plain : (b : Bool) → is_plain shift amount ≡ b
-      → op_meaning arch s (if b then CompareRegister it rm else CompareShifted it (shifted_register rm shift amount)) ≡ compare_meaning s it.op it.rn (Shifted rm shift amount)
-  by_plain true h = ap (compare_by s it) (sym (plain_operand s rm shift amount h))
-  by_plain false h = refl
+register_means : (arch : Arch) (s : RegisterState) (cond : Condition) (op : DataOp) (set_flags : Bool) (rd rn rm : ℕ) (shift : Shift) (amount : ℕ) → is_plain shift amount ≡ true
+    → op_meaning arch s (data_register (instrs.Data cond op set_flags rn rd (Shifted rm shift amount)) op set_flags rd rn rm) ≡ data_meaning s op set_flags rn rd (Shifted rm shift amount)
+register_means arch s cond And false rd rn rm shift amount h = ap (data_by s And false rd rn) (sym (plain_operand s rm shift amount h))
+register_means arch s cond And true rd rn rm shift amount h = ap (data_by s And true rd rn) (sym (plain_operand s rm shift amount h))
+register_means arch s cond Eor false rd rn rm shift amount h = ap (data_by s Eor false rd rn) (sym (plain_operand s rm shift amount h))
+register_means arch s cond Eor true rd rn rm shift amount h = ap (data_by s Eor true rd rn) (sym (plain_operand s rm shift amount h))
+register_means arch s cond Sub false rd rn rm shift amount h = ap (data_by s Sub false rd rn) (sym (plain_operand s rm shift amount h))
+register_means arch s cond Sub true rd rn rm shift amount h = ap (data_by s Sub true rd rn) (sym (plain_operand s rm shift amount h))
+register_means arch s cond Rsb false rd rn rm shift amount h = ap (data_by s Rsb false rd rn) (sym (plain_operand s rm shift amount h))
+register_means arch s cond Rsb true rd rn rm shift amount h = refl
+register_means arch s cond Add false rd rn rm shift amount h = ap (data_by s Add false rd rn) (sym (plain_operand s rm shift amount h))
+register_means arch s cond Add true rd rn rm shift amount h = ap (data_by s Add true rd rn) (sym (plain_operand s rm shift amount h))
+register_means arch s cond Adc false rd rn rm shift amount h = refl
+register_means arch s cond Adc true rd rn rm shift amount h = refl
+register_means arch s cond Sbc false rd rn rm shift amount h = refl
+register_means arch s cond Sbc true rd rn rm shift amount h = refl
+register_means arch s cond Rsc false rd rn rm shift amount h = refl
+register_means arch s cond Rsc true rd rn rm shift amount h = refl
+register_means arch s cond Orr false rd rn rm shift amount h = ap (data_by s Orr false rd rn) (sym (plain_operand s rm shift amount h))
+register_means arch s cond Orr true rd rn rm shift amount h = ap (data_by s Orr true rd rn) (sym (plain_operand s rm shift amount h))
+register_means arch s cond Bic false rd rn rm shift amount h = ap (data_by s Bic false rd rn) (sym (plain_operand s rm shift amount h))
+register_means arch s cond Bic true rd rn rm shift amount h = ap (data_by s Bic true rd rn) (sym (plain_operand s rm shift amount h))
 
-move_means : (arch : Arch) (s : RegisterState) (cond : Condition) (it : MoveTo) (operand : Operand)
-    → op_meaning arch s (move_op (instrs.Move cond it.op it.set_flags it.rd operand) it operand) ≡ move_meaning s it.op it.set_flags it.rd operand
-move_means arch s cond it (Immediate rotate immed) = refl
-move_means arch s cond it (ShiftedByRegister rm shift rs) = refl
-move_means arch s cond it (Shifted rm shift amount) = by_plain (is_plain shift amount) refl where
-  by_plain : (b : Bool) → is_plain shift amount ≡ b
-      → op_meaning arch s (if b then MoveRegister it rm else MoveShifted it (shifted_register rm shift amount))
-      ≡ move_meaning s it.op it.set_flags it.rd (Shifted rm shift amount)
-  by_plain true h = ap (move_by s it) (sym (plain_operand s rm shift amount h))
-  by_plain false h = refl
+shifted_means : (arch : Arch) (s : RegisterState) (cond : Condition) (op : DataOp) (set_flags : Bool) (rd rn rm : ℕ) (shift : Shift) (amount : ℕ)
+    → op_meaning arch s (data_shifted (instrs.Data cond op set_flags rn rd (Shifted rm shift amount)) op set_flags rd rn (shifted_register rm shift amount))
+    ≡ data_meaning s op set_flags rn rd (Shifted rm shift amount)
+shifted_means arch s cond op false rd rn rm shift amount = refl
+shifted_means arch s cond op true rd rn rm shift amount = refl
 
--- a load or store of a word or byte, by its offset
+by_shift_means : (arch : Arch) (s : RegisterState) (cond : Condition) (op : DataOp) (set_flags : Bool) (rd rn rm : ℕ) (shift : Shift) (rs : ℕ)
+    → op_meaning arch s (data_by_shift (instrs.Data cond op set_flags rn rd (ShiftedByRegister rm shift rs)) op set_flags rd rn rm shift rs)
+    ≡ data_meaning s op set_flags rn rd (ShiftedByRegister rm shift rs)
+by_shift_means arch s cond op false rd rn rm shift rs = refl
+by_shift_means arch s cond op true rd rn rm shift rs = refl
+
+data_means : (arch : Arch) (s : RegisterState) (cond : Condition) (op : DataOp) (set_flags : Bool) (rd rn : ℕ) (operand : Operand)
+    → op_meaning arch s (data_op (instrs.Data cond op set_flags rn rd operand) op set_flags rd rn operand) ≡ data_meaning s op set_flags rn rd operand
+data_means arch s cond op set_flags rd rn (Immediate rotate immed) =
+    one_means arch s _ (rd == 15 || rn == 15) _ _ (λ e. refl) (number_means arch s cond op set_flags rd rn rotate immed)
+data_means arch s cond op set_flags rd rn (ShiftedByRegister rm shift rs) =
+    one_means arch s _ (((rd == 15 || rn == 15) || rm == 15) || rs == 15) _ _ (λ e. refl) (by_shift_means arch s cond op set_flags rd rn rm shift rs)
+data_means arch s cond op set_flags rd rn (Shifted rm shift amount) =
+    one_means arch s _ ((rd == 15 || rn == 15) || rm == 15) _ _ (λ e. refl)
+    (one_means arch s _ (is_plain shift amount) _ _ (register_means arch s cond op set_flags rd rn rm shift amount) (shifted_means arch s cond op set_flags rd rn rm shift amount))
+
+-- comparisons
+compared_number : (arch : Arch) (s : RegisterState) (cond : Condition) (op : CompareOp) (rn rotate immed : ℕ)
+    → op_meaning arch s (compare_number (instrs.Compare cond op rn (Immediate rotate immed)) op rn (rotated_number rotate immed)) ≡ compare_meaning s op rn (Immediate rotate immed)
+compared_number arch s cond Tst rn rotate immed = refl
+compared_number arch s cond Cmp rn rotate immed = refl
+compared_number arch s cond Cmn rn rotate immed = refl
+compared_number arch s cond Teq rn rotate immed = refl
+
+compared_register : (arch : Arch) (s : RegisterState) (cond : Condition) (op : CompareOp) (rn rm : ℕ) (shift : Shift) (amount : ℕ) → is_plain shift amount ≡ true
+    → op_meaning arch s (compare_register (instrs.Compare cond op rn (Shifted rm shift amount)) op rn rm) ≡ compare_meaning s op rn (Shifted rm shift amount)
+compared_register arch s cond Tst rn rm shift amount h = ap (compare_by s Tst rn) (sym (plain_operand s rm shift amount h))
+compared_register arch s cond Cmp rn rm shift amount h = ap (compare_by s Cmp rn) (sym (plain_operand s rm shift amount h))
+compared_register arch s cond Cmn rn rm shift amount h = refl
+compared_register arch s cond Teq rn rm shift amount h = refl
+
+compare_means : (arch : Arch) (s : RegisterState) (cond : Condition) (op : CompareOp) (rn : ℕ) (operand : Operand)
+    → op_meaning arch s (compare_op (instrs.Compare cond op rn operand) op rn operand) ≡ compare_meaning s op rn operand
+compare_means arch s cond op rn (Immediate rotate immed) = one_means arch s _ (rn == 15) _ _ (λ e. refl) (compared_number arch s cond op rn rotate immed)
+compare_means arch s cond op rn (ShiftedByRegister rm shift rs) = refl
+compare_means arch s cond op rn (Shifted rm shift amount) =
+    one_means arch s _ (rn == 15 || rm == 15) _ _ (λ e. refl) (one_means arch s _ (is_plain shift amount) _ _ (compared_register arch s cond op rn rm shift amount) refl)
+
+-- moves
+moved_means : (arch : Arch) (s : RegisterState) (cond : Condition) (op : MoveOp) (set_flags : Bool) (rd rotate immed : ℕ)
+    → op_meaning arch s (move_number (instrs.Move cond op set_flags rd (Immediate rotate immed)) op set_flags rd (rotated_number rotate immed))
+    ≡ move_meaning s op set_flags rd (Immediate rotate immed)
+moved_means arch s cond Mov false rd rotate immed = refl
+moved_means arch s cond Mvn false rd rotate immed = refl
+moved_means arch s cond Mov true rd rotate immed = refl
+moved_means arch s cond Mvn true rd rotate immed = refl
+
+move_shifted_means : (arch : Arch) (s : RegisterState) (cond : Condition) (op : MoveOp) (set_flags : Bool) (rd rm : ℕ) (shift : Shift) (amount : ℕ)
+    → op_meaning arch s (move_shifted (instrs.Move cond op set_flags rd (Shifted rm shift amount)) op set_flags rd rm shift amount) ≡ move_meaning s op set_flags rd (Shifted rm shift amount)
+move_shifted_means arch s cond Mov false rd rm Lsl amount = refl
+move_shifted_means arch s cond Mov false rd rm Lsr amount = refl
+move_shifted_means arch s cond Mov false rd rm Asr amount = refl
+move_shifted_means arch s cond Mov false rd rm Ror amount = refl
+move_shifted_means arch s cond Mov true rd rm Lsl amount = refl
+move_shifted_means arch s cond Mov true rd rm Lsr amount = refl
+move_shifted_means arch s cond Mov true rd rm Asr amount = refl
+move_shifted_means arch s cond Mov true rd rm Ror amount = refl
+move_shifted_means arch s cond Mvn false rd rm Lsl amount = refl
+move_shifted_means arch s cond Mvn false rd rm Lsr amount = refl
+move_shifted_means arch s cond Mvn false rd rm Asr amount = refl
+move_shifted_means arch s cond Mvn false rd rm Ror amount = refl
+move_shifted_means arch s cond Mvn true rd rm Lsl amount = refl
+move_shifted_means arch s cond Mvn true rd rm Lsr amount = refl
+move_shifted_means arch s cond Mvn true rd rm Asr amount = refl
+move_shifted_means arch s cond Mvn true rd rm Ror amount = refl
+
+move_means : (arch : Arch) (s : RegisterState) (cond : Condition) (op : MoveOp) (set_flags : Bool) (rd : ℕ) (operand : Operand)
+    → op_meaning arch s (move_op (instrs.Move cond op set_flags rd operand) op set_flags rd operand) ≡ move_meaning s op set_flags rd operand
+move_means arch s cond op set_flags rd (Immediate rotate immed) = one_means arch s _ (rd == 15) _ _ (λ e. refl) (moved_means arch s cond op set_flags rd rotate immed)
+move_means arch s cond op set_flags rd (ShiftedByRegister rm shift rs) = refl
+move_means arch s cond op set_flags rd (Shifted rm shift amount) = one_means arch s _ (rd == 15 || rm == 15) _ _ (λ e. refl) (move_shifted_means arch s cond op set_flags rd rm shift amount)
+
+-- products
+mul_means : (arch : Arch) (base : ℕ) (s : RegisterState) (cond : Condition) (set_flags : Bool) (rd rm rs : ℕ)
+    → op_meaning arch s (mul_op (instrs.Mul cond set_flags rd rm rs) set_flags rd rm rs) ≡ act arch base s (instrs.Mul cond set_flags rd rm rs)
+mul_means arch base s cond false rd rm rs = refl
+mul_means arch base s cond true rd rm rs = refl
+
+mla_means : (arch : Arch) (base : ℕ) (s : RegisterState) (cond : Condition) (set_flags : Bool) (rd rm rs rn : ℕ)
+    → op_meaning arch s (mla_op (instrs.Mla cond set_flags rd rm rs rn) set_flags rd rm rs rn) ≡ act arch base s (instrs.Mla cond set_flags rd rm rs rn)
+mla_means arch base s cond false rd rm rs rn = refl
+mla_means arch base s cond true rd rm rs rn = refl
+
+-- loads and stores, by their offset
+abbrev transfer_by : TransferOp → Bool → Bool → Bool → ℕ → ℕ → Transfer
+transfer_by op pre up write_back rn rd = record { op = op; pre = pre; up = up; write_back = write_back; rn = rn; rd = rd }
+
+number_transfer_means : (arch : Arch) (s : RegisterState) (op : TransferOp) (pre up write_back : Bool) (rn rd offset : ℕ)
+    → op_meaning arch s (number_transfer (transfer_by op pre up write_back rn rd) offset) ≡ access_meaning arch s (access_by s (transfer_by op pre up write_back rn rd) offset)
+number_transfer_means arch s op true true false rn rd offset = one_means arch s _ (not (rn == 15) && not (rd == 15)) _ _ (λ e. refl) refl
+number_transfer_means arch s op true true true rn rd offset = refl
+number_transfer_means arch s op true false write_back rn rd offset = refl
+number_transfer_means arch s op false up write_back rn rd offset = refl
+
+register_transfer_means : (arch : Arch) (s : RegisterState) (op : TransferOp) (pre up write_back : Bool) (rn rd rm : ℕ)
+    → op_meaning arch s (register_transfer (transfer_by op pre up write_back rn rd) rm) ≡ access_meaning arch s (access_by s (transfer_by op pre up write_back rn rd) (register s rm))
+register_transfer_means arch s op true true false rn rd rm = one_means arch s _ ((not (rn == 15) && not (rd == 15)) && not (rm == 15)) _ _ (λ e. refl) refl
+register_transfer_means arch s op true true true rn rd rm = refl
+register_transfer_means arch s op true false write_back rn rd rm = refl
+register_transfer_means arch s op false up write_back rn rd rm = refl
+
+-- of a word or byte
+plain_access : (arch : Arch) (s : RegisterState) (it : Transfer) (rm : ℕ) (shift : Shift) (amount : ℕ) → is_plain shift amount ≡ true
+    → access_meaning arch s (access_by s it (register s rm)) ≡ access_meaning arch s (access_by s it (shifted_operand s (shifted_register rm shift amount)).value)
+plain_access arch s it rm shift amount h =
+    ap (λ (by : Shifted32). access_meaning arch s (access_by s it by.value)) (sym (plain_operand s rm shift amount h))
+
 transfer_means : (arch : Arch) (s : RegisterState) (load byte pre up write_back : Bool) (rn rd : ℕ) (offset : Offset)
-    → op_meaning arch s (transfer_op (record { op = WordOrByte load byte; pre = pre; up = up; write_back = write_back; rn = rn; rd = rd }) offset)
-    ≡ transfer_meaning arch s pre up byte write_back load rn rd offset
-transfer_means arch s load byte pre up write_back rn rd (offsets.Number offset) = refl
-transfer_means arch s load byte pre up write_back rn rd (offsets.Register rm shift amount) = by_plain (is_plain shift amount) refl where
-  by_plain : (b : Bool) → is_plain shift amount ≡ b
-      → (let it : Transfer = record { op = WordOrByte load byte; pre = pre; up = up; write_back = write_back; rn = rn; rd = rd } in
-      op_meaning arch s (if b then TransferRegister it rm else TransferShifted it (shifted_register rm shift amount))
-      ≡ transfer_meaning arch s pre up byte write_back load rn rd (offsets.Register rm shift amount))
-  by_plain true h =
-      ap (λ (by : Shifted32). word_or_byte_meaning arch s load byte rn rd (addressed s pre up write_back rn by.value)) (sym (plain_operand s rm shift amount h))
-  by_plain false h = refl
+    → op_meaning arch s (transfer_op (transfer_by (WordOrByte load byte) pre up write_back rn rd) offset) ≡ transfer_meaning arch s pre up byte write_back load rn rd offset
+transfer_means arch s load byte pre up write_back rn rd (offsets.Number offset) = number_transfer_means arch s (WordOrByte load byte) pre up write_back rn rd offset
+transfer_means arch s load byte pre up write_back rn rd (offsets.Register rm shift amount) =
+    one_means arch s _ (is_plain shift amount) _ _
+    (λ e. register_transfer_means arch s (WordOrByte load byte) pre up write_back rn rd rm ∙ plain_access arch s (transfer_by (WordOrByte load byte) pre up write_back rn rd) rm shift amount e) refl
 
 -- an operation that is run does what its instruction does
 op_means : (arch : Arch) (base : ℕ) (s : RegisterState) (e : Instr) → is_other (op_of e) ≡ false → op_meaning arch s (op_of e) ≡ act arch base s e
-op_means arch base s (instrs.Data cond op set_flags rn rd operand) h = data_means arch s cond (record { op = op; set_flags = set_flags; rn = rn; rd = rd }) operand
-op_means arch base s (instrs.Compare cond op rn operand) h = compare_means arch s cond (record { op = op; rn = rn }) operand
-op_means arch base s (instrs.Move cond op set_flags rd operand) h = move_means arch s cond (record { op = op; set_flags = set_flags; rd = rd }) operand
+op_means arch base s (instrs.Data cond op set_flags rn rd operand) h = data_means arch s cond op set_flags rd rn operand
+op_means arch base s (instrs.Compare cond op rn operand) h = compare_means arch s cond op rn operand
+op_means arch base s (instrs.Move cond op set_flags rd operand) h = move_means arch s cond op set_flags rd operand
 op_means arch base s (instrs.Branch cond link offset) h = refl
 op_means arch base s (instrs.ThumbBranchIf cond offset) h = refl
 op_means arch base s (instrs.ThumbBranch offset) h = refl
 op_means arch base s (instrs.Transfer cond pre up byte write_back load rn rd offset) h = transfer_means arch s load byte pre up write_back rn rd offset
-op_means arch base s (instrs.HalfTransfer cond op pre up write_back rn rd (ShortNumber offset)) h = refl
-op_means arch base s (instrs.HalfTransfer cond op pre up write_back rn rd (ShortRegister rm)) h = refl
+op_means arch base s (instrs.HalfTransfer cond op pre up write_back rn rd (ShortNumber offset)) h = number_transfer_means arch s (HalfOrSigned op) pre up write_back rn rd offset
+op_means arch base s (instrs.HalfTransfer cond op pre up write_back rn rd (ShortRegister rm)) h = register_transfer_means arch s (HalfOrSigned op) pre up write_back rn rd rm
 op_means arch base s (instrs.ThumbLoadLiteral rd immed) h = refl
-op_means arch base s (instrs.Mul cond set_flags rd rm rs) h = refl
-op_means arch base s (instrs.Mla cond set_flags rd rm rs rn) h = refl
+op_means arch base s (instrs.Mul cond set_flags rd rm rs) h = mul_means arch base s cond set_flags rd rm rs
+op_means arch base s (instrs.Mla cond set_flags rd rm rs rn) h = mla_means arch base s cond set_flags rd rm rs rn
 op_means arch base s (instrs.LongMultiply cond signed accumulate set_flags rd_lo rd_hi rm rs) h = refl
 op_means arch base s (instrs.Bx cond rm) h = refl
 op_means arch base s (instrs.ThumbAddress stack rd immed) h = refl

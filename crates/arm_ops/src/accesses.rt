@@ -1,6 +1,6 @@
 //! The accesses of data that operations make.
 
-ghost use Rattle.std.specs.Prelude.{◌≡◌, IfSome};
+ghost use Rattle.std.specs.Prelude.{◌≡◌, ◌<◌, IfSome};
 ghost use Rattle.arm_core.specs.Effects.{carried_out};
 ghost use Rattle.arm_core.specs.Footprints.{HasBytes, accessed_bytes, touched_bytes};
 ghost use Rattle.arm_core.specs.Registers.{RegisterState};
@@ -12,8 +12,8 @@ use crate::operands::SecondOperand;
 use crate::operations::{DataAccess, Op, Transfer, TransferOp};
 use crate::running::Anywhere;
 use arm_core::{
-    Bus, Registers, Stepped, Touch, access_touch, addressed, addressed_literal, half_touch,
-    width_by,
+    Addressed, Bus, Registers, Stepped, Touch, access_touch, addressed, addressed_literal,
+    half_touch, width_by,
 };
 use arm_exec::{half_transfer_at, transfer_at};
 use ds_base::Arch;
@@ -29,6 +29,25 @@ fn access_by(s: &Registers, it: Transfer, offset: u32) -> DataAccess
         rn: it.rn,
         rd: it.rd,
         to: addressed(s, it.pre, it.up, it.write_back, it.rn, offset),
+    }
+}
+
+/// The access of a load or store at the sum of a register below r15 and an offset.
+#[inline(always)]
+fn access_at(s: &Registers, op: TransferOp, rd: u8, rn: u8, offset: u32) -> DataAccess
+    requires { rn < 15 }
+    ensures { result ≡ ops.access_at s.now op rd rn offset }
+{
+    let address = s.low(rn).wrapping_add(offset);
+    DataAccess {
+        op,
+        rn,
+        rd,
+        to: Addressed {
+            address,
+            base: address,
+            written: false,
+        },
     }
 }
 
@@ -56,6 +75,8 @@ pub(crate) fn access_of(s: &Registers, op: &Op) -> Option<DataAccess>
     ensures fields { IfSome result HasAccess }
 {
     match *op {
+        Op::AccessNumber { op, rd, rn, offset } => Some(access_at(s, op, rd, rn, offset as u32)),
+        Op::AccessRegister { op, rd, rn, rm } => Some(access_at(s, op, rd, rn, s.low(rm))),
         Op::TransferNumber(it, offset) => Some(access_by(s, it, offset as u32)),
         Op::TransferRegister(it, rm) => Some(access_by(s, it, s.get(rm))),
         Op::TransferShifted(it, rm) => Some(access_by(s, it, rm.operand(s).value)),

@@ -52,20 +52,47 @@ impl SecondOperand for Number {
     }
 }
 
+/// A register below r15 as it is.
+#[derive(Clone, Copy)]
+pub(crate) struct LowRegister {
+    pub(crate) rm: u8,
+}
+
 /// A register as it is (ARM manual, A5.1.4 "Register").
-impl SecondOperand for u8 {
+impl SecondOperand for LowRegister {
     ghost use Rattle.arm_ops.specs.Meanings.{register_operand};
 
-    ghost fits = { λ rm. rm < 16 };
+    ghost fits = { λ it. it.rm < 15 };
 
-    ghost found = { λ rm s. register_operand s rm };
+    ghost found = { λ it s. register_operand s it.rm };
 
     #[inline(always)]
     fn operand(self, s: &Registers) -> Shifted32 {
         Shifted32 {
-            value: s.get(self),
+            value: s.low(self.rm),
             carry: carry(s),
         }
+    }
+}
+
+/// A register below r15 that an amount shifts.
+#[derive(Clone, Copy)]
+pub(crate) struct LowShifted {
+    pub(crate) by: ShiftedRegister,
+}
+
+/// A register that an amount shifts, by the same sections of the manual.
+impl SecondOperand for LowShifted {
+    ghost use Rattle.arm_ops.specs.Meanings.{shifted_operand};
+
+    ghost fits = { λ it. (it.by.rm < 15) × (it.by.amount < 32) };
+
+    ghost found = { λ it s. shifted_operand s it.by };
+
+    #[inline(always)]
+    fn operand(self, s: &Registers) -> Shifted32 {
+        let by = self.by;
+        shift_by_number(by.shift, s.low(by.rm), by.amount as u32, carry(s))
     }
 }
 

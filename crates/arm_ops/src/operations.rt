@@ -1,40 +1,7 @@
 //! The operations.
 
 use arm_core::Addressed;
-use arm_words::{CompareOp, Condition, DataOp, HalfOp, Instr, MoveOp, Shift};
-
-/// What data processing with two operands and a result does, beside its second operand.
-#[derive(Clone, Copy)]
-pub struct Data {
-    /// What is computed.
-    pub op: DataOp,
-    /// Whether the flags are set.
-    pub set_flags: bool,
-    /// The first operand.
-    pub rn: u8,
-    /// The register of the result.
-    pub rd: u8,
-}
-
-/// What a comparison does, beside its second operand.
-#[derive(Clone, Copy)]
-pub struct Comparison {
-    /// What is computed.
-    pub op: CompareOp,
-    /// The first operand.
-    pub rn: u8,
-}
-
-/// What a move does, beside its operand.
-#[derive(Clone, Copy)]
-pub struct MoveTo {
-    /// What is moved of the operand.
-    pub op: MoveOp,
-    /// Whether the flags are set.
-    pub set_flags: bool,
-    /// The register of the result.
-    pub rd: u8,
-}
+use arm_words::{Condition, DataOp, HalfOp, Instr, Shift};
 
 /// A number as a second operand, which with a rotation gives C as its bit 31.
 #[derive(Clone, Copy)]
@@ -96,39 +63,280 @@ pub struct DataAccess {
 }
 
 /// What an instruction does where its condition holds, with its operands made. (Our choice of forms; the operations are those of the ARM manual's A4.1 under their
-/// names.) A second operand, or an offset, is a number; a register as it is; or a register that an amount shifts.
+/// names.) What is frequent and has registers below r15 alone has a variant for each operation and form of its second operand, so that one jump finds what to do; what is rarer is an
+/// instruction as it is. A name with `s` behind the operation sets the flags.
 #[derive(Clone, Copy)]
 pub enum Op {
     /// Another instruction, or none.
     Other,
-    /// Data processing with a number.
-    DataNumber(Data, Number),
-    /// Data processing with a register as it is.
-    DataRegister(Data, u8),
-    /// Data processing with a register that an amount shifts.
-    DataShifted(Data, ShiftedRegister),
-    /// A comparison with a number.
-    CompareNumber(Comparison, Number),
-    /// A comparison with a register as it is.
-    CompareRegister(Comparison, u8),
-    /// A comparison with a register that an amount shifts.
-    CompareShifted(Comparison, ShiftedRegister),
-    /// A move of a number.
-    MoveNumber(MoveTo, Number),
-    /// A move of a register as it is.
-    MoveRegister(MoveTo, u8),
-    /// A move of a register that an amount shifts.
-    MoveShifted(MoveTo, ShiftedRegister),
+    /// AND with a number.
+    AndNumber {
+        rd: u8,
+        rn: u8,
+        value: u32,
+    },
+    /// EOR with a number.
+    EorNumber {
+        rd: u8,
+        rn: u8,
+        value: u32,
+    },
+    /// SUB with a number.
+    SubNumber {
+        rd: u8,
+        rn: u8,
+        value: u32,
+    },
+    /// RSB with a number.
+    RsbNumber {
+        rd: u8,
+        rn: u8,
+        value: u32,
+    },
+    /// ADD with a number.
+    AddNumber {
+        rd: u8,
+        rn: u8,
+        value: u32,
+    },
+    /// ORR with a number.
+    OrrNumber {
+        rd: u8,
+        rn: u8,
+        value: u32,
+    },
+    /// BIC with a number.
+    BicNumber {
+        rd: u8,
+        rn: u8,
+        value: u32,
+    },
+    /// AND with a register.
+    AndRegister {
+        rd: u8,
+        rn: u8,
+        rm: u8,
+    },
+    /// EOR with a register.
+    EorRegister {
+        rd: u8,
+        rn: u8,
+        rm: u8,
+    },
+    /// SUB with a register.
+    SubRegister {
+        rd: u8,
+        rn: u8,
+        rm: u8,
+    },
+    /// RSB with a register.
+    RsbRegister {
+        rd: u8,
+        rn: u8,
+        rm: u8,
+    },
+    /// ADD with a register.
+    AddRegister {
+        rd: u8,
+        rn: u8,
+        rm: u8,
+    },
+    /// ORR with a register.
+    OrrRegister {
+        rd: u8,
+        rn: u8,
+        rm: u8,
+    },
+    /// BIC with a register.
+    BicRegister {
+        rd: u8,
+        rn: u8,
+        rm: u8,
+    },
+    /// SUBS with a number.
+    SubsNumber {
+        rd: u8,
+        rn: u8,
+        value: u32,
+    },
+    /// ADDS with a number.
+    AddsNumber {
+        rd: u8,
+        rn: u8,
+        value: u32,
+    },
+    /// ANDS with a register.
+    AndsRegister {
+        rd: u8,
+        rn: u8,
+        rm: u8,
+    },
+    /// EORS with a register.
+    EorsRegister {
+        rd: u8,
+        rn: u8,
+        rm: u8,
+    },
+    /// SUBS with a register.
+    SubsRegister {
+        rd: u8,
+        rn: u8,
+        rm: u8,
+    },
+    /// ADDS with a register.
+    AddsRegister {
+        rd: u8,
+        rn: u8,
+        rm: u8,
+    },
+    /// ORRS with a register.
+    OrrsRegister {
+        rd: u8,
+        rn: u8,
+        rm: u8,
+    },
+    /// BICS with a register.
+    BicsRegister {
+        rd: u8,
+        rn: u8,
+        rm: u8,
+    },
+    /// Data processing with a register that an amount shifts, which leaves the flags.
+    DataShifted {
+        op: DataOp,
+        rd: u8,
+        rn: u8,
+        by: ShiftedRegister,
+    },
+    /// Data processing with a register that another shifts, which leaves the flags.
+    DataShiftedBy {
+        op: DataOp,
+        rd: u8,
+        rn: u8,
+        rm: u8,
+        shift: Shift,
+        rs: u8,
+    },
+    /// TST with a number, from which it may take C.
+    TstNumber {
+        rn: u8,
+        number: Number,
+    },
+    /// CMP with a number.
+    CmpNumber {
+        rn: u8,
+        value: u32,
+    },
+    /// CMN with a number.
+    CmnNumber {
+        rn: u8,
+        value: u32,
+    },
+    /// TST with a register.
+    TstRegister {
+        rn: u8,
+        rm: u8,
+    },
+    /// CMP with a register.
+    CmpRegister {
+        rn: u8,
+        rm: u8,
+    },
+    /// MOV of a number, or MVN of its complement.
+    MovNumber {
+        rd: u8,
+        value: u32,
+    },
+    /// MOVS of a number, from which it may take C.
+    MovsNumber {
+        rd: u8,
+        number: Number,
+    },
+    /// MOV of a register that an amount shifts, by LSL.
+    MovLsl {
+        rd: u8,
+        rm: u8,
+        amount: u8,
+    },
+    /// MOV of a register that an amount shifts, by LSR.
+    MovLsr {
+        rd: u8,
+        rm: u8,
+        amount: u8,
+    },
+    /// MOV of a register that an amount shifts, by ASR.
+    MovAsr {
+        rd: u8,
+        rm: u8,
+        amount: u8,
+    },
+    /// MOV of a register that an amount shifts, by ROR.
+    MovRor {
+        rd: u8,
+        rm: u8,
+        amount: u8,
+    },
+    /// MOVS of a register that an amount shifts, by LSL.
+    MovsLsl {
+        rd: u8,
+        rm: u8,
+        amount: u8,
+    },
+    /// MOVS of a register that an amount shifts, by LSR.
+    MovsLsr {
+        rd: u8,
+        rm: u8,
+        amount: u8,
+    },
+    /// MOVS of a register that an amount shifts, by ASR.
+    MovsAsr {
+        rd: u8,
+        rm: u8,
+        amount: u8,
+    },
+    /// MUL, which leaves the flags. It may have r15.
+    Mul {
+        rd: u8,
+        rm: u8,
+        rs: u8,
+    },
+    /// MLA, which leaves the flags. It may have r15.
+    Mla {
+        rd: u8,
+        rm: u8,
+        rs: u8,
+        rn: u8,
+    },
     /// A branch by a distance in bytes, modulo 2^32, from what r15 reads as.
-    Branch { link: bool, far: u32 },
-    /// A load or store with a number as its offset.
+    Branch {
+        link: bool,
+        far: u32,
+    },
+    /// A load or store at a register and a number. The base stays.
+    AccessNumber {
+        op: TransferOp,
+        rd: u8,
+        rn: u8,
+        offset: u16,
+    },
+    /// A load or store at two registers. The base stays.
+    AccessRegister {
+        op: TransferOp,
+        rd: u8,
+        rn: u8,
+        rm: u8,
+    },
+    /// Another load or store with a number as its offset.
     TransferNumber(Transfer, u16),
-    /// A load or store with a register as it is as its offset.
+    /// Another load or store with a register as it is as its offset.
     TransferRegister(Transfer, u8),
     /// A load or store with a register that an amount shifts as its offset.
     TransferShifted(Transfer, ShiftedRegister),
     /// Thumb's load of a word behind r15.
-    Literal { rd: u8, immed: u8 },
+    Literal {
+        rd: u8,
+        immed: u8,
+    },
     /// An instruction as it is, which makes no access and needs nothing that is left out.
     Plain(Instr),
 }

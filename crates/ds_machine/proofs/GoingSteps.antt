@@ -324,6 +324,21 @@ free_here next_event s proc until limit is has = kept_is next_event s is proc �
 pub free_when : (next_event : NextEvent) (s : MachineState) (proc : Proc) (n : ℕ) → IsNextEvent next_event s → n ≡ waits_until next_event s proc → n < 2 ^ 56 → least_kept next_event proc ≡ 0
 free_when next_event s proc n is e lt = kept_is next_event s is proc ∙ ap least_of (due_when next_event s proc n is e lt).free
 
+-- one that is due before it belongs to its turn
+pub belongs_below : (until limit : ℕ) (s : MachineState) (proc : Proc) → until ≤ 2 ^ 56 → HasLimit until s proc limit → (processor_of s proc).due < limit → BelongsToTurn until s proc
+belongs_below until limit s proc early has lt =
+    let n = (processor_of s proc).due in
+    let w = waits_for has.next_event s proc n has.free refl in
+    let k = below_limit has.next_event s proc until n limit w has.same lt in
+    let below = k.below in
+    let low : n < 2 ^ 56 = omega (arith, below, early) in
+    record {
+      tick = record { 0 = n };
+      due = (due_when has.next_event s proc n has.is w low).there;
+      below = below;
+      goes = inl (least_when has.next_event s proc n has.is w low k.least);
+    }
+
 -- ---- a step that is taken
 
 pub sound_kept : (next_event : NextEvent) (s : MachineState) → HasSoundParts s → IsNextEvent next_event s → 0 < next_event.events_until.0 → IsSound s
@@ -333,7 +348,7 @@ sound_kept next_event s parts is some = record { parts = parts; asleep = is.asle
 apart_rank : (s : MachineState) (proc : Proc) → observes_by (Processor proc) s ≡ false → observes_by (actor_of (rank_of proc)) s ≡ false
 apart_rank s proc apart = ap (λ (a : actor.Actor). observes_by a s) (actor_is proc) ∙ apart
 
-pub needs_none : (s : MachineState) (proc : Proc) → observes_by (Processor proc) s ≡ false → CatchesUpFor (processor_of s proc).due (rank_of proc) s s
+needs_none : (s : MachineState) (proc : Proc) → observes_by (Processor proc) s ≡ false → CatchesUpFor (processor_of s proc).due (rank_of proc) s s
 needs_none s proc apart = subst (λ (b : Bool). CatchesUpIf b (processor_of s proc).due (rank_of proc) s s) (sym (apart_rank s proc apart)) refl
 
 apart_may : (s : MachineState) (proc : Proc) (n : ℕ) → IsSound s → IsDueAt s proc n → n ≤ 2 ^ 56 → IsLeast (acting_dues s) (record { 0 = n }) (rank_of proc) ⊎ IsAhead s proc

@@ -21,11 +21,11 @@ pub mod Commutes
 pub mod MachineSchedule
 pub mod Moves
 pub mod RamAccesses
-pub mod RamApart
+pub mod NearAccesses
+pub mod NearApart
 pub mod Others
 pub mod PortReads
-pub mod QuietLoads
-pub mod LoadSteps
+pub mod QuietPorts
 pub mod OwnRemaining
 pub mod OwnSteps
 pub mod InnerLaw

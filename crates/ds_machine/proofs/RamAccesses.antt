@@ -1,17 +1,11 @@
-use Rattle.std.proofs.Common.{ℕ, zero, suc, ◌≡◌, ◌<◌, ◌≤◌, ◌-◌, ◌==◌, ◌⊎◌, Bool, true, false, true≢false, if◌then◌else◌, List, [], ◌∷◌, Option, Some, None, inl, inr, refl, sym, ◌∙◌, ap, arith}
-use Rattle.ds_base.specs.Accesses.{Access, Fetch, Performed, Read, Write, perform, refused_or}
+use Rattle.std.proofs.Common.{ℕ, ◌≡◌, ◌<◌, ◌≤◌, ◌-◌, ◌==◌, ◌⊎◌, Bool, true, false, true≢false, if◌then◌else◌, None, inl, inr, refl, sym, arith}
 use Rattle.ds_base.specs.Memories.{memory_size}
-use Rattle.ds_base.specs.declared.left_out.Stop.{Stop}
 use Rattle.ds_base.specs.declared.memories.Memory.TheVariants.{Shared, Own7}
 use Rattle.ds_base.specs.declared.memories.Width.{Width}
-use Rattle.ds_base.specs.declared.processors.Arch.{Arch}
-use Rattle.ds_base.specs.declared.processors.Arch.TheVariants.{V4, V5}
 use Rattle.ds_base.specs.declared.processors.Proc.{Proc}
 use Rattle.ds_base.specs.declared.processors.Proc.TheVariants.{Nine, Seven}
 use Rattle.ds_base.specs.declared.ticks.Tick.{Tick}
-use Rattle.arm_core.specs.Effects.{Meaning, carried_out, concluded}
-use Rattle.arm_core.specs.Registers.{RegisterState}
-use Rattle.arm_ops.specs.Meanings.{IsInRam, RefusesNoneInRam, is_ram}
+use Rattle.arm_ops.specs.Meanings.{RefusesNoneInRam, is_ram}
 use Rattle.cp15_tcm.specs.TightlyCoupled.{tcm_of}
 use Rattle.cp15_tcm.specs.declared.answers.Tcm.{Tcm}
 use Rattle.cp15_tcm.specs.declared.answers.Tcm.TheVariants as tcm
@@ -21,7 +15,7 @@ use Rattle.ds_places.specs.declared.kinds.Place.TheVariants.{Cell, Banks, Port, 
 use Rattle.ds_places.proofs.Regions.{lies_or_not}
 use Rattle.ds_map.specs.Accesses.{after_read_at, map_read, map_refusal, map_written, written_at, refusal_at}
 use Rattle.ds_map.specs.Maps.{MapState}
-use Rattle.ds_map.specs.Views.{NineReach, SevenReach, nine_memory, seven_memory, tcm_read, tcm_refusal, tcm_written}
+use Rattle.ds_map.specs.Views.{NineReach, nine_memory, seven_memory, tcm_refusal, tcm_written}
 
 -- RAM, 2000000h to 3FFFFFFh, are cells for both processors, or nothing is there: no access of them changes a unit.
 
@@ -109,9 +103,9 @@ unchanged_io proc (Port at) m width h = absurd (true≢false (sym h))
 unchanged_io proc (Rom at) m width h = refl
 unchanged_io proc Nothing m width h = refl
 
-read_io : (proc : Proc) (m : MapState) (at : ℕ) (width : Width) → is_ram at ≡ true → (map_read proc m at width).io ≡ m.io
+pub ram_read_io : (proc : Proc) (m : MapState) (at : ℕ) (width : Width) → is_ram at ≡ true → (map_read proc m at width).io ≡ m.io
 unfolding map_read
-read_io proc m at width ram =
+ram_read_io proc m at width ram =
     let b = ram_bounds at ram in
     unchanged_io proc (place_of proc m.io.wramcnt at) m width (ram_cells proc m.io.wramcnt at b.0 b.1)
 
@@ -119,62 +113,14 @@ pub ram_write_io : (proc : Proc) (now : Tick) (m : MapState) (at : ℕ) (width :
 unfolding map_written
 ram_write_io proc now m at width value low high = put_io proc now (place_of proc m.io.wramcnt at) m width value (ram_cells proc m.io.wramcnt at low high)
 
-write_io : (proc : Proc) (now : Tick) (m : MapState) (at : ℕ) (width : Width) (value : ℕ) → is_ram at ≡ true → (map_written proc now m at width value).io ≡ m.io
+pub write_io : (proc : Proc) (now : Tick) (m : MapState) (at : ℕ) (width : Width) (value : ℕ) → is_ram at ≡ true → (map_written proc now m at width value).io ≡ m.io
 write_io proc now m at width value ram = let b = ram_bounds at ram in ram_write_io proc now m at width value b.0 b.1
 
 -- also where a tightly coupled memory answers
-tcm_reads : (t : Tcm) (r : NineReach) (at : ℕ) (width : Width) → is_ram at ≡ true → (tcm_read t r at width).map.io ≡ r.map.io
-tcm_reads (tcm.Itcm place) r at width ram = refl
-tcm_reads (tcm.Dtcm place) r at width ram = refl
-tcm_reads tcm.Past r at width ram = read_io Nine r.map at width ram
-
-tcm_writes : (t : Tcm) (r : NineReach) (at : ℕ) (width : Width) (value : ℕ) → is_ram at ≡ true → (tcm_written t r at width value).map.io ≡ r.map.io
-tcm_writes (tcm.Itcm place) r at width value ram = refl
-tcm_writes (tcm.Dtcm place) r at width value ram = refl
-tcm_writes tcm.Past r at width value ram = write_io Nine r.now r.map at width value ram
-
--- a write leaves what it leaves, refused or not
-write_unchanged : {S : Type 0} (stop : Option Stop) (left : S) → (refused_or stop left (record { values = []; state = left; stop = None })).state ≡ left
-write_unchanged None left = refl
-write_unchanged (Some stop) left = refl
-
-nine_io : (r : NineReach) (accesses : List Access) → IsInRam accesses → (perform nine_memory r accesses).state.map.io ≡ r.map.io
-nine_io r [] ram = refl
-nine_io r (Fetch at width ∷ []) ram = refl
-nine_io r (Read at width ∷ []) ram = tcm_reads (tcm_of r.cp15 at false false) r at width ram
-nine_io r (Write at width value ∷ []) ram =
-    let left : NineReach = nine_memory.write_next r at width value in
-    rw (write_unchanged (nine_memory.refusal r at width value) left) (tcm_writes (tcm_of r.cp15 at true false) r at width value ram)
-nine_io r (access ∷ other ∷ rest) ram = absurd ram
-
-seven_io : (r : SevenReach) (accesses : List Access) → IsInRam accesses → (perform seven_memory r accesses).state.map.io ≡ r.map.io
-seven_io r [] ram = refl
-seven_io r (Fetch at width ∷ []) ram = refl
-seven_io r (Read at width ∷ []) ram = read_io Seven r.map at width ram
-seven_io r (Write at width value ∷ []) ram =
-    let left : SevenReach = seven_memory.write_next r at width value in
-    rw (write_unchanged (seven_memory.refusal r at width value) left) (write_io Seven r.now r.map at width value ram)
-seven_io r (access ∷ other ∷ rest) ram = absurd ram
-
--- so none does that an operation makes
-state_left : {S : Type 0} (arch : Arch) (old : RegisterState) (m : Meaning) (done : Performed S) (stop : Option Stop) → (concluded arch old m done stop).state ≡ done.state
-state_left arch old m done None = refl
-state_left arch old m done (Some stop) = refl
-
--- where it is run, by its cost, and where it isn't
-pub nine_stays : (cost : ℕ) (s : RegisterState) (r after : NineReach) (m : Meaning) → (cost ≡ 0 → after ≡ r)
-    → (0 < cost → after ≡ (carried_out nine_memory V5 s r m).state) → (0 < cost → IsInRam m.accesses) → after.map.io ≡ r.map.io
-nine_stays zero s r after m none some ram = ap (λ (x : NineReach). x.map.io) (none refl)
-nine_stays (suc cost) s r after m none some ram =
-    let done : Performed NineReach = perform nine_memory r m.accesses in
-    ap (λ (x : NineReach). x.map.io) (some (omega arith) ∙ state_left V5 s m done done.stop) ∙ nine_io r m.accesses (ram (omega arith))
-
-pub seven_stays : (cost : ℕ) (s : RegisterState) (r after : SevenReach) (m : Meaning) → (cost ≡ 0 → after ≡ r)
-    → (0 < cost → after ≡ (carried_out seven_memory V4 s r m).state) → (0 < cost → IsInRam m.accesses) → after.map.io ≡ r.map.io
-seven_stays zero s r after m none some ram = ap (λ (x : SevenReach). x.map.io) (none refl)
-seven_stays (suc cost) s r after m none some ram =
-    let done : Performed SevenReach = perform seven_memory r m.accesses in
-    ap (λ (x : SevenReach). x.map.io) (some (omega arith) ∙ state_left V4 s m done done.stop) ∙ seven_io r m.accesses (ram (omega arith))
+pub ram_tcm_writes : (t : Tcm) (r : NineReach) (at : ℕ) (width : Width) (value : ℕ) → is_ram at ≡ true → (tcm_written t r at width value).map.io ≡ r.map.io
+ram_tcm_writes (tcm.Itcm place) r at width value ram = refl
+ram_tcm_writes (tcm.Dtcm place) r at width value ram = refl
+ram_tcm_writes tcm.Past r at width value ram = write_io Nine r.now r.map at width value ram
 
 -- ---- no access of them is refused
 

@@ -9,7 +9,7 @@ pub mod Acting
 pub mod Counting
 pub mod Frames
 pub mod NextEvents
-pub mod QuietLoads
+pub mod QuietPorts
 pub mod Observed
 pub mod FenceTicks
 pub mod Private

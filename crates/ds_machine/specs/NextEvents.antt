@@ -18,7 +18,7 @@ use Rattle.ds_machine.specs.TurnSteps.{BelongsToTurn, IsLeastBelow, own_remainin
 use Rattle.ds_machine.specs.declared.next_events.First.{First}
 use Rattle.ds_machine.specs.declared.next_events.NextEvent.{NextEvent}
 
--- What is kept between steps of the fast path. Of public clauses those of `Machine::first`, `limit_of`, `go_fast` and `load_quietly` speak of it, and say no more than that the limit is this one.
+-- What is kept between steps of the fast path. Of public clauses those of `Machine::first`, `limit_of` and `go_fast` speak of it, and say no more than that the limit is this one.
 
 -- when each actor but the processors is due, by rank; and when each of them acts
 abbrev pub events_of : MachineState → List (Option Tick)

@@ -15,7 +15,7 @@ use Rattle.arm_core.specs.Meanings.{meaning}
 use Rattle.arm_core.specs.Registers.{RegisterState}
 use Rattle.arm_core.specs.Steps.{fetched}
 use Rattle.arm_core.specs.declared.touches.Touch.{Touch}
-use Rattle.arm_ops.specs.Meanings.{IsInRam}
+use Rattle.arm_ops.specs.Meanings.{IsNear}
 use Rattle.arm_ops.specs.declared.operations.DataAccess.{DataAccess}
 use Rattle.arm_ops.specs.declared.operations.TransferOp.{TransferOp}
 use Rattle.arm_ops.specs.declared.operations.TransferOp.TheVariants.{WordOrByte, HalfOrSigned}
@@ -23,6 +23,7 @@ use Rattle.ds_base.specs.declared.ticks.Tick.{Tick}
 use Rattle.ds_map.specs.Views.{nine_memory, seven_memory}
 use Rattle.ds_timers.specs.Irqs.{IrqState}
 use Rattle.ds_machine.specs.Private.{AllReachPrivate, IsBelowFence, ReachesPrivate, data_accesses, is_deaf, may_go_ahead, next_fetch}
+use Rattle.ds_machine.specs.QuietPorts.{is_quiet_port}
 use Rattle.ds_machine.specs.Sides.{SideOf, is_private_to_seven, nine_side, seven_side}
 use Rattle.ds_machine.specs.States.{MachineState}
 use Rattle.ds_machine.specs.Steps.{line_of, nine_reach, processor_of, seven_reach, tick_of}
@@ -113,13 +114,13 @@ abbrev pub DataStaysPrivate : Tick → MachineState → Proc → Type 0
 DataStaysPrivate now s Nine = DataStays nine_memory nine_side s.nine.processor.registers (nine_reach now s)
 DataStaysPrivate now s Seven = DataStays seven_memory seven_side s.seven.processor.registers (seven_reach now s)
 
--- what is fetched makes one access of data at most, and that one of RAM
-abbrev pub DataInRam : {S : Type 0} → MemoryMachine S → SideOf S → RegisterState → S → Type 0
-DataInRam memory side s state = IsInRam (data_accesses side.arch (side.base state) s (fetched memory side.arch s state).instr)
+-- what is fetched makes one access of data at most, and that one of RAM, or a load from a port that changes no unit and isn't observed
+abbrev pub DataIsNear : {S : Type 0} → MemoryMachine S → SideOf S → RegisterState → S → Type 0
+DataIsNear memory side s state = IsNear is_quiet_port (data_accesses side.arch (side.base state) s (fetched memory side.arch s state).instr)
 
-abbrev pub DataStaysInRam : Tick → MachineState → Proc → Type 0
-DataStaysInRam now s Nine = DataInRam nine_memory nine_side s.nine.processor.registers (nine_reach now s)
-DataStaysInRam now s Seven = DataInRam seven_memory seven_side s.seven.processor.registers (seven_reach now s)
+abbrev pub DataStaysNear : Tick → MachineState → Proc → Type 0
+DataStaysNear now s Nine = DataIsNear nine_memory nine_side s.nine.processor.registers (nine_reach now s)
+DataStaysNear now s Seven = DataIsNear seven_memory seven_side s.seven.processor.registers (seven_reach now s)
 
 -- a processor's step at a tick may be taken before its turn, but for what it does
 pub record MayBeAhead (tick : Tick) (s : MachineState) (proc : Proc) : Type 0 where

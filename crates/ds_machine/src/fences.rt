@@ -1,14 +1,16 @@
 //! When what may halt a processor, wake it or make it wait is due, and what belongs to a processor's turn.
 
-ghost use Rattle.std.specs.Prelude.{◌≡◌, ◌↔◌, ◌<◌, ◌^◌, Option, Some, true};
+ghost use Rattle.std.specs.Prelude.{◌≡◌, ◌↔◌, ◌<◌, ◌≤◌, ◌^◌, Option, Some, true};
 ghost use Rattle.ds_base.specs.declared.processors.Proc.TheVariants.{Nine, Seven};
 ghost use Rattle.ds_base.specs.declared.ticks.Due.{Due};
 ghost use Rattle.ds_machine.specs.Acting.{acting_dues};
 ghost use Rattle.ds_machine.specs.FenceTicks.{channel_dues, fence_dues, timer_dues};
+ghost use Rattle.ds_machine.specs.NextEvents.{HasLimit};
 ghost use Rattle.ds_machine.specs.Private as private;
 ghost use Rattle.ds_machine.specs.Private.{IsAhead, IsFence};
 ghost use Rattle.ds_machine.specs.TurnSteps.{BelongsToTurn};
 ghost use Rattle.ds_machine.specs.Reference.{keys_due, processor_due};
+ghost use Rattle.ds_machine.specs.Steps.{processor_of};
 ghost use Rattle.ds_runs.specs.Order as order;
 ghost use Rattle.ds_runs.specs.Order.{due_with_rank, first_from};
 ghost use Rattle.ds_runs.specs.Runs.{IsLeast};
@@ -120,5 +122,18 @@ impl Parts {
             }
             None => false,
         }
+    }
+
+    /// The same, by a tick before which the processor is known to be the least acting actor, if one is known; 0 where none is.
+    #[inline(always)]
+    pub fn belongs_by(&self, proc: Proc, until: Tick, limit: u64) -> bool
+        requires early { until.0 ≤ 2 ^ 56 }
+        requires limit { (processor_of self.now proc).due < limit → HasLimit until.0 self.now proc limit }
+        ensures { (result ≡ true) ↔ BelongsToTurn until.0 self.now proc }
+    {
+        if self.processor(proc).due < limit {
+            return true;
+        }
+        self.belongs(proc, until)
     }
 }

@@ -31,7 +31,7 @@ pub enum Gone {
 
 impl Parts {
     /// A processor's step at its tick, where it is one of the fast path, and where it is ahead of its turn reaches private places alone. It costs, and changes no unit: so no
-    /// processor wakes, and what is kept stays. It observes nothing of geometry: it reaches RAM alone.
+    /// processor wakes, and what is kept stays. It observes nothing of geometry: it reaches RAM alone, or loads from a port that isn't observed.
     #[inline(always)]
     fn processor_fast(&mut self, next_event: NextEvent, proc: Proc, tick: Tick, ahead: bool) -> Gone
         requires next_event { IsNextEvent next_event self.old }

@@ -37,6 +37,10 @@ const VCOUNT: u32 = 6;
 pub fn is_observed_port(at: u32) -> bool
     ensures { result ≡ lagging.is_observed_port at }
 {
+    // those that are read most are below all of these, or between them
+    if at < 0x60 || (at >= 0xE0 && at < 0x400) {
+        return false;
+    }
     matches!(at / 4, 0x18 | 0x100..=0x1BF | 0x2E | 0x31 | 0x34 | 0x37)
 }
 

@@ -18,7 +18,7 @@ mod machines;
 mod next_events;
 mod parts;
 mod processors;
-mod quiet_loads;
+mod quiet_ports;
 mod scripts;
 mod sides;
 mod steps;

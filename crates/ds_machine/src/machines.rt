@@ -11,7 +11,7 @@ ghost use Rattle.ds_machine.specs.Acting.{is_behind, IsActing};
 ghost use Rattle.ds_machine.specs.Booted.{machine_booted};
 ghost use Rattle.ds_machine.specs.Frames.{framed_of};
 ghost use Rattle.ds_machine.specs.Lagging.{observes_by, CatchesUp, CatchesUpFor, ComesBeforeAll};
-ghost use Rattle.ds_machine.specs.NextEvents.{HasLimit, IsFirst, TookStep};
+ghost use Rattle.ds_machine.specs.NextEvents.{HasLimit, IsFirst};
 ghost use Rattle.ds_machine.specs.Observed.{memory_of, registers_of, seen_of};
 ghost use Rattle.ds_machine.specs.Private.{IsFence, IsPrivate};
 ghost use Rattle.ds_machine.specs.TurnSteps.{BelongsToTurn, MayAct, MayStep, TakesSteps};
@@ -24,7 +24,6 @@ ghost use Rattle.ds_machine.specs.Steps.{processor_of, tick_of};
 use crate::answers::{Done, Private, Seen};
 use crate::next_events::{First, NextEvent};
 use crate::parts::Parts;
-use crate::quiet_loads::Refused;
 use ds_base::{Due, Keys, Memory, Proc, Tick};
 use ds_header::Cart;
 use gx_geometry::Lists;
@@ -36,7 +35,6 @@ use std::marker::Model;
 pub struct Machine {
     parts: Parts,
     next_event: NextEvent,
-    refused: Refused,
 }
 
 impl Model for Machine {
@@ -62,11 +60,7 @@ impl Machine {
     {
         let parts = Parts::new(alloc, cart, keys)?;
         let next_event = parts.next_event();
-        Ok(Machine {
-            parts,
-            next_event,
-            refused: Refused::new(),
-        })
+        Ok(Machine { parts, next_event })
     }
 
     /// The actor that is due first, quiet geometry among them. Each processor's steps so far were at most as many as ticks before what acts and may change it, and the events as
@@ -136,42 +130,6 @@ impl Machine {
         self.parts.go_fast(self.next_event, proc, until, limit)
     }
 
-    /// A processor's next step, where the processor is the least acting actor, and the step is a load from a port that changes no unit and doesn't observe geometry; by the first
-    /// tick at which it isn't the least acting one any more, which stays. The answer is whether it was taken; where it wasn't, nothing is changed. Programs that wait for something
-    /// take such steps again and again. It is tried only where the step at that address wasn't of another kind when it was last tried.
-    #[inline(always)]
-    pub fn load_quietly(&mut self, proc: Proc, until: Tick, limit: u64) -> bool
-        requires early { until.0 ≤ 2 ^ 56 }
-        requires limit { HasLimit until.0 self.old proc limit }
-        ensures took { result ≡ true → TookStep until.0 proc self.old self.new }
-        ensures none { result ≡ false → self.new ≡ self.old }
-        ensures limit { HasLimit until.0 self.new proc limit }
-    {
-        let processor = self.parts.processor(proc);
-        if limit <= processor.due
-            || self.next_event.line(proc)
-            || self.refused.has(processor.core.registers.pc())
-        {
-            return false;
-        }
-        self.try_load(proc, until, limit)
-    }
-
-    /// The same, which keeps where it was of no use.
-    #[inline(never)]
-    fn try_load(&mut self, proc: Proc, until: Tick, limit: u64) -> bool
-        requires early { until.0 ≤ 2 ^ 56 }
-        requires limit { HasLimit until.0 self.old proc limit }
-        ensures took { result ≡ true → TookStep until.0 proc self.old self.new }
-        ensures none { result ≡ false → self.new ≡ self.old }
-        ensures limit { HasLimit until.0 self.new proc limit }
-    {
-        let at = self.parts.processor(proc).core.registers.pc();
-        let took = self.parts.load_quietly(self.next_event, proc, until, limit);
-        self.refused.note(at, took);
-        took
-    }
-
     /// The first tick at which a processor isn't the least acting actor, or isn't due below a limit, any more, while it alone takes steps, where that is known.
     pub fn limit_of(&self, proc: Proc, until: Tick) -> Option<u64>
         ensures { IfSome result (λ limit. HasLimit until.0 self.now proc limit) }
@@ -200,6 +158,16 @@ impl Machine {
         ensures { (result ≡ true) ↔ BelongsToTurn until.0 self.now proc }
     {
         self.parts.belongs(proc, until)
+    }
+
+    /// The same, by a tick before which the processor is known to be the least acting actor, if one is known; 0 where none is.
+    #[inline(always)]
+    pub fn belongs_by(&self, proc: Proc, until: Tick, limit: u64) -> bool
+        requires early { until.0 ≤ 2 ^ 56 }
+        requires limit { (processor_of self.now proc).due < limit → HasLimit until.0 self.now proc limit }
+        ensures { (result ≡ true) ↔ BelongsToTurn until.0 self.now proc }
+    {
+        self.parts.belongs_by(proc, until, limit)
     }
 
     /// Whether the next step of the actor of a rank, which is due, observes geometry: the start of line 192, a unit of ARM9's channels that reads or writes an observed port, or a

@@ -3,7 +3,7 @@
 ghost use Rattle.std.specs.Prelude.{◌≡◌, ◌<◌, ℕ, List, false, IfSome};
 ghost use Rattle.ds_base.specs.Accesses.{MemoryMachine};
 ghost use Rattle.arm_core.specs.declared.outcomes.Stepped.TheVariants.{Cost};
-ghost use Rattle.arm_ops.specs.Meanings.{access_made, operation_meaning, IsInRam};
+ghost use Rattle.arm_ops.specs.Meanings.{access_made, operation_meaning, IsNear};
 ghost use Rattle.arm_ops.specs.Operations.{is_other, HasAccess, HasOperation};
 ghost use Rattle.arm_words.specs.Fields.{HasFields};
 ghost use Rattle.ds_ports.specs.Io.{IoState};
@@ -12,10 +12,12 @@ ghost use Rattle.ds_base.specs.declared.processors.Proc.TheVariants.{Nine};
 ghost use Rattle.ds_places.specs.AddressTables.{place_of};
 ghost use Rattle.ds_map.specs.Maps.{MemoriesState};
 ghost use Rattle.ds_map.specs.Shares.{is_private_place};
+ghost use Rattle.ds_machine.specs.QuietPorts.{is_quiet_port};
 ghost use Rattle.ds_machine.specs.Sides as sides;
 ghost use Rattle.ds_machine.specs.Sides.{is_private_tcm, operation_outcome, RunsAs, SideOf};
 ghost use Rattle.ds_machine.specs.Touching.{GoesByWords};
 
+use crate::quiet_ports::QuietPorts;
 use arm_core::{Registers, Stepped};
 use arm_exec::{Fetched, execute_word};
 use arm_ops::{DataAccess, Operation, run, run_made};
@@ -92,8 +94,8 @@ pub trait Side {
         ensures executes { RunsAs memory side s.old (state self.old) operation.now }
         ensures same { identity self.new ≡ identity self.old };
 
-    /// Runs an operation, where it is frequent and reaches RAM alone; so no unit changes. The result is its cost; 0 where it isn't run, and then nothing is
-    /// changed.
+    /// Runs an operation, where it is frequent and reaches RAM alone, or loads from a port that changes no unit and isn't observed; so no unit changes. The result is its cost; 0
+    /// where it isn't run, and then nothing is changed.
     fn run_fast(&mut self, s: &mut Registers, operation: &Operation) -> u32
         requires { HasOperation operation.now }
         ensures none { result ≡ 0 → (s.new ≡ s.old) × (state self.new ≡ state self.old) }
@@ -102,7 +104,7 @@ pub trait Side {
         ensures state { 0 < result → state self.new ≡ (operation_outcome memory side s.old (state self.old) operation.now).state }
         ensures stepped { 0 < result → (operation_outcome memory side s.old (state self.old) operation.now).stepped ≡ Cost result }
         ensures executes { 0 < result → RunsAs memory side s.old (state self.old) operation.now }
-        ensures ram { 0 < result → IsInRam (operation_meaning side.arch s.old operation.now).accesses }
+        ensures near { 0 < result → IsNear is_quiet_port (operation_meaning side.arch s.old operation.now).accesses }
         ensures io { io (state self.new) ≡ io (state self.old) }
         ensures same { identity self.new ≡ identity self.old };
 }
@@ -114,6 +116,10 @@ pub trait Side {
 fn is_private_past(wramcnt: u8, at: u32) -> bool
     ensures { (controls : List ℕ) → result ≡ is_private_place controls (place_of Nine wramcnt at) }
 {
+    // code lies in main memory most, which isn't
+    if at >> 24 == 2 {
+        return false;
+    }
     match at >> 24 {
         3 => wramcnt < 3,
         5 | 6 | 7 => true,
@@ -207,7 +213,7 @@ impl Side for NineView<'_> {
     #[inline]
     #[tactic(auto, using(crate::proofs::RamAccesses::nine_refuses_none))]
     fn run_fast(&mut self, s: &mut Registers, operation: &Operation) -> u32 {
-        run(Arch::V5, s, self, operation)
+        run::<Self, QuietPorts>(Arch::V5, s, self, operation)
     }
 }
 
@@ -272,6 +278,6 @@ impl Side for SevenView<'_> {
     #[inline]
     #[tactic(auto, using(crate::proofs::RamAccesses::seven_refuses_none))]
     fn run_fast(&mut self, s: &mut Registers, operation: &Operation) -> u32 {
-        run(Arch::V4, s, self, operation)
+        run::<Self, QuietPorts>(Arch::V4, s, self, operation)
     }
 }

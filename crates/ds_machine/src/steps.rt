@@ -9,7 +9,7 @@ ghost use Rattle.arm_words.specs.Fields.{HasFields};
 ghost use Rattle.arm_words.specs.ThumbTable.{decoded_thumb};
 ghost use Rattle.arm_ops.specs.Meanings.{access_made};
 ghost use Rattle.ds_machine.specs.Sides.{taken};
-ghost use Rattle.ds_machine.specs.Touching.{access_stays, stores, DataInRam, DataStays, GoesByWords};
+ghost use Rattle.ds_machine.specs.Touching.{access_stays, stores, DataIsNear, DataStays, GoesByWords};
 
 use crate::sides::Side;
 use arm_core::{Registers, Stepped};
@@ -30,7 +30,7 @@ fn half_at<const VERSION: u32>(decoder: &mut Decoder<VERSION>, at: u32, half: u3
 
 /// What is fetched at r15, decoded.
 #[inline(always)]
-pub fn next_operation<'a, V: Side, const VERSION: u32>(
+fn next_operation<'a, V: Side, const VERSION: u32>(
     s: &Registers,
     decoder: &'a mut Decoder<VERSION>,
     view: &V,
@@ -134,7 +134,7 @@ pub struct Fast {
 
 /// Whether a kind of access writes.
 #[inline(always)]
-pub fn stores(op: TransferOp) -> bool
+fn stores(op: TransferOp) -> bool
     ensures { result ≡ stores op }
 {
     match op {
@@ -158,8 +158,8 @@ fn access_stays<V: Side>(s: &Registers, view: &V, next: &Operation) -> bool
     }
 }
 
-/// The step, where it is fast: a frequent instruction, which reaches RAM alone; where it is ahead of its turn, it also has to reach private places alone. Where it isn't taken
-/// nothing is changed. No unit changes.
+/// The step, where it is fast: a frequent instruction, which reaches RAM alone, or loads from a port that changes no unit and isn't observed; where it is ahead of its turn, it
+/// also has to reach private places alone. Where it isn't taken nothing is changed. No unit changes.
 #[inline]
 pub fn take_fast<V: Side, const VERSION: u32>(
     s: &mut Registers,
@@ -176,7 +176,7 @@ pub fn take_fast<V: Side, const VERSION: u32>(
     ensures stays { ahead ≡ true → 0 < result.clocks → DataStays V.memory V.side s.old (V.state view.old) }
     ensures leaves { result.leaves ≡ true → DataStays V.memory V.side s.old (V.state view.old) → ⊥ }
     ensures left { result.leaves ≡ true → (result.clocks ≡ 0) × (ahead ≡ true) }
-    ensures ram { 0 < result.clocks → DataInRam V.memory V.side s.old (V.state view.old) }
+    ensures near { 0 < result.clocks → DataIsNear V.memory V.side s.old (V.state view.old) }
     ensures io { V.io (V.state view.new) ≡ V.io (V.state view.old) }
     ensures same { V.identity view.new ≡ V.identity view.old }
 {

@@ -9,7 +9,7 @@ ghost use Rattle.ds_machine.specs.TurnSteps.{MayStep};
 ghost use Rattle.ds_machine.specs.Processors.{stop_in};
 ghost use Rattle.ds_machine.specs.Reference.{awake, due_by, step_by, stepped_of, Steps};
 ghost use Rattle.ds_machine.specs.Counting.{HasCounted};
-ghost use Rattle.ds_machine.specs.Touching.{DataStaysInRam, DataStaysPrivate};
+ghost use Rattle.ds_machine.specs.Touching.{DataStaysNear, DataStaysPrivate};
 ghost use Rattle.ds_machine.specs.Steps.{machine_concluded, goes_on, gone_by, is_halted, line_of, outcome_of, processor_of, wakes, went_on, with_processor, woken, woken_one, ended};
 
 use crate::answers::Done;
@@ -125,7 +125,7 @@ impl Parts {
         ensures stays { ahead ≡ true → 0 < result.clocks → DataStaysPrivate now self.old proc }
         ensures leaves { result.leaves ≡ true → DataStaysPrivate now self.old proc → ⊥ }
         ensures left { result.leaves ≡ true → (result.clocks ≡ 0) × (ahead ≡ true) }
-        ensures ram { 0 < result.clocks → DataStaysInRam now self.old proc }
+        ensures near { 0 < result.clocks → DataStaysNear now self.old proc }
         ensures io { self.new.io ≡ self.old.io }
     {
         match proc {

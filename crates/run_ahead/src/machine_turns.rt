@@ -3,6 +3,7 @@
 ghost use Rattle.std.specs.Prelude.{◌≡◌, ◌<◌, ◌≤◌, ◌^◌, false, true, None, Some};
 ghost use Rattle.ds_base.specs.declared.left_out.LeftOut.{LeftOut};
 ghost use Rattle.ds_machine.specs.NextEvents.{HasLimit};
+ghost use Rattle.ds_machine.specs.Steps.{processor_of};
 ghost use Rattle.ds_machine.specs.Acting.{IsActing, is_behind};
 ghost use Rattle.ds_machine.specs.Private as private;
 ghost use Rattle.ds_machine.specs.Reference.{IsSound};
@@ -45,16 +46,23 @@ pub enum Slow {
     Stopped,
 }
 
-/// Takes a processor's next step, where it belongs to its turn with a limit; where it observes geometry, geometry catches up before it. A stop is put where stops are kept: an
-/// answer that carried it would be moved at each turn.
+/// Takes a processor's next step, where it belongs to its turn with a limit; where it observes geometry, geometry catches up before it. It is told a tick before which the
+/// processor is known to be the least acting actor, or 0. A stop is put where stops are kept: an answer that carried it would be moved at each turn.
 #[inline(never)]
-fn step_slowly(machine: &mut Machine, stop: &mut Option<LeftOut>, proc: Proc, until: Tick) -> Slow
+fn step_slowly(
+    machine: &mut Machine,
+    stop: &mut Option<LeftOut>,
+    proc: Proc,
+    until: Tick,
+    limit: u64,
+) -> Slow
     requires early { until.0 ≤ 2 ^ 56 }
+    requires limit { (processor_of machine.old proc).due < limit → HasLimit until.0 machine.old proc limit }
     requires sound { IsSound machine.old }
     requires running { stop.old ≡ None }
     ensures { TookSlowly until.0 proc machine.old result stop.new machine.new }
 {
-    if !machine.belongs(proc, until) {
+    if !machine.belongs_by(proc, until, limit) {
         return Slow::Over;
     }
     let rank = rank_of(proc);
@@ -92,26 +100,6 @@ pub fn take_first(
     }
 }
 
-/// Takes a processor's steps that belong to its turn with a limit, while they are of the fast path, or loads from ports that change no unit; by the first tick at which it isn't
-/// the least acting one any more. The answer is whether its turn is over; where it isn't known to be, the next step is neither.
-#[inline(always)]
-fn go_quietly(machine: &mut Machine, proc: Proc, until: Tick, limit: u64) -> bool
-    requires early { until.0 ≤ 2 ^ 56 }
-    requires sound { IsSound machine.old }
-    requires limit { HasLimit until.0 machine.old proc limit }
-    ensures steps { TakesSteps until.0 proc machine.old machine.new }
-    ensures over { result ≡ true → BelongsToTurn until.0 machine.new proc → ⊥ }
-{
-    'steps: loop {
-        if machine.go_fast(proc, until, limit) {
-            return true;
-        }
-        if !machine.load_quietly(proc, until, limit) {
-            return false;
-        }
-    }
-}
-
 /// Takes a processor's steps that belong to its turn with a limit, one after another, up to the first that doesn't, or to one that stops the machine, whose stop is put where
 /// stops are kept. The answer is whether there is one. It begins with the first tick at which the processor isn't the least acting one any more.
 #[inline(always)]
@@ -134,10 +122,10 @@ fn take_stretch(
     machine.laws();
     let mut limit = first;
     'steps: loop {
-        if go_quietly(machine, proc, until, limit) {
+        if machine.go_fast(proc, until, limit) {
             return false;
         }
-        match step_slowly(machine, stop, proc, until) {
+        match step_slowly(machine, stop, proc, until, limit) {
             Slow::Took => {}
             Slow::Over => return false,
             Slow::Stopped => return true,
@@ -171,7 +159,7 @@ fn take_stretch_slowly(machine: &mut Machine, proc: Proc, until: Tick) -> Option
 {
     let mut stop = None;
     'steps: loop {
-        match step_slowly(machine, &mut stop, proc, until) {
+        match step_slowly(machine, &mut stop, proc, until, 0) {
             Slow::Took => {}
             Slow::Over => return stop,
             Slow::Stopped => return stop,

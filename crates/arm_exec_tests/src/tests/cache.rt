@@ -1,8 +1,8 @@
 //! Words and halves that share their place in a cache, each as it is decoded.
 
-use arm_ops::{MoveTo, Op, Operation};
+use arm_ops::{Op, Operation};
+use arm_words::Condition;
 use arm_words::Condition::{Al, Eq, Ne};
-use arm_words::{Condition, MoveOp};
 use decode_cache::Decoder;
 use std::alloc::AllocError;
 
@@ -26,14 +26,8 @@ use Line::{Branches, HalfBranches, HalfMoves, Moves, Other};
 /// Whether it moves a value to r0 under a condition.
 fn moves(operation: &Operation, wanted: u32, cond: Condition) -> bool {
     match operation.op {
-        Op::MoveNumber(
-            MoveTo {
-                op: MoveOp::Mov,
-                rd: 0,
-                ..
-            },
-            number,
-        ) => number.value == wanted && operation.cond == cond,
+        Op::MovNumber { rd: 0, value } => value == wanted && operation.cond == cond,
+        Op::MovsNumber { rd: 0, number } => number.value == wanted && operation.cond == cond,
         _ => false,
     }
 }

@@ -5,7 +5,7 @@ ghost use Rattle.arm_words.specs.Fields.{HasFields};
 
 use super::buses::RefusingBus;
 use arm_core::{Bus, Core, FlatBus, Registers, Stepped, Touch, footprint};
-use arm_ops::{Operation, is_other, operation, run, run_anywhere, touched};
+use arm_ops::{Near, Operation, is_other, operation, run, run_anywhere, touched};
 use arm_words::{Instr, decode_arm, decode_thumb};
 use arm7_exec::step7;
 use arm9_exec::step9;
@@ -220,6 +220,19 @@ fn run_op(
     Some(run_anywhere(arch, s, bus, &made))
 }
 
+/// Nothing is near but RAM.
+pub enum RamAlone {}
+
+impl Near for RamAlone {
+    ghost use Rattle.std.specs.Prelude.{false};
+
+    ghost near = { λ at. false };
+
+    fn is_near(_at: u32) -> bool {
+        false
+    }
+}
+
 /// The same where they must be of RAM.
 fn run_in_ram(
     arch: Arch,
@@ -229,7 +242,7 @@ fn run_in_ram(
 ) -> Option<Stepped>
     requires { IfSome instr HasFields }
 {
-    match run(arch, s, bus, &operation(instr)) {
+    match run::<FlatBus, RamAlone>(arch, s, bus, &operation(instr)) {
         0 => None,
         clocks => Some(Stepped::Cost(clocks)),
     }

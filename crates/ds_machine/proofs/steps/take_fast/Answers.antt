@@ -2,7 +2,7 @@ use Rattle.std.proofs.Common.{◌≡◌, ◌∙◌, false, true≢false, sym, ap
 use Rattle.arm_core.specs.Effects.{Outcome}
 use Rattle.arm_core.specs.Steps.{enters}
 use Rattle.ds_machine.proofs.DecodedStays.{leaves_known, stays_known}
-use Rattle.ds_machine.proofs.RamApart.{ram_known}
+use Rattle.ds_machine.proofs.NearApart.{near_known}
 use Rattle.ds_machine.proofs.Taken.{taken_operation}
 use Rattle.ds_machine.proofs.steps.take_fast.Goals.{else-ahead-via-then-ahead+else-not-access_stays, else-ahead-via-else-ahead}
 use Rattle.ds_machine.proofs.steps.take_fast.Goals as goal
@@ -28,10 +28,10 @@ returns-clause-stepped g c = λ some.
     none c.next_operation-next.ensures.operation in
     ap (λ (o : Outcome g.V.Side.State). o.stepped) is ∙ c.run_fast-clocks.ensures.stepped some)
 
-pub returns-clause-ram : goal.returns-clause-ram
-returns-clause-ram g c = λ some.
-    ram_known g.V.Side.memory g.V.Side.side (g.V.Side.state c.args.view.now) c.args.s.now c.next_operation-next.result.now c.next_operation-next.ensures.operation
-    (c.run_fast-clocks.ensures.known some) (c.run_fast-clocks.ensures.ram some)
+pub returns-clause-near : goal.returns-clause-near
+returns-clause-near g c = λ some.
+    near_known g.V.Side.memory g.V.Side.side (g.V.Side.state c.args.view.now) c.args.s.now c.next_operation-next.result.now c.next_operation-next.ensures.operation
+    (c.run_fast-clocks.ensures.known some) (c.run_fast-clocks.ensures.near some)
 
 pub returns-then-not-access_stays-clause-leaves : goal.returns-then-not-access_stays-clause-leaves
 returns-then-not-access_stays-clause-leaves g c = λ left.

@@ -10,19 +10,16 @@ use Rattle.run_ahead.proofs.machine_turns.take_stretch.Goals as goal
 pub steps-init : goal.steps-init
 steps-init c = (none c.args.machine.now, c.requires.running, c.requires.limit)
 
-pub returns-then-go_quietly : goal.returns-then-go_quietly
-returns-then-go_quietly c = record {
-  took = subst (λ (o : Option LeftOut). TookStretch c.args.until.0 c.args.proc c.args.machine.now o c.go_quietly.new.machine) (sym c.steps.invariant.1) ((takes_twice c.args.until.0 c.args.proc c.args.machine.now c.steps.machine c.go_quietly.new.machine c.steps.invariant.0 c.go_quietly.ensures.steps), c.go_quietly.ensures.over c.if-go_quietly.true);
+pub returns-then-go_fast : goal.returns-then-go_fast
+returns-then-go_fast c = record {
+  took = subst (λ (o : Option LeftOut). TookStretch c.args.until.0 c.args.proc c.args.machine.now o c.go_fast.new.self) (sym c.steps.invariant.1) ((takes_twice c.args.until.0 c.args.proc c.args.machine.now c.steps.machine c.go_fast.new.self c.steps.invariant.0 c.go_fast.ensures.steps), c.go_fast.ensures.over c.if-go_fast.true);
   counted = c.laws.ensures.counted;
   goes = λ e. c.steps.invariant.1;
   stops = λ e. absurd (true≢false (sym e));
 }
 
-pub go_quietly-requires-clause-sound : goal.go_quietly-requires-clause-sound
-go_quietly-requires-clause-sound c = sound_along c.args.until.0 c.args.proc c.args.machine.now c.steps.machine c.requires.sound c.steps.invariant.0
-
 pub step_slowly-requires-clause-sound : goal.step_slowly-requires-clause-sound
-step_slowly-requires-clause-sound c = sound_along c.args.until.0 c.args.proc c.args.machine.now c.go_quietly.new.machine c.requires.sound (takes_twice c.args.until.0 c.args.proc c.args.machine.now c.steps.machine c.go_quietly.new.machine c.steps.invariant.0 c.go_quietly.ensures.steps)
+step_slowly-requires-clause-sound c = sound_along c.args.until.0 c.args.proc c.args.machine.now c.go_fast.new.self c.requires.sound (takes_twice c.args.until.0 c.args.proc c.args.machine.now c.steps.machine c.go_fast.new.self c.steps.invariant.0 c.go_fast.ensures.steps)
 
 pub step_slowly-requires-clause-running : goal.step_slowly-requires-clause-running
 step_slowly-requires-clause-running c = c.steps.invariant.1
@@ -33,7 +30,7 @@ returns-in-Over c =
     let none = c.in-Over.ensures.2 in
     record {
       took = subst (λ (o : Option LeftOut). TookStretch c.args.until.0 c.args.proc c.args.machine.now o c.step_slowly.new.machine) (sym none) (
-        subst (λ (m : MachineState). TakesSteps c.args.until.0 c.args.proc c.args.machine.now m) same (takes_twice c.args.until.0 c.args.proc c.args.machine.now c.steps.machine c.go_quietly.new.machine c.steps.invariant.0 c.go_quietly.ensures.steps),
+        subst (λ (m : MachineState). TakesSteps c.args.until.0 c.args.proc c.args.machine.now m) same (takes_twice c.args.until.0 c.args.proc c.args.machine.now c.steps.machine c.go_fast.new.self c.steps.invariant.0 c.go_fast.ensures.steps),
         subst (λ (m : MachineState). (BelongsToTurn c.args.until.0 m c.args.proc → ⊥)) same c.in-Over.ensures.0,
       );
       counted = c.laws.ensures.counted;
@@ -46,28 +43,28 @@ returns-in-Stopped c =
     let stop = c.in-Stopped.ensures.1 in
     record {
       took = subst (λ (o : Option LeftOut). TookStretch c.args.until.0 c.args.proc c.args.machine.now o c.step_slowly.new.machine) (sym stop.1)
-          (c.go_quietly.new.machine, (takes_twice c.args.until.0 c.args.proc c.args.machine.now c.steps.machine c.go_quietly.new.machine c.steps.invariant.0 c.go_quietly.ensures.steps), c.in-Stopped.ensures.0, stop.2);
+          (c.go_fast.new.self, (takes_twice c.args.until.0 c.args.proc c.args.machine.now c.steps.machine c.go_fast.new.self c.steps.invariant.0 c.go_fast.ensures.steps), c.in-Stopped.ensures.0, stop.2);
       counted = c.laws.ensures.counted;
       goes = λ e. absurd (true≢false e);
       stops = λ e. (stop.0, stop.1);
     }
 
 pub steps-preserved : goal.steps-preserved
-steps-preserved c = (more c.args.machine.now c.go_quietly.new.machine c.in-Took.ensures.1.0 c.step_slowly.new.machine (takes_twice c.args.until.0 c.args.proc c.args.machine.now c.steps.machine c.go_quietly.new.machine c.steps.invariant.0 c.go_quietly.ensures.steps) c.in-Took.ensures.0 c.in-Took.ensures.1.1 c.in-Took.ensures.1.2, c.in-Took.ensures.2, c.in-Some.ensures)
+steps-preserved c = (more c.args.machine.now c.go_fast.new.self c.in-Took.ensures.1.0 c.step_slowly.new.machine (takes_twice c.args.until.0 c.args.proc c.args.machine.now c.steps.machine c.go_fast.new.self c.steps.invariant.0 c.go_fast.ensures.steps) c.in-Took.ensures.0 c.in-Took.ensures.1.1 c.in-Took.ensures.1.2, c.in-Took.ensures.2, c.in-Some.ensures)
 
 pub end_slowly-requires-clause-sound : goal.end_slowly-requires-clause-sound
 end_slowly-requires-clause-sound c = sound_along c.args.until.0 c.args.proc c.args.machine.now c.step_slowly.new.machine c.requires.sound
-    (more c.args.machine.now c.go_quietly.new.machine c.in-Took.ensures.1.0 c.step_slowly.new.machine (takes_twice c.args.until.0 c.args.proc c.args.machine.now c.steps.machine c.go_quietly.new.machine c.steps.invariant.0 c.go_quietly.ensures.steps) c.in-Took.ensures.0 c.in-Took.ensures.1.1 c.in-Took.ensures.1.2)
+    (more c.args.machine.now c.go_fast.new.self c.in-Took.ensures.1.0 c.step_slowly.new.machine (takes_twice c.args.until.0 c.args.proc c.args.machine.now c.steps.machine c.go_fast.new.self c.steps.invariant.0 c.go_fast.ensures.steps) c.in-Took.ensures.0 c.in-Took.ensures.1.1 c.in-Took.ensures.1.2)
 
 pub returns-in-None-clause-took : goal.returns-in-None-clause-took
 returns-in-None-clause-took c = took_twice c.args.until.0 c.args.proc c.args.machine.now c.step_slowly.new.machine c.end_slowly.new.machine c.end_slowly.new.stop
-    (more c.args.machine.now c.go_quietly.new.machine c.in-Took.ensures.1.0 c.step_slowly.new.machine (takes_twice c.args.until.0 c.args.proc c.args.machine.now c.steps.machine c.go_quietly.new.machine c.steps.invariant.0 c.go_quietly.ensures.steps) c.in-Took.ensures.0 c.in-Took.ensures.1.1 c.in-Took.ensures.1.2) c.end_slowly.ensures.took
+    (more c.args.machine.now c.go_fast.new.self c.in-Took.ensures.1.0 c.step_slowly.new.machine (takes_twice c.args.until.0 c.args.proc c.args.machine.now c.steps.machine c.go_fast.new.self c.steps.invariant.0 c.go_fast.ensures.steps) c.in-Took.ensures.0 c.in-Took.ensures.1.1 c.in-Took.ensures.1.2) c.end_slowly.ensures.took
 
 pub steps-smaller : goal.steps-smaller
 steps-smaller c =
     let before = sound_along c.args.until.0 c.args.proc c.args.machine.now c.steps.machine c.requires.sound c.steps.invariant.0 in
-    let sound = sound_along c.args.until.0 c.args.proc c.args.machine.now c.go_quietly.new.machine c.requires.sound (takes_twice c.args.until.0 c.args.proc c.args.machine.now c.steps.machine c.go_quietly.new.machine c.steps.invariant.0 c.go_quietly.ensures.steps) in
-    let falls = turn_steps_fall c.args.until.0 c.go_quietly.new.machine c.in-Took.ensures.1.0 c.step_slowly.new.machine c.args.proc [] sound c.in-Took.ensures.0 c.in-Took.ensures.1.1 c.in-Took.ensures.1.2 in
-    let after = own_along c.args.until.0 c.args.proc c.steps.machine c.go_quietly.new.machine before c.go_quietly.ensures.steps in
+    let sound = sound_along c.args.until.0 c.args.proc c.args.machine.now c.go_fast.new.self c.requires.sound (takes_twice c.args.until.0 c.args.proc c.args.machine.now c.steps.machine c.go_fast.new.self c.steps.invariant.0 c.go_fast.ensures.steps) in
+    let falls = turn_steps_fall c.args.until.0 c.go_fast.new.self c.in-Took.ensures.1.0 c.step_slowly.new.machine c.args.proc [] sound c.in-Took.ensures.0 c.in-Took.ensures.1.1 c.in-Took.ensures.1.2 in
+    let after = own_along c.args.until.0 c.args.proc c.steps.machine c.go_fast.new.self before c.go_fast.ensures.steps in
     let fewer : own_remaining c.args.until.0 c.step_slowly.new.machine c.args.proc < own_remaining c.args.until.0 c.steps.machine c.args.proc = omega (arith, falls, after) in
     fewer

@@ -3,7 +3,7 @@ use Rattle.ds_ports.specs.Dues.{IsIo}
 use Rattle.ds_machine.proofs.GoingSteps.{other_stays}
 use Rattle.ds_machine.proofs.FastSteps.{cost_keeps, free_stays, made_fast, reach_keeps}
 use Rattle.ds_machine.proofs.ProcessorSteps.{reached_early, reached_few}
-use Rattle.ds_machine.proofs.RamApart.{in_ram_apart}
+use Rattle.ds_machine.proofs.NearApart.{near_apart}
 use Rattle.ds_machine.proofs.parts.Parts.processor_fast.Goals as goal
 
 pub go_on-requires-clause-early : goal.go_on-requires-clause-early
@@ -30,7 +30,7 @@ returns-clause-made c = λ rank taken.
 pub returns-clause-apart : goal.returns-clause-apart
 returns-clause-apart c = λ taken.
     (let some : 0 < c.take_fast-fast.result.clocks = (let more = c.if-fast-eq0.false in omega (arith, more)) in
-    in_ram_apart c.args.self.now c.args.proc c.args.tick c.requires.tick (c.take_fast-fast.ensures.ram some))
+    near_apart c.args.self.now c.args.proc c.args.tick c.requires.tick (c.take_fast-fast.ensures.near some))
 
 pub returns-clause-next_event : goal.returns-clause-next_event
 returns-clause-next_event c =

@@ -3,7 +3,7 @@ use Rattle.arm_ops.specs.Meanings.{operation_meaning}
 use Rattle.ds_base.specs.declared.processors.Proc.TheVariants.{Seven}
 use Rattle.ds_map.specs.Maps.{map_seen}
 use Rattle.ds_map.specs.Views.{SevenReach}
-use Rattle.ds_machine.proofs.RamAccesses.{seven_stays}
+use Rattle.ds_machine.proofs.NearAccesses.{seven_stays}
 use Rattle.ds_machine.proofs.DecodedOperations.{seven_executes}
 use Rattle.ds_machine.proofs.sides.SevenViewSide.run_fast.Goals as goal
 
@@ -17,4 +17,4 @@ returns-clause-io c =
     let r : SevenReach = record { map = map_seen Seven c.args.self.now.map.now c.args.self.now.io.now; now = c.args.self.now.now } in
     let after : SevenReach = record { map = map_seen Seven c.run.new.bus.map.now c.run.new.bus.io.now; now = c.run.new.bus.now } in
     seven_stays c.run.result c.args.s.now r after (operation_meaning V4 c.args.s.now c.args.operation.now)
-    (λ e. (c.run.ensures.none e).1) c.run.ensures.state c.run.ensures.ram
+    (λ e. (c.run.ensures.none e).1) c.run.ensures.state c.run.ensures.near

@@ -1,0 +1,88 @@
+use Rattle.std.proofs.Common.{ℕ, zero, suc, ◌≡◌, ◌<◌, inl, inr, Bool, true, false, List, [], ◌∷◌, Option, Some, None, refl, ◌∙◌, ap, arith}
+use Rattle.std.specs.Prelude.{◌||◌}
+use Rattle.std.proofs.lemmas.Bool.{or_cases}
+use Rattle.ds_base.specs.Accesses.{Access, Fetch, Performed, Read, Write, perform, refused_or}
+use Rattle.ds_base.specs.declared.left_out.Stop.{Stop}
+use Rattle.ds_base.specs.declared.memories.Width.{Width}
+use Rattle.ds_base.specs.declared.processors.Arch.{Arch}
+use Rattle.ds_base.specs.declared.processors.Arch.TheVariants.{V4, V5}
+use Rattle.ds_base.specs.declared.processors.Proc.{Proc}
+use Rattle.ds_base.specs.declared.processors.Proc.TheVariants.{Nine, Seven}
+use Rattle.arm_core.specs.Effects.{Meaning, carried_out, concluded}
+use Rattle.arm_core.specs.Registers.{RegisterState}
+use Rattle.arm_ops.specs.Meanings.{IsNear, is_ram}
+use Rattle.cp15_tcm.specs.TightlyCoupled.{tcm_of}
+use Rattle.cp15_tcm.specs.declared.answers.Tcm.{Tcm}
+use Rattle.cp15_tcm.specs.declared.answers.Tcm.TheVariants.{Itcm, Dtcm, Past}
+use Rattle.ds_map.specs.Accesses.{map_read}
+use Rattle.ds_map.specs.Maps.{MapState}
+use Rattle.ds_map.specs.Views.{NineReach, SevenReach, nine_memory, seven_memory, tcm_read}
+use Rattle.ds_machine.specs.QuietPorts.{is_quiet_port}
+use Rattle.ds_machine.proofs.PortReads.{read_io}
+use Rattle.ds_machine.proofs.QuietPorts.{quiet_at}
+use Rattle.ds_machine.proofs.RamAccesses.{ram_read_io, ram_tcm_writes, write_io}
+
+-- No access of RAM changes a unit, nor does a load from a port of which a read changes none.
+
+abbrev pub is_near_at : ℕ → Bool
+is_near_at at = is_ram at || is_quiet_port at
+
+-- ---- a load from there
+
+near_read : (proc : Proc) (m : MapState) (at : ℕ) (width : Width) → is_near_at at ≡ true → (map_read proc m at width).io ≡ m.io
+near_read proc m at width near = elim (or_cases (is_ram at) (is_quiet_port at) near) [
+  | inl ram ↦ ram_read_io proc m at width ram
+  | inr quiet ↦ (let q = quiet_at at quiet in read_io proc m at width q.low q.high)
+]
+
+-- also where a tightly coupled memory answers
+tcm_reads : (t : Tcm) (r : NineReach) (at : ℕ) (width : Width) → is_near_at at ≡ true → (tcm_read t r at width).map.io ≡ r.map.io
+tcm_reads (Itcm place) r at width near = refl
+tcm_reads (Dtcm place) r at width near = refl
+tcm_reads Past r at width near = near_read Nine r.map at width near
+
+-- ---- of each access, of which there is one at most
+
+-- a write leaves what it leaves, refused or not
+write_unchanged : {S : Type 0} (stop : Option Stop) (left : S) → (refused_or stop left (record { values = []; state = left; stop = None })).state ≡ left
+write_unchanged None left = refl
+write_unchanged (Some stop) left = refl
+
+nine_io : (r : NineReach) (accesses : List Access) → IsNear is_quiet_port accesses → (perform nine_memory r accesses).state.map.io ≡ r.map.io
+nine_io r [] near = refl
+nine_io r (Fetch at width ∷ []) near = refl
+nine_io r (Read at width ∷ []) near = tcm_reads (tcm_of r.cp15 at false false) r at width near
+nine_io r (Write at width value ∷ []) ram =
+    let left : NineReach = nine_memory.write_next r at width value in
+    rw (write_unchanged (nine_memory.refusal r at width value) left) (ram_tcm_writes (tcm_of r.cp15 at true false) r at width value ram)
+nine_io r (access ∷ other ∷ rest) near = absurd near
+
+seven_io : (r : SevenReach) (accesses : List Access) → IsNear is_quiet_port accesses → (perform seven_memory r accesses).state.map.io ≡ r.map.io
+seven_io r [] near = refl
+seven_io r (Fetch at width ∷ []) near = refl
+seven_io r (Read at width ∷ []) near = near_read Seven r.map at width near
+seven_io r (Write at width value ∷ []) ram =
+    let left : SevenReach = seven_memory.write_next r at width value in
+    rw (write_unchanged (seven_memory.refusal r at width value) left) (write_io Seven r.now r.map at width value ram)
+seven_io r (access ∷ other ∷ rest) near = absurd near
+
+-- ---- so none does that an operation makes
+
+state_left : {S : Type 0} (arch : Arch) (old : RegisterState) (m : Meaning) (done : Performed S) (stop : Option Stop) → (concluded arch old m done stop).state ≡ done.state
+state_left arch old m done None = refl
+state_left arch old m done (Some stop) = refl
+
+-- where it is run, by its cost, and where it isn't
+pub nine_stays : (cost : ℕ) (s : RegisterState) (r after : NineReach) (m : Meaning) → (cost ≡ 0 → after ≡ r)
+    → (0 < cost → after ≡ (carried_out nine_memory V5 s r m).state) → (0 < cost → IsNear is_quiet_port m.accesses) → after.map.io ≡ r.map.io
+nine_stays zero s r after m none some near = ap (λ (x : NineReach). x.map.io) (none refl)
+nine_stays (suc cost) s r after m none some near =
+    let done : Performed NineReach = perform nine_memory r m.accesses in
+    ap (λ (x : NineReach). x.map.io) (some (omega arith) ∙ state_left V5 s m done done.stop) ∙ nine_io r m.accesses (near (omega arith))
+
+pub seven_stays : (cost : ℕ) (s : RegisterState) (r after : SevenReach) (m : Meaning) → (cost ≡ 0 → after ≡ r)
+    → (0 < cost → after ≡ (carried_out seven_memory V4 s r m).state) → (0 < cost → IsNear is_quiet_port m.accesses) → after.map.io ≡ r.map.io
+seven_stays zero s r after m none some near = ap (λ (x : SevenReach). x.map.io) (none refl)
+seven_stays (suc cost) s r after m none some near =
+    let done : Performed SevenReach = perform seven_memory r m.accesses in
+    ap (λ (x : SevenReach). x.map.io) (some (omega arith) ∙ state_left V4 s m done done.stop) ∙ seven_io r m.accesses (near (omega arith))

@@ -25,7 +25,7 @@ class Test:
     elf9: Optional[str] = None
     elf7: Optional[str] = None
     keys: str = "none"
-    dtcm: int = names.BASES["dtcm"]
+    dtcm: Optional[int] = None
     ticks: int = 0
     frames: List[int] = field(default_factory=list)
     places: List[Tuple[str, str]] = field(default_factory=list)

@@ -10,7 +10,8 @@
   --elf9 F, --elf7 F   the ELF files of both programs, for their symbols
   --text      shows places as text, up to the first zero
   --all       all 37 registers, those of every mode too
-  --dtcm A    where the program put DTCM; 0x3000000 where it left it
+  --dtcm A    where the program put DTCM; left out, as ARM9's ELF file has it (the symbol __dtcm_start, or a section with dtcm in its
+              name), and otherwise it is assumed where it is at boot, at 0x3000000, which is said where a place lies in it
   --cart C, --keys F   where the output ends in a stop: runs that cartridge, with that key script, to the tick of the stop, and
               shows that run. Without --cart the command that does so is told
   --nds PATH  the program to run; left out, that of NDS_PROGRAM, or this repository's nds
@@ -24,7 +25,7 @@ from typing import Iterable, List, Optional, Tuple
 
 from nds_tools import names
 from nds_tools.elf import Elf
-from nds_tools.hangs import STUB, waiting
+from nds_tools.hangs import waiting, where
 from nds_tools.memory import Map, shown, text_in
 from nds_tools.program import DONE, program, ready, said, start, words_of_run
 from nds_tools.records import End, Memory, Reader, Record, Stop, records_of
@@ -56,19 +57,10 @@ def ending(records: Iterable[Record]) -> Ending:
 def map_of(elf9: Optional[str], elf7: Optional[str], dtcm: Optional[str]) -> Map:
     """Returns what is known of a program by its ELF files and its DTCM's base."""
     try:
-        base = names.BASES["dtcm"] if dtcm is None else number(dtcm)
+        base = None if dtcm is None else number(dtcm)
     except ValueError:
         raise Untold(f"--dtcm {dtcm}: it wants an address") from None
     return Map((Elf(elf9) if elf9 else None, Elf(elf7) if elf7 else None), base)
-
-
-def where(proc: int, address: int, known: Map) -> str:
-    """Returns an address and the symbol or the part of the stub that it belongs to."""
-    elf = known.elves[proc]
-    found = elf.near(address) if elf else ""
-    if 0 <= address - STUB[proc] < 0x1000:
-        found = f"boot ROM {address - STUB[proc]:03x}h"
-    return f"{address:08x}{f' ({found})' if found else ''}"
 
 
 def processor(proc: int, record: Memory, known: Map, is_whole: bool) -> List[str]:
@@ -80,9 +72,7 @@ def processor(proc: int, record: Memory, known: Map, is_whole: bool) -> List[str
     interrupts = "masked" if cpsr & 0x80 else "let through"
     lines = [f"{names.PROCESSORS[proc]}  {mode} mode, {state} state, interrupts {interrupts}, cpsr {cpsr:08x}"]
     lines.append(f"  r15 {where(proc, registers['r15'], known)}  r14 {where(proc, registers['r14' + bank], known)}")
-    hang = waiting(proc, record, known)
-    if hang:
-        lines.append(f"  {hang}")
+    lines += [f"  {it}" for it in waiting(proc, record, known)]
     if is_whole:
         shown_names = names.REGISTERS
     else:
@@ -99,7 +89,8 @@ def places(record: Memory, known: Map, asked: List[str], is_text: bool) -> List[
     lines = []
     for place in [known.find(it) for it in asked]:
         content = place.bytes_in(record)
-        lines.append(f"{place.name}  {known.show(place.memory, place.offset)}")
+        assumed = f"  (DTCM is assumed at 0x{known.dtcm_base:07x}; --dtcm tells)" if place.memory == "dtcm" and known.is_dtcm_assumed else ""
+        lines.append(f"{place.name}  {known.show(place.memory, place.offset)}{assumed}")
         if is_text:
             lines.append(f"  {text_in(content)}")
         for at in [] if is_text else range(0, len(content), 32):

@@ -124,7 +124,7 @@ class Examples(Room):
         self.tool("make-cart", "--arm9", code, "-o", "stop.nds")
         self.put("stop.out", self.run_of("run", f"{self.room}/stop.nds", "none", "100", "none", status=9))
         said = self.tool("nds-show", "stop.out", "--cart", "stop.nds")
-        self.assertIn("stopped: Swi 0x0000000e at tick 1 by ARM9 (rank 22)", said)
+        self.assertIn("stopped: Swi 0x0000000e (GetCRC16) at tick 1 by ARM9 (rank 22)", said)
         self.assertIn("ARM9  System mode, ARM state, interrupts masked, cpsr 000000df\n  r15 02000004", said)
 
     def test_the_way_of_the_document_from_c_to_a_test(self):

@@ -88,14 +88,14 @@ class NdsTest(Room):
         self.put("game.nds.status", "9")
         self.put("game.nds.out", frame(1) + stop(44, 22, 2, 14))
         self.put("game.nds.before", memory(nine=[(R15, 0x2000014)]) + end(44))
-        line = "STOPPED all: Swi 0x0000000e at tick 44 by ARM9, r15 02000014 step+0x4"
+        line = "STOPPED all: Swi 0x0000000e (GetCRC16) at tick 44 by ARM9, r15 02000014 step+0x4"
         for words in ((), ("--update",)):
             self.assertEqual(self.run_it("all.test", *words)[:2], (1, f"{line}\n1 tests: 1 STOPPED\n"))
         self.assertEqual(self.text("all.expected"), before)
         self.kept("cart game.nds\nticks 100\nexpect stop Swi 14\n", "stops")
         self.assertEqual(self.run_it("stops.test")[:2], (0, "PASS    stops\n1 tests: 1 PASS\n"))
         self.put("other.test", "cart game.nds\nticks 100\nexpect stop Mosaic 0x2\n")
-        self.assertIn("STOPPED other: Swi 0x0000000e at tick 44 by ARM9, r15 02000014; Mosaic 0x00000002 was expected", self.run_it("other.test", "--update")[1])
+        self.assertIn("STOPPED other: Swi 0x0000000e (GetCRC16) at tick 44 by ARM9, r15 02000014; Mosaic 0x00000002 was expected", self.run_it("other.test", "--update")[1])
 
     def test_an_expected_stop_that_does_not_come_fails(self):
         self.put("stops.test", "cart game.nds\nticks 100\nexpect stop Swi 14\n")

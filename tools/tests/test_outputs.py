@@ -71,8 +71,8 @@ E  tick 100  steps of ARM9 62, of ARM7 27, events 0, turns 89
 
     def test_sums_of_a_run_that_stopped_or_has_no_frame_are_no_golden_file(self):
         rows = [
-            (frame(1) + stop(), 2, 1, "nds-frames: the run stopped: Swi 0x0000000e at tick 44 by ARM9; it has 1 of the frames\n"),
-            (stop(), 2, 0, "nds-frames: the run stopped: Swi 0x0000000e at tick 44 by ARM9; it has 0 of the frames\n"),
+            (frame(1) + stop(), 2, 1, "nds-frames: the run stopped: Swi 0x0000000e (GetCRC16) at tick 44 by ARM9; it has 1 of the frames\n"),
+            (stop(), 2, 0, "nds-frames: the run stopped: Swi 0x0000000e (GetCRC16) at tick 44 by ARM9; it has 0 of the frames\n"),
             (memory() + end(), 1, 0, "nds-frames: the output has no frame\n"),
         ]
         for content, status, lines, text in rows:
@@ -163,8 +163,8 @@ class Show(Outputs):
             ("names+4:1", "names+4:1  02001014 names+0x4\n  +000  0000006f  (111)\n"),
             ("0x2001000:2", "0x2001000:2  02001000 score\n  +000  00000014 00000000\n"),
             ("7:2001000h", "7:2001000h  02001000 score\n  +000  00000014  (20)\n"),
-            ("@dtcm+0x3ffc", "@dtcm+0x3ffc  03003ffc\n  +000  02000010  (33554448)\n"),
-            ("0x3003ffc", "0x3003ffc  03003ffc\n  +000  02000010  (33554448)\n"),
+            ("@dtcm+0x3ffc", "@dtcm+0x3ffc  03003ffc  (DTCM is assumed at 0x3000000; --dtcm tells)\n  +000  02000010  (33554448)\n"),
+            ("0x3003ffc", "0x3003ffc  03003ffc  (DTCM is assumed at 0x3000000; --dtcm tells)\n  +000  02000010  (33554448)\n"),
             ("0x200001c", "0x200001c  0200001c main+0xc\n  +000  00000000  (0)\n"),
             ("0x2000020", "0x2000020  02000020\n  +000  00000000  (0)\n"),
             ("0x2401000", "0x2401000  02001000 score\n  +000  00000014  (20)\n"),
@@ -199,7 +199,7 @@ class Show(Outputs):
         self.put("stop.out", stop(44, 22, 2, 14))
         status, out, notes = self.run_it("stop.out")
         self.assertEqual((status, notes.count("\n")), (2, 1))
-        self.assertEqual(out, "stopped: Swi 0x0000000e at tick 44 by ARM9 (rank 22)\n  this runs to that tick, before the step: ./nds run GAME.nds none 44 none >stopped.out\n")
+        self.assertEqual(out, "stopped: Swi 0x0000000e (GetCRC16) at tick 44 by ARM9 (rank 22)\n  this runs to that tick, before the step: ./nds run GAME.nds none 44 none >stopped.out\n")
         cart = self.put("my game.nds")
         self.put("my game.nds.out", memory(nine=[(R15, 0x2000014)]) + end(44))
         status, out, notes = self.run_it("stop.out", "--cart", cart, "--keys", "a.keys", "--elf9", self.elf)
@@ -237,7 +237,7 @@ class Diff(Outputs):
     def test_equal_outputs(self):
         whole = frame(1) + lists(1, [VERTEX]) + memory() + end()
         self.assertEqual(self.both(whole, whole), (0, "equal: 1 frames, 1 lists, memory, registers, counts\n", ""))
-        self.assertEqual(self.both(stop(), stop()), (0, "equal: both stopped: Swi 0x0000000e at tick 44 by ARM9\n", ""))
+        self.assertEqual(self.both(stop(), stop()), (0, "equal: both stopped: Swi 0x0000000e (GetCRC16) at tick 44 by ARM9\n", ""))
 
     def test_a_frame_is_told_by_screen_pixel_and_colours(self):
         tail = memory() + end()

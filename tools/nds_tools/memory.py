@@ -1,4 +1,5 @@
 """Places: which byte of which memory an address or a symbol names, as the maps of both processors stand at boot (docs/MEMORY.md)."""
+import difflib
 import re
 from dataclasses import dataclass
 from functools import cached_property
@@ -122,7 +123,14 @@ class Map:
             if found:
                 return (*self.place_of(which, found.address), found.size)
         known = [f"elf{'97'[it]} {elf.name}" for it, elf in enumerate(self.elves) if elf]
-        raise Untold(f"no symbol {base} is known{': ' + ' and '.join(known) + ' has none' if known else ', since no ELF file was given'}")
+        why = f": {' and '.join(known)} {'has' if len(known) == 1 else 'have'} none{self.alike(base)}" if known else ", since no ELF file was given"
+        raise Untold(f"no symbol {base} is known{why}")
+
+    def alike(self, name: str) -> str:
+        """Returns a question whether a symbol that is there was meant, or nothing where none is alike."""
+        every = {it.name for elf in self.elves if elf for it in elf.symbols}
+        found = difflib.get_close_matches(name, sorted(every), 3)
+        return f"; is {' or '.join(found)} meant?" if found else ""
 
 
 def shown(content: bytes) -> str:

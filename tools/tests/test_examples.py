@@ -87,8 +87,9 @@ class Examples(Room):
     def test_an_edit_that_changes_a_result_is_named(self):
         self.copied("c-game", ("game.c", "score++", "score += 2"), ("game.c", "PALETTE[0] = 0x2108;", "PALETTE[0] = 0x2109;"))
         said = self.tool("nds-test", "c-game/tests", status=1)
-        self.assertIn("FAIL    c-game/tests/coin: frame 90 changed: nds-test-out/c-game.tests.coin.frame-0090.png; score was 00000001, is 00000002; ", said)
-        self.assertEqual(picture(f"{self.room}/nds-test-out/c-game.tests.coin.frame-0090.png")[:2], (256, 384))
+        path = "nds-test-out/c-game.tests.coin.frame-0090-actual.png"
+        self.assertIn(f'FAIL    c-game/tests/coin: score was 00000001, is 00000002; message was "coins 1", is "coins 2"; frame 90 changed: {path}\n', said)
+        self.assertEqual(picture(f"{self.room}/{path}")[:2], (256, 384))
 
     def test_the_listing_of_the_scene(self):
         with open(f"{TOP}/examples/scene/scene.arm9.txt", "rb") as it:

@@ -17,39 +17,14 @@ Ends with 0; with 1 where no frame is there that was asked for; and with 2 where
 the output is none of a run: empty, cut, or with a letter that begins no record, which is told with the byte."""
 import argparse
 import hashlib
-import re
-from dataclasses import dataclass
-from typing import Optional, Tuple
 
 from nds_tools import png
 from nds_tools.records import SCREEN, End, Frame, Lists, Memory, Record, Stop, records_of
+from nds_tools.spans import wanted
 from nds_tools.words import GOOD, Refused, Untold, Words
 
 TOOL = "nds-frames"
 USAGE = "tools/nds-frames OUTPUT [--frame 60|1-10] [--every N] [--hash | --png FOLDER] [--upper | --lower] [--scale K]"
-
-
-@dataclass(frozen=True)
-class Wanted:
-    """Which frames are asked for."""
-
-    first: int = 1
-    last: Optional[int] = None
-    every: int = 1
-
-    def has(self, number: int) -> bool:
-        return self.first <= number <= (self.last or number) and (number - self.first) % self.every == 0
-
-
-def span(text: Optional[str]) -> Tuple[int, Optional[int]]:
-    """Reads 60 or 1-10; nothing stands for all frames."""
-    if text is None:
-        return 1, None
-    form = re.fullmatch(r"([0-9]+)(?:-([0-9]+))?", text)
-    first, last = (int(form[1]), int(form[2] or form[1])) if form else (0, 0)
-    if not 1 <= first <= last:
-        raise Untold(f"--frame {text}: it wants a number from 1, or a first and a last as 1-10")
-    return first, last
 
 
 def screens(frame: Frame, which: str) -> bytes:
@@ -101,9 +76,9 @@ def main() -> int:
     given = read_words()
     if given.every < 1 or not 1 <= given.scale <= 16:
         raise Untold("--every takes a number from 1, and --scale one from 1 to 16")
-    wanted, frames, stop = Wanted(*span(given.frame), given.every), 0, ""
+    chosen, frames, stop = wanted(given.frame, given.every), 0, ""
     for record in records_of(given.output):
-        if isinstance(record, (Frame, Lists)) and not wanted.has(record.number):
+        if isinstance(record, (Frame, Lists)) and not chosen.has(record.number):
             continue
         frames += isinstance(record, Frame)
         stop = f"the run stopped: {record}" if isinstance(record, Stop) else ""

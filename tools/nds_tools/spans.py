@@ -1,5 +1,8 @@
 """Numbers of frames as tests and messages write them: 60, 10-80."""
-from typing import Iterable, List
+from dataclasses import dataclass
+from typing import Iterable, List, Optional
+
+from nds_tools.words import Untold
 
 MOST_RANGES = 4
 
@@ -34,3 +37,26 @@ def joined(numbers: Iterable[int]) -> str:
     if len(found) > MOST_RANGES:
         return f"{count} frames from {found[0].start} to {found[-1].stop - 1}"
     return "frames " + ", ".join(str(it.start) if len(it) == 1 else f"{it.start}-{it.stop - 1}" for it in found)
+
+
+@dataclass(frozen=True)
+class Wanted:
+    """Frames from the first to the last, where there is one, and of these each Nth."""
+
+    first: int = 1
+    last: Optional[int] = None
+    every: int = 1
+
+    def has(self, number: int) -> bool:
+        return self.first <= number <= (self.last or number) and (number - self.first) % self.every == 0
+
+
+def wanted(text: Optional[str], every: int = 1) -> Wanted:
+    """Reads what follows --frame; without it all frames are wanted."""
+    if text is None:
+        return Wanted(every=every)
+    try:
+        found = span(text)
+    except ValueError as why:
+        raise Untold(f"--frame {why}") from None
+    return Wanted(found.start, found.stop - 1, every)

@@ -122,7 +122,7 @@ class Examples(Room):
 
     def test_a_stop_is_shown_by_a_run_to_its_tick(self):
         code = self.put("stop.bin", struct.pack("<3I", 0xE1A00000, 0xEF0E0000, 0xEAFFFFFE))
-        self.tool("make-cart", "--arm9", code, "-o", "stop.nds")
+        self.tool("make-cart", "--arm9", code, "--flat", "-o", "stop.nds")
         self.put("stop.out", self.run_of("run", f"{self.room}/stop.nds", "none", "100", "none", status=9))
         said = self.tool("nds-show", "stop.out", "--cart", "stop.nds")
         self.assertIn("stopped: Swi 0x0000000e (GetCRC16) at tick 1 by ARM9 (rank 22)", said)

@@ -48,15 +48,15 @@ class Examples(Room):
         self.assertEqual(ran.returncode, status, ran.stderr)
         return ran.stdout
 
-    def copied(self, name, *edits):
-        """Copies an example, edits a file of it by (file, old, new), and builds it."""
+    def copied(self, name, *edits, words=()):
+        """Copies an example, edits a file of it by (file, old, new), and builds it, with more words for make."""
         shutil.copytree(f"{TOP}/examples/{name}", f"{self.room}/{name}")
         for file, old, new in edits:
             with open(f"{self.room}/{name}/{file}") as it:
                 text = it.read()
             self.assertEqual(text.count(old), 1, old)
             self.put(f"{name}/{file}", text.replace(old, new))
-        words = ["make", "-s", "-B", f"TOOLS={TOOLS}"]
+        words = ["make", "-s", "-B", f"TOOLS={TOOLS}", *words]
         ran = subprocess.run(words, cwd=f"{self.room}/{name}", capture_output=True, text=True, timeout=60)
         self.assertEqual(ran.returncode, 0, ran.stderr)
 
@@ -90,6 +90,11 @@ class Examples(Room):
         path = "nds-test-out/c-game.tests.coin.frame-0090-actual.png"
         self.assertIn(f'FAIL    c-game/tests/coin: score was 00000001, is 00000002; message was "coins 1", is "coins 2"; frame 90 changed: {path}\n', said)
         self.assertEqual(picture(f"{self.room}/{path}")[:2], (256, 384))
+
+    @unittest.skipUnless(shutil.which("arm-none-eabi-gcc") and shutil.which("make"), "arm-none-eabi-gcc and make aren't here")
+    def test_gnus_compiler_builds_a_game_that_passes_the_same_tests(self):
+        self.copied("c-game", words=["CC=arm-none-eabi-gcc"])
+        self.assertIn("3 tests: 3 PASS", self.tool("nds-test", "c-game/tests"))
 
     def test_the_listing_of_the_scene(self):
         with open(f"{TOP}/examples/scene/scene.arm9.txt", "rb") as it:

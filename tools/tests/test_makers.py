@@ -5,7 +5,7 @@ import shutil
 import subprocess
 import unittest
 
-from made import TOP, Room
+from made import TOOLS, TOP, Room
 
 NAMES = ("first", "loop", "handover", "screens", "game")
 
@@ -54,6 +54,58 @@ class Makers(Room):
                 self.assertNotEqual(self.run_maker(name), 0)
                 self.assertEqual(self.content(name), whole)
                 self.assertEqual([it for it in os.listdir(f"{self.room}/examples") if ".new" in it], [])
+
+
+# A compiler that writes what is committed where -o says, and keeps its words.
+COMPILER = r"""#!/bin/sh
+echo "$*" >>"$KEPT"
+while [ $# -gt 1 ]; do
+    if [ "$1" = -o ]; then
+        case $2 in *game.elf) cp was/game.elf "$2" ;; *) cp was/seven.elf "$2" ;; esac
+    fi
+    shift
+done
+"""
+
+
+@unittest.skipUnless(shutil.which("make"), "make isn't here")
+class CGame(Room):
+    """The Makefile of the game in C, with compilers that are fakes."""
+
+    def setUp(self):
+        super().setUp()
+        shutil.copytree(f"{TOP}/examples/c-game", f"{self.room}/game/was")
+        for name in os.listdir(f"{self.room}/game/was"):
+            if name not in ("tests", "flags.txt", "game.elf", "seven.elf", "c-game.nds"):
+                shutil.copy(f"{self.room}/game/was/{name}", f"{self.room}/game/")
+        for name in ("clang", "arm-none-eabi-gcc"):
+            os.chmod(self.put(f"bin/{name}", COMPILER), 0o755)
+
+    def make(self, *words):
+        """Runs make; returns the compilers' words."""
+        environment = {**os.environ, "PATH": f"{self.room}/bin:{os.environ['PATH']}", "KEPT": f"{self.room}/kept"}
+        self.put("kept")
+        ran = subprocess.run(["make", "-s", f"TOOLS={TOOLS}", *words], cwd=f"{self.room}/game", env=environment, capture_output=True, text=True, timeout=60)
+        self.assertEqual(ran.returncode, 0, ran.stderr)
+        return self.text("kept").splitlines()
+
+    def test_each_compiler_gets_its_own_words_and_a_change_of_them_builds_anew(self):
+        nine, seven = self.make()
+        self.assertTrue(nine.startswith("--target=armv5te-none-eabi -mcpu=arm946e-s -fuse-ld=lld "), nine)
+        self.assertTrue(seven.startswith("--target=armv4t-none-eabi -mcpu=arm7tdmi -fuse-ld=lld "), seven)
+        self.assertEqual(self.make(), [], "nothing changed")
+        nine, seven = self.make("CC=arm-none-eabi-gcc")
+        self.assertTrue(nine.startswith("-mcpu=arm946e-s -marm ") and nine.endswith(" -o game.elf -lgcc"), nine)
+        self.assertTrue(seven.startswith("-mcpu=arm7tdmi -marm ") and seven.endswith(" -o seven.elf -lgcc"), seven)
+        self.assertEqual(self.make("CC=arm-none-eabi-gcc"), [])
+        self.assertEqual(len(self.make("CC=arm-none-eabi-gcc", "BOTH=-O0")), 2)
+        self.assertEqual(len(self.make()), 2)
+        with open(f"{self.room}/game/c-game.nds", "rb") as a, open(f"{self.room}/game/was/c-game.nds", "rb") as b:
+            self.assertEqual(a.read(), b.read())
+
+    def test_what_is_committed_was_built_by_the_words_that_stand_beside_it(self):
+        self.make()
+        self.assertEqual(self.text("game/flags.txt"), self.text("game/was/flags.txt"))
 
 
 if __name__ == "__main__":

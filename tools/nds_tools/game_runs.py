@@ -7,7 +7,7 @@ from typing import Dict, List, Optional, Tuple
 
 from nds_tools import names
 from nds_tools.memory import Map, Place, shown, text_in
-from nds_tools.program import DONE, LEFT_OUT, said, output_of, start, words_of_run
+from nds_tools.program import DONE, LEFT_OUT, finished, said, output_of, start, words_of_run
 from nds_tools.records import End, Frame, Lists, Memory, Reader, Stop
 from nds_tools.game_tests import Asked, Results, Shot, Test, as_text, sum_of
 from nds_tools.scripts import explained
@@ -188,12 +188,8 @@ def decimals(content: bytes) -> str:
 
 def run_to(playing: Playing, ticks: int) -> Tuple[Optional[Memory], Optional[End]]:
     """Runs to a tick, and returns its memories and counts, where there are some."""
-    run = start(playing.program, *playing.words(ticks, "none"))
-    watch = threading.Timer(playing.timeout, run.kill)
-    watch.start()
-    out, _ = run.communicate()
-    watch.cancel()
     try:
+        out = finished(playing.program, playing.timeout, *playing.words(ticks, "none"))[1]
         records = list(Reader(io.BytesIO(out), "the run"))
     except Untold:
         return None, None

@@ -44,7 +44,7 @@ import sys
 import time
 from concurrent.futures import ThreadPoolExecutor
 from dataclasses import dataclass, field
-from typing import Callable, List, Optional, Tuple
+from typing import List, Optional, Tuple
 from xml.sax.saxutils import escape, quoteattr
 
 from nds_tools import golden, png
@@ -53,7 +53,7 @@ from nds_tools.game_runs import MOST_HELD, Ran, ran
 from nds_tools.game_tests import Results, Shot, Test, found_in, near, read_kept, read_test, stale, sum_of, write_kept
 from nds_tools.last_failed import LastFailed
 from nds_tools.program import ready
-from nds_tools.words import FAILED, GOOD, UNTOLD, Untold, Words
+from nds_tools.words import FAILED, GOOD, UNTOLD, Untold, Words, count_from
 
 TOOL = "nds-test"
 USAGE = """tools/nds-test FOLDER|FILE.. [--update [NAME]] [--filter S] [--last-failed] [-x] [--all] [--list] [--durations [N]]
@@ -232,21 +232,6 @@ def chosen(given: argparse.Namespace) -> List[Tuple[str, str]]:
         wanted = given.update or given.filter
         raise Untold(f"there is no test {wanted}{near(wanted, [os.path.basename(it[1]) for it in every])}")
     return found
-
-
-def count_from(least: float, kind: Callable[[str], float]) -> Callable[[str], float]:
-    """Returns what reads a word that is a number, not below the least one."""
-
-    def read(text: str) -> float:
-        try:
-            value = kind(text)
-        except ValueError:
-            value = least - 1
-        if not value >= least:
-            raise argparse.ArgumentTypeError(f"{text} is no {'whole ' if kind is int else ''}number from {least:g}")
-        return value
-
-    return read
 
 
 def read_words() -> argparse.Namespace:

@@ -55,6 +55,19 @@ def start(found: str, *words: str) -> "subprocess.Popen[bytes]":
         raise Untold(f"{found} can't be run: {why.strerror}") from None
 
 
+def finished(found: str, timeout: float, *words: str) -> Tuple[int, bytes, bytes]:
+    """Runs the program to its end, and returns its status, its output and its note; one that takes too long can't be judged."""
+    run = start(found, *words)
+    try:
+        out, note = run.communicate(timeout=timeout)
+    except subprocess.TimeoutExpired:
+        raise Untold(f"the run took more than {timeout:g} seconds") from None
+    finally:
+        run.kill()
+        run.communicate()
+    return run.returncode, out, note
+
+
 def assembled(found: str, listing: str) -> bytes:
     """Returns the bytes that a listing stands for."""
     run = start(found, "asm", plain(listing))

@@ -250,6 +250,16 @@ def whole(text: str) -> int:
     return int(text)
 
 
+def test_of(path: str, **words: Optional[str]) -> Optional[Test]:
+    """Returns the test where a tool's word for a game names one; what it tells can't be told beside it."""
+    if not path.endswith(ENDING):
+        return None
+    for name, word in words.items():
+        if word and word != scripts.NONE:
+            raise Untold(f"--{name} {word}: {path} is a test, which tells that itself")
+    return read_test(path, path)
+
+
 def read_test(path: str, name: str) -> Test:
     """Reads a test's file."""
     try:

@@ -26,7 +26,7 @@ from typing import Dict, List, Optional, Tuple
 
 from nds_tools import names, scripts
 from nds_tools.conditions import Condition, condition
-from nds_tools.game_tests import ENDING, MOST_TICKS, read_test
+from nds_tools.game_tests import MOST_TICKS, test_of
 from nds_tools.hangs import where
 from nds_tools.memory import Map
 from nds_tools.program import DONE, LEFT_OUT, finished, ready, said, words_of_run
@@ -192,8 +192,8 @@ def last_tick(given: argparse.Namespace, otherwise: int) -> int:
 def main() -> int:
     given = read_words()
     with ExitStack() as stack:
-        if given.game.endswith(ENDING):
-            test = read_test(given.game, given.game)
+        test = test_of(given.game, keys=given.keys, elf9=given.elf9, elf7=given.elf7, dtcm=given.dtcm)
+        if test:
             known, cart, last = test.map(), test.cart, last_tick(given, test.ticks)
             keys = stack.enter_context(test.script())
         else:

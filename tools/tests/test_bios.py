@@ -117,7 +117,7 @@ class Functions(Room):
     def setUp(self):
         super().setUp()
         library = f"{self.room}/bios.so"
-        subprocess.run([COMPILER, "-shared", "-fPIC", "-O1", "-o", library, f"{BIOS}/bios.c"], check=True, capture_output=True, timeout=60)
+        subprocess.run([COMPILER, "-shared", "-fPIC", "-O1", "-o", library, f"{BIOS}/bios.c"], check=True, capture_output=True, timeout=300)
         self.bios = ctypes.CDLL(library)
 
     def unpacked(self, name, packed, size):
@@ -171,7 +171,7 @@ class Units(Room):
     def test_a_build_gives_what_is_committed(self):
         shutil.copytree(BIOS, f"{self.room}/bios")
         words = ["make", "-s", "-B", f"TOOLS={TOOLS}", f"GAME={TOP}/examples/c-game"]
-        subprocess.run(words, cwd=f"{self.room}/bios", check=True, capture_output=True, timeout=60)
+        subprocess.run(words, cwd=f"{self.room}/bios", check=True, capture_output=True, timeout=300)
         for name in [f"units/{it}.{end}" for it in UNITS for end in ("elf", "nds")]:
             with open(f"{BIOS}/{name}", "rb") as a, open(f"{self.room}/bios/{name}", "rb") as b:
                 self.assertEqual(a.read(), b.read(), name)
@@ -188,7 +188,7 @@ class Units(Room):
         with open(f"{BIOS}/bios.c") as it:
             self.put("bios/bios.c", it.read().replace("0xA001", "0xA002"))
         words = ["make", "-s", f"TOOLS={TOOLS}", f"GAME={TOP}/examples/c-game"]
-        subprocess.run(words, cwd=f"{self.room}/bios", check=True, capture_output=True, timeout=60)
+        subprocess.run(words, cwd=f"{self.room}/bios", check=True, capture_output=True, timeout=300)
         status, out, _ = self.run_it("bios/tests/crc.test", NDS_PROGRAM=PROGRAM)
         self.assertEqual(status, 1, out)
         self.assertRegex(out, r"STOPPED bios/tests/crc: Swi 0x000000aa \(a failed assertion\) at tick \d+ by ARM9, r15 [0-9a-f]{8} sums_of_the_digits")

@@ -36,6 +36,8 @@ SOURCES = ("crates", "crates.txt")
 LISTING = os.path.join("examples", "loop.arm9.txt")
 TESTS = (os.path.join("examples", "c-game", "tests"), os.path.join("examples", "scene", "tests"))
 SECONDS = 600.0
+# (newer versions of Python want to be told, and older ones don't know the word)
+SAFELY = {"filter": "data"} if hasattr(tarfile, "data_filter") else {}
 
 
 def git(*words: str) -> str:
@@ -101,7 +103,7 @@ def tried(content: bytes, folder: str) -> str:
     """Unpacks an archive elsewhere and tries it; returns what the examples' tests said."""
     with tempfile.TemporaryDirectory(prefix="nds-release-") as room:
         with tarfile.open(fileobj=io.BytesIO(content)) as tar:
-            tar.extractall(room)
+            tar.extractall(room, **SAFELY)
         top = os.path.join(room, folder)
         environment = {name: it for name, it in os.environ.items() if not name.startswith("NDS_")}
         how = {"cwd": top, "env": environment, "stdin": subprocess.DEVNULL, "capture_output": True, "timeout": SECONDS}

@@ -114,24 +114,33 @@ def of_file(name: str) -> Iterator[str]:
         yield path
 
 
+def next_key(line: str, at: int, last: int) -> Tuple[Optional[str], int]:
+    """Reads the name of a key that comes after the key `last`; returns it and the place behind it, or None and the place of the first byte with
+    which no name goes on."""
+    begin, left = at, KEYS[last + 1 :]
+    while at < len(line) and line[at] != "+":
+        left = tuple(it for it in left if it.startswith(line[begin : at + 1]))
+        if not left:
+            return None, at
+        at += 1
+    name = line[begin:at]
+    return name if name in left else None, at
+
+
 def keys_fault(line: str, at: int) -> Optional[Tuple[int, str]]:
     """Returns the place of the first byte that is wrong in the keys of a line, which begin at `at`, and why."""
-    last, begin = -1, at
+    last = -1
     while True:
-        found, is_end = [it for it in KEYS[last + 1 :]], False
-        while not is_end:
-            here = line[at : at + 1]
-            is_end = here in ("", "+")
-            left = [it for it in found if (len(it) == at - begin if is_end else it.startswith(line[begin : at + 1]))]
-            if not left:
-                return at, key_reason(line[begin:].split("+")[0], last)
-            found, at = left, at + 1
-        last = KEYS.index(found[0])
-        if at > len(line):
+        begin = at
+        name, at = next_key(line, begin, last)
+        if name is None:
+            return at, key_reason(line[begin:].split("+")[0], last)
+        last = KEYS.index(name)
+        if at == len(line):
             return None
         if last + 1 == len(KEYS):
-            return at - 1, f"no key comes after {KEYS[last]}"
-        begin = at
+            return at, f"no key comes after {name}"
+        at += 1
 
 
 def key_reason(word: str, last: int) -> str:

@@ -192,7 +192,8 @@ def read_words() -> argparse.Namespace:
     if given.frame and given.ticks:
         raise Untold("--frame and --ticks don't go together")
     if given.cart and (given.frame or given.ticks):
-        raise Untold(f"--cart {given.cart} is for an output that stopped: with {'--frame' if given.frame else '--ticks'} the cartridge stands in its place")
+        with_it = "--frame" if given.frame else "--ticks"
+        raise Untold(f"--cart {given.cart} is for an output that stopped: with {with_it} the cartridge stands in its place")
     return given
 
 

@@ -160,7 +160,8 @@ def lines(search: Search, tick: int) -> List[str]:
 def not_found(search: Search, last: int) -> str:
     """Returns what is told where the condition doesn't hold."""
     stop = next((it.stop for it in search.seen.values() if it.stop), None)
-    text = f"{search.condition.text} doesn't hold up to tick {last}, in frame {frame_of(last)}, at any of the {len(search.seen)} ticks that were looked at"
+    looked = f"at any of the {len(search.seen)} ticks that were looked at"
+    text = f"{search.condition.text} doesn't hold up to tick {last}, in frame {frame_of(last)}, {looked}"
     return f"{text}\n  there: {search.at(last).shown}{f'; the run stops: {stop}' if stop else ''}"
 
 

@@ -36,6 +36,8 @@ SOURCES = ("crates", "crates.txt")
 LISTING = os.path.join("examples", "loop.arm9.txt")
 TESTS = (os.path.join("examples", "c-game", "tests"), os.path.join("examples", "scene", "tests"))
 SECONDS = 600.0
+# What a program has in it that is checked as it runs.
+UNPROVED = b"AddressSanitizer"
 # (newer versions of Python want to be told, and older ones don't know the word)
 SAFELY = {"filter": "data"} if hasattr(tarfile, "data_filter") else {}
 
@@ -127,6 +129,8 @@ def program_of(path: Optional[str]) -> bytes:
     content = bytes_of(found)
     if not content.startswith(PROGRAM) and not content.startswith(b"#!"):
         raise Untold(f"{found} is no program")
+    if UNPROVED in content:
+        raise Refused(f"{found} was compiled with checks and before any proof, as ./nds --unproved has it: no release is made of that")
     if finished(os.path.abspath(found), SECONDS, "asm", os.path.join(TOP, LISTING))[0]:
         raise Untold(f"{found} doesn't assemble {LISTING}, so it isn't the program nds")
     return content

@@ -71,10 +71,12 @@ class MakeRelease(Small):
     def test_what_is_refused(self):
         self.write(f"{self.room}/wrong", "#!/bin/sh\nexit 3\n", 0o755)
         self.write(f"{self.room}/text", "text\n", 0o755)
+        self.write(f"{self.room}/checked", "#!/bin/sh\n# AddressSanitizer\n", 0o755)
         rows = [
             (("--program", "wrong"), 2, "wrong doesn't assemble examples/loop.arm9.txt, so it isn't the program nds"),
             (("--program", "text"), 2, "text is no program"),
             (("--program", "absent"), 2, "absent: No such file"),
+            (("--program", "checked"), 1, "checked was compiled with checks and before any proof"),
             (("--fly",), 2, "unrecognized arguments: --fly"),
         ]
         for words, status, said in rows:

@@ -203,6 +203,19 @@ class NdsTest(Room):
             ran = subprocess.run([sys.executable, "-B", "repository/tools/nds-test", "one.test"], **there)
             self.assertEqual(ran.returncode, 2)
             self.assertIn(text, ran.stdout + ran.stderr)
+        unproved = "#!/bin/sh\necho 'nds: NOT PROVED: slow' >&2\n[ \"$1\" = asm ] && exit 0\necho 'no file: game.nds' >&2\nexit 3\n"
+        os.chmod(self.put("repository/nds", unproved), 0o755)
+        there["env"]["NDS_UNPROVED"] = "1"
+        ran = subprocess.run([sys.executable, "-B", "repository/tools/nds-test", "one.test"], **there)
+        self.assertEqual((ran.stdout.splitlines()[0], ran.stderr), ("ERROR   one: no file: game.nds", "nds: NOT PROVED: slow\n"))
+
+    def test_a_program_that_lies_beside_the_tools_is_run_as_it_is(self):
+        shutil.copytree(TOOLS, f"{self.room}/kept/tools", ignore=shutil.ignore_patterns("tests", "__pycache__"))
+        shutil.copy(shutil.which("true"), f"{self.room}/kept/nds")
+        self.put("one.test", "cart game.nds\nticks 100\nkeep peek @main\n")
+        there = {"cwd": self.room, "env": {"PATH": os.environ["PATH"]}, "capture_output": True, "text": True, "timeout": 60}
+        ran = subprocess.run([sys.executable, "-B", "kept/tools/nds-test", "one.test"], **there)
+        self.assertTrue(ran.stdout.startswith("ERROR   one: the run's output is empty"), ran.stdout + ran.stderr)
 
     def test_no_tests_no_program_and_the_command(self):
         os.mkdir(f"{self.room}/void")

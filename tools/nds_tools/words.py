@@ -1,5 +1,6 @@
 """How each tool reads its words, names its errors and ends: 0 for good, 1 for what differs or failed, 2 for what can't be judged."""
 import argparse
+import difflib
 import os
 import sys
 from typing import Callable, IO, NoReturn
@@ -37,8 +38,14 @@ class Words(argparse.ArgumentParser):
             sys.exit(GOOD)
         return self.parse_intermixed_args(words)
 
+    def meant(self, message: str) -> str:
+        """Returns a question whether an option that is there was meant by one that isn't, or nothing where none is alike."""
+        wrong = message.partition("unrecognized arguments: ")[2].split(" ")[0]
+        found = difflib.get_close_matches(wrong, self._option_string_actions, 1, 0.7) if wrong.startswith("--") else []
+        return f" (is {found[0]} meant?)" if found else ""
+
     def error(self, message: str) -> NoReturn:
-        print(f"{self.prog}: {message}; --help tells the words", file=sys.stderr)
+        print(f"{self.prog}: {message}{self.meant(message)}; --help tells the words", file=sys.stderr)
         sys.exit(UNTOLD)
 
 

@@ -267,7 +267,8 @@ class Which(Games):
             (("a", "--jobs", "two"), 2, "nds-test: argument --jobs: two is no whole number from 1; --help"),
             (("a", "--timeout", "0"), 2, "argument --timeout: 0 is no number from 0.01"),
             (("a", "--durations", "-1"), 2, "--durations"),
-            (("a", "--fly"), 2, "unrecognized arguments: --fly"),
+            (("a", "--fly"), 2, "unrecognized arguments: --fly; --help"),
+            (("a", "--jbos", "3"), 2, "unrecognized arguments: --jbos 3 (is --jobs meant?); --help"),
             (("a", "--update", "tow"), 2, "there is no test tow (is two meant?)"),
         ])  # fmt: skip
 

@@ -119,7 +119,7 @@ def pictured(test: Test, shot: Shot, kept: Results, now: bytes, out: str) -> str
 
 def frames_told(test: Test, found: Changes, kept: Results, run: Ran, how: How) -> str:
     """Writes pictures of the first frames that changed, and returns what is told of the first one."""
-    shots = [it for it in sorted(run.frames, key=lambda it: it.number) if it.key in found.frames]
+    shots = [it for it in sorted(run.frames, key=lambda it: (it.number, it.screen)) if it.key in found.frames]
     told = [pictured(test, it, kept, run.frames[it], how.out) for it in (shots if how.is_all else shots[:PICTURED])]
     if not told:
         return ""

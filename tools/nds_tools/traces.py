@@ -52,6 +52,11 @@ class Place:
     function: str
     offset: int
 
+    @property
+    def is_entry(self) -> bool:
+        """Whether it is a function's first instruction."""
+        return self.offset == 0 and self.function != NOWHERE
+
     def __str__(self) -> str:
         return f"{self.function}{f'+0x{self.offset:x}' if self.offset else ''}"
 
@@ -135,7 +140,7 @@ def profile_of(steps: Iterable[Step], functions: Functions) -> Profile:
             row.ticks += it.tick - before.tick
         row = whole.spent.setdefault(place.function, Spent())
         row.steps += it.text != "irq"
-        row.entered += place.offset == 0 and it.text != "irq"
+        row.entered += place.is_entry and it.text != "irq"
         whole.last, before = it.tick, it
     return whole
 

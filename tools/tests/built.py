@@ -14,6 +14,7 @@ MODULES = {
     "nds-keys": "keys_command",
     "nds-show": "show_command",
     "nds-test": "games_command",
+    "nds-trace": "trace_command",
     "nds-when": "when_command",
 }
 

@@ -10,8 +10,8 @@ import shutil
 import subprocess
 import unittest
 
+from built import CLANG, PROGRAM, has_compiler
 from made import TOOLS, TOP, Room
-from test_examples import CLANG, PROGRAM, has_compiler
 
 from nds_tools import names
 

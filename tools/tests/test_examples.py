@@ -15,12 +15,13 @@ from made import TOOLS, TOP, Room, picture, stop
 
 class Examples(Built):
     def test_the_games_tests_pass(self):
-        said = self.tool("nds-test", f"{TOP}/examples/c-game/tests", f"{TOP}/examples/scene/tests")
+        said = self.tool("nds-test", *(f"{TOP}/examples/{it}/tests" for it in ("c-game", "scene", "startup")))
         self.assertRegex(said, r"\n(\d+) tests: \1 PASS\n$")
 
     @unittest.skipUnless(has_compiler(), f"clang and lld {CLANG} and make aren't here")
     def test_a_build_gives_what_is_committed(self):
-        for name, files in (("c-game", ("c-game.nds", "game.elf", "seven.elf")), ("scene", ("scene.nds", "scene.elf"))):
+        for name, files in (("c-game", ("c-game.nds", "game.elf", "seven.elf")), ("scene", ("scene.nds", "scene.elf")),
+                            ("startup", ("startup.nds", "nine.elf", "seven.elf"))):  # fmt: skip
             self.copied(name)
             for file in files:
                 pair = []
@@ -78,6 +79,13 @@ class Examples(Built):
         self.tool("nds-frames", "-", "--png", "shots", "--frame", "3", given=open_bytes(f"{self.room}/screens.out"))
         rows = picture(f"{self.room}/shots/frame-0003.png")[2]
         self.assertEqual((rows[20][30:33], rows[192 + 100][0:3]), (bytes((255, 0, 0)), bytes((156, 0, 99))))
+
+    def test_a_trace_of_an_example_by_function(self):
+        elf = f"{TOP}/examples/startup/nine.elf"
+        loop, startup = f"{TOP}/examples/loop.nds", f"{TOP}/examples/startup/startup.nds"
+        lines = self.tool("nds-trace", loop, "--ticks", "100", "--profile").splitlines()
+        self.assertEqual((lines[0], len(lines), lines[2].split()[2:]), ("62 steps in 99 ticks, halted for 0 of them (0.0%)", 3, ["62", "0", "(no", "symbol)"]))
+        self.assertIn(" bl 0x200005c  ; memories\n", self.tool("nds-trace", startup, "--ticks", "100", "--elf9", elf))
 
     def test_a_stop_is_shown_by_a_run_to_its_tick(self):
         code = self.put("stop.bin", struct.pack("<3I", 0xE1A00000, 0xEF0E0000, 0xEAFFFFFE))

@@ -87,7 +87,7 @@ class Traces(Room):
             "4 12.9% 2 1 _start",
             "4 12.9% 2 1 tell",
             "3 9.7% 1 0 boot ROM IntrWait",
-            "0 0.0% 1 1 (no symbol)",
+            "0 0.0% 1 0 (no symbol)",
         ])  # fmt: skip
 
     def test_arm7s_stub_stands_at_0(self):

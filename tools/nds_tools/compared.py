@@ -10,6 +10,8 @@ from nds_tools.words import Untold
 
 SHOWN, SHOWN_VARIABLES = 3, 40
 BLOCK = 4_096
+# Where main memory has the header's copy, which tells how long the images are.
+HEADER = ("main", 0x3F_FE00, 0x3F_FF70)
 # A memory, the first offset, and the one after the last.
 Range = Tuple[str, int, int]
 
@@ -53,6 +55,15 @@ class Side:
         """Whether a word points into code, of ARM or Thumb."""
         return any(first <= value & ~1 < end for first, end in self.code)
 
+    def runs(self, proc: int) -> bool:
+        """Whether the code of a processor's ELF file stands in memory, so that the file may be that of the program that ran."""
+        elf = self.known.elves[proc]
+        for address, content in elf.code_bytes() if elf else []:
+            place = range_of(self.known, proc, address, len(content))
+            if place and self.record.memories[place[0]][place[1] : place[2]] != content[: place[2] - place[1]]:
+                return False
+        return True
+
     def word(self, memory: str, at: int) -> int:
         return int.from_bytes(self.record.memories[memory][at : at + 4], "little")
 
@@ -80,9 +91,9 @@ def variables(known: Map) -> Dict[str, Range]:
 
 
 def code_ranges(known: Map) -> List[Range]:
-    """Returns where code lies."""
+    """Returns where code lies, and the header's copy."""
     found = [range_of(known, proc, first, end - first) for proc, elf in enumerate(known.elves) if elf for first, end in elf.code()]
-    return [it for it in found if it]
+    return [it for it in found if it] + [HEADER]
 
 
 def value_line(name: str, one: bytes, two: bytes) -> str:

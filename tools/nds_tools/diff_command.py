@@ -6,8 +6,8 @@
   --only P     that part alone: frames, lists, variables, memory, registers or counts; may be given several times
   --elf9 F, --elf7 F   the programs' ELF files, for their variables and symbols
   --elf9-b F, --elf7-b F   those of B, where it is another build: variables are then found by name in each
-  --skip-code  leaves out the bytes where these files have code, and words that point into it in both outputs: those change with an edit
-               that changes no result
+  --skip-code  leaves out the bytes where these files have code, the header's copy, and words that point into code in both outputs: those
+               change with an edit that changes no result
   --frame F    the frames and lists of these numbers alone: one, or a first and a last
   --png DIR    three pictures for each frame that differs: A's, B's, and the difference, red where they differ
   --most N     pictures of at most N frames; left out, 20
@@ -17,8 +17,11 @@ Variables that differ come by name, with their values or the first word that dif
 first three places: of a frame the screen, how many pixels, the first one's (x, y) and both colours; of a memory the address, the symbol and
 both words, without the variables and the pointers into code. All registers and counts that differ are told, and a stop by its name.
 
+Where the code in an output's memory isn't its ELF file's, standard error says so: then its variables lie elsewhere.
+
 Ends with 0 where nothing differs, with 1 where something does, and with 2 where an output is none of a run or a file isn't there."""
 import argparse
+import sys
 from dataclasses import dataclass
 from typing import Iterator, List, Optional, Tuple, Union
 
@@ -173,6 +176,15 @@ def compare_counts(a: End, b: End) -> Part:
     return Part("counts", len(values), len(lines), lines)
 
 
+def tell_other_programs(sides: Tuple[Side, Side]) -> None:
+    """Says which output isn't a run of the program whose ELF file was given."""
+    for name, side in zip("AB", sides):
+        for proc, elf in enumerate(side.known.elves):
+            if elf and not side.runs(proc):
+                hint = f"; --elf{'97'[proc]}-b names that of B" if name == "B" else ""
+                print(f"{TOOL}: {name} isn't a run of {elf.name}, whose code is another one{hint}", file=sys.stderr)
+
+
 def compare_tails(a: Tail, b: Tail, only: List[str], maps: Tuple[Map, Map], skips_code: bool) -> List[Part]:
     """Compares what follows the frames."""
     if a.stop or b.stop:
@@ -181,6 +193,7 @@ def compare_tails(a: Tail, b: Tail, only: List[str], maps: Tuple[Map, Map], skip
     parts: List[Part] = []
     if a.memory and b.memory and a.end and b.end:
         sides = Side(a.memory, maps[0]), Side(b.memory, maps[1])
+        tell_other_programs(sides)
         parts += [compare_variables(*sides, skips_code)] if "variables" in only else []
         parts += compare_memory(*sides, skips_code) if "memory" in only else []
         parts += compare_registers(sides) if "registers" in only else []

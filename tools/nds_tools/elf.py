@@ -191,13 +191,26 @@ class Elf:
         at += [it.address for it in self.sections if it.flags & ALLOC and it.size and "dtcm" in self.section_name(it)]
         return at[0] // DTCM_BYTES * DTCM_BYTES if at else None
 
+    def code_bytes(self) -> List[Tuple[int, bytes]]:
+        """Returns the bytes of code that the file has, with the address that they are copied to at boot."""
+        found = []
+        for address, size in self.code_parts():
+            for it in self.segments:
+                at = address - it.address
+                if 0 <= at < len(it.content):
+                    found.append((it.load + at, it.content[at : at + size]))
+        return found
+
+    def code_parts(self) -> List[Tuple[int, int]]:
+        """Returns the sections of code, or the segments where there are no sections, by address and size."""
+        if not self.sections:
+            return [(it.address, it.size) for it in self.segments if it.is_code]
+        return [(it.address, it.size) for it in self.sections if it.flags & ALLOC and it.flags & CODE]
+
     def code(self) -> List[Tuple[int, int]]:
         """Returns where code lies, as first address and the one after the last, at the places that it runs at and is copied from."""
         found: Dict[Tuple[int, int], None] = {}
-        parts = [(it.address, it.size) for it in self.sections if it.flags & ALLOC and it.flags & CODE]
-        if not self.sections:
-            parts = [(it.address, it.size) for it in self.segments if it.is_code]
-        for address, size in parts:
+        for address, size in self.code_parts():
             found[(address, address + size)] = None
             for it in self.segments:
                 if it.address <= address < it.address + it.size:

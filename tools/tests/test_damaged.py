@@ -1,6 +1,7 @@
 """ELF files with random damage: each is read or refused in one line, by each tool that reads one, and none ends in a traceback.
 
 `python3 tools/tests/test_damaged.py 20000` tries that many."""
+import io
 import random
 import sys
 import unittest
@@ -10,6 +11,7 @@ from made import TOP, Room, elf, end, memory
 from nds_tools import cart_command, compared
 from nds_tools.elf import Elf
 from nds_tools.memory import Map
+from nds_tools.records import Reader
 from nds_tools.words import Refused, Untold
 
 SEED, QUICK = 62, 400
@@ -54,10 +56,12 @@ def looked_at(content, sides):
             pass
     for address in (0x2000000, 0x2001002, 0xFFFFFFFF, 0):
         known.named(0, address)
+    code.code_bytes()
     compared.code_ranges(known)
     compared.variables(known)
     if sides:
         both = [compared.Side(it, known) for it in sides]
+        both[0].runs(0)
         compared.compare_variables(*both, False)
         compared.compare_memory(*both, True)
 
@@ -69,10 +73,6 @@ class Damaged(Room):
 
     def try_them(self, count, each_compared=100):
         """Tries that many files; returns how many were read to the end."""
-        import io
-
-        from nds_tools.records import Reader
-
         chance, files, good = random.Random(SEED), self.files(), 0
         sides = [next(iter(Reader(io.BytesIO(memory([("main", 0x1000, it)]) + end()), "made"))) for it in (1, 2)]
         for number in range(count):

@@ -298,6 +298,17 @@ counts: 2 of 5 differ
         self.assertEqual(self.both(pair[0], memory(shifted) + end(), *words, "--elf9-b", moved, "--skip-code")[1], told.format(4, ""))
         self.assertEqual(self.both(pair[0], pair[0], *words), (0, "equal: variables, memory, registers, counts\n", ""))
 
+    def test_an_output_of_another_program_is_told(self):
+        code = struct.pack("<4I", 1, 2, 3, 4)
+        old = self.put("old.elf", elf([(0x2000000, 0x2000000, code, 16)], sections=[(0x2000000, 16)]))
+        new = self.put("new.elf", elf([(0x2000000, 0x2000000, code[::-1], 16)], sections=[(0x2000000, 16)]))
+        words = [[("main", 4 * at, value) for at, value in enumerate(struct.unpack("<4I", it))] for it in (code, code[::-1])]
+        pair = memory(words[0]) + end(), memory([*words[1], ("main", 0x3FFE2C, 5)]) + end()
+        told = f"nds-diff: {{}} isn't a run of {old}, whose code is another one{{}}\n"
+        self.assertEqual(self.both(*pair, "--elf9", old, "--skip-code")[::2], (0, told.format("B", "; --elf9-b names that of B")))
+        self.assertEqual(self.both(*pair[::-1], "--elf9", old, "--skip-code")[::2], (0, told.format("A", "")))
+        self.assertEqual(self.both(*pair, "--elf9", old, "--elf9-b", new, "--skip-code")[::2], (0, ""))
+
     def test_frames_and_pictures_are_limited(self):
         tail = memory() + end()
         pair = b"".join(map(frame, range(1, 6))) + tail, b"".join(frame(it, 1) for it in range(1, 6)) + tail

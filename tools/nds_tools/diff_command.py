@@ -149,23 +149,21 @@ def compare_pictured(pairs: Iterator[Tuple[Optional[Pictured], Optional[Pictured
     return [frames, lists]
 
 
-def near(side: Side, proc: int, name: str) -> str:
-    """Returns the symbol that r14 and r15 belong to."""
-    elf = side.known.elves[proc]
-    return elf.near(side.record.registers[proc][name]) if elf and name.startswith(("r14", "r15")) else ""
+def register(side: Side, proc: int, name: str) -> str:
+    """Returns a register's value, of r14 and r15 with the symbol that it belongs to."""
+    value, elf = side.record.registers[proc][name], side.known.elves[proc]
+    near = elf.near(value) if elf and name.startswith(("r14", "r15")) else ""
+    return f"{value:08x}{' ' + near if near else ''}"
 
 
 def compare_registers(sides: Tuple[Side, Side]) -> List[Part]:
     """Compares all registers of both processors; all that differ are told."""
     parts = []
     for proc, name in enumerate(names.PROCESSORS):
-        part = Part(f"registers of {name}", len(names.REGISTERS))
-        for it in names.REGISTERS:
-            values = [side.record.registers[proc][it] for side in sides]
-            if values[0] != values[1]:
-                part.count += 1
-                part.lines.append(f"{it} " + " and ".join(f"{value:08x}{' ' + where if where else ''}" for value, where in zip(values, (near(side, proc, it) for side in sides))))
-        parts.append(part)
+        one, two = (side.record.registers[proc] for side in sides)
+        differ = [it for it in names.REGISTERS if one[it] != two[it]]
+        lines = [f"{it} " + " and ".join(register(side, proc, it) for side in sides) for it in differ]
+        parts.append(Part(f"registers of {name}", len(names.REGISTERS), len(differ), lines))
     return parts
 
 

@@ -1,4 +1,6 @@
-"""What a processor does at a run's end: what it waits for in the boot ROM stub, where it crashed, and what an interrupt broke into (docs/BOOT_ROM.md)."""
+"""What a processor does at a run's end: what it waits for in the boot ROM stub, where it crashed, and what an interrupt broke into.
+
+docs/BOOT_ROM.md has the stub, and where a game hangs."""
 from dataclasses import dataclass
 from typing import Dict, List, Optional, Tuple
 

@@ -4,6 +4,7 @@ use rig::Rig;
 use std::alloc::{AllocError, Global};
 use std::process::Abort;
 
+mod clips;
 mod fifo;
 mod lights;
 mod lists;

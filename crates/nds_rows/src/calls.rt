@@ -5,7 +5,7 @@ ghost use Rattle.std.specs.Prelude.{◌≡◌, IsTrue, None};
 use ds_base::{Keys, Tick};
 use ds_header::Cart;
 use ds_io::{Calls, MemShelf, MemSink, Shelf, Sink};
-use nds_top::{Keep, ds_main, number, play, switch_on};
+use nds_top::{Keep, Status, ds_main, number, play, switch_on};
 use row_files::{BadLine, Came, Scene};
 use run_ahead::{Console, Turned};
 use std::alloc::{AllocError, Global};
@@ -29,10 +29,11 @@ fn shelf_of(alloc: Global, scene: &Scene) -> Result<MemShelf, AllocError> {
     Ok(MemShelf::new(files, fails))
 }
 
-/// A sink with room for so many bytes, of which this call fails.
-fn sink_of(alloc: Global, fails: u64, room: usize) -> Result<MemSink, AllocError> {
+/// A sink with room for so many bytes, of which this call fails, and which takes at most so many bytes a call, or 1.
+fn sink_of(alloc: Global, fails: u64, room: usize, most: usize) -> Result<MemSink, AllocError> {
     let fails = only(alloc, fails)?;
-    MemSink::new(alloc, fails, room)
+    let most = if most == 0 { 1 } else { most };
+    MemSink::slow(alloc, fails, room, most)
 }
 
 /// The top call with these words over any shelf and sinks: its status's number.
@@ -48,6 +49,11 @@ fn number_of_call<F: Shelf, O: Sink, N: Sink>(
 {
     let status = ds_main(alloc, words, shelf, out, notes, seat);
     number(&status)
+}
+
+/// The number of want of memory, which no call over ample memory answers.
+pub fn number_of_want() -> u8 {
+    number(&Status::NoMemory)
 }
 
 /// What a call came to, by its status's number and what it wrote.
@@ -74,8 +80,8 @@ fn call_over(
 ) -> Result<Came, AllocError>
     requires { seat.old ≡ None }
 {
-    let mut out = sink_of(alloc, scene.fails.out, scene.room)?;
-    let mut notes = sink_of(alloc, scene.fails.notes, 200)?;
+    let mut out = sink_of(alloc, scene.fails.out, scene.room, scene.most)?;
+    let mut notes = sink_of(alloc, scene.fails.notes, 200, scene.most)?;
     let words = scene.words.as_slice();
     let status = number_of_call(alloc, words, shelf, &mut out, &mut notes, seat);
     gathered(alloc, status, &out, &notes)

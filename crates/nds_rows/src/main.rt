@@ -20,19 +20,24 @@ mod consoles;
 mod rows;
 mod tables;
 
+use crate::calls::number_of_want;
 use crate::tables::play_file;
 use std::process::ExitCode;
 use std::{env, fs, io};
 
-/// Plays the file of a name, prints what is told of it, and says whether all its rows held.
+/// Plays the file of a name, prints what is told of it, and says whether all its rows held, or none in the file of wrong ones.
 fn play(rt: &HostRuntime, name: &str) -> io::Result<bool> {
     let text = fs::read_to_string(rt, name)?;
     let told = play_file(rt.alloc(), name, text.as_str())?;
     print!(rt; "{}", told.report.as_str())?;
-    Ok(told.holds)
+    if name.ends_with("wrong.rows") {
+        Ok(told.held == 0)
+    } else {
+        Ok(told.holds)
+    }
 }
 
-/// Plays all files, and says whether all rows held.
+/// Plays all files, and says whether all rows held that are to hold.
 fn play_all(rt: &HostRuntime) -> io::Result<bool> {
     let mut holds = true;
     for name in env::args(rt)?.skip(1) {
@@ -42,6 +47,7 @@ fn play_all(rt: &HostRuntime) -> io::Result<bool> {
 }
 
 fn main(rt: HostRuntime) -> io::Result<ExitCode> {
+    println!(rt; "want of memory ends the program with {}", number_of_want())?;
     if play_all(&rt)? {
         Ok(ExitCode::SUCCESS)
     } else {

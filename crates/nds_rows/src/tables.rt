@@ -11,6 +11,8 @@ pub struct Told {
     pub report: String,
     /// Whether every row held.
     pub holds: bool,
+    /// How many rows held.
+    pub held: u64,
 }
 
 /// Plays a table, and tells how many of its rows held.
@@ -54,5 +56,6 @@ pub fn play_file(alloc: Global, name: &str, text: &str) -> Result<Told, AllocErr
     Ok(Told {
         report: player.report,
         holds: player.holds,
+        held: player.held,
     })
 }

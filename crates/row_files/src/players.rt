@@ -39,6 +39,8 @@ pub struct Player {
     pub report: String,
     /// Whether nothing was wrong so far.
     pub holds: bool,
+    /// How many rows held so far.
+    pub held: u64,
     /// How the present row stands.
     pub standing: Standing,
     /// The output that was kept.
@@ -66,6 +68,7 @@ impl Player {
             name: String::from_str(alloc, name)?,
             report: String::new(alloc),
             holds: true,
+            held: 0,
             standing: BEGUN,
             kept: Vec::new(alloc),
         })
@@ -130,6 +133,7 @@ impl Player {
         let Tally { rows, held, facts } = table;
         let name = self.name.as_str();
         self.holds = self.holds && held == rows && rows > 0;
+        self.held = self.held.saturating_add(held);
         writeln!(
             self.report,
             "{name}: {held} of {rows} rows, {facts} facts: {heading}"

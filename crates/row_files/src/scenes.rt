@@ -71,6 +71,8 @@ pub struct Scene {
     pub fails: Fails,
     /// For how many bytes the output has room.
     pub room: usize,
+    /// How many bytes it takes at most a call, from 1.
+    pub most: usize,
     /// The words of the command line.
     pub words: Vec<String>,
 }
@@ -128,6 +130,7 @@ impl Scene {
                 notes: 0,
             },
             room: 6_000_000,
+            most: usize::MAX,
             words: Vec::new(alloc),
         })
     }
@@ -251,6 +254,7 @@ impl Scene {
             Setup::Size(size) => self.size = Some(*size),
             Setup::Fails { part, call } => self.fail(*part, *call),
             Setup::Room(room) => self.room = *room,
+            Setup::Slow(most) => self.most = *most,
             _ => {}
         }
     }

@@ -72,6 +72,8 @@ pub enum Setup {
     },
     /// The output has room for so many bytes.
     Room(usize),
+    /// It takes at most so many bytes a call.
+    Slow(usize),
     /// These are the words of the call.
     Call(Vec<String>),
 }
@@ -196,6 +198,7 @@ fn call_line(word: &str, line: &mut Cursor<'_>) -> Option<Setup> {
         "file" => file(line),
         "fails" => fails(line),
         "room" => Setup::Room(line.length()),
+        "slow" => Setup::Slow(line.length()),
         "call" => Setup::Call(line.names()),
         "run" => Setup::Call(run_words(line)),
         _ => return None,

@@ -9,6 +9,7 @@ mod effects;
 mod events;
 mod frames;
 mod layers;
+mod nexts;
 mod objects;
 mod ports;
 mod stage;

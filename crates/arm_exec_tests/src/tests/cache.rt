@@ -15,13 +15,19 @@ enum Line {
     Branches(u32, u32, u32),
     /// The address, and a word that is no operation.
     Other(u32, u32),
+    /// A word of ARMv5 alone, which is no operation of ARMv4 nor of ARMv5; and one that both do as it is.
+    NoWord(u32, u32),
+    PlainWord(u32, u32),
     /// The same of a half.
+    NoHalf(u32, u16),
+    PlainHalf(u32, u16),
+    /// What a half moves.
     HalfMoves(u32, u16, u32),
     /// The same of a half.
     HalfBranches(u32, u16, u32),
 }
 
-use Line::{Branches, HalfBranches, HalfMoves, Moves, Other};
+use Line::{Branches, HalfBranches, HalfMoves, Moves, NoHalf, NoWord, Other, PlainHalf, PlainWord};
 
 /// Whether it moves a value to r0 under a condition.
 fn moves(operation: &Operation, wanted: u32, cond: Condition) -> bool {
@@ -40,9 +46,25 @@ fn branches(operation: &Operation, wanted: u32) -> bool {
     }
 }
 
-/// Whether a line says what a cache of ARMv5's words or of ARMv4's halves has.
+/// Whether a line says what a cache of ARMv5's words or of ARMv4's halves has, or caches of both.
 fn is_right(five: &mut Decoder<5>, four: &mut Decoder<4>, line: Line) -> bool {
     match line {
+        NoWord(at, word) => {
+            let of_five = matches!(five.arm_operation(at, word).op, Op::Other);
+            of_five && matches!(four.arm_operation(at, word).op, Op::Other)
+        }
+        PlainWord(at, word) => {
+            let of_five = matches!(five.arm_operation(at, word).op, Op::Plain(_));
+            of_five && matches!(four.arm_operation(at, word).op, Op::Plain(_))
+        }
+        NoHalf(at, half) => {
+            let of_five = matches!(five.thumb_operation(at, half).op, Op::Other);
+            of_five && matches!(four.thumb_operation(at, half).op, Op::Other)
+        }
+        PlainHalf(at, half) => {
+            let of_five = matches!(five.thumb_operation(at, half).op, Op::Plain(_));
+            of_five && matches!(four.thumb_operation(at, half).op, Op::Plain(_))
+        }
         Moves(at, word, value, cond) => moves(five.arm_operation(at, word), value, cond),
         Branches(at, word, far) => branches(five.arm_operation(at, word), far),
         Other(at, word) => matches!(five.arm_operation(at, word).op, Op::Other),
@@ -72,6 +94,15 @@ fn each_word_is_decoded_whatever_was_kept(rt: HostRuntime) -> Result<(), AllocEr
         HalfMoves(0x300_8000, 0x2001, 1), HalfBranches(0x300_8000, 0xE7FE, 0xFFFF_FFFC),
         HalfMoves(0x300_0002, 0x2001, 1), HalfBranches(0x300_0002, 0xE7FE, 0xFFFF_FFFC),
         HalfMoves(0x300_0000, 0x2001, 1), HalfBranches(0x300_0000, 0xE7FE, 0xFFFF_FFFC),
+        // bx, the halves of bl, and an address of r15 are done as they are, by both
+        PlainWord(0x200_0000, 0xE12F_FF11), PlainHalf(0x300_0000, 0x4708), PlainHalf(0x300_0002, 0xF000), PlainHalf(0x300_0004, 0xF800),
+        PlainHalf(0x300_0006, 0xA001), PlainWord(0x200_0004, 0xE081_0392), PlainWord(0x200_0008, 0xE131_0002),
+        // blx, bkpt, clz, qadd, smlabb, smulwb, ldrd, strd, mcr, blx to a target and pld are ARMv5's; none is an operation
+        NoWord(0x200_0000, 0xE12F_FF31), NoWord(0x200_0000, 0xE120_0070), NoWord(0x200_0000, 0xE16F_0F11), NoWord(0x200_0000, 0xE101_0052),
+        NoWord(0x200_0000, 0xE100_0281), NoWord(0x200_0000, 0xE120_02A1), NoWord(0x200_0000, 0xE1C1_00D0), NoWord(0x200_0000, 0xE1C1_00F0),
+        NoWord(0x200_0000, 0xEE07_0F90), NoWord(0x200_0000, 0xFA00_0000), NoWord(0x200_0000, 0xF5D1_F000), NoWord(0x200_0000, 0xF3A0_0001),
+        // blx of a register, bkpt, and the second half of blx
+        NoHalf(0x300_0000, 0x4788), NoHalf(0x300_0000, 0xBE00), NoHalf(0x300_0000, 0xE802), NoHalf(0x300_0000, 0xDF03),
     ];
     for (number, &line) in lines.iter().enumerate() {
         let right = is_right(&mut five, &mut four, line);

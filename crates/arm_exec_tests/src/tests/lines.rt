@@ -4,6 +4,7 @@ ghost use Rattle.std.specs.Prelude.{IfSome};
 ghost use Rattle.arm_words.specs.Fields.{HasFields};
 
 use super::buses::RefusingBus;
+use super::forms::{Form, form_of};
 use arm_core::{Bus, Core, FlatBus, Registers, Stepped, Touch, footprint};
 use arm_ops::{Near, Operation, is_other, operation, run, run_anywhere, touched};
 use arm_words::{Instr, decode_arm, decode_thumb};
@@ -81,6 +82,8 @@ const WRONG_REACH: u32 = 43;
 
 const WRONG_WAY: u32 = 44;
 
+const WRONG_FORM: u32 = 45;
+
 /// A line of a table. Lines of a row stand in this order: the state before, the instruction, what the step leaves, and what it comes to.
 #[derive(Clone, Copy)]
 pub enum Line {
@@ -130,6 +133,8 @@ pub enum Line {
     Far,
     /// It is none.
     Other,
+    /// The form of the operation that is made of it.
+    Is(Form),
     /// What it costs on ARM7 and on ARM9.
     Both(u32, u32),
     /// What it costs on ARM7; the row isn't ARM9's.
@@ -176,6 +181,9 @@ struct Case {
     touch: Option<Touch>,
     /// Which of `Near`, `Far` and `Other` it is, if a line says it.
     kind: Option<Line>,
+    /// The form that it has, and by what another differs that a line names.
+    form: u32,
+    is: u32,
     /// What it must leave: the 37 words, memory, and CP15's numbers.
     words: [u32; 37],
     memory: FlatBus,
@@ -290,6 +298,8 @@ impl Case {
             found: None,
             touch: None,
             kind: None,
+            form: 0,
+            is: 0,
             words: [0; 37],
             memory: memory(alloc)?,
             kept: BOOT,
@@ -314,6 +324,7 @@ impl Case {
             Line::At(at) => self.at = at,
             Line::Refuses(at) => self.bus.refused = at,
             Line::Near | Line::Far | Line::Other => self.kind = Some(line),
+            Line::Is(wanted) => self.is = self.form ^ wanted as u32,
             Line::R(r, value) => {
                 if r < 16 {
                     self.core.registers.set(r, value);
@@ -345,6 +356,7 @@ impl Case {
         self.words = self.core.registers();
         let instr = instruction(self.core.arch, code, width);
         self.touch = reached(&self.core, self.way, instr);
+        self.form = form_of(&operation(instr).op) as u32;
         self.found = self.taken(instr);
         if self.found.is_some() {
             self.words[PC] = self.at.wrapping_add(width.bytes());
@@ -436,6 +448,9 @@ impl Case {
         }
         if numbers(&self.cp) != self.kept {
             return WRONG_CP15;
+        }
+        if self.is != 0 {
+            return WRONG_FORM;
         }
         if self.is_right_way() { 0 } else { WRONG_WAY }
     }

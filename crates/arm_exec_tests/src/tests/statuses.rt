@@ -3,7 +3,7 @@
 use super::lines::Line::{
     Arm, Both, Cpsr, Flags, Halts, Kept, Nine, Nzcv, Pc, R, Spsr, Stops9, To, To7, To9, Vector,
 };
-use super::lines::{CPSR, LR_UND, SPSR_IRQ, SPSR_UND, try_lines};
+use super::lines::{CPSR, LR, LR_UND, SP, SPSR_IRQ, SPSR_UND, try_lines};
 use ds_base::LeftKind::BigEndian;
 use std::alloc::AllocError;
 
@@ -29,6 +29,13 @@ fn status_registers_are_read_and_written(rt: HostRuntime) -> Result<(), AllocErr
         Cpsr(0x8000_0010), R(1, 0x6000_00DF), Arm(0xE12F_F001), To(CPSR, 0x6000_0010),                          Both(1, 1), // fsxc from User
         // a mode that there isn't is privileged
         Cpsr(0x14), R(1, 0x1F),               Arm(0xE121_F001), To(CPSR, 0x1F),                                 Both(1, 1), // c from mode 14h
+        // so are those without bit 4: 0 is no User mode, 2 no IRQ mode
+        Cpsr(0x00), R(1, 0x13),               Arm(0xE121_F001), To(CPSR, 0x13),                                 Both(1, 1), // c from mode 0
+        Cpsr(0x00), R(1, 0x6000_00D2),        Arm(0xE12F_F001), To(CPSR, 0x6000_00D2),                          Both(1, 1), // fsxc from mode 0
+        Cpsr(0x00), R(1, 0),                  Arm(0xE321_F013), To(CPSR, 0x13),                                 Both(1, 1), // c, #0x13 from mode 0
+        Cpsr(0x02), R(1, 0x1F),               Arm(0xE121_F001), To(CPSR, 0x1F),                                 Both(1, 1), // c from mode 2
+        Cpsr(0x0F), R(1, 0x1F),               Arm(0xE121_F001), To(CPSR, 0x1F),                                 Both(1, 1), // c from mode Fh
+        Cpsr(0xDF), R(1, 0),                  Arm(0xE121_F001), To(CPSR, 0),                                    Both(1, 1), // c to mode 0
         Cpsr(0xDF), R(1, 0),                  Arm(0xE328_F20F), To(CPSR, 0xF000_00DF),                          Both(1, 1), // f, #0xf0000000
         Cpsr(0xDF), R(1, 0),                  Arm(0xE321_F013), To(CPSR, 0x13),                                 Both(1, 1), // c, #0x13
         Cpsr(0x10), R(1, 0),                  Arm(0xE321_F013), To(CPSR, 0x10),                                 Both(1, 1), // c, #0x13 from User
@@ -61,6 +68,13 @@ fn status_registers_are_read_and_written(rt: HostRuntime) -> Result<(), AllocErr
         Cpsr(0x14), R(1, 0xFFFF_FFFF), Arm(0xE16F_F001), To(CPSR, 0x14),                                 Both(1, 1), // msr spsr_fsxc, r1
         Cpsr(0x14), R(1, 0xFFFF_FFFF), Arm(0xE128_F001), To7(CPSR, 0xF000_0014), To9(CPSR, 0xF800_0014), Both(1, 1), // msr cpsr_f, r1
         Cpsr(0x14), R(1, 0xD3),        Arm(0xE12F_F001), To(CPSR, 0xD3),                                 Both(1, 1), // msr cpsr_fsxc, r1
+        Cpsr(0x00), R(0, 7),           Arm(0xE14F_0000), To(0, 0),                                       Both(1, 1), // mrs r0, spsr
+        Cpsr(0x02), R(0, 7),           Arm(0xE14F_0000), To(0, 0),                                       Both(1, 1), // mrs r0, spsr
+        Cpsr(0x02), R(1, 0xFFFF_FFFF), Arm(0xE16F_F001), To(CPSR, 0x02),                                 Both(1, 1), // msr spsr_fsxc, r1
+        // its registers are System's
+        Cpsr(0x00), R(1, 5),           Arm(0xE1A0_D001), To(SP, 5),                                      Both(1, 1), // mov r13, r1
+        Cpsr(0x02), R(1, 5),           Arm(0xE1A0_E001), To(LR, 5),                                      Both(1, 1), // mov r14, r1
+        Cpsr(0x01), R(1, 5),           Arm(0xE1A0_8001), To(8, 5),                                       Both(1, 1), // mov r8, r1
         // and it can be entered
         Cpsr(0xDF), R(1, 0x14),        Arm(0xE121_F001), To(CPSR, 0x14),                                 Both(1, 1), // msr cpsr_c, r1
 

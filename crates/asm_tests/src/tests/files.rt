@@ -194,6 +194,23 @@ fn first_bad_lines(rt: HostRuntime) -> Result<(), AllocError> {
             ".arm9 0x000000000000000000000000000000000000000000000000000000000000000000000000000000000000000000000000000000000000002000000\nmov r0, #0x1\n",
             1,
         ),
+        // a long first line whose beginning would be one, and a rest that would go on
+        (
+            ".arm9 0x12345678888888888888888888888888888888888888888888888888888888888888888888888888888888888888888888888888888\nmov r0, #0x1\n",
+            1,
+        ),
+        (
+            ".thumb7 0x12345678                                                                                                    \n.byte 0x01\n",
+            1,
+        ),
+        (
+            ".arm9 0x0                                                                                                    \n",
+            1,
+        ),
+        (
+            ".arm9 0x12345678 .arm9 0x12345678 mov r0, #0x1 mov r0, #0x1 mov r0, #0x1 mov r0, #0x1 mov r0, #0x1 mov r0, #0x1\nmov r0, #0x1\n",
+            1,
+        ),
         (".arm9 0x0\n\n", 2),
         (".arm9 0x0\n\nmov r0, #0x1\n", 2),
         (".arm9 0x0\nmov r0, #0x1\n\n", 3),

@@ -1,10 +1,10 @@
 //! Lights, materials and normals; the vector test.
 
 use super::{Line, try_lines};
-use Line::{Coloured, Give, Lit, Many, New, Three, Vector};
+use Line::{Coloured, Give, Lit, Many, New, Run, Three, Vector};
 use std::alloc::AllocError;
 
-const EACH_LIGHT_TERM_IS_ITS_OWN: [Line; 13] = [
+const EACH_LIGHT_TERM_IS_ITS_OWN: [Line; 15] = [
     Lit(1, 0x2000_0000, 0x7FFF, 0x001F, 0, 0x1FF0_0000, 29),
     Lit(1, 0x2000_0000, 0x7FFF, 0x001F, 0, 0x2010_0000, 0),
     Lit(0, 0x2000_0000, 0x7FFF, 0x001F, 0, 0x1FF0_0000, 0),
@@ -18,6 +18,27 @@ const EACH_LIGHT_TERM_IS_ITS_OWN: [Line; 13] = [
     Lit(1, 0, 0x7FFF, 0, 0x0000_801F, 0x1FF0_0000, 5),
     Lit(1, 0x2000_0000, 0x7FFF, 0x001F, 0x001F_0000, 0x1FF0_0000, 31),
     Lit(2, 0x2000_0000, 0x7FFF, 0x001F, 0, 0x1FF0_0000, 0),
+    // all at once, each floored by itself: by 510, 511 and 32 red has 5 * 20, 7 * 20 and 6 * 20, which give 3, 4 and 3, beside its emission of 2;
+    // green 3 * 31, 2 * 31 and 31, which give 2, 1 and 0; blue 31 * 10 three times, which gives 9 each, and an emission of 1
+    Lit(
+        1,
+        0x2000_0000,
+        0x2BF4,
+        0x7C26_7C47,
+        0x0402_7C65,
+        0x1FF0_0000,
+        0x706C,
+    ),
+    // bit 15 of each colour is none of its bits
+    Lit(
+        1,
+        0x2000_0000,
+        0xABF4,
+        0xFC26_7C47,
+        0x8402_7C65,
+        0x1FF0_0000,
+        0x706C,
+    ),
 ];
 
 const LIGHTS_AND_NORMALS_ARE_TURNED_BY_THE_VECTOR_MATRIX_OF_THEIR_TIME: [Line; 54] = [
@@ -77,7 +98,7 @@ const LIGHTS_AND_NORMALS_ARE_TURNED_BY_THE_VECTOR_MATRIX_OF_THEIR_TIME: [Line; 5
     Vector(0, -16, -1),
 ];
 
-const LEVELS_ARE_HELD_AND_THE_HALF_VECTOR_IS_HALVED: [Line; 6] = [
+const LEVELS_ARE_HELD_AND_THE_HALF_VECTOR_IS_HALVED: [Line; 10] = [
     // l n is -2 * 511 * 512, more than enough: 511 is the most, and 17 * 17 * 511 / 16384 is 9
     Lit(1, 0x0008_0200, 0x0011, 0x0011, 0, 0x0007_FDFF, 9),
     // so it is at 511 itself
@@ -90,6 +111,79 @@ const LEVELS_ARE_HELD_AND_THE_HALF_VECTOR_IS_HALVED: [Line; 6] = [
     Lit(1, 0x0000_0200, 0x7FFF, 0, 0x0000_001F, 0x0000_01FF, 7),
     // and of 0, -512, 0 likewise
     Lit(1, 0x0008_0000, 0x7FFF, 0, 0x0000_001F, 0x0007_FC00, 7),
+    // odd ones are halved down: -511 to -256, whose level of 255 has the square 127 by 512, and 13 * 10 * 127 / 16384 is 1
+    Lit(1, 0x0000_0201, 10, 0, 13, 0x0000_01FF, 1),
+    Lit(1, 0x0008_0400, 10, 0, 13, 0x0007_FC00, 1),
+    // and -1 - 512 to -257, whose level of 256 has 128: 8 * 16 * 128 / 16384 is 1
+    Lit(1, 0x3FF0_0000, 16, 0, 8, 0x1FF0_0000, 1),
+    // what faces away has level 0, and not its size
+    Lit(1, 0x1FF0_0000, 0x7FFF, 0x001F, 0, 0x1FF0_0000, 0),
+];
+
+const LIGHTS_AND_NORMALS_LEAVE_THE_POSITION_MATRIX: [Line; 58] = [
+    // in mode 1 the position's x and z are exchanged, the vector matrix stays: the light and the normal keep their z
+    Give(0x29, 1),
+    Give(0x40, 0),
+    Give(0x33, 0x7FFF),
+    Give(0x30, 0x1F),
+    Give(0x10, 1),
+    Three(0, 0, 0x1000),
+    Three(0, 0x1000, 0),
+    Three(0x1000, 0, 0),
+    Many(0x1A),
+    // the light alone comes while it is so
+    Give(0x32, 0x2000_0000),
+    Run(0x15),
+    Give(0x21, 0x1FF0_0000),
+    Give(0x28, 0),
+    Coloured(29),
+    // then the normal alone
+    Three(0, 0, 0x1000),
+    Three(0, 0x1000, 0),
+    Three(0x1000, 0, 0),
+    Many(0x1A),
+    Give(0x21, 0x1FF0_0000),
+    Give(0x28, 0),
+    Coloured(29),
+    Give(0x72, 0x0000_01FF),
+    Vector(4_088, 0, 0),
+    // nor does the projection turn them
+    Run(0x15),
+    Give(0x10, 0),
+    Three(0, 0, 0x1000),
+    Three(0, 0x1000, 0),
+    Three(0x1000, 0, 0),
+    Many(0x1A),
+    Give(0x32, 0x2000_0000),
+    Give(0x21, 0x1FF0_0000),
+    Give(0x28, 0),
+    Coloured(29),
+    Give(0x72, 0x0000_01FF),
+    Vector(4_088, 0, 0),
+    // a matrix a little less than the identity: what it turns is floored, -512 to -512, so that the level is 511 and not 510
+    New,
+    Give(0x29, 1),
+    Give(0x40, 0),
+    Give(0x33, 0x11),
+    Give(0x30, 0x11),
+    Give(0x10, 2),
+    Three(0xFFF, 0, 0),
+    Three(0, 0xFFF, 0),
+    Three(0, 0, 0xFFF),
+    Many(0x1A),
+    Give(0x32, 0x2000_0000),
+    Run(0x15),
+    Give(0x21, 0x1FF0_0000),
+    Give(0x28, 0),
+    Coloured(9),
+    Give(0x32, 0x1FF0_0000),
+    Three(0xFFF, 0, 0),
+    Three(0, 0xFFF, 0),
+    Three(0, 0, 0xFFF),
+    Many(0x1A),
+    Give(0x21, 0x2000_0000),
+    Give(0x28, 0),
+    Coloured(9),
 ];
 
 const LIGHTS_ARE_IN_FORCE_BY_THE_RUNS_ATTRIBUTES: [Line; 35] = [
@@ -137,7 +231,7 @@ const LIGHTS_ARE_IN_FORCE_BY_THE_RUNS_ATTRIBUTES: [Line; 35] = [
 
 #[test]
 fn each_table_holds(rt: HostRuntime) -> Result<(), AllocError> {
-    let tables: [(&str, &[Line]); 4] = [
+    let tables: [(&str, &[Line]); 5] = [
         ("each light term is its own", &EACH_LIGHT_TERM_IS_ITS_OWN),
         (
             "lights and normals are turned by the vector matrix of their time",
@@ -146,6 +240,10 @@ fn each_table_holds(rt: HostRuntime) -> Result<(), AllocError> {
         (
             "levels are held and the half vector is halved",
             &LEVELS_ARE_HELD_AND_THE_HALF_VECTOR_IS_HALVED,
+        ),
+        (
+            "lights and normals leave the position matrix",
+            &LIGHTS_AND_NORMALS_LEAVE_THE_POSITION_MATRIX,
         ),
         (
             "lights are in force by the runs attributes",

@@ -137,9 +137,53 @@ const BOTH_MATRICES_GO_TOGETHER_BUT_FOR_SCALING: [Line; 57] = [
     Levels(0, false),
 ];
 
+const THE_TEXTURE_MATRIX_IS_MULTIPLIED_ALONE: [Line; 35] = [
+    Give(0x10, 3),
+    Four(1, 2, 3, 4),
+    Four(5, 6, 7, 8),
+    Four(9, 10, 11, 12),
+    Four(13, 14, 15, 16),
+    Many(0x18),
+    Cells(Texture, 0, 1, 2, 3, 4),
+    Cells(Texture, 3, 13, 14, 15, 16),
+    // 4 by 3: the first row twice, and the third added to the last
+    Three(0x2000, 0, 0),
+    Three(0, 0x1000, 0),
+    Three(0, 0, 0x1000),
+    Three(0, 0, 0x1000),
+    Many(0x19),
+    Cells(Texture, 0, 2, 4, 6, 8),
+    Cells(Texture, 3, 22, 24, 26, 28),
+    // 3 by 3: the first two rows are exchanged
+    Three(0, 0x1000, 0),
+    Three(0x1000, 0, 0),
+    Three(0, 0, 0x1000),
+    Many(0x1A),
+    Cells(Texture, 0, 5, 6, 7, 8),
+    Cells(Texture, 1, 2, 4, 6, 8),
+    // a scale by 3, 1 and -1
+    Triple(0x1B, 0x3000, 0x1000, 0xFFFF_F000),
+    Cells(Texture, 0, 15, 18, 21, 24),
+    Cells(Texture, 1, 2, 4, 6, 8),
+    Cells(Texture, 2, -9, -10, -11, -12),
+    Cells(Texture, 3, 22, 24, 26, 28),
+    // a move by the first row and the third
+    Triple(0x1C, 0x1000, 0, 0x1000),
+    Cells(Texture, 3, 28, 32, 36, 40),
+    Cells(Texture, 0, 15, 18, 21, 24),
+    // the others stay the identity
+    Diagonal(Clip, 0x1000),
+    Diagonal(Vector, 0x1000),
+    // and a scale in mode 0 or 1 leaves the texture and the vector matrix
+    Give(0x10, 1),
+    Triple(0x1B, 0x3000, 0x3000, 0x3000),
+    Diagonal(Vector, 0x1000),
+    Cells(Texture, 3, 28, 32, 36, 40),
+];
+
 #[test]
 fn each_table_holds(rt: HostRuntime) -> Result<(), AllocError> {
-    let tables: [(&str, &[Line]); 3] = [
+    let tables: [(&str, &[Line]); 4] = [
         (
             "each command has its matrix and multiplies from the left",
             &EACH_COMMAND_HAS_ITS_MATRIX_AND_MULTIPLIES_FROM_THE_LEFT,
@@ -147,6 +191,10 @@ fn each_table_holds(rt: HostRuntime) -> Result<(), AllocError> {
         (
             "a scaled matrix is moved by its own units",
             &A_SCALED_MATRIX_IS_MOVED_BY_ITS_OWN_UNITS,
+        ),
+        (
+            "the texture matrix is multiplied alone",
+            &THE_TEXTURE_MATRIX_IS_MULTIPLIED_ALONE,
         ),
         (
             "both matrices go together but for scaling",

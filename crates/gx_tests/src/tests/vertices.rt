@@ -2,12 +2,12 @@
 
 use super::{Line, try_lines};
 use Line::{
-    Box, ClearError, Command, Four, Give, Inside, Last, Levels, Lists, Many, Mapped, NoCommand,
-    Pair, Position, Run, Swap, Textured,
+    Box, ClearError, Coloured, Command, Four, Give, Inside, Last, Levels, Lists, Many, Mapped,
+    NoCommand, Pair, Position, Run, Swap, Swapped, Textured, Triple,
 };
 use std::alloc::AllocError;
 
-const VERTEX_COMMANDS_GIVE_THEIR_NUMBERS_AND_KEEP_THE_OTHERS: [Line; 20] = [
+const VERTEX_COMMANDS_GIVE_THEIR_NUMBERS_AND_KEEP_THE_OTHERS: [Line; 44] = [
     Pair(0x23, 0x8000_7FFF, 0x1234_FFFF),
     Last(0x7FFF, -0x8000, -1, 0x1000),
     Give(0x28, 0x002F_FC01),
@@ -28,6 +28,32 @@ const VERTEX_COMMANDS_GIVE_THEIR_NUMBERS_AND_KEEP_THE_OTHERS: [Line; 20] = [
     Lists(0, 0),
     Give(0x25, 0x0005_0004),
     Last(4, 5, 3, 0x1000),
+    // a colour has 15 bits, and 30h gives one where its bit 15 says so
+    Give(0x20, 0xFFFF_8001),
+    Give(0x28, 0),
+    Coloured(1),
+    Give(0x20, 0xFFFF_FFFF),
+    Give(0x28, 0),
+    Coloured(0x7FFF),
+    Give(0x30, 0x7FFF_1234),
+    Give(0x28, 0),
+    Coloured(0x7FFF),
+    Give(0x30, 0x7FFF_9234),
+    Give(0x28, 0),
+    Coloured(0x1234),
+    // each swap has the parameter that came last before it, and one without has 0
+    Give(0x50, 3),
+    Swap(10),
+    Swapped(10, 3),
+    Give(0x50, 2),
+    Swap(11),
+    Swapped(11, 2),
+    Swap(12),
+    Swapped(12, 0),
+    Give(0x50, 1),
+    Give(0x50, 0xFFFF_FFFF),
+    Swap(13),
+    Swapped(13, 0xFFFF_FFFF),
 ];
 
 const A_BOX_IS_SEEN_UNLESS_ALL_OF_IT_LIES_PAST_ONE_PLANE: [Line; 19] = [
@@ -95,6 +121,75 @@ const TRANSFORMS_START_FROM_THE_COORDINATES_AS_THEY_WERE_GIVEN: [Line; 26] = [
     Textured(10, -20),
 ];
 
+// The first two columns are 2, 3, 1, 1 and 1, 0.5, -2, a little less than 0; coordinates are 10 and -20.
+const EACH_NUMBER_OF_A_NORMAL_OR_VERTEX_MOVES_COORDINATES: [Line; 56] = [
+    Give(0x10, 3),
+    Four(0x2000, 0x1000, 0, 0),
+    Four(0x3000, 0x800, 0, 0),
+    Four(0x1000, 0xFFFF_E000, 0, 0),
+    Four(0x1000, 0xFFFF_FFFF, 0, 0),
+    Many(0x16),
+    // a normal: 256 in y moves by 256 * 3 / 32 and 256 * 0.5 / 32, in z by 256 / 32 and 256 * -2 / 32
+    Give(0x2A, 0x8000_0000),
+    Give(0x22, 0xFFEC_000A),
+    Give(0x21, 0x0004_0000),
+    Give(0x28, 0),
+    Textured(34, -16),
+    Give(0x21, 0x1000_0000),
+    Give(0x28, 0),
+    Textured(18, -36),
+    // all three: 256 * 6 / 32 and 256 * -0.5 / 32
+    Give(0x21, 0x1004_0100),
+    Give(0x28, 0),
+    Textured(58, -24),
+    // floors go down: -3 / 32 and -0.5 / 32, -1 / 32 and 2 / 32
+    Give(0x21, 0x000F_FC00),
+    Give(0x28, 0),
+    Textured(9, -21),
+    Give(0x21, 0x3FF0_0000),
+    Give(0x28, 0),
+    Textured(9, -20),
+    // and sums wrap to 16 bits: 32767 + 24 and -32768 + 4, 32767 + 8 and -32768 - 16
+    Give(0x22, 0x8000_7FFF),
+    Give(0x21, 0x0004_0000),
+    Give(0x28, 0),
+    Textured(-32_745, -32_764),
+    Give(0x21, 0x1000_0000),
+    Give(0x28, 0),
+    Textured(-32_761, 32_752),
+    // a vertex: 1 in y moves by 16 * 3 and 16 * 0.5, in z by 16 and 16 * -2
+    Give(0x2A, 0xC000_0000),
+    Give(0x22, 0xFFEC_000A),
+    Pair(0x23, 0x1000_0000, 0),
+    Textured(58, -12),
+    Pair(0x23, 0, 0x1000),
+    Textured(26, -52),
+    Pair(0x23, 0x1000_1000, 0x1000),
+    Textured(106, -28),
+    // floors go down: -3 / 256 and -0.5 / 256, -1 / 256 and 2 / 256
+    Pair(0x23, 0xFFFF_0000, 0),
+    Textured(9, -21),
+    Pair(0x23, 0, 0xFFFF),
+    Textured(9, -20),
+    // sums wrap
+    Give(0x22, 0x8000_7FFF),
+    Pair(0x23, 0x1000_0000, 0),
+    Textured(-32_721, -32_760),
+    Pair(0x23, 0, 0x1000),
+    Textured(-32_753, 32_736),
+    // the numbers that move it are the vertex's as it was given, and not those that the clip matrix gives
+    Give(0x10, 0),
+    Triple(0x1B, 0x2000, 0x2000, 0x2000),
+    Give(0x22, 0xFFEC_000A),
+    Pair(0x23, 0x1000_0000, 0),
+    Textured(58, -12),
+    // given coordinates: 32767 twice and 2 wraps to 0, and once and a little less than -2 is 32764
+    Give(0x2A, 0x4000_0000),
+    Give(0x22, 0x0000_7FFF),
+    Give(0x28, 0),
+    Textured(0, 32_764),
+];
+
 const EACH_COMMAND_HAS_ITS_ROW: [Line; 52] = [
     // every command with its parameters and clocks
     Command(0x10, 1, 1),
@@ -153,7 +248,7 @@ const EACH_COMMAND_HAS_ITS_ROW: [Line; 52] = [
 
 #[test]
 fn each_table_holds(rt: HostRuntime) -> Result<(), AllocError> {
-    let tables: [(&str, &[Line]); 5] = [
+    let tables: [(&str, &[Line]); 6] = [
         (
             "vertex commands give their numbers and keep the others",
             &VERTEX_COMMANDS_GIVE_THEIR_NUMBERS_AND_KEEP_THE_OTHERS,
@@ -169,6 +264,10 @@ fn each_table_holds(rt: HostRuntime) -> Result<(), AllocError> {
         (
             "transforms start from the coordinates as they were given",
             &TRANSFORMS_START_FROM_THE_COORDINATES_AS_THEY_WERE_GIVEN,
+        ),
+        (
+            "each number of a normal or vertex moves coordinates",
+            &EACH_NUMBER_OF_A_NORMAL_OR_VERTEX_MOVES_COORDINATES,
         ),
         ("each command has its row", &EACH_COMMAND_HAS_ITS_ROW),
     ];

@@ -152,7 +152,29 @@ fn a_count_of_zero_is_the_greatest_and_one_more(rt: HostRuntime) {
     try_lines(
         &rt,
         Seven,
-        &[Enable(0, FROM, TO, 0x8000_0000, 0), MovesAll(0x4000, 0)],
+        &[
+            Enable(0, FROM, TO, 0x8000_0000, 0),
+            MovesAll(0x4000, 0),
+            Enable(2, FROM, TO, 0xC400_0000, 0),
+            MovesAll(0x4000, 0x400),
+            Enable(1, FROM, TO, 0x8000_3FFF, 0),
+            MovesAll(0x3FFF, 0),
+            // channel 3 has two bits more
+            Enable(3, FROM, TO, 0xC400_0000, 0),
+            MovesAll(0x1_0000, 0x800),
+            Enable(3, FROM, TO, 0x8000_FFFF, 0),
+            MovesAll(0xFFFF, 0),
+        ],
+    );
+    // each of ARM9's has 21 bits
+    try_lines(
+        &rt,
+        Nine,
+        &[
+            Enable(0, FROM, TO, 0xC400_0000, 0),
+            MovesAll(0x20_0000, 0x100),
+            Idle,
+        ],
     );
 }
 

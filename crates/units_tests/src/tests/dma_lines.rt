@@ -109,17 +109,17 @@ fn moved(dma: &mut Dma) -> Seen {
     }
 }
 
-/// How many units are moved until none is due, up to 4001h, and the bits that they raise between them.
+/// How many units are moved until none is due, up to 200001h, and the bits that they raise between them.
 fn moves(dma: &mut Dma) -> Seen {
     let mut raised = 0;
-    for done in 0..0x4001u32 {
+    for done in 0..0x20_0001u32 {
         let unit = moved(dma);
         if unit == NOTHING {
             return (done.into(), raised, 0);
         }
         raised |= unit.2;
     }
-    (0x4001, raised, 0)
+    (0x20_0001, raised, 0)
 }
 
 /// When the last unit was moved.

@@ -4,6 +4,7 @@
     tools/nds-trace --read TRACE [--proc 9|7] [--elf9 F] [--elf7 F] [how it is shown]
 
   GAME.nds     the cartridge; it is run with the keys of --keys until N frames are whole, or to tick N
+  --keys F     a key script, keys by frame, or a recording (.dsm)
   --read F     a trace that `nds trace` wrote; `-` is standard input
   --proc P     whose steps: 9, which is meant where it is left out, or 7
   --elf9 F, --elf7 F   the programs' ELF files, for their functions
@@ -28,7 +29,7 @@ from collections import deque
 from contextlib import contextmanager
 from typing import Iterable, Iterator, List, Optional
 
-from nds_tools import names
+from nds_tools import names, scripts
 from nds_tools.elf import Elf
 from nds_tools.program import DONE, LEFT_OUT, output_of, plain, ready, said, start
 from nds_tools.traces import Functions, Profile, Stay, Step, profile_of, stays, steps_in
@@ -43,7 +44,7 @@ def tell(text: str) -> None:
     print(f"{TOOL}: {text}", file=sys.stderr)
 
 
-def lines_of(run: "subprocess.Popen[bytes]", ticks: int, count: int) -> Iterator[bytes]:
+def lines_of(run: "subprocess.Popen[bytes]", ticks: int, count: int, keys: str) -> Iterator[bytes]:
     """Returns the lines that the program writes, and tells where they end before the tick."""
     number, last = 0, b""
     for line in output_of(run):
@@ -53,7 +54,7 @@ def lines_of(run: "subprocess.Popen[bytes]", ticks: int, count: int) -> Iterator
     if run.wait() == LEFT_OUT:
         tell(f"the run stops there: {said(note, LEFT_OUT)}")
     elif run.returncode != DONE:
-        raise Untold(said(note, run.returncode))
+        raise Untold(scripts.explained(said(note, run.returncode), keys))
     elif number == count:
         tell(f"the trace ends after {count} steps, at tick {int(last[:12])} of {ticks}; it begins at boot")
 
@@ -66,16 +67,17 @@ def trace(given: argparse.Namespace) -> Iterator[Iterator[Step]]:
             yield steps_in(it, "standard input" if given.read == "-" else given.read)
         return
     ticks = given.ticks or names.ticks_of_frames(given.frames)
-    keys = given.keys if given.keys == "none" else plain(given.keys)
-    run = start(ready(given.nds), "trace", plain(given.cart), keys, str(ticks), given.proc, str(given.count))
-    try:
-        yield steps_in(lines_of(run, ticks, given.count), "the trace")
-    finally:
-        run.kill()
-        run.wait()
-        for pipe in (run.stdout, run.stderr):
-            if pipe:
-                pipe.close()
+    with scripts.of_file(given.keys) as script:
+        keys = script if script == scripts.NONE else plain(script)
+        run = start(ready(given.nds), "trace", plain(given.cart), keys, str(ticks), given.proc, str(given.count))
+        try:
+            yield steps_in(lines_of(run, ticks, given.count, given.keys), "the trace")
+        finally:
+            run.kill()
+            run.wait()
+            for pipe in (run.stdout, run.stderr):
+                if pipe:
+                    pipe.close()
 
 
 def chosen(steps: Iterable[Step], since: int, inside: Optional[str], functions: Functions) -> Iterator[Step]:
@@ -115,7 +117,7 @@ def read_words() -> argparse.Namespace:
         words.add_argument(name)
     for name in ("--frames", "--ticks", "--last"):
         words.add_argument(name, type=int)
-    words.add_argument("--keys", default="none")
+    words.add_argument("--keys", default=scripts.NONE)
     words.add_argument("--proc", choices=("9", "7"), default="9")
     words.add_argument("--count", type=int, default=MOST_STEPS)
     words.add_argument("--since", type=int, default=0)

@@ -1,6 +1,6 @@
 //! What an extended background is drawn from.
 
-ghost use Rattle.std.specs.Prelude.{◌≡◌, ◌<◌, ◌≤◌, ◌%◌, IfSome, slice_index, true};
+ghost use Rattle.std.specs.Prelude.{◌≡◌, ◌<◌, ◌≤◌, ◌+◌, ◌%◌, IfSome, Some, slice_index, true, ℕ};
 ghost use Rattle.ds_base.specs.Bits.{bit, bits};
 ghost use Rattle.bg_ext.specs.ExtendedPixels.{is_bitmap, has_halves, map_sides, bitmap_widths, bitmap_heights, ext_width, ext_height, ext_across, ext_down, bitmap_base};
 
@@ -139,6 +139,22 @@ pub fn ext_across(layer: &ExtLayer, x: u8) -> Option<u32>
         ext_width(layer),
         affine_coordinate(layer.x, layer.pa, x),
     )
+}
+
+/// The column that the first place shows, where each place shows the column after that of the place before it and none lies outside.
+pub fn straight(layer: &ExtLayer) -> Option<u32>
+    ensures value { IfSome result (λ first. (x : ℕ) → x < 256 → ext_across layer.now x ≡ Some (first + x)) }
+    ensures small { is_bitmap layer.now ≡ true → IfSome result (λ first. first + 256 ≤ 512) }
+{
+    if layer.pa != 0x100 || layer.x < 0 {
+        return None;
+    }
+    let first = layer.x as u32 / 256;
+    if first + 256 <= ext_width(layer) {
+        Some(first)
+    } else {
+        None
+    }
 }
 
 /// The line of the background that place x of the line shows.

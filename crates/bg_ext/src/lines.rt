@@ -1,11 +1,11 @@
 //! Rows of a background that isn't turned, from one line of it, whose bytes are read at once.
 
-ghost use Rattle.std.specs.Prelude.{◌≡◌, ◌<◌, Some, ℕ, slice_index, length, true, false};
+ghost use Rattle.std.specs.Prelude.{◌≡◌, ◌<◌, ◌≤◌, ◌+◌, Some, ℕ, slice_index, length, true, false};
 ghost use Rattle.tiles2d.specs.Bases.{background_space};
 ghost use Rattle.bg_ext.specs.ExtendedPixels.{is_bitmap, has_halves, ext_across, ext_place_pixel};
 ghost use Rattle.bg_ext.specs.rows.Lines.{AreBytes, bytes_start, entries_start, halves_start};
 
-use crate::layers::{ExtLayer, ext_across, has_halves, is_bitmap};
+use crate::layers::{ExtLayer, ext_across, has_halves, is_bitmap, straight};
 use crate::pixels::{
     bytes_start, direct_pixel, entries_start, entry_pixel, half_among, halves_start,
 };
@@ -94,6 +94,56 @@ fn entry_of_line(
     }
 }
 
+/// Draws the row of a bitmap of halves of whose line y a part is shown as it lies, from column `first` on. `palette` is there for the contract.
+fn straight_halves(
+    vram: &Vram,
+    palette: &[u8],
+    layer: &ExtLayer,
+    y: u32,
+    first: u32,
+    into: &mut [u16; 256],
+)
+    requires bitmap { is_bitmap layer.now ≡ true }
+    requires halves { has_halves layer.now ≡ true }
+    requires down { y < 1024 }
+    requires straight { (x : ℕ) → x < 256 → ext_across layer.now x ≡ Some (first + x) }
+    requires within { first + 256 ≤ 512 }
+    ensures { (x : ℕ) → x < 256 → slice_index into.new x ≡ ext_place_pixel vram.now palette.now layer.now (ext_across layer.now x) (Some y) }
+{
+    let space = background_space(layer.engine);
+    let at = halves_start(layer, y) + 2 * first;
+    let mut part = [0; 512];
+    vram.row(space, at, &mut part);
+    for x in 0..256usize {
+        into[x] = direct_pixel(half_among(vram, space, at, &part, x));
+    }
+}
+
+/// The same of a bitmap of bytes.
+fn straight_bytes(
+    vram: &Vram,
+    palette: &[u8],
+    layer: &ExtLayer,
+    y: u32,
+    first: u32,
+    into: &mut [u16; 256],
+)
+    requires colours { length palette.now ≡ 512 }
+    requires bitmap { is_bitmap layer.now ≡ true }
+    requires bytes { has_halves layer.now ≡ false }
+    requires down { y < 1024 }
+    requires straight { (x : ℕ) → x < 256 → ext_across layer.now x ≡ Some (first + x) }
+    requires within { first + 256 ≤ 512 }
+    ensures { (x : ℕ) → x < 256 → slice_index into.new x ≡ ext_place_pixel vram.now palette.now layer.now (ext_across layer.now x) (Some y) }
+{
+    let at = bytes_start(layer, y) + first;
+    let mut part = [0; 256];
+    vram.row(background_space(layer.engine), at, &mut part);
+    for x in 0..256usize {
+        into[x] = colour_pixel(palette, part[x]);
+    }
+}
+
 /// Draws the row of a bitmap of halves whose line y is shown.
 fn halves_row(vram: &Vram, palette: &[u8], layer: &ExtLayer, y: u32, into: &mut [u16; 256])
     requires bitmap { is_bitmap layer.now ≡ true }
@@ -140,6 +190,29 @@ fn entries_row(vram: &Vram, palette: &[u8], layer: &ExtLayer, y: u32, into: &mut
     }
 }
 
+/// Draws the row of a bitmap of whose line y a part is shown as it lies.
+fn straight_row(
+    vram: &Vram,
+    palette: &[u8],
+    layer: &ExtLayer,
+    y: u32,
+    first: u32,
+    into: &mut [u16; 256],
+)
+    requires colours { length palette.now ≡ 512 }
+    requires bitmap { is_bitmap layer.now ≡ true }
+    requires down { y < 1024 }
+    requires straight { (x : ℕ) → x < 256 → ext_across layer.now x ≡ Some (first + x) }
+    requires within { first + 256 ≤ 512 }
+    ensures { (x : ℕ) → x < 256 → slice_index into.new x ≡ ext_place_pixel vram.now palette.now layer.now (ext_across layer.now x) (Some y) }
+{
+    if has_halves(layer) {
+        straight_halves(vram, palette, layer, y, first, into);
+    } else {
+        straight_bytes(vram, palette, layer, y, first, into);
+    }
+}
+
 /// Draws the row of a background whose line y is shown at all its places.
 pub fn line_row(vram: &Vram, palette: &[u8], layer: &ExtLayer, y: u32, into: &mut [u16; 256])
     requires colours { length palette.now ≡ 512 }
@@ -148,6 +221,8 @@ pub fn line_row(vram: &Vram, palette: &[u8], layer: &ExtLayer, y: u32, into: &mu
 {
     if !is_bitmap(layer) {
         entries_row(vram, palette, layer, y, into);
+    } else if let Some(first) = straight(layer) {
+        straight_row(vram, palette, layer, y, first, into);
     } else if has_halves(layer) {
         halves_row(vram, palette, layer, y, into);
     } else {

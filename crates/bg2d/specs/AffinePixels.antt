@@ -1,10 +1,10 @@
-use Rattle.std.specs.Prelude.{ℕ, Bool, ℤ, pos, negsuc, ◌+ℤ◌, ◌*ℤ◌, ◌+◌, ◌-◌, ◌*◌, ◌/◌, ◌%◌, ◌^◌, nat_lt, if◌then◌else◌, List, Option, Some, None}
-use Rattle.std.specs.Int.{int_shr}
+use Rattle.std.specs.Prelude.{ℕ, ◌+◌, ◌*◌, ◌/◌, ◌%◌, ◌^◌, List, Option, Some, None}
 use Rattle.ds_base.specs.Bits.{bits, bit}
 use Rattle.vram_banks.specs.Cells.{Banks, vram_byte}
 use Rattle.bg2d.specs.declared.layers.AffineLayer.{AffineLayer}
-use Rattle.bg2d.specs.Bases.{background_space, map_base, tile_base}
+use Rattle.tiles2d.specs.Bases.{background_space, map_base, tile_base}
 use Rattle.tiles2d.specs.Colours.{indexed_pixel, palette_colour}
+use Rattle.tiles2d.specs.Points.{affine_coordinate, place_within}
 use Rattle.tiles2d.specs.Tiles.{index_of_256}
 
 -- The pixel of an affine background (GBATEK, "LCD I/O BG Rotation/Scaling", "LCD VRAM BG Screen Data Format (BG Map)").
@@ -12,16 +12,6 @@ use Rattle.tiles2d.specs.Tiles.{index_of_256}
 -- the size in pixels, the same both ways: 128, 256, 512 or 1,024
 abbrev pub affine_size : AffineLayer → ℕ
 affine_size layer = 128 * 2 ^ bits 14 2 layer.control
-
--- a coordinate of the point shown at place x of the line: the line's first, and so many steps; both have 8 fractional bits, which are cut
--- off downwards. The sum is exact
-abbrev pub affine_coordinate : ℤ → ℤ → ℕ → ℤ
-affine_coordinate first step x = int_shr (first +ℤ (step *ℤ pos x)) 8
-
--- the place on the background of a coordinate: outside, where bit 13 of BGxCNT is set, the background begins again
-abbrev pub place_within : Bool → ℕ → ℤ → Option ℕ
-place_within wraps size (pos n) = if wraps then Some (n % size) else (if nat_lt n size then Some n else None)
-place_within wraps size (negsuc n) = if wraps then Some (size - 1 - n % size) else None
 
 -- the pixel of a point: the map has one byte an entry, which is the tile; tiles have 256 colours of the standard palette
 unfoldable pub affine_point_pixel : Banks → List ℕ → AffineLayer → ℕ → ℕ → ℕ

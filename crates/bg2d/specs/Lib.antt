@@ -1,4 +1,3 @@
 pub mod AffinePixels
-pub mod Bases
 pub mod TextPixels
 pub mod rows

@@ -1,11 +1,9 @@
-use Rattle.std.specs.Prelude.{ℕ, Bool, ◌+◌, ◌*◌, ◌/◌, ◌%◌, ◌^◌, ◌==◌, ◌&&◌, nat_lt, if◌then◌else◌, List}
+use Rattle.std.specs.Prelude.{ℕ, Bool, ◌+◌, ◌*◌, ◌/◌, ◌%◌, ◌^◌, ◌&&◌, nat_lt, if◌then◌else◌, List}
 use Rattle.ds_base.specs.Bits.{bits, bit}
-use Rattle.ds_base.specs.declared.memories.Space.{Space}
-use Rattle.ds_base.specs.declared.memories.Space.TheVariants.{ABgPalette, BBgPalette}
 use Rattle.ds_base.specs.declared.memories.Width.TheVariants.{Half}
 use Rattle.vram_banks.specs.Cells.{Banks, vram_value}
 use Rattle.bg2d.specs.declared.layers.TextLayer.{TextLayer}
-use Rattle.bg2d.specs.Bases.{background_space, map_base, tile_base}
+use Rattle.tiles2d.specs.Bases.{background_space, background_palette_space, map_base, tile_base}
 use Rattle.tiles2d.specs.Colours.{indexed_pixel, palette_colour, extended_colour}
 use Rattle.tiles2d.specs.Tiles.{index_of_16, index_of_256, flipped}
 
@@ -45,9 +43,6 @@ text_index v layer entry x y =
 -- where bit 13 of BGxCNT is set. A slot has 8K, which are sixteen palettes
 abbrev pub palette_slot : TextLayer → ℕ
 palette_slot layer = if nat_lt layer.number 2 && bit 13 layer.control then layer.number + 2 else layer.number
-
-abbrev pub background_palette_space : ℕ → Space
-background_palette_space engine = if engine == 0 then ABgPalette else BBgPalette
 
 -- the colour of an index, by the entry's palette
 unfoldable pub text_colour : Banks → List ℕ → TextLayer → ℕ → ℕ → ℕ

@@ -1,14 +1,14 @@
 //! Rows of affine backgrounds.
 
-ghost use Rattle.std.specs.Prelude.{◌≡◌, ◌<◌, ◌≤◌, ◌+◌, ◌*◌, ◌^◌, ◌+ℤ◌, ◌*ℤ◌, ◌≤ℤ◌, ℤ, pos, negsuc, ℕ, IfSome, length, slice_index};
-ghost use Rattle.std.specs.Int.{int_shr};
+ghost use Rattle.std.specs.Prelude.{◌≡◌, ◌<◌, ◌≤◌, ℕ, length, slice_index};
 ghost use Rattle.tiles2d.specs.Colours.{HasForm};
-ghost use Rattle.bg2d.specs.AffinePixels.{affine_size, affine_coordinate, place_within, affine_point_pixel, affine_pixel};
+ghost use Rattle.bg2d.specs.AffinePixels.{affine_size, affine_point_pixel, affine_pixel};
 
-use crate::bases::{background_space, map_base, tile_base};
-use crate::layers::{AffineLayer, Row};
-use tiles2d::{byte, opaque_pixel, palette_colour};
-use vram_banks::Vram;
+use crate::layers::AffineLayer;
+use tiles2d::{
+    affine_coordinate, background_space, byte, colour_pixel, map_base, place_within, tile_base,
+};
+use vram_banks::{Row, Vram};
 
 /// The size in pixels, the same both ways.
 fn affine_size(layer: &AffineLayer) -> u32
@@ -21,65 +21,6 @@ fn affine_size(layer: &AffineLayer) -> u32
         1 => 256,
         2 => 512,
         _ => 1024,
-    }
-}
-
-/// So many steps. The bounds are those of a step's and a place's ranges.
-fn steps(step: i16, x: u8) -> i64
-    ensures value { result ≡ step *ℤ pos x }
-    ensures low { negsuc (2 ^ 23) ≤ℤ result }
-    ensures high { result ≤ℤ pos (2 ^ 23) }
-{
-    step as i64 * x as i64
-}
-
-/// A sum with 8 fractional bits.
-fn sum(first: i32, more: i64) -> i64
-    requires low { negsuc (2 ^ 23) ≤ℤ more }
-    requires high { more ≤ℤ pos (2 ^ 23) }
-    ensures value { result ≡ first +ℤ more }
-    ensures low { negsuc (2 ^ 32) ≤ℤ result }
-    ensures high { result ≤ℤ pos (2 ^ 32) }
-{
-    first as i64 + more
-}
-
-/// A coordinate with 8 fractional bits, which are cut off downwards.
-fn whole(coordinate: i64) -> i32
-    requires low { negsuc (2 ^ 32) ≤ℤ coordinate }
-    requires high { coordinate ≤ℤ pos (2 ^ 32) }
-    ensures { result ≡ int_shr coordinate 8 }
-{
-    (coordinate >> 8) as i32
-}
-
-/// A coordinate of the point shown at place x of the line.
-fn affine_coordinate(first: i32, step: i16, x: u8) -> i32
-    ensures { result ≡ affine_coordinate first step x }
-{
-    whole(sum(first, steps(step, x)))
-}
-
-/// The place on the background of a coordinate.
-fn place_within(wraps: bool, size: u32, coordinate: i32) -> Option<u32>
-    requires some { 0 < size }
-    ensures value { result ≡ place_within wraps size coordinate }
-    ensures small { IfSome result (λ place. place < size) }
-{
-    if coordinate >= 0 {
-        let place = coordinate as u32;
-        if wraps {
-            Some(place % size)
-        } else if place < size {
-            Some(place)
-        } else {
-            None
-        }
-    } else if wraps {
-        let beyond = (-1 - coordinate) as u32;
-        Some(size - 1 - beyond % size)
-    } else {
-        None
     }
 }
 
@@ -96,11 +37,7 @@ fn affine_point_pixel(vram: &Vram, palette: &[u8], layer: &AffineLayer, x: u32, 
     let tiles = tile_base(layer.engine, layer.display, layer.control);
     let tile = byte(vram, space, map + affine_size(layer) / 8 * (y / 8) + x / 8);
     let index = byte(vram, space, tiles + 64 * tile as u32 + 8 * (y % 8) + x % 8);
-    if index == 0 {
-        0
-    } else {
-        opaque_pixel(palette_colour(palette, index as usize))
-    }
+    colour_pixel(palette, index)
 }
 
 /// The pixel that the background has at place x of the line.

@@ -1,12 +1,4 @@
-//! What a background is drawn from, and the row that is drawn.
-
-/// A row of 256 pixels, from the left. Red, green and blue stand in bits 0 to 4, 5 to 9 and 10 to 14; bit 15 is set where the pixel is
-/// opaque, and a transparent pixel is 0.
-#[derive(Clone, Copy)]
-pub struct Row {
-    /// The pixels.
-    pub pixels: [u16; 256],
-}
+//! What a background is drawn from.
 
 /// A text background, by its ports (GBATEK, "LCD I/O BG Control", "LCD I/O BG Scrolling").
 #[derive(Clone, Copy, PartialEq, Eq)]

@@ -4,16 +4,17 @@ ghost use Rattle.std.specs.Prelude.{◌≡◌, ◌<◌, ◌+◌, ◌*◌, ◌%�
 ghost use Rattle.ds_base.specs.Bits.{bits, bit};
 ghost use Rattle.ds_base.specs.Numbers.{number_at};
 ghost use Rattle.ds_base.specs.declared.memories.Width.TheVariants.{Half};
-ghost use Rattle.bg2d.specs.TextPixels.{text_width, text_height, has_256, palette_slot, background_palette_space, text_entry, text_colour, text_pixel};
+ghost use Rattle.bg2d.specs.TextPixels.{text_width, text_height, has_256, palette_slot, text_entry, text_colour, text_pixel};
 ghost use Rattle.tiles2d.specs.Colours.{indexed_pixel, HasForm};
 ghost use Rattle.tiles2d.specs.Tiles.{flipped};
 ghost use Rattle.bg2d.specs.rows.Tiling.{block_line, is_extended, tile_row, AreEntries, IsBlockLine, ArePacked, AreIndices, AreNarrow, ArePainted, IsTable, IsKept};
 
-use crate::bases::{background_space, map_base, tile_base};
-use crate::layers::{Row, TextLayer};
-use ds_base::Space;
-use tiles2d::{copy_eight, copy_four, fill_table, flipped, paint_by_table, paint_standard, unpack};
-use vram_banks::Vram;
+use crate::layers::TextLayer;
+use tiles2d::{
+    background_palette_space, background_space, copy_eight, copy_four, fill_table, flipped,
+    map_base, paint_by_table, paint_standard, tile_base, unpack,
+};
+use vram_banks::{Row, Vram};
 
 /// How many tiles a row touches: 256 pixels, and a tile's part at either end.
 const TILES: usize = 33;
@@ -189,16 +190,6 @@ fn extended_palette(layer: &TextLayer, entry: u16) -> u32
         layer.number as u32
     };
     0x2000 * slot + 512 * (entry >> 12) as u32
-}
-
-fn background_palette_space(engine: u8) -> Space
-    ensures { result ≡ background_palette_space engine }
-{
-    if engine == 0 {
-        Space::ABgPalette
-    } else {
-        Space::BBgPalette
-    }
 }
 
 /// Whether the background has extended palettes.

@@ -56,14 +56,12 @@ use Rattle.ds_runs.specs.Actors.{actor_of}
 use Rattle.ds_runs.specs.Runs.{MachineStep, Makes, Stops}
 use Rattle.ds_runs.specs.declared.actors.Actor as actor
 use Rattle.ds_runs.specs.declared.actors.Actor.TheVariants.{Dma, Processor, Video}
-use Rattle.video2d.specs.Backgrounds.{background_kind, background_mode, is_background_on}
+use Rattle.video2d.specs.Backgrounds.{is_background_on}
 use Rattle.video2d.specs.Engines.{EngineState, background_mosaic, bgcnt}
 use Rattle.video2d.specs.Pictures.{is_enabled as is_engine_enabled, is_forced_blank, object_memory, shows_layers}
 use Rattle.video2d.specs.Scans.{blanks_drawn_line}
-use Rattle.video2d.specs.Stops.{extended_by, first_need, needed_if, needs_capture, needs_display_mode, needs_mode, needs_of_background, needs_of_engine, needs_of_line, needs_of_object, needs_of_objects, needs_of_objects_shown, value_of_engine}
+use Rattle.video2d.specs.Stops.{first_need, needed_if, needs_capture, needs_display_mode, needs_mode, needs_of_background, needs_of_engine, needs_of_line, needs_of_object, needs_of_objects, needs_of_objects_shown, value_of_engine}
 use Rattle.video2d.specs.Videos.{VideoState, answer_unless, video_shown, video_stop}
-use Rattle.video2d.specs.declared.backgrounds.BackgroundKind.{BackgroundKind}
-use Rattle.video2d.specs.declared.backgrounds.BackgroundKind.TheVariants.{Text, Affine, Extended}
 use Rattle.video2d.specs.declared.videos.Shown as display
 use Rattle.ds_machine.specs.Channels.{channel_step, moved_by}
 use Rattle.ds_machine.specs.Reference.{Shown, awake, due_by, step_by, video_step}
@@ -120,17 +118,11 @@ each_named : (need : ℕ → Option Stop) → ((n : ℕ) → IsNamed (need n)) �
 each_named need h [] = tt
 each_named need h (n ∷ ns) = (h n, each_named need h ns)
 
-extended_named : (kind : BackgroundKind) (value : ℕ) (other : Option Stop) → IsNamed other → IsNamed (extended_by kind value other)
-extended_named Text value other h = h
-extended_named Affine value other h = h
-extended_named Extended value other h = λ e. cc
-
 module _ (which : ℕ) (e : EngineState) where
   background_named : (n : ℕ) → IsNamed (needs_of_background which e n)
   background_named n =
       named_if (shows_layers which e && is_background_on e n) _
-      (extended_named (background_kind (background_mode e) n) (value_of_engine which n) _
-      (need_named (bit 6 (bgcnt e n) && not (background_mosaic e == 0)) kinds.Mosaic (value_of_engine which n) (λ e. cc)))
+      (need_named (bit 6 (bgcnt e n) && not (background_mosaic e == 0)) kinds.Mosaic (value_of_engine which n) (λ e. cc))
 
   -- what an object needs, by whether it covers the line, is a bitmap and has mosaic
   object_by : (lies bitmap mosaic : Bool) (value other : ℕ)

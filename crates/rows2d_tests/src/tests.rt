@@ -8,6 +8,7 @@ use std::process::Abort;
 mod affines;
 mod banks;
 mod effects;
+mod extended;
 mod fields;
 mod lanes;
 mod layers;
@@ -53,6 +54,10 @@ enum Line {
     Point(u16, i32, i32, i16, i16, usize, u16),
     /// An affine background by engine, DISPCNT and control, whose first point is this one both ways: the pixel at a place.
     Affine(u8, u32, u16, u16, usize, u16),
+    /// An extended background by engine, number, DISPCNT and control, first point and steps: the pixel at a place.
+    Extended(u8, u8, u32, u16, i32, i32, i16, i16, usize, u16),
+    /// A bank that is shown as it lies, by DISPCNT: line, place, pixel.
+    Bank(u32, u8, usize, u16),
     /// One object by its number and attributes, and by DISPCNT and engine: the colour at a line and place.
     Object(usize, u16, u16, u16, u32, u8, u8, usize, u16),
     /// An affine object by attribute 0, attribute 2 and the four numbers of its group, and DISPCNT: the colour at a line and place.

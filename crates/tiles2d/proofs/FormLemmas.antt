@@ -11,7 +11,7 @@ choice_form false m n p q = q
 pub zero_form : HasForm 0
 zero_form h = absurd (h refl)
 
-opaque_form : (n : ℕ) → HasForm (opaque_pixel n)
+pub opaque_form : (n : ℕ) → HasForm (opaque_pixel n)
 opaque_form n h = omega arith
 
 pub indexed_form : (f : ℕ → ℕ) (i : ℕ) → HasForm (indexed_pixel f i)

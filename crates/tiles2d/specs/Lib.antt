@@ -1,2 +1,4 @@
+pub mod Bases
 pub mod Colours
+pub mod Points
 pub mod Tiles

@@ -53,6 +53,19 @@ pub fn standard_pixel(palette: &[u8], start: usize, index: u8) -> u16
     if index == 0 { 0 } else { pixel }
 }
 
+/// The pixel of an index by a whole standard palette.
+#[inline(always)]
+pub fn colour_pixel(palette: &[u8], index: u8) -> u16
+    requires { length palette.now ≡ 512 }
+    ensures { result ≡ indexed_pixel (palette_colour palette.now) index }
+{
+    if index == 0 {
+        0
+    } else {
+        opaque_pixel(palette_colour(palette, index as usize))
+    }
+}
+
 /// The pixel of an index by a palette that begins at an address of a space.
 #[inline(always)]
 pub fn extended_pixel(vram: &Vram, space: Space, at: u32, index: u8) -> u16

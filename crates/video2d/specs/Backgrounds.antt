@@ -3,9 +3,10 @@ use Rattle.ds_base.specs.Bits.{bit, bits}
 use Rattle.vram_banks.specs.Cells.{Banks}
 use Rattle.bg2d.specs.AffinePixels.{affine_pixel}
 use Rattle.bg2d.specs.TextPixels.{text_pixel}
-use Rattle.video2d.specs.Engines.{EngineState, dispcnt, text_layer_of, affine_layer_of}
+use Rattle.bg_ext.specs.ExtendedPixels.{ext_pixel}
+use Rattle.video2d.specs.Engines.{EngineState, dispcnt, text_layer_of, affine_layer_of, ext_layer_of}
 use Rattle.video2d.specs.declared.backgrounds.BackgroundKind.{BackgroundKind}
-use Rattle.video2d.specs.declared.backgrounds.BackgroundKind.TheVariants.{Text, Affine, Extended}
+use Rattle.video2d.specs.declared.backgrounds.BackgroundKind.TheVariants.{Text, Affine, Extended, LeftOut}
 
 -- What the backgrounds of an engine are, and the pixel of each (GBATEK, "DS Video BG Modes / Control").
 
@@ -19,7 +20,7 @@ is_background_on e n = bit (8 + n) (dispcnt e)
 abbrev pub is_background_3d : ℕ → EngineState → ℕ → Bool
 is_background_3d which e n = (which == 0) && ((n == 0) && bit 3 (dispcnt e))
 
--- the kinds of backgrounds 0 to 3 in modes 0 to 5
+-- the kinds of backgrounds 0 to 3 in each of the eight modes, of which 6 and 7 are left out
 abbrev pub kinds_by_mode : List (List BackgroundKind)
 kinds_by_mode =
     (Text ∷ Text ∷ Text ∷ Text ∷ [])
@@ -28,15 +29,19 @@ kinds_by_mode =
     ∷ (Text ∷ Text ∷ Text ∷ Extended ∷ [])
     ∷ (Text ∷ Text ∷ Affine ∷ Extended ∷ [])
     ∷ (Text ∷ Text ∷ Extended ∷ Extended ∷ [])
+    ∷ (LeftOut ∷ LeftOut ∷ LeftOut ∷ LeftOut ∷ [])
+    ∷ (LeftOut ∷ LeftOut ∷ LeftOut ∷ LeftOut ∷ [])
     ∷ []
 
 abbrev pub background_kind : ℕ → ℕ → BackgroundKind
-background_kind mode n = slice_index_or (slice_index_or kinds_by_mode mode []) n Extended
+background_kind mode n = slice_index_or (slice_index_or kinds_by_mode mode []) n LeftOut
 
 abbrev pub kind_pixel : BackgroundKind → Banks → List ℕ → ℕ → EngineState → ℕ → ℕ → ℕ → ℕ
 kind_pixel Text v palette which e line n x = text_pixel v palette (text_layer_of which e n) line x
 kind_pixel Affine v palette which e line n x = affine_pixel v palette (affine_layer_of which e n) x
-kind_pixel Extended v palette which e line n x = 0
+kind_pixel Extended v palette which e line n x = ext_pixel v palette (ext_layer_of which e n) x
+-- no line shows one that is left out: the display stops before it is drawn
+kind_pixel LeftOut v palette which e line n x = 0
 
 -- the pixel of background n at place x of a line: 0 where it is transparent, and one that is off or shows 3D is so everywhere. `palette` has
 -- the 512 bytes of the engine's background palette

@@ -4,19 +4,27 @@ use Rattle.ds_base.specs.Numbers.{number_at, zeroes}
 use Rattle.ds_base.specs.declared.memories.Width.TheVariants.{Half, Word}
 use Rattle.bg2d.specs.declared.layers.AffineLayer.{AffineLayer}
 use Rattle.bg2d.specs.declared.layers.TextLayer.{TextLayer}
+use Rattle.bg_ext.specs.declared.layers.ExtLayer.{ExtLayer}
 use Rattle.video2d.specs.EnginePorts.{engine_port_at, is_within, kept_bits, read_of}
 use Rattle.video2d.specs.declared.engine_ports.EnginePort.{EnginePort}
-use Rattle.video2d.specs.declared.points.Point.{Point}
+
+-- a running point: the point at the left end of the line, each coordinate a signed word with 8 fractional bits, as an unsigned number
+pub record PointState : Type 0 where
+  pub x : ℕ
+  pub y : ℕ
 
 -- A 2D engine: what its ports keep, a byte an offset from its base, and the running points of backgrounds 2 and 3. One record serves both
 -- engines; engine 0 is A, any other is B.
 pub record EngineState : Type 0 where
   pub ports : List ℕ
-  pub two : Point
-  pub three : Point
+  pub two : PointState
+  pub three : PointState
+
+abbrev pub point_at_boot : PointState
+point_at_boot = record { x = 0; y = 0 }
 
 abbrev pub engine_at_boot : EngineState
-engine_at_boot = record { ports = zeroes 112; two = record { x = 0; y = 0 }; three = record { x = 0; y = 0 } }
+engine_at_boot = record { ports = zeroes 112; two = point_at_boot; three = point_at_boot }
 
 -- ---- the registers by GBATEK's names; n is a background's number
 
@@ -69,11 +77,11 @@ abbrev pub coordinate_at : List ℕ → ℕ → ℕ
 coordinate_at ports at = word_of_28 (number_at Word ports at)
 
 -- both are copied when line 0 starts
-abbrev pub point_started : List ℕ → ℕ → Point
+abbrev pub point_started : List ℕ → ℕ → PointState
 point_started ports n = record { x = coordinate_at ports (0x10 * n + 8); y = coordinate_at ports (0x10 * n + 12) }
 
 -- each is copied when any byte of it is written
-abbrev pub point_written : List ℕ → ℕ → ℕ → Point → Point
+abbrev pub point_written : List ℕ → ℕ → ℕ → PointState → PointState
 point_written ports n at p =
     if is_within (0x10 * n + 8) 4 at then record p { x = coordinate_at ports (0x10 * n + 8) }
     else (if is_within (0x10 * n + 12) 4 at then record p { y = coordinate_at ports (0x10 * n + 12) } else p)
@@ -82,7 +90,7 @@ point_written ports n at p =
 abbrev pub moved_by : ℕ → ℕ → ℕ
 moved_by coordinate half = (coordinate + word_of_half half) % 2 ^ 32
 
-abbrev pub point_stepped : List ℕ → ℕ → Point → Point
+abbrev pub point_stepped : List ℕ → ℕ → PointState → PointState
 point_stepped ports n p = record { x = moved_by p.x (number_at Half ports (0x10 * n + 2)); y = moved_by p.y (number_at Half ports (0x10 * n + 6)) }
 
 abbrev pub points_started : EngineState → EngineState
@@ -118,12 +126,24 @@ text_layer_of which e n = record {
   down = bgvofs e n;
 }
 
-abbrev pub point_of : EngineState → ℕ → Point
+abbrev pub point_of : EngineState → ℕ → PointState
 point_of e n = if n == 2 then e.two else e.three
 
 abbrev pub affine_layer_of : ℕ → EngineState → ℕ → AffineLayer
 affine_layer_of which e n = record {
   engine = which;
+  display = dispcnt e;
+  control = bgcnt e n;
+  x = cast_signed w32 (point_of e n).x;
+  y = cast_signed w32 (point_of e n).y;
+  pa = cast_signed w16 (number_at Half e.ports (0x10 * n));
+  pc = cast_signed w16 (number_at Half e.ports (0x10 * n + 4));
+}
+
+abbrev pub ext_layer_of : ℕ → EngineState → ℕ → ExtLayer
+ext_layer_of which e n = record {
+  engine = which;
+  number = n;
   display = dispcnt e;
   control = bgcnt e n;
   x = cast_signed w32 (point_of e n).x;

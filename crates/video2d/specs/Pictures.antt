@@ -1,10 +1,11 @@
-use Rattle.std.specs.Prelude.{ℕ, ◌+◌, ◌*◌, ◌==◌, ◌&&◌, not, Bool, if◌then◌else◌, List, take, drop, ◌++◌, map, slice_range}
+use Rattle.std.specs.Prelude.{ℕ, ◌+◌, ◌*◌, ◌==◌, ◌&&◌, not, Bool, if◌then◌else◌, List, [], ◌∷◌, take, drop, ◌++◌, map, slice_range, slice_index_or, ◌%◌, ◌^◌}
 use Rattle.std.specs.List.{range_with_len}
 use Rattle.ds_base.specs.Bits.{bit, bits}
 use Rattle.line_lanes.specs.Pixels.{mastered}
 use Rattle.obj2d.specs.ObjectLayer.{object_pixel}
 use Rattle.obj2d.specs.declared.objects.Display.{Display}
 use Rattle.vram_banks.specs.Cells.{Banks}
+use Rattle.bg_ext.specs.BankPixels.{vram_pixel}
 use Rattle.tiles2d.specs.Colours.{palette_colour}
 use Rattle.video2d.specs.Backgrounds.{background_pixel}
 use Rattle.video2d.specs.Effects.{effects_where}
@@ -12,6 +13,8 @@ use Rattle.video2d.specs.Engines.{EngineState, dispcnt, master_bright}
 use Rattle.video2d.specs.Layers.{front_to_back, layers_of}
 use Rattle.video2d.specs.Windows.{shown_at}
 use Rattle.video2d.specs.declared.layers.LayerPixels.{LayerPixels}
+use Rattle.video2d.specs.declared.lines.Screen.{Screen}
+use Rattle.video2d.specs.declared.lines.Screen.TheVariants.{White, Layers, Bank, MainMemory}
 
 -- What an engine shows: its pixel at a place of a line, from the state at that line's H-blank event. A line is 256 pixels, and a frame is its
 -- lines. Nothing here knows a row buffer or an order of drawing.
@@ -65,16 +68,29 @@ display_mode which e = if which == 0 then bits 16 2 (dispcnt e) else bits 16 1 (
 abbrev pub is_forced_blank : EngineState → Bool
 is_forced_blank e = bit 7 (dispcnt e)
 
+-- what each display mode shows (GBATEK, the same): white, the layers, a bank of video memory, and main memory, which is left out. Forced blank is
+-- white
+abbrev pub screens_by_mode : List Screen
+screens_by_mode = White ∷ Layers ∷ Bank ∷ MainMemory ∷ []
+
+abbrev pub screen_shown : ℕ → EngineState → Screen
+screen_shown which e = if is_forced_blank e then White else slice_index_or screens_by_mode (display_mode which e) MainMemory
+
 -- it shows its layers: display mode 1, and no forced blank
 abbrev pub shows_layers : ℕ → EngineState → Bool
 shows_layers which e = not (is_forced_blank e) && (display_mode which e == 1)
 
--- without layers the screen is white (GBATEK, the same: display mode 0, and forced blank)
+-- the colour at a place: of a bank it is that of its pixel, as it lies there
+abbrev pub screen_kind_pixel : Screen → Banks → List ℕ → List ℕ → ℕ → EngineState → ℕ → ℕ → ℕ
+screen_kind_pixel White v palette oam which e line x = 0x7FFF
+screen_kind_pixel Layers v palette oam which e line x =
+    layered_pixel v (background_palette which palette) (object_palette which palette) (object_memory which oam) which e line x
+screen_kind_pixel Bank v palette oam which e line x = vram_pixel v (dispcnt e) line x % 2 ^ 15
+-- no line shows main memory: the display stops before it is drawn
+screen_kind_pixel MainMemory v palette oam which e line x = 0
+
 abbrev pub screen_pixel : Banks → List ℕ → List ℕ → ℕ → EngineState → ℕ → ℕ → ℕ
-screen_pixel v palette oam which e line x =
-    if shows_layers which e
-    then layered_pixel v (background_palette which palette) (object_palette which palette) (object_memory which oam) which e line x
-    else 0x7FFF
+screen_pixel v palette oam which e line x = screen_kind_pixel (screen_shown which e) v palette oam which e line x
 
 -- a disabled engine's pixels are 0 (our choice); on those of the other master brightness acts last, whatever they show
 abbrev pub engine_pixel : Banks → List ℕ → List ℕ → ℕ → ℕ → EngineState → ℕ → ℕ → ℕ

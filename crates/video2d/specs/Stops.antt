@@ -2,15 +2,13 @@ use Rattle.std.specs.Prelude.{ℕ, ◌+◌, ◌==◌, nat_le, ◌&&◌, not, Boo
 use Rattle.std.specs.List.{range_with_len}
 use Rattle.ds_base.specs.Bits.{bit}
 use Rattle.ds_base.specs.declared.left_out.LeftKind.{LeftKind}
-use Rattle.ds_base.specs.declared.left_out.LeftKind.TheVariants.{DisplayMode, BgMode, BitmapObject, Capture, Mosaic, ExtendedBackground}
+use Rattle.ds_base.specs.declared.left_out.LeftKind.TheVariants.{DisplayMode, BgMode, BitmapObject, Capture, Mosaic}
 use Rattle.ds_base.specs.declared.left_out.Stop.{Stop}
 use Rattle.obj2d.specs.Attributes.{mode, object_at, object_has_mosaic}
 use Rattle.obj2d.specs.Places.{covers}
-use Rattle.video2d.specs.Backgrounds.{background_kind, background_mode, is_background_on}
+use Rattle.video2d.specs.Backgrounds.{background_mode, is_background_on}
 use Rattle.video2d.specs.Engines.{EngineState, dispcnt, bgcnt, dispcapcnt, background_mosaic, object_mosaic}
 use Rattle.video2d.specs.Pictures.{display_mode, is_enabled, is_forced_blank, object_memory, shows_layers}
-use Rattle.video2d.specs.declared.backgrounds.BackgroundKind.{BackgroundKind}
-use Rattle.video2d.specs.declared.backgrounds.BackgroundKind.TheVariants.{Text, Affine, Extended}
 
 -- What a line can't be drawn with, and in which order it counts (our choice). A disabled engine needs nothing, nor does one with forced blank.
 
@@ -27,9 +25,9 @@ first_need (Some stop ∷ needs) = Some stop
 abbrev pub value_of_engine : ℕ → ℕ → ℕ
 value_of_engine which value = if which == 0 then value else 256 + value
 
--- display modes 2 and 3 (GBATEK, "DS Video BG Modes / Control")
+-- display mode 3, which shows main memory (GBATEK, "DS Video BG Modes / Control")
 abbrev pub needs_display_mode : ℕ → EngineState → Option Stop
-needs_display_mode which e = needed_if (nat_le 2 (display_mode which e)) DisplayMode (value_of_engine which (display_mode which e))
+needs_display_mode which e = needed_if (display_mode which e == 3) DisplayMode (value_of_engine which (display_mode which e))
 
 -- background modes 6 and 7
 abbrev pub needs_mode : ℕ → EngineState → Option Stop
@@ -39,18 +37,12 @@ needs_mode which e = needed_if (shows_layers which e && nat_le 6 (background_mod
 abbrev pub needs_capture : ℕ → EngineState → Option Stop
 needs_capture which e = needed_if ((which == 0) && bit 31 (dispcapcnt e)) Capture (dispcapcnt e)
 
--- an extended background, and one with mosaic (GBATEK, "LCD I/O Mosaic Function", BGxCNT bit 6) while its sizes aren't 0; background 0 as 3D
+-- a background with mosaic (GBATEK, "LCD I/O Mosaic Function", BGxCNT bit 6), of whatever kind, while its sizes aren't 0; background 0 as 3D
 -- counts too
-abbrev pub extended_by : BackgroundKind → ℕ → Option Stop → Option Stop
-extended_by Text value other = other
-extended_by Affine value other = other
-extended_by Extended value other = Some (record { kind = ExtendedBackground; value = value })
-
 abbrev pub needs_of_background : ℕ → EngineState → ℕ → Option Stop
 needs_of_background which e n =
     if shows_layers which e && is_background_on e n
-    then extended_by (background_kind (background_mode e) n) (value_of_engine which n)
-    (needed_if (bit 6 (bgcnt e n) && not (background_mosaic e == 0)) Mosaic (value_of_engine which n))
+    then needed_if (bit 6 (bgcnt e n) && not (background_mosaic e == 0)) Mosaic (value_of_engine which n)
     else None
 
 -- an object that covers the line and is a bitmap (mode 3), or has mosaic (attribute 0 bit 12) while objects' sizes aren't 0. The value of the

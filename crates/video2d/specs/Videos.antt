@@ -9,11 +9,10 @@ use Rattle.video2d.specs.Engines.{EngineState, engine_at_boot, engine_byte, engi
 use Rattle.video2d.specs.Pictures.{engine_line, line_laid, line_place, screen_of}
 use Rattle.video2d.specs.Ports.{video_port}
 use Rattle.video2d.specs.Scans.{ScanState, blanks_drawn_line, line_after, scan_after, scan_at_boot, starts_vblank}
-use Rattle.video2d.specs.Statuses.{half_byte, raised_at_hblank, raised_at_start, status_at_boot, status_started, status_word, status_written, with_half_byte}
+use Rattle.video2d.specs.Statuses.{StatusState, half_byte, raised_at_hblank, raised_at_start, status_at_boot, status_started, status_word, status_written, with_half_byte}
 use Rattle.video2d.specs.Stops.{needs_of_line}
 use Rattle.video2d.specs.declared.ports.VideoPort.{VideoPort}
 use Rattle.video2d.specs.declared.ports.VideoPort.TheVariants.{Status, Count, Engine, Power, Nothing}
-use Rattle.video2d.specs.declared.statuses.Status.{Status as StatusWord}
 use Rattle.video2d.specs.declared.videos.Shown.{Shown}
 
 -- The display: its events and its ports (GBATEK, "DS Video", "LCD I/O Interrupts and Status", "DS Power Control").
@@ -22,8 +21,8 @@ pub record VideoState : Type 0 where
   -- where it is
   pub scan : ScanState
   -- each processor's DISPSTAT
-  pub nine : StatusWord
-  pub seven : StatusWord
+  pub nine : StatusState
+  pub seven : StatusState
   -- both engines
   pub a : EngineState
   pub b : EngineState
@@ -48,7 +47,7 @@ video_at_boot = record {
 
 -- ---- ports
 
-abbrev pub status_of : VideoState → Proc → StatusWord
+abbrev pub status_of : VideoState → Proc → StatusState
 status_of v Nine = v.nine
 status_of v Seven = v.seven
 
@@ -66,7 +65,7 @@ video_byte_by Nothing proc v = 0
 abbrev pub video_byte : Proc → VideoState → ℕ → ℕ
 video_byte proc v at = video_byte_by (video_port proc at) proc v
 
-abbrev pub with_status : Proc → VideoState → StatusWord → VideoState
+abbrev pub with_status : Proc → VideoState → StatusState → VideoState
 with_status Nine v status = record v { nine = status }
 with_status Seven v status = record v { seven = status }
 
@@ -126,7 +125,7 @@ video_happened m palette oam v = if v.scan.blanked then video_line_started (line
 
 -- what an event raises, and what it starts elsewhere: V-blank DMA of both processors and H-blank DMA of ARM9 (GBATEK, "DS DMA Transfers"), and
 -- that a frame is whole
-abbrev pub video_raised : VideoState → StatusWord → ℕ
+abbrev pub video_raised : VideoState → StatusState → ℕ
 video_raised v status = if v.scan.blanked then raised_at_start (line_after v.scan.line) status else raised_at_hblank status
 
 abbrev pub video_shown : VideoState → Shown

@@ -4,8 +4,9 @@ ghost use Rattle.std.specs.Prelude.{◌≡◌, ◌<◌, ◌+◌, ℕ, length, sl
 ghost use Rattle.video2d.specs.Backgrounds.{background_mode, is_background_on, is_background_3d, background_kind, background_pixel};
 
 use crate::engines::Engine;
-use bg2d::{Row, affine_row, text_row};
-use vram_banks::Vram;
+use bg_ext::ext_row;
+use bg2d::{affine_row, text_row};
+use vram_banks::{Row, Vram};
 
 /// What a background is.
 #[derive(Clone, Copy, PartialEq, Eq)]
@@ -16,6 +17,8 @@ pub enum BackgroundKind {
     Affine,
     /// An extended background.
     Extended,
+    /// One of a mode that is left out.
+    LeftOut,
 }
 
 /// The kind of background n in a background mode.
@@ -58,7 +61,7 @@ pub fn background_kind(mode: u32, n: u8) -> BackgroundKind
                 BackgroundKind::Extended
             }
         }
-        _ => BackgroundKind::Extended,
+        _ => BackgroundKind::LeftOut,
     }
 }
 
@@ -115,6 +118,7 @@ pub fn background_row(
     match background_kind(background_mode(engine), n) {
         BackgroundKind::Text => text_row(vram, palette, &engine.text_layer(which, n), line, into),
         BackgroundKind::Affine => affine_row(vram, palette, &engine.affine_layer(which, n), into),
-        BackgroundKind::Extended => clear(into),
+        BackgroundKind::Extended => ext_row(vram, palette, &engine.ext_layer(which, n), into),
+        BackgroundKind::LeftOut => clear(into),
     }
 }

@@ -1,10 +1,11 @@
 //! A 2D engine's registers.
 
 ghost use Rattle.std.specs.Prelude.{◌≡◌, ◌<◌, ◌≤◌, slice_index, slice_set};
-ghost use Rattle.video2d.specs.Engines.{engine_at_boot, dispcnt, bgcnt, bghofs, bgvofs, bldcnt, bldalpha, bldy, dispcapcnt, master_bright, background_mosaic, object_mosaic, points_started, points_stepped, points_after, engine_byte, engine_byte_written, text_layer_of, affine_layer_of};
+ghost use Rattle.video2d.specs.Engines.{engine_at_boot, dispcnt, bgcnt, bghofs, bgvofs, bldcnt, bldalpha, bldy, dispcapcnt, master_bright, background_mosaic, object_mosaic, points_started, points_stepped, points_after, point_of, engine_byte, engine_byte_written, text_layer_of, affine_layer_of, ext_layer_of};
 
 use crate::engine_ports::engine_port_at;
 use crate::points::{PORTS, Point, half_at, word_at};
+use bg_ext::ExtLayer;
 use bg2d::{AffineLayer, TextLayer};
 use std::marker::Model;
 
@@ -32,8 +33,8 @@ impl Engine {
     {
         Engine {
             ports: [0; PORTS],
-            two: Point { x: 0, y: 0 },
-            three: Point { x: 0, y: 0 },
+            two: Point::new(),
+            three: Point::new(),
         }
     }
 
@@ -153,8 +154,8 @@ impl Engine {
     fn copy_points(&mut self, at: usize)
         ensures { self.new ≡ points_after at self.old }
     {
-        self.two = self.two.written(&self.ports, 2, at);
-        self.three = self.three.written(&self.ports, 3, at);
+        self.two.write(&self.ports, 2, at);
+        self.three.write(&self.ports, 3, at);
     }
 
     /// A byte is written at an offset.
@@ -175,16 +176,16 @@ impl Engine {
     pub fn start_points(&mut self)
         ensures { self.new ≡ points_started self.old }
     {
-        self.two = Point::started(&self.ports, 2);
-        self.three = Point::started(&self.ports, 3);
+        self.two.start(&self.ports, 2);
+        self.three.start(&self.ports, 3);
     }
 
     /// One line further.
     pub fn step_points(&mut self)
         ensures { self.new ≡ points_stepped self.old }
     {
-        self.two = self.two.stepped(&self.ports, 2);
-        self.three = self.three.stepped(&self.ports, 3);
+        self.two.step(&self.ports, 2);
+        self.three.step(&self.ports, 3);
     }
 
     /// Background n as a text background.
@@ -202,18 +203,41 @@ impl Engine {
         }
     }
 
+    /// The running point of background n, 2 or 3.
+    fn point(&self, n: u8) -> &Point
+        ensures { result.now ≡ point_of self.now n }
+    {
+        if n == 2 { &self.two } else { &self.three }
+    }
+
     /// Background n, 2 or 3, as an affine background.
     pub fn affine_layer(&self, which: u8, n: u8) -> AffineLayer
         requires { n < 4 }
         ensures { result ≡ affine_layer_of which self.now n }
     {
-        let point = if n == 2 { self.two } else { self.three };
         AffineLayer {
             engine: which,
             display: self.dispcnt(),
             control: self.bgcnt(n),
-            x: point.x.cast_signed(),
-            y: point.y.cast_signed(),
+            x: self.point(n).x().cast_signed(),
+            y: self.point(n).y().cast_signed(),
+            pa: half_at(&self.ports, 0x10 * n as usize).cast_signed(),
+            pc: half_at(&self.ports, 0x10 * n as usize + 4).cast_signed(),
+        }
+    }
+
+    /// Background n, 2 or 3, as an extended background.
+    pub fn ext_layer(&self, which: u8, n: u8) -> ExtLayer
+        requires { n < 4 }
+        ensures { result ≡ ext_layer_of which self.now n }
+    {
+        ExtLayer {
+            engine: which,
+            number: n,
+            display: self.dispcnt(),
+            control: self.bgcnt(n),
+            x: self.point(n).x().cast_signed(),
+            y: self.point(n).y().cast_signed(),
             pa: half_at(&self.ports, 0x10 * n as usize).cast_signed(),
             pc: half_at(&self.ports, 0x10 * n as usize + 4).cast_signed(),
         }

@@ -6,9 +6,8 @@ ghost use Rattle.video2d.specs.rows.Composed.{row_pixels};
 
 use crate::backgrounds::background_row;
 use crate::engines::Engine;
-use bg2d::Row;
 use obj2d::{ObjectPixel, ObjectRow, object_row};
-use vram_banks::Vram;
+use vram_banks::{Row, Vram};
 
 /// What the layers have at a place.
 #[derive(Clone, Copy)]

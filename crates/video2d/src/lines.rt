@@ -1,18 +1,34 @@
 //! The line that an engine shows.
 
-ghost use Rattle.std.specs.Prelude.{◌≡◌, ◌<◌, ℕ, length, slice_index};
-ghost use Rattle.video2d.specs.Pictures.{layered_pixel, is_enabled, display_mode, is_forced_blank, shows_layers, screen_pixel, engine_pixel, engine_line, background_palette, object_palette, object_memory};
+ghost use Rattle.std.specs.Prelude.{◌≡◌, ◌<◌, ◌%◌, ◌^◌, ℕ, length, slice_index};
+ghost use Rattle.bg_ext.specs.BankPixels.{vram_pixel};
+ghost use Rattle.video2d.specs.Engines.{dispcnt};
+ghost use Rattle.video2d.specs.Pictures.{layered_pixel, is_enabled, display_mode, is_forced_blank, screen_shown, shows_layers, screen_pixel, engine_pixel, engine_line, background_palette, object_palette, object_memory};
 
 use crate::engines::Engine;
 use crate::layers::{draw_rows, empty_rows};
 use crate::mixes::{MixRow, finish_row, line_order, mix_rows};
 use crate::plains::{calm_line, is_calm, is_plain, plain_layers, plain_line};
+use bg_ext::vram_row;
 use line_lanes::master;
 use tiles2d::palette_colour;
-use vram_banks::Vram;
+use vram_banks::{Row, Vram};
 
-/// What a screen without layers shows.
+/// What a white screen shows.
 const WHITE: u16 = 0x7FFF;
+
+/// What an engine's screen shows.
+#[derive(Clone, Copy, PartialEq, Eq)]
+pub enum Screen {
+    /// White: display mode 0, and forced blank.
+    White,
+    /// The layers.
+    Layers,
+    /// A bank of video memory, as it lies.
+    Bank,
+    /// Main memory, which is left out.
+    MainMemory,
+}
 
 /// The display mode: two bits of DISPCNT, of which engine B has the low one alone.
 pub fn display_mode(which: u8, engine: &Engine) -> u32
@@ -28,6 +44,21 @@ pub fn is_forced_blank(engine: &Engine) -> bool
     ensures { result ≡ is_forced_blank engine.now }
 {
     (engine.dispcnt() >> 7) % 2 == 1
+}
+
+/// What the engine's screen shows.
+fn screen_shown(which: u8, engine: &Engine) -> Screen
+    ensures { result ≡ screen_shown which engine.now }
+{
+    if is_forced_blank(engine) {
+        return Screen::White;
+    }
+    match display_mode(which, engine) {
+        0 => Screen::White,
+        1 => Screen::Layers,
+        2 => Screen::Bank,
+        _ => Screen::MainMemory,
+    }
 }
 
 /// Whether the engine shows its layers.
@@ -165,6 +196,53 @@ pub fn object_memory(which: u8, oam: &[u8]) -> &[u8]
     }
 }
 
+/// The colours of opaque pixels.
+fn colours_of(row: &Row, into: &mut [u16; 256])
+    ensures { (x : ℕ) → x < 256 → slice_index into.new x ≡ slice_index row.now.pixels x % 2 ^ 15 }
+{
+    for x in 0..256usize {
+        into[x] = row.pixels[x] % 0x8000;
+    }
+}
+
+/// Draws the line of a bank that is shown as it lies.
+fn bank_line(vram: &Vram, engine: &Engine, line: u8, into: &mut [u16; 256])
+    ensures { (x : ℕ) → x < 256 → slice_index into.new x ≡ vram_pixel vram.now (dispcnt engine.now) line x % 2 ^ 15 }
+{
+    let mut row = Row { pixels: [0; 256] };
+    vram_row(vram, engine.dispcnt(), line, &mut row);
+    colours_of(&row, into);
+}
+
+/// Draws the line of an engine's layers, with its palettes and objects in the memories of both engines.
+fn layers_line(
+    vram: &Vram,
+    palette: &[u8],
+    oam: &[u8],
+    which: u8,
+    engine: &Engine,
+    line: u8,
+    into: &mut [u16; 256],
+)
+    requires colours { length palette.now ≡ 2048 }
+    requires oam { length oam.now ≡ 2048 }
+    ensures { (x : ℕ) → x < 256 → slice_index into.new x ≡ layered_pixel vram.now (background_palette which palette.now) (object_palette which palette.now) (object_memory which oam.now) which engine.now line x }
+{
+    let colours = background_palette(which, palette);
+    let object_colours = object_palette(which, palette);
+    let objects = object_memory(which, oam);
+    layered_line(
+        vram,
+        colours,
+        object_colours,
+        objects,
+        which,
+        engine,
+        line,
+        into,
+    );
+}
+
 /// Draws the line of an enabled engine, before master brightness. `palette` and `oam` are the memories of both engines.
 fn screen_line(
     vram: &Vram,
@@ -179,22 +257,11 @@ fn screen_line(
     requires oam { length oam.now ≡ 2048 }
     ensures { (x : ℕ) → x < 256 → slice_index into.new x ≡ screen_pixel vram.now palette.now oam.now which engine.now line x }
 {
-    if shows_layers(which, engine) {
-        let colours = background_palette(which, palette);
-        let object_colours = object_palette(which, palette);
-        let objects = object_memory(which, oam);
-        layered_line(
-            vram,
-            colours,
-            object_colours,
-            objects,
-            which,
-            engine,
-            line,
-            into,
-        );
-    } else {
-        plain_line(WHITE, into);
+    match screen_shown(which, engine) {
+        Screen::White => plain_line(WHITE, into),
+        Screen::Layers => layers_line(vram, palette, oam, which, engine, line, into),
+        Screen::Bank => bank_line(vram, engine, line, into),
+        Screen::MainMemory => plain_line(0, into),
     }
 }
 

@@ -8,10 +8,9 @@ ghost use Rattle.video2d.specs.rows.Plain.{background_seen, backgrounds_seen, ca
 use crate::backgrounds::{background_row, is_background_on};
 use crate::engines::Engine;
 use crate::mixes::priority;
-use bg2d::Row;
 use obj2d::{ShownRow, shown_row};
 use tiles2d::palette_colour;
-use vram_banks::Vram;
+use vram_banks::{Row, Vram};
 
 /// Whether objects and windows are off, and there is no effect.
 pub fn is_plain(engine: &Engine) -> bool

@@ -4,18 +4,26 @@ ghost use Rattle.std.specs.Prelude.{◌≡◌, ◌<◌, ◌≤◌, ◌+◌, ◌*
 ghost use Rattle.ds_base.specs.Numbers.{number_at};
 ghost use Rattle.ds_base.specs.declared.memories.Width.TheVariants.{Half, Word};
 ghost use Rattle.video2d.specs.EnginePorts.{is_within};
-ghost use Rattle.video2d.specs.Engines.{word_of_half, word_of_28, coordinate_at, point_started, point_written, moved_by, point_stepped};
+ghost use Rattle.video2d.specs.Engines.{word_of_half, word_of_28, coordinate_at, point_at_boot, point_started, point_written, moved_by, point_stepped};
+
+use std::marker::Model;
 
 /// How many bytes an engine's ports have.
 pub const PORTS: usize = 112;
 
 /// The point at the left end of a line: each coordinate is a signed word with 8 fractional bits, as an unsigned number.
-#[derive(Clone, Copy)]
+#[derive(Drop)]
 pub struct Point {
-    /// Across.
-    pub x: u32,
-    /// Down.
-    pub y: u32,
+    x: u32,
+    y: u32,
+}
+
+impl Model for Point {
+    ghost use Rattle.video2d.specs.Engines.{PointState};
+
+    ghost Value = { PointState };
+
+    ghost view = { λ p. record { x = p.x; y = p.y } };
 }
 
 /// The half at an offset.
@@ -79,52 +87,53 @@ fn moved_by(coordinate: u32, half: u16) -> u32
 impl Point {
     /// At boot.
     pub fn new() -> Point
-        ensures x { result.x ≡ 0 }
-        ensures y { result.y ≡ 0 }
+        ensures { result ≡ point_at_boot }
     {
         Point { x: 0, y: 0 }
     }
 
-    /// The point of background n as X and Y are kept.
-    pub fn started(ports: &[u8; PORTS], n: usize) -> Point
-        requires { n ≤ 3 }
-        ensures { result ≡ point_started ports.now n }
+    /// Across, as an unsigned number.
+    pub fn x(&self) -> u32
+        ensures { result ≡ self.now.x }
     {
-        Point {
-            x: coordinate_at(ports, 0x10 * n + 8),
-            y: coordinate_at(ports, 0x10 * n + 12),
-        }
+        self.x
     }
 
-    /// After the byte at an offset was written: a coordinate whose byte that is is copied.
-    pub fn written(self, ports: &[u8; PORTS], n: usize, at: usize) -> Point
+    /// Down, likewise.
+    pub fn y(&self) -> u32
+        ensures { result ≡ self.now.y }
+    {
+        self.y
+    }
+
+    /// The point becomes that of background n as X and Y are kept.
+    pub fn start(&mut self, ports: &[u8; PORTS], n: usize)
         requires { n ≤ 3 }
-        ensures { result ≡ point_written ports.now n at self }
+        ensures { self.new ≡ point_started ports.now n }
+    {
+        self.x = coordinate_at(ports, 0x10 * n + 8);
+        self.y = coordinate_at(ports, 0x10 * n + 12);
+    }
+
+    /// The byte at an offset was written: a coordinate whose byte that is is copied.
+    pub fn write(&mut self, ports: &[u8; PORTS], n: usize, at: usize)
+        requires { n ≤ 3 }
+        ensures { self.new ≡ point_written ports.now n at self.old }
     {
         let (x, y) = (0x10 * n + 8, 0x10 * n + 12);
         if is_within(x, 4, at) {
-            Point {
-                x: coordinate_at(ports, x),
-                ..self
-            }
+            self.x = coordinate_at(ports, x);
         } else if is_within(y, 4, at) {
-            Point {
-                y: coordinate_at(ports, y),
-                ..self
-            }
-        } else {
-            self
+            self.y = coordinate_at(ports, y);
         }
     }
 
     /// One line further: PB and PD are added.
-    pub fn stepped(self, ports: &[u8; PORTS], n: usize) -> Point
+    pub fn step(&mut self, ports: &[u8; PORTS], n: usize)
         requires { n ≤ 3 }
-        ensures { result ≡ point_stepped ports.now n self }
+        ensures { self.new ≡ point_stepped ports.now n self.old }
     {
-        Point {
-            x: moved_by(self.x, half_at(ports, 0x10 * n + 2)),
-            y: moved_by(self.y, half_at(ports, 0x10 * n + 6)),
-        }
+        self.x = moved_by(self.x, half_at(ports, 0x10 * n + 2));
+        self.y = moved_by(self.y, half_at(ports, 0x10 * n + 6));
     }
 }

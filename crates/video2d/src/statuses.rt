@@ -1,22 +1,29 @@
 //! DISPSTAT, of which each processor has its own.
 
-ghost use Rattle.std.specs.Prelude.{◌≡◌, ◌<◌, ◌≤◌, if◌then◌else◌};
-ghost use Rattle.ds_base.specs.Bits.{bit, flag};
+ghost use Rattle.std.specs.Prelude.{◌≡◌, ◌≤◌, ◌+◌, ◌*◌};
+ghost use Rattle.ds_base.specs.Bits.{bits, flag};
 ghost use Rattle.video2d.specs.Statuses.{half_byte, with_half_byte, status_at_boot, status_written, vcount_setting, status_word, status_started, raised_where, raised_at_hblank, raised_at_start};
 
 use crate::scans::Scan;
 use ds_base::Interrupt;
+use std::marker::Model;
 
 /// The bits that DISPSTAT keeps.
 const KEPT: u16 = 0xFFB8;
 
 /// One processor's DISPSTAT: what it keeps, and its V-count flag.
-#[derive(Clone, Copy)]
+#[derive(Drop)]
 pub struct Status {
-    /// The enables in bits 3 to 5 and the V-count setting.
-    pub kept: u16,
-    /// Whether the present line began as the line of the setting.
-    pub matched: bool,
+    kept: u16,
+    matched: bool,
+}
+
+impl Model for Status {
+    ghost use Rattle.video2d.specs.Statuses.{StatusState};
+
+    ghost Value = { StatusState };
+
+    ghost view = { λ s. record { kept = s.kept; matched = s.matched } };
 }
 
 /// A byte of a half, the low one being byte 0.
@@ -48,6 +55,13 @@ fn mark(n: u8, set: bool) -> u16
     if set { 1 << n } else { 0 }
 }
 
+/// DISPSTAT of its flags and of what is kept.
+fn joined(vblank: bool, hblank: bool, vcount: bool, kept: u16) -> u16
+    ensures { result ≡ flag 0 vblank + flag 1 hblank + flag 2 vcount + 8 * bits 3 13 kept }
+{
+    mark(0, vblank) + mark(1, hblank) + mark(2, vcount) + 8 * (kept >> 3)
+}
+
 fn raised_where(asked: bool, interrupt: Interrupt) -> u32
     ensures { result ≡ raised_where asked interrupt }
 {
@@ -65,53 +79,51 @@ impl Status {
         }
     }
 
-    /// A byte is written: flags stay, and so does what isn't kept.
-    pub fn written(self, byte: u8, value: u8) -> Status
-        ensures { result ≡ status_written self byte value }
+    /// What it keeps: the enables in bits 3 to 5 and the V-count setting.
+    pub fn kept(&self) -> u16
+        ensures { result ≡ self.now.kept }
     {
-        Status {
-            kept: with_half_byte(byte, self.kept, value) & KEPT,
-            ..self
-        }
+        self.kept
+    }
+
+    /// A byte is written: the flag stays, and so does the other byte.
+    pub fn write(&mut self, byte: u8, value: u8)
+        ensures { self.new ≡ status_written self.old byte value }
+    {
+        self.kept = with_half_byte(byte, self.kept, value) & KEPT;
     }
 
     /// The line at whose start V-count's flag is set.
-    fn setting(self) -> u16
-        ensures { result ≡ vcount_setting self }
+    fn setting(&self) -> u16
+        ensures { result ≡ vcount_setting self.now }
     {
         (self.kept >> 8) + 256 * ((self.kept >> 7) % 2)
     }
 
     /// DISPSTAT as it is read.
-    pub fn word(self, scan: &Scan) -> u16
-        ensures { result ≡ status_word scan.now self }
+    pub fn word(&self, scan: &Scan) -> u16
+        ensures { result ≡ status_word scan.now self.now }
     {
-        mark(0, scan.in_vblank())
-            + mark(1, scan.blanked())
-            + mark(2, self.matched)
-            + 8 * (self.kept >> 3)
+        joined(scan.in_vblank(), scan.blanked(), self.matched, self.kept)
     }
 
     /// A line starts.
-    pub fn started(self, line: u16) -> Status
-        ensures { result ≡ status_started line self }
+    pub fn start(&mut self, line: u16)
+        ensures { self.new ≡ status_started line self.old }
     {
-        Status {
-            matched: line == self.setting(),
-            ..self
-        }
+        self.matched = line == self.setting();
     }
 
     /// The bits of IF that a line's H-blank raises.
-    pub fn raised_at_hblank(self) -> u32
-        ensures { result ≡ raised_at_hblank self }
+    pub fn raised_at_hblank(&self) -> u32
+        ensures { result ≡ raised_at_hblank self.now }
     {
         raised_where((self.kept >> 4) % 2 == 1, Interrupt::HBlank)
     }
 
     /// The bits of IF that a line's start raises.
-    pub fn raised_at_start(self, line: u16) -> u32
-        ensures { result ≡ raised_at_start line self }
+    pub fn raised_at_start(&self, line: u16) -> u32
+        ensures { result ≡ raised_at_start line self.now }
     {
         let vblank = line == 192 && (self.kept >> 3) % 2 == 1;
         let vcount = line == self.setting() && (self.kept >> 5) % 2 == 1;

@@ -2,9 +2,9 @@
 
 ghost use Rattle.std.specs.Prelude.{◌≡◌, ◌<◌, ◌∷◌, [], length};
 ghost use Rattle.video2d.specs.Pictures.{object_memory};
-ghost use Rattle.video2d.specs.Stops.{needed_if, first_need, value_of_engine, needs_display_mode, needs_mode, needs_capture, extended_by, needs_of_background, needs_of_object, needs_of_objects, needs_of_objects_shown, needs_of_engine, needs_of_line};
+ghost use Rattle.video2d.specs.Stops.{needed_if, first_need, value_of_engine, needs_display_mode, needs_mode, needs_capture, needs_of_background, needs_of_object, needs_of_objects, needs_of_objects_shown, needs_of_engine, needs_of_line};
 
-use crate::backgrounds::{BackgroundKind, background_kind, background_mode, is_background_on};
+use crate::backgrounds::{background_mode, is_background_on};
 use crate::engines::Engine;
 use crate::lines::{display_mode, is_enabled, is_forced_blank, object_memory, shows_layers};
 use ds_base::{LeftKind, Stop};
@@ -43,7 +43,7 @@ fn needs_display_mode(which: u8, engine: &Engine) -> Option<Stop>
 {
     let mode = display_mode(which, engine);
     needed_if(
-        mode >= 2,
+        mode == 3,
         LeftKind::DisplayMode,
         value_of_engine(which, mode),
     )
@@ -67,15 +67,6 @@ fn needs_capture(which: u8, engine: &Engine) -> Option<Stop>
     needed_if(which == 0 && capture >> 31 == 1, LeftKind::Capture, capture)
 }
 
-fn extended_by(kind: BackgroundKind, value: u32, other: Option<Stop>) -> Option<Stop>
-    ensures { result ≡ extended_by kind value other }
-{
-    match kind {
-        BackgroundKind::Extended => needed_if(true, LeftKind::ExtendedBackground, value),
-        _ => other,
-    }
-}
-
 fn needs_of_background(which: u8, engine: &Engine, n: u8) -> Option<Stop>
     requires { n < 4 }
     ensures { result ≡ needs_of_background which engine.now n }
@@ -83,13 +74,8 @@ fn needs_of_background(which: u8, engine: &Engine, n: u8) -> Option<Stop>
     if !(shows_layers(which, engine) && is_background_on(engine, n)) {
         return None;
     }
-    let value = value_of_engine(which, n as u32);
     let mosaic = (engine.bgcnt(n) >> 6) % 2 == 1 && engine.background_mosaic() != 0;
-    extended_by(
-        background_kind(background_mode(engine), n),
-        value,
-        needed_if(mosaic, LeftKind::Mosaic, value),
-    )
+    needed_if(mosaic, LeftKind::Mosaic, value_of_engine(which, n as u32))
 }
 
 /// What the object of a number needs. `oam` has the engine's 1,024 bytes of objects.

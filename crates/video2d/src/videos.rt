@@ -120,12 +120,12 @@ impl Video {
         self.scan.framed()
     }
 
-    fn status(&self, proc: Proc) -> Status
-        ensures { result ≡ status_of self.now proc }
+    fn status(&self, proc: Proc) -> &Status
+        ensures { result.now ≡ status_of self.now proc }
     {
         match proc {
-            Proc::Nine => self.nine,
-            Proc::Seven => self.seven,
+            Proc::Nine => &self.nine,
+            Proc::Seven => &self.seven,
         }
     }
 
@@ -169,7 +169,7 @@ impl Video {
         ensures { result ≡ kept_byte proc self.now at }
     {
         match video_port(proc, at) {
-            VideoPort::Status(byte) => half_byte(byte, self.status(proc).kept),
+            VideoPort::Status(byte) => half_byte(byte, self.status(proc).kept()),
             VideoPort::Engine(which, at) => {
                 if which == 0 {
                     self.a.kept(at)
@@ -189,8 +189,8 @@ impl Video {
     {
         match video_port(proc, at) {
             VideoPort::Status(byte) => match proc {
-                Proc::Nine => self.nine = self.nine.written(byte, value),
-                Proc::Seven => self.seven = self.seven.written(byte, value),
+                Proc::Nine => self.nine.write(byte, value),
+                Proc::Seven => self.seven.write(byte, value),
             },
             VideoPort::Engine(which, at) => {
                 if which == 0 {
@@ -280,8 +280,8 @@ impl Video {
         requires { scan_due self.old.scan ≤ 2 ^ 56 }
         ensures { self.new ≡ video_line_started line self.old }
     {
-        self.nine = self.nine.started(line);
-        self.seven = self.seven.started(line);
+        self.nine.start(line);
+        self.seven.start(line);
         if line == 0 {
             self.a.start_points();
             self.b.start_points();
@@ -293,8 +293,8 @@ impl Video {
     }
 
     /// The bits of IF that the next event raises, by a processor's DISPSTAT.
-    fn raised(&self, status: Status) -> u32
-        ensures { result ≡ video_raised self.now status }
+    fn raised(&self, status: &Status) -> u32
+        ensures { result ≡ video_raised self.now status.now }
     {
         if self.scan.blanked() {
             status.raised_at_start(self.scan.next_line())
@@ -309,8 +309,8 @@ impl Video {
     {
         Shown {
             raised: Raised {
-                nine: self.raised(self.nine),
-                seven: self.raised(self.seven),
+                nine: self.raised(&self.nine),
+                seven: self.raised(&self.seven),
             },
             vblank: self.scan.starts_vblank(),
             hblank: self.scan.blanks_drawn(),

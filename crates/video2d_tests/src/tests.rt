@@ -7,6 +7,7 @@ use std::process::Abort;
 
 mod effects;
 mod events;
+mod extended;
 mod frames;
 mod layers;
 mod nexts;

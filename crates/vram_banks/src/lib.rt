@@ -7,6 +7,8 @@
 mod banks;
 mod cells;
 mod maps;
+mod rows;
 mod windows;
 
 pub use banks::Vram;
+pub use rows::Row;

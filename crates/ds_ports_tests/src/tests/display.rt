@@ -231,15 +231,15 @@ fn a_line_that_stops_changes_nothing(rt: HostRuntime) -> Result<(), AllocError> 
         &rt,
         rt.alloc(),
         &[
-            // engine A shows video memory, and H-blank would interrupt
-            Write(Nine, 0x000, Word, 0x0002_0000),
+            // engine A shows main memory, and H-blank would interrupt
+            Write(Nine, 0x000, Word, 0x0003_0000),
             Write(Nine, 0x004, Half, 0x0010),
             Write(Nine, 0x304, Half, 0x0002),
-            Stops(DisplayMode, 2),
+            Stops(DisplayMode, 3),
             First(3212, 1),
             Reads(Nine, 0x004, Half, 0x0010),
             Reads(Nine, 0x214, Word, 0),
-            Stops(DisplayMode, 2),
+            Stops(DisplayMode, 3),
             // it is disabled: then nothing is needed
             Write(Nine, 0x304, Half, 0),
             Shows(1),

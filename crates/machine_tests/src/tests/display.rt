@@ -179,7 +179,7 @@ fn h_blank_moves_a_unit_at_each_drawn_line(rt: HostRuntime) -> Result<(), AllocE
 fn a_line_that_needs_what_is_left_out_stops_the_machine(rt: HostRuntime) -> Result<(), AllocError> {
     let mode = Stop {
         kind: LeftKind::DisplayMode,
-        value: 2,
+        value: 3,
     };
     try_programs(
         &rt,
@@ -188,8 +188,8 @@ fn a_line_that_needs_what_is_left_out_stops_the_machine(rt: HostRuntime) -> Resu
             PORTS,
             0xE3A0_1010, // mov r1, #0x10
             0xE1C0_10B4, // strh r1, [r0, #4]: DISPSTAT, H-blank
-            0xE3A0_1802, // mov r1, #0x20000
-            0xE580_1000, // str r1, [r0]: DISPCNT, display mode 2
+            0xE3A0_1803, // mov r1, #0x30000
+            0xE580_1000, // str r1, [r0]: DISPCNT, display mode 3
             0xE3A0_2002, // mov r2, #2
             POWER,
             0xE1C3_20B4, // strh r2, [r3, #4]: POWCNT1

@@ -3,6 +3,7 @@
 ghost use Rattle.std.specs.Prelude.{◌<◌, ◌≤◌};
 
 use super::Line;
+use bg_ext::{ExtLayer, ext_row, vram_row};
 use bg2d::{AffineLayer, Row, TextLayer, affine_row, text_row};
 use ds_base::{Space, Width};
 use obj2d::{ObjectPixel, ObjectRow, covers_line, object_row};
@@ -141,6 +142,29 @@ impl Stage {
                     self.affine(engine, display, control, last, at),
                     pixel as u32,
                 )
+            }
+            extended => self.extended(extended),
+        }
+    }
+
+    /// What is asked of extended backgrounds and of banks that are shown.
+    fn extended(&mut self, line: Line) -> (u32, u32) {
+        match line {
+            Line::Extended(engine, number, display, control, x, y, pa, pc, at, pixel) => {
+                let layer = ExtLayer {
+                    engine,
+                    number,
+                    display,
+                    control,
+                    x,
+                    y,
+                    pa,
+                    pc,
+                };
+                (self.extended_at(&layer, at), pixel as u32)
+            }
+            Line::Bank(display, line, at, pixel) => {
+                (self.bank_at(display, line, at), pixel as u32)
             }
             objects => self.objects(objects),
         }
@@ -383,6 +407,24 @@ impl Stage {
             pixels: [0x1234; 256],
         };
         affine_row(&self.vram, &self.palette, layer, &mut row);
+        row.pixels[x % 256] as u32
+    }
+
+    /// The pixel at a place of an extended background's line, likewise.
+    fn extended_at(&self, layer: &ExtLayer, x: usize) -> u32 {
+        let mut row = Row {
+            pixels: [0x1234; 256],
+        };
+        ext_row(&self.vram, &self.palette, layer, &mut row);
+        row.pixels[x % 256] as u32
+    }
+
+    /// The pixel at a place of a bank's line, likewise.
+    fn bank_at(&self, display: u32, line: u8, x: usize) -> u32 {
+        let mut row = Row {
+            pixels: [0x1234; 256],
+        };
+        vram_row(&self.vram, display, line, &mut row);
         row.pixels[x % 256] as u32
     }
 

@@ -1,7 +1,7 @@
 //! Stops: what each line needs that isn't there, its value, and which counts first.
 
 use super::{Line, try_lines};
-use LeftKind::{BgMode, BitmapObject, Capture, DisplayMode, ExtendedBackground, Mosaic};
+use LeftKind::{BgMode, BitmapObject, Capture, DisplayMode, Mosaic};
 use Line::{Event, Layers, Object, Stops, To, Write};
 use Proc::Nine;
 use Width::{Half, Word};
@@ -15,9 +15,9 @@ fn modes_stop_where_they_are_left_out(rt: HostRuntime) -> Result<(), AllocError>
         rt.alloc(),
         &[
             Write(Nine, 0x304, Half, 0x8202),
-            Write(Nine, 0, Word, 0x2_0000),
-            Stops(DisplayMode, 2),
             Write(Nine, 0, Word, 0x3_0000),
+            Stops(DisplayMode, 3),
+            Write(Nine, 0, Word, 0xFFFF_0007),
             Stops(DisplayMode, 3),
             Write(Nine, 0, Word, 0x1_0006),
             Stops(BgMode, 6),
@@ -62,17 +62,21 @@ fn capture_counts_in_every_display_mode_of_engine_a(rt: HostRuntime) -> Result<(
             Write(Nine, 0, Word, 0x1_0000),
             Stops(Capture, 0x8012_3456),
             // modes come first
-            Write(Nine, 0, Word, 0x2_0000),
-            Stops(DisplayMode, 2),
+            Write(Nine, 0, Word, 0x3_0000),
+            Stops(DisplayMode, 3),
             Write(Nine, 0, Word, 0x1_0006),
             Stops(BgMode, 6),
+            // a bank that is shown may be captured too
+            Write(Nine, 0, Word, 0x2_0007),
+            Stops(Capture, 0x8012_3456),
             // backgrounds, and engine B, come after
-            Write(Nine, 0, Word, 0x1_0805),
+            Layers(0, 0x1_0805, 0, 0, 0, 0x0040),
+            Write(Nine, 0x4C, Half, 0x0010),
             Stops(Capture, 0x8012_3456),
             Write(Nine, 0x1000, Word, 0x1_0007),
             Stops(Capture, 0x8012_3456),
             Write(Nine, 0x64, Word, 0x7FFF_FFFF),
-            Stops(ExtendedBackground, 3),
+            Stops(Mosaic, 3),
             Write(Nine, 0, Word, 0x80),
             Write(Nine, 0x64, Word, 0x8000_0000),
             Stops(BgMode, 263),
@@ -83,7 +87,7 @@ fn capture_counts_in_every_display_mode_of_engine_a(rt: HostRuntime) -> Result<(
 }
 
 #[test]
-fn extended_backgrounds_and_mosaic_stop_where_shown(rt: HostRuntime) -> Result<(), AllocError> {
+fn backgrounds_with_mosaic_stop_where_shown(rt: HostRuntime) -> Result<(), AllocError> {
     try_lines(
         &rt,
         rt.alloc(),
@@ -91,32 +95,38 @@ fn extended_backgrounds_and_mosaic_stop_where_shown(rt: HostRuntime) -> Result<(
             Write(Nine, 0x304, Half, 0x8202),
             Write(Nine, 0x4C, Half, 0x0010),
             Write(Nine, 0x104C, Half, 0x0100),
-            Layers(0, 0x1_0803, 0, 0, 0, 0),
-            Stops(ExtendedBackground, 3),
-            Layers(0, 0x1_0405, 0, 0, 0, 0),
-            Stops(ExtendedBackground, 2),
+            // extended ones as all others
+            Layers(0, 0x1_0803, 0, 0, 0, 0x0040),
+            Stops(Mosaic, 3),
+            Layers(0, 0x1_0405, 0, 0, 0x00C0, 0),
+            Stops(Mosaic, 2),
             Layers(0, 0x1_0200, 0, 0x0040, 0, 0),
             Stops(Mosaic, 1),
             // 3D counts too
             Layers(0, 0x1_0108, 0x0040, 0, 0, 0),
             Stops(Mosaic, 0),
-            // of two the lower background counts, whatever it needs; of one, that it is extended
-            Layers(0, 0x1_0A04, 0, 0x0040, 0, 0),
+            // of two the lower background counts
+            Layers(0, 0x1_0A04, 0, 0x0040, 0, 0x0040),
             Stops(Mosaic, 1),
             Layers(0, 0x1_0C05, 0, 0, 0x0040, 0x0040),
-            Stops(ExtendedBackground, 2),
+            Stops(Mosaic, 2),
             // backgrounds that are off need nothing; objects' sizes of mosaic don't count
             Layers(0, 0x1_0005, 0x0040, 0x0040, 0x0040, 0x0040),
-            Layers(0x1000, 0x1_0F00, 0x0040, 0x0040, 0x0040, 0x0040),
+            Layers(0x1000, 0x1_0F05, 0x0040, 0x0040, 0x0040, 0x0040),
             Event(0, 0, false, true),
             Event(0, 0, false, false),
             Write(Nine, 0x104C, Half, 0x0001),
             Stops(Mosaic, 256),
-            Layers(0x1000, 0x1_0804, 0, 0, 0, 0),
-            Stops(ExtendedBackground, 259),
+            Layers(0x1000, 0x1_0804, 0, 0, 0, 0x0040),
+            Stops(Mosaic, 259),
             // A before B
-            Layers(0, 0x1_0805, 0, 0, 0, 0),
-            Stops(ExtendedBackground, 3),
+            Write(Nine, 0x4C, Half, 0x0001),
+            Layers(0, 0x1_0805, 0, 0, 0, 0x0040),
+            Stops(Mosaic, 3),
+            // without mosaic extended backgrounds need nothing
+            Layers(0, 0x1_0C05, 0, 0, 0x0004, 0x0084),
+            Layers(0x1000, 0x1_0803, 0, 0, 0, 0x0080),
+            Event(0, 0, false, true),
         ],
     )
 }

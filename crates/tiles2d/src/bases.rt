@@ -1,7 +1,7 @@
 //! Where a background has its map and its tiles.
 
 ghost use Rattle.std.specs.Prelude.{◌≡◌, ◌<◌};
-ghost use Rattle.bg2d.specs.Bases.{background_space, display_base, map_base, tile_base};
+ghost use Rattle.tiles2d.specs.Bases.{background_space, background_palette_space, display_base, map_base, tile_base};
 
 use ds_base::Space;
 
@@ -10,6 +10,17 @@ pub fn background_space(engine: u8) -> Space
     ensures { result ≡ background_space engine }
 {
     if engine == 0 { Space::ABg } else { Space::BBg }
+}
+
+/// The space of their extended palettes.
+pub fn background_palette_space(engine: u8) -> Space
+    ensures { result ≡ background_palette_space engine }
+{
+    if engine == 0 {
+        Space::ABgPalette
+    } else {
+        Space::BBgPalette
+    }
 }
 
 /// A base of 64K steps, which engine A alone has.

@@ -1,13 +1,17 @@
 use Rattle.std.specs.Prelude.{ℕ, ◌+◌, ◌*◌, ◌==◌, if◌then◌else◌}
 use Rattle.ds_base.specs.Bits.{bits}
 use Rattle.ds_base.specs.declared.memories.Space.{Space}
-use Rattle.ds_base.specs.declared.memories.Space.TheVariants.{ABg, BBg}
+use Rattle.ds_base.specs.declared.memories.Space.TheVariants.{ABg, BBg, ABgPalette, BBgPalette}
 
 -- Where the backgrounds of an engine have their maps and tiles (GBATEK, "LCD I/O BG Control" and "DS Video BG Modes / Control"). Engine 0
 -- is A, any other is B. Addresses are exact sums; each byte is taken by remainder of the space's size.
 
 abbrev pub background_space : ℕ → Space
 background_space engine = if engine == 0 then ABg else BBg
+
+-- the space of their extended palettes
+abbrev pub background_palette_space : ℕ → Space
+background_palette_space engine = if engine == 0 then ABgPalette else BBgPalette
 
 -- engine A has a base of 64K steps in DISPCNT; B has none
 abbrev pub display_base : ℕ → ℕ → ℕ

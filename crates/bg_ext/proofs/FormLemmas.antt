@@ -1,0 +1,46 @@
+use Rattle.std.proofs.Common.{ℕ, List}
+use Rattle.std.specs.Prelude.{Option, Some, None}
+use Rattle.ds_base.specs.Bits.{bit}
+use Rattle.vram_banks.specs.Cells.{Banks}
+use Rattle.tiles2d.specs.Colours.{HasForm, opaque_pixel, palette_colour}
+use Rattle.tiles2d.proofs.FormLemmas.{choice_form, zero_form, opaque_form, indexed_form}
+use Rattle.bg_ext.specs.declared.layers.ExtLayer.{ExtLayer}
+use Rattle.bg_ext.specs.BankPixels.{vram_pixel}
+use Rattle.bg_ext.specs.ExtendedPixels.{is_bitmap, has_halves, direct_pixel, half_pixel, byte_pixel, ext_entry, entry_colour, entry_pixel, ext_point_pixel, ext_place_pixel, ext_across, ext_down, ext_pixel}
+
+-- A pixel has bit 15 set, or is 0.
+
+direct_form : (half : ℕ) → HasForm (direct_pixel half)
+direct_form half = choice_form (bit 15 half) (opaque_pixel half) 0 (opaque_form half) zero_form
+
+half_form : (v : Banks) (layer : ExtLayer) (x y : ℕ) → HasForm (half_pixel v layer x y)
+unfolding half_pixel
+half_form v layer x y = direct_form _
+
+byte_form : (v : Banks) (palette : List ℕ) (layer : ExtLayer) (x y : ℕ) → HasForm (byte_pixel v palette layer x y)
+unfolding byte_pixel
+byte_form v palette layer x y = indexed_form (palette_colour palette) _
+
+entry_form : (v : Banks) (palette : List ℕ) (layer : ExtLayer) (entry x y : ℕ) → HasForm (entry_pixel v palette layer entry x y)
+unfolding entry_pixel
+entry_form v palette layer entry x y = indexed_form (entry_colour v palette layer entry) _
+
+point_form : (v : Banks) (palette : List ℕ) (layer : ExtLayer) (x y : ℕ) → HasForm (ext_point_pixel v palette layer x y)
+unfolding ext_point_pixel
+point_form v palette layer x y =
+    choice_form (is_bitmap layer) _ _
+    (choice_form (has_halves layer) _ _ (half_form v layer x y) (byte_form v palette layer x y))
+    (entry_form v palette layer (ext_entry v layer x y) x y)
+
+place_form : (v : Banks) (palette : List ℕ) (layer : ExtLayer) (x y : Option ℕ) → HasForm (ext_place_pixel v palette layer x y)
+place_form v palette layer None y = zero_form
+place_form v palette layer (Some x) None = zero_form
+place_form v palette layer (Some x) (Some y) = point_form v palette layer x y
+
+pub ext_form : (v : Banks) (palette : List ℕ) (layer : ExtLayer) (x : ℕ) → HasForm (ext_pixel v palette layer x)
+unfolding ext_pixel
+ext_form v palette layer x = place_form v palette layer (ext_across layer x) (ext_down layer x)
+
+pub vram_form : (v : Banks) (display line x : ℕ) → HasForm (vram_pixel v display line x)
+unfolding vram_pixel
+vram_form v display line x = opaque_form _

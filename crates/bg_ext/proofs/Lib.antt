@@ -1,0 +1,4 @@
+pub mod FormLemmas
+pub mod HalfLemmas
+pub mod LevelLemmas
+pub mod StraightLemmas

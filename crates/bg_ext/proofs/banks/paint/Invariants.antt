@@ -1,0 +1,9 @@
+use Rattle.std.proofs.Common.{ℕ, ◌≡◌, ◌<◌, ◌+◌, ◌*◌, get_or}
+use Rattle.ds_base.specs.declared.memories.Space.TheVariants.{Lcdc}
+use Rattle.ds_base.specs.declared.memories.Width.TheVariants.{Half}
+use Rattle.tiles2d.specs.Colours.{opaque_pixel}
+use Rattle.vram_banks.specs.Cells.{vram_value}
+use Rattle.bg_ext.proofs.banks.paint.Given as goal
+
+abbrev pub invariant-loop-x : goal.invariant-loop-x
+invariant-loop-x l = (j : ℕ) → j < l.x → get_or l.into j 0 ≡ opaque_pixel (vram_value l.vram Lcdc (l.at + 2 * j) Half)

@@ -1,0 +1,5 @@
+use Rattle.std.proofs.Common.{ℕ, ◌≡◌, ◌<◌, get_or}
+use Rattle.bg_ext.proofs.extended.clear.Given as goal
+
+abbrev pub invariant-loop-x : goal.invariant-loop-x
+invariant-loop-x l = (j : ℕ) → j < l.x → get_or l.into j 0 ≡ 0

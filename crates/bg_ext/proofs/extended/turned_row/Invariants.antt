@@ -1,0 +1,6 @@
+use Rattle.std.proofs.Common.{ℕ, ◌≡◌, ◌<◌, get_or}
+use Rattle.bg_ext.specs.ExtendedPixels.{ext_pixel}
+use Rattle.bg_ext.proofs.extended.turned_row.Given as goal
+
+abbrev pub invariant-loop-x : goal.invariant-loop-x
+invariant-loop-x l = (j : ℕ) → j < l.x → get_or l.into j 0 ≡ ext_pixel l.vram l.palette l.layer j

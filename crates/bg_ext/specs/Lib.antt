@@ -1,0 +1,3 @@
+pub mod BankPixels
+pub mod ExtendedPixels
+pub mod rows

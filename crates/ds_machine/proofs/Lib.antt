@@ -5,6 +5,7 @@ pub mod ChannelEvents
 pub mod Costs
 pub mod FenceFirsts
 pub mod CountSteps
+pub mod QuietStays
 pub mod DueTicks
 pub mod ActingDues
 pub mod Frames

@@ -13,7 +13,6 @@ use Rattle.ds_dma.proofs.Wholes.{awaits_none}
 use Rattle.ds_ports.specs.ProcessorIo.{ProcessorIoState, processor_io_triggered}
 use Rattle.ds_ports.specs.Io.{IoState, io_of, is_settled, level_told, settled, with_halted}
 use Rattle.ds_machine.specs.Reference.{AreAsleep, HasSoundParts, due_unless, keys_due, processor_due}
-use Rattle.ds_machine.specs.Counting.{is_to_be_triggered}
 use Rattle.ds_machine.specs.States.{MachineState, ProcessorState, counts_of}
 use Rattle.ds_machine.specs.Steps.{ended, goes_on, is_blocked, machine_settled, processor_of, wakes, with_halt, with_processor, woken, woken_one}
 use Rattle.gx_fifo.specs.GxStates.{AreWaiting, is_half_empty}
@@ -168,7 +167,7 @@ pub settle_leaves : (tick : Tick) (u : IoState) → SettleLeaves u (settled tick
 settle_leaves tick u = settle_by tick (is_half_empty u.gx) u
 
 -- where no channel is to be triggered, none is
-pub settled_dma : (tick : Tick) (u : IoState) → IsIo u → is_to_be_triggered u ≡ false → (settled tick u).nine.dma ≡ u.nine.dma
+pub settled_dma : (tick : Tick) (u : IoState) → IsIo u → (is_half_empty u.gx && awaits_geometry u.nine.dma) ≡ false → (settled tick u).nine.dma ≡ u.nine.dma
 settled_dma tick u is none = by_half (is_half_empty u.gx) none where
   by_half : (half : Bool) → (half && awaits_geometry u.nine.dma) ≡ false
       → (if half then record (level_told u) { nine = processor_io_triggered (level_told u).nine causes.Geometry tick } else level_told u).nine.dma ≡ u.nine.dma

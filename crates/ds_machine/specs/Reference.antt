@@ -1,4 +1,4 @@
-use Rattle.std.specs.Prelude.{ℕ, ◌≡◌, Bool, true, false, if◌then◌else◌, List, [], ◌∷◌, map, max, nat_lt, Option, Some, None, Result, Ok, Err}
+use Rattle.std.specs.Prelude.{ℕ, ◌≡◌, Bool, true, false, if◌then◌else◌, List, ◌∷◌, map, max, Option, Some, None, Result, Ok, Err, []}
 use Rattle.ds_base.specs.KeyLines.{AreKeyLines}
 use Rattle.ds_base.specs.declared.keys.KeyLine.{KeyLine}
 use Rattle.ds_base.specs.declared.left_out.LeftOut.{LeftOut}
@@ -160,9 +160,6 @@ Fences Card proc = Unit {0}
 Fences Geometry proc = proc ≡ Nine
 Fences a proc = ⊥
 
--- geometry's rank, and how many of its steps there may be at a tick before the actor of a rank
+-- geometry's rank
 abbrev pub geometry_rank : ℕ
 geometry_rank = 12
-
-abbrev pub geometry_before : ℕ → ℕ
-geometry_before rank = if nat_lt geometry_rank rank then 1 else 0

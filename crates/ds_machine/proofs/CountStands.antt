@@ -3,6 +3,7 @@ use Rattle.ds_ports.specs.Acting.{any_armed}
 use Rattle.ds_machine.specs.Acting.{acting_due, acting_dues}
 use Rattle.std.proofs.Common.{ℕ, ◌≡◌, ◌<◌, ◌≤◌, ◌+◌, ◌*◌, ◌⊎◌, inl, inr, Bool, true, false, true≢false, if◌then◌else◌, List, [], ◌∷◌, Option, Some, None, refl, sym, ◌∙◌, ap, subst, arith}
 use Rattle.std.specs.Prelude.{max, ◌&&◌}
+use Rattle.ds_ports.proofs.Settles.{kept_same}
 use Rattle.std.proofs.Math.Nat.{le-max_left, le-max_right}
 use Rattle.std.proofs.lemmas.Option.{none-some}
 use Rattle.std.proofs.lemmas.Bool.{and_parts}
@@ -40,7 +41,7 @@ use Rattle.ds_machine.proofs.MachineSchedule.{Steps, channel_timers, display_hap
 use Rattle.ds_machine.proofs.ProcessorSteps.{Operation, Took, came_by, concluded_stops, concludes, costs_some, goes, later_by, reached_by, reaches, step_is}
 use Rattle.ds_machine.proofs.Quiet.{not_halted}
 use Rattle.ds_machine.proofs.VideoEvents.{video_makes, video_stops}
-use Rattle.ds_machine.proofs.Wakes.{settle_leaves, settled_dma}
+use Rattle.ds_machine.proofs.Wakes.{settle_leaves, settled_dma, settled_released}
 use Rattle.video2d.specs.Scans.{ScanState, scan_due_tick}
 use Rattle.video2d.specs.Videos.{VideoState, video_stop}
 
@@ -65,11 +66,11 @@ few_before s rank tick acts has = record {
 
 -- where the units are settled no channel is to be triggered
 pub none_triggered : (u : IoState) → is_settled u ≡ true → is_to_be_triggered u ≡ false
-none_triggered u h = second _ _ h where
-  second : (a b : Bool) → (a && not b) ≡ true → b ≡ false
-  second true true e = absurd (true≢false (sym e))
-  second true false e = refl
-  second false b e = absurd (true≢false (sym e))
+none_triggered u h = second _ _ _ h where
+  second : (a b c : Bool) → (a && (not b && c)) ≡ true → b ≡ false
+  second true true c e = absurd (true≢false (sym e))
+  second true false c e = refl
+  second false b c e = absurd (true≢false (sym e))
 
 -- ---- what a step at a tick makes of a processor's numbers
 
@@ -80,11 +81,12 @@ pub record HasFew (tick : Tick) (proc : Proc) (next : MachineState) : Type 0 whe
 
 -- of ARM9 geometry stays that may hold it, and that triggers its channels
 abbrev GeometryStays : Proc → IoState → IoState → Type 0
-GeometryStays Nine old new = (new.gx ≡ old.gx) × (new.released ≡ old.released)
+GeometryStays Nine old new = (new.gx ≡ old.gx)
+    × ((channel : ℕ) → held_due (is_stalled old.gx) new.released (channel_due old.nine.dma channel) ≡ held_due (is_stalled old.gx) old.released (channel_due old.nine.dma channel))
 GeometryStays Seven old new = Unit {0}
 
 geometry_same : (proc : Proc) (old new : IoState) → new.gx ≡ old.gx → new.released ≡ old.released → GeometryStays proc old new
-geometry_same Nine old new gx released = (gx, released)
+geometry_same Nine old new gx released = (gx, λ channel. ap (λ (n : ℕ). held_due (is_stalled old.gx) n (channel_due old.nine.dma channel)) released)
 geometry_same Seven old new gx released = tt
 
 -- its channels are to be triggered as before
@@ -121,8 +123,8 @@ apart_by proc s next steps due left scan keys stays = record { steps = steps; du
   channels : (proc : Proc) (channel : ℕ) → IsUnchanged (io_of s.io proc) (io_of next.io proc) → GeometryStays proc s.io next.io → due_by (Dma proc channel) next ≡ due_by (Dma proc channel) s
   channels Nine channel left stays =
       ap (λ (g : GxState). held_due (is_stalled g) next.io.released (channel_due next.io.nine.dma channel)) stays.0
-      ∙ ap (λ (n : ℕ). held_due (is_stalled s.io.gx) n (channel_due next.io.nine.dma channel)) stays.1
-      ∙ ap (λ (d : DmaState). held_due (is_stalled s.io.gx) s.io.released (channel_due d channel)) left.dma
+      ∙ ap (λ (d : DmaState). held_due (is_stalled s.io.gx) next.io.released (channel_due d channel)) left.dma
+      ∙ stays.1 channel
   channels Seven channel left stays = ap (λ (d : DmaState). channel_due d channel) left.dma
 
   commands : (proc : Proc) → proc ≡ Nine → IsUnchanged (io_of s.io proc) (io_of next.io proc) → GeometryStays proc s.io next.io → acting_due Geometry next ≡ acting_due Geometry s
@@ -247,15 +249,20 @@ past_grows false due other = omega arith
 
 geometry_stands : (proc : Proc) (rank : ℕ) (tick : Tick) (s : MachineState) → Steps Geometry rank tick s → FewBefore s rank tick → CountStands tick proc s (after_geometry s)
 geometry_stands Nine rank tick s st has =
-    let later = past_grows (stall_ends s.io) s.nine.processor.due (tick_after s.io.gx.due s.nine.processor.due) in
+    let later = past_grows (stall_ends s.io && not s.io.nine.halted) s.nine.processor.due (tick_after s.io.gx.due s.nine.processor.due) in
     inl (few_fenced Nine s (after_geometry s) tick rank Geometry st has refl refl (λ free. (let k = has.own Nine free in omega (arith, k, later))))
 geometry_stands Seven rank tick s st has = inr (apart_by Seven s (after_geometry s) refl refl (unchanged_same s.io.seven) refl refl tt)
 
 -- a DMA channel's: its processor is due after it, and the other is left alone
+past_free : (halted : Bool) (now : Tick) (due : ℕ) → halted ≡ false → now.0 + 1 ≤ (if halted then 0 else max due (now.0 + 1))
+past_free true now due free = absurd (true≢false free)
+past_free false now due free = le-max_right due (now.0 + 1)
+
 unit_own : (proc : Proc) (now : Tick) (unit : DmaUnit) (s : MachineState)
-    → (let next = machine_after_unit proc now unit s in ((processor_of next proc).steps ≡ (processor_of s proc).steps) × (now.0 + 1 ≤ (processor_of next proc).due))
-unit_own Nine now unit s = (refl, le-max_right s.nine.processor.due (now.0 + 1))
-unit_own Seven now unit s = (refl, le-max_right s.seven.processor.due (now.0 + 1))
+    → (let next = machine_after_unit proc now unit s in
+    ((processor_of next proc).steps ≡ (processor_of s proc).steps) × (is_halted next proc ≡ false → now.0 + 1 ≤ (processor_of next proc).due))
+unit_own Nine now unit s = (refl, past_free (is_halted (machine_after_unit Nine now unit s) Nine) now s.nine.processor.due)
+unit_own Seven now unit s = (refl, past_free (is_halted (machine_after_unit Seven now unit s) Seven) now s.seven.processor.due)
 
 unit_others : (proc : Proc) (now : Tick) (unit : DmaUnit) (s : MachineState)
     → (let next = machine_after_unit proc now unit s in ((processor_of next (other_proc proc)).steps ≡ (processor_of s (other_proc proc)).steps)
@@ -269,7 +276,8 @@ unit_geometry Nine channel rank tick s st = tt
 unit_geometry Seven channel rank tick s st =
     let unit = next_unit s.io Seven in
     let timers = channel_timers Seven channel rank tick s st in
-    (unit_gx Seven channel tick unit s st.sound st.numbered st.due timers refl, unit_released Seven channel tick unit s st.sound st.numbered st.due timers)
+    geometry_same Nine s.io (machine_after_unit Seven tick unit s).io (unit_gx Seven channel tick unit s st.sound st.numbered st.due timers refl)
+    (unit_released Seven channel tick unit s st.sound st.numbered st.due timers)
 
 unit_stands : (proc each : Proc) (channel rank : ℕ) (tick : Tick) (s : MachineState) → Steps (Dma proc channel) rank tick s → FewBefore s rank tick
     → CountStands tick each s (machine_after_unit proc tick (next_unit s.io proc) s)
@@ -279,10 +287,9 @@ unit_stands proc each channel rank tick s st has =
     let timers = channel_timers proc channel rank tick s st in
     let own = unit_own proc tick unit s in
     let k = has.fenced proc (subst (λ (x : actor.Actor). Fences x proc) (sym st.is) refl) in
-    let late = own.1 in
     let others = unit_others proc tick unit s in
     of_both (λ p. CountStands tick p s next) proc
-    (inl (few_fenced proc s next tick rank (Dma proc channel) st has refl own.0 (λ free. omega (arith, k, late))))
+    (inl (few_fenced proc s next tick rank (Dma proc channel) st has refl own.0 (λ free. (let late = own.1 free in omega (arith, k, late)))))
     (inr (apart_by (other_proc proc) s next others.0 others.1 (unit_other proc channel tick unit s st.sound st.numbered st.due timers)
     (unit_video proc channel tick unit s st.sound st.numbered st.due timers) others.2 (unit_geometry proc channel rank tick s st)))
     each
@@ -295,7 +302,7 @@ gone_own Nine m (Halted clocks) took = refl
 gone_own Seven m (Halted clocks) took = refl
 gone_own proc m (Left stop) took = absurd took
 
-went_past : (proc : Proc) (due clocks : ℕ) (halted : Bool) → 0 < clocks → halted ≡ false → due < (if halted then due else due + ticks_per_clock proc * clocks)
+went_past : (proc : Proc) (due clocks : ℕ) (halted : Bool) → 0 < clocks → halted ≡ false → due < (if halted then 0 else due + ticks_per_clock proc * clocks)
 went_past proc due clocks true some free = absurd (true≢false free)
 went_past proc due clocks false some free = later_by proc due clocks some
 
@@ -309,7 +316,7 @@ gone_due proc m (Left stop) took free = absurd took
 
 gone_apart : (proc : Proc) (m : MachineState) (came : arm.Stepped) → Took came → IsUntouched (other_proc proc) m (gone_by proc came m)
 gone_apart Nine m (Cost clocks) took = apart_by Seven m (gone_by Nine (Cost clocks) m) refl refl (unchanged_same m.io.seven) refl refl tt
-gone_apart Seven m (Cost clocks) took = apart_by Nine m (gone_by Seven (Cost clocks) m) refl refl (unchanged_same m.io.nine) refl refl (refl, refl)
+gone_apart Seven m (Cost clocks) took = apart_by Nine m (gone_by Seven (Cost clocks) m) refl refl (unchanged_same m.io.nine) refl refl (geometry_same Nine m.io (goes_on Seven tick m).io refl refl)
 gone_apart Nine m (Halted clocks) took = apart_by Seven m (gone_by Nine (Halted clocks) m) refl refl (unchanged_same m.io.seven) refl refl tt
 gone_apart Seven m (Halted clocks) took = apart_by Nine m (gone_by Seven (Halted clocks) m) refl refl (unchanged_same m.io.nine) refl refl (refl, refl)
 gone_apart proc m (Left stop) took = absurd took
@@ -321,7 +328,7 @@ reached_steps Seven s = refl
 -- what its accesses leave
 access_geometry : (proc : Proc) (tick : Tick) (old new : IoState) → Goes proc tick old new → GeometryStays (other_proc proc) old new
 access_geometry Nine tick old new g = tt
-access_geometry Seven tick old new g = (g.geometry.of_seven refl, g.geometry.released)
+access_geometry Seven tick old new g = geometry_same Nine old new (g.geometry.of_seven refl) g.geometry.released
 
 pub reached_apart : (proc : Proc) (tick : Tick) (s : MachineState) → Operation proc tick s → IsUntouched (other_proc proc) s (reached_by proc s)
 reached_apart proc tick s r =
@@ -383,7 +390,8 @@ settled_apart : (tick : Tick) (m : MachineState) → IsIo m.io → is_to_be_trig
 settled_apart tick m is none =
     let k = settle_leaves tick m.io in
     apart_by Nine m (machine_settled tick m) refl refl (record { timers = k.timers; keycnt = k.keycnt; halted = k.halted; dma = settled_dma tick m.io is none })
-    (ap (λ (v : VideoState). v.scan) k.video) refl (k.gx, k.released)
+    (ap (λ (v : VideoState). v.scan) k.video) refl (k.gx, λ channel.
+    ap (λ (n : ℕ). held_due (is_stalled m.io.gx) n (channel_due m.io.nine.dma channel)) (settled_released tick m.io is none) ∙ kept_same m.io channel)
 
 pub settle_stands : (each : Proc) (tick : Tick) (s m : MachineState) → IsIo m.io → (is_to_be_triggered s.io ≡ true → s.nine.processor.steps ≤ tick.0 + 1)
     → (is_halted s Nine ≡ false → s.nine.processor.steps ≤ s.nine.processor.due) → CountStands tick each s m → CountStands tick each s (machine_settled tick m)

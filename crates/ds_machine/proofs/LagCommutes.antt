@@ -48,7 +48,7 @@ use Rattle.ds_places.specs.AddressTables.{place_of}
 use Rattle.ds_places.specs.declared.kinds.Place.{Place}
 use Rattle.ds_places.specs.declared.kinds.Place.TheVariants.{Banks, Cell, Nothing, Port, Rom}
 use Rattle.ds_ports.specs.Dues.{io_due}
-use Rattle.ds_ports.specs.Io.{IoState, both_raised, channels_triggered, io_event, level_told, settled, shown_to_others, video_done, with_gx}
+use Rattle.ds_ports.specs.Io.{IoState, both_raised, channels_triggered, io_event, level_told, release_kept, settled, shown_to_others, video_done, with_gx}
 use Rattle.ds_ports.specs.ProcessorIo.{processor_io_triggered}
 use Rattle.ds_ports.proofs.Arms.{ArmsNoMore, KeepsControls, armed, arms_by, arms_kept, arms_same, arms_then, keeps_same, told_dma, triggered_keeps}
 use Rattle.ds_ports.proofs.GxApart.{channel_due_apart, event_apart, video_apart}
@@ -674,13 +674,13 @@ room_none tick true u four none =
     ap (λ (d : DmaState). (let told : IoState = record u { nine = record u.nine { dma = d } } in told)) (awaits_none u.nine.dma tick four none)
 room_none tick false u four none = refl
 
-pub settled_told : (tick : Tick) (u : IoState) → length u.nine.dma.channels ≡ 4 → any_armed u.nine.dma ≡ false → settled tick u ≡ level_told u
-settled_told tick u four none = room_none tick (is_half_empty u.gx) (level_told u) four (none_awaits u.nine.dma none)
+pub settled_told : (tick : Tick) (u : IoState) → length u.nine.dma.channels ≡ 4 → any_armed u.nine.dma ≡ false → settled tick u ≡ release_kept (level_told u)
+settled_told tick u four none = ap release_kept (room_none tick (is_half_empty u.gx) (level_told u) four (none_awaits u.nine.dma none))
 
 settled_so : (tick : Tick) (g : GxState) (u : IoState) → length u.nine.dma.channels ≡ 4 → any_armed u.nine.dma ≡ false → g.selector ≡ 0 → u.gx.selector ≡ 0
     → settled tick (with_gx g u) ≡ with_gx g (settled tick u)
 settled_so tick g u four none here there =
-    settled_told tick (with_gx g u) four none ∙ level_so g u here there ∙ ap (λ (x : IoState). with_gx g x) (sym (settled_told tick u four none))
+    settled_told tick (with_gx g u) four none ∙ ap release_kept (level_so g u here there) ∙ ap (λ (x : IoState). with_gx g x) (sym (settled_told tick u four none))
 
 nine_wakes : (tick : Tick) (g : GxState) (m : MachineState) → woken_one Nine tick (late_put g m) ≡ late_put g (woken_one Nine tick m)
 nine_wakes tick g m = by_wake (wakes m Nine) where

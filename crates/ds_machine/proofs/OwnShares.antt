@@ -14,7 +14,7 @@ use Rattle.ds_map.specs.Shares.{IsSharedSo, SharedPart, is_apart, is_shown_to_ni
 use Rattle.ds_map.specs.Views.{SevenReach, seven_memory}
 use Rattle.ds_map.proofs.SevenShares as seven_map
 use Rattle.ds_ports.specs.Dues.{io_due}
-use Rattle.ds_ports.specs.Io.{IoState, level_told, settled}
+use Rattle.ds_ports.specs.Io.{IoState, level_told, release_kept, settled}
 use Rattle.ds_ports.specs.ProcessorIo.{processor_io_triggered}
 use Rattle.ds_runs.specs.Runs.{MachineStep, Makes}
 use Rattle.ds_runs.specs.declared.actors.Actor as actor
@@ -224,7 +224,7 @@ abbrev triggered : Tick → IoState → IoState
 triggered tick u = record (level_told u) { nine = processor_io_triggered (level_told u).nine causes.Geometry tick }
 
 settled_so : (tick : Tick) (own : SharedPart) (u : IoState) → settled tick (shares_put own u) ≡ shares_put own (settled tick u)
-settled_so tick own u = by_room (is_half_empty u.gx) where
+settled_so tick own u = ap release_kept (by_room (is_half_empty u.gx)) where
   by_room : (b : Bool) → (if b then triggered tick (shares_put own u) else level_told (shares_put own u)) ≡ shares_put own (if b then triggered tick u else level_told u)
   by_room true = refl
   by_room false = refl

@@ -26,7 +26,7 @@ use Rattle.ds_machine.proofs.Costs.{step_costs}
 use Rattle.ds_machine.proofs.DueTicks.{due_then, tick_is}
 use Rattle.ds_machine.proofs.Moves.{Moves, blocked_moves, moves_of, other_held, same_keys, then_io_dues}
 use Rattle.ds_machine.proofs.Others.{step_goes}
-use Rattle.ds_machine.proofs.Wakes.{halt_blocked, halt_other, halt_steps, halted_io_dues, halted_io, put_beside, put_counts, put_other, put_processor_io}
+use Rattle.ds_machine.proofs.Wakes.{halt_blocked, halt_other, halt_steps, halted_blocks, halted_io_dues, halted_io, put_beside, put_counts, put_other, put_processor_io}
 use Rattle.video2d.specs.Scans.{scan_due}
 
 -- A processor's step: what its accesses leave, and how it goes on.
@@ -144,11 +144,6 @@ went_later : (proc : Proc) (p : ProcessorState) (tick : Tick) (clocks : ℕ) (ha
 went_later proc p tick clocks halted true h e some = tt
 went_later proc p tick clocks true false h e some = absurd (true≢false (sym (h refl)))
 went_later proc p tick clocks false false h e some = let lt = later_by proc p.due clocks some in omega (arith, e, lt)
-
--- a halted one is blocked
-halted_blocks : (s : MachineState) (proc : Proc) → is_halted s proc ≡ true → is_blocked s proc ≡ true
-halted_blocks s Nine h = rw h refl
-halted_blocks s Seven h = rw h refl
 
 gone_later : (proc : Proc) (m : MachineState) (tick : Tick) (came : arm.Stepped) → (processor_of m proc).due ≡ tick.0 → Took came
     → IsLater tick (processor_due (gone_by proc came m) proc)

@@ -7,8 +7,8 @@ use Rattle.ds_base.specs.declared.processors.Proc.{Proc}
 use Rattle.ds_base.specs.declared.processors.Proc.TheVariants.{Nine, Seven}
 use Rattle.ds_base.specs.declared.ticks.Tick.{Tick}
 use Rattle.ds_ports.specs.Acting.{is_quiet}
-use Rattle.ds_ports.specs.Io.{IoState, is_settled, level_told, with_gx}
-use Rattle.ds_ports.proofs.Settles.{settles}
+use Rattle.ds_ports.specs.Io.{IoState, is_settled, level_told, release_kept, with_gx}
+use Rattle.ds_ports.proofs.Settles.{kept_same, settles}
 use Rattle.ds_runs.specs.Actors.{actors}
 use Rattle.ds_runs.specs.Runs.{IsLeast, MachineStep, Makes, due_at}
 use Rattle.ds_runs.specs.declared.actors.Actor as actor
@@ -29,7 +29,7 @@ use Rattle.ds_machine.proofs.LagSteps.{equal_is, geometry_late, no_stall_ends, q
 -- Quiet geometry's step where the units may not be settled: geometry tells its interrupt no more, and triggers no channel. So it is as though that had been told before the step.
 
 abbrev pub told : MachineState → MachineState
-told s = with_io s (level_told s.io)
+told s = with_io s (release_kept (level_told s.io))
 
 -- ---- the machine is sound then, where nobody is to wake: to tell that lowers a bit of IF at most
 
@@ -69,7 +69,7 @@ quiet_step_told s parts asleep quiet =
     let g = gx_finished s.io.gx in
     let sound = told_sound s parts asleep quiet in
     let leaves = quiet_leaves (told s) k.tick sound quiet k.due in
-    let settles = settled_told k.tick (with_gx g s.io) parts.io.nine.dma.four k.disarmed ∙ level_so g s.io leaves.selector k.selector in
+    let settles = settled_told k.tick (with_gx g s.io) parts.io.nine.dma.four k.disarmed ∙ ap release_kept (level_so g s.io leaves.selector k.selector) in
     let same : ended k.tick (after_geometry s) ≡ late_put g (told s) =
     ap (ended k.tick) (geometry_late s (no_stall_ends s k.free)) ∙ ap (λ (u : IoState). woken k.tick (with_io (late_put g s) u)) settles
     ∙ asleep_stays k.tick (late_put g (told s)) (still g sound.asleep) in
@@ -84,7 +84,7 @@ quiet_step_told s parts asleep quiet =
 told_due : (a : actor.Actor) (s : MachineState) → due_by a (told s) ≡ due_by a s
 told_due (Timer Nine number) s = refl
 told_due (Timer Seven number) s = refl
-told_due (Dma Nine channel) s = refl
+told_due (Dma Nine channel) s = kept_same (level_told s.io) channel
 told_due (Dma Seven channel) s = refl
 told_due (Processor Nine) s = refl
 told_due (Processor Seven) s = refl

@@ -1,4 +1,4 @@
-use Rattle.std.specs.Prelude.{ℕ, ◌≡◌, Bool, true, false, if◌then◌else◌, List, [], ◌∷◌, map, max, nat_lt, Option, Some, None, Result, Ok, Err}
+use Rattle.std.specs.Prelude.{ℕ, ◌≡◌, ◌&&◌, not, Bool, true, false, if◌then◌else◌, List, [], ◌∷◌, map, max, nat_lt, Option, Some, None, Result, Ok, Err}
 use Rattle.ds_base.specs.KeyLines.{AreKeyLines}
 use Rattle.ds_base.specs.declared.keys.KeyLine.{KeyLine}
 use Rattle.ds_base.specs.declared.left_out.LeftOut.{LeftOut}
@@ -72,10 +72,10 @@ after_line (line ∷ lines) s = one_event (record (with_io s (keys_pressed s.io 
 abbrev pub after_event : actor.Actor → MachineState → MachineState
 after_event a s = one_event (with_io s (io_event a s.io))
 
--- geometry's: the head command is done, and where that ends a stall ARM9 is due after that tick at the earliest, also while DMA still holds it, or while it is
--- halted: a stall's end wakes none (our choice)
+-- geometry's: the head command is done, and where that ends a stall ARM9 is due after that tick at the earliest, also while DMA still holds it; while it is
+-- halted it isn't due: a stall's end wakes none (our choice)
 abbrev pub past_stall : IoState → ℕ → ℕ
-past_stall u due = if stall_ends u then max due (tick_after u.gx.due due) else due
+past_stall u due = if stall_ends u && not u.nine.halted then max due (tick_after u.gx.due due) else due
 
 abbrev pub after_geometry : MachineState → MachineState
 after_geometry s = with_processor Nine (after_event Geometry s) (record s.nine.processor { due = past_stall s.io s.nine.processor.due })

@@ -107,9 +107,10 @@ with_io s io = record s { io = io }
 abbrev pub with_halt : Proc → MachineState → Bool → MachineState
 with_halt proc s halted = with_io s (with_halted proc s.io halted)
 
--- a processor after a step that costs so many of its clocks; where it is halted now the cost isn't added
+-- A processor after a step that costs so many of its clocks. While it is halted the tick at which its next step is due is 0: it goes on after the tick at which it wakes,
+-- whatever it had before.
 abbrev pub went_on : Proc → ℕ → Bool → ProcessorState → ProcessorState
-went_on proc clocks halted p = record p { due = if halted then p.due else p.due + ticks_per_clock proc * clocks; steps = p.steps + 1 }
+went_on proc clocks halted p = record p { due = if halted then 0 else p.due + ticks_per_clock proc * clocks; steps = p.steps + 1 }
 
 -- the machine by what a processor's step came to
 abbrev pub gone_by : Proc → arm.Stepped → MachineState → MachineState

@@ -1,13 +1,13 @@
 //! The events of the units.
 
-ghost use Rattle.std.specs.Prelude.{◌≡◌, ◌<◌, ◌≤◌, ◌^◌, IsSome, Some, length};
+ghost use Rattle.std.specs.Prelude.{◌≡◌, ◌<◌, ◌≤◌, ◌^◌, ◌==◌, IsSome, Some, length};
 ghost use Rattle.ds_base.specs.Schedules.{IsEarly};
 ghost use Rattle.ds_dma.specs.States.{dma_due};
 ghost use Rattle.ds_runs.specs.Actors.{IsNumbered};
 ghost use Rattle.ds_timers.specs.Timing.{timer_at, timer_due};
 ghost use Rattle.ds_ports.specs.Dues.{io_due};
 ghost use Rattle.ds_ports.specs.ProcessorIo.{before_move};
-ghost use Rattle.ds_ports.specs.Io.{channel_moved, channel_put_back, channels_shown, channels_triggered, geometry_done, io_event, io_of, is_settled, settled, timer_overflows, video_done};
+ghost use Rattle.ds_ports.specs.Io.{channel_moved, channel_put_back, channels_shown, channels_triggered, geometry_done, io_event, io_of, is_settled, release_kept, release_of, settled, timer_overflows, video_done};
 ghost use Rattle.video2d.specs.Scans.{scan_due};
 ghost use Rattle.video2d.specs.Videos.{video_answer};
 ghost use Rattle.ds_runs.specs.declared.actors.Actor.TheVariants as actors;
@@ -74,10 +74,27 @@ impl Units {
     {
         self.nine.is_levelled(self.gx.level())
             && !(self.gx.half_empty() && self.nine.awaits_geometry())
+            && self.is_release_kept()
     }
 
-    /// After a step at a tick: the level of geometry's interrupt is told as it is, and the channels are triggered that wait for geometry, where its
-    /// FIFO has room.
+    /// Whether nothing is kept of the last stall's end, or it holds back the channel of ARM9's that is due.
+    fn is_release_kept(&self) -> bool
+        ensures { result ≡ (release_of self.now == self.now.released) }
+    {
+        self.released == 0 || self.nine.is_due_before(self.released)
+    }
+
+    /// Forgets the last stall's end where it holds back no channel.
+    fn keep_release(&mut self)
+        ensures { self.new ≡ release_kept self.old }
+    {
+        if !self.nine.is_due_before(self.released) {
+            self.released = 0;
+        }
+    }
+
+    /// After a step at a tick: the level of geometry's interrupt is told as it is, the channels are triggered that wait for geometry, where its
+    /// FIFO has room, and the last stall's end is forgotten where it holds back no channel.
     pub fn settle(&mut self, now: Tick)
         requires { IsEarly (Some now) }
         ensures { self.new ≡ settled now self.old }
@@ -86,6 +103,7 @@ impl Units {
         if self.gx.half_empty() {
             self.nine.trigger(Cause::Geometry, now);
         }
+        self.keep_release();
     }
 
     /// The display's event, with the memories of palettes and of objects: it raises interrupts, and triggers the channels that wait for it. Where

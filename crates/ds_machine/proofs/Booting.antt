@@ -12,7 +12,7 @@ use Rattle.ds_timers.specs.Irqs.{shares_bit}
 use Rattle.gx_geometry.specs.Numbers.{numbers_at_boot}
 use Rattle.ds_machine.specs.Booted.{header_bytes, header_place, machine_blank, machine_booted, with_image}
 use Rattle.ds_machine.specs.Boots.{copied, stored}
-use Rattle.ds_machine.specs.Reference.{AreAsleep, HasSoundParts, IsSound}
+use Rattle.ds_machine.specs.Sound.{AreAsleep, HasSoundParts, IsSound}
 use Rattle.ds_machine.specs.Counting.{CountsWithin, HasCounted, owed_before}
 use Rattle.ds_machine.specs.States.{MachineState, ProcessorState, counts_of}
 use Rattle.ds_machine.specs.Steps.{map_of, processor_of}

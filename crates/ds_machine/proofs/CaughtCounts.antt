@@ -3,7 +3,7 @@ use Rattle.ds_runs.specs.declared.actors.Actor.TheVariants.{Geometry}
 use Rattle.ds_machine.specs.Acting.{is_behind}
 use Rattle.ds_machine.specs.Counting.{CountsWithin, HasCounted}
 use Rattle.ds_machine.specs.Lagging.{ComesBeforeAll, TakesGeometry, more, none}
-use Rattle.ds_machine.specs.Reference.{IsSound}
+use Rattle.ds_machine.specs.Sound.{IsSound}
 use Rattle.ds_machine.specs.States.{MachineState}
 use Rattle.ds_machine.specs.TurnSteps.{MayStep}
 use Rattle.ds_machine.specs.declared.answers.Done.TheVariants.{Made}

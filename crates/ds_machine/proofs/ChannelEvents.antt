@@ -17,7 +17,8 @@ use Rattle.ds_map.specs.Accesses.{map_value}
 use Rattle.ds_map.specs.Maps.{MapState}
 use Rattle.ds_map.specs.Moves.{next_unit, after_unit, unit_read, unit_refusal, unit_taken}
 use Rattle.ds_map.proofs.Later.{map_read_unchanged, map_write_goes}
-use Rattle.ds_ports.specs.Dues.{IsIo, IsTold, Goes, IsUnchanged, IsQuiet, ReschedulesEach, held_due, io_due}
+use Rattle.ds_ports.specs.Dues.{held_due, io_due}
+use Rattle.ds_ports.specs.Happenings.{IsIo, IsTold, Goes, IsUnchanged, IsQuiet, ReschedulesEach}
 use Rattle.ds_ports.proofs.HeldDues.{held_later}
 use Rattle.ds_ports.specs.ProcessorIo.{ProcessorIoState}
 use Rattle.ds_ports.specs.Io.{IoState, io_of, is_held}
@@ -30,7 +31,8 @@ use Rattle.ds_runs.proofs.RunLaws.{same_makes, same_stops, not_both}
 use Rattle.ds_timers.specs.Timing.{TimerState, timer_at, timer_due}
 use Rattle.gx_fifo.specs.GxStates.{GxState, is_stalled}
 use Rattle.ds_machine.specs.Channels.{channel_step, delayed_past, moved_by, one_event, past_tick}
-use Rattle.ds_machine.specs.Reference.{HasSoundParts, Shown, due_unless, processor_due}
+use Rattle.ds_machine.specs.Reference.{Shown, due_unless, processor_due}
+use Rattle.ds_machine.specs.Sound.{HasSoundParts}
 use Rattle.ds_machine.specs.States.{MachineState, ProcessorState, counts_of}
 use Rattle.ds_machine.specs.Steps.{is_blocked, is_halted, map_of, processor_of, with_map, with_processor}
 use Rattle.ds_machine.proofs.Moves.{Moves, left_after, other_held, unchanged_held, unchanged_io_dues, unchanged_io, moves_of, same_keys, then_io_dues}

@@ -19,7 +19,8 @@ use Rattle.ds_dma.specs.States.{DmaState, awaits_geometry, channel_due}
 use Rattle.ds_dma.specs.declared.channels.Unit.{Unit as DmaUnit}
 use Rattle.ds_ipc.specs.Ipcs.{other_proc}
 use Rattle.ds_map.specs.Moves.{next_unit, unit_read}
-use Rattle.ds_ports.specs.Dues.{Goes, IsIo, IsUnchanged, held_due, io_due}
+use Rattle.ds_ports.specs.Dues.{held_due, io_due}
+use Rattle.ds_ports.specs.Happenings.{Goes, IsIo, IsUnchanged}
 use Rattle.ds_ports.specs.Io.{IoState, division_done, io_event, io_of, is_settled, root_done, settled, stall_ends, tick_after}
 use Rattle.gx_fifo.specs.GxStates.{GxState, is_half_empty, is_stalled}
 use Rattle.ds_ports.proofs.Events.{HasEvent, event_goes, keys_happen, timer_leaves}
@@ -31,7 +32,8 @@ use Rattle.ds_runs.specs.declared.actors.Actor.TheVariants.{KeyScript, Video, Ti
 use Rattle.ds_runs.proofs.RunLaws.{same_makes, not_both}
 use Rattle.ds_timers.specs.Timing.{TimerState, timer_at, timer_due}
 use Rattle.ds_machine.specs.Channels.{channel_step}
-use Rattle.ds_machine.specs.Reference.{Fences, Shown, after_event, after_geometry, after_line, after_video, due_by, keys_due, processor_due, step_by}
+use Rattle.ds_machine.specs.Fences.{Fences}
+use Rattle.ds_machine.specs.Reference.{Shown, after_event, after_geometry, after_line, after_video, due_by, keys_due, processor_due, step_by}
 use Rattle.ds_machine.specs.Counting.{HasCounted, is_to_be_triggered}
 use Rattle.ds_machine.specs.States.{MachineState, ProcessorState}
 use Rattle.ds_machine.specs.Steps.{gone_by, goes_on, is_blocked, is_halted, machine_settled, map_of, processor_of, wakes, with_map, woken, woken_one}

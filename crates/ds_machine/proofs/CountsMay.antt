@@ -13,7 +13,10 @@ use Rattle.ds_machine.specs.Acting.{acting_dues}
 use Rattle.ds_machine.specs.Counting.{CountsWithin, HasCounted}
 use Rattle.ds_machine.specs.Lagging.{ActsApart}
 use Rattle.ds_machine.specs.Private.{IsAhead, rank_of}
-use Rattle.ds_machine.specs.Reference.{AreAsleep, HasSoundParts, IsSound, Shown, dues_of, geometry_rank, next_shown, processor_due, reference_step, stepped_of}
+use Rattle.ds_machine.specs.Fences.{geometry_rank}
+use Rattle.ds_machine.specs.Reference.{Shown, dues_of, next_shown, processor_due, reference_step}
+use Rattle.ds_machine.specs.Sound.{AreAsleep, HasSoundParts, IsSound}
+use Rattle.ds_machine.specs.StepAnswers.{stepped_of}
 use Rattle.ds_machine.specs.States.{MachineState, counts_of}
 use Rattle.ds_machine.specs.Steps.{is_blocked, processor_of}
 use Rattle.ds_machine.specs.TurnSteps.{MayStep}

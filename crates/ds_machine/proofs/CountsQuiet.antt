@@ -11,7 +11,9 @@ use Rattle.gx_fifo.specs.GxStates.{gx_finished}
 use Rattle.gx_fifo.proofs.Laws.{finished_run}
 use Rattle.ds_machine.specs.Acting.{acting_dues}
 use Rattle.ds_machine.specs.Counting.{CountsWithin, HasCounted, owed_before}
-use Rattle.ds_machine.specs.Reference.{HasSoundParts, IsSound, dues_of, geometry_before, reference}
+use Rattle.ds_machine.specs.Fences.{geometry_before}
+use Rattle.ds_machine.specs.Reference.{dues_of, reference}
+use Rattle.ds_machine.specs.Sound.{HasSoundParts, IsSound}
 use Rattle.ds_machine.specs.States.{MachineState}
 use Rattle.ds_machine.specs.Steps.{is_halted, processor_of}
 use Rattle.ds_machine.proofs.ActingDues.{acting_of_rank, due_where_acts}

@@ -11,7 +11,7 @@ use Rattle.arm_core.specs.declared.outcomes.Stepped as arm
 use Rattle.arm_core.specs.declared.outcomes.Stepped.TheVariants.{Cost, Halted, Left}
 use Rattle.ds_map.specs.Views.{NineReach, SevenReach, nine_memory, seven_memory}
 use Rattle.ds_map.specs.Shares.{IsSharedSo, is_apart, is_shown_to_nine, shared_put}
-use Rattle.ds_ports.specs.Dues.{IsIo}
+use Rattle.ds_ports.specs.Happenings.{IsIo}
 use Rattle.ds_ports.specs.Io.{IoState, is_settled, with_shares}
 use Rattle.ds_ports.specs.ProcessorIo.{ProcessorIoState}
 use Rattle.ds_runs.specs.Runs.{MachineStep, Makes}
@@ -23,7 +23,8 @@ use Rattle.vram_banks.specs.Mixes.{mixed}
 use Rattle.vram_banks.proofs.Mixes.{mixed_length, mixed_same, mixed_twice}
 use Rattle.ds_machine.specs.Apart.{NineOwn, nine_own_of, with_nine_own, with_nine_part, with_seven_part}
 use Rattle.ds_machine.specs.Private.{IsHarmless, IsPrivate, ProcessorStaysPrivate, StaysPrivate, is_deaf}
-use Rattle.ds_machine.specs.Reference.{AreAsleep, IsSound, Shown, awake, due_by, due_unless, processor_due, reference_step}
+use Rattle.ds_machine.specs.Reference.{Shown, awake, due_by, due_unless, processor_due, reference_step}
+use Rattle.ds_machine.specs.Sound.{AreAsleep, IsSound}
 use Rattle.ds_machine.specs.Sides.{nine_side, seven_side, taken}
 use Rattle.ds_machine.specs.States.{MachineState, ProcessorState, SevenState}
 use Rattle.ds_machine.specs.Steps.{is_blocked, line_of, machine_concluded, nine_reach, processor_of, seven_reach, tick_of, went_on, with_nine, with_processor, with_seven}

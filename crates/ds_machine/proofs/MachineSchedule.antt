@@ -10,7 +10,7 @@ use Rattle.ds_base.specs.declared.processors.Proc.{Proc}
 use Rattle.ds_base.specs.declared.processors.Proc.TheVariants.{Nine, Seven}
 use Rattle.ds_base.specs.declared.ticks.Tick.{Tick}
 use Rattle.ds_map.specs.Moves.{next_unit, unit_read}
-use Rattle.ds_ports.specs.Dues.{IsIo}
+use Rattle.ds_ports.specs.Happenings.{IsIo}
 use Rattle.ds_ports.specs.ProcessorIo.{blocks_processor}
 use Rattle.ds_ports.specs.Io.{IoState, io_event, io_of, is_settled, keys_pressed, tick_after, video_done}
 use Rattle.gx_fifo.specs.GxStates.{gx_finished, is_stalled}
@@ -25,7 +25,8 @@ use Rattle.ds_runs.specs.declared.actors.Actor.TheVariants.{KeyScript, Video, Ti
 use Rattle.ds_runs.proofs.AllActors.{is_numbered}
 use Rattle.ds_runs.proofs.RunLaws.{same_makes, not_both}
 use Rattle.ds_machine.specs.Channels.{channel_step, one_event}
-use Rattle.ds_machine.specs.Reference.{AreAsleep, HasSoundParts, IsSound, Shown, after_event, after_geometry, after_line, after_video, awake, display_done, due_by, due_unless, dues_of, keys_due, processor_due, reference, step_by, swapped_if, reference_step}
+use Rattle.ds_machine.specs.Reference.{Shown, after_event, after_geometry, after_line, after_video, awake, display_done, due_by, due_unless, dues_of, keys_due, processor_due, reference, step_by, swapped_if, reference_step}
+use Rattle.ds_machine.specs.Sound.{AreAsleep, HasSoundParts, IsSound}
 use Rattle.ds_machine.specs.States.{MachineState, ProcessorState}
 use Rattle.ds_machine.specs.Steps.{ended, gone_by, is_blocked, map_of, processor_of, with_io, with_map}
 use Rattle.ds_machine.proofs.ChannelEvents.{machine_after_unit, channel_unchanged, channel_made, read_moves, read_sound, unit_later, unit_moves, unit_sound}

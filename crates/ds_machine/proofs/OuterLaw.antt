@@ -10,7 +10,7 @@ use Rattle.ds_base.specs.declared.ticks.Tick.{Tick}
 use Rattle.ds_map.specs.Shares.{IsSharedSo}
 use Rattle.ds_map.specs.Views.{NineReach, SevenReach}
 use Rattle.ds_ports.specs.Acting.{is_quiet}
-use Rattle.ds_ports.specs.Dues.{IsTold, ipc_bits}
+use Rattle.ds_ports.specs.Happenings.{IsTold, ipc_bits}
 use Rattle.ds_ports.specs.Io.{IoState, comes_before, io_of, is_settled, level_told, release_of, settled}
 use Rattle.ds_ports.specs.ProcessorIo.{blocks_processor, processor_io_triggered}
 use Rattle.ds_dma.specs.declared.controls.Cause.TheVariants as causes
@@ -31,7 +31,9 @@ use Rattle.ds_machine.specs.Acting.{acting_due, acting_dues}
 use Rattle.ds_machine.specs.Apart.{NineOwn, nine_own_of, step_with, with_nine_own, with_seven_part}
 use Rattle.arm_core.specs.Steps.{enters}
 use Rattle.ds_machine.specs.Private.{IsBelowFence, IsHarmless, RunsAhead, hears_nobody, rank_of}
-use Rattle.ds_machine.specs.Reference.{Fences, HasSoundParts, IsSound, Shown, awake, due_by, due_unless, dues_of, keys_due, reference, reference_step, step_by}
+use Rattle.ds_machine.specs.Fences.{Fences}
+use Rattle.ds_machine.specs.Reference.{Shown, awake, due_by, due_unless, dues_of, keys_due, reference, reference_step, step_by}
+use Rattle.ds_machine.specs.Sound.{HasSoundParts, IsSound}
 use Rattle.ds_machine.specs.States.{MachineState, ProcessorState, SevenState}
 use Rattle.ds_machine.specs.Steps.{ended, goes_on, is_blocked, is_halted, line_of, machine_settled, nine_reach, processor_of, seven_reach, tick_of, wakes, woken_one}
 use Rattle.ds_machine.proofs.ActingDues.{acting_low, acting_of_rank, acts_then, loud_same, quiet_or_loud}

@@ -11,13 +11,15 @@ use Rattle.arm_core.specs.declared.outcomes.Stepped as arm
 use Rattle.arm_core.specs.declared.outcomes.Stepped.TheVariants.{Cost, Halted, Left}
 use Rattle.arm_exec.specs.Costs.{CostsSome}
 use Rattle.ds_ipc.specs.Ipcs.{other_proc}
-use Rattle.ds_ports.specs.Dues.{IsIo, Goes, IsProcessorIo, IsQuiet, ReschedulesEach}
+use Rattle.ds_ports.specs.Happenings.{IsIo, Goes, IsProcessorIo, IsQuiet, ReschedulesEach}
 use Rattle.ds_ports.specs.Io.{io_of}
 use Rattle.ds_ports.proofs.Later.{all_io_dues, goes_io, of_both, processor_io_is}
 use Rattle.ds_runs.specs.Runs.{MachineStep, Makes, Stops}
 use Rattle.ds_runs.specs.declared.actors.Actor.TheVariants.{Processor}
 use Rattle.ds_runs.proofs.RunLaws.{same_makes, same_stops, not_both}
-use Rattle.ds_machine.specs.Reference.{HasSoundParts, Shown, awake, due_unless, processor_due, shown_at, step_by, stepped_of}
+use Rattle.ds_machine.specs.Reference.{Shown, awake, due_unless, processor_due, shown_at, step_by}
+use Rattle.ds_machine.specs.Sound.{HasSoundParts}
+use Rattle.ds_machine.specs.StepAnswers.{stepped_of}
 use Rattle.ds_machine.specs.States.{MachineState, ProcessorState, counts_of}
 use Rattle.ds_machine.specs.Steps.{machine_concluded, gone_by, is_halted, is_blocked, outcome_of, processor_of, tick_of, went_on, with_halt, ended}
 use Rattle.ds_machine.specs.declared.answers.Done as answer

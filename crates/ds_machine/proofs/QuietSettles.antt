@@ -17,7 +17,8 @@ use Rattle.ds_timers.specs.Irqs.{IrqState, irq_levelled, level, shares_bit}
 use Rattle.gx_fifo.specs.GxStates.{GxState, gx_finished}
 use Rattle.ds_machine.specs.Acting.{acting_due, acting_dues}
 use Rattle.ds_machine.specs.Counting.{CountsWithin, HasCounted}
-use Rattle.ds_machine.specs.Reference.{AreAsleep, HasSoundParts, IsSound, Shown, after_geometry, due_by, dues_of, reference_step}
+use Rattle.ds_machine.specs.Reference.{Shown, after_geometry, due_by, dues_of, reference_step}
+use Rattle.ds_machine.specs.Sound.{AreAsleep, HasSoundParts, IsSound}
 use Rattle.ds_machine.specs.States.{MachineState}
 use Rattle.ds_machine.specs.Steps.{ended, is_halted, processor_of, wakes, with_io, woken}
 use Rattle.ds_machine.proofs.ActingDues.{maps_same}

@@ -12,7 +12,8 @@ use Rattle.ds_runs.specs.declared.actors.Actor.TheVariants.{Geometry}
 use Rattle.gx_fifo.specs.GxStates.{GxState, is_stalled}
 use Rattle.ds_machine.specs.Acting.{acting_due, acting_dues}
 use Rattle.ds_machine.specs.Lagging.{ActsApart}
-use Rattle.ds_machine.specs.Reference.{HasSoundParts, Shown, due_by, dues_of, reference_step, step_by}
+use Rattle.ds_machine.specs.Reference.{Shown, due_by, dues_of, reference_step, step_by}
+use Rattle.ds_machine.specs.Sound.{HasSoundParts}
 use Rattle.ds_machine.specs.States.{MachineState}
 use Rattle.ds_machine.specs.Steps.{ended}
 use Rattle.ds_machine.proofs.ActingDues.{acting_low, acting_of_rank, acts_then}

@@ -33,7 +33,8 @@ use Rattle.video2d.specs.declared.videos.Shown as display
 use Rattle.ds_machine.specs.Booted.{header_bytes, header_place, machine_blank, stacks_of, with_image}
 use Rattle.ds_machine.specs.Boots.{copied, stored}
 use Rattle.ds_machine.specs.Channels.{channel_step, delayed_past, moved_by}
-use Rattle.ds_machine.specs.Reference.{Shown, after_line, awake, due_by, reference, reference_step, step_by, stepped_of, video_step}
+use Rattle.ds_machine.specs.Reference.{Shown, after_line, awake, due_by, reference, reference_step, step_by, video_step}
+use Rattle.ds_machine.specs.StepAnswers.{stepped_of}
 use Rattle.ds_machine.specs.Sides.{nine_side, seven_side, taken}
 use Rattle.ds_machine.specs.States.{MachineState}
 use Rattle.ds_machine.specs.declared.answers.Done as answer

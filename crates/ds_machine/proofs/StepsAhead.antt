@@ -8,7 +8,8 @@ use Rattle.ds_base.specs.declared.processors.Proc.TheVariants.{Nine, Seven}
 use Rattle.ds_base.specs.declared.ticks.Tick.{Tick}
 use Rattle.ds_ipc.specs.Ipcs.{other_proc}
 use Rattle.ds_ports.specs.Acting.{acting_io_due}
-use Rattle.ds_ports.specs.Dues.{IsIo, io_due}
+use Rattle.ds_ports.specs.Dues.{io_due}
+use Rattle.ds_ports.specs.Happenings.{IsIo}
 use Rattle.ds_ports.specs.Io.{IoState, io_of, is_held, is_settled}
 use Rattle.ds_ports.proofs.Later.{of_both}
 use Rattle.ds_runs.specs.Actors.{IsNumbered, actor_of}
@@ -23,7 +24,10 @@ use Rattle.ds_map.specs.Shares.{IsSharedSo}
 use Rattle.ds_machine.specs.Acting.{acting_due, acting_dues}
 use Rattle.ds_machine.specs.Apart.{NineOwn, nine_own_of, with_nine_own, with_seven_part}
 use Rattle.ds_machine.specs.Private.{IsAhead, IsHarmless, rank_of}
-use Rattle.ds_machine.specs.Reference.{Fences, HasSoundParts, IsSound, Shown, due_unless, dues_of, keys_due, processor_due, reference_step, shown_at, stepped_of}
+use Rattle.ds_machine.specs.Fences.{Fences}
+use Rattle.ds_machine.specs.Reference.{Shown, due_unless, dues_of, keys_due, processor_due, reference_step, shown_at}
+use Rattle.ds_machine.specs.Sound.{HasSoundParts, IsSound}
+use Rattle.ds_machine.specs.StepAnswers.{stepped_of}
 use Rattle.ds_machine.specs.States.{MachineState, ProcessorState, SevenState}
 use Rattle.ds_machine.specs.Steps.{is_blocked, is_halted, nine_reach, processor_of, seven_reach, tick_of}
 use Rattle.ds_machine.specs.declared.answers.Done as answer

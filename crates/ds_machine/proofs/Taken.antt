@@ -7,7 +7,8 @@ use Rattle.arm_core.specs.Registers.{RegisterState}
 use Rattle.arm_core.specs.Steps.{enters, fetched}
 use Rattle.arm_ops.specs.Operations.{operation_of}
 use Rattle.arm_ops.specs.declared.operations.Operation.{Operation}
-use Rattle.ds_machine.specs.Sides.{RunsAs, SideOf, operation_outcome, taken}
+use Rattle.ds_machine.specs.DecodedSteps.{RunsAs, operation_outcome}
+use Rattle.ds_machine.specs.Sides.{SideOf, taken}
 
 -- A step by what is entered and fetched.
 

@@ -6,13 +6,14 @@ use Rattle.ds_base.specs.declared.processors.Proc.{Proc}
 use Rattle.ds_base.specs.declared.processors.Proc.TheVariants.{Nine, Seven}
 use Rattle.ds_base.specs.declared.ticks.Tick.{Tick}
 use Rattle.ds_ipc.specs.Ipcs.{other_proc}
-use Rattle.ds_ports.specs.Dues.{IsIo, IsProcessorIo, ReschedulesEach}
+use Rattle.ds_ports.specs.Happenings.{IsIo, IsProcessorIo, ReschedulesEach}
 use Rattle.ds_dma.specs.States.{DmaState, awaits_geometry, dma_due}
 use Rattle.ds_dma.specs.declared.controls.Cause.TheVariants as causes
 use Rattle.ds_dma.proofs.Wholes.{awaits_none}
 use Rattle.ds_ports.specs.ProcessorIo.{ProcessorIoState, processor_io_triggered}
 use Rattle.ds_ports.specs.Io.{IoState, comes_before, io_of, is_settled, level_told, release_kept, release_of, settled, with_halted}
-use Rattle.ds_machine.specs.Reference.{AreAsleep, HasSoundParts, due_unless, keys_due, processor_due}
+use Rattle.ds_machine.specs.Reference.{due_unless, keys_due, processor_due}
+use Rattle.ds_machine.specs.Sound.{AreAsleep, HasSoundParts}
 use Rattle.ds_machine.specs.Counting.{is_to_be_triggered}
 use Rattle.ds_machine.specs.States.{MachineState, ProcessorState, counts_of}
 use Rattle.ds_machine.specs.Steps.{ended, goes_on, is_blocked, is_halted, machine_settled, processor_of, wakes, with_halt, with_processor, woken, woken_one}

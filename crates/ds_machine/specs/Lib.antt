@@ -23,3 +23,7 @@ pub mod Processors
 pub mod Rooms
 pub mod Statuses
 pub mod Stopping
+pub mod StepAnswers
+pub mod Sound
+pub mod Fences
+pub mod DecodedSteps

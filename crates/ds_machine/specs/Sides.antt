@@ -1,4 +1,4 @@
-use Rattle.std.specs.Prelude.{ℕ, ◌≡◌, nat_le, ◌&&◌, ◌||◌, Bool, true, if◌then◌else◌, Option, Some, None}
+use Rattle.std.specs.Prelude.{ℕ, nat_le, ◌&&◌, ◌||◌, Bool, true, if◌then◌else◌, Option, Some, None}
 use Rattle.ds_base.specs.Accesses.{MemoryMachine}
 use Rattle.ds_base.specs.declared.processors.Arch.{Arch}
 use Rattle.ds_base.specs.declared.processors.Arch.TheVariants.{V4, V5}
@@ -7,9 +7,6 @@ use Rattle.arm_core.specs.Effects.{Outcome, carried_out}
 use Rattle.arm_core.specs.Exceptions.{interrupt_meaning}
 use Rattle.arm_core.specs.Registers.{RegisterState}
 use Rattle.arm_core.specs.Steps.{enters, executed_word, fetched}
-use Rattle.arm_ops.specs.Meanings.{operation_meaning}
-use Rattle.arm_ops.specs.Operations.{operation_of}
-use Rattle.arm_ops.specs.declared.operations.Operation.{Operation}
 use Rattle.arm7_exec.specs.Arm7.{arm7}
 use Rattle.arm9_exec.specs.Arm9.{arm9}
 use Rattle.arm9_exec.specs.Coprocessors.{move_of, moved_if}
@@ -78,14 +75,3 @@ seven_side = record {
   is_private = λ r writing fetching at. is_private_to_seven at;
   executed = λ s r number instr. executed_word seven_memory arm7 s r number instr;
 }
-
--- ---- decoded operations
-
--- one is carried out
-abbrev pub operation_outcome : {S : Type 0} → MemoryMachine S → SideOf S → RegisterState → S → Operation → Outcome S
-operation_outcome memory side s state operation = carried_out memory side.arch s state (operation_meaning side.arch s operation)
-
--- it is what any instruction comes to that it was decoded from
-abbrev pub RunsAs : {S : Type 0} → MemoryMachine S → SideOf S → RegisterState → S → Operation → Type 0
-RunsAs memory side s state operation =
-    (number : ℕ) (instr : Option Instr) → operation ≡ operation_of instr → side.executed s state number instr ≡ operation_outcome memory side s state operation

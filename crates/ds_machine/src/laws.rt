@@ -7,7 +7,8 @@ ghost use Rattle.ds_machine.specs.Lagging.{CatchingUpRuns, LagRuns, LagStops};
 ghost use Rattle.ds_machine.specs.OwnSteps.{IsStep7, IsStep9};
 ghost use Rattle.ds_machine.specs.Private.{AheadRuns, AheadSteps};
 ghost use Rattle.ds_machine.specs.TurnSteps.{ActingMayStep, ActingRuns, ActingStops, TurnStepsFall};
-ghost use Rattle.ds_machine.specs.Reference.{reference, HasSoundParts};
+ghost use Rattle.ds_machine.specs.Reference.{reference};
+ghost use Rattle.ds_machine.specs.Sound.{HasSoundParts};
 ghost use Rattle.ds_machine.specs.Counting.{CountsAddUp};
 ghost use Rattle.ds_machine.specs.Statuses.{BootsWithStatuses, RunsKeepStatuses, StepsKeepStatuses};
 

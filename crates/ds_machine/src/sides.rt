@@ -14,7 +14,8 @@ ghost use Rattle.ds_map.specs.Maps.{MemoriesState};
 ghost use Rattle.ds_map.specs.Shares.{is_private_place};
 ghost use Rattle.ds_machine.specs.QuietPorts.{is_quiet_port};
 ghost use Rattle.ds_machine.specs.Sides as sides;
-ghost use Rattle.ds_machine.specs.Sides.{is_private_tcm, operation_outcome, RunsAs, SideOf};
+ghost use Rattle.ds_machine.specs.DecodedSteps.{operation_outcome, RunsAs};
+ghost use Rattle.ds_machine.specs.Sides.{is_private_tcm, SideOf};
 ghost use Rattle.ds_machine.specs.Touching.{GoesByWords};
 
 use crate::quiet_ports::QuietPorts;

@@ -20,7 +20,8 @@ use Rattle.gx_fifo.specs.Entries.{complete_command, entries_taken}
 use Rattle.gx_fifo.specs.GxStates.{AddsOneVertex, AreWaiting, GxState, done_by, gx_finished, gx_level, gx_swapped, is_half_empty, is_stalled}
 use Rattle.gx_fifo.proofs.Laws.{finished_later, finished_run, finished_waiting, swapped_schedules, swapped_waiting}
 use Rattle.vram_banks.specs.Cells.{Banks}
-use Rattle.ds_ports.specs.Dues.{IsIo, IsUnchanged, ReschedulesEach, held_due, io_due, released_at}
+use Rattle.ds_ports.specs.Dues.{held_due, io_due, released_at}
+use Rattle.ds_ports.specs.Happenings.{IsIo, IsUnchanged, ReschedulesEach}
 use Rattle.ds_ports.specs.ProcessorIo.{blocks_processor, processor_io_triggered}
 use Rattle.ds_ports.specs.Io.{IoState, geometry_done, geometry_swapped, geometry_triggered, comes_before, io_of, is_held, is_settled, level_told, release_kept, release_of, settled, stall_ends, tick_after, with_halted}
 use Rattle.ds_ports.proofs.Later.{ProcessorIoReschedules, processor_io_each, unchanged_same}

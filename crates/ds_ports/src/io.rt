@@ -11,7 +11,8 @@ ghost use Rattle.gx_fifo.specs.GxStates.{AddsOneVertex, IsGx, gx_finished, is_st
 ghost use Rattle.gx_geometry.specs.States.{AreListsSince};
 ghost use Rattle.vram_banks.specs.Cells.{vram_written};
 ghost use Rattle.ds_ports.specs.Acting.{acting_io_dues, is_quiet};
-ghost use Rattle.ds_ports.specs.Dues.{IsIo, io_due, io_dues};
+ghost use Rattle.ds_ports.specs.Dues.{io_due, io_dues};
+ghost use Rattle.ds_ports.specs.Happenings.{IsIo};
 ghost use Rattle.ds_ports.specs.Inside.{moves_dues};
 ghost use Rattle.ds_ports.specs.ProcessorIo.{before_move};
 ghost use Rattle.ds_ports.specs.Registers.{after_write, meaning_of};

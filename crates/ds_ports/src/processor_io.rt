@@ -10,7 +10,7 @@ ghost use Rattle.ds_runs.specs.Order.{first_from};
 ghost use Rattle.ds_timers.specs.Irqs.{irq_levelled, line_is_up, shares_bit};
 ghost use Rattle.ds_timers.specs.Timing.{counter_of, overflow_of, timer_at, timer_due};
 ghost use Rattle.ds_ports.specs.Acting.{any_armed, is_armed};
-ghost use Rattle.ds_ports.specs.Dues.{IsProcessorIo};
+ghost use Rattle.ds_ports.specs.Happenings.{IsProcessorIo};
 ghost use Rattle.ds_ports.specs.Inside.{own_written};
 ghost use Rattle.ds_ports.specs.Io.{comes_before};
 ghost use Rattle.ds_ports.specs.ProcessorIo.{before_move, control_written, dma_written, extkeyin_word, haltcnt_written, ie_written, if_written, ime_written, interrupts_of, blocks_processor, keycnt_written, keyinput_word, keys_hold, keys_told, processor_io_at_boot, processor_io_moved, processor_io_put_back, processor_io_raised, processor_io_triggered, reload_written};

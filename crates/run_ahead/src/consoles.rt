@@ -9,7 +9,8 @@ ghost use Rattle.ds_machine.specs.Observed.{memory_of, registers_of, seen_of};
 ghost use Rattle.ds_ipc.specs.Ipcs.{AreSides};
 ghost use Rattle.ds_machine.specs.NextEvents.{HasLimit};
 ghost use Rattle.ds_machine.specs.TurnSteps.{IsLeastBelow};
-ghost use Rattle.ds_machine.specs.Reference.{HasSoundParts, IsDue, IsSound};
+ghost use Rattle.ds_machine.specs.Sound.{HasSoundParts, IsSound};
+ghost use Rattle.ds_machine.specs.StepAnswers.{IsDue};
 ghost use Rattle.ds_machine.specs.Statuses.{HasBothStatuses};
 ghost use Rattle.run_ahead.specs.Turns.{Turns, TurnsUpTo, RunsOn, HasRuns, turns_remaining, counted_of, shown_in};
 ghost use Rattle.ds_base.specs.declared.left_out.LeftOut.{LeftOut};
@@ -62,7 +63,7 @@ pub struct Console {
 impl Model for Console {
     ghost use Rattle.run_ahead.specs.Consoles.{ConsoleState, open_of};
     ghost use Rattle.ds_machine.specs.Booted.{machine_booted};
-    ghost use Rattle.ds_machine.specs.Reference.{IsSound};
+    ghost use Rattle.ds_machine.specs.Sound.{IsSound};
     ghost use Rattle.ds_machine.specs.Counting.{CountsWithin};
     ghost use Rattle.ds_machine.specs.States.{counts_of};
     ghost use Rattle.std.specs.Prelude.{◌≡◌, ◌≤◌, ◌^◌, None};

@@ -6,7 +6,7 @@ ghost use Rattle.ds_machine.specs.NextEvents.{HasLimit};
 ghost use Rattle.ds_machine.specs.Steps.{processor_of};
 ghost use Rattle.ds_machine.specs.Acting.{IsActing, is_behind};
 ghost use Rattle.ds_machine.specs.Private as private;
-ghost use Rattle.ds_machine.specs.Reference.{IsSound};
+ghost use Rattle.ds_machine.specs.Sound.{IsSound};
 ghost use Rattle.ds_machine.specs.Counting.{HasCounted};
 ghost use Rattle.ds_machine.specs.TurnSteps.{BelongsToTurn, TakesSteps};
 ghost use Rattle.run_ahead.specs.Inside.{HasProcessor, TookSlowly, TookStretch, TookTurn};

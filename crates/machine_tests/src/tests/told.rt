@@ -115,7 +115,7 @@ struct Tested {
 
 impl Model for Tested {
     ghost use Rattle.std.specs.Prelude.{◌≡◌, false};
-    ghost use Rattle.ds_machine.specs.Reference.{IsSound};
+    ghost use Rattle.ds_machine.specs.Sound.{IsSound};
     ghost use Rattle.ds_machine.specs.States.{MachineState};
 
     ghost Value = { MachineState };

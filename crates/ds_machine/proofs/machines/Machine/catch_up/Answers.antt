@@ -1,6 +1,6 @@
 use Rattle.std.proofs.Common.{◌∙◌, sym, subst}
 use Rattle.ds_machine.specs.Lagging.{CatchesUp, ComesBeforeAll}
-use Rattle.ds_machine.specs.Reference.{IsSound}
+use Rattle.ds_machine.specs.Sound.{IsSound}
 use Rattle.ds_machine.specs.States.{MachineState}
 use Rattle.ds_machine.proofs.CatchingUp.{caught_statuses, level_caught}
 use Rattle.ds_machine.proofs.machines.Machine.catch_up.Goals as goal

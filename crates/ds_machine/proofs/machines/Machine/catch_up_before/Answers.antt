@@ -1,7 +1,7 @@
 use Rattle.std.proofs.Common.{sym, subst}
 use Rattle.ds_runs.specs.Actors.{actor_of}
 use Rattle.ds_machine.specs.Lagging.{observes_by}
-use Rattle.ds_machine.specs.Reference.{IsSound}
+use Rattle.ds_machine.specs.Sound.{IsSound}
 use Rattle.ds_machine.proofs.CatchingUp.{caught_for, caught_statuses}
 use Rattle.ds_machine.proofs.machines.Machine.catch_up_before.Goals as goal
 

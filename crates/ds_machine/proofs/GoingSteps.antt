@@ -26,7 +26,7 @@ use Rattle.ds_machine.specs.StepAnswers.{stepped_of}
 use Rattle.ds_machine.specs.Counting.{HasCounted}
 use Rattle.ds_machine.specs.States.{MachineState, ProcessorState}
 use Rattle.ds_machine.specs.Statuses.{HasBothStatuses}
-use Rattle.ds_machine.specs.Sides.{nine_side, seven_side}
+use Rattle.ds_machine.specs.PrivateSides.{nine_side, seven_side}
 use Rattle.ds_machine.specs.Steps.{is_blocked, line_of, nine_reach, outcome_of, processor_of, seven_reach, tick_of, with_processor}
 use Rattle.ds_machine.specs.Touching.{DataStaysPrivate, FetchStaysPrivate, MayBeAhead, is_private_to}
 use Rattle.ds_machine.specs.declared.answers.Done.TheVariants as answers

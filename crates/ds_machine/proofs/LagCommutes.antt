@@ -67,7 +67,8 @@ use Rattle.ds_machine.specs.Lagging.{access_observes, any_observes, channel_obse
 use Rattle.ds_ports.specs.Acting.{any_armed, is_armed}
 use Rattle.ds_machine.specs.Private.{data_accesses}
 use Rattle.ds_machine.specs.Reference.{Shown, after_event, after_line, after_video, shown_at, step_by, swapped_if, video_step}
-use Rattle.ds_machine.specs.Sides.{nine_executed, nine_side, seven_side, taken}
+use Rattle.ds_machine.specs.PrivateSides.{nine_side, seven_side, side_taken}
+use Rattle.ds_machine.specs.Sides.{nine_executed, taken}
 use Rattle.ds_machine.specs.States.{MachineState}
 use Rattle.ds_machine.specs.Statuses.{left_by}
 use Rattle.ds_machine.specs.Steps.{ended, goes_on, line_of, machine_concluded, machine_settled, map_of, nine_reach, outcome_of, seven_reach, tick_of, wakes, with_io, with_map, with_nine, with_seven, woken, woken_one}
@@ -306,7 +307,7 @@ module _ (g : GxState) (old : RegisterState) (r : NineReach) where
       }
 
   taken_puts : (line : Bool) → (not (enters line old) && any_observes r (data_accesses V5 (vectors_of r.cp15) old (fetched nine_memory V5 old r).instr)) ≡ false
-      → Puts g r (taken nine_memory nine_side line old (nine_put g r)) (taken nine_memory nine_side line old r)
+      → Puts g r (side_taken nine_memory nine_side line old (nine_put g r)) (side_taken nine_memory nine_side line old r)
   unfolding taken
   taken_puts line h = entry_puts (enters line old) h
 
@@ -375,7 +376,7 @@ record Lets (g : GxState) (s : MachineState) (put came : Step) : Type 0 where
 nine_lets : (rank : ℕ) (g : GxState) (s : MachineState) → nine_observes s ≡ false → Lets g s (step_by rank (Processor Nine) (gx_put g s)) (step_by rank (Processor Nine) s)
 nine_lets rank g s h =
     let r = nine_reach (tick_of s.nine.processor) s in
-    let o = taken nine_memory nine_side (line_of s Nine) s.nine.processor.registers r in
+    let o = side_taken nine_memory nine_side (line_of s Nine) s.nine.processor.registers r in
     let k = taken_puts g s.nine.processor.registers r (line_of s Nine) h in
     record {
       same = ap (λ (x : Outcome NineReach). (let step : Step = machine_concluded rank Nine (with_nine (gx_put g s) x) x.stepped in step)) k.same
@@ -389,7 +390,7 @@ seven_lets rank g s =
     let c = seven_commutes g in
     let r = seven_reach (tick_of s.seven.processor) s in
     let old = s.seven.processor.registers in
-    let o = taken seven_memory seven_side (line_of s Seven) old r in
+    let o = side_taken seven_memory seven_side (line_of s Seven) old r in
     let k : SevenGoes r o.state = taken_follows seven_memory Every SevenGoes seven_follows seven_side
     (λ old r number instr i. word_follows seven_memory Every SevenGoes seven_follows arm7 old r number instr i) (line_of s Seven) old r tt in
     record {

@@ -45,7 +45,7 @@ use Rattle.ds_machine.specs.Acting.{acting_due, acting_dues}
 use Rattle.ds_machine.specs.Private.{data_accesses}
 use Rattle.ds_machine.specs.Reference.{Shown, after_geometry, due_by, due_unless, reference_step}
 use Rattle.ds_machine.specs.Sound.{IsSound}
-use Rattle.ds_machine.specs.Sides.{nine_side}
+use Rattle.ds_machine.specs.PrivateSides.{nine_side}
 use Rattle.ds_machine.specs.States.{MachineState}
 use Rattle.ds_machine.specs.Steps.{ended, line_of, nine_reach, tick_of, wakes, with_io, with_processor}
 use Rattle.ds_machine.proofs.ActingDues.{maps_same}

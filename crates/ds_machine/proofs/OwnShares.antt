@@ -26,7 +26,7 @@ use Rattle.vram_banks.specs.Mixes.{mixed}
 use Rattle.ds_machine.specs.Apart.{IsOutside, LeaveNineOwn, NineOwn, nine_own_of, step_with, with_nine_own}
 use Rattle.ds_machine.specs.Channels.{channel_step, moved_by}
 use Rattle.ds_machine.specs.Reference.{Shown, step_by}
-use Rattle.ds_machine.specs.Sides.{seven_side, taken}
+use Rattle.ds_machine.specs.PrivateSides.{seven_side, side_taken}
 use Rattle.ds_machine.specs.States.{MachineState}
 use Rattle.ds_machine.specs.Statuses.{left_by}
 use Rattle.ds_machine.specs.Steps.{ended, goes_on, is_halted, line_of, machine_concluded, machine_settled, map_of, seven_reach, tick_of, wakes, with_map, with_seven, woken, woken_one}
@@ -102,7 +102,7 @@ seven_follows own = record {
 -- ---- ARM7's step
 
 abbrev seven_taken : MachineState → Outcome SevenReach
-seven_taken s = taken seven_memory seven_side (line_of s Seven) s.seven.processor.registers (seven_reach (tick_of s.seven.processor) s)
+seven_taken s = side_taken seven_memory seven_side (line_of s Seven) s.seven.processor.registers (seven_reach (tick_of s.seven.processor) s)
 
 seven_concluded : (rank : ℕ) (own : NineOwn) (s : MachineState) (came : arm.Stepped)
     → (let step : MachineStep MachineState Shown LeftOut = machine_concluded rank Seven (with_nine_own own s) came in step)

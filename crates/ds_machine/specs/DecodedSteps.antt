@@ -6,7 +6,7 @@ use Rattle.arm_core.specs.Registers.{RegisterState}
 use Rattle.arm_ops.specs.Meanings.{operation_meaning}
 use Rattle.arm_ops.specs.Operations.{operation_of}
 use Rattle.arm_ops.specs.declared.operations.Operation.{Operation}
-use Rattle.ds_machine.specs.Sides.{SideOf}
+use Rattle.ds_machine.specs.PrivateSides.{SideOf}
 
 -- A step by a decoded operation. No public clause speaks of it.
 

@@ -23,7 +23,7 @@ use Rattle.ds_machine.specs.Private.{data_accesses}
 use Rattle.ds_machine.specs.Fences.{geometry_rank}
 use Rattle.ds_machine.specs.Reference.{Shown, reference, reference_step}
 use Rattle.ds_machine.specs.Sound.{IsSound}
-use Rattle.ds_machine.specs.Sides.{nine_side}
+use Rattle.ds_machine.specs.PrivateSides.{nine_side}
 use Rattle.ds_machine.specs.States.{MachineState}
 use Rattle.ds_machine.specs.Steps.{line_of, nine_reach, tick_of}
 

@@ -27,3 +27,4 @@ pub mod StepAnswers
 pub mod Sound
 pub mod Fences
 pub mod DecodedSteps
+pub mod PrivateSides

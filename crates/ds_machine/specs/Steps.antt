@@ -13,7 +13,7 @@ use Rattle.ds_map.specs.Views.{NineReach, SevenReach, nine_memory, seven_memory}
 use Rattle.ds_ports.specs.Io.{IoState, io_of, is_held, settled, with_halted}
 use Rattle.ds_timers.specs.Irqs.{line_is_up, shares_bit}
 use Rattle.ds_runs.specs.Runs.{MachineStep, Makes, Stops}
-use Rattle.ds_machine.specs.Sides.{nine_side, seven_side, taken}
+use Rattle.ds_machine.specs.Sides.{nine_step, seven_step, taken}
 use Rattle.ds_machine.specs.States.{MachineState, ProcessorState}
 
 -- A processor's step in the machine.
@@ -95,9 +95,9 @@ pub record StepOutcome : Type 0 where
 
 abbrev pub outcome_of : Proc → Tick → MachineState → StepOutcome
 outcome_of Nine now s =
-    let o = taken nine_memory nine_side (line_of s Nine) s.nine.processor.registers (nine_reach now s) in record { machine = with_nine s o; stepped = o.stepped }
+    let o = taken nine_memory nine_step (line_of s Nine) s.nine.processor.registers (nine_reach now s) in record { machine = with_nine s o; stepped = o.stepped }
 outcome_of Seven now s =
-    let o = taken seven_memory seven_side (line_of s Seven) s.seven.processor.registers (seven_reach now s) in record { machine = with_seven s o; stepped = o.stepped }
+    let o = taken seven_memory seven_step (line_of s Seven) s.seven.processor.registers (seven_reach now s) in record { machine = with_seven s o; stepped = o.stepped }
 
 -- the machine with other units behind the ports
 abbrev pub with_io : MachineState → IoState → MachineState

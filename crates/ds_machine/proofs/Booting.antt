@@ -119,7 +119,7 @@ asleep_booted s e proc = ap (λ (u : IoState). (io_of u proc).halted && shares_b
   at_boot Seven = refl
 
 -- and settled
-settled_booted : (s : MachineState) → s.io ≡ io_at_boot → is_settled s.io ≡ true
+pub settled_booted : (s : MachineState) → s.io ≡ io_at_boot → is_settled s.io ≡ true
 settled_booted s e = ap is_settled e ∙ refl
 
 pub sound_booted : (s : MachineState) → HasSoundParts s → s.io ≡ io_at_boot → IsSound s

@@ -73,3 +73,4 @@ pub mod CaughtCounts
 pub mod ObservedTests
 pub mod SameTick
 pub mod SeenSame
+pub mod Halting

@@ -28,3 +28,4 @@ pub mod Sound
 pub mod Fences
 pub mod DecodedSteps
 pub mod PrivateSides
+pub mod Halting

@@ -3,6 +3,7 @@
 ghost use Rattle.ds_runs.specs.Laws.{RunsJoin, RunsAreOne, RunsExist, RunsEnd};
 ghost use Rattle.ds_machine.specs.Apart.{DisplayLeavesNine, GeometryLeavesNine, LeaveNine, LeaveNineOwn, LeaveSeven};
 ghost use Rattle.ds_machine.specs.Frames.{StepsFollowFrames, StepsFollowLists, StopsLeaveFrames, StopsLeaveLists};
+ghost use Rattle.ds_machine.specs.Halting.{BootsKeepNoMore, RunsKeepNoMore};
 ghost use Rattle.ds_machine.specs.Lagging.{CatchingUpRuns, LagRuns, LagStops};
 ghost use Rattle.ds_machine.specs.OwnSteps.{IsStep7, IsStep9};
 ghost use Rattle.ds_machine.specs.Private.{AheadRuns, AheadSteps};
@@ -50,6 +51,13 @@ pub fn status_laws()
     ensures boot { BootsWithStatuses }
     ensures step { StepsKeepStatuses }
     ensures run { RunsKeepStatuses }
+{}
+
+/// Does nothing; its contract states that nothing is kept that has no effect, at boot and wherever a run ends: a halted processor has no tick, and what is kept of a stall's end
+/// holds back a channel of ARM9's.
+pub fn kept_laws()
+    ensures boot { BootsKeepNoMore }
+    ensures run { RunsKeepNoMore }
 {}
 
 /// Does nothing; its contract states that counts within a limit add up to at most 24 times it: each processor took at most a step a tick, and the other actors 22 events.

@@ -2,7 +2,7 @@ use Rattle.std.proofs.Common.{ℕ, ◌≡◌, ◌≢◌, ◌<◌, ◌≤◌, ◌
 use Rattle.ds_base.specs.Schedules.{IsLater, Reschedules}
 use Rattle.ds_base.specs.declared.ticks.Tick.{Tick}
 use Rattle.ds_machine.specs.Counting.{owed_before}
-use Rattle.ds_machine.specs.Fences.{geometry_before}
+use Rattle.ds_machine.specs.Hearing.{geometry_before}
 use Rattle.ds_machine.proofs.VertexRuns.{run_before}
 
 -- How many events there may be before a place in the order of steps: a rank at a tick.

@@ -32,7 +32,7 @@ use Rattle.ds_runs.specs.declared.actors.Actor.TheVariants.{KeyScript, Video, Ti
 use Rattle.ds_runs.proofs.RunLaws.{same_makes, not_both}
 use Rattle.ds_timers.specs.Timing.{TimerState, timer_at, timer_due}
 use Rattle.ds_machine.specs.Channels.{channel_step}
-use Rattle.ds_machine.specs.Fences.{Fences}
+use Rattle.ds_machine.specs.Hearing.{Fences}
 use Rattle.ds_machine.specs.Reference.{Shown, after_event, after_geometry, after_line, after_video, due_by, keys_due, processor_due, step_by}
 use Rattle.ds_machine.specs.Counting.{HasCounted, is_to_be_triggered}
 use Rattle.ds_machine.specs.States.{MachineState, ProcessorState}

@@ -10,7 +10,7 @@ use Rattle.ds_runs.specs.Runs.{IsLeast, Makes, Stops, due_at}
 use Rattle.ds_runs.specs.declared.actors.Actor as actor
 use Rattle.ds_runs.specs.declared.actors.Actor.TheVariants.{Geometry}
 use Rattle.ds_runs.proofs.RunExists.{place_rises}
-use Rattle.ds_machine.specs.Fences.{Fences, geometry_before}
+use Rattle.ds_machine.specs.Hearing.{Fences, geometry_before}
 use Rattle.ds_machine.specs.Reference.{Shown, due_by, dues_of, processor_due, reference, step_by, reference_step}
 use Rattle.ds_machine.specs.Sound.{HasSoundParts}
 use Rattle.ds_machine.specs.Counting.{CountsAddUp, CountsWithin, HasCounted, is_to_be_triggered}

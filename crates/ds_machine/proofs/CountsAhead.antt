@@ -11,7 +11,7 @@ use Rattle.ds_runs.proofs.Lists.{at_rank, is_later}
 use Rattle.ds_machine.specs.Acting.{acting_dues}
 use Rattle.ds_machine.specs.Counting.{CountsWithin, HasCounted, is_to_be_triggered, owed_before}
 use Rattle.ds_machine.specs.Private.{IsAhead, rank_of}
-use Rattle.ds_machine.specs.Fences.{Fences, geometry_before}
+use Rattle.ds_machine.specs.Hearing.{Fences, geometry_before}
 use Rattle.ds_machine.specs.Reference.{due_unless, dues_of}
 use Rattle.ds_machine.specs.Sound.{IsSound}
 use Rattle.ds_machine.specs.States.{MachineState, ProcessorState}

@@ -13,7 +13,7 @@ use Rattle.ds_machine.specs.Acting.{acting_dues}
 use Rattle.ds_machine.specs.Counting.{CountsWithin, HasCounted}
 use Rattle.ds_machine.specs.Lagging.{ActsApart}
 use Rattle.ds_machine.specs.Private.{IsAhead, rank_of}
-use Rattle.ds_machine.specs.Fences.{geometry_rank}
+use Rattle.ds_machine.specs.Hearing.{geometry_rank}
 use Rattle.ds_machine.specs.Reference.{Shown, dues_of, next_shown, processor_due, reference_step}
 use Rattle.ds_machine.specs.Sound.{AreAsleep, HasSoundParts, IsSound}
 use Rattle.ds_machine.specs.StepAnswers.{stepped_of}

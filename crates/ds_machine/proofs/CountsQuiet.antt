@@ -11,7 +11,7 @@ use Rattle.gx_fifo.specs.GxStates.{gx_finished}
 use Rattle.gx_fifo.proofs.Laws.{finished_run}
 use Rattle.ds_machine.specs.Acting.{acting_dues}
 use Rattle.ds_machine.specs.Counting.{CountsWithin, HasCounted, owed_before}
-use Rattle.ds_machine.specs.Fences.{geometry_before}
+use Rattle.ds_machine.specs.Hearing.{geometry_before}
 use Rattle.ds_machine.specs.Reference.{dues_of, reference}
 use Rattle.ds_machine.specs.Sound.{HasSoundParts, IsSound}
 use Rattle.ds_machine.specs.States.{MachineState}

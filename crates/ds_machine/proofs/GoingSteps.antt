@@ -19,7 +19,7 @@ use Rattle.ds_machine.specs.Lagging.{CatchesUpFor, CatchesUpIf, TakesGeometry, o
 use Rattle.ds_machine.specs.NextEvents.{HasLimit, IsNextEvent, TookStep, acting_events_of, comes_before, due_at_least, is_least_by, least_kept, least_of, limit_by, line_kept, past_other, waits_until}
 use Rattle.ds_machine.specs.Private.{IsAhead, IsBelowFence, ProcessorStaysPrivate, rank_of}
 use Rattle.ds_machine.specs.TurnSteps.{BelongsToTurn, MayStep, TakesSteps, more, none}
-use Rattle.ds_machine.specs.Fences.{Fences, geometry_rank}
+use Rattle.ds_machine.specs.Hearing.{Fences, geometry_rank}
 use Rattle.ds_machine.specs.Reference.{awake, processor_due, step_by}
 use Rattle.ds_machine.specs.Sound.{HasSoundParts, IsSound}
 use Rattle.ds_machine.specs.StepAnswers.{stepped_of}

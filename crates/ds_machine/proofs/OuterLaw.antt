@@ -31,7 +31,7 @@ use Rattle.ds_machine.specs.Acting.{acting_due, acting_dues}
 use Rattle.ds_machine.specs.Apart.{NineOwn, nine_own_of, step_with, with_nine_own, with_seven_part}
 use Rattle.arm_core.specs.Steps.{enters}
 use Rattle.ds_machine.specs.Private.{IsBelowFence, IsHarmless, RunsAhead, hears_nobody, rank_of}
-use Rattle.ds_machine.specs.Fences.{Fences}
+use Rattle.ds_machine.specs.Hearing.{Fences}
 use Rattle.ds_machine.specs.Reference.{Shown, awake, due_by, due_unless, dues_of, keys_due, reference, reference_step, step_by}
 use Rattle.ds_machine.specs.Sound.{HasSoundParts, IsSound}
 use Rattle.ds_machine.specs.States.{MachineState, ProcessorState, SevenState}

@@ -17,7 +17,7 @@ use Rattle.ds_runs.specs.declared.actors.Actor as actor
 use Rattle.ds_runs.specs.declared.actors.Actor.TheVariants.{KeyScript, Video, Timer, Divider, SquareRoot, Geometry, Card, Dma, Processor}
 use Rattle.ds_machine.specs.Acting.{acting_dues}
 use Rattle.ds_machine.specs.Private.{IsAhead, IsBelowFence, rank_of}
-use Rattle.ds_machine.specs.Fences.{Fences}
+use Rattle.ds_machine.specs.Hearing.{Fences}
 use Rattle.ds_machine.specs.Reference.{due_by, dues_of, processor_due}
 use Rattle.ds_machine.specs.States.{MachineState}
 use Rattle.ds_machine.specs.Steps.{is_blocked, is_halted, processor_of, tick_of}

@@ -24,7 +24,7 @@ use Rattle.ds_map.specs.Shares.{IsSharedSo}
 use Rattle.ds_machine.specs.Acting.{acting_due, acting_dues}
 use Rattle.ds_machine.specs.Apart.{NineOwn, nine_own_of, with_nine_own, with_seven_part}
 use Rattle.ds_machine.specs.Private.{IsAhead, IsHarmless, rank_of}
-use Rattle.ds_machine.specs.Fences.{Fences}
+use Rattle.ds_machine.specs.Hearing.{Fences}
 use Rattle.ds_machine.specs.Reference.{Shown, due_unless, dues_of, keys_due, processor_due, reference_step, shown_at}
 use Rattle.ds_machine.specs.Sound.{HasSoundParts, IsSound}
 use Rattle.ds_machine.specs.StepAnswers.{stepped_of}

@@ -16,7 +16,7 @@ use Rattle.ds_runs.proofs.RunLaws.{same_makes, not_both}
 use Rattle.gx_fifo.specs.GxStates.{GxState}
 use Rattle.gx_fifo.proofs.Laws.{finished_run, swapped_run}
 use Rattle.ds_machine.specs.Channels.{channel_step}
-use Rattle.ds_machine.specs.Fences.{geometry_before}
+use Rattle.ds_machine.specs.Hearing.{geometry_before}
 use Rattle.ds_machine.specs.Reference.{Shown, after_event, after_geometry, after_line, after_video, step_by, swapped_if}
 use Rattle.ds_machine.specs.States.{MachineState}
 use Rattle.ds_machine.specs.Steps.{gone_by}

@@ -7,7 +7,7 @@ use Rattle.ds_runs.specs.Actors.{actor_of}
 use Rattle.ds_runs.specs.Runs.{due_at}
 use Rattle.gx_fifo.specs.GxStates.{is_half_empty}
 use Rattle.ds_machine.specs.Acting.{acting_dues}
-use Rattle.ds_machine.specs.Fences.{Fences, geometry_before}
+use Rattle.ds_machine.specs.Hearing.{Fences, geometry_before}
 use Rattle.ds_machine.specs.Reference.{dues_of}
 use Rattle.ds_machine.specs.States.{MachineState, counts_of}
 use Rattle.ds_machine.specs.Steps.{is_halted, processor_of}

@@ -25,7 +25,7 @@ pub mod Statuses
 pub mod Stopping
 pub mod StepAnswers
 pub mod Sound
-pub mod Fences
+pub mod Hearing
 pub mod DecodedSteps
 pub mod PrivateSides
 pub mod Halting

@@ -20,7 +20,7 @@ use Rattle.ds_runs.specs.Actors.{actor_of}
 use Rattle.ds_runs.specs.Runs.{Ending, Makes, Runs, due_at}
 use Rattle.ds_timers.specs.Irqs.{IrqState}
 use Rattle.ds_machine.specs.Acting.{acting_dues}
-use Rattle.ds_machine.specs.Fences.{Fences}
+use Rattle.ds_machine.specs.Hearing.{Fences}
 use Rattle.ds_machine.specs.Reference.{Shown, reference, reference_step}
 use Rattle.ds_machine.specs.Sound.{IsSound}
 use Rattle.ds_machine.specs.PrivateSides.{SideOf, nine_side, seven_side}

@@ -7,7 +7,7 @@ use Rattle.ds_runs.specs.Runs.{Ending, IsLeast, Makes, Runs, Stopped, Stops, due
 use Rattle.ds_machine.specs.Acting.{acting_dues}
 use Rattle.ds_machine.specs.Lagging.{ActsApart, CatchesUpFor}
 use Rattle.ds_machine.specs.Private.{IsAhead, rank_of}
-use Rattle.ds_machine.specs.Fences.{geometry_rank}
+use Rattle.ds_machine.specs.Hearing.{geometry_rank}
 use Rattle.ds_machine.specs.Reference.{Shown, dues_of, processor_due, reference, reference_step}
 use Rattle.ds_machine.specs.Sound.{AreAsleep, IsSound}
 use Rattle.ds_machine.specs.States.{MachineState}

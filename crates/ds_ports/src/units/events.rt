@@ -1,13 +1,13 @@
 //! The events of the units.
 
-ghost use Rattle.std.specs.Prelude.{◌≡◌, ◌<◌, ◌≤◌, ◌^◌, ◌==◌, IsSome, Some, length};
+ghost use Rattle.std.specs.Prelude.{◌≡◌, ◌<◌, ◌≤◌, ◌^◌, IsSome, Some, length};
 ghost use Rattle.ds_base.specs.Schedules.{IsEarly};
 ghost use Rattle.ds_dma.specs.States.{dma_due};
 ghost use Rattle.ds_runs.specs.Actors.{IsNumbered};
 ghost use Rattle.ds_timers.specs.Timing.{timer_at, timer_due};
 ghost use Rattle.ds_ports.specs.Dues.{io_due};
 ghost use Rattle.ds_ports.specs.ProcessorIo.{before_move};
-ghost use Rattle.ds_ports.specs.Io.{channel_moved, channel_put_back, channels_shown, channels_triggered, geometry_done, io_event, io_of, is_settled, release_kept, release_of, settled, timer_overflows, video_done};
+ghost use Rattle.ds_ports.specs.Io.{channel_moved, channel_put_back, channels_shown, channels_triggered, geometry_done, geometry_triggered, io_event, io_of, is_settled, release_of, settled, timer_overflows, video_done};
 ghost use Rattle.video2d.specs.Scans.{scan_due};
 ghost use Rattle.video2d.specs.Videos.{video_answer};
 ghost use Rattle.ds_runs.specs.declared.actors.Actor.TheVariants as actors;
@@ -74,23 +74,18 @@ impl Units {
     {
         self.nine.is_levelled(self.gx.level())
             && !(self.gx.half_empty() && self.nine.awaits_geometry())
-            && self.is_release_kept()
+            && self.release() == self.released
     }
 
-    /// Whether nothing is kept of the last stall's end, or it holds back the channel of ARM9's that is due.
-    fn is_release_kept(&self) -> bool
-        ensures { result ≡ (release_of self.now == self.now.released) }
+    /// What is kept of the last stall's end: the tick after it while it holds back the channel of ARM9's that is due, and else 0.
+    #[tactic(auto, using(crate::proofs::HeldDues::none_kept))]
+    fn release(&self) -> u64
+        ensures { result ≡ release_of self.now }
     {
-        self.released == 0 || self.nine.is_due_before(self.released)
-    }
-
-    /// Forgets the last stall's end where it holds back no channel.
-    fn keep_release(&mut self)
-        ensures { self.new ≡ release_kept self.old }
-    {
-        if !self.nine.is_due_before(self.released) {
-            self.released = 0;
+        if self.released != 0 && self.nine.is_due_before(self.released) {
+            return self.released;
         }
+        0
     }
 
     /// After a step at a tick: the level of geometry's interrupt is told as it is, the channels are triggered that wait for geometry, where its
@@ -100,10 +95,18 @@ impl Units {
         ensures { self.new ≡ settled now self.old }
     {
         self.nine.tell_level(self.gx.level());
+        self.trigger_waiting(now);
+        self.released = self.release();
+    }
+
+    /// Triggers the channels that wait for geometry, where its FIFO has room.
+    fn trigger_waiting(&mut self, now: Tick)
+        requires { IsEarly (Some now) }
+        ensures { self.new ≡ geometry_triggered now self.old }
+    {
         if self.gx.half_empty() {
             self.nine.trigger(Cause::Geometry, now);
         }
-        self.keep_release();
     }
 
     /// The display's event, with the memories of palettes and of objects: it raises interrupts, and triggers the channels that wait for it. Where

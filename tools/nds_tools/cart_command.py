@@ -1,9 +1,11 @@
 """make-cart: puts compiled or assembled code into a cartridge that `nds` runs.
 
-    tools/make-cart --arm9 F[@ADDR[,ENTRY]].. [--arm7 F[@ADDR[,ENTRY]]..] -o GAME.nds [--title T]
+    tools/make-cart --arm9 F[@ADDR[,ENTRY]].. [--arm7 F[@ADDR[,ENTRY]]..] -o GAME.nds [--title T] [--flat]
 
-  --arm9 F    ARM9's code: an ELF executable, a listing (docs/LISTING.md), or flat bytes as objcopy -O binary writes them
+  --arm9 F    ARM9's code: an ELF executable, a listing (docs/LISTING.md), or flat bytes as objcopy -O binary writes them, which have an
+              address behind them, or --flat
   --arm7 F    ARM7's code; left out, ARM7 gets an image that halts
+  --flat      what is neither an ELF file nor a listing is flat bytes, also a text or a cartridge, which otherwise are refused
   -o GAME     the cartridge to write
   --title T   the title in the header, at most 12 ASCII characters
   --nds PATH  the program that assembles listings; left out, that of NDS_PROGRAM, or this repository's nds
@@ -15,7 +17,7 @@ the first byte. Several files of one processor, as the listings of its ARM and T
 Numbers are decimal, or hexadecimal after 0x.
 
 Ends with 0 where the cartridge is written, with 1 where code breaks a rule of cartridges, which is named, and with 2 where that can't be
-told: a file that can't be read or is cut, an object file, another machine, no program, wrong words. Then no file is written."""
+told: a file that can't be read, is cut or is no code, an object file, another machine, no program, wrong words. Then no file is written."""
 import os
 import re
 import struct
@@ -29,7 +31,7 @@ from nds_tools.program import assembled, program
 from nds_tools.words import GOOD, Refused, Untold, Words, bytes_of, number
 
 TOOL = "make-cart"
-USAGE = "tools/make-cart --arm9 F[@ADDR[,ENTRY]].. [--arm7 F[@ADDR[,ENTRY]]..] -o GAME.nds [--title T] [--nds PATH]"
+USAGE = "tools/make-cart --arm9 F[@ADDR[,ENTRY]].. [--arm7 F[@ADDR[,ENTRY]]..] -o GAME.nds [--title T] [--flat] [--nds PATH]"
 HEADER = 0x200
 MOST = 4_194_304
 MAIN = (0x0200_0000, 0x02FF_FFFF)
@@ -39,6 +41,8 @@ USUAL = (0x0200_0000, 0x0380_0000)
 COPY = (0x027F_FE00, 0x170)
 # mov r0, #0x4000000; mov r1, #0x80; strb r1, [r0, #0x301]; b to itself: halts, and no interrupt is ever enabled.
 HALTS = struct.pack("<4I", 0xE3A00301, 0xE3A01080, 0xE5C01301, 0xEAFFFFFE)
+# Bytes that a text has.
+TEXT = frozenset((*range(0x20, 0x7F), *b"\t\n\f\r"))
 LISTED = re.compile(rb"\.(arm|thumb)([97]) 0x([0-9a-f]{1,8})\n")
 
 
@@ -86,7 +90,28 @@ def pieces_of_elf(elf: Elf, address: Optional[int], entry: Optional[int]) -> Tup
     return pieces, elf.entry if entry is None else entry
 
 
-def pieces_of(text: str, proc: int, nds: Optional[str]) -> Tuple[List[Piece], int]:
+def is_cartridge(content: bytes) -> bool:
+    """Whether a header stands first whose images lie in the file and whose addresses are memory's."""
+    if len(content) < HEADER:
+        return False
+    for at, ranges in zip((0x20, 0x30), PLACES):
+        offset, entry, address, size = struct.unpack_from("<4I", content, at)
+        if not size or offset + size > len(content) or not any(first <= it <= last for it in (entry, address) for first, last in ranges):
+            return False
+    return True
+
+
+def check_flat(file: str, content: bytes, is_addressed: bool) -> None:
+    """Refuses as flat bytes what nobody called so, and what looks like something else."""
+    if is_cartridge(content):
+        raise Untold(f"{file} is a cartridge already, and no code for one; --flat takes it as flat bytes all the same")
+    if all(it in TEXT for it in content[:HEADER]):
+        raise Untold(f"{file} is a text, and neither an ELF file nor a listing: compile it first; --flat takes it as flat bytes all the same")
+    if not is_addressed:
+        raise Untold(f"{file} is neither an ELF file nor a listing; flat bytes want an address, as {file}@0x2000000, or --flat")
+
+
+def pieces_of(text: str, proc: int, nds: Optional[str], is_flat: bool) -> Tuple[List[Piece], int]:
     """Returns what one word of --arm9 or --arm7 stands for, and its entry."""
     file, address, entry = split(text)
     content = bytes_of(file)
@@ -104,6 +129,8 @@ def pieces_of(text: str, proc: int, nds: Optional[str]) -> Tuple[List[Piece], in
     at = USUAL[proc] if address is None else address
     if not content:
         raise Refused(f"{file} is empty")
+    if not is_flat:
+        check_flat(file, content, address is not None)
     return [Piece(file, at, content)], at if entry is None else entry
 
 
@@ -147,12 +174,12 @@ def checked(proc: int, address: int, entry: int, content: bytes) -> Image:
     return Image(address, entry, content)
 
 
-def image(proc: int, words: List[str], nds: Optional[str]) -> Image:
+def image(proc: int, words: List[str], nds: Optional[str], is_flat: bool) -> Image:
     """Returns one processor's image."""
     pieces: List[Piece] = []
     entry: Optional[int] = None
     for text in words:
-        more, its_entry = pieces_of(text, proc, nds)
+        more, its_entry = pieces_of(text, proc, nds, is_flat)
         pieces += more
         entry = its_entry if entry is None else entry
     address, content = joined(pieces, proc)
@@ -198,13 +225,14 @@ def main() -> int:
     words.add_argument("--arm7", action="append")
     words.add_argument("-o", dest="to", required=True)
     words.add_argument("--title", default="")
+    words.add_argument("--flat", action="store_true")
     words.add_argument("--nds")
     given = words.read()
     title = given.title.encode("ascii", "replace")
     if len(title) > 12 or not given.title.isascii() or not (given.title == "" or given.title.isprintable()):
         raise Refused(f"the title {given.title} isn't 12 ASCII characters at most")
-    nine = image(0, given.arm9, given.nds)
-    seven = image(1, given.arm7, given.nds) if given.arm7 else Image(USUAL[1], USUAL[1], HALTS)
+    nine = image(0, given.arm9, given.nds, given.flat)
+    seven = image(1, given.arm7, given.nds, given.flat) if given.arm7 else Image(USUAL[1], USUAL[1], HALTS)
     check_overlap(nine, seven)
     whole = cartridge(nine, seven, title)
     if given.to == "-":

@@ -1,51 +1,40 @@
-"""nds-diff: tells where two outputs of `nds run` differ: frames, lists, memories, registers, counts, stops.
+"""nds-diff: tells where two outputs of `nds run` differ: frames, lists, variables, memories, registers, counts, stops.
 
-    tools/nds-diff A B [--only PART].. [--elf9 F] [--elf7 F] [--skip-code] [--png DIR] [--dtcm A]
+    tools/nds-diff A B [--only PART].. [--elf9 F] [--elf7 F] [--skip-code] [--frame 60|1-10] [--png DIR [--most N]]
 
   A, B         what two runs wrote; one of them may be `-`, standard input
-  --only P     that part alone: frames, lists, memory, registers or counts; may be given several times
-  --elf9 F, --elf7 F   the programs' ELF files, for their symbols
-  --skip-code  leaves out the bytes where these files have code: those change with an edit that changes no result
+  --only P     that part alone: frames, lists, variables, memory, registers or counts; may be given several times
+  --elf9 F, --elf7 F   the programs' ELF files, for their variables and symbols
+  --elf9-b F, --elf7-b F   those of B, where it is another build: variables are then found by name in each
+  --skip-code  leaves out the bytes where these files have code, and words that point into it in both outputs: those change with an edit
+               that changes no result
+  --frame F    the frames and lists of these numbers alone: one, or a first and a last
   --png DIR    three pictures for each frame that differs: A's, B's, and the difference, red where they differ
-  --dtcm A     where the program put DTCM; 0x3000000 where it left it
+  --most N     pictures of at most N frames; left out, 20
+  --dtcm A     where the program put DTCM; left out, as ARM9's ELF file has it, otherwise 0x3000000
 
-For each part it tells how much differs and the first three places: of a frame the screen, how many pixels, the first one's (x, y) and both
-colours; of a memory the address, the symbol and both words. All registers and counts that differ are told, and a stop by its name.
+Variables that differ come by name, with their values or the first word that differs. For each other part it tells how much differs and the
+first three places: of a frame the screen, how many pixels, the first one's (x, y) and both colours; of a memory the address, the symbol and
+both words, without the variables and the pointers into code. All registers and counts that differ are told, and a stop by its name.
 
 Ends with 0 where nothing differs, with 1 where something does, and with 2 where an output is none of a run or a file isn't there."""
-from dataclasses import dataclass, field
+import argparse
+from dataclasses import dataclass
 from typing import Iterator, List, Optional, Tuple, Union
 
 from nds_tools import names, png
+from nds_tools.compared import SHOWN, Part, Side, compare_memory, compare_variables
 from nds_tools.memory import Map
 from nds_tools.records import SCREEN, End, Frame, Lists, Memory, Record, Stop, records_of
 from nds_tools.show_command import map_of
+from nds_tools.spans import Wanted, wanted
 from nds_tools.words import FAILED, GOOD, Untold, Words
 
 TOOL = "nds-diff"
-USAGE = "tools/nds-diff A B [--only frames|lists|memory|registers|counts].. [--elf9 F] [--elf7 F] [--skip-code] [--png DIR] [--dtcm A]"
-PARTS = ("frames", "lists", "memory", "registers", "counts")
-SHOWN = 3
+USAGE = "tools/nds-diff A B [--only PART].. [--elf9 F] [--elf7 F] [--elf9-b F] [--elf7-b F] [--skip-code] [--frame F] [--png DIR [--most N]] [--dtcm A]"
+PARTS = ("frames", "lists", "variables", "memory", "registers", "counts")
+PICTURES = 20
 Pictured = Union[Frame, Lists]
-
-
-@dataclass
-class Part:
-    """What differs in one part: how many of how many, and what to say of the first ones."""
-
-    title: str
-    every: int = 0
-    count: int = 0
-    lines: List[str] = field(default_factory=list)
-
-    def add(self, differs: bool, line: str = "") -> None:
-        self.every += 1
-        self.count += differs
-        if differs and len(self.lines) < SHOWN:
-            self.lines.append(line)
-
-    def said(self) -> List[str]:
-        return [f"{self.title}: {self.count} of {self.every} differ", *(f"  {it}" for it in self.lines)] if self.count else []
 
 
 @dataclass
@@ -65,11 +54,12 @@ class Tail:
             self.stop = record
 
 
-def pictured(records: Iterator[Record], tail: Tail) -> Iterator[Pictured]:
-    """Hands on frames and lists; what follows them goes to the tail."""
+def pictured(records: Iterator[Record], tail: Tail, wanted: Wanted) -> Iterator[Pictured]:
+    """Hands on the frames and lists that are asked for; what follows them goes to the tail."""
     for it in records:
         if isinstance(it, (Frame, Lists)):
-            yield it
+            if wanted.has(it.number):
+                yield it
         else:
             tail.take(it)
 
@@ -136,9 +126,9 @@ def lists_line(a: Lists, b: Lists) -> str:
     return f"frame {a.number}"
 
 
-def compare_pictured(pairs: Iterator[Tuple[Optional[Pictured], Optional[Pictured]]], folder: Optional[str]) -> List[Part]:
-    """Compares frames and lists, one pair at a time."""
-    frames, lists = Part("frames"), Part("lists")
+def compare_pictured(pairs: Iterator[Tuple[Optional[Pictured], Optional[Pictured]]], folder: Optional[str], most: int) -> List[Part]:
+    """Compares frames and lists, one pair at a time, and writes pictures of at most that many frames."""
+    frames, lists, pictures = Part("frames"), Part("lists"), 0
     for a, b in pairs:
         either = a or b
         part = frames if isinstance(either, Frame) else lists
@@ -147,7 +137,8 @@ def compare_pictured(pairs: Iterator[Tuple[Optional[Pictured], Optional[Pictured
         elif isinstance(a, Frame) and isinstance(b, Frame):
             differs = a.pixels != b.pixels
             line = frame_line(a, b) if differs and len(frames.lines) < SHOWN else ""
-            shown = picture(folder, a, b) if differs and folder else ""
+            shown = picture(folder, a, b) if differs and folder and pictures < most else ""
+            pictures += bool(shown)
             part.add(differs, f"{line}  {shown}".rstrip())
         elif isinstance(a, Lists) and isinstance(b, Lists):
             differs = a != b
@@ -155,54 +146,22 @@ def compare_pictured(pairs: Iterator[Tuple[Optional[Pictured], Optional[Pictured
     return [frames, lists]
 
 
-def skipped(known: Map) -> List[Tuple[str, int, int]]:
-    """Returns where code lies, as memory, first offset and the one after the last."""
-    found = []
-    for proc, elf in enumerate(known.elves):
-        for first, end in elf.code() if elf else []:
-            memory, at = known.place_of(proc, first)
-            found.append((memory, at, at + end - first))
-    return found
+def near(side: Side, proc: int, name: str) -> str:
+    """Returns the symbol that r14 and r15 belong to."""
+    elf = side.known.elves[proc]
+    return elf.near(side.record.registers[proc][name]) if elf and name.startswith(("r14", "r15")) else ""
 
 
-def compare_memory(a: Memory, b: Memory, known: Map, skip: List[Tuple[str, int, int]]) -> List[Part]:
-    """Compares each memory word by word, without what is skipped."""
-    parts = []
-    for name, size in names.SIZES.items():
-        part, one, two = Part(f"{name}, words"), a.memories[name], b.memories[name]
-        for memory, first, end in skip:
-            if memory == name:
-                blank = bytes(min(end, size) - first)
-                one, two = (it[:first] + blank + it[min(end, size) :] for it in (one, two))
-        part.every = size // 4
-        for at in range(0, size, 4096):
-            if one[at : at + 4096] != two[at : at + 4096]:
-                compare_words(part, name, at, one, two, known)
-        parts.append(part)
-    return parts
-
-
-def compare_words(part: Part, name: str, at: int, one: bytes, two: bytes, known: Map) -> None:
-    """Compares the words of one piece of a memory."""
-    for it in range(at, min(at + 4096, len(one)), 4):
-        if one[it : it + 4] != two[it : it + 4]:
-            part.count += 1
-            if len(part.lines) < SHOWN:
-                words = " and ".join(f"{int.from_bytes(content[it : it + 4], 'little'):08x}" for content in (one, two))
-                part.lines.append(f"{known.show(name, it)}: {words}")
-
-
-def compare_registers(a: Memory, b: Memory, known: Map) -> List[Part]:
+def compare_registers(sides: Tuple[Side, Side]) -> List[Part]:
     """Compares all registers of both processors; all that differ are told."""
     parts = []
     for proc, name in enumerate(names.PROCESSORS):
-        elf, part = known.elves[proc], Part(f"registers of {name}", len(names.REGISTERS))
+        part = Part(f"registers of {name}", len(names.REGISTERS))
         for it in names.REGISTERS:
-            values = [record.registers[proc][it] for record in (a, b)]
+            values = [side.record.registers[proc][it] for side in sides]
             if values[0] != values[1]:
-                near = [elf.near(value) if elf and it.startswith(("r14", "r15")) else "" for value in values]
                 part.count += 1
-                part.lines.append(f"{it} " + " and ".join(f"{value:08x}{' ' + where if where else ''}" for value, where in zip(values, near)))
+                part.lines.append(f"{it} " + " and ".join(f"{value:08x}{' ' + where if where else ''}" for value, where in zip(values, (near(side, proc, it) for side in sides))))
         parts.append(part)
     return parts
 
@@ -214,39 +173,56 @@ def compare_counts(a: End, b: End) -> Part:
     return Part("counts", len(values), len(lines), lines)
 
 
-def compare_tails(a: Tail, b: Tail, only: List[str], known: Map, skip: List[Tuple[str, int, int]]) -> List[Part]:
+def compare_tails(a: Tail, b: Tail, only: List[str], maps: Tuple[Map, Map], skips_code: bool) -> List[Part]:
     """Compares what follows the frames."""
     if a.stop or b.stop:
         ends = [f"{name} {f'stopped: {it.stop}' if it.stop else f'came to tick {it.end.ticks if it.end else 0}'}" for name, it in (("A", a), ("B", b))]
         return [Part("stop", 1, int(a.stop != b.stop), ["; ".join(ends)])]
     parts: List[Part] = []
     if a.memory and b.memory and a.end and b.end:
-        parts += compare_memory(a.memory, b.memory, known, skip) if "memory" in only else []
-        parts += compare_registers(a.memory, b.memory, known) if "registers" in only else []
+        sides = Side(a.memory, maps[0]), Side(b.memory, maps[1])
+        parts += [compare_variables(*sides, skips_code)] if "variables" in only else []
+        parts += compare_memory(*sides, skips_code) if "memory" in only else []
+        parts += compare_registers(sides) if "registers" in only else []
         parts += [compare_counts(a.end, b.end)] if "counts" in only else []
     return parts
 
 
-def main() -> int:
+def read_words() -> argparse.Namespace:
     words = Words(TOOL, USAGE, __doc__ or "")
     words.add_argument("a")
     words.add_argument("b")
     words.add_argument("--only", action="append", choices=PARTS)
-    for name in ("--elf9", "--elf7", "--dtcm", "--png"):
+    for name in ("--elf9", "--elf7", "--elf9-b", "--elf7-b", "--dtcm", "--frame", "--png"):
         words.add_argument(name)
+    words.add_argument("--most", type=int, default=PICTURES)
     words.add_argument("--skip-code", action="store_true")
     given = words.read()
-    if given.skip_code and not (given.elf9 or given.elf7):
+    has_elf = given.elf9 or given.elf7
+    if given.skip_code and not has_elf:
         raise Untold("--skip-code wants --elf9 or --elf7, which tell where code lies")
+    if "variables" in (given.only or []) and not has_elf:
+        raise Untold("--only variables wants --elf9 or --elf7, which name them")
+    if (given.elf9_b and not given.elf9) or (given.elf7_b and not given.elf7):
+        raise Untold("--elf9-b and --elf7-b want --elf9 and --elf7 beside them, for A")
     if given.a == given.b == "-":
         raise Untold("one output alone can come from a pipe")
-    known, only = map_of(given.elf9, given.elf7, given.dtcm), given.only or list(PARTS)
-    tails = Tail(), Tail()
-    one, two = (pictured(records_of(name), tail) for name, tail in zip((given.a, given.b), tails))
-    parts = [it for it in compare_pictured(paired(one, two), given.png) if it.title in only]
-    parts += compare_tails(*tails, only, known, skipped(known) if given.skip_code else [])
+    if given.most < 1:
+        raise Untold("--most takes a number from 1")
+    given.only = given.only or [it for it in PARTS if it != "variables" or has_elf]
+    return given
+
+
+def main() -> int:
+    given = read_words()
+    maps = (map_of(given.elf9, given.elf7, given.dtcm), map_of(given.elf9_b or given.elf9, given.elf7_b or given.elf7, given.dtcm))
+    tails, frames = (Tail(), Tail()), wanted(given.frame)
+    one, two = (pictured(records_of(name), tail, frames) for name, tail in zip((given.a, given.b), tails))
+    folder = given.png if "frames" in given.only else None
+    parts = [it for it in compare_pictured(paired(one, two), folder, given.most) if it.title in given.only]
+    parts += compare_tails(*tails, given.only, maps, given.skip_code)
     lines = [line for it in parts for line in it.said()]
     same = [f"{it.every} {it.title}" for it in parts if it.title in ("frames", "lists") and it.every]
-    same += [f"both stopped: {tails[0].stop}"] if tails[0].stop else [it for it in only if it not in ("frames", "lists")]
+    same += [f"both stopped: {tails[0].stop}"] if tails[0].stop else [it for it in given.only if it not in ("frames", "lists")]
     print("\n".join(lines) or f"equal: {', '.join(same)}")
     return FAILED if lines else GOOD

@@ -1,17 +1,18 @@
-"""ELF files for ARM, as linkers write them: segments by load address, symbols, and where code lies."""
+"""ELF files for ARM, as linkers write them: segments by load address, symbols, where code lies, and where DTCM does."""
 import struct
+from bisect import bisect_right
 from dataclasses import dataclass
-from typing import Dict, List, Optional, Tuple
+from typing import Dict, List, NamedTuple, Optional, Tuple
 
 from nds_tools.words import Untold, bytes_of
 
 MAGIC = b"\x7fELF"
 EXECUTABLE, ARM, LOADED = 2, 40, 1
 ALLOC, CODE = 2, 4
-SYMBOL_TABLE = 2
-FUNCTION, SECTION, FILE = 2, 3, 4
+SYMBOL_TABLE, NO_BYTES = 2, 8
+OBJECT, FUNCTION, SECTION, FILE = 1, 2, 3, 4
 CONSTANT = 0xFFF1
-FARTHEST = 0x1_0000
+DTCM_BYTES = 0x4000
 OTHER_TYPES = {0: "an ELF file of no type", 1: "an object file, which isn't linked yet", 3: "a shared object", 4: "a core file"}
 OTHER_MACHINES = {3: "x86", 8: "MIPS", 20: "PowerPC", 62: "x86-64", 183: "AArch64", 243: "RISC-V"}
 
@@ -27,15 +28,36 @@ class Segment:
     is_code: bool
 
 
+class Section(NamedTuple):
+    """A section's header, in the file's order."""
+
+    name_at: int
+    kind: int
+    flags: int
+    address: int
+    offset: int
+    size: int
+    link: int
+    info: int
+    alignment: int
+    step: int
+
+
 @dataclass(frozen=True)
 class Symbol:
-    """A symbol; a size of 0 isn't told. A constant, as of .equ, is no place of the program's."""
+    """A symbol; a size of 0 isn't told. A constant, as of .equ, is no place of the program's. `home` is the number of its section."""
 
     name: str
     address: int
     size: int
     is_local: bool
     is_constant: bool
+    kind: int = 0
+    home: int = 0
+
+    @property
+    def is_variable(self) -> bool:
+        return self.kind == OBJECT and self.size > 0 and not self.is_constant
 
 
 class Elf:
@@ -52,9 +74,10 @@ class Elf:
             self.segments = self.read_segments()
             self.sections = self.read_sections()
             self.symbols = self.read_symbols()
-        except (struct.error, IndexError):
+        except (struct.error, IndexError, ValueError):
             raise Untold(f"{name} is a cut or damaged ELF file") from None
-        self.sorted = sorted((it for it in self.symbols if not it.is_constant), key=lambda it: it.address)
+        self.placed = self.with_ends()
+        self.found: Dict[int, str] = {}
 
     def check(self) -> None:
         """Refuses by name what isn't a little-endian executable of 32 bits for ARM."""
@@ -81,25 +104,55 @@ class Elf:
                 found.append(Segment(address, load, self.content[offset : offset + in_file], size, bool(flags & 1)))
         return found
 
-    def read_sections(self) -> List[Tuple[int, ...]]:
+    def read_sections(self) -> List[Section]:
         step = self.section_size
-        return [struct.unpack_from("<10I", self.content, self.sections_at + at * step) for at in range(self.section_count)]
+        return [Section(*struct.unpack_from("<10I", self.content, self.sections_at + at * step)) for at in range(self.section_count)]
 
     def read_symbols(self) -> List[Symbol]:
         found = []
         for section in self.sections:
-            if section[1] != SYMBOL_TABLE:
+            if section.kind != SYMBOL_TABLE:
                 continue
-            texts = self.sections[section[6]][4]
-            for at in range(section[4], section[4] + section[5], 16):
+            texts = self.sections[section.link].offset
+            for at in range(section.offset, section.offset + section.size, 16):
                 name_at, value, size, info, _, home = struct.unpack_from("<3I2BH", self.content, at)
-                name = self.text(texts + name_at)
-                if home and name and not name.startswith("$") and info & 15 not in (SECTION, FILE):
-                    found.append(Symbol(name, value & ~1 if info & 15 == FUNCTION else value, size, info >> 4 == 0, home == CONSTANT))
+                name, kind = self.text(texts + name_at), info & 15
+                if home and name and not name.startswith("$") and kind not in (SECTION, FILE):
+                    address = value & ~1 if kind == FUNCTION else value
+                    found.append(Symbol(name, address, size, info >> 4 == 0, home == CONSTANT, kind, home))
         return found
 
     def text(self, at: int) -> str:
         return self.content[at : self.content.index(0, at)].decode("utf-8", "replace")
+
+    def section_name(self, section: Section) -> str:
+        """Returns a section's name, or nothing where the file doesn't tell it."""
+        if self.names_in >= len(self.sections):
+            return ""
+        at = self.sections[self.names_in].offset + section.name_at
+        end = self.content.find(0, at)
+        return self.content[at:end].decode("utf-8", "replace") if end >= 0 else ""
+
+    def with_ends(self) -> List[Tuple[int, int, Symbol]]:
+        """Returns each symbol that is a place with its address and the one after its last: by its size, or else up to the next symbol, and no
+        further than its section."""
+        places = sorted((it for it in self.symbols if not it.is_constant), key=lambda it: it.address)
+        starts = sorted({it.address for it in places})
+        found = []
+        for it in places:
+            following = bisect_right(starts, it.address)
+            end = it.address + it.size if it.size else self.end_of(it, starts[following] if following < len(starts) else 0)
+            found.append((it.address, end, it))
+        return found
+
+    def end_of(self, symbol: Symbol, next_at: int) -> int:
+        """Returns where a symbol without a size ends, with the address of the next symbol, or 0 where none follows."""
+        end = symbol.address + 1
+        if symbol.home < len(self.sections):
+            section = self.sections[symbol.home]
+            if section.address <= symbol.address < section.address + section.size:
+                end = section.address + section.size
+        return min(end, next_at) if next_at else end
 
     def find(self, name: str) -> Optional[Symbol]:
         """Returns the symbol of a name; a global one goes before local ones, of which there may be one alone."""
@@ -110,22 +163,38 @@ class Elf:
             raise Untold(f"{self.name} has several symbols {name}, at {where}: give the address")
         return best[0] if best else None
 
+    def owner(self, address: int) -> Optional[Symbol]:
+        """Returns the symbol that an address belongs to: one with a size before one without, then the nearest, a global one, a variable or a
+        function."""
+        having = [it for first, end, it in self.placed if first <= address < end]
+        return max(having, key=lambda it: (bool(it.size), it.address, not it.is_local, it.kind in (OBJECT, FUNCTION)), default=None)
+
     def near(self, address: int) -> str:
         """Returns `symbol` or `symbol+0xN` for the symbol that an address belongs to, or nothing."""
-        best: Optional[Symbol] = None
-        for it in self.sorted:
-            if it.address > address:
-                break
-            if address < it.address + it.size or (not it.size and address - it.address < FARTHEST):
-                best = it if best is None or it.address > best.address or not it.is_local else best
-        if best is None:
-            return ""
-        return best.name if best.address == address else f"{best.name}+0x{address - best.address:x}"
+        if address not in self.found:
+            best = self.owner(address)
+            more = f"+0x{address - best.address:x}" if best and best.address != address else ""
+            self.found[address] = f"{best.name}{more}" if best else ""
+        return self.found[address]
+
+    def variables(self) -> List[Symbol]:
+        """Returns the variables by address, of several at one place the first alone."""
+        found: Dict[Tuple[int, int], Symbol] = {}
+        for _, _, it in self.placed:
+            if it.is_variable:
+                found.setdefault((it.address, it.size), it)
+        return list(found.values())
+
+    def dtcm(self) -> Optional[int]:
+        """Returns where the linker put DTCM: the symbol __dtcm_start or a section that has `dtcm` in its name, at a multiple of 16 KiB."""
+        at = [it.address for it in self.symbols if it.name == "__dtcm_start"]
+        at += [it.address for it in self.sections if it.flags & ALLOC and it.size and "dtcm" in self.section_name(it)]
+        return at[0] // DTCM_BYTES * DTCM_BYTES if at else None
 
     def code(self) -> List[Tuple[int, int]]:
         """Returns where code lies, as first address and the one after the last, at the places that it runs at and is copied from."""
         found: Dict[Tuple[int, int], None] = {}
-        parts = [(it[3], it[5]) for it in self.sections if it[2] & ALLOC and it[2] & CODE]
+        parts = [(it.address, it.size) for it in self.sections if it.flags & ALLOC and it.flags & CODE]
         if not self.sections:
             parts = [(it.address, it.size) for it in self.segments if it.is_code]
         for address, size in parts:

@@ -3,24 +3,45 @@ import hashlib
 import io
 import threading
 from dataclasses import dataclass, field
-from typing import Dict, Optional
+from typing import Dict, List, Optional, Tuple
 
 from nds_tools import names
-from nds_tools.memory import Map, shown, text_in
-from nds_tools.program import DONE, LEFT_OUT, said, output_of, start, words_of_run
-from nds_tools.records import Frame, Lists, Memory, Reader, Stop
-from nds_tools.game_tests import Results, Test, as_text
+from nds_tools.memory import Map, Place, shown, text_in
+from nds_tools.program import DONE, LEFT_OUT, finished, said, output_of, start, words_of_run
+from nds_tools.records import End, Frame, Lists, Memory, Reader, Stop
+from nds_tools.game_tests import Asked, Results, Shot, Test, as_text, sum_of
+from nds_tools.scripts import explained
+from nds_tools.stuck import stuck
 from nds_tools.words import Untold
+
+# How many frames are held whose sums aren't the kept ones, to be written as pictures.
+MOST_HELD = 8
 
 
 @dataclass
 class Ran:
-    """What a run gave: the results that the test keeps, the frames among them, and how it ended otherwise than the test expects."""
+    """What a run gave: the results that the test keeps, pixels of frames that may be written, and how it ended otherwise than the test expects."""
 
     results: Results = field(default_factory=dict)
-    frames: Dict[int, bytes] = field(default_factory=dict)
+    frames: Dict[Shot, bytes] = field(default_factory=dict)
     stopped: str = ""
     missed: str = ""
+    stuck: str = ""
+
+
+@dataclass(frozen=True)
+class Playing:
+    """A test with the program that runs it, its key script's file, and what is kept of it."""
+
+    test: Test
+    program: str
+    timeout: float
+    keys: str
+    kept: Results
+    most_held: int = MOST_HELD
+
+    def words(self, ticks: int, keep: str) -> Tuple[str, ...]:
+        return words_of_run(self.test.cart, self.keys, ticks, keep)
 
 
 class Summed(io.RawIOBase):
@@ -41,22 +62,36 @@ class Seen:
     """What of an output a test looks at."""
 
     memory: Optional[Memory] = None
+    end: Optional[End] = None
     lists: Optional[Lists] = None
     stop: Optional[Stop] = None
-    frames: Dict[int, bytes] = field(default_factory=dict)
+    frames: Dict[Shot, bytes] = field(default_factory=dict)
+    sums: Dict[Shot, str] = field(default_factory=dict)
     sum: str = ""
+    differ: int = 0
+
+    def take_frame(self, frame: Frame, playing: Playing) -> None:
+        """Sums what the test keeps of a frame; holds its pixels where a picture of it is kept, and of the first that differ."""
+        for shot in [it for it in playing.test.shots if it.number == frame.number] if frame.number in playing.test.frames else []:
+            pixels = shot.pixels_of(frame)
+            self.sums[shot] = sum_of(pixels)
+            differs = playing.kept.get(shot.key, self.sums[shot]) != self.sums[shot]
+            self.differ += differs
+            if playing.test.shots[shot] or (differs and self.differ <= playing.most_held):
+                self.frames[shot] = pixels
 
 
-def seen(test: Test, program: str, timeout: float) -> Seen:
+def seen(playing: Playing) -> Seen:
     """Runs the test's cartridge, and returns what it looks at. A run that takes too long or is refused can't be judged."""
-    run = start(program, *words_of_run(test.cart, test.keys, test.ticks, test.keep))
+    test = playing.test
+    run = start(playing.program, *playing.words(test.ticks, test.keep))
     found, late = Seen(), threading.Event()
-    watch = threading.Timer(timeout, lambda: (late.set(), run.kill()))
+    watch = threading.Timer(playing.timeout, lambda: (late.set(), run.kill()))
     watch.start()
     try:
         stream = Summed(output_of(run)) if test.has_output else output_of(run)
         reader = Reader(stream, "the run's output")
-        why = read_into(found, test, reader)
+        why = read_into(found, playing, reader)
         if why:
             output_of(run).close()
         if isinstance(stream, Summed):
@@ -71,26 +106,28 @@ def seen(test: Test, program: str, timeout: float) -> Seen:
             if pipe:
                 pipe.close()
     if late.is_set():
-        raise Untold(f"the run took more than {timeout:g} seconds")
+        raise Untold(f"the run took more than {playing.timeout:g} seconds")
     if why and reader.at:
         raise why
     if run.returncode not in (DONE, LEFT_OUT):
-        raise Untold(said(note, run.returncode))
+        raise Untold(explained(said(note, run.returncode), playing.keys if test.held else test.keys))
     if why:
         raise why
     return found
 
 
-def read_into(found: Seen, test: Test, reader: Reader) -> Optional[Untold]:
+def read_into(found: Seen, playing: Playing, reader: Reader) -> Optional[Untold]:
     """Reads an output to its end; returns why it is none."""
     try:
         for it in reader:
-            if isinstance(it, Frame) and it.number in test.frames:
-                found.frames[it.number] = it.pixels
+            if isinstance(it, Frame):
+                found.take_frame(it, playing)
             elif isinstance(it, Lists):
                 found.lists = it
             elif isinstance(it, Memory):
                 found.memory = it
+            elif isinstance(it, End):
+                found.end = it
             elif isinstance(it, Stop):
                 found.stop = it
     except Untold as why:
@@ -98,32 +135,73 @@ def read_into(found: Seen, test: Test, reader: Reader) -> Optional[Untold]:
     return None
 
 
-def ran(test: Test, program: str, timeout: float) -> Ran:
-    """Runs a test and returns its results, or how its end isn't the one that is expected."""
+def ran(test: Test, program: str, timeout: float, kept: Optional[Results], most_held: int = MOST_HELD) -> Ran:
+    """Runs a test and returns its results, or how its end isn't the one that is expected. Where it differs from what is kept, it is asked too
+    whether a processor is stuck."""
     known = test.map()
     places = test.find(known)
-    found = seen(test, program, timeout)
-    if found.stop and test.stop != (names.kind(found.stop.kind), found.stop.value):
+    with test.script() as keys:
+        playing = Playing(test, program, timeout, keys, kept or {}, most_held)
+        found = seen(playing)
+        whole = judged_end(playing, found, known) or results_of(test, found, places)
+        differs = whole.missed or (kept is not None and any(kept.get(key, it) != it for key, it in whole.results.items()))
+        if differs and found.memory and not whole.stopped:
+            whole.stuck = stuck(found.memory, known, lambda: steps_after(playing, found.end))
+    return whole
+
+
+def judged_end(playing: Playing, found: Seen, known: Map) -> Optional[Ran]:
+    """Returns what is wrong with how the run ended; None where it ended as the test expects."""
+    test, stop = playing.test, found.stop
+    if stop and test.stop != (names.kind(stop.kind), stop.value):
         wanted = f"; {test.stop[0]} 0x{test.stop[1]:08x} was expected" if test.stop else ""
-        return Ran(stopped=f"{found.stop}{at_stop(test, found.stop, program, known)}{wanted}")
-    if test.stop and not found.stop:
+        return Ran(stopped=f"{stop}{at_stop(playing, stop, known)}{wanted}")
+    if test.stop and not stop:
         return Ran(missed=f"it came to tick {test.ticks}, and the stop {test.stop[0]} 0x{test.stop[1]:08x} was expected")
+    if test.frames and max(test.frames) not in {it.number for it in found.sums}:
+        late = min(test.frames - {it.number for it in found.sums})
+        return Ran(missed=f"the run stopped before frame {late} was whole")
+    return None
+
+
+def results_of(test: Test, found: Seen, places: List[Tuple[Asked, Place]]) -> Ran:
+    """Returns the results that the test keeps."""
     whole = Ran(frames=found.frames)
     whole.results["end"] = f"stop {test.stop[0]} 0x{test.stop[1]:08x}" if test.stop else "done"
-    for number in sorted(set(test.frames)):
-        if number not in found.frames:
-            whole.missed = f"the run stopped before frame {number} was whole"
-            return whole
-        whole.results[f"frame {number}"] = f"sha256 {hashlib.sha256(found.frames[number]).hexdigest()}"
-    for place in places:
+    for shot in sorted(found.sums, key=lambda it: (it.number, it.screen)):
+        whole.results[shot.key] = found.sums[shot]
+    for asked, place in places:
         content = place.bytes_in(found.memory) if found.memory else b""
-        key = f"{'text' if place.is_text else 'peek'} {place.name}"
-        whole.results[key] = as_text(text_in(content)) if place.is_text else shown(content)
+        whole.results[asked.key] = {"text": as_text(text_in(content)), "peek": shown(content), "decimal": decimals(content)}[asked.kind]
     if test.has_vertices:
         whole.results.update(listed(found.lists))
     if found.sum:
         whole.results["output"] = found.sum
     return whole
+
+
+def decimals(content: bytes) -> str:
+    """Writes bytes as signed numbers: of words, or of halves or bytes where they aren't whole words."""
+    width = 4 if len(content) % 4 == 0 else 2 if len(content) % 2 == 0 else 1
+    return " ".join(str(int.from_bytes(content[at : at + width], "little", signed=True)) for at in range(0, len(content), width))
+
+
+def run_to(playing: Playing, ticks: int) -> Tuple[Optional[Memory], Optional[End]]:
+    """Runs to a tick, and returns its memories and counts, where there are some."""
+    try:
+        out = finished(playing.program, playing.timeout, *playing.words(ticks, "none"))[1]
+        records = list(Reader(io.BytesIO(out), "the run"))
+    except Untold:
+        return None, None
+    memory = next((it for it in records if isinstance(it, Memory)), None)
+    return memory, next((it for it in records if isinstance(it, End)), None)
+
+
+def steps_after(playing: Playing, end: Optional[End]) -> Optional[Tuple[int, int]]:
+    """Returns how many steps each processor takes in the frame after the test's end, or None where that can't be told."""
+    ticks = playing.test.ticks + names.FRAME_TICKS
+    later = run_to(playing, ticks)[1]
+    return (later.steps9 - end.steps9, later.steps7 - end.steps7) if later and end and later.ticks == ticks else None
 
 
 def listed(lists: Optional[Lists]) -> Results:
@@ -140,16 +218,11 @@ def listed(lists: Optional[Lists]) -> Results:
     return found
 
 
-def at_stop(test: Test, stop: Stop, program: str, known: Map) -> str:
+def at_stop(playing: Playing, stop: Stop, known: Map) -> str:
     """Returns where the processor stands that stopped the run, by a run to that tick."""
     if stop.rank not in (22, 23) or stop.tick == 0:
         return ""
-    run = start(program, *words_of_run(test.cart, test.keys, stop.tick, "none"))
-    out, _ = run.communicate()
-    try:
-        record = next((it for it in Reader(io.BytesIO(out), "the run") if isinstance(it, Memory)), None)
-    except Untold:
-        return ""
+    record = run_to(playing, stop.tick)[0]
     if record is None:
         return ""
     at = record.registers[stop.rank - 22]["r15"]

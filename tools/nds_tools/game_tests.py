@@ -1,18 +1,64 @@
 """Tests of a game as small texts, and the results that are kept of them (docs/TESTING_A_GAME.md has the lines)."""
+import difflib
+import hashlib
 import json
 import os
+import re
 import shlex
+from contextlib import AbstractContextManager
 from dataclasses import dataclass, field
-from typing import Dict, List, Optional, Tuple
+from typing import Dict, Iterable, List, Optional, Set, Tuple
 
-from nds_tools import names
+from nds_tools import names, scripts
 from nds_tools.elf import Elf
 from nds_tools.memory import Map, Place
+from nds_tools.records import SCREEN, Frame
+from nds_tools.scripts import Held
+from nds_tools.spans import span
 from nds_tools.words import Untold, number
 
 ENDING, KEPT = ".test", ".expected"
 MOST_TICKS = 100_000_000_000
 HEAD = "# What nds-test compares; nds-test --update writes it.\n"
+SCREENS = {"both": slice(None), "upper": slice(SCREEN), "lower": slice(SCREEN, None)}
+ONCE = {"cart": 1, "elf9": 1, "elf7": 1, "keys": 1, "dtcm": 1, "frames": 1, "ticks": 1, "expect": None}
+OFTEN = ("keep", *scripts.BY_FRAME)
+KINDS_KEPT = ("frame", "picture", "peek", "decimal", "text", "vertices", "output")
+
+
+@dataclass(frozen=True)
+class Shot:
+    """Pixels that a test keeps: of a frame, numbered from 1, both screens or one of them."""
+
+    number: int
+    screen: str = "both"
+
+    @property
+    def key(self) -> str:
+        """Returns the name of the result."""
+        return f"frame {self.number}" + ("" if self.screen == "both" else f" {self.screen}")
+
+    @property
+    def file(self) -> str:
+        """Returns what tells a picture's file from others of its test."""
+        return f"frame-{self.number:04d}" + ("" if self.screen == "both" else f"-{self.screen}")
+
+    def pixels_of(self, frame: Frame) -> bytes:
+        return frame.pixels[SCREENS[self.screen]]
+
+
+@dataclass(frozen=True)
+class Asked:
+    """A place that a test keeps, as a line of it asks for it."""
+
+    kind: str
+    text: str
+    line: int
+
+    @property
+    def key(self) -> str:
+        """Returns the name of the result."""
+        return f"{self.kind} {self.text}"
 
 
 @dataclass
@@ -24,18 +70,37 @@ class Test:
     cart: str = ""
     elf9: Optional[str] = None
     elf7: Optional[str] = None
-    keys: str = "none"
-    dtcm: int = names.BASES["dtcm"]
+    keys: str = scripts.NONE
+    held: List[Held] = field(default_factory=list)
+    dtcm: Optional[int] = None
     ticks: int = 0
-    frames: List[int] = field(default_factory=list)
-    places: List[Tuple[str, str]] = field(default_factory=list)
+    shots: Dict[Shot, bool] = field(default_factory=dict)
+    places: List[Asked] = field(default_factory=list)
     has_vertices: bool = False
     has_output: bool = False
     stop: Optional[Tuple[str, int]] = None
 
     @property
+    def stem(self) -> str:
+        """Returns the path without the ending, which other files of the test begin with."""
+        return self.path[: -len(ENDING)] if self.path.endswith(ENDING) else self.path
+
+    @property
     def kept_in(self) -> str:
-        return (self.path[: -len(ENDING)] if self.path.endswith(ENDING) else self.path) + KEPT
+        return self.stem + KEPT
+
+    def picture_of(self, shot: Shot) -> str:
+        """Returns the path of a picture that is kept."""
+        return f"{self.stem}.{shot.file}.png"
+
+    @property
+    def pictures(self) -> List[Shot]:
+        """Returns of which frames a picture is kept beside the sum."""
+        return [shot for shot, is_picture in self.shots.items() if is_picture]
+
+    @property
+    def frames(self) -> Set[int]:
+        return {it.number for it in self.shots}
 
     @property
     def last_frame(self) -> int:
@@ -52,42 +117,59 @@ class Test:
     def map(self) -> Map:
         return Map((Elf(self.elf9) if self.elf9 else None, Elf(self.elf7) if self.elf7 else None), self.dtcm)
 
-    def find(self, known: Map) -> List[Place]:
-        return [known.find(text, kind == "text") for kind, text in self.places]
+    def find(self, known: Map) -> List[Tuple[Asked, Place]]:
+        """Returns the places that are asked for; one that isn't known is named by its line."""
+        found = []
+        for it in self.places:
+            try:
+                found.append((it, known.find(it.text, it.kind == "text")))
+            except Untold as why:
+                raise Untold(f"{self.path}: line {it.line}: {why}") from None
+        return found
+
+    def script(self) -> "AbstractContextManager[str]":
+        """Gives the name of the key script's file as the program takes it, as long as it is used."""
+        return scripts.as_file(scripts.script_of(self.held)) if self.held else scripts.of_file(self.keys)
 
 
 class Lines:
     """Reads a test's lines one by one into the test; a wrong one is named by file and line."""
 
     def __init__(self, test: Test) -> None:
-        self.test, self.folder, self.seen = test, os.path.dirname(test.path), set()
+        self.test, self.folder, self.at = test, os.path.dirname(test.path), 0
+        self.seen: Set[str] = set()
 
     def file(self, name: str) -> str:
         return os.path.join(self.folder, name)
 
     def read(self, text: str) -> Test:
-        for at, line in enumerate(text.split("\n"), 1):
+        for self.at, line in enumerate(text.split("\n"), 1):
             try:
                 words = shlex.split(line, comments=True)
                 if words:
                     self.line(words)
             except ValueError as why:
-                raise Untold(f"{self.test.path}: line {at}: {why}") from None
+                raise Untold(f"{self.test.path}: line {self.at}: {why}") from None
         self.check()
         return self.test
 
     def line(self, words: List[str]) -> None:
-        """Takes one line; every first word but `keep` comes once."""
+        """Takes one line; some first words come once alone."""
         first, rest = words[0], words[1:]
-        readers = {"cart": 1, "elf9": 1, "elf7": 1, "keys": 1, "dtcm": 1, "frames": 1, "ticks": 1, "keep": None, "expect": None}
-        if first not in readers:
-            raise ValueError(f"no line begins with {first}; there are {', '.join(readers)}")
-        if readers[first] is not None and len(rest) != readers[first]:
-            raise ValueError(f"{first} takes one word")
-        if first != "keep" and first in self.seen:
+        if first not in ONCE and first not in OFTEN:
+            raise ValueError(f"no line begins with {first}{near(first, [*ONCE, *OFTEN])}; there are {', '.join([*ONCE, *OFTEN])}")
+        wanted = ONCE.get(first)
+        if wanted is not None and len(rest) != wanted:
+            raise ValueError(f"{first} takes one word" + (f", and {rest[1]} is one more" if rest else ""))
+        if first in ONCE and first in self.seen:
             raise ValueError(f"{first} stands twice")
         self.seen.add(first)
-        getattr(self, f"take_{first}", self.take_file)(*([first] if first in ("cart", "elf9", "elf7", "keys") else []), *rest)
+        if first in scripts.BY_FRAME:
+            self.test.held += scripts.held_of(rest)
+        elif first in ("cart", "elf9", "elf7", "keys"):
+            self.take_file(first, rest[0])
+        else:
+            getattr(self, f"take_{first}")(*rest)
 
     def take_file(self, first: str, name: str) -> None:
         setattr(self.test, first, name if (first, name) == ("keys", "none") else self.file(name))
@@ -102,21 +184,35 @@ class Lines:
         self.test.ticks = whole(text)
 
     def take_keep(self, kind: str = "", *rest: str) -> None:
-        if kind == "frame" and rest:
-            self.test.frames += [whole(it) for it in rest]
-        elif kind in ("peek", "text") and len(rest) == 1:
-            self.test.places.append((kind, rest[0]))
-        elif kind == "vertices" and not rest:
-            self.test.has_vertices = True
-        elif kind == "output" and not rest:
-            self.test.has_output = True
+        if kind not in KINDS_KEPT:
+            raise ValueError(f"keep {kind or 'alone'} is nothing that can be kept{near(kind, KINDS_KEPT)}; there are {', '.join(KINDS_KEPT)}")
+        if kind in ("vertices", "output"):
+            if rest:
+                raise ValueError(f"keep {kind} takes no further word, and {rest[0]} is one")
+            setattr(self.test, f"has_{kind}", True)
+        elif kind in ("frame", "picture"):
+            self.take_shots(kind == "picture", list(rest))
+        elif not rest:
+            raise ValueError(f"keep {kind} takes one or more places, as keep {kind} score")
         else:
-            raise ValueError("keep takes `frame N..`, `peek SYMBOL[:words]`, `text SYMBOL`, `vertices` or `output`")
+            self.test.places += [Asked(kind, it, self.at) for it in rest]
+
+    def take_shots(self, is_picture: bool, words: List[str]) -> None:
+        """Takes frames, and the screen that may stand behind them; a frame that is asked for twice is kept once, as a picture if either asks so."""
+        screen = words.pop() if words and words[-1] in SCREENS else "both"
+        if not words:
+            raise ValueError("it wants frames: a number from 1, or a first and a last as 10-80")
+        for word in words:
+            if span(word)[-1] > scripts.LAST_FRAME:
+                raise ValueError(f"{word}: no run goes past frame {scripts.LAST_FRAME}")
+            for it in span(word):
+                shot = Shot(it, screen)
+                self.test.shots[shot] = self.test.shots.get(shot, False) or is_picture
 
     def take_expect(self, how: str = "", *rest: str) -> None:
         if how == "stop" and len(rest) == 2:
             if rest[0] not in names.KINDS.values():
-                raise ValueError(f"there is no stop {rest[0]}; there are {', '.join(names.KINDS.values())}")
+                raise ValueError(f"there is no stop {rest[0]}{near(rest[0], names.KINDS.values())}; there are {', '.join(names.KINDS.values())}")
             self.test.stop = (rest[0], number(rest[1]))
         elif how != "done" or rest:
             raise ValueError("expect takes `done` or `stop KIND VALUE`")
@@ -128,15 +224,23 @@ class Lines:
             raise Untold(f"{path}: the line `cart GAME.nds` is missing")
         if ("frames" in self.seen) == ("ticks" in self.seen):
             raise Untold(f"{path}: it wants either `frames N` or `ticks N`")
+        if test.held and "keys" in self.seen:
+            raise Untold(f"{path}: keys are told by `keys {test.keys}` or by `press` and `hold`, and not by both")
         if not 1 <= test.ticks <= MOST_TICKS:
             raise Untold(f"{path}: it runs to tick {test.ticks}, and a run goes to 1 to {MOST_TICKS}")
-        late = [it for it in test.frames if it > test.last_frame]
-        if late:
-            raise Untold(f"{path}: frame {late[0]} isn't whole by tick {test.ticks}; `frames {late[0]}` runs that far")
+        late = max(test.frames, default=0)
+        if late > test.last_frame:
+            raise Untold(f"{path}: frame {late} isn't whole by tick {test.ticks}; `frames {late}` runs that far")
         if test.stop and test.places:
-            raise Untold(f"{path}: a run that stops writes no memories, so `keep {test.places[0][0]}` and `expect stop` don't go together")
-        if not (test.frames or test.places or test.has_vertices or test.has_output or test.stop):
+            raise Untold(f"{path}: a run that stops writes no memories, so `keep {test.places[0].kind}` and `expect stop` don't go together")
+        if not (test.shots or test.places or test.has_vertices or test.has_output or test.stop):
             raise Untold(f"{path}: it keeps nothing, so it would pass whatever the game does: add a line `keep ..`")
+
+
+def near(word: str, known: Iterable[str]) -> str:
+    """Returns a question whether a word that is there was meant, or nothing where none is alike."""
+    found = difflib.get_close_matches(word, list(known), 1)
+    return f" (is {found[0]} meant?)" if found else ""
 
 
 def whole(text: str) -> int:
@@ -144,6 +248,16 @@ def whole(text: str) -> int:
     if not (text.isascii() and text.isdigit()) or int(text) < 1:
         raise ValueError(f"{text} is no number from 1")
     return int(text)
+
+
+def test_of(path: str, **words: Optional[str]) -> Optional[Test]:
+    """Returns the test where a tool's word for a game names one; what it tells can't be told beside it."""
+    if not path.endswith(ENDING):
+        return None
+    for name, word in words.items():
+        if word and word != scripts.NONE:
+            raise Untold(f"--{name} {word}: {path} is a test, which tells that itself")
+    return read_test(path, path)
 
 
 def read_test(path: str, name: str) -> Test:
@@ -172,7 +286,38 @@ def found_in(words: List[str]) -> List[Tuple[str, str]]:
     return [(it, it[: -len(ENDING)] if it.endswith(ENDING) else it) for it in found]
 
 
+PICTURE = re.compile(r"(.+)\.(frame-\d{4,}(?:-upper|-lower)?)\.png")
+
+
+def stale(words: List[str]) -> List[Tuple[str, str]]:
+    """Returns the kept files in folders that no test asks for, each with why."""
+    folders = [it for it in words if os.path.isdir(it)]
+    inside = [os.path.join(at, it) for folder in folders for at, _, files in os.walk(folder) for it in sorted(files)]
+    found = []
+    for path in dict.fromkeys(map(os.path.normpath, inside)):
+        picture = PICTURE.fullmatch(path)
+        stem = picture[1] if picture else path[: -len(KEPT)] if path.endswith(KEPT) else ""
+        if picture and os.path.exists(stem + ENDING) and not keeps(stem, picture[2]):
+            found.append((path, f"{stem}{ENDING} keeps no such picture"))
+        elif stem and not os.path.exists(stem + ENDING) and (not picture or os.path.exists(stem + KEPT)):
+            found.append((path, f"there is no test {stem}{ENDING}"))
+    return found
+
+
+def keeps(stem: str, file: str) -> bool:
+    """Tells whether a test keeps the picture of that name; one that can't be read may."""
+    try:
+        return any(it.file == file for it in read_test(stem + ENDING, stem).pictures)
+    except (Untold, OSError):
+        return True
+
+
 Results = Dict[str, str]
+
+
+def sum_of(pixels: bytes) -> str:
+    """Returns what is kept of a frame's pixels."""
+    return f"sha256 {hashlib.sha256(pixels).hexdigest()}"
 
 
 def read_kept(path: str) -> Optional[Results]:

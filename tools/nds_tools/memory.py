@@ -1,6 +1,8 @@
 """Places: which byte of which memory an address or a symbol names, as the maps of both processors stand at boot (docs/MEMORY.md)."""
+import difflib
 import re
 from dataclasses import dataclass
+from functools import cached_property
 from typing import List, Optional, Tuple
 
 from nds_tools import names
@@ -31,15 +33,31 @@ class Place:
 
 @dataclass(frozen=True)
 class Map:
-    """What is known of a program: its symbols, by processor, and where DTCM lies, which an output doesn't tell."""
+    """What is known of a program: its symbols, by processor, and where DTCM lies, where somebody says so; an output doesn't tell."""
 
     elves: Tuple[Optional[Elf], Optional[Elf]] = (None, None)
-    dtcm: int = names.BASES["dtcm"]
+    dtcm: Optional[int] = None
+
+    @cached_property
+    def linked_dtcm(self) -> Optional[int]:
+        """Where ARM9's ELF file has DTCM."""
+        return self.elves[0].dtcm() if self.elves[0] else None
+
+    @cached_property
+    def dtcm_base(self) -> int:
+        """Where DTCM lies: as was said, or as ARM9's ELF file has it, or else as it is at boot."""
+        told = self.linked_dtcm if self.dtcm is None else self.dtcm
+        return names.BASES["dtcm"] if told is None else told
+
+    @property
+    def is_dtcm_assumed(self) -> bool:
+        """Whether nothing tells where DTCM lies."""
+        return self.dtcm is None and self.linked_dtcm is None
 
     def place_of(self, proc: int, address: int) -> Tuple[str, int]:
         """Returns memory and offset of an address of ARM9 (0) or ARM7 (1)."""
-        if proc == 0 and self.dtcm <= address < self.dtcm + names.SIZES["dtcm"]:
-            return "dtcm", address - self.dtcm
+        if proc == 0 and self.dtcm_base <= address < self.dtcm_base + names.SIZES["dtcm"]:
+            return "dtcm", address - self.dtcm_base
         if proc == 0 and 0x0680_0000 <= address <= 0x06FF_FFFF:
             if address % 0x10_0000 < names.SIZES["vram"]:
                 return "vram", address % 0x10_0000
@@ -49,9 +67,24 @@ class Map:
         more = ", since an output doesn't hold the banks' controls: give 0x6800000 and on, or @vram+OFFSET" if 0x0600_0000 <= address < 0x0680_0000 else ""
         raise Untold(f"no memory is known at 0x{address:08x} of {names.PROCESSORS[proc]}{more}")
 
+    def word_at(self, proc: int, address: int, record: Memory, size: int = 4) -> Optional[int]:
+        """Returns the word, or `size` bytes as a number, that a processor has at an address; None where no memory is known there."""
+        try:
+            memory, at = self.place_of(proc, address)
+        except Untold:
+            return None
+        content = record.memories[memory][at : at + size]
+        return int.from_bytes(content, "little") if len(content) == size else None
+
+    def named(self, proc: int, address: int) -> str:
+        """Returns an address, and in brackets the symbol of the processor's program that it belongs to."""
+        elf = self.elves[proc]
+        found = elf.near(address) if elf else ""
+        return f"{address:08x}{f' ({found})' if found else ''}"
+
     def show(self, memory: str, offset: int) -> str:
         """Returns the usual address of a place, and the symbol that it belongs to."""
-        address = (self.dtcm if memory == "dtcm" else names.BASES[memory]) + offset
+        address = (self.dtcm_base if memory == "dtcm" else names.BASES[memory]) + offset
         found = ""
         for elf in self.elves:
             found = found or (elf.near(address) if elf and memory not in ("palette", "vram", "oam") else "")
@@ -90,7 +123,14 @@ class Map:
             if found:
                 return (*self.place_of(which, found.address), found.size)
         known = [f"elf{'97'[it]} {elf.name}" for it, elf in enumerate(self.elves) if elf]
-        raise Untold(f"no symbol {base} is known{': ' + ' and '.join(known) + ' has none' if known else ', since no ELF file was given'}")
+        why = f": {' and '.join(known)} {'has' if len(known) == 1 else 'have'} none{self.alike(base)}" if known else ", since no ELF file was given"
+        raise Untold(f"no symbol {base} is known{why}")
+
+    def alike(self, name: str) -> str:
+        """Returns a question whether a symbol that is there was meant, or nothing where none is alike."""
+        every = {it.name for elf in self.elves if elf for it in elf.symbols}
+        found = difflib.get_close_matches(name, sorted(every), 3)
+        return f"; is {' or '.join(found)} meant?" if found else ""
 
 
 def shown(content: bytes) -> str:

@@ -53,6 +53,42 @@ KINDS: Dict[int, str] = {
     11: "ExtendedBackground",
     12: "BitmapObject",
 }
+
+# The functions of the console's boot ROMs by number (GBATEK, "BIOS Functions"): the name, and whether ARM9's and ARM7's ROM has it. The stub has
+# those of STUB_FUNCTIONS; a `swi` with another number stops the run.
+BOTH, NINE_ALONE, SEVEN_ALONE = "97", "9", "7"
+FUNCTIONS: Dict[int, Tuple[str, str]] = {
+    0x00: ("SoftReset", BOTH),
+    0x03: ("WaitByLoop", BOTH),
+    0x04: ("IntrWait", BOTH),
+    0x05: ("VBlankIntrWait", BOTH),
+    0x06: ("Halt", BOTH),
+    0x07: ("Sleep", SEVEN_ALONE),
+    0x08: ("SoundBias", SEVEN_ALONE),
+    0x09: ("Div", BOTH),
+    0x0B: ("CpuSet", BOTH),
+    0x0C: ("CpuFastSet", BOTH),
+    0x0D: ("Sqrt", BOTH),
+    0x0E: ("GetCRC16", BOTH),
+    0x0F: ("IsDebugger", BOTH),
+    0x10: ("BitUnPack", BOTH),
+    0x11: ("LZ77UnCompReadNormalWrite8bit", BOTH),
+    0x12: ("LZ77UnCompReadByCallbackWrite16bit", BOTH),
+    0x13: ("HuffUnCompReadByCallback", BOTH),
+    0x14: ("RLUnCompReadNormalWrite8bit", BOTH),
+    0x15: ("RLUnCompReadByCallbackWrite16bit", BOTH),
+    0x16: ("Diff8bitUnFilterWrite8bit", NINE_ALONE),
+    0x18: ("Diff16bitUnFilter", NINE_ALONE),
+    0x1A: ("GetSineTable", SEVEN_ALONE),
+    0x1B: ("GetPitchTable", SEVEN_ALONE),
+    0x1C: ("GetVolumeTable", SEVEN_ALONE),
+    0x1D: ("GetBootProcs", SEVEN_ALONE),
+}
+STUB_FUNCTIONS = (0x03, 0x04, 0x05, 0x06, 0x09, 0x0B)
+# (one number, and a function of its own on each processor)
+LAST_FUNCTION = {"9": "CustomPost", "7": "CustomHalt"}
+# Numbers that no boot ROM has, and what a game's own tests mean by them (docs/COMING_FROM.md).
+OWN_NUMBERS = {0x55: "an early end", 0xAA: "a failed assertion"}
 COUNTS = ("ticks", "steps9", "steps7", "events", "turns")
 
 
@@ -68,6 +104,17 @@ def actor(rank: int) -> str:
 def kind(code: int) -> str:
     """Returns the name of a kind of stop."""
     return KINDS.get(code, f"kind {code}")
+
+
+def function(number: int, rank: int) -> str:
+    """Returns the name of the boot ROM's function of a `swi` of ARM9 (rank 22) or ARM7 (23), or what a game means by a number of its own."""
+    proc = "7" if rank == 23 else "9"
+    if number == 0x1F:
+        return LAST_FUNCTION[proc]
+    name, where = FUNCTIONS.get(number, ("", BOTH))
+    if name and proc not in where:
+        return f"{name}, which ARM{where}'s boot ROM alone has"
+    return name or OWN_NUMBERS.get(number, "which no boot ROM has")
 
 
 def frame_number(tick: int) -> int:

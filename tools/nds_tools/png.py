@@ -35,8 +35,17 @@ def chunk(kind: bytes, content: bytes) -> bytes:
     return struct.pack(">I", len(content)) + kind + content + struct.pack(">I", zlib.crc32(kind + content))
 
 
-def encoded(content: bytes, scale: int = 1, paint: Optional[Callable[[int, int], bytes]] = None) -> bytes:
-    """Returns a PNG of rows of 256 pixels, each pixel `scale` wide and high; `paint` gives a pixel's colour by place and value."""
+SIGNATURE = b"\x89PNG\r\n\x1a\n"
+Paint = Callable[[int, int], bytes]
+
+
+def header(height: int, scale: int = 1) -> bytes:
+    """Returns the part that tells the size: 256 pixels wide, `height` high, each pixel `scale` wide and high, with three channels of eight bits."""
+    return chunk(b"IHDR", struct.pack(">2I5B", WIDTH * scale, height * scale, 8, 2, 0, 0, 0))
+
+
+def compressed(content: bytes, scale: int = 1, paint: Optional[Paint] = None) -> bytes:
+    """Returns the packed rows of 256 pixels, each pixel `scale` wide and high; `paint` gives a pixel's colour by place and value."""
     table, pixels, rows = colours(), pixels_of(content), []
     for at in range(0, len(pixels), WIDTH):
         if paint:
@@ -46,12 +55,16 @@ def encoded(content: bytes, scale: int = 1, paint: Optional[Callable[[int, int],
         else:
             row = b"".join([table[it & 0x7FFF] * scale for it in pixels[at : at + WIDTH]])
         rows.append((b"\0" + row) * scale)
-    head = struct.pack(">2I5B", WIDTH * scale, len(pixels) // WIDTH * scale, 8, 2, 0, 0, 0)
-    body = zlib.compress(b"".join(rows), 6)
-    return b"\x89PNG\r\n\x1a\n" + chunk(b"IHDR", head) + chunk(b"IDAT", body) + chunk(b"IEND", b"")
+    return zlib.compress(b"".join(rows), 6)
 
 
-def write(folder: str, name: str, content: bytes, scale: int = 1, paint: Optional[Callable[[int, int], bytes]] = None) -> str:
+def encoded(content: bytes, scale: int = 1, paint: Optional[Paint] = None) -> bytes:
+    """Returns a PNG of rows of 256 pixels, as `compressed` takes them."""
+    body = chunk(b"IDAT", compressed(content, scale, paint)) + chunk(b"IEND", b"")
+    return SIGNATURE + header(len(content) // (2 * WIDTH), scale) + body
+
+
+def write(folder: str, name: str, content: bytes, scale: int = 1, paint: Optional[Paint] = None) -> str:
     """Writes a picture into a folder, which is made where it isn't there, and returns its path."""
     os.makedirs(folder, exist_ok=True)
     path = os.path.join(folder, name)

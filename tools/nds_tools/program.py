@@ -8,6 +8,10 @@ from nds_tools.words import Untold
 
 TOP = os.path.dirname(os.path.dirname(os.path.dirname(os.path.realpath(__file__))))
 DONE, LEFT_OUT = 0, 9
+# What the wrapper tells before each run of a program that isn't proved.
+UNPROVED = "nds: NOT PROVED"
+# What a program for Linux begins with; the wrapper is a script.
+PROGRAM = b"\x7fELF"
 
 
 def named(given: Optional[str]) -> Optional[str]:
@@ -21,20 +25,31 @@ def named(given: Optional[str]) -> Optional[str]:
     return None
 
 
+def beside() -> Optional[str]:
+    """Returns the program that lies beside the folder tools, as where both were copied, or None where the wrapper lies there."""
+    path = os.path.join(TOP, "nds")
+    if not os.access(path, os.X_OK):
+        return None
+    with open(path, "rb") as it:
+        return path if it.read(len(PROGRAM)) == PROGRAM else None
+
+
 def program(given: Optional[str]) -> str:
-    """Returns the program to run: the one that is named, or the wrapper `nds` of this repository."""
+    """Returns the program to run: the one that is named, or the one beside the tools, which may be the wrapper."""
     return named(given) or os.path.join(TOP, "nds")
 
 
 def ready(given: Optional[str]) -> str:
-    """As `program`, but where it is the wrapper, lets it build first, so that a run's time is the run's alone."""
-    found = named(given)
+    """As `program`, but where it is the wrapper, lets it build first, so that a run's time is the run's alone. With NDS_UNPROVED it is the
+    program that isn't proved, as long as the proved one isn't there; the wrapper tells so at each use."""
+    found = named(given) or beside()
     if found:
         return found
-    ran = subprocess.run([program(None), "asm", os.path.join(TOP, "examples", "loop.arm9.txt")], stdout=subprocess.DEVNULL, stdin=subprocess.DEVNULL)
+    wrapper = os.path.join(TOP, "nds")
+    ran = subprocess.run([wrapper, "asm", os.path.join(TOP, "examples", "loop.arm9.txt")], stdout=subprocess.DEVNULL, stdin=subprocess.DEVNULL)
     if ran.returncode:
         raise Untold("the program nds isn't there; --nds or NDS_PROGRAM names one that was built")
-    return os.path.join(TOP, "out", "nds")
+    return wrapper if os.environ.get("NDS_UNPROVED") else os.path.join(TOP, "out", "nds")
 
 
 def words_of_run(cart: str, keys: str, ticks: int, keep: str) -> Tuple[str, ...]:
@@ -55,6 +70,19 @@ def start(found: str, *words: str) -> "subprocess.Popen[bytes]":
         raise Untold(f"{found} can't be run: {why.strerror}") from None
 
 
+def finished(found: str, timeout: float, *words: str) -> Tuple[int, bytes, bytes]:
+    """Runs the program to its end, and returns its status, its output and its note; one that takes too long can't be judged."""
+    run = start(found, *words)
+    try:
+        out, note = run.communicate(timeout=timeout)
+    except subprocess.TimeoutExpired:
+        raise Untold(f"the run took more than {timeout:g} seconds") from None
+    finally:
+        run.kill()
+        run.communicate()
+    return run.returncode, out, note
+
+
 def assembled(found: str, listing: str) -> bytes:
     """Returns the bytes that a listing stands for."""
     run = start(found, "asm", plain(listing))
@@ -67,7 +95,7 @@ def assembled(found: str, listing: str) -> bytes:
 def said(note: bytes, status: int) -> str:
     """Returns the last line of a note, or the status where there is none."""
     lines = note.decode("utf-8", "replace").split("\n")
-    text = [it.strip() for it in lines if it.strip()]
+    text = [it.strip() for it in lines if it.strip() and not it.startswith(UNPROVED)]
     return text[-1] if text else f"nds ended with status {status} and no note"
 
 

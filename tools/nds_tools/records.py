@@ -105,7 +105,8 @@ class Stop:
     value: int
 
     def __str__(self) -> str:
-        return f"{names.kind(self.kind)} 0x{self.value:08x} at tick {self.tick} by {names.actor(self.rank)}"
+        meant = f" ({names.function(self.value, self.rank)})" if names.kind(self.kind) == "Swi" else ""
+        return f"{names.kind(self.kind)} 0x{self.value:08x}{meant} at tick {self.tick} by {names.actor(self.rank)}"
 
 
 Record = Union[Frame, Lists, Memory, End, Stop]

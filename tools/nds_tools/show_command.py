@@ -2,36 +2,50 @@
 
     tools/nds-show OUTPUT [--elf9 F] [--elf7 F] [--all] [PLACE..]
     tools/nds-show OUTPUT --cart GAME.nds [--keys F] [--elf9 F] [--elf7 F] [PLACE..]
+    tools/nds-show GAME.nds --frame N|--ticks N [--keys F] [--elf9 F] [--elf7 F] [--all] [PLACE..]
+    tools/nds-show NAME.test [--frame N|--ticks N] [--all] [PLACE..]
 
   OUTPUT      what `nds run` wrote; `-` is standard input
+  GAME.nds    with --frame or --ticks, a cartridge, which is run until N frames are whole, as by `frames N` in a test, or to a tick. Where
+              that run stops, it is shown as it is at the tick of the stop
+  NAME.test   a test of nds-test, of which cartridge, keys, ELF files and, where nothing is said, the last tick are taken
   PLACE       words to show: [9:|7:]ADDRESS, [9:|7:]SYMBOL or @MEMORY, then +BYTES and :WORDS where you like, as score, score:4,
               0x2001000:8, 7:counter, @vram+0x40:2. A symbol is as long as the ELF file says, otherwise a word. Memories are
               main, wram, wram7, itcm, dtcm, palette, vram and oam
   --elf9 F, --elf7 F   the ELF files of both programs, for their symbols
   --text      shows places as text, up to the first zero
   --all       all 37 registers, those of every mode too
-  --dtcm A    where the program put DTCM; 0x3000000 where it left it
-  --cart C, --keys F   where the output ends in a stop: runs that cartridge, with that key script, to the tick of the stop, and
-              shows that run. Without --cart the command that does so is told
+  --dtcm A    where the program put DTCM; left out, as ARM9's ELF file has it (the symbol __dtcm_start, or a section with dtcm in its
+              name), and otherwise it is assumed where it is at boot, at 0x3000000, which is said where a place lies in it
+  --keys F    a key script, keys by frame, or a recording (.dsm)
+  --cart C    where the output ends in a stop: runs that cartridge, with --keys, to the tick of the stop, and shows that run. Without it
+              the command that does so is told
   --nds PATH  the program to run; left out, that of NDS_PROGRAM, or this repository's nds
 
 Ends with 0, and with 2 where that can't be told: the output ends in a stop and there is no cartridge to run to it, or is none of a run; a
 place, a symbol or a file isn't there. docs/BOOT_ROM.md tells more of hangs."""
+import argparse
 import io
 import shlex
 from dataclasses import dataclass
 from typing import Iterable, List, Optional, Tuple
 
-from nds_tools import names
+from nds_tools import names, scripts
 from nds_tools.elf import Elf
-from nds_tools.hangs import STUB, waiting
+from nds_tools.game_tests import MOST_TICKS, Test, test_of
+from nds_tools.hangs import waiting, where
 from nds_tools.memory import Map, shown, text_in
-from nds_tools.program import DONE, program, ready, said, start, words_of_run
+from nds_tools.program import DONE, LEFT_OUT, finished, program, ready, said, words_of_run
 from nds_tools.records import End, Memory, Reader, Record, Stop, records_of
-from nds_tools.words import GOOD, Untold, Words, number
+from nds_tools.words import GOOD, Untold, Words, count_from, number
 
 TOOL = "nds-show"
-USAGE = "tools/nds-show OUTPUT [--elf9 F] [--elf7 F] [--all] [--text] [--dtcm A] [--cart C [--keys F]] [--nds PATH] [PLACE..]"
+USAGE = """tools/nds-show OUTPUT|GAME.nds|NAME.test [--frame N|--ticks N] [--keys F] [--cart C] [--elf9 F] [--elf7 F] [--all] [--text]
+                      [--dtcm A] [--nds PATH] [PLACE..]"""
+
+
+# How long a run may take.
+SECONDS = 600.0
 
 
 @dataclass(frozen=True)
@@ -56,19 +70,10 @@ def ending(records: Iterable[Record]) -> Ending:
 def map_of(elf9: Optional[str], elf7: Optional[str], dtcm: Optional[str]) -> Map:
     """Returns what is known of a program by its ELF files and its DTCM's base."""
     try:
-        base = names.BASES["dtcm"] if dtcm is None else number(dtcm)
+        base = None if dtcm is None else number(dtcm)
     except ValueError:
         raise Untold(f"--dtcm {dtcm}: it wants an address") from None
     return Map((Elf(elf9) if elf9 else None, Elf(elf7) if elf7 else None), base)
-
-
-def where(proc: int, address: int, known: Map) -> str:
-    """Returns an address and the symbol or the part of the stub that it belongs to."""
-    elf = known.elves[proc]
-    found = elf.near(address) if elf else ""
-    if 0 <= address - STUB[proc] < 0x1000:
-        found = f"boot ROM {address - STUB[proc]:03x}h"
-    return f"{address:08x}{f' ({found})' if found else ''}"
 
 
 def processor(proc: int, record: Memory, known: Map, is_whole: bool) -> List[str]:
@@ -80,9 +85,7 @@ def processor(proc: int, record: Memory, known: Map, is_whole: bool) -> List[str
     interrupts = "masked" if cpsr & 0x80 else "let through"
     lines = [f"{names.PROCESSORS[proc]}  {mode} mode, {state} state, interrupts {interrupts}, cpsr {cpsr:08x}"]
     lines.append(f"  r15 {where(proc, registers['r15'], known)}  r14 {where(proc, registers['r14' + bank], known)}")
-    hang = waiting(proc, record, known)
-    if hang:
-        lines.append(f"  {hang}")
+    lines += [f"  {it}" for it in waiting(proc, record, known)]
     if is_whole:
         shown_names = names.REGISTERS
     else:
@@ -99,7 +102,8 @@ def places(record: Memory, known: Map, asked: List[str], is_text: bool) -> List[
     lines = []
     for place in [known.find(it) for it in asked]:
         content = place.bytes_in(record)
-        lines.append(f"{place.name}  {known.show(place.memory, place.offset)}")
+        assumed = f"  (DTCM is assumed at 0x{known.dtcm_base:07x}; --dtcm tells)" if place.memory == "dtcm" and known.is_dtcm_assumed else ""
+        lines.append(f"{place.name}  {known.show(place.memory, place.offset)}{assumed}")
         if is_text:
             lines.append(f"  {text_in(content)}")
         for at in [] if is_text else range(0, len(content), 32):
@@ -111,41 +115,93 @@ def places(record: Memory, known: Map, asked: List[str], is_text: bool) -> List[
 
 def run_to(stop: Stop, cart: Optional[str], keys: str, nds: Optional[str]) -> Tuple[List[str], Optional[Ending]]:
     """Runs to the tick of a stop where there is a cartridge, and otherwise tells the command that does so."""
-    ticks = max(stop.tick, 1)
-    words = words_of_run(cart or "GAME.nds", keys, ticks, "none")
+    words = words_of_run(cart or "GAME.nds", keys, max(stop.tick, 1), "none")
     command = " ".join(map(shlex.quote, (program(nds) if nds else "./nds", *words)))
     lines = [f"stopped: {stop} (rank {stop.rank})"]
     if stop.tick == 0:
         return lines + ["  at its first step: r15 is the entry"], None
     if cart is None:
         return lines + [f"  this runs to that tick, before the step: {command} >stopped.out"], None
-    run = start(ready(nds), *words)
-    out, note = run.communicate()
-    if run.returncode != DONE:
-        raise Untold(f"{command}: {said(note, run.returncode)}")
-    whole = ending(Reader(io.BytesIO(out), "the run"))
-    return lines + [f"  as it is at that tick, before the step ({command}):"], whole
+    with scripts.of_file(keys) as script:
+        return lines + [f"  as it is at that tick, before the step ({command}):"], Run(ready(nds), cart, script, keys).to(stop.tick)
 
 
-def main() -> int:
+@dataclass(frozen=True)
+class Run:
+    """A cartridge with its key script's file, as the program takes it and as it was given, and the program that runs it."""
+
+    nds: str
+    cart: str
+    script: str
+    keys: str
+
+    def to(self, ticks: int) -> Ending:
+        """Runs to a tick, and returns how that ends."""
+        status, out, note = finished(self.nds, SECONDS, *words_of_run(self.cart, self.script, ticks, "none"))
+        if status not in (DONE, LEFT_OUT):
+            raise Untold(scripts.explained(said(note, status), self.keys))
+        return ending(Reader(io.BytesIO(out), "the run"))
+
+    def shown_to(self, ticks: int) -> Ending:
+        """Runs to a tick, and where the run stops before, tells so and runs to the tick of the stop."""
+        found = self.to(ticks)
+        if not found.stop:
+            return found
+        print(f"stopped: {found.stop} (rank {found.stop.rank})", flush=True)
+        if found.stop.tick == 0:
+            raise Untold(f"it stopped at its first step, and r15 is the entry: {found.stop}")
+        print("  as it is at that tick, before the step:")
+        return self.to(found.stop.tick)
+
+
+def of_output(given: argparse.Namespace) -> Ending:
+    """Returns how an output ends; where that is a stop, how the run to its tick ends."""
+    found = ending(records_of(given.output))
+    if not found.stop:
+        return found
+    lines, run = run_to(found.stop, given.cart, given.keys, given.nds)
+    print("\n".join(lines), flush=True)
+    if run is None:
+        raise Untold(f"the run stopped, so there are no memories and registers to show: {found.stop}")
+    return run
+
+
+def of_game(given: argparse.Namespace, test: Optional[Test]) -> Ending:
+    """Runs a cartridge, or a test's, and returns how that ends."""
+    asked = given.ticks or (names.ticks_of_frames(given.frame) if given.frame else 0)
+    ticks = asked or (test.ticks if test else 0)
+    if ticks > MOST_TICKS:
+        raise Untold(f"it would run to tick {ticks}, and a run goes to {MOST_TICKS}")
+    cart, keys = (test.cart, test.keys) if test else (given.output, given.keys)
+    with test.script() if test else scripts.of_file(keys) as script:
+        return Run(ready(given.nds), cart, script, keys).shown_to(ticks)
+
+
+def read_words() -> argparse.Namespace:
     words = Words(TOOL, USAGE, __doc__ or "")
     words.add_argument("output")
     words.add_argument("places", nargs="*")
     for name in ("--elf9", "--elf7", "--dtcm", "--cart", "--nds"):
         words.add_argument(name)
-    words.add_argument("--keys", default="none")
+    words.add_argument("--keys", default=scripts.NONE)
+    words.add_argument("--frame", type=count_from(1, int))
+    words.add_argument("--ticks", type=count_from(1, int))
     words.add_argument("--all", action="store_true")
     words.add_argument("--text", action="store_true")
     given = words.read()
-    known = map_of(given.elf9, given.elf7, given.dtcm)
+    if given.frame and given.ticks:
+        raise Untold("--frame and --ticks don't go together")
+    if given.cart and (given.frame or given.ticks):
+        raise Untold(f"--cart {given.cart} is for an output that stopped: with {'--frame' if given.frame else '--ticks'} the cartridge stands in its place")
+    return given
+
+
+def main() -> int:
+    given = read_words()
+    test = test_of(given.output, elf9=given.elf9, elf7=given.elf7, dtcm=given.dtcm, cart=given.cart, keys=given.keys)
+    known = test.map() if test else map_of(given.elf9, given.elf7, given.dtcm)
     asked = [known.find(it).name for it in given.places]
-    found = ending(records_of(given.output))
-    if found.stop:
-        lines, run = run_to(found.stop, given.cart, given.keys, given.nds)
-        print("\n".join(lines), flush=True)
-        if run is None:
-            raise Untold(f"the run stopped, so there are no memories and registers to show: {found.stop}")
-        found = run
+    found = of_game(given, test) if test or given.frame or given.ticks else of_output(given)
     if not found.memory or not found.end:
         raise Untold("the output has no memories")
     print(f"tick {found.end.ticks}, {found.end.ticks / names.SECOND:.3f} s; steps of ARM9 {found.end.steps9}, of ARM7 {found.end.steps7}")

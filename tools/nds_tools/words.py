@@ -74,6 +74,21 @@ def bytes_of(name: str) -> bytes:
         return it.read()
 
 
+def count_from(least: float, kind: Callable[[str], float]) -> Callable[[str], float]:
+    """Returns what reads an option's word that is a number, not below the least one."""
+
+    def read(text: str) -> float:
+        try:
+            value = kind(text)
+        except ValueError:
+            value = least - 1
+        if not value >= least:
+            raise argparse.ArgumentTypeError(f"{text} is no {'whole ' if kind is int else ''}number from {least:g}")
+        return value
+
+    return read
+
+
 def number(text: str) -> int:
     """Reads a number: decimal, or hexadecimal after 0x or before h."""
     low = text.lower().replace("_", "")

@@ -66,21 +66,25 @@ def stop(tick=44, rank=22, kind=2, value=14):
 
 
 def elf(segments, symbols=(), entry=0x2000000, kind=2, machine=40, sections=()):
-    """Returns an ELF file: segments as (address, load address, bytes, size), symbols as (name, address, size, info), sections of code
-    as (address, size)."""
+    """Returns an ELF file: segments as (address, load address, bytes, size), symbols as (name, address, size, info) and a section's number, from 3
+    for the first of the sections, which are given as (address, size) and a name; they are code's, where the name doesn't begin with a dot."""
     body, heads, at = b"", b"", 52 + 32 * len(segments)
     for address, load, content, size in segments:
         heads += struct.pack("<8I", 1, at + len(body), address, load, len(content), size, 5, 4)
         body += content
     texts, table = b"\0", bytes(16)
-    for name, address, size, info in symbols:
-        table += struct.pack("<3I2BH", len(texts), address, size, info, 0, 1)
+    for name, address, size, info, *home in symbols:
+        table += struct.pack("<3I2BH", len(texts), address, size, info, 0, *(home or [1]))
         texts += name.encode() + b"\0"
+    heads_of = []
+    for address, size, *name in sections:
+        heads_of.append((len(texts) if name else 0, 1, 2 if name and name[0].startswith(".") else 6, address, 0, size, 0, 0, 4, 0))
+        texts += name[0].encode() + b"\0" if name else b""
     texts_at, table_at = at + len(body), at + len(body) + len(texts)
     rows = [(0,) * 10, (0, 3, 0, 0, texts_at, len(texts), 0, 0, 1, 0), (0, 2, 0, 0, table_at, len(table), 1, 0, 4, 16)]
-    rows += [(0, 1, 6, address, 0, size, 0, 0, 4, 0) for address, size in sections]
+    rows += heads_of
     named = b"".join(struct.pack("<10I", *it) for it in rows)
-    head = b"\x7fELF\1\1\1" + bytes(9) + struct.pack("<2H5I6H", kind, machine, 1, entry, 52, table_at + len(table), 0, 52, 32, len(segments), 40, len(rows), 0)
+    head = b"\x7fELF\1\1\1" + bytes(9) + struct.pack("<2H5I6H", kind, machine, 1, entry, 52, table_at + len(table), 0, 52, 32, len(segments), 40, len(rows), 1)
     return head + heads + body + texts + table + named
 
 

@@ -9,57 +9,11 @@ import struct
 import subprocess
 import unittest
 
+from built import CLANG, PROGRAM, Built, has_compiler
 from made import TOOLS, TOP, Room, picture, stop
 
-CLANG = "14.0.6"
-MODULES = {"make-cart": "cart_command", "nds-test": "games_command", "nds-show": "show_command", "nds-frames": "frames_command", "nds-diff": "diff_command"}
 
-
-def program():
-    """Returns the built program's path, or None; one that NDS_PROGRAM names has to be there."""
-    if os.environ.get("NDS_PROGRAM"):
-        return os.path.abspath(os.environ["NDS_PROGRAM"])
-    built = [it for it in (f"{TOP}/out/nds", f"{TOP}/crates/nds/out/nds") if os.access(it, os.X_OK)]
-    return built[0] if built else None
-
-
-PROGRAM = program()
-
-
-def has_compiler():
-    """Tells whether the compiler is here that built what is committed."""
-    if not (shutil.which("clang") and shutil.which("ld.lld") and shutil.which("make")):
-        return False
-    return CLANG in subprocess.run(["clang", "--version"], capture_output=True, text=True).stdout
-
-
-@unittest.skipUnless(PROGRAM, "no program nds is built; NDS_PROGRAM names one")
-class Examples(Room):
-    def tool(self, name, *words, status=0, given=b""):
-        """Runs a tool with the built program; returns its output."""
-        self.TOOL, self.MODULE = name, MODULES[name]
-        ran = self.run_it(*words, given=given, NDS_PROGRAM=PROGRAM)
-        self.assertEqual(ran[0], status, ran[1][-2000:] + ran[2])
-        return ran[1]
-
-    def run_of(self, *words, status=0):
-        """Runs the program in the examples' folder; returns its output."""
-        ran = subprocess.run([PROGRAM, *words], cwd=f"{TOP}/examples", capture_output=True, timeout=60)
-        self.assertEqual(ran.returncode, status, ran.stderr)
-        return ran.stdout
-
-    def copied(self, name, *edits):
-        """Copies an example, edits a file of it by (file, old, new), and builds it."""
-        shutil.copytree(f"{TOP}/examples/{name}", f"{self.room}/{name}")
-        for file, old, new in edits:
-            with open(f"{self.room}/{name}/{file}") as it:
-                text = it.read()
-            self.assertEqual(text.count(old), 1, old)
-            self.put(f"{name}/{file}", text.replace(old, new))
-        words = ["make", "-s", "-B", f"TOOLS={TOOLS}"]
-        ran = subprocess.run(words, cwd=f"{self.room}/{name}", capture_output=True, text=True, timeout=60)
-        self.assertEqual(ran.returncode, 0, ran.stderr)
-
+class Examples(Built):
     def test_the_games_tests_pass(self):
         said = self.tool("nds-test", f"{TOP}/examples/c-game/tests", f"{TOP}/examples/scene/tests")
         self.assertRegex(said, r"\n(\d+) tests: \1 PASS\n$")
@@ -87,8 +41,14 @@ class Examples(Room):
     def test_an_edit_that_changes_a_result_is_named(self):
         self.copied("c-game", ("game.c", "score++", "score += 2"), ("game.c", "PALETTE[0] = 0x2108;", "PALETTE[0] = 0x2109;"))
         said = self.tool("nds-test", "c-game/tests", status=1)
-        self.assertIn("FAIL    c-game/tests/coin: frame 90 changed: nds-test-out/c-game.tests.coin.frame-0090.png; score was 00000001, is 00000002; ", said)
-        self.assertEqual(picture(f"{self.room}/nds-test-out/c-game.tests.coin.frame-0090.png")[:2], (256, 384))
+        path = "nds-test-out/c-game.tests.coin.frame-0090-actual.png"
+        self.assertIn(f'FAIL    c-game/tests/coin: score was 00000001, is 00000002; message was "coins 1", is "coins 2"; frame 90 changed: {path}\n', said)
+        self.assertEqual(picture(f"{self.room}/{path}")[:2], (256, 384))
+
+    @unittest.skipUnless(shutil.which("arm-none-eabi-gcc") and shutil.which("make"), "arm-none-eabi-gcc and make aren't here")
+    def test_gnus_compiler_builds_a_game_that_passes_the_same_tests(self):
+        self.copied("c-game", words=["CC=arm-none-eabi-gcc"])
+        self.assertIn("3 tests: 3 PASS", self.tool("nds-test", "c-game/tests"))
 
     def test_the_listing_of_the_scene(self):
         with open(f"{TOP}/examples/scene/scene.arm9.txt", "rb") as it:
@@ -121,10 +81,10 @@ class Examples(Room):
 
     def test_a_stop_is_shown_by_a_run_to_its_tick(self):
         code = self.put("stop.bin", struct.pack("<3I", 0xE1A00000, 0xEF0E0000, 0xEAFFFFFE))
-        self.tool("make-cart", "--arm9", code, "-o", "stop.nds")
+        self.tool("make-cart", "--arm9", code, "--flat", "-o", "stop.nds")
         self.put("stop.out", self.run_of("run", f"{self.room}/stop.nds", "none", "100", "none", status=9))
         said = self.tool("nds-show", "stop.out", "--cart", "stop.nds")
-        self.assertIn("stopped: Swi 0x0000000e at tick 1 by ARM9 (rank 22)", said)
+        self.assertIn("stopped: Swi 0x0000000e (GetCRC16) at tick 1 by ARM9 (rank 22)", said)
         self.assertIn("ARM9  System mode, ARM state, interrupts masked, cpsr 000000df\n  r15 02000004", said)
 
     def test_the_way_of_the_document_from_c_to_a_test(self):

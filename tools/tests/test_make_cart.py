@@ -25,7 +25,7 @@ class MakeCart(Room):
 
     def test_flat_bytes_go_to_their_address_and_arm7_halts_where_it_has_none(self):
         code = self.put("code.bin", BRANCH + b"\1\2\3")
-        heads, images, whole = self.made("--arm9", code, "--title", "HELLO")
+        heads, images, whole = self.made("--arm9", code, "--flat", "--title", "HELLO")
         self.assertEqual(heads, [(0x2000000, 0x2000000, 8), (0x3800000, 0x3800000, 16)])
         self.assertEqual(images[0], BRANCH + b"\1\2\3\0")
         self.assertEqual(struct.unpack("<4I", images[1]), (0xE3A00301, 0xE3A01080, 0xE5C01301, 0xEAFFFFFE))
@@ -82,19 +82,19 @@ class MakeCart(Room):
             (("--arm9", f"{code}@0x2000000,0x2000001"), 1, "Arm9Entry 0x02000001: a Thumb entry"),
             (("--arm9", f"{code}@0x2000000,0x3000000"), 1, "Arm9Entry 0x03000000: it has to be a multiple of 4"),
             (("--arm9", f"{code}@0x2000000,0x2000010"), 1, "Arm9Entry 0x02000010: it isn't in the image"),
-            (("--arm9", big), 1, "4194305 bytes, and an image has at most 4194304"),
-            (("--arm9", code, "--arm7", f"{code}@0x37f7ffc"), 1, "Arm7Place 0x037f7ffc"),
-            (("--arm9", code, "--arm7", f"{code}@0x380fff4"), 1, "Arm7Place 0x0380fff4"),
-            (("--arm9", code, "--arm7", f"{code}@0x3800000,0x3800003"), 1, "Arm7Entry 0x03800003: a Thumb entry"),
+            (("--arm9", f"{big}@0x2000000"), 1, "4194305 bytes, and an image has at most 4194304"),
+            (("--arm9", f"{code}@0x2000000", "--arm7", f"{code}@0x37f7ffc"), 1, "Arm7Place 0x037f7ffc"),
+            (("--arm9", f"{code}@0x2000000", "--arm7", f"{code}@0x380fff4"), 1, "Arm7Place 0x0380fff4"),
+            (("--arm9", f"{code}@0x2000000", "--arm7", f"{code}@0x3800000,0x3800003"), 1, "Arm7Entry 0x03800003: a Thumb entry"),
         ])  # fmt: skip
 
     def test_overlap_is_refused(self):
         code = self.put("code.bin", BRANCH * 4)
         self.refused([
-            (("--arm9", code, "--arm9", f"{code}@0x200000c"), 1, "overlap: "),
-            (("--arm9", code, "--arm7", f"{code}@0x200000c"), 1, "overlap: ARM9's image and ARM7's image"),
-            (("--arm9", code, "--arm7", f"{code}@0x2400000"), 1, "overlap: ARM9's image and ARM7's image"),
-            (("--arm9", code, "--arm7", f"{code}@0x27ffdf4"), 1, "overlap: ARM7's image and the header's copy"),
+            (("--arm9", f"{code}@0x2000000", "--arm9", f"{code}@0x200000c"), 1, "overlap: "),
+            (("--arm9", f"{code}@0x2000000", "--arm7", f"{code}@0x200000c"), 1, "overlap: ARM9's image and ARM7's image"),
+            (("--arm9", f"{code}@0x2000000", "--arm7", f"{code}@0x2400000"), 1, "overlap: ARM9's image and ARM7's image"),
+            (("--arm9", f"{code}@0x2000000", "--arm7", f"{code}@0x27ffdf4"), 1, "overlap: ARM7's image and the header's copy"),
             (("--arm9", f"{code}@0x23fff6c"), 1, "overlap: ARM9's image and the header's copy"),
             (("--arm9", self.put("two.elf", elf([(0, 0x2000000, bytes(8), 8), (0, 0x2000004, bytes(8), 8)]))), 1, "overlap: "),
         ])  # fmt: skip
@@ -127,6 +127,21 @@ class MakeCart(Room):
             (("--arm9", "one.elf", "--title", "THIRTEEN CHARS"), 1, "12 ASCII characters"),
             (("--arm7", "one.elf"), 2, "--arm9"),
         ])  # fmt: skip
+
+    def test_what_nobody_called_flat_is_refused(self):
+        cart = bytearray(0x220)
+        struct.pack_into("<8I", cart, 0x20, 0x200, 0x2000000, 0x2000000, 16, 0x210, 0x3800000, 0x3800000, 16)
+        code, text, whole = self.put("code.bin", BRANCH * 4), self.put("game.c", "int main(void) { return 0; }\n"), self.put("old.nds", bytes(cart))
+        self.refused([
+            (("--arm9", code), 2, f"{code} is neither an ELF file nor a listing; flat bytes want an address, as {code}@0x2000000, or --flat"),
+            (("--arm9", text), 2, "game.c is a text, and neither an ELF file nor a listing: compile it first"),
+            (("--arm9", f"{text}@0x2000000"), 2, "game.c is a text"),
+            (("--arm9", whole), 2, "old.nds is a cartridge already"),
+            (("--arm9", f"{whole}@0x2000000"), 2, "old.nds is a cartridge already"),
+            (("--arm9", f"{code}@0x2000000", "--arm7", code), 2, "code.bin is neither"),
+        ])  # fmt: skip
+        for words in ((f"{code}@0x2000000",), (code, "--flat"), (text, "--flat"), (whole, "--flat")):
+            self.made("--arm9", *words)
 
     def test_no_program_for_a_listing_and_help(self):
         ran = self.run_it("--arm9", self.put("a.txt", ".arm9 0x2000000\n"), "-o", "x.nds", NDS_PROGRAM="/absent")

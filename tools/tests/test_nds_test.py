@@ -61,13 +61,13 @@ class NdsTest(Room):
             ({"score": 21}, "score was 00000014, is 00000015"),
             ({"grid": 6}, "grid:3 +0x4 was 00000005, is 00000006"),
             ({"x": 0}, "vertex 0 was x -4096 y 2 z 3 w 4096 colour 7fff s -1 t 5, is x 0 y 2 z 3 w 4096 colour 7fff s -1 t 5"),
-            ({"red": 1}, "frame 3 changed: nds-test-out/all.frame-0003.png"),
+            ({"red": 1}, "frame 3 changed: nds-test-out/all.frame-0003-actual.png"),
         ]
         for how, text in rows:
             with self.subTest(how=how):
                 self.game(**how)
                 self.assertEqual(self.run_it("all.test"), (1, f"FAIL    all: {text}\n1 tests: 1 FAIL\n", ""))
-        self.assertEqual(picture(f"{self.room}/nds-test-out/all.frame-0003.png")[2][0], b"\x08\0\0" * 256)
+        self.assertEqual(picture(f"{self.room}/nds-test-out/all.frame-0003-actual.png")[2][0], b"\x08\0\0" * 256)
         status, out, _ = self.run_it("all.test", "--update")
         self.assertIn("KEPT    all: frame 3 changed", out)
         self.assertEqual(self.run_it("all.test")[0], 0)
@@ -80,7 +80,9 @@ class NdsTest(Room):
     def test_a_line_more_or_less_of_the_test_is_told(self):
         self.kept()
         self.put("all.test", ALL.replace("keep text name\n", "keep text name\nkeep peek step\n").replace("keep peek score\n", ""))
-        self.assertEqual(self.run_it("all.test")[1].splitlines()[0], "FAIL    all: nothing is kept of peek step; peek score is gone")
+        self.assertEqual(self.run_it("all.test")[1].splitlines()[0], "NEW     all: nothing is kept of peek step; peek score is kept, and no line of the test asks for it; --update keeps what this run gave")
+        self.game(grid=6)
+        self.assertEqual(self.run_it("all.test")[1].splitlines()[0], "FAIL    all: grid:3 +0x4 was 00000005, is 00000006; nothing is kept of peek step; peek score is kept, and no line of the test asks for it")
 
     def test_a_stop_fails_and_is_never_kept_unless_it_is_expected(self):
         self.kept()
@@ -88,14 +90,14 @@ class NdsTest(Room):
         self.put("game.nds.status", "9")
         self.put("game.nds.out", frame(1) + stop(44, 22, 2, 14))
         self.put("game.nds.before", memory(nine=[(R15, 0x2000014)]) + end(44))
-        line = "STOPPED all: Swi 0x0000000e at tick 44 by ARM9, r15 02000014 step+0x4"
+        line = "STOPPED all: Swi 0x0000000e (GetCRC16) at tick 44 by ARM9, r15 02000014 step+0x4"
         for words in ((), ("--update",)):
             self.assertEqual(self.run_it("all.test", *words)[:2], (1, f"{line}\n1 tests: 1 STOPPED\n"))
         self.assertEqual(self.text("all.expected"), before)
         self.kept("cart game.nds\nticks 100\nexpect stop Swi 14\n", "stops")
         self.assertEqual(self.run_it("stops.test")[:2], (0, "PASS    stops\n1 tests: 1 PASS\n"))
         self.put("other.test", "cart game.nds\nticks 100\nexpect stop Mosaic 0x2\n")
-        self.assertIn("STOPPED other: Swi 0x0000000e at tick 44 by ARM9, r15 02000014; Mosaic 0x00000002 was expected", self.run_it("other.test", "--update")[1])
+        self.assertIn("STOPPED other: Swi 0x0000000e (GetCRC16) at tick 44 by ARM9, r15 02000014; Mosaic 0x00000002 was expected", self.run_it("other.test", "--update")[1])
 
     def test_an_expected_stop_that_does_not_come_fails(self):
         self.put("stops.test", "cart game.nds\nticks 100\nexpect stop Swi 14\n")
@@ -159,8 +161,8 @@ class NdsTest(Room):
             ("fly\n", "one.test: line 1: no line begins with fly"),
             (good + "cart a b\n", "one.test: line 4: cart takes one word"),
             (good + "ticks 5\n", "one.test: line 4: ticks stands twice"),
-            (good + "keep all\n", "one.test: line 4: keep takes"),
-            (good + "keep frame 0\n", "one.test: line 4: 0 is no number from 1"),
+            (good + "keep all\n", "one.test: line 4: keep all is nothing that can be kept; there are frame, picture, peek, decimal, text, vertices, output"),
+            (good + "keep frame 0\n", "one.test: line 4: 0 is no frame: it wants a number from 1"),
             (good + "expect win\n", "one.test: line 4: expect takes"),
             (good + "expect stop Crash 1\n", "one.test: line 4: there is no stop Crash"),
             (good + "keep frame 'a\n", "one.test: line 4: No closing quotation"),
@@ -171,7 +173,7 @@ class NdsTest(Room):
             ("cart game.nds\nticks 100000000001\nkeep output\n", "one.test: it runs to tick 100000000001"),
             ("cart game.nds\nframes 2\nkeep frame 3\n", "one.test: frame 3 isn't whole by tick 1938301; `frames 3` runs that far"),
             (good + "expect stop Swi 14\n", "one.test: a run that stops writes no memories"),
-            (good + "keep peek score\n", "no symbol score is known, since no ELF file was given"),
+            (good + "keep peek score\n", "one.test: line 4: no symbol score is known, since no ELF file was given"),
             (good + "elf9 absent.elf\n", "absent.elf: No such file"),
         ]
         for text, said in rows:
@@ -210,7 +212,7 @@ class NdsTest(Room):
             (("void",), 2, "has no file that ends in .test"),
             (("absent.test",), 2, "there is no file or folder absent.test"),
             (("one.test", "--filter", "two"), 2, "there is no test two"),
-            (("one.test", "--jobs", "0"), 2, "--jobs and --timeout take"),
+            (("one.test", "--jobs", "0"), 2, "argument --jobs: 0 is no whole number from 1"),
             (("one.test", "--nds", "/absent"), 2, "--nds names no program: /absent"),
         ])  # fmt: skip
         self.check_command("one.test", "--nds", self.nds, status=2, text="NEW     one")

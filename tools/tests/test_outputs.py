@@ -1,6 +1,7 @@
 """`nds-frames`, `nds-show` and `nds-diff`, on outputs made by hand: what they tell, and what is none of a run."""
 import hashlib
 import io
+import os
 import struct
 import unittest
 
@@ -71,8 +72,8 @@ E  tick 100  steps of ARM9 62, of ARM7 27, events 0, turns 89
 
     def test_sums_of_a_run_that_stopped_or_has_no_frame_are_no_golden_file(self):
         rows = [
-            (frame(1) + stop(), 2, 1, "nds-frames: the run stopped: Swi 0x0000000e at tick 44 by ARM9; it has 1 of the frames\n"),
-            (stop(), 2, 0, "nds-frames: the run stopped: Swi 0x0000000e at tick 44 by ARM9; it has 0 of the frames\n"),
+            (frame(1) + stop(), 2, 1, "nds-frames: the run stopped: Swi 0x0000000e (GetCRC16) at tick 44 by ARM9; it has 1 of the frames\n"),
+            (stop(), 2, 0, "nds-frames: the run stopped: Swi 0x0000000e (GetCRC16) at tick 44 by ARM9; it has 0 of the frames\n"),
             (memory() + end(), 1, 0, "nds-frames: the output has no frame\n"),
         ]
         for content, status, lines, text in rows:
@@ -104,7 +105,7 @@ E  tick 100  steps of ARM9 62, of ARM7 27, events 0, turns 89
         self.bad()
         self.check([
             (("game.out", "--frame", "4"), 1, "the output has no frame 4"),
-            (("game.out", "--frame", "0"), 2, "--frame 0: it wants a number from 1"),
+            (("game.out", "--frame", "0"), 2, "--frame 0 is no frame: it wants a number from 1"),
             (("game.out", "--frame", "3-2"), 2, "--frame 3-2"),
             (("game.out", "--every", "0"), 2, "--every takes a number from 1"),
             (("game.out", "--scale", "17"), 2, "--scale"),
@@ -163,8 +164,8 @@ class Show(Outputs):
             ("names+4:1", "names+4:1  02001014 names+0x4\n  +000  0000006f  (111)\n"),
             ("0x2001000:2", "0x2001000:2  02001000 score\n  +000  00000014 00000000\n"),
             ("7:2001000h", "7:2001000h  02001000 score\n  +000  00000014  (20)\n"),
-            ("@dtcm+0x3ffc", "@dtcm+0x3ffc  03003ffc\n  +000  02000010  (33554448)\n"),
-            ("0x3003ffc", "0x3003ffc  03003ffc\n  +000  02000010  (33554448)\n"),
+            ("@dtcm+0x3ffc", "@dtcm+0x3ffc  03003ffc  (DTCM is assumed at 0x3000000; --dtcm tells)\n  +000  02000010  (33554448)\n"),
+            ("0x3003ffc", "0x3003ffc  03003ffc  (DTCM is assumed at 0x3000000; --dtcm tells)\n  +000  02000010  (33554448)\n"),
             ("0x200001c", "0x200001c  0200001c main+0xc\n  +000  00000000  (0)\n"),
             ("0x2000020", "0x2000020  02000020\n  +000  00000000  (0)\n"),
             ("0x2401000", "0x2401000  02001000 score\n  +000  00000014  (20)\n"),
@@ -199,7 +200,7 @@ class Show(Outputs):
         self.put("stop.out", stop(44, 22, 2, 14))
         status, out, notes = self.run_it("stop.out")
         self.assertEqual((status, notes.count("\n")), (2, 1))
-        self.assertEqual(out, "stopped: Swi 0x0000000e at tick 44 by ARM9 (rank 22)\n  this runs to that tick, before the step: ./nds run GAME.nds none 44 none >stopped.out\n")
+        self.assertEqual(out, "stopped: Swi 0x0000000e (GetCRC16) at tick 44 by ARM9 (rank 22)\n  this runs to that tick, before the step: ./nds run GAME.nds none 44 none >stopped.out\n")
         cart = self.put("my game.nds")
         self.put("my game.nds.out", memory(nine=[(R15, 0x2000014)]) + end(44))
         status, out, notes = self.run_it("stop.out", "--cart", cart, "--keys", "a.keys", "--elf9", self.elf)
@@ -237,7 +238,7 @@ class Diff(Outputs):
     def test_equal_outputs(self):
         whole = frame(1) + lists(1, [VERTEX]) + memory() + end()
         self.assertEqual(self.both(whole, whole), (0, "equal: 1 frames, 1 lists, memory, registers, counts\n", ""))
-        self.assertEqual(self.both(stop(), stop()), (0, "equal: both stopped: Swi 0x0000000e at tick 44 by ARM9\n", ""))
+        self.assertEqual(self.both(stop(), stop()), (0, "equal: both stopped: Swi 0x0000000e (GetCRC16) at tick 44 by ARM9\n", ""))
 
     def test_a_frame_is_told_by_screen_pixel_and_colours(self):
         tail = memory() + end()
@@ -272,12 +273,43 @@ counts: 2 of 5 differ
         self.assertEqual(self.run_it("a.out", "b.out", "--only", "frames")[0], 0)
 
     def test_code_is_left_out_and_symbols_named(self):
-        code = elf([(0x2000000, 0x2000000, bytes(16), 16)], [("score", 0x2001000, 4, 0x11)], sections=[(0x2000000, 16)])
+        code = elf([(0x2000000, 0x2000000, bytes(16), 16)], [("label", 0x2001000, 0, 0x10, 4)], sections=[(0x2000000, 16), (0x2001000, 16, ".bss")])
         path = self.put("game.elf", code)
         pair = memory() + end(), memory([("main", 12, 1), ("main", 0x1000, 2)]) + end()
         self.assertIn("main, words: 2 of", self.both(*pair, "--elf9", path)[1])
-        self.assertEqual(self.both(*pair, "--elf9", path, "--skip-code")[1], "main, words: 1 of 1048576 differ\n  02001000 score: 00000000 and 00000002\n")
+        self.assertEqual(self.both(*pair, "--elf9", path, "--skip-code")[1], "main, words: 1 of 1048576 differ\n  02001000 label: 00000000 and 00000002\n")
         self.assertEqual(self.both(pair[0], memory([("main", 12, 1)]) + end(), "--elf9", path, "--skip-code")[0], 0)
+
+    def test_variables_come_by_name_and_pointers_into_code_aside(self):
+        symbols = [("score", 0x2001000, 4, 0x11), ("grid", 0x2001010, 12, 0x11), ("on_key", 0x2001020, 4, 0x11), ("lives", 0x2001024, 1, 0x11), ("same", 0x2001028, 4, 0x11)]
+        nine = self.put("nine.elf", elf([(0x2000000, 0x2000000, bytes(64), 64)], symbols, sections=[(0x2000000, 64)]))
+        moved = self.put("moved.elf", elf([(0x2000000, 0x2000000, bytes(64), 64)], [(name, at + 0x100, *more) for name, at, *more in symbols], sections=[(0x2000000, 64)]))
+        seven = self.put("seven.elf", elf([(0x3800000, 0x3800000, bytes(64), 64)], [("score", 0x3800100, 4, 0x11)], sections=[(0x3800000, 64)]))
+        one = [("main", 0x1000, 1), ("main", 0x1020, 0x2000010), ("main", 0x2000, 0x2000011), ("main", 0x1028, 7)]
+        two = [("main", 0x1000, 11), ("main", 0x1014, 5), ("main", 0x1018, 6), ("main", 0x1020, 0x2000014), ("main", 0x1024, 2), ("main", 0x2000, 0x2000015), ("wram7", 0x100, 9), ("main", 0x1028, 7)]
+        told = "variables: {} of 6 differ{}\n  score: 00000001 and 0000000b\n  grid+0x4: 00000000 and 00000005, and 1 more of it\n  lives: 00 and 02\n  7:score: 00000000 and 00000009\n"
+        words = ("--elf9", nine, "--elf7", seven)
+        pair = memory(one) + end(), memory(two) + end()
+        self.assertEqual(self.both(*pair, *words), (1, told.format(5, "; 1 of them in pointers into code alone")
+                                                    + "main, words outside variables: 1 of 1048576 differ; 1 of them are pointers into code\n", ""))  # fmt: skip
+        self.assertEqual(self.both(*pair, *words, "--skip-code")[1], told.format(4, ""))
+        self.assertEqual(self.both(*pair, *words, "--only", "variables", "--skip-code")[1], told.format(4, ""))
+        shifted = [(it, at + 0x100 if it == "main" and at < 0x1100 else at, value) for it, at, value in two]
+        self.assertEqual(self.both(pair[0], memory(shifted) + end(), *words, "--elf9-b", moved, "--skip-code")[1], told.format(4, ""))
+        self.assertEqual(self.both(pair[0], pair[0], *words), (0, "equal: variables, memory, registers, counts\n", ""))
+
+    def test_frames_and_pictures_are_limited(self):
+        tail = memory() + end()
+        pair = b"".join(map(frame, range(1, 6))) + tail, b"".join(frame(it, 1) for it in range(1, 6)) + tail
+        rows = [((), ["1", "2", "3", "4", "5"]), (("--most", "2"), ["1", "2"]), (("--frame", "3-4"), ["3", "4"]), (("--frame", "2"), ["2"])]
+        for at, (words, numbers) in enumerate(rows):
+            with self.subTest(words=words):
+                self.assertEqual(self.both(*pair, "--png", f"shots{at}", *words)[0], 1)
+                self.assertEqual(sorted(os.listdir(f"{self.room}/shots{at}")), [f"frame-000{it}-{which}.png" for it in numbers for which in ("a", "b", "difference")])
+        self.assertIn("frames: 2 of 2 differ\n", self.run_it("a.out", "b.out", "--frame", "3-4")[1])
+        many = b"".join(frame(it, 0, 0, [(0, 0, it)]) for it in range(1, 24))
+        self.both(b"".join(map(frame, range(1, 24))) + tail, many + tail, "--png", "many")
+        self.assertEqual(len(os.listdir(f"{self.room}/many")), 60)
 
     def test_code_is_left_out_where_it_runs_and_where_it_is_copied_from(self):
         path = self.put("game.elf", elf([(0x1000000, 0x2000100, bytes(16), 16)], sections=[(0x1000000, 16)]))
@@ -314,6 +346,10 @@ counts: 2 of 5 differ
         self.check([
             (("good.out", "absent.out"), 2, "absent.out: No such file"),
             (("good.out", "good.out", "--skip-code"), 2, "--skip-code wants --elf9 or --elf7"),
+            (("good.out", "good.out", "--only", "variables"), 2, "--only variables wants --elf9"),
+            (("good.out", "good.out", "--elf9-b", "x"), 2, "--elf9-b and --elf7-b want"),
+            (("good.out", "good.out", "--frame", "0"), 2, "--frame 0"),
+            (("good.out", "good.out", "--most", "0"), 2, "--most takes"),
             (("-", "-"), 2, "one output alone"),
             (("good.out",), 2, "required: b"),
         ])  # fmt: skip

@@ -1,8 +1,8 @@
 //! A shelf and a sink in memory whose calls fail by number, to try each failure.
 
-ghost use Rattle.std.specs.Prelude.{◌≡◌, ◌≤◌, ◌<◌, ◌++◌, ◌↔◌, [], None, true, IsTrue, IsErr, IfOk, OnErr, is_some, length, min, take, drop};
+ghost use Rattle.std.specs.Prelude.{◌≡◌, ◌≤◌, ◌<◌, ◌-◌, ◌^◌, ◌++◌, ◌↔◌, [], None, true, IsTrue, IsErr, IfOk, OnErr, is_some, length, min, take, drop};
 ghost use Rattle.ds_io.specs.Faults.{Rose};
-ghost use Rattle.ds_io.specs.Fakes.{shelf_called, sink_called};
+ghost use Rattle.ds_io.specs.Fakes.{empty_sink, shelf_called, sink_called};
 ghost use Rattle.ds_io.specs.Kept.{kept_after};
 ghost use Rattle.ds_io.specs.Numbered.{called, fails_now, fault_count};
 ghost use Rattle.ds_io.specs.Shelves.{file_of, found_in, left_of, moved};
@@ -80,32 +80,51 @@ impl Shelf for MemShelf {
     }
 }
 
-/// A sink in memory of which some calls fail. Its calls are numbered from 1; the numbering stays at 2^64 - 1 once it is there.
-/// It keeps and tells all that is put, while it fits the room that it was made with; with the first bytes that don't fit it
-/// stops telling for good, and drops what is put from then on.
+/// A sink in memory of which some calls fail, and which may take few bytes at a time. Its calls are numbered from 1; the
+/// numbering stays at 2^64 - 1 once it is there. It keeps and tells all that it takes, while it fits the room that it was made
+/// with; with the first bytes that don't fit it stops telling for good, and drops what it takes from then on.
 #[derive(Drop)]
 pub struct MemSink {
     sink: QuietSink,
     calls: Numbering,
+    most: usize,
 }
 
 impl Model for MemSink {
+    ghost use Rattle.std.specs.Prelude.{◌<◌};
     ghost use Rattle.ds_io.specs.Fakes.{FailingSink};
 
     ghost Value = { FailingSink };
 
-    ghost view = { λ s. record { kept = s.sink; calls = s.calls } };
+    ghost view = { λ s. record { kept = s.sink; calls = s.calls; most = s.most } };
+
+    ghost invariant = { λ s. 0 < s.most };
 }
 
 impl MemSink {
-    /// An empty sink with room for so many bytes, whose calls with these numbers fail. All its memory is taken here.
+    /// An empty sink with room for so many bytes, whose calls with these numbers fail, and each other takes all its bytes. All
+    /// its memory is taken here.
     pub fn new(alloc: Global, fails: Calls, room: usize) -> Result<MemSink, AllocError>
-        ensures { IfOk result (λ s. s ≡ record { kept = record { bytes = []; room = room; told = true }; calls = record { fails = fails; made = 0 } }) }
+        ensures { IfOk result (λ s. s ≡ empty_sink fails room (2 ^ 64 - 1)) }
+    {
+        MemSink::slow(alloc, fails, room, usize::MAX)
+    }
+
+    /// Such a sink of which a call that doesn't fail takes so many bytes at most, and one at least.
+    pub fn slow(
+        alloc: Global,
+        fails: Calls,
+        room: usize,
+        most: usize,
+    ) -> Result<MemSink, AllocError>
+        requires some { 0 < most }
+        ensures { IfOk result (λ s. s ≡ empty_sink fails room most) }
     {
         let sink = QuietSink::new(alloc, room)?;
         Ok(MemSink {
             sink,
             calls: Numbering::new(fails),
+            most,
         })
     }
 
@@ -141,14 +160,15 @@ impl Sink for MemSink {
 
     fn put(&mut self, bytes: &[u8]) -> Result<usize, Failed>
         ensures fails { IsErr result ↔ IsTrue (fails_now (called self.old.calls)) }
-        ensures answer { IfOk result (λ n. n ≡ length bytes.now) }
-        ensures next { self.new ≡ sink_called self.old (kept_after self.old.kept bytes.now) }
+        ensures answer { IfOk result (λ n. n ≡ min (length bytes.now) self.old.most) }
+        ensures next { self.new ≡ sink_called self.old (kept_after self.old.kept (take self.old.most bytes.now)) }
         ensures cause { OnErr result (Rose (fault_count self.old.calls) (fault_count self.new.calls)) }
         ensures later { fault_count self.old.calls ≤ fault_count self.new.calls }
     {
         if self.calls.call() {
             return Err(Failed);
         }
-        self.sink.put(bytes)
+        let front = &bytes[..bytes.len().min(self.most)];
+        self.sink.put(front)
     }
 }

@@ -11,6 +11,8 @@ use std::process::Abort;
 enum Line {
     /// All of them are taken by one put.
     Puts(usize, u8, u8, u8),
+    /// Two of them are.
+    Two(usize, u8, u8, u8),
     /// The put fails.
     Fails(usize, u8, u8, u8),
     /// All of them are put, by as many puts as it takes.
@@ -23,7 +25,7 @@ enum Line {
     Keeps(usize, u8, u8),
 }
 
-use Line::{All, AllFails, Fails, Keeps, Puts, Tells};
+use Line::{All, AllFails, Fails, Keeps, Puts, Tells, Two};
 
 /// What a line shows: a count, and two bytes.
 type Seen = (usize, u8, u8);
@@ -60,6 +62,7 @@ fn try_lines(rt: &impl Abort, sink: &mut MemSink, lines: &[Line]) {
     for (number, line) in lines.iter().enumerate() {
         let (got, wanted) = match *line {
             Puts(count, a, b, c) => (put(sink, count, [a, b, c]), (count, 0, 0)),
+            Two(count, a, b, c) => (put(sink, count, [a, b, c]), (2, 0, 0)),
             Fails(count, a, b, c) => (put(sink, count, [a, b, c]), FAILED),
             All(count, a, b, c) => (all(sink, count, [a, b, c]), (count, 0, 0)),
             AllFails(count, a, b, c) => (all(sink, count, [a, b, c]), FAILED),
@@ -71,8 +74,8 @@ fn try_lines(rt: &impl Abort, sink: &mut MemSink, lines: &[Line]) {
     }
 }
 
-/// A sink with room for so many bytes, whose calls with these two numbers fail.
-fn failing(alloc: Global, first: u64, second: u64, room: usize) -> Result<MemSink, AllocError>
+/// Two numbers of calls.
+fn calls_of(alloc: Global, first: u64, second: u64) -> Result<Calls, AllocError>
     requires above { 0 < first }
     requires rises { first < second }
     requires below { second < 2 ^ 64 - 1 }
@@ -80,6 +83,16 @@ fn failing(alloc: Global, first: u64, second: u64, room: usize) -> Result<MemSin
     let mut calls = Calls::new(alloc);
     calls.push(first)?;
     calls.push(second)?;
+    Ok(calls)
+}
+
+/// A sink with room for so many bytes, whose calls with these two numbers fail.
+fn failing(alloc: Global, first: u64, second: u64, room: usize) -> Result<MemSink, AllocError>
+    requires above { 0 < first }
+    requires rises { first < second }
+    requires below { second < 2 ^ 64 - 1 }
+{
+    let calls = calls_of(alloc, first, second)?;
     MemSink::new(alloc, calls, room)
 }
 
@@ -112,6 +125,35 @@ fn sinks_tell_while_the_bytes_fit(rt: HostRuntime) -> Result<(), AllocError> {
         ],
     );
     assert!(rt; failing.bytes() == [1, 2, 3].as_slice());
+    Ok(())
+}
+
+/// A call takes two bytes at most; who puts all of them goes on behind those.
+#[test]
+fn a_slow_sink_takes_a_front(rt: HostRuntime) -> Result<(), AllocError> {
+    let calls = calls_of(rt.alloc(), 2, 6)?;
+    let mut slow = MemSink::slow(rt.alloc(), calls, 8, 2)?;
+    try_lines(
+        &rt,
+        &mut slow,
+        &[
+            Two(3, 1, 2, 3),
+            Keeps(2, 1, 2),
+            Fails(3, 3, 4, 5),
+            Keeps(2, 1, 2),
+            All(3, 3, 4, 5),
+            Keeps(5, 1, 5),
+            AllFails(3, 6, 7, 8),
+            Tells(true),
+            Keeps(7, 1, 7),
+            Puts(1, 8, 0, 0),
+            Tells(true),
+            Two(3, 9, 10, 11),
+            Tells(false),
+            Keeps(8, 1, 8),
+        ],
+    );
+    assert!(rt; slow.bytes() == [1, 2, 3, 4, 5, 6, 7, 8].as_slice());
     Ok(())
 }
 

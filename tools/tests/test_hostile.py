@@ -1,0 +1,100 @@
+"""What the command hostile takes for right: causes said by hand, and that a wrong program is told. It needs no built program."""
+import os
+import random
+import stat
+import struct
+import tempfile
+import unittest
+
+from made import TOP  # noqa: F401 (it puts the tools on the path)
+from nds_tools.hostile import makers
+from nds_tools.hostile.answers import Answer, Runner
+from nds_tools.hostile.causes import USAGE, accepted, header_fault, script_fault, wrong
+from nds_tools.hostile.fuzz import batch
+
+LOOP = struct.pack("<I", 0xEAFFFFFE)
+
+
+def small(**words):
+    """Returns a cartridge of two loops of which header words are these, by their offset."""
+    header = bytearray(512)
+    struct.pack_into("<4I", header, 0x20, 0x200, 0x2000000, 0x2000000, 4)
+    struct.pack_into("<4I", header, 0x30, 0x204, 0x2100000, 0x2100000, 4)
+    for at, value in words.items():
+        struct.pack_into("<I", header, int(at[1:], 16), value)
+    return bytes(header) + LOOP + LOOP
+
+
+class Causes(unittest.TestCase):
+    def test_words(self):
+        good = ("run C none 9 none", "run C K 100000000000 all", "list C 9t", "asm F", "trace C none 1 7 1000000", "peek C none 9 dtcm 16383 1", "demo 0 1", "demo 4294967295 9")
+        bad = (
+            "", "run", "run C none 0 none", "run C none 01 none", "run C none 100000000001 none", "run C none 9 some", "run -c none 9 none", "list C 9T",
+            "asm", "asm F F", "trace A none 9 9 0", "trace A none 9 8 1", "peek A none 9 dtcm 16384 1", "peek A none 9 dtcm 0 4097", "demo 4294967296 9", "demo -1 9",
+        )
+        for text in good:
+            self.assertTrue(accepted(text.split()), text)
+        for text in bad:
+            self.assertFalse(accepted(text.split()), text)
+        self.assertFalse(accepted(["run", "", "none", "9", "none"]))
+
+    def test_headers(self):
+        rows = (
+            (b"", ("Short", 0)), (bytes(511), ("Short", 511)), (small(), None), (small(x10=3 << 16), ("UnitCode", 3)), (small(x10=2 << 16), None),
+            (small(x2C=9), ("Arm9Rom", 0x200)), (small(x20=0xFFFFFFFF), ("Arm9Rom", 0xFFFFFFFF)), (small(x28=0x2FFFFFD), ("Arm9Place", 0x2FFFFFD)),
+            (small(x24=0x2000002), ("Arm9Entry", 0x2000002)), (small(x38=0x37F8000, x34=0x380FFFC), None), (small(x38=0x37F7FFF), ("Arm7Place", 0x37F7FFF)),
+            (small(x34=0x3810000), ("Arm7Entry", 0x3810000)), (small(x3C=5), ("Arm7Rom", 0x204)),
+        )
+        for cart, fault in rows:
+            self.assertEqual(header_fault(cart), fault)
+
+    def test_scripts(self):
+        rows = (
+            (b"", None), (b"5 A+UP", None), (b"5 A\n", None), (b"100 A\n100 B\n", (2, 1)), (b"5 Q", (1, 3)), (b"5", (1, 2)), (b"05 A", (1, 2)), (b"5  A", (1, 3)),
+            (b"5 B+A", (1, 5)), (b"5 A+", (1, 5)), (b"5 SEL", (1, 6)), (b"5 A\n\n", (2, 1)), (b"123456789012 A", (1, 12)), (b"5 A\r\n", (1, 4)), (b"5 Y+", (1, 4)),
+        )
+        for script, fault in rows:
+            self.assertEqual(script_fault(script), fault, script)
+
+    def test_answers(self):
+        files = {"cart": small()}
+        run = ["run", "cart", "none", "9", "none"]
+        stop = b"X" + struct.pack("<QBBI", 3, 22, 2, 14)
+        note = b"left out: Swi tick 3 actor 22 value 0x0000000e\n"
+        rows = (
+            (["run"], Answer(2, b"", USAGE.encode() + b"\n"), True), (["run"], Answer(2, b"", b""), False), (["list", "no", "9"], Answer(3, b"", b"no file: no\n"), True),
+            (["list", "no", "9"], Answer(4, b"", b"read fault: no\n"), False), (run, Answer(9, stop, note), True), (run, Answer(9, stop[:-1] + b"x", note), False),
+            (run, Answer(9, stop, note.replace(b"tick 3", b"tick 9")), False), (run, Answer(-11, b"", b""), False), (run, Answer(5, b"", b"write fault\n"), False),
+            (["peek", "cart", "none", "9", "main", "0", "17"], Answer(0, bytes(58 + 13), b""), True), (["peek", "cart", "none", "9", "main", "0", "17"], Answer(0, bytes(70), b""), False),
+        )
+        for words, answer, right in rows:
+            self.assertEqual(wrong(words, files, answer) is None, right, (words, answer))
+
+
+class Tries(unittest.TestCase):
+    def test_a_seed_gives_the_same_tries(self):
+        for number in range(200):
+            one, other = (makers.case(random.Random(f"7:{number}")) for _ in range(2))
+            self.assertEqual(one, other)
+
+    def test_made_cartridges_are_accepted(self):
+        for number in range(200):
+            chance = random.Random(number)
+            self.assertIsNone(header_fault(makers.cart(chance, makers.code(chance), makers.code(chance))))
+            self.assertIsNone(script_fault(makers.script(chance)))
+
+    def test_a_wrong_program_is_told(self):
+        with tempfile.TemporaryDirectory() as folder:
+            program = os.path.join(folder, "nds")
+            with open(program, "w", encoding="ascii") as it:
+                it.write("#!/bin/sh\nexit 12\n")
+            os.chmod(program, stat.S_IRWXU)
+            found = batch(program, "1", 0, 5)
+            self.assertEqual(len(found.wrong), 5)
+            runner = Runner(program)
+            self.assertEqual(runner.run([]), Answer(12, b"", b""))
+            os.rmdir(runner.folder)
+
+
+if __name__ == "__main__":
+    unittest.main()

@@ -96,7 +96,7 @@ module _ (s : MachineState) (tick : Tick) (rank : ℕ) (sound : IsSound s) where
       → (b : Bool) → observes_by (actor_of rank) s ≡ b → CatchesUpIf b tick.0 rank s caught → CaughtUp s caught tick rank
   ahead_caught caught proc is ahead acts true e catches =
       absurd (true≢false (sym e ∙ ap (λ (r : ℕ). observes_by (actor_of r) s) is ∙ rank_apart s proc ahead.private))
-  ahead_caught caught proc is ahead acts false e same = stays_so caught same acts (inr (inr (proc, is, ahead, sound)))
+  ahead_caught caught proc is ahead acts false e same = stays_so caught same acts (inr (inr (proc, is, ahead)))
 
   pub caught_up : (caught : MachineState) → MayAct s tick rank → CatchesUpFor tick.0 rank s caught → CaughtUp s caught tick rank
   caught_up caught may catches = elim may.may [
@@ -114,7 +114,6 @@ caught_may s caught tick rank early k = record {
   due = due_where_acts caught rank tick k.acts;
   early = early;
   may = k.may;
-  asleep = λ is quiet. k.so.sound.asleep;
 }
 
 pub acting_may_step : ActingMayStep
@@ -149,7 +148,7 @@ module _ (s : MachineState) (proc : Proc) (sound : IsSound s) (ahead : IsAhead s
       not_both g.next left [] stop (sym g.makes ∙ subst (λ (r : ℕ). reference_step r s ≡ Stops stop left) is h)
 
 -- that of the least that acts, which is the least of all where it is geometry
-apart_goes : (s : MachineState) (tick : Tick) (rank : ℕ) → IsSound s → ActsApart s rank tick → IsLeast (dues_of s) tick rank ⊎ StepsBeforeGeometry s rank tick
+pub apart_goes : (s : MachineState) (tick : Tick) (rank : ℕ) → IsSound s → ActsApart s rank tick → IsLeast (dues_of s) tick rank ⊎ StepsBeforeGeometry s rank tick
 apart_goes s tick rank sound acts = elim (same_or_not rank 12) [
   | inl same ↦
       (let loud = acts_loudly s tick (subst (λ (r : ℕ). due_at (acting_dues s) r ≡ Some tick) same acts.least.there) in
@@ -167,7 +166,7 @@ then_goes s next tick rank limit outs sound due may lt h end rest = elim may [
       | inl least ↦ one_step reference limit end s next outs rest tick rank least lt h
       | inr before ↦ lag_runs s next rank tick limit outs before lt h end rest
     ]
-    | inr k ↦ ahead_goes s k.0 k.3 k.2 next rank limit outs k.1 (ahead_below s k.0 k.3 k.2 rank limit tick k.1 due lt) h end rest
+    | inr k ↦ ahead_goes s k.0 sound k.2 next rank limit outs k.1 (ahead_below s k.0 sound k.2 rank limit tick k.1 due lt) h end rest
   ]
 ]
 
@@ -187,7 +186,7 @@ then_stops s left tick rank limit stop sound may lt h = elim may [
       | inl least ↦ runs.stops s left tick rank stop least lt h
       | inr before ↦ lag_stops s left rank tick limit stop before lt h
     ]
-    | inr k ↦ absurd (ahead_never_stops s k.0 k.3 k.2 left rank stop k.1 h)
+    | inr k ↦ absurd (ahead_never_stops s k.0 sound k.2 left rank stop k.1 h)
   ]
 ]
 

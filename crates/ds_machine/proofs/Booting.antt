@@ -13,15 +13,13 @@ use Rattle.gx_geometry.specs.Numbers.{numbers_at_boot}
 use Rattle.ds_machine.specs.Booted.{header_bytes, header_place, machine_blank, machine_booted, with_image}
 use Rattle.ds_machine.specs.Boots.{copied, stored}
 use Rattle.ds_machine.specs.Sound.{AreAsleep, HasSoundParts, IsSound}
-use Rattle.ds_machine.specs.Counting.{CountsWithin, HasCounted, owed_before}
+use Rattle.ds_machine.specs.Counting.{IsRunning, run_of}
 use Rattle.ds_machine.specs.States.{MachineState, ProcessorState, counts_of}
 use Rattle.ds_machine.specs.Steps.{map_of, processor_of}
 use Rattle.ds_machine.proofs.RamAccesses.{ram_write_io}
+use Rattle.ds_machine.proofs.Running.{starts_running}
 
 -- What boot leaves of the counts and the units.
-
-abbrev start : Tick
-start = record { 0 = 0 }
 
 -- the key script, the processors' numbers and the count of events stay
 record Stays (s next : MachineState) : Type 0 where
@@ -84,33 +82,6 @@ none_booted file keys =
     let events = none_events file keys in
     omega (arith, nine, seven, events)
 
-pub counted_booted : (file : List ℕ) (keys : List KeyLine) → (machine_booted file keys).io ≡ io_at_boot → HasCounted (machine_booted file keys)
-unfolding numbers_at_boot
-counted_booted file keys io =
-    let events = none_events file keys in
-    let run : (machine_booted file keys).io.gx.geometry.numbers.run ≡ 0 = ap (λ (u : IoState). u.gx.geometry.numbers.run) io in
-    let none : (tick rank : ℕ) → owed_before (machine_booted file keys).io.gx.due tick rank ≡ 0 = λ tick rank. ap (λ (u : IoState). owed_before u.gx.due tick rank) io in
-    record {
-      own = λ proc free. (let none = none_steps file keys proc in omega (arith, none));
-      fenced = λ proc rank tick due f. (let none = none_steps file keys proc in omega (arith, none));
-      halted = λ proc rank tick is due. (let none = none_steps file keys proc in omega (arith, none));
-      triggered = λ rank tick is due. (let none = none_steps file keys Nine in omega (arith, none));
-      events = λ rank tick due. (let owed = none tick.0 rank in omega (arith, events, owed));
-      most = (let owed = none (2 ^ 56 + 1) 0 in omega (arith, events, owed));
-      run = λ rank tick due. omega (arith, run);
-    }
-
--- before the first tick geometry has no place
-none_at_start : (due : Option Tick) → owed_before due 0 0 ≡ 0
-none_at_start None = refl
-none_at_start (Some due) = omega arith
-
-pub within_booted : (file : List ℕ) (keys : List KeyLine) → CountsWithin 0 (machine_booted file keys)
-within_booted file keys =
-    let events = none_events file keys in
-    let owed = none_at_start (machine_booted file keys).io.gx.due in
-    record { steps = λ proc. (let none = none_steps file keys proc in omega (arith, none)); events = omega (arith, events, owed) }
-
 -- a machine whose units are as at boot is asleep
 asleep_booted : (s : MachineState) → s.io ≡ io_at_boot → AreAsleep s
 asleep_booted s e proc = ap (λ (u : IoState). (io_of u proc).halted && shares_bit (io_of u proc).irq) e ∙ at_boot proc where
@@ -124,3 +95,11 @@ settled_booted s e = ap is_settled e ∙ refl
 
 pub sound_booted : (s : MachineState) → HasSoundParts s → s.io ≡ io_at_boot → IsSound s
 sound_booted s parts e = record { parts = parts; asleep = asleep_booted s e; settled = settled_booted s e }
+
+-- so it goes on
+pub running_booted : (s : MachineState) (file : List ℕ) (keys : List KeyLine) → s ≡ machine_booted file keys → HasSoundParts s → s.io ≡ io_at_boot → IsRunning 0 s
+unfolding numbers_at_boot
+running_booted s file keys is parts io =
+    let none = ap counts_of is ∙ none_booted file keys in
+    let run : run_of s ≡ 0 = ap (λ (u : IoState). u.gx.geometry.numbers.run) io in
+    starts_running 0 s (sound_booted s parts io) (λ rank tick due. omega arith) (omega (arith, none)) (omega (arith, run))

@@ -25,9 +25,7 @@ use Rattle.ds_machine.proofs.ProcessorSteps.{came_by, concluded_stops, concludes
 use Rattle.ds_machine.proofs.VideoEvents.{video_makes, video_stops}
 use Rattle.ds_machine.proofs.Wakes.{ended_counts}
 
--- One more for each step that is taken, and at whose step.
-
--- ---- one more for each step that is taken, whatever the machine is
+-- One more for each step that is taken, whatever the machine is.
 
 keys_count : (tick : Tick) (s : MachineState) (lines : List KeyLine) → keys_due lines ≡ Some tick → counts_of (after_line lines s) ≡ counts_of s + 1
 keys_count tick s [] due = absurd (none-some tick due)
@@ -80,76 +78,3 @@ left_counts a rank s left stop h = absurd (not_both (after_event a s) left [] st
 pub stop_counts : (s left : MachineState) (rank : ℕ) (stop : LeftOut) → reference_step rank s ≡ Stops stop left → counts_of left ≡ counts_of s
 stop_counts s left rank stop h =
     left_counts (actor_of rank) rank s left stop (awake_stops (due_by (actor_of rank) s) (step_by rank (actor_of rank) s) left stop h)
-
--- ---- and at whose step: an event is one more of the events, and a processor's step of that processor's alone
-
--- how many events an actor's step adds
-abbrev pub events_in : actor.Actor → ℕ
-events_in (Processor proc) = 0
-events_in a = 1
-
-put_events : (proc : Proc) (s : MachineState) (p : ProcessorState) → (with_processor proc s p).events ≡ s.events
-put_events Nine s p = refl
-put_events Seven s p = refl
-
-reached_events : (proc : Proc) (s : MachineState) → (reached_by proc s).events ≡ s.events
-reached_events Nine s = refl
-reached_events Seven s = refl
-
-gone_events : (proc : Proc) (m : MachineState) (came : arm.Stepped) → (gone_by proc came m).events ≡ m.events
-gone_events proc m (Cost clocks) = put_events proc m (went_on proc clocks (is_halted m proc) (processor_of m proc))
-gone_events proc m (Halted clocks) = put_events proc (with_halt proc m true) (went_on proc clocks true (processor_of m proc))
-gone_events proc m (Left stop) = refl
-
-keys_events : (tick : Tick) (s : MachineState) (lines : List KeyLine) → keys_due lines ≡ Some tick → (after_line lines s).events ≡ s.events + 1
-keys_events tick s [] due = absurd (none-some tick due)
-keys_events tick s (line ∷ rest) due = refl
-
-unit_events : (proc : Proc) (now : Tick) (unit : DmaUnit) (s : MachineState) → (machine_after_unit proc now unit s).events ≡ s.events + 1
-unit_events Nine now unit s = refl
-unit_events Seven now unit s = refl
-
-pub made_events : (a : actor.Actor) (rank : ℕ) (tick : Tick) (s made : MachineState) (outs : List Shown) → due_by a s ≡ Some tick → step_by rank a s ≡ Makes made outs
-    → made.events ≡ s.events + events_in a
-made_events KeyScript rank tick s made outs due h =
-    ap (λ (m : MachineState). m.events) (sym (same_makes (after_line s.keys s) made [] outs h).0) ∙ keys_events tick s s.keys due
-made_events (Dma proc channel) rank tick s made outs due h =
-    let P : Option Tick → Type 0 = λ o. channel_step rank proc o s ≡ Makes made outs in
-    ap (λ (m : MachineState). m.events) (channel_made rank proc tick s made outs (subst P due h)) ∙ unit_events proc tick (next_unit s.io proc) s
-made_events (Processor proc) rank tick s made outs due h =
-    let m = reached_by proc s in
-    let k = concludes rank proc m made outs (came_by proc s) (costs_some proc s) (sym (step_is rank proc s) ∙ h) in
-    let e = ap (λ (x : MachineState). x.events) (sym k.1) ∙ gone_events proc m (came_by proc s) ∙ reached_events proc s in
-    omega (arith, e)
-made_events Video rank tick s made outs due h = ap (λ (m : MachineState). m.events) (sym (video_makes rank s made outs h).0)
-made_events Geometry rank tick s made outs due h = ap (λ (m : MachineState). m.events) (sym (same_makes (after_geometry s) made [] outs h).0)
-made_events a rank tick s made outs due h = ap (λ (m : MachineState). m.events) (sym (same_makes (after_event a s) made [] outs h).0)
-
--- events have ranks below 22
-few_events_in : (a : actor.Actor) → events_in a ≤ 1
-few_events_in (Processor proc) = omega arith
-few_events_in a = omega arith
-
-pub place_of_event : (rank : ℕ) → rank < 24 → min rank 22 + events_in (actor_of rank) ≤ min (rank + 1) 22
-place_of_event rank lt = elim (sort_rank rank lt) [
-  | inl low ↦ (let few = few_events_in (actor_of rank) in omega (arith, low, few))
-  | inr rest ↦ elim rest [
-    | inl e ↦ (let none : events_in (actor_of rank) ≡ 0 = ap (λ (n : ℕ). events_in (actor_of n)) e in omega (arith, none, e))
-    | inr e ↦ (let none : events_in (actor_of rank) ≡ 0 = ap (λ (n : ℕ). events_in (actor_of n)) e in omega (arith, none, e))
-  ]
-]
-
-channel_events : (proc : Proc) (due : Option Tick) (rank : ℕ) (s left : MachineState) (stop : LeftOut)
-    → (let step : MachineStep MachineState Shown LeftOut = channel_step rank proc due s in step ≡ Stops stop left) → left.events ≡ s.events
-channel_events proc None rank s left stop h = absurd (not_both s left [] stop h)
-channel_events proc (Some now) rank s left stop h = ap (λ (m : MachineState). m.events) (sym (channel_unchanged rank proc now s left stop h))
-
-pub left_events : (a : actor.Actor) (rank : ℕ) (s left : MachineState) (stop : LeftOut) → step_by rank a s ≡ Stops stop left → left.events ≡ s.events
-left_events KeyScript rank s left stop h = absurd (not_both (after_line s.keys s) left [] stop h)
-left_events (Dma proc channel) rank s left stop h = channel_events proc (due_by (Dma proc channel) s) rank s left stop h
-left_events (Processor proc) rank s left stop h =
-    let e = concluded_stops rank proc (reached_by proc s) left stop (came_by proc s) (sym (step_is rank proc s) ∙ h) in
-    ap (λ (m : MachineState). m.events) (sym e) ∙ reached_events proc s
-left_events Video rank s left stop h = ap (λ (m : MachineState). m.events) (sym (video_stops rank s left stop h))
-left_events Geometry rank s left stop h = absurd (not_both (after_geometry s) left [] stop h)
-left_events a rank s left stop h = absurd (not_both (after_event a s) left [] stop h)

@@ -1,4 +1,4 @@
-use Rattle.std.proofs.Common.{ℕ, ◌≡◌, ◌<◌, ◌≤◌, ◌^◌, ◌⊎◌, inl, inr, if◌then◌else◌, min, nat_le, nat_lt, Bool, true, false, true≢false, List, [], ◌∷◌, Option, Some, refl, sym, ◌∙◌, ap, subst, arith}
+use Rattle.std.proofs.Common.{ℕ, ◌≡◌, ◌≢◌, ◌<◌, ◌≤◌, ◌-◌, ◌^◌, ◌⊎◌, inl, inr, if◌then◌else◌, min, nat_le, nat_lt, Bool, true, false, true≢false, List, [], ◌∷◌, Option, Some, refl, sym, ◌∙◌, ap, subst, arith}
 use Rattle.std.proofs.lemmas.Option.{same_Some}
 use Rattle.std.proofs.lemmas.Bool.{and_cases, and_from, and_left, and_parts, and_right}
 use Rattle.ds_base.specs.declared.processors.Proc.{Proc}
@@ -16,14 +16,13 @@ use Rattle.ds_runs.proofs.Lists.{within}
 use Rattle.ds_machine.specs.Acting.{acting_dues}
 use Rattle.ds_machine.specs.Lagging as geometry
 use Rattle.ds_machine.specs.Lagging.{CatchesUpFor, CatchesUpIf, TakesGeometry, observes_by}
-use Rattle.ds_machine.specs.NextEvents.{HasLimit, IsNextEvent, TookStep, acting_events_of, comes_before, due_at_least, is_least_by, least_kept, least_of, limit_by, line_kept, past_other, waits_until}
+use Rattle.ds_machine.specs.NextEvents.{IsNextEvent, TookStep, acting_events_of, comes_before, due_at_least, is_least_by, least_kept, least_of, limit_by, line_kept, past_other, waits_until}
 use Rattle.ds_machine.specs.Private.{IsAhead, IsBelowFence, ProcessorStaysPrivate, rank_of}
-use Rattle.ds_machine.specs.TurnSteps.{BelongsToTurn, MayStep, TakesSteps, more, none}
+use Rattle.ds_machine.specs.TurnSteps.{BelongsToTurn, ComesFirst, HasLimit, MayStep, TakesSteps, more, none}
 use Rattle.ds_machine.specs.Hearing.{Fences, geometry_rank}
-use Rattle.ds_machine.specs.Reference.{awake, processor_due, step_by}
-use Rattle.ds_machine.specs.Sound.{HasSoundParts, IsSound}
+use Rattle.ds_machine.specs.Reference.{awake, due_unless, processor_due, step_by}
 use Rattle.ds_machine.specs.StepAnswers.{stepped_of}
-use Rattle.ds_machine.specs.Counting.{HasCounted}
+use Rattle.ds_machine.specs.Counting.{IsRunning, last_limit}
 use Rattle.ds_machine.specs.States.{MachineState, ProcessorState}
 use Rattle.ds_machine.specs.Statuses.{HasBothStatuses}
 use Rattle.ds_machine.specs.PrivateSides.{nine_side, seven_side}
@@ -31,8 +30,7 @@ use Rattle.ds_machine.specs.Steps.{is_blocked, line_of, nine_reach, outcome_of, 
 use Rattle.ds_machine.specs.Touching.{DataStaysPrivate, FetchStaysPrivate, MayBeAhead, is_private_to}
 use Rattle.ds_machine.specs.declared.answers.Done.TheVariants as answers
 use Rattle.ds_machine.specs.declared.next_events.NextEvent.{NextEvent}
-use Rattle.ds_machine.proofs.ActingDues.{acting_low, acting_processor, acting_split}
-use Rattle.ds_machine.proofs.CountsMay.{counted_may}
+use Rattle.ds_machine.proofs.ActingDues.{acting_low, acting_processor, acting_split, same_or_not}
 use Rattle.ds_machine.proofs.DueTicks.{own_tick, rank_there, sort_rank, steps_as}
 use Rattle.ds_machine.proofs.DecodedStays.{fetch_by_words}
 use Rattle.ds_machine.proofs.FastSteps.{ComesBefore, due_there, event_there, in_front, kept_is, processor_least, wait_ends, wait_is}
@@ -40,6 +38,7 @@ use Rattle.ds_machine.proofs.OwnRemaining.{turn_steps_fall}
 use Rattle.ds_machine.proofs.PlacesByWords.{le_cases, lt_cases, nine_by_words, seven_by_words}
 use Rattle.ds_machine.proofs.PrivatePlaces.{private_itself}
 use Rattle.ds_machine.proofs.PrivateTests.{fetch_of_stays}
+use Rattle.ds_machine.proofs.Running.{steps_keep_running}
 use Rattle.ds_machine.proofs.Statuses.{statuses_done}
 
 -- The steps of a processor's turn, by what is kept.
@@ -301,51 +300,130 @@ past_limit next_event s proc until n limit w l le below early = elim (lt_cases n
       (isnt_lt (waits_until next_event s proc) next_event.events_until.0 (omega (arith, last, w))))
 ]
 
--- two that are kept of a machine on which nobody is to wake tell the same tick of the first event, and so the same limit
-first_alike : (one other : NextEvent) (s : MachineState) → IsNextEvent one s → IsNextEvent other s → 0 < other.events_until.0 → one.events_until.0 ≤ other.events_until.0
-first_alike one other s is also some = let k = also.first some in is.events k.0 other.events_until k.1
+-- ---- the same by what acts
 
-pub limit_alike : (one other : NextEvent) (s : MachineState) (proc : Proc) (until : ℕ) → IsNextEvent one s → IsNextEvent other s → 0 < one.events_until.0 → 0 < other.events_until.0
-    → limit_by one s proc until ≡ limit_by other s proc until
-limit_alike one other s proc until is also some also_some =
-    let le = first_alike one other s is also also_some in
-    let ge = first_alike other one s also is some in
-    let first : one.events_until.0 ≡ other.events_until.0 = omega (arith, le, ge) in
-    let least : least_kept one (other_proc proc) ≡ least_kept other (other_proc proc) = kept_is one s is (other_proc proc) ∙ sym (kept_is other s also (other_proc proc)) in
-    ap (λ (e : ℕ). min (min e until) (past_other proc (waits_until one s (other_proc proc)))) first
-    ∙ ap (λ (l : ℕ). min (min other.events_until.0 until) (past_other proc (due_at_least l (processor_of s (other_proc proc)).due))) least
+le_split : (x y : ℕ) → x ≤ y → (x < y) ⊎ (x ≡ y)
+le_split x y le = grind (arith, le)
 
--- what is known of a machine is so by what is kept of it
-pub limit_here : (next_event : NextEvent) (s : MachineState) (proc : Proc) (until limit : ℕ) → IsNextEvent next_event s → 0 < next_event.events_until.0 → HasLimit until s proc limit
-    → limit ≡ limit_by next_event s proc until
-limit_here next_event s proc until limit is some has = has.same ∙ limit_alike has.next_event next_event s proc until has.is is has.some some
+-- the other processor's rank
+across : (proc : Proc) (other : ℕ) → (other ≡ 22) ⊎ (other ≡ 23) → other ≢ rank_of proc → other ≡ rank_of (other_proc proc)
+across Nine other (inl e) ne = absurd (ne e)
+across Nine other (inr e) ne = e
+across Seven other (inl e) ne = e
+across Seven other (inr e) ne = absurd (ne e)
+
+after_other : (proc : Proc) (n wait at : ℕ) → n < past_other proc wait → wait ≡ at → (n < at) ⊎ ((n ≡ at) × (rank_of proc ≤ rank_of (other_proc proc)))
+after_other Nine n wait at lt e = elim (le_split n at (omega (arith, lt, e))) [ inl a ↦ inl a | inr b ↦ inr (b, omega arith) ]
+after_other Seven n wait at lt e = inl (omega (arith, lt, e))
+
+past_if : (proc : Proc) (n wait at : ℕ) → n < 2 ^ 56 → wait ≡ at → (n < at) ⊎ ((n ≡ at) × (rank_of proc ≤ rank_of (other_proc proc))) → n < past_other proc wait
+past_if Nine n wait at low e (inl lt) = omega (arith, low, e, lt)
+past_if Nine n wait at low e (inr same) = (let k = same.0 in omega (arith, low, e, k))
+past_if Seven n wait at low e (inl lt) = omega (arith, e, lt)
+past_if Seven n wait at low e (inr same) = (let k = same.1 in absurd (omega (arith, k)))
+
+past_never : (proc : Proc) (n wait : ℕ) → n < 2 ^ 56 → 2 ^ 64 - 1 ≤ wait → n < past_other proc wait
+past_never Nine n wait low late = omega (arith, low, late)
+past_never Seven n wait low late = omega (arith, low, late)
+
+free_by : (blocked : Bool) → least_of blocked ≡ 0 → blocked ≡ false
+free_by true e = absurd (omega (arith, e))
+free_by false e = refl
+
+not_own : (proc : Proc) (rank : ℕ) → rank < 22 → rank ≢ rank_of proc
+not_own Nine rank low = λ e. omega (arith, low, e)
+not_own Seven rank low = λ e. omega (arith, low, e)
+
+differs : (proc : Proc) → rank_of (other_proc proc) ≢ rank_of proc
+differs Nine = λ e. omega (arith, e)
+differs Seven = λ e. omega (arith, e)
+
+module _ (next_event : NextEvent) (s : MachineState) (proc : Proc) (until : ℕ) (is : IsNextEvent next_event s) (some : 0 < next_event.events_until.0) (early : until ≤ 2 ^ 56) where
+  abbrev wait : ℕ
+  wait = waits_until next_event s (other_proc proc)
+
+  is_first : (n : ℕ) → n < limit_by next_event s proc until → (n < until) × ComesFirst s proc n
+  is_first n lt = (omega (arith, lt), go) where
+    go : ComesFirst s proc n
+    go other at ne h = elim (sort_rank other (acting_low s other at h)) [
+      | inl event ↦ (let k = is.events other at (event_there s other at event h) in inl (omega (arith, k, lt)))
+      | inr rest ↦
+          (let e = across proc other rest ne in
+          let there = sym (acting_processor s (other_proc proc)) ∙ subst (λ (r : ℕ). due_at (acting_dues s) r ≡ Some at) e h in
+          let w = wait_is (is_blocked s (other_proc proc)) (least_kept next_event (other_proc proc)) (processor_of s (other_proc proc)) at (kept_is next_event s is (other_proc proc)) there in
+          subst (λ (r : ℕ). (n < at.0) ⊎ ((n ≡ at.0) × (rank_of proc ≤ r))) (sym e) (after_other proc n wait at.0 (omega (arith, lt)) w))
+    ]
+
+  before_events : (n : ℕ) → ComesFirst s proc n → n < next_event.events_until.0
+  before_events n first =
+      let k = is.first some in
+      let at = event_in s k.0 next_event.events_until k.1 in
+      let low = at.0 in
+      let high = above_events proc in
+      elim (first k.0 next_event.events_until (not_own proc k.0 low) at.1) [ inl lt ↦ lt | inr e ↦ (let r = e.1 in absurd (omega (arith, r, low, high))) ]
+
+  before_past : (n : ℕ) → n < 2 ^ 56 → ComesFirst s proc n → n < past_other proc wait
+  before_past n low first = by_need (is_blocked s (other_proc proc)) refl where
+    by_need : (blocked : Bool) → is_blocked s (other_proc proc) ≡ blocked → n < past_other proc wait
+    by_need true e =
+        let least : least_kept next_event (other_proc proc) ≡ 2 ^ 64 - 1 = kept_is next_event s is (other_proc proc) ∙ ap least_of e in
+        past_never proc n wait low (omega (arith, least))
+    by_need false e =
+        let there : processor_due s (other_proc proc) ≡ Some (tick_of (processor_of s (other_proc proc))) = ap (λ (b : Bool). due_unless b (processor_of s (other_proc proc))) e in
+        let w = wait_is (is_blocked s (other_proc proc)) (least_kept next_event (other_proc proc)) (processor_of s (other_proc proc)) _ (kept_is next_event s is (other_proc proc)) there in
+        past_if proc n wait (processor_of s (other_proc proc)).due low w
+        (first (rank_of (other_proc proc)) (tick_of (processor_of s (other_proc proc))) (differs proc) (acting_processor s (other_proc proc) ∙ there))
+
+  pub limit_kept : is_blocked s proc ≡ false → HasLimit until s proc (limit_by next_event s proc until)
+  limit_kept free = record { free = free; first = λ n. (is_first n, λ k. below n k.0 k.1) } where
+    below : (n : ℕ) → n < until → ComesFirst s proc n → n < limit_by next_event s proc until
+    below n lt first = (let event = before_events n first in let other = before_past n (omega (arith, lt, early)) first in omega (arith, lt, event, other))
+
+-- there is one such tick alone
+one_limit : (a b : ℕ) → ((n : ℕ) → n < a → n < b) → ((n : ℕ) → n < b → n < a) → a ≡ b
+one_limit a b to from = elim (lt_cases b a) [
+  | inl k ↦ (let bad = to b k.0 in absurd (omega (arith, bad)))
+  | inr k ↦ elim (lt_cases a b) [ inl j ↦ (let bad = from a j.0 in absurd (omega (arith, bad))) | inr j ↦ (let le = k.0 in let ge = j.0 in omega (arith, le, ge)) ]
+]
+
+pub limit_here : (next_event : NextEvent) (s : MachineState) (proc : Proc) (until limit : ℕ) → IsNextEvent next_event s → 0 < next_event.events_until.0 → until ≤ 2 ^ 56
+    → HasLimit until s proc limit → limit ≡ limit_by next_event s proc until
+limit_here next_event s proc until limit is some early has =
+    let kept = limit_kept next_event s proc until is some early has.free in
+    one_limit limit (limit_by next_event s proc until) (λ n lt. (kept.first n).1 ((has.first n).0 lt)) (λ n lt. (has.first n).1 ((kept.first n).0 lt))
 
 pub free_here : (next_event : NextEvent) (s : MachineState) (proc : Proc) (until limit : ℕ) → IsNextEvent next_event s → HasLimit until s proc limit → least_kept next_event proc ≡ 0
-free_here next_event s proc until limit is has = kept_is next_event s is proc ∙ sym (kept_is has.next_event s has.is proc) ∙ has.free
+free_here next_event s proc until limit is has = kept_is next_event s is proc ∙ ap least_of has.free
+
+-- and it is the one that is kept
+pub limit_so : (next_event : NextEvent) (s : MachineState) (proc : Proc) (until limit : ℕ) → IsNextEvent next_event s → 0 < next_event.events_until.0 → until ≤ 2 ^ 56
+    → least_kept next_event proc ≡ 0 → limit ≡ limit_by next_event s proc until → HasLimit until s proc limit
+limit_so next_event s proc until limit is some early free same =
+    subst (HasLimit until s proc) (sym same)
+    (limit_kept next_event s proc until is some early (free_by (is_blocked s proc) (sym (kept_is next_event s is proc) ∙ free)))
 
 -- one that is due early isn't blocked
 pub free_when : (next_event : NextEvent) (s : MachineState) (proc : Proc) (n : ℕ) → IsNextEvent next_event s → n ≡ waits_until next_event s proc → n < 2 ^ 56 → least_kept next_event proc ≡ 0
 free_when next_event s proc n is e lt = kept_is next_event s is proc ∙ ap least_of (due_when next_event s proc n is e lt).free
 
 -- one that is due before it belongs to its turn
-pub belongs_below : (until limit : ℕ) (s : MachineState) (proc : Proc) → until ≤ 2 ^ 56 → HasLimit until s proc limit → (processor_of s proc).due < limit → BelongsToTurn until s proc
-belongs_below until limit s proc early has lt =
-    let n = (processor_of s proc).due in
-    let w = waits_for has.next_event s proc n has.free refl in
-    let k = below_limit has.next_event s proc until n limit w has.same lt in
-    let below = k.below in
-    let low : n < 2 ^ 56 = omega (arith, below, early) in
-    record {
-      tick = record { 0 = n };
-      due = (due_when has.next_event s proc n has.is w low).there;
-      below = below;
-      goes = inl (least_when has.next_event s proc n has.is w low k.least);
-    }
+pub belongs_below : (until limit : ℕ) (s : MachineState) (proc : Proc) → HasLimit until s proc limit → (processor_of s proc).due < limit → BelongsToTurn until s proc
+belongs_below until limit s proc has lt =
+    let tick = tick_of (processor_of s proc) in
+    let k = (has.first tick.0).0 lt in
+    let due : processor_due s proc ≡ Some tick = ap (λ (b : Bool). due_unless b (processor_of s proc)) has.free in
+    record { tick = tick; due = due; below = k.0; goes = inl (record { there = acting_processor s proc ∙ due; least = least tick due k.1 }) } where
+      least : (tick : Tick) → processor_due s proc ≡ Some tick → ComesFirst s proc tick.0 → (other : ℕ) (at : Tick) → due_at (acting_dues s) other ≡ Some at
+          → (tick.0 < at.0) ⊎ ((tick.0 ≡ at.0) × (rank_of proc ≤ other))
+      least tick due first other at h = elim (same_or_not other (rank_of proc)) [
+        | inl e ↦
+            (let there = subst (λ (r : ℕ). due_at (acting_dues s) r ≡ Some at) e h in
+            let same = same_Some tick at (sym due ∙ sym (acting_processor s proc) ∙ there) in
+            inr (ap (λ (t : Tick). t.0) same, omega (arith, e)))
+        | inr ne ↦ first other at ne h
+      ]
 
 -- ---- a step that is taken
-
-pub sound_kept : (next_event : NextEvent) (s : MachineState) → HasSoundParts s → IsNextEvent next_event s → 0 < next_event.events_until.0 → IsSound s
-sound_kept next_event s parts is some = record { parts = parts; asleep = is.asleep some; settled = is.settled some }
 
 -- one that doesn't observe geometry needs no catching up, and may be taken
 apart_rank : (s : MachineState) (proc : Proc) → observes_by (Processor proc) s ≡ false → observes_by (actor_of (rank_of proc)) s ≡ false
@@ -354,32 +432,31 @@ apart_rank s proc apart = ap (λ (a : actor.Actor). observes_by a s) (actor_is p
 needs_none : (s : MachineState) (proc : Proc) → observes_by (Processor proc) s ≡ false → CatchesUpFor (processor_of s proc).due (rank_of proc) s s
 needs_none s proc apart = subst (λ (b : Bool). CatchesUpIf b (processor_of s proc).due (rank_of proc) s s) (sym (apart_rank s proc apart)) refl
 
-apart_may : (s : MachineState) (proc : Proc) (n : ℕ) → IsSound s → IsDueAt s proc n → n ≤ 2 ^ 56 → IsLeast (acting_dues s) (record { 0 = n }) (rank_of proc) ⊎ IsAhead s proc
+apart_may : (s : MachineState) (proc : Proc) (n : ℕ) → IsDueAt s proc n → n ≤ 2 ^ 56 → IsLeast (acting_dues s) (record { 0 = n }) (rank_of proc) ⊎ IsAhead s proc
     → observes_by (Processor proc) s ≡ false → MayStep s (rank_of proc)
-apart_may s proc n sound d early goes apart = record {
+apart_may s proc n d early goes apart = record {
   tick = record { 0 = n };
   due = rank_there s proc ∙ d.there;
   early = early;
   may = elim goes [
     | inl least ↦ inr (inl (record { least = least; apart = apart_rank s proc apart }))
-    | inr ahead ↦ inr (inr (proc, refl, ahead, sound))
+    | inr ahead ↦ inr (inr (proc, refl, ahead))
   ];
-  asleep = λ e quiet. sound.asleep;
 }
 
-pub took_when : (next_event : NextEvent) (s next : MachineState) (proc : Proc) (n until : ℕ) → IsSound s → HasCounted s → IsDueAt s proc n → n < until → until ≤ 2 ^ 56
+pub took_when : (next_event : NextEvent) (s next : MachineState) (proc : Proc) (n until : ℕ) → IsRunning last_limit s → IsDueAt s proc n → n < until → until ≤ 2 ^ 56
     → IsLeast (acting_dues s) (record { 0 = n }) (rank_of proc) ⊎ IsAhead s proc → observes_by (Processor proc) s ≡ false
     → awake (Some (record { 0 = n })) (step_by (rank_of proc) (Processor proc) s) ≡ stepped_of s answers.Made next → next.io ≡ s.io
     → (processor_of next (other_proc proc)).due ≡ (processor_of s (other_proc proc)).due → TookStep until proc s next
-took_when next_event s next proc n until sound has d lt early goes apart made io other =
+took_when next_event s next proc n until running d lt early goes apart made io other =
     let b : BelongsToTurn until s proc = record { tick = record { 0 = n }; due = d.there; below = lt; goes = goes } in
     let step = steps_as s (rank_of proc) (Processor proc) (Some (record { 0 = n })) (Makes next []) (actor_is proc) d.there made in
     record {
       belongs = b;
       apart = apart;
       made = step;
-      counted = counted_may s next (rank_of proc) answers.Made sound.parts (apart_may s proc n sound d (omega (arith, lt, early)) goes apart) has step;
-      fewer = turn_steps_fall until s s next proc [] sound b (needs_none s proc apart) step;
+      running = steps_keep_running last_limit (rank_of proc) s next [] running (apart_may s proc n d (omega (arith, lt, early)) goes apart) (omega (arith, lt, early)) step;
+      fewer = turn_steps_fall until s s next proc [] running.sound b (needs_none s proc apart) step;
       io = io;
       other = other;
     }
@@ -389,7 +466,7 @@ took_when next_event s next proc n until sound has d lt early goes apart made io
 pub record Goes (until : ℕ) (proc : Proc) (next_event : NextEvent) (limit : ℕ) (start now : MachineState) : Type 0 where
   pub steps : TakesSteps until proc start now
   pub kept : IsNextEvent next_event now
-  pub counted : HasCounted now
+  pub running : IsRunning last_limit now
   pub io : now.io ≡ start.io
   pub least : limit ≡ limit_by next_event now proc until
 
@@ -400,7 +477,7 @@ goes_on until proc next_event limit start before now g took is =
     record {
       steps = more start before before now g.steps took.belongs (needs_none before proc took.apart) took.made;
       kept = is;
-      counted = took.counted;
+      running = took.running;
       io = took.io ∙ g.io;
       least = g.least ∙ ap (λ (due : ℕ). min (min next_event.events_until.0 until) (past_other proc (due_at_least across due))) (sym took.other);
     }

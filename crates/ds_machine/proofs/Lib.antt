@@ -4,15 +4,7 @@ pub mod Booting
 pub mod ChannelEvents
 pub mod Costs
 pub mod FenceFirsts
-pub mod Counts
-pub mod CountPlaces
-pub mod CountStands
 pub mod CountSteps
-pub mod CountsAhead
-pub mod CountsMay
-pub mod CountsQuiet
-pub mod QuietSettles
-pub mod QuietStays
 pub mod DueTicks
 pub mod ActingDues
 pub mod Frames
@@ -49,7 +41,8 @@ pub mod PrivateTests
 pub mod StepsMay
 pub mod ActingSteps
 pub mod ActingPlaces
-pub mod ActingCounts
+pub mod Lasts
+pub mod Running
 pub mod TurnSteps
 pub mod GoingSteps
 pub mod VertexRuns
@@ -68,8 +61,8 @@ pub mod LagCommutes
 pub mod LagSteps
 pub mod GeometryFirst
 pub mod LagLaw
+pub mod QuietStays
 pub mod CatchingUp
-pub mod CaughtCounts
 pub mod ObservedTests
 pub mod SameTick
 pub mod SeenSame

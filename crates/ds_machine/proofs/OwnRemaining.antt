@@ -68,7 +68,7 @@ turn_silent s next proc tick outs due h =
     let k = awake_makes tick (step_by (rank_of proc) (Processor proc) s) next outs (came_of s next proc tick outs due h) in
     concluded_silent (rank_of proc) proc (reached_by proc s) k.0 outs (came_by proc s) k.1
 
-fewer_left : (until : ℕ) (tick : Tick) (due : Option Tick) → tick.0 < until → IsLater tick due → ticks_left until due < ticks_left until (Some tick)
+pub fewer_left : (until : ℕ) (tick : Tick) (due : Option Tick) → tick.0 < until → IsLater tick due → ticks_left until due < ticks_left until (Some tick)
 fewer_left until tick None lt later = omega (arith, lt)
 fewer_left until tick (Some at) lt later = omega (arith, lt, later)
 

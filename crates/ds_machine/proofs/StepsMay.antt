@@ -80,7 +80,7 @@ steps_alone s proc tick sound ahead there =
 -- ---- any of these, at its tick
 
 abbrev pub MayThen : MachineState → ℕ → Tick → Type 0
-MayThen s rank tick = IsLeast (dues_of s) tick rank ⊎ (ActsApart s rank tick ⊎ ((proc : Proc) × (rank ≡ rank_of proc) × IsAhead s proc × IsSound s))
+MayThen s rank tick = IsLeast (dues_of s) tick rank ⊎ (ActsApart s rank tick ⊎ ((proc : Proc) × (rank ≡ rank_of proc) × IsAhead s proc))
 
 pub steps_then : (s : MachineState) (rank : ℕ) (tick : Tick) → HasSoundParts s → due_at (dues_of s) rank ≡ Some tick → MayThen s rank tick → Steps (actor_of rank) rank tick s
 steps_then s rank tick sound there may = elim may [

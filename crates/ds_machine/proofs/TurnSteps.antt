@@ -5,23 +5,21 @@ use Rattle.ds_base.specs.declared.processors.Proc.{Proc}
 use Rattle.ds_base.specs.declared.ticks.Tick.{Tick}
 use Rattle.ds_runs.specs.Runs.{Ending, IsLeast, Makes, Runs, Stops}
 use Rattle.ds_machine.specs.Acting.{acting_dues}
-use Rattle.ds_machine.specs.Counting.{CountsWithin, HasCounted}
+use Rattle.ds_machine.specs.Counting.{IsRunning}
 use Rattle.ds_machine.specs.Frames.{last_frame, last_lists}
 use Rattle.ds_machine.specs.Lagging.{CatchesUpFor}
 use Rattle.ds_machine.specs.Private.{rank_of}
 use Rattle.ds_machine.specs.Reference.{Shown, reference, reference_step}
 use Rattle.ds_machine.specs.Sound.{IsSound}
 use Rattle.ds_machine.specs.States.{MachineState, counts_of}
-use Rattle.ds_machine.specs.Statuses.{HasBothStatuses}
 use Rattle.ds_machine.specs.Steps.{processor_of, tick_of}
 use Rattle.ds_machine.specs.TurnSteps.{BelongsToTurn, MayAct, TakesSteps, more, none}
-use Rattle.ds_machine.proofs.ActingCounts.{acted_counted, acted_within}
 use Rattle.ds_machine.proofs.ActingDues.{acting_processor}
 use Rattle.ds_machine.proofs.ActingSteps.{Acted, ActedStops, acted_keeps, acting_runs}
-use Rattle.ds_machine.proofs.Counts.{within_more}
 use Rattle.ds_machine.proofs.DueTicks.{own_tick}
+use Rattle.ds_machine.proofs.Running.{running_acted}
 
--- What the steps of a processor's turn leave: a sound machine, whose counts stay in their bounds, and from which the reference run goes on.
+-- What the steps of a processor's turn leave: a machine that goes on, and from which the reference run goes on.
 
 -- a step of a turn is one that may be taken
 pub belongs_acts : (until : ℕ) (s : MachineState) (proc : Proc) → BelongsToTurn until s proc → MayAct s (tick_of (processor_of s proc)) (rank_of proc)
@@ -51,46 +49,14 @@ pub belongs_stops : (until : ℕ) (s caught left : MachineState) (proc : Proc) (
     → ActedStops s left (tick_of (processor_of s proc)) (rank_of proc) stop
 belongs_stops until s caught left proc stop b catches h = record { caught = caught; may = belongs_acts until s proc b; catches = catches; stops = h }
 
--- ---- the counts
+-- ---- the machine goes on
 
-pub record KeepsOn (until : ℕ) (s next : MachineState) : Type 0 where
-  pub sound : IsSound next
-  pub counted : HasCounted next
-  pub statuses : HasBothStatuses s → HasBothStatuses next
-  pub within : (before limit : ℕ) → CountsWithin before s → before ≤ limit → until ≤ limit → CountsWithin limit next
-
-pub turn_keeps : (until : ℕ) (s caught next : MachineState) (proc : Proc) → until ≤ 2 ^ 56 → IsSound s → HasCounted s → BelongsToTurn until s proc
-    → CatchesUpFor (processor_of s proc).due (rank_of proc) s caught → reference_step (rank_of proc) caught ≡ Makes next [] → KeepsOn until s next
-turn_keeps until s caught next proc most sound has b catches h =
-    let tick = tick_of (processor_of s proc) in
-    let below = belongs_below until s proc b in
-    let early : tick.0 ≤ 2 ^ 56 = omega (arith, below, most) in
-    let acted = belongs_acted until s caught next proc [] b catches h in
-    let kept = acted_keeps s next tick (rank_of proc) [] sound acted in
-    record {
-      sound = kept.sound;
-      counted = acted_counted s next tick (rank_of proc) [] sound acted early has;
-      statuses = kept.statuses;
-      within = λ before limit within le room. acted_within s next tick (rank_of proc) [] sound acted early has before limit within le (omega (arith, below, room));
-    }
-
--- of some steps
-pub takes_keep : (until : ℕ) (proc : Proc) (s next : MachineState) → until ≤ 2 ^ 56 → IsSound s → HasCounted s → TakesSteps until proc s next → KeepsOn until s next
-takes_keep until proc s next most sound has (none start) = record {
-  sound = sound;
-  counted = has;
-  statuses = λ kept. kept;
-  within = λ before limit within le room. within_more s before limit within le;
-}
-takes_keep until proc s next most sound has (more start before caught last earlier b catches h) =
-    let first = takes_keep until proc start before most sound has earlier in
-    let then = turn_keeps until before caught last proc most first.sound first.counted b catches h in
-    record {
-      sound = then.sound;
-      counted = then.counted;
-      statuses = λ kept. then.statuses (first.statuses kept);
-      within = λ few limit within le room. then.within limit limit (first.within few limit within le room) (omega arith) room;
-    }
+pub running_along : (until limit : ℕ) (proc : Proc) (s next : MachineState) → until ≤ limit → TakesSteps until proc s next → IsRunning limit s → IsRunning limit next
+running_along until limit proc s next le (none start) running = running
+running_along until limit proc s next le (more start before caught last earlier b catches h) running =
+    let below = belongs_below until before proc b in
+    running_acted limit before last (tick_of (processor_of before proc)) (rank_of proc) [] (belongs_acted until before caught last proc [] b catches h) (omega (arith, below, le))
+    (running_along until limit proc start before le earlier running)
 
 -- ---- frames and lists stay, and no step is taken back
 

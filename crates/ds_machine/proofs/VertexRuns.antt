@@ -16,7 +16,7 @@ use Rattle.ds_runs.proofs.RunLaws.{same_makes, not_both}
 use Rattle.gx_fifo.specs.GxStates.{GxState}
 use Rattle.gx_fifo.proofs.Laws.{finished_run, swapped_run}
 use Rattle.ds_machine.specs.Channels.{channel_step}
-use Rattle.ds_machine.specs.Hearing.{geometry_before}
+use Rattle.ds_machine.specs.Counting.{run_of}
 use Rattle.ds_machine.specs.Reference.{Shown, after_event, after_geometry, after_line, after_video, step_by, swapped_if}
 use Rattle.ds_machine.specs.States.{MachineState}
 use Rattle.ds_machine.specs.Steps.{gone_by}
@@ -26,15 +26,12 @@ use Rattle.ds_machine.proofs.ProcessorSteps.{came_by, concluded_stops, concludes
 use Rattle.ds_machine.proofs.VideoEvents.{done_gx, video_makes, video_stops}
 use Rattle.video2d.specs.Scans.{scan_due_tick, starts_vblank}
 
--- How many vertices the current run has: geometry adds one at most in a step, and takes each of its steps at a tick of its own.
+-- How many vertices the current run has: geometry adds one at most in a step.
 
 -- the current run grows by geometry's steps alone
 abbrev pub runs_in : actor.Actor → ℕ
 runs_in Geometry = 1
 runs_in a = 0
-
-abbrev pub run_of : MachineState → ℕ
-run_of s = s.io.gx.geometry.numbers.run
 
 gone_run : (proc : Proc) (m : MachineState) (came : arm.Stepped) → run_of (gone_by proc came m) ≡ run_of m
 gone_run Nine m (Cost clocks) = refl
@@ -82,52 +79,3 @@ made_run (Processor proc) rank tick s made outs st h =
     let m = reached_by proc s in
     let k = concludes rank proc m made outs (came_by proc s) (costs_some proc s) (sym (step_is rank proc s) ∙ h) in
     as_long made s (ap run_of (sym k.1) ∙ gone_run proc m (came_by proc s) ∙ (goes proc tick s (operation proc rank tick s st)).geometry.run)
-
--- one that stops leaves it
-pub left_run : (a : actor.Actor) (rank : ℕ) (tick : Tick) (s left : MachineState) (stop : LeftOut) → Steps a rank tick s → step_by rank a s ≡ Stops stop left → run_of left ≡ run_of s
-left_run KeyScript rank tick s left stop st h = absurd (not_both (after_line s.keys s) left [] stop h)
-left_run Geometry rank tick s left stop st h = absurd (not_both (after_geometry s) left [] stop h)
-left_run (Dma proc channel) rank tick s left stop st h =
-    let P : Option Tick → Type 0 = λ o. (let step : MachineStep MachineState Shown LeftOut = channel_step rank proc o s in step ≡ Stops stop left) in
-    ap run_of (sym (channel_unchanged rank proc tick s left stop (subst P st.due h))) ∙ ap (λ (g : GxState). g.geometry.numbers.run) (read_unchanged proc (next_unit s.io proc) s).gx
-left_run (Processor proc) rank tick s left stop st h =
-    let e = concluded_stops rank proc (reached_by proc s) left stop (came_by proc s) (sym (step_is rank proc s) ∙ h) in
-    ap run_of (sym e) ∙ (goes proc tick s (operation proc rank tick s st)).geometry.run
-left_run Video rank tick s left stop st h = ap run_of (sym (video_stops rank s left stop h))
-left_run a rank tick s left stop st h = absurd (not_both (after_event a s) left [] stop h)
-
--- ---- places of steps
-
--- geometry's steps have the rank 12
-pub place_of_run : (rank : ℕ) → rank < 24 → geometry_before rank + runs_in (actor_of rank) ≤ geometry_before (rank + 1)
-place_of_run zero lt = omega arith
-place_of_run (suc zero) lt = omega arith
-place_of_run (suc (suc zero)) lt = omega arith
-place_of_run (suc (suc (suc zero))) lt = omega arith
-place_of_run (suc (suc (suc (suc zero)))) lt = omega arith
-place_of_run (suc (suc (suc (suc (suc zero))))) lt = omega arith
-place_of_run (suc (suc (suc (suc (suc (suc zero)))))) lt = omega arith
-place_of_run (suc (suc (suc (suc (suc (suc (suc zero))))))) lt = omega arith
-place_of_run (suc (suc (suc (suc (suc (suc (suc (suc zero)))))))) lt = omega arith
-place_of_run (suc (suc (suc (suc (suc (suc (suc (suc (suc zero))))))))) lt = omega arith
-place_of_run (suc (suc (suc (suc (suc (suc (suc (suc (suc (suc zero)))))))))) lt = omega arith
-place_of_run (suc (suc (suc (suc (suc (suc (suc (suc (suc (suc (suc zero))))))))))) lt = omega arith
-place_of_run (suc (suc (suc (suc (suc (suc (suc (suc (suc (suc (suc (suc zero)))))))))))) lt = omega arith
-place_of_run (suc (suc (suc (suc (suc (suc (suc (suc (suc (suc (suc (suc (suc zero))))))))))))) lt = omega arith
-place_of_run (suc (suc (suc (suc (suc (suc (suc (suc (suc (suc (suc (suc (suc (suc zero)))))))))))))) lt = omega arith
-place_of_run (suc (suc (suc (suc (suc (suc (suc (suc (suc (suc (suc (suc (suc (suc (suc zero))))))))))))))) lt = omega arith
-place_of_run (suc (suc (suc (suc (suc (suc (suc (suc (suc (suc (suc (suc (suc (suc (suc (suc zero)))))))))))))))) lt = omega arith
-place_of_run (suc (suc (suc (suc (suc (suc (suc (suc (suc (suc (suc (suc (suc (suc (suc (suc (suc zero))))))))))))))))) lt = omega arith
-place_of_run (suc (suc (suc (suc (suc (suc (suc (suc (suc (suc (suc (suc (suc (suc (suc (suc (suc (suc zero)))))))))))))))))) lt = omega arith
-place_of_run (suc (suc (suc (suc (suc (suc (suc (suc (suc (suc (suc (suc (suc (suc (suc (suc (suc (suc (suc zero))))))))))))))))))) lt = omega arith
-place_of_run (suc (suc (suc (suc (suc (suc (suc (suc (suc (suc (suc (suc (suc (suc (suc (suc (suc (suc (suc (suc zero)))))))))))))))))))) lt = omega arith
-place_of_run (suc (suc (suc (suc (suc (suc (suc (suc (suc (suc (suc (suc (suc (suc (suc (suc (suc (suc (suc (suc (suc zero))))))))))))))))))))) lt = omega arith
-place_of_run (suc (suc (suc (suc (suc (suc (suc (suc (suc (suc (suc (suc (suc (suc (suc (suc (suc (suc (suc (suc (suc (suc zero)))))))))))))))))))))) lt = omega arith
-place_of_run (suc (suc (suc (suc (suc (suc (suc (suc (suc (suc (suc (suc (suc (suc (suc (suc (suc (suc (suc (suc (suc (suc (suc zero))))))))))))))))))))))) lt = omega arith
-place_of_run (suc (suc (suc (suc (suc (suc (suc (suc (suc (suc (suc (suc (suc (suc (suc (suc (suc (suc (suc (suc (suc (suc (suc (suc n)))))))))))))))))))))))) lt = absurd (omega (arith, lt))
-
-pub later_run : (tick at rank other : ℕ) → 24 * tick + rank < 24 * at + other → rank < 24 → other < 24 → tick + geometry_before (rank + 1) ≤ at + geometry_before other
-later_run tick at rank other before low small = grind (arith, before, low, small)
-
-pub run_before : (rank : ℕ) → geometry_before rank ≤ 1
-run_before rank = grind arith

@@ -14,7 +14,6 @@ use Rattle.ds_ports.specs.ProcessorIo.{ProcessorIoState, processor_io_triggered}
 use Rattle.ds_ports.specs.Io.{IoState, comes_before, io_of, is_settled, level_told, release_kept, release_of, settled, with_halted}
 use Rattle.ds_machine.specs.Reference.{due_unless, keys_due, processor_due}
 use Rattle.ds_machine.specs.Sound.{AreAsleep, HasSoundParts}
-use Rattle.ds_machine.specs.Counting.{is_to_be_triggered}
 use Rattle.ds_machine.specs.States.{MachineState, ProcessorState, counts_of}
 use Rattle.ds_machine.specs.Steps.{ended, goes_on, is_blocked, is_halted, machine_settled, processor_of, wakes, with_halt, with_processor, woken, woken_one}
 use Rattle.gx_fifo.specs.GxStates.{AreWaiting, is_half_empty}
@@ -175,7 +174,7 @@ settle_leaves tick u =
     record { video = l.video; gx = l.gx; seven = l.seven; halted = l.halted; timers = l.timers; keycnt = l.keycnt }
 
 -- where no channel is to be triggered, none is
-pub settled_dma : (tick : Tick) (u : IoState) → IsIo u → is_to_be_triggered u ≡ false → (settled tick u).nine.dma ≡ u.nine.dma
+pub settled_dma : (tick : Tick) (u : IoState) → IsIo u → (is_half_empty u.gx && awaits_geometry u.nine.dma) ≡ false → (settled tick u).nine.dma ≡ u.nine.dma
 settled_dma tick u is none = by_half (is_half_empty u.gx) none where
   by_half : (half : Bool) → (half && awaits_geometry u.nine.dma) ≡ false
       → (if half then record (level_told u) { nine = processor_io_triggered (level_told u).nine causes.Geometry tick } else level_told u).nine.dma ≡ u.nine.dma
@@ -183,7 +182,7 @@ settled_dma tick u is none = by_half (is_half_empty u.gx) none where
   by_half false h = refl
 
 -- and what is kept of a stall's end goes by the channels as they were
-pub settled_released : (tick : Tick) (u : IoState) → IsIo u → is_to_be_triggered u ≡ false → (settled tick u).released ≡ release_of u
+pub settled_released : (tick : Tick) (u : IoState) → IsIo u → (is_half_empty u.gx && awaits_geometry u.nine.dma) ≡ false → (settled tick u).released ≡ release_of u
 settled_released tick u is none = by_half (is_half_empty u.gx) none where
   by_half : (half : Bool) → (half && awaits_geometry u.nine.dma) ≡ false
       → (release_kept (if half then record (level_told u) { nine = processor_io_triggered (level_told u).nine causes.Geometry tick } else level_told u)).released ≡ release_of u

@@ -1,50 +1,74 @@
-use Rattle.std.specs.Prelude.{ℕ, ◌+◌, ◌-◌, ◌*◌, ◌^◌, ◌≡◌, ◌≤◌, ◌&&◌, Bool, true, false, min, Option, Some, None}
-use Rattle.ds_base.specs.declared.processors.Proc.{Proc}
+use Rattle.std.specs.Prelude.{ℕ, ◌+◌, ◌*◌, ◌^◌, ◌≡◌, ◌<◌, ◌≤◌, List, Some}
+use Rattle.ds_base.specs.declared.left_out.LeftOut.{LeftOut}
+use Rattle.ds_base.specs.declared.processors.Proc.TheVariants.{Nine, Seven}
 use Rattle.ds_base.specs.declared.ticks.Tick.{Tick}
-use Rattle.ds_dma.specs.States.{awaits_geometry}
-use Rattle.ds_ports.specs.Io.{IoState}
-use Rattle.ds_runs.specs.Actors.{actor_of}
-use Rattle.ds_runs.specs.Runs.{due_at}
-use Rattle.gx_fifo.specs.GxStates.{is_half_empty}
-use Rattle.ds_machine.specs.Acting.{acting_dues}
-use Rattle.ds_machine.specs.Hearing.{Fences, geometry_before}
-use Rattle.ds_machine.specs.Reference.{dues_of}
+use Rattle.ds_machine.specs.Lasts.{LeadsTo}
+use Rattle.ds_runs.specs.Runs.{IsOver, Makes, Stops, due_at}
+use Rattle.ds_machine.specs.Reference.{Shown, dues_of, reference, reference_step}
+use Rattle.ds_machine.specs.Sound.{IsSound}
 use Rattle.ds_machine.specs.States.{MachineState, counts_of}
-use Rattle.ds_machine.specs.Steps.{is_halted, processor_of}
+use Rattle.ds_machine.specs.TurnSteps.{MayStep, own_remaining}
+use Rattle.ds_machine.specs.declared.answers.Done.{Done}
+use Rattle.ds_machine.specs.declared.answers.Done.TheVariants.{Made, Frame, Stopped}
 
--- How many steps there were, by owner. (Geometry may lag, so that acting actors are due later than it.)
+-- How many steps there were: at most 24 for each tick, one of each actor's. Steps are taken in another order than the reference run's, so it is said of that run: it takes
+-- the steps that are to come, wherever it takes them.
 
--- a channel of ARM9's waits for geometry, and its FIFO has room: the next step that is taken triggers it. So it can be only after a step that stopped.
-abbrev pub is_to_be_triggered : IoState → Bool
-is_to_be_triggered u = is_half_empty u.gx && awaits_geometry u.nine.dma
+-- in the last state of the reference run to a limit there were at most 24 steps for each tick below it. Where the run stops there, processors that are ahead of it may still have
+-- ticks left below the limit, and a step at each: these count too
+pub record EndsWithin (limit : ℕ) (s : MachineState) : Type 0 where
+  pub last : MachineState
+  pub run : LeadsTo reference limit s last
+  pub few : counts_of last + own_remaining limit last Nine + own_remaining limit last Seven ≤ 24 * limit
 
--- how many steps geometry may take, from its due tick on, before the place of a rank at a tick: one at each tick
-abbrev pub owed_before : Option Tick → ℕ → ℕ → ℕ
-owed_before None tick rank = 0
-owed_before (Some due) tick rank = (tick + geometry_before rank) - due.0
+-- the vertices of geometry's current run
+abbrev pub run_of : MachineState → ℕ
+run_of s = s.io.gx.geometry.numbers.run
 
--- A processor took each step at a tick of its own, and the other actors each event at a place of its own in the order of events, which has 22 places for each
--- tick: so there were no more of them than ticks, or places, before what is due of those that act; less the places that geometry still has where it lags. Geometry took each of its
--- steps at a tick of its own, and adds a vertex at most.
-pub record HasCounted (s : MachineState) : Type 0 where
-  -- before the processor's own due tick, while it isn't halted
-  pub own : (proc : Proc) → is_halted s proc ≡ false → (processor_of s proc).steps ≤ (processor_of s proc).due
-  -- up to the due tick of what may halt it
-  pub fenced : (proc : Proc) (rank : ℕ) (tick : Tick) → due_at (acting_dues s) rank ≡ Some tick → Fences (actor_of rank) proc → (processor_of s proc).steps ≤ tick.0 + 1
-  -- up to any acting due tick, while it is halted
-  pub halted : (proc : Proc) (rank : ℕ) (tick : Tick) → is_halted s proc ≡ true → due_at (acting_dues s) rank ≡ Some tick → (processor_of s proc).steps ≤ tick.0 + 1
-  -- up to any acting due tick, while a channel of ARM9's is to be triggered
-  pub triggered : (rank : ℕ) (tick : Tick) → is_to_be_triggered s.io ≡ true → due_at (acting_dues s) rank ≡ Some tick → s.nine.processor.steps ≤ tick.0 + 1
-  pub events : (rank : ℕ) (tick : Tick) → due_at (acting_dues s) rank ≡ Some tick → s.events + owed_before s.io.gx.due tick.0 rank ≤ 22 * tick.0 + min rank 22
-  -- and so before the tick after the last at which a step may be taken
-  pub most : s.events + owed_before s.io.gx.due (2 ^ 56 + 1) 0 ≤ 22 * (2 ^ 56 + 1)
-  pub run : (rank : ℕ) (tick : Tick) → due_at (dues_of s) rank ≡ Some tick → s.io.gx.geometry.numbers.run ≤ tick.0 + geometry_before rank
+-- geometry adds one at most in a step, and takes each of its steps at a tick of its own: so there are no more of them than ticks before its next one, or up to any actor's
+pub record HasShortRun (s : MachineState) : Type 0 where
+  pub own : (tick : Tick) → s.io.gx.due ≡ Some tick → run_of s ≤ tick.0
+  pub others : (rank : ℕ) (tick : Tick) → due_at (dues_of s) rank ≡ Some tick → run_of s ≤ tick.0 + 1
 
--- all steps were taken below a limit, and there is room for those that geometry still has below it
-pub record CountsWithin (limit : ℕ) (s : MachineState) : Type 0 where
-  pub steps : (proc : Proc) → (processor_of s proc).steps ≤ limit
-  pub events : s.events + owed_before s.io.gx.due limit 0 ≤ 22 * limit
+-- A machine that goes on: its last step, if there was one, didn't stop it, and all its steps so far were due below a limit. Then its units are settled and nobody is to wake, and
+-- there is room for the steps that are to come.
+pub record IsRunning (limit : ℕ) (s : MachineState) : Type 0 where
+  pub sound : IsSound s
+  pub ends : (later : ℕ) → limit ≤ later → EndsWithin later s
+  pub run : HasShortRun s
 
--- so they add up to at most 24 times the limit
+-- past all ticks at which a step may be taken
+abbrev pub last_limit : ℕ
+last_limit = 2 ^ 56 + 1
+
+-- unless a step stopped, the machine goes on after it
+abbrev pub RunsAfter : Done → MachineState → Type 0
+RunsAfter Made s = IsRunning last_limit s
+RunsAfter (Frame swapped) s = IsRunning last_limit s
+RunsAfter (Stopped left) s = Unit {0}
+
+-- ---- its laws
+
+-- so runs one on which nobody is due below a limit, and that took at most 24 steps for each tick below it: at boot none, with the limit 0
+abbrev pub StartsRunning : Type 0
+StartsRunning = (limit : ℕ) (s : MachineState) → IsSound s → IsOver (dues_of s) limit → counts_of s ≤ 24 * limit → run_of s ≤ limit → IsRunning limit s
+
+-- a step that may be taken, is due below a limit, and is taken leaves such a machine
+abbrev pub StepsKeepRunning : Type 0
+StepsKeepRunning = (limit rank : ℕ) (s next : MachineState) (outs : List Shown) → IsRunning limit s → (may : MayStep s rank) → may.tick.0 < limit
+    → reference_step rank s ≡ Makes next outs → IsRunning limit next
+
+-- with each later limit it is one too
+abbrev pub LimitsRise : Type 0
+LimitsRise = (limit later : ℕ) (s : MachineState) → limit ≤ later → IsRunning limit s → IsRunning later s
+
+-- its steps add up to at most 24 times its limit
 abbrev pub CountsAddUp : Type 0
-CountsAddUp = (limit : ℕ) (s : MachineState) → CountsWithin limit s → counts_of s ≤ 24 * limit
+CountsAddUp = (limit : ℕ) (s : MachineState) → IsRunning limit s → counts_of s ≤ 24 * limit
+
+-- each step that is taken is one more, and a step that stops counts none
+abbrev pub StepsCount : Type 0
+StepsCount = (rank : ℕ) (s next : MachineState) (outs : List Shown) → MayStep s rank → reference_step rank s ≡ Makes next outs → counts_of next ≡ counts_of s + 1
+
+abbrev pub StopsCountNone : Type 0
+StopsCountNone = (rank : ℕ) (s left : MachineState) (stop : LeftOut) → reference_step rank s ≡ Stops stop left → counts_of left ≡ counts_of s

@@ -1,4 +1,4 @@
-use Rattle.std.specs.Prelude.{ℕ, ◌≡◌, if◌then◌else◌, nat_lt}
+use Rattle.std.specs.Prelude.{ℕ, ◌≡◌}
 use Rattle.ds_base.specs.declared.processors.Proc.{Proc}
 use Rattle.ds_base.specs.declared.processors.Proc.TheVariants.{Nine}
 use Rattle.ds_runs.specs.declared.actors.Actor as actor
@@ -17,9 +17,6 @@ Fences Card proc = Unit {0}
 Fences Geometry proc = proc ≡ Nine
 Fences a proc = ⊥
 
--- geometry's rank, and how many of its steps there may be at a tick before the actor of a rank
+-- geometry's rank
 abbrev pub geometry_rank : ℕ
 geometry_rank = 12
-
-abbrev pub geometry_before : ℕ → ℕ
-geometry_before rank = if nat_lt geometry_rank rank then 1 else 0

@@ -8,18 +8,17 @@ use Rattle.ds_ports.specs.Io.{is_settled}
 use Rattle.ds_ipc.specs.Ipcs.{other_proc}
 use Rattle.ds_runs.specs.Runs.{IsOver, Makes, due_at}
 use Rattle.ds_runs.specs.declared.actors.Actor.TheVariants.{Processor}
-use Rattle.ds_machine.specs.Counting.{HasCounted}
+use Rattle.ds_machine.specs.Counting.{IsRunning, last_limit}
 use Rattle.ds_machine.specs.Lagging.{observes_by}
 use Rattle.ds_machine.specs.Private.{rank_of}
 use Rattle.ds_machine.specs.Reference.{keys_due, reference_step}
 use Rattle.ds_machine.specs.Sound.{AreAsleep}
 use Rattle.ds_machine.specs.States.{MachineState}
 use Rattle.ds_machine.specs.Steps.{is_blocked, line_of, processor_of}
-use Rattle.ds_machine.specs.TurnSteps.{BelongsToTurn, IsLeastBelow, own_remaining}
-use Rattle.ds_machine.specs.declared.next_events.First.{First}
+use Rattle.ds_machine.specs.TurnSteps.{BelongsToTurn, own_remaining}
 use Rattle.ds_machine.specs.declared.next_events.NextEvent.{NextEvent}
 
--- What is kept between steps of the fast path. Of public clauses those of `Machine::first`, `limit_of` and `go_fast` speak of it, and say no more than that the limit is this one.
+-- What is kept between steps of the fast path. No public clause speaks of it.
 
 -- when each actor but the processors is due, by rank; and when each of them acts
 abbrev pub events_of : MachineState → List (Option Tick)
@@ -79,26 +78,12 @@ pub record IsNextEvent (next_event : NextEvent) (s : MachineState) : Type 0 wher
   pub nine_line : next_event.nine_line ≡ line_of s Nine
   pub seven_line : next_event.seven_line ≡ line_of s Seven
 
--- from this tick on a processor isn't the least acting actor, or isn't due below a limit, any more, while it alone takes steps: it isn't blocked, no halted processor is to wake,
--- and the units behind the ports are settled
-pub record HasLimit (until : ℕ) (s : MachineState) (proc : Proc) (limit : ℕ) : Type 0 where
-  pub next_event : NextEvent
-  pub is : IsNextEvent next_event s
-  pub some : 0 < next_event.events_until.0
-  pub free : least_kept next_event proc ≡ 0
-  pub same : limit ≡ limit_by next_event s proc until
-
--- a processor is the least acting actor and due below a limit, up to such a tick
-pub record IsFirst (until : ℕ) (s : MachineState) (first : First) : Type 0 where
-  pub least : IsLeastBelow until s first.proc
-  pub limit : HasLimit until s first.proc first.limit
-
 -- a processor took a step of its turn that doesn't observe geometry, and what is needed of machines stayed so
 pub record TookStep (until : ℕ) (proc : Proc) (s next : MachineState) : Type 0 where
   pub belongs : BelongsToTurn until s proc
   pub apart : observes_by (Processor proc) s ≡ false
   pub made : reference_step (rank_of proc) s ≡ Makes next []
-  pub counted : HasCounted next
+  pub running : IsRunning last_limit next
   pub fewer : own_remaining until next proc < own_remaining until s proc
   pub io : next.io ≡ s.io
   pub other : (processor_of next (other_proc proc)).due ≡ (processor_of s (other_proc proc)).due

@@ -1,17 +1,16 @@
-use Rattle.std.specs.Prelude.{ℕ, true, ◌-◌, ◌≡◌, ◌<◌, ◌≤◌, ◌^◌, ◌⊎◌, ◌↔◌, List, [], ◌++◌, Option, Some, None}
+use Rattle.std.specs.Prelude.{ℕ, false, ◌-◌, ◌≡◌, ◌≢◌, ◌<◌, ◌≤◌, ◌^◌, ◌⊎◌, ◌↔◌, List, [], ◌++◌, Option, Some, None}
 use Rattle.ds_base.specs.declared.left_out.LeftOut.{LeftOut}
 use Rattle.ds_base.specs.declared.processors.Proc.{Proc}
 use Rattle.ds_base.specs.declared.ticks.Tick.{Tick}
-use Rattle.ds_ports.specs.Acting.{is_quiet}
 use Rattle.ds_runs.specs.Runs.{Ending, IsLeast, Makes, Runs, Stopped, Stops, due_at}
 use Rattle.ds_machine.specs.Acting.{acting_dues}
 use Rattle.ds_machine.specs.Lagging.{ActsApart, CatchesUpFor}
 use Rattle.ds_machine.specs.Private.{IsAhead, rank_of}
-use Rattle.ds_machine.specs.Hearing.{geometry_rank}
 use Rattle.ds_machine.specs.Reference.{Shown, dues_of, processor_due, reference, reference_step}
-use Rattle.ds_machine.specs.Sound.{AreAsleep, IsSound}
+use Rattle.ds_machine.specs.Sound.{IsSound}
 use Rattle.ds_machine.specs.States.{MachineState}
-use Rattle.ds_machine.specs.Steps.{processor_of}
+use Rattle.ds_machine.specs.Steps.{is_blocked, processor_of}
+use Rattle.ds_machine.specs.declared.next_events.First.{First}
 
 -- Which steps belong to a turn, and which may be taken. Our choice; a console's turn rests on it.
 
@@ -28,6 +27,20 @@ pub record BelongsToTurn (until : ℕ) (s : MachineState) (proc : Proc) : Type 0
   pub below : tick.0 < until
   pub goes : IsLeast (acting_dues s) tick (rank_of proc) ⊎ IsAhead s proc
 
+-- due at this tick it would come before all other acting actors
+abbrev pub ComesFirst : MachineState → Proc → ℕ → Type 0
+ComesFirst s proc tick = (other : ℕ) (at : Tick) → other ≢ rank_of proc → due_at (acting_dues s) other ≡ Some at → (tick < at.0) ⊎ ((tick ≡ at.0) × (rank_of proc ≤ other))
+
+-- a processor isn't blocked, and this is the first tick at which it wouldn't be the least acting actor, or not be due below the limit of a turn
+pub record HasLimit (until : ℕ) (s : MachineState) (proc : Proc) (limit : ℕ) : Type 0 where
+  pub free : is_blocked s proc ≡ false
+  pub first : (tick : ℕ) → (tick < limit) ↔ ((tick < until) × ComesFirst s proc tick)
+
+-- a processor is the least acting actor and due below a limit, up to such a tick
+pub record IsFirst (until : ℕ) (s : MachineState) (first : First) : Type 0 where
+  pub least : IsLeastBelow until s first.proc
+  pub limit : HasLimit until s first.proc first.limit
+
 -- a processor took some steps of its turn, one after another; before one that observes geometry, geometry caught up
 pub data TakesSteps (until : ℕ) (proc : Proc) : MachineState → MachineState → Type 0 where
   none : (start : MachineState) → TakesSteps until proc start start
@@ -35,14 +48,12 @@ pub data TakesSteps (until : ℕ) (proc : Proc) : MachineState → MachineState 
       → CatchesUpFor (processor_of before proc).due (rank_of proc) before caught → reference_step (rank_of proc) caught ≡ Makes next [] → TakesSteps until proc start next
 
 -- an actor may take the next step: it is due at a tick that a run may come to, and is the least; or it is the least acting actor, whose step doesn't observe geometry; or it is a
--- processor that may step before its turn, on a machine whose units are settled and on which nobody is to wake, as it is unless the last step stopped
--- (quiet geometry takes its own step where nobody is to wake: a processor that it woke could have stepped at later ticks already, since geometry lagged)
+-- processor that may step before its turn
 pub record MayStep (s : MachineState) (rank : ℕ) : Type 0 where
   pub tick : Tick
   pub due : due_at (dues_of s) rank ≡ Some tick
   pub early : tick.0 ≤ 2 ^ 56
-  pub may : IsLeast (dues_of s) tick rank ⊎ (ActsApart s rank tick ⊎ ((proc : Proc) × (rank ≡ rank_of proc) × IsAhead s proc × IsSound s))
-  pub asleep : rank ≡ geometry_rank → is_quiet s.io ≡ true → AreAsleep s
+  pub may : IsLeast (dues_of s) tick rank ⊎ (ActsApart s rank tick ⊎ ((proc : Proc) × (rank ≡ rank_of proc) × IsAhead s proc))
 
 -- ---- a step of a turn: that of the least acting actor, or of a processor that may step before its turn
 

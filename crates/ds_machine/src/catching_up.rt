@@ -6,7 +6,7 @@ ghost use Rattle.ds_ports.specs.Acting.{is_quiet};
 ghost use Rattle.ds_runs.specs.Runs.{Makes};
 ghost use Rattle.ds_machine.specs.Acting as acting;
 ghost use Rattle.ds_machine.specs.Acting.{is_behind};
-ghost use Rattle.ds_machine.specs.Counting.{HasCounted};
+ghost use Rattle.ds_machine.specs.Counting.{last_limit, IsRunning};
 ghost use Rattle.ds_machine.specs.Lagging.{CatchesUp, CatchesUpFor, ComesBeforeAll};
 ghost use Rattle.ds_machine.specs.Hearing.{geometry_rank};
 ghost use Rattle.ds_machine.specs.Reference.{reference_step};
@@ -63,12 +63,10 @@ impl Parts {
     /// Takes the steps of quiet geometry that are due before the place of a rank at a tick.
     #[inline(never)]
     pub fn catch_up(&mut self, tick: Tick, rank: u8)
-        requires sound { IsSound self.old }
+        requires running { IsRunning last_limit self.old }
         requires before { ComesBeforeAll tick.0 rank self.old }
         requires early { tick.0 ≤ 2 ^ 56 }
-        requires counted { HasCounted self.old }
-        ensures caught { CatchesUp tick.0 rank self.old self.new }
-        ensures counted { HasCounted self.new }
+        ensures { CatchesUp tick.0 rank self.old self.new }
     {
         'steps: while self.is_behind(tick, rank) {
             self.step_quiet();
@@ -78,12 +76,10 @@ impl Parts {
     /// Catches up with a step that may be taken, where that observes geometry. The answer is whether anything changed.
     #[inline(always)]
     pub fn catch_up_before(&mut self, tick: Tick, rank: u8) -> bool
-        requires sound { IsSound self.old }
+        requires running { IsRunning last_limit self.old }
         requires early { tick.0 ≤ 2 ^ 56 }
-        requires counted { HasCounted self.old }
         requires may { MayAct self.old tick rank }
         ensures caught { CatchesUpFor tick.0 rank self.old self.new }
-        ensures counted { HasCounted self.new }
         ensures same { result ≡ false → self.new ≡ self.old }
     {
         if !self.is_behind(tick, rank) || !self.observes(rank) {

@@ -5,10 +5,9 @@ ghost use Rattle.ds_base.specs.declared.processors.Proc.TheVariants.{Nine, Seven
 ghost use Rattle.ds_base.specs.declared.ticks.Due.{Due};
 ghost use Rattle.ds_machine.specs.Acting.{acting_dues};
 ghost use Rattle.ds_machine.specs.FenceTicks.{channel_dues, fence_dues, timer_dues};
-ghost use Rattle.ds_machine.specs.NextEvents.{HasLimit};
 ghost use Rattle.ds_machine.specs.Private as private;
 ghost use Rattle.ds_machine.specs.Private.{IsAhead, IsFence};
-ghost use Rattle.ds_machine.specs.TurnSteps.{BelongsToTurn};
+ghost use Rattle.ds_machine.specs.TurnSteps.{BelongsToTurn, HasLimit};
 ghost use Rattle.ds_machine.specs.Reference.{keys_due, processor_due};
 ghost use Rattle.ds_machine.specs.Steps.{processor_of};
 ghost use Rattle.ds_runs.specs.Order as order;

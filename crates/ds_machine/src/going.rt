@@ -3,13 +3,13 @@
 ghost use Rattle.std.specs.Prelude.{◌≡◌, ◌↔◌, ◌<◌, ◌≤◌, ◌^◌, ◌⊎◌, ℕ, Some, false, true, IfSome};
 ghost use Rattle.ds_ipc.specs.Ipcs.{other_proc};
 ghost use Rattle.ds_machine.specs.Lagging.{observes_by};
-ghost use Rattle.ds_machine.specs.NextEvents.{least_kept, limit_by, HasLimit, IsFirst, IsNextEvent, TookStep};
+ghost use Rattle.ds_machine.specs.NextEvents.{least_kept, limit_by, IsNextEvent, TookStep};
 ghost use Rattle.ds_machine.specs.Private.{IsBelowFence};
-ghost use Rattle.ds_machine.specs.TurnSteps.{BelongsToTurn, TakesSteps};
+ghost use Rattle.ds_machine.specs.TurnSteps.{BelongsToTurn, HasLimit, IsFirst, TakesSteps};
 ghost use Rattle.ds_machine.specs.Reference.{awake, step_by};
 ghost use Rattle.ds_machine.specs.Sound.{HasSoundParts};
 ghost use Rattle.ds_machine.specs.StepAnswers.{stepped_of};
-ghost use Rattle.ds_machine.specs.Counting.{HasCounted};
+ghost use Rattle.ds_machine.specs.Counting.{last_limit, IsRunning};
 ghost use Rattle.ds_machine.specs.Steps.{is_blocked, processor_of, tick_of};
 ghost use Rattle.ds_machine.specs.Touching.{DataStaysPrivate, FetchStaysPrivate, MayBeAhead};
 ghost use Rattle.ds_machine.specs.declared.answers.Done.TheVariants.{Made};
@@ -109,12 +109,11 @@ impl Parts {
     #[inline(always)]
     fn go_once(&mut self, next_event: NextEvent, proc: Proc, until: Tick, limit: u64) -> Gone
         requires next_event { IsNextEvent next_event self.old }
-        requires parts { HasSoundParts self.old }
         requires some { 0 < next_event.events_until.0 }
         requires free { least_kept next_event proc ≡ 0 }
         requires limit { limit ≡ limit_by next_event self.old proc until.0 }
         requires early { until.0 ≤ 2 ^ 56 }
-        requires counted { HasCounted self.old }
+        requires running { IsRunning last_limit self.old }
         ensures took { result ≡ gone.Took → TookStep until.0 proc self.old self.new }
         ensures over { result ≡ gone.Over → BelongsToTurn until.0 self.new proc → ⊥ }
         ensures over_same { result ≡ gone.Over → self.new ≡ self.old }
@@ -135,12 +134,11 @@ impl Parts {
     pub fn go_fast(&mut self, next_event: NextEvent, proc: Proc, until: Tick, limit: u64) -> bool
         requires next_event { IsNextEvent next_event self.old }
         requires early { until.0 ≤ 2 ^ 56 }
-        requires counted { HasCounted self.old }
+        requires running { IsRunning last_limit self.old }
         requires limit { HasLimit until.0 self.old proc limit }
         ensures steps { TakesSteps until.0 proc self.old self.new }
         ensures over { result ≡ true → BelongsToTurn until.0 self.new proc → ⊥ }
         ensures next_event { IsNextEvent next_event self.new }
-        ensures counted { HasCounted self.new }
         ensures io { self.new.io ≡ self.old.io }
         ensures limit { HasLimit until.0 self.new proc limit }
     {
@@ -148,7 +146,6 @@ impl Parts {
             return false;
         }
         'steps: loop {
-            self.laws();
             match self.go_once(next_event, proc, until, limit) {
                 Gone::Took => {}
                 Gone::Over => return true,
@@ -187,6 +184,7 @@ impl Parts {
     /// The first tick at which a processor isn't the least acting actor, or isn't due below a limit, any more, where that is known.
     pub fn limit_of(&self, next_event: NextEvent, proc: Proc, until: Tick) -> Option<u64>
         requires next_event { IsNextEvent next_event self.now }
+        requires early { until.0 ≤ 2 ^ 56 }
         ensures { IfSome result (λ limit. HasLimit until.0 self.now proc limit) }
     {
         if next_event.events_until.0 == 0 || next_event.least(proc) != 0 {

@@ -10,7 +10,7 @@ ghost use Rattle.ds_machine.specs.Private.{AheadRuns, AheadSteps};
 ghost use Rattle.ds_machine.specs.TurnSteps.{ActingMayStep, ActingRuns, ActingStops, TurnStepsFall};
 ghost use Rattle.ds_machine.specs.Reference.{reference};
 ghost use Rattle.ds_machine.specs.Sound.{HasSoundParts};
-ghost use Rattle.ds_machine.specs.Counting.{CountsAddUp};
+ghost use Rattle.ds_machine.specs.Counting.{CountsAddUp, LimitsRise, StartsRunning, StepsCount, StepsKeepRunning, StopsCountNone};
 ghost use Rattle.ds_machine.specs.Statuses.{BootsWithStatuses, RunsKeepStatuses, StepsKeepStatuses};
 
 /// Does nothing; its contract states the laws of the reference run, which hold for every state and every limit: the run to a
@@ -60,9 +60,16 @@ pub fn kept_laws()
     ensures run { RunsKeepNoMore }
 {}
 
-/// Does nothing; its contract states that counts within a limit add up to at most 24 times it: each processor took at most a step a tick, and the other actors 22 events.
-pub fn count_laws()
-    ensures { CountsAddUp }
+/// Does nothing; its contract states the laws of a machine that goes on, and how many steps it took. So does one that is at a tick, as at boot it is at 0, and took at most 24 steps
+/// for each tick before (`start`); a step that is due below a limit and is taken leaves one, by the same limit (`step`), as each later limit serves too (`rise`). All its steps add up
+/// to at most 24 times its limit (`few`): so no count comes near 2^64. Each step that is taken is one more (`count`), and one that stops counts none (`stop`).
+pub fn running_laws()
+    ensures start { StartsRunning }
+    ensures step { StepsKeepRunning }
+    ensures rise { LimitsRise }
+    ensures few { CountsAddUp }
+    ensures count { StepsCount }
+    ensures stop { StopsCountNone }
 {}
 
 /// Does nothing; its contract states that a step of a processor's turn that is taken, after geometry caught up where the step observes it, leaves the processor fewer ticks

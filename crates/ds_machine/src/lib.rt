@@ -29,8 +29,8 @@ mod turns;
 pub use answers::{Done, Private, Seen};
 pub use geometry_laws::room_laws;
 pub use laws::{
-    acting_laws, ahead_laws, count_laws, frame_laws, kept_laws, lag_laws, own_part_laws,
-    own_step_laws, own_turn_laws, reference_laws, status_laws,
+    acting_laws, ahead_laws, frame_laws, kept_laws, lag_laws, own_part_laws, own_step_laws,
+    own_turn_laws, reference_laws, running_laws, status_laws,
 };
 pub use machines::Machine;
 pub use next_events::First;

@@ -7,19 +7,19 @@ ghost use Rattle.ds_ports.specs.Acting.{is_quiet};
 ghost use Rattle.ds_ports.specs.Io.{io_at_boot};
 ghost use Rattle.ds_runs.specs.Actors.{actor_of};
 ghost use Rattle.ds_runs.specs.Runs.{due_at};
+ghost use Rattle.gx_fifo.specs.GxStates.{IsGx};
 ghost use Rattle.ds_machine.specs.Acting.{is_behind, IsActing};
 ghost use Rattle.ds_machine.specs.Booted.{machine_booted};
 ghost use Rattle.ds_machine.specs.Frames.{framed_of};
 ghost use Rattle.ds_machine.specs.Lagging.{observes_by, CatchesUp, CatchesUpFor, ComesBeforeAll};
-ghost use Rattle.ds_machine.specs.NextEvents.{HasLimit, IsFirst};
 ghost use Rattle.ds_machine.specs.Observed.{memory_of, registers_of, seen_of};
 ghost use Rattle.ds_machine.specs.Private.{IsFence, IsPrivate};
-ghost use Rattle.ds_machine.specs.TurnSteps.{BelongsToTurn, MayAct, MayStep, TakesSteps};
+ghost use Rattle.ds_machine.specs.TurnSteps.{BelongsToTurn, HasLimit, IsFirst, MayAct, MayStep, TakesSteps};
 ghost use Rattle.ds_machine.specs.declared.answers.Private.TheVariants.{Yes};
 ghost use Rattle.ds_machine.specs.Reference.{dues_of};
-ghost use Rattle.ds_machine.specs.Sound.{HasSoundParts, IsSound};
+ghost use Rattle.ds_machine.specs.Sound.{HasSoundParts};
 ghost use Rattle.ds_machine.specs.StepAnswers.{IsDue, Steps};
-ghost use Rattle.ds_machine.specs.Counting.{HasCounted};
+ghost use Rattle.ds_machine.specs.Counting.{last_limit, IsRunning, RunsAfter};
 ghost use Rattle.ds_machine.specs.Statuses.{HasBothStatuses};
 ghost use Rattle.ds_machine.specs.Steps.{processor_of, tick_of};
 
@@ -41,7 +41,6 @@ pub struct Machine {
 
 impl Model for Machine {
     ghost use Rattle.ds_machine.specs.NextEvents.{IsNextEvent};
-    ghost use Rattle.ds_machine.specs.Counting.{HasCounted};
     ghost use Rattle.ds_machine.specs.States.{MachineState};
     ghost use Rattle.ds_machine.specs.Statuses.{HasBothStatuses};
 
@@ -49,28 +48,29 @@ impl Model for Machine {
 
     ghost view = { λ m. m.parts };
 
-    // the counts are within what acts, what is kept is so, and the status registers have only bits that are kept
-    ghost invariant = { λ m. HasCounted m.parts × IsNextEvent m.next_event m.parts × HasBothStatuses m.parts };
+    // what is kept is so, and the status registers have only bits that are kept
+    ghost invariant = { λ m. IsNextEvent m.next_event m.parts × HasBothStatuses m.parts };
 }
 
 impl Machine {
     /// The machine as it is when it is switched on with a cartridge and a key script: ARM9's image is copied to memory, then ARM7's, then the
-    /// header; both processors are due at once. The images go to RAM, and leave the units behind the ports as they are at boot. All memory of a run is taken here.
+    /// header; both processors are due at once. The images go to RAM, and leave the units behind the ports as they are at boot. No step was taken, so that none stopped it. All
+    /// memory of a run is taken here.
     pub fn new(alloc: Global, cart: &Cart, keys: Keys) -> Result<Machine, AllocError>
         ensures booted { IfOk result (λ machine. machine ≡ machine_booted cart.now keys) }
         ensures units { IfOk result (λ machine. machine.io ≡ io_at_boot) }
+        ensures running { IfOk result (IsRunning 0) }
     {
         let parts = Parts::new(alloc, cart, keys)?;
+        parts.laws();
         let next_event = parts.next_event();
         Ok(Machine { parts, next_event })
     }
 
-    /// The actor that is due first, quiet geometry among them. Each processor's steps so far were at most as many as ticks before what acts and may change it, and the events as
-    /// places before what acts, less those that geometry still has.
+    /// The actor that is due first, quiet geometry among them.
     #[inline(always)]
     pub fn due(&self) -> Due
-        ensures least { IsDue self.now result }
-        ensures counted { HasCounted self.now }
+        ensures { IsDue self.now result }
     {
         self.parts.due()
     }
@@ -92,15 +92,16 @@ impl Machine {
     }
 
     /// The step of the actor that is due first; or of the first that acts, where its step doesn't observe geometry, though quiet geometry may be due before it; or of a processor
-    /// that may step before its turn, on a machine whose units are settled and on which nobody is to wake, as it is unless the last step stopped. Quiet geometry's own step is
-    /// taken only where nobody is to wake. Then the geometry FIFO's interrupt is told as it is and DMA is triggered that waits for it, and halted processors wake whose IE and IF
-    /// share a bit. A step that needs what is left out stops; the accesses before the refused one stand, and registers and due ticks are as they were.
+    /// that may step before its turn. Then the geometry FIFO's interrupt is told as it is and DMA is triggered that waits for it, and halted processors wake whose IE and IF
+    /// share a bit. A step that needs what is left out stops; the accesses before the refused one stand, and registers and due ticks are as they were. After such a step no other
+    /// may be taken: `running` says that the last one didn't stop. It is so at boot, and after each step that is taken.
     #[inline(always)]
     pub fn step(&mut self, rank: u8) -> Done
-        requires { MayStep self.old rank }
-        ensures { Steps rank self.old result self.new }
+        requires running { IsRunning last_limit self.old }
+        requires may { MayStep self.old rank }
+        ensures step { Steps rank self.old result self.new }
+        ensures running { RunsAfter result self.new }
     {
-        self.parts.laws();
         let done = self.parts.step(rank);
         let next_event = self.parts.next_event();
         self.next_event = next_event;
@@ -121,19 +122,20 @@ impl Machine {
     /// changes: so no frame becomes whole, and no lists are swapped.
     #[inline(always)]
     pub fn go_fast(&mut self, proc: Proc, until: Tick, limit: u64) -> bool
+        requires running { IsRunning last_limit self.old }
         requires early { until.0 ≤ 2 ^ 56 }
         requires limit { HasLimit until.0 self.old proc limit }
         ensures steps { TakesSteps until.0 proc self.old self.new }
         ensures over { result ≡ true → BelongsToTurn until.0 self.new proc → ⊥ }
         ensures io { self.new.io ≡ self.old.io }
-        ensures counted { HasCounted self.old }
         ensures limit { HasLimit until.0 self.new proc limit }
     {
         self.parts.go_fast(self.next_event, proc, until, limit)
     }
 
-    /// The first tick at which a processor isn't the least acting actor, or isn't due below a limit, any more, while it alone takes steps, where that is known.
+    /// The first tick at which a processor that isn't blocked isn't the least acting actor, or isn't due below a limit, any more, while it alone takes steps, where that is known.
     pub fn limit_of(&self, proc: Proc, until: Tick) -> Option<u64>
+        requires { until.0 ≤ 2 ^ 56 }
         ensures { IfSome result (λ limit. HasLimit until.0 self.now proc limit) }
     {
         self.parts.limit_of(self.next_event, proc, until)
@@ -197,13 +199,13 @@ impl Machine {
         self.parts.is_behind(tick, rank)
     }
 
-    /// On a machine whose units are settled and on which nobody is to wake, takes the steps of quiet geometry that are due before the place of a rank at a tick, before which
-    /// nobody acts.
+    /// On a machine that goes on, takes the steps of quiet geometry that are due before the place of a rank at a tick, before which nobody acts.
     pub fn catch_up(&mut self, tick: Tick, rank: u8)
-        requires sound { IsSound self.old }
+        requires running { IsRunning last_limit self.old }
         requires before { ComesBeforeAll tick.0 rank self.old }
         requires early { tick.0 ≤ 2 ^ 56 }
         ensures caught { CatchesUp tick.0 rank self.old self.new }
+        ensures running { IsRunning last_limit self.new }
     {
         if self.parts.is_behind(tick, rank) {
             self.parts.catch_up(tick, rank);
@@ -212,15 +214,15 @@ impl Machine {
         }
     }
 
-    /// Before a step of a turn, on a machine whose units are settled and on which nobody is to wake, takes the steps of quiet geometry that are due before it, where that step
-    /// observes geometry. Else nothing changes. The step is that of the actor of a rank, which acts at a tick: it is the first that acts, or a processor that may step before its
-    /// turn.
+    /// Before a step of a turn, on a machine that goes on, takes the steps of quiet geometry that are due before it, where that step observes geometry. Else nothing changes. The
+    /// step is that of the actor of a rank, which acts at a tick: it is the first that acts, or a processor that may step before its turn.
     #[inline(always)]
     pub fn catch_up_before(&mut self, tick: Tick, rank: u8)
-        requires sound { IsSound self.old }
+        requires running { IsRunning last_limit self.old }
         requires early { tick.0 ≤ 2 ^ 56 }
         requires may { MayAct self.old tick rank }
         ensures caught { CatchesUpFor tick.0 rank self.old self.new }
+        ensures running { IsRunning last_limit self.new }
     {
         if self.parts.catch_up_before(tick, rank) {
             let next_event = self.parts.next_event();
@@ -229,16 +231,18 @@ impl Machine {
     }
 
     /// Does nothing; its contract states what holds of every machine: each unit's numbers are those that it can have, and the lines of the key
-    /// script that are to come rise; neither FIFO between the processors holds more than 16 words, each of 32 bits; and CPSR and each SPSR of both
-    /// processors have no bits but those that are kept; and there were as few steps as `due` says.
+    /// script that are to come rise; neither FIFO between the processors holds more than 16 words, each of 32 bits; CPSR and each SPSR of both
+    /// processors have no bits but those that are kept; and no more than 324 entries wait for geometry, whose open lists and those of the last swap have at most 6,144 vertices
+    /// and 2,048 polygons.
     pub fn laws(&self)
         ensures parts { HasSoundParts self.now }
         ensures ipc { AreSides self.now.io.ipc }
         ensures statuses { HasBothStatuses self.now }
-        ensures counted { HasCounted self.now }
+        ensures geometry { IsGx self.now.io.gx }
     {
         self.parts.laws();
         self.parts.ipc_laws();
+        self.parts.gx_laws();
     }
 
     /// What a processor does next: the entry of an interrupt, or a word of ARM code or a half of Thumb code; nothing while it isn't due: it is halted, a DMA channel of it

@@ -4,6 +4,7 @@ ghost use Rattle.std.specs.Prelude.{◌≡◌, ◌<◌, slice_index, length, IfO
 ghost use Rattle.ds_base.specs.Memories.{memory_size};
 ghost use Rattle.ds_ipc.specs.Ipcs.{AreSides};
 ghost use Rattle.ds_ports.specs.Io.{io_at_boot};
+ghost use Rattle.gx_fifo.specs.GxStates.{IsGx};
 ghost use Rattle.ds_machine.specs.Booted.{machine_blank, machine_booted};
 ghost use Rattle.ds_machine.specs.Observed.{fetch_of, memory_of, seen_of};
 ghost use Rattle.ds_machine.specs.Processors.{state_of};
@@ -148,6 +149,13 @@ impl Parts {
     {
         self.io.laws();
         self.script.laws();
+    }
+
+    /// Does nothing; its contract states what holds of the geometry engine and its FIFO at every time.
+    pub fn gx_laws(&self)
+        ensures { IsGx self.now.io.gx }
+    {
+        self.io.gx_laws();
     }
 
     /// Does nothing; its contract states what holds of both sides of the IPC at every time.

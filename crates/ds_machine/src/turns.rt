@@ -9,7 +9,7 @@ ghost use Rattle.ds_machine.specs.TurnSteps.{MayStep};
 ghost use Rattle.ds_machine.specs.Processors.{stop_in};
 ghost use Rattle.ds_machine.specs.Reference.{awake, due_by, step_by};
 ghost use Rattle.ds_machine.specs.StepAnswers.{stepped_of, Steps};
-ghost use Rattle.ds_machine.specs.Counting.{HasCounted};
+ghost use Rattle.ds_machine.specs.Counting.{last_limit, IsRunning};
 ghost use Rattle.ds_machine.specs.Touching.{DataStaysNear, DataStaysPrivate};
 ghost use Rattle.ds_machine.specs.Steps.{machine_concluded, goes_on, gone_by, is_halted, line_of, outcome_of, processor_of, wakes, went_on, with_processor, woken, woken_one, ended};
 
@@ -22,12 +22,12 @@ use ds_map::{NineView, SevenView};
 use ds_runs::Actor;
 
 impl Parts {
-    /// The step of the least actor, or of the least acting one, where its step doesn't observe geometry, or of a processor that may step before its turn, on a sound machine. Quiet
-    /// geometry steps where nobody is to wake.
+    /// The step of the least actor, or of the least acting one, where its step doesn't observe geometry, or of a processor that may step before its turn, on a machine that goes
+    /// on.
     #[inline(always)]
     pub fn step(&mut self, rank: u8) -> Done
         requires may { MayStep self.old rank }
-        requires counted { HasCounted self.old }
+        requires running { IsRunning last_limit self.old }
         ensures { Steps rank self.old result self.new }
     {
         let actor = Actor::of(rank);

@@ -1,4 +1,4 @@
-use Rattle.std.proofs.Common.{ℕ, ◌≡◌, ◌≤◌, ◌<◌, ◌+◌, ◌^◌, ◌⊎◌, inl, inr, ◌==◌, ◌&&◌, ◌||◌, nat_lt, max, [], ◌∷◌, Fits, w64, List, Option, Some, None, Bool, true, false, true≢false, refl, sym, ◌∙◌, ap, subst, arith}
+use Rattle.std.proofs.Common.{ℕ, ◌≡◌, ◌≤◌, ◌<◌, ◌+◌, ◌*◌, ◌^◌, ◌⊎◌, inl, inr, ◌==◌, ◌&&◌, ◌||◌, nat_lt, max, [], ◌∷◌, Fits, w64, List, Option, Some, None, Bool, true, false, true≢false, refl, sym, ◌∙◌, ap, subst, arith}
 use Rattle.std.specs.Prelude.{IsSome}
 use Rattle.std.proofs.Math.Facts.{Fits-of_lt}
 use Rattle.std.proofs.lemmas.Bool.{ltb-false, or_parts}
@@ -8,7 +8,7 @@ use Rattle.ds_base.specs.declared.ticks.Tick.{Tick}
 use Rattle.ds_runs.specs.Actors.{actor_of}
 use Rattle.ds_runs.specs.Runs.{IsLeast, IsOver, MachineStep, Makes, due_at}
 use Rattle.ds_machine.specs.Acting.{acting_dues, is_behind, is_due_before}
-use Rattle.ds_machine.specs.Counting.{CountsWithin, HasCounted}
+use Rattle.ds_machine.specs.Counting.{IsRunning}
 use Rattle.ds_machine.specs.Lagging.{CatchesUpFor, CatchesUpIf, ComesBeforeAll, observes_by}
 use Rattle.ds_machine.specs.Reference.{Shown, dues_of, next_shown, reference_step}
 use Rattle.ds_machine.specs.Sound.{IsSound}
@@ -18,17 +18,16 @@ use Rattle.ds_machine.specs.TurnSteps.{IsLeastBelow}
 use Rattle.ds_machine.specs.declared.answers.Done as answer
 use Rattle.ds_machine.specs.declared.answers.Done.TheVariants as answers
 use Rattle.ds_machine.proofs.ActingDues.{acts_then, loud_same}
-use Rattle.ds_machine.proofs.ActingCounts.{acted_within, stops_within}
 use Rattle.ds_machine.proofs.ActingSteps.{Acted, ActedKeeps, ActedLeaves, ActedStops, acted_keeps, acted_stops}
 use Rattle.ds_machine.proofs.CatchingUp.{caught_more, caught_so}
-use Rattle.ds_machine.proofs.CaughtCounts.{caught_within}
-use Rattle.ds_machine.proofs.Counts.{counts_add_up, within_more}
 use Rattle.ds_machine.proofs.DueTicks.{due_of_rank}
+use Rattle.ds_machine.proofs.Running.{few_where_stops, running_acted, running_taken}
+use Rattle.ds_machine.proofs.TurnSteps.{running_along}
 use Rattle.run_ahead.specs.Consoles.{ConsoleState}
 use Rattle.run_ahead.specs.Inside.{TookStretch, TookTurn}
 use Rattle.run_ahead.specs.Turns.{EventStops, MeetsStop, TakesEvent, TakesQuiet, Turns, one_more_turn, run_to}
 use Rattle.run_ahead.specs.declared.turns.Turned.TheVariants as turned
-use Rattle.run_ahead.proofs.Stretches.{IsWithin, sound_along, stop_stays_within, stop_takes_none_back, stretch_took, within_along}
+use Rattle.run_ahead.proofs.Stretches.{stop_few, stop_takes_none_back, stretch_took}
 
 -- What a machine's turn leaves, by what it came to.
 
@@ -113,60 +112,41 @@ over_all until s none level rank tick h = elim (acts_then s rank tick h) [
   | inl twelve ↦ over_by _ until s tick (loud_same s) level none (subst (λ (r : ℕ). due_at (dues_of s) r ≡ Some tick) twelve h)
 ]
 
--- all counts stay within a limit that isn't below the turn's
-event_within : (until limit : ℕ) (s next : MachineState) (outs : List Shown) → until ≤ 2 ^ 56 → until ≤ limit → IsSound s → IsWithin limit s → TakesEvent until s outs next
-    → CountsWithin limit next
-event_within until limit s next outs early le sound is t =
-    let below = t.below in
-    acted_within s next t.tick t.rank outs sound (event_acted until s next outs t) (omega (arith, below, early)) is.counted limit limit is.within (omega arith) (omega (arith, below, le))
-
-stop_event_within : (until limit : ℕ) (s next : MachineState) (left : LeftOut) → until ≤ 2 ^ 56 → until ≤ limit → IsSound s → IsWithin limit s → EventStops until s left next
-    → CountsWithin limit next
-stop_event_within until limit s next left early le sound is t =
-    let below = t.below in
-    stops_within s next t.tick t.rank left sound (event_stops until s next left t) (omega (arith, below, early)) is.counted limit limit is.within (omega arith) (omega (arith, below, le))
-
-quiet_within : (until limit : ℕ) (s next : MachineState) → until ≤ 2 ^ 56 → until ≤ limit → IsSound s → IsWithin limit s → TakesQuiet until s next → CountsWithin limit next
-quiet_within until limit s next early le sound is t =
-    caught_within until 0 s next sound (before_all until s t.none) early t.catches.steps is.counted limit limit is.within (omega arith) (omega (arith, le))
-
-pub turn_within : (until limit : ℕ) (s next : MachineState) (done : answer.Done) → until ≤ 2 ^ 56 → until ≤ limit → IsSound s → IsWithin limit s → TookTurn until s done next
-    → CountsWithin limit next
-turn_within until limit s next answers.Made early le sound is t = elim t [
-  | inl event ↦ event_within until limit s next [] early le sound is event
-  | inr other ↦ elim other [
-    | inl stretch ↦ (within_along until limit stretch.proc s next early le sound is stretch.steps).within
-    | inr quiet ↦ quiet_within until limit s next early le sound is quiet
-  ]
-]
-turn_within until limit s next (answers.Frame swapped) early le sound is t = event_within until limit s next (next_shown s next swapped ∷ []) early le sound is t
-turn_within until limit s next (answers.Stopped left) early le sound is t = elim t [
-  | inl event ↦ stop_event_within until limit s next left early le sound is event
-  | inr stretch ↦ stop_stays_within until s next left sound stretch limit early le is
-]
-
--- the machine is sound after one that took a step and didn't stop, and that step counts
-pub record IsTaken (s next : MachineState) : Type 0 where
-  pub sound : IsSound next
+-- after one that took a step and didn't stop the machine goes on, by a limit that isn't below the turn's, and that step counts
+pub record IsTaken (limit : ℕ) (s next : MachineState) : Type 0 where
+  pub running : IsRunning limit next
   pub more : counts_of s < counts_of next
 
-event_taken : (until : ℕ) (s next : MachineState) (outs : List Shown) → IsSound s → TakesEvent until s outs next → IsTaken s next
-event_taken until s next outs sound t = (let k = event_keeps until s next outs sound t in record { sound = k.sound; more = k.more })
+event_taken : (until limit : ℕ) (s next : MachineState) (outs : List Shown) → until ≤ limit → IsRunning limit s → TakesEvent until s outs next → IsTaken limit s next
+event_taken until limit s next outs le running t =
+    let k = event_keeps until s next outs running.sound t in
+    let below = t.below in
+    record { running = running_acted limit s next t.tick t.rank outs (event_acted until s next outs t) (omega (arith, below, le)) running; more = k.more }
 
-quiet_taken : (until : ℕ) (s next : MachineState) → IsSound s → TakesQuiet until s next → IsTaken s next
-quiet_taken until s next sound t = record { sound = (caught_so until 0 s next sound t.catches.steps).sound; more = caught_more until 0 s next sound t.some t.catches }
+quiet_taken : (until limit : ℕ) (s next : MachineState) → until ≤ limit → IsRunning limit s → TakesQuiet until s next → IsTaken limit s next
+quiet_taken until limit s next le running t = record {
+  running = running_taken limit until 0 s next (before_all until s t.none) (λ u early earlier. omega (arith, earlier, le)) t.catches.steps running;
+  more = caught_more until 0 s next running.sound t.some t.catches;
+}
 
-pub made_taken : (until : ℕ) (s next : MachineState) → IsSound s → TookTurn until s answers.Made next → IsTaken s next
-made_taken until s next sound t = elim t [
-  | inl event ↦ event_taken until s next [] sound event
+pub made_taken : (until limit : ℕ) (s next : MachineState) → until ≤ limit → IsRunning limit s → TookTurn until s answers.Made next → IsTaken limit s next
+made_taken until limit s next le running t = elim t [
+  | inl event ↦ event_taken until limit s next [] le running event
   | inr other ↦ elim other [
-    | inl stretch ↦ record { sound = sound_along until stretch.proc s next sound stretch.steps; more = stretch_took until s next sound stretch }
-    | inr quiet ↦ quiet_taken until s next sound quiet
+    | inl stretch ↦ record { running = running_along until limit stretch.proc s next le stretch.steps running; more = stretch_took until s next running.sound stretch }
+    | inr quiet ↦ quiet_taken until limit s next le running quiet
   ]
 ]
 
-pub frame_taken : (until : ℕ) (s next : MachineState) (swapped : Bool) → IsSound s → TookTurn until s (answers.Frame swapped) next → IsTaken s next
-frame_taken until s next swapped sound t = event_taken until s next (next_shown s next swapped ∷ []) sound t
+pub frame_taken : (until limit : ℕ) (s next : MachineState) (swapped : Bool) → until ≤ limit → IsRunning limit s → TookTurn until s (answers.Frame swapped) next → IsTaken limit s next
+frame_taken until limit s next swapped le running t = event_taken until limit s next (next_shown s next swapped ∷ []) le running t
+
+-- where one stopped there were as few steps
+pub stopped_few : (until limit : ℕ) (s next : MachineState) (left : LeftOut) → until ≤ limit → IsRunning limit s → TookTurn until s (answers.Stopped left) next → counts_of next ≤ 24 * limit
+stopped_few until limit s next left le running t = elim t [
+  | inl event ↦ (let below = event.below in few_where_stops limit s next event.tick event.rank left (event_stops until s next left event) (omega (arith, below, le)) running)
+  | inr stretch ↦ stop_few until s next left running.sound stretch limit le running
+]
 
 -- and no step is taken back by one that stopped
 pub stopped_counts : (until : ℕ) (s next : MachineState) (left : LeftOut) → IsSound s → TookTurn until s (answers.Stopped left) next → counts_of s ≤ counts_of next
@@ -175,14 +155,9 @@ stopped_counts until s next left sound t = elim t [
   | inr stretch ↦ stop_takes_none_back until s next left sound stretch
 ]
 
--- a console's numbers where its limit is raised to this, and one more turn fits its count
-pub raised_within : (before limit : ℕ) (s : MachineState) → HasCounted s → CountsWithin before s → before ≤ limit → IsWithin limit s
-raised_within before limit s has is le = record { counted = has; within = within_more s before limit is le }
-
-pub one_fits : (turns limit : ℕ) (s : MachineState) → CountsWithin limit s → limit ≤ 2 ^ 56 → turns ≤ counts_of s → Fits w64 (turns + 1)
-one_fits turns limit s is most few =
-    let all = counts_add_up limit s is in
-    Fits-of_lt (omega (arith, all, most, few))
+-- one more turn fits a console's count
+pub one_fits : (turns limit : ℕ) (s : MachineState) → counts_of s ≤ 24 * limit → limit ≤ 2 ^ 56 → turns ≤ counts_of s → Fits w64 (turns + 1)
+one_fits turns limit s all most few = Fits-of_lt (omega (arith, all, most, few))
 
 -- ---- a turn that raises no limit, and that runs: what the console is after it
 

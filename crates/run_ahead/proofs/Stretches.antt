@@ -1,4 +1,4 @@
-use Rattle.std.proofs.Common.{ℕ, ◌≡◌, ◌≢◌, ◌<◌, ◌≤◌, ◌^◌, ◌⊎◌, inl, inr, List, [], ◌∷◌, Option, Some, None, true, true≢false, refl, sym, ◌∙◌, ap, subst, arith}
+use Rattle.std.proofs.Common.{ℕ, ◌≡◌, ◌≢◌, ◌<◌, ◌≤◌, ◌*◌, ◌⊎◌, inl, inr, List, [], ◌∷◌, Option, Some, None, true, true≢false, refl, sym, ◌∙◌, ap, subst, arith}
 use Rattle.std.specs.Option.{is_some}
 use Rattle.ds_base.specs.declared.left_out.LeftOut.{LeftOut}
 use Rattle.ds_base.specs.declared.processors.Proc.{Proc}
@@ -8,7 +8,7 @@ use Rattle.ds_runs.specs.Runs.{IsLeast, Makes, Runs, due_at}
 use Rattle.ds_runs.specs.Runs as runs
 use Rattle.ds_runs.specs.Schedules.{places_remaining}
 use Rattle.ds_machine.specs.Acting.{acting_dues}
-use Rattle.ds_machine.specs.Counting.{CountsWithin, HasCounted}
+use Rattle.ds_machine.specs.Counting.{IsRunning}
 use Rattle.ds_machine.specs.Frames.{last_frame, last_lists}
 use Rattle.ds_machine.specs.Lagging.{CatchesUpFor, observes_by}
 use Rattle.ds_machine.specs.Private.{rank_of}
@@ -20,7 +20,6 @@ use Rattle.ds_machine.specs.Steps.{processor_of, tick_of}
 use Rattle.ds_machine.specs.TurnSteps.{BelongsToTurn, IsLeastBelow, MayAct, TakesSteps, none, more, own_remaining}
 use Rattle.ds_machine.specs.declared.answers.Done as answer
 use Rattle.ds_machine.specs.declared.answers.Done.TheVariants.{Made, Frame, Stopped}
-use Rattle.ds_machine.proofs.ActingCounts.{stops_within}
 use Rattle.ds_machine.proofs.ActingDues.{acting_processor}
 use Rattle.ds_machine.proofs.ActingPlaces.{acted_fewer, acted_no_more}
 use Rattle.ds_machine.proofs.ActingSteps.{ActedLeaves, ActedStops, acted_keeps, acted_stops, acting_stops}
@@ -28,7 +27,8 @@ use Rattle.ds_machine.proofs.CatchingUp.{caught_for, caught_so}
 use Rattle.ds_machine.proofs.DueTicks.{own_tick}
 use Rattle.ds_machine.proofs.OwnRemaining.{still_due, turn_silent, turn_steps_fall}
 use Rattle.ds_machine.proofs.ProcessorSteps.{none_shown}
-use Rattle.ds_machine.proofs.TurnSteps.{belongs_acted, belongs_acts, belongs_below, belongs_stops, takes_along, takes_keep, takes_run}
+use Rattle.ds_machine.proofs.Running.{few_where_stops}
+use Rattle.ds_machine.proofs.TurnSteps.{belongs_acted, belongs_acts, belongs_below, belongs_stops, running_along, takes_along, takes_run}
 use Rattle.run_ahead.specs.Inside.{TookStretch}
 use Rattle.run_ahead.specs.Turns.{GoesOn, StretchStops, TakesStretch}
 
@@ -83,17 +83,6 @@ module _ (until : ℕ) (s : MachineState) (proc : Proc) (rank : ℕ) (tick : Tic
 
 pub sound_along : (until : ℕ) (proc : Proc) (start now : MachineState) → IsSound start → TakesSteps until proc start now → IsSound now
 sound_along until proc start now sound steps = (takes_along until proc start now sound steps).sound
-
--- where all counts are within a limit they stay so
-pub record IsWithin (limit : ℕ) (s : MachineState) : Type 0 where
-  pub counted : HasCounted s
-  pub within : CountsWithin limit s
-
-pub within_along : (until limit : ℕ) (proc : Proc) (start now : MachineState) → until ≤ 2 ^ 56 → until ≤ limit → IsSound start → IsWithin limit start → TakesSteps until proc start now
-    → IsWithin limit now
-within_along until limit proc start now early le sound is steps =
-    let k = takes_keep until proc start now early sound is.counted steps in
-    record { counted = k.counted; within = k.within limit limit is.within (omega arith) le }
 
 -- the processor has no more ticks left
 pub own_along : (until : ℕ) (proc : Proc) (start now : MachineState) → IsSound start → TakesSteps until proc start now → own_remaining until now proc ≤ own_remaining until start proc
@@ -194,12 +183,11 @@ module _ (until : ℕ) (old new : MachineState) (stop : LeftOut) (sound : IsSoun
   pub stop_lists : last_lists new ≡ last_lists old
   stop_lists = stop_leaves.lists ∙ (takes_along until t.proc old t.before sound t.steps).lists
 
-  pub stop_stays_within : (limit : ℕ) → until ≤ 2 ^ 56 → until ≤ limit → IsWithin limit old → CountsWithin limit new
-  stop_stays_within limit early le is =
-      let k = within_along until limit t.proc old t.before early le sound is t.steps in
+  pub stop_few : (limit : ℕ) → until ≤ limit → IsRunning limit old → counts_of new ≤ 24 * limit
+  stop_few limit le running =
       let below = stop_below in
-      stops_within t.before new (tick_of (processor_of t.before t.proc)) (rank_of t.proc) stop there stop_acted (omega (arith, below, early)) k.counted limit limit k.within (omega arith)
-      (omega (arith, below, le))
+      few_where_stops limit t.before new (tick_of (processor_of t.before t.proc)) (rank_of t.proc) stop stop_acted (omega (arith, below, le))
+      (running_along until limit t.proc old t.before le t.steps running)
 
   pub stop_takes_none_back : counts_of old ≤ counts_of new
   stop_takes_none_back = (let k = (takes_along until t.proc old t.before sound t.steps).more in let last = stop_leaves.more in omega (arith, k, last))

@@ -7,11 +7,12 @@ ghost use Rattle.ds_machine.specs.Booted.{machine_booted};
 ghost use Rattle.ds_machine.specs.Frames.{framed_of, FollowFrames, FollowLists};
 ghost use Rattle.ds_machine.specs.Observed.{memory_of, registers_of, seen_of};
 ghost use Rattle.ds_ipc.specs.Ipcs.{AreSides};
-ghost use Rattle.ds_machine.specs.NextEvents.{HasLimit};
+ghost use Rattle.ds_machine.specs.TurnSteps.{HasLimit};
 ghost use Rattle.ds_machine.specs.TurnSteps.{IsLeastBelow};
 ghost use Rattle.ds_machine.specs.Sound.{HasSoundParts, IsSound};
 ghost use Rattle.ds_machine.specs.StepAnswers.{IsDue};
 ghost use Rattle.ds_machine.specs.Statuses.{HasBothStatuses};
+ghost use Rattle.run_ahead.specs.Consoles.{AreWithin};
 ghost use Rattle.run_ahead.specs.Turns.{Turns, TurnsUpTo, RunsOn, HasRuns, turns_remaining, counted_of, shown_in};
 ghost use Rattle.ds_base.specs.declared.left_out.LeftOut.{LeftOut};
 ghost use Rattle.run_ahead.specs.declared.consoles.AtOnce.TheVariants as once;
@@ -63,18 +64,17 @@ pub struct Console {
 impl Model for Console {
     ghost use Rattle.run_ahead.specs.Consoles.{ConsoleState, open_of};
     ghost use Rattle.ds_machine.specs.Booted.{machine_booted};
-    ghost use Rattle.ds_machine.specs.Sound.{IsSound};
-    ghost use Rattle.ds_machine.specs.Counting.{CountsWithin};
+    ghost use Rattle.ds_machine.specs.Counting.{IsRunning};
     ghost use Rattle.ds_machine.specs.States.{counts_of};
-    ghost use Rattle.std.specs.Prelude.{◌≡◌, ◌≤◌, ◌^◌, None};
+    ghost use Rattle.std.specs.Prelude.{◌≡◌, ◌≤◌, ◌*◌, ◌^◌, None};
 
     ghost Value = { ConsoleState };
 
     ghost view = { λ c. record { machine = c.machine; limit = c.limit; stopped = c.stopped; turns = c.turns } };
 
-    // no step was taken at its limit or later; a turn whose limit isn't above the open one neither raises its limit nor comes after a stop; and unless it
-    // stopped no halted processor is to wake, and the units behind the ports are settled; each turn that counts took a step
-    ghost invariant = { λ c. CountsWithin c.limit c.machine × (c.limit ≤ 2 ^ 56) × (c.open_until ≡ open_of c.limit c.stopped) × (c.stopped ≡ None → IsSound c.machine) × (c.turns ≤ counts_of c.machine) };
+    // there were at most 24 steps for each tick below its limit; a turn whose limit isn't above the open one neither raises its limit nor comes after a stop; unless it stopped its
+    // machine goes on, by that limit; and each turn that counts took a step
+    ghost invariant = { λ c. (counts_of c.machine ≤ 24 * c.limit) × (c.limit ≤ 2 ^ 56) × (c.open_until ≡ open_of c.limit c.stopped) × (c.stopped ≡ None → IsRunning c.limit c.machine) × (c.turns ≤ counts_of c.machine) };
 }
 
 impl Console {
@@ -83,7 +83,6 @@ impl Console {
         ensures { IfOk result (λ console. console ≡ record { machine = machine_booted cart keys; limit = 0; stopped = None; turns = 0 }) }
     {
         let machine = Machine::new(alloc, &cart, keys)?;
-        machine.laws();
         Ok(Console {
             machine,
             limit: 0,
@@ -137,13 +136,16 @@ impl Console {
 
     /// Does nothing; its contract states what holds of every console's machine: each unit's numbers are those that it can have, and the lines of the key
     /// script that are to come rise; unless the console has stopped no halted processor is to wake, and the units behind the ports are settled; neither FIFO
-    /// between the processors holds more than 16 words, each of 32 bits; CPSR and each SPSR of both processors have no bits but those that are kept; and no more
-    /// turns counted than 24 times the limit.
+    /// between the processors holds more than 16 words, each of 32 bits; CPSR and each SPSR of both processors have no bits but those that are kept; no more than 324 entries wait
+    /// for geometry, whose open lists and those of the last swap have at most 6,144 vertices and 2,048 polygons; and no more turns counted than 24 times the limit.
     pub fn laws(&self)
         ensures parts { HasSoundParts self.now.machine }
         ensures sound { self.now.stopped ≡ None → IsSound self.now.machine }
         ensures ipc { AreSides self.now.machine.io.ipc }
         ensures statuses { HasBothStatuses self.now.machine }
+        ensures entries { length self.now.machine.io.gx.fifo.entries ≤ 324 }
+        ensures open { AreWithin self.now.machine.io.gx.geometry.outcome.vertices self.now.machine.io.gx.geometry.outcome.polygons }
+        ensures last { AreWithin self.now.machine.io.gx.geometry.last.vertices self.now.machine.io.gx.geometry.last.polygons }
         ensures turns { self.now.turns ≤ 24 * self.now.limit }
     {
         self.machine.laws();
@@ -315,14 +317,12 @@ impl Console {
         Tick(self.limit)
     }
 
-    /// How many steps there were: of each processor at most one a tick below the limit, of all other actors 22. So they add up to at most 24 times the limit. And how
-    /// many turns counted: no more than steps.
+    /// How many steps there were: they add up to at most 24 times the limit. And how many turns counted: no more than steps.
     pub fn counts(&self) -> Counts
         ensures nine { result.nine ≡ self.now.machine.nine.processor.steps }
         ensures seven { result.seven ≡ self.now.machine.seven.processor.steps }
         ensures events { result.events ≡ self.now.machine.events }
         ensures turns { result.turns ≡ self.now.turns }
-        ensures each { (result.nine ≤ self.now.limit) × (result.seven ≤ self.now.limit) × (result.events ≤ 22 * self.now.limit) }
         ensures bound { result.nine + result.seven + result.events ≤ 24 * self.now.limit }
         ensures fewer { result.turns ≤ result.nine + result.seven + result.events }
     {

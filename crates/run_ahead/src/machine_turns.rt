@@ -2,12 +2,11 @@
 
 ghost use Rattle.std.specs.Prelude.{◌≡◌, ◌<◌, ◌≤◌, ◌^◌, false, true, None, Some};
 ghost use Rattle.ds_base.specs.declared.left_out.LeftOut.{LeftOut};
-ghost use Rattle.ds_machine.specs.NextEvents.{HasLimit};
+ghost use Rattle.ds_machine.specs.TurnSteps.{HasLimit};
 ghost use Rattle.ds_machine.specs.Steps.{processor_of};
 ghost use Rattle.ds_machine.specs.Acting.{IsActing, is_behind};
 ghost use Rattle.ds_machine.specs.Private as private;
-ghost use Rattle.ds_machine.specs.Sound.{IsSound};
-ghost use Rattle.ds_machine.specs.Counting.{HasCounted};
+ghost use Rattle.ds_machine.specs.Counting.{last_limit, IsRunning};
 ghost use Rattle.ds_machine.specs.TurnSteps.{BelongsToTurn, TakesSteps};
 ghost use Rattle.run_ahead.specs.Inside.{HasProcessor, TookSlowly, TookStretch, TookTurn};
 
@@ -58,7 +57,7 @@ fn step_slowly(
 ) -> Slow
     requires early { until.0 ≤ 2 ^ 56 }
     requires limit { (processor_of machine.old proc).due < limit → HasLimit until.0 machine.old proc limit }
-    requires sound { IsSound machine.old }
+    requires going { IsRunning last_limit machine.old }
     requires running { stop.old ≡ None }
     ensures { TookSlowly until.0 proc machine.old result stop.new machine.new }
 {
@@ -86,11 +85,10 @@ pub fn take_first(
     until: Tick,
 ) -> bool
     requires early { until.0 ≤ 2 ^ 56 }
-    requires sound { IsSound machine.old }
+    requires going { IsRunning last_limit machine.old }
     requires running { stop.old ≡ None }
     requires limit { HasLimit until.0 machine.old first.proc first.limit }
     ensures took { TookStretch until.0 first.proc machine.old stop.new machine.new }
-    ensures counted { HasCounted machine.old }
     ensures goes { result ≡ false → stop.new ≡ None }
     ensures stops { result ≡ true → (left : LeftOut) × (stop.new ≡ Some left) }
 {
@@ -111,11 +109,10 @@ fn take_stretch(
     first: u64,
 ) -> bool
     requires early { until.0 ≤ 2 ^ 56 }
-    requires sound { IsSound machine.old }
+    requires going { IsRunning last_limit machine.old }
     requires limit { HasLimit until.0 machine.old proc first }
     requires running { stop.old ≡ None }
     ensures took { TookStretch until.0 proc machine.old stop.new machine.new }
-    ensures counted { HasCounted machine.old }
     ensures goes { result ≡ false → stop.new ≡ None }
     ensures stops { result ≡ true → (left : LeftOut) × (stop.new ≡ Some left) }
 {
@@ -141,7 +138,7 @@ fn take_stretch(
 #[inline(never)]
 fn end_slowly(machine: &mut Machine, stop: &mut Option<LeftOut>, proc: Proc, until: Tick) -> bool
     requires early { until.0 ≤ 2 ^ 56 }
-    requires sound { IsSound machine.old }
+    requires going { IsRunning last_limit machine.old }
     ensures took { TookStretch until.0 proc machine.old stop.new machine.new }
     ensures goes { result ≡ false → stop.new ≡ None }
     ensures stops { result ≡ true → (left : LeftOut) × (stop.new ≡ Some left) }
@@ -154,7 +151,7 @@ fn end_slowly(machine: &mut Machine, stop: &mut Option<LeftOut>, proc: Proc, unt
 #[inline(never)]
 fn take_stretch_slowly(machine: &mut Machine, proc: Proc, until: Tick) -> Option<LeftOut>
     requires early { until.0 ≤ 2 ^ 56 }
-    requires sound { IsSound machine.old }
+    requires going { IsRunning last_limit machine.old }
     ensures { TookStretch until.0 proc machine.old result machine.new }
 {
     let mut stop = None;
@@ -170,7 +167,7 @@ fn take_stretch_slowly(machine: &mut Machine, proc: Proc, until: Tick) -> Option
 /// Takes an event's step that is the least of those who act; where it observes geometry, geometry catches up before it.
 fn take_event(machine: &mut Machine, acting: Due, until: Tick) -> Done
     requires early { until.0 ≤ 2 ^ 56 }
-    requires sound { IsSound machine.old }
+    requires going { IsRunning last_limit machine.old }
     requires acting { IsActing machine.old acting }
     requires event { acting.rank < 22 }
     requires below { acting.tick.0 < until.0 }
@@ -184,7 +181,7 @@ fn take_event(machine: &mut Machine, acting: Due, until: Tick) -> Done
 /// where quiet geometry alone is, all its steps below the limit.
 pub fn take_turn(machine: &mut Machine, acting: Due, until: Tick) -> Done
     requires early { until.0 ≤ 2 ^ 56 }
-    requires sound { IsSound machine.old }
+    requires going { IsRunning last_limit machine.old }
     requires acting { IsActing machine.old acting }
     requires some { until.0 ≤ acting.tick.0 → is_behind until.0 0 machine.old ≡ true }
     ensures { TookTurn until.0 machine.old result machine.new }

@@ -7,7 +7,7 @@ use Line::{
 use ds_base::Proc::{Nine, Seven};
 use ds_base::{Due, KeyLine, Keys, Memory, Proc, Stop, Tick};
 use ds_header::Cart;
-use ds_machine::{Done, Machine, Seen, acting_laws};
+use ds_machine::{Done, Machine, Seen, acting_laws, running_laws};
 use std::alloc::{AllocError, Global};
 use std::marker::Model;
 use std::process::Abort;
@@ -115,43 +115,35 @@ struct Tested {
 
 impl Model for Tested {
     ghost use Rattle.std.specs.Prelude.{◌≡◌, false};
-    ghost use Rattle.ds_machine.specs.Sound.{IsSound};
+    ghost use Rattle.ds_machine.specs.Counting.{last_limit, IsRunning};
     ghost use Rattle.ds_machine.specs.States.{MachineState};
 
     ghost Value = { MachineState };
 
     ghost view = { λ t. t.machine };
 
-    ghost invariant = { λ t. t.stopped ≡ false → IsSound t.machine };
+    ghost invariant = { λ t. t.stopped ≡ false → IsRunning last_limit t.machine };
 }
 
 impl Tested {
     /// A machine at boot.
     fn new(alloc: Global, cart: &Cart, keys: Keys) -> Result<Tested, AllocError> {
-        let machine = Machine::new(alloc, cart, keys)?;
-        machine.laws();
+        running_laws();
         Ok(Tested {
-            machine,
+            machine: Machine::new(alloc, cart, keys)?,
             stopped: false,
         })
     }
 
-    /// The step of the actor that is due first, where its tick is early; but quiet geometry's right after a step that stopped, where somebody may be to wake.
+    /// The step of the actor that is due first, where its tick is early; none after one that stopped.
     fn step(&mut self) -> Option<Done> {
         let due = self.machine.due();
-        if due.tick.0 > 0x10_0000 || (self.stopped && self.machine.quiet()) {
+        if self.stopped || due.tick.0 > 0x10_0000 {
             return None;
         }
-        self.machine.laws();
         match self.machine.step(due.rank) {
-            Done::Made => {
-                self.stopped = false;
-                Some(Done::Made)
-            }
-            Done::Frame { swapped } => {
-                self.stopped = false;
-                Some(Done::Frame { swapped })
-            }
+            Done::Made => Some(Done::Made),
+            Done::Frame { swapped } => Some(Done::Frame { swapped }),
             Done::Stopped(left) => {
                 self.stopped = true;
                 Some(Done::Stopped(left))
@@ -167,7 +159,6 @@ impl Tested {
         }
         acting_laws();
         self.machine.catch_up_before(acting.tick, acting.rank);
-        self.machine.laws();
         match self.machine.step(acting.rank) {
             Done::Made => Some(Done::Made),
             Done::Frame { swapped } => Some(Done::Frame { swapped }),

@@ -16,13 +16,13 @@ catch_up_before-requires-clause-early c =
 pub catch_up_before-requires-clause-may : goal.catch_up_before-requires-clause-may
 catch_up_before-requires-clause-may c = told_acts c.args.until.0 c.args.machine.now c.args.proc c.rank_of-rank.result c.tick_of-tick.result c.rank_of-rank.ensures c.tick_of-tick.ensures (c.belongs_by.ensures.0 c.if-not-belongs_by.false)
 
-pub step-requires : goal.step-requires
-step-requires c =
+pub step-requires-clause-may : goal.step-requires-clause-may
+step-requires-clause-may c =
     let belongs = c.belongs_by.ensures.0 c.if-not-belongs_by.false in
     let below = told_below c.args.until.0 c.args.machine.now c.args.proc c.rank_of-rank.result c.tick_of-tick.result c.rank_of-rank.ensures c.tick_of-tick.ensures belongs in
     let early = c.requires.early in
     let acts = told_acts c.args.until.0 c.args.machine.now c.args.proc c.rank_of-rank.result c.tick_of-tick.result c.rank_of-rank.ensures c.tick_of-tick.ensures belongs in
-    (acting_may_step c.args.machine.now c.catch_up_before.new.self c.tick_of-tick.result c.rank_of-rank.result c.requires.sound acts (omega (arith, early, below)) c.catch_up_before.ensures.caught).may
+    (acting_may_step c.args.machine.now c.catch_up_before.new.self c.tick_of-tick.result c.rank_of-rank.result c.requires.going.sound acts (omega (arith, early, below)) c.catch_up_before.ensures.caught).may
 
 pub returns-in-Stopped : goal.returns-in-Stopped
 returns-in-Stopped c =
@@ -31,12 +31,12 @@ returns-in-Stopped c =
       (
         c.in-Stopped.left,
         refl,
-        (c.catch_up_before.new.self, catches, sym (ap (λ (r : ℕ). reference_step r c.catch_up_before.new.self) c.rank_of-rank.ensures) ∙ c.in-Stopped.ensures),
+        (c.catch_up_before.new.self, catches, sym (ap (λ (r : ℕ). reference_step r c.catch_up_before.new.self) c.rank_of-rank.ensures) ∙ c.in-Stopped.ensures.step),
       ),
     )
 
 pub returns-in_default : goal.returns-in_default
 returns-in_default c =
     let catches = told_catches c.args.until.0 c.args.machine.now c.args.proc c.rank_of-rank.result c.tick_of-tick.result c.rank_of-rank.ensures c.tick_of-tick.ensures c.catch_up_before.new.self c.catch_up_before.ensures.caught in
-    let made = told_makes c.args.until.0 c.args.machine.now c.args.proc c.rank_of-rank.result c.tick_of-tick.result c.rank_of-rank.ensures c.tick_of-tick.ensures (c.belongs_by.ensures.0 c.if-not-belongs_by.false) c.catch_up_before.new.self c.step.new.self c.step.result c.requires.sound c.catch_up_before.ensures.caught c.step.ensures c.in_default.not-Stopped in
+    let made = told_makes c.args.until.0 c.args.machine.now c.args.proc c.rank_of-rank.result c.tick_of-tick.result c.rank_of-rank.ensures c.tick_of-tick.ensures (c.belongs_by.ensures.0 c.if-not-belongs_by.false) c.catch_up_before.new.self c.step.new.self c.step.result c.requires.going.sound c.catch_up_before.ensures.caught c.step.ensures.step c.in_default.not-Stopped in
     (c.belongs_by.ensures.0 c.if-not-belongs_by.false, (c.catch_up_before.new.self, catches, made), c.requires.running)

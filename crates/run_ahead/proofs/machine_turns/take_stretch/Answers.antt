@@ -1,8 +1,10 @@
 use Rattle.std.proofs.Common.{◌<◌, true≢false, [], Option, sym, subst, arith}
 use Rattle.ds_base.specs.declared.left_out.LeftOut.{LeftOut}
+use Rattle.ds_machine.specs.Counting.{last_limit}
 use Rattle.ds_machine.specs.TurnSteps.{BelongsToTurn, TakesSteps, none, more, own_remaining}
 use Rattle.ds_machine.specs.States.{MachineState}
 use Rattle.ds_machine.proofs.OwnRemaining.{turn_steps_fall}
+use Rattle.ds_machine.proofs.TurnSteps.{running_along}
 use Rattle.run_ahead.specs.Inside.{TookStretch}
 use Rattle.run_ahead.proofs.Stretches.{own_along, sound_along, takes_twice, took_twice}
 use Rattle.run_ahead.proofs.machine_turns.take_stretch.Goals as goal
@@ -13,13 +15,19 @@ steps-init c = (none c.args.machine.now, c.requires.running, c.requires.limit)
 pub returns-then-go_fast : goal.returns-then-go_fast
 returns-then-go_fast c = record {
   took = subst (λ (o : Option LeftOut). TookStretch c.args.until.0 c.args.proc c.args.machine.now o c.go_fast.new.self) (sym c.steps.invariant.1) ((takes_twice c.args.until.0 c.args.proc c.args.machine.now c.steps.machine c.go_fast.new.self c.steps.invariant.0 c.go_fast.ensures.steps), c.go_fast.ensures.over c.if-go_fast.true);
-  counted = c.laws.ensures.counted;
   goes = λ e. c.steps.invariant.1;
   stops = λ e. absurd (true≢false (sym e));
 }
 
-pub step_slowly-requires-clause-sound : goal.step_slowly-requires-clause-sound
-step_slowly-requires-clause-sound c = sound_along c.args.until.0 c.args.proc c.args.machine.now c.go_fast.new.self c.requires.sound (takes_twice c.args.until.0 c.args.proc c.args.machine.now c.steps.machine c.go_fast.new.self c.steps.invariant.0 c.go_fast.ensures.steps)
+pub go_fast-requires-clause-running : goal.go_fast-requires-clause-running
+go_fast-requires-clause-running c =
+    let early = c.requires.early in
+    running_along c.args.until.0 last_limit c.args.proc c.args.machine.now c.steps.machine (omega (arith, early)) c.steps.invariant.0 c.requires.going
+
+pub step_slowly-requires-clause-going : goal.step_slowly-requires-clause-going
+step_slowly-requires-clause-going c =
+    let early = c.requires.early in
+    running_along c.args.until.0 last_limit c.args.proc c.args.machine.now c.go_fast.new.self (omega (arith, early)) (takes_twice c.args.until.0 c.args.proc c.args.machine.now c.steps.machine c.go_fast.new.self c.steps.invariant.0 c.go_fast.ensures.steps) c.requires.going
 
 pub step_slowly-requires-clause-running : goal.step_slowly-requires-clause-running
 step_slowly-requires-clause-running c = c.steps.invariant.1
@@ -33,8 +41,7 @@ returns-in-Over c =
         subst (λ (m : MachineState). TakesSteps c.args.until.0 c.args.proc c.args.machine.now m) same (takes_twice c.args.until.0 c.args.proc c.args.machine.now c.steps.machine c.go_fast.new.self c.steps.invariant.0 c.go_fast.ensures.steps),
         subst (λ (m : MachineState). (BelongsToTurn c.args.until.0 m c.args.proc → ⊥)) same c.in-Over.ensures.0,
       );
-      counted = c.laws.ensures.counted;
-      goes = λ e. none;
+          goes = λ e. none;
       stops = λ e. absurd (true≢false (sym e));
     }
 
@@ -44,17 +51,18 @@ returns-in-Stopped c =
     record {
       took = subst (λ (o : Option LeftOut). TookStretch c.args.until.0 c.args.proc c.args.machine.now o c.step_slowly.new.machine) (sym stop.1)
           (c.go_fast.new.self, (takes_twice c.args.until.0 c.args.proc c.args.machine.now c.steps.machine c.go_fast.new.self c.steps.invariant.0 c.go_fast.ensures.steps), c.in-Stopped.ensures.0, stop.2);
-      counted = c.laws.ensures.counted;
-      goes = λ e. absurd (true≢false e);
+          goes = λ e. absurd (true≢false e);
       stops = λ e. (stop.0, stop.1);
     }
 
 pub steps-preserved : goal.steps-preserved
 steps-preserved c = (more c.args.machine.now c.go_fast.new.self c.in-Took.ensures.1.0 c.step_slowly.new.machine (takes_twice c.args.until.0 c.args.proc c.args.machine.now c.steps.machine c.go_fast.new.self c.steps.invariant.0 c.go_fast.ensures.steps) c.in-Took.ensures.0 c.in-Took.ensures.1.1 c.in-Took.ensures.1.2, c.in-Took.ensures.2, c.in-Some.ensures)
 
-pub end_slowly-requires-clause-sound : goal.end_slowly-requires-clause-sound
-end_slowly-requires-clause-sound c = sound_along c.args.until.0 c.args.proc c.args.machine.now c.step_slowly.new.machine c.requires.sound
-    (more c.args.machine.now c.go_fast.new.self c.in-Took.ensures.1.0 c.step_slowly.new.machine (takes_twice c.args.until.0 c.args.proc c.args.machine.now c.steps.machine c.go_fast.new.self c.steps.invariant.0 c.go_fast.ensures.steps) c.in-Took.ensures.0 c.in-Took.ensures.1.1 c.in-Took.ensures.1.2)
+pub end_slowly-requires-clause-going : goal.end_slowly-requires-clause-going
+end_slowly-requires-clause-going c =
+    let early = c.requires.early in
+    running_along c.args.until.0 last_limit c.args.proc c.args.machine.now c.step_slowly.new.machine (omega (arith, early))
+    (more c.args.machine.now c.go_fast.new.self c.in-Took.ensures.1.0 c.step_slowly.new.machine (takes_twice c.args.until.0 c.args.proc c.args.machine.now c.steps.machine c.go_fast.new.self c.steps.invariant.0 c.go_fast.ensures.steps) c.in-Took.ensures.0 c.in-Took.ensures.1.1 c.in-Took.ensures.1.2) c.requires.going
 
 pub returns-in-None-clause-took : goal.returns-in-None-clause-took
 returns-in-None-clause-took c = took_twice c.args.until.0 c.args.proc c.args.machine.now c.step_slowly.new.machine c.end_slowly.new.machine c.end_slowly.new.stop
@@ -62,8 +70,8 @@ returns-in-None-clause-took c = took_twice c.args.until.0 c.args.proc c.args.mac
 
 pub steps-smaller : goal.steps-smaller
 steps-smaller c =
-    let before = sound_along c.args.until.0 c.args.proc c.args.machine.now c.steps.machine c.requires.sound c.steps.invariant.0 in
-    let sound = sound_along c.args.until.0 c.args.proc c.args.machine.now c.go_fast.new.self c.requires.sound (takes_twice c.args.until.0 c.args.proc c.args.machine.now c.steps.machine c.go_fast.new.self c.steps.invariant.0 c.go_fast.ensures.steps) in
+    let before = sound_along c.args.until.0 c.args.proc c.args.machine.now c.steps.machine c.requires.going.sound c.steps.invariant.0 in
+    let sound = sound_along c.args.until.0 c.args.proc c.args.machine.now c.go_fast.new.self c.requires.going.sound (takes_twice c.args.until.0 c.args.proc c.args.machine.now c.steps.machine c.go_fast.new.self c.steps.invariant.0 c.go_fast.ensures.steps) in
     let falls = turn_steps_fall c.args.until.0 c.go_fast.new.self c.in-Took.ensures.1.0 c.step_slowly.new.machine c.args.proc [] sound c.in-Took.ensures.0 c.in-Took.ensures.1.1 c.in-Took.ensures.1.2 in
     let after = own_along c.args.until.0 c.args.proc c.steps.machine c.go_fast.new.self before c.go_fast.ensures.steps in
     let fewer : own_remaining c.args.until.0 c.step_slowly.new.machine c.args.proc < own_remaining c.args.until.0 c.steps.machine c.args.proc = omega (arith, falls, after) in

@@ -1,5 +1,5 @@
 use Rattle.std.proofs.Common.{◌≡◌, None}
-use Rattle.ds_machine.specs.NextEvents.{HasLimit}
+use Rattle.ds_machine.specs.TurnSteps.{HasLimit}
 use Rattle.ds_machine.specs.TurnSteps.{TakesSteps, own_remaining}
 use Rattle.run_ahead.proofs.machine_turns.take_stretch.Given as goal
 

@@ -1,8 +1,10 @@
-use Rattle.std.proofs.Common.{[], Option, refl, sym, subst}
+use Rattle.std.proofs.Common.{[], Option, refl, sym, subst, arith}
 use Rattle.ds_base.specs.declared.left_out.LeftOut.{LeftOut}
+use Rattle.ds_machine.specs.Counting.{last_limit}
 use Rattle.ds_machine.specs.TurnSteps.{BelongsToTurn, TakesSteps, none, more}
 use Rattle.ds_machine.specs.States.{MachineState}
 use Rattle.ds_machine.proofs.OwnRemaining.{turn_steps_fall}
+use Rattle.ds_machine.proofs.TurnSteps.{running_along}
 use Rattle.run_ahead.specs.Inside.{TookStretch}
 use Rattle.run_ahead.proofs.Stretches.{sound_along}
 use Rattle.run_ahead.proofs.machine_turns.take_stretch_slowly.Goals as goal
@@ -10,8 +12,10 @@ use Rattle.run_ahead.proofs.machine_turns.take_stretch_slowly.Goals as goal
 pub steps-init : goal.steps-init
 steps-init c = (none c.args.machine.now, refl)
 
-pub step_slowly-requires-clause-sound : goal.step_slowly-requires-clause-sound
-step_slowly-requires-clause-sound c = sound_along c.args.until.0 c.args.proc c.args.machine.now c.steps.machine c.requires.sound c.steps.invariant.0
+pub step_slowly-requires-clause-going : goal.step_slowly-requires-clause-going
+step_slowly-requires-clause-going c =
+    let early = c.requires.early in
+    running_along c.args.until.0 last_limit c.args.proc c.args.machine.now c.steps.machine (omega (arith, early)) c.steps.invariant.0 c.requires.going
 
 pub step_slowly-requires-clause-running : goal.step_slowly-requires-clause-running
 step_slowly-requires-clause-running c = c.steps.invariant.1
@@ -35,5 +39,5 @@ steps-preserved c = (more c.args.machine.now c.steps.machine c.in-Took.ensures.1
 
 pub steps-smaller : goal.steps-smaller
 steps-smaller c =
-    let sound = sound_along c.args.until.0 c.args.proc c.args.machine.now c.steps.machine c.requires.sound c.steps.invariant.0 in
+    let sound = sound_along c.args.until.0 c.args.proc c.args.machine.now c.steps.machine c.requires.going.sound c.steps.invariant.0 in
     turn_steps_fall c.args.until.0 c.steps.machine c.in-Took.ensures.1.0 c.step_slowly.new.machine c.args.proc [] sound c.in-Took.ensures.0 c.in-Took.ensures.1.1 c.in-Took.ensures.1.2

@@ -11,4 +11,4 @@ returns-then-processor-limit c =
     let known = c.if-processor-limit.true in
     let due = ap (λ (p : ProcessorState). p.due) c.processor.ensures in
     let below : (processor_of s proc).due < c.args.limit = omega (arith, known, due) in
-    (λ yes. belongs_below c.args.until.0 c.args.limit s proc c.requires.early (c.requires.limit below) below, λ belongs. refl)
+    (λ yes. belongs_below c.args.until.0 c.args.limit s proc (c.requires.limit below) below, λ belongs. refl)

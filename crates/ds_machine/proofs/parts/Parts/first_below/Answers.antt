@@ -1,5 +1,5 @@
 use Rattle.std.proofs.Common.{◌<◌, ◌^◌, arith}
-use Rattle.ds_machine.proofs.GoingSteps.{below_limit, free_when, least_when}
+use Rattle.ds_machine.proofs.GoingSteps.{below_limit, free_when, least_when, limit_so}
 use Rattle.ds_machine.proofs.parts.Parts.first_below.Goals as goal
 
 pub returns : goal.returns
@@ -16,11 +16,6 @@ returns c =
     let low : n < 2 ^ 56 = omega (arith, below, early) in
     record {
       least = record { tick = record { 0 = n }; least = least_when c.args.next_event s c.args.proc n c.requires.next_event c.waits_until.ensures low k.least; below = below };
-      limit = record {
-        next_event = c.args.next_event;
-        is = c.requires.next_event;
-        some = k.some;
-        free = free_when c.args.next_event s c.args.proc n c.requires.next_event c.waits_until.ensures low;
-        same = c.limit_by-limit.ensures;
-      };
+      limit = limit_so c.args.next_event s c.args.proc until limit c.requires.next_event k.some early (free_when c.args.next_event s c.args.proc n c.requires.next_event c.waits_until.ensures low)
+          c.limit_by-limit.ensures;
     }

@@ -1,8 +1,7 @@
 use Rattle.std.proofs.Common.{refl, sym, ◌∙◌, ap, subst, arith}
-use Rattle.ds_machine.specs.NextEvents.{HasLimit}
-use Rattle.ds_machine.specs.TurnSteps.{TakesSteps, none}
+use Rattle.ds_machine.specs.TurnSteps.{HasLimit, TakesSteps, none}
 use Rattle.ds_machine.specs.States.{MachineState}
-use Rattle.ds_machine.proofs.GoingSteps.{free_here, goes_on, limit_here}
+use Rattle.ds_machine.proofs.GoingSteps.{free_here, goes_on, limit_here, limit_so}
 use Rattle.ds_machine.proofs.parts.Parts.go_fast.Goals as goal
 
 pub steps-init : goal.steps-init
@@ -11,9 +10,9 @@ steps-init c =
     record {
       steps = none c.args.self.now;
       kept = c.requires.next_event;
-      counted = c.requires.counted;
+      running = c.requires.running;
       io = refl;
-      least = limit_here c.args.next_event c.args.self.now c.args.proc c.args.until.0 c.args.limit c.requires.next_event (omega (arith, some)) c.requires.limit;
+      least = limit_here c.args.next_event c.args.self.now c.args.proc c.args.until.0 c.args.limit c.requires.next_event (omega (arith, some)) c.requires.early c.requires.limit;
     }
 
 pub steps-preserved : goal.steps-preserved
@@ -45,21 +44,13 @@ returns-then-next_event-eq0-clause-limit c = c.requires.limit
 pub returns-in-Over-clause-limit : goal.returns-in-Over-clause-limit
 returns-in-Over-clause-limit c =
     let some = c.if-next_event-eq0.false in
-    subst (λ (m : MachineState). HasLimit c.args.until.0 m c.args.proc c.args.limit) (sym (c.go_once.ensures.over_same c.in-Over.is)) (record {
-      next_event = c.args.next_event;
-      is = c.steps.invariant.kept;
-      some = omega (arith, some);
-      free = free_here c.args.next_event c.args.self.now c.args.proc c.args.until.0 c.args.limit c.requires.next_event c.requires.limit;
-      same = c.steps.invariant.least;
-    })
+    subst (λ (m : MachineState). HasLimit c.args.until.0 m c.args.proc c.args.limit) (sym (c.go_once.ensures.over_same c.in-Over.is)) (limit_so c.args.next_event c.steps.self c.args.proc c.args.until.0 c.args.limit
+    c.steps.invariant.kept (omega (arith, some)) c.requires.early (free_here c.args.next_event c.args.self.now c.args.proc c.args.until.0 c.args.limit c.requires.next_event c.requires.limit)
+    c.steps.invariant.least)
 
 pub returns-in-Unknown-clause-limit : goal.returns-in-Unknown-clause-limit
 returns-in-Unknown-clause-limit c =
     let some = c.if-next_event-eq0.false in
-    subst (λ (m : MachineState). HasLimit c.args.until.0 m c.args.proc c.args.limit) (sym (c.go_once.ensures.unknown c.in-Unknown.is)) (record {
-      next_event = c.args.next_event;
-      is = c.steps.invariant.kept;
-      some = omega (arith, some);
-      free = free_here c.args.next_event c.args.self.now c.args.proc c.args.until.0 c.args.limit c.requires.next_event c.requires.limit;
-      same = c.steps.invariant.least;
-    })
+    subst (λ (m : MachineState). HasLimit c.args.until.0 m c.args.proc c.args.limit) (sym (c.go_once.ensures.unknown c.in-Unknown.is)) (limit_so c.args.next_event c.steps.self c.args.proc c.args.until.0 c.args.limit
+    c.steps.invariant.kept (omega (arith, some)) c.requires.early (free_here c.args.next_event c.args.self.now c.args.proc c.args.until.0 c.args.limit c.requires.next_event c.requires.limit)
+    c.steps.invariant.least)

@@ -2,9 +2,16 @@ use Rattle.std.proofs.Common.{◌<◌, ◌^◌, inl, inr, ap, subst, arith}
 use Rattle.ds_machine.specs.Private.{rank_of}
 use Rattle.ds_machine.specs.TurnSteps.{BelongsToTurn}
 use Rattle.ds_machine.specs.States.{MachineState, ProcessorState}
-use Rattle.ds_machine.proofs.GoingSteps.{ahead_data, ahead_if, ahead_may, below_limit, below_when, due_when, least_when, leaves_when, over_when, past_limit, sound_kept, took_when, waits_for}
+use Rattle.ds_machine.proofs.GoingSteps.{ahead_data, ahead_if, ahead_may, below_limit, below_when, due_when, least_when, leaves_when, over_when, past_limit, took_when, waits_for}
+use Rattle.ds_machine.proofs.Running.{few_steps}
 use Rattle.ds_machine.proofs.parts.Parts.go_once.Goals.{else-ahead-via-then-ahead+else-not-may_go_on, else-ahead-via-else-ahead}
 use Rattle.ds_machine.proofs.parts.Parts.go_once.Goals as goal
+
+pub processor_fast-requires-clause-sound : goal.processor_fast-requires-clause-sound
+processor_fast-requires-clause-sound c = c.requires.running.sound.parts
+
+pub processor_fast-requires-clause-counted : goal.processor_fast-requires-clause-counted
+processor_fast-requires-clause-counted c = few_steps c.args.proc c.args.self.now c.requires.running
 
 pub returns-then-not-may_go_on-clause-over : goal.returns-then-not-may_go_on-clause-over
 returns-then-not-may_go_on-clause-over c = λ over b.
@@ -43,14 +50,14 @@ returns-clause-took c = λ took.
           let lt = k.0 in
           let low : n < 2 ^ 56 = omega (arith, lt, early) in
           let d = due_when c.args.next_event s proc n is w low in
-          took_when c.args.next_event s c.processor_fast.new.self proc n until (sound_kept c.args.next_event s c.requires.parts is c.requires.some) c.requires.counted d lt early
+          took_when c.args.next_event s c.processor_fast.new.self proc n until c.requires.running d lt early
           (inr (ahead_if s proc n d k.1 (c.processor_fast.ensures.stays (grind (arith, past)) took))) (c.processor_fast.ensures.apart took) made c.processor_fast.ensures.io c.processor_fast.ensures.other)
       | else-ahead-via-else-ahead x ↦
           (let lt = x.if-ahead.false in
           let k = below_limit c.args.next_event s proc until n c.args.limit w c.requires.limit (omega (arith, lt)) in
           let below = k.below in
           let low : n < 2 ^ 56 = omega (arith, below, early) in
-          took_when c.args.next_event s c.processor_fast.new.self proc n until (sound_kept c.args.next_event s c.requires.parts is k.some) c.requires.counted
+          took_when c.args.next_event s c.processor_fast.new.self proc n until c.requires.running
           (due_when c.args.next_event s proc n is w low) below early (inl (least_when c.args.next_event s proc n is w low k.least)) (c.processor_fast.ensures.apart took) made c.processor_fast.ensures.io c.processor_fast.ensures.other)
     ])
 

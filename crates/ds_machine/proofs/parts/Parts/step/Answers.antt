@@ -1,7 +1,7 @@
 use Rattle.std.proofs.Common.{Some, sym}
 use Rattle.ds_machine.specs.StepAnswers.{stepped_of}
-use Rattle.ds_machine.proofs.CountsMay.{may_few_events, may_few_steps, may_fit_run}
 use Rattle.ds_machine.proofs.DueTicks.{low_rank, may_due, may_early, steps_as}
+use Rattle.ds_machine.proofs.Running.{few_events, few_steps, may_fit_run}
 use Rattle.ds_machine.proofs.parts.Parts.step.Goals as goal
 
 pub of-actor-requires : goal.of-actor-requires
@@ -12,13 +12,13 @@ step_at-requires-clause-early c =
     may_early c.args.self.now c.args.rank c.of-actor.result c.in-Some.tick c.requires.may (sym c.of-actor.ensures.actor) (sym c.in-Some.ensures)
 
 pub step_at-requires-clause-counted : goal.step_at-requires-clause-counted
-step_at-requires-clause-counted c = may_few_steps c.args.self.now c.args.rank c.of-actor.result c.requires.may c.requires.counted (sym c.of-actor.ensures.actor)
+step_at-requires-clause-counted c = λ proc is. few_steps proc c.args.self.now c.requires.running
 
 pub step_at-requires-clause-events : goal.step_at-requires-clause-events
-step_at-requires-clause-events c = may_few_events c.args.self.now c.args.rank c.requires.may c.requires.counted
+step_at-requires-clause-events c = few_events c.args.self.now c.requires.running
 
 pub step_at-requires-clause-run : goal.step_at-requires-clause-run
-step_at-requires-clause-run c = may_fit_run c.args.self.now c.args.rank c.of-actor.result c.requires.may c.requires.counted (sym c.of-actor.ensures.actor)
+step_at-requires-clause-run c = may_fit_run c.args.self.now c.args.rank c.of-actor.result c.requires.may c.requires.running (sym c.of-actor.ensures.actor)
 
 pub returns-in-Some : goal.returns-in-Some
 returns-in-Some c =

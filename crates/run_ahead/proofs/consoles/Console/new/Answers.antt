@@ -1,13 +1,13 @@
-use Rattle.std.proofs.Common.{refl, sym, subst, arith}
-use Rattle.ds_machine.specs.Counting.{CountsWithin}
-use Rattle.ds_machine.proofs.Booting.{sound_booted, within_booted}
+use Rattle.std.proofs.Common.{refl, sym, ◌∙◌, ap, subst, arith}
+use Rattle.ds_machine.specs.States.{MachineState, counts_of}
+use Rattle.ds_machine.proofs.Running.{counts_add_up}
 use Rattle.run_ahead.proofs.consoles.Console.new.Goals as goal
 
 pub invariant_of-result : goal.invariant_of-result
 invariant_of-result c = (
-  subst (CountsWithin 0) (sym c.in_ok-machine.ensures.booted) (within_booted c.args.cart c.args.keys),
+  counts_add_up 0 c.in_ok-machine.machine c.in_ok-machine.ensures.running,
   omega arith,
   refl,
-  λ none. sound_booted c.in_ok-machine.machine c.laws.ensures.parts c.in_ok-machine.ensures.units,
+  λ none. c.in_ok-machine.ensures.running,
   omega arith,
 )

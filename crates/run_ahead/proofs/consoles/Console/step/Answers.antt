@@ -1,15 +1,19 @@
 use Rattle.std.proofs.Common.{ℕ, ◌≡◌, None, refl, sym, ◌∙◌, ap, subst, arith}
 use Rattle.std.proofs.lemmas.Option.{none-some}
 use Rattle.ds_runs.specs.Runs.{IsOver}
+use Rattle.ds_machine.specs.Counting.{last_limit}
 use Rattle.ds_machine.specs.Reference.{dues_of}
+use Rattle.ds_machine.proofs.Running.{counts_add_up, limits_rise}
 use Rattle.run_ahead.specs.Consoles.{ConsoleState, open_of}
 use Rattle.run_ahead.specs.Turns.{run_to}
-use Rattle.run_ahead.proofs.StepTurns.{frame_taken, made_taken, one_fits, over_all, over_from, raised_within, stopped_counts, turn_within}
+use Rattle.run_ahead.proofs.StepTurns.{frame_taken, made_taken, one_fits, over_all, over_from, stopped_counts, stopped_few}
 use Rattle.run_ahead.proofs.consoles.Console.step.Goals as goal
 use Rattle.run_ahead.proofs.consoles.Console.step.Goals.{else-until-acting-via-then-until-acting+else-not-is_behind, else-until-acting-via-else-until-acting}
 
-pub take_turn-requires-clause-sound : goal.take_turn-requires-clause-sound
-take_turn-requires-clause-sound c = c.self.invariant.3 c.in_default.is
+pub take_turn-requires-clause-going : goal.take_turn-requires-clause-going
+take_turn-requires-clause-going c =
+    let most = c.self.invariant.1 in
+    limits_rise c.self.inside.limit last_limit c.self.inside.machine (omega (arith, most)) (c.self.invariant.3 c.in_default.is)
 
 pub overflow_add-self : goal.overflow_add-self
 overflow_add-self c = one_fits c.self.inside.turns c.self.inside.limit c.self.inside.machine c.self.invariant.0 c.self.invariant.1 c.self.invariant.4
@@ -23,14 +27,13 @@ invariant_of-self-in-Made c =
     let early = c.requires in
     let most = c.self.invariant.1 in
     let few = c.self.invariant.4 in
-    let sound = c.self.invariant.3 c.in_default.is in
-    let within = raised_within c.self.inside.limit c.max-self-inside.result c.self.inside.machine c.laws.ensures.counted c.self.invariant.0 (omega (arith, limit)) in
-    let taken = made_taken c.args.until.0 c.self.inside.machine c.take_turn.new.machine sound c.in-Made.ensures in
+    let running = limits_rise c.self.inside.limit c.max-self-inside.result c.self.inside.machine (omega (arith, limit)) (c.self.invariant.3 c.in_default.is) in
+    let taken = made_taken c.args.until.0 c.max-self-inside.result c.self.inside.machine c.take_turn.new.machine (omega (arith, limit)) running c.in-Made.ensures in
     let more = taken.more in (
-      turn_within c.args.until.0 c.max-self-inside.result c.self.inside.machine c.take_turn.new.machine c.take_turn.result early (omega (arith, limit)) sound within c.take_turn.ensures,
+      counts_add_up c.max-self-inside.result c.take_turn.new.machine taken.running,
       omega (arith, limit, early, most),
       sym (ap (open_of c.max-self-inside.result) c.in_default.is),
-      λ none. taken.sound,
+      λ none. taken.running,
       omega (arith, few, more),
     )
 
@@ -40,14 +43,13 @@ invariant_of-self-in-Frame c =
     let early = c.requires in
     let most = c.self.invariant.1 in
     let few = c.self.invariant.4 in
-    let sound = c.self.invariant.3 c.in_default.is in
-    let within = raised_within c.self.inside.limit c.max-self-inside.result c.self.inside.machine c.laws.ensures.counted c.self.invariant.0 (omega (arith, limit)) in
-    let taken = frame_taken c.args.until.0 c.self.inside.machine c.take_turn.new.machine c.in-Frame.swapped sound c.in-Frame.ensures in
+    let running = limits_rise c.self.inside.limit c.max-self-inside.result c.self.inside.machine (omega (arith, limit)) (c.self.invariant.3 c.in_default.is) in
+    let taken = frame_taken c.args.until.0 c.max-self-inside.result c.self.inside.machine c.take_turn.new.machine c.in-Frame.swapped (omega (arith, limit)) running c.in-Frame.ensures in
     let more = taken.more in (
-      turn_within c.args.until.0 c.max-self-inside.result c.self.inside.machine c.take_turn.new.machine c.take_turn.result early (omega (arith, limit)) sound within c.take_turn.ensures,
+      counts_add_up c.max-self-inside.result c.take_turn.new.machine taken.running,
       omega (arith, limit, early, most),
       sym (ap (open_of c.max-self-inside.result) c.in_default.is),
-      λ none. taken.sound,
+      λ none. taken.running,
       omega (arith, few, more),
     )
 
@@ -57,10 +59,9 @@ invariant_of-self-in-Stopped c =
     let early = c.requires in
     let most = c.self.invariant.1 in
     let few = c.self.invariant.4 in
-    let sound = c.self.invariant.3 c.in_default.is in
-    let within = raised_within c.self.inside.limit c.max-self-inside.result c.self.inside.machine c.laws.ensures.counted c.self.invariant.0 (omega (arith, limit)) in
-    let kept = stopped_counts c.args.until.0 c.self.inside.machine c.take_turn.new.machine c.in-Stopped.left sound c.in-Stopped.ensures in (
-      turn_within c.args.until.0 c.max-self-inside.result c.self.inside.machine c.take_turn.new.machine c.take_turn.result early (omega (arith, limit)) sound within c.take_turn.ensures,
+    let running = limits_rise c.self.inside.limit c.max-self-inside.result c.self.inside.machine (omega (arith, limit)) (c.self.invariant.3 c.in_default.is) in
+    let kept = stopped_counts c.args.until.0 c.self.inside.machine c.take_turn.new.machine c.in-Stopped.left running.sound c.in-Stopped.ensures in (
+      stopped_few c.args.until.0 c.max-self-inside.result c.self.inside.machine c.take_turn.new.machine c.in-Stopped.left (omega (arith, limit)) running c.in-Stopped.ensures,
       omega (arith, limit, early, most),
       refl,
       λ none. absurd (none-some _ (sym none)),

@@ -11,6 +11,7 @@ use Rattle.ds_base.specs.declared.ticks.Tick.{Tick}
 use Rattle.ds_dma.specs.Channels.{ready}
 use Rattle.ds_dma.specs.States.{DmaState, any_runs, awaits_geometry, channel_at, channel_due, dma_due, due_with, least_running}
 use Rattle.ds_dma.specs.declared.controls.Cause.TheVariants as causes
+use Rattle.ds_dma.specs.declared.dma.DmaDue.{DmaDue}
 use Rattle.ds_dma.proofs.Turns.{event_schedules}
 use Rattle.ds_dma.proofs.Wholes.{awaits_no_more, awaits_none, dma_triggered_is, event_runs}
 use Rattle.ds_runs.specs.declared.actors.Actor.TheVariants.{Timer, Geometry, Dma}
@@ -25,6 +26,7 @@ use Rattle.ds_ports.specs.Happenings.{IsIo, IsUnchanged, ReschedulesEach}
 use Rattle.ds_ports.specs.ProcessorIo.{blocks_processor, processor_io_triggered}
 use Rattle.ds_ports.specs.Io.{IoState, geometry_done, geometry_swapped, geometry_triggered, comes_before, io_of, is_held, is_settled, level_told, release_kept, release_of, settled, stall_ends, tick_after, with_halted}
 use Rattle.ds_ports.proofs.Later.{ProcessorIoReschedules, processor_io_each, unchanged_same}
+use Rattle.ds_ports.proofs.HeldDues.{none_kept}
 use Rattle.ds_ports.proofs.Events.{Happens, happens_by, happens_on, own_is, unchanged_happens}
 
 -- What geometry makes of the units: its head command is done, a swap is made, and the units settle after a step.
@@ -266,17 +268,14 @@ settled_stays now u all h =
     ap (λ (x : IoState). release_kept (geometry_triggered now x)) (told_stays u (equal_is _ _ parts.0)) ∙ ap release_kept (triggered_stays now u all rest.0)
     ∙ kept_stays u (equal_is _ _ rest.1)
 
--- where no channel waits for geometry, and the release is kept as it is, it stays
-pub kept_twice : (u : IoState) → release_of (release_kept u) ≡ release_of u
-kept_twice u = go (comes_before (dma_due u.nine.dma) u.released) refl where
-  either : (b : Bool) → (if b then 0 else 0) ≡ 0
-  either true = refl
-  either false = refl
+-- what is kept once is kept
+kept_again : (due : Option DmaDue) (released : ℕ) (b : Bool) → comes_before due released ≡ b
+    → (if comes_before due (if b then released else 0) then (if b then released else 0) else 0) ≡ (if b then released else 0)
+kept_again due released true e = ap (λ (b : Bool). if b then released else 0) e
+kept_again due released false e = none_kept (comes_before due 0) 0 refl
 
-  go : (b : Bool) → comes_before (dma_due u.nine.dma) u.released ≡ b
-      → (if comes_before (dma_due u.nine.dma) (if b then u.released else 0) then (if b then u.released else 0) else 0) ≡ (if b then u.released else 0)
-  go true e = rw e refl
-  go false e = either (comes_before (dma_due u.nine.dma) 0)
+pub kept_twice : (u : IoState) → release_of (release_kept u) ≡ release_of u
+kept_twice u = kept_again (dma_due u.nine.dma) u.released (comes_before (dma_due u.nine.dma) u.released) refl
 
 pub settles : (now : Tick) (u : IoState) → IsIo u → is_settled (settled now u) ≡ true
 settles now u all = go (is_half_empty u.gx) refl where

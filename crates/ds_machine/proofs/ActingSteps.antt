@@ -1,4 +1,4 @@
-use Rattle.std.proofs.Common.{ℕ, ◌≡◌, ◌<◌, ◌≤◌, ◌^◌, ◌⊎◌, inl, inr, Bool, true, false, true≢false, List, [], ◌++◌, Option, Some, refl, sym, ◌∙◌, ap, subst, arith}
+use Rattle.std.proofs.Common.{ℕ, ◌≡◌, ◌<◌, ◌≤◌, ◌^◌, ◌⊎◌, inl, inr, Bool, true, false, true≢false, List, ◌++◌, Option, Some, refl, sym, ◌∙◌, ap, subst, arith, []}
 use Rattle.std.specs.Prelude.{◌↔◌}
 use Rattle.std.specs.List.{last_or}
 use Rattle.std.proofs.lemmas.Option.{none-some}

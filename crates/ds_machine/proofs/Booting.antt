@@ -1,10 +1,9 @@
-use Rattle.std.proofs.Common.{ℕ, ◌≡◌, ◌≤◌, ◌+◌, ◌^◌, inl, inr, false, true, List, [], ◌∷◌, length, take, Option, Some, None, refl, ◌∙◌, ap, arith}
+use Rattle.std.proofs.Common.{ℕ, ◌≡◌, ◌≤◌, ◌+◌, inl, inr, false, true, List, ◌∷◌, length, take, refl, ◌∙◌, ap, arith, []}
 use Rattle.std.specs.Prelude.{◌&&◌}
 use Rattle.ds_base.specs.declared.keys.KeyLine.{KeyLine}
 use Rattle.ds_base.specs.declared.memories.Width.TheVariants.{Byte}
 use Rattle.ds_base.specs.declared.processors.Proc.{Proc}
 use Rattle.ds_base.specs.declared.processors.Proc.TheVariants.{Nine, Seven}
-use Rattle.ds_base.specs.declared.ticks.Tick.{Tick}
 use Rattle.ds_header.specs.Fields.{image_of, image_place}
 use Rattle.ds_header.specs.Rules.{ImageLies}
 use Rattle.ds_ports.specs.Io.{IoState, io_at_boot, io_of, is_settled}

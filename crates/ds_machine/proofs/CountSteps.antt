@@ -1,13 +1,10 @@
-use Rattle.std.proofs.Common.{ℕ, ◌≡◌, ◌<◌, ◌≤◌, ◌+◌, inl, inr, true, min, List, [], ◌∷◌, Option, Some, None, refl, sym, ◌∙◌, ap, subst, arith}
+use Rattle.std.proofs.Common.{ℕ, ◌≡◌, ◌+◌, List, ◌∷◌, Option, Some, None, sym, ◌∙◌, ap, subst, []}
 use Rattle.std.proofs.lemmas.Option.{none-some}
 use Rattle.ds_base.specs.declared.keys.KeyLine.{KeyLine}
 use Rattle.ds_base.specs.declared.left_out.LeftOut.{LeftOut}
 use Rattle.ds_base.specs.declared.processors.Proc.{Proc}
-use Rattle.ds_base.specs.declared.processors.Proc.TheVariants.{Nine, Seven}
 use Rattle.ds_base.specs.declared.ticks.Tick.{Tick}
 use Rattle.arm_core.specs.declared.outcomes.Stepped as arm
-use Rattle.arm_core.specs.declared.outcomes.Stepped.TheVariants.{Cost, Halted, Left}
-use Rattle.ds_dma.specs.declared.channels.Unit.{Unit as DmaUnit}
 use Rattle.ds_map.specs.Moves.{next_unit}
 use Rattle.ds_runs.specs.Actors.{actor_of}
 use Rattle.ds_runs.specs.Runs.{IsLeast, MachineStep, Makes, Stops}
@@ -16,10 +13,9 @@ use Rattle.ds_runs.specs.declared.actors.Actor.TheVariants.{KeyScript, Video, Ge
 use Rattle.ds_runs.proofs.RunLaws.{same_makes, not_both}
 use Rattle.ds_machine.specs.Channels.{channel_step}
 use Rattle.ds_machine.specs.Reference.{awake, Shown, after_event, after_geometry, after_line, due_by, dues_of, keys_due, step_by, reference_step}
-use Rattle.ds_machine.specs.States.{MachineState, ProcessorState, counts_of}
-use Rattle.ds_machine.specs.Steps.{gone_by, is_halted, processor_of, went_on, with_halt, with_processor}
-use Rattle.ds_machine.proofs.ChannelEvents.{channel_unchanged, channel_made, event_counts, machine_after_unit, unit_counts}
-use Rattle.ds_machine.proofs.DueTicks.{due_of_least, sort_rank}
+use Rattle.ds_machine.specs.States.{MachineState, counts_of}
+use Rattle.ds_machine.proofs.ChannelEvents.{channel_unchanged, channel_made, event_counts, unit_counts}
+use Rattle.ds_machine.proofs.DueTicks.{due_of_least}
 use Rattle.ds_machine.proofs.MachineSchedule.{awake_makes, awake_stops}
 use Rattle.ds_machine.proofs.ProcessorSteps.{came_by, concluded_stops, concludes, costs_some, gone_counts, reached_by, reaches, step_is}
 use Rattle.ds_machine.proofs.VideoEvents.{video_makes, video_stops}

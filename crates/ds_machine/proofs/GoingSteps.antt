@@ -1,4 +1,4 @@
-use Rattle.std.proofs.Common.{ℕ, ◌≡◌, ◌≢◌, ◌<◌, ◌≤◌, ◌-◌, ◌^◌, ◌⊎◌, inl, inr, if◌then◌else◌, min, nat_le, nat_lt, Bool, true, false, true≢false, List, [], ◌∷◌, Option, Some, refl, sym, ◌∙◌, ap, subst, arith}
+use Rattle.std.proofs.Common.{ℕ, ◌≡◌, ◌≢◌, ◌<◌, ◌≤◌, ◌-◌, ◌^◌, ◌⊎◌, inl, inr, if◌then◌else◌, min, nat_le, nat_lt, Bool, true, false, true≢false, List, ◌∷◌, Option, Some, refl, sym, ◌∙◌, ap, subst, arith, []}
 use Rattle.std.proofs.lemmas.Option.{same_Some}
 use Rattle.std.proofs.lemmas.Bool.{and_cases, and_from, and_left, and_parts, and_right}
 use Rattle.ds_base.specs.declared.processors.Proc.{Proc}

@@ -5,6 +5,7 @@ pub mod ChannelEvents
 pub mod Costs
 pub mod FenceFirsts
 pub mod CountSteps
+pub mod QuietStays
 pub mod DueTicks
 pub mod ActingDues
 pub mod Frames
@@ -61,7 +62,6 @@ pub mod LagCommutes
 pub mod LagSteps
 pub mod GeometryFirst
 pub mod LagLaw
-pub mod QuietStays
 pub mod CatchingUp
 pub mod ObservedTests
 pub mod SameTick

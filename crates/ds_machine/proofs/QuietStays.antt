@@ -1,28 +1,27 @@
 use Rattle.std.specs.Prelude.{is_some}
-use Rattle.std.proofs.Common.{ℕ, ◌≡◌, ◌≢◌, ◌<◌, ◌≤◌, ◌⊎◌, inl, inr, true, false, List, None, Some, sym, ◌∙◌, ap, subst, arith}
+use Rattle.std.proofs.Common.{ℕ, ◌≡◌, ◌≢◌, true, false, List, sym, ◌∙◌, ap, subst}
 use Rattle.std.proofs.lemmas.Option.{none-some}
-use Rattle.ds_base.specs.declared.left_out.LeftOut.{LeftOut}
 use Rattle.ds_base.specs.declared.ticks.Tick.{Tick}
 use Rattle.ds_ports.specs.Acting.{any_armed, is_quiet}
 use Rattle.ds_ports.specs.Io.{IoState}
 use Rattle.ds_runs.specs.Actors.{actor_of}
-use Rattle.ds_runs.specs.Runs.{Makes, Stops, due_at}
+use Rattle.ds_runs.specs.Runs.{Makes}
 use Rattle.ds_runs.specs.declared.actors.Actor as actor
 use Rattle.ds_runs.specs.declared.actors.Actor.TheVariants.{Geometry}
 use Rattle.gx_fifo.specs.GxStates.{GxState, is_stalled}
-use Rattle.ds_machine.specs.Acting.{acting_due, acting_dues}
+use Rattle.ds_machine.specs.Acting.{acting_due}
 use Rattle.ds_machine.specs.Lagging.{ActsApart}
-use Rattle.ds_machine.specs.Reference.{Shown, due_by, dues_of, reference_step, step_by}
+use Rattle.ds_machine.specs.Reference.{Shown, reference_step}
 use Rattle.ds_machine.specs.Sound.{HasSoundParts}
 use Rattle.ds_machine.specs.States.{MachineState}
 use Rattle.ds_machine.specs.Steps.{ended}
-use Rattle.ds_machine.proofs.ActingDues.{acting_low, acting_of_rank, acts_then}
-use Rattle.ds_machine.proofs.LagCommutes.{arms_left, ended_disarmed, ended_gx_left, gx_left, stopped_arms, stopped_gx}
+use Rattle.ds_machine.proofs.ActingDues.{acting_low, acting_of_rank}
+use Rattle.ds_machine.proofs.LagCommutes.{arms_left, ended_disarmed, ended_gx_left, gx_left}
 use Rattle.ds_machine.proofs.LagSteps.{quiet_acts_never, quiet_parts, quiet_where_due}
-use Rattle.ds_machine.proofs.MachineSchedule.{awake_stops, owes_by, step_made_as}
+use Rattle.ds_machine.proofs.MachineSchedule.{owes_by, step_made_as}
 use Rattle.ds_machine.proofs.StepsMay.{steps_acting}
 
--- A step that doesn't observe quiet geometry leaves it quiet, so that what acts afterwards comes after that step.
+-- A step that doesn't observe quiet geometry leaves it quiet.
 
 still_quiet : (u v : IoState) → is_quiet u ≡ true → v.gx ≡ u.gx → any_armed v.nine.dma ≡ false → is_quiet v ≡ true
 still_quiet u v quiet gx disarmed =
@@ -47,19 +46,3 @@ module _ (s : MachineState) (rank : ℕ) (tick : Tick) (parts : HasSoundParts s)
       let arms = arms_left rank a s made outs other_steps b.apart k.1 (quiet_parts s.io quiet).disarmed in
       subst (λ (m : MachineState). is_quiet m.io ≡ true) k.2
       (still_quiet s.io (ended tick made).io quiet (ended_gx_left tick made four arms ∙ gx) (ended_disarmed tick made four arms))
-
-  pub quiet_left : (left : MachineState) (stop : LeftOut) → reference_step rank s ≡ Stops stop left → is_quiet left.io ≡ true
-  quiet_left left stop h =
-      let a = actor_of rank in
-      let k = awake_stops (due_by a s) (step_by rank a s) left stop h in
-      still_quiet s.io left.io quiet (stopped_gx rank a s left stop other_steps b.apart k) (stopped_arms rank a s left stop other_steps b.apart k (quiet_parts s.io quiet).disarmed)
-
-  -- so all that acts then and was due then before comes after that step
-  pub acts_past : (next : MachineState) → is_quiet next.io ≡ true → (other : ℕ) (at : Tick) → due_at (dues_of s) other ≡ Some at → due_at (acting_dues next) other ≡ Some at
-      → (tick.0 < at.0) ⊎ ((tick.0 ≡ at.0) × (rank ≤ other))
-  acts_past next still other at there acts = elim (acts_then s other at there) [
-    | inr acting ↦ b.least.least other at acting
-    | inl twelve ↦
-        (let none : due_at (acting_dues next) 12 ≡ None = acting_of_rank next 12 (omega arith) ∙ quiet_acts_never next still in
-        absurd (none-some at (sym none ∙ subst (λ (r : ℕ). due_at (acting_dues next) r ≡ Some at) twelve acts)))
-  ]

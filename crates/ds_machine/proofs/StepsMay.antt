@@ -1,4 +1,4 @@
-use Rattle.std.proofs.Common.{ℕ, ◌≡◌, ◌<◌, ◌⊎◌, inl, inr, Bool, true, false, if◌then◌else◌, List, [], ◌∷◌, Some, Result, Ok, Err, refl, sym, ◌∙◌, ap, subst}
+use Rattle.std.proofs.Common.{ℕ, ◌≡◌, ◌<◌, ◌⊎◌, inl, inr, Bool, true, false, if◌then◌else◌, List, ◌∷◌, Some, Result, Ok, Err, refl, sym, ◌∙◌, ap, subst, []}
 use Rattle.ds_base.specs.Schedules.{IsLater}
 use Rattle.ds_base.specs.declared.left_out.LeftOut.{LeftOut}
 use Rattle.ds_base.specs.declared.left_out.Stop.{Stop}
@@ -22,11 +22,10 @@ use Rattle.ds_machine.specs.Channels.{stopped_at}
 use Rattle.ds_machine.specs.Lagging.{ActsApart}
 use Rattle.ds_machine.specs.Private.{IsAhead, rank_of}
 use Rattle.ds_machine.specs.Reference.{Shown, after_event, after_geometry, after_line, after_video, dues_of, reference_step, shown_at, step_by, video_step}
-use Rattle.ds_machine.specs.Sound.{HasSoundParts, IsSound}
+use Rattle.ds_machine.specs.Sound.{HasSoundParts}
 use Rattle.ds_machine.specs.StepAnswers.{stepped_of}
 use Rattle.ds_machine.specs.States.{MachineState}
 use Rattle.ds_machine.specs.Steps.{ended, processor_of, tick_of}
-use Rattle.ds_machine.specs.TurnSteps.{MayStep}
 use Rattle.ds_machine.specs.declared.answers.Done as answer
 use Rattle.ds_machine.specs.declared.answers.Done.TheVariants as answers
 use Rattle.ds_machine.proofs.ActingDues.{due_where_acts}
@@ -92,9 +91,6 @@ steps_then s rank tick sound there may = elim may [
         subst (λ (r : ℕ). Steps (actor_of r) r tick s) (sym k.1) (steps_alone s k.0 tick sound k.2 own))
   ]
 ]
-
-pub steps_may : (s : MachineState) (rank : ℕ) → HasSoundParts s → (may : MayStep s rank) → Steps (actor_of rank) rank may.tick s
-steps_may s rank sound may = steps_then s rank may.tick sound may.due may.may
 
 -- ---- what is answered of it: nothing is put out, or a frame at the display's tick
 

@@ -1,6 +1,5 @@
-use Rattle.std.proofs.Common.{ℕ, zero, suc, ◌≡◌, ◌<◌, ◌≤◌, ◌+◌, ◌*◌, Bool, true, false, List, [], ◌∷◌, Option, refl, sym, ◌∙◌, ap, subst, arith}
+use Rattle.std.proofs.Common.{ℕ, ◌≡◌, ◌≤◌, ◌+◌, Bool, true, false, List, ◌∷◌, Option, refl, sym, ◌∙◌, ap, subst, arith, []}
 use Rattle.ds_base.specs.declared.keys.KeyLine.{KeyLine}
-use Rattle.ds_base.specs.declared.left_out.LeftOut.{LeftOut}
 use Rattle.ds_base.specs.declared.processors.Proc.{Proc}
 use Rattle.ds_base.specs.declared.processors.Proc.TheVariants.{Nine, Seven}
 use Rattle.ds_base.specs.declared.ticks.Tick.{Tick}
@@ -8,11 +7,10 @@ use Rattle.arm_core.specs.declared.outcomes.Stepped as arm
 use Rattle.arm_core.specs.declared.outcomes.Stepped.TheVariants.{Cost, Halted, Left}
 use Rattle.ds_map.specs.Moves.{next_unit}
 use Rattle.ds_ports.specs.Io.{IoState, io_event, video_done}
-use Rattle.ds_runs.specs.Actors.{actor_of}
-use Rattle.ds_runs.specs.Runs.{MachineStep, Makes, Stops}
+use Rattle.ds_runs.specs.Runs.{Makes}
 use Rattle.ds_runs.specs.declared.actors.Actor as actor
 use Rattle.ds_runs.specs.declared.actors.Actor.TheVariants.{KeyScript, Video, Timer, Divider, SquareRoot, Geometry, Card, Dma, Processor}
-use Rattle.ds_runs.proofs.RunLaws.{same_makes, not_both}
+use Rattle.ds_runs.proofs.RunLaws.{same_makes}
 use Rattle.gx_fifo.specs.GxStates.{GxState}
 use Rattle.gx_fifo.proofs.Laws.{finished_run, swapped_run}
 use Rattle.ds_machine.specs.Channels.{channel_step}
@@ -20,10 +18,10 @@ use Rattle.ds_machine.specs.Counting.{run_of}
 use Rattle.ds_machine.specs.Reference.{Shown, after_event, after_geometry, after_line, after_video, step_by, swapped_if}
 use Rattle.ds_machine.specs.States.{MachineState}
 use Rattle.ds_machine.specs.Steps.{gone_by}
-use Rattle.ds_machine.proofs.ChannelEvents.{channel_made, channel_unchanged, read_unchanged, unit_run}
+use Rattle.ds_machine.proofs.ChannelEvents.{channel_made, unit_run}
 use Rattle.ds_machine.proofs.MachineSchedule.{Steps, channel_timers, operation}
-use Rattle.ds_machine.proofs.ProcessorSteps.{came_by, concluded_stops, concludes, costs_some, goes, reached_by, step_is}
-use Rattle.ds_machine.proofs.VideoEvents.{done_gx, video_makes, video_stops}
+use Rattle.ds_machine.proofs.ProcessorSteps.{came_by, concludes, costs_some, goes, reached_by, step_is}
+use Rattle.ds_machine.proofs.VideoEvents.{done_gx, video_makes}
 use Rattle.video2d.specs.Scans.{scan_due_tick, starts_vblank}
 
 -- How many vertices the current run has: geometry adds one at most in a step.

@@ -201,12 +201,11 @@ fn a_line_that_needs_what_is_left_out_stops_the_machine(rt: HostRuntime) -> Resu
             Until(3212),
             Took(9, 3, 1),
             Stops(3212, 1, mode),
-            // it isn't counted, and comes again
+            // it isn't counted, and stays due
             Took(9, 3, 1),
             NotDue(22),
             NotDue(23),
             First(3212, 1),
-            Stops(3212, 1, mode),
         ],
     )
 }

@@ -128,9 +128,10 @@ impl Model for Tested {
 impl Tested {
     /// A machine at boot.
     fn new(alloc: Global, cart: &Cart, keys: Keys) -> Result<Tested, AllocError> {
+        let machine = Machine::new(alloc, cart, keys)?;
         running_laws();
         Ok(Tested {
-            machine: Machine::new(alloc, cart, keys)?,
+            machine,
             stopped: false,
         })
     }

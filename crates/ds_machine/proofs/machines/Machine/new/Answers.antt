@@ -1,6 +1,4 @@
-use Rattle.std.proofs.Common.{◌∙◌, sym, ap, subst}
-use Rattle.ds_machine.specs.Counting.{IsRunning}
-use Rattle.ds_machine.specs.States.{MachineState}
+use Rattle.std.proofs.Common.{sym, subst}
 use Rattle.ds_machine.specs.Statuses.{HasBothStatuses}
 use Rattle.ds_machine.proofs.Booting.{running_booted}
 use Rattle.ds_machine.proofs.Statuses.{boots_with_statuses}

@@ -21,6 +21,19 @@ overflow_add-self c = one_fits c.self.inside.turns c.self.inside.limit c.self.in
 pub overflow_add-self-in-Frame : goal.overflow_add-self-in-Frame
 overflow_add-self-in-Frame c = one_fits c.self.inside.turns c.self.inside.limit c.self.inside.machine c.self.invariant.0 c.self.invariant.1 c.self.invariant.4
 
+pub invariant_of-self : goal.invariant_of-self
+invariant_of-self c =
+    let limit = c.max-self-inside.ensures in
+    let early = c.requires in
+    let most = c.self.invariant.1 in
+    let all = c.self.invariant.0 in (
+      omega (arith, all, limit),
+      omega (arith, limit, early, most),
+      sym (ap (open_of c.max-self-inside.result) c.in_default.is),
+      λ none. limits_rise c.self.inside.limit c.max-self-inside.result c.self.inside.machine (omega (arith, limit)) (c.self.invariant.3 c.in_default.is),
+      c.self.invariant.4,
+    )
+
 pub invariant_of-self-in-Made : goal.invariant_of-self-in-Made
 invariant_of-self-in-Made c =
     let limit = c.max-self-inside.ensures in

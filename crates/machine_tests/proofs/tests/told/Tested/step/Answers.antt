@@ -1,7 +1,16 @@
 use Rattle.std.proofs.Common.{inl, arith}
 use Rattle.machine_tests.proofs.tests.told.Tested.step.Goals as goal
 
+pub step-requires-clause-running : goal.step-requires-clause-running
+step-requires-clause-running c = c.self.invariant c.if-self.false
+
 pub step-requires-clause-may : goal.step-requires-clause-may
 step-requires-clause-may c =
-    let low = c.if-self.false in
+    let low = c.if-due-gt1048576.false in
     record { tick = c.due-due.result.tick; due = c.due-due.ensures.there; early = omega (arith, low); may = inl c.due-due.ensures }
+
+pub invariant_of-self : goal.invariant_of-self
+invariant_of-self c = λ going. c.in-Made.ensures.running
+
+pub invariant_of-self-in-Frame : goal.invariant_of-self-in-Frame
+invariant_of-self-in-Frame c = λ going. c.in-Frame.ensures.running

@@ -16,9 +16,6 @@ use Rattle.arm_core.specs.Registers.{RegisterState, is_thumb}
 use Rattle.arm_core.specs.Steps as steps
 use Rattle.arm_core.specs.Steps.{FetchOutcome, Setting, enters, executed_word, fetched, fetched_half, fetched_word, stop_of}
 use Rattle.ds_machine.specs.PrivateSides.{SideOf, side_taken}
-use Rattle.ds_machine.specs.PrivateSides.{side_taken}
-use Rattle.ds_machine.specs.PrivateSides.{side_taken}
-use Rattle.ds_machine.specs.PrivateSides.{side_taken}
 use Rattle.ds_machine.specs.Sides.{taken}
 
 -- A change of what a processor reaches that none of its accesses tells or undoes, none of its steps does.

@@ -18,9 +18,6 @@ use Rattle.arm9_exec.specs.declared.coprocessors.Moved.{Moved}
 use Rattle.arm9_exec.proofs.Costs.{moved_costs}
 use Rattle.ds_map.specs.Views.{NineReach, nine_memory, seven_memory}
 use Rattle.ds_machine.specs.PrivateSides.{SideOf, nine_side, seven_side, side_taken}
-use Rattle.ds_machine.specs.PrivateSides.{side_taken}
-use Rattle.ds_machine.specs.PrivateSides.{side_taken}
-use Rattle.ds_machine.specs.PrivateSides.{side_taken}
 use Rattle.ds_machine.specs.Sides.{nine_executed, taken}
 use Rattle.ds_machine.specs.States.{MachineState}
 use Rattle.ds_machine.specs.Steps.{line_of, nine_reach, outcome_of, seven_reach}

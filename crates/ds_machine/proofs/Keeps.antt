@@ -13,9 +13,6 @@ use Rattle.arm_core.specs.Registers.{RegisterState}
 use Rattle.arm_core.specs.Steps as steps
 use Rattle.arm_core.specs.Steps.{Setting, enters, executed_word, fetched, stop_of}
 use Rattle.ds_machine.specs.PrivateSides.{SideOf, side_taken}
-use Rattle.ds_machine.specs.PrivateSides.{side_taken}
-use Rattle.ds_machine.specs.PrivateSides.{side_taken}
-use Rattle.ds_machine.specs.PrivateSides.{side_taken}
 use Rattle.ds_machine.specs.Sides.{taken}
 
 -- What each access of a memory machine makes of its state, a step over it makes of it.

@@ -68,9 +68,6 @@ use Rattle.ds_ports.specs.Acting.{any_armed, is_armed}
 use Rattle.ds_machine.specs.Private.{data_accesses}
 use Rattle.ds_machine.specs.Reference.{Shown, after_event, after_line, after_video, shown_at, step_by, swapped_if, video_step}
 use Rattle.ds_machine.specs.PrivateSides.{nine_side, seven_side, side_taken}
-use Rattle.ds_machine.specs.PrivateSides.{side_taken}
-use Rattle.ds_machine.specs.PrivateSides.{side_taken}
-use Rattle.ds_machine.specs.PrivateSides.{side_taken}
 use Rattle.ds_machine.specs.Sides.{nine_executed, taken}
 use Rattle.ds_machine.specs.States.{MachineState}
 use Rattle.ds_machine.specs.Statuses.{left_by}

@@ -68,9 +68,6 @@ use Rattle.video2d.specs.declared.videos.Shown as display
 use Rattle.ds_machine.specs.Channels.{channel_step, moved_by}
 use Rattle.ds_machine.specs.Reference.{Shown, awake, due_by, step_by, video_step}
 use Rattle.ds_machine.specs.PrivateSides.{SideOf, nine_side, seven_side, side_taken}
-use Rattle.ds_machine.specs.PrivateSides.{side_taken}
-use Rattle.ds_machine.specs.PrivateSides.{side_taken}
-use Rattle.ds_machine.specs.PrivateSides.{side_taken}
 use Rattle.ds_machine.specs.Sides.{nine_executed, taken}
 use Rattle.ds_machine.specs.States.{MachineState}
 use Rattle.ds_machine.specs.Steps.{line_of, machine_concluded, map_of, nine_reach, outcome_of, processor_of, seven_reach, tick_of, with_map}

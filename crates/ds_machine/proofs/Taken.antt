@@ -9,9 +9,6 @@ use Rattle.arm_ops.specs.Operations.{operation_of}
 use Rattle.arm_ops.specs.declared.operations.Operation.{Operation}
 use Rattle.ds_machine.specs.DecodedSteps.{RunsAs, operation_outcome}
 use Rattle.ds_machine.specs.PrivateSides.{SideOf, side_taken}
-use Rattle.ds_machine.specs.PrivateSides.{side_taken}
-use Rattle.ds_machine.specs.PrivateSides.{side_taken}
-use Rattle.ds_machine.specs.PrivateSides.{side_taken}
 use Rattle.ds_machine.specs.Sides.{taken}
 
 -- A step by what is entered and fetched.

@@ -6,6 +6,7 @@ use Rattle.ds_base.specs.declared.processors.Proc.{Proc}
 use Rattle.ds_base.specs.declared.processors.Proc.TheVariants.{Nine, Seven}
 use Rattle.ds_header.specs.Fields.{image_of, image_place}
 use Rattle.ds_header.specs.Rules.{ImageLies}
+use Rattle.ds_base.specs.declared.ticks.Tick.{Tick}
 use Rattle.ds_ports.specs.Io.{IoState, io_at_boot, io_of, is_settled}
 use Rattle.ds_timers.specs.Irqs.{shares_bit}
 use Rattle.gx_geometry.specs.Numbers.{numbers_at_boot}
@@ -52,6 +53,9 @@ booted_stays file keys =
     (copied_stays Nine seven header_place (take header_bytes file)))
 
 -- ---- images go to RAM, and leave the units
+
+abbrev start : Tick
+start = record { 0 = 0 }
 
 pub copied_io : (proc : Proc) (s : MachineState) (at : ℕ) (bytes : List ℕ) → 0x02000000 ≤ at → at + length bytes ≤ 0x04000000 → (copied proc s at bytes).io ≡ s.io
 copied_io proc s at [] low high = refl

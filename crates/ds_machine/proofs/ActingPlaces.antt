@@ -14,7 +14,8 @@ use Rattle.ds_runs.proofs.Places.{remaining_at, remaining_below}
 use Rattle.ds_machine.specs.Acting.{acting_due, acting_dues}
 use Rattle.ds_machine.specs.Lagging.{ActsApart}
 use Rattle.ds_machine.specs.Private.{IsAhead, rank_of}
-use Rattle.ds_machine.specs.Reference.{IsSound, Shown, due_by, reference_step}
+use Rattle.ds_machine.specs.Reference.{Shown, due_by, reference_step}
+use Rattle.ds_machine.specs.Sound.{IsSound}
 use Rattle.ds_machine.specs.States.{MachineState}
 use Rattle.ds_machine.proofs.ActingDues.{acting_low, acting_of_rank, acts_where_due, due_where_acts, loud_by, quiet_or_loud, same_or_not}
 use Rattle.ds_machine.proofs.ActingSteps.{Acted, CaughtUp, caught_steps, caught_up}

@@ -20,7 +20,8 @@ use Rattle.ds_machine.specs.Acting.{acting_dues}
 use Rattle.ds_machine.specs.Frames.{FollowFrames, FollowLists, WholeFrame, frames_shown, last_frame, last_lists, lists_shown}
 use Rattle.ds_machine.specs.Lagging.{ActsApart, CatchesUpFor, CatchesUpIf, ComesBeforeAll, StepsBeforeGeometry, TakesGeometry, none, observes_by}
 use Rattle.ds_machine.specs.Private.{IsAhead, rank_of}
-use Rattle.ds_machine.specs.Reference.{IsSound, Shown, dues_of, processor_due, reference, reference_step}
+use Rattle.ds_machine.specs.Reference.{Shown, dues_of, processor_due, reference, reference_step}
+use Rattle.ds_machine.specs.Sound.{IsSound}
 use Rattle.ds_machine.specs.States.{MachineState, NineState, SevenState, counts_of}
 use Rattle.ds_machine.specs.Statuses.{HasBothStatuses, left_by}
 use Rattle.ds_machine.specs.Steps.{processor_of}

@@ -2,7 +2,8 @@ use Rattle.std.proofs.Common.{refl}
 use Rattle.ds_base.specs.declared.processors.Proc.{Proc}
 use Rattle.ds_runs.proofs.Ahead.{ahead_agrees}
 use Rattle.ds_machine.specs.Private.{AheadRuns, AheadSteps, IsAhead, RunsAhead, rank_of}
-use Rattle.ds_machine.specs.Reference.{IsSound, reference}
+use Rattle.ds_machine.specs.Reference.{reference}
+use Rattle.ds_machine.specs.Sound.{IsSound}
 use Rattle.ds_machine.specs.States.{MachineState}
 use Rattle.ds_machine.specs.Steps.{processor_of, tick_of}
 use Rattle.ds_machine.proofs.InnerLaw.{private_is_harmless}

@@ -6,12 +6,13 @@ use Rattle.ds_base.specs.declared.processors.Proc.{Proc}
 use Rattle.ds_base.specs.declared.processors.Proc.TheVariants.{Nine, Seven}
 use Rattle.ds_header.specs.Fields.{image_of, image_place}
 use Rattle.ds_header.specs.Rules.{ImageLies}
+use Rattle.ds_base.specs.declared.ticks.Tick.{Tick}
 use Rattle.ds_ports.specs.Io.{IoState, io_at_boot, io_of, is_settled}
 use Rattle.ds_timers.specs.Irqs.{shares_bit}
 use Rattle.gx_geometry.specs.Numbers.{numbers_at_boot}
 use Rattle.ds_machine.specs.Booted.{header_bytes, header_place, machine_blank, machine_booted, with_image}
 use Rattle.ds_machine.specs.Boots.{copied, stored}
-use Rattle.ds_machine.specs.Reference.{AreAsleep, HasSoundParts, IsSound}
+use Rattle.ds_machine.specs.Sound.{AreAsleep, HasSoundParts, IsSound}
 use Rattle.ds_machine.specs.Counting.{IsRunning, run_of}
 use Rattle.ds_machine.specs.States.{MachineState, ProcessorState, counts_of}
 use Rattle.ds_machine.specs.Steps.{map_of, processor_of}
@@ -53,6 +54,9 @@ booted_stays file keys =
 
 -- ---- images go to RAM, and leave the units
 
+abbrev start : Tick
+start = record { 0 = 0 }
+
 pub copied_io : (proc : Proc) (s : MachineState) (at : ℕ) (bytes : List ℕ) → 0x02000000 ≤ at → at + length bytes ≤ 0x04000000 → (copied proc s at bytes).io ≡ s.io
 copied_io proc s at [] low high = refl
 copied_io proc s at (byte ∷ rest) low high =
@@ -89,7 +93,7 @@ asleep_booted s e proc = ap (λ (u : IoState). (io_of u proc).halted && shares_b
   at_boot Seven = refl
 
 -- and settled
-settled_booted : (s : MachineState) → s.io ≡ io_at_boot → is_settled s.io ≡ true
+pub settled_booted : (s : MachineState) → s.io ≡ io_at_boot → is_settled s.io ≡ true
 settled_booted s e = ap is_settled e ∙ refl
 
 pub sound_booted : (s : MachineState) → HasSoundParts s → s.io ≡ io_at_boot → IsSound s

@@ -24,7 +24,8 @@ use Rattle.ds_machine.specs.Acting.{acting_dues, is_behind, is_due_before}
 use Rattle.ds_machine.specs.Frames.{last_frame, last_lists}
 use Rattle.ds_machine.specs.Lagging.{CatchesUp, CatchesUpFor, CatchesUpIf, CatchingUpRuns, ComesBeforeAll, TakesGeometry, more, none, observes_by}
 use Rattle.ds_machine.specs.Private.{rank_of}
-use Rattle.ds_machine.specs.Reference.{IsSound, Shown, dues_of, reference, reference_step}
+use Rattle.ds_machine.specs.Reference.{Shown, dues_of, reference, reference_step}
+use Rattle.ds_machine.specs.Sound.{IsSound}
 use Rattle.ds_machine.specs.States.{MachineState, NineState, SevenState, counts_of}
 use Rattle.ds_machine.specs.Statuses.{HasBothStatuses}
 use Rattle.ds_machine.specs.TurnSteps.{MayAct, ticks_left}

@@ -1,4 +1,4 @@
-use Rattle.std.proofs.Common.{ℕ, ◌≡◌, ◌<◌, ◌+◌, inl, inr, Bool, true, false, max, List, [], Option, Some, None, refl, sym, ◌∙◌, ap, subst, arith}
+use Rattle.std.proofs.Common.{ℕ, ◌≡◌, ◌<◌, ◌+◌, inl, inr, Bool, true, false, true≢false, max, List, [], Option, Some, None, refl, sym, ◌∙◌, ap, subst, arith}
 use Rattle.std.proofs.Math.Nat.{le-max_right}
 use Rattle.std.proofs.lemmas.Option.{none-some}
 use Rattle.std.specs.Prelude.{IsSome}
@@ -17,7 +17,8 @@ use Rattle.ds_map.specs.Accesses.{map_value}
 use Rattle.ds_map.specs.Maps.{MapState}
 use Rattle.ds_map.specs.Moves.{next_unit, after_unit, unit_read, unit_refusal, unit_taken}
 use Rattle.ds_map.proofs.Later.{map_read_unchanged, map_write_goes}
-use Rattle.ds_ports.specs.Dues.{IsIo, IsTold, Goes, IsUnchanged, IsQuiet, ReschedulesEach, held_due, io_due}
+use Rattle.ds_ports.specs.Dues.{held_due, io_due}
+use Rattle.ds_ports.specs.Happenings.{IsIo, IsTold, Goes, IsUnchanged, IsQuiet, ReschedulesEach}
 use Rattle.ds_ports.proofs.HeldDues.{held_later}
 use Rattle.ds_ports.specs.ProcessorIo.{ProcessorIoState}
 use Rattle.ds_ports.specs.Io.{IoState, io_of, is_held}
@@ -29,12 +30,13 @@ use Rattle.ds_runs.specs.declared.actors.Actor.TheVariants.{Dma, Timer}
 use Rattle.ds_runs.proofs.RunLaws.{same_makes, same_stops, not_both}
 use Rattle.ds_timers.specs.Timing.{TimerState, timer_at, timer_due}
 use Rattle.gx_fifo.specs.GxStates.{GxState, is_stalled}
-use Rattle.ds_machine.specs.Channels.{channel_step, delayed_past, moved_by, one_event}
-use Rattle.ds_machine.specs.Reference.{HasSoundParts, Shown, due_unless, processor_due}
+use Rattle.ds_machine.specs.Channels.{channel_step, delayed_past, moved_by, one_event, past_tick}
+use Rattle.ds_machine.specs.Reference.{Shown, due_unless, processor_due}
+use Rattle.ds_machine.specs.Sound.{HasSoundParts}
 use Rattle.ds_machine.specs.States.{MachineState, ProcessorState, counts_of}
-use Rattle.ds_machine.specs.Steps.{is_blocked, map_of, processor_of, with_map, with_processor}
-use Rattle.ds_machine.proofs.Moves.{Moves, later_unless, left_after, other_held, unchanged_held, unchanged_io_dues, unchanged_io, moves_of, same_keys, then_io_dues}
-use Rattle.ds_machine.proofs.Wakes.{put_beside, put_counts, put_other, put_processor_io}
+use Rattle.ds_machine.specs.Steps.{is_blocked, is_halted, map_of, processor_of, with_map, with_processor}
+use Rattle.ds_machine.proofs.Moves.{Moves, left_after, other_held, unchanged_held, unchanged_io_dues, unchanged_io, moves_of, same_keys, then_io_dues}
+use Rattle.ds_machine.proofs.Wakes.{halted_blocks, put_beside, put_counts, put_other, put_processor_io}
 use Rattle.video2d.specs.Videos.{VideoState}
 
 -- The event of a DMA channel.
@@ -97,7 +99,7 @@ event_counts s = omega arith
 pub unit_counts : (proc : Proc) (now : Tick) (unit : DmaUnit) (s : MachineState) → counts_of (machine_after_unit proc now unit s) ≡ counts_of s + 1
 unit_counts proc now unit s =
     let moved = with_map proc s (after_unit None proc now unit (map_of proc s)) in
-    let k = put_counts proc moved (record (processor_of moved proc) { due = max (processor_of moved proc).due (now.0 + 1) }) in
+    let k = put_counts proc moved (past_tick (is_halted moved proc) now (processor_of moved proc)) in
     let e = event_counts (delayed_past proc now moved) in
     omega (arith, k, e)
 
@@ -140,6 +142,12 @@ held_alike Seven old new own gx = rw own refl
 -- by the same transfers a channel is due
 same_some : (proc : Proc) (old new : IoState) → IsUnchanged (io_of old proc) (io_of new proc) → IsSome (dma_due (io_of old proc).dma) → IsSome (dma_due (io_of new proc).dma)
 same_some proc old new left h = subst (λ (dma : DmaState). IsSome (dma_due dma)) (sym left.dma) h
+
+-- a processor that waits until after a tick is due later, or not at all
+past_later : (now : Tick) (halted blocked : Bool) (p : ProcessorState) → (halted ≡ true → blocked ≡ true) → IsLater now (due_unless blocked (past_tick halted now p))
+past_later now halted true p h = tt
+past_later now true false p h = absurd (true≢false (sym (h refl)))
+past_later now false false p h = omega (arith, le-max_right p.due (now.0 + 1))
 
 module _ (proc : Proc) (channel : ℕ) (now : Tick) (unit : DmaUnit) (s : MachineState) (sound : HasSoundParts s) (lt : channel < 4)
     (due : io_due (Dma proc channel) s.io ≡ Some now)
@@ -197,7 +205,7 @@ module _ (proc : Proc) (channel : ℕ) (now : Tick) (unit : DmaUnit) (s : Machin
   io = goes_io proc now taken.io written.io moves.io goes
 
   abbrev past : ProcessorState
-  past = let p = processor_of (with_map proc s written) proc in record p { due = max p.due (now.0 + 1) }
+  past = let m = with_map proc s written in past_tick (is_halted m proc) now (processor_of m proc)
 
   pub unit_moves : Moves now s (machine_after_unit proc now unit s)
   unit_moves =
@@ -207,7 +215,7 @@ module _ (proc : Proc) (channel : ℕ) (now : Tick) (unit : DmaUnit) (s : Machin
       moves_of now s next (same_keys now s.keys next.keys b.keys) (subst (ReschedulesEach now s.io) (sym b.io) dues)
       (of_both (λ each. Reschedules now (processor_due s each) (processor_due next each)) proc
       (inr (subst (IsLater now) (sym (event_due (with_processor proc m past) proc ∙ put_processor_io proc m past))
-      (later_unless now (is_blocked m proc) past (omega (arith, le-max_right (processor_of m proc).due (now.0 + 1))))))
+      (past_later now (is_halted m proc) (is_blocked m proc) (processor_of m proc) (halted_blocks m proc))))
       (inl (event_due (with_processor proc m past) (other_proc proc) ∙ put_other proc m past ∙ left_due proc s written (other_proc proc) other_as_before)))
 
   -- the other processor's own, and the display, are as before

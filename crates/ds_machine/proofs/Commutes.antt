@@ -15,7 +15,8 @@ use Rattle.arm_core.specs.Meanings.{meaning, skipped}
 use Rattle.arm_core.specs.Registers.{RegisterState, is_thumb}
 use Rattle.arm_core.specs.Steps as steps
 use Rattle.arm_core.specs.Steps.{FetchOutcome, Setting, enters, executed_word, fetched, fetched_half, fetched_word, stop_of}
-use Rattle.ds_machine.specs.Sides.{SideOf, taken}
+use Rattle.ds_machine.specs.PrivateSides.{SideOf, side_taken}
+use Rattle.ds_machine.specs.Sides.{taken}
 
 -- A change of what a processor reaches that none of its accesses tells or undoes, none of its steps does.
 
@@ -108,7 +109,7 @@ module _ {S : Type 0} (m : MemoryMachine S) (I : S → Type 0) (f : S → S) (c 
     }
 
   pub taken_commutes : (side : SideOf S) → ((s : S) → I s → side.base (f s) ≡ side.base s) → ExecutesSo side I f
-      → (line : Bool) (old : RegisterState) (s : S) → I s → taken m side line old (f s) ≡ outcome_so f (taken m side line old s)
+      → (line : Bool) (old : RegisterState) (s : S) → I s → side_taken m side line old (f s) ≡ outcome_so f (side_taken m side line old s)
   unfolding taken
   taken_commutes side base executes line old s i = by_entry (enters line old) where
     by_entry : (b : Bool) → (if b then carried_out m side.arch old (f s) (interrupt_meaning (side.base (f s)) old)

@@ -17,7 +17,8 @@ use Rattle.arm9_exec.specs.Coprocessors.{move_of}
 use Rattle.arm9_exec.specs.declared.coprocessors.Moved.{Moved}
 use Rattle.arm9_exec.proofs.Costs.{moved_costs}
 use Rattle.ds_map.specs.Views.{NineReach, nine_memory, seven_memory}
-use Rattle.ds_machine.specs.Sides.{SideOf, nine_executed, nine_side, seven_side, taken}
+use Rattle.ds_machine.specs.PrivateSides.{SideOf, nine_side, seven_side, side_taken}
+use Rattle.ds_machine.specs.Sides.{nine_executed, taken}
 use Rattle.ds_machine.specs.States.{MachineState}
 use Rattle.ds_machine.specs.Steps.{line_of, nine_reach, outcome_of, seven_reach}
 
@@ -25,7 +26,7 @@ use Rattle.ds_machine.specs.Steps.{line_of, nine_reach, outcome_of, seven_reach}
 
 taken_costs : {S : Type 0} (memory : MemoryMachine S) (side : SideOf S)
     → ((s : RegisterState) (state : S) (number : ℕ) (instr : Option Instr) → CostsSome (side.executed s state number instr).stepped)
-    → (line : Bool) (s : RegisterState) (state : S) → CostsSome (taken memory side line s state).stepped
+    → (line : Bool) (s : RegisterState) (state : S) → CostsSome (side_taken memory side line s state).stepped
 unfolding taken
 taken_costs {S} memory side executed line s state = by_entry (enters line s) where
   by_entry : (b : Bool) → CostsSome (if b then carried_out memory side.arch s state (interrupt_meaning (side.base state) s)

@@ -15,7 +15,8 @@ use Rattle.arm_ops.specs.Operations.{is_other, operation_of}
 use Rattle.arm_ops.specs.declared.operations.Operation.{Operation}
 use Rattle.arm_ops.proofs.Laws.{operation_means, operation_needs_none}
 use Rattle.ds_map.specs.Views.{NineReach, SevenReach, nine_memory, seven_memory}
-use Rattle.ds_machine.specs.Sides.{nine_side, operation_outcome, seven_side}
+use Rattle.ds_machine.specs.DecodedSteps.{operation_outcome}
+use Rattle.ds_machine.specs.PrivateSides.{nine_side, seven_side}
 
 -- An instruction that is decoded is executed as what it was decoded as.
 

@@ -26,7 +26,7 @@ use Rattle.arm_ops.specs.declared.operations.TransferOp.{TransferOp}
 use Rattle.arm_ops.specs.declared.operations.TransferOp.TheVariants.{WordOrByte, HalfOrSigned}
 use Rattle.arm_ops.proofs.Laws.{made_accesses, operation_means}
 use Rattle.ds_machine.specs.Private.{AllReachPrivate, ReachesPrivate, data_accesses, may_go_ahead, next_fetch}
-use Rattle.ds_machine.specs.Sides.{SideOf}
+use Rattle.ds_machine.specs.PrivateSides.{SideOf}
 use Rattle.ds_machine.specs.Touching.{DataStays, GoesByWords, access_stays, stores}
 use Rattle.ds_machine.proofs.PrivatePlaces.{private_itself}
 

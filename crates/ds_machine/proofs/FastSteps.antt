@@ -10,7 +10,7 @@ use Rattle.ds_base.specs.declared.ticks.Tick.{Tick}
 use Rattle.arm_core.specs.declared.outcomes.Stepped.TheVariants.{Cost}
 use Rattle.ds_ipc.specs.Ipcs.{other_proc}
 use Rattle.ds_ports.specs.Acting.{acting_io_dues}
-use Rattle.ds_ports.specs.Dues.{IsIo}
+use Rattle.ds_ports.specs.Happenings.{IsIo}
 use Rattle.ds_ports.specs.Io.{IoState, io_of, is_held, is_settled}
 use Rattle.ds_ports.proofs.Settles.{settled_stays}
 use Rattle.ds_runs.specs.Order.{first_from}
@@ -21,7 +21,9 @@ use Rattle.ds_timers.specs.Irqs.{line_is_up, shares_bit}
 use Rattle.ds_machine.specs.Acting.{acting_dues}
 use Rattle.ds_machine.specs.NextEvents.{IsNextEvent, acting_events_of, least_kept, least_of, due_at_least}
 use Rattle.ds_machine.specs.Private.{rank_of}
-use Rattle.ds_machine.specs.Reference.{AreAsleep, Shown, awake, due_unless, keys_due, processor_due, step_by, stepped_of}
+use Rattle.ds_machine.specs.Reference.{Shown, awake, due_unless, keys_due, processor_due, step_by}
+use Rattle.ds_machine.specs.Sound.{AreAsleep}
+use Rattle.ds_machine.specs.StepAnswers.{stepped_of}
 use Rattle.ds_machine.specs.States.{MachineState, ProcessorState}
 use Rattle.ds_machine.specs.Steps.{ended, machine_concluded, goes_on, is_blocked, line_of, outcome_of, processor_of, tick_of, wakes, went_on, with_io, with_processor, woken, woken_one}
 use Rattle.ds_machine.specs.declared.answers.Done.TheVariants as answers

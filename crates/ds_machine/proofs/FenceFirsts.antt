@@ -17,7 +17,8 @@ use Rattle.video2d.specs.Scans.{scan_due_tick}
 use Rattle.ds_machine.specs.Acting.{acting_due, acting_dues}
 use Rattle.ds_machine.specs.FenceTicks.{channel_dues, fence_due, fence_dues, timer_dues}
 use Rattle.ds_machine.specs.Private.{IsAhead, IsBelowFence, IsFence, IsPrivate, rank_of}
-use Rattle.ds_machine.specs.Reference.{Fences, keys_due, processor_due}
+use Rattle.ds_machine.specs.Hearing.{Fences}
+use Rattle.ds_machine.specs.Reference.{keys_due, processor_due}
 use Rattle.ds_machine.specs.States.{MachineState}
 use Rattle.ds_machine.proofs.ActingDues.{acting_low, acting_of_rank, acting_processor}
 use Rattle.ds_machine.proofs.DueTicks.{alone, own_tick}

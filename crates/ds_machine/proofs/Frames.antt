@@ -10,7 +10,8 @@ use Rattle.ds_base.specs.declared.ticks.Tick.{Tick}
 use Rattle.arm_core.specs.declared.outcomes.Stepped as arm
 use Rattle.arm_core.specs.declared.outcomes.Stepped.TheVariants.{Cost, Halted, Left}
 use Rattle.ds_map.specs.Moves.{next_unit, unit_refusal, unit_moved}
-use Rattle.ds_ports.specs.Dues.{Goes, io_due}
+use Rattle.ds_ports.specs.Dues.{io_due}
+use Rattle.ds_ports.specs.Happenings.{Goes}
 use Rattle.ds_ports.specs.Io.{IoState, geometry_done, io_event, video_done}
 use Rattle.gx_fifo.specs.Entries.{begun, complete_command}
 use Rattle.gx_fifo.specs.GxStates.{GxState, done_by, gx_swapped}

@@ -19,11 +19,13 @@ use Rattle.ds_machine.specs.Lagging.{CatchesUpFor, CatchesUpIf, TakesGeometry, o
 use Rattle.ds_machine.specs.NextEvents.{IsNextEvent, TookStep, acting_events_of, comes_before, due_at_least, is_least_by, least_kept, least_of, limit_by, line_kept, past_other, waits_until}
 use Rattle.ds_machine.specs.Private.{IsAhead, IsBelowFence, ProcessorStaysPrivate, rank_of}
 use Rattle.ds_machine.specs.TurnSteps.{BelongsToTurn, ComesFirst, HasLimit, MayStep, TakesSteps, more, none}
-use Rattle.ds_machine.specs.Reference.{Fences, awake, due_unless, geometry_rank, processor_due, step_by, stepped_of}
+use Rattle.ds_machine.specs.Hearing.{Fences, geometry_rank}
+use Rattle.ds_machine.specs.Reference.{awake, due_unless, processor_due, step_by}
+use Rattle.ds_machine.specs.StepAnswers.{stepped_of}
 use Rattle.ds_machine.specs.Counting.{IsRunning, last_limit}
 use Rattle.ds_machine.specs.States.{MachineState, ProcessorState}
 use Rattle.ds_machine.specs.Statuses.{HasBothStatuses}
-use Rattle.ds_machine.specs.Sides.{nine_side, seven_side}
+use Rattle.ds_machine.specs.PrivateSides.{nine_side, seven_side}
 use Rattle.ds_machine.specs.Steps.{is_blocked, line_of, nine_reach, outcome_of, processor_of, seven_reach, tick_of, with_processor}
 use Rattle.ds_machine.specs.Touching.{DataStaysPrivate, FetchStaysPrivate, MayBeAhead, is_private_to}
 use Rattle.ds_machine.specs.declared.answers.Done.TheVariants as answers

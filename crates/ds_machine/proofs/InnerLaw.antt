@@ -11,7 +11,7 @@ use Rattle.arm_core.specs.declared.outcomes.Stepped as arm
 use Rattle.arm_core.specs.declared.outcomes.Stepped.TheVariants.{Cost, Halted, Left}
 use Rattle.ds_map.specs.Views.{NineReach, SevenReach, nine_memory, seven_memory}
 use Rattle.ds_map.specs.Shares.{IsSharedSo, is_apart, is_shown_to_nine, shared_put}
-use Rattle.ds_ports.specs.Dues.{IsIo}
+use Rattle.ds_ports.specs.Happenings.{IsIo}
 use Rattle.ds_ports.specs.Io.{IoState, is_settled, with_shares}
 use Rattle.ds_ports.specs.ProcessorIo.{ProcessorIoState}
 use Rattle.ds_runs.specs.Runs.{MachineStep, Makes}
@@ -23,8 +23,9 @@ use Rattle.vram_banks.specs.Mixes.{mixed}
 use Rattle.vram_banks.proofs.Mixes.{mixed_length, mixed_same, mixed_twice}
 use Rattle.ds_machine.specs.Apart.{NineOwn, nine_own_of, with_nine_own, with_nine_part, with_seven_part}
 use Rattle.ds_machine.specs.Private.{IsHarmless, IsPrivate, ProcessorStaysPrivate, StaysPrivate, is_deaf}
-use Rattle.ds_machine.specs.Reference.{AreAsleep, IsSound, Shown, awake, due_by, due_unless, processor_due, reference_step}
-use Rattle.ds_machine.specs.Sides.{nine_side, seven_side, taken}
+use Rattle.ds_machine.specs.Reference.{Shown, awake, due_by, due_unless, processor_due, reference_step}
+use Rattle.ds_machine.specs.Sound.{AreAsleep, IsSound}
+use Rattle.ds_machine.specs.PrivateSides.{nine_side, seven_side, side_taken}
 use Rattle.ds_machine.specs.States.{MachineState, ProcessorState, SevenState}
 use Rattle.ds_machine.specs.Steps.{is_blocked, line_of, machine_concluded, nine_reach, processor_of, seven_reach, tick_of, went_on, with_nine, with_processor, with_seven}
 use Rattle.ds_machine.proofs.DueTicks.{steps_as}
@@ -68,14 +69,14 @@ nine_by own o = record {
 }
 
 abbrev pub after_nine : NineReach → NineOwn → NineOwn
-after_nine rest own = nine_by own (taken nine_memory nine_side false own.part.nine.processor.registers (put_nine (nine_reached own) rest))
+after_nine rest own = nine_by own (side_taken nine_memory nine_side false own.part.nine.processor.registers (put_nine (nine_reached own) rest))
 
 -- ARM7's
 abbrev pub seven_by : SevenState → Outcome SevenReach → SevenState
 seven_by part o = record { processor = went_by Seven part.processor o.registers o.stepped; wram = o.state.map.memories.wram }
 
 abbrev pub after_seven : SevenReach → SevenState → SevenState
-after_seven rest part = seven_by part (taken seven_memory seven_side false part.processor.registers (put_seven part.wram rest))
+after_seven rest part = seven_by part (side_taken seven_memory seven_side false part.processor.registers (put_seven part.wram rest))
 
 -- ---- the law
 
@@ -122,22 +123,22 @@ put_again tick s =
 
 nine_taken : (rest : NineReach) (s : MachineState) → IsHarmless s Nine
     → StepsAlike (put_shared s.shared s.io) (nine_reach (tick_of s.nine.processor) s) rest
-    (taken nine_memory nine_side (line_of s Nine) s.nine.processor.registers (nine_reach (tick_of s.nine.processor) s))
-    (taken nine_memory nine_side false s.nine.processor.registers (put_nine (nine_reached (nine_own_of s)) rest))
+    (side_taken nine_memory nine_side (line_of s Nine) s.nine.processor.registers (nine_reach (tick_of s.nine.processor) s))
+    (side_taken nine_memory nine_side false s.nine.processor.registers (put_nine (nine_reached (nine_own_of s)) rest))
 nine_taken rest s h =
     let registers = s.nine.processor.registers in
     let there = nine_reach (tick_of s.nine.processor) s in
     let k : NineShared s.shared s.io = record { own = nine_reached (nine_own_of s); so = fits s } in
     let again = put_again (tick_of s.nine.processor) s in
-    subst (λ (r : NineReach). StepsAlike (put_shared s.shared s.io) there rest (taken nine_memory nine_side (line_of s Nine) registers r)
-    (taken nine_memory nine_side false registers (put_nine k.own rest))) again
+    subst (λ (r : NineReach). StepsAlike (put_shared s.shared s.io) there rest (side_taken nine_memory nine_side (line_of s Nine) registers r)
+    (side_taken nine_memory nine_side false registers (put_nine k.own rest))) again
     (taken_alike nine_memory nine_side (put_shared s.shared s.io) (shared_wrote s.shared s.io) (nine_apart s.shared s.io) (nine_executes s.shared s.io) registers k there rest
     (line_of s Nine) false h.quiet (line_down registers) (subst (StaysPrivate nine_memory nine_side registers) (sym again) h.own))
 
 seven_taken : (rest : SevenReach) (s : MachineState) → IsHarmless s Seven
     → StepsAlike put_seven (seven_reach (tick_of s.seven.processor) s) rest
-    (taken seven_memory seven_side (line_of s Seven) s.seven.processor.registers (seven_reach (tick_of s.seven.processor) s))
-    (taken seven_memory seven_side false s.seven.processor.registers (put_seven s.seven.wram rest))
+    (side_taken seven_memory seven_side (line_of s Seven) s.seven.processor.registers (seven_reach (tick_of s.seven.processor) s))
+    (side_taken seven_memory seven_side false s.seven.processor.registers (put_seven s.seven.wram rest))
 seven_taken rest s h =
     taken_alike seven_memory seven_side put_seven seven_wrote seven_apart seven_executes s.seven.processor.registers s.seven.wram (seven_reach (tick_of s.seven.processor) s) rest
     (line_of s Seven) false h.quiet (line_down s.seven.processor.registers) h.own

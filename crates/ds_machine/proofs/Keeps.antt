@@ -12,7 +12,8 @@ use Rattle.arm_core.specs.Meanings.{meaning, skipped}
 use Rattle.arm_core.specs.Registers.{RegisterState}
 use Rattle.arm_core.specs.Steps as steps
 use Rattle.arm_core.specs.Steps.{Setting, enters, executed_word, fetched, stop_of}
-use Rattle.ds_machine.specs.Sides.{SideOf, taken}
+use Rattle.ds_machine.specs.PrivateSides.{SideOf, side_taken}
+use Rattle.ds_machine.specs.Sides.{taken}
 
 -- What each access of a memory machine makes of its state, a step over it makes of it.
 
@@ -65,7 +66,7 @@ module _ {S : Type 0} (m : MemoryMachine S) (I : S → Type 0) (R : S → S → 
   word_follows setting old s number (Some instr) i = unless_follows setting old s instr (stop_of setting old instr) i
 
   pub taken_follows : (side : SideOf S) → ((old : RegisterState) (s : S) (number : ℕ) (instr : Option Instr) → I s → R s (side.executed old s number instr).state)
-      → (line : Bool) (old : RegisterState) (s : S) → I s → R s (taken m side line old s).state
+      → (line : Bool) (old : RegisterState) (s : S) → I s → R s (side_taken m side line old s).state
   unfolding taken
   taken_follows side executes line old s i = by_entry (enters line old) where
     by_entry : (b : Bool) → R s (if b then carried_out m side.arch old s (interrupt_meaning (side.base s) old)

@@ -48,7 +48,7 @@ use Rattle.ds_places.specs.AddressTables.{place_of}
 use Rattle.ds_places.specs.declared.kinds.Place.{Place}
 use Rattle.ds_places.specs.declared.kinds.Place.TheVariants.{Banks, Cell, Nothing, Port, Rom}
 use Rattle.ds_ports.specs.Dues.{io_due}
-use Rattle.ds_ports.specs.Io.{IoState, both_raised, channels_triggered, io_event, level_told, settled, shown_to_others, video_done, with_gx}
+use Rattle.ds_ports.specs.Io.{IoState, both_raised, channels_triggered, io_event, level_told, release_kept, settled, shown_to_others, video_done, with_gx}
 use Rattle.ds_ports.specs.ProcessorIo.{processor_io_triggered}
 use Rattle.ds_ports.proofs.Arms.{ArmsNoMore, KeepsControls, armed, arms_by, arms_kept, arms_same, arms_then, keeps_same, told_dma, triggered_keeps}
 use Rattle.ds_ports.proofs.GxApart.{channel_due_apart, event_apart, video_apart}
@@ -67,7 +67,8 @@ use Rattle.ds_machine.specs.Lagging.{access_observes, any_observes, channel_obse
 use Rattle.ds_ports.specs.Acting.{any_armed, is_armed}
 use Rattle.ds_machine.specs.Private.{data_accesses}
 use Rattle.ds_machine.specs.Reference.{Shown, after_event, after_line, after_video, shown_at, step_by, swapped_if, video_step}
-use Rattle.ds_machine.specs.Sides.{nine_executed, nine_side, seven_side, taken}
+use Rattle.ds_machine.specs.PrivateSides.{nine_side, seven_side, side_taken}
+use Rattle.ds_machine.specs.Sides.{nine_executed, taken}
 use Rattle.ds_machine.specs.States.{MachineState}
 use Rattle.ds_machine.specs.Statuses.{left_by}
 use Rattle.ds_machine.specs.Steps.{ended, goes_on, line_of, machine_concluded, machine_settled, map_of, nine_reach, outcome_of, seven_reach, tick_of, wakes, with_io, with_map, with_nine, with_seven, woken, woken_one}
@@ -306,7 +307,7 @@ module _ (g : GxState) (old : RegisterState) (r : NineReach) where
       }
 
   taken_puts : (line : Bool) → (not (enters line old) && any_observes r (data_accesses V5 (vectors_of r.cp15) old (fetched nine_memory V5 old r).instr)) ≡ false
-      → Puts g r (taken nine_memory nine_side line old (nine_put g r)) (taken nine_memory nine_side line old r)
+      → Puts g r (side_taken nine_memory nine_side line old (nine_put g r)) (side_taken nine_memory nine_side line old r)
   unfolding taken
   taken_puts line h = entry_puts (enters line old) h
 
@@ -375,7 +376,7 @@ record Lets (g : GxState) (s : MachineState) (put came : Step) : Type 0 where
 nine_lets : (rank : ℕ) (g : GxState) (s : MachineState) → nine_observes s ≡ false → Lets g s (step_by rank (Processor Nine) (gx_put g s)) (step_by rank (Processor Nine) s)
 nine_lets rank g s h =
     let r = nine_reach (tick_of s.nine.processor) s in
-    let o = taken nine_memory nine_side (line_of s Nine) s.nine.processor.registers r in
+    let o = side_taken nine_memory nine_side (line_of s Nine) s.nine.processor.registers r in
     let k = taken_puts g s.nine.processor.registers r (line_of s Nine) h in
     record {
       same = ap (λ (x : Outcome NineReach). (let step : Step = machine_concluded rank Nine (with_nine (gx_put g s) x) x.stepped in step)) k.same
@@ -389,7 +390,7 @@ seven_lets rank g s =
     let c = seven_commutes g in
     let r = seven_reach (tick_of s.seven.processor) s in
     let old = s.seven.processor.registers in
-    let o = taken seven_memory seven_side (line_of s Seven) old r in
+    let o = side_taken seven_memory seven_side (line_of s Seven) old r in
     let k : SevenGoes r o.state = taken_follows seven_memory Every SevenGoes seven_follows seven_side
     (λ old r number instr i. word_follows seven_memory Every SevenGoes seven_follows arm7 old r number instr i) (line_of s Seven) old r tt in
     record {
@@ -674,13 +675,13 @@ room_none tick true u four none =
     ap (λ (d : DmaState). (let told : IoState = record u { nine = record u.nine { dma = d } } in told)) (awaits_none u.nine.dma tick four none)
 room_none tick false u four none = refl
 
-pub settled_told : (tick : Tick) (u : IoState) → length u.nine.dma.channels ≡ 4 → any_armed u.nine.dma ≡ false → settled tick u ≡ level_told u
-settled_told tick u four none = room_none tick (is_half_empty u.gx) (level_told u) four (none_awaits u.nine.dma none)
+pub settled_told : (tick : Tick) (u : IoState) → length u.nine.dma.channels ≡ 4 → any_armed u.nine.dma ≡ false → settled tick u ≡ release_kept (level_told u)
+settled_told tick u four none = ap release_kept (room_none tick (is_half_empty u.gx) (level_told u) four (none_awaits u.nine.dma none))
 
 settled_so : (tick : Tick) (g : GxState) (u : IoState) → length u.nine.dma.channels ≡ 4 → any_armed u.nine.dma ≡ false → g.selector ≡ 0 → u.gx.selector ≡ 0
     → settled tick (with_gx g u) ≡ with_gx g (settled tick u)
 settled_so tick g u four none here there =
-    settled_told tick (with_gx g u) four none ∙ level_so g u here there ∙ ap (λ (x : IoState). with_gx g x) (sym (settled_told tick u four none))
+    settled_told tick (with_gx g u) four none ∙ ap release_kept (level_so g u here there) ∙ ap (λ (x : IoState). with_gx g x) (sym (settled_told tick u four none))
 
 nine_wakes : (tick : Tick) (g : GxState) (m : MachineState) → woken_one Nine tick (late_put g m) ≡ late_put g (woken_one Nine tick m)
 nine_wakes tick g m = by_wake (wakes m Nine) where

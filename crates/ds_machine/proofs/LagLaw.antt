@@ -16,7 +16,8 @@ use Rattle.ds_machine.specs.Apart.{step_with}
 use Rattle.ds_machine.specs.Lagging.{LagRuns, LagStops, StepsBeforeGeometry}
 use Rattle.ds_ports.specs.Acting.{any_armed, is_quiet}
 use Rattle.ds_machine.specs.Acting.{acting_due, acting_dues}
-use Rattle.ds_machine.specs.Reference.{HasSoundParts, IsSound, Shown, awake, due_by, dues_of, reference, reference_step, step_by}
+use Rattle.ds_machine.specs.Reference.{Shown, awake, due_by, dues_of, reference, reference_step, step_by}
+use Rattle.ds_machine.specs.Sound.{HasSoundParts, IsSound}
 use Rattle.ds_machine.specs.States.{MachineState}
 use Rattle.ds_machine.specs.Steps.{ended}
 use Rattle.ds_machine.proofs.ActingDues.{acting_low, acting_of_rank, acts_where_due, loud_same, maps_same, quiet_or_loud}

@@ -26,7 +26,7 @@ use Rattle.ds_places.specs.AddressTables.{place_of}
 use Rattle.ds_places.specs.declared.kinds.Place.{Place}
 use Rattle.ds_places.specs.declared.kinds.Place.TheVariants.{Cell, Banks, Port, Rom, Nothing}
 use Rattle.ds_ports.specs.Dues.{held_due}
-use Rattle.ds_ports.specs.Io.{IoState, is_settled, tick_after, stall_ends, with_gx}
+use Rattle.ds_ports.specs.Io.{IoState, is_settled, release_of, tick_after, stall_ends, with_gx}
 use Rattle.ds_ports.specs.ProcessorIo.{blocks_processor}
 use Rattle.ds_ports.proofs.Settles.{no_stall_begins}
 use Rattle.ds_runs.specs.Runs.{MachineStep, Makes}
@@ -43,8 +43,9 @@ use Rattle.ds_machine.specs.Lagging.{access_observes, any_observes, nine_observe
 use Rattle.ds_ports.specs.Acting.{any_armed, is_quiet}
 use Rattle.ds_machine.specs.Acting.{acting_due, acting_dues}
 use Rattle.ds_machine.specs.Private.{data_accesses}
-use Rattle.ds_machine.specs.Reference.{IsSound, Shown, after_geometry, due_by, due_unless, reference_step}
-use Rattle.ds_machine.specs.Sides.{nine_side}
+use Rattle.ds_machine.specs.Reference.{Shown, after_geometry, due_by, due_unless, reference_step}
+use Rattle.ds_machine.specs.Sound.{IsSound}
+use Rattle.ds_machine.specs.PrivateSides.{nine_side}
 use Rattle.ds_machine.specs.States.{MachineState}
 use Rattle.ds_machine.specs.Steps.{ended, line_of, nine_reach, tick_of, wakes, with_io, with_processor}
 use Rattle.ds_machine.proofs.ActingDues.{maps_same}
@@ -127,8 +128,8 @@ no_room false false waits h = refl
 
 pub settled_so : (u : IoState) (g : GxState) → g.selector ≡ 0 → u.gx.selector ≡ 0 → any_armed u.nine.dma ≡ false → is_settled (with_gx g u) ≡ is_settled u
 settled_so u g here there disarmed =
-    ap (λ (on : Bool). ((irq_levelled u.nine.irq on).if_ == u.nine.irq.if_) && not (is_half_empty g && awaits_geometry u.nine.dma)) (silent_level g here ∙ sym (silent_level u.gx there))
-    ∙ ap (λ (b : Bool). ((irq_levelled u.nine.irq (gx_level u.gx)).if_ == u.nine.irq.if_) && not b)
+    ap (λ (on : Bool). ((irq_levelled u.nine.irq on).if_ == u.nine.irq.if_) && (not (is_half_empty g && awaits_geometry u.nine.dma) && (release_of u == u.released))) (silent_level g here ∙ sym (silent_level u.gx there))
+    ∙ ap (λ (b : Bool). ((irq_levelled u.nine.irq (gx_level u.gx)).if_ == u.nine.irq.if_) && (not b && (release_of u == u.released)))
     (no_room (is_half_empty g) (is_half_empty u.gx) (awaits_geometry u.nine.dma) (none_awaits u.nine.dma disarmed))
 
 -- ---- the machine after it is sound
@@ -159,7 +160,7 @@ geometry_late s h =
     ap (λ (b : Bool).
     with_processor Nine
     (one_event (with_io s (record s.io { gx = gx_finished s.io.gx; released = if b then tick_after s.io.gx.due s.io.released else s.io.released })))
-    (record s.nine.processor { due = if b then max s.nine.processor.due (tick_after s.io.gx.due s.nine.processor.due) else s.nine.processor.due })) h
+    (record s.nine.processor { due = if b && not s.io.nine.halted then max s.nine.processor.due (tick_after s.io.gx.due s.nine.processor.due) else s.nine.processor.due })) h
 
 pub quiet_step : (s : MachineState) → IsSound s → is_quiet s.io ≡ true → reference_step 12 s ≡ Makes (late_put (gx_finished s.io.gx) s) []
 quiet_step s sound quiet =

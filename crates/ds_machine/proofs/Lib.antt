@@ -66,3 +66,4 @@ pub mod CatchingUp
 pub mod ObservedTests
 pub mod SameTick
 pub mod SeenSame
+pub mod Halting

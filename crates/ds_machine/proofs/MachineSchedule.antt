@@ -10,7 +10,7 @@ use Rattle.ds_base.specs.declared.processors.Proc.{Proc}
 use Rattle.ds_base.specs.declared.processors.Proc.TheVariants.{Nine, Seven}
 use Rattle.ds_base.specs.declared.ticks.Tick.{Tick}
 use Rattle.ds_map.specs.Moves.{next_unit, unit_read}
-use Rattle.ds_ports.specs.Dues.{IsIo}
+use Rattle.ds_ports.specs.Happenings.{IsIo}
 use Rattle.ds_ports.specs.ProcessorIo.{blocks_processor}
 use Rattle.ds_ports.specs.Io.{IoState, io_event, io_of, is_settled, keys_pressed, tick_after, video_done}
 use Rattle.gx_fifo.specs.GxStates.{gx_finished, is_stalled}
@@ -25,7 +25,8 @@ use Rattle.ds_runs.specs.declared.actors.Actor.TheVariants.{KeyScript, Video, Ti
 use Rattle.ds_runs.proofs.AllActors.{is_numbered}
 use Rattle.ds_runs.proofs.RunLaws.{same_makes, not_both}
 use Rattle.ds_machine.specs.Channels.{channel_step, one_event}
-use Rattle.ds_machine.specs.Reference.{AreAsleep, HasSoundParts, IsSound, Shown, after_event, after_geometry, after_line, after_video, awake, display_done, due_by, due_unless, dues_of, keys_due, processor_due, reference, step_by, swapped_if, reference_step}
+use Rattle.ds_machine.specs.Reference.{Shown, after_event, after_geometry, after_line, after_video, awake, display_done, due_by, due_unless, dues_of, keys_due, processor_due, reference, step_by, swapped_if, reference_step}
+use Rattle.ds_machine.specs.Sound.{AreAsleep, HasSoundParts, IsSound}
 use Rattle.ds_machine.specs.States.{MachineState, ProcessorState}
 use Rattle.ds_machine.specs.Steps.{ended, gone_by, is_blocked, map_of, processor_of, with_io, with_map}
 use Rattle.ds_machine.proofs.ChannelEvents.{machine_after_unit, channel_unchanged, channel_made, read_moves, read_sound, unit_later, unit_moves, unit_sound}
@@ -122,13 +123,14 @@ video_owes tick s due none sound =
     }
 
 -- geometry's: where it ends a stall ARM9 is due later
-past_moves : (tick : Tick) (blocks old new : Bool) (p : ProcessorState) (due : Option Tick) → due ≡ Some tick → (old ≡ false → new ≡ false)
-    → Reschedules tick (due_unless (blocks || old) p) (due_unless (blocks || new) (record p { due = if old && not new then max p.due (tick_after due p.due) else p.due }))
-past_moves tick true old new p due e h = inr tt
-past_moves tick false true true p due e h = inr tt
-past_moves tick false true false p due e h = inr (rw e (let l = le-max_right p.due (tick.0 + 1) in omega (arith, l)))
-past_moves tick false false true p due e h = absurd (true≢false (h refl))
-past_moves tick false false false p due e h = inl refl
+past_moves : (tick : Tick) (blocks old new halted : Bool) (p : ProcessorState) (due : Option Tick) → (halted ≡ true → blocks ≡ true) → due ≡ Some tick → (old ≡ false → new ≡ false)
+    → Reschedules tick (due_unless (blocks || old) p) (due_unless (blocks || new) (record p { due = if (old && not new) && not halted then max p.due (tick_after due p.due) else p.due }))
+past_moves tick true old new halted p due b e h = inr tt
+past_moves tick false true true halted p due b e h = inr tt
+past_moves tick false true false true p due b e h = absurd (true≢false (sym (b refl)))
+past_moves tick false true false false p due b e h = inr (rw e (let l = le-max_right p.due (tick.0 + 1) in omega (arith, l)))
+past_moves tick false false true halted p due b e h = absurd (true≢false (h refl))
+past_moves tick false false false halted p due b e h = inl refl
 
 geometry_owes : (tick : Tick) (s : MachineState) → due_by Geometry s ≡ Some tick → HasSoundParts s → Owes Geometry tick s (after_geometry s)
 geometry_owes tick s due sound =
@@ -140,7 +142,7 @@ geometry_owes tick s due sound =
     } where
       each : (proc : Proc) → Reschedules tick (processor_due s proc) (processor_due (after_geometry s) proc)
       each Nine =
-          past_moves tick (blocks_processor s.io.nine) (is_stalled s.io.gx) (is_stalled (gx_finished s.io.gx)) s.nine.processor s.io.gx.due due
+          past_moves tick (blocks_processor s.io.nine) (is_stalled s.io.gx) (is_stalled (gx_finished s.io.gx)) s.io.nine.halted s.nine.processor s.io.gx.due (λ h. rw h refl) due
           (geometry_goes tick s.io sound.io due).begins
       each Seven = inl refl
 

@@ -6,7 +6,8 @@ use Rattle.ds_base.specs.declared.processors.Proc.{Proc}
 use Rattle.ds_base.specs.declared.ticks.Tick.{Tick}
 use Rattle.ds_base.specs.declared.processors.Proc.TheVariants.{Nine, Seven}
 use Rattle.ds_ipc.specs.Ipcs.{other_proc}
-use Rattle.ds_ports.specs.Dues.{Goes, IsIo, IsUnchanged, ReschedulesEach, io_due}
+use Rattle.ds_ports.specs.Dues.{io_due}
+use Rattle.ds_ports.specs.Happenings.{Goes, IsIo, IsUnchanged, ReschedulesEach}
 use Rattle.ds_ports.specs.ProcessorIo.{blocks_processor, ProcessorIoState}
 use Rattle.ds_ports.specs.Io.{IoState, io_of, is_held}
 use Rattle.ds_ports.proofs.Later.{AreUnchanged, in_turn, unchanged_is, processor_io_is, io_is}

@@ -24,7 +24,7 @@ use Rattle.ds_runs.specs.declared.actors.Actor.TheVariants.{Processor}
 use Rattle.ds_machine.specs.Lagging.{any_observes, is_observed_past, is_observed_place, observes_by}
 use Rattle.ds_machine.specs.Private.{data_accesses}
 use Rattle.ds_machine.specs.QuietPorts.{is_quiet_port}
-use Rattle.ds_machine.specs.Sides.{SideOf, nine_side}
+use Rattle.ds_machine.specs.PrivateSides.{SideOf, nine_side}
 use Rattle.ds_machine.specs.States.{MachineState}
 use Rattle.ds_machine.specs.Steps.{line_of, nine_reach, processor_of, tick_of}
 use Rattle.ds_machine.specs.Touching.{DataIsNear, DataStaysNear}

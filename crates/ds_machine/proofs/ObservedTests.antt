@@ -35,7 +35,7 @@ use Rattle.ds_machine.specs.Lagging.{any_observes, is_observed_past, is_observed
 use Rattle.ds_machine.specs.Observing.{HasBase, data_apart}
 use Rattle.ds_machine.specs.Private.{AllReachPrivate, data_accesses}
 use Rattle.ds_machine.specs.Reference.{due_by, dues_of}
-use Rattle.ds_machine.specs.Sides.{SideOf, nine_side}
+use Rattle.ds_machine.specs.PrivateSides.{SideOf, nine_side}
 use Rattle.ds_machine.specs.States.{MachineState}
 use Rattle.ds_machine.specs.Steps.{nine_reach, tick_of}
 use Rattle.ds_machine.specs.Touching.{GoesByWords, reads, writes}

@@ -14,10 +14,11 @@ use Rattle.cp15_tcm.specs.declared.answers.Tcm.{Tcm}
 use Rattle.cp15_tcm.specs.declared.answers.Tcm.TheVariants.{Itcm, Dtcm, Past}
 use Rattle.ds_map.specs.Views.{NineReach, SevenReach, nine_memory, seven_memory, tcm_read, tcm_written}
 use Rattle.ds_map.proofs.Later.{map_read_goes, map_write_goes}
-use Rattle.ds_ports.specs.Dues.{Goes, IsProcessorIo, IsQuiet}
+use Rattle.ds_ports.specs.Happenings.{Goes, IsProcessorIo, IsQuiet}
 use Rattle.ds_ports.specs.Io.{IoState, io_of}
 use Rattle.ds_ports.proofs.Later.{goes_nowhere, goes_on}
-use Rattle.ds_machine.specs.Sides.{nine_executed, nine_side, seven_side}
+use Rattle.ds_machine.specs.PrivateSides.{nine_side, seven_side}
+use Rattle.ds_machine.specs.Sides.{nine_executed}
 use Rattle.ds_machine.specs.States.{MachineState}
 use Rattle.ds_machine.specs.Steps.{line_of, nine_reach, outcome_of, seven_reach}
 use Rattle.ds_machine.proofs.Keeps.{Follows, taken_follows, word_follows}

@@ -10,8 +10,8 @@ use Rattle.ds_base.specs.declared.ticks.Tick.{Tick}
 use Rattle.ds_map.specs.Shares.{IsSharedSo}
 use Rattle.ds_map.specs.Views.{NineReach, SevenReach}
 use Rattle.ds_ports.specs.Acting.{is_quiet}
-use Rattle.ds_ports.specs.Dues.{IsTold, ipc_bits}
-use Rattle.ds_ports.specs.Io.{IoState, io_of, level_told, settled}
+use Rattle.ds_ports.specs.Happenings.{IsTold, ipc_bits}
+use Rattle.ds_ports.specs.Io.{IoState, comes_before, io_of, is_settled, level_told, release_of, settled}
 use Rattle.ds_ports.specs.ProcessorIo.{blocks_processor, processor_io_triggered}
 use Rattle.ds_dma.specs.declared.controls.Cause.TheVariants as causes
 use Rattle.ds_runs.specs.Actors.{actor_of}
@@ -19,7 +19,7 @@ use Rattle.ds_runs.specs.Ahead.{HasOwnPart, MayRunAhead, MovesOn}
 use Rattle.ds_runs.specs.Runs.{IsLeast, MachineStep, Makes, Stops, due_at}
 use Rattle.ds_runs.specs.declared.actors.Actor as actor
 use Rattle.ds_runs.specs.declared.actors.Actor.TheVariants.{KeyScript, Video, Timer, Divider, SquareRoot, Geometry, Card, Dma, Processor}
-use Rattle.ds_dma.specs.States.{DmaState, awaits_geometry, channel_due}
+use Rattle.ds_dma.specs.States.{DmaState, awaits_geometry, channel_due, dma_due}
 use Rattle.ds_runs.proofs.Ahead.{ahead_from_own}
 use Rattle.ds_runs.proofs.AllActors.{actors_differ, moves_of_actors}
 use Rattle.ds_runs.proofs.RunLaws.{same_makes, not_both}
@@ -31,7 +31,9 @@ use Rattle.ds_machine.specs.Acting.{acting_due, acting_dues}
 use Rattle.ds_machine.specs.Apart.{NineOwn, nine_own_of, step_with, with_nine_own, with_seven_part}
 use Rattle.arm_core.specs.Steps.{enters}
 use Rattle.ds_machine.specs.Private.{IsBelowFence, IsHarmless, RunsAhead, hears_nobody, rank_of}
-use Rattle.ds_machine.specs.Reference.{Fences, HasSoundParts, IsSound, Shown, awake, due_by, due_unless, dues_of, keys_due, reference, reference_step, step_by}
+use Rattle.ds_machine.specs.Hearing.{Fences}
+use Rattle.ds_machine.specs.Reference.{Shown, awake, due_by, due_unless, dues_of, keys_due, reference, reference_step, step_by}
+use Rattle.ds_machine.specs.Sound.{HasSoundParts, IsSound}
 use Rattle.ds_machine.specs.States.{MachineState, ProcessorState, SevenState}
 use Rattle.ds_machine.specs.Steps.{ended, goes_on, is_blocked, is_halted, line_of, machine_settled, nine_reach, processor_of, seven_reach, tick_of, wakes, woken_one}
 use Rattle.ds_machine.proofs.ActingDues.{acting_low, acting_of_rank, acts_then, loud_same, quiet_or_loud}
@@ -46,7 +48,7 @@ use Rattle.ds_machine.proofs.OuterSteps.{not_woken, seven_ended, settled_halted,
 use Rattle.ds_machine.proofs.OwnShares.{ends_nine_own, leave_nine_own, own_ends}
 use Rattle.ds_machine.proofs.Quiet.{not_halted}
 use Rattle.ds_machine.proofs.Told.{IsOnlyTold, quiet_stays}
-use Rattle.ds_machine.proofs.Wakes.{settle_leaves, settled_dma}
+use Rattle.ds_machine.proofs.Wakes.{settle_leaves, settled_dma, settled_released}
 
 -- A step of another actor that is due before a harmless step leaves it harmless, and depends on nothing that the harmless step changes.
 
@@ -128,19 +130,44 @@ settled_irq tick u = by_room (is_half_empty u.gx) where
   by_room true = refl
   by_room false = refl
 
+proc_differs : Nine ≢ Seven
+proc_differs e = subst by e tt where
+  by : Proc → Type 0
+  by Nine = Unit {0}
+  by Seven = ⊥
+
+-- what is settled: the level, the channels that wait for geometry, and what is kept of a stall's end
+record SettledParts (u : IoState) : Type 0 where
+  level : (irq_levelled u.nine.irq (gx_level u.gx)).if_ ≡ u.nine.irq.if_
+  none : (is_half_empty u.gx && awaits_geometry u.nine.dma) ≡ false
+  kept : release_of u ≡ u.released
+
+settled_parts : (u : IoState) → is_settled u ≡ true → SettledParts u
+settled_parts u h =
+    let waits = is_half_empty u.gx && awaits_geometry u.nine.dma in
+    let a = and_parts ((irq_levelled u.nine.irq (gx_level u.gx)).if_ == u.nine.irq.if_) (not waits && (release_of u == u.released)) h in
+    let b = and_parts (not waits) (release_of u == u.released) a.1 in
+    record { level = equal_is (irq_levelled u.nine.irq (gx_level u.gx)).if_ u.nine.irq.if_ a.0; none = not-true waits b.0; kept = equal_is (release_of u) u.released b.1 }
+
 module _ (tick : Tick) (s made : MachineState) (sound : IsSound s) (parts : HasSoundParts made) where
   not_due_dma : (gx : GxState) (dma : DmaState) → gx ≡ s.io.gx → dma ≡ s.io.nine.dma → (is_half_empty gx && awaits_geometry dma) ≡ false
-  not_due_dma gx dma same_gx same_dma =
-      rw (same_gx, same_dma) (not-true (is_half_empty s.io.gx && awaits_geometry s.io.nine.dma)
-      (and_parts ((irq_levelled s.io.nine.irq (gx_level s.io.gx)).if_ == s.io.nine.irq.if_) (not (is_half_empty s.io.gx && awaits_geometry s.io.nine.dma)) sound.settled).1)
+  not_due_dma gx dma same_gx same_dma = rw (same_gx, same_dma) (settled_parts s.io sound.settled).none
+
+  -- so is what is kept of a stall's end
+  released_so : LeavesApart Nine s made → (settled tick made.io).released ≡ s.io.released
+  released_so l =
+      let geometry = l.geometry refl in
+      settled_released tick made.io parts.io (not_due_dma made.io.gx made.io.nine.dma geometry.0 l.told.own.dma)
+      ∙ ap (λ (dma : DmaState). if comes_before (dma_due dma) made.io.released then made.io.released else 0) l.told.own.dma
+      ∙ ap (λ (released : ℕ). if comes_before (dma_due s.io.nine.dma) released then released else 0) geometry.1
+      ∙ (settled_parts s.io sound.settled).kept
 
   nine_told : LeavesApart Nine s made → is_halted made Nine ≡ false → IsOnlyTold s.io.nine (ended tick made).io.nine
   nine_told l h =
       let e = ends_nine tick made h in
       let k = settle_leaves tick made.io in
       let gx = (l.geometry refl).0 in
-      let stays = equal_is (irq_levelled s.io.nine.irq (gx_level s.io.gx)).if_ s.io.nine.irq.if_
-      (and_parts ((irq_levelled s.io.nine.irq (gx_level s.io.gx)).if_ == s.io.nine.irq.if_) (not (is_half_empty s.io.gx && awaits_geometry s.io.nine.dma)) sound.settled).0 in
+      let stays = (settled_parts s.io sound.settled).level in
       let irq : IsTold s.io.nine.irq (irq_levelled made.io.nine.irq (gx_level made.io.gx)) =
       subst (λ (g : GxState). IsTold s.io.nine.irq (irq_levelled made.io.nine.irq (gx_level g))) (sym gx)
       (told_settled s.io.nine.irq made.io.nine.irq (gx_level s.io.gx) l.told.told stays) in
@@ -164,7 +191,7 @@ module _ (tick : Tick) (s made : MachineState) (sound : IsSound s) (parts : HasS
         told = nine_told l h;
         keys = e.keys ∙ l.keys;
         scan = e.scan ∙ ap (λ v. v.scan) k.video ∙ l.scan;
-        geometry = λ nine. (e.gx ∙ k.gx ∙ (l.geometry refl).0, e.released ∙ k.released ∙ (l.geometry refl).1);
+        geometry = λ nine. (e.gx ∙ k.gx ∙ (l.geometry refl).0, e.released ∙ released_so l);
       }
 
   seven_after : LeavesApart Seven s made → is_halted made Seven ≡ false → LeavesApart Seven s (ended tick made)
@@ -176,7 +203,7 @@ module _ (tick : Tick) (s made : MachineState) (sound : IsSound s) (parts : HasS
         told = subst (IsOnlyTold s.io.seven) (sym (e.own ∙ k.seven)) l.told;
         keys = e.keys ∙ l.keys;
         scan = e.scan ∙ ap (λ v. v.scan) k.video ∙ l.scan;
-        geometry = λ nine. (e.gx ∙ k.gx ∙ (l.geometry nine).0, e.released ∙ k.released ∙ (l.geometry nine).1);
+        geometry = λ nine. absurd (proc_differs (sym nine));
       }
 
   pub after_it : (proc : Proc) → LeavesApart proc s made → is_halted s proc ≡ false → LeavesApart proc s (ended tick made)
@@ -184,12 +211,6 @@ module _ (tick : Tick) (s made : MachineState) (sound : IsSound s) (parts : HasS
   after_it Seven l h = seven_after l (l.told.own.halted ∙ h)
 
 -- ---- what is left so is harmless still, and below its fence
-
-proc_differs : Nine ≢ Seven
-proc_differs e = subst by e tt where
-  by : Proc → Type 0
-  by Nine = Unit {0}
-  by Seven = ⊥
 
 -- the processor is held as before
 held_so : (proc : Proc) (s next : MachineState) → LeavesApart proc s next → is_blocked next proc ≡ is_blocked s proc

@@ -7,7 +7,7 @@ use Rattle.arm_core.specs.declared.outcomes.Stepped as arm
 use Rattle.arm_core.specs.declared.outcomes.Stepped.TheVariants.{Cost, Halted, Left}
 use Rattle.ds_ipc.specs.Ipcs.{other_proc}
 use Rattle.ds_map.specs.Moves.{next_unit}
-use Rattle.ds_ports.specs.Dues.{IsTold}
+use Rattle.ds_ports.specs.Happenings.{IsTold}
 use Rattle.ds_ports.specs.Io.{IoState, io_event, io_of}
 use Rattle.ds_ports.specs.ProcessorIo.{ProcessorIoState}
 use Rattle.ds_ports.proofs.Later.{unchanged_same}
@@ -18,7 +18,8 @@ use Rattle.ds_runs.proofs.RunLaws.{same_makes}
 use Rattle.ds_timers.specs.Irqs.{IrqState}
 use Rattle.ds_machine.specs.Apart.{ReachesOwn, nine_own_of, step_with, with_seven_part}
 use Rattle.ds_machine.specs.Channels.{channel_step}
-use Rattle.ds_machine.specs.Reference.{Fences, Shown, after_event, after_geometry, step_by}
+use Rattle.ds_machine.specs.Hearing.{Fences}
+use Rattle.ds_machine.specs.Reference.{Shown, after_event, after_geometry, step_by}
 use Rattle.ds_machine.specs.States.{MachineState}
 use Rattle.ds_machine.specs.Statuses.{left_by}
 use Rattle.ds_machine.specs.Steps.{gone_by}

@@ -5,7 +5,7 @@ use Rattle.ds_base.specs.declared.processors.Proc.TheVariants.{Nine, Seven}
 use Rattle.ds_base.specs.declared.ticks.Tick.{Tick}
 use Rattle.arm_core.specs.declared.outcomes.Stepped as arm
 use Rattle.arm_core.specs.declared.outcomes.Stepped.TheVariants.{Cost, Halted, Left}
-use Rattle.ds_ports.specs.Dues.{IsQuiet}
+use Rattle.ds_ports.specs.Happenings.{IsQuiet}
 use Rattle.ds_ports.specs.Io.{io_of}
 use Rattle.ds_ports.proofs.Later.{still_later}
 use Rattle.ds_runs.specs.Actors.{actor_of}
@@ -16,7 +16,8 @@ use Rattle.ds_machine.specs.Acting.{acting_dues}
 use Rattle.ds_machine.specs.Lagging.{CatchesUpIf, observes_by}
 use Rattle.ds_machine.specs.Private.{rank_of}
 use Rattle.ds_machine.specs.TurnSteps.{BelongsToTurn, TurnStepsFall, own_remaining, ticks_left}
-use Rattle.ds_machine.specs.Reference.{HasSoundParts, Shown, awake, processor_due, reference_step, step_by}
+use Rattle.ds_machine.specs.Reference.{Shown, awake, processor_due, reference_step, step_by}
+use Rattle.ds_machine.specs.Sound.{HasSoundParts}
 use Rattle.ds_machine.specs.States.{MachineState}
 use Rattle.ds_machine.specs.Steps.{ended, gone_by, machine_concluded, processor_of}
 use Rattle.ds_machine.proofs.ActingDues.{acting_processor}

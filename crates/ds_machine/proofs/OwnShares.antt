@@ -14,7 +14,7 @@ use Rattle.ds_map.specs.Shares.{IsSharedSo, SharedPart, is_apart, is_shown_to_ni
 use Rattle.ds_map.specs.Views.{SevenReach, seven_memory}
 use Rattle.ds_map.proofs.SevenShares as seven_map
 use Rattle.ds_ports.specs.Dues.{io_due}
-use Rattle.ds_ports.specs.Io.{IoState, level_told, settled}
+use Rattle.ds_ports.specs.Io.{IoState, level_told, release_kept, settled}
 use Rattle.ds_ports.specs.ProcessorIo.{processor_io_triggered}
 use Rattle.ds_runs.specs.Runs.{MachineStep, Makes}
 use Rattle.ds_runs.specs.declared.actors.Actor as actor
@@ -26,7 +26,7 @@ use Rattle.vram_banks.specs.Mixes.{mixed}
 use Rattle.ds_machine.specs.Apart.{IsOutside, LeaveNineOwn, NineOwn, nine_own_of, step_with, with_nine_own}
 use Rattle.ds_machine.specs.Channels.{channel_step, moved_by}
 use Rattle.ds_machine.specs.Reference.{Shown, step_by}
-use Rattle.ds_machine.specs.Sides.{seven_side, taken}
+use Rattle.ds_machine.specs.PrivateSides.{seven_side, side_taken}
 use Rattle.ds_machine.specs.States.{MachineState}
 use Rattle.ds_machine.specs.Statuses.{left_by}
 use Rattle.ds_machine.specs.Steps.{ended, goes_on, is_halted, line_of, machine_concluded, machine_settled, map_of, seven_reach, tick_of, wakes, with_map, with_seven, woken, woken_one}
@@ -102,7 +102,7 @@ seven_follows own = record {
 -- ---- ARM7's step
 
 abbrev seven_taken : MachineState → Outcome SevenReach
-seven_taken s = taken seven_memory seven_side (line_of s Seven) s.seven.processor.registers (seven_reach (tick_of s.seven.processor) s)
+seven_taken s = side_taken seven_memory seven_side (line_of s Seven) s.seven.processor.registers (seven_reach (tick_of s.seven.processor) s)
 
 seven_concluded : (rank : ℕ) (own : NineOwn) (s : MachineState) (came : arm.Stepped)
     → (let step : MachineStep MachineState Shown LeftOut = machine_concluded rank Seven (with_nine_own own s) came in step)
@@ -224,7 +224,7 @@ abbrev triggered : Tick → IoState → IoState
 triggered tick u = record (level_told u) { nine = processor_io_triggered (level_told u).nine causes.Geometry tick }
 
 settled_so : (tick : Tick) (own : SharedPart) (u : IoState) → settled tick (shares_put own u) ≡ shares_put own (settled tick u)
-settled_so tick own u = by_room (is_half_empty u.gx) where
+settled_so tick own u = ap release_kept (by_room (is_half_empty u.gx)) where
   by_room : (b : Bool) → (if b then triggered tick (shares_put own u) else level_told (shares_put own u)) ≡ shares_put own (if b then triggered tick u else level_told u)
   by_room true = refl
   by_room false = refl

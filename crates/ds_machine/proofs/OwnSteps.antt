@@ -15,7 +15,8 @@ use Rattle.cp15_tcm.specs.declared.answers.Tcm.{Tcm}
 use Rattle.cp15_tcm.specs.declared.answers.Tcm.TheVariants.{Itcm, Dtcm, Past}
 use Rattle.ds_map.specs.Views.{NineReach, SevenReach, nine_memory, seven_memory, tcm_read, tcm_written}
 use Rattle.ds_machine.specs.OwnSteps.{IsStep7, IsStep9, with_cp15}
-use Rattle.ds_machine.specs.Sides.{nine_executed, nine_side, seven_side, taken}
+use Rattle.ds_machine.specs.PrivateSides.{nine_side, seven_side, side_taken}
+use Rattle.ds_machine.specs.Sides.{nine_executed}
 use Rattle.ds_machine.proofs.Keeps.{Follows, word_follows}
 use Rattle.ds_machine.proofs.Taken.{taken_entered, taken_executed}
 
@@ -68,7 +69,7 @@ executed_by s r number instr (Some move) = refl
 -- ---- the steps
 
 nine_by : (line : Bool) (s : RegisterState) (r : NineReach) (b : Bool) → enters line s ≡ b
-    → taken nine_memory nine_side line s r ≡ with_cp15 (step9_of nine_memory line s r.cp15 r)
+    → side_taken nine_memory nine_side line s r ≡ with_cp15 (step9_of nine_memory line s r.cp15 r)
 nine_by line s r true e = taken_entered nine_memory nine_side line s r e ∙ rw e refl
 nine_by line s r false e =
     let f = fetched nine_memory V5 s r in
@@ -77,7 +78,7 @@ nine_by line s r false e =
     ∙ rw e (ap (λ (x : NineReach). with_cp15 (executed_or_moved nine_memory s r.cp15 (record { number = f.number; instr = f.instr; state = x }) (move_of f.instr))) (sym (nine_fetch_stays s r)))
 
 seven_by : (line : Bool) (s : RegisterState) (r : SevenReach) (b : Bool) → enters line s ≡ b
-    → taken seven_memory seven_side line s r ≡ step7_of seven_memory line s r
+    → side_taken seven_memory seven_side line s r ≡ step7_of seven_memory line s r
 seven_by line s r true e = taken_entered seven_memory seven_side line s r e ∙ rw e refl
 seven_by line s r false e =
     let f = fetched seven_memory V4 s r in

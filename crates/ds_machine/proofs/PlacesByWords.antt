@@ -16,7 +16,7 @@ use Rattle.ds_map.specs.Shares.{is_private_place}
 use Rattle.ds_map.specs.Views.{NineReach, SevenReach}
 use Rattle.vram_banks.specs.BankMap.{same_space}
 use Rattle.vram_banks.proofs.Allotted.{not_met}
-use Rattle.ds_machine.specs.Sides.{is_private_tcm, is_private_to_seven, nine_side, seven_side}
+use Rattle.ds_machine.specs.PrivateSides.{is_private_tcm, is_private_to_seven, nine_side, seven_side}
 use Rattle.ds_machine.specs.Touching.{GoesByWords}
 
 -- The four bytes of a word that is aligned are private together: all bounds are multiples of 4.

@@ -8,7 +8,7 @@ use Rattle.arm_core.specs.Registers.{RegisterState}
 use Rattle.arm_core.specs.declared.outcomes.Stepped.TheVariants.{Cost}
 use Rattle.arm_exec.proofs.Costs.{some_cost}
 use Rattle.ds_machine.specs.Private.{AllReachPrivate, ReachesPrivate}
-use Rattle.ds_machine.specs.Sides.{SideOf}
+use Rattle.ds_machine.specs.PrivateSides.{SideOf}
 
 -- Private accesses change a processor's own part alone, depend on it alone, and aren't refused. What a processor reaches is a part of its own, put into the rest.
 

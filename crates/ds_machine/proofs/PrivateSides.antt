@@ -31,7 +31,8 @@ use Rattle.ds_map.specs.Maps.{MapState}
 use Rattle.ds_map.specs.Shares.{IsSharedSo, is_private_place}
 use Rattle.ds_map.proofs.NineShares.{IsOwnAddress, IsSharedAlike, NineBytes, nine_fetched_alike, nine_none_refused, nine_put, nine_read_leaves, nine_value_alike, nine_write_leaves, nine_wrote_alike, nine_wrote_at, no_address, private_address, so_shared, stays_alike}
 use Rattle.ds_machine.specs.Private.{AllReachPrivate, data_accesses, stays_behind}
-use Rattle.ds_machine.specs.Sides.{is_private_tcm, is_private_to_seven, nine_executed, nine_side, seven_side}
+use Rattle.ds_machine.specs.PrivateSides.{is_private_tcm, is_private_to_seven, nine_side, seven_side}
+use Rattle.ds_machine.specs.Sides.{nine_executed}
 use Rattle.ds_machine.proofs.PrivateAccesses.{AsPrivate, IsApart, StepsAlike}
 use Rattle.ds_machine.proofs.PrivatePlaces.{IsLow, low_fixed, low_place, map_fetched_alike, map_none_refused, map_read_leaves, map_value_alike, map_write_leaves, private_itself, word_or_not, wram_written, with_wram}
 use Rattle.ds_machine.proofs.PrivateSteps.{ExecutesAlike, both_down, word_alike}

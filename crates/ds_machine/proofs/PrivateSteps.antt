@@ -12,7 +12,7 @@ use Rattle.arm_core.specs.Meanings.{condition, meaning}
 use Rattle.arm_core.specs.Registers.{RegisterState, is_thumb}
 use Rattle.arm_core.specs.Steps.{FetchOutcome, Setting, enters, executed_unless, executed_word, fetched, fetched_half, fetched_word, stop_of, swi_stop}
 use Rattle.ds_machine.specs.Private.{AllReachPrivate, StaysPrivate, data_accesses, may_go_ahead, next_fetch, stays_behind}
-use Rattle.ds_machine.specs.Sides.{SideOf, taken}
+use Rattle.ds_machine.specs.PrivateSides.{SideOf, side_taken}
 use Rattle.ds_machine.proofs.PrivateAccesses.{IsApart, StepsAlike, access_moves, all_move, carried_alike}
 use Rattle.ds_machine.proofs.Taken.{taken_executed}
 
@@ -98,7 +98,7 @@ module _ {S O : Type 0} (memory : MemoryMachine S) (side : SideOf S) (put : O �
 
   -- a step comes to the same, whatever the rest is, and the interrupt line, which isn't entered
   pub taken_alike : ExecutesAlike side put → (s : RegisterState) (own : O) (r t : S) (line other : Bool) → enters line s ≡ false → enters other s ≡ false
-      → StaysPrivate memory side s (put own r) → StepsAlike put r t (taken memory side line s (put own r)) (taken memory side other s (put own t))
+      → StaysPrivate memory side s (put own r) → StepsAlike put r t (side_taken memory side line s (put own r)) (side_taken memory side other s (put own t))
   taken_alike executes s own r t line other quiet also stays =
       let f = fetched memory side.arch s (put own r) in
       let same = fetch_alike s own r t stays in

@@ -35,7 +35,7 @@ use Rattle.arm_core.specs.declared.touches.Touch.{Touch}
 use Rattle.ds_map.specs.Views.{nine_memory, seven_memory}
 use Rattle.ds_machine.specs.Observed.{fetch_of}
 use Rattle.ds_machine.specs.Private.{AllReachPrivate, ProcessorStaysPrivate, ReachesPrivate, StaysPrivate, data_accesses, may_go_ahead, next_fetch}
-use Rattle.ds_machine.specs.Sides.{SideOf, nine_side, seven_side}
+use Rattle.ds_machine.specs.PrivateSides.{SideOf, nine_side, seven_side}
 use Rattle.ds_machine.specs.States.{MachineState}
 use Rattle.ds_machine.specs.Steps.{nine_reach, processor_of, seven_reach, tick_of}
 use Rattle.ds_machine.specs.Touching.{FetchStaysPrivate, InstrReaches, InstrStaysPrivate, IsFootprint, data_private, half_writes, instr_at, is_private_to, reads, writes}

@@ -11,13 +11,15 @@ use Rattle.arm_core.specs.declared.outcomes.Stepped as arm
 use Rattle.arm_core.specs.declared.outcomes.Stepped.TheVariants.{Cost, Halted, Left}
 use Rattle.arm_exec.specs.Costs.{CostsSome}
 use Rattle.ds_ipc.specs.Ipcs.{other_proc}
-use Rattle.ds_ports.specs.Dues.{IsIo, Goes, IsProcessorIo, IsQuiet, ReschedulesEach}
+use Rattle.ds_ports.specs.Happenings.{IsIo, Goes, IsProcessorIo, IsQuiet, ReschedulesEach}
 use Rattle.ds_ports.specs.Io.{io_of}
 use Rattle.ds_ports.proofs.Later.{all_io_dues, goes_io, of_both, processor_io_is}
 use Rattle.ds_runs.specs.Runs.{MachineStep, Makes, Stops}
 use Rattle.ds_runs.specs.declared.actors.Actor.TheVariants.{Processor}
 use Rattle.ds_runs.proofs.RunLaws.{same_makes, same_stops, not_both}
-use Rattle.ds_machine.specs.Reference.{HasSoundParts, Shown, awake, due_unless, processor_due, shown_at, step_by, stepped_of}
+use Rattle.ds_machine.specs.Reference.{Shown, awake, due_unless, processor_due, shown_at, step_by}
+use Rattle.ds_machine.specs.Sound.{HasSoundParts}
+use Rattle.ds_machine.specs.StepAnswers.{stepped_of}
 use Rattle.ds_machine.specs.States.{MachineState, ProcessorState, counts_of}
 use Rattle.ds_machine.specs.Steps.{machine_concluded, gone_by, is_halted, is_blocked, outcome_of, processor_of, tick_of, went_on, with_halt, ended}
 use Rattle.ds_machine.specs.declared.answers.Done as answer
@@ -26,7 +28,7 @@ use Rattle.ds_machine.proofs.Costs.{step_costs}
 use Rattle.ds_machine.proofs.DueTicks.{due_then, tick_is}
 use Rattle.ds_machine.proofs.Moves.{Moves, blocked_moves, moves_of, other_held, same_keys, then_io_dues}
 use Rattle.ds_machine.proofs.Others.{step_goes}
-use Rattle.ds_machine.proofs.Wakes.{halt_blocked, halt_other, halt_steps, halted_io_dues, halted_io, put_beside, put_counts, put_other, put_processor_io}
+use Rattle.ds_machine.proofs.Wakes.{halt_blocked, halt_other, halt_steps, halted_blocks, halted_io_dues, halted_io, put_beside, put_counts, put_other, put_processor_io}
 use Rattle.video2d.specs.Scans.{scan_due}
 
 -- A processor's step: what its accesses leave, and how it goes on.
@@ -144,11 +146,6 @@ went_later : (proc : Proc) (p : ProcessorState) (tick : Tick) (clocks : ℕ) (ha
 went_later proc p tick clocks halted true h e some = tt
 went_later proc p tick clocks true false h e some = absurd (true≢false (sym (h refl)))
 went_later proc p tick clocks false false h e some = let lt = later_by proc p.due clocks some in omega (arith, e, lt)
-
--- a halted one is blocked
-halted_blocks : (s : MachineState) (proc : Proc) → is_halted s proc ≡ true → is_blocked s proc ≡ true
-halted_blocks s Nine h = rw h refl
-halted_blocks s Seven h = rw h refl
 
 gone_later : (proc : Proc) (m : MachineState) (tick : Tick) (came : arm.Stepped) → (processor_of m proc).due ≡ tick.0 → Took came
     → IsLater tick (processor_due (gone_by proc came m) proc)

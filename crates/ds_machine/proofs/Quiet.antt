@@ -7,7 +7,8 @@ use Rattle.ds_base.specs.declared.processors.Proc.TheVariants.{Nine, Seven}
 use Rattle.ds_base.specs.declared.ticks.Tick.{Tick}
 use Rattle.ds_dma.specs.Channels.{ready_by}
 use Rattle.ds_dma.specs.States.{DmaState, AreReadyLater, any_runs, channel_at}
-use Rattle.ds_ports.specs.Dues.{IsQuiet, io_due}
+use Rattle.ds_ports.specs.Dues.{io_due}
+use Rattle.ds_ports.specs.Happenings.{IsQuiet}
 use Rattle.ds_ports.specs.ProcessorIo.{ProcessorIoState, blocks_processor}
 use Rattle.ds_ports.specs.Io.{io_of}
 use Rattle.ds_runs.specs.Actors.{actor_of}
@@ -16,7 +17,8 @@ use Rattle.ds_runs.specs.declared.actors.Actor as actor
 use Rattle.ds_runs.specs.declared.actors.Actor.TheVariants.{KeyScript, Video, Timer, Divider, SquareRoot, Geometry, Card, Dma, Processor}
 use Rattle.ds_machine.specs.Acting.{acting_dues}
 use Rattle.ds_machine.specs.Private.{IsAhead, IsBelowFence, rank_of}
-use Rattle.ds_machine.specs.Reference.{Fences, due_by, dues_of, processor_due}
+use Rattle.ds_machine.specs.Hearing.{Fences}
+use Rattle.ds_machine.specs.Reference.{due_by, dues_of, processor_due}
 use Rattle.ds_machine.specs.States.{MachineState}
 use Rattle.ds_machine.specs.Steps.{is_blocked, is_halted, processor_of, tick_of}
 use Rattle.ds_machine.proofs.ActingDues.{acting_processor, other_acts}

@@ -11,7 +11,8 @@ use Rattle.ds_runs.specs.declared.actors.Actor.TheVariants.{Geometry}
 use Rattle.gx_fifo.specs.GxStates.{GxState, is_stalled}
 use Rattle.ds_machine.specs.Acting.{acting_due}
 use Rattle.ds_machine.specs.Lagging.{ActsApart}
-use Rattle.ds_machine.specs.Reference.{HasSoundParts, Shown, reference_step}
+use Rattle.ds_machine.specs.Reference.{Shown, reference_step}
+use Rattle.ds_machine.specs.Sound.{HasSoundParts}
 use Rattle.ds_machine.specs.States.{MachineState}
 use Rattle.ds_machine.specs.Steps.{ended}
 use Rattle.ds_machine.proofs.ActingDues.{acting_low, acting_of_rank}

@@ -8,7 +8,7 @@ use Rattle.ds_base.specs.declared.ticks.Tick.{Tick}
 use Rattle.ds_map.specs.Maps.{MapState, MemoriesState, map_seen, unreached}
 use Rattle.ds_map.specs.Views.{SevenReach, seven_memory}
 use Rattle.ds_ports.specs.Io.{IoState}
-use Rattle.ds_machine.specs.Sides.{seven_side, taken}
+use Rattle.ds_machine.specs.PrivateSides.{seven_side, side_taken}
 use Rattle.ds_machine.specs.States.{MachineState, ProcessorState}
 use Rattle.ds_machine.specs.Steps.{line_of, map_of, outcome_of, seven_reach, with_map, with_seven}
 
@@ -83,11 +83,11 @@ seven_next s m io registers = record (with_memories s m io) { seven = record { p
 pub seven_went : (s : MachineState) (m : MemoriesState) (io : IoState) (registers : RegisterState) (now at : Tick) (line : Bool)
     → unreached Seven m ≡ unreached Seven (memories_of s) → line ≡ line_of s Seven
     → (let reach : SevenReach = record { map = map_seen Seven m io; now = at } in reach)
-    ≡ (taken seven_memory seven_side line s.seven.processor.registers (seven_reach now s)).state
-    → registers ≡ (taken seven_memory seven_side line s.seven.processor.registers (seven_reach now s)).registers
+    ≡ (side_taken seven_memory seven_side line s.seven.processor.registers (seven_reach now s)).state
+    → registers ≡ (side_taken seven_memory seven_side line s.seven.processor.registers (seven_reach now s)).registers
     → seven_next s m io registers ≡ (outcome_of Seven now s).machine
 seven_went s m io registers now at line apart l state r =
-    let o : Bool → Outcome SevenReach = λ b. taken seven_memory seven_side b s.seven.processor.registers (seven_reach now s) in
+    let o : Bool → Outcome SevenReach = λ b. side_taken seven_memory seven_side b s.seven.processor.registers (seven_reach now s) in
     let p : RegisterState → ProcessorState = λ x. record s.seven.processor { registers = x } in
     seven_left s m io (p registers) (o line).state.map apart (ap (λ (reach : SevenReach). reach.map) state)
     ∙ ap (λ (x : RegisterState). (let next : MachineState = record (with_map Seven s (o line).state.map) { seven = record { processor = p x; wram = (o line).state.map.memories.wram } } in next)) r

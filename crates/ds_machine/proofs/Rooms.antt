@@ -51,7 +51,8 @@ use Rattle.gx_fifo.specs.GxStates.{AreWaiting, GxState, gx_written, is_half_empt
 use Rattle.ds_machine.specs.Channels.{channel_step, moved_by}
 use Rattle.ds_machine.specs.Reference.{Shown, awake, due_by, processor_due, reference_step, step_by}
 use Rattle.ds_machine.specs.Rooms.{FindsRoom, HasRoom, InstructionsFindRoom, NineStepsFindRoom, NineUnitsFindRoom, SevenStepsLeaveGeometry, SevenUnitsLeaveGeometry, StepFindsRoom, StepsFindRoom, UnitFindsRoom, accesses_of, step_accesses}
-use Rattle.ds_machine.specs.Sides.{nine_executed, nine_side, seven_side, taken}
+use Rattle.ds_machine.specs.PrivateSides.{nine_side, seven_side, side_taken}
+use Rattle.ds_machine.specs.Sides.{nine_executed}
 use Rattle.ds_machine.specs.States.{MachineState}
 use Rattle.ds_machine.specs.Statuses.{left_by}
 use Rattle.ds_machine.specs.Steps.{StepOutcome, ended, goes_on, line_of, machine_concluded, machine_settled, map_of, nine_reach, outcome_of, processor_of, processor_step, seven_reach, tick_of, wakes, with_map, woken_one}
@@ -213,10 +214,10 @@ module _ (s : RegisterState) (r : NineReach) where
       let none : accesses_of V5 setting.base s instr ≡ [] = move_silent V5 setting.base s instr (rw is refl) in
       ap (λ (x : NineReach). (let t : NineReach = record x { cp15 = left.cp15 } in t)) (sym (ap state_after none))
 
-  step_made : (line : Bool) → IsMade (taken nine_memory nine_side line s r).state (step_accesses nine_memory nine_side line s r)
+  step_made : (line : Bool) → IsMade (side_taken nine_memory nine_side line s r).state (step_accesses nine_memory nine_side line s r)
   step_made line = by_entry (enters line s) refl where
     by_entry : (b : Bool) → enters line s ≡ b
-        → IsMade (taken nine_memory nine_side line s r).state (if b then [] else accesses_of V5 setting.base s (fetched nine_memory V5 s r).instr)
+        → IsMade (side_taken nine_memory nine_side line s r).state (if b then [] else accesses_of V5 setting.base s (fetched nine_memory V5 s r).instr)
     by_entry true e =
         rw (taken_entered nine_memory nine_side line s r e) (beside_cp15 _ r (carried_state V5 s r (interrupt_meaning setting.base s)))
     by_entry false e =
@@ -372,7 +373,7 @@ seven_follows = record {
   writes = λ r at width value i. seven_stays r.now r.map at width value;
 }
 
-seven_taken : (line : Bool) (s : RegisterState) (r : SevenReach) → (taken seven_memory seven_side line s r).state.map.io.gx ≡ r.map.io.gx
+seven_taken : (line : Bool) (s : RegisterState) (r : SevenReach) → (side_taken seven_memory seven_side line s r).state.map.io.gx ≡ r.map.io.gx
 seven_taken line s r =
     taken_follows seven_memory (λ (r : SevenReach). Unit {0}) (λ (r t : SevenReach). t.map.io.gx ≡ r.map.io.gx) seven_follows seven_side
     (λ old t number instr i. word_follows seven_memory (λ (r : SevenReach). Unit {0}) (λ (r t : SevenReach). t.map.io.gx ≡ r.map.io.gx) seven_follows arm7 old t number instr i)

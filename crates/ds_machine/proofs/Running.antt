@@ -19,7 +19,9 @@ use Rattle.ds_machine.specs.Counting.{CountsAddUp, EndsWithin, HasShortRun, IsRu
 use Rattle.ds_machine.specs.Lagging.{CatchesUpFor, ComesBeforeAll, StepsBeforeGeometry, TakesGeometry}
 use Rattle.ds_machine.specs.Lagging as lagging
 use Rattle.ds_machine.specs.Private.{IsAhead, RunsAhead, rank_of}
-use Rattle.ds_machine.specs.Reference.{HasSoundParts, IsSound, Shown, dues_of, next_shown, processor_due, reference, reference_step, stepped_of}
+use Rattle.ds_machine.specs.Reference.{Shown, dues_of, next_shown, processor_due, reference, reference_step}
+use Rattle.ds_machine.specs.Sound.{HasSoundParts, IsSound}
+use Rattle.ds_machine.specs.StepAnswers.{stepped_of}
 use Rattle.ds_machine.specs.States.{MachineState, counts_of}
 use Rattle.ds_machine.specs.Steps.{processor_of, tick_of}
 use Rattle.ds_machine.specs.TurnSteps.{MayAct, MayStep, own_remaining, ticks_left}

@@ -11,7 +11,8 @@ use Rattle.ds_runs.proofs.AllActors.{actors_differ}
 use Rattle.ds_runs.proofs.Lists.{is_later, least_unique}
 use Rattle.ds_machine.specs.Acting.{acting_dues, is_due_before}
 use Rattle.ds_machine.specs.Lagging.{StepsBeforeGeometry, more, none, observes_by}
-use Rattle.ds_machine.specs.Reference.{IsSound, Shown, dues_of, reference, reference_step}
+use Rattle.ds_machine.specs.Reference.{Shown, dues_of, reference, reference_step}
+use Rattle.ds_machine.specs.Sound.{IsSound}
 use Rattle.ds_machine.specs.States.{MachineState}
 use Rattle.ds_machine.proofs.ActingDues.{acting_low, acting_of_rank, loud_same, quiet_or_loud}
 use Rattle.ds_machine.proofs.CatchingUp.{CaughtSo, caught_so}

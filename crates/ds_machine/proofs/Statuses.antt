@@ -33,8 +33,9 @@ use Rattle.video2d.specs.declared.videos.Shown as display
 use Rattle.ds_machine.specs.Booted.{header_bytes, header_place, machine_blank, stacks_of, with_image}
 use Rattle.ds_machine.specs.Boots.{copied, stored}
 use Rattle.ds_machine.specs.Channels.{channel_step, delayed_past, moved_by}
-use Rattle.ds_machine.specs.Reference.{Shown, after_line, awake, due_by, reference, reference_step, step_by, stepped_of, video_step}
-use Rattle.ds_machine.specs.Sides.{nine_side, seven_side, taken}
+use Rattle.ds_machine.specs.Reference.{Shown, after_line, awake, due_by, reference, reference_step, step_by, video_step}
+use Rattle.ds_machine.specs.StepAnswers.{stepped_of}
+use Rattle.ds_machine.specs.PrivateSides.{nine_side, seven_side, side_taken}
 use Rattle.ds_machine.specs.States.{MachineState}
 use Rattle.ds_machine.specs.declared.answers.Done as answer
 use Rattle.ds_machine.specs.declared.answers.Done.TheVariants as answers
@@ -52,11 +53,11 @@ NineHas o = HasNineStatuses o.registers o.state.cp15
 abbrev SevenHas : Outcome SevenReach → Type 0
 SevenHas o = HasStatuses V4 o.registers
 
-nine_has : (line : Bool) (s : RegisterState) (r : NineReach) → HasNineStatuses s r.cp15 → NineHas (taken nine_memory nine_side line s r)
+nine_has : (line : Bool) (s : RegisterState) (r : NineReach) → HasNineStatuses s r.cp15 → NineHas (side_taken nine_memory nine_side line s r)
 nine_has line s r h =
     subst NineHas (sym (is_step9 line s r)) (step9_has s r.cp15 h nine_memory line r)
 
-seven_has : (line : Bool) (s : RegisterState) (r : SevenReach) → HasStatuses V4 s → SevenHas (taken seven_memory seven_side line s r)
+seven_has : (line : Bool) (s : RegisterState) (r : SevenReach) → HasStatuses V4 s → SevenHas (side_taken seven_memory seven_side line s r)
 seven_has line s r h =
     subst SevenHas (sym (is_step7 line s r)) (step_has seven_memory arm7 s h line r)
 

@@ -21,7 +21,9 @@ use Rattle.ds_machine.specs.Acting.{acting_dues}
 use Rattle.ds_machine.specs.Channels.{stopped_at}
 use Rattle.ds_machine.specs.Lagging.{ActsApart}
 use Rattle.ds_machine.specs.Private.{IsAhead, rank_of}
-use Rattle.ds_machine.specs.Reference.{HasSoundParts, Shown, after_event, after_geometry, after_line, after_video, dues_of, reference_step, shown_at, step_by, stepped_of, video_step}
+use Rattle.ds_machine.specs.Reference.{Shown, after_event, after_geometry, after_line, after_video, dues_of, reference_step, shown_at, step_by, video_step}
+use Rattle.ds_machine.specs.Sound.{HasSoundParts}
+use Rattle.ds_machine.specs.StepAnswers.{stepped_of}
 use Rattle.ds_machine.specs.States.{MachineState}
 use Rattle.ds_machine.specs.Steps.{ended, processor_of, tick_of}
 use Rattle.ds_machine.specs.declared.answers.Done as answer

@@ -65,7 +65,8 @@ use Rattle.video2d.specs.Videos.{VideoState, answer_unless, video_shown, video_s
 use Rattle.video2d.specs.declared.videos.Shown as display
 use Rattle.ds_machine.specs.Channels.{channel_step, moved_by}
 use Rattle.ds_machine.specs.Reference.{Shown, awake, due_by, step_by, video_step}
-use Rattle.ds_machine.specs.Sides.{SideOf, nine_executed, nine_side, seven_side, taken}
+use Rattle.ds_machine.specs.PrivateSides.{SideOf, nine_side, seven_side, side_taken}
+use Rattle.ds_machine.specs.Sides.{nine_executed, taken}
 use Rattle.ds_machine.specs.States.{MachineState}
 use Rattle.ds_machine.specs.Steps.{line_of, machine_concluded, map_of, nine_reach, outcome_of, processor_of, seven_reach, tick_of, with_map}
 use Rattle.ds_machine.specs.Stopping.{NoStopIsNotYet}
@@ -281,7 +282,7 @@ module _ {S : Type 0} (memory : MemoryMachine S) (refuses : (s : S) (at : ℕ) (
   either_came false x y h k = k
 
   taken_named : (side : SideOf S) → ((old : RegisterState) (s : S) (number : ℕ) (instr : Option Instr) → CameNamed (side.executed old s number instr).stepped)
-      → (line : Bool) (old : RegisterState) (s : S) → CameNamed (taken memory side line old s).stepped
+      → (line : Bool) (old : RegisterState) (s : S) → CameNamed (side_taken memory side line old s).stepped
   unfolding taken
   taken_named side executes line old s =
       let f = fetched memory side.arch old s in

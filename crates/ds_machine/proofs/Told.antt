@@ -15,7 +15,7 @@ use Rattle.arm_core.specs.declared.outcomes.Stepped.TheVariants.{Cost, Halted, L
 use Rattle.ds_dma.specs.declared.channels.Unit.{Unit as DmaUnit}
 use Rattle.ds_ipc.specs.Ipcs.{other_proc}
 use Rattle.ds_map.specs.Moves.{after_unit, next_unit, unit_refusal}
-use Rattle.ds_ports.specs.Dues.{IsTold, IsUnchanged, ipc_bits}
+use Rattle.ds_ports.specs.Happenings.{IsTold, IsUnchanged, ipc_bits}
 use Rattle.ds_ports.specs.Io.{io_of}
 use Rattle.ds_ports.specs.ProcessorIo.{ProcessorIoState}
 use Rattle.ds_runs.specs.Runs.{MachineStep}

@@ -9,7 +9,8 @@ use Rattle.ds_machine.specs.Counting.{IsRunning}
 use Rattle.ds_machine.specs.Frames.{last_frame, last_lists}
 use Rattle.ds_machine.specs.Lagging.{CatchesUpFor}
 use Rattle.ds_machine.specs.Private.{rank_of}
-use Rattle.ds_machine.specs.Reference.{IsSound, Shown, reference, reference_step}
+use Rattle.ds_machine.specs.Reference.{Shown, reference, reference_step}
+use Rattle.ds_machine.specs.Sound.{IsSound}
 use Rattle.ds_machine.specs.States.{MachineState, counts_of}
 use Rattle.ds_machine.specs.Steps.{processor_of, tick_of}
 use Rattle.ds_machine.specs.TurnSteps.{BelongsToTurn, MayAct, TakesSteps, more, none}

@@ -12,7 +12,8 @@ use Rattle.ds_runs.specs.Runs.{MachineStep, Makes, Stops}
 use Rattle.ds_runs.specs.declared.actors.Actor.TheVariants.{Video}
 use Rattle.ds_runs.proofs.RunLaws.{same_makes, same_stops, not_both}
 use Rattle.ds_machine.specs.Channels.{one_event, stopped_at}
-use Rattle.ds_machine.specs.Reference.{Shown, after_video, awake, display_done, shown_at, step_by, stepped_of, swapped_if, video_step}
+use Rattle.ds_machine.specs.Reference.{Shown, after_video, awake, display_done, shown_at, step_by, swapped_if, video_step}
+use Rattle.ds_machine.specs.StepAnswers.{stepped_of}
 use Rattle.ds_machine.specs.States.{MachineState}
 use Rattle.ds_machine.specs.Steps.{ended, goes_on, machine_settled, wakes, with_io, woken_one}
 use Rattle.ds_machine.specs.declared.answers.Done.TheVariants as answers

@@ -6,15 +6,16 @@ use Rattle.ds_base.specs.declared.processors.Proc.{Proc}
 use Rattle.ds_base.specs.declared.processors.Proc.TheVariants.{Nine, Seven}
 use Rattle.ds_base.specs.declared.ticks.Tick.{Tick}
 use Rattle.ds_ipc.specs.Ipcs.{other_proc}
-use Rattle.ds_ports.specs.Dues.{IsIo, IsProcessorIo, ReschedulesEach}
-use Rattle.ds_dma.specs.States.{awaits_geometry}
+use Rattle.ds_ports.specs.Happenings.{IsIo, IsProcessorIo, ReschedulesEach}
+use Rattle.ds_dma.specs.States.{DmaState, awaits_geometry, dma_due}
 use Rattle.ds_dma.specs.declared.controls.Cause.TheVariants as causes
 use Rattle.ds_dma.proofs.Wholes.{awaits_none}
 use Rattle.ds_ports.specs.ProcessorIo.{ProcessorIoState, processor_io_triggered}
-use Rattle.ds_ports.specs.Io.{IoState, io_of, is_settled, level_told, settled, with_halted}
-use Rattle.ds_machine.specs.Reference.{AreAsleep, HasSoundParts, due_unless, keys_due, processor_due}
+use Rattle.ds_ports.specs.Io.{IoState, comes_before, io_of, is_settled, level_told, release_kept, release_of, settled, with_halted}
+use Rattle.ds_machine.specs.Reference.{due_unless, keys_due, processor_due}
+use Rattle.ds_machine.specs.Sound.{AreAsleep, HasSoundParts}
 use Rattle.ds_machine.specs.States.{MachineState, ProcessorState, counts_of}
-use Rattle.ds_machine.specs.Steps.{ended, goes_on, is_blocked, machine_settled, processor_of, wakes, with_halt, with_processor, woken, woken_one}
+use Rattle.ds_machine.specs.Steps.{ended, goes_on, is_blocked, is_halted, machine_settled, processor_of, wakes, with_halt, with_processor, woken, woken_one}
 use Rattle.gx_fifo.specs.GxStates.{AreWaiting, is_half_empty}
 use Rattle.ds_machine.proofs.Moves.{Moves, blocked_moves, later_unless, moves_of, then_all}
 use Rattle.ds_ports.proofs.Later.{each_processor_io, of_both, processor_io_each, processor_io_is, same_reschedules, io_is}
@@ -70,6 +71,11 @@ halt_other Seven s halted = refl
 pub halt_blocked : (proc : Proc) (s : MachineState) → is_blocked (with_halt proc s true) proc ≡ true
 halt_blocked Nine s = refl
 halt_blocked Seven s = refl
+
+-- one that is halted is blocked
+pub halted_blocks : (s : MachineState) (proc : Proc) → is_halted s proc ≡ true → is_blocked s proc ≡ true
+halted_blocks s Nine h = rw h refl
+halted_blocks s Seven h = rw h refl
 
 -- ---- a processor wakes
 
@@ -153,18 +159,19 @@ woken_asleep tick s Seven = let first = woken_one Nine tick s in one_asleep (wak
 pub record SettleLeaves (old new : IoState) : Type 0 where
   pub video : new.video ≡ old.video
   pub gx : new.gx ≡ old.gx
-  pub released : new.released ≡ old.released
   pub seven : new.seven ≡ old.seven
   pub halted : new.nine.halted ≡ old.nine.halted
   pub timers : new.nine.timers ≡ old.nine.timers
   pub keycnt : new.nine.keycnt ≡ old.nine.keycnt
 
 settle_by : (tick : Tick) (half : Bool) (u : IoState) → SettleLeaves u (if half then record (level_told u) { nine = processor_io_triggered (level_told u).nine causes.Geometry tick } else level_told u)
-settle_by tick true u = record { video = refl; gx = refl; released = refl; seven = refl; halted = refl; timers = refl; keycnt = refl }
-settle_by tick false u = record { video = refl; gx = refl; released = refl; seven = refl; halted = refl; timers = refl; keycnt = refl }
+settle_by tick true u = record { video = refl; gx = refl; seven = refl; halted = refl; timers = refl; keycnt = refl }
+settle_by tick false u = record { video = refl; gx = refl; seven = refl; halted = refl; timers = refl; keycnt = refl }
 
 pub settle_leaves : (tick : Tick) (u : IoState) → SettleLeaves u (settled tick u)
-settle_leaves tick u = settle_by tick (is_half_empty u.gx) u
+settle_leaves tick u =
+    let l = settle_by tick (is_half_empty u.gx) u in
+    record { video = l.video; gx = l.gx; seven = l.seven; halted = l.halted; timers = l.timers; keycnt = l.keycnt }
 
 -- where no channel is to be triggered, none is
 pub settled_dma : (tick : Tick) (u : IoState) → IsIo u → (is_half_empty u.gx && awaits_geometry u.nine.dma) ≡ false → (settled tick u).nine.dma ≡ u.nine.dma
@@ -172,6 +179,14 @@ settled_dma tick u is none = by_half (is_half_empty u.gx) none where
   by_half : (half : Bool) → (half && awaits_geometry u.nine.dma) ≡ false
       → (if half then record (level_told u) { nine = processor_io_triggered (level_told u).nine causes.Geometry tick } else level_told u).nine.dma ≡ u.nine.dma
   by_half true h = awaits_none u.nine.dma tick is.nine.dma.four h
+  by_half false h = refl
+
+-- and what is kept of a stall's end goes by the channels as they were
+pub settled_released : (tick : Tick) (u : IoState) → IsIo u → (is_half_empty u.gx && awaits_geometry u.nine.dma) ≡ false → (settled tick u).released ≡ release_of u
+settled_released tick u is none = by_half (is_half_empty u.gx) none where
+  by_half : (half : Bool) → (half && awaits_geometry u.nine.dma) ≡ false
+      → (release_kept (if half then record (level_told u) { nine = processor_io_triggered (level_told u).nine causes.Geometry tick } else level_told u)).released ≡ release_of u
+  by_half true h = ap (λ (dma : DmaState). if comes_before (dma_due dma) u.released then u.released else 0) (awaits_none u.nine.dma tick is.nine.dma.four h)
   by_half false h = refl
 
 settled_due : (tick : Tick) (s : MachineState) (proc : Proc) → (processor_of (machine_settled tick s) proc).due ≡ (processor_of s proc).due

@@ -6,7 +6,8 @@ use Rattle.ds_runs.specs.Actors.{actors}
 use Rattle.ds_runs.specs.Runs.{IsLeast}
 use Rattle.ds_runs.specs.declared.actors.Actor as actor
 use Rattle.ds_runs.specs.declared.actors.Actor.TheVariants.{Geometry}
-use Rattle.ds_machine.specs.Reference.{due_by, geometry_rank}
+use Rattle.ds_machine.specs.Hearing.{geometry_rank}
+use Rattle.ds_machine.specs.Reference.{due_by}
 use Rattle.ds_machine.specs.States.{MachineState}
 
 -- Who acts: all actors that are due, but quiet geometry. Our choice.

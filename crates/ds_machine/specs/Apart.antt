@@ -6,7 +6,8 @@ use Rattle.ds_runs.specs.Runs.{MachineStep, Makes, Stops}
 use Rattle.ds_runs.specs.declared.actors.Actor as actor
 use Rattle.ds_runs.specs.declared.actors.Actor.TheVariants.{Video, Geometry, Dma, Processor}
 use Rattle.ds_map.specs.Shares.{IsSharedSo, SharedPart, shared_of, shared_put, shares_put}
-use Rattle.ds_machine.specs.Reference.{Fences, Shown, past_stall, step_by}
+use Rattle.ds_machine.specs.Hearing.{Fences}
+use Rattle.ds_machine.specs.Reference.{Shown, past_stall, step_by}
 use Rattle.ds_machine.specs.States.{MachineState, NineState, SevenState}
 use Rattle.ds_machine.specs.Statuses.{left_by}
 

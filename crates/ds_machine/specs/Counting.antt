@@ -4,7 +4,8 @@ use Rattle.ds_base.specs.declared.processors.Proc.TheVariants.{Nine, Seven}
 use Rattle.ds_base.specs.declared.ticks.Tick.{Tick}
 use Rattle.ds_machine.specs.Lasts.{LeadsTo}
 use Rattle.ds_runs.specs.Runs.{IsOver, Makes, Stops, due_at}
-use Rattle.ds_machine.specs.Reference.{IsSound, Shown, dues_of, reference, reference_step}
+use Rattle.ds_machine.specs.Reference.{Shown, dues_of, reference, reference_step}
+use Rattle.ds_machine.specs.Sound.{IsSound}
 use Rattle.ds_machine.specs.States.{MachineState, counts_of}
 use Rattle.ds_machine.specs.TurnSteps.{MayStep, own_remaining}
 use Rattle.ds_machine.specs.declared.answers.Done.{Done}

@@ -3,7 +3,8 @@ use Rattle.std.specs.List.{last_or}
 use Rattle.ds_base.specs.declared.ticks.Tick.{Tick}
 use Rattle.ds_base.specs.declared.left_out.LeftOut.{LeftOut}
 use Rattle.ds_runs.specs.Runs.{IsLeast, Makes, Stops}
-use Rattle.ds_machine.specs.Reference.{HasSoundParts, Shown, dues_of, reference_step}
+use Rattle.ds_machine.specs.Reference.{Shown, dues_of, reference_step}
+use Rattle.ds_machine.specs.Sound.{HasSoundParts}
 use Rattle.ds_machine.specs.States.{MachineState}
 use Rattle.gx_geometry.specs.States.{Swapped}
 use Rattle.video2d.specs.Scans.{framed_by}

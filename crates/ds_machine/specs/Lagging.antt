@@ -20,8 +20,10 @@ use Rattle.ds_runs.specs.declared.actors.Actor.TheVariants.{Dma, Geometry, Proce
 use Rattle.video2d.specs.Scans.{starts_vblank}
 use Rattle.ds_machine.specs.Acting.{acting_dues, is_behind}
 use Rattle.ds_machine.specs.Private.{data_accesses}
-use Rattle.ds_machine.specs.Reference.{IsSound, Shown, geometry_rank, reference, reference_step}
-use Rattle.ds_machine.specs.Sides.{nine_side}
+use Rattle.ds_machine.specs.Hearing.{geometry_rank}
+use Rattle.ds_machine.specs.Reference.{Shown, reference, reference_step}
+use Rattle.ds_machine.specs.Sound.{IsSound}
+use Rattle.ds_machine.specs.PrivateSides.{nine_side}
 use Rattle.ds_machine.specs.States.{MachineState}
 use Rattle.ds_machine.specs.Steps.{line_of, nine_reach, tick_of}
 

@@ -24,3 +24,9 @@ pub mod Processors
 pub mod Rooms
 pub mod Statuses
 pub mod Stopping
+pub mod StepAnswers
+pub mod Sound
+pub mod Hearing
+pub mod DecodedSteps
+pub mod PrivateSides
+pub mod Halting

@@ -11,7 +11,8 @@ use Rattle.ds_runs.specs.declared.actors.Actor.TheVariants.{Processor}
 use Rattle.ds_machine.specs.Counting.{IsRunning, last_limit}
 use Rattle.ds_machine.specs.Lagging.{observes_by}
 use Rattle.ds_machine.specs.Private.{rank_of}
-use Rattle.ds_machine.specs.Reference.{AreAsleep, keys_due, reference_step}
+use Rattle.ds_machine.specs.Reference.{keys_due, reference_step}
+use Rattle.ds_machine.specs.Sound.{AreAsleep}
 use Rattle.ds_machine.specs.States.{MachineState}
 use Rattle.ds_machine.specs.Steps.{is_blocked, line_of, processor_of}
 use Rattle.ds_machine.specs.TurnSteps.{BelongsToTurn, own_remaining}

@@ -20,8 +20,10 @@ use Rattle.ds_runs.specs.Actors.{actor_of}
 use Rattle.ds_runs.specs.Runs.{Ending, Makes, Runs, due_at}
 use Rattle.ds_timers.specs.Irqs.{IrqState}
 use Rattle.ds_machine.specs.Acting.{acting_dues}
-use Rattle.ds_machine.specs.Reference.{Fences, IsSound, Shown, reference, reference_step}
-use Rattle.ds_machine.specs.Sides.{SideOf, nine_side, seven_side}
+use Rattle.ds_machine.specs.Hearing.{Fences}
+use Rattle.ds_machine.specs.Reference.{Shown, reference, reference_step}
+use Rattle.ds_machine.specs.Sound.{IsSound}
+use Rattle.ds_machine.specs.PrivateSides.{SideOf, nine_side, seven_side}
 use Rattle.ds_machine.specs.States.{MachineState}
 use Rattle.ds_machine.specs.Steps.{is_blocked, line_of, nine_reach, processor_of, seven_reach, tick_of}
 

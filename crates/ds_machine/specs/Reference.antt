@@ -1,27 +1,23 @@
-use Rattle.std.specs.Prelude.{ℕ, ◌≡◌, Bool, true, false, if◌then◌else◌, List, ◌∷◌, map, max, Option, Some, None, Result, Ok, Err, []}
-use Rattle.ds_base.specs.KeyLines.{AreKeyLines}
+use Rattle.std.specs.Prelude.{ℕ, ◌&&◌, not, Bool, if◌then◌else◌, List, [], ◌∷◌, map, max, Option, Some, None, Result, Ok, Err}
 use Rattle.ds_base.specs.declared.keys.KeyLine.{KeyLine}
 use Rattle.ds_base.specs.declared.left_out.LeftOut.{LeftOut}
 use Rattle.ds_base.specs.declared.left_out.Stop.{Stop}
-use Rattle.ds_base.specs.declared.ticks.Due.{Due}
 use Rattle.ds_base.specs.declared.ticks.Tick.{Tick}
 use Rattle.ds_base.specs.declared.processors.Proc.{Proc}
 use Rattle.ds_base.specs.declared.processors.Proc.TheVariants.{Nine}
-use Rattle.ds_ports.specs.Dues.{IsIo, io_due}
-use Rattle.ds_ports.specs.Io.{IoState, geometry_swapped, io_event, is_settled, keys_pressed, stall_ends, tick_after, video_done}
+use Rattle.ds_ports.specs.Dues.{io_due}
+use Rattle.ds_ports.specs.Io.{IoState, geometry_swapped, io_event, keys_pressed, stall_ends, tick_after, video_done}
 use Rattle.ds_runs.specs.Actors.{actors, actor_of}
-use Rattle.ds_runs.specs.Runs.{TickMachine, MachineStep, Makes, Stops, IsLeast}
+use Rattle.ds_runs.specs.Runs.{TickMachine, MachineStep, Makes, Stops}
 use Rattle.ds_runs.specs.declared.actors.Actor as actor
-use Rattle.ds_runs.specs.declared.actors.Actor.TheVariants.{KeyScript, Video, Timer, Geometry, Card, Dma, Processor}
+use Rattle.ds_runs.specs.declared.actors.Actor.TheVariants.{KeyScript, Video, Geometry, Dma, Processor}
 use Rattle.ds_machine.specs.Channels.{channel_step, one_event, stopped_at}
 use Rattle.ds_machine.specs.States.{MachineState, ProcessorState}
-use Rattle.ds_machine.specs.Steps.{ended, is_blocked, processor_of, processor_step, tick_of, wakes, with_io, with_processor}
+use Rattle.ds_machine.specs.Steps.{ended, is_blocked, processor_of, processor_step, tick_of, with_io, with_processor}
 use Rattle.gx_geometry.specs.States.{Swapped}
 use Rattle.video2d.specs.Scans.{scan_due, scan_due_tick, starts_vblank}
 use Rattle.video2d.specs.Videos.{video_answer}
 use Rattle.video2d.specs.declared.videos.Shown as display
-use Rattle.ds_machine.specs.declared.answers.Done.{Done}
-use Rattle.ds_machine.specs.declared.answers.Done.TheVariants.{Made, Frame, Stopped}
 
 -- The reference machine. The card isn't built yet; it is never due.
 
@@ -72,10 +68,10 @@ after_line (line ∷ lines) s = one_event (record (with_io s (keys_pressed s.io 
 abbrev pub after_event : actor.Actor → MachineState → MachineState
 after_event a s = one_event (with_io s (io_event a s.io))
 
--- geometry's: the head command is done, and where that ends a stall ARM9 is due after that tick at the earliest, also while DMA still holds it, or while it is
--- halted: a stall's end wakes none (our choice)
+-- geometry's: the head command is done, and where that ends a stall ARM9 is due after that tick at the earliest, also while DMA still holds it; while it is
+-- halted it isn't due: a stall's end wakes none (our choice)
 abbrev pub past_stall : IoState → ℕ → ℕ
-past_stall u due = if stall_ends u then max due (tick_after u.gx.due due) else due
+past_stall u due = if stall_ends u && not u.nine.halted then max due (tick_after u.gx.due due) else due
 
 abbrev pub after_geometry : MachineState → MachineState
 after_geometry s = with_processor Nine (after_event Geometry s) (record s.nine.processor { due = past_stall s.io s.nine.processor.due })
@@ -115,51 +111,3 @@ reference_step rank s = awake (due_by (actor_of rank) s) (step_by rank (actor_of
 
 abbrev pub reference : TickMachine MachineState Shown LeftOut
 reference = record { dues = dues_of; step = reference_step }
-
--- what a step came to, by what is answered and by the machine afterwards
-abbrev pub stepped_of : MachineState → Done → MachineState → MachineStep MachineState Shown LeftOut
-stepped_of old Made new = Makes new []
-stepped_of old (Frame swapped) new = Makes new (shown_at (scan_due old.io.video.scan) new swapped ∷ [])
-stepped_of old (Stopped left) new = Stops left new
-
--- the actor of a rank took its step
-abbrev pub Steps : ℕ → MachineState → Done → MachineState → Type 0
-Steps rank old done new = reference_step rank old ≡ stepped_of old done new
-
--- this is the least actor, and it is due then
-abbrev pub IsDue : MachineState → Due → Type 0
-IsDue s due = IsLeast (dues_of s) due.tick due.rank
-
--- ---- the states that come up
-
--- at every time: each unit's numbers are those that it can have, and the lines of the script that are to come rise
-pub record HasSoundParts (s : MachineState) : Type 0 where
-  pub io : IsIo s.io
-  pub keys : AreKeyLines s.keys
-
--- no halted processor is to wake
-abbrev pub AreAsleep : MachineState → Type 0
-AreAsleep s = (proc : Proc) → wakes s proc ≡ false
-
--- and unless a step stopped: after each step that is taken those woke that were to, and the units behind the ports are settled
-pub record IsSound (s : MachineState) : Type 0 where
-  pub parts : HasSoundParts s
-  pub asleep : AreAsleep s
-  pub settled : is_settled s.io ≡ true
-
--- ---- whom a processor hears of
-
--- the actors that may halt a processor, or wake it, or make it wait: the key script, the display, its timers, its DMA channels, the card, and geometry for ARM9
--- (our choice; the card isn't built yet)
-abbrev pub Fences : actor.Actor → Proc → Type 0
-Fences KeyScript proc = Unit {0}
-Fences Video proc = Unit {0}
-Fences (Timer each number) proc = each ≡ proc
-Fences (Dma each channel) proc = each ≡ proc
-Fences Card proc = Unit {0}
-Fences Geometry proc = proc ≡ Nine
-Fences a proc = ⊥
-
--- geometry's rank
-abbrev pub geometry_rank : ℕ
-geometry_rank = 12

@@ -18,7 +18,7 @@ use Rattle.ds_runs.specs.declared.actors.Actor.TheVariants.{Dma, Processor}
 use Rattle.gx_fifo.specs.Entries.{most_entries}
 use Rattle.gx_fifo.specs.GxStates.{AreWaiting, gx_written, is_stalled, waiting_entries}
 use Rattle.ds_machine.specs.Reference.{reference_step}
-use Rattle.ds_machine.specs.Sides.{SideOf, nine_side, taken}
+use Rattle.ds_machine.specs.PrivateSides.{SideOf, nine_side, side_taken}
 use Rattle.ds_machine.specs.States.{MachineState}
 use Rattle.ds_machine.specs.Statuses.{left_by}
 use Rattle.ds_machine.specs.Steps.{is_blocked, line_of, map_of, nine_reach, tick_of}
@@ -59,9 +59,9 @@ FindsRoom (Write at width value ∷ rest) r = HasRoom r.map × FindsRoom rest (n
 -- what ARM9 reaches, but for what a move to CP15 changes there
 pub record StepFindsRoom (line : Bool) (s : RegisterState) (r : NineReach) : Type 0 where
   pub accesses : FindsRoom (step_accesses nine_memory nine_side line s r) r
-  pub after : waiting_entries (taken nine_memory nine_side line s r).state.map.io.gx ≤ most_entries
+  pub after : waiting_entries (side_taken nine_memory nine_side line s r).state.map.io.gx ≤ most_entries
   pub made : (let done : Performed NineReach = perform nine_memory r (step_accesses nine_memory nine_side line s r) in
-      (taken nine_memory nine_side line s r).state ≡ record done.state { cp15 = (taken nine_memory nine_side line s r).state.cp15 })
+      (side_taken nine_memory nine_side line s r).state ≡ record done.state { cp15 = (side_taken nine_memory nine_side line s r).state.cp15 })
 
 -- so it is of every instruction and every step of ARM9 that no stall holds
 abbrev pub InstructionsFindRoom : Type 0

@@ -8,7 +8,7 @@ use Rattle.ds_ports.specs.Io.{IoState}
 -- uses and leaves the others alone.
 
 -- a processor: its registers, the tick at which its next step is due, and how many steps it took. While it is blocked, which the units behind the
--- ports tell (it is halted, a DMA channel of it runs, or a stall of geometry holds ARM9), it isn't due
+-- ports tell (it is halted, a DMA channel of it runs, or a stall of geometry holds ARM9), it isn't due; while it is halted that tick is 0
 pub record ProcessorState : Type 0 where
   pub registers : RegisterState
   pub due : ℕ

@@ -13,7 +13,7 @@ use Rattle.ds_map.specs.Views.{NineReach, SevenReach, nine_memory, seven_memory}
 use Rattle.ds_ports.specs.Io.{IoState, io_of, is_held, settled, with_halted}
 use Rattle.ds_timers.specs.Irqs.{line_is_up, shares_bit}
 use Rattle.ds_runs.specs.Runs.{MachineStep, Makes, Stops}
-use Rattle.ds_machine.specs.Sides.{nine_side, seven_side, taken}
+use Rattle.ds_machine.specs.Sides.{nine_step, seven_step, taken}
 use Rattle.ds_machine.specs.States.{MachineState, ProcessorState}
 
 -- A processor's step in the machine.
@@ -95,9 +95,9 @@ pub record StepOutcome : Type 0 where
 
 abbrev pub outcome_of : Proc → Tick → MachineState → StepOutcome
 outcome_of Nine now s =
-    let o = taken nine_memory nine_side (line_of s Nine) s.nine.processor.registers (nine_reach now s) in record { machine = with_nine s o; stepped = o.stepped }
+    let o = taken nine_memory nine_step (line_of s Nine) s.nine.processor.registers (nine_reach now s) in record { machine = with_nine s o; stepped = o.stepped }
 outcome_of Seven now s =
-    let o = taken seven_memory seven_side (line_of s Seven) s.seven.processor.registers (seven_reach now s) in record { machine = with_seven s o; stepped = o.stepped }
+    let o = taken seven_memory seven_step (line_of s Seven) s.seven.processor.registers (seven_reach now s) in record { machine = with_seven s o; stepped = o.stepped }
 
 -- the machine with other units behind the ports
 abbrev pub with_io : MachineState → IoState → MachineState
@@ -107,9 +107,10 @@ with_io s io = record s { io = io }
 abbrev pub with_halt : Proc → MachineState → Bool → MachineState
 with_halt proc s halted = with_io s (with_halted proc s.io halted)
 
--- a processor after a step that costs so many of its clocks; where it is halted now the cost isn't added
+-- A processor after a step that costs so many of its clocks. While it is halted the tick at which its next step is due is 0: it goes on after the tick at which it wakes,
+-- whatever it had before.
 abbrev pub went_on : Proc → ℕ → Bool → ProcessorState → ProcessorState
-went_on proc clocks halted p = record p { due = if halted then p.due else p.due + ticks_per_clock proc * clocks; steps = p.steps + 1 }
+went_on proc clocks halted p = record p { due = if halted then 0 else p.due + ticks_per_clock proc * clocks; steps = p.steps + 1 }
 
 -- the machine by what a processor's step came to
 abbrev pub gone_by : Proc → arm.Stepped → MachineState → MachineState

@@ -6,7 +6,8 @@ use Rattle.ds_runs.specs.Runs.{Ending, IsLeast, Makes, Runs, Stopped, Stops, due
 use Rattle.ds_machine.specs.Acting.{acting_dues}
 use Rattle.ds_machine.specs.Lagging.{ActsApart, CatchesUpFor}
 use Rattle.ds_machine.specs.Private.{IsAhead, rank_of}
-use Rattle.ds_machine.specs.Reference.{IsSound, Shown, dues_of, processor_due, reference, reference_step}
+use Rattle.ds_machine.specs.Reference.{Shown, dues_of, processor_due, reference, reference_step}
+use Rattle.ds_machine.specs.Sound.{IsSound}
 use Rattle.ds_machine.specs.States.{MachineState}
 use Rattle.ds_machine.specs.Steps.{is_blocked, processor_of}
 use Rattle.ds_machine.specs.declared.next_events.First.{First}

@@ -8,7 +8,9 @@ ghost use Rattle.ds_machine.specs.Acting as acting;
 ghost use Rattle.ds_machine.specs.Acting.{is_behind};
 ghost use Rattle.ds_machine.specs.Counting.{last_limit, IsRunning};
 ghost use Rattle.ds_machine.specs.Lagging.{CatchesUp, CatchesUpFor, ComesBeforeAll};
-ghost use Rattle.ds_machine.specs.Reference.{geometry_rank, reference_step, IsSound};
+ghost use Rattle.ds_machine.specs.Hearing.{geometry_rank};
+ghost use Rattle.ds_machine.specs.Reference.{reference_step};
+ghost use Rattle.ds_machine.specs.Sound.{IsSound};
 ghost use Rattle.ds_machine.specs.TurnSteps.{MayAct};
 
 use crate::parts::Parts;

@@ -10,7 +10,8 @@ ghost use Rattle.ds_runs.specs.Runs.{due_at};
 ghost use Rattle.ds_runs.specs.declared.actors.Actor.TheVariants.{Geometry};
 ghost use Rattle.ds_machine.specs.Acting.{IsActing};
 ghost use Rattle.ds_machine.specs.NextEvents.{acting_events_of, events_of};
-ghost use Rattle.ds_machine.specs.Reference.{dues_of, due_by, keys_due, processor_due, IsDue};
+ghost use Rattle.ds_machine.specs.Reference.{dues_of, due_by, keys_due, processor_due};
+ghost use Rattle.ds_machine.specs.StepAnswers.{IsDue};
 
 use crate::parts::Parts;
 use ds_base::{Due, Proc, Tick};

@@ -8,7 +8,8 @@ ghost use Rattle.ds_ports.specs.Dues.{io_due};
 ghost use Rattle.ds_ports.specs.Io.{io_event, io_of, video_done};
 ghost use Rattle.ds_runs.specs.Actors.{IsNumbered};
 ghost use Rattle.ds_machine.specs.Channels.{delayed_past, moved_by, one_event};
-ghost use Rattle.ds_machine.specs.Reference.{after_event, awake, due_by, past_stall, step_by, stepped_of, swapped_if};
+ghost use Rattle.ds_machine.specs.Reference.{after_event, awake, due_by, past_stall, step_by, swapped_if};
+ghost use Rattle.ds_machine.specs.StepAnswers.{stepped_of};
 ghost use Rattle.ds_machine.specs.Steps.{ended, map_of, with_io, with_map, with_processor};
 ghost use Rattle.video2d.specs.Scans.{scan_due};
 ghost use Rattle.video2d.specs.Videos.{video_answer};
@@ -59,7 +60,7 @@ impl Parts {
         self.end_event(tick);
     }
 
-    /// Geometry's head command is done. Where that ends a stall ARM9 is due after this tick at the earliest.
+    /// Geometry's head command is done. Where that ends a stall ARM9, unless it is halted, is due after this tick at the earliest.
     fn finish_command(&mut self, tick: Tick)
         requires due { io_due actors.Geometry self.old.io ≡ Some tick }
         requires early { tick.0 ≤ 2 ^ 56 }
@@ -68,8 +69,8 @@ impl Parts {
     {
         let stalled = self.io.is_stalled();
         self.io.event(Actor::Geometry);
-        if stalled && !self.io.is_stalled() {
-            self.nine.processor.delay_past(tick);
+        if stalled && !self.io.is_stalled() && !self.io.processor(Proc::Nine).is_halted() {
+            self.nine.processor.delay_past(false, tick);
         }
     }
 
@@ -133,14 +134,15 @@ impl Parts {
         }
     }
 
-    /// A processor is due after a tick at the earliest.
+    /// A processor is due after a tick at the earliest, where it isn't halted.
     fn delay_past(&mut self, proc: Proc, tick: Tick)
         requires { tick.0 ≤ 2 ^ 56 }
         ensures { self.new ≡ delayed_past proc tick self.old }
     {
+        let halted = self.io.processor(proc).is_halted();
         match proc {
-            Proc::Nine => self.nine.processor.delay_past(tick),
-            Proc::Seven => self.seven.processor.delay_past(tick),
+            Proc::Nine => self.nine.processor.delay_past(halted, tick),
+            Proc::Seven => self.seven.processor.delay_past(halted, tick),
         }
     }
 

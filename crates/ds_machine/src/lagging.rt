@@ -12,7 +12,7 @@ ghost use Rattle.ds_machine.specs.Lagging.{any_observes, channel_observes, nine_
 ghost use Rattle.ds_machine.specs.Observing.{all_apart, data_apart, is_apart_at, is_observed_at, HasBase};
 ghost use Rattle.ds_machine.specs.Private.{data_accesses};
 ghost use Rattle.ds_machine.specs.Reference.{dues_of, due_by};
-ghost use Rattle.ds_machine.specs.Sides.{nine_side};
+ghost use Rattle.ds_machine.specs.PrivateSides.{nine_side};
 ghost use Rattle.ds_machine.specs.Steps.{nine_reach, tick_of};
 ghost use Rattle.ds_machine.specs.Touching as touching;
 ghost use Rattle.ds_runs.specs.Actors.{actor_of};

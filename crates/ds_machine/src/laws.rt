@@ -3,11 +3,13 @@
 ghost use Rattle.ds_runs.specs.Laws.{RunsJoin, RunsAreOne, RunsExist, RunsEnd};
 ghost use Rattle.ds_machine.specs.Apart.{DisplayLeavesNine, GeometryLeavesNine, LeaveNine, LeaveNineOwn, LeaveSeven};
 ghost use Rattle.ds_machine.specs.Frames.{StepsFollowFrames, StepsFollowLists, StopsLeaveFrames, StopsLeaveLists};
+ghost use Rattle.ds_machine.specs.Halting.{BootsKeepNoMore, RunsKeepNoMore};
 ghost use Rattle.ds_machine.specs.Lagging.{CatchingUpRuns, LagRuns, LagStops};
 ghost use Rattle.ds_machine.specs.OwnSteps.{IsStep7, IsStep9};
 ghost use Rattle.ds_machine.specs.Private.{AheadRuns, AheadSteps};
 ghost use Rattle.ds_machine.specs.TurnSteps.{ActingMayStep, ActingRuns, ActingStops, TurnStepsFall};
-ghost use Rattle.ds_machine.specs.Reference.{reference, HasSoundParts};
+ghost use Rattle.ds_machine.specs.Reference.{reference};
+ghost use Rattle.ds_machine.specs.Sound.{HasSoundParts};
 ghost use Rattle.ds_machine.specs.Counting.{CountsAddUp, LimitsRise, StartsRunning, StepsCount, StepsKeepRunning, StopsCountNone};
 ghost use Rattle.ds_machine.specs.Statuses.{BootsWithStatuses, RunsKeepStatuses, StepsKeepStatuses};
 
@@ -49,6 +51,13 @@ pub fn status_laws()
     ensures boot { BootsWithStatuses }
     ensures step { StepsKeepStatuses }
     ensures run { RunsKeepStatuses }
+{}
+
+/// Does nothing; its contract states that nothing is kept that has no effect, at boot and wherever a run ends: a halted processor has no tick, and what is kept of a stall's end
+/// holds back a channel of ARM9's.
+pub fn kept_laws()
+    ensures boot { BootsKeepNoMore }
+    ensures run { RunsKeepNoMore }
 {}
 
 /// Does nothing; its contract states the laws of a machine that goes on, and how many steps it took. So does one that is at a tick, as at boot it is at 0, and took at most 24 steps

@@ -29,7 +29,7 @@ mod turns;
 pub use answers::{Done, Private, Seen};
 pub use geometry_laws::room_laws;
 pub use laws::{
-    acting_laws, ahead_laws, frame_laws, lag_laws, own_part_laws, own_step_laws,
+    acting_laws, ahead_laws, frame_laws, kept_laws, lag_laws, own_part_laws, own_step_laws,
     own_turn_laws, reference_laws, running_laws, status_laws,
 };
 pub use machines::Machine;

@@ -5,7 +5,7 @@ ghost use Rattle.ds_ports.specs.Io.{is_settled};
 ghost use Rattle.ds_runs.specs.Runs.{IsOver, due_at};
 ghost use Rattle.ds_machine.specs.NextEvents as kept;
 ghost use Rattle.ds_machine.specs.NextEvents.{acting_events_of, least_of, due_at_least, least_kept, limit_by, line_kept, IsNextEvent};
-ghost use Rattle.ds_machine.specs.Reference.{AreAsleep};
+ghost use Rattle.ds_machine.specs.Sound.{AreAsleep};
 ghost use Rattle.ds_machine.specs.Steps.{is_blocked};
 
 use crate::parts::Parts;

@@ -1,10 +1,11 @@
 //! A processor in the machine.
 
-ghost use Rattle.std.specs.Prelude.{◌≡◌, ◌≤◌, ◌+◌, ◌^◌, max};
+ghost use Rattle.std.specs.Prelude.{◌≡◌, ◌≤◌, ◌^◌};
 ghost use Rattle.arm_core.specs.Cores as cores;
 ghost use Rattle.ds_base.specs.Processors.{architecture_of};
 ghost use Rattle.ds_header.specs.Fields.{image_entry};
 ghost use Rattle.ds_machine.specs.Booted.{stacks_of};
+ghost use Rattle.ds_machine.specs.Channels.{past_tick};
 ghost use Rattle.ds_machine.specs.Processors.{state_of};
 ghost use Rattle.ds_machine.specs.Steps.{went_on};
 
@@ -12,7 +13,7 @@ use arm_core::Core;
 use ds_base::{Proc, Tick};
 use ds_header::Cart;
 
-/// A processor: the tick at which its next step is due, its core, and how many steps it took. (The two numbers don't lie side by side: each step changes both, and they would be
+/// A processor: the tick at which its next step is due, which is 0 while it is halted, its core, and how many steps it took. (The two numbers don't lie side by side: each step changes both, and they would be
 /// brought together and taken apart again.)
 #[derive(Drop)]
 pub struct Processor {
@@ -46,7 +47,7 @@ impl Processor {
         }
     }
 
-    /// Took a step that costs so many of its clocks; where it is halted now the cost isn't added.
+    /// Took a step that costs so many of its clocks; where it is halted now it has no tick at which it is due.
     #[inline(always)]
     pub fn go_on(&mut self, proc: Proc, clocks: u32, halted: bool)
         requires early { self.old.due ≤ 2 ^ 56 }
@@ -54,18 +55,20 @@ impl Processor {
         ensures state { state_of self.new ≡ went_on proc clocks halted (state_of self.old) }
         ensures core { self.new.core ≡ self.old.core }
     {
-        if !halted {
+        if halted {
+            self.due = 0;
+        } else {
             self.due += proc.ticks_per_clock() * clocks as u64;
         }
         self.steps += 1;
     }
 
-    /// It is due after a tick at the earliest.
-    pub fn delay_past(&mut self, tick: Tick)
+    /// It is due after a tick at the earliest, where it isn't halted.
+    pub fn delay_past(&mut self, halted: bool, tick: Tick)
         requires { tick.0 ≤ 2 ^ 56 }
-        ensures state { state_of self.new ≡ record (state_of self.old) { due = max self.old.due (tick.0 + 1) } }
+        ensures state { state_of self.new ≡ past_tick halted tick (state_of self.old) }
         ensures core { self.new.core ≡ self.old.core }
     {
-        self.due = self.due.max(tick.0 + 1);
+        self.due = if halted { 0 } else { self.due.max(tick.0 + 1) };
     }
 }

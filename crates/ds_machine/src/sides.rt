@@ -13,8 +13,9 @@ ghost use Rattle.ds_places.specs.AddressTables.{place_of};
 ghost use Rattle.ds_map.specs.Maps.{MemoriesState};
 ghost use Rattle.ds_map.specs.Shares.{is_private_place};
 ghost use Rattle.ds_machine.specs.QuietPorts.{is_quiet_port};
-ghost use Rattle.ds_machine.specs.Sides as sides;
-ghost use Rattle.ds_machine.specs.Sides.{is_private_tcm, operation_outcome, RunsAs, SideOf};
+ghost use Rattle.ds_machine.specs.PrivateSides as sides;
+ghost use Rattle.ds_machine.specs.DecodedSteps.{operation_outcome, RunsAs};
+ghost use Rattle.ds_machine.specs.PrivateSides.{is_private_tcm, SideOf};
 ghost use Rattle.ds_machine.specs.Touching.{GoesByWords};
 
 use crate::quiet_ports::QuietPorts;
@@ -152,7 +153,7 @@ impl Side for NineView<'_> {
     ghost use Rattle.ds_base.specs.declared.processors.Proc.TheVariants.{Nine};
     ghost use Rattle.ds_map.specs.Maps.{map_seen, unreached};
     ghost use Rattle.ds_map.specs.Views.{NineReach, nine_memory};
-    ghost use Rattle.ds_machine.specs.Sides.{nine_side};
+    ghost use Rattle.ds_machine.specs.PrivateSides.{nine_side};
 
     ghost State = { NineReach };
 
@@ -222,7 +223,7 @@ impl Side for SevenView<'_> {
     ghost use Rattle.ds_base.specs.declared.processors.Proc.TheVariants.{Seven};
     ghost use Rattle.ds_map.specs.Maps.{map_seen, unreached};
     ghost use Rattle.ds_map.specs.Views.{SevenReach, seven_memory};
-    ghost use Rattle.ds_machine.specs.Sides.{seven_side};
+    ghost use Rattle.ds_machine.specs.PrivateSides.{seven_side};
 
     ghost State = { SevenReach };
 

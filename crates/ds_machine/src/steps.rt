@@ -8,7 +8,7 @@ ghost use Rattle.arm_ops.specs.Operations.{is_other, operation_of, HasOperation}
 ghost use Rattle.arm_words.specs.Fields.{HasFields};
 ghost use Rattle.arm_words.specs.ThumbTable.{decoded_thumb};
 ghost use Rattle.arm_ops.specs.Meanings.{access_made};
-ghost use Rattle.ds_machine.specs.Sides.{taken};
+ghost use Rattle.ds_machine.specs.PrivateSides.{side_taken};
 ghost use Rattle.ds_machine.specs.Touching.{access_stays, stores, DataIsNear, DataStays, GoesByWords};
 
 use crate::sides::Side;
@@ -69,9 +69,9 @@ fn next_decoded<V: Side>(s: &Registers, view: &V) -> Fetched
 #[inline(never)]
 fn take_other<V: Side>(s: &mut Registers, view: &mut V, line: bool) -> Stepped
     requires { enters line s.old ≡ false }
-    ensures registers { s.new ≡ (taken V.memory V.side line s.old (V.state view.old)).registers }
-    ensures state { V.state view.new ≡ (taken V.memory V.side line s.old (V.state view.old)).state }
-    ensures stepped { result ≡ (taken V.memory V.side line s.old (V.state view.old)).stepped }
+    ensures registers { s.new ≡ (side_taken V.memory V.side line s.old (V.state view.old)).registers }
+    ensures state { V.state view.new ≡ (side_taken V.memory V.side line s.old (V.state view.old)).state }
+    ensures stepped { result ≡ (side_taken V.memory V.side line s.old (V.state view.old)).stepped }
     ensures same { V.identity view.new ≡ V.identity view.old }
 {
     let _ = line;
@@ -86,9 +86,9 @@ fn take_operation<V: Side>(s: &mut Registers, view: &mut V, line: bool, next: &O
     requires operation { next.now ≡ operation_of (fetched V.memory V.side.arch s.old (V.state view.old)).instr }
     requires fields { HasOperation next.now }
     requires known { is_other next.now.op ≡ false }
-    ensures registers { s.new ≡ (taken V.memory V.side line s.old (V.state view.old)).registers }
-    ensures state { V.state view.new ≡ (taken V.memory V.side line s.old (V.state view.old)).state }
-    ensures stepped { result ≡ (taken V.memory V.side line s.old (V.state view.old)).stepped }
+    ensures registers { s.new ≡ (side_taken V.memory V.side line s.old (V.state view.old)).registers }
+    ensures state { V.state view.new ≡ (side_taken V.memory V.side line s.old (V.state view.old)).state }
+    ensures stepped { result ≡ (side_taken V.memory V.side line s.old (V.state view.old)).stepped }
     ensures same { V.identity view.new ≡ V.identity view.old }
 {
     let _ = line;
@@ -106,9 +106,9 @@ pub fn take<V: Side, const VERSION: u32>(
     line: bool,
 ) -> Stepped
     requires version { arch_of VERSION ≡ V.side.arch }
-    ensures registers { s.new ≡ (taken V.memory V.side line s.old (V.state view.old)).registers }
-    ensures state { V.state view.new ≡ (taken V.memory V.side line s.old (V.state view.old)).state }
-    ensures stepped { result ≡ (taken V.memory V.side line s.old (V.state view.old)).stepped }
+    ensures registers { s.new ≡ (side_taken V.memory V.side line s.old (V.state view.old)).registers }
+    ensures state { V.state view.new ≡ (side_taken V.memory V.side line s.old (V.state view.old)).state }
+    ensures stepped { result ≡ (side_taken V.memory V.side line s.old (V.state view.old)).stepped }
     ensures same { V.identity view.new ≡ V.identity view.old }
 {
     let entered = enters(s, line);
@@ -170,9 +170,9 @@ pub fn take_fast<V: Side, const VERSION: u32>(
 ) -> Fast
     requires version { arch_of VERSION ≡ V.side.arch }
     ensures none { result.clocks ≡ 0 → (s.new ≡ s.old) × (V.state view.new ≡ V.state view.old) }
-    ensures registers { 0 < result.clocks → s.new ≡ (taken V.memory V.side line s.old (V.state view.old)).registers }
-    ensures state { 0 < result.clocks → V.state view.new ≡ (taken V.memory V.side line s.old (V.state view.old)).state }
-    ensures stepped { 0 < result.clocks → (taken V.memory V.side line s.old (V.state view.old)).stepped ≡ Cost result.clocks }
+    ensures registers { 0 < result.clocks → s.new ≡ (side_taken V.memory V.side line s.old (V.state view.old)).registers }
+    ensures state { 0 < result.clocks → V.state view.new ≡ (side_taken V.memory V.side line s.old (V.state view.old)).state }
+    ensures stepped { 0 < result.clocks → (side_taken V.memory V.side line s.old (V.state view.old)).stepped ≡ Cost result.clocks }
     ensures stays { ahead ≡ true → 0 < result.clocks → DataStays V.memory V.side s.old (V.state view.old) }
     ensures leaves { result.leaves ≡ true → DataStays V.memory V.side s.old (V.state view.old) → ⊥ }
     ensures left { result.leaves ≡ true → (result.clocks ≡ 0) × (ahead ≡ true) }

@@ -9,7 +9,7 @@ use Rattle.ds_base.specs.declared.ticks.Tick.{Tick}
 use Rattle.ds_places.specs.AddressTables.{place_of}
 use Rattle.ds_places.specs.declared.kinds.Place.{Place}
 use Rattle.ds_places.specs.declared.kinds.Place.TheVariants as place
-use Rattle.ds_ports.specs.Dues.{Goes, IsProcessorIo, IsQuiet}
+use Rattle.ds_ports.specs.Happenings.{Goes, IsProcessorIo, IsQuiet}
 use Rattle.ds_ports.specs.Ports.{port_refusal, port_written, unless_stopped}
 use Rattle.ds_ports.specs.Io.{IoState, io_of}
 use Rattle.ds_ports.proofs.Later.{AreUnchanged, all_unchanged, goes_nowhere, leaves_all, unchanged_goes, port_unchanged, write_goes}

@@ -19,7 +19,8 @@ use Rattle.ds_runs.specs.declared.actors.Actor.TheVariants.{KeyScript, Video, Ti
 use Rattle.ds_timers.specs.Timing.{TimerState, overflow_of, timer_at, timer_due}
 use Rattle.ds_timers.proofs.Four.{one_reschedules}
 use Rattle.ds_timers.proofs.Overflowed.{overflow_keeps, overflow_schedules}
-use Rattle.ds_ports.specs.Dues.{IsIo, IsUnchanged, IsProcessorIo, ReschedulesEach, held_due, io_due}
+use Rattle.ds_ports.specs.Dues.{held_due, io_due}
+use Rattle.ds_ports.specs.Happenings.{IsIo, IsUnchanged, IsProcessorIo, ReschedulesEach}
 use Rattle.ds_ports.proofs.HeldDues.{held_reschedules}
 use Rattle.ds_ports.specs.ProcessorIo.{ProcessorIoState, blocks_processor, processor_io_moved, processor_io_raised, processor_io_triggered}
 use Rattle.ds_ports.specs.Io.{IoState, both_raised, channel_moved, channels_shown, channels_triggered, division_done, io_event, io_of, keys_pressed, root_done, shown_to_others, timer_overflows, video_done, with_io_of}

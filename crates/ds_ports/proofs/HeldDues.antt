@@ -92,3 +92,8 @@ stall_begins now true true released d h = inl refl
 stall_begins now true false released d h = absurd (true≢false (sym (h refl)))
 stall_begins now false true released d h = inr tt
 stall_begins now false false released d h = inl refl
+
+-- where nothing is kept of a stall's end, there is nothing to keep
+pub none_kept : (b : Bool) (released : ℕ) → released ≡ 0 → (if b then released else 0) ≡ 0
+none_kept true released e = e
+none_kept false released e = refl

@@ -24,7 +24,8 @@ use Rattle.ds_timers.specs.Timing.{TimerState, AreTimers, control_set, kept_cont
 use Rattle.ds_timers.proofs.Changed.{control_schedules, control_set_is, reload_leaves, reload_set_is}
 use Rattle.ds_timers.proofs.Four.{one_reschedules}
 use Rattle.gx_fifo.specs.GxStates.{AreWaiting, GxState, is_stalled}
-use Rattle.ds_ports.specs.Dues.{IsIo, IsTold, Goes, LeavesGeometry, IsUnchanged, IsProcessorIo, IsQuiet, ReschedulesEach, io_due}
+use Rattle.ds_ports.specs.Dues.{io_due}
+use Rattle.ds_ports.specs.Happenings.{IsIo, IsTold, Goes, LeavesGeometry, IsUnchanged, IsProcessorIo, IsQuiet, ReschedulesEach}
 use Rattle.ds_ports.specs.ProcessorIo.{ProcessorIoState, dma_written, haltcnt_written, kept_keycnt, keycnt_written, keys_hold, keys_told, processor_io_raised}
 use Rattle.ds_ports.specs.Ports.{byte_written, half_written, ignores, port_read, port_refusal, port_written, read_unchanged, slot_joined, slot_written, unless_stopped, whole_if, whole_in, word_written, written_or}
 use Rattle.ds_ports.specs.RegisterMap.{IsSlot, slot_of}

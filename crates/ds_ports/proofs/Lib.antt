@@ -20,3 +20,4 @@ pub mod Covered
 pub mod Shares
 pub mod GxApart
 pub mod Arms
+pub mod OwnWrites

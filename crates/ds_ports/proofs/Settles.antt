@@ -1,4 +1,4 @@
-use Rattle.std.proofs.Common.{ℕ, ◌≡◌, ◌≤◌, ◌+◌, ◌==◌, nat_lt, inl, inr, Bool, true, false, true≢false, if◌then◌else◌, bit_and, bit_or, length, Option, Some, None, refl, sym, ◌∙◌, ap, arith}
+use Rattle.std.proofs.Common.{ℕ, ◌≡◌, ◌≤◌, ◌+◌, ◌==◌, nat_lt, inl, inr, Bool, true, false, true≢false, if◌then◌else◌, bit_and, bit_or, length, max, Option, Some, None, refl, sym, ◌∙◌, ap, subst, arith}
 use Rattle.std.specs.Prelude.{◌&&◌, ◌||◌, not}
 use Rattle.std.specs.Int.{bit_not, w32}
 use Rattle.std.proofs.Math.Nat.{le-max_left}
@@ -8,8 +8,10 @@ use Rattle.ds_base.specs.Schedules.{IsLater, Reschedules}
 use Rattle.ds_base.specs.declared.processors.Proc.{Proc}
 use Rattle.ds_base.specs.declared.processors.Proc.TheVariants.{Nine, Seven}
 use Rattle.ds_base.specs.declared.ticks.Tick.{Tick}
-use Rattle.ds_dma.specs.States.{DmaState, any_runs, awaits_geometry, channel_due}
+use Rattle.ds_dma.specs.Channels.{ready}
+use Rattle.ds_dma.specs.States.{DmaState, any_runs, awaits_geometry, channel_at, channel_due, dma_due, due_with, least_running}
 use Rattle.ds_dma.specs.declared.controls.Cause.TheVariants as causes
+use Rattle.ds_dma.specs.declared.dma.DmaDue.{DmaDue}
 use Rattle.ds_dma.proofs.Turns.{event_schedules}
 use Rattle.ds_dma.proofs.Wholes.{awaits_no_more, awaits_none, dma_triggered_is, event_runs}
 use Rattle.ds_runs.specs.declared.actors.Actor.TheVariants.{Timer, Geometry, Dma}
@@ -19,10 +21,12 @@ use Rattle.gx_fifo.specs.Entries.{complete_command, entries_taken}
 use Rattle.gx_fifo.specs.GxStates.{AddsOneVertex, AreWaiting, GxState, done_by, gx_finished, gx_level, gx_swapped, is_half_empty, is_stalled}
 use Rattle.gx_fifo.proofs.Laws.{finished_later, finished_run, finished_waiting, swapped_schedules, swapped_waiting}
 use Rattle.vram_banks.specs.Cells.{Banks}
-use Rattle.ds_ports.specs.Dues.{IsIo, IsUnchanged, ReschedulesEach, held_due, released_at}
+use Rattle.ds_ports.specs.Dues.{held_due, io_due, released_at}
+use Rattle.ds_ports.specs.Happenings.{IsIo, IsUnchanged, ReschedulesEach}
 use Rattle.ds_ports.specs.ProcessorIo.{blocks_processor, processor_io_triggered}
-use Rattle.ds_ports.specs.Io.{IoState, geometry_done, geometry_swapped, geometry_triggered, io_of, is_held, is_settled, level_told, settled, stall_ends, tick_after, with_halted}
+use Rattle.ds_ports.specs.Io.{IoState, geometry_done, geometry_swapped, geometry_triggered, comes_before, io_of, is_held, is_settled, level_told, release_kept, release_of, settled, stall_ends, tick_after, with_halted}
 use Rattle.ds_ports.proofs.Later.{ProcessorIoReschedules, processor_io_each, unchanged_same}
+use Rattle.ds_ports.proofs.HeldDues.{none_kept}
 use Rattle.ds_ports.proofs.Events.{Happens, happens_by, happens_on, own_is, unchanged_happens}
 
 -- What geometry makes of the units: its head command is done, a swap is made, and the units settle after a step.
@@ -159,10 +163,60 @@ triggered_happens now u all = go (is_half_empty u.gx) where
   go true = nine_happens now u all
   go false = nothing_happens now u all
 
+equal_is : (x y : ℕ) → (x == y) ≡ true → x ≡ y
+equal_is x y h = grind (arith, h)
+
+-- what a stall left is kept only where it holds back the channel that is due: no due tick changes
+kept_tick : (released : ℕ) (which : ℕ) (d : Option Tick) → released_at (if comes_before (due_with which d) released then released else 0) d ≡ released_at released d
+kept_tick released which None = refl
+kept_tick released which (Some tick) = go (nat_lt tick.0 released) refl where
+  go : (b : Bool) → nat_lt tick.0 released ≡ b → released_at (if b then released else 0) (Some tick) ≡ released_at released (Some tick)
+  go true e = refl
+  go false e = (let same : max 0 tick.0 ≡ max released tick.0 = grind (arith, e) in ap (λ (t : ℕ). (let at : Option Tick = Some (record { 0 = t }) in at)) same)
+
+kept_due : (stalled : Bool) (released which channel : ℕ) (f : ℕ → Option Tick) (same : Bool) → (channel == which) ≡ same
+    → held_due stalled (if comes_before (due_with which (f which)) released then released else 0) (if same then f channel else None)
+    ≡ held_due stalled released (if same then f channel else None)
+kept_due true released which channel f same e = refl
+kept_due false released which channel f false e = refl
+kept_due false released which channel f true e =
+    let P : ℕ → Type 0 = λ x. released_at (if comes_before (due_with which (f which)) released then released else 0) (f x) ≡ released_at released (f x) in
+    subst P (sym (equal_is channel which e)) (kept_tick released which (f which))
+
+pub kept_same : (u : IoState) (channel : ℕ) → io_due (Dma Nine channel) (release_kept u) ≡ io_due (Dma Nine channel) u
+kept_same u channel =
+    let least = least_running u.nine.dma.channels in
+    kept_due (is_stalled u.gx) u.released least channel (λ which. ready u.nine.dma.last (channel_at u.nine.dma.channels which)) (channel == least) refl
+
+kept_each : (now : Tick) (u : IoState) → ReschedulesEach now u (release_kept u)
+kept_each now u (Timer Nine number) l = inl refl
+kept_each now u (Timer Seven number) l = inl refl
+kept_each now u (Dma Nine channel) l = inl (kept_same u channel)
+kept_each now u (Dma Seven channel) l = inl refl
+kept_each now u _ l = inl refl
+
+kept_happens : (now : Tick) (u : IoState) → IsIo u → Happens now u (release_kept u)
+kept_happens now u all = record {
+  io = record { nine = all.nine; seven = all.seven; gx = all.gx };
+  dues = kept_each now u;
+  halted = halted;
+  blocked = blocked;
+  stall = λ h. h;
+} where
+  halted : (proc : Proc) → (io_of (release_kept u) proc).halted ≡ (io_of u proc).halted
+  halted Nine = refl
+  halted Seven = refl
+
+  blocked : (proc : Proc) → blocks_processor (io_of u proc) ≡ true → blocks_processor (io_of (release_kept u) proc) ≡ true
+  blocked Nine h = h
+  blocked Seven h = h
+
 pub settled_happens : (now : Tick) (u : IoState) → IsIo u → Happens now u (settled now u)
 settled_happens now u all =
     let told = told_happens now u all in
-    happens_on now u (level_told u) (settled now u) told (triggered_happens now (level_told u) told.io)
+    let triggered = triggered_happens now (level_told u) told.io in
+    happens_on now u (level_told u) (settled now u) told
+    (happens_on now (level_told u) (geometry_triggered now (level_told u)) (settled now u) triggered (kept_happens now (geometry_triggered now (level_told u)) triggered.io))
 
 -- ---- where they are settled they stay, and after it they are settled
 
@@ -175,9 +229,6 @@ and_twice x y = same_from_bits (bit_and (bit_and x y) y) (bit_and x y) (λ i. le
 levelled_twice : (s : IrqState) (on : Bool) → (irq_levelled (irq_levelled s on) on).if_ ≡ (irq_levelled s on).if_
 levelled_twice s true = or_twice s.if_ level
 levelled_twice s false = and_twice s.if_ (bit_not w32 level)
-
-equal_is : (x y : ℕ) → (x == y) ≡ true → x ≡ y
-equal_is x y h = grind (arith, h)
 
 is_equal : (x y : ℕ) → x ≡ y → (x == y) ≡ true
 is_equal x y h = grind (arith, h)
@@ -207,20 +258,40 @@ triggered_stays now u all none = go (is_half_empty u.gx) none where
   go true h = ap (λ (dma : DmaState). record u { nine = record u.nine { dma = dma } }) (awaits_none u.nine.dma now all.nine.dma.four (waits _ h))
   go false h = refl
 
+kept_stays : (u : IoState) → release_of u ≡ u.released → release_kept u ≡ u
+kept_stays u e = ap (λ (tick : ℕ). record u { released = tick }) e
+
 pub settled_stays : (now : Tick) (u : IoState) → IsIo u → is_settled u ≡ true → settled now u ≡ u
 settled_stays now u all h =
     let parts = two _ _ h in
-    ap (geometry_triggered now) (told_stays u (equal_is _ _ parts.0)) ∙ triggered_stays now u all parts.1
+    let rest = two _ _ parts.1 in
+    ap (λ (x : IoState). release_kept (geometry_triggered now x)) (told_stays u (equal_is _ _ parts.0)) ∙ ap release_kept (triggered_stays now u all rest.0)
+    ∙ kept_stays u (equal_is _ _ rest.1)
+
+-- what is kept once is kept
+kept_again : (due : Option DmaDue) (released : ℕ) (b : Bool) → comes_before due released ≡ b
+    → (if comes_before due (if b then released else 0) then (if b then released else 0) else 0) ≡ (if b then released else 0)
+kept_again due released true e = ap (λ (b : Bool). if b then released else 0) e
+kept_again due released false e = none_kept (comes_before due 0) 0 refl
+
+pub kept_twice : (u : IoState) → release_of (release_kept u) ≡ release_of u
+kept_twice u = kept_again (dma_due u.nine.dma) u.released (comes_before (dma_due u.nine.dma) u.released) refl
 
 pub settles : (now : Tick) (u : IoState) → IsIo u → is_settled (settled now u) ≡ true
 settles now u all = go (is_half_empty u.gx) refl where
   told : ((irq_levelled (level_told u).nine.irq (gx_level u.gx)).if_ == (level_told u).nine.irq.if_) ≡ true
   told = is_equal _ _ (levelled_twice u.nine.irq (gx_level u.gx))
 
+  kept : (v : IoState) → (release_of (release_kept v) == (release_kept v).released) ≡ true
+  kept v = is_equal _ _ (kept_twice v)
+
   go : (b : Bool) → is_half_empty u.gx ≡ b
-      → is_settled (if b then record (level_told u) { nine = processor_io_triggered (level_told u).nine causes.Geometry now } else level_told u) ≡ true
-  go true e = both_true _ _ told (no_more (is_half_empty u.gx) _ (awaits_no_more u.nine.dma now all.nine.dma.four))
-  go false e = both_true _ _ told (rw e refl)
+      → is_settled (release_kept (if b then record (level_told u) { nine = processor_io_triggered (level_told u).nine causes.Geometry now } else level_told u)) ≡ true
+  go true e =
+      both_true _ _ told
+      (both_true _ _ (no_more (is_half_empty u.gx) _ (awaits_no_more u.nine.dma now all.nine.dma.four))
+      (kept (record (level_told u) { nine = processor_io_triggered (level_told u).nine causes.Geometry now })))
+  go false e = both_true _ _ told (both_true _ _ (rw e refl) (kept (level_told u)))
 
 -- a halt, and its end, leave this as it is
 pub halt_settled : (proc : Proc) (u : IoState) (halted : Bool) → is_settled (with_halted proc u halted) ≡ is_settled u

@@ -7,7 +7,7 @@ use Rattle.ds_dma.specs.declared.controls.Cause.TheVariants as causes
 use Rattle.ds_runs.specs.declared.actors.Actor as actor
 use Rattle.ds_runs.specs.declared.actors.Actor.TheVariants.{Timer, Dma}
 use Rattle.ds_ports.specs.Dues.{io_due}
-use Rattle.ds_ports.specs.Io.{IoState, channel_moved, channel_put_back, io_event, is_held, is_settled, keys_pressed, level_told, settled, with_halted, with_shares}
+use Rattle.ds_ports.specs.Io.{IoState, channel_moved, channel_put_back, io_event, is_held, is_settled, keys_pressed, level_told, release_kept, settled, with_halted, with_shares}
 use Rattle.ds_ports.specs.Ports.{port_read, port_refusal, port_value, port_written}
 use Rattle.ds_ports.specs.ProcessorIo.{BeforeMove, processor_io_triggered}
 use Rattle.ds_ports.specs.Registers.{after_write, meaning_of}
@@ -109,7 +109,7 @@ module _ (vram : Banks) (w : ℕ) where
   pub settled_shares : (tick : Tick) (u : IoState) → settled tick (with_shares vram w u) ≡ with_shares vram w (settled tick u)
   settled_shares tick u =
       let told = level_told u in
-      chosen (λ (x : IoState). with_shares vram w x) (is_half_empty u.gx) (record told { nine = processor_io_triggered told.nine causes.Geometry tick }) told
+      ap release_kept (chosen (λ (x : IoState). with_shares vram w x) (is_half_empty u.gx) (record told { nine = processor_io_triggered told.nine causes.Geometry tick }) told)
 
   pub moved_shares : (proc : Proc) (now : Tick) (u : IoState) → channel_moved proc now (with_shares vram w u) ≡ with_shares vram w (channel_moved proc now u)
   moved_shares Nine now u = refl

@@ -10,7 +10,7 @@ use Rattle.ds_base.specs.declared.processors.Raised.{Raised}
 use Rattle.ds_ipc.specs.Ipcs.{IpcState, ipc_control_raised, ipc_receive_raised, ipc_send_raised, ipc_sync_raised, other_proc, raised_at, side_of}
 use Rattle.ds_ipc.specs.Sides.{clear_empties, control_raised, enable_rises_on_empty, enable_rises_on_filled, is_empty, raised_if, receive_empties, receive_raised, send_raised, sync_raised}
 use Rattle.ds_timers.specs.Irqs.{IrqState, events, irq_raised}
-use Rattle.ds_ports.specs.Dues.{IsTold, ipc_bits}
+use Rattle.ds_ports.specs.Happenings.{IsTold, ipc_bits}
 
 -- What one processor tells the other by the IPC interrupts.
 

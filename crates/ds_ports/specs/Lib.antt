@@ -7,3 +7,4 @@ pub mod Ports
 pub mod RegisterMap
 pub mod Registers
 pub mod Io
+pub mod Happenings

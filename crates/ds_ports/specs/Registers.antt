@@ -29,13 +29,6 @@ use Rattle.vram_banks.specs.Cells.{allotted_of}
 
 -- What each register is, a paragraph each, in the order of GBATEK's list ("DS I/O Maps").
 
--- what a write of all its bytes changes, for a processor at a tick: nothing; what the processor has of its own, by the keys that are pressed; or
--- the units. Then come the register's number, of those of its name, and the word that is written.
-pub data Write : Type 0 where
-  ignored : Write
-  of_processor : (Proc → Tick → ℕ → ProcessorIoState → ℕ → ℕ → ProcessorIoState) → Write
-  of_io : (Proc → Tick → IoState → ℕ → ℕ → IoState) → Write
-
 pub record Meaning : Type 0 where
   -- how many there are of its name, told apart by a number from 0 on
   pub count : ℕ
@@ -47,8 +40,8 @@ pub record Meaning : Type 0 where
   pub kept : Proc → IoState → ℕ → ℕ
   -- what a read of the whole of it leaves
   pub after_read : Proc → IoState → IoState
-  -- what a write of all its bytes leaves
-  pub written : Write
+  -- what a write of all its bytes leaves, for a processor at a tick, by the register's number, of those of its name, and the word that is written
+  pub written : Proc → Tick → IoState → ℕ → ℕ → IoState
   -- the stop for which such a write is refused, if it is
   pub refusal : Proc → IoState → ℕ → ℕ → Option Stop
 
@@ -62,7 +55,7 @@ idle = record {
   value = λ proc now u n. 0;
   kept = λ proc u n. 0;
   after_read = λ proc u. u;
-  written = ignored;
+  written = λ proc now u n word. u;
   refusal = λ proc u n word. None;
 }
 
@@ -72,16 +65,20 @@ read_only value = record idle { value = λ proc now u n. value u }
 
 -- one that is written alone
 abbrev pub write_only : (Proc → Tick → IoState → ℕ → ℕ → IoState) → Meaning
-write_only written = record idle { written = of_io written }
+write_only written = record idle { written = written }
 
 -- one that reads what it keeps
 abbrev pub plain : (IoState → ℕ → ℕ) → (IoState → Tick → ℕ → ℕ → IoState) → Meaning
-plain kept written = record idle { value = λ proc now u n. kept u n; kept = λ proc u n. kept u n; written = of_io (λ proc now u n word. written u now n word) }
+plain kept written = record idle { value = λ proc now u n. kept u n; kept = λ proc u n. kept u n; written = λ proc now u n word. written u now n word }
+
+-- a write that changes what the processor has of its own, by the keys that are pressed
+abbrev pub on_own : (Proc → Tick → ℕ → ProcessorIoState → ℕ → ℕ → ProcessorIoState) → Proc → Tick → IoState → ℕ → ℕ → IoState
+on_own written proc now u n word = with_io_of proc u (written proc now u.pressed (io_of u proc) n word)
 
 -- such a one of what each processor has of its own
 abbrev pub plain_of_processor : (ProcessorIoState → ℕ → ℕ) → (Proc → Tick → ℕ → ProcessorIoState → ℕ → ℕ → ProcessorIoState) → Meaning
 plain_of_processor kept written =
-    record idle { value = λ proc now u n. kept (io_of u proc) n; kept = λ proc u n. kept (io_of u proc) n; written = of_processor written }
+    record idle { value = λ proc now u n. kept (io_of u proc) n; kept = λ proc u n. kept (io_of u proc) n; written = on_own written }
 
 -- ---- what they are made from
 
@@ -152,7 +149,7 @@ display_register width = record idle {
   count = 0x1070;
   value = λ proc now u n. value_by width (video_byte proc u.video) n;
   kept = λ proc u n. value_by width (kept_byte proc u.video) n;
-  written = of_io (λ proc now u n word. record u { video = video_written proc u.video n width word });
+  written = λ proc now u n word. record u { video = video_written proc u.video n width word };
 }
 
 -- one of geometry's, of which the number is the offset of its first byte: what it reads, what it keeps, and what a write leaves, are told where geometry
@@ -171,7 +168,7 @@ gx_register takes_words = record idle {
   takes_words = takes_words;
   value = λ proc now u n. gx_word u.gx n;
   kept = λ proc u n. gx_kept u.gx n;
-  written = of_io gx_set;
+  written = gx_set;
 }
 
 -- ---- the registers
@@ -201,13 +198,13 @@ meaning_of Extkeyin = read_only (λ u. extkeyin_word u.pressed)
 meaning_of Ipcsync = record idle {
   value = λ proc now u n. ipc_sync_word u.ipc proc;
   kept = λ proc u n. sync_kept (side_of u.ipc proc);
-  written = of_io (λ proc now u n word. sync_set proc u (word % 2 ^ 16));
+  written = λ proc now u n word. sync_set proc u (word % 2 ^ 16);
 }
 -- IPCFIFOCNT (the same chapter)
 meaning_of Ipcfifocnt = record idle {
   value = λ proc now u n. ipc_control_word u.ipc proc;
   kept = λ proc u n. control_kept (side_of u.ipc proc);
-  written = of_io (λ proc now u n word. fifo_control_set proc u (word % 2 ^ 16));
+  written = λ proc now u n word. fifo_control_set proc u (word % 2 ^ 16);
 }
 -- IPCFIFOSEND (the same chapter)
 meaning_of Ipcfifosend = record (write_only (λ proc now u n word. word_sent proc u word)) { takes_words = true }
@@ -226,7 +223,7 @@ meaning_of Ime = plain_of_processor (λ processor_io n. flag 0 processor_io.irq.
 meaning_of Ie = plain_of_processor (λ processor_io n. processor_io.irq.ie) (λ proc now pressed processor_io n word. ie_written proc processor_io word)
 meaning_of If = record idle {
   value = λ proc now u n. (io_of u proc).irq.if_;
-  written = of_processor (λ proc now pressed processor_io n word. if_written processor_io word);
+  written = on_own (λ proc now pressed processor_io n word. if_written processor_io word);
 }
 -- VRAMCNT_A to VRAMCNT_I (GBATEK, "DS Memory Control - VRAM")
 meaning_of Vramcnt = record (write_only (λ proc now u n word. bank_set u n (word % 2 ^ 8))) { count = 9 }
@@ -240,7 +237,7 @@ meaning_of Wramstat = read_only (λ u. u.wramcnt)
 meaning_of Divcnt = record idle {
   value = λ proc now u n. divcnt_word u.divider;
   kept = λ proc u n. u.divider.mode;
-  written = of_io (λ proc now u n word. division_set u now (word % 2 ^ 2) u.divider.numerator u.divider.denominator);
+  written = λ proc now u n word. division_set u now (word % 2 ^ 2) u.divider.numerator u.divider.denominator;
 }
 meaning_of DivNumer = record (plain (λ u n. word_of_two n u.divider.numerator)
     (λ u now n word. division_set u now u.divider.mode (with_word_of_two n u.divider.numerator word) u.divider.denominator)) { count = 2 }
@@ -252,7 +249,7 @@ meaning_of DivremResult = record idle { count = 2; value = λ proc now u n. word
 meaning_of Sqrtcnt = record idle {
   value = λ proc now u n. sqrtcnt_word u.root;
   kept = λ proc u n. flag 0 u.root.wide;
-  written = of_io (λ proc now u n word. root_set u now (bit 0 word) u.root.value);
+  written = λ proc now u n word. root_set u now (bit 0 word) u.root.value;
 }
 meaning_of SqrtResult = read_only (λ u. u.root.root)
 meaning_of SqrtParam = record (plain (λ u n. word_of_two n u.root.value)
@@ -261,7 +258,7 @@ meaning_of SqrtParam = record (plain (λ u n. word_of_two n u.root.value)
 meaning_of Postflg = read_only (λ u. 1)
 -- HALTCNT (the same chapter)
 meaning_of Haltcnt = record idle {
-  written = of_processor (λ proc now pressed processor_io n word. haltcnt_written processor_io (word % 2 ^ 8));
+  written = on_own (λ proc now pressed processor_io n word. haltcnt_written processor_io (word % 2 ^ 8));
   refusal = λ proc u n word. halt_refusal (word % 2 ^ 8);
 }
 -- DISP3DCNT, GXSTAT, RAM_COUNT, POS_RESULT, VEC_RESULT, CLIPMTX_RESULT and VECMTX_RESULT (GBATEK, "DS 3D Display Control", "DS 3D Status")
@@ -271,17 +268,5 @@ meaning_of GxCommand = gx_register true
 
 -- ---- what a write leaves
 
--- of all units
-abbrev pub io_after : Write → Proc → Tick → IoState → ℕ → ℕ → IoState
-io_after ignored proc now u n word = u
-io_after (of_processor written) proc now u n word = with_io_of proc u (written proc now u.pressed (io_of u proc) n word)
-io_after (of_io written) proc now u n word = written proc now u n word
-
--- of what the processor has of its own, where the write changes no more
-abbrev pub processor_io_after : Write → Proc → Tick → ℕ → ProcessorIoState → ℕ → ℕ → ProcessorIoState
-processor_io_after ignored proc now pressed processor_io n word = processor_io
-processor_io_after (of_processor written) proc now pressed processor_io n word = written proc now pressed processor_io n word
-processor_io_after (of_io written) proc now pressed processor_io n word = processor_io
-
 abbrev pub after_write : Proc → Tick → IoState → Register → ℕ → ℕ → IoState
-after_write proc now u register n word = io_after (meaning_of register).written proc now u n word
+after_write proc now u register n word = (meaning_of register).written proc now u n word

@@ -11,7 +11,8 @@ ghost use Rattle.gx_fifo.specs.GxStates.{AddsOneVertex, IsGx, gx_finished, is_st
 ghost use Rattle.gx_geometry.specs.States.{AreListsSince};
 ghost use Rattle.vram_banks.specs.Cells.{vram_written};
 ghost use Rattle.ds_ports.specs.Acting.{acting_io_dues, is_quiet};
-ghost use Rattle.ds_ports.specs.Dues.{IsIo, io_due, io_dues};
+ghost use Rattle.ds_ports.specs.Dues.{io_due, io_dues};
+ghost use Rattle.ds_ports.specs.Happenings.{IsIo};
 ghost use Rattle.ds_ports.specs.Inside.{moves_dues};
 ghost use Rattle.ds_ports.specs.ProcessorIo.{before_move};
 ghost use Rattle.ds_ports.specs.Registers.{after_write, meaning_of};
@@ -282,8 +283,8 @@ impl Io {
         self.settled || self.units.is_settled()
     }
 
-    /// What follows each step at a tick: bit 21 of ARM9's IF tells geometry's level as it is, and ARM9's channels that wait for geometry are triggered
-    /// where its count is below 128. It costs nothing where nothing happened since the last such call but halts, writes of video memory, reads of ports,
+    /// What follows each step at a tick: bit 21 of ARM9's IF tells geometry's level as it is, ARM9's channels that wait for geometry are triggered
+    /// where its count is below 128, and the tick after a stall's end is kept only while it holds back the channel that is due. It costs nothing where nothing happened since the last such call but halts, writes of video memory, reads of ports,
     /// and writes of ports that move no due tick.
     #[inline(always)]
     #[tactic(auto, using(crate::proofs::Settles::settled_stays))]

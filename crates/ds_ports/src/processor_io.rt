@@ -10,9 +10,11 @@ ghost use Rattle.ds_runs.specs.Order.{first_from};
 ghost use Rattle.ds_timers.specs.Irqs.{irq_levelled, line_is_up, shares_bit};
 ghost use Rattle.ds_timers.specs.Timing.{counter_of, overflow_of, timer_at, timer_due};
 ghost use Rattle.ds_ports.specs.Acting.{any_armed, is_armed};
-ghost use Rattle.ds_ports.specs.Dues.{IsProcessorIo};
+ghost use Rattle.ds_ports.specs.Happenings.{IsProcessorIo};
+ghost use Rattle.ds_ports.specs.Inside.{own_written};
+ghost use Rattle.ds_ports.specs.Io.{comes_before};
 ghost use Rattle.ds_ports.specs.ProcessorIo.{before_move, control_written, dma_written, extkeyin_word, haltcnt_written, ie_written, if_written, ime_written, interrupts_of, blocks_processor, keycnt_written, keyinput_word, keys_hold, keys_told, processor_io_at_boot, processor_io_moved, processor_io_put_back, processor_io_raised, processor_io_triggered, reload_written};
-ghost use Rattle.ds_ports.specs.Registers.{meaning_of, processor_io_after};
+ghost use Rattle.ds_ports.specs.Registers.{meaning_of};
 
 use crate::registers::Register;
 use ds_base::{Due, Interrupt, Proc, Stop, Tick};
@@ -422,6 +424,16 @@ impl ProcessorIo {
         })
     }
 
+    /// Whether the channel that is due comes before a number of ticks.
+    pub fn is_due_before(&self, ticks: u64) -> bool
+        ensures { result ≡ comes_before (dma_due self.now.dma) ticks }
+    {
+        match self.dma.due() {
+            Some(due) => due.tick.0 < ticks,
+            None => false,
+        }
+    }
+
     /// The unit that is due of the channels.
     pub fn unit(&self) -> Unit
         requires { IsSome (dma_due self.now.dma) }
@@ -464,7 +476,7 @@ impl ProcessorIo {
         self.dma.laws();
     }
 
-    /// A write of all bytes of a register, as far as it is the processor's own.
+    /// A write of all bytes of a register that is the processor's own.
     pub fn write(
         &mut self,
         proc: Proc,
@@ -476,7 +488,7 @@ impl ProcessorIo {
     )
         requires number { number < (meaning_of register).count }
         requires early { IsEarly (Some now) }
-        ensures { self.new ≡ processor_io_after (meaning_of register).written proc now pressed self.old number value }
+        ensures { self.new ≡ own_written register proc now pressed self.old number value }
     {
         match register {
             Register::Dmasad => self.set_channel(now, DmaPort::Source, number, value),

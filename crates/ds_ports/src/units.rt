@@ -9,7 +9,7 @@ ghost use Rattle.ds_ipc.specs.Ipcs.{AreSides};
 ghost use Rattle.gx_fifo.specs.GxStates.{AddsOneVertex, IsGx, gx_finished, is_stalled};
 ghost use Rattle.gx_geometry.specs.States.{AreListsSince};
 ghost use Rattle.vram_banks.specs.Cells.{vram_written};
-ghost use Rattle.ds_ports.specs.Dues.{IsIo};
+ghost use Rattle.ds_ports.specs.Happenings.{IsIo};
 ghost use Rattle.ds_ports.specs.Io.{both_raised, geometry_swapped, io_at_boot, io_of, is_held, keys_pressed, with_halted};
 
 mod dues;

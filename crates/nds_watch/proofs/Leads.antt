@@ -11,7 +11,8 @@ use Rattle.ds_machine.specs.Acting.{acting_dues}
 use Rattle.ds_machine.specs.Lagging.{CatchesUp, CatchesUpIf, ComesBeforeAll, TakesGeometry, observes_by}
 use Rattle.ds_machine.specs.Lagging as lagging
 use Rattle.ds_machine.specs.Observed.{seen_of}
-use Rattle.ds_machine.specs.Reference.{IsSound, Shown, dues_of, processor_due, reference, reference_step}
+use Rattle.ds_machine.specs.Reference.{Shown, dues_of, processor_due, reference, reference_step}
+use Rattle.ds_machine.specs.Sound.{IsSound}
 use Rattle.ds_machine.specs.States.{MachineState}
 use Rattle.ds_machine.specs.declared.answers.Seen.{Seen}
 use Rattle.ds_machine.proofs.ActingDues.{acting_low, acting_processor}

@@ -3,7 +3,7 @@
 ghost use Rattle.std.specs.Prelude.{◌≡◌, ◌≤◌, ◌<◌, ◌+◌, ◌^◌, None, length, option_to_list};
 ghost use Rattle.std.specs.List.{concat};
 ghost use Rattle.ds_machine.specs.Observed.{seen_of};
-ghost use Rattle.ds_machine.specs.Reference.{IsSound};
+ghost use Rattle.ds_machine.specs.Sound.{IsSound};
 ghost use Rattle.sink_parts.specs.Puts.{Puts};
 ghost use Rattle.run_ahead.specs.TickTurns.{IsTickBefore};
 ghost use Rattle.nds_watch.specs.Inside.{IsLineDue, Took};

@@ -10,7 +10,9 @@ use Rattle.ds_runs.specs.Runs.{IsLeast, IsOver, MachineStep, Makes, due_at}
 use Rattle.ds_machine.specs.Acting.{acting_dues, is_behind, is_due_before}
 use Rattle.ds_machine.specs.Counting.{IsRunning}
 use Rattle.ds_machine.specs.Lagging.{CatchesUpFor, CatchesUpIf, ComesBeforeAll, observes_by}
-use Rattle.ds_machine.specs.Reference.{IsSound, Shown, Steps, dues_of, next_shown, reference_step}
+use Rattle.ds_machine.specs.Reference.{Shown, dues_of, next_shown, reference_step}
+use Rattle.ds_machine.specs.Sound.{IsSound}
+use Rattle.ds_machine.specs.StepAnswers.{Steps}
 use Rattle.ds_machine.specs.States.{MachineState, counts_of}
 use Rattle.ds_machine.specs.TurnSteps.{IsLeastBelow}
 use Rattle.ds_machine.specs.declared.answers.Done as answer

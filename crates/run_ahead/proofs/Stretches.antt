@@ -12,7 +12,9 @@ use Rattle.ds_machine.specs.Counting.{IsRunning}
 use Rattle.ds_machine.specs.Frames.{last_frame, last_lists}
 use Rattle.ds_machine.specs.Lagging.{CatchesUpFor, observes_by}
 use Rattle.ds_machine.specs.Private.{rank_of}
-use Rattle.ds_machine.specs.Reference.{IsSound, Shown, Steps, next_shown, processor_due, reference, reference_step}
+use Rattle.ds_machine.specs.Reference.{Shown, next_shown, processor_due, reference, reference_step}
+use Rattle.ds_machine.specs.Sound.{IsSound}
+use Rattle.ds_machine.specs.StepAnswers.{Steps}
 use Rattle.ds_machine.specs.States.{MachineState, counts_of}
 use Rattle.ds_machine.specs.Steps.{processor_of, tick_of}
 use Rattle.ds_machine.specs.TurnSteps.{BelongsToTurn, IsLeastBelow, MayAct, TakesSteps, none, more, own_remaining}

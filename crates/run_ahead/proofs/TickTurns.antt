@@ -6,7 +6,8 @@ use Rattle.ds_runs.specs.Runs.{IsLeast, Makes, Stops}
 use Rattle.ds_machine.specs.Acting.{acting_dues}
 use Rattle.ds_machine.specs.Lagging.{CatchesUpFor}
 use Rattle.ds_machine.specs.Private.{rank_of}
-use Rattle.ds_machine.specs.Reference.{IsSound, Shown, next_shown, reference_step}
+use Rattle.ds_machine.specs.Reference.{Shown, next_shown, reference_step}
+use Rattle.ds_machine.specs.Sound.{IsSound}
 use Rattle.ds_machine.specs.States.{MachineState}
 use Rattle.ds_machine.specs.Steps.{processor_of}
 use Rattle.ds_machine.specs.TurnSteps.{BelongsToTurn, TakesSteps, none, more, own_remaining, ticks_left}

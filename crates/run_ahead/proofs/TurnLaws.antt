@@ -7,7 +7,8 @@ use Rattle.ds_runs.proofs.RunExists.{run_exists}
 use Rattle.ds_machine.specs.Acting.{is_behind}
 use Rattle.ds_machine.specs.Frames.{FollowFrames, FollowLists, last_frame, last_lists}
 use Rattle.ds_machine.specs.States.{MachineState}
-use Rattle.ds_machine.specs.Reference.{HasSoundParts, IsSound, Shown, next_shown, reference}
+use Rattle.ds_machine.specs.Reference.{Shown, next_shown, reference}
+use Rattle.ds_machine.specs.Sound.{HasSoundParts, IsSound}
 use Rattle.ds_machine.proofs.ActingPlaces.{acted_fewer}
 use Rattle.ds_machine.proofs.ActingSteps.{acting_runs, acting_stops}
 use Rattle.ds_machine.proofs.CatchingUp.{caught_so, catching_up_runs}

@@ -4,7 +4,8 @@ use Rattle.ds_base.specs.declared.ticks.Tick.{Tick}
 use Rattle.ds_runs.specs.Runs.{IsLeast, Makes, Stops}
 use Rattle.ds_machine.specs.Acting.{acting_dues}
 use Rattle.ds_machine.specs.Lagging.{CatchesUpFor}
-use Rattle.ds_machine.specs.Reference.{IsSound, Shown, next_shown, dues_of, reference_step}
+use Rattle.ds_machine.specs.Reference.{Shown, next_shown, dues_of, reference_step}
+use Rattle.ds_machine.specs.Sound.{IsSound}
 use Rattle.ds_machine.specs.States.{MachineState}
 use Rattle.run_ahead.specs.Consoles.{ConsoleState}
 use Rattle.run_ahead.specs.Turns.{TakesQuiet, Turns}

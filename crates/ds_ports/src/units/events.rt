@@ -7,7 +7,7 @@ ghost use Rattle.ds_runs.specs.Actors.{IsNumbered};
 ghost use Rattle.ds_timers.specs.Timing.{timer_at, timer_due};
 ghost use Rattle.ds_ports.specs.Dues.{io_due};
 ghost use Rattle.ds_ports.specs.ProcessorIo.{before_move};
-ghost use Rattle.ds_ports.specs.Io.{channel_moved, channel_put_back, channels_shown, channels_triggered, geometry_done, io_event, io_of, is_settled, settled, timer_overflows, video_done};
+ghost use Rattle.ds_ports.specs.Io.{channel_moved, channel_put_back, channels_shown, channels_triggered, geometry_done, geometry_triggered, io_event, io_of, is_settled, release_of, settled, timer_overflows, video_done};
 ghost use Rattle.video2d.specs.Scans.{scan_due};
 ghost use Rattle.video2d.specs.Videos.{video_answer};
 ghost use Rattle.ds_runs.specs.declared.actors.Actor.TheVariants as actors;
@@ -74,15 +74,36 @@ impl Units {
     {
         self.nine.is_levelled(self.gx.level())
             && !(self.gx.half_empty() && self.nine.awaits_geometry())
+            && self.release() == self.released
     }
 
-    /// After a step at a tick: the level of geometry's interrupt is told as it is, and the channels are triggered that wait for geometry, where its
-    /// FIFO has room.
+    /// What is kept of the last stall's end: the tick after it while it holds back the channel of ARM9's that is due, and else 0.
+    #[tactic(auto, using(crate::proofs::HeldDues::none_kept))]
+    fn release(&self) -> u64
+        ensures { result ≡ release_of self.now }
+    {
+        if self.released != 0 && self.nine.is_due_before(self.released) {
+            return self.released;
+        }
+        0
+    }
+
+    /// After a step at a tick: the level of geometry's interrupt is told as it is, the channels are triggered that wait for geometry, where its
+    /// FIFO has room, and the last stall's end is forgotten where it holds back no channel.
     pub fn settle(&mut self, now: Tick)
         requires { IsEarly (Some now) }
         ensures { self.new ≡ settled now self.old }
     {
         self.nine.tell_level(self.gx.level());
+        self.trigger_waiting(now);
+        self.released = self.release();
+    }
+
+    /// Triggers the channels that wait for geometry, where its FIFO has room.
+    fn trigger_waiting(&mut self, now: Tick)
+        requires { IsEarly (Some now) }
+        ensures { self.new ≡ geometry_triggered now self.old }
+    {
         if self.gx.half_empty() {
             self.nine.trigger(Cause::Geometry, now);
         }

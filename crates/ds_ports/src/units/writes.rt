@@ -3,9 +3,8 @@
 ghost use Rattle.std.specs.Prelude.{◌≡◌, ◌<◌, ◌%◌, ◌^◌, true, Some};
 ghost use Rattle.ds_base.specs.Bits.{bit};
 ghost use Rattle.ds_base.specs.Schedules.{IsEarly};
-ghost use Rattle.ds_ports.specs.Inside.{is_of_unit};
-ghost use Rattle.ds_ports.specs.Registers.{bank_set, card_refusal, division_set, fifo_control_set, gx_set, halt_refusal, after_write, meaning_of, processor_io_after, root_set, sync_set, with_word_of_two, word_sent};
-ghost use Rattle.ds_ports.specs.Io.{io_of, with_io_of};
+ghost use Rattle.ds_ports.specs.Inside.{is_of_unit, is_own};
+ghost use Rattle.ds_ports.specs.Registers.{bank_set, card_refusal, division_set, fifo_control_set, gx_set, halt_refusal, after_write, meaning_of, root_set, sync_set, with_word_of_two, word_sent};
 
 use crate::registers::Register;
 use crate::units::Units;
@@ -148,6 +147,7 @@ impl Units {
     }
 
     /// A write of a register of a processor's own.
+    #[tactic(auto, using(crate::proofs::OwnWrites::own_is))]
     fn write_processor_io(
         &mut self,
         proc: Proc,
@@ -157,8 +157,9 @@ impl Units {
         value: u32,
     )
         requires number { number < (meaning_of register).count }
+        requires own { is_own register ≡ true }
         requires early { IsEarly (Some now) }
-        ensures { self.new ≡ with_io_of proc self.old (processor_io_after (meaning_of register).written proc now self.old.pressed (io_of self.old proc) number value) }
+        ensures { self.new ≡ after_write proc now self.old register number value }
     {
         let pressed = self.pressed;
         match proc {

@@ -2,7 +2,7 @@ use Rattle.std.proofs.Common.{◌∙◌, not, ap, subst}
 use Rattle.arm_core.specs.Registers.{RegisterState}
 use Rattle.arm_words.specs.declared.instructions.Instr.{Instr}
 use Rattle.ds_machine.specs.Observing.{HasBase, data_apart}
-use Rattle.ds_machine.specs.Sides.{nine_side}
+use Rattle.ds_machine.specs.PrivateSides.{nine_side}
 use Rattle.ds_machine.specs.States.{ProcessorState}
 use Rattle.ds_machine.specs.Steps.{nine_reach, tick_of}
 use Rattle.ds_machine.specs.Touching.{reads, writes}

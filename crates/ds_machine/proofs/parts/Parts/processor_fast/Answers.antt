@@ -1,5 +1,5 @@
 use Rattle.std.proofs.Common.{◌<◌, arith, sym, subst}
-use Rattle.ds_ports.specs.Dues.{IsIo}
+use Rattle.ds_ports.specs.Happenings.{IsIo}
 use Rattle.ds_machine.proofs.GoingSteps.{other_stays}
 use Rattle.ds_machine.proofs.FastSteps.{cost_keeps, free_stays, made_fast, reach_keeps}
 use Rattle.ds_machine.proofs.ProcessorSteps.{reached_early, reached_few}

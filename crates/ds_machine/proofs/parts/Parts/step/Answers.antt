@@ -1,5 +1,5 @@
 use Rattle.std.proofs.Common.{Some, sym}
-use Rattle.ds_machine.specs.Reference.{stepped_of}
+use Rattle.ds_machine.specs.StepAnswers.{stepped_of}
 use Rattle.ds_machine.proofs.DueTicks.{low_rank, may_due, may_early, steps_as}
 use Rattle.ds_machine.proofs.Running.{few_events, few_steps, may_fit_run}
 use Rattle.ds_machine.proofs.parts.Parts.step.Goals as goal

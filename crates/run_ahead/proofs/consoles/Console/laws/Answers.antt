@@ -1,5 +1,5 @@
 use Rattle.std.proofs.Common.{◌≡◌, ◌≤◌, ◌∙◌, length, ap, subst, arith}
-use Rattle.ds_machine.specs.Reference.{IsSound}
+use Rattle.ds_machine.specs.Sound.{IsSound}
 use Rattle.run_ahead.specs.Consoles.{AreWithin, ConsoleState}
 use Rattle.run_ahead.proofs.consoles.Console.laws.Goals as goal
 

@@ -1,0 +1,61 @@
+use Rattle.std.specs.Prelude.{ℕ, nat_le, ◌&&◌, ◌||◌, Bool, true, Option}
+use Rattle.ds_base.specs.Accesses.{MemoryMachine}
+use Rattle.ds_base.specs.declared.processors.Arch.{Arch}
+use Rattle.ds_base.specs.declared.processors.Proc.TheVariants.{Nine}
+use Rattle.arm_words.specs.declared.instructions.Instr.{Instr}
+use Rattle.arm_core.specs.Effects.{Outcome}
+use Rattle.arm_core.specs.Registers.{RegisterState}
+use Rattle.cp15_tcm.specs.TightlyCoupled.{tcm_of}
+use Rattle.cp15_tcm.specs.declared.answers.Tcm.{Tcm}
+use Rattle.cp15_tcm.specs.declared.answers.Tcm.TheVariants.{Itcm, Dtcm, Past}
+use Rattle.ds_places.specs.AddressTables.{place_of}
+use Rattle.ds_map.specs.Maps.{MapState}
+use Rattle.ds_map.specs.Shares.{is_private_place}
+use Rattle.ds_map.specs.Views.{NineReach, SevenReach}
+use Rattle.ds_machine.specs.Sides.{StepOf, nine_step, seven_step, taken}
+
+-- What running ahead asks of a processor beside its step: the places that it alone reaches, and whose bytes no other actor changes (our choice of which).
+
+-- what parts one processor from the other, over the states of what it reaches
+pub record SideOf (S : Type 0) : Type 0 where
+  pub arch : Arch
+  pub base : S → ℕ
+  -- the byte at an address lies in the processor's private places, as a write, a fetch, or else a read reaches it
+  pub is_private : S → (writing fetching : Bool) → ℕ → Bool
+  pub executed : RegisterState → S → ℕ → Option Instr → Outcome S
+
+-- its step goes by the rest
+abbrev pub step_of : {S : Type 0} → SideOf S → StepOf S
+step_of side = record { arch = side.arch; base = side.base; executed = side.executed }
+
+abbrev pub side_taken : {S : Type 0} → MemoryMachine S → SideOf S → Bool → RegisterState → S → Outcome S
+side_taken memory side line s state = taken memory (step_of side) line s state
+
+-- ARM9's are ITCM and DTCM, and past them by the present map the bytes of shared work RAM that WRAMCNT shows to it, palettes, OAM, the addresses of video memory none of
+-- whose cells lies in a bank that is allotted to ARM7, and its boot ROM
+abbrev pub is_private_tcm : Tcm → MapState → ℕ → Bool
+is_private_tcm (Itcm place) m at = true
+is_private_tcm (Dtcm place) m at = true
+is_private_tcm Past m at = is_private_place m.io.vram.controls (place_of Nine m.io.wramcnt at)
+
+-- ARM7's are its own work RAM from 3800000h to 3FFFFFFh and its boot ROM; what WRAMCNT shows to it below 3800000h isn't
+abbrev pub is_private_to_seven : ℕ → Bool
+is_private_to_seven at = nat_le at 0x3FFF || (nat_le 0x03800000 at && nat_le at 0x03FFFFFF)
+
+-- ---- the two processors
+
+abbrev pub nine_side : SideOf NineReach
+nine_side = record {
+  arch = nine_step.arch;
+  base = nine_step.base;
+  is_private = λ r writing fetching at. is_private_tcm (tcm_of r.cp15 at writing fetching) r.map at;
+  executed = nine_step.executed;
+}
+
+abbrev pub seven_side : SideOf SevenReach
+seven_side = record {
+  arch = seven_step.arch;
+  base = seven_step.base;
+  is_private = λ r writing fetching at. is_private_to_seven at;
+  executed = seven_step.executed;
+}

@@ -41,22 +41,22 @@ use Rattle.run_ahead.proofs.TurnTests.{belongs_or_not, least_acts, lt_or_not}
 
 -- ---- geometry catches up: each step leaves fewer ticks
 
-catches_from : (n tick rank : ℕ) (start s : MachineState) → IsSound start → TakesGeometry tick rank start s → ticks_left (tick + 1) s.io.gx.due ≤ n
-    → (caught : MachineState) × CatchesUp tick rank start caught
-catches_from n tick rank start s sound takes few = by_test n (is_behind tick rank s) refl few where
-  by_test : (n : ℕ) (behind : Bool) → is_behind tick rank s ≡ behind → ticks_left (tick + 1) s.io.gx.due ≤ n → (caught : MachineState) × CatchesUp tick rank start caught
-  by_test n false e few = (s, record { steps = takes; level = e })
-  by_test zero true e few =
-      let here = (caught_so tick rank start s sound takes).sound in
-      let makes = quiet_step s here (behind_is tick rank s e).quiet in
-      let falls = fewer_left tick rank s (late_put (gx_finished s.io.gx) s) here e makes in
-      absurd (omega (arith, falls, few))
-  by_test (suc n) true e few =
-      let here = (caught_so tick rank start s sound takes).sound in
-      let next = late_put (gx_finished s.io.gx) s in
-      let makes = quiet_step s here (behind_is tick rank s e).quiet in
-      let falls = fewer_left tick rank s next here e makes in
-      catches_from n tick rank start next sound (lagging.more start s next takes e makes) (omega (arith, falls, few))
+abbrev HasCaught : ℕ → ℕ → MachineState → Type 0
+HasCaught tick rank start = (caught : MachineState) × CatchesUp tick rank start caught
+
+catch_test : (tick rank : ℕ) (start s : MachineState) → IsSound start → TakesGeometry tick rank start s → (behind : Bool) → is_behind tick rank s ≡ behind
+    → ((next : MachineState) → TakesGeometry tick rank start next → ticks_left (tick + 1) next.io.gx.due < ticks_left (tick + 1) s.io.gx.due → HasCaught tick rank start) → HasCaught tick rank start
+catch_test tick rank start s sound takes false e rec = (s, record { steps = takes; level = e })
+catch_test tick rank start s sound takes true e rec =
+    let here = (caught_so tick rank start s sound takes).sound in
+    let next = late_put (gx_finished s.io.gx) s in
+    let makes = quiet_step s here (behind_is tick rank s e).quiet in
+    rec next (lagging.more start s next takes e makes) (fewer_left tick rank s next here e makes)
+
+catches_from : (n tick rank : ℕ) (start s : MachineState) → IsSound start → TakesGeometry tick rank start s → ticks_left (tick + 1) s.io.gx.due ≤ n → HasCaught tick rank start
+catches_from zero tick rank start s sound takes few = catch_test tick rank start s sound takes (is_behind tick rank s) refl (λ next more falls. absurd (omega (arith, falls, few)))
+catches_from (suc n) tick rank start s sound takes few =
+    catch_test tick rank start s sound takes (is_behind tick rank s) refl (λ next more falls. catches_from n tick rank start next sound more (omega (arith, falls, few)))
 
 catches_up : (tick rank : ℕ) (s : MachineState) → IsSound s → (caught : MachineState) × CatchesUp tick rank s caught
 catches_up tick rank s sound = catches_from (ticks_left (tick + 1) s.io.gx.due) tick rank s s sound (lagging.none s) (omega arith)
@@ -71,8 +71,9 @@ abbrev HasStretch : ℕ → Proc → MachineState → Type 0
 HasStretch until proc start = (stop : Option LeftOut) × (next : MachineState) × TookStretch until proc start stop next
 
 module _ (until : ℕ) (proc : Proc) (start : MachineState) (sound : IsSound start) where
-  stretch_from : (n : ℕ) (s : MachineState) → TakesSteps until proc start s → own_remaining until s proc ≤ n → HasStretch until proc start
-  stretch_from n s takes few = by_test n (belongs_or_not until s proc) few where
+  stretch_step : (s : MachineState) → TakesSteps until proc start s
+      → ((next : MachineState) → TakesSteps until proc start next → own_remaining until next proc < own_remaining until s proc → HasStretch until proc start) → HasStretch until proc start
+  stretch_step s takes rec = by_test (belongs_or_not until s proc) where
     here : IsSound s
     here = sound_along until proc start s sound takes
 
@@ -87,21 +88,20 @@ module _ (until : ℕ) (proc : Proc) (start : MachineState) (sound : IsSound sta
         let step : List Shown → MachineStep MachineState Shown LeftOut = λ o. Makes next o in
         h ∙ ap step (turn_silent caught next proc b.tick outs due h)
 
-    by_step : (n : ℕ) (b : BelongsToTurn until s proc) (caught : MachineState) → CatchesUpFor (processor_of s proc).due (rank_of proc) s caught
-        → (came : MachineStep MachineState Shown LeftOut) → reference_step (rank_of proc) caught ≡ came → own_remaining until s proc ≤ n → HasStretch until proc start
-    by_step n b caught catches (Stops left next) e few = (Some left, next, (s, takes, b, (caught, catches, e)))
-    by_step zero b caught catches (Makes next outs) e few =
+    by_step : (b : BelongsToTurn until s proc) (caught : MachineState) → CatchesUpFor (processor_of s proc).due (rank_of proc) s caught
+        → (came : MachineStep MachineState Shown LeftOut) → reference_step (rank_of proc) caught ≡ came → HasStretch until proc start
+    by_step b caught catches (Stops left next) e = (Some left, next, (s, takes, b, (caught, catches, e)))
+    by_step b caught catches (Makes next outs) e =
         let h = makes_nothing b caught catches next outs e in
-        let falls = turn_steps_fall until s caught next proc [] here b catches h in
-        absurd (omega (arith, falls, few))
-    by_step (suc n) b caught catches (Makes next outs) e few =
-        let h = makes_nothing b caught catches next outs e in
-        let falls = turn_steps_fall until s caught next proc [] here b catches h in
-        stretch_from n next (more start s caught next takes b catches h) (omega (arith, falls, few))
+        rec next (more start s caught next takes b catches h) (turn_steps_fall until s caught next proc [] here b catches h)
 
-    by_test : (n : ℕ) → (BelongsToTurn until s proc) ⊎ (BelongsToTurn until s proc → ⊥) → own_remaining until s proc ≤ n → HasStretch until proc start
-    by_test n (inr no) few = (None, s, (takes, no))
-    by_test n (inl b) few = (let k = catching in by_step n b k.0 k.1 (reference_step (rank_of proc) k.0) refl few)
+    by_test : (BelongsToTurn until s proc) ⊎ (BelongsToTurn until s proc → ⊥) → HasStretch until proc start
+    by_test (inr never) = (None, s, (takes, never))
+    by_test (inl b) = (let k = catching in by_step b k.0 k.1 (reference_step (rank_of proc) k.0) refl)
+
+  stretch_from : (n : ℕ) (s : MachineState) → TakesSteps until proc start s → own_remaining until s proc ≤ n → HasStretch until proc start
+  stretch_from zero s takes few = stretch_step s takes (λ next further falls. absurd (omega (arith, falls, few)))
+  stretch_from (suc n) s takes few = stretch_step s takes (λ next further falls. stretch_from n next further (omega (arith, falls, few)))
 
   has_stretch : HasStretch until proc start
   has_stretch = stretch_from (own_remaining until start proc) start (none start) (omega arith)
@@ -119,21 +119,18 @@ module _ (until : ℕ) (s : MachineState) (sound : IsSound s) where
     by_stop (Some left, next, t) = (answers.Stopped left, next, is_stop until proc s next left first t)
 
   event_came : (first : Due) → IsLeast (acting_dues s) first.tick first.rank → first.rank < 22 → first.tick.0 < until → HasTook until s
-  event_came first least event below = by_came (reference_step first.rank caught) refl where
+  event_came first least event below = by_came (reference_step first.rank catching.0) refl where
     catching : (caught : MachineState) × CatchesUpFor first.tick.0 first.rank s caught
     catching = catches_if (observes_by (actor_of first.rank) s) first.tick.0 first.rank s sound
 
-    abbrev caught : MachineState
-    caught = catching.0
+    took : (done : answer.Done) (next : MachineState) → Steps first.rank catching.0 done next → HasTook until s
+    took done next h = (done, next, event_took until s catching.0 next first.tick first.rank done sound least event below catching.1 h)
 
-    took : (done : answer.Done) (next : MachineState) → Steps first.rank caught done next → HasTook until s
-    took done next h = (done, next, event_took until s caught next first.tick first.rank done sound least event below catching.1 h)
-
-    by_came : (came : MachineStep MachineState Shown LeftOut) → reference_step first.rank caught ≡ came → HasTook until s
+    by_came : (came : MachineStep MachineState Shown LeftOut) → reference_step first.rank catching.0 ≡ came → HasTook until s
     by_came (Stops left next) e = took (answers.Stopped left) next e
     by_came (Makes next outs) e =
-        let up = caught_up s first.tick first.rank sound caught (record { due = least.there; may = inl least }) catching.1 in
-        let k = answer_of caught next first.tick first.rank outs (caught_steps s caught first.tick first.rank up) e in
+        let up = caught_up s first.tick first.rank sound catching.0 (record { due = least.there; may = inl least }) catching.1 in
+        let k = answer_of catching.0 next first.tick first.rank outs (caught_steps s catching.0 first.tick first.rank up) e in
         took k.0 next k.1
 
   rank_kind : (rank : ℕ) → rank < 24 → (rank < 22) ⊎ ((proc : Proc) × (rank ≡ rank_of proc))
@@ -214,7 +211,7 @@ module _ (until : ℕ) (c : ConsoleState) (still_open : c.stopped ≡ None) (sou
   goes_to_end n few rec (turns.Stopped left) new t = (_, new, stops c new left t)
 
 all_end : (until n : ℕ) → (k : ℕ) → k < n → AllEndFrom until k
-all_end until zero k lt = absurd (omega (arith, lt))
+all_end until zero k lt c still_open sound few = absurd (omega (arith, lt))
 all_end until (suc n) k lt c still_open sound few =
     let t = has_turn until c still_open sound in
     goes_to_end until c still_open sound k few (λ j less. all_end until n j (omega (arith, less, lt))) t.0 t.1 t.2

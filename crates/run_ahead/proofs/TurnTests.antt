@@ -38,8 +38,8 @@ IsDecided P = P ⊎ (P → ⊥)
 
 both : (P Q : Type 0) → IsDecided P → IsDecided Q → IsDecided (P × Q)
 both P Q p q = elim p [
-  | inl yes ↦ elim q [ inl too ↦ inl (yes, too) | inr no ↦ inr (λ h. no h.1) ]
-  | inr no ↦ inr (λ h. no h.0)
+  | inl so ↦ elim q [ inl too ↦ inl (so, too) | inr never ↦ inr (λ h. never h.1) ]
+  | inr never ↦ inr (λ h. never h.0)
 ]
 
 is_bit : (a b : Bool) → IsDecided (a ≡ b)
@@ -81,9 +81,9 @@ module _ {S : Type 0} (side : SideOf S) (state : S) where
       let accesses = data_accesses side.arch (side.base state) s (fetched memory side.arch s state).instr in
       let kind = may_go_ahead side.arch (fetched memory side.arch s state).instr in
       elim (reaches (next_fetch s)) [
-        | inr no ↦ inr (λ h. no h.fetch)
+        | inr never ↦ inr (λ h. never h.fetch)
         | inl fetch ↦ elim (both (kind ≡ true) (AllReachPrivate side state accesses) (is_bit kind true) (all_reach accesses)) [
-          | inr no ↦ inr (λ h. no (h.kind, h.accesses))
+          | inr never ↦ inr (λ h. never (h.kind, h.accesses))
           | inl k ↦ inl (record { fetch = fetch; kind = k.0; accesses = k.1 })
         ]
       ]
@@ -98,9 +98,9 @@ private_or_not s proc =
     let Down : Type 0 = line_of s proc ≡ false in
     let Deaf : Type 0 = is_deaf s proc ≡ true in
     elim (both Free (Down × Deaf) (is_bit (is_blocked s proc) false) (both Down Deaf (is_bit (line_of s proc) false) (is_bit (is_deaf s proc) true))) [
-      | inr no ↦ inr (λ h. no (h.free, h.down, h.deaf))
+      | inr never ↦ inr (λ h. never (h.free, (h.down, h.deaf)))
       | inl k ↦ elim (own_stays s proc) [
-        | inr no ↦ inr (λ h. no h.own)
+        | inr never ↦ inr (λ h. never h.own)
         | inl own ↦ inl (record { free = k.0; down = k.1.0; deaf = k.1.1; own = own })
       ]
     ]
@@ -135,7 +135,7 @@ ahead_or_not : (s : MachineState) (proc : Proc) (tick : Tick) → processor_due 
 ahead_or_not s proc tick due =
     let fence = fence_there s proc in
     elim (private_or_not s proc) [
-      | inr no ↦ inr (λ a. no a.private)
+      | inr never ↦ inr (λ a. never a.private)
       | inl private ↦ elim (lt_or_not tick.0 fence.0.0) [
         | inl lt ↦ inl (ahead_where s proc fence.0 tick fence.1 due lt private)
         | inr le ↦ inr (λ a. (let lt = below_where s proc fence.0 tick fence.1 due a in absurd (omega (arith, lt, le))))
@@ -156,7 +156,7 @@ module _ (until : ℕ) (s : MachineState) (proc : Proc) where
         | inl same ↦ inl (record { tick = tick; due = due; below = lt; goes = inl (least_where s proc first.0 tick first.1 due same) })
         | inr other ↦ elim (ahead_or_not s proc tick due) [
           | inl ahead ↦ inl (record { tick = tick; due = due; below = lt; goes = inr ahead })
-          | inr no ↦ inr (λ b. elim b.goes [ inl least ↦ other (rank_where s proc first.0 b.tick first.1 least) | inr ahead ↦ no ahead ])
+          | inr never ↦ inr (λ b. elim b.goes [ inl least ↦ other (rank_where s proc first.0 b.tick first.1 least) | inr ahead ↦ never ahead ])
         ]
       ]
 

@@ -342,15 +342,15 @@ opens until c last end (stops _ new left t) = record { answer = answers.Stopped 
 opens until c last end (counts _ next _ a _ one t rest) = record { answer = a; next = next; first = t; rest = inl (one, rest) }
 
 not_one : (a b : turned.Turned) → a ≡ b → counted_of a ≡ 0 → counted_of b ≡ 1 → ⊥
-not_one a b same none one = let e = ap counted_of same in omega (arith, e, none, one)
+not_one a b same adds_none one = let e = ap counted_of same in omega (arith, e, adds_none, one)
 
 last_turn : (until : ℕ) (c new last : ConsoleState) (end : Ending MachineState LeftOut) (a : turned.Turned) → Turns until c a new → counted_of a ≡ 0 → TurnsToEnd until c end last
     → (end_of a new ≡ end) × (new ≡ last)
-last_turn until c new last end a t none second =
+last_turn until c new last end a t adds_none second =
     let k = opens until c last end second in
     let s = turn_is_one until c new k.next a k.answer t k.first in
     elim k.rest [
-      | inl on ↦ absurd (not_one a k.answer s.0 none on.0)
+      | inl on ↦ absurd (not_one a k.answer s.0 adds_none on.0)
       | inr over ↦ (ap (λ (x : turned.Turned). end_of x new) s.0 ∙ ap (end_of k.answer) s.1 ∙ sym over.1, s.1 ∙ sym over.2)
     ]
 

@@ -1,3 +1,4 @@
 mod Numerals
 mod Peeked
 mod WordLists
+mod WordsAreOne

@@ -98,3 +98,7 @@ Asks words asked = (words ≡ asked_words asked) × IsAllowed asked
 -- they ask for nothing
 abbrev pub AskNothing : List (List ℕ) → Type 0
 AskNothing words = (asked : Asked) → ¬ Asks words asked
+
+-- words ask for one thing at most
+abbrev pub WordsAskForOne : Type 0
+WordsAskForOne = (words : List (List ℕ)) (asked asked₂ : Asked) → Asks words asked → Asks words asked₂ → asked ≡ asked₂

@@ -4,8 +4,10 @@
 
 mod choices;
 mod commands;
+mod laws;
 mod numbers;
 mod reading;
 
 pub use commands::{Command, Keep, RunFiles};
+pub use laws::word_laws;
 pub use reading::read_words;

@@ -5,15 +5,18 @@ use Rattle.std.proofs.lemmas.List.Concat.{flat_map-append}
 use Rattle.ds_base.specs.declared.left_out.LeftOut.{LeftOut}
 use Rattle.ds_io.specs.Sinks.{Appended, AppendedFront}
 use Rattle.ds_io.proofs.SinkLemmas.{append_twice, front_after, front_of_more}
-use Rattle.ds_runs.specs.Runs.{At, Runs}
+use Rattle.ds_runs.specs.Runs.{At, Ending, Runs}
 use Rattle.ds_machine.specs.Frames.{FollowFrames, FollowLists, WholeFrame, frame_shown, frames_shown, last_frame, last_lists, lists_shown}
 use Rattle.ds_machine.specs.States.{MachineState}
-use Rattle.ds_machine.specs.Reference.{Shown, next_shown, reference}
+use Rattle.ds_machine.specs.Reference.{IsSound, Shown, next_shown, reference}
 use Rattle.run_ahead.specs.Consoles.{ConsoleState}
-use Rattle.run_ahead.specs.Turns.{GoesOn, HasRuns, RanOn, TurnsUpTo, HasTurned, none, turn}
+use Rattle.run_ahead.specs.ToEnd.{TurnsToEnd, at_end, counts, stops}
+use Rattle.run_ahead.specs.Turns.{GoesOn, RanOn, TurnsUpTo, HasTurned, none, turn}
 use Rattle.run_ahead.specs.declared.turns.Turned.{Turned}
 use Rattle.run_ahead.specs.declared.turns.Turned.TheVariants as answers
 use Rattle.run_ahead.proofs.RunningOn.{raised_again, turned_twice}
+use Rattle.run_ahead.proofs.TurnExists.{turns_end}
+use Rattle.run_ahead.proofs.TurnRuns.{ran_to_end, turns_end_as_runs}
 use Rattle.gx_geometry.specs.States.{Swapped}
 use Rattle.list_records.specs.Records.{lists_records}
 use Rattle.nds_plays.specs.Inside.{ending, RunsTo, shown_after, shown_now, shown_while}
@@ -106,6 +109,8 @@ pub record Going (until : ℕ) (start : ConsoleState) (outs : List Shown) (now :
   pub lists : FollowLists start.machine now.machine outs
   pub turned : HasTurned until start now
   pub limit : max now.limit until ≡ max start.limit until
+  -- turns that go on from here go on from the start
+  pub ends : (end : Ending MachineState LeftOut) (last : ConsoleState) → TurnsToEnd until now end last → TurnsToEnd until start end last
 
 going_first : (until : ℕ) (start : ConsoleState) → start.stopped ≡ None → Going until start [] start
 going_first until start open_ = record {
@@ -115,6 +120,7 @@ going_first until start open_ = record {
   lists = refl;
   turned = none start;
   limit = refl;
+  ends = λ end last rest. rest;
 }
 
 -- turns that ran
@@ -126,6 +132,7 @@ going_ran until start old now outs going ran = record {
   lists = ran.lists ∙ going.lists;
   turned = turned_twice until start old now going.turned ran.turned;
   limit = ran.limit ∙ going.limit;
+  ends = λ end last rest. going.ends end last (ran_to_end until old now last end ran.turned ran.each_ran rest);
 }
 
 then_lists : (xs ys : List Shown) (before : Option Swapped) → last_or before (lists_shown (xs ++ ys)) ≡ last_or (last_or before (lists_shown xs)) (lists_shown ys)
@@ -150,6 +157,7 @@ going_shown until start old now outs swapped up so_far =
       lists = up.lists ∙ ap (λ (o : Option Swapped). last_or o (lists_shown (shown ∷ []))) going.lists ∙ sym (then_lists outs (shown ∷ []) (last_lists start.machine));
       turned = turn start before now (answers.Frame swapped) going.turned up.last;
       limit = raised_again until start before now going.limit is;
+      ends = λ end last rest. going.ends end last (counts before now last (answers.Frame swapped) end refl up.last rest);
     }
 
 has_shown : (until : ℕ) (old now : ConsoleState) (swapped : Bool) (up : TurnsUpTo until old (answers.Frame swapped) now) → HasShown swapped now.machine (shown_by up)
@@ -158,8 +166,9 @@ has_shown until old now swapped up = record { frame = up.frames; was_swapped = r
 -- turns up to the one that ends the run
 ends_here : (until : ℕ) (start old now : ConsoleState) (answer : Turned) (stop : Option LeftOut) (outs : List Shown) → Going until start outs old → (up : TurnsUpTo until old answer now)
     → now.stopped ≡ stop → now.limit ≡ max up.before.limit until → Runs reference until (ending stop now.machine) up.before.machine []
-    → last_frame now.machine ≡ last_frame up.before.machine → last_lists now.machine ≡ last_lists up.before.machine → RunsTo until start stop now
-ends_here until start old now answer stop outs so_far up stopped limit run frames lists =
+    → last_frame now.machine ≡ last_frame up.before.machine → last_lists now.machine ≡ last_lists up.before.machine → TurnsToEnd until up.before (ending stop now.machine) now
+    → RunsTo until start stop now
+ends_here until start old now answer stop outs so_far up stopped limit run frames lists last =
     let going = going_ran until start old up.before outs so_far up.ran in
     record {
       outs = outs;
@@ -170,6 +179,7 @@ ends_here until start old now answer stop outs so_far up stopped limit run frame
       frames = frames ∙ going.frames;
       lists = lists ∙ going.lists;
       turned = turn start up.before now answer going.turned up.last;
+      to_end = going.ends (ending stop now.machine) now last;
     }
 
 -- ---- with the sink
@@ -202,27 +212,30 @@ module _ {S : Type 0} (tells : S → Bool) (taken : S → List ℕ → Type 0) (
         later = omega (arith, first, later);
       }
 
-  -- where the sink fails at a frame or its lists, a front of the run's output is written
-  pub front_at : (old now : ConsoleState) (mid after : S) (swapped : Bool) → Writing old mid → TurnsUpTo until old (answers.Frame swapped) now → HasRuns now.machine
-      → AppendedFront tells taken mid after (shown_now keep swapped now.machine) → WroteFront tells taken until now.turns keep start.machine before after × HasTurned until start now
-  front_at old now mid after swapped w up runs put =
+  -- where the sink fails at a frame or its lists, a front of the run's output is written: its turns go on to their end from here, though the console takes none of them
+  pub front_at : (old now : ConsoleState) (mid after : S) (swapped : Bool) → Writing old mid → TurnsUpTo until old (answers.Frame swapped) now → (now.stopped ≡ None → IsSound now.machine)
+      → AppendedFront tells taken mid after (shown_now keep swapped now.machine) → WroteFront tells taken until keep start before after × HasTurned until start now
+  front_at old now mid after swapped w up sound put =
       let shown = shown_by up in
       let going = going_shown until start old now w.outs swapped up w.going in
       let outs = w.outs ++ shown ∷ [] in
-      let r = runs until in
-      let end = r.0 in
-      let more = r.1 in
+      let here = sound going.still_open in
+      let rest = turns_end until now going.still_open here in
+      let end = rest.0 in
+      let last = rest.1 in
+      let run = turns_end_as_runs until now last end going.still_open here rest.2 in
+      let more = run.0 in
       let P : List ℕ → Type 0 = λ x. AppendedFront tells taken before after x in
       let latest = latest_of start.machine in
       let front : AppendedFront tells taken before after (shown_while keep outs) =
       subst P (now_written keep w.outs shown swapped now.machine (has_shown until old now swapped up))
       (front_after tells taken before mid after (shown_while keep w.outs) (shown_now keep swapped now.machine) w.written put) in
-      let written : AppendedFront tells taken before after (output_of until now.turns keep latest end (outs ++ more)) =
+      let written : AppendedFront tells taken before after (output_of until last.turns keep latest end (outs ++ more)) =
       subst P
-      (ap (λ (x : List ℕ). x ++ last_records until now.turns end) (sym (goes_further keep latest outs more)))
-      (subst P (sym (append_assoc (shown_while keep outs) (rest_of keep latest outs more) (last_records until now.turns end)))
-      (front_of_more tells taken before after (shown_while keep outs) (rest_of keep latest outs more ++ last_records until now.turns end) front)) in
-      (record { end = end; outs = outs ++ more; ran = going.on until (omega arith) end more r.2; written = written }, going.turned)
+      (ap (λ (x : List ℕ). x ++ last_records until last.turns end) (sym (goes_further keep latest outs more)))
+      (subst P (sym (append_assoc (shown_while keep outs) (rest_of keep latest outs more) (last_records until last.turns end)))
+      (front_of_more tells taken before after (shown_while keep outs) (rest_of keep latest outs more ++ last_records until last.turns end) front)) in
+      (record { end = end; last = last; turns = going.ends end last rest.2; outs = outs ++ more; ran = going.on until (omega arith) end more run.1; written = written }, going.turned)
 
   -- the turns up to the one that ends the run
   abbrev HasRunTo : Option LeftOut → ConsoleState → S → Type 0
@@ -234,7 +247,8 @@ module _ {S : Type 0} (tells : S → Bool) (taken : S → List ℕ → Type 0) (
       let t = up.last in
       let P : MachineState → Type 0 = λ x. Runs reference until (At x) up.before.machine [] in
       let run = subst P (sym (ap (λ (x : ConsoleState). x.machine) t.2)) (up.runs t.0) in
-      (ends_here until start old now answers.AtEnd None w.outs w.going up (ap (λ (x : ConsoleState). x.stopped) t.2 ∙ t.0) (ap (λ (x : ConsoleState). x.limit) t.2) run up.frames up.lists, w.written)
+      (ends_here until start old now answers.AtEnd None w.outs w.going up (ap (λ (x : ConsoleState). x.stopped) t.2 ∙ t.0) (ap (λ (x : ConsoleState). x.limit) t.2) run up.frames up.lists
+      (at_end up.before now t), w.written)
 
   pub writing_stopped : (old now : ConsoleState) (after : S) (left : LeftOut) → Writing old after → TurnsUpTo until old (answers.Stopped left) now → HasRunTo (Some left) now after
   unfolding ends_here
@@ -242,7 +256,7 @@ module _ {S : Type 0} (tells : S → Bool) (taken : S → List ℕ → Type 0) (
       let still_open = up.ran.stopped ∙ w.going.still_open in
       let is = (up.last.0 still_open).1 in (
         ends_here until start old now (answers.Stopped left) (Some left) w.outs w.going up (ap (λ (x : ConsoleState). x.stopped) is) (ap (λ (x : ConsoleState). x.limit) is) (up.runs still_open)
-            up.frames up.lists,
+            up.frames up.lists (stops up.before now left up.last),
         w.written,
       )
 
@@ -262,21 +276,24 @@ module _ {S : Type 0} (tells : S → Bool) (taken : S → List ℕ → Type 0) (
   abbrev left_to_write : List ℕ
   left_to_write = shown_after keep (latest_of new.machine) ++ last_records until new.turns (ending stop new.machine)
 
-  pub all_written : Appended tells taken mid after left_to_write → Wrote tells taken until new.turns keep old.machine (ending stop new.machine) before after
+  pub all_written : Appended tells taken mid after left_to_write → Wrote tells taken until keep old (ending stop new.machine) new before after
   all_written put =
       let P : List ℕ → Type 0 = λ x. Appended tells taken before after x in
       record {
+        turns = r.to_end;
         outs = r.outs;
         ran = r.ran;
         written = subst P (whole_output until keep old stop new r)
             (append_twice tells taken before mid after (shown_while keep r.outs) left_to_write so_far put);
       }
 
-  pub front_written : AppendedFront tells taken mid after left_to_write → WroteFront tells taken until new.turns keep old.machine before after
+  pub front_written : AppendedFront tells taken mid after left_to_write → WroteFront tells taken until keep old before after
   front_written put =
       let P : List ℕ → Type 0 = λ x. AppendedFront tells taken before after x in
       record {
         end = ending stop new.machine;
+        last = new;
+        turns = r.to_end;
         outs = r.outs;
         ran = r.ran;
         written = subst P (whole_output until keep old stop new r)

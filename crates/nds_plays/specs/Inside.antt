@@ -7,6 +7,7 @@ use Rattle.ds_runs.specs.Runs.{Ending, At, Stopped, Runs}
 use Rattle.ds_machine.specs.Frames.{FollowFrames, FollowLists, last_frame}
 use Rattle.ds_machine.specs.Reference.{Shown, reference}
 use Rattle.ds_machine.specs.States.{MachineState}
+use Rattle.run_ahead.specs.ToEnd.{TurnsToEnd}
 use Rattle.run_ahead.specs.Turns.{HasTurned}
 use Rattle.run_ahead.specs.Consoles.{ConsoleState}
 use Rattle.nds_plays.specs.Plays.{WroteFront}
@@ -31,6 +32,7 @@ pub record RunsTo (until : ℕ) (old : ConsoleState) (stop : Option LeftOut) (ne
   pub frames : FollowFrames old.machine new.machine outs
   pub lists : FollowLists old.machine new.machine outs
   pub turned : HasTurned until old new
+  pub to_end : TurnsToEnd until old (ending stop new.machine) new
 
 -- what is written of frames and lists while a run puts them out
 abbrev pub shown_while : Keep → List Shown → List ℕ
@@ -59,4 +61,4 @@ abbrev pub Ran : {S : Type 0} → (S → Bool) → (S → List ℕ → Type 0) �
 Ran tells taken faults until keep old before (Ok stop) new after =
     (runs : RunsTo until old stop new) × Appended tells taken before after (shown_while keep runs.outs)
 Ran tells taken faults until keep old before (Err failed) new after =
-    WroteFront tells taken until new.turns keep old.machine before after × Rose (faults before) (faults after) × HasTurned until old new
+    WroteFront tells taken until keep old before after × Rose (faults before) (faults after) × HasTurned until old new

@@ -59,7 +59,7 @@ fn run_to<O: Sink>(
     'turns: loop {
         match console.run_on(until) {
             Turned::Frame { swapped } => {
-                console.has_runs();
+                console.laws();
                 put_shown(out, keep, swapped, console)?;
             }
             Turned::Stopped(left) => return Ok(Some(left)),

@@ -11,11 +11,13 @@
 #![tactic(auto)]
 
 mod calls;
+mod laws;
 
 pub use calls::ds_main;
 pub use command_words::Keep;
 pub use demo_carts::demo_cart;
 pub use key_scripts::{ScriptFault, read_script};
+pub use laws::top_laws;
 pub use nds_answers::{Status, number};
 pub use nds_calls::{empty_seat, let_go, switch_on};
 pub use nds_plays::{Played, play};

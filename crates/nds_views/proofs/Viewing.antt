@@ -62,7 +62,7 @@ module _ {F S : Type 0} (told : F → Option Told) (shelf_faults : F → ℕ) (t
   wrote_in ticks bytes file lines start console Done sum is wrote =
       let P : ConsoleState → Type 0 = λ k. WritesAfter tells taken faults ticks bytes k old Done console new in
       let w = subst P is wrote in
-      (after_its_turns ticks file lines console sum w.1.3, ((w.0, w.1.0, w.2), at_ticks _ _ w.1.2, w.1.1))
+      (after_its_turns ticks file lines console sum w.1.3, ((w.0, w.1.0, w.2), at_ticks _ _ w.1.2, w.1.1, w.1.4))
   wrote_in ticks bytes file lines start console (LeftOut left) sum is wrote =
       let P : ConsoleState → Type 0 = λ k. WritesAfter tells taken faults ticks bytes k old (LeftOut left) console new in
       let w = subst P is wrote in
@@ -70,7 +70,7 @@ module _ {F S : Type 0} (told : F → Option Told) (shelf_faults : F → ℕ) (t
   wrote_in ticks bytes file lines start console WriteFault sum is wrote =
       let P : ConsoleState → Type 0 = λ k. WritesAfter tells taken faults ticks bytes k old WriteFault console new in
       let w = subst P is wrote in
-      (w.0, (after_its_turns ticks file lines console sum w.1.1.3, ((w.1.0, w.1.1.0, w.1.2), at_ticks _ _ w.1.1.2, w.1.1.1)))
+      (w.0, (after_its_turns ticks file lines console sum w.1.1.3, ((w.1.0, w.1.1.0, w.1.2), at_ticks _ _ w.1.1.2, w.1.1.1, w.1.1.4)))
 
 -- what a demo did gives the status of how its run went
 pub demo_done : {S : Type 0} (c : Call S) (number ticks : ℕ) (answer : Played) → WroteAfter c ticks (demo_of number ticks (demo_booted number)) answer (demo_booted number) → DemoGives c number ticks (status_of answer)

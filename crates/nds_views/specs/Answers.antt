@@ -8,10 +8,11 @@ use Rattle.ds_machine.specs.Booted.{machine_booted}
 use Rattle.ds_machine.specs.Reference.{Shown, reference}
 use Rattle.ds_machine.specs.States.{MachineState}
 use Rattle.run_ahead.specs.Consoles.{ConsoleState}
+use Rattle.run_ahead.specs.ToEnd.{TurnsToEnd}
 use Rattle.demo_carts.specs.Demos.{demo_file}
 use Rattle.nds_answers.specs.declared.statuses.Status.{Status}
 use Rattle.nds_answers.specs.declared.statuses.Status.TheVariants.{Done, WriteFault, LeftOut, NoMemory}
-use Rattle.nds_calls.specs.Calls.{Call, IsUntouched, FromBoot, Seated}
+use Rattle.nds_calls.specs.Calls.{Call, IsUntouched, FromBoot, Seated, switched_on}
 use Rattle.nds_loads.specs.Loads.{RefusesRun}
 use Rattle.nds_plays.specs.declared.plays.Played.{Played}
 use Rattle.nds_plays.specs.declared.plays.Played.TheVariants as answers
@@ -36,15 +37,17 @@ TracedBy c ticks proc count answers.WriteFault boot =
 
 -- what a command did that writes these bytes after the run from a machine at boot, by the console that it comes to and what it put out
 abbrev pub WroteAfter : {S : Type 0} → Call S → ℕ → (ConsoleState → List Shown → List ℕ) → Played → MachineState → Type 0
--- the reference run comes to the tick, and they were written
+-- the reference run comes to the tick, as the console's turns do, and they were written
 WroteAfter c ticks bytes answers.Done boot = Seated c boot ticks (λ k.
-    ((outs : List Shown) × Runs reference ticks (At k.machine) boot outs × Appended c.tells c.taken c.old c.new (bytes k outs)) × (k.limit ≡ ticks) × (k.stopped ≡ None))
+    ((outs : List Shown) × Runs reference ticks (At k.machine) boot outs × Appended c.tells c.taken c.old c.new (bytes k outs)) × (k.limit ≡ ticks) × (k.stopped ≡ None)
+    × TurnsToEnd ticks (switched_on boot) (At k.machine) k)
 -- it stops, and nothing was written
 WroteAfter c ticks bytes (answers.LeftOut left) boot =
     (c.new ≡ c.old) × Seated c boot ticks (λ k. ((outs : List Shown) × Runs reference ticks (Stopped left) boot outs) × (k.stopped ≡ Some left))
 -- it comes to the tick, and a front of them was written
 WroteAfter c ticks bytes answers.WriteFault boot = Rose c.out_before c.out_after × Seated c boot ticks (λ k.
-    ((outs : List Shown) × Runs reference ticks (At k.machine) boot outs × AppendedFront c.tells c.taken c.old c.new (bytes k outs)) × (k.limit ≡ ticks) × (k.stopped ≡ None))
+    ((outs : List Shown) × Runs reference ticks (At k.machine) boot outs × AppendedFront c.tells c.taken c.old c.new (bytes k outs)) × (k.limit ≡ ticks) × (k.stopped ≡ None)
+    × TurnsToEnd ticks (switched_on boot) (At k.machine) k)
 
 -- when each answer to `trace` comes, and of which file it speaks
 abbrev pub TraceGives : {S : Type 0} → Call S → List ℕ → Option (List ℕ) → ℕ → Proc → ℕ → List ℕ → Status → Type 0

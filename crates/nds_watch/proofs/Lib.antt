@@ -1,2 +1,3 @@
+mod LinesOnce
 pub mod Leads
 pub mod Tracing

@@ -17,6 +17,7 @@ use Rattle.ds_machine.specs.States.{MachineState}
 use Rattle.ds_machine.specs.declared.answers.Seen.{Seen}
 use Rattle.ds_machine.specs.declared.answers.Seen.TheVariants.{Half, Idle, Irq, Word}
 use Rattle.run_ahead.specs.Consoles.{ConsoleState}
+use Rattle.run_ahead.specs.ToEnd.{TurnsToEnd}
 use Rattle.run_ahead.specs.Turns.{HasTurned}
 use Rattle.asm_text.specs.declared.sets.Set.TheVariants.{Arm, Thumb}
 use Rattle.traces.specs.Lines.{step_line, entry_line, peek_lines, digest_line}
@@ -56,6 +57,11 @@ line_of proc rank tick s = if nat_eq rank (rank_of proc) then seen_line proc tic
 abbrev pub lines_of : {limit : ℕ} {end : Ending MachineState LeftOut} {s : MachineState} {outs : List Shown} → Proc → Runs reference limit end s outs → List (List ℕ)
 lines_of proc run = told_of (line_of proc) run
 
+-- they are those of the run, whichever derivation of it is looked at
+abbrev pub LinesAreOne : Type 0
+LinesAreOne = (proc : Proc) (limit : ℕ) (s : MachineState) (end end₂ : Ending MachineState LeftOut) (outs outs₂ : List Shown) (run : Runs reference limit end s outs)
+    (run₂ : Runs reference limit end₂ s outs₂) → lines_of proc run ≡ lines_of proc run₂
+
 -- a trace: its first lines
 abbrev pub trace_of : {limit : ℕ} {end : Ending MachineState LeftOut} {s : MachineState} {outs : List Shown} → Proc → ℕ → Runs reference limit end s outs → List ℕ
 trace_of proc count run = concat (take count (lines_of proc run))
@@ -89,9 +95,10 @@ Traces tells taken faults until proc count start before answers.WriteFault after
 
 -- ---- what is written after a run
 
--- the reference run from a console's machine was taken, and the console is as after turns with that limit; by the stop that it came to
+-- the reference run from a console's machine was taken, and the console is as after turns with that limit, up to their end; by the stop that it came to
 abbrev pub RanTo : ℕ → ConsoleState → Option LeftOut → ConsoleState → List Shown → Type 0
 RanTo until old None new outs = Runs reference until (At new.machine) old.machine outs × (new.stopped ≡ None) × (new.limit ≡ max old.limit until) × HasTurned until old new
+    × TurnsToEnd until old (At new.machine) new
 RanTo until old (Some left) new outs = Runs reference until (Stopped left) old.machine outs × (new.stopped ≡ Some left) × HasTurned until old new
 
 -- by the answer, these bytes of the console that the run comes to, and of what it put out, were written after it, or a front of them; where it stops nothing was

@@ -3,10 +3,12 @@
 #![tactic(auto)]
 
 mod demos;
+mod laws;
 mod peeks;
 mod steps;
 mod throughs;
 
 pub use demos::demo;
+pub use laws::trace_laws;
 pub use peeks::peek;
 pub use steps::trace;

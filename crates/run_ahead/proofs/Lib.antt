@@ -2,4 +2,8 @@ pub mod RunningOn
 pub mod StepTurns
 pub mod Stretches
 pub mod TickTurns
+pub mod TurnExists
 pub mod TurnLaws
+pub mod TurnRuns
+pub mod TurnTests
+pub mod TurnsAreOne

@@ -1,4 +1,5 @@
 pub mod Consoles
 pub mod Inside
+pub mod ToEnd
 pub mod TickTurns
 pub mod Turns

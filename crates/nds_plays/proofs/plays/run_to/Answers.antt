@@ -21,7 +21,7 @@ returns-in_err-put_shown-in-Frame-clause-ran g c =
     let w = c.turns.invariant in
     let put = c.in_err-put_shown-in-Frame.ensures in
     let front = front_at g.O.Sink.tells g.O.Sink.taken g.O.Sink.faults c.args.until.0 c.args.keep c.args.console.now c.args.out.now c.turns.console c.run_on.new.self c.turns.out c.put_shown.new.out
-    c.in-Frame.swapped w c.in-Frame.ensures.turns c.has_runs.ensures put.0 in
+    c.in-Frame.swapped w c.in-Frame.ensures.turns c.laws.ensures.sound put.0 in
     rw p.1 (front.0, rose_within _ _ _ w.later put.1, front.1)
 
 pub returns-in-Stopped-clause-ran : goal.returns-in-Stopped-clause-ran

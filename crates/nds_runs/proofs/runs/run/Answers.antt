@@ -13,4 +13,4 @@ pub returns-clause-answer : goal.returns-clause-answer
 returns-clause-answer g c =
     runs_give g.F.Shelf.told g.F.Shelf.faults g.O.Sink.tells g.O.Sink.taken g.O.Sink.faults c.args.shelf.now c.seat_run.new.shelf c.args.out.now c.run_seated-status.new.out
     c.args.files.cart.now (option_map (λ name. name.now) c.args.files.keys) c.args.ticks c.args.keep c.seat_run.new.seat c.in-Some.console c.run_seated-status.new.console c.run_seated-status.result
-    c.turn_laws.ensures c.in_default.ensures.ok c.in-Some.is c.run_seated-status.ensures
+    c.turn_laws.ensures.add c.in_default.ensures.ok c.in-Some.is c.run_seated-status.ensures

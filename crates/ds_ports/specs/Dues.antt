@@ -10,7 +10,7 @@ use Rattle.ds_dma.specs.States.{AreReadyLater, IsDma, channel_due}
 use Rattle.ds_ipc.specs.Ipcs.{other_proc}
 use Rattle.ds_runs.specs.Actors.{IsNumbered}
 use Rattle.ds_runs.specs.declared.actors.Actor as actor
-use Rattle.ds_runs.specs.declared.actors.Actor.TheVariants.{Video, Timer, Divider, SquareRoot, Geometry, Card, Dma}
+use Rattle.ds_runs.specs.declared.actors.Actor.TheVariants.{KeyScript, Video, Timer, Divider, SquareRoot, Geometry, Card, Dma, Processor}
 use Rattle.ds_runs.specs.Order.{first_from}
 use Rattle.ds_timers.specs.Irqs.{IrqState}
 use Rattle.ds_timers.specs.Timing.{AreTimers, timer_at, timer_due}
@@ -35,7 +35,7 @@ abbrev pub dma_due_in : IoState → Proc → ℕ → Option Tick
 dma_due_in u Nine channel = held_due (is_stalled u.gx) u.released (channel_due u.nine.dma channel)
 dma_due_in u Seven channel = channel_due u.seven.dma channel
 
--- when an actor behind the ports is due; those that aren't, or aren't built yet, never are
+-- when an actor behind the ports is due; the key script and the processors stand elsewhere, and are never due here, nor is the card, which isn't built yet
 abbrev pub due_in_io : IoState → actor.Actor → Option Tick
 due_in_io u Video = Some (scan_due_tick u.video.scan)
 due_in_io u (Timer proc number) = timer_due (timer_at (io_of u proc).timers number)
@@ -43,7 +43,9 @@ due_in_io u Divider = u.divider.due
 due_in_io u SquareRoot = u.root.due
 due_in_io u Geometry = u.gx.due
 due_in_io u (Dma proc channel) = dma_due_in u proc channel
-due_in_io u _ = None
+due_in_io u KeyScript = None
+due_in_io u Card = None
+due_in_io u (Processor proc) = None
 
 abbrev pub io_due : actor.Actor → IoState → Option Tick
 io_due a u = due_in_io u a

@@ -37,7 +37,7 @@ pub data Write : Type 0 where
   of_io : (Proc → Tick → IoState → ℕ → ℕ → IoState) → Write
 
 pub record Meaning : Type 0 where
-  -- how many there are of its name, told apart by a number from 0 on
+  -- those of its name are told apart by a number below this: from 0 on, or the offset of the first byte where it is the display's or geometry's
   pub count : ℕ
   -- it is reached by whole words alone: narrower reads give 0, and narrower writes are ignored (our choice)
   pub takes_words : Bool

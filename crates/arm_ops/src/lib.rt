@@ -14,5 +14,5 @@ mod running;
 
 pub use making::operation;
 pub use operations::{DataAccess, Number, Op, Operation, ShiftedRegister, Transfer, TransferOp};
-pub use reaching::{access_made, bytes_reached, is_other, run_anywhere, run_made, touched};
+pub use reaching::{access_made, is_other, run_anywhere, run_made, touched};
 pub use running::{Near, run};

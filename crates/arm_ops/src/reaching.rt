@@ -1,6 +1,6 @@
 //! Operations that may reach past RAM.
 
-ghost use Rattle.std.specs.Prelude.{◌≡◌, false, None, IfSome};
+ghost use Rattle.std.specs.Prelude.{◌≡◌, false, true, None, IfSome};
 ghost use Rattle.arm_core.specs.Effects.{carried_out};
 ghost use Rattle.arm_core.specs.Footprints.{TellsNothing, accessed_bytes, touched_bytes};
 ghost use Rattle.arm_core.specs.Registers.{RegisterState};
@@ -24,11 +24,13 @@ pub fn is_other(operation: &Operation) -> bool
     matches!(operation.op, Op::Other)
 }
 
-/// The access of data that an operation makes, if it makes one: none where its condition fails.
+/// The access of data that an operation makes which is run here, if it makes one: none where its condition fails. Of another instruction
+/// it tells nothing: None, whatever that reaches.
 #[inline(always)]
 pub fn access_made(s: &Registers, operation: &Operation) -> Option<DataAccess>
     requires { HasOperation operation.now }
-    ensures access { result ≡ access_made s.now operation.now }
+    ensures access { is_other operation.now.op ≡ false → result ≡ access_made s.now operation.now }
+    ensures other { is_other operation.now.op ≡ true → result ≡ None }
     ensures fields { IfSome result HasAccess }
 {
     if !takes_effect(operation.cond, s) {
@@ -39,7 +41,7 @@ pub fn access_made(s: &Registers, operation: &Operation) -> Option<DataAccess>
 
 /// The bytes that an access reaches, if there is one, told before it is made. It is `Nothing` exactly where there is none.
 #[inline(always)]
-pub fn bytes_reached(arch: Arch, access: Option<DataAccess>) -> Touch
+fn bytes_reached(arch: Arch, access: Option<DataAccess>) -> Touch
     ensures bytes { (s : RegisterState) → touched_bytes result ≡ accessed_bytes (accesses_by arch s access) }
     ensures nothing { (s : RegisterState) → TellsNothing result (accesses_by arch s access) }
 {
@@ -53,7 +55,8 @@ pub fn bytes_reached(arch: Arch, access: Option<DataAccess>) -> Touch
 /// condition fails.
 #[tactic(auto, using(crate::proofs::Laws::made_accesses))]
 pub fn touched(arch: Arch, s: &Registers, operation: &Operation) -> Touch
-    requires { HasOperation operation.now }
+    requires operation { HasOperation operation.now }
+    requires known { is_other operation.now.op ≡ false }
     ensures bytes { touched_bytes result ≡ accessed_bytes (operation_meaning arch s.now operation.now).accesses }
     ensures nothing { TellsNothing result (operation_meaning arch s.now operation.now).accesses }
 {

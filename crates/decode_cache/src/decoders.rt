@@ -1,7 +1,6 @@
 //! A decoder of one version of the architecture.
 
-ghost use Rattle.std.specs.Prelude.{◌≡◌, IfOk};
-ghost use Rattle.decode_cache.specs.Kept.{fresh};
+ghost use Rattle.std.specs.Prelude.{◌≡◌};
 ghost use Rattle.decode_cache.specs.Known.{arch_of};
 ghost use Rattle.arm_ops.specs.Operations.{operation_of, HasOperation};
 ghost use Rattle.arm_words.specs.ArmTable.{decoded_arm};
@@ -12,7 +11,8 @@ use arm_ops::Operation;
 use std::alloc::{AllocError, Global};
 use std::marker::Model;
 
-/// Decodes words of ARM code and halves of Thumb code of ARMv5 where VERSION is 5, and otherwise of ARMv4, makes their operations, and keeps what it made last.
+/// Decodes words of ARM code and halves of Thumb code of ARMv5 where VERSION is 5, and otherwise of ARMv4, makes their operations, and keeps what it made last. Contracts see nothing
+/// of it: one decoder is as any other, and none is another after a call, whatever it keeps.
 #[derive(Drop)]
 pub struct Decoder<const VERSION: u32> {
     words: DecodeCache<VERSION, 32>,
@@ -20,18 +20,14 @@ pub struct Decoder<const VERSION: u32> {
 }
 
 impl<const VERSION: u32> Model for Decoder<VERSION> {
-    ghost use Rattle.decode_cache.specs.Kept.{Kept};
+    ghost Value = { Unit {0} };
 
-    ghost Value = { Kept };
-
-    ghost view = { λ d. record { words = d.words; halves = d.halves } };
+    ghost view = { λ d. tt };
 }
 
 impl<const VERSION: u32> Decoder<VERSION> {
-    /// A decoder that keeps the word 0 and the half 0 at each of their places, so that it answers from the first as any does. All its memory is taken here, and it refuses only for want of that.
-    pub fn new(alloc: Global) -> Result<Decoder<VERSION>, AllocError>
-        ensures { IfOk result (λ decoder. decoder ≡ fresh) }
-    {
+    /// A decoder, which keeps the word 0 and the half 0 at each of their places. All its memory is taken here, and it refuses only for want of that.
+    pub fn new(alloc: Global) -> Result<Decoder<VERSION>, AllocError> {
         Ok(Decoder {
             words: DecodeCache::new(alloc)?,
             halves: DecodeCache::new(alloc)?,

@@ -5,3 +5,4 @@ pub mod Fours
 pub mod Early
 pub mod Turns
 pub mod Wholes
+mod ByCases

@@ -93,7 +93,7 @@ pub data ChangesChannel (proc : Proc) (which : ℕ) (old : ChannelState) (contro
   -- enable is cleared, or stays 0
   empties : is_enabled control ≡ false → new ≡ emptied old control → ChangesChannel proc which old control now new
 
--- the same as a function, for those who compute with it
+-- what it leaves
 abbrev pub channel_controlled : Proc → ℕ → ChannelState → ℕ → Tick → ChannelState
 channel_controlled proc which c control now =
     if is_enabled control then (if is_enabled c.cnt then record c { cnt = control } else latched proc which c control now)
@@ -160,7 +160,7 @@ pub data TakesUnit (proc : Proc) (which : ℕ) (old new : ChannelState) : Type 0
       → new ≡ emptied old (disabled old.cnt)
       → TakesUnit proc which old new
 
--- the same as a function, for those who compute with it
+-- and what it leaves by that
 abbrev pub is_last_unit : ChannelState → Bool
 is_last_unit c = c.remaining == 1
 

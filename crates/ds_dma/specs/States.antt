@@ -65,7 +65,7 @@ least_running channels =
     else (if is_running (channel_at channels 1) then 1
     else (if is_running (channel_at channels 2) then 2 else 3))
 
--- the same as a relation, of a channel that runs
+-- what that is, of a channel that runs
 pub record IsLeastRunning (channels : List ChannelState) (which : ℕ) : Type 0 where
   pub below : which < 4
   pub there : is_running (channel_at channels which) ≡ true

@@ -3,13 +3,11 @@
 ghost use Rattle.std.specs.Prelude.{◌≡◌, ◌<◌, ◌∷◌, ◌==◌, ℕ, List, Some, None, IsSome, IfSome, true, false, slice_set, map, is_some};
 ghost use Rattle.ds_base.specs.Schedules.{IsEarly, Reschedules};
 ghost use Rattle.ds_base.specs.declared.ticks.Tick.{Tick};
-ghost use Rattle.ds_dma.specs.Channels.{IsChannel, ChangesChannel, is_running, channel_word, channel_refusal, is_triggered, plan_of, TakesUnit, unit_of};
+ghost use Rattle.ds_dma.specs.Channels.{IsChannel, is_running, channel_word, channel_refusal, is_triggered, plan_of, unit_of};
 ghost use Rattle.ds_dma.specs.ChannelsKept.{channel_seen};
-ghost use Rattle.ds_dma.specs.Controls.{kept_channel_control};
 ghost use Rattle.ds_dma.specs.declared.channels.Unit.{Unit as DmaUnit};
 ghost use Rattle.ds_dma.specs.declared.controls.Cause.TheVariants.{Geometry};
-ghost use Rattle.ds_dma.specs.declared.controls.DmaPort.TheVariants.{Control};
-ghost use Rattle.ds_dma.specs.States.{DmaState, IsDma, AreReadyLater, IsLeastRunning, awaits_geometry, channel_at, dma_at_boot, channel_written, dma_triggered, any_runs, least_running, channel_due, dma_due, due_channel, dma_finished, finished_bits};
+ghost use Rattle.ds_dma.specs.States.{DmaState, IsDma, AreReadyLater, awaits_geometry, channel_at, dma_at_boot, channel_written, dma_triggered, any_runs, least_running, channel_due, dma_due, due_channel, dma_finished, finished_bits};
 
 use crate::channels::{Channel, Unit};
 use crate::controls::{Cause, DmaPort};
@@ -114,8 +112,6 @@ impl Dma {
         requires early { IsEarly (Some now) }
         ensures state { self.new ≡ channel_written self.old channel port value now }
         ensures stop { result ≡ channel_refusal self.old.proc channel port value (channel_at self.old.channels channel) }
-        ensures change { port ≡ Control → result ≡ None → ChangesChannel self.old.proc channel (channel_at self.old.channels channel)
-            (kept_channel_control self.old.proc channel value) now (channel_at self.new.channels channel) }
         ensures later { AreReadyLater now self.old → AreReadyLater now self.new }
         ensures schedule { AreReadyLater now self.old → (each : ℕ) → each < 4 → Reschedules now (channel_due self.old each) (channel_due self.new each) }
     {
@@ -200,7 +196,7 @@ impl Dma {
     pub fn due(&self) -> Option<DmaDue>
         ensures due { result ≡ dma_due self.now }
         ensures runs { is_some result ≡ any_runs self.now.channels }
-        ensures least { IfSome result (λ due. IsLeastRunning self.now.channels due.channel) }
+        ensures below { IfSome result (λ due. due.channel < 4) }
         ensures tick { IfSome result (λ due. channel_due self.now due.channel ≡ Some due.tick) }
     {
         let channel = self.least();
@@ -226,8 +222,6 @@ impl Dma {
         requires early { IsEarly (Some now) }
         ensures state { self.new ≡ dma_finished self.old now }
         ensures bits { result ≡ finished_bits self.old }
-        ensures takes { TakesUnit self.old.proc (least_running self.old.channels) (due_channel self.old)
-            (channel_at self.new.channels (least_running self.old.channels)) }
         ensures later { AreReadyLater now self.new }
         ensures schedule { (each : ℕ) → each < 4 → Reschedules now (channel_due self.old each) (channel_due self.new each) }
     {

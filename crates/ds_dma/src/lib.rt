@@ -6,7 +6,9 @@
 mod channels;
 mod controls;
 mod dma;
+mod relations;
 
 pub use channels::Unit;
 pub use controls::{Cause, DmaPort};
 pub use dma::{Dma, DmaDue};
+pub use relations::relation_laws;

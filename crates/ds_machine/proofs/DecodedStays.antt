@@ -119,16 +119,6 @@ accesses_known : (arch : Arch) (base : ℕ) (s : RegisterState) (instr : Option 
 accesses_known arch base s None h = absurd (true≢false h)
 accesses_known arch base s (Some instr) h = ap (λ (m : Meaning). m.accesses) (operation_means arch base s instr h) ∙ made_accesses arch s (operation_of (Some instr))
 
-none_of : (s : RegisterState) (op : Op) → is_other op ≡ true → access_of s op ≡ None
-none_of s Other h = refl
-none_of s _ h = absurd (true≢false (sym h))
-
-other_stays : {S : Type 0} (side : SideOf S) (state : S) (s : RegisterState) (op : Operation) → is_other op.op ≡ true → access_stays side state (access_made s op) ≡ true
-other_stays side state s op h = by_holds (holds op.cond s.cpsr) where
-  by_holds : (b : Bool) → access_stays side state (if b then access_of s op.op else None) ≡ true
-  by_holds true = ap (access_stays side state) (none_of s op.op h)
-  by_holds false = refl
-
 pub stays_known : {S : Type 0} (memory : MemoryMachine S) (side : SideOf S) (state : S) (s : RegisterState) (op : Operation) → GoesByWords side
     → op ≡ operation_of (fetched memory side.arch s state).instr → is_other op.op ≡ false → IfSome (access_made s op) (λ it. it.to.address < 2 ^ 32)
     → access_stays side state (access_made s op) ≡ true → DataStays memory side s state
@@ -143,18 +133,14 @@ stays_known memory side state s op words e known low h =
           (reach_made side state words side.arch s (access_made s (operation_of instr)) l k);
     }
 
+-- what isn't decoded is never told to leave
 pub leaves_known : {S : Type 0} (memory : MemoryMachine S) (side : SideOf S) (state : S) (s : RegisterState) (op : Operation) → GoesByWords side
-    → op ≡ operation_of (fetched memory side.arch s state).instr → IfSome (access_made s op) (λ it. it.to.address < 2 ^ 32)
+    → op ≡ operation_of (fetched memory side.arch s state).instr → is_other op.op ≡ false → IfSome (access_made s op) (λ it. it.to.address < 2 ^ 32)
     → access_stays side state (access_made s op) ≡ false → DataStays memory side s state → ⊥
-leaves_known memory side state s op words e low h stays = by_kind (is_other op.op) refl where
-  known : is_other (operation_of (fetched memory side.arch s state).instr).op ≡ false → access_stays side state (access_made s (operation_of (fetched memory side.arch s state).instr)) ≡ true
-  known other =
-      let i = (fetched memory side.arch s state).instr in
-      let l = subst (λ (o : Operation). IfSome (access_made s o) (λ it. it.to.address < 2 ^ 32)) e low in
-      made_reached side state words side.arch s (access_made s (operation_of i)) l
-      (subst (AllReachPrivate side state) (accesses_known side.arch (side.base state) s i other) stays.accesses)
-
-  by_kind : (b : Bool) → is_other op.op ≡ b → ⊥
-  by_kind true other = true≢false (sym (other_stays side state s op other) ∙ h)
-  by_kind false other =
-      true≢false (sym (subst (λ (o : Operation). access_stays side state (access_made s o) ≡ true) (sym e) (known (subst (λ (o : Operation). is_other o.op ≡ false) e other))) ∙ h)
+leaves_known memory side state s op words e known low h stays =
+    let i = (fetched memory side.arch s state).instr in
+    let other = subst (λ (o : Operation). is_other o.op ≡ false) e known in
+    let l = subst (λ (o : Operation). IfSome (access_made s o) (λ it. it.to.address < 2 ^ 32)) e low in
+    let reached = made_reached side state words side.arch s (access_made s (operation_of i)) l
+        (subst (AllReachPrivate side state) (accesses_known side.arch (side.base state) s i other) stays.accesses) in
+    true≢false (sym (subst (λ (o : Operation). access_stays side state (access_made s o) ≡ true) (sym e) reached) ∙ h)

@@ -10,7 +10,7 @@ use Rattle.ds_ports.specs.Io.{IoState, geometry_swapped, io_event, keys_pressed,
 use Rattle.ds_runs.specs.Actors.{actors, actor_of}
 use Rattle.ds_runs.specs.Runs.{TickMachine, MachineStep, Makes, Stops}
 use Rattle.ds_runs.specs.declared.actors.Actor as actor
-use Rattle.ds_runs.specs.declared.actors.Actor.TheVariants.{KeyScript, Video, Geometry, Dma, Processor}
+use Rattle.ds_runs.specs.declared.actors.Actor.TheVariants.{KeyScript, Video, Timer, Divider, SquareRoot, Geometry, Card, Dma, Processor}
 use Rattle.ds_machine.specs.Channels.{channel_step, one_event, stopped_at}
 use Rattle.ds_machine.specs.States.{MachineState, ProcessorState}
 use Rattle.ds_machine.specs.Steps.{ended, is_blocked, processor_of, processor_step, tick_of, with_io, with_processor}
@@ -95,10 +95,13 @@ video_step rank (Err stop) s = Stops (stopped_at rank (scan_due_tick s.io.video.
 abbrev pub step_by : ℕ → actor.Actor → MachineState → MachineStep MachineState Shown LeftOut
 step_by rank KeyScript s = Makes (after_line s.keys s) []
 step_by rank Video s = video_step rank (video_answer s.oam s.io.video) s
+step_by rank (Timer proc number) s = Makes (after_event (Timer proc number) s) []
+step_by rank Divider s = Makes (after_event Divider s) []
+step_by rank SquareRoot s = Makes (after_event SquareRoot s) []
 step_by rank Geometry s = Makes (after_geometry s) []
+step_by rank Card s = Makes (after_event Card s) []
 step_by rank (Dma proc channel) s = channel_step rank proc (io_due (Dma proc channel) s.io) s
 step_by rank (Processor proc) s = processor_step rank proc s
-step_by rank a s = Makes (after_event a s) []
 
 -- and after a step that is taken the units settle, and halted processors wake that are to
 abbrev pub awake : Option Tick → MachineStep MachineState Shown LeftOut → MachineStep MachineState Shown LeftOut

@@ -143,12 +143,13 @@ fn stores(op: TransferOp) -> bool
     }
 }
 
-/// Whether an operation's access of data is to a private place, if it makes one.
+/// Whether an operation's access of data is to a private place, if it makes one. Of what isn't decoded it tells nothing: true, since `run_fast` doesn't run that.
 #[inline(always)]
 fn access_stays<V: Side>(s: &Registers, view: &V, next: &Operation) -> bool
     requires { HasOperation next.now }
-    ensures stays { result ≡ access_stays V.side (V.state view.now) (access_made s.now next.now) }
-    ensures address { IfSome (access_made s.now next.now) (λ access. access.to.address < 2 ^ 32) }
+    ensures stays { is_other next.now.op ≡ false → result ≡ access_stays V.side (V.state view.now) (access_made s.now next.now) }
+    ensures address { is_other next.now.op ≡ false → IfSome (access_made s.now next.now) (λ access. access.to.address < 2 ^ 32) }
+    ensures other { is_other next.now.op ≡ true → result ≡ true }
     ensures words { GoesByWords V.side }
 {
     view.place_laws();

@@ -1,4 +1,4 @@
-use Rattle.std.proofs.Common.{ℕ, ◌≡◌, ◌-◌, Bool, true, false, true≢false, ◌&&◌, nat_le, ◌==◌, if◌then◌else◌, List, [], ◌∷◌, refl, sym, ap}
+use Rattle.std.proofs.Common.{ℕ, ◌≡◌, ◌-◌, Bool, true, false, true≢false, ◌&&◌, nat_le, ◌==◌, if◌then◌else◌, List, [], ◌∷◌, ◌++◌, ◌∙◌, length, refl, sym, ap}
 use Rattle.ds_base.specs.Memories.{memory_size}
 use Rattle.ds_base.specs.declared.memories.Memory.{Memory}
 use Rattle.ds_base.specs.declared.memories.Memory.TheVariants.{Shared, Own7, Palette, Oam}
@@ -6,7 +6,7 @@ use Rattle.ds_base.specs.declared.processors.Proc.{Proc}
 use Rattle.ds_base.specs.declared.processors.Proc.TheVariants.{Nine, Seven}
 use Rattle.ds_places.specs.declared.kinds.Place.{Place}
 use Rattle.ds_places.specs.AddressTables.{BootRom, Cells, Content, Empty, Ports, Region, Video, place_at, place_by, place_of, regions_of, shared_for_nine, shared_for_seven}
-use Rattle.ds_map.specs.Maps.{MemoriesState, cells_of, is_reached, reached, reaches, unreached, with_cells}
+use Rattle.ds_map.specs.Maps.{MemoriesState, cells_of, is_reached, reached, reaches, unreached, unreached_oam, unreached_palette, unreached_wram, with_cells}
 
 -- The place of an address is one that its processor reaches, and accesses of what it reaches are those of all memories.
 
@@ -86,10 +86,34 @@ set_reached Seven Palette m bytes h = absurd (true≢false (sym h))
 set_reached Seven Oam m bytes h = absurd (true≢false (sym h))
 set_reached Seven _ m bytes h = refl
 
-pub set_unreached : (proc : Proc) (memory : Memory) (m : MemoriesState) (bytes : List ℕ) → reaches proc memory ≡ true
-    → unreached proc (with_cells memory m bytes) ≡ unreached proc m
-set_unreached Nine Own7 m bytes h = absurd (true≢false (sym h))
-set_unreached Nine _ m bytes h = refl
-set_unreached Seven Palette m bytes h = absurd (true≢false (sym h))
-set_unreached Seven Oam m bytes h = absurd (true≢false (sym h))
-set_unreached Seven _ m bytes h = refl
+pub set_wram : (proc : Proc) (memory : Memory) (m : MemoriesState) (bytes : List ℕ) → reaches proc memory ≡ true
+    → unreached_wram proc (with_cells memory m bytes) ≡ unreached_wram proc m
+set_wram Nine Own7 m bytes h = absurd (true≢false (sym h))
+set_wram Nine _ m bytes h = refl
+set_wram Seven Palette m bytes h = absurd (true≢false (sym h))
+set_wram Seven Oam m bytes h = absurd (true≢false (sym h))
+set_wram Seven _ m bytes h = refl
+
+pub set_palette : (proc : Proc) (memory : Memory) (m : MemoriesState) (bytes : List ℕ) → reaches proc memory ≡ true
+    → unreached_palette proc (with_cells memory m bytes) ≡ unreached_palette proc m
+set_palette Nine Own7 m bytes h = absurd (true≢false (sym h))
+set_palette Nine _ m bytes h = refl
+set_palette Seven Palette m bytes h = absurd (true≢false (sym h))
+set_palette Seven Oam m bytes h = absurd (true≢false (sym h))
+set_palette Seven _ m bytes h = refl
+
+pub set_oam : (proc : Proc) (memory : Memory) (m : MemoriesState) (bytes : List ℕ) → reaches proc memory ≡ true
+    → unreached_oam proc (with_cells memory m bytes) ≡ unreached_oam proc m
+set_oam Nine Own7 m bytes h = absurd (true≢false (sym h))
+set_oam Nine _ m bytes h = refl
+set_oam Seven Palette m bytes h = absurd (true≢false (sym h))
+set_oam Seven Oam m bytes h = absurd (true≢false (sym h))
+set_oam Seven _ m bytes h = refl
+
+-- the three as one list
+pub unreached_by : (proc : Proc) (m old : MemoriesState) → unreached_wram proc m ≡ unreached_wram proc old → unreached_palette proc m ≡ unreached_palette proc old
+    → unreached_oam proc m ≡ unreached_oam proc old → unreached proc m ≡ unreached proc old
+unreached_by proc m old wram palette oam =
+    ap (λ (bytes : List ℕ). length bytes ∷ bytes ++ unreached_oam proc m ++ unreached_wram proc m) palette
+    ∙ ap (λ (bytes : List ℕ). length (unreached_palette proc old) ∷ unreached_palette proc old ++ bytes ++ unreached_wram proc m) oam
+    ∙ ap (λ (bytes : List ℕ). length (unreached_palette proc old) ∷ unreached_palette proc old ++ unreached_oam proc old ++ bytes) wram

@@ -38,9 +38,19 @@ bytes_by Seven nine seven = seven
 abbrev pub reached : Proc → MemoriesState → MemoriesState
 reached proc m = record m { wram = bytes_by proc [] m.wram; palette = bytes_by proc m.palette []; oam = bytes_by proc m.oam [] }
 
--- the bytes that it doesn't reach
+-- the bytes that it doesn't reach, and that its accesses leave
+abbrev pub unreached_wram : Proc → MemoriesState → List ℕ
+unreached_wram proc m = bytes_by proc m.wram []
+
+abbrev pub unreached_palette : Proc → MemoriesState → List ℕ
+unreached_palette proc m = bytes_by proc [] m.palette
+
+abbrev pub unreached_oam : Proc → MemoriesState → List ℕ
+unreached_oam proc m = bytes_by proc [] m.oam
+
+-- the same as one list, by which a view names what no call of it changes (our choice of form). No public clause speaks of it
 abbrev pub unreached : Proc → MemoriesState → List ℕ
-unreached proc m = let palette = bytes_by proc [] m.palette in length palette ∷ palette ++ bytes_by proc [] m.oam ++ bytes_by proc m.wram []
+unreached proc m = length (unreached_palette proc m) ∷ unreached_palette proc m ++ unreached_oam proc m ++ unreached_wram proc m
 
 -- it reaches a memory; the place of an address is one of it
 abbrev pub reaches : Proc → Memory → Bool

@@ -8,7 +8,7 @@ ghost use Rattle.ds_base.specs.declared.processors.Proc.{Proc};
 ghost use Rattle.ds_base.specs.declared.processors.Proc.TheVariants.{Seven};
 ghost use Rattle.ds_places.specs.AddressTables.{IsInside, place_of};
 ghost use Rattle.ds_places.specs.declared.kinds.Place.TheVariants.{Cell, Port};
-ghost use Rattle.ds_map.specs.Maps.{blank_memories, cells_of, is_reached, map_seen, reached, reaches, unreached, with_cells};
+ghost use Rattle.ds_map.specs.Maps.{blank_memories, cells_of, is_reached, map_seen, reached, reaches, unreached_oam, unreached_palette, unreached_wram, with_cells};
 ghost use Rattle.ds_base.specs.Schedules.{IsEarly};
 ghost use Rattle.ds_ports.specs.Io.{video_done};
 ghost use Rattle.video2d.specs.Scans.{scan_due};
@@ -127,12 +127,14 @@ impl Map {
 
     /// Puts a number at a cell of a memory that a processor reaches, unless the memory takes no bytes of ARM9 and it is one.
     #[inline(always)]
-    #[tactic(auto, using(crate::proofs::Reached::cells_reached, crate::proofs::Reached::set_reached, crate::proofs::Reached::set_unreached))]
+    #[tactic(auto, using(crate::proofs::Reached::cells_reached, crate::proofs::Reached::set_reached, crate::proofs::Reached::set_wram, crate::proofs::Reached::set_palette, crate::proofs::Reached::set_oam))]
     fn write_cell(&mut self, proc: Proc, memory: Memory, at: u32, width: Width, value: u32)
         requires inside { at < memory_size memory }
         requires reached { reaches proc memory ≡ true }
         ensures next { reached proc self.new ≡ cell_put proc memory (reached proc self.old) at width value }
-        ensures apart { unreached proc self.new ≡ unreached proc self.old }
+        ensures wram { unreached_wram proc self.new ≡ unreached_wram proc self.old }
+        ensures palette { unreached_palette proc self.new ≡ unreached_palette proc self.old }
+        ensures oam { unreached_oam proc self.new ≡ unreached_oam proc self.old }
     {
         if !(is_byte_of_nine(proc, width) && takes_no_bytes(memory)) {
             self.set_cell(memory, at, width, value);
@@ -155,7 +157,9 @@ impl Map {
         requires early { IsEarly (Some now) }
         ensures refusal { result ≡ refusal_at proc place (map_seen proc self.old io.old) width value }
         ensures next { map_seen proc self.new io.new ≡ written_at proc now place (map_seen proc self.old io.old) width value }
-        ensures apart { unreached proc self.new ≡ unreached proc self.old }
+        ensures wram { unreached_wram proc self.new ≡ unreached_wram proc self.old }
+        ensures palette { unreached_palette proc self.new ≡ unreached_palette proc self.old }
+        ensures oam { unreached_oam proc self.new ≡ unreached_oam proc self.old }
     {
         match place {
             Place::Cell { memory, at } => {
@@ -252,7 +256,9 @@ impl Map {
         requires { IsEarly (Some now) }
         ensures refusal { result ≡ map_refusal proc (map_seen proc self.old io.old) at width value }
         ensures next { map_seen proc self.new io.new ≡ map_written proc now (map_seen proc self.old io.old) at width value }
-        ensures apart { unreached proc self.new ≡ unreached proc self.old }
+        ensures wram { unreached_wram proc self.new ≡ unreached_wram proc self.old }
+        ensures palette { unreached_palette proc self.new ≡ unreached_palette proc self.old }
+        ensures oam { unreached_oam proc self.new ≡ unreached_oam proc self.old }
     {
         let place = place(proc, io.wramcnt(), at);
         self.write_at(io, proc, now, place, width, value)
@@ -274,7 +280,9 @@ impl Map {
         requires { IsEarly (Some now) }
         ensures refusal { result ≡ map_refusal proc (map_seen proc self.old io.old) at width value }
         ensures next { map_seen proc self.new io.new ≡ map_written proc now (map_seen proc self.old io.old) at width value }
-        ensures apart { unreached proc self.new ≡ unreached proc self.old }
+        ensures wram { unreached_wram proc self.new ≡ unreached_wram proc self.old }
+        ensures palette { unreached_palette proc self.new ≡ unreached_palette proc self.old }
+        ensures oam { unreached_oam proc self.new ≡ unreached_oam proc self.old }
     {
         if let Some(cell) = main_cell(at) {
             self.main.set_number(cell as usize, width, value);

@@ -4,7 +4,7 @@ ghost use Rattle.std.specs.Prelude.{◌≡◌, IsSome, Some};
 ghost use Rattle.ds_base.specs.Schedules.{IsEarly};
 ghost use Rattle.ds_dma.specs.States.{dma_due};
 ghost use Rattle.ds_map.specs.Moves.{unit_moved, unit_refusal};
-ghost use Rattle.ds_map.specs.Maps.{map_seen, unreached};
+ghost use Rattle.ds_map.specs.Maps.{map_seen, unreached_oam, unreached_palette, unreached_wram};
 ghost use Rattle.ds_ports.specs.Io.{io_of};
 
 use crate::maps::Map;
@@ -20,7 +20,9 @@ impl Map {
         requires early { IsEarly (Some now) }
         ensures stop { result ≡ unit_refusal proc now unit (map_seen proc self.old io.old) }
         ensures map { map_seen proc self.new io.new ≡ unit_moved proc now unit (map_seen proc self.old io.old) }
-        ensures apart { unreached proc self.new ≡ unreached proc self.old }
+        ensures wram { unreached_wram proc self.new ≡ unreached_wram proc self.old }
+        ensures palette { unreached_palette proc self.new ≡ unreached_palette proc self.old }
+        ensures oam { unreached_oam proc self.new ≡ unreached_oam proc self.old }
     {
         let value = self.read(io, proc, now, unit.from, unit.width);
         let before = io.move_channel(proc, now);

@@ -12,7 +12,7 @@ use Rattle.ds_ipc.specs.Ipcs.{IpcState, ipc_at_boot}
 use Rattle.ds_math.specs.Dividers.{DividerState, divider_at_boot, division_finished}
 use Rattle.ds_math.specs.Roots.{RootState, root_at_boot, root_finished}
 use Rattle.ds_runs.specs.declared.actors.Actor as actor
-use Rattle.ds_runs.specs.declared.actors.Actor.TheVariants.{Timer, Divider, SquareRoot, Geometry}
+use Rattle.ds_runs.specs.declared.actors.Actor.TheVariants.{KeyScript, Video, Timer, Divider, SquareRoot, Geometry, Card, Dma, Processor}
 use Rattle.ds_timers.specs.Irqs.{irq_levelled}
 use Rattle.ds_timers.specs.Timing.{overflow_of}
 use Rattle.ds_ports.specs.ProcessorIo.{BeforeMove, blocks_processor, ProcessorIoState, processor_io_at_boot, processor_io_moved, processor_io_put_back, processor_io_raised, processor_io_triggered, keys_told}
@@ -175,14 +175,19 @@ abbrev pub is_settled : IoState → Bool
 is_settled u =
     ((irq_levelled u.nine.irq (gx_level u.gx)).if_ == u.nine.irq.if_) && (not (is_half_empty u.gx && awaits_geometry u.nine.dma) && (release_of u == u.released))
 
--- what the event of an actor behind the ports leaves, where it is due; the display's stands above, since it reads memories, and a DMA channel's
--- below, since it is an access of memory
+-- What the event of an actor behind the ports leaves, where it is due. Five have none here, and leave all: the key script, which presses keys; the display,
+-- whose event stands above, since it reads memories; the card, which isn't built yet; a DMA channel, whose event is an access of memory and stands below in
+-- parts; and a processor, whose steps are instructions.
 abbrev pub io_event : actor.Actor → IoState → IoState
 io_event (Timer proc number) u = timer_overflows proc number u
 io_event Divider u = division_done u
 io_event SquareRoot u = root_done u
 io_event Geometry u = geometry_done u
-io_event _ u = u
+io_event KeyScript u = u
+io_event Video u = u
+io_event Card u = u
+io_event (Dma proc channel) u = u
+io_event (Processor proc) u = u
 
 -- the DMA channel of a processor that is due moves its first unit, but for the access itself
 abbrev pub channel_moved : Proc → Tick → IoState → IoState

@@ -30,7 +30,7 @@ use Rattle.vram_banks.specs.Cells.{allotted_of}
 -- What each register is, a paragraph each, in the order of GBATEK's list ("DS I/O Maps").
 
 pub record Meaning : Type 0 where
-  -- how many there are of its name, told apart by a number from 0 on
+  -- those of its name are told apart by a number below this: from 0 on, or the offset of the first byte where it is the display's or geometry's
   pub count : ℕ
   -- it is reached by whole words alone: narrower reads give 0, and narrower writes are ignored (our choice)
   pub takes_words : Bool

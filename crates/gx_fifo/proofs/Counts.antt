@@ -1,9 +1,14 @@
-use Rattle.std.proofs.Common.{◌≡◌, ◌+◌, ◌≤◌, Bool, cond, List, [], ◌∷◌, ◌++◌, length, drop, slice_get, Some}
+use Rattle.std.proofs.Common.{ℕ, ◌≡◌, ◌+◌, ◌≤◌, ◌∙◌, ap, sym, refl, nat_lt, Bool, true, false, cond, List, [], ◌∷◌, ◌++◌, length, drop, slice_get, Some}
 use Rattle.std.proofs.Common.{arith}
-use Rattle.std.specs.Prelude.{count_by}
+use Rattle.std.specs.Prelude.{◌||◌, count_by}
+use Rattle.std.specs.List.{list_any}
 use Rattle.std.proofs.lemmas.Option.{none-some}
 use Rattle.std.proofs.lemmas.List.Sums.{sum_by_push, sum_by-cons, count_by-le-length}
 use Rattle.gx_fifo.specs.declared.entries.GxEntry.{GxEntry}
+
+one_more : (b c : Bool) (n : ℕ) → c ≡ nat_lt 0 n → (b || c) ≡ nat_lt 0 (cond b 1 0 + n)
+one_more true c n h = grind arith
+one_more false c n h = grind (arith, h)
 
 -- How many entries of a kind there are, with one more and with one less.
 module _ (p : GxEntry → Bool) where
@@ -16,3 +21,8 @@ module _ (p : GxEntry → Bool) where
 
   pub counted_within : (xs : List GxEntry) → count_by p xs ≤ length xs
   counted_within xs = count_by-le-length p xs
+
+  -- and that there is one
+  pub some_counted : (xs : List GxEntry) → list_any p xs ≡ nat_lt 0 (count_by p xs)
+  some_counted [] = refl
+  some_counted (x ∷ xs) = one_more (p x) (list_any p xs) (count_by p xs) (some_counted xs) ∙ ap (λ (n : ℕ). nat_lt 0 n) (sym (sum_by-cons (λ e. cond (p e) 1 0) x xs))

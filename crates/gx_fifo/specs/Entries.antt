@@ -1,4 +1,5 @@
-use Rattle.std.specs.Prelude.{ℕ, ◌+◌, ◌*◌, nat_lt, nat_le, max, if◌then◌else◌, Bool, true, false, List, [], ◌∷◌, length, map, take, count_by, Option, Some, None, option_map}
+use Rattle.std.specs.Prelude.{ℕ, ◌+◌, ◌*◌, nat_le, max, if◌then◌else◌, Bool, true, false, List, [], ◌∷◌, length, map, take, Option, Some, None, option_map}
+use Rattle.std.specs.List.{list_any}
 use Rattle.ds_base.specs.declared.ticks.Tick.{Tick}
 use Rattle.gx_matrix.specs.CommandTable.{command_row}
 use Rattle.gx_matrix.specs.declared.commands.GeometryCommand.{GeometryCommand}
@@ -59,6 +60,6 @@ is_test_entry e = is_tested e.command
 abbrev pub is_stack_entry : GxEntry → Bool
 is_stack_entry e = is_stacked e.command
 
--- an entry of such a command waits, be it as a parameter (our choice)
+-- some entry of such a command waits, be it as a parameter (our choice)
 abbrev pub kind_waits : (GeometryCommand → Bool) → List GxEntry → Bool
-kind_waits kind entries = nat_lt 0 (count_by (λ e. kind e.command) entries)
+kind_waits kind entries = list_any (λ e. kind e.command) entries

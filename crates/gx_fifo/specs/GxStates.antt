@@ -33,8 +33,8 @@ gx_at_boot = record { geometry = geometry_at_boot; fifo = fifo_at_boot; due = No
 abbrev pub waiting_entries : GxState → ℕ
 waiting_entries s = length s.fifo.entries
 
--- GXSTAT's count: the four entries that wait last before the engine don't count, and it is held to 256 (GBATEK, GXSTAT bits 16 to 24; the four are
--- GBATEK's "PIPE")
+-- GXSTAT's count: the oldest four entries, which stand next before the engine, don't count, and it is held to 256 (GBATEK, GXSTAT bits 16 to 24; the four
+-- are GBATEK's "PIPE")
 abbrev pub shown_count : GxState → ℕ
 shown_count s = min 256 (waiting_entries s - 4)
 
@@ -54,7 +54,7 @@ gx_level s = (s.selector == 1 && is_half_empty s) || (s.selector == 2 && shown_c
 
 -- DISP3DCNT (GBATEK): what was kept, and the lists' overflow in bit 13
 abbrev pub display_control : GxState → ℕ
-display_control s = s.display + flag 13 s.geometry.outcome.results.overflow
+display_control s = s.display + flag 13 s.geometry.outcome.overflow
 
 -- GXSTAT (GBATEK)
 unfoldable pub gx_status : GxState → ℕ
@@ -62,7 +62,7 @@ gx_status s =
     let entries = s.fifo.entries in
     let stacks = s.geometry.numbers.stacks in
     flag 0 (kind_waits is_tested entries)
-    + flag 1 s.geometry.outcome.results.inside
+    + flag 1 s.geometry.outcome.inside
     + levels_of stacks
     + flag 14 (kind_waits is_stacked entries)
     + flag 15 stacks.error
@@ -85,9 +85,9 @@ in_three_rows i = i / 3 * 4 + i % 3
 
 -- what the ports of results read (GBATEK, "DS 3D Status" and "DS 3D Tests")
 unfoldable pub engine_word : GxPort → GeometryState → ℕ
-engine_word Lengths g = g.outcome.results.polygons + g.outcome.results.vertices * 2 ^ 16
-engine_word (Position i) g = word_in g.outcome.results.position i
-engine_word (Vector i) g = half_in g.outcome.results.vector (2 * i) + half_in g.outcome.results.vector (2 * i + 1) * 2 ^ 16
+engine_word Lengths g = length g.outcome.polygons + length g.outcome.vertices * 2 ^ 16
+engine_word (Position i) g = word_in g.outcome.position i
+engine_word (Vector i) g = half_in g.outcome.vector (2 * i) + half_in g.outcome.vector (2 * i + 1) * 2 ^ 16
 engine_word (Clip i) g = word_in (clip_of g.numbers.stacks).cells i
 engine_word (VectorMatrix i) g = word_in g.numbers.stacks.pose.vector.cells (in_three_rows i)
 engine_word _ g = 0

@@ -168,6 +168,7 @@ impl Entries {
     }
 
     /// Whether a test waits.
+    #[tactic(auto, using(crate::proofs::Counts::some_counted))]
     pub fn has_test(&self) -> bool
         ensures { result ≡ kind_waits is_tested self.now }
     {
@@ -175,6 +176,7 @@ impl Entries {
     }
 
     /// Whether a push or a pop waits.
+    #[tactic(auto, using(crate::proofs::Counts::some_counted))]
     pub fn has_stack(&self) -> bool
         ensures { result ≡ kind_waits is_stacked self.now }
     {

@@ -1,8 +1,11 @@
 use Rattle.std.proofs.Common.{ℕ, ◌≡◌, ◌<◌, ◌≤◌, ◌⊎◌, inl, inr, Bool, true, false, List, [], ◌∷◌, ◌++◌, length, take, Option, Some, None, refl, sym, ◌∙◌, ap, arith, append_assoc, append-nil, length-append}
 use Rattle.std.specs.Prelude.{if◌then◌else◌, option_to_list}
 use Rattle.std.proofs.lemmas.List.{take-append-le, take_all, length-take-le}
+use Rattle.gx_matrix.specs.declared.commands.GeometryCommand.{GeometryCommand}
+use Rattle.gx_matrix.specs.declared.commands.GeometryCommand.TheVariants.{BoxTest, PosTest, VecTest}
 use Rattle.gx_geometry.specs.declared.polygons.Vertex.{Vertex}
 use Rattle.gx_geometry.specs.declared.polygons.Polygon.{Polygon}
+use Rattle.gx_geometry.specs.Records.{NumbersState}
 use Rattle.gx_geometry.specs.Changes.{numbers_after, gives_vertex}
 use Rattle.gx_geometry.specs.Polygons.{Arrival, arrival_of, polygon_of, polygon_by, completed, has_corners, most_vertices, most_polygons}
 use Rattle.gx_geometry.specs.Lists.{GeometryAct, Command, ClearError, ClearOverflow, arrivals, polygons_of, vertices_of}
@@ -112,6 +115,15 @@ step_polygons true a came made later =
     append_assoc made (option_to_list (polygon_of (came ++ a.vertex ∷ []) a)) (polygons_of (came ++ a.vertex ∷ []) later)
 step_polygons false a came made later = refl
 
+-- a test leaves the lists
+pub tested_holds : (command : GeometryCommand) (params : List ℕ) (s : NumbersState) (o : OutcomeState) (came : List Vertex) (made : List Polygon) → Holds o came made →
+    Holds (tested command params s o) came made
+unfolding tested
+tested_holds BoxTest params s o came made held = record { vertices_are = held.vertices_are; polygons_are = held.polygons_are }
+tested_holds PosTest params s o came made held = record { vertices_are = held.vertices_are; polygons_are = held.polygons_are }
+tested_holds VecTest params s o came made held = record { vertices_are = held.vertices_are; polygons_are = held.polygons_are }
+tested_holds _ params s o came made held = held
+
 -- a list of acts
 pub grown : (acts : List GeometryAct) (g : GeometryState) (came : List Vertex) (made : List Polygon) → Holds g.outcome came made →
     Holds (after_all acts g).outcome (came ++ vertices_of (arrivals g.numbers acts)) (made ++ polygons_of came (arrivals g.numbers acts))
@@ -124,7 +136,7 @@ grown (Command command params ∷ acts) g came made held =
     let b : Bool = gives_vertex command in
     let a : Arrival = arrival_of (numbers_after command params g.numbers) in
     let o : OutcomeState = tested command params g.numbers g.outcome in
-    let kept : Holds o came made = record { vertices_are = held.vertices_are; polygons_are = held.polygons_are } in
+    let kept : Holds o came made = tested_holds command params g.numbers g.outcome came made held in
     let came' : List Vertex = if b then came ++ a.vertex ∷ [] else came in
     let made' : List Polygon = if b then polygons_with a came made else made in
     let rest = grown acts (geometry_after command params g) came' made' (step_holds b a o came made kept) in

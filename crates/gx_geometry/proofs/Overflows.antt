@@ -3,14 +3,14 @@ use Rattle.std.specs.Prelude.{◌||◌, nat_lt, if◌then◌else◌, option_to_l
 use Rattle.std.proofs.lemmas.List.{take_all, length-take-le}
 use Rattle.gx_matrix.specs.declared.commands.GeometryCommand.{GeometryCommand}
 use Rattle.gx_matrix.specs.declared.commands.GeometryCommand.TheVariants.{BoxTest, PosTest, VecTest}
-use Rattle.gx_geometry.specs.declared.numbers.Numbers.{Numbers}
+use Rattle.gx_geometry.specs.Records.{NumbersState}
 use Rattle.gx_geometry.specs.declared.polygons.Vertex.{Vertex}
 use Rattle.gx_geometry.specs.declared.polygons.Polygon.{Polygon}
 use Rattle.gx_geometry.specs.Changes.{numbers_after, gives_vertex}
 use Rattle.gx_geometry.specs.Polygons.{Arrival, arrival_of, polygon_of, most_vertices, most_polygons}
 use Rattle.gx_geometry.specs.Lists.{GeometryAct, Command, ClearError, ClearOverflow, numbers_cleared, arrivals, polygons_of, vertices_of, AreNoClear}
-use Rattle.gx_geometry.specs.States.{OutcomeState, GeometryState, IsOverflowSince, polygon_added, vertex_added, arrived, tested, geometry_after, geometry_error_cleared, overflow_cleared, results_after, after_all}
-use Rattle.gx_geometry.proofs.Growing.{below_or_not, arrived_room, arrived_full, dropped, Holds, polygons_with, step_holds, step_vertices, step_polygons, grown, fresh_holds}
+use Rattle.gx_geometry.specs.States.{OutcomeState, GeometryState, IsOverflowSince, polygon_added, vertex_added, arrived, tested, geometry_after, geometry_error_cleared, overflow_cleared, after_all}
+use Rattle.gx_geometry.proofs.Growing.{below_or_not, arrived_room, arrived_full, dropped, Holds, polygons_with, step_holds, step_vertices, step_polygons, tested_holds, grown, fresh_holds}
 
 -- The overflow is set where something was dropped since it was cleared.
 
@@ -30,26 +30,26 @@ or_join : (o : Bool) (x y z : ℕ) → x ≤ y → y ≤ z → ((o || nat_lt x y
 or_join true x y z h k = refl
 or_join false x y z h k = grind (arith, h, k)
 
-no_room : (p : Polygon) (o : OutcomeState) → most_polygons ≤ length o.polygons → (polygon_added (Some p) o).results.overflow ≡ true
+no_room : (p : Polygon) (o : OutcomeState) → most_polygons ≤ length o.polygons → (polygon_added (Some p) o).overflow ≡ true
 no_room p o h = grind arith
 
-with_room : (p : Polygon) (o : OutcomeState) → length o.polygons < most_polygons → (polygon_added (Some p) o).results.overflow ≡ o.results.overflow
+with_room : (p : Polygon) (o : OutcomeState) → length o.polygons < most_polygons → (polygon_added (Some p) o).overflow ≡ o.overflow
 with_room p o h = grind arith
 
 -- a polygon more, where k vertices were dropped before
 polygon_flag : (p : Option Polygon) (o : OutcomeState) (made : List Polygon) → o.polygons ≡ take most_polygons made →
-    (polygon_added p o).results.overflow ≡ (o.results.overflow || nat_lt (length made - most_polygons) (length (made ++ option_to_list p) - most_polygons))
-polygon_flag None o made e = or_same o.results.overflow (length made - most_polygons) (length (made ++ []) - most_polygons) (omega (arith, length-append made []))
+    (polygon_added p o).overflow ≡ (o.overflow || nat_lt (length made - most_polygons) (length (made ++ option_to_list p) - most_polygons))
+polygon_flag None o made e = or_same o.overflow (length made - most_polygons) (length (made ++ []) - most_polygons) (omega (arith, length-append made []))
 polygon_flag (Some p) o made e =
     let one : length (made ++ p ∷ []) ≡ length made + 1 = length-append made (p ∷ []) in
     elim (below_or_not (length made) most_polygons) [
       | inl h ↦
           (let same : o.polygons ≡ made = e ∙ take_all most_polygons made (omega arith) in
           let room : length o.polygons < most_polygons = omega (arith, ap (λ (xs : List Polygon). length xs) same) in
-          with_room p o room ∙ or_same o.results.overflow (length made - most_polygons) (length (made ++ p ∷ []) - most_polygons) (omega (arith, one)))
+          with_room p o room ∙ or_same o.overflow (length made - most_polygons) (length (made ++ p ∷ []) - most_polygons) (omega (arith, one)))
       | inr h ↦
           (let full : most_polygons ≤ length o.polygons = omega (arith, ap (λ (xs : List Polygon). length xs) e, length-take-le most_polygons made h) in
-          no_room p o full ∙ or_more o.results.overflow (length made - most_polygons) (length (made ++ p ∷ []) - most_polygons) (omega (arith, one)))
+          no_room p o full ∙ or_more o.overflow (length made - most_polygons) (length (made ++ p ∷ []) - most_polygons) (omega (arith, one)))
     ]
 
 same_excess : (m n i j : ℕ) → i ≡ 0 → j ≡ 0 → nat_lt m n ≡ nat_lt (i + m) (j + n)
@@ -57,7 +57,7 @@ same_excess m n i j h l = grind (arith, h, l)
 
 -- a vertex more
 arrived_flag : (a : Arrival) (o : OutcomeState) (came : List Vertex) (made : List Polygon) → Holds o came made →
-    (arrived a o).results.overflow ≡ (o.results.overflow || nat_lt (excess came made) (excess (came ++ a.vertex ∷ []) (polygons_with a came made)))
+    (arrived a o).overflow ≡ (o.overflow || nat_lt (excess came made) (excess (came ++ a.vertex ∷ []) (polygons_with a came made)))
 unfolding excess polygons_with
 arrived_flag a o came made held =
     let one : length (came ++ a.vertex ∷ []) ≡ length came + 1 = length-append came (a.vertex ∷ []) in
@@ -68,10 +68,10 @@ arrived_flag a o came made held =
           let p : Option Polygon = polygon_of (o.vertices ++ a.vertex ∷ []) a in
           let q : Option Polygon = polygon_of (came ++ a.vertex ∷ []) a in
           let pq : p ≡ q = ap (λ (xs : List Vertex). polygon_of (xs ++ a.vertex ∷ []) a) same in
-          ap (λ (x : OutcomeState). x.results.overflow) (arrived_room a o room)
+          ap (λ (x : OutcomeState). x.overflow) (arrived_room a o room)
           ∙ polygon_flag p (vertex_added a.vertex o) made held.polygons_are
-          ∙ ap (λ (x : Option Polygon). o.results.overflow || nat_lt (length made - most_polygons) (length (made ++ option_to_list x) - most_polygons)) pq
-          ∙ ap (λ (b : Bool). o.results.overflow || b)
+          ∙ ap (λ (x : Option Polygon). o.overflow || nat_lt (length made - most_polygons) (length (made ++ option_to_list x) - most_polygons)) pq
+          ∙ ap (λ (b : Bool). o.overflow || b)
           (same_excess (length made - most_polygons) (length (made ++ option_to_list q) - most_polygons) (length came - most_vertices) (length (came ++ a.vertex ∷ []) - most_vertices)
           (omega arith) (omega (arith, one))))
       | inr h ↦
@@ -81,8 +81,8 @@ arrived_flag a o came made held =
           let none : polygon_of (came ++ a.vertex ∷ []) a ≡ None = dropped (came ++ a.vertex ∷ []) a past in
           let made_same : length (made ++ option_to_list (polygon_of (came ++ a.vertex ∷ []) a)) ≡ length made =
           ap (λ (x : Option Polygon). length (made ++ option_to_list x)) none ∙ ap (λ (xs : List Polygon). length xs) (append-nil made) in
-          ap (λ (x : OutcomeState). x.results.overflow) (arrived_full a o full)
-          ∙ or_more o.results.overflow ((length came - most_vertices) + (length made - most_polygons))
+          ap (λ (x : OutcomeState). x.overflow) (arrived_full a o full)
+          ∙ or_more o.overflow ((length came - most_vertices) + (length made - most_polygons))
           ((length (came ++ a.vertex ∷ []) - most_vertices) + (length (made ++ option_to_list (polygon_of (came ++ a.vertex ∷ []) a)) - most_polygons))
           (omega (arith, one, made_same)))
     ]
@@ -93,10 +93,10 @@ excess_grows came more made others = omega (arith, length-append came more, leng
 
 -- a command, which gives a vertex or doesn't
 step_flag : (b : Bool) (a : Arrival) (o : OutcomeState) (came : List Vertex) (made : List Polygon) → Holds o came made →
-    (if b then arrived a o else o).results.overflow
-    ≡ (o.results.overflow || nat_lt (excess came made) (excess (if b then came ++ a.vertex ∷ [] else came) (if b then polygons_with a came made else made)))
+    (if b then arrived a o else o).overflow
+    ≡ (o.overflow || nat_lt (excess came made) (excess (if b then came ++ a.vertex ∷ [] else came) (if b then polygons_with a came made else made)))
 step_flag true a o came made held = arrived_flag a o came made held
-step_flag false a o came made held = or_same o.results.overflow (excess came made) (excess came made) (omega arith)
+step_flag false a o came made held = or_same o.overflow (excess came made) (excess came made) (omega arith)
 
 step_grows : (b : Bool) (a : Arrival) (came : List Vertex) (made : List Polygon) →
     excess came made ≤ excess (if b then came ++ a.vertex ∷ [] else came) (if b then polygons_with a came made else made)
@@ -105,8 +105,8 @@ step_grows true a came made = excess_grows came (a.vertex ∷ []) made (option_t
 step_grows false a came made = omega arith
 
 -- what a command tests leaves the overflow
-tested_flag : (command : GeometryCommand) (params : List ℕ) (s : Numbers) (o : OutcomeState) → (tested command params s o).results.overflow ≡ o.results.overflow
-unfolding results_after
+tested_flag : (command : GeometryCommand) (params : List ℕ) (s : NumbersState) (o : OutcomeState) → (tested command params s o).overflow ≡ o.overflow
+unfolding tested
 tested_flag BoxTest params s o = refl
 tested_flag PosTest params s o = refl
 tested_flag VecTest params s o = refl
@@ -114,19 +114,19 @@ tested_flag _ params s o = refl
 
 -- a list of acts of which none clears it
 pub flag_after : (acts : List GeometryAct) (g : GeometryState) (came : List Vertex) (made : List Polygon) → AreNoClear acts → Holds g.outcome came made →
-    (after_all acts g).outcome.results.overflow
-    ≡ (g.outcome.results.overflow || nat_lt (excess came made) (excess (came ++ vertices_of (arrivals g.numbers acts)) (made ++ polygons_of came (arrivals g.numbers acts))))
+    (after_all acts g).outcome.overflow
+    ≡ (g.outcome.overflow || nat_lt (excess came made) (excess (came ++ vertices_of (arrivals g.numbers acts)) (made ++ polygons_of came (arrivals g.numbers acts))))
 unfolding after_all arrivals geometry_after polygons_of
 flag_after [] g came made none held =
     let v : came ++ [] ≡ came = append-nil came in
     let p : made ++ [] ≡ made = append-nil made in
-    rw (v, p) (or_same g.outcome.results.overflow (excess came made) (excess came made) (omega arith))
+    rw (v, p) (or_same g.outcome.overflow (excess came made) (excess came made) (omega arith))
 flag_after (Command command params ∷ acts) g came made none held =
     let b : Bool = gives_vertex command in
     let a : Arrival = arrival_of (numbers_after command params g.numbers) in
     let o : OutcomeState = tested command params g.numbers g.outcome in
     let next : GeometryState = geometry_after command params g in
-    let kept : Holds o came made = record { vertices_are = held.vertices_are; polygons_are = held.polygons_are } in
+    let kept : Holds o came made = tested_holds command params g.numbers g.outcome came made held in
     let came' : List Vertex = if b then came ++ a.vertex ∷ [] else came in
     let made' : List Polygon = if b then polygons_with a came made else made in
     let later : List Arrival = arrivals (numbers_after command params g.numbers) acts in
@@ -134,20 +134,20 @@ flag_after (Command command params ∷ acts) g came made none held =
     flag_after acts next came' made' none (step_holds b a o came made kept)
     ∙ ap (λ (f : Bool). f || nat_lt (excess came' made') end) (step_flag b a o came made kept)
     ∙ ap (λ (f : Bool). (f || nat_lt (excess came made) (excess came' made')) || nat_lt (excess came' made') end) (tested_flag command params g.numbers g.outcome)
-    ∙ or_join g.outcome.results.overflow (excess came made) (excess came' made') end (step_grows b a came made) (excess_grows came' (vertices_of later) made' (polygons_of came' later))
-    ∙ ap (λ (xs : List Vertex). g.outcome.results.overflow || nat_lt (excess came made) (excess xs (made' ++ polygons_of came' later))) (step_vertices b a came later)
-    ∙ ap (λ (xs : List Polygon). g.outcome.results.overflow || nat_lt (excess came made) (excess (came ++ vertices_of (if b then a ∷ later else later)) xs)) (step_polygons b a came made later)
+    ∙ or_join g.outcome.overflow (excess came made) (excess came' made') end (step_grows b a came made) (excess_grows came' (vertices_of later) made' (polygons_of came' later))
+    ∙ ap (λ (xs : List Vertex). g.outcome.overflow || nat_lt (excess came made) (excess xs (made' ++ polygons_of came' later))) (step_vertices b a came later)
+    ∙ ap (λ (xs : List Polygon). g.outcome.overflow || nat_lt (excess came made) (excess (came ++ vertices_of (if b then a ∷ later else later)) xs)) (step_polygons b a came made later)
 flag_after (ClearError ∷ acts) g came made none held = flag_after acts (geometry_error_cleared g) came made none held
 flag_after (ClearOverflow ∷ acts) g came made none held = absurd none
 
 -- ---- some acts, and then more
 
-numbers_by : GeometryAct → Numbers → Numbers
+numbers_by : GeometryAct → NumbersState → NumbersState
 numbers_by (Command command params) s = numbers_after command params s
 numbers_by ClearError s = numbers_cleared s
 numbers_by ClearOverflow s = s
 
-numbers_all : List GeometryAct → Numbers → Numbers
+numbers_all : List GeometryAct → NumbersState → NumbersState
 numbers_all [] s = s
 numbers_all (act ∷ acts) s = numbers_all acts (numbers_by act s)
 
@@ -169,11 +169,11 @@ front_if : (b : Bool) (a : Arrival) (xs ys zs : List Arrival) → xs ≡ ys ++ z
 front_if true a xs ys zs e = ap (λ (l : List Arrival). a ∷ l) e
 front_if false a xs ys zs e = e
 
-arrivals_append : (xs ys : List GeometryAct) (s : Numbers) → arrivals s (xs ++ ys) ≡ arrivals s xs ++ arrivals (numbers_all xs s) ys
+arrivals_append : (xs ys : List GeometryAct) (s : NumbersState) → arrivals s (xs ++ ys) ≡ arrivals s xs ++ arrivals (numbers_all xs s) ys
 unfolding arrivals numbers_all numbers_by
 arrivals_append [] ys s = refl
 arrivals_append (Command command params ∷ xs) ys s =
-    let after : Numbers = numbers_after command params s in
+    let after : NumbersState = numbers_after command params s in
     front_if (gives_vertex command) (arrival_of after) (arrivals after (xs ++ ys)) (arrivals after xs) (arrivals (numbers_all xs after) ys) (arrivals_append xs ys after)
 arrivals_append (ClearError ∷ xs) ys s = arrivals_append xs ys (numbers_cleared s)
 arrivals_append (ClearOverflow ∷ xs) ys s = arrivals_append xs ys s
@@ -193,7 +193,7 @@ polygons_append (x ∷ xs) ys came =
     ∙ sym (append_assoc one (polygons_of here xs) (polygons_of (came ++ x.vertex ∷ vertices_of xs) ys))
 
 -- acts, a clearing of the overflow, and more acts
-whole : (before after : List GeometryAct) (s : Numbers) → arrivals s (before ++ ClearOverflow ∷ after) ≡ arrivals s before ++ arrivals (numbers_all before s) after
+whole : (before after : List GeometryAct) (s : NumbersState) → arrivals s (before ++ ClearOverflow ∷ after) ≡ arrivals s before ++ arrivals (numbers_all before s) after
 unfolding arrivals
 whole before after s = arrivals_append before (ClearOverflow ∷ after) s
 
@@ -202,10 +202,10 @@ unfolding after_all
 whole_state before after g = after_append before (ClearOverflow ∷ after) g
 
 -- the overflow is that of all that was done since a swap
-pub open_overflow : (g : GeometryState) → IsOverflowSince g g.outcome.results.overflow
+pub open_overflow : (g : GeometryState) → IsOverflowSince g g.outcome.overflow
 unfolding excess
 open_overflow g start acts fresh e = record {
-  never_cleared = λ none. sym (ap (λ (x : GeometryState). x.outcome.results.overflow) e) ∙ flag_after acts start [] [] none (fresh_holds start fresh);
+  never_cleared = λ none. sym (ap (λ (x : GeometryState). x.outcome.overflow) e) ∙ flag_after acts start [] [] none (fresh_holds start fresh);
   cleared = λ before after split none.
       (let first : List Arrival = arrivals start.numbers before in
       let mid : GeometryState = after_all before start in
@@ -213,11 +213,11 @@ open_overflow g start acts fresh e = record {
       let later : List Arrival = arrivals mid.numbers after in
       let numbers : mid.numbers ≡ numbers_all before start.numbers = after_numbers before start in
       let all : arrivals start.numbers acts ≡ first ++ later =
-      ap (λ (l : List GeometryAct). arrivals start.numbers l) split ∙ whole before after start.numbers ∙ ap (λ (n : Numbers). first ++ arrivals n after) (sym numbers) in
+      ap (λ (l : List GeometryAct). arrivals start.numbers l) split ∙ whole before after start.numbers ∙ ap (λ (n : NumbersState). first ++ arrivals n after) (sym numbers) in
       let ends : after_all acts start ≡ after_all after (overflow_cleared mid) =
       ap (λ (l : List GeometryAct). after_all l start) split ∙ whole_state before after start in
-      sym (ap (λ (x : GeometryState). x.outcome.results.overflow) e)
-      ∙ ap (λ (x : GeometryState). x.outcome.results.overflow) ends
+      sym (ap (λ (x : GeometryState). x.outcome.overflow) e)
+      ∙ ap (λ (x : GeometryState). x.outcome.overflow) ends
       ∙ flag_after after (overflow_cleared mid) (vertices_of first) (polygons_of [] first) none (record { vertices_are = held.vertices_are; polygons_are = held.polygons_are })
       ∙ ap (λ (xs : List Vertex). nat_lt (excess (vertices_of first) (polygons_of [] first)) (excess xs (polygons_of [] first ++ polygons_of (vertices_of first) later))) (sym (vertices_append first later))
       ∙ ap (λ (ps : List Polygon). nat_lt (excess (vertices_of first) (polygons_of [] first)) (excess (vertices_of (first ++ later)) ps)) (sym (polygons_append first later []))

@@ -1,3 +1,5 @@
+pub mod Records
+pub mod RecordsKept
 pub mod Numbers
 pub mod Lights
 pub mod Coordinates

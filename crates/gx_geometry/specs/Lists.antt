@@ -1,7 +1,7 @@
 use Rattle.std.specs.Prelude.{ℕ, ◌≡◌, ◌+◌, ◌-◌, ◌||◌, nat_lt, if◌then◌else◌, Bool, List, [], ◌∷◌, ◌++◌, length, take, map, option_to_list}
 use Rattle.gx_matrix.specs.Commands.{error_cleared}
 use Rattle.gx_matrix.specs.declared.commands.GeometryCommand.{GeometryCommand}
-use Rattle.gx_geometry.specs.declared.numbers.Numbers.{Numbers}
+use Rattle.gx_geometry.specs.Records.{NumbersState}
 use Rattle.gx_geometry.specs.declared.polygons.Vertex.{Vertex}
 use Rattle.gx_geometry.specs.declared.polygons.Polygon.{Polygon}
 use Rattle.gx_geometry.specs.Changes.{numbers_after, gives_vertex}
@@ -15,13 +15,13 @@ pub data GeometryAct : Type 0 where
   ClearOverflow : GeometryAct
 
 -- the numbers without the stacks' error
-abbrev pub numbers_cleared : Numbers → Numbers
+abbrev pub numbers_cleared : NumbersState → NumbersState
 numbers_cleared s = record s { stacks = error_cleared s.stacks }
 
 -- The lists of a swap, from the numbers as they were after the swap before it and all that was done since then.
 
 -- the vertices that came, each with what a polygon that it completes has
-unfoldable pub arrivals : Numbers → List GeometryAct → List Arrival
+unfoldable pub arrivals : NumbersState → List GeometryAct → List Arrival
 arrivals s [] = []
 arrivals s (Command command params ∷ acts) =
     let after = numbers_after command params s in
@@ -46,7 +46,7 @@ abbrev pub polygon_list : List Arrival → List Polygon
 polygon_list arrived = take most_polygons (polygons_of [] arrived)
 
 -- both lists, of the numbers after the swap before and all that was done since then
-pub record AreLists (start : Numbers) (acts : List GeometryAct) (vertices : List Vertex) (polygons : List Polygon) : Type 0 where
+pub record AreLists (start : NumbersState) (acts : List GeometryAct) (vertices : List Vertex) (polygons : List Polygon) : Type 0 where
   pub by_vertices : vertices ≡ vertex_list (arrivals start acts)
   pub by_polygons : polygons ≡ polygon_list (arrivals start acts)
 
@@ -62,7 +62,7 @@ AreNoClear (ClearError ∷ acts) = AreNoClear acts
 AreNoClear (ClearOverflow ∷ acts) = ⊥
 
 -- The overflow is set exactly where something was dropped since it was cleared last; where it wasn't cleared, also where it was set at the start.
-pub record IsOverflow (start : Numbers) (set : Bool) (acts : List GeometryAct) (overflow : Bool) : Type 0 where
+pub record IsOverflow (start : NumbersState) (set : Bool) (acts : List GeometryAct) (overflow : Bool) : Type 0 where
   pub never_cleared : AreNoClear acts → overflow ≡ (set || nat_lt 0 (dropped (arrivals start acts)))
   pub cleared : (before after : List GeometryAct) → acts ≡ before ++ ClearOverflow ∷ after → AreNoClear after →
       overflow ≡ nat_lt (dropped (arrivals start before)) (dropped (arrivals start acts))

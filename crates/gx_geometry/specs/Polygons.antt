@@ -4,7 +4,7 @@ use Rattle.ds_base.specs.Bits.{bit}
 use Rattle.gx_matrix.specs.Commands.{clip_of}
 use Rattle.gx_geometry.specs.declared.numbers.Kind.{Kind}
 use Rattle.gx_geometry.specs.declared.numbers.Kind.TheVariants.{Triangles, Quads, TriangleStrip, QuadStrip}
-use Rattle.gx_geometry.specs.declared.numbers.Numbers.{Numbers}
+use Rattle.gx_geometry.specs.Records.{NumbersState}
 use Rattle.gx_geometry.specs.declared.polygons.Vertex.{Vertex}
 use Rattle.gx_geometry.specs.declared.polygons.Polygon.{Polygon}
 use Rattle.gx_geometry.specs.Boxes.{through}
@@ -12,7 +12,7 @@ use Rattle.gx_geometry.specs.Boxes.{through}
 -- The polygons that vertices make (GBATEK, "DS 3D Polygon Definitions by Vertices" and "DS 3D Polygon Attributes")
 
 -- the vertex that a vertex command gives, through the clip matrix, with the colour and the texture coordinates as they are then
-unfoldable pub vertex_of : Numbers → Vertex
+unfoldable pub vertex_of : NumbersState → Vertex
 vertex_of s =
     let c = through s.point (clip_of s.stacks) in
     record { x = c.x; y = c.y; z = c.z; w = c.w; colour = s.colour; s = s.coordinates.s; t = s.coordinates.t }
@@ -42,7 +42,7 @@ pub record Arrival : Type 0 where
   pub palette : ℕ
   pub viewport : ℕ
 
-abbrev pub arrival_of : Numbers → Arrival
+abbrev pub arrival_of : NumbersState → Arrival
 arrival_of s = record {
   vertex = vertex_of s;
   kind = s.kind;

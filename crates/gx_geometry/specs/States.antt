@@ -1,10 +1,10 @@
-use Rattle.std.specs.Prelude.{ℕ, ◌≡◌, ◌+◌, nat_lt, if◌then◌else◌, Bool, true, false, ℤ, pos, List, [], ◌∷◌, ◌++◌, length, slice_index, Option, Some, None}
+use Rattle.std.specs.Prelude.{ℕ, ◌≡◌, nat_lt, if◌then◌else◌, Bool, true, false, ℤ, pos, List, [], ◌∷◌, ◌++◌, length, slice_index, Option, Some, None}
 use Rattle.ds_base.specs.declared.ticks.Tick.{Tick}
 use Rattle.gx_matrix.specs.Commands.{clip_of}
 use Rattle.gx_matrix.specs.declared.commands.GeometryCommand.{GeometryCommand}
 use Rattle.gx_matrix.specs.declared.commands.GeometryCommand.TheVariants.{BoxTest, PosTest, VecTest}
 use Rattle.gx_geometry.specs.declared.boxes.Clipped.{Clipped}
-use Rattle.gx_geometry.specs.declared.numbers.Numbers.{Numbers}
+use Rattle.gx_geometry.specs.Records.{NumbersState}
 use Rattle.gx_geometry.specs.declared.polygons.Vertex.{Vertex}
 use Rattle.gx_geometry.specs.declared.polygons.Polygon.{Polygon}
 use Rattle.gx_geometry.specs.declared.results.Results.{Results}
@@ -24,61 +24,74 @@ pub record Swapped : Type 0 where
   pub vertices : List Vertex
   pub polygons : List Polygon
 
--- what commands bring about beside the numbers: the results of tests, and the open lists
+-- What commands bring about beside the numbers: the results of tests, the open lists, and whether a vertex or a polygon was dropped since that was cleared.
 pub record OutcomeState : Type 0 where
-  pub results : Results
+  -- the vertex of the last position test in clip space: x, y, z, w, signed words with 12 fractional bits (GBATEK, POS_RESULT)
+  pub position : List ℤ
+  -- the vector of the last vector test, signed halves with 12 fractional bits (GBATEK, VEC_RESULT)
+  pub vector : List ℤ
+  -- whether the last box test saw its box (GBATEK, GXSTAT bit 1)
+  pub inside : Bool
   pub vertices : List Vertex
   pub polygons : List Polygon
+  -- GBATEK, DISP3DCNT bit 13
+  pub overflow : Bool
 
 pub record GeometryState : Type 0 where
-  pub numbers : Numbers
+  pub numbers : NumbersState
   pub outcome : OutcomeState
   pub last : Swapped
 
 -- nothing was tested, no vertex came and nothing was swapped at boot (our choice)
-abbrev pub no_results : Results
-no_results = record {
-  position = pos 0 ∷ pos 0 ∷ pos 0 ∷ pos 0 ∷ [];
-  vector = pos 0 ∷ pos 0 ∷ pos 0 ∷ [];
-  inside = false;
-  vertices = 0;
-  polygons = 0;
-  overflow = false;
-}
-
 abbrev pub no_swap : Swapped
 no_swap = record { tick = record { 0 = 0 }; parameter = 0; vertices = []; polygons = [] }
 
 abbrev pub no_outcome : OutcomeState
-no_outcome = record { results = no_results; vertices = []; polygons = [] }
+no_outcome = record {
+  position = pos 0 ∷ pos 0 ∷ pos 0 ∷ pos 0 ∷ [];
+  vector = pos 0 ∷ pos 0 ∷ pos 0 ∷ [];
+  inside = false;
+  vertices = [];
+  polygons = [];
+  overflow = false;
+}
 
 abbrev pub geometry_at_boot : GeometryState
 geometry_at_boot = record { numbers = numbers_at_boot; outcome = no_outcome; last = no_swap }
 
--- the results after a command: those of the box, the position and the vector test (GBATEK, BOX_TEST, POS_TEST, VEC_TEST)
+-- what is told of it: the results, and how many vertices and polygons the open lists have (GBATEK, RAM_COUNT)
+abbrev pub results_of : OutcomeState → Results
+results_of o = record {
+  position = o.position;
+  vector = o.vector;
+  inside = o.inside;
+  vertices = length o.vertices;
+  polygons = length o.polygons;
+  overflow = o.overflow;
+}
+
+-- after a command that tests: the box, the position or the vector test (GBATEK, BOX_TEST, POS_TEST, VEC_TEST)
 abbrev pub clip_words : Clipped → List ℤ
 clip_words c = c.x ∷ c.y ∷ c.z ∷ c.w ∷ []
 
-unfoldable pub results_after : GeometryCommand → List ℕ → Numbers → Results → Results
-results_after BoxTest params s r = record r { inside = box_test params (clip_of s.stacks) }
-results_after PosTest params s r = record r { position = clip_words (through (point_by_halves params) (clip_of s.stacks)) }
-results_after VecTest params s r = record r { vector = vector_test (slice_index params 0) s.stacks.pose.vector }
-results_after _ params s r = r
+unfoldable pub tested : GeometryCommand → List ℕ → NumbersState → OutcomeState → OutcomeState
+tested BoxTest params s o = record o { inside = box_test params (clip_of s.stacks) }
+tested PosTest params s o = record o { position = clip_words (through (point_by_halves params) (clip_of s.stacks)) }
+tested VecTest params s o = record o { vector = vector_test (slice_index params 0) s.stacks.pose.vector }
+tested _ params s o = o
 
 -- A vertex comes: it is added to the open list, and with it the polygon that it completes; what comes past a limit is dropped and sets the overflow
 -- (GBATEK, DISP3DCNT bit 13, and "DS 3D Overview": 6144 vertices and 2048 polygons).
 abbrev pub overflown : OutcomeState → OutcomeState
-overflown o = record o { results = record o.results { overflow = true } }
+overflown o = record o { overflow = true }
 
 abbrev pub polygon_added : Option Polygon → OutcomeState → OutcomeState
 polygon_added None o = o
 polygon_added (Some p) o =
-    if nat_lt (length o.polygons) most_polygons
-    then record o { polygons = o.polygons ++ p ∷ []; results = record o.results { polygons = length o.polygons + 1 } }
-    else overflown o
+    if nat_lt (length o.polygons) most_polygons then record o { polygons = o.polygons ++ p ∷ [] } else overflown o
 
 abbrev pub vertex_added : Vertex → OutcomeState → OutcomeState
-vertex_added v o = record o { vertices = o.vertices ++ v ∷ []; results = record o.results { vertices = length o.vertices + 1 } }
+vertex_added v o = record o { vertices = o.vertices ++ v ∷ [] }
 
 unfoldable pub arrived : Arrival → OutcomeState → OutcomeState
 arrived a o =
@@ -87,10 +100,7 @@ arrived a o =
     else overflown o
 
 -- after a command: its test, by the numbers before it, and its vertex, by those after it
-abbrev pub tested : GeometryCommand → List ℕ → Numbers → OutcomeState → OutcomeState
-tested command params s o = record o { results = results_after command params s o.results }
-
-abbrev pub outcome_after : GeometryCommand → List ℕ → Numbers → OutcomeState → OutcomeState
+abbrev pub outcome_after : GeometryCommand → List ℕ → NumbersState → OutcomeState → OutcomeState
 outcome_after command params s o =
     if gives_vertex command then arrived (arrival_of (numbers_after command params s)) (tested command params s o) else tested command params s o
 
@@ -104,7 +114,7 @@ abbrev pub geometry_error_cleared : GeometryState → GeometryState
 geometry_error_cleared g = record g { numbers = numbers_cleared g.numbers }
 
 abbrev pub flag_cleared : OutcomeState → OutcomeState
-flag_cleared o = record o { results = record o.results { overflow = false } }
+flag_cleared o = record o { overflow = false }
 
 abbrev pub overflow_cleared : GeometryState → GeometryState
 overflow_cleared g = record g { outcome = flag_cleared g.outcome }
@@ -121,7 +131,7 @@ after_all (act ∷ acts) g = after_all acts (after_act act g)
 
 -- a swap at a tick gives out both lists and empties them; all else stays but the parameter, which is used up
 abbrev pub emptied : OutcomeState → OutcomeState
-emptied o = record { results = record o.results { vertices = 0; polygons = 0 }; vertices = []; polygons = [] }
+emptied o = record o { vertices = []; polygons = [] }
 
 unfoldable pub swapped : Tick → GeometryState → GeometryState
 swapped now g = record {
@@ -144,4 +154,4 @@ AreListsSince g vertices polygons =
 abbrev pub IsOverflowSince : GeometryState → Bool → Type 0
 IsOverflowSince g overflow =
     (start : GeometryState) → (acts : List GeometryAct) → IsFresh start → after_all acts start ≡ g
-    → IsOverflow start.numbers start.outcome.results.overflow acts overflow
+    → IsOverflow start.numbers start.outcome.overflow acts overflow

@@ -1,10 +1,11 @@
 //! The geometry engine: commands to vertices and polygons.
 
-ghost use Rattle.std.specs.Prelude.{◌≡◌, ◌≤◌, ◌+◌, ◌^◌, ℕ, length, List, IfOk};
+ghost use Rattle.std.specs.Prelude.{◌≡◌, ◌≤◌, ◌+◌, ◌^◌, ℕ, List, IfOk};
 ghost use Rattle.gx_matrix.specs.CommandTable.{command_of, HasParameters, IsCommand, command_taken};
 ghost use Rattle.gx_geometry.specs.Numbers.{numbers_at_boot};
-ghost use Rattle.gx_geometry.specs.States.{GeometryState, geometry_at_boot, geometry_after, swapped, AreListsSince, IsOverflowSince, geometry_error_cleared, overflow_cleared};
+ghost use Rattle.gx_geometry.specs.States.{GeometryState, geometry_at_boot, geometry_after, results_of, swapped, AreListsSince, IsOverflowSince, geometry_error_cleared, overflow_cleared};
 ghost use Rattle.gx_geometry.specs.Bounds.{AreSmall, AreLimited, IsGeometry};
+ghost use Rattle.gx_geometry.specs.RecordsKept.{numbers_seen};
 
 use crate::changes::gives_vertex;
 use crate::lists::Lists;
@@ -26,18 +27,19 @@ pub struct Geometry {
 
 impl Model for Geometry {
     ghost use Rattle.gx_geometry.specs.Bounds.{AreSmall, AreLimited};
+    ghost use Rattle.gx_geometry.specs.RecordsKept.{numbers_seen};
     ghost use Rattle.gx_geometry.specs.States.{GeometryState};
 
     ghost Value = { GeometryState };
 
-    ghost view = { λ g. record { numbers = g.numbers; outcome = g.outcome; last = g.last } };
+    ghost view = { λ g. record { numbers = numbers_seen g.numbers; outcome = g.outcome; last = g.last } };
 
-    ghost invariant = { λ g. AreSmall g.numbers × AreLimited g.last.vertices g.last.polygons };
+    ghost invariant = { λ g. AreSmall (numbers_seen g.numbers) × AreLimited g.last.vertices g.last.polygons };
 }
 
 #[tactic(auto, unfolding(crate::specs::Numbers::numbers_at_boot, crate::specs::Numbers::no_table))]
 fn numbers_at_boot() -> Numbers
-    ensures { result ≡ numbers_at_boot }
+    ensures { numbers_seen result ≡ numbers_at_boot }
 {
     let coordinates = Coordinates { s: 0, t: 0 };
     let light = Light {
@@ -160,9 +162,7 @@ impl Geometry {
 
     /// The results of tests, how far the open lists are filled, and whether they overflowed.
     pub fn results(&self) -> &Results
-        ensures value { result.now ≡ self.now.outcome.results }
-        ensures vertices { result.now.vertices ≡ length self.now.outcome.vertices }
-        ensures polygons { result.now.polygons ≡ length self.now.outcome.polygons }
+        ensures value { result.now ≡ results_of self.now.outcome }
         ensures lists { AreListsSince self.now self.now.outcome.vertices self.now.outcome.polygons }
         ensures overflow { IsOverflowSince self.now result.now.overflow }
     {

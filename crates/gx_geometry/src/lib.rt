@@ -2,9 +2,9 @@
 //! the matrices, the current vertex, colour and texture coordinates, the material and the lights, and adds to the open lists of
 //! vertices and polygons, which a swap gives out. All memory is taken by `Geometry::new`.
 //!
-//! `specs/` has what each command leaves (Changes), the formulas (Numbers, Lights, Coordinates, Boxes, Polygons), the lists of a swap from all
-//! that was done since the one before (Lists), the engine as a whole (States), and what holds at every time (Bounds). How the code finds a
-//! polygon's corners stands apart (Backs).
+//! `specs/` has the numbers that are kept (Records), what each command leaves (Changes), the formulas (Numbers, Lights, Coordinates, Boxes,
+//! Polygons), the lists of a swap from all that was done since the one before (Lists), the engine as a whole (States), and what holds at every
+//! time (Bounds). How the code finds a polygon's corners stands apart (Backs), and so do the numbers that its structs stand for (RecordsKept).
 #![tactic(auto)]
 
 mod boxes;
@@ -22,5 +22,6 @@ mod results;
 
 pub use engine::Geometry;
 pub use lists::Lists;
+pub use numbers::Kind;
 pub use polygons::{Polygon, Vertex};
 pub use results::Results;

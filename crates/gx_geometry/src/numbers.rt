@@ -1,8 +1,10 @@
 //! The numbers that geometry commands keep, and the fields of their parameters.
 
-ghost use Rattle.std.specs.Prelude.{◌≡◌, ◌<◌, ◌≤◌, ◌*◌, ℤ, pos, negsuc, ◌*ℤ◌, ◌≤ℤ◌, length};
+ghost use Rattle.std.specs.Prelude.{◌≡◌, ◌<◌, ◌≤◌, ◌*◌, ℤ, pos, negsuc, ◌*ℤ◌, ◌≤ℤ◌, length, slice_set};
 ghost use Rattle.gx_matrix.specs.Commands.{signed_bits};
 ghost use Rattle.gx_matrix.specs.CommandTable.{HasParameters};
+ghost use Rattle.gx_geometry.specs.Lights.{light_at};
+ghost use Rattle.gx_geometry.specs.RecordsKept.{light_seen, numbers_seen, point_seen};
 ghost use Rattle.gx_geometry.specs.Numbers.{low_half, high_half, kind_of, point_by_halves, point_by_tens, point_moved, point_by_word, point_after};
 
 use crate::exact::wrapped_sum;
@@ -106,6 +108,24 @@ pub struct Numbers {
     pub parameter: u32,
 }
 
+impl Numbers {
+    /// One of the lights.
+    pub fn light(&self, i: u8) -> Light
+        requires { i < 4 }
+        ensures { light_seen result ≡ light_at (numbers_seen self.now) i }
+    {
+        self.lights[i as usize]
+    }
+
+    /// Another light in its place.
+    pub fn put_light(&mut self, i: u8, light: Light)
+        requires { i < 4 }
+        ensures { numbers_seen self.new ≡ record (numbers_seen self.old) { lights = slice_set (numbers_seen self.old).lights i (light_seen light) } }
+    {
+        self.lights[i as usize] = light;
+    }
+}
+
 /// The lower half of a word, signed.
 pub fn low_half(word: u32) -> i16
     ensures { result ≡ low_half word }
@@ -155,7 +175,7 @@ fn times_64(number: i16) -> i16
 #[tactic(auto, using(gx_matrix::proofs::Sums::casts), unfolding(crate::specs::Numbers::point_by_halves))]
 pub fn point_by_halves(params: &[u32]) -> Point
     requires { length params.now ≡ 2 }
-    ensures { result ≡ point_by_halves params.now }
+    ensures { point_seen result ≡ point_by_halves params.now }
 {
     Point {
         x: low_half(params[0]),
@@ -166,7 +186,7 @@ pub fn point_by_halves(params: &[u32]) -> Point
 
 #[tactic(auto, using(gx_matrix::proofs::Sums::casts), unfolding(crate::specs::Numbers::point_by_tens))]
 fn point_by_tens(word: u32) -> Point
-    ensures { result ≡ point_by_tens word }
+    ensures { point_seen result ≡ point_by_tens word }
 {
     Point {
         x: times_64(ten(0, word)),
@@ -177,7 +197,7 @@ fn point_by_tens(word: u32) -> Point
 
 #[tactic(auto, using(gx_matrix::proofs::Sums::casts), unfolding(crate::specs::Numbers::point_moved))]
 fn point_moved(word: u32, p: Point) -> Point
-    ensures { result ≡ point_moved word p }
+    ensures { point_seen result ≡ point_moved word (point_seen p) }
 {
     Point {
         x: wrapped_sum(p.x, ten(0, word)),
@@ -189,7 +209,7 @@ fn point_moved(word: u32, p: Point) -> Point
 /// The current vertex after a vertex command of one word.
 #[tactic(auto, using(gx_matrix::proofs::Sums::casts), unfolding(crate::specs::Numbers::point_by_word))]
 fn point_by_word(command: GeometryCommand, word: u32, p: Point) -> Point
-    ensures { result ≡ point_by_word command word p }
+    ensures { point_seen result ≡ point_by_word command word (point_seen p) }
 {
     let (low, high) = (low_half(word), high_half(word));
     match command {
@@ -219,7 +239,7 @@ fn point_by_word(command: GeometryCommand, word: u32, p: Point) -> Point
 pub fn point_after(command: GeometryCommand, params: &[u32], p: Point) -> Point
     requires parameters { HasParameters command params.now }
     requires some { 1 ≤ length params.now }
-    ensures { result ≡ point_after command params.now p }
+    ensures { point_seen result ≡ point_after command params.now (point_seen p) }
 {
     match command {
         GeometryCommand::Vtx16 => point_by_halves(params),

@@ -3,8 +3,9 @@
 ghost use Rattle.std.specs.Prelude.{◌≡◌, ◌<◌, ◌≤◌, ◌^◌, length, IfOk, IfSome};
 ghost use Rattle.gx_matrix.specs.CommandTable.{HasParameters};
 ghost use Rattle.gx_geometry.specs.Polygons.{arrival_of, polygon_of, most_vertices};
-ghost use Rattle.gx_geometry.specs.States.{no_outcome, tested, polygon_added, vertex_added, arrived, flag_cleared, emptied};
+ghost use Rattle.gx_geometry.specs.States.{no_outcome, results_of, tested, polygon_added, vertex_added, arrived, flag_cleared, emptied};
 ghost use Rattle.gx_geometry.specs.Bounds.{AreSmall, AreLimited};
+ghost use Rattle.gx_geometry.specs.RecordsKept.{numbers_seen};
 
 use crate::boxes::{box_test, through};
 use crate::capped::Capped;
@@ -34,7 +35,7 @@ impl Model for Outcome {
 
     ghost Value = { OutcomeState };
 
-    ghost view = { λ o. record { results = o.results; vertices = o.vertices; polygons = o.polygons } };
+    ghost view = { λ o. record { position = o.results.position; vector = o.results.vector; inside = o.results.inside; vertices = o.vertices; polygons = o.polygons; overflow = o.results.overflow } };
 
     ghost invariant = { λ o. (o.results.vertices ≡ length o.vertices) × (o.results.polygons ≡ length o.polygons) × (length o.vertices ≤ most_vertices) × (length o.polygons ≤ most_polygons) × HaveColours o.vertices × HavePalettes o.polygons };
 }
@@ -90,7 +91,7 @@ impl Outcome {
     fn completed(&self, s: &Numbers) -> Option<Polygon>
         requires run { 1 ≤ s.now.run }
         requires palette { s.now.palette < 2 ^ 13 }
-        ensures value { result ≡ polygon_of self.now.vertices (arrival_of s.now) }
+        ensures value { result ≡ polygon_of self.now.vertices (arrival_of (numbers_seen s.now)) }
         ensures palette { IfSome result (λ p. p.palette < 2 ^ 13) }
     {
         polygon_of(self.vertices.as_slice(), s)
@@ -100,8 +101,8 @@ impl Outcome {
     #[tactic(auto, unfolding(crate::specs::States::arrived))]
     pub fn arrive(&mut self, s: &Numbers)
         requires run { 1 ≤ s.now.run }
-        requires small { AreSmall s.now }
-        ensures { self.new ≡ arrived (arrival_of s.now) self.old }
+        requires small { AreSmall (numbers_seen s.now) }
+        ensures { self.new ≡ arrived (arrival_of (numbers_seen s.now)) self.old }
     {
         if (self.results.vertices as usize) < VERTICES {
             self.add_vertex(vertex_of(s));
@@ -113,10 +114,10 @@ impl Outcome {
     }
 
     /// What the tests among the commands give.
-    #[tactic(auto, using(gx_matrix::proofs::Sums::casts), unfolding(crate::specs::States::results_after))]
+    #[tactic(auto, using(gx_matrix::proofs::Sums::casts), unfolding(crate::specs::States::tested))]
     pub fn test(&mut self, command: GeometryCommand, params: &[u32], s: &Numbers)
         requires { HasParameters command params.now }
-        ensures { self.new ≡ tested command params.now s.now self.old }
+        ensures { self.new ≡ tested command params.now (numbers_seen s.now) self.old }
     {
         match command {
             GeometryCommand::BoxTest => self.results.inside = box_test(params, &s.stacks.clip()),
@@ -151,9 +152,7 @@ impl Outcome {
 
     /// The results of tests, how far the lists are filled, and whether they overflowed.
     pub fn results(&self) -> &Results
-        ensures value { result.now ≡ self.now.results }
-        ensures vertices { result.now.vertices ≡ length self.now.vertices }
-        ensures polygons { result.now.polygons ≡ length self.now.polygons }
+        ensures value { result.now ≡ results_of self.now }
         ensures limited { AreLimited self.now.vertices self.now.polygons }
     {
         &self.results

@@ -3,6 +3,7 @@
 ghost use Rattle.std.specs.Prelude.{◌≡◌, ◌<◌, ◌≤◌, ◌+◌, ◌-◌, ◌^◌, ◌-ℤ◌, ◌+ℤ◌, ◌*ℤ◌, ◌≤ℤ◌, pos, negsuc, length, slice_index, IfSome};
 ghost use Rattle.ds_base.specs.Bits.{bit};
 ghost use Rattle.gx_geometry.specs.Polygons.{vertex_of, arrival_of, most_vertices, minor, times_minor, determinant, is_kept, polygon_of};
+ghost use Rattle.gx_geometry.specs.RecordsKept.{numbers_seen};
 ghost use Rattle.gx_geometry.specs.Backs.{shape_of, corners_back, vertex_back, seen_back, indices_back, polygon_back, polygon_by_shape};
 
 use crate::boxes::through;
@@ -61,7 +62,7 @@ pub enum Shape {
 /// The vertex that a vertex command gives.
 #[tactic(auto, using(gx_matrix::proofs::Sums::casts), unfolding(crate::specs::Polygons::vertex_of))]
 pub fn vertex_of(s: &Numbers) -> Vertex
-    ensures value { result ≡ vertex_of s.now }
+    ensures value { result ≡ vertex_of (numbers_seen s.now) }
     ensures colour { result.colour ≡ s.now.colour }
 {
     let c = through(s.point, &s.stacks.clip());
@@ -278,7 +279,7 @@ fn indices_of(came: &[Vertex], shape: Shape) -> [u16; 4]
 fn polygon_with(came: &[Vertex], s: &Numbers, shape: Shape) -> Polygon
     requires some { length (corners_back shape) ≤ length came.now }
     requires within { length came.now ≤ most_vertices }
-    ensures value { result ≡ polygon_back came.now (arrival_of s.now) shape }
+    ensures value { result ≡ polygon_back came.now (arrival_of (numbers_seen s.now)) shape }
     ensures palette { result.palette ≡ s.now.palette }
 {
     Polygon {
@@ -295,7 +296,7 @@ fn polygon_with(came: &[Vertex], s: &Numbers, shape: Shape) -> Polygon
 fn polygon_by_shape(came: &[Vertex], s: &Numbers) -> Option<Polygon>
     requires run { 1 ≤ s.now.run }
     requires within { length came.now ≤ most_vertices }
-    ensures value { result ≡ polygon_by_shape (shape_of s.now.kind (s.now.run - 1)) came.now (arrival_of s.now) }
+    ensures value { result ≡ polygon_by_shape (shape_of s.now.kind (s.now.run - 1)) came.now (arrival_of (numbers_seen s.now)) }
     ensures palette { IfSome result (λ p. p.palette ≡ s.now.palette) }
 {
     match shape_of(s.kind, s.run - 1) {
@@ -311,7 +312,7 @@ fn polygon_by_shape(came: &[Vertex], s: &Numbers) -> Option<Polygon>
 pub fn polygon_of(came: &[Vertex], s: &Numbers) -> Option<Polygon>
     requires run { 1 ≤ s.now.run }
     requires within { length came.now ≤ most_vertices }
-    ensures value { result ≡ polygon_of came.now (arrival_of s.now) }
+    ensures value { result ≡ polygon_of came.now (arrival_of (numbers_seen s.now)) }
     ensures palette { IfSome result (λ p. p.palette ≡ s.now.palette) }
 {
     polygon_by_shape(came, s)

@@ -11,6 +11,7 @@ mod lists;
 mod matrices;
 mod rig;
 mod stacks;
+mod swaps;
 mod vertices;
 
 /// A matrix that is seen.

@@ -3,10 +3,12 @@ use Rattle.ds_map.specs.Moves.{unit_moved}
 use Rattle.ds_machine.specs.States.{MachineState}
 use Rattle.ds_machine.specs.Steps.{map_of, with_map}
 use Rattle.ds_machine.specs.contracts.parts.Parts.{the_view}
+use Rattle.ds_map.proofs.Reached.{unreached_by}
 use Rattle.ds_machine.proofs.Reached.{left_map}
 use Rattle.ds_machine.proofs.parts.Parts.move_unit.Goals as goal
 
 pub returns-clause-map : goal.returns-clause-map
 returns-clause-map c =
-    left_map c.args.proc (the_view c.self.inside) c.move_unit.new.self c.move_unit.new.io _ c.move_unit.ensures.apart c.move_unit.ensures.map
+    left_map c.args.proc (the_view c.self.inside) c.move_unit.new.self c.move_unit.new.io _
+    (unreached_by c.args.proc c.move_unit.new.self c.self.inside.map c.move_unit.ensures.wram c.move_unit.ensures.palette c.move_unit.ensures.oam) c.move_unit.ensures.map
     ∙ ap (λ (s : MachineState). with_map c.args.proc s (unit_moved c.args.proc c.args.tick c.args.unit (map_of c.args.proc s))) c.self.view_is

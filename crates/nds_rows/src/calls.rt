@@ -13,6 +13,9 @@ use std::alloc::{AllocError, Global};
 /// The greatest limit of a turn here, in ticks.
 const MOST_TICKS: u64 = 100_000_000_000;
 
+/// More turns than are taken below one more tick.
+const MOST_TURNS: u64 = 1_000;
+
 /// The call with this number, or none.
 fn only(alloc: Global, call: u64) -> Result<Calls, AllocError> {
     let mut calls = Calls::new(alloc);
@@ -131,11 +134,28 @@ pub fn turns_to_a_frame(console: &mut Console, until: u64) -> u64 {
     0
 }
 
+/// Takes turns with a limit until none is left below it.
+fn turn_to_end(console: &mut Console, until: u64) {
+    for _ in 0..MOST_TURNS {
+        match turn(console, until) {
+            Turned::AtEnd | Turned::Stopped(_) => return,
+            Turned::Ran | Turned::Frame { swapped: _ } => {}
+        }
+    }
+}
+
+/// Takes turns with each limit up to this one, from 1 on, each to its end.
+pub fn climb(console: &mut Console, until: u64) {
+    for limit in 0..until.min(MOST_TICKS) {
+        turn_to_end(console, limit + 1);
+    }
+}
+
 /// Plays a console to a tick over any sink.
-fn play_over<O: Sink>(console: &mut Console, until: u64, out: &mut O)
+fn play_over<O: Sink>(console: &mut Console, until: u64, keep: Keep, out: &mut O)
     requires { console.old.stopped ≡ None }
 {
-    let _ = play(console, Tick(until.min(MOST_TICKS)), Keep::Nothing, out);
+    let _ = play(console, Tick(until.min(MOST_TICKS)), keep, out);
 }
 
 /// Whether a console can be played on. (A turn without a tick below its limit changes nothing, and tells whether the console has stopped.)
@@ -149,11 +169,16 @@ fn goes_on(console: &mut Console) -> bool
 }
 
 /// Plays a console that hasn't stopped to a tick, and gives what is written.
-pub fn played(alloc: Global, console: &mut Console, until: u64) -> Result<Vec<u8>, BadLine> {
+pub fn played(
+    alloc: Global,
+    console: &mut Console,
+    until: u64,
+    keep: Keep,
+) -> Result<Vec<u8>, BadLine> {
     if !goes_on(console) {
         return Err(BadLine::NoConsole);
     }
     let mut out = MemSink::new(alloc, Calls::new(alloc), 6_000_000)?;
-    play_over(console, until, &mut out);
+    play_over(console, until, keep, &mut out);
     Ok(Vec::from_slice(alloc, out.bytes())?)
 }

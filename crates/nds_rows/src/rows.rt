@@ -2,10 +2,10 @@
 
 ghost use Rattle.std.specs.Prelude.{◌≡◌, None};
 
-use crate::calls::{call, played, seat_scene, turn, turns_to_a_frame};
+use crate::calls::{call, climb, played, seat_scene, turn, turns_to_a_frame};
 use crate::checks::fact_differs;
 use crate::consoles::turned;
-use nds_top::{empty_seat, let_go};
+use nds_top::{Keep, empty_seat, let_go};
 use row_files::{
     Act, BEGUN, BadLine, Came, Line, Player, Said, Scene, begins_part, change_all, go_past,
     has_call, has_facts, numbers_differ,
@@ -41,9 +41,10 @@ fn play_on(
     alloc: Global,
     console: &mut Console,
     until: u64,
+    keep: Keep,
     came: &mut Came,
 ) -> Result<(), BadLine> {
-    came.out = played(alloc, console, until)?;
+    came.out = played(alloc, console, until, keep)?;
     came.is_told = true;
     came.from = 0;
     Ok(())
@@ -61,7 +62,12 @@ fn act_on(
         Act::Turn { until, wanted } => Ok(take_turn(alloc, console, *until, wanted.as_slice())?),
         Act::Frame { until, turns } => Ok(take_frame(alloc, console, *until, *turns)?),
         Act::Play { until } => {
-            play_on(alloc, console, *until, came)?;
+            play_on(alloc, console, *until, Keep::Nothing, came)?;
+            Ok(None)
+        }
+        Act::Climb { until } => {
+            climb(console, *until);
+            play_on(alloc, console, *until, Keep::Last, came)?;
             Ok(None)
         }
     }

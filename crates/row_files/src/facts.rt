@@ -26,7 +26,7 @@ pub enum Quantity {
     Consoles,
     /// Whether the output's sink tells all that was put, 0 or 1.
     Told,
-    /// Whether the output is the one that was kept: 0 if not, 1 if it is a front of it that isn't all, 2 if it is all of it.
+    /// Whether the output is the one that was kept: 0 if not, 1 if it is a front of it that isn't all, 2 if it is all of it, 3 if only its last eight bytes, the count of turns, differ.
     Kept,
     /// Words of a memory, from a place on, in the output and in the console.
     Words(Memory, usize),
@@ -100,7 +100,7 @@ enum Form {
 }
 
 /// The words that are looked at.
-const FORMS: [(&str, Form); 30] = [
+const FORMS: [(&str, Form); 31] = [
     ("status", Form::Numbers(Quantity::Status, Radix::Decimal)),
     ("length", Form::Numbers(Quantity::Length, Radix::Decimal)),
     ("end", Form::Numbers(Quantity::End, Radix::Decimal)),
@@ -111,6 +111,7 @@ const FORMS: [(&str, Form); 30] = [
     ("untold", Form::Word(Quantity::Told, 0)),
     ("front", Form::Word(Quantity::Kept, 1)),
     ("same", Form::Word(Quantity::Kept, 2)),
+    ("alike", Form::Word(Quantity::Kept, 3)),
     ("at", Form::At),
     ("upper", Form::Pixels(false)),
     ("lower", Form::Pixels(true)),

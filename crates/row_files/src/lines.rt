@@ -29,6 +29,10 @@ pub enum Act {
     Play {
         until: u64,
     },
+    /// The console takes turns with each limit up to a tick, from 1 on, and what is then written with the last frame and lists is the output.
+    Climb {
+        until: u64,
+    },
 }
 
 /// A line.
@@ -115,6 +119,9 @@ fn act_line(word: &str, line: &mut Cursor<'_>) -> Option<Act> {
         "turn" => turn(line),
         "frame" => frame(line),
         "play" => Act::Play {
+            until: line.number(),
+        },
+        "climb" => Act::Climb {
             until: line.number(),
         },
         _ => return None,

@@ -151,9 +151,16 @@ fn kept_of(came: &Came, kept: &[u8]) -> u64 {
         2
     } else if kept.starts_with(out) {
         1
+    } else if before_turns(out) == before_turns(kept) {
+        3
     } else {
         0
     }
+}
+
+/// What an output has before its last eight bytes, the count of turns.
+fn before_turns(out: &[u8]) -> &[u8] {
+    out.get(..out.len().saturating_sub(8)).unwrap_or(&[])
 }
 
 /// The place of a memory among the memories as they are written.

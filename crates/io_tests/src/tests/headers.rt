@@ -213,6 +213,20 @@ fn both_images_may_be_empty(rt: HostRuntime) -> Result<(), AllocError> {
     Ok(())
 }
 
+/// The cartridge's file cut to each length.
+#[test]
+fn a_file_without_a_whole_header_is_too_short(rt: HostRuntime) -> Result<(), AllocError> {
+    for length in 0..513u32 {
+        let wanted = (length < 512).then_some(HeaderFault {
+            field: Short,
+            value: length,
+        });
+        let fault = refusal(rt.alloc(), length as usize, (SAME, 4), (SAME, 4))?;
+        assert!(rt; fault == wanted, "{length}");
+    }
+    Ok(())
+}
+
 /// Both processors' places and entries.
 fn places(cart: &Cart) -> [u32; 4] {
     [

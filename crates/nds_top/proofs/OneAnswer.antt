@@ -183,18 +183,18 @@ module _ (laws : TopLaws) (files : List Named) where
   text_one text s t xs ys (inr a) (inl b) = absurd (reads.listing_good text a.0 b.0 a.1 b.1)
   text_one text s t xs ys (inr a) (inr b) = (a.2 ∙ sym b.2, a.3 ∙ reads.listing_one text a.0 b.0 a.1 b.1 ∙ sym b.3)
 
+  -- a refusal, or what comes of the text that is read
+  abbrev FileComes : List ℕ → Status → List ℕ → Type 0
+  FileComes name s bytes = ((refusal most_text (file_of files name) ≡ Some s) × (bytes ≡ [])) ⊎ ((text : List ℕ) × IsFileRead (Some files) name most_text text × TextComes text s bytes)
+
   asm_one : (name : List ℕ) → IsOne (AsmComes files name)
   asm_one name s t xs ys a b = by_view (view s xs a) (view t ys b) where
-    -- a refusal, or what comes of the text that is read
-    abbrev View : Status → List ℕ → Type 0
-    View s bytes = ((refusal most_text (file_of files name) ≡ Some s) × (bytes ≡ [])) ⊎ ((text : List ℕ) × IsFileRead (Some files) name most_text text × TextComes text s bytes)
-
-    view : (s : Status) (bytes : List ℕ) → AsmComes files name s bytes → View s bytes
+    view : (s : Status) (bytes : List ℕ) → AsmComes files name s bytes → FileComes name s bytes
     view s bytes (inl h) = inl h
     view s bytes (inr (inl h)) = inr (h.0, h.2, inl (h.1, h.3, h.4, h.5))
     view s bytes (inr (inr h)) = inr (h.0, h.2, inr (h.1, h.3, h.4, h.5))
 
-    by_view : View s xs → View t ys → (s ≡ t) × (xs ≡ ys)
+    by_view : FileComes name s xs → FileComes name t ys → (s ≡ t) × (xs ≡ ys)
     by_view (inl x) (inl y) = (same_Some s t (sym x.0 ∙ y.0), x.1 ∙ sym y.1)
     by_view (inl x) (inr y) = absurd (not_both (refusal most_text (file_of files name)) s (read_fine files name most_text y.0 y.1) x.0)
     by_view (inr x) (inl y) = absurd (not_both (refusal most_text (file_of files name)) t (read_fine files name most_text x.0 x.1) y.0)

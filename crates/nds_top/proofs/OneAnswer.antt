@@ -355,7 +355,7 @@ module _ (laws : TopLaws) (files : List Named) where
 
 pub completes : {S : Type 0} → TopLaws → (c : Call S) (files : List Named) (words : List (List ℕ)) (asked : Asked) (named : List ℕ) (s : Status) → c.files ≡ Some files → HadNoFault c
     → Asks words asked → CanBeDone files asked → Gives c words named s → (s ≡ statuses.Done) ⊎ (s ≡ statuses.NoMemory)
-completes laws c files words asked named s told none asks can (nothing no is still) = absurd (no asked asks)
+completes laws c files words asked named s told none asks can (nothing never is still) = absurd (never asked asks)
 completes laws c files words asked named s told none asks can (command asked₂ asks₂ given) = elim (memory_or_not s) [
   | inl memory ↦ inr memory
   | inr ne ↦
@@ -367,12 +367,12 @@ completes laws c files words asked named s told none asks can (command asked₂ 
 pub answers_one : {S T : Type 0} → TopLaws → (c : Call S) (d : Call T) (files : List Named) (words : List (List ℕ)) (named named₂ : List ℕ) (s t : Status) → c.files ≡ Some files
     → d.files ≡ Some files → HadNoFault c → HadNoFault d → s ≢ statuses.NoMemory → t ≢ statuses.NoMemory → Gives c words named s → Gives d words named₂ t
     → (s ≡ t) × ((bytes : List ℕ) × Appended c.tells c.taken c.old c.new bytes × Appended d.tells d.taken d.old d.new bytes)
-answers_one laws c d files words named named₂ s t told told₂ none none₂ ne ne₂ (nothing no is still) (nothing no₂ is₂ still₂) =
+answers_one laws c d files words named named₂ s t told told₂ none none₂ ne ne₂ (nothing never is still) (nothing never₂ is₂ still₂) =
     let x = untouched c files told none (λ bytes. bytes ≡ []) still.0 refl in
     let y = untouched d files told₂ none₂ (λ bytes. bytes ≡ []) still₂.0 refl in
     (is ∙ sym is₂, [], x.2, y.2)
-answers_one laws c d files words named named₂ s t told told₂ none none₂ ne ne₂ (nothing no is still) (command asked asks given) = absurd (no asked asks)
-answers_one laws c d files words named named₂ s t told told₂ none none₂ ne ne₂ (command asked asks given) (nothing no is still) = absurd (no asked asks)
+answers_one laws c d files words named named₂ s t told told₂ none none₂ ne ne₂ (nothing never is still) (command asked asks given) = absurd (never asked asks)
+answers_one laws c d files words named named₂ s t told told₂ none none₂ ne ne₂ (command asked asks given) (nothing never is still) = absurd (never asked asks)
 answers_one laws c d files words named named₂ s t told told₂ none none₂ ne ne₂ (command asked asks given) (command asked₂ asks₂ given₂) =
     let same = laws.words words asked₂ asked asks₂ asks in
     let x = command_told c files told none asked named s ne given in

@@ -370,7 +370,7 @@ pub answers_one : {S T : Type 0} → TopLaws → (c : Call S) (d : Call T) (file
 answers_one laws c d files words named named₂ s t told told₂ none none₂ ne ne₂ (nothing never is still) (nothing never₂ is₂ still₂) =
     let x = untouched c files told none (λ bytes. bytes ≡ []) still.0 refl in
     let y = untouched d files told₂ none₂ (λ bytes. bytes ≡ []) still₂.0 refl in
-    (is ∙ sym is₂, [], x.2, y.2)
+    (is ∙ sym is₂, ([], x.2, y.2))
 answers_one laws c d files words named named₂ s t told told₂ none none₂ ne ne₂ (nothing never is still) (command asked asks given) = absurd (never asked asks)
 answers_one laws c d files words named named₂ s t told told₂ none none₂ ne ne₂ (command asked asks given) (nothing never is still) = absurd (never asked asks)
 answers_one laws c d files words named named₂ s t told told₂ none none₂ ne ne₂ (command asked asks given) (command asked₂ asks₂ given₂) =
@@ -378,4 +378,4 @@ answers_one laws c d files words named named₂ s t told told₂ none none₂ ne
     let x = command_told c files told none asked named s ne given in
     let y = command_told d files told₂ none₂ asked named₂ t ne₂ (subst (λ (a : Asked). CommandGives d a named₂ t) same given₂) in
     let k = comes_one laws files asked s t x.0 y.0 x.1 y.1 in
-    (k.0, x.0, x.2, subst (λ (bytes : List ℕ). Appended d.tells d.taken d.old d.new bytes) (sym k.1) y.2)
+    (k.0, (x.0, x.2, subst (λ (bytes : List ℕ). Appended d.tells d.taken d.old d.new bytes) (sym k.1) y.2))

@@ -217,13 +217,17 @@ seated_console : (seat : Option ConsoleState) (P : ConsoleState → Type 0) → 
 seated_console None P h = absurd h
 seated_console (Some k) P h = (k, h)
 
+-- nothing was written
+none_written : {S : Type 0} (c : Call S) → c.new ≡ c.old → Appended c.tells c.taken c.old c.new []
+none_written {S} c same = subst (λ (x : S). Appended c.tells c.taken c.old x []) (sym same) (append_none c.tells c.taken c.old)
+
 module _ {S : Type 0} (c : Call S) (files : List Named) (told : c.files ≡ Some files) (none : HadNoFault c) where
   -- bytes that were written
   abbrev pub WroteSo : (List ℕ → Type 0) → Type 0
   WroteSo Is = (bytes : List ℕ) × Is bytes × Appended c.tells c.taken c.old c.new bytes
 
   untouched : (Is : List ℕ → Type 0) → c.new ≡ c.old → Is [] → WroteSo Is
-  untouched Is same is = ([], is, subst (λ (x : S). Appended c.tells c.taken c.old x []) (sym same) (append_none c.tells c.taken c.old))
+  untouched Is same is = ([], is, none_written c same)
 
   by_told : (P : Option (List Named) → Type 0) → P c.files → P (Some files)
   by_told P h = subst P told h
@@ -368,9 +372,7 @@ pub answers_one : {S T : Type 0} → TopLaws → (c : Call S) (d : Call T) (file
     → d.files ≡ Some files → HadNoFault c → HadNoFault d → s ≢ statuses.NoMemory → t ≢ statuses.NoMemory → Gives c words named s → Gives d words named₂ t
     → (s ≡ t) × ((bytes : List ℕ) × Appended c.tells c.taken c.old c.new bytes × Appended d.tells d.taken d.old d.new bytes)
 answers_one laws c d files words named named₂ s t told told₂ none none₂ ne ne₂ (nothing never is still) (nothing never₂ is₂ still₂) =
-    let x = untouched c files told none (λ bytes. bytes ≡ []) still.0 refl in
-    let y = untouched d files told₂ none₂ (λ bytes. bytes ≡ []) still₂.0 refl in
-    (is ∙ sym is₂, ([], x.2, y.2))
+    (is ∙ sym is₂, ([], none_written c still.0, none_written d still₂.0))
 answers_one laws c d files words named named₂ s t told told₂ none none₂ ne ne₂ (nothing never is still) (command asked asks given) = absurd (never asked asks)
 answers_one laws c d files words named named₂ s t told told₂ none none₂ ne ne₂ (command asked asks given) (nothing never is still) = absurd (never asked asks)
 answers_one laws c d files words named named₂ s t told told₂ none none₂ ne ne₂ (command asked asks given) (command asked₂ asks₂ given₂) =

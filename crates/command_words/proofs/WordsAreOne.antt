@@ -27,10 +27,6 @@ letter_at n [] = 0
 letter_at zero (letter ∷ letters) = letter
 letter_at (suc n) (letter ∷ letters) = letter_at n letters
 
--- the first letter of its command
-command_letter : Asked → ℕ
-command_letter asked = letter_at 0 (word_at 0 (asked_words asked))
-
 -- ---- each word tells what it stands for
 
 keep_in : List ℕ → Keep
@@ -111,49 +107,49 @@ OneAsked a = (b : Asked) → IsAllowed a → IsAllowed b → asked_words a ≡ a
 same_word : (n : ℕ) (xs ys : List (List ℕ)) → xs ≡ ys → word_at n xs ≡ word_at n ys
 same_word n xs ys e = ap (word_at n) e
 
-other_command : (a b : Asked) → asked_words a ≡ asked_words b → command_letter a ≡ command_letter b
-unfolding command_letter
-other_command a b e = ap (λ (words : List (List ℕ)). letter_at 0 (word_at 0 words)) e
+-- the first letter of both commands
+same_letter : (xs ys : List (List ℕ)) → xs ≡ ys → letter_at 0 (word_at 0 xs) ≡ letter_at 0 (word_at 0 ys)
+same_letter xs ys e = ap (λ (words : List (List ℕ)). letter_at 0 (word_at 0 words)) e
 
 run_one : (cart : List ℕ) (keys : Option (List ℕ)) (ticks : ℕ) (keep : Keep) → OneAsked (AskRun cart keys ticks keep)
-unfolding command_letter word_at letter_at
+unfolding word_at letter_at
 run_one cart keys ticks keep (AskRun cart₂ keys₂ ticks₂ keep₂) first second e =
     let c : cart ≡ cart₂ = same_word 1 _ _ e in
     let k = keys_one keys keys₂ first.1 second.1 (same_word 2 _ _ e) in
     let t = ticks_one ticks ticks₂ first.2 second.2 (same_word 3 _ _ e) in
     let p = sym (keep_told keep) ∙ ap keep_in (same_word 4 _ _ e) ∙ keep_told keep₂ in
     rw (c, k, t, p) refl
-run_one cart keys ticks keep (AskList _ _ _) first second e = absurd (let l : 114 ≡ 108 = other_command _ _ e in omega (arith, l))
-run_one cart keys ticks keep (AskAsm _) first second e = absurd (let l : 114 ≡ 97 = other_command _ _ e in omega (arith, l))
-run_one cart keys ticks keep (AskTrace _ _ _ _ _) first second e = absurd (let l : 114 ≡ 116 = other_command _ _ e in omega (arith, l))
-run_one cart keys ticks keep (AskPeek _ _ _ _ _ _) first second e = absurd (let l : 114 ≡ 112 = other_command _ _ e in omega (arith, l))
-run_one cart keys ticks keep (AskDemo _ _) first second e = absurd (let l : 114 ≡ 100 = other_command _ _ e in omega (arith, l))
+run_one cart keys ticks keep (AskList _ _ _) first second e = absurd (let l : 114 ≡ 108 = same_letter _ _ e in omega (arith, l))
+run_one cart keys ticks keep (AskAsm _) first second e = absurd (let l : 114 ≡ 97 = same_letter _ _ e in omega (arith, l))
+run_one cart keys ticks keep (AskTrace _ _ _ _ _) first second e = absurd (let l : 114 ≡ 116 = same_letter _ _ e in omega (arith, l))
+run_one cart keys ticks keep (AskPeek _ _ _ _ _ _) first second e = absurd (let l : 114 ≡ 112 = same_letter _ _ e in omega (arith, l))
+run_one cart keys ticks keep (AskDemo _ _) first second e = absurd (let l : 114 ≡ 100 = same_letter _ _ e in omega (arith, l))
 
 list_one : (name : List ℕ) (proc : Proc) (set : Set) → OneAsked (AskList name proc set)
-unfolding command_letter word_at letter_at
+unfolding word_at letter_at
 list_one name proc set (AskList name₂ proc₂ set₂) first second e =
     let n : name ≡ name₂ = same_word 1 _ _ e in
     let p = sym (image_proc_told proc set) ∙ ap proc_in (same_word 2 _ _ e) ∙ image_proc_told proc₂ set₂ in
     let s = sym (image_set_told proc set) ∙ ap set_in (same_word 2 _ _ e) ∙ image_set_told proc₂ set₂ in
     rw (n, p, s) refl
-list_one name proc set (AskRun _ _ _ _) first second e = absurd (let l : 108 ≡ 114 = other_command _ _ e in omega (arith, l))
-list_one name proc set (AskAsm _) first second e = absurd (let l : 108 ≡ 97 = other_command _ _ e in omega (arith, l))
-list_one name proc set (AskTrace _ _ _ _ _) first second e = absurd (let l : 108 ≡ 116 = other_command _ _ e in omega (arith, l))
-list_one name proc set (AskPeek _ _ _ _ _ _) first second e = absurd (let l : 108 ≡ 112 = other_command _ _ e in omega (arith, l))
-list_one name proc set (AskDemo _ _) first second e = absurd (let l : 108 ≡ 100 = other_command _ _ e in omega (arith, l))
+list_one name proc set (AskRun _ _ _ _) first second e = absurd (let l : 108 ≡ 114 = same_letter _ _ e in omega (arith, l))
+list_one name proc set (AskAsm _) first second e = absurd (let l : 108 ≡ 97 = same_letter _ _ e in omega (arith, l))
+list_one name proc set (AskTrace _ _ _ _ _) first second e = absurd (let l : 108 ≡ 116 = same_letter _ _ e in omega (arith, l))
+list_one name proc set (AskPeek _ _ _ _ _ _) first second e = absurd (let l : 108 ≡ 112 = same_letter _ _ e in omega (arith, l))
+list_one name proc set (AskDemo _ _) first second e = absurd (let l : 108 ≡ 100 = same_letter _ _ e in omega (arith, l))
 
 asm_one : (name : List ℕ) → OneAsked (AskAsm name)
-unfolding command_letter word_at letter_at
+unfolding word_at letter_at
 asm_one name (AskAsm name₂) first second e =
     let n : name ≡ name₂ = same_word 1 _ _ e in rw n refl
-asm_one name (AskRun _ _ _ _) first second e = absurd (let l : 97 ≡ 114 = other_command _ _ e in omega (arith, l))
-asm_one name (AskList _ _ _) first second e = absurd (let l : 97 ≡ 108 = other_command _ _ e in omega (arith, l))
-asm_one name (AskTrace _ _ _ _ _) first second e = absurd (let l : 97 ≡ 116 = other_command _ _ e in omega (arith, l))
-asm_one name (AskPeek _ _ _ _ _ _) first second e = absurd (let l : 97 ≡ 112 = other_command _ _ e in omega (arith, l))
-asm_one name (AskDemo _ _) first second e = absurd (let l : 97 ≡ 100 = other_command _ _ e in omega (arith, l))
+asm_one name (AskRun _ _ _ _) first second e = absurd (let l : 97 ≡ 114 = same_letter _ _ e in omega (arith, l))
+asm_one name (AskList _ _ _) first second e = absurd (let l : 97 ≡ 108 = same_letter _ _ e in omega (arith, l))
+asm_one name (AskTrace _ _ _ _ _) first second e = absurd (let l : 97 ≡ 116 = same_letter _ _ e in omega (arith, l))
+asm_one name (AskPeek _ _ _ _ _ _) first second e = absurd (let l : 97 ≡ 112 = same_letter _ _ e in omega (arith, l))
+asm_one name (AskDemo _ _) first second e = absurd (let l : 97 ≡ 100 = same_letter _ _ e in omega (arith, l))
 
 trace_one : (cart : List ℕ) (keys : Option (List ℕ)) (ticks : ℕ) (proc : Proc) (count : ℕ) → OneAsked (AskTrace cart keys ticks proc count)
-unfolding command_letter word_at letter_at
+unfolding word_at letter_at
 trace_one cart keys ticks proc count (AskTrace cart₂ keys₂ ticks₂ proc₂ count₂) first second e =
     let c : cart ≡ cart₂ = same_word 1 _ _ e in
     let k = keys_one keys keys₂ first.0.1 second.0.1 (same_word 2 _ _ e) in
@@ -161,14 +157,14 @@ trace_one cart keys ticks proc count (AskTrace cart₂ keys₂ ticks₂ proc₂ 
     let p = sym (proc_told proc) ∙ ap proc_in (same_word 4 _ _ e) ∙ proc_told proc₂ in
     let n = count_one count count₂ 1000000 (omega arith) first.2 second.2 (same_word 5 _ _ e) in
     rw (c, k, t, p, n) refl
-trace_one cart keys ticks proc count (AskRun _ _ _ _) first second e = absurd (let l : 116 ≡ 114 = other_command _ _ e in omega (arith, l))
-trace_one cart keys ticks proc count (AskList _ _ _) first second e = absurd (let l : 116 ≡ 108 = other_command _ _ e in omega (arith, l))
-trace_one cart keys ticks proc count (AskAsm _) first second e = absurd (let l : 116 ≡ 97 = other_command _ _ e in omega (arith, l))
-trace_one cart keys ticks proc count (AskPeek _ _ _ _ _ _) first second e = absurd (let l : 116 ≡ 112 = other_command _ _ e in omega (arith, l))
-trace_one cart keys ticks proc count (AskDemo _ _) first second e = absurd (let l : 116 ≡ 100 = other_command _ _ e in omega (arith, l))
+trace_one cart keys ticks proc count (AskRun _ _ _ _) first second e = absurd (let l : 116 ≡ 114 = same_letter _ _ e in omega (arith, l))
+trace_one cart keys ticks proc count (AskList _ _ _) first second e = absurd (let l : 116 ≡ 108 = same_letter _ _ e in omega (arith, l))
+trace_one cart keys ticks proc count (AskAsm _) first second e = absurd (let l : 116 ≡ 97 = same_letter _ _ e in omega (arith, l))
+trace_one cart keys ticks proc count (AskPeek _ _ _ _ _ _) first second e = absurd (let l : 116 ≡ 112 = same_letter _ _ e in omega (arith, l))
+trace_one cart keys ticks proc count (AskDemo _ _) first second e = absurd (let l : 116 ≡ 100 = same_letter _ _ e in omega (arith, l))
 
 peek_one : (cart : List ℕ) (keys : Option (List ℕ)) (ticks : ℕ) (memory : Memory) (place count : ℕ) → OneAsked (AskPeek cart keys ticks memory place count)
-unfolding command_letter word_at letter_at
+unfolding word_at letter_at
 peek_one cart keys ticks memory place count (AskPeek cart₂ keys₂ ticks₂ memory₂ place₂ count₂) first second e =
     let c : cart ≡ cart₂ = same_word 1 _ _ e in
     let k = keys_one keys keys₂ first.0.1 second.0.1 (same_word 2 _ _ e) in
@@ -181,23 +177,23 @@ peek_one cart keys ticks memory place count (AskPeek cart₂ keys₂ ticks₂ me
     let p = decimal_injective place place₂ (omega (arith, within, small)) (omega (arith, within₂, small₂)) (same_word 5 _ _ e) in
     let n = count_one count count₂ 4096 (omega arith) first.2 second.2 (same_word 6 _ _ e) in
     rw (c, k, t, m, p, n) refl
-peek_one cart keys ticks memory place count (AskRun _ _ _ _) first second e = absurd (let l : 112 ≡ 114 = other_command _ _ e in omega (arith, l))
-peek_one cart keys ticks memory place count (AskList _ _ _) first second e = absurd (let l : 112 ≡ 108 = other_command _ _ e in omega (arith, l))
-peek_one cart keys ticks memory place count (AskAsm _) first second e = absurd (let l : 112 ≡ 97 = other_command _ _ e in omega (arith, l))
-peek_one cart keys ticks memory place count (AskTrace _ _ _ _ _) first second e = absurd (let l : 112 ≡ 116 = other_command _ _ e in omega (arith, l))
-peek_one cart keys ticks memory place count (AskDemo _ _) first second e = absurd (let l : 112 ≡ 100 = other_command _ _ e in omega (arith, l))
+peek_one cart keys ticks memory place count (AskRun _ _ _ _) first second e = absurd (let l : 112 ≡ 114 = same_letter _ _ e in omega (arith, l))
+peek_one cart keys ticks memory place count (AskList _ _ _) first second e = absurd (let l : 112 ≡ 108 = same_letter _ _ e in omega (arith, l))
+peek_one cart keys ticks memory place count (AskAsm _) first second e = absurd (let l : 112 ≡ 97 = same_letter _ _ e in omega (arith, l))
+peek_one cart keys ticks memory place count (AskTrace _ _ _ _ _) first second e = absurd (let l : 112 ≡ 116 = same_letter _ _ e in omega (arith, l))
+peek_one cart keys ticks memory place count (AskDemo _ _) first second e = absurd (let l : 112 ≡ 100 = same_letter _ _ e in omega (arith, l))
 
 demo_one : (number ticks : ℕ) → OneAsked (AskDemo number ticks)
-unfolding command_letter word_at letter_at
+unfolding word_at letter_at
 demo_one number ticks (AskDemo number₂ ticks₂) first second e =
     let n = count_one number number₂ 4294967295 (omega arith) first.0 second.0 (same_word 1 _ _ e) in
     let t = ticks_one ticks ticks₂ first.1 second.1 (same_word 2 _ _ e) in
     rw (n, t) refl
-demo_one number ticks (AskRun _ _ _ _) first second e = absurd (let l : 100 ≡ 114 = other_command _ _ e in omega (arith, l))
-demo_one number ticks (AskList _ _ _) first second e = absurd (let l : 100 ≡ 108 = other_command _ _ e in omega (arith, l))
-demo_one number ticks (AskAsm _) first second e = absurd (let l : 100 ≡ 97 = other_command _ _ e in omega (arith, l))
-demo_one number ticks (AskTrace _ _ _ _ _) first second e = absurd (let l : 100 ≡ 116 = other_command _ _ e in omega (arith, l))
-demo_one number ticks (AskPeek _ _ _ _ _ _) first second e = absurd (let l : 100 ≡ 112 = other_command _ _ e in omega (arith, l))
+demo_one number ticks (AskRun _ _ _ _) first second e = absurd (let l : 100 ≡ 114 = same_letter _ _ e in omega (arith, l))
+demo_one number ticks (AskList _ _ _) first second e = absurd (let l : 100 ≡ 108 = same_letter _ _ e in omega (arith, l))
+demo_one number ticks (AskAsm _) first second e = absurd (let l : 100 ≡ 97 = same_letter _ _ e in omega (arith, l))
+demo_one number ticks (AskTrace _ _ _ _ _) first second e = absurd (let l : 100 ≡ 116 = same_letter _ _ e in omega (arith, l))
+demo_one number ticks (AskPeek _ _ _ _ _ _) first second e = absurd (let l : 100 ≡ 112 = same_letter _ _ e in omega (arith, l))
 
 one_asked : (a : Asked) → OneAsked a
 one_asked (AskRun cart keys ticks keep) = run_one cart keys ticks keep

@@ -183,18 +183,18 @@ module _ (laws : TopLaws) (files : List Named) where
   text_one text s t xs ys (inr a) (inl b) = absurd (reads.listing_good text a.0 b.0 a.1 b.1)
   text_one text s t xs ys (inr a) (inr b) = (a.2 ∙ sym b.2, a.3 ∙ reads.listing_one text a.0 b.0 a.1 b.1 ∙ sym b.3)
 
+  -- a refusal, or what comes of the text that is read
+  abbrev FileComes : List ℕ → Status → List ℕ → Type 0
+  FileComes name s bytes = ((refusal most_text (file_of files name) ≡ Some s) × (bytes ≡ [])) ⊎ ((text : List ℕ) × IsFileRead (Some files) name most_text text × TextComes text s bytes)
+
   asm_one : (name : List ℕ) → IsOne (AsmComes files name)
   asm_one name s t xs ys a b = by_view (view s xs a) (view t ys b) where
-    -- a refusal, or what comes of the text that is read
-    abbrev View : Status → List ℕ → Type 0
-    View s bytes = ((refusal most_text (file_of files name) ≡ Some s) × (bytes ≡ [])) ⊎ ((text : List ℕ) × IsFileRead (Some files) name most_text text × TextComes text s bytes)
-
-    view : (s : Status) (bytes : List ℕ) → AsmComes files name s bytes → View s bytes
+    view : (s : Status) (bytes : List ℕ) → AsmComes files name s bytes → FileComes name s bytes
     view s bytes (inl h) = inl h
     view s bytes (inr (inl h)) = inr (h.0, h.2, inl (h.1, h.3, h.4, h.5))
     view s bytes (inr (inr h)) = inr (h.0, h.2, inr (h.1, h.3, h.4, h.5))
 
-    by_view : View s xs → View t ys → (s ≡ t) × (xs ≡ ys)
+    by_view : FileComes name s xs → FileComes name t ys → (s ≡ t) × (xs ≡ ys)
     by_view (inl x) (inl y) = (same_Some s t (sym x.0 ∙ y.0), x.1 ∙ sym y.1)
     by_view (inl x) (inr y) = absurd (not_both (refusal most_text (file_of files name)) s (read_fine files name most_text y.0 y.1) x.0)
     by_view (inr x) (inl y) = absurd (not_both (refusal most_text (file_of files name)) t (read_fine files name most_text x.0 x.1) y.0)
@@ -217,13 +217,17 @@ seated_console : (seat : Option ConsoleState) (P : ConsoleState → Type 0) → 
 seated_console None P h = absurd h
 seated_console (Some k) P h = (k, h)
 
+-- nothing was written
+none_written : {S : Type 0} (c : Call S) → c.new ≡ c.old → Appended c.tells c.taken c.old c.new []
+none_written {S} c same = subst (λ (x : S). Appended c.tells c.taken c.old x []) (sym same) (append_none c.tells c.taken c.old)
+
 module _ {S : Type 0} (c : Call S) (files : List Named) (told : c.files ≡ Some files) (none : HadNoFault c) where
   -- bytes that were written
   abbrev pub WroteSo : (List ℕ → Type 0) → Type 0
   WroteSo Is = (bytes : List ℕ) × Is bytes × Appended c.tells c.taken c.old c.new bytes
 
   untouched : (Is : List ℕ → Type 0) → c.new ≡ c.old → Is [] → WroteSo Is
-  untouched Is same is = ([], is, subst (λ (x : S). Appended c.tells c.taken c.old x []) (sym same) (append_none c.tells c.taken c.old))
+  untouched Is same is = ([], is, none_written c same)
 
   by_told : (P : Option (List Named) → Type 0) → P c.files → P (Some files)
   by_told P h = subst P told h
@@ -355,7 +359,7 @@ module _ (laws : TopLaws) (files : List Named) where
 
 pub completes : {S : Type 0} → TopLaws → (c : Call S) (files : List Named) (words : List (List ℕ)) (asked : Asked) (named : List ℕ) (s : Status) → c.files ≡ Some files → HadNoFault c
     → Asks words asked → CanBeDone files asked → Gives c words named s → (s ≡ statuses.Done) ⊎ (s ≡ statuses.NoMemory)
-completes laws c files words asked named s told none asks can (nothing no is still) = absurd (no asked asks)
+completes laws c files words asked named s told none asks can (nothing never is still) = absurd (never asked asks)
 completes laws c files words asked named s told none asks can (command asked₂ asks₂ given) = elim (memory_or_not s) [
   | inl memory ↦ inr memory
   | inr ne ↦
@@ -367,15 +371,13 @@ completes laws c files words asked named s told none asks can (command asked₂ 
 pub answers_one : {S T : Type 0} → TopLaws → (c : Call S) (d : Call T) (files : List Named) (words : List (List ℕ)) (named named₂ : List ℕ) (s t : Status) → c.files ≡ Some files
     → d.files ≡ Some files → HadNoFault c → HadNoFault d → s ≢ statuses.NoMemory → t ≢ statuses.NoMemory → Gives c words named s → Gives d words named₂ t
     → (s ≡ t) × ((bytes : List ℕ) × Appended c.tells c.taken c.old c.new bytes × Appended d.tells d.taken d.old d.new bytes)
-answers_one laws c d files words named named₂ s t told told₂ none none₂ ne ne₂ (nothing no is still) (nothing no₂ is₂ still₂) =
-    let x = untouched c files told none (λ bytes. bytes ≡ []) still.0 refl in
-    let y = untouched d files told₂ none₂ (λ bytes. bytes ≡ []) still₂.0 refl in
-    (is ∙ sym is₂, [], x.2, y.2)
-answers_one laws c d files words named named₂ s t told told₂ none none₂ ne ne₂ (nothing no is still) (command asked asks given) = absurd (no asked asks)
-answers_one laws c d files words named named₂ s t told told₂ none none₂ ne ne₂ (command asked asks given) (nothing no is still) = absurd (no asked asks)
+answers_one laws c d files words named named₂ s t told told₂ none none₂ ne ne₂ (nothing never is still) (nothing never₂ is₂ still₂) =
+    (is ∙ sym is₂, ([], none_written c still.0, none_written d still₂.0))
+answers_one laws c d files words named named₂ s t told told₂ none none₂ ne ne₂ (nothing never is still) (command asked asks given) = absurd (never asked asks)
+answers_one laws c d files words named named₂ s t told told₂ none none₂ ne ne₂ (command asked asks given) (nothing never is still) = absurd (never asked asks)
 answers_one laws c d files words named named₂ s t told told₂ none none₂ ne ne₂ (command asked asks given) (command asked₂ asks₂ given₂) =
     let same = laws.words words asked₂ asked asks₂ asks in
     let x = command_told c files told none asked named s ne given in
     let y = command_told d files told₂ none₂ asked named₂ t ne₂ (subst (λ (a : Asked). CommandGives d a named₂ t) same given₂) in
     let k = comes_one laws files asked s t x.0 y.0 x.1 y.1 in
-    (k.0, x.0, x.2, subst (λ (bytes : List ℕ). Appended d.tells d.taken d.old d.new bytes) (sym k.1) y.2)
+    (k.0, (x.0, x.2, subst (λ (bytes : List ℕ). Appended d.tells d.taken d.old d.new bytes) (sym k.1) y.2))

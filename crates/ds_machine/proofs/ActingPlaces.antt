@@ -77,9 +77,9 @@ module _ (s next : MachineState) (tick : Tick) (rank : ℕ) (outs : List Shown) 
     ]
     | inr other ↦ absurd (none-some u (sym (quiet_acts_never next (still other)) ∙ acts))
   ] where
-    still : ActsApart caught rank tick ⊎ ((proc : Proc) × (rank ≡ rank_of proc) × IsAhead caught proc × IsSound caught) → is_quiet next.io ≡ true
+    still : ActsApart caught rank tick ⊎ ((proc : Proc) × (rank ≡ rank_of proc) × IsAhead caught proc) → is_quiet next.io ≡ true
     still (inl apart) = quiet_next caught rank tick since_caught.so.sound.parts apart quiet next outs acted.makes
-    still (inr k) = ahead_quiet caught next k.0 rank outs k.3 k.2 k.1 acted.makes ∙ quiet
+    still (inr k) = ahead_quiet caught next k.0 rank outs since_caught.so.sound k.2 k.1 acted.makes ∙ quiet
 
   geometry_since : (u : Tick) → rank ≢ 12 → due_by Geometry caught ≡ Some u → acting_due Geometry next ≡ Some u → ActsSince s tick rank 12 u
   geometry_since u ne due acts = elim (quiet_or_loud (is_quiet caught.io)) [

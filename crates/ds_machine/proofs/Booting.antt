@@ -4,6 +4,7 @@ use Rattle.ds_base.specs.declared.keys.KeyLine.{KeyLine}
 use Rattle.ds_base.specs.declared.memories.Width.TheVariants.{Byte}
 use Rattle.ds_base.specs.declared.processors.Proc.{Proc}
 use Rattle.ds_base.specs.declared.processors.Proc.TheVariants.{Nine, Seven}
+use Rattle.ds_base.specs.declared.ticks.Tick.{Tick}
 use Rattle.ds_header.specs.Fields.{image_of, image_place}
 use Rattle.ds_header.specs.Rules.{ImageLies}
 use Rattle.ds_base.specs.declared.ticks.Tick.{Tick}
@@ -20,6 +21,9 @@ use Rattle.ds_machine.proofs.RamAccesses.{ram_write_io}
 use Rattle.ds_machine.proofs.Running.{starts_running}
 
 -- What boot leaves of the counts and the units.
+
+abbrev start : Tick
+start = record { 0 = 0 }
 
 -- the key script, the processors' numbers and the count of events stay
 record Stays (s next : MachineState) : Type 0 where

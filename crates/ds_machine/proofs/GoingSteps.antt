@@ -432,7 +432,7 @@ apart_rank s proc apart = ap (λ (a : actor.Actor). observes_by a s) (actor_is p
 needs_none : (s : MachineState) (proc : Proc) → observes_by (Processor proc) s ≡ false → CatchesUpFor (processor_of s proc).due (rank_of proc) s s
 needs_none s proc apart = subst (λ (b : Bool). CatchesUpIf b (processor_of s proc).due (rank_of proc) s s) (sym (apart_rank s proc apart)) refl
 
-apart_may : (s : MachineState) (proc : Proc) (n : ℕ) → IsDueAt s proc n → n ≤ 2 ^ 56 → IsLeast (acting_dues s) (record { 0 = n }) (rank_of proc) ⊎ IsAhead s proc
+abbrev apart_may : (s : MachineState) (proc : Proc) (n : ℕ) → IsDueAt s proc n → n ≤ 2 ^ 56 → IsLeast (acting_dues s) (record { 0 = n }) (rank_of proc) ⊎ IsAhead s proc
     → observes_by (Processor proc) s ≡ false → MayStep s (rank_of proc)
 apart_may s proc n d early goes apart = record {
   tick = record { 0 = n };

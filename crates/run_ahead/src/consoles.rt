@@ -213,7 +213,6 @@ impl Console {
         }
         self.limit = self.limit.max(until.0);
         self.open_until = self.limit;
-        self.machine.laws();
         let acting = self.machine.acting();
         if until.0 <= acting.tick.0 && !self.machine.is_behind(until, 0) {
             return Turned::AtEnd;

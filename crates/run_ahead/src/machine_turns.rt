@@ -116,7 +116,6 @@ fn take_stretch(
     ensures goes { result ≡ false → stop.new ≡ None }
     ensures stops { result ≡ true → (left : LeftOut) × (stop.new ≡ Some left) }
 {
-    machine.laws();
     let mut limit = first;
     'steps: loop {
         if machine.go_fast(proc, until, limit) {

@@ -19,8 +19,8 @@ invariant_of-self c = (
       c.self.invariant.1,
 )
 
-pub returns-clause-running : goal.returns-clause-running
-returns-clause-running c =
+pub returns-then-is_behind-clause-running : goal.returns-then-is_behind-clause-running
+returns-then-is_behind-clause-running c =
     let early = c.requires.early in
     running_taken last_limit c.args.tick.0 c.args.rank c.self.inside.parts c.catch_up.new.self (subst (ComesBeforeAll c.args.tick.0 c.args.rank) (sym c.self.view_is) c.requires.before)
     (λ u le earlier. omega (arith, early, le)) c.catch_up.ensures.steps (subst (IsRunning last_limit) (sym c.self.view_is) c.requires.running)

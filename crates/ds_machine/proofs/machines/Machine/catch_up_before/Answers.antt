@@ -21,8 +21,8 @@ invariant_of-self c =
       caught_statuses c.args.tick.0 c.args.rank s next running.sound takes c.self.invariant.1,
     )
 
-pub returns-clause-running : goal.returns-clause-running
-returns-clause-running c =
+pub returns-then-catch_up_before-clause-running : goal.returns-then-catch_up_before-clause-running
+returns-then-catch_up_before-clause-running c =
     let early = c.requires.early in
     running_before last_limit c.self.inside.parts c.catch_up_before.new.self c.args.tick c.args.rank
     (subst (λ (s : MachineState). MayAct s c.args.tick c.args.rank) (sym c.self.view_is) c.requires.may) c.catch_up_before.ensures.caught (omega (arith, early))

@@ -12,7 +12,9 @@ use Rattle.ds_machine.specs.Acting.{acting_dues, is_behind}
 use Rattle.ds_machine.specs.Lagging.{CatchesUp, CatchesUpFor, CatchesUpIf, TakesGeometry, observes_by}
 use Rattle.ds_machine.specs.Lagging as lagging
 use Rattle.ds_machine.specs.Private.{rank_of}
-use Rattle.ds_machine.specs.Reference.{IsSound, Shown, Steps, reference_step}
+use Rattle.ds_machine.specs.Reference.{Shown, reference_step}
+use Rattle.ds_machine.specs.Sound.{IsSound}
+use Rattle.ds_machine.specs.StepAnswers.{Steps}
 use Rattle.ds_machine.specs.States.{MachineState}
 use Rattle.ds_machine.specs.Steps.{processor_of}
 use Rattle.ds_machine.specs.TurnSteps.{BelongsToTurn, IsLeastBelow, TakesSteps, none, more, own_remaining, ticks_left}

@@ -24,7 +24,7 @@ use Rattle.ds_machine.specs.Acting.{acting_dues}
 use Rattle.ds_machine.specs.FenceTicks.{channel_dues, timer_dues}
 use Rattle.ds_machine.specs.Private.{AllReachPrivate, IsAhead, IsFence, IsPrivate, ProcessorStaysPrivate, ReachesPrivate, StaysPrivate, data_accesses, is_deaf, may_go_ahead, next_fetch, rank_of}
 use Rattle.ds_machine.specs.Reference.{keys_due, processor_due}
-use Rattle.ds_machine.specs.Sides.{SideOf, nine_side, seven_side}
+use Rattle.ds_machine.specs.PrivateSides.{SideOf, nine_side, seven_side}
 use Rattle.ds_machine.specs.States.{MachineState}
 use Rattle.ds_machine.specs.Steps.{is_blocked, line_of, nine_reach, processor_of, seven_reach, tick_of}
 use Rattle.ds_machine.specs.TurnSteps.{BelongsToTurn}

@@ -8,8 +8,8 @@ use Rattle.ds_io.proofs.SinkLemmas.{append_twice, front_after, front_of_more}
 use Rattle.ds_runs.specs.Runs.{At, Ending, Runs}
 use Rattle.ds_machine.specs.Frames.{FollowFrames, FollowLists, WholeFrame, frame_shown, frames_shown, last_frame, last_lists, lists_shown}
 use Rattle.ds_machine.specs.States.{MachineState}
-use Rattle.ds_machine.specs.Reference.{Shown, next_shown, reference}
 use Rattle.ds_machine.specs.Sound.{IsSound}
+use Rattle.ds_machine.specs.Reference.{Shown, next_shown, reference}
 use Rattle.run_ahead.specs.Consoles.{ConsoleState}
 use Rattle.run_ahead.specs.ToEnd.{TurnsToEnd, at_end, counts, stops}
 use Rattle.run_ahead.specs.Turns.{GoesOn, RanOn, TurnsUpTo, HasTurned, none, turn}

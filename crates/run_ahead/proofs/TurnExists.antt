@@ -12,8 +12,8 @@ use Rattle.ds_machine.specs.Acting.{acting_dues, is_behind}
 use Rattle.ds_machine.specs.Lagging.{CatchesUp, CatchesUpFor, CatchesUpIf, TakesGeometry, observes_by}
 use Rattle.ds_machine.specs.Lagging as lagging
 use Rattle.ds_machine.specs.Private.{rank_of}
-use Rattle.ds_machine.specs.Reference.{Shown, reference_step}
 use Rattle.ds_machine.specs.Sound.{IsSound}
+use Rattle.ds_machine.specs.Reference.{Shown, next_shown, reference_step}
 use Rattle.ds_machine.specs.StepAnswers.{Steps}
 use Rattle.ds_machine.specs.States.{MachineState}
 use Rattle.ds_machine.specs.Steps.{processor_of}
@@ -34,7 +34,7 @@ use Rattle.run_ahead.specs.ToEnd.{HasTurnsToEnd, TurnsEnd, TurnsToEnd, at_end, c
 use Rattle.run_ahead.specs.Turns.{Turns, counted_of, one_more_turn, run_to, turns_remaining}
 use Rattle.run_ahead.specs.declared.turns.Turned as turned
 use Rattle.run_ahead.specs.declared.turns.Turned.TheVariants as turns
-use Rattle.run_ahead.proofs.StepTurns.{event_took, frame_taken, is_stop, is_stretch, made_taken, over_all, over_from}
+use Rattle.run_ahead.proofs.StepTurns.{event_keeps, event_took, is_stop, is_stretch, over_all, over_from}
 use Rattle.run_ahead.proofs.Stretches.{sound_along}
 use Rattle.run_ahead.proofs.TurnLaws.{turn_falls}
 use Rattle.run_ahead.proofs.TurnTests.{belongs_or_not, least_acts, lt_or_not}
@@ -189,11 +189,20 @@ pub record GoesFurther (c : ConsoleState) : Type 0 where
   pub still_open : c.stopped ≡ None
   pub sound : IsSound c.machine
 
+made_sound : (until : ℕ) (s next : MachineState) → IsSound s → TookTurn until s answers.Made next → IsSound next
+made_sound until s next sound t = elim t [
+  | inl event ↦ (event_keeps until s next [] sound event).sound
+  | inr other ↦ elim other [
+    | inl stretch ↦ sound_along until stretch.proc s next sound stretch.steps
+    | inr quiet ↦ (caught_so until 0 s next sound quiet.catches.steps).sound
+  ]
+]
+
 pub further : (until : ℕ) (c new : ConsoleState) (a : turned.Turned) → IsSound c.machine → Turns until c a new → counted_of a ≡ 1 → GoesFurther new
 further until c new turns.Ran sound t one =
-    record { still_open = ap (λ (x : ConsoleState). x.stopped) t.2 ∙ t.0; sound = (made_taken until c.machine new.machine sound t.1).sound }
+    record { still_open = ap (λ (x : ConsoleState). x.stopped) t.2 ∙ t.0; sound = made_sound until c.machine new.machine sound t.1 }
 further until c new (turns.Frame swapped) sound t one =
-    record { still_open = ap (λ (x : ConsoleState). x.stopped) t.2 ∙ t.0; sound = (frame_taken until c.machine new.machine swapped sound t.1).sound }
+    record { still_open = ap (λ (x : ConsoleState). x.stopped) t.2 ∙ t.0; sound = (event_keeps until c.machine new.machine (next_shown c.machine new.machine swapped ∷ []) sound t.1).sound }
 further until c new turns.AtEnd sound t one = absurd (omega (arith, one))
 further until c new (turns.Stopped left) sound t one = absurd (omega (arith, one))
 

@@ -21,7 +21,7 @@ returns-clause-complete g c =
       lines = c.trace_laws.ensures;
     } in
     λ shelf_old shelf_new old new seat files words asked named status told none asks can gives.
-        completes laws (around g.F.Shelf.told g.F.Shelf.faults g.O.Sink.tells g.O.Sink.taken g.O.Sink.faults shelf_old shelf_new old new seat) files words asked named status told none asks can gives
+    completes laws (around g.F.Shelf.told g.F.Shelf.faults g.O.Sink.tells g.O.Sink.taken g.O.Sink.faults shelf_old shelf_new old new seat) files words asked named status told none asks can gives
 
 pub returns-clause-one : goal.returns-clause-one
 returns-clause-one g c =
@@ -42,6 +42,6 @@ returns-clause-one g c =
       lines = c.trace_laws.ensures;
     } in
     λ shelf_old shelf_new shelf_old₂ shelf_new₂ old new old₂ new₂ seat seat₂ files words named named₂ status status₂ told told₂ none none₂ ne ne₂ gives gives₂.
-        answers_one laws (around g.F.Shelf.told g.F.Shelf.faults g.O.Sink.tells g.O.Sink.taken g.O.Sink.faults shelf_old shelf_new old new seat)
-        (around g.F.Shelf.told g.F.Shelf.faults g.P.Sink.tells g.P.Sink.taken g.P.Sink.faults shelf_old₂ shelf_new₂ old₂ new₂ seat₂) files words named named₂ status status₂ told told₂ none none₂ ne ne₂
-        gives gives₂
+    answers_one laws (around g.F.Shelf.told g.F.Shelf.faults g.O.Sink.tells g.O.Sink.taken g.O.Sink.faults shelf_old shelf_new old new seat)
+    (around g.F.Shelf.told g.F.Shelf.faults g.P.Sink.tells g.P.Sink.taken g.P.Sink.faults shelf_old₂ shelf_new₂ old₂ new₂ seat₂) files words named named₂ status status₂ told told₂ none none₂ ne ne₂
+    gives gives₂

@@ -141,10 +141,10 @@ pub turns_stop_as_runs : TurnsStopAsRuns
 turns_stop_as_runs start now front open_ sound (none _) left is = absurd (none-some left (sym open_ ∙ is))
 turns_stop_as_runs start now front open_ sound (turn _ before _ outs until a earlier t) left is =
     by_stop before.stopped refl (λ was. turns_stop_as_runs start before outs open_ sound earlier left was) where
-  so : GoesFurther start
-  so = record { still_open = open_; sound = sound }
+      so : GoesFurther start
+      so = record { still_open = open_; sound = sound }
 
-  by_stop : (stop : Option LeftOut) → before.stopped ≡ stop → (before.stopped ≡ Some left → Runs reference before.limit (runs.Stopped left) start.machine outs)
-      → Runs reference now.limit (runs.Stopped left) start.machine (outs ++ shown_in a before.machine now.machine)
-  by_stop None e rec = stops_here start before now outs until left so earlier is a t e
-  by_stop (Some stop) e rec = stopped_before start before now outs until left so earlier is a t stop e rec
+      by_stop : (stop : Option LeftOut) → before.stopped ≡ stop → (before.stopped ≡ Some left → Runs reference before.limit (runs.Stopped left) start.machine outs)
+          → Runs reference now.limit (runs.Stopped left) start.machine (outs ++ shown_in a before.machine now.machine)
+      by_stop None e rec = stops_here start before now outs until left so earlier is a t e
+      by_stop (Some stop) e rec = stopped_before start before now outs until left so earlier is a t stop e rec

@@ -41,7 +41,7 @@ returns-in-Over c =
         subst (λ (m : MachineState). TakesSteps c.args.until.0 c.args.proc c.args.machine.now m) same (takes_twice c.args.until.0 c.args.proc c.args.machine.now c.steps.machine c.go_fast.new.self c.steps.invariant.0 c.go_fast.ensures.steps),
         subst (λ (m : MachineState). (BelongsToTurn c.args.until.0 m c.args.proc → ⊥)) same c.in-Over.ensures.0,
       );
-          goes = λ e. none;
+      goes = λ e. none;
       stops = λ e. absurd (true≢false (sym e));
     }
 
@@ -51,7 +51,7 @@ returns-in-Stopped c =
     record {
       took = subst (λ (o : Option LeftOut). TookStretch c.args.until.0 c.args.proc c.args.machine.now o c.step_slowly.new.machine) (sym stop.1)
           (c.go_fast.new.self, (takes_twice c.args.until.0 c.args.proc c.args.machine.now c.steps.machine c.go_fast.new.self c.steps.invariant.0 c.go_fast.ensures.steps), c.in-Stopped.ensures.0, stop.2);
-          goes = λ e. absurd (true≢false e);
+      goes = λ e. absurd (true≢false e);
       stops = λ e. (stop.0, stop.1);
     }
 

@@ -142,5 +142,5 @@ leaves_known memory side state s op words e known low h stays =
     let other = subst (λ (o : Operation). is_other o.op ≡ false) e known in
     let l = subst (λ (o : Operation). IfSome (access_made s o) (λ it. it.to.address < 2 ^ 32)) e low in
     let reached = made_reached side state words side.arch s (access_made s (operation_of i)) l
-        (subst (AllReachPrivate side state) (accesses_known side.arch (side.base state) s i other) stays.accesses) in
+    (subst (AllReachPrivate side state) (accesses_known side.arch (side.base state) s i other) stays.accesses) in
     true≢false (sym (subst (λ (o : Operation). access_stays side state (access_made s o) ≡ true) (sym e) reached) ∙ h)

@@ -247,9 +247,11 @@ module _ {S : Type 0} (tells : S → Bool) (taken : S → List ℕ → Type 0) (
   writing_over old now after w up =
       let t = up.last in
       let P : MachineState → Type 0 = λ x. Runs reference until (At x) up.before.machine [] in
-      let run = subst P (sym (ap (λ (x : ConsoleState). x.machine) t.2)) (up.runs t.0) in
-      (ends_here until start old now answers.AtEnd None w.outs w.going up (ap (λ (x : ConsoleState). x.stopped) t.2 ∙ t.0) (ap (λ (x : ConsoleState). x.limit) t.2) run up.frames up.lists
-      (at_end up.before now t), w.written)
+      let run = subst P (sym (ap (λ (x : ConsoleState). x.machine) t.2)) (up.runs t.0) in (
+        ends_here until start old now answers.AtEnd None w.outs w.going up (ap (λ (x : ConsoleState). x.stopped) t.2 ∙ t.0) (ap (λ (x : ConsoleState). x.limit) t.2) run up.frames up.lists
+            (at_end up.before now t),
+        w.written,
+      )
 
   pub writing_stopped : (old now : ConsoleState) (after : S) (left : LeftOut) → Writing old after → TurnsUpTo until old (answers.Stopped left) now → HasRunTo (Some left) now after
   unfolding ends_here

@@ -36,11 +36,11 @@ returns-clause-near g c = λ some.
 pub returns-then-not-access_stays-clause-leaves : goal.returns-then-not-access_stays-clause-leaves
 returns-then-not-access_stays-clause-leaves g c = λ left.
     by_kind (is_other c.next_operation-next.result.now.op) refl where
-  by_kind : (b : Bool) → is_other c.next_operation-next.result.now.op ≡ b → DataStays g.V.Side.memory g.V.Side.side c.args.s.now (g.V.Side.state c.args.view.now) → ⊥
-  by_kind true other = absurd (true≢false (sym (c.access_stays.ensures.other other) ∙ c.if-not-access_stays.true))
-  by_kind false other =
-      leaves_known g.V.Side.memory g.V.Side.side (g.V.Side.state c.args.view.now) c.args.s.now c.next_operation-next.result.now c.access_stays.ensures.words
-      c.next_operation-next.ensures.operation other (c.access_stays.ensures.address other) (sym (c.access_stays.ensures.stays other) ∙ c.if-not-access_stays.true)
+      by_kind : (b : Bool) → is_other c.next_operation-next.result.now.op ≡ b → DataStays g.V.Side.memory g.V.Side.side c.args.s.now (g.V.Side.state c.args.view.now) → ⊥
+      by_kind true other = absurd (true≢false (sym (c.access_stays.ensures.other other) ∙ c.if-not-access_stays.true))
+      by_kind false other =
+          leaves_known g.V.Side.memory g.V.Side.side (g.V.Side.state c.args.view.now) c.args.s.now c.next_operation-next.result.now c.access_stays.ensures.words
+          c.next_operation-next.ensures.operation other (c.access_stays.ensures.address other) (sym (c.access_stays.ensures.stays other) ∙ c.if-not-access_stays.true)
 
 pub returns-clause-stays : goal.returns-clause-stays
 returns-clause-stays g c = λ ahead some.

@@ -58,9 +58,6 @@ booted_stays file keys =
 
 -- ---- images go to RAM, and leave the units
 
-abbrev start : Tick
-start = record { 0 = 0 }
-
 pub copied_io : (proc : Proc) (s : MachineState) (at : ℕ) (bytes : List ℕ) → 0x02000000 ≤ at → at + length bytes ≤ 0x04000000 → (copied proc s at bytes).io ≡ s.io
 copied_io proc s at [] low high = refl
 copied_io proc s at (byte ∷ rest) low high =

@@ -1,6 +1,8 @@
-use Rattle.std.proofs.Common.{◌≡◌, ◌∙◌, false, true≢false, sym, ap}
+use Rattle.std.proofs.Common.{◌≡◌, ◌∙◌, Bool, true, false, true≢false, refl, sym, ap}
 use Rattle.arm_core.specs.Effects.{Outcome}
 use Rattle.arm_core.specs.Steps.{enters}
+use Rattle.arm_ops.specs.Operations.{is_other}
+use Rattle.ds_machine.specs.Touching.{DataStays}
 use Rattle.ds_machine.proofs.DecodedStays.{leaves_known, stays_known}
 use Rattle.ds_machine.proofs.NearApart.{near_known}
 use Rattle.ds_machine.proofs.Taken.{taken_operation}

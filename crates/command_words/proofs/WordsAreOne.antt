@@ -1,15 +1,14 @@
-use Rattle.std.proofs.Common.{ℕ, zero, suc, ◌≡◌, ◌≢◌, ◌<◌, ◌≤◌, ◌+◌, ◌^◌, List, [], ◌∷◌, Bool, true, false, if◌then◌else◌, Option, Some, None, refl, sym, ◌∙◌, ap, arith}
-use Rattle.std.specs.Prelude.{◌==◌, codes}
+use Rattle.std.proofs.Common.{ℕ, zero, suc, ◌≡◌, ◌≢◌, ◌<◌, ◌≤◌, ◌+◌, ◌^◌, List, [], ◌∷◌, if◌then◌else◌, Option, Some, None, refl, sym, ◌∙◌, ap, arith}
+use Rattle.std.specs.Prelude.{◌==◌}
 use Rattle.std.specs.Fmt.{decimal}
 use Rattle.std.proofs.lemmas.Fmt.{decimal_injective}
-use Rattle.ds_base.specs.Memories.{memory_size}
 use Rattle.ds_base.specs.declared.memories.Memory.{Memory}
 use Rattle.ds_base.specs.declared.memories.Memory.TheVariants.{Main, Shared, Own7, Itcm, Dtcm, Palette, Vram, Oam}
 use Rattle.ds_base.specs.declared.processors.Proc.{Proc}
 use Rattle.ds_base.specs.declared.processors.Proc.TheVariants.{Nine, Seven}
 use Rattle.asm_text.specs.declared.sets.Set.{Set}
 use Rattle.asm_text.specs.declared.sets.Set.TheVariants.{Arm, Thumb}
-use Rattle.command_words.specs.Words.{Asked, AskRun, AskList, AskAsm, AskTrace, AskPeek, AskDemo, Asks, IsAllowed, IsEnd, IsScriptName, WordsAskForOne, asked_words, image_word, keep_word, keys_word, memory_word, proc_word}
+use Rattle.command_words.specs.Words.{Asked, AskRun, AskList, AskAsm, AskTrace, AskPeek, AskDemo, IsAllowed, IsEnd, IsScriptName, WordsAskForOne, asked_words, image_word, keep_word, keys_word, memory_word, proc_word}
 use Rattle.command_words.specs.declared.commands.Keep.{Keep}
 use Rattle.command_words.specs.declared.commands.Keep.TheVariants.{All, Last, Nothing}
 use Rattle.command_words.proofs.Peeked.{small_memory}

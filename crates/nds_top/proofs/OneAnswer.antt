@@ -1,7 +1,6 @@
-use Rattle.std.proofs.Common.{ℕ, ◌≡◌, ◌≢◌, ◌<◌, ◌≤◌, ◌⊎◌, inl, inr, Bool, List, [], length, take, Option, Some, None, refl, sym, ◌∙◌, ap, subst, arith}
+use Rattle.std.proofs.Common.{ℕ, ◌≡◌, ◌≢◌, ◌<◌, ◌≤◌, ◌⊎◌, inl, inr, List, [], length, take, Option, Some, None, refl, sym, ◌∙◌, ap, subst, arith}
 use Rattle.std.specs.Prelude.{IsSomeAnd}
 use Rattle.std.specs.List.{concat}
-use Rattle.ds_base.specs.declared.keys.KeyLine.{KeyLine}
 use Rattle.ds_base.specs.declared.left_out.LeftOut.{LeftOut}
 use Rattle.ds_base.specs.declared.processors.Proc.{Proc}
 use Rattle.ds_io.specs.Faults.{Rose}
@@ -17,7 +16,7 @@ use Rattle.asm_files.specs.Listings.{IsFirstBad, IsListing}
 use Rattle.asm_text.specs.declared.sets.Set.{Set}
 use Rattle.run_ahead.specs.Consoles.{ConsoleState}
 use Rattle.run_ahead.specs.ToEnd.{TurnsAreOne, TurnsToEnd}
-use Rattle.command_words.specs.Words.{Asked, AskRun, AskList, AskAsm, AskTrace, AskPeek, AskDemo, Asks, AskNothing, WordsAskForOne}
+use Rattle.command_words.specs.Words.{Asked, AskRun, AskList, AskAsm, AskTrace, AskPeek, AskDemo, Asks, WordsAskForOne}
 use Rattle.command_words.specs.declared.commands.Keep.{Keep}
 use Rattle.nds_answers.specs.Statuses.{status_number}
 use Rattle.nds_answers.specs.declared.statuses.Status.{Status}
@@ -32,7 +31,7 @@ use Rattle.nds_plays.specs.declared.plays.Played.{Played}
 use Rattle.nds_plays.specs.declared.plays.Played.TheVariants as played
 use Rattle.nds_runs.specs.Answers.{RunGives}
 use Rattle.nds_views.specs.Answers.{DemoGives, GivesBy, TracedBy, WroteAfter, demo_booted}
-use Rattle.nds_watch.specs.Watches.{IsAt, LinesAreOne, TracedToStop, TracedWhole, demo_of, lines_of, peeked, trace_of}
+use Rattle.nds_watch.specs.Watches.{IsAt, LinesAreOne, demo_of, lines_of, peeked, trace_of}
 use Rattle.nds_top.specs.Answers.{CommandGives, Gives, nothing, command}
 use Rattle.nds_top.specs.Laws.{CanBeDone, ComesTo, HadNoFault}
 use Rattle.nds_top.proofs.Outcomes.{IsOne, ReadLaws, RunComes, loaded, cart_fine, cart_refusal, cart_refused, loaded_comes, memory_or_not, not_both, read_fine, refusal, refused, run_comes_one, run_refused, same_file}

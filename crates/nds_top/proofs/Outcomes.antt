@@ -11,7 +11,7 @@ use Rattle.key_scripts.specs.Scripts.{IsFirstBadAt, IsScript}
 use Rattle.nds_answers.specs.Statuses.{status_number}
 use Rattle.nds_answers.specs.declared.statuses.Status.{Status}
 use Rattle.nds_answers.specs.declared.statuses.Status.TheVariants.{Done, Usage, NoFile, ReadFault, WriteFault, TooLong, BadHeader, BadScript, LeftOut, BadText, NoMemory}
-use Rattle.nds_loads.specs.Loads.{AreKeys, IsCart, IsFileRead, Refuses, RefusesCart, RefusesRun, RefusesScript, cartridge, script, most_bytes, most_script, most_text}
+use Rattle.nds_loads.specs.Loads.{AreKeys, IsCart, IsFileRead, Refuses, RefusesCart, RefusesRun, RefusesScript, cartridge, script, most_bytes, most_script}
 
 -- What comes of the files that are asked for, by what they are: a refusal, or their bytes.
 

@@ -1,4 +1,4 @@
-use Rattle.std.proofs.Common.{ℕ, ◌≡◌, List, [], Bool, Option, Some, None, max, refl, subst, arith}
+use Rattle.std.proofs.Common.{ℕ, ◌≡◌, List, [], Bool, Option, Some, None, refl, subst}
 use Rattle.ds_base.specs.declared.keys.KeyLine.{KeyLine}
 use Rattle.ds_base.specs.declared.processors.Proc.{Proc}
 use Rattle.ds_io.specs.Faults.{Rose}
@@ -8,7 +8,6 @@ use Rattle.ds_machine.specs.Reference.{Shown}
 use Rattle.ds_machine.specs.States.{MachineState}
 use Rattle.run_ahead.specs.Consoles.{ConsoleState}
 use Rattle.run_ahead.specs.Turns.{TurnsAddUp}
-use Rattle.demo_carts.specs.Demos.{demo_file}
 use Rattle.nds_answers.specs.declared.statuses.Status as status
 use Rattle.nds_answers.specs.declared.statuses.Status.TheVariants as statuses
 use Rattle.nds_calls.specs.Calls.{Call, around, IsUntouched, FromBoot, switched_on}

@@ -6,7 +6,7 @@ use Rattle.ds_runs.specs.Runs.{Ending, At, Runs}
 use Rattle.ds_runs.specs.Runs as runs
 use Rattle.ds_machine.specs.States.{MachineState}
 use Rattle.ds_machine.specs.Sound.{IsSound}
-use Rattle.ds_machine.specs.Reference.{Shown, next_shown, reference}
+use Rattle.ds_machine.specs.Reference.{Shown, reference}
 use Rattle.run_ahead.specs.Consoles.{ConsoleState}
 use Rattle.run_ahead.specs.ToEnd.{TurnsEndAsRuns, TurnsKeepRuns, TurnsOn, TurnsStopAsRuns, TurnsToEnd, at_end, counts, stops, none, turn}
 use Rattle.run_ahead.specs.Turns.{GoesOn, HasTurned, EachRan, Turns, counted_of, shown_in}

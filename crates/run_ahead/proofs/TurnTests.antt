@@ -1,4 +1,4 @@
-use Rattle.std.proofs.Common.{ℕ, suc, ◌≡◌, ◌<◌, ◌≤◌, ◌⊎◌, inl, inr, Bool, true, false, true≢false, List, [], ◌∷◌, Option, Some, None, Contains, refl, sym, ◌∙◌, ap, subst, arith}
+use Rattle.std.proofs.Common.{ℕ, suc, ◌≡◌, ◌<◌, ◌≤◌, ◌⊎◌, inl, inr, Bool, true, false, true≢false, List, [], ◌∷◌, Option, Some, None, Contains, refl, sym, ◌∙◌, ap, arith}
 use Rattle.std.specs.List.{list_all}
 use Rattle.std.specs.Prelude.{nat_le, if◌then◌else◌}
 use Rattle.std.proofs.lemmas.Option.{none-some, same_Some}
@@ -26,7 +26,7 @@ use Rattle.ds_machine.specs.Private.{AllReachPrivate, IsAhead, IsFence, IsPrivat
 use Rattle.ds_machine.specs.Reference.{keys_due, processor_due}
 use Rattle.ds_machine.specs.PrivateSides.{SideOf, nine_side, seven_side}
 use Rattle.ds_machine.specs.States.{MachineState}
-use Rattle.ds_machine.specs.Steps.{is_blocked, line_of, nine_reach, processor_of, seven_reach, tick_of}
+use Rattle.ds_machine.specs.Steps.{is_blocked, line_of, nine_reach, seven_reach, tick_of}
 use Rattle.ds_machine.specs.TurnSteps.{BelongsToTurn}
 use Rattle.ds_machine.proofs.ActingDues.{quiet_or_loud, same_or_not, somebody_acts}
 use Rattle.ds_machine.proofs.FenceFirsts.{ahead_where, below_where, fence_is, least_where, nine_by_parts, rank_where, seven_by_parts}

@@ -9,7 +9,7 @@ use Rattle.ds_runs.specs.Actors.{actor_of}
 use Rattle.ds_runs.specs.Runs.{Ending, At, IsLeast, IsOver, MachineStep, Makes, Stops}
 use Rattle.ds_runs.specs.Runs as runs
 use Rattle.ds_runs.proofs.Lists.{least_unique}
-use Rattle.ds_runs.proofs.RunLaws.{not_both, same_makes, same_stops}
+use Rattle.ds_runs.proofs.RunLaws.{not_both, same_makes}
 use Rattle.ds_machine.specs.Acting.{acting_dues, is_behind}
 use Rattle.ds_machine.specs.Lagging.{CatchesUp, CatchesUpFor, CatchesUpIf, TakesGeometry, observes_by}
 use Rattle.ds_machine.specs.Lagging as lagging
@@ -24,7 +24,7 @@ use Rattle.ds_machine.proofs.CatchingUp.{behind_is}
 use Rattle.ds_machine.proofs.DueTicks.{due_of_rank}
 use Rattle.run_ahead.specs.Consoles.{ConsoleState}
 use Rattle.run_ahead.specs.ToEnd.{TurnIsOne, TurnsAreOne, TurnsToEnd, at_end, counts, stops}
-use Rattle.run_ahead.specs.Turns.{EventStops, MeetsStop, StretchStops, TakesEvent, TakesQuiet, TakesStretch, Turns, counted_of, one_more_turn, run_to}
+use Rattle.run_ahead.specs.Turns.{MeetsStop, TakesEvent, TakesQuiet, TakesStretch, Turns, counted_of, one_more_turn, run_to}
 use Rattle.run_ahead.specs.declared.turns.Turned as turned
 use Rattle.run_ahead.specs.declared.turns.Turned.TheVariants as answers
 

@@ -160,8 +160,9 @@ impl Sink for MemSink {
 
     fn put(&mut self, bytes: &[u8]) -> Result<usize, Failed>
         ensures fails { IsErr result ↔ IsTrue (fails_now (called self.old.calls)) }
+        ensures some { 0 < self.old.most }
         ensures answer { IfOk result (λ n. n ≡ min (length bytes.now) self.old.most) }
-        ensures next { self.new ≡ sink_called self.old (kept_after self.old.kept (take self.old.most bytes.now)) }
+        ensures next { self.new ≡ sink_called self.old (kept_after self.old.kept (take (min (length bytes.now) self.old.most) bytes.now)) }
         ensures cause { OnErr result (Rose (fault_count self.old.calls) (fault_count self.new.calls)) }
         ensures later { fault_count self.old.calls ≤ fault_count self.new.calls }
     {

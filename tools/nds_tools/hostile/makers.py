@@ -3,7 +3,7 @@ import random
 import struct
 from typing import Dict, List, Tuple
 
-from nds_tools.hostile.causes import KEYS, MEMORIES
+from nds_tools.hostile.causes import KEYS, MEMORIES, MOST_TICKS
 
 Case = Tuple[List[str], Dict[str, bytes]]
 LOOP = 0xEAFFFFFE
@@ -145,8 +145,12 @@ def words(chance: random.Random) -> Case:
     for _ in range(chance.randrange(3)):
         at = chance.randrange(len(asked) + 1)
         asked[at : at + chance.randrange(2)] = [chance.choice(strange)]
-    small = [it if it not in ("100000000000", "4294967295") or asked[0] == "demo" and at == 1 else "77" for at, it in enumerate(asked)]
-    return small, files
+    return [short(it) if at > 1 else it for at, it in enumerate(asked)], files
+
+
+def short(given: str) -> str:
+    """Returns a word, or 77 in place of a number of ticks that would take long to run to."""
+    return "77" if given.isdigit() and given.isascii() and 1_000_000 < int(given) <= MOST_TICKS else given
 
 
 def demos(chance: random.Random) -> Case:

@@ -1,5 +1,6 @@
 pub mod Accesses
 pub mod Bits
+pub mod Deeds
 pub mod Digits
 pub mod Interrupts
 pub mod KeyLines

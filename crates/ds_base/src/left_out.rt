@@ -25,7 +25,7 @@ pub enum LeftKind {
     Capture,
     /// Mosaic; the value is 256 for engine B, and the layer, or 128 and the object.
     Mosaic,
-    /// An extended background; the value is 256 for engine B, and the layer.
+    /// An extended background; the value is 256 for engine B, and the layer. None stops the machine any more; its number stays its own.
     ExtendedBackground,
     /// A bitmap object; the value is 256 for engine B, and the object.
     BitmapObject,

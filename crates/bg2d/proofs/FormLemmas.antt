@@ -1,8 +1,8 @@
 use Rattle.std.proofs.Common.{ℕ, ◌+◌, ◌%◌, List}
 use Rattle.std.specs.Prelude.{Option, Some, None}
 use Rattle.vram_banks.specs.Cells.{Banks}
-use Rattle.tiles2d.specs.Colours.{palette_colour, HasForm}
-use Rattle.tiles2d.proofs.FormLemmas.{zero_form, indexed_form}
+use Rattle.vram_banks.specs.Colours.{palette_colour, HasForm}
+use Rattle.vram_banks.proofs.FormLemmas.{zero_form, indexed_form}
 use Rattle.bg2d.specs.declared.layers.TextLayer.{TextLayer}
 use Rattle.bg2d.specs.declared.layers.AffineLayer.{AffineLayer}
 use Rattle.bg2d.specs.TextPixels.{text_width, text_height, text_entry, text_colour, text_pixel}

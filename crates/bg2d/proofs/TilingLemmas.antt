@@ -9,11 +9,11 @@ use Rattle.ds_base.specs.declared.memories.Width.TheVariants.{Half}
 use Rattle.vram_banks.specs.Cells.{Banks, vram_byte}
 use Rattle.bg2d.specs.declared.layers.TextLayer.{TextLayer}
 use Rattle.bg2d.specs.declared.texts.KeptPalette.{KeptPalette}
-use Rattle.tiles2d.specs.Bases.{background_space, background_palette_space, map_base}
-use Rattle.tiles2d.specs.Colours.{indexed_pixel, palette_colour, extended_colour, table_pixel}
-use Rattle.tiles2d.proofs.PaletteLemmas.{read_pixel, tabled_16, tabled_256}
-use Rattle.tiles2d.specs.Tiles.{nibble_at, flipped}
-use Rattle.tiles2d.proofs.NibbleLemmas.{nibble_there}
+use Rattle.vram_banks.specs.Bases.{background_space, background_palette_space, map_base}
+use Rattle.vram_banks.specs.Colours.{indexed_pixel, palette_colour, extended_colour, table_pixel}
+use Rattle.vram_banks.proofs.PaletteLemmas.{read_pixel, tabled_16, tabled_256}
+use Rattle.vram_banks.specs.Tiles.{nibble_at, flipped}
+use Rattle.vram_banks.proofs.NibbleLemmas.{nibble_there}
 use Rattle.bg2d.specs.TextPixels.{text_width, text_height, has_256, text_entry, text_index, text_colour, text_entry_pixel, text_pixel, palette_slot}
 use Rattle.bg2d.specs.rows.Tiling.{block_line, is_extended, IsBlockLine, IsKept, tile_row, tiled_pixel, AreEntries, ArePacked, AreIndices, ArePainted}
 

@@ -2,10 +2,10 @@ use Rattle.std.specs.Prelude.{ℕ, ◌+◌, ◌*◌, ◌/◌, ◌%◌, ◌^◌, 
 use Rattle.ds_base.specs.Bits.{bits, bit}
 use Rattle.vram_banks.specs.Cells.{Banks, vram_byte}
 use Rattle.bg2d.specs.declared.layers.AffineLayer.{AffineLayer}
-use Rattle.tiles2d.specs.Bases.{background_space, map_base, tile_base}
-use Rattle.tiles2d.specs.Colours.{indexed_pixel, palette_colour}
-use Rattle.tiles2d.specs.Points.{affine_coordinate, place_within}
-use Rattle.tiles2d.specs.Tiles.{index_of_256}
+use Rattle.vram_banks.specs.Bases.{background_space, map_base, tile_base}
+use Rattle.vram_banks.specs.Colours.{indexed_pixel, palette_colour}
+use Rattle.vram_banks.specs.Points.{affine_coordinate, place_within}
+use Rattle.vram_banks.specs.Tiles.{index_of_256}
 
 -- The pixel of an affine background (GBATEK, "LCD I/O BG Rotation/Scaling", "LCD VRAM BG Screen Data Format (BG Map)").
 

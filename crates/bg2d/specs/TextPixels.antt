@@ -3,9 +3,9 @@ use Rattle.ds_base.specs.Bits.{bits, bit}
 use Rattle.ds_base.specs.declared.memories.Width.TheVariants.{Half}
 use Rattle.vram_banks.specs.Cells.{Banks, vram_value}
 use Rattle.bg2d.specs.declared.layers.TextLayer.{TextLayer}
-use Rattle.tiles2d.specs.Bases.{background_space, background_palette_space, map_base, tile_base}
-use Rattle.tiles2d.specs.Colours.{indexed_pixel, palette_colour, extended_colour}
-use Rattle.tiles2d.specs.Tiles.{index_of_16, index_of_256, flipped}
+use Rattle.vram_banks.specs.Bases.{background_space, background_palette_space, map_base, tile_base}
+use Rattle.vram_banks.specs.Colours.{indexed_pixel, palette_colour, extended_colour}
+use Rattle.vram_banks.specs.Tiles.{index_of_16, index_of_256, flipped}
 
 -- The pixel of a text background at a place of the screen (GBATEK, "LCD VRAM BG Screen Data Format (BG Map)", "LCD I/O BG Control",
 -- "DS Video Extended Palettes").

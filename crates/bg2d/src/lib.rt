@@ -2,7 +2,7 @@
 //! Control").
 //!
 //! The definitions are pixel by pixel and know no row: `specs/TextPixels` and `specs/AffinePixels`, over tiles and colours, the places of maps and
-//! tiles, and points, which other layers share (`tiles2d`). The code works by rows and tiles.
+//! tiles, and points, which other layers share (`vram_banks`). The code works by rows and tiles.
 //!
 //! Proved, whatever video memory holds and however banks overlap: at each of the 256 places the pixel of `text_row` is `text_pixel` of that
 //! place and line, and that of `affine_row` `affine_pixel`; a pixel is 0 or has bit 15 set (clause `form`). So every place is written,

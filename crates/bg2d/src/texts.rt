@@ -5,16 +5,12 @@ ghost use Rattle.ds_base.specs.Bits.{bits, bit};
 ghost use Rattle.ds_base.specs.Numbers.{number_at};
 ghost use Rattle.ds_base.specs.declared.memories.Width.TheVariants.{Half};
 ghost use Rattle.bg2d.specs.TextPixels.{text_width, text_height, has_256, palette_slot, text_entry, text_colour, text_pixel};
-ghost use Rattle.tiles2d.specs.Colours.{indexed_pixel, HasForm};
-ghost use Rattle.tiles2d.specs.Tiles.{flipped};
+ghost use Rattle.vram_banks.specs.Colours.{indexed_pixel, HasForm};
+ghost use Rattle.vram_banks.specs.Tiles.{flipped};
 ghost use Rattle.bg2d.specs.rows.Tiling.{block_line, is_extended, tile_row, AreEntries, IsBlockLine, ArePacked, AreIndices, AreNarrow, ArePainted, IsTable, IsKept};
 
 use crate::layers::TextLayer;
-use tiles2d::{
-    background_palette_space, background_space, copy_eight, copy_four, fill_table, flipped,
-    map_base, paint_by_table, paint_standard, tile_base, unpack,
-};
-use vram_banks::{Row, Vram};
+use vram_banks::{Row, Vram, background_palette_space, background_space, copy_eight, copy_four, fill_table, flipped, map_base, paint_by_table, paint_standard, tile_base, unpack};
 
 /// How many tiles a row touches: 256 pixels, and a tile's part at either end.
 const TILES: usize = 33;

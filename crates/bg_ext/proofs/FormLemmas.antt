@@ -2,8 +2,8 @@ use Rattle.std.proofs.Common.{ℕ, List}
 use Rattle.std.specs.Prelude.{Option, Some, None}
 use Rattle.ds_base.specs.Bits.{bit}
 use Rattle.vram_banks.specs.Cells.{Banks}
-use Rattle.tiles2d.specs.Colours.{HasForm, opaque_pixel, palette_colour}
-use Rattle.tiles2d.proofs.FormLemmas.{choice_form, zero_form, opaque_form, indexed_form}
+use Rattle.vram_banks.specs.Colours.{HasForm, opaque_pixel, palette_colour}
+use Rattle.vram_banks.proofs.FormLemmas.{choice_form, zero_form, opaque_form, indexed_form}
 use Rattle.bg_ext.specs.declared.layers.ExtLayer.{ExtLayer}
 use Rattle.bg_ext.specs.BankPixels.{vram_pixel}
 use Rattle.bg_ext.specs.ExtendedPixels.{is_bitmap, has_halves, direct_pixel, half_pixel, byte_pixel, ext_entry, entry_colour, entry_pixel, ext_point_pixel, ext_place_pixel, ext_across, ext_down, ext_pixel}

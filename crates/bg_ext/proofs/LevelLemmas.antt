@@ -4,7 +4,7 @@ use Rattle.std.specs.Int.{int_shr}
 use Rattle.std.proofs.Math.IntN.{zero-*ℤ}
 use Rattle.ds_base.specs.Bits.{bit}
 use Rattle.vram_banks.specs.Cells.{Banks}
-use Rattle.tiles2d.specs.Points.{affine_coordinate, place_within}
+use Rattle.vram_banks.specs.Points.{affine_coordinate, place_within}
 use Rattle.bg_ext.specs.declared.layers.ExtLayer.{ExtLayer}
 use Rattle.bg_ext.specs.ExtendedPixels.{ext_height, ext_across, ext_down, ext_place_pixel, ext_pixel}
 

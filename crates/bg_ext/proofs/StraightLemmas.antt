@@ -6,9 +6,9 @@ use Rattle.std.proofs.Math.Nat.{mod-eq_of_lt}
 use Rattle.ds_base.specs.Bits.{bit}
 use Rattle.ds_base.specs.declared.memories.Width.TheVariants.{Half}
 use Rattle.vram_banks.specs.Cells.{Banks, vram_byte, vram_value}
-use Rattle.tiles2d.specs.Bases.{background_space}
-use Rattle.tiles2d.specs.Colours.{indexed_pixel, palette_colour}
-use Rattle.tiles2d.specs.Points.{affine_coordinate, place_within}
+use Rattle.vram_banks.specs.Bases.{background_space}
+use Rattle.vram_banks.specs.Colours.{indexed_pixel, palette_colour}
+use Rattle.vram_banks.specs.Points.{affine_coordinate, place_within}
 use Rattle.bg_ext.specs.declared.layers.ExtLayer.{ExtLayer}
 use Rattle.bg_ext.specs.ExtendedPixels.{is_bitmap, has_halves, ext_width, ext_across, direct_pixel, half_pixel, byte_pixel, ext_point_pixel, ext_place_pixel}
 use Rattle.bg_ext.specs.rows.Lines.{bytes_start, halves_start}

@@ -3,7 +3,7 @@ use Rattle.ds_base.specs.Bits.{bits}
 use Rattle.ds_base.specs.declared.memories.Space.TheVariants.{Lcdc}
 use Rattle.ds_base.specs.declared.memories.Width.TheVariants.{Half}
 use Rattle.vram_banks.specs.Cells.{Banks, vram_value}
-use Rattle.tiles2d.specs.Colours.{opaque_pixel}
+use Rattle.vram_banks.specs.Colours.{opaque_pixel}
 
 -- The pixel of a bank that is shown as it lies (GBATEK, "DS Video BG Modes / Control", display mode 2): the half at its place in one of the first
 -- four blocks of 128K of LCDC, which DISPCNT's bits 18 and 19 choose. Its low 15 bits are the colour, bit 15 counts for nothing, and each pixel is

@@ -2,10 +2,10 @@ use Rattle.std.specs.Prelude.{ℕ, Bool, ◌+◌, ◌*◌, ◌/◌, ◌%◌, ◌
 use Rattle.ds_base.specs.Bits.{bits, bit}
 use Rattle.ds_base.specs.declared.memories.Width.TheVariants.{Half}
 use Rattle.vram_banks.specs.Cells.{Banks, vram_byte, vram_value}
-use Rattle.tiles2d.specs.Bases.{background_space, background_palette_space, map_base, tile_base}
-use Rattle.tiles2d.specs.Colours.{opaque_pixel, indexed_pixel, palette_colour, extended_colour}
-use Rattle.tiles2d.specs.Points.{affine_coordinate, place_within}
-use Rattle.tiles2d.specs.Tiles.{index_of_256, flipped}
+use Rattle.vram_banks.specs.Bases.{background_space, background_palette_space, map_base, tile_base}
+use Rattle.vram_banks.specs.Colours.{opaque_pixel, indexed_pixel, palette_colour, extended_colour}
+use Rattle.vram_banks.specs.Points.{affine_coordinate, place_within}
+use Rattle.vram_banks.specs.Tiles.{index_of_256, flipped}
 use Rattle.bg_ext.specs.declared.layers.ExtLayer.{ExtLayer}
 
 -- The pixel of an extended background (GBATEK, "DS Video BG Modes / Control", BGxCNT of extended backgrounds; "DS Video Extended Palettes"). It is

@@ -4,14 +4,13 @@ ghost use Rattle.std.specs.Prelude.{◌≡◌, ◌<◌, ◌+◌, ◌*◌, ◌%�
 ghost use Rattle.ds_base.specs.declared.memories.Space.TheVariants.{Lcdc};
 ghost use Rattle.ds_base.specs.declared.memories.Width.TheVariants.{Half};
 ghost use Rattle.vram_banks.specs.Cells.{vram_value};
-ghost use Rattle.tiles2d.specs.Colours.{HasForm, opaque_pixel};
+ghost use Rattle.vram_banks.specs.Colours.{HasForm, opaque_pixel};
 ghost use Rattle.bg_ext.specs.BankPixels.{vram_pixel};
 ghost use Rattle.bg_ext.specs.rows.Lines.{AreBytes};
 
 use crate::pixels::half_among;
 use ds_base::Space;
-use tiles2d::opaque_pixel;
-use vram_banks::{Row, Vram};
+use vram_banks::{Row, Vram, opaque_pixel};
 
 /// The pixels of a line's halves, which were read from an address on. The other arguments are there for the contract.
 fn paint(vram: &Vram, at: u32, bytes: &[u8; 512], into: &mut [u16; 256])

@@ -1,7 +1,7 @@
 //! Rows of extended backgrounds.
 
 ghost use Rattle.std.specs.Prelude.{◌≡◌, ◌<◌, ℕ, pos, length, slice_index};
-ghost use Rattle.tiles2d.specs.Colours.{HasForm};
+ghost use Rattle.vram_banks.specs.Colours.{HasForm};
 ghost use Rattle.bg_ext.specs.ExtendedPixels.{ext_pixel};
 
 use crate::layers::{ExtLayer, ext_down};

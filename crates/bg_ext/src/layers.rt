@@ -4,7 +4,7 @@ ghost use Rattle.std.specs.Prelude.{◌≡◌, ◌<◌, ◌≤◌, ◌+◌, ◌%
 ghost use Rattle.ds_base.specs.Bits.{bit, bits};
 ghost use Rattle.bg_ext.specs.ExtendedPixels.{is_bitmap, has_halves, map_sides, bitmap_widths, bitmap_heights, ext_width, ext_height, ext_across, ext_down, bitmap_base};
 
-use tiles2d::{affine_coordinate, place_within};
+use vram_banks::{affine_coordinate, place_within};
 
 /// An extended background, by its ports (GBATEK, "DS Video BG Modes / Control", "LCD I/O BG Rotation/Scaling").
 #[derive(Clone, Copy, PartialEq, Eq)]

@@ -2,7 +2,7 @@
 //! and rows of a bank of video memory that is shown as it lies (GBATEK, "DS Video BG Modes / Control").
 //!
 //! The definitions are pixel by pixel and know no row: `specs/ExtendedPixels` and `specs/BankPixels`, over tiles, colours, bases and
-//! points, which other layers share (`tiles2d`). The code reads the line of a background that isn't turned at once. Tests stand in
+//! points, which other layers share (`vram_banks`). The code reads the line of a background that isn't turned at once. Tests stand in
 //! `rows2d_tests`.
 //!
 //! Proved, whatever video memory holds and however banks overlap: at each of the 256 places the pixel of `ext_row` is `ext_pixel` of that

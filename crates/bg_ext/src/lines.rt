@@ -1,7 +1,7 @@
 //! Rows of a background that isn't turned, from one line of it, whose bytes are read at once.
 
 ghost use Rattle.std.specs.Prelude.{◌≡◌, ◌<◌, ◌≤◌, ◌+◌, Some, ℕ, slice_index, length, true, false};
-ghost use Rattle.tiles2d.specs.Bases.{background_space};
+ghost use Rattle.vram_banks.specs.Bases.{background_space};
 ghost use Rattle.bg_ext.specs.ExtendedPixels.{is_bitmap, has_halves, ext_across, ext_place_pixel};
 ghost use Rattle.bg_ext.specs.rows.Lines.{AreBytes, bytes_start, entries_start, halves_start};
 
@@ -9,8 +9,7 @@ use crate::layers::{ExtLayer, ext_across, has_halves, is_bitmap, straight};
 use crate::pixels::{
     bytes_start, direct_pixel, entries_start, entry_pixel, half_among, halves_start,
 };
-use tiles2d::{background_space, colour_pixel};
-use vram_banks::Vram;
+use vram_banks::{Vram, background_space, colour_pixel};
 
 /// The pixel at a place of a bitmap of halves, from its line. `palette` is there for the contract.
 #[inline(always)]

@@ -1,3 +1,5 @@
 pub mod SinkLemmas
 pub mod ShelfLemmas
 pub mod CallLemmas
+pub mod Pieces
+pub mod Putting

@@ -5,3 +5,4 @@ pub mod Entries
 pub mod Kept
 pub mod Numbered
 pub mod Fakes
+pub mod Puts

@@ -5,8 +5,8 @@
 //! Proved: `read_all` gives the rest of the found file, all of it and at most `limit` bytes, or answers that it is too long exactly where
 //! more were left (then one more than the limit is gone), where no read failed. `Failed` comes only where the shelf's count of faults rose
 //! in the call; after any refusal the place is past what was read, and the files are the same. `put_all` appends all bytes, or on `Failed`,
-//! which comes only where the sink's count of faults rose, a front of them. `QuietShelf` and `QuietSink` never fail and answer exactly by
-//! what they keep; a sink with room for what is put tells it whole (`Sink`'s `room`, `put_all`'s clause `left`, the law `roomy`).
+//! which comes only where the sink's count of faults rose, a front of them; `put_parts` does so with parts, one after another.
+//! `QuietShelf` and `QuietSink` never fail and answer exactly by what they keep; a sink with room for what is put tells it whole (`Sink`'s `room`, `put_all`'s clause `left`, the law `roomy`).
 //! `MemShelf` and `MemSink` fail exactly in the calls whose numbers stand in their `Calls`; a sink of `MemSink::slow` takes at most so many
 //! bytes a call, and keeps exactly that front of what is put (clauses `answer`, `next` of `put`). `Files::push` and `Calls::push` leave
 //! their list as it was where memory is wanting.
@@ -24,6 +24,7 @@ mod edge;
 mod faults;
 mod files;
 mod mem;
+mod parts;
 mod quiet;
 mod reads;
 mod shelves;
@@ -34,6 +35,7 @@ pub use edge::{DiskShelf, StdSink};
 pub use faults::{Failed, ReadFault};
 pub use files::Files;
 pub use mem::{MemShelf, MemSink};
+pub use parts::put_parts;
 pub use quiet::{QuietShelf, QuietSink};
 pub use reads::read_all;
 pub use shelves::Shelf;

@@ -2,7 +2,7 @@ use Rattle.std.proofs.Common.{◌≡◌, ℕ, List, [], ◌∷◌, ◌++◌, len
 use Rattle.std.proofs.lemmas.List.{length-append, set-append_right, append_assoc}
 use Rattle.std.proofs.Math.Seq.{take-append_seam, drop-append_seam}
 use borrow.Rule.Slice.PartMut.{put_mid}
-use Rattle.number_bytes.specs.Numbers.{words}
+use Rattle.nds_records.specs.Numbers.{words}
 
 -- Bytes that are laid one behind another in a buffer.
 

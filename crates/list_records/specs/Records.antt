@@ -4,7 +4,7 @@ use Rattle.std.specs.Int.{cast_unsigned, w16, w32}
 use Rattle.gx_geometry.specs.States.{Swapped}
 use Rattle.gx_geometry.specs.declared.polygons.Polygon.{Polygon}
 use Rattle.gx_geometry.specs.declared.polygons.Vertex.{Vertex}
-use Rattle.number_bytes.specs.Numbers.{longs, words, halves}
+use Rattle.nds_records.specs.Numbers.{longs, words, halves}
 
 -- The record of the geometry lists of a swap (our choice), by its parts. All numbers are little-endian, and signed ones in two's complement.
 

@@ -2,18 +2,17 @@
 
 ghost use Rattle.std.specs.Prelude.{◌≡◌, ◌∷◌, ◌++◌, []};
 ghost use Rattle.std.specs.List.{concat};
-ghost use Rattle.sink_parts.specs.Puts.{Puts};
-ghost use Rattle.number_bytes.specs.Numbers.{words, halves};
+ghost use Rattle.ds_io.specs.Puts.{Puts};
+ghost use Rattle.nds_records.specs.Numbers.{words, halves};
 ghost use Rattle.list_records.specs.Records.{half_of, lists_head, lists_record, polygon_record, polygon_records, vertex_record, vertex_records, word_of};
 
 use byteorder::{ByteOrder, LittleEndian};
-use ds_io::{Failed, Sink, put_all};
+use ds_io::{Failed, Sink, put_all, put_parts};
 use gx_geometry::{Lists, Polygon, Vertex};
-use number_bytes::{long_bytes, low_word_bytes, word_bytes};
-use sink_parts::put_parts;
+use nds_records::{long_bytes, low_word_bytes, word_bytes};
 
 /// A vertex's coordinates in clip space.
-#[tactic(auto, unfolding(number_bytes::specs::Numbers::words))]
+#[tactic(auto, unfolding(nds_records::specs::Numbers::words))]
 fn coordinate_bytes(vertex: &Vertex) -> [u8; 16]
     ensures { result ≡ words (word_of vertex.now.x ∷ word_of vertex.now.y ∷ word_of vertex.now.z ∷ word_of vertex.now.w ∷ []) }
 {
@@ -29,7 +28,7 @@ fn coordinate_bytes(vertex: &Vertex) -> [u8; 16]
 }
 
 /// A vertex's colour and its texture coordinates.
-#[tactic(auto, unfolding(number_bytes::specs::Numbers::halves))]
+#[tactic(auto, unfolding(nds_records::specs::Numbers::halves))]
 fn colour_bytes(vertex: &Vertex) -> [u8; 6]
     ensures { result ≡ halves (vertex.now.colour ∷ half_of vertex.now.s ∷ half_of vertex.now.t ∷ []) }
 {
@@ -54,7 +53,7 @@ fn vertex_bytes(vertex: &Vertex) -> [u8; 22]
 }
 
 /// A polygon's words.
-#[tactic(auto, unfolding(number_bytes::specs::Numbers::words))]
+#[tactic(auto, unfolding(nds_records::specs::Numbers::words))]
 fn attribute_bytes(polygon: &Polygon) -> [u8; 16]
     ensures { result ≡ words (polygon.now.attributes ∷ polygon.now.texture ∷ polygon.now.palette ∷ polygon.now.viewport ∷ []) }
 {
@@ -70,7 +69,7 @@ fn attribute_bytes(polygon: &Polygon) -> [u8; 16]
 }
 
 /// A polygon's places in the list of vertices.
-#[tactic(auto, unfolding(number_bytes::specs::Numbers::halves))]
+#[tactic(auto, unfolding(nds_records::specs::Numbers::halves))]
 fn index_bytes(polygon: &Polygon) -> [u8; 8]
     ensures { result ≡ halves polygon.now.indices }
 {

@@ -1,2 +1,4 @@
 pub mod Notes
 pub mod Statuses
+pub mod Inside
+pub mod Loads

@@ -9,7 +9,7 @@ use Rattle.ds_header.specs.declared.faults.HeaderFault.{HeaderFault}
 use Rattle.ds_header.specs.declared.faults.HeaderField.{HeaderField}
 use Rattle.ds_header.specs.declared.faults.HeaderField.TheVariants.{Short, UnitCode, Arm9Rom, Arm9Place, Arm9Entry, Arm7Rom, Arm7Place, Arm7Entry}
 use Rattle.ds_io.specs.declared.faults.Failed.{Failed}
-use Rattle.sink_parts.specs.Puts.{Puts}
+use Rattle.ds_io.specs.Puts.{Puts}
 use Rattle.nds_answers.specs.declared.statuses.Status as status
 use Rattle.nds_answers.specs.declared.statuses.Status.TheVariants as statuses
 

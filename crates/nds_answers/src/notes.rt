@@ -1,15 +1,14 @@
 //! The line that tells a status to a person. It is written without taking memory.
 
 ghost use Rattle.std.specs.Prelude.{◌≡◌};
-ghost use Rattle.sink_parts.specs.Puts.{Puts};
+ghost use Rattle.ds_io.specs.Puts.{Puts};
 ghost use Rattle.nds_answers.specs.Notes.{field_word, kind_word, header_line, script_line, stop_line, text_line, note_of, Noted};
 
 use crate::statuses::Status;
 use ds_base::{LeftKind, LeftOut, hex_digits};
 use ds_header::{HeaderFault, HeaderField};
-use ds_io::{Failed, Sink, put_all};
+use ds_io::{Failed, Sink, put_all, put_parts};
 use itoa::Buffer;
-use sink_parts::put_parts;
 
 /// A header field's name.
 fn name_of_field(field: HeaderField) -> &'static str

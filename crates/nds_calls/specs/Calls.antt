@@ -5,7 +5,7 @@ use Rattle.ds_machine.specs.Booted.{machine_booted}
 use Rattle.ds_machine.specs.States.{MachineState}
 use Rattle.run_ahead.specs.Consoles.{ConsoleState}
 use Rattle.run_ahead.specs.Turns.{IsAfterItsTurns}
-use Rattle.nds_loads.specs.Loads.{IsCart, AreKeys}
+use Rattle.nds_answers.specs.Loads.{IsCart, AreKeys}
 
 -- What surrounds a call of the program, and what is said of all commands.
 

@@ -5,13 +5,12 @@ ghost use Rattle.ds_io.specs.Faults.{Rose};
 ghost use Rattle.ds_io.specs.Shelves.{files_of};
 ghost use Rattle.ds_machine.specs.Booted.{machine_booted};
 ghost use Rattle.nds_calls.specs.Calls.{IsSwitchedOn, switched_on};
-ghost use Rattle.nds_loads.specs.Loads.{RefusesRun};
+ghost use Rattle.nds_answers.specs.Loads.{RefusesRun};
 
 use ds_base::Keys;
 use ds_header::Cart;
 use ds_io::Shelf;
-use nds_answers::{Ended, Status};
-use nds_loads::load_run;
+use nds_answers::{Ended, Status, load_run};
 use run_ahead::Console;
 use std::alloc::{AllocError, Global};
 use std::mem::replace;

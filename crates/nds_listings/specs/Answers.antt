@@ -9,7 +9,7 @@ use Rattle.asm_files.specs.Listings.{listing, IsListing, IsFirstBad}
 use Rattle.nds_answers.specs.declared.statuses.Status.{Status}
 use Rattle.nds_answers.specs.declared.statuses.Status.TheVariants.{Done, WriteFault, BadText}
 use Rattle.nds_calls.specs.Calls.{Call, IsUntouched}
-use Rattle.nds_loads.specs.Loads.{IsCart, IsFileRead, Refuses, RefusesCart, most_text}
+use Rattle.nds_answers.specs.Loads.{IsCart, IsFileRead, Refuses, RefusesCart, most_text}
 
 -- When each answer to `list` and to `asm` comes, and what it leaves. Each one's last line has its refusals: nothing was written, and no
 -- console is left. Want of memory is free.

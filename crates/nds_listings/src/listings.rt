@@ -9,8 +9,7 @@ use asm_files::write_listing;
 use asm_text::Set;
 use ds_base::Proc;
 use ds_io::{Shelf, Sink, put_all};
-use nds_answers::Status;
-use nds_loads::{load, load_cart};
+use nds_answers::{Status, load, load_cart};
 use std::alloc::Global;
 
 /// The greatest length of a listing's file, in bytes.

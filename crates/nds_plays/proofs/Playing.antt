@@ -23,8 +23,8 @@ use Rattle.list_records.specs.Records.{lists_records}
 use Rattle.nds_plays.specs.Inside.{ending, RunsTo, shown_after, shown_now, shown_while}
 use Rattle.nds_plays.specs.Plays.{Wrote, WroteFront}
 use Rattle.nds_plays.specs.Records.{Latest, frame_records, kept_records, last_records, latest_after, latest_of, output_of, shown_records, swapped_lists}
-use Rattle.command_words.specs.declared.commands.Keep.{Keep}
-use Rattle.command_words.specs.declared.commands.Keep.TheVariants.{All, Last, Nothing}
+use Rattle.nds_words.specs.declared.commands.Keep.{Keep}
+use Rattle.nds_words.specs.declared.commands.Keep.TheVariants.{All, Last, Nothing}
 
 -- ---- frames and lists, one after another
 

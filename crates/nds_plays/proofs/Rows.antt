@@ -2,7 +2,7 @@ use Rattle.std.proofs.Common.{ℕ, ◌≡◌, ◌+◌, ◌-◌, ◌*◌, List, [
 use Rattle.std.proofs.Math.Seq.{take-add}
 use Rattle.std.proofs.lemmas.List.Concat.{flat_map-append}
 use Rattle.byteorder.specs.Endian.{little_bytes}
-use Rattle.number_bytes.specs.Numbers.{halves}
+use Rattle.nds_records.specs.Numbers.{halves}
 
 -- Pixels as bytes, row by row.
 

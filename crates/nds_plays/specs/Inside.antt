@@ -13,8 +13,8 @@ use Rattle.run_ahead.specs.Consoles.{ConsoleState}
 use Rattle.nds_plays.specs.Plays.{WroteFront}
 use Rattle.list_records.specs.Records.{lists_records}
 use Rattle.nds_plays.specs.Records.{Latest, frame_records, latest_records, shown_records, swapped_lists}
-use Rattle.command_words.specs.declared.commands.Keep.{Keep}
-use Rattle.command_words.specs.declared.commands.Keep.TheVariants.{All, Last, Nothing}
+use Rattle.nds_words.specs.declared.commands.Keep.{Keep}
+use Rattle.nds_words.specs.declared.commands.Keep.TheVariants.{All, Last, Nothing}
 
 -- What the code's parts say of one another. No public clause speaks of it.
 

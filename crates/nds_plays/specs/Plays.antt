@@ -9,7 +9,7 @@ use Rattle.run_ahead.specs.Consoles.{ConsoleState}
 use Rattle.run_ahead.specs.ToEnd.{TurnsToEnd}
 use Rattle.run_ahead.specs.Turns.{HasTurned}
 use Rattle.nds_plays.specs.Records.{latest_of, output_of}
-use Rattle.command_words.specs.declared.commands.Keep.{Keep}
+use Rattle.nds_words.specs.declared.commands.Keep.{Keep}
 use Rattle.nds_plays.specs.declared.plays.Played as played
 use Rattle.nds_plays.specs.declared.plays.Played.TheVariants as answers
 

@@ -13,9 +13,9 @@ use Rattle.ds_machine.specs.Observed.{memory_of, registers_of}
 use Rattle.ds_machine.specs.Reference.{Shown}
 use Rattle.gx_geometry.specs.States.{Swapped}
 use Rattle.list_records.specs.Records.{lists_records}
-use Rattle.number_bytes.specs.Numbers.{longs, words, halves}
-use Rattle.command_words.specs.declared.commands.Keep.{Keep}
-use Rattle.command_words.specs.declared.commands.Keep.TheVariants.{All, Last, Nothing}
+use Rattle.nds_records.specs.Numbers.{longs, words, halves}
+use Rattle.nds_words.specs.declared.commands.Keep.{Keep}
+use Rattle.nds_words.specs.declared.commands.Keep.TheVariants.{All, Last, Nothing}
 
 -- What a run writes (our choice of records), each record by its parts. All numbers are little-endian.
 

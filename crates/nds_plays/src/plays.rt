@@ -3,11 +3,11 @@
 ghost use Rattle.std.specs.Prelude.{◌≡◌, ◌≤◌, ◌^◌, ◌++◌, None};
 ghost use Rattle.nds_plays.specs.Plays.{Plays};
 ghost use Rattle.nds_plays.specs.Inside.{Ran, ending, shown_after, shown_now};
-ghost use Rattle.sink_parts.specs.Puts.{Puts};
+ghost use Rattle.ds_io.specs.Puts.{Puts};
 ghost use Rattle.nds_plays.specs.Records.{last_records, latest_of};
 
 use crate::records::{put_last, put_latest, put_now, put_stop};
-use command_words::Keep;
+use nds_words::Keep;
 use ds_base::{LeftOut, Tick};
 use ds_io::{Failed, Sink};
 use run_ahead::{Console, Turned};

@@ -4,18 +4,17 @@ ghost use Rattle.std.specs.Prelude.{◌≡◌, length, option_to_list};
 ghost use Rattle.std.specs.List.{concat};
 ghost use Rattle.ds_machine.specs.Frames.{last_frame, last_lists};
 ghost use Rattle.ds_runs.specs.Runs.{At};
-ghost use Rattle.sink_parts.specs.Puts.{Puts};
-ghost use Rattle.number_bytes.specs.Numbers.{halves};
+ghost use Rattle.ds_io.specs.Puts.{Puts};
+ghost use Rattle.nds_records.specs.Numbers.{halves};
 ghost use Rattle.list_records.specs.Records.{lists_records};
 ghost use Rattle.nds_plays.specs.Inside.{records_now};
 ghost use Rattle.nds_plays.specs.Records.{frame_record, frame_records, latest_of, latest_records, last_records, stop_record, swapped_lists, kind_number};
 
 use ds_base::{LeftKind, LeftOut, Memory, Proc, Tick};
-use ds_io::{Failed, Sink, put_all};
+use ds_io::{Failed, Sink, put_all, put_parts};
 use list_records::put_lists;
-use number_bytes::{five_longs, long_bytes, register_bytes, row_bytes, word_bytes};
+use nds_records::{five_longs, long_bytes, register_bytes, row_bytes, word_bytes};
 use run_ahead::Console;
-use sink_parts::put_parts;
 
 /// The pixels of both screens, a row at a time from where they lie.
 fn put_pixels<O: Sink>(out: &mut O, pixels: &[u16]) -> Result<(), Failed>

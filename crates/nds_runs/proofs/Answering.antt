@@ -3,7 +3,7 @@ use Rattle.ds_io.specs.Shelves.{Told, files_of}
 use Rattle.ds_machine.specs.Booted.{machine_booted}
 use Rattle.run_ahead.specs.Consoles.{ConsoleState}
 use Rattle.run_ahead.specs.Turns.{TurnsAddUp}
-use Rattle.command_words.specs.declared.commands.Keep.{Keep}
+use Rattle.nds_words.specs.declared.commands.Keep.{Keep}
 use Rattle.nds_answers.specs.declared.statuses.Status.{Status}
 use Rattle.nds_answers.specs.declared.statuses.Status.TheVariants.{Done, Usage, NoFile, ReadFault, WriteFault, TooLong, BadHeader, BadScript, LeftOut, BadText, NoMemory}
 use Rattle.nds_calls.specs.Calls.{around, IsSwitchedOn}

@@ -7,9 +7,9 @@ use Rattle.run_ahead.specs.Consoles.{ConsoleState}
 use Rattle.run_ahead.specs.Turns.{HasTurned, IsAfterItsTurns, TurnsAddUp}
 use Rattle.nds_calls.specs.Calls.{Call, IsUntouched, switched_on}
 use Rattle.nds_runs.specs.Answers.{RunGives}
-use Rattle.nds_loads.specs.Loads.{RefusesRun, cartridge, script}
+use Rattle.nds_answers.specs.Loads.{RefusesRun, cartridge, script}
 use Rattle.nds_plays.specs.Plays.{Plays}
-use Rattle.command_words.specs.declared.commands.Keep.{Keep}
+use Rattle.nds_words.specs.declared.commands.Keep.{Keep}
 use Rattle.nds_plays.specs.declared.plays.Played.{Played}
 use Rattle.nds_answers.specs.declared.statuses.Status.{Status}
 use Rattle.nds_answers.specs.declared.statuses.Status.TheVariants.{Done, Usage, NoFile, ReadFault, WriteFault, TooLong, BadHeader, BadScript, LeftOut, BadText, NoMemory}

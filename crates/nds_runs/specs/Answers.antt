@@ -1,11 +1,11 @@
 use Rattle.std.specs.Prelude.{ℕ, ◌≡◌, List, Option, Some, None}
 use Rattle.ds_io.specs.Faults.{Rose}
 use Rattle.ds_runs.specs.Runs.{At, Stopped}
-use Rattle.command_words.specs.declared.commands.Keep.{Keep}
+use Rattle.nds_words.specs.declared.commands.Keep.{Keep}
 use Rattle.nds_answers.specs.declared.statuses.Status.{Status}
 use Rattle.nds_answers.specs.declared.statuses.Status.TheVariants.{Done, WriteFault, LeftOut}
 use Rattle.nds_calls.specs.Calls.{Call, IsUntouched, FromBoot, Seated, switched_on}
-use Rattle.nds_loads.specs.Loads.{RefusesRun}
+use Rattle.nds_answers.specs.Loads.{RefusesRun}
 use Rattle.nds_plays.specs.Plays.{Wrote, WroteFront}
 
 -- When each answer to `run` comes, and what it leaves. The last line has the refusals: nothing was written, and no console is left. Want of

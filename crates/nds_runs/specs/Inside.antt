@@ -1,5 +1,5 @@
 use Rattle.std.specs.Prelude.{ℕ, List, Bool}
-use Rattle.command_words.specs.declared.commands.Keep.{Keep}
+use Rattle.nds_words.specs.declared.commands.Keep.{Keep}
 use Rattle.nds_answers.specs.declared.statuses.Status.{Status}
 use Rattle.nds_answers.specs.declared.statuses.Status.TheVariants.{Done, WriteFault, LeftOut}
 use Rattle.nds_plays.specs.Plays.{Plays}

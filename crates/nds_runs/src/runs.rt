@@ -6,7 +6,7 @@ ghost use Rattle.nds_calls.specs.Calls.{around};
 ghost use Rattle.nds_runs.specs.Answers.{RunGives};
 ghost use Rattle.nds_runs.specs.Inside.{RunsSo};
 
-use command_words::{Keep, RunFiles};
+use nds_words::{Keep, RunFiles};
 use ds_base::Tick;
 use ds_io::{Shelf, Sink};
 use nds_answers::{Ended, Status};

@@ -16,15 +16,15 @@ use Rattle.asm_files.specs.Listings.{IsFirstBad, IsListing}
 use Rattle.asm_text.specs.declared.sets.Set.{Set}
 use Rattle.run_ahead.specs.Consoles.{ConsoleState}
 use Rattle.run_ahead.specs.ToEnd.{TurnsAreOne, TurnsToEnd}
-use Rattle.command_words.specs.Words.{Asked, AskRun, AskList, AskAsm, AskTrace, AskPeek, AskDemo, Asks, WordsAskForOne}
-use Rattle.command_words.specs.declared.commands.Keep.{Keep}
+use Rattle.nds_words.specs.Words.{Asked, AskRun, AskList, AskAsm, AskTrace, AskPeek, AskDemo, Asks, WordsAskForOne}
+use Rattle.nds_words.specs.declared.commands.Keep.{Keep}
 use Rattle.nds_answers.specs.Statuses.{status_number}
 use Rattle.nds_answers.specs.declared.statuses.Status.{Status}
 use Rattle.nds_answers.specs.declared.statuses.Status.TheVariants as statuses
 use Rattle.nds_calls.specs.Calls.{Call, FromBoot, IsUntouched, Seated, switched_on}
 use Rattle.nds_listings.specs.Answers.{AsmGives, ListGives, listing_of}
 use Rattle.std.proofs.lemmas.Option.{same_Some}
-use Rattle.nds_loads.specs.Loads.{AreKeys, IsCart, IsFileRead, Refuses, RefusesCart, RefusesRun, most_bytes, most_text}
+use Rattle.nds_answers.specs.Loads.{AreKeys, IsCart, IsFileRead, Refuses, RefusesCart, RefusesRun, most_bytes, most_text}
 use Rattle.nds_plays.specs.Plays.{Wrote}
 use Rattle.nds_plays.specs.Records.{latest_of, output_of}
 use Rattle.nds_plays.specs.declared.plays.Played.{Played}

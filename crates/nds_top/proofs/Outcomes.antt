@@ -7,11 +7,11 @@ use Rattle.ds_io.specs.Shelves.{Named, file_of}
 use Rattle.ds_machine.specs.Booted.{machine_booted}
 use Rattle.ds_machine.specs.States.{MachineState}
 use Rattle.asm_files.specs.Listings.{IsFirstBad, IsListing}
-use Rattle.key_scripts.specs.Scripts.{IsFirstBadAt, IsScript}
+use Rattle.nds_words.specs.Scripts.{IsFirstBadAt, IsScript}
 use Rattle.nds_answers.specs.Statuses.{status_number}
 use Rattle.nds_answers.specs.declared.statuses.Status.{Status}
 use Rattle.nds_answers.specs.declared.statuses.Status.TheVariants.{Done, Usage, NoFile, ReadFault, WriteFault, TooLong, BadHeader, BadScript, LeftOut, BadText, NoMemory}
-use Rattle.nds_loads.specs.Loads.{AreKeys, IsCart, IsFileRead, Refuses, RefusesCart, RefusesRun, RefusesScript, cartridge, script, most_bytes, most_script}
+use Rattle.nds_answers.specs.Loads.{AreKeys, IsCart, IsFileRead, Refuses, RefusesCart, RefusesRun, RefusesScript, cartridge, script, most_bytes, most_script}
 
 -- What comes of the files that are asked for, by what they are: a refusal, or their bytes.
 

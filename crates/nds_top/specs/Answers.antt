@@ -1,5 +1,5 @@
 use Rattle.std.specs.Prelude.{ℕ, ◌≡◌, List}
-use Rattle.command_words.specs.Words.{Asked, AskRun, AskList, AskAsm, AskTrace, AskPeek, AskDemo, Asks, AskNothing}
+use Rattle.nds_words.specs.Words.{Asked, AskRun, AskList, AskAsm, AskTrace, AskPeek, AskDemo, Asks, AskNothing}
 use Rattle.nds_answers.specs.Notes.{note_of}
 use Rattle.nds_answers.specs.declared.statuses.Status.{Status}
 use Rattle.nds_answers.specs.declared.statuses.Status.TheVariants.{Usage}

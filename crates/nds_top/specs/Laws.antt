@@ -8,12 +8,12 @@ use Rattle.ds_machine.specs.Booted.{machine_booted}
 use Rattle.ds_machine.specs.Reference.{Shown, reference}
 use Rattle.ds_machine.specs.States.{MachineState}
 use Rattle.asm_files.specs.Listings.{IsListing}
-use Rattle.command_words.specs.Words.{Asked, AskRun, AskList, AskAsm, AskTrace, AskPeek, AskDemo, Asks}
+use Rattle.nds_words.specs.Words.{Asked, AskRun, AskList, AskAsm, AskTrace, AskPeek, AskDemo, Asks}
 use Rattle.nds_answers.specs.declared.statuses.Status.{Status}
 use Rattle.nds_answers.specs.declared.statuses.Status.TheVariants.{Done, NoMemory}
 use Rattle.nds_calls.specs.Calls.{Call, around}
 use Rattle.run_ahead.specs.Consoles.{ConsoleState}
-use Rattle.nds_loads.specs.Loads.{AreKeys, IsCart, IsFileRead, most_text}
+use Rattle.nds_answers.specs.Loads.{AreKeys, IsCart, IsFileRead, most_text}
 use Rattle.nds_top.specs.Answers.{Gives}
 use Rattle.nds_views.specs.Answers.{demo_booted}
 

@@ -5,11 +5,11 @@ ghost use Rattle.std.specs.String.{string_bytes};
 ghost use Rattle.ds_io.specs.Shelves.{files_of};
 ghost use Rattle.nds_calls.specs.Calls.{around};
 ghost use Rattle.nds_top.specs.Answers.{Answered, CommandGives};
-ghost use Rattle.command_words.specs.Commands.{asked_by};
+ghost use Rattle.nds_words.specs.Commands.{asked_by};
 ghost use Rattle.nds_answers.specs.Notes.{Noted};
-ghost use Rattle.command_words.specs.Words.{IsAllowed};
+ghost use Rattle.nds_words.specs.Words.{IsAllowed};
 
-use command_words::{Command, read_words};
+use nds_words::{Command, read_words};
 use ds_io::{Shelf, Sink};
 use nds_answers::{Ended, Status, note};
 use nds_listings::{assemble, list};

@@ -3,9 +3,8 @@
 ghost use Rattle.nds_top.specs.Laws.{AnswersAreOne, IsComplete};
 
 use asm_files::listing_laws;
-use command_words::word_laws;
+use nds_words::{script_laws, word_laws};
 use ds_io::{Shelf, Sink};
-use key_scripts::script_laws;
 use nds_watch::trace_laws;
 use run_ahead::{reference_laws, turn_laws};
 

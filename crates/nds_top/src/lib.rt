@@ -27,9 +27,9 @@ mod calls;
 mod laws;
 
 pub use calls::ds_main;
-pub use command_words::Keep;
+pub use nds_words::Keep;
 pub use demo_carts::demo_cart;
-pub use key_scripts::{ScriptFault, read_script};
+pub use nds_words::{ScriptFault, read_script};
 pub use laws::top_laws;
 pub use nds_answers::{Status, number};
 pub use nds_calls::{empty_seat, let_go, switch_on};

@@ -11,7 +11,7 @@ use Rattle.run_ahead.specs.Turns.{TurnsAddUp}
 use Rattle.nds_answers.specs.declared.statuses.Status as status
 use Rattle.nds_answers.specs.declared.statuses.Status.TheVariants as statuses
 use Rattle.nds_calls.specs.Calls.{Call, around, IsUntouched, FromBoot, switched_on}
-use Rattle.nds_loads.specs.Loads.{RefusesRun, cartridge, script}
+use Rattle.nds_answers.specs.Loads.{RefusesRun, cartridge, script}
 use Rattle.nds_plays.specs.declared.plays.Played.{Played}
 use Rattle.nds_plays.specs.declared.plays.Played.TheVariants.{Done, LeftOut, WriteFault}
 use Rattle.nds_runs.proofs.Running.{at_ticks, after_its_turns}

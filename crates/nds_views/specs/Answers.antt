@@ -13,7 +13,7 @@ use Rattle.demo_carts.specs.Demos.{demo_file}
 use Rattle.nds_answers.specs.declared.statuses.Status.{Status}
 use Rattle.nds_answers.specs.declared.statuses.Status.TheVariants.{Done, WriteFault, LeftOut, NoMemory}
 use Rattle.nds_calls.specs.Calls.{Call, IsUntouched, FromBoot, Seated, switched_on}
-use Rattle.nds_loads.specs.Loads.{RefusesRun}
+use Rattle.nds_answers.specs.Loads.{RefusesRun}
 use Rattle.nds_plays.specs.declared.plays.Played.{Played}
 use Rattle.nds_plays.specs.declared.plays.Played.TheVariants as answers
 use Rattle.nds_watch.specs.Watches.{TracedWhole, TracedToStop, TracedFront, peeked, demo_of}

@@ -7,7 +7,7 @@ ghost use Rattle.nds_calls.specs.Calls.{around};
 ghost use Rattle.nds_views.specs.Answers.{PeekGives};
 
 use crate::statuses::status_of;
-use command_words::RunFiles;
+use nds_words::RunFiles;
 use ds_base::{Memory, Tick};
 use ds_io::{Shelf, Sink};
 use nds_answers::Ended;

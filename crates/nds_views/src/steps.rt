@@ -6,7 +6,7 @@ ghost use Rattle.nds_calls.specs.Calls.{around};
 ghost use Rattle.nds_views.specs.Answers.{TraceGives};
 
 use crate::statuses::status_of;
-use command_words::RunFiles;
+use nds_words::RunFiles;
 use ds_base::{Proc, Tick};
 use ds_io::{Shelf, Sink};
 use nds_answers::Ended;

@@ -20,8 +20,8 @@ use Rattle.run_ahead.specs.Consoles.{ConsoleState}
 use Rattle.run_ahead.specs.ToEnd.{TurnsToEnd}
 use Rattle.run_ahead.specs.Turns.{HasTurned}
 use Rattle.asm_text.specs.declared.sets.Set.TheVariants.{Arm, Thumb}
-use Rattle.traces.specs.Lines.{step_line, entry_line, peek_lines, digest_line}
-use Rattle.command_words.specs.declared.commands.Keep.TheVariants.{All}
+use Rattle.nds_records.specs.Lines.{step_line, entry_line, peek_lines, digest_line}
+use Rattle.nds_words.specs.declared.commands.Keep.TheVariants.{All}
 use Rattle.nds_plays.specs.Records.{latest_of, output_of}
 use Rattle.nds_plays.specs.declared.plays.Played as played
 use Rattle.nds_plays.specs.declared.plays.Played.TheVariants as answers

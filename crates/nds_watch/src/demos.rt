@@ -2,18 +2,17 @@
 
 ghost use Rattle.std.specs.Prelude.{◌≡◌, ◌≤◌, ◌^◌, None, List, ℕ};
 ghost use Rattle.hash_sinks.specs.Taken.{HasTaken};
-ghost use Rattle.sink_parts.specs.Puts.{Puts};
+ghost use Rattle.ds_io.specs.Puts.{Puts};
 ghost use Rattle.nds_watch.specs.Watches.{WritesAfter, demo_lines, demo_of};
 
-use command_words::Keep;
+use nds_words::Keep;
 use ds_base::Tick;
-use ds_io::{Failed, Sink};
+use ds_io::{Failed, Sink, put_parts};
 use hash_sinks::HashSink;
 use itoa::Buffer;
 use nds_plays::{Played, play};
 use run_ahead::{Console, Counts};
-use sink_parts::put_parts;
-use traces::digest_line;
+use nds_records::digest_line;
 
 /// Runs a console to a tick, and writes what came of it in four lines, which name the number that the run is of: how many bytes the run would
 /// write with all its frames and lists, their SHA-256, and the counts. Where it stops before, nothing is written.

@@ -9,7 +9,7 @@ use ds_base::{Memory, Tick};
 use ds_io::Sink;
 use nds_plays::Played;
 use run_ahead::Console;
-use traces::put_peek;
+use nds_records::put_peek;
 
 /// The most bytes that are peeked at.
 const MOST: usize = 4096;

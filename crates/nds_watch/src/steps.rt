@@ -4,7 +4,7 @@ ghost use Rattle.std.specs.Prelude.{◌≡◌, ◌≤◌, ◌<◌, ◌+◌, ◌^
 ghost use Rattle.std.specs.List.{concat};
 ghost use Rattle.ds_machine.specs.Observed.{seen_of};
 ghost use Rattle.ds_machine.specs.Sound.{IsSound};
-ghost use Rattle.sink_parts.specs.Puts.{Puts};
+ghost use Rattle.ds_io.specs.Puts.{Puts};
 ghost use Rattle.run_ahead.specs.TickTurns.{IsTickBefore};
 ghost use Rattle.nds_watch.specs.Inside.{IsLineDue, Took};
 ghost use Rattle.nds_watch.specs.Watches.{Traces, rank_of, seen_line};
@@ -14,7 +14,7 @@ use ds_base::{LeftOut, Proc, Tick};
 use ds_io::{Failed, Sink, put_all};
 use nds_plays::Played;
 use run_ahead::{Console, Seen, Turned, tick_turn_laws};
-use traces::{OutLine, entry_line, step_line};
+use nds_records::{OutLine, entry_line, step_line};
 
 /// What a turn of one tick comes to, of a console that hasn't stopped.
 #[derive(Clone, Copy)]

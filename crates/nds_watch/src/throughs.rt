@@ -4,7 +4,7 @@ ghost use Rattle.std.specs.Prelude.{◌≡◌, ◌≤◌, ◌^◌, None, List};
 ghost use Rattle.ds_machine.specs.Reference.{Shown};
 ghost use Rattle.nds_watch.specs.Watches.{RanTo};
 
-use command_words::Keep;
+use nds_words::Keep;
 use ds_base::{LeftOut, Tick};
 use hash_sinks::Nowhere;
 use nds_plays::{Played, play};

@@ -1,8 +1,8 @@
 use Rattle.std.proofs.Common.{ℕ, ◌≡◌, ◌≢◌, ◌<◌, ◌≤◌, ◌^◌, ◌&&◌, List, inl, inr, sym, ◌∙◌, arith}
 use Rattle.std.specs.Prelude.{nat_lt, Option, Some, None}
 use Rattle.vram_banks.specs.Cells.{Banks}
-use Rattle.tiles2d.specs.Colours.{HasForm}
-use Rattle.tiles2d.proofs.FormLemmas.{choice_form, zero_form, indexed_form}
+use Rattle.vram_banks.specs.Colours.{HasForm}
+use Rattle.vram_banks.proofs.FormLemmas.{choice_form, zero_form, indexed_form}
 use Rattle.obj2d.specs.declared.layers.ObjectPixel.{ObjectPixel}
 use Rattle.obj2d.specs.declared.objects.Display.{Display}
 use Rattle.obj2d.specs.declared.objects.Object.{Object}

@@ -2,9 +2,9 @@ use Rattle.std.proofs.Common.{ℕ, Bool, true, false, ◌≡◌, ◌≢◌, ◌<
 use Rattle.std.specs.Prelude.{nat_lt, if◌then◌else◌}
 use Rattle.std.proofs.lemmas.Bool.{cases_eq, cases_lt, cases_Bool, agree_below_at, eqb-true, ltb-true, lt-ltb, le-ltb}
 use Rattle.vram_banks.specs.Cells.{Banks, vram_byte}
-use Rattle.tiles2d.specs.Colours.{indexed_pixel, palette_colour, extended_colour}
-use Rattle.tiles2d.specs.Tiles.{nibble_at, flipped}
-use Rattle.tiles2d.proofs.NibbleLemmas.{nibble_there}
+use Rattle.vram_banks.specs.Colours.{indexed_pixel, palette_colour, extended_colour}
+use Rattle.vram_banks.specs.Tiles.{nibble_at, flipped}
+use Rattle.vram_banks.proofs.NibbleLemmas.{nibble_there}
 use Rattle.obj2d.specs.declared.layers.ObjectPixel.{ObjectPixel}
 use Rattle.obj2d.specs.declared.objects.Display.{Display}
 use Rattle.obj2d.specs.declared.objects.Object.{Object}

@@ -3,8 +3,8 @@ use Rattle.ds_base.specs.Bits.{bits, bit}
 use Rattle.ds_base.specs.declared.memories.Space.{Space}
 use Rattle.ds_base.specs.declared.memories.Space.TheVariants.{AObj, BObj, AObjPalette, BObjPalette}
 use Rattle.vram_banks.specs.Cells.{Banks}
-use Rattle.tiles2d.specs.Colours.{indexed_pixel, palette_colour, extended_colour}
-use Rattle.tiles2d.specs.Tiles.{index_of_16, index_of_256}
+use Rattle.vram_banks.specs.Colours.{indexed_pixel, palette_colour, extended_colour}
+use Rattle.vram_banks.specs.Tiles.{index_of_16, index_of_256}
 use Rattle.obj2d.specs.declared.objects.Display.{Display}
 use Rattle.obj2d.specs.declared.objects.Object.{Object}
 use Rattle.obj2d.specs.declared.objects.Turn.{Turn}

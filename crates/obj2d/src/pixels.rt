@@ -2,7 +2,7 @@
 
 ghost use Rattle.std.specs.Prelude.{◌≡◌, ◌<◌, ◌≤◌, ◌*◌, ◌%◌, ◌^◌, false, length};
 ghost use Rattle.ds_base.specs.Bits.{bits};
-ghost use Rattle.tiles2d.specs.Tiles.{nibble_at};
+ghost use Rattle.vram_banks.specs.Tiles.{nibble_at};
 ghost use Rattle.obj2d.specs.Attributes.{object_has_256, tile, palette_number, box_width, box_height};
 ghost use Rattle.obj2d.specs.ObjectPixels.{object_space, object_palette_space, tile_units, tile_address, object_index, point_pixel, turned_pixel};
 
@@ -10,8 +10,7 @@ use crate::attributes::{object_has_256, width};
 use crate::objects::{Display, Object, Turn};
 use crate::places::{affine_across, affine_down};
 use ds_base::Space;
-use tiles2d::{byte, extended_pixel, standard_pixel};
-use vram_banks::Vram;
+use vram_banks::{Vram, byte, extended_pixel, standard_pixel};
 
 /// The space of an engine's objects.
 pub fn object_space(engine: u8) -> Space

@@ -1,8 +1,8 @@
 //! The line of an object's box: by tiles, or point by point where the object is affine.
 
 ghost use Rattle.std.specs.Prelude.{◌≡◌, ◌<◌, ◌/◌, ◌%◌, ℕ, false, length, slice_index};
-ghost use Rattle.tiles2d.specs.Colours.{indexed_pixel};
-ghost use Rattle.tiles2d.specs.Tiles.{flipped};
+ghost use Rattle.vram_banks.specs.Colours.{indexed_pixel};
+ghost use Rattle.vram_banks.specs.Tiles.{flipped};
 ghost use Rattle.obj2d.specs.Attributes.{turn_at, group, object_has_256, width, height, box_width, box_height, flips_across};
 ghost use Rattle.obj2d.specs.ObjectPixels.{object_colour, turned_pixel, flat_pixel};
 ghost use Rattle.obj2d.specs.rows.Strips.{object_tile_row, mirrored_tile, AreTileRows, AreLineIndices, AreObjectPixels, AreBox};
@@ -15,8 +15,7 @@ use crate::pixels::{
     object_palette_space, object_space, palette_number, tile_address, turned_pixel,
 };
 use crate::places::mirrored;
-use tiles2d::{copy_eight, copy_four, paint_extended, paint_standard, unpack};
-use vram_banks::Vram;
+use vram_banks::{Vram, copy_eight, copy_four, paint_extended, paint_standard, unpack};
 
 /// Where the row of one of the object's tiles begins that shows line y of the object.
 fn object_tile_row(display: &Display, object: &Object, y: u32, tx: u32) -> u32

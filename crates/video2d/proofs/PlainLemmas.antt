@@ -5,7 +5,7 @@ use Rattle.line_lanes.specs.Pixels.{blended}
 use Rattle.obj2d.specs.ObjectLayer.{blank_pixel, object_pixel, plainly}
 use Rattle.obj2d.specs.declared.layers.ObjectPixel.{ObjectPixel}
 use Rattle.obj2d.proofs.OffLemmas.{no_object, object_small}
-use Rattle.tiles2d.specs.Colours.{palette_colour}
+use Rattle.vram_banks.specs.Colours.{palette_colour}
 use Rattle.vram_banks.specs.Cells.{Banks}
 use Rattle.video2d.specs.Backgrounds.{background_pixel}
 use Rattle.video2d.specs.Effects.{blends, brightness_changed, colour_of, effect, effects_where, eva, evb, front_colour, is_first_target, is_second_target, top_alone, with_effects}

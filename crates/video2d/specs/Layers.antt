@@ -1,7 +1,7 @@
 use Rattle.std.specs.Prelude.{ℕ, zero, suc, ◌==◌, ◌&&◌, not, Bool, false, if◌then◌else◌, List, [], ◌∷◌, ◌++◌}
 use Rattle.ds_base.specs.Bits.{bit, bits}
 use Rattle.obj2d.specs.declared.layers.ObjectPixel.{ObjectPixel}
-use Rattle.tiles2d.specs.Colours.{opaque_pixel}
+use Rattle.vram_banks.specs.Colours.{opaque_pixel}
 use Rattle.video2d.specs.Engines.{EngineState, bgcnt}
 use Rattle.video2d.specs.declared.layers.LayerPixels.{LayerPixels}
 

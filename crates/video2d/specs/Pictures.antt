@@ -6,7 +6,7 @@ use Rattle.obj2d.specs.ObjectLayer.{object_pixel}
 use Rattle.obj2d.specs.declared.objects.Display.{Display}
 use Rattle.vram_banks.specs.Cells.{Banks}
 use Rattle.bg_ext.specs.BankPixels.{vram_pixel}
-use Rattle.tiles2d.specs.Colours.{palette_colour}
+use Rattle.vram_banks.specs.Colours.{palette_colour}
 use Rattle.video2d.specs.Backgrounds.{background_pixel}
 use Rattle.video2d.specs.Effects.{effects_where}
 use Rattle.video2d.specs.Engines.{EngineState, dispcnt, master_bright}

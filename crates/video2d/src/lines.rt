@@ -11,8 +11,7 @@ use crate::mixes::{MixRow, finish_row, line_order, mix_rows};
 use crate::plains::{calm_line, is_calm, is_plain, plain_layers, plain_line};
 use bg_ext::vram_row;
 use line_lanes::master;
-use tiles2d::palette_colour;
-use vram_banks::{Row, Vram};
+use vram_banks::{Row, Vram, palette_colour};
 
 /// What a white screen shows.
 const WHITE: u16 = 0x7FFF;

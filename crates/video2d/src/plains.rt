@@ -9,8 +9,7 @@ use crate::backgrounds::{background_row, is_background_on};
 use crate::engines::Engine;
 use crate::mixes::priority;
 use obj2d::{ShownRow, shown_row};
-use tiles2d::palette_colour;
-use vram_banks::{Row, Vram};
+use vram_banks::{Row, Vram, palette_colour};
 
 /// Whether objects and windows are off, and there is no effect.
 pub fn is_plain(engine: &Engine) -> bool

@@ -6,3 +6,6 @@ pub mod Mixes
 pub mod PageLemmas
 pub mod Puts
 pub mod SetLaws
+pub mod NibbleLemmas
+pub mod FormLemmas
+pub mod PaletteLemmas

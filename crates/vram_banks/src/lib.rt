@@ -1,7 +1,11 @@
-//! The nine banks of video memory (GBATEK, "DS Memory Control - VRAM").
+//! The nine banks of video memory (GBATEK, "DS Memory Control - VRAM"), and what the 2D engines' layers read of it alike: tiles of 8 by 8
+//! pixels, the colours of palettes, where backgrounds have their maps and tiles, and which points of them a line shows (GBATEK, "LCD VRAM
+//! Character Data", "LCD Color Palettes", "LCD I/O BG Control", "LCD I/O BG Rotation/Scaling").
 //!
 //! A reviewer reads `specs/BankMap` (the bank table, controls, and which cell stands where) and `specs/Cells` (what is read and written).
-//! `specs/paging` has what the code keeps beside bytes and controls; no public call speaks of it. Tests stand in `rows2d_tests`.
+//! `specs/paging` has what the code keeps beside bytes and controls; no public call speaks of it. For layers `specs/Tiles` says which index a tile has at a place,
+//! `specs/Colours` which pixel an index gives, `specs/Bases` where maps and tiles begin, and `specs/Points` which place of a background is
+//! shown; their code takes a tile's row of eight at once. Tests stand in `rows2d_tests`.
 //!
 //! The definition is the bank table as data, to be laid beside GBATEK's: for each bank rows of MST, space, base, what the two bits of OFS
 //! add, and size. From it come a relation (a cell of a bank stands at an address of a space: `Stands`, and so a byte of the 656K is there:
@@ -21,10 +25,21 @@
 #![tactic(auto)]
 
 mod banks;
+mod bases;
 mod cells;
+mod colours;
 mod maps;
+mod points;
 mod rows;
+mod tiles;
 mod windows;
 
 pub use banks::Vram;
+pub use bases::{background_palette_space, background_space, map_base, tile_base};
+pub use colours::{
+    byte, colour_pixel, extended_pixel, fill_table, half, opaque_pixel, paint_by_table,
+    paint_extended, paint_standard, palette_colour, standard_pixel,
+};
+pub use points::{affine_coordinate, place_within};
 pub use rows::Row;
+pub use tiles::{copy_eight, copy_four, flipped, unpack};

@@ -3,10 +3,10 @@ use Rattle.ds_base.specs.Bits.{bit}
 use Rattle.vram_banks.specs.Cells.{Banks, vram_byte}
 use Rattle.bg2d.specs.declared.layers.TextLayer.{TextLayer}
 use Rattle.bg2d.specs.declared.texts.KeptPalette.{KeptPalette}
-use Rattle.tiles2d.specs.Bases.{background_space, background_palette_space, map_base, tile_base}
-use Rattle.tiles2d.specs.Colours.{indexed_pixel, table_pixel}
+use Rattle.vram_banks.specs.Bases.{background_space, background_palette_space, map_base, tile_base}
+use Rattle.vram_banks.specs.Colours.{indexed_pixel, table_pixel}
 use Rattle.bg2d.specs.TextPixels.{has_256, text_block, text_width, text_entry, text_index, text_colour, text_entry_pixel}
-use Rattle.tiles2d.specs.Tiles.{flipped}
+use Rattle.vram_banks.specs.Tiles.{flipped}
 
 -- How the code draws a row: by tiles. No public call speaks of it.
 

@@ -2,7 +2,7 @@ use Rattle.std.specs.Prelude.{ℕ, ◌≡◌, ◌<◌, ◌+◌, ◌*◌, ◌/◌
 use Rattle.ds_base.specs.Bits.{bits}
 use Rattle.ds_base.specs.declared.memories.Space.{Space}
 use Rattle.vram_banks.specs.Cells.{Banks, vram_byte}
-use Rattle.tiles2d.specs.Bases.{map_base}
+use Rattle.vram_banks.specs.Bases.{map_base}
 use Rattle.bg_ext.specs.declared.layers.ExtLayer.{ExtLayer}
 use Rattle.bg_ext.specs.ExtendedPixels.{bitmap_base, bitmap_widths, map_sides}
 

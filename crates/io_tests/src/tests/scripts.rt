@@ -1,7 +1,7 @@
 //! Scripts written by hand, and texts that are none. Columns are counted by hand.
 
 use ds_base::KeyLine;
-use key_scripts::{ScriptFault, read_script};
+use nds_words::{ScriptFault, read_script};
 use std::alloc::Global;
 use std::process::Abort;
 

@@ -1,7 +1,7 @@
 use Rattle.std.specs.Prelude.{ℕ, ◌≡◌, ◌<◌, ◌+◌, ◌-◌, ◌*◌, ◌/◌, ◌%◌, nat_lt, Bool, if◌then◌else◌, List, slice_index}
 use Rattle.vram_banks.specs.Cells.{Banks, vram_byte}
-use Rattle.tiles2d.specs.Colours.{indexed_pixel}
-use Rattle.tiles2d.specs.Tiles.{flipped}
+use Rattle.vram_banks.specs.Colours.{indexed_pixel}
+use Rattle.vram_banks.specs.Tiles.{flipped}
 use Rattle.obj2d.specs.declared.layers.ObjectPixel.{ObjectPixel}
 use Rattle.obj2d.specs.declared.objects.Display.{Display}
 use Rattle.obj2d.specs.declared.objects.Object.{Object}

@@ -2,7 +2,7 @@ use Rattle.std.specs.Prelude.{ℕ, ◌%◌, ◌^◌, ◌==◌, ◌&&◌, Bool, i
 use Rattle.ds_base.specs.Bits.{bits}
 use Rattle.obj2d.specs.ObjectLayer.{object_pixel}
 use Rattle.obj2d.specs.declared.layers.ObjectPixel.{ObjectPixel}
-use Rattle.tiles2d.specs.Colours.{palette_colour}
+use Rattle.vram_banks.specs.Colours.{palette_colour}
 use Rattle.vram_banks.specs.Cells.{Banks}
 use Rattle.video2d.specs.Backgrounds.{background_pixel}
 use Rattle.video2d.specs.Effects.{effect}

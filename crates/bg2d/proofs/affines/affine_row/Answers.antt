@@ -1,5 +1,5 @@
 use Rattle.std.proofs.Common.{sym, subst, arith}
-use Rattle.tiles2d.specs.Colours.{HasForm}
+use Rattle.vram_banks.specs.Colours.{HasForm}
 use Rattle.bg2d.proofs.FormLemmas.{affine_form}
 use Rattle.bg2d.proofs.affines.affine_row.Goals as goal
 

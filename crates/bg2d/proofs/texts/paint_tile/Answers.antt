@@ -1,6 +1,6 @@
 use Rattle.std.proofs.Common.{ℕ, Bool, ◌+◌, ◌*◌, ◌/◌, ◌^◌, ◌∙◌, ap, sym, get_or, arith}
 use Rattle.ds_base.specs.Bits.{bit, bits}
-use Rattle.tiles2d.specs.Tiles.{flipped}
+use Rattle.vram_banks.specs.Tiles.{flipped}
 use Rattle.bg2d.proofs.TilingLemmas.{table_16, table_256, flipped_below}
 use Rattle.bg2d.proofs.texts.paint_tile.Goals as goal
 

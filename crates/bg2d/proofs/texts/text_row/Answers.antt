@@ -3,7 +3,7 @@ use Rattle.vram_banks.specs.Cells.{Banks}
 use Rattle.bg2d.specs.declared.layers.TextLayer.{TextLayer}
 use Rattle.bg2d.specs.TextPixels.{text_width, text_height, text_entry}
 use Rattle.bg2d.specs.rows.Tiling.{tiled_pixel, AreEntries}
-use Rattle.tiles2d.specs.Colours.{HasForm}
+use Rattle.vram_banks.specs.Colours.{HasForm}
 use Rattle.bg2d.proofs.FormLemmas.{text_form}
 use Rattle.bg2d.proofs.TilingLemmas.{painted_is_tiled, tiled_is_text, index_of_range}
 use Rattle.bg2d.proofs.texts.text_row.Goals as goal

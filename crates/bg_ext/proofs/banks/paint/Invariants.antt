@@ -1,7 +1,7 @@
 use Rattle.std.proofs.Common.{ℕ, ◌≡◌, ◌<◌, ◌+◌, ◌*◌, get_or}
 use Rattle.ds_base.specs.declared.memories.Space.TheVariants.{Lcdc}
 use Rattle.ds_base.specs.declared.memories.Width.TheVariants.{Half}
-use Rattle.tiles2d.specs.Colours.{opaque_pixel}
+use Rattle.vram_banks.specs.Colours.{opaque_pixel}
 use Rattle.vram_banks.specs.Cells.{vram_value}
 use Rattle.bg_ext.proofs.banks.paint.Given as goal
 

@@ -1,5 +1,5 @@
 use Rattle.list_records.specs.Records.{polygon_records, vertex_records}
-use Rattle.sink_parts.proofs.Putting.{puts_then}
+use Rattle.ds_io.proofs.Putting.{puts_then}
 use Rattle.list_records.proofs.lists.put_both.Goals as goal
 
 pub returns : goal.returns

@@ -3,7 +3,7 @@ use Rattle.std.specs.List.{concat}
 use Rattle.std.proofs.lemmas.Result.{err_from_is_err_and}
 use Rattle.ds_io.proofs.SinkLemmas.{front_of_more}
 use Rattle.list_records.specs.Records.{lists_head, polygon_records, vertex_records}
-use Rattle.sink_parts.proofs.Putting.{puts_then}
+use Rattle.ds_io.proofs.Putting.{puts_then}
 use Rattle.list_records.proofs.lists.put_lists.Goals as goal
 
 pub returns-in_err-put_head : goal.returns-in_err-put_head

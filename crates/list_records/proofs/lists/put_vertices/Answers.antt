@@ -5,7 +5,7 @@ use Rattle.ds_io.specs.Sinks.{AppendedFront}
 use Rattle.ds_io.proofs.SinkLemmas.{front_after, front_of_more}
 use Rattle.gx_geometry.specs.declared.polygons.Vertex.{Vertex}
 use Rattle.list_records.specs.Records.{vertex_record, vertex_records}
-use Rattle.sink_parts.proofs.Pieces.{pieces}
+use Rattle.ds_io.proofs.Pieces.{pieces}
 use Rattle.list_records.proofs.lists.put_vertices.Goals as goal
 
 pub returns-in_err-put_all : goal.returns-in_err-put_all

@@ -1,5 +1,5 @@
 use Rattle.std.proofs.Common.{[], ◌∷◌, ◌∙◌}
-use Rattle.number_bytes.specs.Numbers.{halves}
+use Rattle.nds_records.specs.Numbers.{halves}
 use Rattle.list_records.specs.Records.{half_of, word_of}
 use Rattle.list_records.proofs.Joined.{vertex_laid}
 use Rattle.list_records.proofs.lists.vertex_bytes.Goals as goal

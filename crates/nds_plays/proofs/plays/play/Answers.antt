@@ -1,9 +1,9 @@
 use Rattle.std.proofs.Common.{sym, ◌∙◌, ◌++◌}
 use Rattle.nds_plays.specs.Inside.{ending, shown_after}
 use Rattle.nds_plays.specs.Records.{last_records, latest_of}
-use Rattle.sink_parts.proofs.Putting.{rose_within}
+use Rattle.ds_io.proofs.Putting.{rose_within}
 use Rattle.nds_plays.proofs.Playing.{front_written}
-use Rattle.sink_parts.proofs.Putting.{puts_failed}
+use Rattle.ds_io.proofs.Putting.{puts_failed}
 use Rattle.nds_plays.proofs.plays.play.Goals as goal
 
 pub returns-then-is_err-clause-played : goal.returns-then-is_err-clause-played

@@ -2,7 +2,7 @@ use Rattle.std.proofs.Common.{ℕ, ◌+◌, ◌*◌, List, ◌++◌, take, drop,
 use Rattle.std.proofs.lemmas.Result.{err_from_is_err_and}
 use Rattle.ds_io.specs.Sinks.{Appended, AppendedFront}
 use Rattle.ds_io.proofs.SinkLemmas.{append_none, append_twice, front_after, front_of_more}
-use Rattle.number_bytes.specs.Numbers.{halves}
+use Rattle.nds_records.specs.Numbers.{halves}
 use Rattle.nds_plays.proofs.Rows.{halves_none, row_lent, rows_more, rows_whole}
 use Rattle.nds_plays.proofs.records.put_pixels.Goals as goal
 

@@ -1,6 +1,6 @@
 use Rattle.std.proofs.Common.{ℕ, Bool, ◌+◌, ◌*◌, ◌/◌, ◌%◌, ◌^◌, ◌∙◌, ap, sym, get_or}
-use Rattle.tiles2d.specs.Colours.{indexed_pixel, palette_colour, extended_colour}
-use Rattle.tiles2d.specs.Tiles.{flipped}
+use Rattle.vram_banks.specs.Colours.{indexed_pixel, palette_colour, extended_colour}
+use Rattle.vram_banks.specs.Tiles.{flipped}
 use Rattle.obj2d.specs.Attributes.{flips_across}
 use Rattle.obj2d.proofs.StripLemmas.{painted_16, painted_256, painted_extended, on_by, off_by}
 use Rattle.obj2d.proofs.strips.paint_tile.Goals as goal

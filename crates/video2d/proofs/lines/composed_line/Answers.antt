@@ -1,5 +1,5 @@
 use Rattle.std.proofs.Common.{ℕ, ◌∙◌, ap}
-use Rattle.tiles2d.specs.Colours.{palette_colour}
+use Rattle.vram_banks.specs.Colours.{palette_colour}
 use Rattle.video2d.specs.Pictures.{composed_pixel}
 use Rattle.video2d.specs.declared.mixes.LineOrder.{LineOrder}
 use Rattle.video2d.specs.rows.Composed.{finished, line_order, mixed_at, row_pixels}

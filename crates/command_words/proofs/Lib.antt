@@ -1,4 +1,0 @@
-mod Numerals
-mod Peeked
-mod WordLists
-mod WordsAreOne

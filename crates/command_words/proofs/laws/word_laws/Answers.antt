@@ -1,5 +1,0 @@
-use Rattle.command_words.proofs.WordsAreOne.{words_are_one}
-use Rattle.command_words.proofs.laws.word_laws.Goals as goal
-
-pub returns : goal.returns
-returns c = words_are_one

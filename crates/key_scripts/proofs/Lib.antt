@@ -1,7 +1,0 @@
-mod DigitLaws
-mod KeyLaws
-mod LineLaws
-mod LoopLaws
-mod NameLaws
-mod NamesRead
-mod ScriptLaws

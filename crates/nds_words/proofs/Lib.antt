@@ -1,0 +1,11 @@
+mod Numerals
+mod Peeked
+mod WordLists
+mod WordsAreOne
+mod DigitLaws
+mod KeyLaws
+mod LineLaws
+mod LoopLaws
+mod NameLaws
+mod NamesRead
+mod ScriptLaws

@@ -1,0 +1,5 @@
+pub mod Commands
+pub mod Inside
+pub mod Words
+pub mod Reader
+pub mod Scripts

@@ -1,3 +1,0 @@
-pub mod NibbleLemmas
-pub mod FormLemmas
-pub mod PaletteLemmas

@@ -1,4 +1,0 @@
-pub mod Bases
-pub mod Colours
-pub mod Points
-pub mod Tiles

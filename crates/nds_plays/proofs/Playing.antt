@@ -19,7 +19,7 @@ use Rattle.run_ahead.proofs.RunningOn.{raised_again, turned_twice}
 use Rattle.run_ahead.proofs.TurnExists.{turns_end}
 use Rattle.run_ahead.proofs.TurnRuns.{ran_to_end, turns_end_as_runs}
 use Rattle.gx_geometry.specs.States.{Swapped}
-use Rattle.list_records.specs.Records.{lists_records}
+use Rattle.nds_records.specs.Lists.{lists_records}
 use Rattle.nds_plays.specs.Inside.{ending, RunsTo, shown_after, shown_now, shown_while}
 use Rattle.nds_plays.specs.Plays.{Wrote, WroteFront}
 use Rattle.nds_plays.specs.Records.{Latest, frame_records, kept_records, last_records, latest_after, latest_of, output_of, shown_records, swapped_lists}

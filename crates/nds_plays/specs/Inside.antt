@@ -11,7 +11,7 @@ use Rattle.run_ahead.specs.ToEnd.{TurnsToEnd}
 use Rattle.run_ahead.specs.Turns.{HasTurned}
 use Rattle.run_ahead.specs.Consoles.{ConsoleState}
 use Rattle.nds_plays.specs.Plays.{WroteFront}
-use Rattle.list_records.specs.Records.{lists_records}
+use Rattle.nds_records.specs.Lists.{lists_records}
 use Rattle.nds_plays.specs.Records.{Latest, frame_records, latest_records, shown_records, swapped_lists}
 use Rattle.nds_words.specs.declared.commands.Keep.{Keep}
 use Rattle.nds_words.specs.declared.commands.Keep.TheVariants.{All, Last, Nothing}

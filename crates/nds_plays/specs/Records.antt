@@ -12,7 +12,7 @@ use Rattle.ds_machine.specs.States.{MachineState}
 use Rattle.ds_machine.specs.Observed.{memory_of, registers_of}
 use Rattle.ds_machine.specs.Reference.{Shown}
 use Rattle.gx_geometry.specs.States.{Swapped}
-use Rattle.list_records.specs.Records.{lists_records}
+use Rattle.nds_records.specs.Lists.{lists_records}
 use Rattle.nds_records.specs.Numbers.{longs, words, halves}
 use Rattle.nds_words.specs.declared.commands.Keep.{Keep}
 use Rattle.nds_words.specs.declared.commands.Keep.TheVariants.{All, Last, Nothing}

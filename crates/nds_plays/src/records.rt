@@ -6,14 +6,13 @@ ghost use Rattle.ds_machine.specs.Frames.{last_frame, last_lists};
 ghost use Rattle.ds_runs.specs.Runs.{At};
 ghost use Rattle.ds_io.specs.Puts.{Puts};
 ghost use Rattle.nds_records.specs.Numbers.{halves};
-ghost use Rattle.list_records.specs.Records.{lists_records};
+ghost use Rattle.nds_records.specs.Lists.{lists_records};
 ghost use Rattle.nds_plays.specs.Inside.{records_now};
 ghost use Rattle.nds_plays.specs.Records.{frame_record, frame_records, latest_of, latest_records, last_records, stop_record, swapped_lists, kind_number};
 
 use ds_base::{LeftKind, LeftOut, Memory, Proc, Tick};
 use ds_io::{Failed, Sink, put_all, put_parts};
-use list_records::put_lists;
-use nds_records::{five_longs, long_bytes, register_bytes, row_bytes, word_bytes};
+use nds_records::{five_longs, long_bytes, put_lists, register_bytes, row_bytes, word_bytes};
 use run_ahead::Console;
 
 /// The pixels of both screens, a row at a time from where they lie.

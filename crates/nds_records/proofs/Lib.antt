@@ -1,1 +1,2 @@
 mod LineLists
+pub mod Joined

@@ -8,12 +8,14 @@
 
 mod digests;
 mod lines;
+mod lists;
 mod numbers;
 mod peeks;
 mod steps;
 
 pub use digests::digest_line;
 pub use lines::OutLine;
+pub use lists::put_lists;
 pub use numbers::{five_longs, long_bytes, low_word_bytes, register_bytes, row_bytes, word_bytes};
 pub use peeks::put_peek;
 pub use steps::{entry_line, step_line};

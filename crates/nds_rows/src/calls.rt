@@ -2,11 +2,13 @@
 
 ghost use Rattle.std.specs.Prelude.{◌≡◌, IsTrue, None};
 
+use crate::answers::Came;
+use crate::faults::BadLine;
+use crate::scenes::Scene;
 use ds_base::{Keys, Tick};
 use ds_header::Cart;
 use ds_io::{Calls, MemShelf, MemSink, Shelf, Sink};
 use nds_top::{Keep, Status, ds_main, number, play, switch_on};
-use row_files::{BadLine, Came, Scene};
 use run_ahead::{Console, Turned};
 use std::alloc::{AllocError, Global};
 

@@ -1,7 +1,9 @@
 //! Holding what is seen beside what is wanted.
 
+use crate::answers::Came;
 use crate::consoles::views_of;
-use row_files::{Came, Fact, text_differs, views_differ};
+use crate::differences::{text_differs, views_differ};
+use crate::facts::Fact;
 use run_ahead::Console;
 use std::alloc::{AllocError, Global};
 

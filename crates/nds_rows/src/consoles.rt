@@ -1,7 +1,9 @@
 //! The numbers that are seen in a console.
 
+use crate::answers::Came;
+use crate::facts::Quantity;
+use crate::views::{Views, add_answer, add_written, place_of, registers_at};
 use ds_base::{LeftKind, LeftOut, Memory, Proc};
-use row_files::{Came, Quantity, Views, add_answer, add_written, place_of, registers_at};
 use run_ahead::{Console, Seen, Turned};
 use std::alloc::{AllocError, Global};
 

@@ -6,9 +6,12 @@
 //!     is note ""                             ; what is seen after the row's call: here no note
 //!     row run 9 | is end 9 3 2 0 5           ; a row: what its call goes over, the call, and what is seen
 //!
-//! `row_files` reads a file into what its lines say, and holds what a call wrote beside what is wanted. `tables` goes over the lines of a
-//! file, and `rows` over those of a row: `calls` makes its call, `consoles` looks at the console that the call left, and `checks` holds
-//! what is seen beside the fact.
+//! `files` reads a file into what its lines say. A line goes through `tokens` (its words and texts), `cursors` (numbers and bytes), and
+//! `lines` with its kinds: `setups` (what a call goes over) and `facts` (what is seen). `parts` finds the lines of tables, rows and parts of
+//! rows, and `scenes` puts together what a call goes over; `lists` adds to lists. `tables` goes over the lines of a file, and `rows` over
+//! those of a row: `calls` makes its call, `consoles` looks at the console that the call left. `answers` is what it came to, `views` looks
+//! at that, `checks` and `differences` hold it beside the fact, and `players` tells of it. A further word of the language is a variant and
+//! a line in its kind, and what plays it.
 //!
 //! A console is large, and each function that has one as a value is dear to prove. So it stands in one place, a local of `rows`, and all
 //! others borrow it.
@@ -20,11 +23,25 @@
 //! `data/README.md` tells which subjects the files have.
 #![tactic(auto)]
 
+mod answers;
 mod calls;
 mod checks;
 mod consoles;
+mod cursors;
+mod differences;
+mod facts;
+mod faults;
+mod files;
+mod lines;
+mod lists;
+mod parts;
+mod players;
 mod rows;
+mod scenes;
+mod setups;
 mod tables;
+mod tokens;
+mod views;
 
 use crate::calls::number_of_want;
 use crate::tables::play_file;

@@ -2,14 +2,17 @@
 
 ghost use Rattle.std.specs.Prelude.{◌≡◌, None};
 
+use crate::answers::Came;
 use crate::calls::{call, climb, played, seat_scene, turn, turns_to_a_frame};
 use crate::checks::fact_differs;
 use crate::consoles::turned;
+use crate::differences::numbers_differ;
+use crate::faults::BadLine;
+use crate::lines::{Act, Line, Said};
+use crate::parts::{begins_part, change_all, has_call, has_facts};
+use crate::players::{BEGUN, Player, go_past};
+use crate::scenes::Scene;
 use nds_top::{Keep, empty_seat, let_go};
-use row_files::{
-    Act, BEGUN, BadLine, Came, Line, Player, Said, Scene, begins_part, change_all, go_past,
-    has_call, has_facts, numbers_differ,
-};
 use run_ahead::Console;
 use std::alloc::{AllocError, Global};
 

@@ -1,7 +1,10 @@
 //! Playing the tables of a file.
 
+use crate::files::read_file;
+use crate::lines::{Line, Said};
+use crate::parts::{Mark, count, up_to};
+use crate::players::{Player, Tally};
 use crate::rows::play_row;
-use row_files::{Line, Mark, Player, Said, Tally, count, read_file, up_to};
 use std::alloc::{AllocError, Global};
 
 /// What is told of a file, and whether all its rows held.

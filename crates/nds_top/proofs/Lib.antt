@@ -1,2 +1,5 @@
 mod OneAnswer
 mod Outcomes
+pub mod Answering
+pub mod Running
+pub mod Viewing

@@ -21,17 +21,17 @@ use Rattle.nds_words.specs.declared.commands.Keep.{Keep}
 use Rattle.nds_answers.specs.Statuses.{status_number}
 use Rattle.nds_answers.specs.declared.statuses.Status.{Status}
 use Rattle.nds_answers.specs.declared.statuses.Status.TheVariants as statuses
-use Rattle.nds_calls.specs.Calls.{Call, FromBoot, IsUntouched, Seated, switched_on}
-use Rattle.nds_listings.specs.Answers.{AsmGives, ListGives, listing_of}
+use Rattle.nds_plays.specs.Calls.{Call, FromBoot, IsUntouched, Seated, switched_on}
+use Rattle.nds_top.specs.ListingAnswers.{AsmGives, ListGives, listing_of}
 use Rattle.std.proofs.lemmas.Option.{same_Some}
 use Rattle.nds_answers.specs.Loads.{AreKeys, IsCart, IsFileRead, Refuses, RefusesCart, RefusesRun, most_bytes, most_text}
 use Rattle.nds_plays.specs.Plays.{Wrote}
 use Rattle.nds_plays.specs.Records.{latest_of, output_of}
 use Rattle.nds_plays.specs.declared.plays.Played.{Played}
 use Rattle.nds_plays.specs.declared.plays.Played.TheVariants as played
-use Rattle.nds_runs.specs.Answers.{RunGives}
-use Rattle.nds_views.specs.Answers.{DemoGives, GivesBy, TracedBy, WroteAfter, demo_booted}
-use Rattle.nds_watch.specs.Watches.{IsAt, LinesAreOne, demo_of, lines_of, peeked, trace_of}
+use Rattle.nds_top.specs.RunAnswers.{RunGives}
+use Rattle.nds_top.specs.ViewAnswers.{DemoGives, GivesBy, TracedBy, WroteAfter, demo_booted}
+use Rattle.nds_plays.specs.Watches.{IsAt, LinesAreOne, demo_of, lines_of, peeked, trace_of}
 use Rattle.nds_top.specs.Answers.{CommandGives, Gives, nothing, command}
 use Rattle.nds_top.specs.Laws.{CanBeDone, ComesTo, HadNoFault}
 use Rattle.nds_top.proofs.Outcomes.{IsOne, ReadLaws, RunComes, loaded, cart_fine, cart_refusal, cart_refused, loaded_comes, memory_or_not, not_both, read_fine, refusal, refused, run_comes_one, run_refused, same_file}

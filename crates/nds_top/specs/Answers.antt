@@ -3,10 +3,10 @@ use Rattle.nds_words.specs.Words.{Asked, AskRun, AskList, AskAsm, AskTrace, AskP
 use Rattle.nds_answers.specs.Notes.{note_of}
 use Rattle.nds_answers.specs.declared.statuses.Status.{Status}
 use Rattle.nds_answers.specs.declared.statuses.Status.TheVariants.{Usage}
-use Rattle.nds_calls.specs.Calls.{Call, IsUntouched}
-use Rattle.nds_listings.specs.Answers.{ListGives, AsmGives}
-use Rattle.nds_runs.specs.Answers.{RunGives}
-use Rattle.nds_views.specs.Answers.{TraceGives, PeekGives, DemoGives}
+use Rattle.nds_plays.specs.Calls.{Call, IsUntouched}
+use Rattle.nds_top.specs.ListingAnswers.{ListGives, AsmGives}
+use Rattle.nds_top.specs.RunAnswers.{RunGives}
+use Rattle.nds_top.specs.ViewAnswers.{TraceGives, PeekGives, DemoGives}
 
 -- When each answer of the top call comes, and what it leaves.
 

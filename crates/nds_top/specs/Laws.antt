@@ -11,11 +11,11 @@ use Rattle.asm_files.specs.Listings.{IsListing}
 use Rattle.nds_words.specs.Words.{Asked, AskRun, AskList, AskAsm, AskTrace, AskPeek, AskDemo, Asks}
 use Rattle.nds_answers.specs.declared.statuses.Status.{Status}
 use Rattle.nds_answers.specs.declared.statuses.Status.TheVariants.{Done, NoMemory}
-use Rattle.nds_calls.specs.Calls.{Call, around}
+use Rattle.nds_plays.specs.Calls.{Call, around}
 use Rattle.run_ahead.specs.Consoles.{ConsoleState}
 use Rattle.nds_answers.specs.Loads.{AreKeys, IsCart, IsFileRead, most_text}
 use Rattle.nds_top.specs.Answers.{Gives}
-use Rattle.nds_views.specs.Answers.{demo_booted}
+use Rattle.nds_top.specs.ViewAnswers.{demo_booted}
 
 -- What follows from when each answer of the top call comes, of calls without faults whose shelf tells its files.
 

@@ -3,18 +3,20 @@
 ghost use Rattle.std.specs.Prelude.{◌≡◌, None, map};
 ghost use Rattle.std.specs.String.{string_bytes};
 ghost use Rattle.ds_io.specs.Shelves.{files_of};
-ghost use Rattle.nds_calls.specs.Calls.{around};
+ghost use Rattle.nds_plays.specs.Calls.{around};
 ghost use Rattle.nds_top.specs.Answers.{Answered, CommandGives};
 ghost use Rattle.nds_words.specs.Commands.{asked_by};
 ghost use Rattle.nds_answers.specs.Notes.{Noted};
 ghost use Rattle.nds_words.specs.Words.{IsAllowed};
 
+use crate::demos::demo;
+use crate::listings::{assemble, list};
+use crate::peeks::peek;
+use crate::runs::run;
+use crate::steps::trace;
 use nds_words::{Command, read_words};
 use ds_io::{Shelf, Sink};
 use nds_answers::{Ended, Status, note};
-use nds_listings::{assemble, list};
-use nds_runs::run;
-use nds_views::{demo, peek, trace};
 use run_ahead::Console;
 use std::alloc::Global;
 

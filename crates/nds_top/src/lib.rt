@@ -1,18 +1,31 @@
-//! The top call: it reads the words of a command line, carries out the command on the files that they name, and says how it ended. `run`
-//! runs a cartridge, with the keys of a script, and writes what the run gives, `list` writes the listing of one of its images, and `asm`
-//! the bytes whose listing a file is.
-//!
+//! The top call: it reads the words of a command line, carries out the command on the files that they name, and says how it ended.
 //! `ds_main`'s contract is the run theorem: for every command line, shelf of files and sink, `run` writes exactly the output of the
 //! reference machine, booted from the cartridge with the script's keys and stepped, least tick first, to the given tick, and ends with that
-//! run's status; any other answer has its cause, and where the sink fails a front of that output is written. It says the same of `list` and
-//! of the image's listing, and of `asm` and of the bytes whose listing the text is; where the text is no listing, the answer is its first
-//! bad line. `trace` writes the first steps of one processor in that run, `peek` bytes of a memory in the state that it comes to, and
-//! `demo` what came of the run of a cartridge that is made from a number.
+//! run's status; any other answer has its cause, and where the sink fails a front of that output is written.
+//!
+//! Proved of `ds_main`, clause `answer` (`Gives`), for every command line, shelf and sink:
+//! - `run`: under Done the sink has what it had, followed by exactly the output of the reference run from boot to the tick and nothing
+//!   else, that run comes to the tick, and the seat has the console that ran it, as after as many turns as it counts, at the run's last
+//!   state; the number of turns in that output is that count. Under LeftOut the same of the run that stops there. Under WriteFault a front
+//!   of that same output, wherever the console came to, and the sink's count of faults rose; the seat's console is as after as many turns
+//!   as it counts. The refusals of files and NoMemory leave the sink as it was and the seat empty.
+//! - `list`: under Done exactly the listing of the processor's image, by its architecture and from the address on where the header has it
+//!   go; under WriteFault a front of it.
+//! - `asm`: under Done exactly the bytes whose listing the text is, under WriteFault a front; BadText comes exactly where the text is no
+//!   listing, with its first bad line; TooLong where it has more than 134,217,728 bytes. So `asm` of what `list` wrote gives the image,
+//!   since a text is the listing of one image at most.
+//! - `trace`: under Done exactly the lines of the processor's first steps in the reference run, so many as are asked for or those of a run
+//!   that comes to the tick; under LeftOut the run stops before it has so many, and all of them were written; under WriteFault a front of
+//!   them; no console is left.
+//! - `peek`: exactly the lines of the memory's bytes in the state that the reference run comes to at the tick; under LeftOut nothing was
+//!   written; the seat has the console as after `run`.
+//! - `demo`: the same of four lines, on the cartridge that the number stands for: the length, modulo 2^64, and the SHA-256 of what `run`
+//!   writes of it with `all`; no other answer comes but want of memory.
+//! - `notes` has what it had, followed by the status's line, or by a front of it where its count of faults rose; the name in the line is
+//!   that of the file which the status speaks of.
 //!
 //! The clauses on names, lengths, headers, scripts and the run hold where the shelf tells its files, which the call leaves as they were
-//! (clause `files`). Want of memory is free: no clause ties it to a cause. Clause `answer` also says that `notes` has what it had, followed
-//! by the status's line, or by a front of it where its count of faults rose; the name in the line is that of the file which the status
-//! speaks of.
+//! (clause `files`). Want of memory is free: no clause ties it to a cause.
 //!
 //! `top_laws` says what follows for calls in which no count of faults rose and whose shelf tells its files. Where the words ask for
 //! something that can be done (`CanBeDone`: its files are there, short enough and accepted, and the reference run comes to the tick; a
@@ -24,13 +37,16 @@
 #![tactic(auto)]
 
 mod calls;
+mod demos;
 mod laws;
+mod listings;
+mod peeks;
+mod runs;
+mod statuses;
+mod steps;
 
 pub use calls::ds_main;
-pub use nds_words::Keep;
-pub use demo_carts::demo_cart;
-pub use nds_words::{ScriptFault, read_script};
 pub use laws::top_laws;
 pub use nds_answers::{Status, number};
-pub use nds_calls::{empty_seat, let_go, switch_on};
-pub use nds_plays::{Played, play};
+pub use nds_plays::{Played, demo_cart, empty_seat, let_go, play, switch_on};
+pub use nds_words::{Keep, ScriptFault, read_script};

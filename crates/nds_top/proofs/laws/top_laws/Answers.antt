@@ -1,4 +1,4 @@
-use Rattle.nds_calls.specs.Calls.{around}
+use Rattle.nds_plays.specs.Calls.{around}
 use Rattle.nds_top.proofs.OneAnswer.{TopLaws, answers_one, completes}
 use Rattle.nds_top.proofs.laws.top_laws.Goals as goal
 

@@ -1,7 +1,0 @@
-use Rattle.std.proofs.Common.{◌≡◌, ◌++◌, flat_map, take}
-use Rattle.byteorder.specs.Endian.{little_bytes}
-use Rattle.demo_carts.proofs.put_words.Given as goal
-
--- the words so far were put
-abbrev pub invariant-loop-word : goal.invariant-loop-word
-invariant-loop-word l = l.file.items ≡ l.initial.file.items ++ flat_map (little_bytes 4) (take l.word-index l.words)

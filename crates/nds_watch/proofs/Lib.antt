@@ -1,3 +1,0 @@
-mod LinesOnce
-pub mod Leads
-pub mod Tracing

@@ -1,5 +1,0 @@
-use Rattle.nds_watch.proofs.LinesOnce.{lines_are_one}
-use Rattle.nds_watch.proofs.laws.trace_laws.Goals as goal
-
-pub returns : goal.returns
-returns c = lines_are_one

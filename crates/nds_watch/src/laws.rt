@@ -1,8 +1,0 @@
-//! The law of traces.
-
-ghost use Rattle.nds_watch.specs.Watches.{LinesAreOne};
-
-/// Does nothing; its contract states that a run has one list of lines.
-pub fn trace_laws()
-    ensures { LinesAreOne }
-{}

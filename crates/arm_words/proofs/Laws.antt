@@ -1,6 +1,6 @@
 use Rattle.std.proofs.Common.{ℕ, false, ◌≡◌, inl, inr, ◌<◌, ◌/◌, ◌^◌, ◌==◌, refl, sym, ◌∙◌, ap, arith, Option, Some, None, IfSome}
 use Rattle.ds_base.specs.declared.processors.Arch.{Arch}
-use Rattle.arm_words.proofs.Facts.{if_false, if_true, true_or_false}
+use Rattle.ds_base.proofs.Choices.{true_or_false, if_true, if_false}
 use Rattle.arm_words.specs.Rows.{first, or_else}
 use Rattle.arm_words.specs.ArmTable.{branch_rows, half_multiply_rows, half_product_rows, multiply_rows, half_transfer_rows, status_rows, immediate_status_rows, data_rows, double_rows, transfer_rows, multiple_rows, coprocessor_rows, unconditional_rows, conditional_arm, decoded_arm}
 use Rattle.arm_words.specs.ThumbTable.{thumb_sum_rows, thumb_register_rows, thumb_literal_rows, thumb_offset_rows, thumb_stack_rows, thumb_multiple_rows, thumb_branch_rows, decoded_thumb}

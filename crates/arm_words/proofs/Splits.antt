@@ -1,7 +1,7 @@
 use Rattle.std.proofs.Common.{ℕ, List, [], ◌∷◌, Bool, true, false, ◌&&◌, not, ◌≡◌, ◌≢◌, ◌⊎◌, inl, inr, ◌<◌, ◌*◌, ◌/◌, ◌^◌, ◌==◌, bit_and, refl, sym, ◌∙◌, ap, arith, Option, Some, None}
 use Rattle.std.proofs.lemmas.Nat.{and_assoc}
 use Rattle.ds_base.specs.declared.processors.Arch.{Arch}
-use Rattle.arm_words.proofs.Facts.{and_parts, equal, if_false, is_equal, true_or_false}
+use Rattle.ds_base.proofs.Choices.{both, true_or_false, if_false, equal, is_equal}
 use Rattle.arm_words.specs.Rows.{InstructionRow, agrees, first, or_else}
 use Rattle.arm_words.specs.ArmTable.{branch_rows, half_multiply_rows, half_product_rows, multiply_rows, half_transfer_rows, status_rows, immediate_status_rows, data_rows, double_rows, transfer_rows, multiple_rows, coprocessor_rows, conditional_arm}
 use Rattle.arm_words.specs.ThumbTable.{thumb_sum_rows, thumb_register_rows, thumb_literal_rows, thumb_offset_rows, thumb_stack_rows, thumb_multiple_rows, thumb_branch_rows, decoded_thumb}
@@ -13,9 +13,9 @@ abbrev shut : ℕ → (ℕ → Bool) → List InstructionRow → Bool
 shut m p [] = true
 shut m p (r ∷ rs) = (bit_and r.mask m == m) && (not (p (bit_and r.value m)) && shut m p rs)
 
-both : (b : Bool) → not b ≡ true → b ≡ true → ⊥
-both true n e = absurd (cc)
-both false n e = absurd (cc)
+not_both : (b : Bool) → not b ≡ true → b ≡ true → ⊥
+not_both true n e = absurd (cc)
+not_both false n e = absurd (cc)
 
 misses : (m : ℕ) (p : ℕ → Bool) (r : InstructionRow) (arch : Arch) (w : ℕ) → bit_and r.mask m ≡ m → not (p (bit_and r.value m)) ≡ true
     → p (bit_and w m) ≡ true → agrees r arch w ≡ false
@@ -24,19 +24,19 @@ misses m p r arch w looks other here =
       | inr none ↦ none
       | inl hit ↦
           let value : bit_and w r.mask ≡ r.value =
-          equal (bit_and w r.mask) r.value (and_parts (r.only w) (bit_and w r.mask == r.value)
-          (and_parts (r.on arch) (r.only w && (bit_and w r.mask == r.value)) hit).1).1 in
+          equal (bit_and w r.mask) r.value (both (r.only w) (bit_and w r.mask == r.value)
+          (both (r.on arch) (r.only w && (bit_and w r.mask == r.value)) hit).1).1 in
           let seen : bit_and w m ≡ bit_and r.value m =
           ap (λ (x : ℕ). bit_and w x) (sym looks) ∙ sym (and_assoc m w r.mask) ∙ ap (λ (x : ℕ). bit_and x m) value in
-          absurd (both (p (bit_and r.value m)) other (sym (ap (λ (x : ℕ). p x) seen) ∙ here))
+          absurd (not_both (p (bit_and r.value m)) other (sym (ap (λ (x : ℕ). p x) seen) ∙ here))
     ]
 
 -- such rows have none of the words that have it
 none_of : (m : ℕ) (p : ℕ → Bool) (rs : List InstructionRow) → shut m p rs ≡ true → (arch : Arch) (w : ℕ) → p (bit_and w m) ≡ true → first rs arch w ≡ None
 none_of m p [] s arch w here = refl
 none_of m p (r ∷ rs) s arch w here =
-    let a = and_parts (bit_and r.mask m == m) (not (p (bit_and r.value m)) && shut m p rs) s in
-    let b = and_parts (not (p (bit_and r.value m))) (shut m p rs) a.1 in
+    let a = both (bit_and r.mask m == m) (not (p (bit_and r.value m)) && shut m p rs) s in
+    let b = both (not (p (bit_and r.value m))) (shut m p rs) a.1 in
     if_false (agrees r arch w) (Some (r.instr w)) (first rs arch w)
     (misses m p r arch w (equal (bit_and r.mask m) m a.0) b.0 here)
     ∙ none_of m p rs b.1 arch w here

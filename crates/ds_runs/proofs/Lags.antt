@@ -1,10 +1,10 @@
-use Rattle.std.proofs.Common.{ℕ, zero, suc, ◌≡◌, ◌≢◌, ◌<◌, ◌≤◌, ◌+◌, ◌⊎◌, inl, inr, List, [], ◌∷◌, ◌++◌, Option, Some, refl, sym, ◌∙◌, ap, subst, arith}
+use Rattle.std.proofs.Common.{ℕ, zero, suc, ◌≡◌, ◌<◌, ◌≤◌, ◌+◌, inl, inr, List, [], ◌∷◌, ◌++◌, Some, refl, sym, ◌∙◌, subst, arith}
 use Rattle.std.specs.Prelude.{◌↔◌}
 use Rattle.ds_base.specs.declared.ticks.Tick.{Tick}
-use Rattle.ds_runs.specs.Lags.{MayLag, MayStepFirst, StepsBefore, LagAgrees, LagStops}
-use Rattle.ds_runs.specs.Runs.{IsLeast, due_at, TickMachine, MachineStep, Makes, Stops, Ending, At, Stopped, Runs, over, stops, more}
+use Rattle.ds_runs.specs.Lags.{MayLag, LagAgrees, LagStops}
+use Rattle.ds_runs.specs.Runs.{IsLeast, due_at, TickMachine, Makes, Stops, Ending, Stopped, Runs, over, stops, more}
 use Rattle.ds_runs.proofs.Lists.{is_later, least_unique}
-use Rattle.ds_runs.proofs.RunLaws.{same_makes, same_stops, not_both}
+use Rattle.ds_runs.proofs.RunLaws.{same_makes, not_both}
 
 -- An actor that lags.
 

@@ -14,7 +14,7 @@ use Rattle.arm_core.specs.declared.results.Computed.{Computed}
 use Rattle.arm_core.specs.Addressing.{with_base}
 use Rattle.arm_core.specs.Branches.{exchanged, with_thumb}
 use Rattle.arm_core.specs.DataProcessing.{finished, restored, restored_from, with_flags}
-use Rattle.arm_core.specs.Exceptions.{entered, entered_status, entry_bank, entry_mode, kept_status}
+use Rattle.arm_core.specs.Exceptions.{entered, entry_bank, entry_mode, kept_status}
 use Rattle.arm_core.specs.Links.{linked}
 use Rattle.arm_core.specs.Multiples.{loaded, loaded_r15}
 use Rattle.arm_core.specs.Multiplies.{with_long, with_sign}

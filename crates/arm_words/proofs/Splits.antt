@@ -3,7 +3,7 @@ use Rattle.std.proofs.lemmas.Nat.{and_assoc}
 use Rattle.ds_base.specs.declared.processors.Arch.{Arch}
 use Rattle.ds_base.proofs.Choices.{both, true_or_false, if_false, equal, is_equal}
 use Rattle.arm_words.specs.Rows.{InstructionRow, agrees, first, or_else}
-use Rattle.arm_words.specs.ArmTable.{branch_rows, half_multiply_rows, half_product_rows, multiply_rows, half_transfer_rows, status_rows, immediate_status_rows, data_rows, double_rows, transfer_rows, multiple_rows, coprocessor_rows, conditional_arm}
+use Rattle.arm_words.specs.ArmTable.{branch_rows, half_multiply_rows, half_product_rows, multiply_rows, half_transfer_rows, status_register_rows, immediate_status_rows, data_rows, double_rows, transfer_rows, multiple_rows, coprocessor_rows, conditional_arm}
 use Rattle.arm_words.specs.ThumbTable.{thumb_sum_rows, thumb_register_rows, thumb_literal_rows, thumb_offset_rows, thumb_stack_rows, thumb_multiple_rows, thumb_branch_rows, decoded_thumb}
 use Rattle.arm_words.proofs.Masks.{masked, part}
 use Rattle.arm_words.specs.declared.instructions.Instr.{Instr}
@@ -59,10 +59,10 @@ high_rows arch w h =
     let n = λ (rs : List InstructionRow) (s : shut 0x0C000000 (λ x. not (x == 0)) rs ≡ true).
     none_of 0x0C000000 (λ x. not (x == 0)) rs s arch w (is_nonzero (bit_and w 0x0C000000) h) in
     late (first branch_rows arch w) (first half_multiply_rows arch w) (first half_product_rows arch w) (first multiply_rows arch w)
-    (first half_transfer_rows arch w) (first status_rows arch w) (first immediate_status_rows arch w) (first data_rows arch w)
+    (first half_transfer_rows arch w) (first status_register_rows arch w) (first immediate_status_rows arch w) (first data_rows arch w)
     (first double_rows arch w) (or_else (first transfer_rows arch w) (or_else (first multiple_rows arch w) (first coprocessor_rows arch w)))
     (n branch_rows refl) (n half_multiply_rows refl) (n half_product_rows refl) (n multiply_rows refl) (n half_transfer_rows refl)
-    (n status_rows refl) (n immediate_status_rows refl) (n data_rows refl) (n double_rows refl)
+    (n status_register_rows refl) (n immediate_status_rows refl) (n data_rows refl) (n double_rows refl)
 
 or_none : (a : Option Instr) → or_else a None ≡ a
 or_none None = refl
@@ -147,10 +147,10 @@ immediate_leaf arch w h i =
     let n = λ (rs : List InstructionRow) (s : shut 0x02000000 (λ x. not (x == 0)) rs ≡ true).
     none_of 0x02000000 (λ x. not (x == 0)) rs s arch w (is_nonzero (bit_and w 0x02000000) i) in
     only_immediates (first branch_rows arch w) (first half_multiply_rows arch w) (first half_product_rows arch w) (first multiply_rows arch w)
-    (first half_transfer_rows arch w) (first status_rows arch w) (first immediate_status_rows arch w) (first data_rows arch w)
+    (first half_transfer_rows arch w) (first status_register_rows arch w) (first immediate_status_rows arch w) (first data_rows arch w)
     (first double_rows arch w) (or_else (first transfer_rows arch w) (or_else (first multiple_rows arch w) (first coprocessor_rows arch w)))
     (n branch_rows refl) (n half_multiply_rows refl) (n half_product_rows refl) (n multiply_rows refl) (n half_transfer_rows refl)
-    (n status_rows refl) (n double_rows refl) (low_rows arch w h)
+    (n status_register_rows refl) (n double_rows refl) (low_rows arch w h)
 
 pub extra_leaf : (arch : Arch) (w : ℕ) → bit_and w 0x0C000000 ≡ 0 → bit_and w 0x02000000 ≡ 0 → bit_and w 0x90 ≡ 0x90
     → conditional_arm arch w ≡ or_else (first multiply_rows arch w) (or_else (first half_transfer_rows arch w) (or_else (first data_rows arch w) (first double_rows arch w)))
@@ -159,18 +159,18 @@ extra_leaf arch w h i e =
     none_of 0x90 (λ x. x == 0x90) rs s arch w (is_equal (bit_and w 0x90) 0x90 e) in
     let m = none_of 0x02000000 (λ x. x == 0) immediate_status_rows refl arch w (is_equal (bit_and w 0x02000000) 0 i) in
     only_extras (first branch_rows arch w) (first half_multiply_rows arch w) (first half_product_rows arch w) (first multiply_rows arch w)
-    (first half_transfer_rows arch w) (first status_rows arch w) (first immediate_status_rows arch w) (first data_rows arch w)
+    (first half_transfer_rows arch w) (first status_register_rows arch w) (first immediate_status_rows arch w) (first data_rows arch w)
     (first double_rows arch w) (or_else (first transfer_rows arch w) (or_else (first multiple_rows arch w) (first coprocessor_rows arch w)))
-    (n branch_rows refl) (n half_multiply_rows refl) (n half_product_rows refl) (n status_rows refl) m (low_rows arch w h)
+    (n branch_rows refl) (n half_multiply_rows refl) (n half_product_rows refl) (n status_register_rows refl) m (low_rows arch w h)
 
 pub miscellaneous_leaf : (arch : Arch) (w : ℕ) → bit_and w 0x0C000000 ≡ 0 → bit_and w 0x02000000 ≡ 0 → bit_and w 0x90 ≢ 0x90
-    → conditional_arm arch w ≡ or_else (first branch_rows arch w) (or_else (first half_multiply_rows arch w) (or_else (first half_product_rows arch w) (or_else (first status_rows arch w) (first data_rows arch w))))
+    → conditional_arm arch w ≡ or_else (first branch_rows arch w) (or_else (first half_multiply_rows arch w) (or_else (first half_product_rows arch w) (or_else (first status_register_rows arch w) (first data_rows arch w))))
 miscellaneous_leaf arch w h i e =
     let n = λ (rs : List InstructionRow) (s : shut 0x90 (λ x. not (x == 0x90)) rs ≡ true).
     none_of 0x90 (λ x. not (x == 0x90)) rs s arch w (is_other (bit_and w 0x90) 0x90 e) in
     let m = none_of 0x02000000 (λ x. x == 0) immediate_status_rows refl arch w (is_equal (bit_and w 0x02000000) 0 i) in
     only_miscellaneous (first branch_rows arch w) (first half_multiply_rows arch w) (first half_product_rows arch w) (first multiply_rows arch w)
-    (first half_transfer_rows arch w) (first status_rows arch w) (first immediate_status_rows arch w) (first data_rows arch w)
+    (first half_transfer_rows arch w) (first status_register_rows arch w) (first immediate_status_rows arch w) (first data_rows arch w)
     (first double_rows arch w) (or_else (first transfer_rows arch w) (or_else (first multiple_rows arch w) (first coprocessor_rows arch w)))
     (n multiply_rows refl) (n half_transfer_rows refl) m (n double_rows refl) (low_rows arch w h)
 
@@ -180,8 +180,8 @@ data_leaf arch w h i e k =
     let n = λ (rs : List InstructionRow) (s : shut 0x01900000 (λ x. not (x == 0x01000000)) rs ≡ true).
     none_of 0x01900000 (λ x. not (x == 0x01000000)) rs s arch w (is_other (bit_and w 0x01900000) 0x01000000 k) in
     miscellaneous_leaf arch w h i e
-    ∙ only_data (first branch_rows arch w) (first half_multiply_rows arch w) (first half_product_rows arch w) (first status_rows arch w) (first data_rows arch w)
-    (n branch_rows refl) (n half_multiply_rows refl) (n half_product_rows refl) (n status_rows refl)
+    ∙ only_data (first branch_rows arch w) (first half_multiply_rows arch w) (first half_product_rows arch w) (first status_register_rows arch w) (first data_rows arch w)
+    (n branch_rows refl) (n half_multiply_rows refl) (n half_product_rows refl) (n status_register_rows refl)
 
 -- the rows of halves whose bits 15 to 13 are v alone
 thumb_none : (v : ℕ) (rs : List InstructionRow) → shut 0xE000 (λ x. x == v) rs ≡ true → (arch : Arch) (h : ℕ) → bit_and h 0xE000 ≡ v → first rs arch h ≡ None

@@ -6,7 +6,7 @@ use Rattle.ds_base.specs.declared.processors.Proc.{Proc}
 use Rattle.ds_base.proofs.Choices.{either_by, not_false, not_true, equal, unequal}
 use Rattle.ds_dma.specs.declared.channels.Unit.{Unit as DmaUnit}
 use Rattle.ds_dma.specs.Controls.{disabled, is_armed_again}
-use Rattle.ds_dma.specs.Channels.{ChannelState, plan_of, unit_of, address_of, source_step, target_step, next_from, next_to, emptied, rest_of, TakesUnit, more, pauses, again, ends, after_unit, is_last_unit, is_last_of_burst}
+use Rattle.ds_dma.specs.Channels.{ChannelState, plan_of, unit_of, address_of, source_step, target_step, next_from, next_to, emptied, rest_of, TakesUnit, more_units, pauses, again, ends, after_unit, is_last_unit, is_last_of_burst}
 
 -- the address of the unit after this one, from the first and from the second
 shifted : (first step i : ℕ) → address_of first step (i + 1) ≡ address_of (address_of first step 1) step i
@@ -63,7 +63,7 @@ took_more proc which c h =
     (ap (λ n. record c { from = n; to = next_to c; remaining = c.remaining - 1; trigger = None; burst = c.burst - 1 }) is.0
     ∙ ap (λ n. record c { from = (unit_of rest 0).from; to = n; remaining = c.remaining - 1; trigger = None; burst = c.burst - 1 }) is.1
     ∙ ap (λ n. record c { from = (unit_of rest 0).from; to = (unit_of rest 0).to; remaining = c.remaining - 1; trigger = None; burst = n - 1 }) one)))
-    (λ e. more (unit_of c 0) (unit_of rest 0) (plan_of (rest_of rest)) all splits (unequal c.burst 1 e)
+    (λ e. more_units (unit_of c 0) (unit_of rest 0) (plan_of (rest_of rest)) all splits (unequal c.burst 1 e)
     (ap (λ n. record c { from = n; to = next_to c; remaining = c.remaining - 1; burst = c.burst - 1 }) is.0
     ∙ ap (λ n. record c { from = (unit_of rest 0).from; to = n; remaining = c.remaining - 1; burst = c.burst - 1 }) is.1))
 

@@ -5,7 +5,7 @@ use Rattle.std.proofs.lemmas.Nat.{and_assoc}
 use Rattle.ds_base.specs.declared.ticks.Tick.{Tick}
 use Rattle.ds_base.specs.Schedules.{IsEarly, IsLater, Reschedules}
 use Rattle.ds_base.proofs.Choices.{either_by, both, not_both, equal, unequal, same_or_not}
-use Rattle.ds_timers.specs.Timing.{TimerState, AreTimers, IsTimer, ChangesControl, starts, goes_on, takes_anchor, holds_count, CountsFrom, SchedulesOne, timer_at, pace, runs_free, counted, counter_of, full, timer_due, kept_control, is_start, controlled, control_set, reload_set}
+use Rattle.ds_timers.specs.Timing.{TimerState, AreTimers, IsTimer, ChangesControl, starts, keeps_anchor, takes_anchor, holds_count, CountsFrom, SchedulesOne, timer_at, pace, runs_free, counted, counter_of, full, timer_due, kept_control, is_start, controlled, control_set, reload_set}
 use Rattle.ds_timers.proofs.Four.{are_set, set_same, set_schedules}
 
 pub pace_above : (control : ℕ) → 0 < pace control
@@ -92,7 +92,7 @@ changes which t control now =
     (λ e. starts e refl)
     (λ e. either_by P free _ _
     (λ f. either_by P (runs_free which t.control && same) _ _
-    (λ g. goes_on (both (runs_free which t.control) same g).0 f (equal (pace control) (pace t.control) (both (runs_free which t.control) same g).1) refl)
+    (λ g. keeps_anchor (both (runs_free which t.control) same g).0 f (equal (pace control) (pace t.control) (both (runs_free which t.control) same g).1) refl)
     (λ g. takes_anchor e f (apart (runs_free which t.control) (pace control) (pace t.control) g) refl))
     (λ f. holds_count e f refl))
 

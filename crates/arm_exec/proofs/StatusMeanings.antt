@@ -27,7 +27,7 @@ use Rattle.arm_core.specs.Doubles.{double_at, double_meaning}
 use Rattle.arm_core.specs.Effects.{Meaning}
 use Rattle.arm_core.specs.Enhanced.{clz_meaning, coprocessor_meaning}
 use Rattle.arm_core.specs.Exceptions.{breakpoint_meaning, entered, interrupt_meaning, software_meaning, undefined_meaning}
-use Rattle.arm_core.specs.HalfMultiplies.{accumulated_meaning, half_long_meaning, half_of, product_meaning}
+use Rattle.arm_core.specs.HalfMultiplies.{accumulated_meaning, half_long_meaning, chosen_half, product_meaning}
 use Rattle.arm_core.specs.Links.{link_exchange_meaning, link_suffix_meaning, link_target_meaning, linked}
 use Rattle.arm_core.specs.Meanings.{skipped}
 use Rattle.arm_core.specs.Multiples.{keeps_base, last_of, load_multiple_meaning, loaded, loaded_r15, multiple_meaning, reached_bank, reaches_user, transferred}
@@ -97,7 +97,7 @@ module _ (arch : Arch) (s : RegisterState) (h : HasStatuses arch s) where
   pub half_long_keeps : (x y : Bool) (rd_lo rd_hi rm rs : ℕ) → Keeps (half_long_meaning s x y rd_lo rd_hi rm rs)
   half_long_keeps x y rd_lo rd_hi rm rs values =
       let added : ℕ = register s rd_lo + 2 ^ 32 * register s rd_hi in
-      long_has arch rd_lo rd_hi (long_product true (half_of x (register s rm)) (half_of y (register s rs)) added) (next s) n
+      long_has arch rd_lo rd_hi (long_product true (chosen_half x (register s rm)) (chosen_half y (register s rs)) added) (next s) n
 
   pub accumulated_keeps : HasQ arch → (rd product added : ℕ) → Keeps (accumulated_meaning s rd product added)
   accumulated_keeps q rd product added values =

@@ -4,7 +4,7 @@ use Rattle.arm_words.proofs.Facts.{last_or_less}
 use Rattle.arm_words.specs.Canonical.{immediate, IsLeastRotation, turned_back, none_below, least_rotation}
 
 -- a test of all pairs of a rotation and a byte, as numbers below 4,096
-abbrev all_pairs : (ℕ → ℕ → Bool) → ℕ → Bool
+abbrev pub all_pairs : (ℕ → ℕ → Bool) → ℕ → Bool
 all_pairs p zero = true
 all_pairs p (suc k) = p (k / 256) (k % 256) && all_pairs p k
 
@@ -43,7 +43,7 @@ pair_number p (suc k) e n h =
       | inr less ↦ pair_number p k (both (p (k / 256) (k % 256)) (all_pairs p k) e).1 n less
     ]
 
-pair : (p : ℕ → ℕ → Bool) → all_pairs p 4096 ≡ true → (r b : ℕ) → r < 16 → b < 256 → p r b ≡ true
+pub pair : (p : ℕ → ℕ → Bool) → all_pairs p 4096 ≡ true → (r b : ℕ) → r < 16 → b < 256 → p r b ≡ true
 pair p e r b hr hb =
     let high : (r * 256 + b) / 256 ≡ r = omega arith in
     let low : (r * 256 + b) % 256 ≡ b = omega arith in

@@ -1,4 +1,4 @@
-"""The demo of a number against a run of its cartridge, which is made here anew by the rule of crates/demo_carts/specs/Demos.antt.
+"""The demo of a number against a run of its cartridge, which is made here anew by the rule of crates/nds_plays/specs/Demos.antt.
 
 The program is the one of NDS_PROGRAM, otherwise one that was built here; without one these tests are left out."""
 import hashlib

@@ -6,7 +6,8 @@
 //! more were left (then one more than the limit is gone), where no read failed. `Failed` comes only where the shelf's count of faults rose
 //! in the call; after any refusal the place is past what was read, and the files are the same. `put_all` appends all bytes, or on `Failed`,
 //! which comes only where the sink's count of faults rose, a front of them; `put_parts` does so with parts, one after another.
-//! `QuietShelf` and `QuietSink` never fail and answer exactly by what they keep; a sink with room for what is put tells it whole (`Sink`'s `room`, `put_all`'s clause `left`, the law `roomy`).
+//! `QuietShelf` and `QuietSink` never fail and answer exactly by what they keep; a sink with room for what is put tells it
+//! whole (`Sink`'s `room`, `put_all`'s clause `left`, the law `roomy`).
 //! `MemShelf` and `MemSink` fail exactly in the calls whose numbers stand in their `Calls`; a sink of `MemSink::slow` takes at most so many
 //! bytes a call, and keeps exactly that front of what is put (clauses `answer`, `next` of `put`). `Files::push` and `Calls::push` leave
 //! their list as it was where memory is wanting.

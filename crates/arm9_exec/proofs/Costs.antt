@@ -34,17 +34,6 @@ module _ (s : RegisterState) (cp : Cp15State) where
   moved_costs m true h = rw h (over_costs m m.load refl)
   moved_costs m false h = rw h (some_cost V5 (skipped s))
 
-  either_costs : {S : Type 0} (memory : MemoryMachine S) (f : FetchOutcome S) (o : Option Moved) → CostsSome (executed_or_moved memory s cp f o).stepped
-  either_costs memory f None = word_costs memory (arm9 cp) s f.state f.number f.instr
-  either_costs memory f (Some m) = moved_costs m (holds m.cond s.cpsr) refl
-
   one_of : {S : Type 0} (b : Bool) (x y : Outcome9 S) → CostsSome x.stepped → CostsSome y.stepped → CostsSome (if b then x else y).stepped
   one_of true x y p q = p
   one_of false x y p q = q
-
-  pub step9_costs : {S : Type 0} (memory : MemoryMachine S) (line : Bool) (state : S) → CostsSome (step9_of memory line s cp state).stepped
-  step9_costs memory line state =
-      let f = fetched memory V5 s state in
-      let entry = carried_out memory V5 s state (interrupt_meaning (vectors_of cp) s) in
-      one_of (enters line s) (beside cp entry) (executed_or_moved memory s cp f (move_of f.instr))
-      (carried_out_costs memory (arm9 cp) s state (interrupt_meaning (vectors_of cp) s)) (either_costs memory f (move_of f.instr))

@@ -121,8 +121,8 @@ fn carry_over(s: &mut Registers, cp: &mut Cp15, m: Moved) -> Stepped
     if m.load { mrc(s, cp, m) } else { mcr(s, cp, m) }
 }
 
-/// A move to or from CP15, after its fetch, where its condition holds. It answers its cost in ticks, with a halt where it wrote the wait for an interrupt
-/// (c7,c0,4), or the stop for big-endian mode; then the registers and CP15 are as they were.
+/// A move to or from CP15, after its fetch, where its condition holds. It answers its cost in ticks, with a halt where it wrote the wait for an
+/// interrupt (c7,c0,4), or the stop for big-endian mode; then the registers and CP15 are as they were.
 #[inline]
 pub fn move_if(s: &mut Registers, cp: &mut Cp15, m: Moved) -> Stepped
     requires { m.rd < 16 }

@@ -26,10 +26,29 @@ pub fn in_rom(cp: &Cp15) -> bool
 fn execute<B: Bus>(s: &mut Registers, cp: &mut Cp15, bus: &mut B, fetched: Fetched) -> Stepped
     requires low { fetched.number < 16 }
     requires fields { IfSome fetched.instr HasFields }
-    ensures registers { s.new ≡ (executed_or_moved B.memory s.old cp.old (record { number = fetched.number; instr = fetched.instr; state = B.state bus.old }) (move_of fetched.instr)).registers }
-    ensures cp { cp.new ≡ (executed_or_moved B.memory s.old cp.old (record { number = fetched.number; instr = fetched.instr; state = B.state bus.old }) (move_of fetched.instr)).cp }
-    ensures state { B.state bus.new ≡ (executed_or_moved B.memory s.old cp.old (record { number = fetched.number; instr = fetched.instr; state = B.state bus.old }) (move_of fetched.instr)).state }
-    ensures stepped { result ≡ (executed_or_moved B.memory s.old cp.old (record { number = fetched.number; instr = fetched.instr; state = B.state bus.old }) (move_of fetched.instr)).stepped }
+    ensures registers { s.new
+        ≡ (executed_or_moved B.memory s.old cp.old (record {
+          number = fetched.number;
+          instr = fetched.instr;
+          state = B.state bus.old;
+        }) (move_of fetched.instr)).registers }
+    ensures cp { cp.new ≡ (executed_or_moved B.memory s.old cp.old (record {
+      number = fetched.number;
+      instr = fetched.instr;
+      state = B.state bus.old;
+    }) (move_of fetched.instr)).cp }
+    ensures state { B.state bus.new
+        ≡ (executed_or_moved B.memory s.old cp.old (record {
+          number = fetched.number;
+          instr = fetched.instr;
+          state = B.state bus.old;
+        }) (move_of fetched.instr)).state }
+    ensures stepped { result
+        ≡ (executed_or_moved B.memory s.old cp.old (record {
+          number = fetched.number;
+          instr = fetched.instr;
+          state = B.state bus.old;
+        }) (move_of fetched.instr)).stepped }
     ensures same { B.identity bus.new ≡ B.identity bus.old }
 {
     match move_of(fetched.instr) {

@@ -1,19 +1,12 @@
-use Rattle.std.proofs.Common.{ℕ, zero, suc, ◌≡◌, ◌≢◌, ◌<◌, ◌⊎◌, inl, inr, Bool, true, false, refl, sym, subst, arith}
+use Rattle.std.proofs.Common.{ℕ, zero, suc, ◌≡◌, ◌<◌, inl, inr, Bool, true, sym, subst, arith}
 use Rattle.std.specs.Prelude.{◌&&◌}
+use Rattle.ds_base.proofs.Choices.{both, same_or_not}
 
 -- Tests of all numbers below a bound, by computing.
 
 unfoldable pub all_below : ℕ → (ℕ → Bool) → Bool
 all_below zero p = true
 all_below (suc n) p = p n && all_below n p
-
-pub both : (a b : Bool) → (a && b) ≡ true → (a ≡ true) × (b ≡ true)
-both true true h = (refl, refl)
-both true false h = cc
-both false b h = cc
-
-pub same_or_not : (a b : ℕ) → (a ≡ b) ⊎ (a ≢ b)
-same_or_not a b = grind arith
 
 pub all_below_holds : (n r : ℕ) (p : ℕ → Bool) → r < n → all_below n p ≡ true → p r ≡ true
 unfolding all_below

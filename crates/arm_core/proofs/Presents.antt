@@ -2,10 +2,11 @@ use Rattle.std.proofs.Common.{ℕ, zero, suc, ◌≡◌, ◌≢◌, ◌<◌, ◌
 use Rattle.std.specs.Prelude.{◌&&◌, ◌==◌, nat_lt}
 use Rattle.std.proofs.lemmas.List.{get_or-set_same, get_or-set_other, set-get_or, set-set}
 use Rattle.std.proofs.lemmas.Bool.Decides.{nat_tests}
+use Rattle.ds_base.proofs.Choices.{both, same_or_not}
 use Rattle.arm_core.specs.declared.banks.Bank.{Bank}
 use Rattle.arm_core.specs.declared.banks.Bank.TheVariants.{System, Fiq, Supervisor, Abort, Irq, Undefined}
 use Rattle.arm_core.specs.Registers.{general_of, place}
-use Rattle.arm_core.proofs.Below.{all_below, all_below_holds, both, same_or_not}
+use Rattle.arm_core.proofs.Below.{all_below, all_below_holds}
 
 -- Where registers stand, by computing.
 

@@ -84,9 +84,9 @@ abbrev pub restored : RegisterState → RegisterState
 restored s = restored_from (saved_place (bank s)) s
 
 -- the result goes to rd. With S the flags are set, or for r15 CPSR is restored, whose state then aligns it
-abbrev pub finished : Bool → ℕ → Computed → RegisterState → RegisterState
-finished false rd r s = put rd r.value s
-finished true rd r s = put rd r.value (if rd == 15 then restored s else with_flags r s)
+abbrev pub result_put : Bool → ℕ → Computed → RegisterState → RegisterState
+result_put false rd r s = put rd r.value s
+result_put true rd r s = put rd r.value (if rd == 15 then restored s else with_flags r s)
 
 -- a shift by a register costs more
 abbrev pub operand_class : Operand → Class
@@ -96,7 +96,7 @@ operand_class _ = Processing
 abbrev pub data_meaning : RegisterState → DataOp → Bool → ℕ → ℕ → Operand → Meaning
 data_meaning s op set_flags rn rd operand =
     let result = data_result op (first_operand s operand rn) (shifter_operand s operand) (c_flag s.cpsr) (v_flag s.cpsr) in
-    record { accesses = []; after = λ values. finished set_flags rd result (next s); class = operand_class operand; jumps = rd == 15 }
+    record { accesses = []; after = λ values. result_put set_flags rd result (next s); class = operand_class operand; jumps = rd == 15 }
 
 abbrev pub compare_meaning : RegisterState → CompareOp → ℕ → Operand → Meaning
 compare_meaning s op rn operand =
@@ -106,4 +106,4 @@ compare_meaning s op rn operand =
 abbrev pub move_meaning : RegisterState → MoveOp → Bool → ℕ → Operand → Meaning
 move_meaning s op set_flags rd operand =
     let result = move_result op (shifter_operand s operand) (v_flag s.cpsr) in
-    record { accesses = []; after = λ values. finished set_flags rd result (next s); class = operand_class operand; jumps = rd == 15 }
+    record { accesses = []; after = λ values. result_put set_flags rd result (next s); class = operand_class operand; jumps = rd == 15 }

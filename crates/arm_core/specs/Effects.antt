@@ -22,8 +22,8 @@ pub record Meaning : Type 0 where
   pub jumps : Bool
 
 -- an instruction that makes no access and doesn't jump
-abbrev pub plain : RegisterState → Class → Meaning
-plain after class = record { accesses = []; after = λ values. after; class = class; jumps = false }
+abbrev pub without_access : RegisterState → Class → Meaning
+without_access after class = record { accesses = []; after = λ values. after; class = class; jumps = false }
 
 abbrev pub cost_of : Arch → Meaning → ℕ
 cost_of arch m = clocks m.class arch + (if m.jumps then jump_clocks else 0)

@@ -4,7 +4,7 @@ use Rattle.ds_base.specs.declared.processors.Arch.{Arch}
 use Rattle.arm_words.specs.declared.instructions.Instr.{Instr}
 use Rattle.arm_words.specs.declared.instructions.Instr.TheVariants.{BlxRegister, Bkpt, Clz, Saturating, Smla, Smlaw, Smulw, Smlal, Smul, BlxTarget, Pld, Coprocessor, ThumbBlxSuffix}
 use Rattle.arm_core.specs.Registers.{RegisterState, register, next, put}
-use Rattle.arm_core.specs.Effects.{Meaning, plain}
+use Rattle.arm_core.specs.Effects.{Meaning, without_access}
 use Rattle.arm_core.specs.Exceptions.{breakpoint_meaning, entered, undefined_meaning}
 use Rattle.arm_core.specs.HalfMultiplies.{accumulated_meaning, half_long_meaning, half_product, product_meaning, wide_product}
 use Rattle.arm_core.specs.Links.{link_exchange_meaning, link_suffix_meaning, link_target_meaning}
@@ -25,7 +25,7 @@ clz_meaning s rd rm =
 -- coprocessor, the word is undefined
 abbrev pub coprocessor_meaning : Bool → ℕ → RegisterState → Meaning
 coprocessor_meaning there base s =
-    plain (if there then next s else entered base UndefinedInstruction (next s).pc s) (if there then classes.Coprocessor else Entry)
+    without_access (if there then next s else entered base UndefinedInstruction (next s).pc s) (if there then classes.Coprocessor else Entry)
 
 -- what a branch, BKPT or PLD does, which makes no access (our choice), and a move to or from a coprocessor. Nothing else comes here
 abbrev pub link_meaning : Arch → ℕ → RegisterState → Instr → Meaning
@@ -33,7 +33,7 @@ link_meaning arch base s (BlxRegister cond rm) = link_exchange_meaning s rm
 link_meaning arch base s (BlxTarget half offset) = link_target_meaning s half offset
 link_meaning arch base s (ThumbBlxSuffix offset) = link_suffix_meaning s offset
 link_meaning arch base s (Bkpt immed) = breakpoint_meaning base s
-link_meaning arch base s (Pld up rn offset) = plain (next s) Processing
+link_meaning arch base s (Pld up rn offset) = without_access (next s) Processing
 link_meaning arch base s (Coprocessor cond load op1 crn rd cp op2 crm) = coprocessor_meaning (has_coprocessor arch cp) base s
 link_meaning arch base s instr = undefined_meaning base s
 

@@ -4,7 +4,7 @@ use Rattle.arm_core.specs.declared.banks.Bank.TheVariants.{Supervisor, Abort, Ir
 use Rattle.arm_core.specs.declared.exceptions.Exception.{Exception}
 use Rattle.arm_core.specs.declared.exceptions.Exception.TheVariants.{UndefinedInstruction, SoftwareInterrupt, Breakpoint, Interrupt}
 use Rattle.arm_core.specs.Registers.{RegisterState, place, saved_place, next}
-use Rattle.arm_core.specs.Effects.{Meaning, plain}
+use Rattle.arm_core.specs.Effects.{Meaning, without_access}
 use Rattle.arm_core.specs.declared.classes.Class.TheVariants.{Entry}
 
 -- Exceptions (ARM manual, A2.6 "Exceptions"). The vectors' base is 0, or FFFF0000h with high vectors.
@@ -47,15 +47,15 @@ entered base exception link s = record {
 
 -- an undefined instruction, and SWI: r14 is the next instruction's address
 abbrev pub undefined_meaning : ℕ → RegisterState → Meaning
-undefined_meaning base s = plain (entered base UndefinedInstruction (next s).pc s) Entry
+undefined_meaning base s = without_access (entered base UndefinedInstruction (next s).pc s) Entry
 
 abbrev pub software_meaning : ℕ → RegisterState → Meaning
-software_meaning base s = plain (entered base SoftwareInterrupt (next s).pc s) Entry
+software_meaning base s = without_access (entered base SoftwareInterrupt (next s).pc s) Entry
 
 -- BKPT: r14 is its address + 4
 abbrev pub breakpoint_meaning : ℕ → RegisterState → Meaning
-breakpoint_meaning base s = plain (entered base Breakpoint ((s.pc + 4) % 2 ^ 32) s) Entry
+breakpoint_meaning base s = without_access (entered base Breakpoint ((s.pc + 4) % 2 ^ 32) s) Entry
 
 -- the interrupt line, before an instruction: r14 is that instruction's address + 4
 abbrev pub interrupt_meaning : ℕ → RegisterState → Meaning
-interrupt_meaning base s = plain (entered base Interrupt ((s.pc + 4) % 2 ^ 32) s) Entry
+interrupt_meaning base s = without_access (entered base Interrupt ((s.pc + 4) % 2 ^ 32) s) Entry

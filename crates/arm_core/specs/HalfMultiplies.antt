@@ -10,16 +10,16 @@ use Rattle.arm_core.specs.declared.classes.Class.TheVariants.{Multiply, LongMult
 -- Multiplies of halves (ARM manual, A4.1 "SMLA<x><y>", "SMLAL<x><y>", "SMLAW<y>", "SMUL<x><y>", "SMULW<y>"). N, Z, C and V stay.
 
 -- SignExtend(Rm[31:16]) or SignExtend(Rm[15:0]): the top or the bottom half, as a signed word
-abbrev pub half_of : Bool → ℕ → ℕ
-half_of top word = signed_half (if top then word / 2 ^ 16 else word)
+abbrev pub chosen_half : Bool → ℕ → ℕ
+chosen_half top word = signed_half (if top then word / 2 ^ 16 else word)
 
 -- the product of two halves
 abbrev pub half_product : Bool → Bool → ℕ → ℕ → ℕ
-half_product x y rm rs = half_of x rm * half_of y rs % 2 ^ 32
+half_product x y rm rs = chosen_half x rm * chosen_half y rs % 2 ^ 32
 
 -- (Rm * SignExtend(half of Rs))[47:16]
 abbrev pub wide_product : Bool → ℕ → ℕ → ℕ
-wide_product y rm rs = long_product true rm (half_of y rs) 0 / 2 ^ 16 % 2 ^ 32
+wide_product y rm rs = long_product true rm (chosen_half y rs) 0 / 2 ^ 16 % 2 ^ 32
 
 -- SMULxy and SMULWy: the product
 abbrev pub product_meaning : RegisterState → ℕ → ℕ → Meaning
@@ -35,5 +35,5 @@ accumulated_meaning s rd product added =
 abbrev pub half_long_meaning : RegisterState → Bool → Bool → ℕ → ℕ → ℕ → ℕ → Meaning
 half_long_meaning s x y rd_lo rd_hi rm rs =
     let added = register s rd_lo + 2 ^ 32 * register s rd_hi in
-    let product = long_product true (half_of x (register s rm)) (half_of y (register s rs)) added in
+    let product = long_product true (chosen_half x (register s rm)) (chosen_half y (register s rs)) added in
     record { accesses = []; after = λ values. with_long rd_lo rd_hi product (next s); class = LongMultiply; jumps = rd_lo == 15 || rd_hi == 15 }

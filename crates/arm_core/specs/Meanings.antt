@@ -7,7 +7,7 @@ use Rattle.arm_words.specs.declared.instructions.Instr.TheVariants.{Bx, BlxRegis
 use Rattle.arm_core.specs.Registers.{RegisterState, register, next}
 use Rattle.arm_core.specs.Conditions.{holds}
 use Rattle.arm_core.specs.Shifter.{rotated_immediate}
-use Rattle.arm_core.specs.Effects.{Meaning, plain}
+use Rattle.arm_core.specs.Effects.{Meaning, without_access}
 use Rattle.arm_core.specs.DataProcessing.{data_meaning, compare_meaning, move_meaning}
 use Rattle.arm_core.specs.Multiplies.{multiply_meaning, long_multiply_meaning}
 use Rattle.arm_core.specs.StatusRegisters.{mrs_meaning, msr_meaning}
@@ -56,7 +56,7 @@ condition _ = Al
 
 -- an instruction that has no effect
 abbrev pub skipped : RegisterState → Meaning
-skipped s = plain (next s) Nothing
+skipped s = without_access (next s) Nothing
 
 -- what a branch or an exception does, and an instruction without effect; what ARMv5 adds stands apart
 abbrev pub act_branch : Arch → ℕ → RegisterState → Instr → Meaning
@@ -78,7 +78,8 @@ act_multiply arch base s (LongMultiply cond signed accumulate set_flags rd_lo rd
     long_multiply_meaning s signed accumulate set_flags rd_lo rd_hi rm rs
 act_multiply arch base s (Mrs cond spsr rd) = mrs_meaning s spsr rd
 act_multiply arch base s (Msr cond spsr fields rm) = msr_meaning arch s spsr fields (register s rm)
-act_multiply arch base s (MsrImmediate cond spsr fields rotation immed) = msr_meaning arch s spsr fields (rotated_immediate rotation immed false).value
+act_multiply arch base s (MsrImmediate cond spsr fields rotation immed) =
+    msr_meaning arch s spsr fields (rotated_immediate rotation immed false).value
 act_multiply arch base s instr = act_branch arch base s instr
 
 -- what data processing does too

@@ -5,15 +5,15 @@ use Rattle.ds_base.specs.declared.processors.Arch.{Arch}
 use Rattle.ds_base.specs.declared.processors.Arch.TheVariants.{V4, V5}
 use Rattle.arm_words.specs.declared.parts.FieldMask.{FieldMask}
 use Rattle.arm_core.specs.Registers.{RegisterState, bank, saved_place, next, put}
-use Rattle.arm_core.specs.Effects.{Meaning, plain}
+use Rattle.arm_core.specs.Effects.{Meaning, without_access}
 use Rattle.arm_core.specs.declared.classes.Class.TheVariants.{Processing}
 
 -- The status registers (ARM manual, A3.10 "Status register access instructions").
 
 -- the bits that a status register keeps: N, Z, C, V, on ARMv5 Q, and I, F, T and the mode (A2.5)
-abbrev pub kept_bits : Arch → ℕ
-kept_bits V4 = 0xF00000FF
-kept_bits V5 = 0xF80000FF
+abbrev pub kept_status_bits : Arch → ℕ
+kept_status_bits V4 = 0xF00000FF
+kept_status_bits V5 = 0xF80000FF
 
 abbrev pub field : ℕ → Bool → ℕ
 field bytes true = bytes
@@ -45,14 +45,14 @@ saved_value None s = 0
 saved_value (Some at) s = slice_index s.saved at
 
 -- MSR
-abbrev pub status_written : Arch → Bool → FieldMask → ℕ → RegisterState → RegisterState
-status_written arch true fields operand s =
-    with_saved (saved_place (bank s)) (bit_and (field_bits fields) (kept_bits arch)) operand s
-status_written arch false fields operand s =
-    record s { cpsr = replaced (bit_and (bit_and (field_bits fields) (kept_bits arch)) (writable s)) s.cpsr operand }
+abbrev pub status_register_written : Arch → Bool → FieldMask → ℕ → RegisterState → RegisterState
+status_register_written arch true fields operand s =
+    with_saved (saved_place (bank s)) (bit_and (field_bits fields) (kept_status_bits arch)) operand s
+status_register_written arch false fields operand s =
+    record s { cpsr = replaced (bit_and (bit_and (field_bits fields) (kept_status_bits arch)) (writable s)) s.cpsr operand }
 
 abbrev pub msr_meaning : Arch → RegisterState → Bool → FieldMask → ℕ → Meaning
-msr_meaning arch s spsr fields operand = plain (status_written arch spsr fields operand (next s)) Processing
+msr_meaning arch s spsr fields operand = without_access (status_register_written arch spsr fields operand (next s)) Processing
 
 -- MRS
 abbrev pub mrs_meaning : RegisterState → Bool → ℕ → Meaning

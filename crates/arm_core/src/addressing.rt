@@ -71,7 +71,8 @@ pub fn addressed(
     }
 }
 
-/// Where Thumb's load of a literal goes: `immed` words behind r15, whose bits 1 and 0 are cleared; nothing is written back (ARM manual, A7.1 "LDR (3)").
+/// Where Thumb's load of a literal goes: `immed` words behind r15, whose bits 1 and 0 are cleared; nothing is written back (ARM manual, A7.1 "LDR
+/// (3)").
 #[inline(always)]
 pub fn addressed_literal(s: &Registers, immed: u8) -> Addressed
     ensures { result ≡ addressed_literal s.now immed }

@@ -60,7 +60,8 @@ pub fn width_by(byte: bool) -> Width
 #[inline(always)]
 pub fn half_touch(arch: Arch, op: HalfOp, to: Addressed) -> Touch
     ensures over { (s : RegisterState) → (rn : ℕ) → (rd : ℕ) → GoesOver result (half_or_signed_meaning arch s op rn rd to).accesses }
-    ensures bytes { (s : RegisterState) → (rn : ℕ) → (rd : ℕ) → touched_bytes result ≡ accessed_bytes (half_or_signed_meaning arch s op rn rd to).accesses }
+    ensures bytes { (s : RegisterState) → (rn : ℕ) → (rd : ℕ) → touched_bytes result
+        ≡ accessed_bytes (half_or_signed_meaning arch s op rn rd to).accesses }
     ensures some { HasBytes result }
 {
     let width = match op {
@@ -104,7 +105,8 @@ fn double_touch(to: Addressed) -> Touch
 #[inline(always)]
 fn list_touch(arch: Arch, s: &Registers, pre: bool, up: bool, rn: u8, list: u16) -> Touch
     requires { rn < 16 }
-    ensures over { (user : Bool) → (write_back : Bool) → (load : Bool) → GoesOver result (multiple_meaning arch s.now pre up user write_back load rn list).accesses }
+    ensures over { (user : Bool) → (write_back : Bool) → (load : Bool)
+        → GoesOver result (multiple_meaning arch s.now pre up user write_back load rn list).accesses }
     ensures some { HasBytes result }
 {
     let at = lowest(pre, up, s.get(rn), list_bytes(list));
@@ -189,7 +191,8 @@ fn touched(arch: Arch, s: &Registers, instr: &Instr) -> Touch
 pub fn footprint(core: &Core, instr: &Instr) -> Touch
     requires fields { HasFields instr.now }
     ensures covers { (base : ℕ) → Covers result (meaning core.now.arch base core.now.registers instr.now).accesses }
-    ensures order { (base : ℕ) → (is_there : ℕ → Bool) → first_without is_there (touched_bytes result) ≡ first_without is_there (accessed_bytes (meaning core.now.arch base core.now.registers instr.now).accesses) }
+    ensures order { (base : ℕ) → (is_there : ℕ → Bool) → first_without is_there (touched_bytes result)
+        ≡ first_without is_there (accessed_bytes (meaning core.now.arch base core.now.registers instr.now).accesses) }
     ensures nothing { (base : ℕ) → TellsNothing result (meaning core.now.arch base core.now.registers instr.now).accesses }
 {
     touched(core.arch, &core.registers, instr)

@@ -1,5 +1,6 @@
 use Rattle.std.proofs.Common.{◌≡◌, ◌&&◌, Bool, true, false, if◌then◌else◌, Option, None, refl, ap, ◌∙◌}
 use Rattle.ds_base.specs.Accesses.{MemoryMachine}
+use Rattle.ds_base.proofs.Choices.{if_true}
 use Rattle.arm_words.specs.declared.instructions.Instr.{Instr}
 use Rattle.arm_core.specs.Conditions.{holds}
 use Rattle.arm_core.specs.Effects.{Meaning, carried_out}
@@ -7,9 +8,6 @@ use Rattle.arm_core.specs.Meanings.{act, condition, skipped}
 use Rattle.arm_core.specs.Registers.{RegisterState}
 use Rattle.arm_core.specs.Steps.{Setting, executed, executed_unless, swi_stop}
 use Rattle.arm_core.specs.Thumb.{equivalent}
-
-if_true : {A : Type 0} (b : Bool) (x y : A) → b ≡ true → (if b then x else y) ≡ x
-if_true b x y h = rw h refl
 
 unless : {A : Type 0} (in_rom effect : Bool) (stop : Option A) → effect ≡ true → (if in_rom then stop else None) ≡ None
     → (if in_rom && effect then stop else None) ≡ None

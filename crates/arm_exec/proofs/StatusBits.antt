@@ -6,7 +6,7 @@ use Rattle.ds_base.specs.Bits.{flag}
 use Rattle.ds_base.specs.declared.processors.Arch.{Arch}
 use Rattle.ds_base.specs.declared.processors.Arch.TheVariants.{V4, V5}
 use Rattle.arm_words.proofs.Masks.{masked, part}
-use Rattle.arm_core.specs.StatusRegisters.{kept_bits}
+use Rattle.arm_core.specs.StatusRegisters.{kept_status_bits}
 use Rattle.arm_exec.specs.Statuses.{IsStatus}
 
 -- What makes a number of a status register from others.
@@ -16,21 +16,21 @@ use Rattle.arm_exec.specs.Statuses.{IsStatus}
 -- the bits of one under any mask
 pub and_status : (arch : Arch) (x m : ℕ) → IsStatus arch x → IsStatus arch (bit_and x m)
 and_status arch x m h =
-    let k = kept_bits arch in
+    let k = kept_status_bits arch in
     and_assoc k x m ∙ ap (λ n. bit_and x n) (and_comm m k) ∙ sym (and_assoc m x k) ∙ ap (λ n. bit_and n m) h
 
 -- the bits of any number under one
 pub under_status : (arch : Arch) (x m : ℕ) → IsStatus arch m → IsStatus arch (bit_and x m)
-under_status arch x m h = and_assoc (kept_bits arch) x m ∙ ap (λ n. bit_and x n) h
+under_status arch x m h = and_assoc (kept_status_bits arch) x m ∙ ap (λ n. bit_and x n) h
 
 -- those of any number under what is kept
-pub kept_status : (arch : Arch) (x : ℕ) → IsStatus arch (bit_and x (kept_bits arch))
+pub kept_status : (arch : Arch) (x : ℕ) → IsStatus arch (bit_and x (kept_status_bits arch))
 kept_status V4 x = under_status V4 x 0xF00000FF refl
 kept_status V5 x = under_status V5 x 0xF80000FF refl
 
 -- the bits of two
 pub or_status : (arch : Arch) (x y : ℕ) → IsStatus arch x → IsStatus arch y → IsStatus arch (bit_or x y)
-or_status arch x y hx hy = let k = kept_bits arch in same_from_bits (bit_and (bit_or x y) k) (bit_or x y) (λ i.
+or_status arch x y hx hy = let k = kept_status_bits arch in same_from_bits (bit_and (bit_or x y) k) (bit_or x y) (λ i.
     let a = bit_at_and (bit_or x y) k i in
     let b = bit_at_or x y i in
     let cx : min (bit_at x i) (bit_at k i) ≡ bit_at x i = sym (bit_at_and x k i) ∙ ap (λ n. bit_at n i) hx in

@@ -1,7 +1,8 @@
 use Rattle.std.proofs.Common.{ℕ, ◌≡◌, ◌&&◌, ◌==◌, bit_and, Bool, true, false, if◌then◌else◌, List, [], ◌∷◌, Option, Some, None, refl}
 use Rattle.ds_base.specs.declared.processors.Arch.{Arch}
 use Rattle.ds_base.specs.declared.processors.Arch.TheVariants.{V4, V5}
-use Rattle.arm_words.specs.ArmTable.{decoded_arm, conditional_arm, top4, branch_rows, half_multiply_rows, half_product_rows, multiply_rows, half_transfer_rows, status_rows, immediate_status_rows, data_rows, double_rows, transfer_rows, multiple_rows, coprocessor_rows, unconditional_rows}
+use Rattle.ds_base.proofs.Choices.{both}
+use Rattle.arm_words.specs.ArmTable.{decoded_arm, conditional_arm, top4, branch_rows, half_multiply_rows, half_product_rows, multiply_rows, half_transfer_rows, status_register_rows, immediate_status_rows, data_rows, double_rows, transfer_rows, multiple_rows, coprocessor_rows, unconditional_rows}
 use Rattle.arm_words.specs.Rows.{InstructionRow, agrees, first, or_else}
 use Rattle.arm_words.specs.ThumbTable.{decoded_thumb, thumb_sum_rows, thumb_register_rows, thumb_literal_rows, thumb_offset_rows, thumb_stack_rows, thumb_multiple_rows, thumb_branch_rows}
 use Rattle.arm_words.specs.declared.instructions.Instr.{Instr}
@@ -14,7 +15,6 @@ use Rattle.arm_words.specs.declared.operations.ThumbImmediateOp.{ThumbImmediateO
 use Rattle.arm_words.specs.declared.operations.ThumbImmediateOp.TheVariants as immediate_ops
 use Rattle.arm_words.specs.declared.operations.ThumbTransferOp.{ThumbTransferOp}
 use Rattle.arm_words.specs.declared.operations.ThumbTransferOp.TheVariants as transfer_ops
-use Rattle.arm_words.proofs.Facts.{and_parts}
 use Rattle.arm_core.specs.Thumb.{address_instr, equivalent, high_instr, immediate_instr, offset_instr, register_instr, stack_instr}
 use Rattle.arm_exec.proofs.StatusMoves.{HasQ}
 
@@ -119,7 +119,7 @@ first_allows : (rs : List InstructionRow) → Rows rs → (w : ℕ) → AllowsSo
 first_allows [] h w = tt
 first_allows (r ∷ rs) h w =
     allows_if (agrees r V4 w) (r.instr w) (first rs V4 w)
-    (λ e. h.0 (and_parts (r.on V4) (r.only w && (bit_and w r.mask == r.value)) e).0 w) (first_allows rs h.1 w)
+    (λ e. h.0 (both (r.on V4) (r.only w && (bit_and w r.mask == r.value)) e).0 w) (first_allows rs h.1 w)
 
 either_allows : (a b : Option Instr) → AllowsSome V4 a → AllowsSome V4 b → AllowsSome V4 (or_else a b)
 either_allows None b p q = q
@@ -141,7 +141,7 @@ conditional_allows w =
     let o9 : Option Instr = or_else (first double_rows V4 w) o10 in
     let o8 : Option Instr = or_else (first data_rows V4 w) o9 in
     let o7 : Option Instr = or_else (first immediate_status_rows V4 w) o8 in
-    let o6 : Option Instr = or_else (first status_rows V4 w) o7 in
+    let o6 : Option Instr = or_else (first status_register_rows V4 w) o7 in
     let o5 : Option Instr = or_else (first half_transfer_rows V4 w) o6 in
     let o4 : Option Instr = or_else (first multiply_rows V4 w) o5 in
     let o3 : Option Instr = or_else (first half_product_rows V4 w) o4 in
@@ -152,7 +152,7 @@ conditional_allows w =
     let a9 : AllowsSome V4 o9 = behind double_rows ((λ e v. tt), tt) w o10 a10 in
     let a8 : AllowsSome V4 o8 = behind data_rows ((λ e v. tt), ((λ e v. tt), ((λ e v. tt), tt))) w o9 a9 in
     let a7 : AllowsSome V4 o7 = behind immediate_status_rows ((λ e v. tt), tt) w o8 a8 in
-    let a6 : AllowsSome V4 o6 = behind status_rows ((λ e v. tt), ((λ e v. tt), tt)) w o7 a7 in
+    let a6 : AllowsSome V4 o6 = behind status_register_rows ((λ e v. tt), ((λ e v. tt), tt)) w o7 a7 in
     let a5 : AllowsSome V4 o5 = behind half_transfer_rows ((λ e v. tt), ((λ e v. tt), tt)) w o6 a6 in
     let a4 : AllowsSome V4 o4 = behind multiply_rows ((λ e v. tt), ((λ e v. tt), ((λ e v. tt), tt))) w o5 a5 in
     let a3 : AllowsSome V4 o3 = behind half_product_rows ((λ e v. tt), ((λ e v. tt), tt)) w o4 a4 in

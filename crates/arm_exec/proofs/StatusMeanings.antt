@@ -1,4 +1,4 @@
-use Rattle.std.proofs.Common.{ℕ, ◌+◌, ◌-◌, ◌*◌, ◌/◌, ◌%◌, ◌^◌, ◌==◌, ◌&&◌, not, Bool, true, false, if◌then◌else◌, List, slice_index}
+use Rattle.std.proofs.Common.{ℕ, ◌+◌, ◌-◌, ◌*◌, ◌%◌, ◌^◌, ◌==◌, ◌&&◌, not, Bool, true, false, if◌then◌else◌, List, slice_index}
 use Rattle.std.specs.Int.{leading_zeros, w32}
 use Rattle.ds_base.specs.Bits.{bit, flag}
 use Rattle.ds_base.specs.declared.memories.Width.{Width}
@@ -23,20 +23,20 @@ use Rattle.arm_core.specs.Addressing.{addressed, list_bytes, listed_registers, m
 use Rattle.arm_core.specs.Branches.{address_meaning, branch_meaning, distance, exchange_meaning, prefix_meaning, suffix_meaning, with_thumb}
 use Rattle.arm_core.specs.Conditions.{c_flag, v_flag}
 use Rattle.arm_core.specs.DataProcessing.{compare_meaning, compare_result, data_meaning, data_result, move_meaning, move_result, sum_of}
-use Rattle.arm_core.specs.Doubles.{double_at, double_meaning, load_double_meaning, store_double_meaning}
+use Rattle.arm_core.specs.Doubles.{double_at, double_meaning}
 use Rattle.arm_core.specs.Effects.{Meaning}
 use Rattle.arm_core.specs.Enhanced.{clz_meaning, coprocessor_meaning}
 use Rattle.arm_core.specs.Exceptions.{breakpoint_meaning, entered, interrupt_meaning, software_meaning, undefined_meaning}
-use Rattle.arm_core.specs.HalfMultiplies.{accumulated_meaning, half_long_meaning, half_of, product_meaning}
+use Rattle.arm_core.specs.HalfMultiplies.{accumulated_meaning, half_long_meaning, chosen_half, product_meaning}
 use Rattle.arm_core.specs.Links.{link_exchange_meaning, link_suffix_meaning, link_target_meaning, linked}
 use Rattle.arm_core.specs.Meanings.{skipped}
-use Rattle.arm_core.specs.Multiples.{keeps_base, last_of, load_multiple_meaning, loaded, loaded_r15, multiple_meaning, reached_bank, reaches_user, store_multiple_meaning, transferred}
+use Rattle.arm_core.specs.Multiples.{keeps_base, last_of, load_multiple_meaning, loaded, loaded_r15, multiple_meaning, reached_bank, reaches_user, transferred}
 use Rattle.arm_core.specs.Multiplies.{long_multiply_meaning, long_product, multiply_meaning, with_sign}
 use Rattle.arm_core.specs.Registers.{RegisterState, bank, next, put, register, saved_place}
 use Rattle.arm_core.specs.Saturating.{saturating_meaning, saturating_result, with_lost}
 use Rattle.arm_core.specs.Shifter.{first_operand, shifter_operand}
 use Rattle.arm_core.specs.StatusRegisters.{mrs_meaning, msr_meaning, saved_value}
-use Rattle.arm_core.specs.Swaps.{swap_by, swap_meaning}
+use Rattle.arm_core.specs.Swaps.{swap_meaning}
 use Rattle.arm_core.specs.Transfers.{half_or_signed_meaning, half_transfer_meaning, literal_meaning, load_meaning, load_word_meaning, rotated_half, rotated_word, signed_byte, signed_half, signed_half_meaning, store_meaning, transfer_meaning, word_or_byte_meaning}
 use Rattle.arm_exec.specs.Statuses.{HasStatuses}
 use Rattle.arm_exec.proofs.StatusMoves.{HasQ, base_has, entered_has, exchanged_has, finished_has, flags_has, jumped_has, linked_has, loaded_has, long_has, lost_has, next_has, one_of, put_has, r15_has, sign_has, thumb_has, word_has, written_has}
@@ -97,7 +97,7 @@ module _ (arch : Arch) (s : RegisterState) (h : HasStatuses arch s) where
   pub half_long_keeps : (x y : Bool) (rd_lo rd_hi rm rs : ℕ) → Keeps (half_long_meaning s x y rd_lo rd_hi rm rs)
   half_long_keeps x y rd_lo rd_hi rm rs values =
       let added : ℕ = register s rd_lo + 2 ^ 32 * register s rd_hi in
-      long_has arch rd_lo rd_hi (long_product true (half_of x (register s rm)) (half_of y (register s rs)) added) (next s) n
+      long_has arch rd_lo rd_hi (long_product true (chosen_half x (register s rm)) (chosen_half y (register s rs)) added) (next s) n
 
   pub accumulated_keeps : HasQ arch → (rd product added : ℕ) → Keeps (accumulated_meaning s rd product added)
   accumulated_keeps q rd product added values =

@@ -13,14 +13,14 @@ use Rattle.arm_core.specs.declared.exceptions.Exception.TheVariants.{UndefinedIn
 use Rattle.arm_core.specs.declared.results.Computed.{Computed}
 use Rattle.arm_core.specs.Addressing.{with_base}
 use Rattle.arm_core.specs.Branches.{exchanged, with_thumb}
-use Rattle.arm_core.specs.DataProcessing.{finished, restored, restored_from, with_flags}
-use Rattle.arm_core.specs.Exceptions.{entered, entered_status, entry_bank, entry_mode, kept_status}
+use Rattle.arm_core.specs.DataProcessing.{result_put, restored, restored_from, with_flags}
+use Rattle.arm_core.specs.Exceptions.{entered, entry_bank, entry_mode, kept_status}
 use Rattle.arm_core.specs.Links.{linked}
 use Rattle.arm_core.specs.Multiples.{loaded, loaded_r15}
 use Rattle.arm_core.specs.Multiplies.{with_long, with_sign}
 use Rattle.arm_core.specs.Registers.{RegisterState, bank, is_thumb, jumped, next, place, put, put_in, saved_place}
 use Rattle.arm_core.specs.Saturating.{with_lost}
-use Rattle.arm_core.specs.StatusRegisters.{field_bits, kept_bits, replaced, status_written, with_saved, writable}
+use Rattle.arm_core.specs.StatusRegisters.{field_bits, kept_status_bits, replaced, status_register_written, with_saved, writable}
 use Rattle.arm_core.specs.Transfers.{put_word}
 use Rattle.arm_exec.specs.Statuses.{IsStatus, HasStatuses}
 use Rattle.arm_exec.proofs.StatusBits.{and_status, under_status, kept_status as kept_of, or_status, no_status, thumb_status, four_flags, two_flags, entered_of}
@@ -118,7 +118,7 @@ module _ (arch : Arch) where
   pub restored_has : (s : RegisterState) → K s → K (restored s)
   restored_has s h = restored_at (saved_place (bank s)) s h
 
-  pub finished_has : (set : Bool) (rd : ℕ) (r : Computed) (s : RegisterState) → K s → K (finished set rd r s)
+  pub finished_has : (set : Bool) (rd : ℕ) (r : Computed) (s : RegisterState) → K s → K (result_put set rd r s)
   finished_has false rd r s h = put_has rd r.value s h
   finished_has true rd r s h =
       put_has rd r.value (if rd == 15 then restored s else with_flags r s)
@@ -143,11 +143,11 @@ module _ (arch : Arch) where
       let value : ℕ = replaced mask (slice_index s.saved at) operand in
       record { cpsr = h.cpsr; saved = All-set (IsStatus arch) s.saved at value (replaced_is mask (slice_index s.saved at) operand m (saved_is s.saved at h.saved)) h.saved }
 
-  pub written_has : (spsr : Bool) (fields : FieldMask) (operand : ℕ) (s : RegisterState) → K s → K (status_written arch spsr fields operand s)
+  pub written_has : (spsr : Bool) (fields : FieldMask) (operand : ℕ) (s : RegisterState) → K s → K (status_register_written arch spsr fields operand s)
   written_has true fields operand s h =
-      saved_has (saved_place (bank s)) (bit_and (field_bits fields) (kept_bits arch)) operand s (kept_of arch (field_bits fields)) h
+      saved_has (saved_place (bank s)) (bit_and (field_bits fields) (kept_status_bits arch)) operand s (kept_of arch (field_bits fields)) h
   written_has false fields operand s h =
-      let kept : ℕ = bit_and (field_bits fields) (kept_bits arch) in
+      let kept : ℕ = bit_and (field_bits fields) (kept_status_bits arch) in
       record { cpsr = replaced_is (bit_and kept (writable s)) s.cpsr operand (and_status arch kept (writable s) (kept_of arch (field_bits fields))) h.cpsr; saved = h.saved }
 
   -- ---- an exception's entry

@@ -1,4 +1,4 @@
-use Rattle.std.proofs.Common.{ℕ, ◌/◌, ◌%◌, ◌^◌, Bool, true, false, if◌then◌else◌, List, Option, Some, None}
+use Rattle.std.proofs.Common.{ℕ, ◌%◌, ◌^◌, Bool, true, false, if◌then◌else◌, Option, Some, None}
 use Rattle.ds_base.specs.Accesses.{MemoryMachine, Performed, perform}
 use Rattle.ds_base.specs.declared.left_out.Stop.{Stop}
 use Rattle.ds_base.specs.declared.memories.Width.TheVariants.{Half, Word}

@@ -1,10 +1,7 @@
-use Rattle.std.proofs.Common.{ℕ, ◌≡◌, Bool, true, false, not, Some, refl}
-use Rattle.ds_base.specs.declared.processors.Arch.{Arch}
-use Rattle.arm_words.specs.declared.instructions.Instr.{Instr}
+use Rattle.std.proofs.Common.{◌≡◌, true, false, refl}
+use Rattle.ds_base.proofs.Choices.{not_true}
 use Rattle.arm_words.specs.declared.instructions.Instr.TheVariants.{Coprocessor}
-use Rattle.arm_words.proofs.Facts.{not_true}
-use Rattle.arm_core.specs.Registers.{RegisterState}
-use Rattle.arm_core.specs.Undefined.{has_coprocessor, is_undefined}
+use Rattle.arm_core.specs.Undefined.{has_coprocessor}
 use Rattle.arm_exec.specs.Undefined.{EntersUndefined}
 
 not_there : {A : Type 0} → false ≡ true → A

@@ -1,4 +1,4 @@
-use Rattle.std.specs.Prelude.{ℕ, ◌≡◌, true, false, if◌then◌else◌, Some}
+use Rattle.std.specs.Prelude.{ℕ, ◌≡◌, true, if◌then◌else◌, Some}
 use Rattle.ds_base.specs.declared.processors.Arch.{Arch}
 use Rattle.arm_words.specs.declared.instructions.Instr.{Instr}
 use Rattle.arm_core.specs.Conditions.{holds}

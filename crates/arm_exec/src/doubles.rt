@@ -138,9 +138,12 @@ pub fn double<B: Bus>(
     requires rd { rd < 16 }
     requires even { rd % 2 ≡ 0 }
     requires offset { HasShortOffset offset }
-    ensures registers { s.new ≡ (carried_out B.memory arch s.old (B.state bus.old) (double_meaning s.old store pre up write_back rn rd offset)).registers }
-    ensures state { B.state bus.new ≡ (carried_out B.memory arch s.old (B.state bus.old) (double_meaning s.old store pre up write_back rn rd offset)).state }
-    ensures stepped { result ≡ (carried_out B.memory arch s.old (B.state bus.old) (double_meaning s.old store pre up write_back rn rd offset)).stepped }
+    ensures registers { s.new
+        ≡ (carried_out B.memory arch s.old (B.state bus.old) (double_meaning s.old store pre up write_back rn rd offset)).registers }
+    ensures state { B.state bus.new
+        ≡ (carried_out B.memory arch s.old (B.state bus.old) (double_meaning s.old store pre up write_back rn rd offset)).state }
+    ensures stepped { result
+        ≡ (carried_out B.memory arch s.old (B.state bus.old) (double_meaning s.old store pre up write_back rn rd offset)).stepped }
     ensures same { B.identity bus.new ≡ B.identity bus.old }
 {
     let to = addressed(s, pre, up, write_back, rn, short_offset_value(s, offset));

@@ -63,7 +63,8 @@ pub fn has_coprocessor(arch: Arch, cp: u8) -> bool
     }
 }
 
-/// What the core does of a move to or from a coprocessor, whose own part stands with it; one that isn't there makes it undefined. The result is its cost.
+/// What the core does of a move to or from a coprocessor, whose own part stands with it; one that isn't there makes it undefined. The result is its
+/// cost.
 #[inline(always)]
 fn coprocessor(arch: Arch, base: u32, s: &mut Registers, cp: u8) -> u32
     ensures registers { s.new ≡ (coprocessor_meaning (has_coprocessor arch cp) base s.old).after [] }

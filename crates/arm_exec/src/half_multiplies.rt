@@ -2,7 +2,7 @@
 
 ghost use Rattle.std.specs.Prelude.{◌≡◌, ◌<◌, []};
 ghost use Rattle.arm_core.specs.Effects.{cost_of};
-ghost use Rattle.arm_core.specs.HalfMultiplies.{accumulated_meaning, half_long_meaning, half_of, half_product, product_meaning, wide_product};
+ghost use Rattle.arm_core.specs.HalfMultiplies.{accumulated_meaning, half_long_meaning, chosen_half, half_product, product_meaning, wide_product};
 
 use crate::multiplies::{accumulated, long_product, set_long};
 use crate::saturating::set_lost;
@@ -13,7 +13,7 @@ use ds_base::Arch;
 /// The top or the bottom half of a word, as a signed word.
 #[inline(always)]
 fn half_of(top: bool, word: u32) -> u32
-    ensures { result ≡ half_of top word }
+    ensures { result ≡ chosen_half top word }
 {
     signed_half(if top { word >> 16 } else { word })
 }

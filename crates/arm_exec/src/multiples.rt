@@ -17,7 +17,8 @@ use ds_base::{Arch, Stop, Width};
 /// Loads the registers of a list from an address up. r15 isn't written; its value, or that of the last register, is the answer.
 #[inline(always)]
 fn load_list<B: Bus>(s: &mut Registers, bus: &mut B, bank: Bank, from: u32, list: u16) -> u32
-    ensures registers { s.new ≡ loaded bank (listed_registers list) (perform B.memory (B.state bus.old) (reads from (listed_registers list))).values s.old }
+    ensures registers { s.new
+        ≡ loaded bank (listed_registers list) (perform B.memory (B.state bus.old) (reads from (listed_registers list))).values s.old }
     ensures state { B.state bus.new ≡ (perform B.memory (B.state bus.old) (reads from (listed_registers list))).state }
     ensures last { result ≡ last_of (perform B.memory (B.state bus.old) (reads from (listed_registers list))).values }
     ensures same { B.identity bus.new ≡ B.identity bus.old }
@@ -88,7 +89,9 @@ fn load_from<B: Bus>(
     from: u32,
     list: u16,
 ) -> u32
-    ensures registers { s.new ≡ loaded (reached_bank s.old (reaches_user user list)) (listed_registers list) (perform B.memory (B.state bus.old) (reads from (listed_registers list))).values (next s.old) }
+    ensures registers { s.new
+        ≡ loaded (reached_bank s.old (reaches_user user list)) (listed_registers list)
+        (perform B.memory (B.state bus.old) (reads from (listed_registers list))).values (next s.old) }
     ensures state { B.state bus.new ≡ (perform B.memory (B.state bus.old) (reads from (listed_registers list))).state }
     ensures last { result ≡ last_of (perform B.memory (B.state bus.old) (reads from (listed_registers list))).values }
     ensures same { B.identity bus.new ≡ B.identity bus.old }
@@ -114,9 +117,12 @@ pub fn load_multiple<B: Bus>(
     list: u16,
 ) -> Stepped
     requires { rn < 16 }
-    ensures registers { s.new ≡ (carried_out B.memory arch s.old (B.state bus.old) (load_multiple_meaning arch s.old pre up user writes_back rn list)).registers }
-    ensures state { B.state bus.new ≡ (carried_out B.memory arch s.old (B.state bus.old) (load_multiple_meaning arch s.old pre up user writes_back rn list)).state }
-    ensures stepped { result ≡ (carried_out B.memory arch s.old (B.state bus.old) (load_multiple_meaning arch s.old pre up user writes_back rn list)).stepped }
+    ensures registers { s.new
+        ≡ (carried_out B.memory arch s.old (B.state bus.old) (load_multiple_meaning arch s.old pre up user writes_back rn list)).registers }
+    ensures state { B.state bus.new
+        ≡ (carried_out B.memory arch s.old (B.state bus.old) (load_multiple_meaning arch s.old pre up user writes_back rn list)).state }
+    ensures stepped { result
+        ≡ (carried_out B.memory arch s.old (B.state bus.old) (load_multiple_meaning arch s.old pre up user writes_back rn list)).stepped }
     ensures same { B.identity bus.new ≡ B.identity bus.old }
 {
     let base = s.get(rn);
@@ -162,8 +168,10 @@ fn store_list<B: Bus>(
 ) -> Option<Stop>
     requires rn { rn < 16 }
     requires base { IsTrue written → rn < 15 }
-    ensures stop { result ≡ (perform B.memory (B.state bus.old) (writes from (map (stored_value s.now bank rn written new_base) (listed_registers list)))).stop }
-    ensures state { B.state bus.new ≡ (perform B.memory (B.state bus.old) (writes from (map (stored_value s.now bank rn written new_base) (listed_registers list)))).state }
+    ensures stop { result
+        ≡ (perform B.memory (B.state bus.old) (writes from (map (stored_value s.now bank rn written new_base) (listed_registers list)))).stop }
+    ensures state { B.state bus.new
+        ≡ (perform B.memory (B.state bus.old) (writes from (map (stored_value s.now bank rn written new_base) (listed_registers list)))).state }
     ensures same { B.identity bus.new ≡ B.identity bus.old }
 {
     let mut at = from;
@@ -193,9 +201,12 @@ pub fn store_multiple<B: Bus>(
     list: u16,
 ) -> Stepped
     requires { rn < 16 }
-    ensures registers { s.new ≡ (carried_out B.memory arch s.old (B.state bus.old) (store_multiple_meaning arch s.old pre up user writes_back rn list)).registers }
-    ensures state { B.state bus.new ≡ (carried_out B.memory arch s.old (B.state bus.old) (store_multiple_meaning arch s.old pre up user writes_back rn list)).state }
-    ensures stepped { result ≡ (carried_out B.memory arch s.old (B.state bus.old) (store_multiple_meaning arch s.old pre up user writes_back rn list)).stepped }
+    ensures registers { s.new
+        ≡ (carried_out B.memory arch s.old (B.state bus.old) (store_multiple_meaning arch s.old pre up user writes_back rn list)).registers }
+    ensures state { B.state bus.new
+        ≡ (carried_out B.memory arch s.old (B.state bus.old) (store_multiple_meaning arch s.old pre up user writes_back rn list)).state }
+    ensures stepped { result
+        ≡ (carried_out B.memory arch s.old (B.state bus.old) (store_multiple_meaning arch s.old pre up user writes_back rn list)).stepped }
     ensures same { B.identity bus.new ≡ B.identity bus.old }
 {
     let base = s.get(rn);
@@ -239,9 +250,12 @@ pub fn multiple<B: Bus>(
     list: u16,
 ) -> Stepped
     requires { rn < 16 }
-    ensures registers { s.new ≡ (carried_out B.memory arch s.old (B.state bus.old) (multiple_meaning arch s.old pre up user writes_back load rn list)).registers }
-    ensures state { B.state bus.new ≡ (carried_out B.memory arch s.old (B.state bus.old) (multiple_meaning arch s.old pre up user writes_back load rn list)).state }
-    ensures stepped { result ≡ (carried_out B.memory arch s.old (B.state bus.old) (multiple_meaning arch s.old pre up user writes_back load rn list)).stepped }
+    ensures registers { s.new
+        ≡ (carried_out B.memory arch s.old (B.state bus.old) (multiple_meaning arch s.old pre up user writes_back load rn list)).registers }
+    ensures state { B.state bus.new
+        ≡ (carried_out B.memory arch s.old (B.state bus.old) (multiple_meaning arch s.old pre up user writes_back load rn list)).state }
+    ensures stepped { result
+        ≡ (carried_out B.memory arch s.old (B.state bus.old) (multiple_meaning arch s.old pre up user writes_back load rn list)).stepped }
     ensures same { B.identity bus.new ≡ B.identity bus.old }
 {
     if load {

@@ -6,7 +6,7 @@ ghost use Rattle.arm_core.specs.Costs.{HasClocks};
 ghost use Rattle.arm_core.specs.Effects.{cost_of};
 ghost use Rattle.arm_core.specs.Conditions.{c_flag, v_flag};
 ghost use Rattle.arm_core.specs.DataProcessing as processing;
-ghost use Rattle.arm_core.specs.DataProcessing.{compare_meaning, data_meaning, finished, move_meaning, operand_class, with_flags};
+ghost use Rattle.arm_core.specs.DataProcessing.{compare_meaning, data_meaning, result_put, move_meaning, operand_class, with_flags};
 ghost use Rattle.arm_core.specs.Registers.{next};
 
 use arm_core::{
@@ -32,7 +32,7 @@ fn operand_class(operand: Operand) -> Class
 #[inline(always)]
 fn finish_with_flags(s: &mut Registers, rd: u8, r: Computed)
     requires { rd < 16 }
-    ensures { s.new ≡ finished true rd r s.old }
+    ensures { s.new ≡ result_put true rd r s.old }
 {
     if rd == 15 {
         s.restore();
@@ -76,7 +76,7 @@ fn compute_data(
     second: Shifted32,
 )
     requires { rd < 16 }
-    ensures { s.new ≡ finished set_flags rd (processing.data_result op first second (c_flag s.old.cpsr) (v_flag s.old.cpsr)) (next s.old) }
+    ensures { s.new ≡ result_put set_flags rd (processing.data_result op first second (c_flag s.old.cpsr) (v_flag s.old.cpsr)) (next s.old) }
 {
     if set_flags {
         let r = data_of(s, op, first, second);
@@ -104,7 +104,7 @@ fn compute_compare(s: &mut Registers, op: CompareOp, first: u32, second: Shifted
 #[inline(always)]
 fn compute_move(s: &mut Registers, op: MoveOp, set_flags: bool, rd: u8, second: Shifted32)
     requires { rd < 16 }
-    ensures { s.new ≡ finished set_flags rd (processing.move_result op second (v_flag s.old.cpsr)) (next s.old) }
+    ensures { s.new ≡ result_put set_flags rd (processing.move_result op second (v_flag s.old.cpsr)) (next s.old) }
 {
     if set_flags {
         let r = move_of(s, op, second);

@@ -88,8 +88,10 @@ pub fn execute<B: Bus>(
     instr: &Instr,
 ) -> Stepped
     requires { HasFields instr.now }
-    ensures registers { s.new ≡ (executed B.memory (record { arch = arch; base = base; in_rom = in_rom }) s.old (B.state bus.old) instr.now).registers }
-    ensures state { B.state bus.new ≡ (executed B.memory (record { arch = arch; base = base; in_rom = in_rom }) s.old (B.state bus.old) instr.now).state }
+    ensures registers { s.new
+        ≡ (executed B.memory (record { arch = arch; base = base; in_rom = in_rom }) s.old (B.state bus.old) instr.now).registers }
+    ensures state { B.state bus.new
+        ≡ (executed B.memory (record { arch = arch; base = base; in_rom = in_rom }) s.old (B.state bus.old) instr.now).state }
     ensures stepped { result ≡ (executed B.memory (record { arch = arch; base = base; in_rom = in_rom }) s.old (B.state bus.old) instr.now).stepped }
     ensures same { B.identity bus.new ≡ B.identity bus.old }
 {
@@ -128,9 +130,12 @@ pub fn execute_word<B: Bus>(
 ) -> Stepped
     requires number { number < 16 }
     requires fields { IfSome instr HasFields }
-    ensures registers { s.new ≡ (executed_word B.memory (record { arch = arch; base = base; in_rom = in_rom }) s.old (B.state bus.old) number instr).registers }
-    ensures state { B.state bus.new ≡ (executed_word B.memory (record { arch = arch; base = base; in_rom = in_rom }) s.old (B.state bus.old) number instr).state }
-    ensures stepped { result ≡ (executed_word B.memory (record { arch = arch; base = base; in_rom = in_rom }) s.old (B.state bus.old) number instr).stepped }
+    ensures registers { s.new
+        ≡ (executed_word B.memory (record { arch = arch; base = base; in_rom = in_rom }) s.old (B.state bus.old) number instr).registers }
+    ensures state { B.state bus.new
+        ≡ (executed_word B.memory (record { arch = arch; base = base; in_rom = in_rom }) s.old (B.state bus.old) number instr).state }
+    ensures stepped { result
+        ≡ (executed_word B.memory (record { arch = arch; base = base; in_rom = in_rom }) s.old (B.state bus.old) number instr).stepped }
     ensures same { B.identity bus.new ≡ B.identity bus.old }
 {
     match instr {

@@ -156,9 +156,12 @@ fn load_byte<B: Bus>(
 ) -> Stepped
     requires rn { rn < 16 }
     requires rd { rd < 16 }
-    ensures registers { s.new ≡ (carried_out B.memory arch s.old (B.state bus.old) (load_meaning s.old rn rd to Byte (λ value. value % 2 ^ 8))).registers }
-    ensures state { B.state bus.new ≡ (carried_out B.memory arch s.old (B.state bus.old) (load_meaning s.old rn rd to Byte (λ value. value % 2 ^ 8))).state }
-    ensures stepped { result ≡ (carried_out B.memory arch s.old (B.state bus.old) (load_meaning s.old rn rd to Byte (λ value. value % 2 ^ 8))).stepped }
+    ensures registers { s.new
+        ≡ (carried_out B.memory arch s.old (B.state bus.old) (load_meaning s.old rn rd to Byte (λ value. value % 2 ^ 8))).registers }
+    ensures state { B.state bus.new
+        ≡ (carried_out B.memory arch s.old (B.state bus.old) (load_meaning s.old rn rd to Byte (λ value. value % 2 ^ 8))).state }
+    ensures stepped { result
+        ≡ (carried_out B.memory arch s.old (B.state bus.old) (load_meaning s.old rn rd to Byte (λ value. value % 2 ^ 8))).stepped }
     ensures same { B.identity bus.new ≡ B.identity bus.old }
 {
     let value = bus.read(to.address, Width::Byte);
@@ -198,9 +201,12 @@ fn load_half<B: Bus>(
 ) -> Stepped
     requires rn { rn < 16 }
     requires rd { rd < 16 }
-    ensures registers { s.new ≡ (carried_out B.memory arch s.old (B.state bus.old) (load_meaning s.old rn rd to Half (rotated_half arch to.address))).registers }
-    ensures state { B.state bus.new ≡ (carried_out B.memory arch s.old (B.state bus.old) (load_meaning s.old rn rd to Half (rotated_half arch to.address))).state }
-    ensures stepped { result ≡ (carried_out B.memory arch s.old (B.state bus.old) (load_meaning s.old rn rd to Half (rotated_half arch to.address))).stepped }
+    ensures registers { s.new
+        ≡ (carried_out B.memory arch s.old (B.state bus.old) (load_meaning s.old rn rd to Half (rotated_half arch to.address))).registers }
+    ensures state { B.state bus.new
+        ≡ (carried_out B.memory arch s.old (B.state bus.old) (load_meaning s.old rn rd to Half (rotated_half arch to.address))).state }
+    ensures stepped { result
+        ≡ (carried_out B.memory arch s.old (B.state bus.old) (load_meaning s.old rn rd to Half (rotated_half arch to.address))).stepped }
     ensures same { B.identity bus.new ≡ B.identity bus.old }
 {
     let value = bus.read(to.address, Width::Half);
@@ -260,7 +266,8 @@ fn store<B: Bus>(
 /// Who executes a transfer as it is decoded.
 enum AsDecoded {}
 
-/// LDR, LDRB, STR and STRB at an address. The last type says who calls: each caller has a copy of its own, which can stand in line in its loop over steps.
+/// LDR, LDRB, STR and STRB at an address. The last type says who calls: each caller has a copy of its own, which can stand in line in its loop over
+/// steps.
 #[inline(always)]
 pub fn transfer_at<B: Bus, Caller>(
     arch: Arch,
@@ -305,9 +312,12 @@ pub fn transfer<B: Bus>(
     requires rn { rn < 16 }
     requires rd { rd < 16 }
     requires offset { HasOffset offset }
-    ensures registers { s.new ≡ (carried_out B.memory arch s.old (B.state bus.old) (transfer_meaning arch s.old pre up byte write_back load rn rd offset)).registers }
-    ensures state { B.state bus.new ≡ (carried_out B.memory arch s.old (B.state bus.old) (transfer_meaning arch s.old pre up byte write_back load rn rd offset)).state }
-    ensures stepped { result ≡ (carried_out B.memory arch s.old (B.state bus.old) (transfer_meaning arch s.old pre up byte write_back load rn rd offset)).stepped }
+    ensures registers { s.new
+        ≡ (carried_out B.memory arch s.old (B.state bus.old) (transfer_meaning arch s.old pre up byte write_back load rn rd offset)).registers }
+    ensures state { B.state bus.new
+        ≡ (carried_out B.memory arch s.old (B.state bus.old) (transfer_meaning arch s.old pre up byte write_back load rn rd offset)).state }
+    ensures stepped { result
+        ≡ (carried_out B.memory arch s.old (B.state bus.old) (transfer_meaning arch s.old pre up byte write_back load rn rd offset)).stepped }
     ensures same { B.identity bus.new ≡ B.identity bus.old }
 {
     let to = addressed(s, pre, up, write_back, rn, offset_value(s, offset));
@@ -386,9 +396,12 @@ pub fn half_transfer<B: Bus>(
     requires rn { rn < 16 }
     requires rd { rd < 16 }
     requires offset { HasShortOffset offset }
-    ensures registers { s.new ≡ (carried_out B.memory arch s.old (B.state bus.old) (half_transfer_meaning arch s.old op pre up write_back rn rd offset)).registers }
-    ensures state { B.state bus.new ≡ (carried_out B.memory arch s.old (B.state bus.old) (half_transfer_meaning arch s.old op pre up write_back rn rd offset)).state }
-    ensures stepped { result ≡ (carried_out B.memory arch s.old (B.state bus.old) (half_transfer_meaning arch s.old op pre up write_back rn rd offset)).stepped }
+    ensures registers { s.new
+        ≡ (carried_out B.memory arch s.old (B.state bus.old) (half_transfer_meaning arch s.old op pre up write_back rn rd offset)).registers }
+    ensures state { B.state bus.new
+        ≡ (carried_out B.memory arch s.old (B.state bus.old) (half_transfer_meaning arch s.old op pre up write_back rn rd offset)).state }
+    ensures stepped { result
+        ≡ (carried_out B.memory arch s.old (B.state bus.old) (half_transfer_meaning arch s.old op pre up write_back rn rd offset)).stepped }
     ensures same { B.identity bus.new ≡ B.identity bus.old }
 {
     let to = addressed(s, pre, up, write_back, rn, short_offset_value(s, offset));

@@ -15,7 +15,7 @@ use Rattle.arm_core.specs.Addressing.{addressed, addressed_literal}
 use Rattle.arm_core.specs.Branches.{branch_meaning}
 use Rattle.arm_core.specs.Conditions.{c_flag, holds, v_flag}
 use Rattle.arm_core.specs.Multiplies.{multiply_meaning}
-use Rattle.arm_core.specs.DataProcessing.{compare_result, data_meaning, data_result, finished, move_result, with_flags}
+use Rattle.arm_core.specs.DataProcessing.{compare_result, data_meaning, data_result, result_put, move_result, with_flags}
 use Rattle.arm_core.specs.Effects.{Meaning}
 use Rattle.arm_core.specs.Meanings.{act_processing, skipped}
 use Rattle.arm_core.specs.Registers.{RegisterState, next, register}
@@ -55,7 +55,7 @@ kept s value = number_operand s (record { keeps_carry = true; value = value })
 abbrev pub data_by : RegisterState → DataOp → Bool → ℕ → ℕ → Shifted32 → Meaning
 data_by s op set_flags rd rn operand =
     let result = data_result op (register s rn) operand (c_flag s.cpsr) (v_flag s.cpsr) in
-    record { accesses = []; after = λ values. finished set_flags rd result (next s); class = Processing; jumps = rd == 15 }
+    record { accesses = []; after = λ values. result_put set_flags rd result (next s); class = Processing; jumps = rd == 15 }
 
 abbrev pub compare_by : RegisterState → CompareOp → ℕ → Shifted32 → Meaning
 compare_by s op rn operand =
@@ -65,7 +65,7 @@ compare_by s op rn operand =
 abbrev pub move_by : RegisterState → Bool → ℕ → Shifted32 → Meaning
 move_by s set_flags rd operand =
     let result = move_result Mov operand (v_flag s.cpsr) in
-    record { accesses = []; after = λ values. finished set_flags rd result (next s); class = Processing; jumps = rd == 15 }
+    record { accesses = []; after = λ values. result_put set_flags rd result (next s); class = Processing; jumps = rd == 15 }
 
 -- of a register that an amount shifts
 abbrev pub shifted_by : RegisterState → ℕ → Shift → ℕ → Shifted32
@@ -91,12 +91,12 @@ access_of s (Literal rd immed) = Some (literal_access s rd immed)
 access_of s _ = None
 
 -- what such an access means
-abbrev pub transferred : Arch → RegisterState → TransferOp → ℕ → ℕ → Addressed → Meaning
-transferred arch s (WordOrByte load byte) rn rd to = word_or_byte_meaning arch s load byte rn rd to
-transferred arch s (HalfOrSigned op) rn rd to = half_or_signed_meaning arch s op rn rd to
+abbrev pub single_transfer_meaning : Arch → RegisterState → TransferOp → ℕ → ℕ → Addressed → Meaning
+single_transfer_meaning arch s (WordOrByte load byte) rn rd to = word_or_byte_meaning arch s load byte rn rd to
+single_transfer_meaning arch s (HalfOrSigned op) rn rd to = half_or_signed_meaning arch s op rn rd to
 
 abbrev pub access_meaning : Arch → RegisterState → DataAccess → Meaning
-access_meaning arch s it = transferred arch s it.op it.rn it.rd it.to
+access_meaning arch s it = single_transfer_meaning arch s it.op it.rn it.rd it.to
 
 -- what an operation means that makes none; an instruction as it is enters no exception, so it means the same with every base of the vectors
 abbrev pub computed : Arch → RegisterState → Op → Meaning

@@ -85,7 +85,8 @@ data_shifted instr op true rd rn by = Plain instr
 
 abbrev pub data_by_register : Instr → DataOp → Bool → ℕ → ℕ → ℕ → Shift → ℕ → Op
 data_by_register instr op set_flags rd rn rm shift amount =
-    if is_plain shift amount then data_register instr op set_flags rd rn rm else data_shifted instr op set_flags rd rn (shifted_register rm shift amount)
+    if is_plain shift amount then data_register instr op set_flags rd rn rm
+    else data_shifted instr op set_flags rd rn (shifted_register rm shift amount)
 
 -- with a register that another shifts
 abbrev pub data_by_shift : Instr → DataOp → Bool → ℕ → ℕ → ℕ → Shift → ℕ → Op
@@ -137,8 +138,10 @@ move_shifted instr Mov true rd rm Asr amount = MovsAsr rd rm amount
 move_shifted instr _ _ rd rm shift amount = Plain instr
 
 abbrev pub move_op : Instr → MoveOp → Bool → ℕ → Operand → Op
-move_op instr op set_flags rd (Immediate rotate immed) = if rd == 15 then Plain instr else move_number instr op set_flags rd (rotated_number rotate immed)
-move_op instr op set_flags rd (Shifted rm shift amount) = if rd == 15 || rm == 15 then Plain instr else move_shifted instr op set_flags rd rm shift amount
+move_op instr op set_flags rd (Immediate rotate immed) =
+    if rd == 15 then Plain instr else move_number instr op set_flags rd (rotated_number rotate immed)
+move_op instr op set_flags rd (Shifted rm shift amount) =
+    if rd == 15 || rm == 15 then Plain instr else move_shifted instr op set_flags rd rm shift amount
 move_op instr op set_flags rd (ShiftedByRegister rm shift rs) = Plain instr
 
 -- products
@@ -163,7 +166,8 @@ register_transfer it rm = if is_simple it && not (rm == 15) then AccessRegister 
 -- by the offset
 abbrev pub transfer_op : Transfer → Offset → Op
 transfer_op it (offsets.Number offset) = number_transfer it offset
-transfer_op it (offsets.Register rm shift amount) = if is_plain shift amount then register_transfer it rm else TransferShifted it (shifted_register rm shift amount)
+transfer_op it (offsets.Register rm shift amount) =
+    if is_plain shift amount then register_transfer it rm else TransferShifted it (shifted_register rm shift amount)
 
 abbrev pub short_transfer_op : Transfer → ShortOffset → Op
 short_transfer_op it (ShortNumber offset) = number_transfer it offset

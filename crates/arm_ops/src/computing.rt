@@ -2,7 +2,7 @@
 
 ghost use Rattle.std.specs.Prelude.{◌≡◌, ◌<◌, [], false, true};
 ghost use Rattle.arm_words.specs.declared.parts.Operand.TheVariants.{ShiftedByRegister};
-ghost use Rattle.arm_core.specs.DataProcessing.{data_meaning, finished};
+ghost use Rattle.arm_core.specs.DataProcessing.{data_meaning, result_put};
 ghost use Rattle.arm_core.specs.Effects.{cost_of};
 ghost use Rattle.arm_core.specs.Registers.{next};
 ghost use Rattle.arm_ops.specs.Meanings as ops;
@@ -42,7 +42,7 @@ pub(crate) fn shifted(rm: u8, shift: Shift, amount: u8) -> LowShifted
 #[inline(always)]
 fn finish(s: &mut Registers, set_flags: bool, rd: u8, r: Computed)
     requires { rd < 15 }
-    ensures { s.new ≡ finished set_flags rd r (next s.old) }
+    ensures { s.new ≡ result_put set_flags rd r (next s.old) }
 {
     s.go_on();
     if set_flags {

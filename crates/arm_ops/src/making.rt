@@ -391,14 +391,15 @@ fn operation_by(cond: Condition, op: Op) -> Operation
     }
 }
 
-/// An instruction, or none, as an operation to be run (our choice of forms). What is run of it means what the instruction means, on every architecture, with every base of the vectors and in
-/// every state of the registers.
+/// An instruction, or none, as an operation to be run (our choice of forms). What is run of it means what the instruction means, on every
+/// architecture, with every base of the vectors and in every state of the registers.
 #[tactic(auto, using(crate::proofs::Fields::operation_fields, crate::proofs::Laws::operation_means))]
 pub fn operation(instr: Option<Instr>) -> Operation
     requires { IfSome instr HasFields }
     ensures operation { result ≡ operation_of instr }
     ensures fields { HasOperation result }
-    ensures means { IfSome instr (λ i. (arch : Arch) → (base : ℕ) → (s : RegisterState) → is_other result.op ≡ false → meaning arch base s i ≡ operation_meaning arch s result) }
+    ensures means { IfSome instr (λ i. (arch : Arch) → (base : ℕ) → (s : RegisterState) → is_other result.op ≡ false → meaning arch base s i
+        ≡ operation_meaning arch s result) }
 {
     match instr {
         None => Operation {

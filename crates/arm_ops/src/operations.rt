@@ -62,9 +62,9 @@ pub struct DataAccess {
     pub to: Addressed,
 }
 
-/// What an instruction does where its condition holds, with its operands made. (Our choice of forms; the operations are those of the ARM manual's A4.1 under their
-/// names.) What is frequent and has registers below r15 alone has a variant for each operation and form of its second operand, so that one jump finds what to do; what is rarer is an
-/// instruction as it is. A name with `s` behind the operation sets the flags.
+/// What an instruction does where its condition holds, with its operands made. (Our choice of forms; the operations are those of the ARM manual's
+/// A4.1 under their names.) What is frequent and has registers below r15 alone has a variant for each operation and form of its second operand, so
+/// that one jump finds what to do; what is rarer is an instruction as it is. A name with `s` behind the operation sets the flags.
 #[derive(Clone, Copy)]
 pub enum Op {
     /// Another instruction, or none.

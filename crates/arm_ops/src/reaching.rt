@@ -79,7 +79,8 @@ fn run_still<B: Bus>(arch: Arch, s: &mut Registers, bus: &mut B, operation: &Ope
     compute_on::<B, Anywhere>(arch, s, bus, &operation.op)
 }
 
-/// Runs an operation over a bus, wherever its access is, which was asked for before. The result is the cost, or the stop of a write that the bus refused; then the registers are as they were.
+/// Runs an operation over a bus, wherever its access is, which was asked for before. The result is the cost, or the stop of a write that the bus
+/// refused; then the registers are as they were.
 #[inline(always)]
 #[tactic(auto, using(crate::proofs::Laws::made_means))]
 pub fn run_made<B: Bus>(
@@ -104,7 +105,8 @@ pub fn run_made<B: Bus>(
     }
 }
 
-/// Runs an operation over a bus, wherever its access is. The result is the cost, or the stop of a write that the bus refused; then the registers are as they were.
+/// Runs an operation over a bus, wherever its access is. The result is the cost, or the stop of a write that the bus refused; then the registers are
+/// as they were.
 #[inline(always)]
 pub fn run_anywhere<B: Bus>(
     arch: Arch,

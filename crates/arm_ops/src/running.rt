@@ -73,7 +73,8 @@ fn plain(arch: Arch, instr: &Instr, s: &mut Registers) -> u32
     act_processing(arch, 0, s, instr)
 }
 
-/// Who runs operations where each access must be near. Each of the two has a copy of `compute` of its own, which stands in line in its loop over steps.
+/// Who runs operations where each access must be near. Each of the two has a copy of `compute` of its own, which stands in line in its loop over
+/// steps.
 pub(crate) enum NearAlone {}
 
 /// Who runs them wherever each access is.
@@ -201,7 +202,8 @@ fn make_near<B: Bus, N: Near>(arch: Arch, s: &mut Registers, bus: &mut B, it: Da
     }
 }
 
-/// An operation that takes effect, where it is run here; the result is its cost, and 0 where it isn't. What makes no access, which is most, is looked for first, so that one jump finds it.
+/// An operation that takes effect, where it is run here; the result is its cost, and 0 where it isn't. What makes no access, which is most, is looked
+/// for first, so that one jump finds it.
 #[inline(always)]
 #[tactic(auto, using(crate::proofs::Laws::means_access))]
 fn run_op<B: Bus, N: Near>(arch: Arch, s: &mut Registers, bus: &mut B, op: &Op) -> u32
@@ -225,8 +227,8 @@ fn run_op<B: Bus, N: Near>(arch: Arch, s: &mut Registers, bus: &mut B, op: &Op) 
     }
 }
 
-/// Runs an operation over a bus that refuses no write of RAM, where it is one that is run here: another instruction isn't, nor an
-/// access that is neither of RAM nor a load that is near. The result is its cost in the processor's own clocks; 0 where it isn't run, and then nothing is changed.
+/// Runs an operation over a bus that refuses no write of RAM, where it is one that is run here: another instruction isn't, nor an access that is
+/// neither of RAM nor a load that is near. The result is its cost in the processor's own clocks; 0 where it isn't run, and then nothing is changed.
 #[inline(always)]
 pub fn run<B: Bus, N: Near>(
     arch: Arch,
@@ -238,9 +240,12 @@ pub fn run<B: Bus, N: Near>(
     requires ram { RefusesNoneInRam B.memory }
     ensures none { result ≡ 0 → (s.new ≡ s.old) × (B.state bus.new ≡ B.state bus.old) }
     ensures known { 0 < result → is_other operation.now.op ≡ false }
-    ensures registers { 0 < result → s.new ≡ (carried_out B.memory arch s.old (B.state bus.old) (operation_meaning arch s.old operation.now)).registers }
-    ensures state { 0 < result → B.state bus.new ≡ (carried_out B.memory arch s.old (B.state bus.old) (operation_meaning arch s.old operation.now)).state }
-    ensures stepped { 0 < result → (carried_out B.memory arch s.old (B.state bus.old) (operation_meaning arch s.old operation.now)).stepped ≡ Cost result }
+    ensures registers { 0 < result → s.new
+        ≡ (carried_out B.memory arch s.old (B.state bus.old) (operation_meaning arch s.old operation.now)).registers }
+    ensures state { 0 < result → B.state bus.new
+        ≡ (carried_out B.memory arch s.old (B.state bus.old) (operation_meaning arch s.old operation.now)).state }
+    ensures stepped { 0 < result → (carried_out B.memory arch s.old (B.state bus.old) (operation_meaning arch s.old operation.now)).stepped
+        ≡ Cost result }
     ensures near { 0 < result → IsNear N.near (operation_meaning arch s.old operation.now).accesses }
     ensures same { B.identity bus.new ≡ B.identity bus.old }
 {

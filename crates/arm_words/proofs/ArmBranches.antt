@@ -1,5 +1,5 @@
 use Rattle.std.proofs.Common.{ℕ, [], ◌∷◌, ◌≡◌, ◌/◌, ◌%◌, ◌^◌, ◌==◌, refl, ap, arith}
-use Rattle.arm_words.proofs.Facts.{equal}
+use Rattle.ds_base.proofs.Choices.{equal}
 use Rattle.arm_words.specs.ArmTable.{at16, at12, at8, at0, branch_rows}
 use Rattle.arm_words.proofs.Masks.{part}
 use Rattle.arm_words.proofs.Names.{condition_again, flag_again}

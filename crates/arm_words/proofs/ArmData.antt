@@ -1,5 +1,5 @@
 use Rattle.std.proofs.Common.{[], ◌∷◌, ◌≡◌, ◌/◌, ◌%◌, ◌^◌, refl, arith}
-use Rattle.arm_words.specs.ArmTable.{at16, at12, at8, at0, status_rows, immediate_status_rows, data_rows}
+use Rattle.arm_words.specs.ArmTable.{at16, at12, at8, at0, status_register_rows, immediate_status_rows, data_rows}
 use Rattle.arm_words.proofs.Masks.{part}
 use Rattle.arm_words.proofs.Names.{condition_again, flag_again, compare_op_again, move_op_again, data_op_again}
 use Rattle.arm_words.proofs.Digits.{arm, respell, common}
@@ -7,7 +7,7 @@ use Rattle.arm_words.proofs.PartLaws.{field_mask_again, field_mask_same, operand
 use Rattle.arm_words.proofs.Stages.{AllSound}
 
 -- status registers
-pub status_sound : AllSound arm status_rows
+pub status_sound : AllSound arm status_register_rows
 status_sound = (
   record {
     parts = part 23 5 ∷ (part 20 2 ∷ (part 4 4 ∷ []));

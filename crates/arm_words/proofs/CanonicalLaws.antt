@@ -1,6 +1,7 @@
-use Rattle.std.proofs.Common.{ℕ, Bool, true, false, ◌&&◌, ◌≡◌, ◌==◌, ◌↔◌, refl, sym, ◌∙◌, ap, subst, arith, Option, Some, None, IfSome, IsSome, is_some, if◌then◌else◌}
+use Rattle.std.proofs.Common.{ℕ, Bool, true, false, ◌&&◌, ◌≡◌, ◌↔◌, refl, sym, ◌∙◌, ap, subst, Option, Some, None, IfSome, IsSome, is_some, if◌then◌else◌}
 use Rattle.ds_base.specs.declared.processors.Arch.{Arch}
-use Rattle.arm_words.proofs.Facts.{and_parts, equal, some_is}
+use Rattle.ds_base.proofs.Choices.{both, equal, equal_self, both_true}
+use Rattle.arm_words.proofs.Facts.{some_is}
 use Rattle.arm_words.specs.Fields.{HasFields, HasOperand}
 use Rattle.arm_words.specs.Spellings.{spelled, decoded}
 use Rattle.arm_words.specs.Canonical.{canonical, canonical_form, if_canonical, least_operand, same_spelling, IsCanonical, IsCanonicalForm, IsLeastOperand}
@@ -42,9 +43,6 @@ is_form (Data cond op set_flags rn rd operand) h e = least_operand_is operand h.
 is_form (Never immed) h e = absurd e
 is_form _ h e = refl
 
-itself : (a : ℕ) → (a == a) ≡ true
-itself a = grind arith
-
 same_is : (s t : Spelling) → same_spelling s t ≡ true → s ≡ t
 same_is (Word w) (Word v) e = ap (λ (n : ℕ). Word n) (equal w v e)
 same_is (Half h) (Half g) e = ap (λ (n : ℕ). Half n) (equal h g e)
@@ -52,12 +50,8 @@ same_is (Word w) (Half g) e = absurd (cc)
 same_is (Half h) (Word v) e = absurd (cc)
 
 same_itself : (s : Spelling) → same_spelling s s ≡ true
-same_itself (Word w) = itself w
-same_itself (Half h) = itself h
-
-and_true : (p q : Bool) → p ≡ true → q ≡ true → (p && q) ≡ true
-and_true true q e f = f
-and_true false q e f = e
+same_itself (Word w) = equal_self w
+same_itself (Half h) = equal_self h
 
 kept : (b : Bool) (i : Instr) → is_some (if b then Some i else None) ≡ true → b ≡ true
 kept true i e = refl
@@ -71,7 +65,7 @@ has_canonical : (arch : Arch) (s : Spelling) (o : Option Instr) → decoded arch
     → IsSome (if_canonical s o) → IsCanonical arch s
 has_canonical arch s None d h e = absurd (cc)
 has_canonical arch s (Some i) d h e =
-    let both = and_parts (canonical_form i) (same_spelling (spelled i) s) (kept (canonical_form i && same_spelling (spelled i) s) i e) in
+    let both = both (canonical_form i) (same_spelling (spelled i) s) (kept (canonical_form i && same_spelling (spelled i) s) i e) in
     (i, d, same_is (spelled i) s both.1, form_is i h both.0)
 
 is_canonical : (arch : Arch) (s : Spelling) (o : Option Instr) → decoded arch s ≡ o → IfSome o (λ i. HasFields i)
@@ -82,7 +76,7 @@ is_canonical arch s (Some i) d h c =
     let P : Instr → Type 0 = λ x. (spelled x ≡ s) × IsCanonicalForm x in
     let both : (spelled i ≡ s) × IsCanonicalForm i = subst P e (c.2, c.3) in
     keeps (canonical_form i && same_spelling (spelled i) s) i
-    (and_true (canonical_form i) (same_spelling (spelled i) s) (is_form i h both.1)
+    (both_true (canonical_form i) (same_spelling (spelled i) s) (is_form i h both.1)
     (ap (λ (t : Spelling). same_spelling t s) both.0 ∙ same_itself s))
 
 pub canonical_exactly : (arch : Arch) (s : Spelling) → IfSome (decoded arch s) (λ i. HasFields i) → IsSome (canonical arch s) ↔ IsCanonical arch s

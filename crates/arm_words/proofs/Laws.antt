@@ -1,8 +1,8 @@
 use Rattle.std.proofs.Common.{ℕ, false, ◌≡◌, inl, inr, ◌<◌, ◌/◌, ◌^◌, ◌==◌, refl, sym, ◌∙◌, ap, arith, Option, Some, None, IfSome}
 use Rattle.ds_base.specs.declared.processors.Arch.{Arch}
-use Rattle.arm_words.proofs.Facts.{if_false, if_true, true_or_false}
+use Rattle.ds_base.proofs.Choices.{true_or_false, if_true, if_false}
 use Rattle.arm_words.specs.Rows.{first, or_else}
-use Rattle.arm_words.specs.ArmTable.{branch_rows, half_multiply_rows, half_product_rows, multiply_rows, half_transfer_rows, status_rows, immediate_status_rows, data_rows, double_rows, transfer_rows, multiple_rows, coprocessor_rows, unconditional_rows, conditional_arm, decoded_arm}
+use Rattle.arm_words.specs.ArmTable.{branch_rows, half_multiply_rows, half_product_rows, multiply_rows, half_transfer_rows, status_register_rows, immediate_status_rows, data_rows, double_rows, transfer_rows, multiple_rows, coprocessor_rows, unconditional_rows, conditional_arm, decoded_arm}
 use Rattle.arm_words.specs.ThumbTable.{thumb_sum_rows, thumb_register_rows, thumb_literal_rows, thumb_offset_rows, thumb_stack_rows, thumb_multiple_rows, thumb_branch_rows, decoded_thumb}
 use Rattle.arm_words.specs.Fields.{HasFields}
 use Rattle.arm_words.specs.Spellings.{spelled, decoded, IsInRange, Has, IsInstruction}
@@ -46,7 +46,7 @@ conditional_stage =
     (then_stage arm (first half_product_rows) _ (sound_stage arm half_product_rows half_product_sound) (sound_quiet arm half_product_rows half_product_sound)
     (then_stage arm (first multiply_rows) _ (sound_stage arm multiply_rows multiply_sound) (sound_quiet arm multiply_rows multiply_sound)
     (then_stage arm (first half_transfer_rows) _ (sound_stage arm half_transfer_rows half_transfer_sound) (sound_quiet arm half_transfer_rows half_transfer_sound)
-    (then_stage arm (first status_rows) _ (sound_stage arm status_rows status_sound) (sound_quiet arm status_rows status_sound)
+    (then_stage arm (first status_register_rows) _ (sound_stage arm status_register_rows status_sound) (sound_quiet arm status_register_rows status_sound)
     (then_stage arm (first immediate_status_rows) _ (sound_stage arm immediate_status_rows immediate_status_sound) (sound_quiet arm immediate_status_rows immediate_status_sound)
     (then_stage arm (first data_rows) _ (sound_stage arm data_rows data_sound) (sound_quiet arm data_rows data_sound)
     late_arm))))))))

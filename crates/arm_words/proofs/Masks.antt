@@ -1,7 +1,7 @@
 use Rattle.std.proofs.Common.{ℕ, Bool, true, ◌&&◌, ◌≡◌, ◌<◌, ◌≤◌, ◌+◌, ◌-◌, ◌*◌, ◌/◌, ◌%◌, ◌^◌, nat_lt, bit_and, sym, ◌∙◌, ap, arith, List, [], ◌∷◌}
 use Rattle.std.specs.Int.Bits.{and_block, and_mask, and_mod, and_le_r, and_zero_r}
 use Rattle.std.proofs.Math.Pow.{pow_pos}
-use Rattle.arm_words.proofs.Facts.{and_parts, lt_of}
+use Rattle.ds_base.proofs.Choices.{both, lt_of}
 
 -- a field of a mask: its lowest bit and its size
 pub record Part : Type 0 where
@@ -50,5 +50,5 @@ and_top w k n rest h =
 pub masked : (w : ℕ) (fs : List Part) → descend fs ≡ true → bit_and w (mask fs) ≡ under w fs
 masked w [] h = and_zero_r w
 masked w (f ∷ fs) h =
-    and_top w f.at f.size (mask fs) (lt_of (mask fs) (2 ^ f.at) (and_parts (nat_lt (mask fs) (2 ^ f.at)) (descend fs) h).0)
-    ∙ ap (λ (x : ℕ). w / 2 ^ f.at % 2 ^ f.size * 2 ^ f.at + x) (masked w fs (and_parts (nat_lt (mask fs) (2 ^ f.at)) (descend fs) h).1)
+    and_top w f.at f.size (mask fs) (lt_of (mask fs) (2 ^ f.at) (both (nat_lt (mask fs) (2 ^ f.at)) (descend fs) h).0)
+    ∙ ap (λ (x : ℕ). w / 2 ^ f.at % 2 ^ f.size * 2 ^ f.at + x) (masked w fs (both (nat_lt (mask fs) (2 ^ f.at)) (descend fs) h).1)

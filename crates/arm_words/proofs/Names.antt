@@ -1,6 +1,7 @@
 use Rattle.std.proofs.Common.{ℕ, zero, suc, Bool, true, ◌&&◌, ◌||◌, ◌≡◌, inl, inr, ◌<◌, ◌+◌, ◌*◌, ◌/◌, ◌%◌, ◌^◌, ◌==◌, nat_lt, nat_eq, refl, sym, ◌∙◌, ap, arith, if◌then◌else◌}
-use Rattle.arm_words.proofs.Facts.{and_parts, equal, last_or_less}
+use Rattle.arm_words.proofs.Facts.{last_or_less}
 use Rattle.ds_base.specs.Bits.{bit, flag}
+use Rattle.ds_base.proofs.Choices.{both, equal}
 use Rattle.arm_words.specs.Parts.{condition_of, condition_number, shift_of, shift_number}
 use Rattle.arm_words.specs.Operations.{data_op_of, data_op_number, compare_op_of, compare_op_number, move_op_of, move_op_number, half_op_of, half_op_bits}
 use Rattle.arm_words.specs.ThumbOperations.{thumb_data_op_of, thumb_data_op_number, thumb_transfer_op_of, thumb_transfer_op_number}
@@ -16,8 +17,8 @@ pub alike : (f g : ℕ → ℕ) (k : ℕ) → same_below f g k ≡ true → (n :
 alike f g zero e n h = absurd (omega arith)
 alike f g (suc k) e n h =
     elim (last_or_less n k h) [
-      | inl same ↦ ap f same ∙ equal (f k) (g k) (and_parts (nat_eq (f k) (g k)) (same_below f g k) e).0 ∙ ap g (sym same)
-      | inr less ↦ alike f g k (and_parts (nat_eq (f k) (g k)) (same_below f g k) e).1 n less
+      | inl same ↦ ap f same ∙ equal (f k) (g k) (both (nat_eq (f k) (g k)) (same_below f g k) e).0 ∙ ap g (sym same)
+      | inr less ↦ alike f g k (both (nat_eq (f k) (g k)) (same_below f g k) e).1 n less
     ]
 
 pub condition_again : (n : ℕ) → n < 15 → condition_number (condition_of n) ≡ n

@@ -1,6 +1,6 @@
 use Rattle.std.proofs.Common.{ℕ, [], ◌∷◌, Bool, true, ◌&&◌, ◌||◌, not, ◌≡◌, ◌⊎◌, inl, inr, ◌<◌, ◌+◌, ◌*◌, ◌/◌, ◌%◌, ◌^◌, ◌==◌, nat_lt, bit_and, refl, ◌∙◌, ap, arith, if◌then◌else◌}
-use Rattle.arm_words.proofs.Facts.{and_parts, not_true, unequal}
 use Rattle.ds_base.specs.Bits.{bits, bit}
+use Rattle.ds_base.proofs.Choices.{both, not_true, unequal}
 use Rattle.arm_words.specs.Parts.{operand_of, operand_bits, offset_of, offset_bits, short_offset_of, short_offset_bits, field_mask_of, field_mask_bits, thumb_operand_of, thumb_operand_bits}
 use Rattle.arm_words.specs.Fields.{HasOperand, HasOffset, HasShortOffset, HasThumbOperand}
 use Rattle.arm_words.specs.ArmTable.{has_operand, has_result, has_offset, at8}
@@ -127,11 +127,11 @@ thumb_operand_fields h = elim (bit_cases 10 h) [ inl register ↦ rw register (o
 -- what it says of a word that its operation has a result and two operands
 pub result_operand : (w : ℕ) → has_result w ≡ true → has_operand w ≡ true
 result_operand w o =
-    (and_parts (has_operand w) (nat_lt (bits 21 4 w) 8 || (bits 21 4 w == 12 || bits 21 4 w == 14)) o).0
+    (both (has_operand w) (nat_lt (bits 21 4 w) 8 || (bits 21 4 w == 12 || bits 21 4 w == 14)) o).0
 
 pub result_number : (w : ℕ) → has_result w ≡ true → (nat_lt (bits 21 4 w) 8 || (bits 21 4 w == 12 || bits 21 4 w == 14)) ≡ true
 result_number w o =
-    (and_parts (has_operand w) (nat_lt (bits 21 4 w) 8 || (bits 21 4 w == 12 || bits 21 4 w == 14)) o).1
+    (both (has_operand w) (nat_lt (bits 21 4 w) 8 || (bits 21 4 w == 12 || bits 21 4 w == 14)) o).1
 
 pub result_blind : (w v : ℕ) → has_operand v ≡ has_operand w → v / 2 ^ 21 % 2 ^ 4 ≡ w / 2 ^ 21 % 2 ^ 4 → has_result v ≡ has_result w
 result_blind w v o e =

@@ -1,9 +1,10 @@
-use Rattle.std.proofs.Common.{ℕ, zero, suc, Bool, true, false, ◌&&◌, ◌||◌, not, ◌≡◌, ◌≢◌, ◌⊎◌, inl, inr, ◌<◌, ◌≤◌, ◌+◌, ◌-◌, ◌*◌, ◌/◌, ◌%◌, ◌==◌, nat_lt, nat_le, refl, sym, ◌∙◌, ap, arith, if◌then◌else◌}
-use Rattle.arm_words.proofs.Facts.{and_parts, equal, is_unequal, last_or_less, le_of, lt_of, or_cases}
+use Rattle.std.proofs.Common.{ℕ, zero, suc, Bool, true, false, ◌&&◌, ◌||◌, not, ◌≡◌, ◌≢◌, inl, inr, ◌<◌, ◌≤◌, ◌+◌, ◌-◌, ◌*◌, ◌/◌, ◌%◌, ◌==◌, nat_lt, nat_le, refl, sym, ◌∙◌, ap, arith, if◌then◌else◌}
+use Rattle.ds_base.proofs.Choices.{low_or_high, both, one_of, equal, is_unequal, lt_of, le_of}
+use Rattle.arm_words.proofs.Facts.{last_or_less}
 use Rattle.arm_words.specs.Canonical.{immediate, IsLeastRotation, turned_back, none_below, least_rotation}
 
 -- a test of all pairs of a rotation and a byte, as numbers below 4,096
-abbrev all_pairs : (ℕ → ℕ → Bool) → ℕ → Bool
+abbrev pub all_pairs : (ℕ → ℕ → Bool) → ℕ → Bool
 all_pairs p zero = true
 all_pairs p (suc k) = p (k / 256) (k % 256) && all_pairs p k
 
@@ -38,11 +39,11 @@ pair_number : (p : ℕ → ℕ → Bool) (k : ℕ) → all_pairs p k ≡ true �
 pair_number p zero e n h = absurd (omega arith)
 pair_number p (suc k) e n h =
     elim (last_or_less n k h) [
-      | inl same ↦ ap (λ (x : ℕ). p (x / 256) (x % 256)) same ∙ (and_parts (p (k / 256) (k % 256)) (all_pairs p k) e).0
-      | inr less ↦ pair_number p k (and_parts (p (k / 256) (k % 256)) (all_pairs p k) e).1 n less
+      | inl same ↦ ap (λ (x : ℕ). p (x / 256) (x % 256)) same ∙ (both (p (k / 256) (k % 256)) (all_pairs p k) e).0
+      | inr less ↦ pair_number p k (both (p (k / 256) (k % 256)) (all_pairs p k) e).1 n less
     ]
 
-pair : (p : ℕ → ℕ → Bool) → all_pairs p 4096 ≡ true → (r b : ℕ) → r < 16 → b < 256 → p r b ≡ true
+pub pair : (p : ℕ → ℕ → Bool) → all_pairs p 4096 ≡ true → (r b : ℕ) → r < 16 → b < 256 → p r b ≡ true
 pair p e r b hr hb =
     let high : (r * 256 + b) / 256 ≡ r = omega arith in
     let low : (r * 256 + b) % 256 ≡ b = omega arith in
@@ -62,34 +63,31 @@ quick_least r b hr hb =
 none : (rotate number : ℕ) → none_below rotate number ≡ true → (r : ℕ) → r < rotate → 256 ≤ turned_back r number
 none zero number e r h = absurd (omega arith)
 none (suc k) number e r h =
-    let parts = and_parts (nat_le 256 (turned_back k number)) (none_below k number) e in
+    let parts = both (nat_le 256 (turned_back k number)) (none_below k number) e in
     elim (last_or_less r k h) [
       | inl same ↦ let l = le_of 256 (turned_back k number) parts.0 in let f : turned_back r number ≡ turned_back k number = ap (λ (x : ℕ). turned_back x number) same in rw f l
       | inr less ↦ none k number parts.1 r less
     ]
 
-le_or_less : (a b : ℕ) → (a ≤ b) ⊎ (b < a)
-le_or_less a b = grind arith
-
 pub least_is : (r b : ℕ) → r < 16 → b < 256 → least_rotation r b ≡ true → IsLeastRotation r b
 least_is r b hr hb e s c hc same =
-    elim (le_or_less r s) [
-      | inl fine ↦ fine
-      | inr less ↦
+    elim (low_or_high s r) [
+      | inl less ↦
           let back : turned_back s (immediate s c) ≡ c =
           equal (turned_back s (immediate s c)) c (pair (λ r b. turned_back r (immediate r b) == b) back_again s c (omega arith) hc) in
           let big : 256 ≤ turned_back s (immediate r b) = none r (immediate r b) e s less in
           let is : turned_back s (immediate r b) ≡ c = sym (ap (λ (x : ℕ). turned_back s x) same) ∙ back in
           absurd (omega (arith, big, is, hc))
+      | inr fine ↦ fine
     ]
 
 pub is_least : (r b : ℕ) → r < 16 → b < 256 → IsLeastRotation r b → least_rotation r b ≡ true
 is_least r b hr hb least =
-    elim (or_cases (least_rotation r b) (has_smaller r b) (pair (λ r b. least_rotation r b || has_smaller r b) least_or_smaller r b hr hb)) [
+    elim (one_of (least_rotation r b) (has_smaller r b) (pair (λ r b. least_rotation r b || has_smaller r b) least_or_smaller r b hr hb)) [
       | inl fine ↦ fine
       | inr other ↦
-          let a = and_parts (nat_lt (smaller r b) r) (nat_lt (byte_of r b) 256 && (immediate (smaller r b) (byte_of r b) == immediate r b)) other in
-          let c = and_parts (nat_lt (byte_of r b) 256) (immediate (smaller r b) (byte_of r b) == immediate r b) a.1 in
+          let a = both (nat_lt (smaller r b) r) (nat_lt (byte_of r b) 256 && (immediate (smaller r b) (byte_of r b) == immediate r b)) other in
+          let c = both (nat_lt (byte_of r b) 256) (immediate (smaller r b) (byte_of r b) == immediate r b) a.1 in
           let l : smaller r b < r = lt_of (smaller r b) r a.0 in
           let le : r ≤ smaller r b =
           least (smaller r b) (byte_of r b) (lt_of (byte_of r b) 256 c.0) (equal (immediate (smaller r b) (byte_of r b)) (immediate r b) c.1) in

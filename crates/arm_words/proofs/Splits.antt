@@ -1,9 +1,9 @@
 use Rattle.std.proofs.Common.{ℕ, List, [], ◌∷◌, Bool, true, false, ◌&&◌, not, ◌≡◌, ◌≢◌, ◌⊎◌, inl, inr, ◌<◌, ◌*◌, ◌/◌, ◌^◌, ◌==◌, bit_and, refl, sym, ◌∙◌, ap, arith, Option, Some, None}
 use Rattle.std.proofs.lemmas.Nat.{and_assoc}
 use Rattle.ds_base.specs.declared.processors.Arch.{Arch}
-use Rattle.arm_words.proofs.Facts.{and_parts, equal, if_false, is_equal, true_or_false}
+use Rattle.ds_base.proofs.Choices.{both, true_or_false, if_false, equal, is_equal}
 use Rattle.arm_words.specs.Rows.{InstructionRow, agrees, first, or_else}
-use Rattle.arm_words.specs.ArmTable.{branch_rows, half_multiply_rows, half_product_rows, multiply_rows, half_transfer_rows, status_rows, immediate_status_rows, data_rows, double_rows, transfer_rows, multiple_rows, coprocessor_rows, conditional_arm}
+use Rattle.arm_words.specs.ArmTable.{branch_rows, half_multiply_rows, half_product_rows, multiply_rows, half_transfer_rows, status_register_rows, immediate_status_rows, data_rows, double_rows, transfer_rows, multiple_rows, coprocessor_rows, conditional_arm}
 use Rattle.arm_words.specs.ThumbTable.{thumb_sum_rows, thumb_register_rows, thumb_literal_rows, thumb_offset_rows, thumb_stack_rows, thumb_multiple_rows, thumb_branch_rows, decoded_thumb}
 use Rattle.arm_words.proofs.Masks.{masked, part}
 use Rattle.arm_words.specs.declared.instructions.Instr.{Instr}
@@ -13,9 +13,9 @@ abbrev shut : ℕ → (ℕ → Bool) → List InstructionRow → Bool
 shut m p [] = true
 shut m p (r ∷ rs) = (bit_and r.mask m == m) && (not (p (bit_and r.value m)) && shut m p rs)
 
-both : (b : Bool) → not b ≡ true → b ≡ true → ⊥
-both true n e = absurd (cc)
-both false n e = absurd (cc)
+not_both : (b : Bool) → not b ≡ true → b ≡ true → ⊥
+not_both true n e = absurd (cc)
+not_both false n e = absurd (cc)
 
 misses : (m : ℕ) (p : ℕ → Bool) (r : InstructionRow) (arch : Arch) (w : ℕ) → bit_and r.mask m ≡ m → not (p (bit_and r.value m)) ≡ true
     → p (bit_and w m) ≡ true → agrees r arch w ≡ false
@@ -24,19 +24,19 @@ misses m p r arch w looks other here =
       | inr none ↦ none
       | inl hit ↦
           let value : bit_and w r.mask ≡ r.value =
-          equal (bit_and w r.mask) r.value (and_parts (r.only w) (bit_and w r.mask == r.value)
-          (and_parts (r.on arch) (r.only w && (bit_and w r.mask == r.value)) hit).1).1 in
+          equal (bit_and w r.mask) r.value (both (r.only w) (bit_and w r.mask == r.value)
+          (both (r.on arch) (r.only w && (bit_and w r.mask == r.value)) hit).1).1 in
           let seen : bit_and w m ≡ bit_and r.value m =
           ap (λ (x : ℕ). bit_and w x) (sym looks) ∙ sym (and_assoc m w r.mask) ∙ ap (λ (x : ℕ). bit_and x m) value in
-          absurd (both (p (bit_and r.value m)) other (sym (ap (λ (x : ℕ). p x) seen) ∙ here))
+          absurd (not_both (p (bit_and r.value m)) other (sym (ap (λ (x : ℕ). p x) seen) ∙ here))
     ]
 
 -- such rows have none of the words that have it
 none_of : (m : ℕ) (p : ℕ → Bool) (rs : List InstructionRow) → shut m p rs ≡ true → (arch : Arch) (w : ℕ) → p (bit_and w m) ≡ true → first rs arch w ≡ None
 none_of m p [] s arch w here = refl
 none_of m p (r ∷ rs) s arch w here =
-    let a = and_parts (bit_and r.mask m == m) (not (p (bit_and r.value m)) && shut m p rs) s in
-    let b = and_parts (not (p (bit_and r.value m))) (shut m p rs) a.1 in
+    let a = both (bit_and r.mask m == m) (not (p (bit_and r.value m)) && shut m p rs) s in
+    let b = both (not (p (bit_and r.value m))) (shut m p rs) a.1 in
     if_false (agrees r arch w) (Some (r.instr w)) (first rs arch w)
     (misses m p r arch w (equal (bit_and r.mask m) m a.0) b.0 here)
     ∙ none_of m p rs b.1 arch w here
@@ -59,10 +59,10 @@ high_rows arch w h =
     let n = λ (rs : List InstructionRow) (s : shut 0x0C000000 (λ x. not (x == 0)) rs ≡ true).
     none_of 0x0C000000 (λ x. not (x == 0)) rs s arch w (is_nonzero (bit_and w 0x0C000000) h) in
     late (first branch_rows arch w) (first half_multiply_rows arch w) (first half_product_rows arch w) (first multiply_rows arch w)
-    (first half_transfer_rows arch w) (first status_rows arch w) (first immediate_status_rows arch w) (first data_rows arch w)
+    (first half_transfer_rows arch w) (first status_register_rows arch w) (first immediate_status_rows arch w) (first data_rows arch w)
     (first double_rows arch w) (or_else (first transfer_rows arch w) (or_else (first multiple_rows arch w) (first coprocessor_rows arch w)))
     (n branch_rows refl) (n half_multiply_rows refl) (n half_product_rows refl) (n multiply_rows refl) (n half_transfer_rows refl)
-    (n status_rows refl) (n immediate_status_rows refl) (n data_rows refl) (n double_rows refl)
+    (n status_register_rows refl) (n immediate_status_rows refl) (n data_rows refl) (n double_rows refl)
 
 or_none : (a : Option Instr) → or_else a None ≡ a
 or_none None = refl
@@ -147,10 +147,10 @@ immediate_leaf arch w h i =
     let n = λ (rs : List InstructionRow) (s : shut 0x02000000 (λ x. not (x == 0)) rs ≡ true).
     none_of 0x02000000 (λ x. not (x == 0)) rs s arch w (is_nonzero (bit_and w 0x02000000) i) in
     only_immediates (first branch_rows arch w) (first half_multiply_rows arch w) (first half_product_rows arch w) (first multiply_rows arch w)
-    (first half_transfer_rows arch w) (first status_rows arch w) (first immediate_status_rows arch w) (first data_rows arch w)
+    (first half_transfer_rows arch w) (first status_register_rows arch w) (first immediate_status_rows arch w) (first data_rows arch w)
     (first double_rows arch w) (or_else (first transfer_rows arch w) (or_else (first multiple_rows arch w) (first coprocessor_rows arch w)))
     (n branch_rows refl) (n half_multiply_rows refl) (n half_product_rows refl) (n multiply_rows refl) (n half_transfer_rows refl)
-    (n status_rows refl) (n double_rows refl) (low_rows arch w h)
+    (n status_register_rows refl) (n double_rows refl) (low_rows arch w h)
 
 pub extra_leaf : (arch : Arch) (w : ℕ) → bit_and w 0x0C000000 ≡ 0 → bit_and w 0x02000000 ≡ 0 → bit_and w 0x90 ≡ 0x90
     → conditional_arm arch w ≡ or_else (first multiply_rows arch w) (or_else (first half_transfer_rows arch w) (or_else (first data_rows arch w) (first double_rows arch w)))
@@ -159,18 +159,18 @@ extra_leaf arch w h i e =
     none_of 0x90 (λ x. x == 0x90) rs s arch w (is_equal (bit_and w 0x90) 0x90 e) in
     let m = none_of 0x02000000 (λ x. x == 0) immediate_status_rows refl arch w (is_equal (bit_and w 0x02000000) 0 i) in
     only_extras (first branch_rows arch w) (first half_multiply_rows arch w) (first half_product_rows arch w) (first multiply_rows arch w)
-    (first half_transfer_rows arch w) (first status_rows arch w) (first immediate_status_rows arch w) (first data_rows arch w)
+    (first half_transfer_rows arch w) (first status_register_rows arch w) (first immediate_status_rows arch w) (first data_rows arch w)
     (first double_rows arch w) (or_else (first transfer_rows arch w) (or_else (first multiple_rows arch w) (first coprocessor_rows arch w)))
-    (n branch_rows refl) (n half_multiply_rows refl) (n half_product_rows refl) (n status_rows refl) m (low_rows arch w h)
+    (n branch_rows refl) (n half_multiply_rows refl) (n half_product_rows refl) (n status_register_rows refl) m (low_rows arch w h)
 
 pub miscellaneous_leaf : (arch : Arch) (w : ℕ) → bit_and w 0x0C000000 ≡ 0 → bit_and w 0x02000000 ≡ 0 → bit_and w 0x90 ≢ 0x90
-    → conditional_arm arch w ≡ or_else (first branch_rows arch w) (or_else (first half_multiply_rows arch w) (or_else (first half_product_rows arch w) (or_else (first status_rows arch w) (first data_rows arch w))))
+    → conditional_arm arch w ≡ or_else (first branch_rows arch w) (or_else (first half_multiply_rows arch w) (or_else (first half_product_rows arch w) (or_else (first status_register_rows arch w) (first data_rows arch w))))
 miscellaneous_leaf arch w h i e =
     let n = λ (rs : List InstructionRow) (s : shut 0x90 (λ x. not (x == 0x90)) rs ≡ true).
     none_of 0x90 (λ x. not (x == 0x90)) rs s arch w (is_other (bit_and w 0x90) 0x90 e) in
     let m = none_of 0x02000000 (λ x. x == 0) immediate_status_rows refl arch w (is_equal (bit_and w 0x02000000) 0 i) in
     only_miscellaneous (first branch_rows arch w) (first half_multiply_rows arch w) (first half_product_rows arch w) (first multiply_rows arch w)
-    (first half_transfer_rows arch w) (first status_rows arch w) (first immediate_status_rows arch w) (first data_rows arch w)
+    (first half_transfer_rows arch w) (first status_register_rows arch w) (first immediate_status_rows arch w) (first data_rows arch w)
     (first double_rows arch w) (or_else (first transfer_rows arch w) (or_else (first multiple_rows arch w) (first coprocessor_rows arch w)))
     (n multiply_rows refl) (n half_transfer_rows refl) m (n double_rows refl) (low_rows arch w h)
 
@@ -180,8 +180,8 @@ data_leaf arch w h i e k =
     let n = λ (rs : List InstructionRow) (s : shut 0x01900000 (λ x. not (x == 0x01000000)) rs ≡ true).
     none_of 0x01900000 (λ x. not (x == 0x01000000)) rs s arch w (is_other (bit_and w 0x01900000) 0x01000000 k) in
     miscellaneous_leaf arch w h i e
-    ∙ only_data (first branch_rows arch w) (first half_multiply_rows arch w) (first half_product_rows arch w) (first status_rows arch w) (first data_rows arch w)
-    (n branch_rows refl) (n half_multiply_rows refl) (n half_product_rows refl) (n status_rows refl)
+    ∙ only_data (first branch_rows arch w) (first half_multiply_rows arch w) (first half_product_rows arch w) (first status_register_rows arch w) (first data_rows arch w)
+    (n branch_rows refl) (n half_multiply_rows refl) (n half_product_rows refl) (n status_register_rows refl)
 
 -- the rows of halves whose bits 15 to 13 are v alone
 thumb_none : (v : ℕ) (rs : List InstructionRow) → shut 0xE000 (λ x. x == v) rs ≡ true → (arch : Arch) (h : ℕ) → bit_and h 0xE000 ≡ v → first rs arch h ≡ None

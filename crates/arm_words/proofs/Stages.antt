@@ -1,6 +1,7 @@
 use Rattle.std.proofs.Common.{ℕ, List, [], ◌∷◌, Bool, true, ◌&&◌, ◌≡◌, ◌⊎◌, inl, inr, subst, ◌==◌, bit_and, refl, sym, ◌∙◌, ap, Option, Some, None}
 use Rattle.ds_base.specs.declared.processors.Arch.{Arch}
-use Rattle.arm_words.proofs.Facts.{and_parts, equal, if_false, if_true, some_is, true_or_false}
+use Rattle.ds_base.proofs.Choices.{both, true_or_false, if_true, if_false, equal}
+use Rattle.arm_words.proofs.Facts.{some_is}
 use Rattle.arm_words.specs.Rows.{InstructionRow, agrees, first, or_else}
 use Rattle.arm_words.specs.Fields.{HasFields}
 use Rattle.arm_words.specs.Spellings.{spelled}
@@ -73,11 +74,11 @@ ExactStage k f = (arch : Arch) (w : ℕ) → k.Fits w → (i : Instr) → f arch
 -- what a row that agrees says
 agreed_only : (r : InstructionRow) (arch : Arch) (w : ℕ) → agrees r arch w ≡ true → r.only w ≡ true
 agreed_only r arch w e =
-    (and_parts (r.only w) (bit_and w r.mask == r.value) (and_parts (r.on arch) (r.only w && (bit_and w r.mask == r.value)) e).1).0
+    (both (r.only w) (bit_and w r.mask == r.value) (both (r.on arch) (r.only w && (bit_and w r.mask == r.value)) e).1).0
 
 agreed_mask : (r : InstructionRow) (arch : Arch) (w : ℕ) → agrees r arch w ≡ true → bit_and w r.mask ≡ r.value
 agreed_mask r arch w e =
-    equal (bit_and w r.mask) r.value (and_parts (r.only w) (bit_and w r.mask == r.value) (and_parts (r.on arch) (r.only w && (bit_and w r.mask == r.value)) e).1).1
+    equal (bit_and w r.mask) r.value (both (r.only w) (bit_and w r.mask == r.value) (both (r.on arch) (r.only w && (bit_and w r.mask == r.value)) e).1).1
 
 parts_under : (w m v : ℕ) (ps : List Part) → mask ps ≡ m → descend ps ≡ true → bit_and w m ≡ v → under w ps ≡ v
 parts_under w m v ps e d h = sym (masked w ps d) ∙ ap (λ (x : ℕ). bit_and w x) e ∙ h

@@ -1,5 +1,5 @@
 use Rattle.std.proofs.Common.{ℕ, [], ◌∷◌, ◌≡◌, ◌/◌, ◌%◌, ◌^◌, nat_lt, refl, ap, arith}
-use Rattle.arm_words.proofs.Facts.{lt_of}
+use Rattle.ds_base.proofs.Choices.{lt_of}
 use Rattle.arm_words.specs.ThumbTable.{thumb_sum_rows, thumb_register_rows, thumb_literal_rows, thumb_offset_rows, thumb_stack_rows, thumb_multiple_rows, thumb_branch_rows}
 use Rattle.arm_words.proofs.Masks.{part}
 use Rattle.arm_words.proofs.Names.{condition_again, flag_again, shift_again, thumb_data_op_again, thumb_transfer_op_again, thumb_immediate_op_again, high_op_again}

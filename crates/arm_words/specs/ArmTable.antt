@@ -81,19 +81,22 @@ abbrev pub multiply_rows : List InstructionRow
 multiply_rows =
     row 0x0FE000F0 0x00000090 both always (λ w. Mul (condition_of (top4 w)) (bit 20 w) (at16 w) (at0 w) (at8 w)) ∷
     row 0x0FE000F0 0x00200090 both always (λ w. Mla (condition_of (top4 w)) (bit 20 w) (at16 w) (at0 w) (at8 w) (at12 w)) ∷
-    row 0x0F8000F0 0x00800090 both always (λ w. LongMultiply (condition_of (top4 w)) (bit 22 w) (bit 21 w) (bit 20 w) (at12 w) (at16 w) (at0 w) (at8 w)) ∷
+    row 0x0F8000F0 0x00800090 both always
+    (λ w. LongMultiply (condition_of (top4 w)) (bit 22 w) (bit 21 w) (bit 20 w) (at12 w) (at16 w) (at0 w) (at8 w)) ∷
     []
 
 -- swaps, and transfers of a half or of a signed byte (ARM manual, "Extra load/store instructions")
 abbrev pub half_transfer_rows : List InstructionRow
 half_transfer_rows =
     row 0x0FB000F0 0x01000090 both always (λ w. Swap (condition_of (top4 w)) (bit 22 w) (at12 w) (at0 w) (at16 w)) ∷
-    row 0x0E000090 0x00000090 both is_half (λ w. HalfTransfer (condition_of (top4 w)) (half_op_of (half_number w)) (bit 24 w) (bit 23 w) (bit 21 w) (at16 w) (at12 w) (short_offset_of w)) ∷
+    row 0x0E000090 0x00000090 both is_half
+    (λ w. HalfTransfer (condition_of (top4 w)) (half_op_of (half_number w)) (bit 24 w) (bit 23 w) (bit 21 w) (at16 w) (at12 w)
+    (short_offset_of w)) ∷
     []
 
 -- status registers (ARM manual, "Status register access instructions")
-abbrev pub status_rows : List InstructionRow
-status_rows =
+abbrev pub status_register_rows : List InstructionRow
+status_register_rows =
     row 0x0FB000F0 0x01000000 both always (λ w. Mrs (condition_of (top4 w)) (bit 22 w) (at12 w)) ∷
     row 0x0FB000F0 0x01200000 both always (λ w. Msr (condition_of (top4 w)) (bit 22 w) (field_mask_of w) (at0 w)) ∷
     []
@@ -108,32 +111,37 @@ abbrev pub data_rows : List InstructionRow
 data_rows =
     row 0x0D900000 0x01100000 both has_operand (λ w. Compare (condition_of (top4 w)) (compare_op_of (bits 21 2 w)) (at16 w) (operand_of w)) ∷
     row 0x0DA00000 0x01A00000 both has_operand (λ w. Move (condition_of (top4 w)) (move_op_of (bits 22 1 w)) (bit 20 w) (at12 w) (operand_of w)) ∷
-    row 0x0C000000 0x00000000 both has_result (λ w. Data (condition_of (top4 w)) (data_op_of (bits 21 4 w)) (bit 20 w) (at16 w) (at12 w) (operand_of w)) ∷
+    row 0x0C000000 0x00000000 both has_result
+    (λ w. Data (condition_of (top4 w)) (data_op_of (bits 21 4 w)) (bit 20 w) (at16 w) (at12 w) (operand_of w)) ∷
     []
 
 -- transfers of two words (ARM manual, "Enhanced DSP instructions")
 abbrev pub double_rows : List InstructionRow
 double_rows =
-    row 0x0E1000D0 0x000000D0 v5 is_even_rd (λ w. DoubleTransfer (condition_of (top4 w)) (bit 5 w) (bit 24 w) (bit 23 w) (bit 21 w) (at16 w) (at12 w) (short_offset_of w)) ∷
+    row 0x0E1000D0 0x000000D0 v5 is_even_rd
+    (λ w. DoubleTransfer (condition_of (top4 w)) (bit 5 w) (bit 24 w) (bit 23 w) (bit 21 w) (at16 w) (at12 w) (short_offset_of w)) ∷
     []
 
 -- transfers of words and bytes (ARM manual, "Load and store instructions")
 abbrev pub transfer_rows : List InstructionRow
 transfer_rows =
-    row 0x0C000000 0x04000000 both has_offset (λ w. Transfer (condition_of (top4 w)) (bit 24 w) (bit 23 w) (bit 22 w) (bit 21 w) (bit 20 w) (at16 w) (at12 w) (offset_of w)) ∷
+    row 0x0C000000 0x04000000 both has_offset
+    (λ w. Transfer (condition_of (top4 w)) (bit 24 w) (bit 23 w) (bit 22 w) (bit 21 w) (bit 20 w) (at16 w) (at12 w) (offset_of w)) ∷
     []
 
 -- transfers of several registers, and branches (ARM manual, "Load and store multiple", "Branch instructions")
 abbrev pub multiple_rows : List InstructionRow
 multiple_rows =
-    row 0x0E000000 0x08000000 both always (λ w. Multiple (condition_of (top4 w)) (bit 24 w) (bit 23 w) (bit 22 w) (bit 21 w) (bit 20 w) (at16 w) (bits 0 16 w)) ∷
+    row 0x0E000000 0x08000000 both always
+    (λ w. Multiple (condition_of (top4 w)) (bit 24 w) (bit 23 w) (bit 22 w) (bit 21 w) (bit 20 w) (at16 w) (bits 0 16 w)) ∷
     row 0x0E000000 0x0A000000 both always (λ w. Branch (condition_of (top4 w)) (bit 24 w) (bits 0 24 w)) ∷
     []
 
 -- coprocessors and SWI (ARM manual, "Coprocessor instructions", "Exception-generating instructions")
 abbrev pub coprocessor_rows : List InstructionRow
 coprocessor_rows =
-    row 0x0F000010 0x0E000010 v5 always (λ w. Coprocessor (condition_of (top4 w)) (bit 20 w) (bits 21 3 w) (at16 w) (at12 w) (at8 w) (bits 5 3 w) (at0 w)) ∷
+    row 0x0F000010 0x0E000010 v5 always
+    (λ w. Coprocessor (condition_of (top4 w)) (bit 20 w) (bits 21 3 w) (at16 w) (at12 w) (at8 w) (bits 5 3 w) (at0 w)) ∷
     row 0x0F000000 0x0F000000 both always (λ w. Swi (condition_of (top4 w)) (bits 0 24 w)) ∷
     []
 
@@ -150,7 +158,7 @@ unconditional_rows =
 abbrev pub conditional_arm : Arch → ℕ → Option Instr
 conditional_arm arch w =
     or_else (first branch_rows arch w) (or_else (first half_multiply_rows arch w) (or_else (first half_product_rows arch w) (
-    or_else (first multiply_rows arch w) (or_else (first half_transfer_rows arch w) (or_else (first status_rows arch w) (
+    or_else (first multiply_rows arch w) (or_else (first half_transfer_rows arch w) (or_else (first status_register_rows arch w) (
     or_else (first immediate_status_rows arch w) (or_else (first data_rows arch w) (or_else (first double_rows arch w) (
     or_else (first transfer_rows arch w) (or_else (first multiple_rows arch w) (first coprocessor_rows arch w)))))))))))
 

@@ -4,7 +4,7 @@ ghost use Rattle.std.specs.Prelude.{◌≡◌, ◌≢◌, bit_and, IfSome};
 ghost use Rattle.arm_words.specs.Fields.{HasFields};
 ghost use Rattle.arm_words.specs.Spellings.{IsInstruction};
 ghost use Rattle.arm_words.specs.Rows.{first, or_else};
-ghost use Rattle.arm_words.specs.ArmTable.{branch_rows, coprocessor_rows, conditional_arm, data_rows, decoded_arm, double_rows, half_multiply_rows, half_product_rows, half_transfer_rows, immediate_status_rows, multiple_rows, multiply_rows, status_rows, transfer_rows, unconditional_rows};
+ghost use Rattle.arm_words.specs.ArmTable.{branch_rows, coprocessor_rows, conditional_arm, data_rows, decoded_arm, double_rows, half_multiply_rows, half_product_rows, half_transfer_rows, immediate_status_rows, multiple_rows, multiply_rows, status_register_rows, transfer_rows, unconditional_rows};
 
 use crate::fields::{
     byte, compare_op, condition, data_op, field_mask, flag, four, half_bits, half_op, is_v5,
@@ -188,7 +188,7 @@ fn half_transfers(arch: Arch, word: u32) -> Option<Instr>
 }
 
 fn statuses(arch: Arch, word: u32) -> Option<Instr>
-    ensures { result ≡ first status_rows arch word }
+    ensures { result ≡ first status_register_rows arch word }
 {
     if word & 0x0FB0_00F0 == 0x0100_0000 {
         return Some(Instr::Mrs {
@@ -393,7 +393,8 @@ fn immediates(arch: Arch, word: u32) -> Option<Instr>
 
 // Words whose bits 27 to 25 are 000, and bits 7 and 4 are 1.
 fn extras(arch: Arch, word: u32) -> Option<Instr>
-    ensures { result ≡ or_else (first multiply_rows arch word) (or_else (first half_transfer_rows arch word) (or_else (first data_rows arch word) (first double_rows arch word))) }
+    ensures { result ≡ or_else (first multiply_rows arch word)
+        (or_else (first half_transfer_rows arch word) (or_else (first data_rows arch word) (first double_rows arch word))) }
 {
     if let Some(instr) = multiplies(arch, word) {
         return Some(instr);
@@ -409,7 +410,9 @@ fn extras(arch: Arch, word: u32) -> Option<Instr>
 
 // Words whose bits 27 to 23 are 00010, and bit 20 is 0, and bits 7 and 4 aren't both 1.
 fn miscellaneous(arch: Arch, word: u32) -> Option<Instr>
-    ensures { result ≡ or_else (first branch_rows arch word) (or_else (first half_multiply_rows arch word) (or_else (first half_product_rows arch word) (or_else (first status_rows arch word) (first data_rows arch word)))) }
+    ensures { result ≡ or_else (first branch_rows arch word)
+        (or_else (first half_multiply_rows arch word)
+        (or_else (first half_product_rows arch word) (or_else (first status_register_rows arch word) (first data_rows arch word)))) }
 {
     if let Some(instr) = branches(arch, word) {
         return Some(instr);

@@ -8,11 +8,11 @@ use Rattle.arm_words.specs.declared.parts.Shift.{Shift}
 use Rattle.arm_words.specs.declared.parts.Shift.TheVariants.{Lsl, Lsr, Asr, Ror}
 use Rattle.arm_words.specs.declared.parts.Operand.{Operand}
 use Rattle.arm_words.specs.declared.parts.Operand.TheVariants.{Immediate, Shifted, ShiftedByRegister}
-use Rattle.arm_words.proofs.Facts.{and_parts, le_of}
 use Rattle.asm_text.specs.Names.{shift_name}
 use Rattle.asm_text.specs.Operands.{shifted, operand}
 use Rattle.asm_text.specs.Reader.Parts.{numeral, hex_at, marked_at, decimal_at, register_at, one_at, two_at, three_at, four_at, is_decimal, is_digit, digit_value, shift_at, by_shift, shifted_at, rotation_from, rotation_of, operand_at}
 use Rattle.ds_base.specs.Digits.{hex_digit, hex_digits}
+use Rattle.ds_base.proofs.Choices.{both, le_of, low_or_high, same_or_not}
 use Rattle.asm_text.specs.Text.{register_name, decimal, hex, number, trimmed, joined}
 use Rattle.asm_text.proofs.Rotations.{back_again, below_word}
 
@@ -23,9 +23,6 @@ EndsNumber rest = is_digit (slice_index rest 0) ≡ false
 -- what can't go on a decimal one
 abbrev pub EndsDecimal : List ℕ → Type 0
 EndsDecimal rest = is_decimal (slice_index rest 0) ≡ false
-
-low_or_high : (a b : ℕ) → (a < b) ⊎ (b ≤ a)
-low_or_high a b = grind arith
 
 decimal_low : (n : ℕ) → n < 10 → nat_lt n 10 ≡ true
 decimal_low n h = grind arith
@@ -54,9 +51,6 @@ digit_step m d bs h =
 numeral_stops : (m : ℕ) (rest : List ℕ) → EndsNumber rest → numeral m rest ≡ (m, rest)
 numeral_stops m [] e = refl
 numeral_stops m (b ∷ bs) e = rw e refl
-
-same_or_not : (a b : ℕ) → (a ≡ b) ⊎ (a ≢ b)
-same_or_not a b = grind arith
 
 -- leading zeros change nothing
 trimmed_same : (ds rest : List ℕ) → numeral 0 (trimmed ds ++ rest) ≡ numeral 0 (ds ++ rest)
@@ -239,7 +233,7 @@ passed n from (suc count) left h =
 none : (rotate n : ℕ) → none_below rotate n ≡ true → (r : ℕ) → r < rotate → 256 ≤ turned_back r n
 none zero n e r h = absurd (omega arith)
 none (suc k) n e r h =
-    let parts = and_parts (nat_le 256 (turned_back k n)) (none_below k n) e in
+    let parts = both (nat_le 256 (turned_back k n)) (none_below k n) e in
     elim (same_or_not r k) [
       | inl same ↦ (let f : turned_back r n ≡ turned_back k n = ap (λ (x : ℕ). turned_back x n) same in rw f (le_of 256 (turned_back k n) parts.0))
       | inr other ↦ none k n parts.1 r (omega (arith, other))

@@ -1,6 +1,7 @@
 -- A name is read as what it was written for, with each condition.
 use Rattle.std.proofs.Common.{ℕ, ◌≡◌, ◌<◌, ◌+◌, ◌*◌, ◌/◌, ◌%◌, ◌^◌, Bool, true, List, [], ◌∷◌, ◌++◌, refl, sym, ap, ◌∙◌, arith, Option, Some, append_assoc}
 use Rattle.std.specs.Prelude.{codes, ◌==◌, not}
+use Rattle.ds_base.proofs.Choices.{both, not_true, lt_of}
 use Rattle.arm_words.specs.declared.parts.Condition.{Condition}
 use Rattle.arm_words.specs.declared.parts.Condition.TheVariants.{Eq, Ne, Cs, Cc, Mi, Pl, Vs, Vc, Hi, Ls, Ge, Lt, Gt, Le, Al}
 use Rattle.asm_text.specs.Names.{suffix}
@@ -9,7 +10,6 @@ use Rattle.asm_text.specs.Statements.{on}
 use Rattle.asm_text.specs.Text.{joined}
 use Rattle.asm_text.specs.declared.reading.names.Stem.{Stem}
 use Rattle.asm_text.specs.declared.reading.names.TheConstants.{CONDITIONS}
-use Rattle.arm_words.proofs.Facts.{and_parts, not_true, lt_of}
 
 -- a key goes on from a name to what follows it
 letters_after : (k : ℕ) (a b : List ℕ) → letters k (a ++ b) ≡ letters (letters k a) b
@@ -20,13 +20,13 @@ letters_after k (x ∷ xs) b = letters_after ((k * 32 + x % 32) % 2 ^ 64) xs b
 name_again : (k : ℕ) (nm rest : List ℕ) → no_blank nm ≡ true → name k (nm ++ 32 ∷ rest) ≡ (letters k nm, rest)
 name_again k [] rest h = refl
 name_again k (b ∷ bs) rest h =
-    let parts = and_parts (not (b == 32)) (no_blank bs) h in
+    let parts = both (not (b == 32)) (no_blank bs) h in
     rw (not_true (b == 32) parts.0) (name_again ((k * 32 + b % 32) % 2 ^ 64) bs rest parts.1)
 
 blank_free : (a b : List ℕ) → no_blank a ≡ true → no_blank b ≡ true → no_blank (a ++ b) ≡ true
 blank_free [] b ha hb = hb
 blank_free (x ∷ xs) b ha hb =
-    let parts = and_parts (not (x == 32)) (no_blank xs) ha in
+    let parts = both (not (x == 32)) (no_blank xs) ha in
     rw parts.0 (blank_free xs b parts.1 hb)
 
 suffix_blank_free : (cond : Condition) → no_blank (suffix cond) ≡ true

@@ -8,13 +8,13 @@ use Rattle.arm_words.specs.Spellings.{spelled, decoded, IsInRange}
 use Rattle.arm_words.specs.declared.instructions.Instr.{Instr}
 use Rattle.arm_words.specs.declared.spellings.Spelling.{Spelling}
 use Rattle.arm_words.specs.declared.spellings.Spelling.TheVariants.{Word, Half}
-use Rattle.arm_words.proofs.Facts.{and_parts, equal}
 use Rattle.arm_words.proofs.Laws.{decoded_arm_fields, decoded_thumb_fields}
 use Rattle.asm_text.specs.Reader.Candidates.{candidate, read_in, row_in, stems_in}
 use Rattle.asm_text.specs.Listed.{listed, number_in, raw, spelling, stated}
 use Rattle.asm_text.specs.Reader.Names.{read, named_stem}
 use Rattle.asm_text.specs.Reader.Parts.{hex_at}
 use Rattle.ds_base.specs.Digits.{hex_digits}
+use Rattle.ds_base.proofs.Choices.{both, equal}
 use Rattle.asm_text.specs.declared.reading.names.Stem.TheVariants.{Raw}
 use Rattle.asm_text.specs.declared.sets.Set.{Set}
 use Rattle.asm_text.specs.declared.sets.Set.TheVariants.{Arm, Thumb}
@@ -44,7 +44,7 @@ canon : (s : Spelling) (o : Option Instr) (i : Instr) → if_canonical s o ≡ S
 canon s None i h = absurd cc
 canon s (Some j) i h =
     let k = canon_if (canonical_form j && same_spelling (spelled j) s) j i h in
-    let parts = and_parts (canonical_form j) (same_spelling (spelled j) s) k.0 in
+    let parts = both (canonical_form j) (same_spelling (spelled j) s) k.0 in
     let P : Instr → Type 0 = λ x. Canon s (Some j) x in
     subst P k.1 (record { found = refl; form = parts.0; spelt = same_is (spelled j) s parts.1 })
 

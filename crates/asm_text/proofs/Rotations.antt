@@ -2,7 +2,8 @@ use Rattle.std.proofs.Common.{ℕ, zero, suc, Bool, true, ◌&&◌, ◌≡◌, �
 use Rattle.std.specs.Int.{rotate_right, w32}
 use Rattle.arm_words.specs.Canonical.{immediate, turned_back}
 use Rattle.std.specs.Prelude.{nat_lt}
-use Rattle.arm_words.proofs.Facts.{and_parts, equal, last_or_less, lt_of}
+use Rattle.ds_base.proofs.Choices.{both, equal, lt_of}
+use Rattle.arm_words.proofs.Facts.{last_or_less}
 
 -- the processor's rotation of a byte by twice a number below 16 is the sum of its two parts: by trying all
 abbrev all_pairs : (ℕ → ℕ → Bool) → ℕ → Bool
@@ -19,8 +20,8 @@ pair_number : (p : ℕ → ℕ → Bool) (k : ℕ) → all_pairs p k ≡ true �
 pair_number p zero e n h = absurd (omega arith)
 pair_number p (suc k) e n h =
     elim (last_or_less n k h) [
-      | inl same ↦ ap (λ (x : ℕ). p (x / 256) (x % 256)) same ∙ (and_parts (p (k / 256) (k % 256)) (all_pairs p k) e).0
-      | inr less ↦ pair_number p k (and_parts (p (k / 256) (k % 256)) (all_pairs p k) e).1 n less
+      | inl same ↦ ap (λ (x : ℕ). p (x / 256) (x % 256)) same ∙ (both (p (k / 256) (k % 256)) (all_pairs p k) e).0
+      | inr less ↦ pair_number p k (both (p (k / 256) (k % 256)) (all_pairs p k) e).1 n less
     ]
 
 pub rotated : (r b : ℕ) → r < 16 → b < 256 → rotate_right w32 b (2 * r) ≡ immediate r b

@@ -1,11 +1,11 @@
 use Rattle.std.proofs.Common.{ℕ, Bool, true, false, ◌≡◌, ◌<◌, ◌≤◌, ◌+◌, ◌-◌, ◌*◌, ◌/◌, ◌%◌, ◌==◌, ◌⊎◌, inl, inr, List, get_or, drop, refl, sym, ◌∙◌, ap, subst, arith}
 use Rattle.std.specs.List.{slice_range}
-use Rattle.std.proofs.lemmas.Bool.{false≢true}
 use Rattle.std.proofs.lemmas.List.{get_or-take, get_or-drop}
 use Rattle.std.specs.Prelude.{if◌then◌else◌, ◌&&◌}
 use Rattle.ds_base.specs.Bits.{bits, bit}
 use Rattle.ds_base.specs.Numbers.{number_at}
 use Rattle.ds_base.specs.declared.memories.Width.TheVariants.{Half}
+use Rattle.ds_base.proofs.Choices.{both}
 use Rattle.vram_banks.specs.Cells.{Banks, vram_byte}
 use Rattle.bg2d.specs.declared.layers.TextLayer.{TextLayer}
 use Rattle.bg2d.specs.declared.texts.KeptPalette.{KeptPalette}
@@ -155,10 +155,6 @@ painted_extended v palette layer entry at index h on e =
     same_pixel (extended_colour v (background_palette_space layer.engine) at) (text_colour v palette layer entry) index
     (ap (λ (a : ℕ). extended_colour v (background_palette_space layer.engine) a index) e ∙ (rw (h, on) refl))
 
-both_true : (a b : Bool) → (a && b) ≡ true → (a ≡ true) × (b ≡ true)
-both_true true b h = (refl, h)
-both_true false b h = (h, absurd (false≢true h))
-
 -- by a table
 pub table_16 : (v : Banks) (palette : List ℕ) (layer : TextLayer) (entry index : ℕ) → has_256 layer ≡ false → index < 16 →
     table_pixel (has_256 layer) palette (16 * bits 12 4 entry + index) ≡ indexed_pixel (text_colour v palette layer entry) index
@@ -180,7 +176,7 @@ pub kept_pixel : (v : Banks) (palette : List ℕ) (layer : TextLayer) (entry ind
     IsKept v layer kept → kept.at ≡ 0x2000 * palette_slot layer + 512 * bits 12 4 entry →
     indexed_pixel (λ c. palette_colour kept.bytes (0 + c)) index ≡ indexed_pixel (text_colour v palette layer entry) index
 kept_pixel v palette layer entry index kept extended small read e =
-    let both = both_true (has_256 layer) (bit 30 layer.display) extended in
+    let both = both (has_256 layer) (bit 30 layer.display) extended in
     let even : kept.at ≡ kept.at - kept.at % 2 = omega (arith, e) in
     let f : ℕ → ℕ = vram_byte v (background_palette_space layer.engine) in
     read_pixel v (background_palette_space layer.engine) kept.at index kept.bytes small (λ i within. read i within ∙ ap (λ (n : ℕ). f (n + i)) even)

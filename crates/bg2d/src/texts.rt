@@ -221,7 +221,8 @@ fn paint_tile(
     requires indices { length indices.now ≡ 8 }
     requires room { length into.old ≡ 8 }
     requires narrow { has_256 layer.now ≡ false → (i : ℕ) → i < 8 → slice_index indices.now i < 16 }
-    ensures { (i : ℕ) → i < 8 → slice_index into.new i ≡ indexed_pixel (text_colour vram.now palette.now layer.now entry) (slice_index indices.now (flipped (bit 10 entry) i)) }
+    ensures { (i : ℕ) → i < 8 → slice_index into.new i
+        ≡ indexed_pixel (text_colour vram.now palette.now layer.now entry) (slice_index indices.now (flipped (bit 10 entry) i)) }
 {
     let flip = flips_across(entry);
     if has_256(layer) {
@@ -302,7 +303,8 @@ fn paint_extended_tile(
     requires indices { length indices.now ≡ 8 }
     requires room { length into.old ≡ 8 }
     ensures kept { IsKept vram.now layer.now kept.new }
-    ensures pixels { (i : ℕ) → i < 8 → slice_index into.new i ≡ indexed_pixel (text_colour vram.now palette.now layer.now entry) (slice_index indices.now (flipped (bit 10 entry) i)) }
+    ensures pixels { (i : ℕ) → i < 8 → slice_index into.new i
+        ≡ indexed_pixel (text_colour vram.now palette.now layer.now entry) (slice_index indices.now (flipped (bit 10 entry) i)) }
 {
     let flip = flips_across(entry);
     let at = extended_palette(layer, entry);

@@ -22,7 +22,8 @@ struct CacheEntry<const VERSION: u32, const BITS: u32> {
     number: u32,
     operation: Operation,
     filler: u32,
-    ghost made: { operation_of (known VERSION BITS number) ≡ operation } by { Coded-set operation-code (operation_of (known VERSION BITS number)) operation },
+    ghost made: { operation_of (known VERSION BITS number)
+        ≡ operation } by { Coded-set operation-code (operation_of (known VERSION BITS number)) operation },
 }
 
 /// Numbers of so many bits with their instructions.
@@ -41,7 +42,8 @@ impl<const VERSION: u32, const BITS: u32> Model for DecodeCache<VERSION, BITS> {
     ghost invariant = { λ m. length m.entries.items ≡ 16384 };
 }
 
-/// Where a number is kept that was found at a place of the code, counted in words or in halves: what lies side by side is kept side by side. (Our choice.)
+/// Where a number is kept that was found at a place of the code, counted in words or in halves: what lies side by side is kept side by side. (Our
+/// choice.)
 #[inline(always)]
 fn place(at: u32) -> usize
     ensures { result ≡ at % 16384 }

@@ -11,8 +11,8 @@ use arm_ops::Operation;
 use std::alloc::{AllocError, Global};
 use std::marker::Model;
 
-/// Decodes words of ARM code and halves of Thumb code of ARMv5 where VERSION is 5, and otherwise of ARMv4, makes their operations, and keeps what it made last. Contracts see nothing
-/// of it: one decoder is as any other, and none is another after a call, whatever it keeps.
+/// Decodes words of ARM code and halves of Thumb code of ARMv5 where VERSION is 5, and otherwise of ARMv4, makes their operations, and keeps what it
+/// made last. Contracts see nothing of it: one decoder is as any other, and none is another after a call, whatever it keeps.
 #[derive(Drop)]
 pub struct Decoder<const VERSION: u32> {
     words: DecodeCache<VERSION, 32>,
@@ -34,7 +34,8 @@ impl<const VERSION: u32> Decoder<VERSION> {
         })
     }
 
-    /// What a word of ARM code at an address stands for, or none, as `decode_arm` of `arm_words` has it, as an operation. The address tells where it is kept and nothing else.
+    /// What a word of ARM code at an address stands for, or none, as `decode_arm` of `arm_words` has it, as an operation. The address tells where it
+    /// is kept and nothing else.
     #[inline(always)]
     #[tactic(auto, unfolding(crate::specs::Known::known), using(crate::proofs::Fields::word_operation))]
     pub fn arm_operation(&mut self, at: u32, word: u32) -> &Operation
@@ -45,7 +46,8 @@ impl<const VERSION: u32> Decoder<VERSION> {
         self.words.operation(at / 4, word)
     }
 
-    /// What a half of Thumb code at an address stands for, or none, as `decode_thumb` of `arm_words` has it, as an operation. The address tells where it is kept and nothing else.
+    /// What a half of Thumb code at an address stands for, or none, as `decode_thumb` of `arm_words` has it, as an operation. The address tells where
+    /// it is kept and nothing else.
     #[inline(always)]
     #[tactic(auto, unfolding(crate::specs::Known::known), using(crate::proofs::Fields::half_operation, crate::proofs::Fields::half_itself))]
     pub fn thumb_operation(&mut self, at: u32, half: u16) -> &Operation

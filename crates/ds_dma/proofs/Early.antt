@@ -3,13 +3,13 @@ use Rattle.std.specs.Prelude.{if◌then◌else◌, not}
 use Rattle.ds_base.specs.Schedules.{IsEarly}
 use Rattle.ds_base.specs.declared.processors.Proc.{Proc}
 use Rattle.ds_base.specs.declared.ticks.Tick.{Tick}
+use Rattle.ds_base.proofs.Choices.{either_by}
 use Rattle.ds_dma.specs.declared.controls.Cause.{Cause}
 use Rattle.ds_dma.specs.declared.controls.DmaPort.{DmaPort}
 use Rattle.ds_dma.specs.declared.controls.DmaPort.TheVariants.{Source, Target, Control}
 use Rattle.ds_dma.specs.Controls.{kept_channel_control, is_enabled, is_armed_again, starts_immediately}
 use Rattle.ds_dma.specs.Channels.{ChannelState, channel_controlled, channel_set, is_triggered, triggered, is_last_unit, is_last_of_burst, after_unit}
 use Rattle.ds_dma.specs.States.{DmaState, HasEarlyTicks, channel_at}
-use Rattle.ds_dma.proofs.Choices.{either}
 use Rattle.ds_dma.proofs.Fours.{at_mapped, set_holds}
 
 -- a tick that is early, where there is one
@@ -21,8 +21,8 @@ controlled_early : (proc : Proc) (which : ℕ) (c : ChannelState) (control : ℕ
     → IsEarly (channel_controlled proc which c control now).trigger
 controlled_early proc which c control now was early =
     let P : ChannelState → Type 0 = λ x. IsEarly x.trigger in
-    either P (is_enabled control) _ _
-    (λ on. either P (is_enabled c.cnt) _ _ (λ e. was) (λ e. early_where now (starts_immediately proc control) early))
+    either_by P (is_enabled control) _ _
+    (λ on. either_by P (is_enabled c.cnt) _ _ (λ e. was) (λ e. early_where now (starts_immediately proc control) early))
     (λ off. tt)
 
 -- after a write at an early tick a channel's trigger is early still
@@ -36,13 +36,13 @@ written_early proc which Control value now c was early = controlled_early proc w
 pub triggered_early : (proc : Proc) (cause : Cause) (now : Tick) (c : ChannelState) → IsEarly c.trigger → now.0 ≤ 2 ^ 56
     → IsEarly (triggered proc cause now c).trigger
 triggered_early proc cause now c was early =
-    either (λ (x : ChannelState). IsEarly x.trigger) (is_triggered proc cause c) _ _ (λ e. early) (λ e. was)
+    either_by (λ (x : ChannelState). IsEarly x.trigger) (is_triggered proc cause c) _ _ (λ e. early) (λ e. was)
 
 -- and after its first unit
 pub taken_early : (proc : Proc) (which : ℕ) (c : ChannelState) → IsEarly c.trigger → IsEarly (after_unit proc which c).trigger
 taken_early proc which c was =
     let P : ChannelState → Type 0 = λ x. IsEarly x.trigger in
-    either P (not (is_last_unit c)) _ _ (λ e. either P (is_last_of_burst c) _ _ (λ f. tt) (λ f. was)) (λ e. either P (is_armed_again proc c.cnt) _ _ (λ f. tt) (λ f. tt))
+    either_by P (not (is_last_unit c)) _ _ (λ e. either_by P (is_last_of_burst c) _ _ (λ f. tt) (λ f. was)) (λ e. either_by P (is_armed_again proc c.cnt) _ _ (λ f. tt) (λ f. tt))
 
 -- with another channel in one place and another last unit, both early, all are early still
 pub early_set : (s : DmaState) (which : ℕ) (c : ChannelState) (last : Option Tick) → length s.channels ≡ 4 → HasEarlyTicks s → which < 4 → IsEarly c.trigger

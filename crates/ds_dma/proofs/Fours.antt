@@ -1,9 +1,9 @@
 use Rattle.std.proofs.Common.{ℕ, ◌≡◌, ◌<◌, inl, inr, List, [], ◌∷◌, length, map, slice_set, refl, sym, ◌∙◌, subst, arith, get_or-set_same, get_or-set_other, length-set, Option}
 use Rattle.std.proofs.lemmas.List.{get_or-map, length-map}
 use Rattle.ds_base.specs.declared.ticks.Tick.{Tick}
+use Rattle.ds_base.proofs.Choices.{same_or_not}
 use Rattle.ds_dma.specs.Channels.{ChannelState, IsChannel}
 use Rattle.ds_dma.specs.States.{DmaState, IsDma, channel_at}
-use Rattle.ds_dma.proofs.Choices.{same_or_not}
 
 -- four are these four
 pub four_are : (channels : List ChannelState) → length channels ≡ 4

@@ -4,13 +4,13 @@ use Rattle.std.specs.Int.Bits.{and_self}
 use Rattle.std.proofs.lemmas.Nat.{and_assoc, and_comm, and_mask}
 use Rattle.ds_base.specs.declared.processors.Proc.{Proc}
 use Rattle.ds_base.specs.declared.ticks.Tick.{Tick}
+use Rattle.ds_base.proofs.Choices.{either_by, not_true, never, both, equal, unequal}
 use Rattle.ds_dma.specs.declared.controls.Cause.{Cause}
 use Rattle.ds_dma.specs.declared.controls.Cause.TheVariants.{VBlank, HBlank, Card, Geometry}
 use Rattle.ds_dma.specs.declared.controls.DmaPort.{DmaPort}
 use Rattle.ds_dma.specs.declared.controls.DmaPort.TheVariants.{Source, Target, Control}
 use Rattle.ds_dma.specs.Controls.{kept_channel_control, channel_control_mask, greatest_count, units_counted, is_enabled, disabled, is_armed_again, waits_for, burst_of, latches_again}
 use Rattle.ds_dma.specs.Channels.{ChannelState, IsChannel, is_running, latched, emptied, channel_controlled, channel_set, is_triggered, triggered, next_to, after_unit, is_last_unit, is_last_of_burst, rest_of}
-use Rattle.ds_dma.proofs.Choices.{either, both, never, not_true, equal_numbers, unequal_numbers}
 
 -- the bits that are kept are kept again
 pub kept_twice : (proc : Proc) (which value : ℕ) → kept_channel_control proc which (kept_channel_control proc which value) ≡ kept_channel_control proc which value
@@ -77,8 +77,8 @@ controlled_is : (proc : Proc) (which : ℕ) (c : ChannelState) (control : ℕ) (
     → IsChannel proc which (channel_controlled proc which c control now)
 controlled_is proc which c control now is kept =
     let P : ChannelState → Type 0 = IsChannel proc which in
-    either P (is_enabled control) _ _
-    (λ on. either P (is_enabled c.cnt) _ _
+    either_by P (is_enabled control) _ _
+    (λ on. either_by P (is_enabled c.cnt) _ _
     (λ was. record {
       sad = is.sad;
       dad = is.dad;
@@ -139,7 +139,7 @@ burst_within Geometry left = (grind arith, grind arith)
 pub triggered_is : (proc : Proc) (which : ℕ) (cause : Cause) (now : Tick) (c : ChannelState) → IsChannel proc which c
     → IsChannel proc which (triggered proc cause now c)
 triggered_is proc which cause now c is =
-    either (IsChannel proc which) (is_triggered proc cause c) _ _
+    either_by (IsChannel proc which) (is_triggered proc cause c) _ _
     (λ e. (let waits = (both (is_enabled c.cnt && waits_for proc cause c.cnt) (not (is_running c)) e).0 in
     let on = (both (is_enabled c.cnt) (waits_for proc cause c.cnt) waits).0 in record {
       sad = is.sad;
@@ -184,12 +184,12 @@ rest_is proc which c next is on ne waits = record {
 pub taken_is : (proc : Proc) (which : ℕ) (c : ChannelState) → IsChannel proc which c → is_enabled c.cnt ≡ true → IsChannel proc which (after_unit proc which c)
 taken_is proc which c is on =
     let P : ChannelState → Type 0 = IsChannel proc which in
-    either P (not (is_last_unit c)) _ _
-    (λ e. (let ne = unequal_numbers c.remaining 1 (not_true (is_last_unit c) e) in
-    either P (is_last_of_burst c) _ _
-    (λ f. rest_is proc which c None is on ne (λ off. (let one = equal_numbers c.burst 1 f in omega (arith, one))))
+    either_by P (not (is_last_unit c)) _ _
+    (λ e. (let ne = unequal c.remaining 1 (not_true (is_last_unit c) e) in
+    either_by P (is_last_of_burst c) _ _
+    (λ f. rest_is proc which c None is on ne (λ off. (let one = equal c.burst 1 f in omega (arith, one))))
     (λ f. rest_is proc which c c.trigger is on ne (λ off. (let none = is.waits off in omega (arith, none))))))
-    (λ e. either P (is_armed_again proc c.cnt) _ _
+    (λ e. either_by P (is_armed_again proc c.cnt) _ _
     (λ f. record {
       sad = is.sad;
       dad = is.dad;

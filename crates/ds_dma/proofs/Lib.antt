@@ -1,4 +1,3 @@
-mod Choices
 pub mod Plans
 pub mod Kept
 pub mod Fours

@@ -3,10 +3,10 @@ use Rattle.std.specs.Prelude.{not, if◌then◌else◌, None}
 use Rattle.std.specs.List.{range_with_len}
 use Rattle.std.proofs.Math.Nat.{mod-add-mod, mod-eq_of_lt}
 use Rattle.ds_base.specs.declared.processors.Proc.{Proc}
+use Rattle.ds_base.proofs.Choices.{either_by, not_false, not_true, equal, unequal}
 use Rattle.ds_dma.specs.declared.channels.Unit.{Unit as DmaUnit}
 use Rattle.ds_dma.specs.Controls.{disabled, is_armed_again}
-use Rattle.ds_dma.specs.Channels.{ChannelState, plan_of, unit_of, address_of, source_step, target_step, next_from, next_to, emptied, rest_of, TakesUnit, more, pauses, again, ends, after_unit, is_last_unit, is_last_of_burst}
-use Rattle.ds_dma.proofs.Choices.{either, not_false, not_true, equal_numbers, unequal_numbers}
+use Rattle.ds_dma.specs.Channels.{ChannelState, plan_of, unit_of, address_of, source_step, target_step, next_from, next_to, emptied, rest_of, TakesUnit, more_units, pauses, again, ends, after_unit, is_last_unit, is_last_of_burst}
 
 -- the address of the unit after this one, from the first and from the second
 shifted : (first step i : ℕ) → address_of first step (i + 1) ≡ address_of (address_of first step 1) step i
@@ -58,12 +58,12 @@ took_more proc which c h =
     let splits = plan_splits rest (omega (arith, h)) in
     let all = plan_splits c (omega (arith, h)) ∙ ap (λ xs. unit_of c 0 ∷ xs) splits in
     let is = next_is c in
-    either (TakesUnit proc which c) (is_last_of_burst c) (record rest { trigger = None }) rest
-    (λ e. (let one = equal_numbers c.burst 1 e in pauses (unit_of c 0) (unit_of rest 0) (plan_of (rest_of rest)) all splits one
+    either_by (TakesUnit proc which c) (is_last_of_burst c) (record rest { trigger = None }) rest
+    (λ e. (let one = equal c.burst 1 e in pauses (unit_of c 0) (unit_of rest 0) (plan_of (rest_of rest)) all splits one
     (ap (λ n. record c { from = n; to = next_to c; remaining = c.remaining - 1; trigger = None; burst = c.burst - 1 }) is.0
     ∙ ap (λ n. record c { from = (unit_of rest 0).from; to = n; remaining = c.remaining - 1; trigger = None; burst = c.burst - 1 }) is.1
     ∙ ap (λ n. record c { from = (unit_of rest 0).from; to = (unit_of rest 0).to; remaining = c.remaining - 1; trigger = None; burst = n - 1 }) one)))
-    (λ e. more (unit_of c 0) (unit_of rest 0) (plan_of (rest_of rest)) all splits (unequal_numbers c.burst 1 e)
+    (λ e. more_units (unit_of c 0) (unit_of rest 0) (plan_of (rest_of rest)) all splits (unequal c.burst 1 e)
     (ap (λ n. record c { from = n; to = next_to c; remaining = c.remaining - 1; burst = c.burst - 1 }) is.0
     ∙ ap (λ n. record c { from = (unit_of rest 0).from; to = n; remaining = c.remaining - 1; burst = c.burst - 1 }) is.1))
 
@@ -74,10 +74,10 @@ only_one c h = plan_splits c (omega (arith, h)) ∙ ap (λ xs. unit_of c 0 ∷ x
 pub takes : (proc : Proc) (which : ℕ) (c : ChannelState) → 1 ≤ c.remaining → TakesUnit proc which c (after_unit proc which c)
 takes proc which c h =
     let P : ChannelState → Type 0 = TakesUnit proc which c in
-    either P (not (is_last_unit c)) _ _
-    (λ e. took_more proc which c (let ne = unequal_numbers c.remaining 1 (not_true (is_last_unit c) e) in omega (arith, h, ne)))
-    (λ e. (let one = equal_numbers c.remaining 1 (not_false (is_last_unit c) e) in
-    either P (is_armed_again proc c.cnt) _ _
+    either_by P (not (is_last_unit c)) _ _
+    (λ e. took_more proc which c (let ne = unequal c.remaining 1 (not_true (is_last_unit c) e) in omega (arith, h, ne)))
+    (λ e. (let one = equal c.remaining 1 (not_false (is_last_unit c) e) in
+    either_by P (is_armed_again proc c.cnt) _ _
     (λ f. again (unit_of c 0) (only_one c one) f refl)
     (λ f. ends (unit_of c 0) (only_one c one) f (plan_ends (emptied c (disabled c.cnt)) refl) refl)))
 

@@ -4,13 +4,13 @@ use Rattle.std.proofs.Math.Nat.{le-max_left, le-max_right}
 use Rattle.ds_base.specs.Schedules.{IsLater, Reschedules}
 use Rattle.ds_base.specs.declared.processors.Proc.{Proc}
 use Rattle.ds_base.specs.declared.ticks.Tick.{Tick}
+use Rattle.ds_base.proofs.Choices.{either_by, never, equal, is_equal, if_true, if_false}
 use Rattle.ds_dma.specs.declared.controls.Cause.{Cause}
 use Rattle.ds_dma.specs.declared.controls.DmaPort.{DmaPort}
 use Rattle.ds_dma.specs.declared.controls.DmaPort.TheVariants.{Source, Target, Control}
 use Rattle.ds_dma.specs.Controls.{kept_channel_control, is_enabled, starts_immediately}
 use Rattle.ds_dma.specs.Channels.{ChannelState, is_running, channel_controlled, channel_set, is_triggered, triggered, ready, ready_by}
 use Rattle.ds_dma.specs.States.{DmaState, IsDma, AreReadyLater, channel_at, dma_triggered, least_running, channel_due, due_with, dma_due, due_channel, dma_finished}
-use Rattle.ds_dma.proofs.Choices.{either, never, equal_numbers, equal_self}
 use Rattle.ds_dma.proofs.Kept.{runs_on}
 use Rattle.ds_dma.proofs.Fours.{set_holds, at_mapped}
 
@@ -27,7 +27,7 @@ later_after_unit now (Some trigger) = omega (arith, le-max_right trigger.0 now.0
 -- where all are ready later, none is due by that tick
 pub all_later : (now : Tick) (s : DmaState) (old : Option Tick) → AreReadyLater now s → (each : ℕ) → each < 4 → Reschedules now old (channel_due s each)
 all_later now s old later each l =
-    inr (either (IsLater now) (each == least_running s.channels) _ _ (λ e. later each l) (λ e. tt))
+    inr (either_by (IsLater now) (each == least_running s.channels) _ _ (λ e. later each l) (λ e. tt))
 
 pub finished_later : (s : DmaState) (now : Tick) → AreReadyLater now (dma_finished s now)
 finished_later s now = λ which l. later_after_unit now (channel_at (dma_finished s now).channels which).trigger
@@ -37,9 +37,9 @@ controlled_later : (proc : Proc) (which : ℕ) (c : ChannelState) (control : ℕ
     → IsLater now (ready last (channel_controlled proc which c control now))
 controlled_later proc which c control now last h =
     let P : ChannelState → Type 0 = λ x. IsLater now (ready last x) in
-    either P (is_enabled control) _ _
-    (λ on. either P (is_enabled c.cnt) _ _ (λ was. h)
-    (λ was. either (λ o. IsLater now (ready_by last o)) (starts_immediately proc control) _ _ (λ e. triggered_later last now) (λ e. tt)))
+    either_by P (is_enabled control) _ _
+    (λ on. either_by P (is_enabled c.cnt) _ _ (λ was. h)
+    (λ was. either_by (λ o. IsLater now (ready_by last o)) (starts_immediately proc control) _ _ (λ e. triggered_later last now) (λ e. tt)))
     (λ off. tt)
 
 set_later : (proc : Proc) (which : ℕ) (port : DmaPort) (value : ℕ) (now : Tick) (c : ChannelState) (last : Option Tick) → IsLater now (ready last c)
@@ -58,7 +58,7 @@ written_later s which port value now is l later = λ each m.
 one_triggered : (proc : Proc) (cause : Cause) (now : Tick) (c : ChannelState) (last : Option Tick) → IsLater now (ready last c)
     → IsLater now (ready last (triggered proc cause now c))
 one_triggered proc cause now c last h =
-    either (λ x. IsLater now (ready last x)) (is_triggered proc cause c) _ _ (λ e. triggered_later last now) (λ e. h)
+    either_by (λ x. IsLater now (ready last x)) (is_triggered proc cause c) _ _ (λ e. triggered_later last now) (λ e. h)
 
 pub event_later : (s : DmaState) (cause : Cause) (now : Tick) → IsDma s → AreReadyLater now s → AreReadyLater now (dma_triggered s cause now)
 event_later s cause now is later = λ each m.
@@ -84,7 +84,7 @@ least_same false false false false false true f g h n e p q r = never false (sym
 least_same false false false false false false f g h n e p q r = e
 
 pub still_runs : (proc : Proc) (cause : Cause) (now : Tick) (c : ChannelState) → is_running c ≡ true → is_running (triggered proc cause now c) ≡ true
-still_runs proc cause now c h = either (λ x. is_running x ≡ true) (is_triggered proc cause c) _ _ (λ e. refl) (λ e. h)
+still_runs proc cause now c h = either_by (λ x. is_running x ≡ true) (is_triggered proc cause c) _ _ (λ e. refl) (λ e. h)
 
 -- a channel that is least after an event, and that it doesn't trigger, was least before
 least_before : (s : DmaState) (cause : Cause) (now : Tick) → IsDma s → (each : ℕ) → each ≡ least_running (map (triggered s.proc cause now) s.channels)
@@ -103,17 +103,6 @@ least_before s cause now is each e same =
     each (e ∙ picks)
     (λ z. subst P z same) (λ z. subst P z same) (λ z. subst P z same)
 
-first : {A : Type 0} (b : Bool) (x y : A) → b ≡ true → (if b then x else y) ≡ x
-first true x y h = refl
-first false x y h = never false h refl
-
-second : {A : Type 0} (b : Bool) (x y : A) → b ≡ false → (if b then x else y) ≡ y
-second true x y h = never true refl h
-second false x y h = refl
-
-equal_of : (m n : ℕ) → m ≡ n → (m == n) ≡ true
-equal_of m n e = subst (λ k. (m == k) ≡ true) e (equal_self m)
-
 -- an event leaves each channel due as it was, or later
 pub event_schedules : (s : DmaState) (cause : Cause) (now : Tick) → IsDma s → (each : ℕ) → each < 4
     → Reschedules now (channel_due s each) (channel_due (dma_triggered s cause now) each)
@@ -123,21 +112,21 @@ event_schedules s cause now is each m =
     let there = at_mapped f s.channels each is.four m in
     let least = least_running (map f s.channels) in
     let P : Option Tick → Type 0 = λ o. Reschedules now (channel_due s each) o in
-    either P (each == least) _ _
+    either_by P (each == least) _ _
     (λ e. subst (λ x. P (ready s.last x)) (sym there)
-    (either (λ x. P (ready s.last x)) (is_triggered s.proc cause c) _ _
+    (either_by (λ x. P (ready s.last x)) (is_triggered s.proc cause c) _ _
     (λ t. inr (triggered_later s.last now))
-    (λ t. (let before = least_before s cause now is each (equal_numbers each least e) (ap is_running (second (is_triggered s.proc cause c) _ _ t)) in
-    inl (sym (first (each == least_running s.channels) _ _ (equal_of each (least_running s.channels) before)))))))
+    (λ t. (let before = least_before s cause now is each (equal each least e) (ap is_running (if_false (is_triggered s.proc cause c) _ _ t)) in
+    inl (sym (if_true (each == least_running s.channels) _ _ (is_equal each (least_running s.channels) before)))))))
     (λ e. inr tt)
 
 -- the least running channel is below 4
 pub least_below : (channels : List ChannelState) → least_running channels < 4
 least_below channels =
     let P : ℕ → Type 0 = λ n. n < 4 in
-    either P (is_running (channel_at channels 0)) _ _ (λ e. omega arith)
-    (λ e. either P (is_running (channel_at channels 1)) _ _ (λ f. omega arith)
-    (λ f. either P (is_running (channel_at channels 2)) _ _ (λ g. omega arith) (λ g. omega arith)))
+    either_by P (is_running (channel_at channels 0)) _ _ (λ e. omega arith)
+    (λ e. either_by P (is_running (channel_at channels 1)) _ _ (λ f. omega arith)
+    (λ f. either_by P (is_running (channel_at channels 2)) _ _ (λ g. omega arith) (λ g. omega arith)))
 
 due_runs : (which : ℕ) (last trigger : Option Tick) → IsSome (due_with which (ready_by last trigger)) → is_some trigger ≡ true
 due_runs which last None h = never false h refl

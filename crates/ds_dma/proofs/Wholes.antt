@@ -1,15 +1,15 @@
 use Rattle.std.proofs.Common.{ℕ, ◌≡◌, ◌<◌, [], ◌∷◌, length, map, refl, sym, ◌∙◌, ap, arith, Bool, true, false, Option, Some, None}
-use Rattle.std.specs.Prelude.{◌||◌, ◌&&◌, if◌then◌else◌, IsSome}
+use Rattle.std.specs.Prelude.{◌||◌, ◌&&◌, IsSome}
 use Rattle.ds_base.specs.declared.left_out.Stop.{Stop}
 use Rattle.ds_base.specs.declared.processors.Proc.{Proc}
 use Rattle.ds_base.specs.declared.ticks.Tick.{Tick}
+use Rattle.ds_base.proofs.Choices.{either_by, and_false, never, neither, if_false}
 use Rattle.ds_dma.specs.declared.controls.Cause.{Cause}
 use Rattle.ds_dma.specs.declared.controls.Cause.TheVariants.{Geometry}
 use Rattle.ds_dma.specs.declared.controls.DmaPort.{DmaPort}
 use Rattle.ds_dma.specs.Controls.{is_enabled, waits_for}
 use Rattle.ds_dma.specs.Channels.{ChannelState, channel_refusal, channel_set, is_running, is_triggered, after_unit, triggered}
 use Rattle.ds_dma.specs.States.{DmaState, IsDma, AreReadyLater, any_runs, awaits_geometry, channel_at, channel_written, dma_due, dma_finished, dma_triggered, due_channel, least_running, unless}
-use Rattle.ds_dma.proofs.Choices.{and_false, either, never}
 use Rattle.ds_dma.proofs.Fours.{are_set, at_mapped, four_are, mapped_is}
 use Rattle.ds_dma.proofs.Kept.{taken_is, triggered_is, written_is}
 use Rattle.ds_dma.proofs.Turns.{due_is_on, least_below, still_runs, written_later}
@@ -61,17 +61,9 @@ event_runs s cause now is runs =
     λ k l h. ap is_running (at_mapped f s.channels k is.four l) ∙ still_runs s.proc cause now (channel_at s.channels k) h in
     or_keeps _ _ _ _ (or_keeps _ _ _ _ (or_keeps _ _ _ _ (on 0 (omega arith)) (on 1 (omega arith))) (on 2 (omega arith))) (on 3 (omega arith)) runs
 
-either_false : (a b : Bool) → (a || b) ≡ false → (a ≡ false) × (b ≡ false)
-either_false true b h = never true refl h
-either_false false b h = (refl, h)
-
-neither : (a b : Bool) → a ≡ false → b ≡ false → (a || b) ≡ false
-neither true b h i = never true refl h
-neither false b h i = i
-
-unless_triggered : (b : Bool) (x y : ChannelState) → b ≡ false → (if b then x else y) ≡ y
-unless_triggered true x y h = never true refl h
-unless_triggered false x y h = refl
+both_false : (a b : Bool) → a ≡ false → b ≡ false → (a || b) ≡ false
+both_false true b h i = never true refl h
+both_false false b h i = i
 
 -- WHERE NO CHANNEL WAITS FOR THE GEOMETRY FIFO, ITS EVENT CHANGES NOTHING
 pub awaits_none : (s : DmaState) (now : Tick) → length s.channels ≡ 4 → awaits_geometry s ≡ false → dma_triggered s Geometry now ≡ s
@@ -79,10 +71,10 @@ awaits_none s now four none =
     let f = triggered s.proc Geometry now in
     let at = channel_at s.channels in
     let waits : ℕ → Bool = λ k. is_triggered s.proc Geometry (at k) in
-    let low = either_false (waits 0 || waits 1 || waits 2) (waits 3) none in
-    let lower = either_false (waits 0 || waits 1) (waits 2) low.0 in
-    let lowest = either_false (waits 0) (waits 1) lower.0 in
-    let stays : (k : ℕ) → waits k ≡ false → f (at k) ≡ at k = λ k h. unless_triggered (waits k) _ _ h in
+    let low = neither (waits 0 || waits 1 || waits 2) (waits 3) none in
+    let lower = neither (waits 0 || waits 1) (waits 2) low.0 in
+    let lowest = neither (waits 0) (waits 1) lower.0 in
+    let stays : (k : ℕ) → waits k ≡ false → f (at k) ≡ at k = λ k h. if_false (waits k) _ _ h in
     ap (λ xs. record s { channels = map f xs }) (four_are s.channels four)
     ∙ ap (λ x. record s { channels = x ∷ f (at 1) ∷ f (at 2) ∷ f (at 3) ∷ [] }) (stays 0 lowest.0)
     ∙ ap (λ x. record s { channels = at 0 ∷ x ∷ f (at 2) ∷ f (at 3) ∷ [] }) (stays 1 lowest.1)
@@ -93,7 +85,7 @@ awaits_none s now four none =
 -- a channel that an event triggered, or that it didn't trigger, isn't triggered by it again
 triggered_once : (proc : Proc) (cause : Cause) (now : Tick) (c : ChannelState) → is_triggered proc cause (triggered proc cause now c) ≡ false
 triggered_once proc cause now c =
-    either (λ x. is_triggered proc cause x ≡ false) (is_triggered proc cause c) _ _
+    either_by (λ x. is_triggered proc cause x ≡ false) (is_triggered proc cause c) _ _
     (λ e. and_false (is_enabled c.cnt && waits_for proc cause c.cnt)) (λ e. e)
 
 -- AND AFTER IT NONE WAITS
@@ -102,4 +94,4 @@ awaits_no_more s now four =
     let f = triggered s.proc Geometry now in
     let no : (k : ℕ) → k < 4 → is_triggered s.proc Geometry (channel_at (map f s.channels) k) ≡ false =
     λ k l. ap (is_triggered s.proc Geometry) (at_mapped f s.channels k four l) ∙ triggered_once s.proc Geometry now (channel_at s.channels k) in
-    neither _ _ (neither _ _ (neither _ _ (no 0 (omega arith)) (no 1 (omega arith))) (no 2 (omega arith))) (no 3 (omega arith))
+    both_false _ _ (both_false _ _ (both_false _ _ (no 0 (omega arith)) (no 1 (omega arith))) (no 2 (omega arith))) (no 3 (omega arith))

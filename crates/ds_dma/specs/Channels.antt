@@ -11,8 +11,8 @@ use Rattle.ds_dma.specs.declared.controls.DmaPort.TheVariants.{Source, Target, C
 use Rattle.ds_dma.specs.Controls.{kept_address, kept_channel_control, refusal, greatest_count, units_counted, is_enabled, interrupts, disabled, unit_width, unit_bytes, target_mode, source_mode, latches_again, address_step, starts_immediately, is_armed_again, waits_for, burst_of, channel_interrupt}
 
 -- A channel (GBATEK, "GBA DMA Transfers" and "DS DMA Transfers"): its source, target and control as they are kept. While it is enabled it also has
--- the next unit's source and target and the number of units left, and while it runs the tick at which it was triggered and the number of units left in
--- its burst, which is 0 where it runs to the end of its count. One that isn't enabled, or doesn't run, has 0 and no tick there.
+-- the next unit's source and target and the number of units left, and while it runs the tick at which it was triggered and the number of units left
+-- in its burst, which is 0 where it runs to the end of its count. One that isn't enabled, or doesn't run, has 0 and no tick there.
 pub record ChannelState : Type 0 where
   pub sad : ℕ
   pub dad : ℕ
@@ -145,7 +145,7 @@ armed_again proc which c = record c {
 -- A channel takes the first unit of its plan, which it moves. Four cases, of which one applies:
 pub data TakesUnit (proc : Proc) (which : ℕ) (old new : ChannelState) : Type 0 where
   -- there are more: they are its plan from then on, and it runs on, with one unit fewer in its burst where it has one
-  more : (unit next : DmaUnit) (rest : List DmaUnit) → plan_of old ≡ unit ∷ next ∷ rest → plan_of new ≡ next ∷ rest → old.burst ≢ 1
+  more_units : (unit next : DmaUnit) (rest : List DmaUnit) → plan_of old ≡ unit ∷ next ∷ rest → plan_of new ≡ next ∷ rest → old.burst ≢ 1
       → new ≡ record old { from = next.from; to = next.to; remaining = old.remaining - 1; burst = old.burst - 1 }
       → TakesUnit proc which old new
   -- there are more, but it was the last one of its burst: they are its plan, and it stays armed and doesn't run

@@ -101,13 +101,14 @@ starts_in_mode (Some start) mode = start == mode
 abbrev pub waits_for : Proc → Cause → ℕ → Bool
 waits_for proc cause control = starts_in_mode (start_of_cause proc cause) (start_mode proc control)
 
--- At its end a channel is armed again where it repeats, and starts neither at once nor by the geometry FIFO, which ignores the repeat bit (our choice,
--- by GBATEK, "GBA DMA Transfers", DMAxCNT_H bit 9).
+-- At its end a channel is armed again where it repeats, and starts neither at once nor by the geometry FIFO, which ignores the repeat bit (our
+-- choice, by GBATEK, "GBA DMA Transfers", DMAxCNT_H bit 9).
 abbrev pub is_armed_again : Proc → ℕ → Bool
 is_armed_again proc control = repeats control && not (starts_immediately proc control) && not (waits_for proc Geometry control)
 
--- How many units a channel that is triggered with so many left moves in one burst: where the geometry FIFO triggers it 112, or what is left where that
--- is less (GBATEK, "DS 3D Geometry Commands", its limit of 112 words to DMA). Any other event has no bursts, which is 0: the channel runs to its end.
+-- How many units a channel that is triggered with so many left moves in one burst: where the geometry FIFO triggers it 112, or what is left where
+-- that is less (GBATEK, "DS 3D Geometry Commands", its limit of 112 words to DMA). Any other event has no bursts, which is 0: the channel runs to its
+-- end.
 abbrev pub burst_of : Cause → ℕ → ℕ
 burst_of VBlank left = 0
 burst_of HBlank left = 0
@@ -120,8 +121,8 @@ abbrev pub is_left_out : Proc → ℕ → Bool
 is_left_out Nine control = (start_mode Nine control == 3) || (start_mode Nine control == 4) || (start_mode Nine control == 6)
 is_left_out Seven control = start_mode Seven control == 3
 
--- Why a control isn't taken, from the one that was kept and the one that would be, which is the stop's value: enable goes from 0 to 1 with a start that
--- is left out (our choice).
+-- Why a control isn't taken, from the one that was kept and the one that would be, which is the stop's value: enable goes from 0 to 1 with a start
+-- that is left out (our choice).
 abbrev pub refusal : Proc → ℕ → ℕ → Option Stop
 refusal proc old control =
     if is_enabled control && not (is_enabled old) && is_left_out proc control then Some (record { kind = DmaStart; value = control }) else None

@@ -56,7 +56,9 @@ awaits_geometry s =
 
 -- a channel runs, and then the processor isn't due
 abbrev pub any_runs : List ChannelState → Bool
-any_runs channels = is_running (channel_at channels 0) || is_running (channel_at channels 1) || is_running (channel_at channels 2) || is_running (channel_at channels 3)
+any_runs channels =
+    is_running (channel_at channels 0) || is_running (channel_at channels 1)
+    || is_running (channel_at channels 2) || is_running (channel_at channels 3)
 
 -- the running channel with the least number (our choice, by GBATEK, "GBA DMA Transfers": channel 0 has the highest priority); 3 where none runs
 abbrev pub least_running : List ChannelState → ℕ
@@ -93,7 +95,11 @@ due_channel s = channel_at s.channels (least_running s.channels)
 
 -- its first unit is moved at a tick
 abbrev pub dma_finished : DmaState → Tick → DmaState
-dma_finished s now = record s { channels = slice_set s.channels (least_running s.channels) (after_unit s.proc (least_running s.channels) (due_channel s)); last = Some now }
+dma_finished s now = record s {
+  channels = slice_set s.channels (least_running s.channels)
+      (after_unit s.proc (least_running s.channels) (due_channel s));
+  last = Some now;
+}
 
 -- the bits of IF that this raises
 abbrev pub finished_bits : DmaState → ℕ

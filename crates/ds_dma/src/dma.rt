@@ -46,9 +46,14 @@ impl Model for Dma {
 
     ghost inverse = { λ s. record { proc = s.proc; channels = map channel_of s.channels; last = s.last } };
 
-    ghost inverse_ok = { λ d h i. record { proc = d.proc; channels = (map-map channel_of channel_seen d.channels ∙ map-id d.channels) i; last = d.last } };
+    ghost inverse_ok = { λ d h i. record {
+      proc = d.proc;
+      channels = (map-map channel_of channel_seen d.channels ∙ map-id d.channels) i;
+      last = d.last;
+    } };
 
-    ghost invariant = { λ d. IsDma (record { proc = d.proc; channels = map channel_seen d.channels; last = d.last }) × HasEarlyTicks (record { proc = d.proc; channels = map channel_seen d.channels; last = d.last }) };
+    ghost invariant = { λ d. IsDma (record { proc = d.proc; channels = map channel_seen d.channels; last = d.last })
+        × HasEarlyTicks (record { proc = d.proc; channels = map channel_seen d.channels; last = d.last }) };
 }
 
 impl Dma {
@@ -113,7 +118,8 @@ impl Dma {
         ensures state { self.new ≡ channel_written self.old channel port value now }
         ensures stop { result ≡ channel_refusal self.old.proc channel port value (channel_at self.old.channels channel) }
         ensures later { AreReadyLater now self.old → AreReadyLater now self.new }
-        ensures schedule { AreReadyLater now self.old → (each : ℕ) → each < 4 → Reschedules now (channel_due self.old each) (channel_due self.new each) }
+        ensures schedule { AreReadyLater now self.old → (each : ℕ) → each < 4
+            → Reschedules now (channel_due self.old each) (channel_due self.new each) }
     {
         self.laws();
         let old = self.channel(channel);

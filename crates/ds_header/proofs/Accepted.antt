@@ -1,6 +1,7 @@
-use Rattle.std.proofs.Common.{ℕ, ◌≡◌, ◌+◌, ◌%◌, ◌^◌, ◌&&◌, ◌||◌, ◌==◌, ◌⊎◌, Bool, Option, Some, None, List, [], ◌∷◌, ◌++◌, length, true, false, nat_le, nat_lt, if◌then◌else◌, arith, refl, sym, ap, ◌∙◌, inl, inr}
+use Rattle.std.proofs.Common.{ℕ, ◌≡◌, ◌+◌, ◌%◌, ◌^◌, ◌&&◌, ◌==◌, Bool, Option, Some, None, List, [], ◌∷◌, ◌++◌, length, true, false, nat_le, nat_lt, if◌then◌else◌, arith, refl, sym, ap, ◌∙◌, inl, inr}
 use Rattle.ds_base.specs.declared.processors.Proc.{Proc}
 use Rattle.ds_base.specs.declared.processors.Proc.TheVariants.{Nine, Seven}
+use Rattle.ds_base.proofs.Choices.{one_of, both, equal}
 use Rattle.ds_header.specs.declared.faults.HeaderFault.{HeaderFault}
 use Rattle.ds_header.specs.Fields.{image_entry, image_length, image_offset, image_place}
 use Rattle.ds_header.specs.Rules.{IsAccepted, ImageLies, Range, IsWithin, main_range, work_range, Rule, first_broken, fault_of, lies_in, lies_within}
@@ -24,14 +25,14 @@ by_groups file =
     ∙ sym (broken_append (file_rules file) (rules_for file Nine ++ rules_for file Seven))
 
 -- where the first of two lists and the second are unbroken, both are
-both : (first second : Option HeaderFault) → or_then first second ≡ None → (first ≡ None) × (second ≡ None)
-both None second h = (refl, h)
-both (Some fault) second h = absurd (cc)
+both_none : (first second : Option HeaderFault) → or_then first second ≡ None → (first ≡ None) × (second ≡ None)
+both_none None second h = (refl, h)
+both_none (Some fault) second h = absurd (cc)
 
 -- of an accepted cartridge no rule is broken
 pub rules_hold : (file : List ℕ) (proc : Proc) → IsAccepted file → first_broken (rules_for file proc) ≡ None
-rules_hold file Nine h = (both _ _ (both _ _ (by_groups file ∙ h)).1).0
-rules_hold file Seven h = (both _ _ (both _ _ (by_groups file ∙ h)).1).1
+rules_hold file Nine h = (both_none _ _ (both_none _ _ (by_groups file ∙ h)).1).0
+rules_hold file Seven h = (both_none _ _ (both_none _ _ (by_groups file ∙ h)).1).1
 
 three : (a b c : Bool) (x y z : HeaderFault) → (if a then (if b then (if c then None else Some z) else Some y) else Some x) ≡ None → (a ≡ true) × (b ≡ true) × (c ≡ true)
 three true true true x y z h = (refl, refl, refl)
@@ -47,18 +48,10 @@ rule_facts : (file : List ℕ) (proc : Proc) → IsAccepted file →
 rule_facts file Nine h = three _ _ _ _ _ _ (rules_hold file Nine h)
 rule_facts file Seven h = three _ _ _ _ _ _ (rules_hold file Seven h)
 
-and_both : (a b : Bool) → (a && b) ≡ true → (a ≡ true) × (b ≡ true)
-and_both true b h = (refl, h)
-and_both false b h = absurd (cc)
-
-or_either : (a b : Bool) → (a || b) ≡ true → (a ≡ true) ⊎ (b ≡ true)
-or_either true b h = inl refl
-or_either false b h = inr h
-
 within : (range : Range) (at count : ℕ) → lies_within range at count ≡ true → IsWithin range at count
 within range at count h =
-    let p = and_both _ _ h in
-    let q = and_both _ _ p.0 in
+    let p = both _ _ h in
+    let q = both _ _ p.0 in
     record {
       first = (let e : nat_le range.first at ≡ true = q.0 in grind (arith, e));
       below = (let e : nat_lt at range.past ≡ true = q.1 in grind (arith, e));
@@ -67,13 +60,11 @@ within range at count h =
 
 lies : (proc : Proc) (at count : ℕ) → lies_in proc at count ≡ true → ImageLies proc at count
 lies Nine at count h = within main_range at count h
-lies Seven at count h = elim (or_either _ _ h) [ inl a ↦ inl (within main_range at count a) | inr b ↦ inr (within work_range at count b) ]
+lies Seven at count h = elim (one_of _ _ h) [ inl a ↦ inl (within main_range at count a) | inr b ↦ inr (within work_range at count b) ]
 
 -- a processor begins at a word where its image may lie
 pub entry_aligned : (file : List ℕ) (proc : Proc) → IsAccepted file → image_entry file proc % 4 ≡ 0
-entry_aligned file proc h = same (image_entry file proc % 4) 0 (and_both _ _ (rule_facts file proc h).2).0 where
-  same : (a b : ℕ) → (a == b) ≡ true → a ≡ b
-  same a b e = grind (arith, e)
+entry_aligned file proc h = equal (image_entry file proc % 4) 0 (both _ _ (rule_facts file proc h).2).0
 
 pub entry_lies : (file : List ℕ) (proc : Proc) → IsAccepted file → ImageLies proc (image_entry file proc) 0
-entry_lies file proc h = lies proc (image_entry file proc) 0 (and_both _ _ (rule_facts file proc h).2).1
+entry_lies file proc h = lies proc (image_entry file proc) 0 (both _ _ (rule_facts file proc h).2).1

@@ -8,5 +8,5 @@ abbrev pub entry_file : Entry → Named
 entry_file e = record { name = string_bytes e.name; bytes = e.bytes.items }
 
 -- no file
-abbrev pub nothing : Named
-nothing = record { name = []; bytes = [] }
+abbrev pub no_file : Named
+no_file = record { name = []; bytes = [] }

@@ -16,7 +16,8 @@ pub record FailingSink : Type 0 where
 
 -- one that has taken nothing yet
 abbrev pub empty_sink : (fails : List ℕ) → (room most : ℕ) → FailingSink
-empty_sink fails room most = record { kept = record { bytes = []; room = room; told = true }; calls = record { fails = fails; made = 0 }; most = most }
+empty_sink fails room most =
+    record { kept = record { bytes = []; room = room; told = true }; calls = record { fails = fails; made = 0 }; most = most }
 
 -- a call of a shelf, and what is told after it where it doesn't fail; a call that fails leaves what is told
 abbrev pub shelf_called : FailingShelf → Told → FailingShelf

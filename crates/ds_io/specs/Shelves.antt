@@ -36,7 +36,8 @@ Finds (Some s) name found new = (found ≡ is_some (file_of s.files name)) × (n
 -- a shelf put the next n bytes into a slice, and none into a slice that isn't empty only at the end
 abbrev pub Reads : Option Told → List ℕ → ℕ → List ℕ → Option Told → Type 0
 Reads None into n put new = new ≡ None
-Reads (Some s) into n put new = (n ≤ length (left_of s)) × (put ≡ take n (left_of s) ++ drop n into) × (new ≡ Some (moved s n)) × (n ≡ 0 → 0 < length into → left_of s ≡ [])
+Reads (Some s) into n put new =
+    (n ≤ length (left_of s)) × (put ≡ take n (left_of s) ++ drop n into) × (new ≡ Some (moved s n)) × (n ≡ 0 → 0 < length into → left_of s ≡ [])
 
 -- these bytes are all that was left
 abbrev pub TookAll : Option Told → List ℕ → Option Told → Type 0

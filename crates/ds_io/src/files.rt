@@ -3,7 +3,7 @@
 ghost use Rattle.std.specs.Prelude.{◌≡◌, ◌<◌, ◌++◌, ◌∷◌, ◌+◌, ◌-◌, ◌^◌, [], Some, None, length, take, drop, min, slice_index_or, IfSome, IfNone, OnOk, OnErr};
 ghost use Rattle.std.specs.String.{string_bytes};
 ghost use Rattle.ds_io.specs.Shelves.{file_of};
-ghost use Rattle.ds_io.specs.Entries.{nothing};
+ghost use Rattle.ds_io.specs.Entries.{no_file};
 
 use std::alloc::{AllocError, Global};
 use std::marker::Model;
@@ -51,7 +51,7 @@ impl Files {
 
     /// Where the first file of a name stands.
     pub(crate) fn position(&self, name: &str) -> Option<usize>
-        ensures found { IfSome result (λ at. file_of self.now name.now ≡ Some (slice_index_or self.now at nothing).bytes) }
+        ensures found { IfSome result (λ at. file_of self.now name.now ≡ Some (slice_index_or self.now at no_file).bytes) }
         ensures none { IfNone result (file_of self.now name.now ≡ None) }
     {
         for i in 0..self.entries.len() {
@@ -64,9 +64,9 @@ impl Files {
 
     /// Copies bytes of a file, from a place on, into the front of a slice, and says how many.
     pub(crate) fn copy(&self, at: usize, from: usize, into: &mut [u8]) -> usize
-        ensures count { result ≡ min (length into.old) (length (slice_index_or self.now at nothing).bytes - from) }
+        ensures count { result ≡ min (length into.old) (length (slice_index_or self.now at no_file).bytes - from) }
         ensures small { from + result < 2 ^ 64 }
-        ensures put { into.new ≡ take result (drop from (slice_index_or self.now at nothing).bytes) ++ drop result into.old }
+        ensures put { into.new ≡ take result (drop from (slice_index_or self.now at no_file).bytes) ++ drop result into.old }
     {
         if at >= self.entries.len() {
             return 0;

@@ -21,12 +21,12 @@ pub struct QuietShelf {
 
 impl Model for QuietShelf {
     ghost use Rattle.std.specs.Prelude.{drop, option_map, slice_index_or};
-    ghost use Rattle.ds_io.specs.Entries.{nothing};
+    ghost use Rattle.ds_io.specs.Entries.{no_file};
     ghost use Rattle.ds_io.specs.Shelves.{Told};
 
     ghost Value = { Told };
 
-    ghost view = { λ s. record { files = s.files; left = option_map (λ at. drop s.place (slice_index_or s.files at nothing).bytes) s.found } };
+    ghost view = { λ s. record { files = s.files; left = option_map (λ at. drop s.place (slice_index_or s.files at no_file).bytes) s.found } };
 }
 
 impl QuietShelf {

@@ -2,7 +2,7 @@ use Rattle.std.specs.Prelude.{ℕ}
 use Rattle.ds_base.specs.declared.processors.Proc.{Proc}
 use Rattle.ds_base.specs.declared.processors.Proc.TheVariants.{Nine, Seven}
 use Rattle.ds_base.specs.declared.processors.Raised.{Raised}
-use Rattle.ds_ipc.specs.Sides.{Side, IsSide, side_at_boot, sync_word, sync_written, sync_raised, control_word, control_written, control_forgotten, control_raised, sent, send_raised, received, received_word, taken, receive_raised}
+use Rattle.ds_ipc.specs.Sides.{Side, IsSide, side_at_boot, sync_word, sync_written, sync_raised, control_word, fifo_control_written, control_forgotten, control_raised, sent, send_raised, received, received_word, oldest_taken, receive_raised}
 
 -- both sides
 pub record IpcState : Type 0 where
@@ -50,7 +50,7 @@ ipc_control_word s side = control_word (side_of s side) (side_of s (other_proc s
 
 abbrev pub ipc_control_written : IpcState → Proc → ℕ → IpcState
 ipc_control_written s side value =
-    sides_from side (control_written (side_of s side) value) (control_forgotten (side_of s (other_proc side)) value)
+    sides_from side (fifo_control_written (side_of s side) value) (control_forgotten (side_of s (other_proc side)) value)
 
 abbrev pub ipc_control_raised : IpcState → Proc → ℕ → Raised
 ipc_control_raised s side value = raised_at side (control_raised (side_of s side) (side_of s (other_proc side)) value)
@@ -65,7 +65,7 @@ abbrev pub ipc_received : IpcState → Proc → IpcState
 ipc_received s side =
     let own = side_of s side in
     let other = side_of s (other_proc side) in
-    sides_from side (received own other) (taken own other)
+    sides_from side (received own other) (oldest_taken own other)
 
 abbrev pub ipc_received_word : IpcState → Proc → ℕ
 ipc_received_word s side = received_word (side_of s side) (side_of s (other_proc side))

@@ -38,7 +38,8 @@ pub record IsSide (s : Side) : Type 0 where
 
 -- all is 0 at boot (our choice)
 abbrev pub side_at_boot : Side
-side_at_boot = record { passed = 0; sync_raises = false; words = []; last = 0; error = false; enabled = false; empty_raises = false; filled_raises = false }
+side_at_boot =
+    record { passed = 0; sync_raises = false; words = []; last = 0; error = false; enabled = false; empty_raises = false; filled_raises = false }
 
 abbrev pub is_empty : List ℕ → Bool
 is_empty words = length words == 0
@@ -79,8 +80,8 @@ abbrev pub control_kept : Side → ℕ
 control_kept own = flag 2 own.empty_raises + flag 10 own.filled_raises + flag 15 own.enabled
 
 -- IPCFIFOCNT is written: the enables, a 1 in bit 14 takes the error away, and a 1 in bit 3 empties the send FIFO
-abbrev pub control_written : Side → ℕ → Side
-control_written own value = record own {
+abbrev pub fifo_control_written : Side → ℕ → Side
+fifo_control_written own value = record own {
   words = (if bit 3 value then [] else own.words);
   error = own.error && not (bit 14 value);
   enabled = bit 15 value;
@@ -147,8 +148,8 @@ received own other =
     else (if is_empty other.words then record own { error = true }
     else record own { last = received_word own other })
 
-abbrev pub taken : Side → Side → Side
-taken own other = if own.enabled then record other { words = all_but_oldest other.words } else other
+abbrev pub oldest_taken : Side → Side → Side
+oldest_taken own other = if own.enabled then record other { words = all_but_oldest other.words } else other
 
 -- what a receive raises on the other side: its send FIFO becomes empty, where this is its last word and it asks to be told
 abbrev pub receive_raised : Side → Side → ℕ

@@ -2,7 +2,7 @@
 
 ghost use Rattle.std.specs.Prelude.{◌≡◌, ◌≤◌, IfOk};
 ghost use Rattle.ds_base.specs.Bits.{bit, flag};
-ghost use Rattle.ds_ipc.specs.Sides.{IsSide, side_at_boot, raised_if, sync_kept, sync_word, control_kept, sync_written, sync_raised, control_word, control_written, control_forgotten, control_raised, sent, send_raised, received, received_word, taken, receive_raised};
+ghost use Rattle.ds_ipc.specs.Sides.{IsSide, side_at_boot, raised_if, sync_kept, sync_word, control_kept, sync_written, sync_raised, control_word, fifo_control_written, control_forgotten, control_raised, sent, send_raised, received, received_word, oldest_taken, receive_raised};
 
 use circular_buffer::HeapCircularBuffer;
 use ds_base::Interrupt;
@@ -31,7 +31,16 @@ impl Model for Side {
 
     ghost Value = { Side };
 
-    ghost view = { λ s. record { passed = s.passed; sync_raises = s.sync_raises; words = s.words.items; last = s.last; error = s.error; enabled = s.enabled; empty_raises = s.empty_raises; filled_raises = s.filled_raises } };
+    ghost view = { λ s. record {
+      passed = s.passed;
+      sync_raises = s.sync_raises;
+      words = s.words.items;
+      last = s.last;
+      error = s.error;
+      enabled = s.enabled;
+      empty_raises = s.empty_raises;
+      filled_raises = s.filled_raises;
+    } };
 
     ghost invariant = { λ s. (s.words.capacity ≡ 16) × (length s.words.items ≤ 16) × (s.passed < 16) × AreWords s.words.items };
 }
@@ -129,7 +138,7 @@ pub fn control_kept(own: &Side) -> u16
 }
 
 pub fn control_write(own: &mut Side, other: &mut Side, value: u16) -> u32
-    ensures own { own.new ≡ control_written own.old value }
+    ensures own { own.new ≡ fifo_control_written own.old value }
     ensures other { other.new ≡ control_forgotten other.old value }
     ensures raised { result ≡ control_raised own.old other.old value }
 {
@@ -177,7 +186,7 @@ pub fn look(own: &Side, other: &Side) -> u32
 
 pub fn receive(own: &mut Side, other: &mut Side) -> Taken
     ensures own { own.new ≡ received own.old other.old }
-    ensures other { other.new ≡ taken own.old other.old }
+    ensures other { other.new ≡ oldest_taken own.old other.old }
     ensures word { result.word ≡ received_word own.old other.old }
     ensures raised { result.raised ≡ receive_raised own.old other.old }
 {

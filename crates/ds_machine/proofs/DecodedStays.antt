@@ -16,7 +16,7 @@ use Rattle.arm_core.specs.Registers.{RegisterState}
 use Rattle.arm_core.specs.Steps.{fetched}
 use Rattle.arm_core.specs.Transfers.{load_meaning, signed_byte, signed_half}
 use Rattle.arm_core.specs.declared.addresses.Addressed.{Addressed}
-use Rattle.arm_ops.specs.Meanings.{access_made, access_meaning, access_of, accesses_by, transferred}
+use Rattle.arm_ops.specs.Meanings.{access_made, access_meaning, access_of, accesses_by, single_transfer_meaning}
 use Rattle.arm_ops.specs.Operations.{is_other, operation_of}
 use Rattle.arm_ops.specs.declared.operations.DataAccess.{DataAccess}
 use Rattle.arm_ops.specs.declared.operations.Op.{Op}
@@ -63,7 +63,7 @@ abbrev pub IsOne : Bool → ℕ → List Access → Type 0
 IsOne false at accesses = (width : Width) × (accesses ≡ Read at width ∷ [])
 IsOne true at accesses = (width : Width) × (value : ℕ) × (accesses ≡ Write at width value ∷ [])
 
-pub one_by : (arch : Arch) (s : RegisterState) (op : TransferOp) (rn rd : ℕ) (to : Addressed) → IsOne (stores op) to.address (transferred arch s op rn rd to).accesses
+pub one_by : (arch : Arch) (s : RegisterState) (op : TransferOp) (rn rd : ℕ) (to : Addressed) → IsOne (stores op) to.address (single_transfer_meaning arch s op rn rd to).accesses
 one_by arch s (WordOrByte true true) rn rd to = (Byte, refl)
 one_by arch s (WordOrByte true false) rn rd to = (Word, refl)
 one_by arch s (WordOrByte false true) rn rd to = (Byte, _, refl)

@@ -42,7 +42,6 @@ pub mod PrivateTests
 pub mod StepsMay
 pub mod ActingSteps
 pub mod ActingPlaces
-pub mod Lasts
 pub mod Running
 pub mod TurnSteps
 pub mod GoingSteps

@@ -6,12 +6,12 @@ use Rattle.ds_base.specs.declared.processors.Proc.TheVariants.{Nine, Seven}
 use Rattle.ds_base.specs.declared.ticks.Tick.{Tick}
 use Rattle.ds_runs.specs.Actors.{actor_of}
 use Rattle.ds_runs.specs.Ahead.{MovesOn}
-use Rattle.ds_machine.specs.Lasts.{LeadsTo, here, step}
+use Rattle.ds_runs.specs.Lasts.{LeadsTo, here, step}
 use Rattle.ds_runs.specs.Runs.{Ending, IsLeast, IsOver, Makes, Runs, due_at, over, stops, more}
 use Rattle.ds_runs.specs.declared.actors.Actor as actor
 use Rattle.ds_runs.specs.declared.actors.Actor.TheVariants.{Geometry}
 use Rattle.ds_runs.proofs.AllActors.{actors_differ}
-use Rattle.ds_machine.proofs.Lasts.{last_after, last_ahead, last_lags}
+use Rattle.ds_runs.proofs.Lasts.{last_after, last_ahead, last_lags}
 use Rattle.ds_runs.proofs.Lists.{at_rank, is_later, least_unique}
 use Rattle.ds_runs.proofs.RunExists.{least_is, place_rises, run_exists}
 use Rattle.ds_runs.proofs.RunLaws.{same_makes}

@@ -2,7 +2,7 @@ use Rattle.std.specs.Prelude.{ℕ, ◌+◌, ◌*◌, ◌^◌, ◌≡◌, ◌<◌
 use Rattle.ds_base.specs.declared.left_out.LeftOut.{LeftOut}
 use Rattle.ds_base.specs.declared.processors.Proc.TheVariants.{Nine, Seven}
 use Rattle.ds_base.specs.declared.ticks.Tick.{Tick}
-use Rattle.ds_machine.specs.Lasts.{LeadsTo}
+use Rattle.ds_runs.specs.Lasts.{LeadsTo}
 use Rattle.ds_runs.specs.Runs.{IsOver, Makes, Stops, due_at}
 use Rattle.ds_machine.specs.Reference.{Shown, dues_of, reference, reference_step}
 use Rattle.ds_machine.specs.Sound.{IsSound}

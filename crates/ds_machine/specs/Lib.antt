@@ -6,7 +6,6 @@ pub mod Boots
 pub mod Booted
 pub mod Reference
 pub mod Acting
-pub mod Lasts
 pub mod Counting
 pub mod Frames
 pub mod NextEvents

@@ -45,7 +45,14 @@ impl Model for Divider {
 
     ghost Value = { DividerState };
 
-    ghost view = { λ d. record { mode = d.mode; numerator = d.numerator; denominator = d.denominator; quotient = d.quotient; remainder = d.remainder; due = d.due } };
+    ghost view = { λ d. record {
+      mode = d.mode;
+      numerator = d.numerator;
+      denominator = d.denominator;
+      quotient = d.quotient;
+      remainder = d.remainder;
+      due = d.due;
+    } };
 
     ghost invariant = { λ d. d.mode < 4 };
 }

@@ -2,6 +2,7 @@ use Rattle.std.proofs.Common.{ℕ, ◌≡◌, ◌≢◌, ◌<◌, ◌≤◌, ◌
 use Rattle.std.proofs.Math.Nat.{mul-le-mul_left}
 use Rattle.std.proofs.lemmas.Option.{same_Some}
 use Rattle.ds_base.specs.declared.ticks.Tick.{Tick}
+use Rattle.ds_base.proofs.Choices.{same_or_not}
 use Rattle.ds_runs.specs.Runs.{IsLeast, due_at, TickMachine, MachineStep, Makes, Stops, Ending, At, Stopped, Runs, over, stops, more}
 use Rattle.ds_runs.specs.Ahead.{MovesOn, MayRunAhead, HasOwnPart, AheadAgrees}
 use Rattle.ds_runs.specs.Schedules.{places_remaining}
@@ -10,9 +11,6 @@ use Rattle.ds_runs.proofs.Places.{remaining_at, remaining_below}
 use Rattle.ds_runs.proofs.RunLaws.{same_makes, same_stops, not_both}
 
 -- Taking an actor's step before its turn.
-
-same_or_not : (a b : ℕ) → (a ≡ b) ⊎ (a ≢ b)
-same_or_not a b = grind arith
 
 -- an actor doesn't step before another
 abbrev NotBefore : Tick → ℕ → Tick → ℕ → Type 0

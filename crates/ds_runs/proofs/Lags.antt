@@ -1,10 +1,10 @@
-use Rattle.std.proofs.Common.{ℕ, zero, suc, ◌≡◌, ◌≢◌, ◌<◌, ◌≤◌, ◌+◌, ◌⊎◌, inl, inr, List, [], ◌∷◌, ◌++◌, Option, Some, refl, sym, ◌∙◌, ap, subst, arith}
+use Rattle.std.proofs.Common.{ℕ, zero, suc, ◌≡◌, ◌<◌, ◌≤◌, ◌+◌, inl, inr, List, [], ◌∷◌, ◌++◌, Some, refl, sym, ◌∙◌, subst, arith}
 use Rattle.std.specs.Prelude.{◌↔◌}
 use Rattle.ds_base.specs.declared.ticks.Tick.{Tick}
-use Rattle.ds_runs.specs.Lags.{MayLag, MayStepFirst, StepsBefore, LagAgrees, LagStops}
-use Rattle.ds_runs.specs.Runs.{IsLeast, due_at, TickMachine, MachineStep, Makes, Stops, Ending, At, Stopped, Runs, over, stops, more}
+use Rattle.ds_runs.specs.Lags.{MayLag, LagAgrees, LagKeepsStops}
+use Rattle.ds_runs.specs.Runs.{IsLeast, due_at, TickMachine, Makes, Stops, Ending, Stopped, Runs, over, stops, more}
 use Rattle.ds_runs.proofs.Lists.{is_later, least_unique}
-use Rattle.ds_runs.proofs.RunLaws.{same_makes, same_stops, not_both}
+use Rattle.ds_runs.proofs.RunLaws.{same_makes, not_both}
 
 -- An actor that lags.
 
@@ -93,5 +93,5 @@ pub lag_agrees : {S O L : Type 0} (m : TickMachine S O L) (p : ℕ) (Before : S 
 lag_agrees m p Before laws limit end outs rest s next r t b lt e =
     lags m limit p Before laws (suc t.0) end outs rest s next r t (λ u h. omega arith) b lt e
 
-pub lag_stops : {S O L : Type 0} (m : TickMachine S O L) (p : ℕ) (Before : S → ℕ → Tick → Type 0) → MayLag m p Before → LagStops m Before
+pub lag_stops : {S O L : Type 0} (m : TickMachine S O L) (p : ℕ) (Before : S → ℕ → Tick → Type 0) → MayLag m p Before → LagKeepsStops m Before
 lag_stops m p Before laws limit s left r t stop b lt e = stops_late m limit p Before laws (suc t.0) s left r t stop (λ u h. omega arith) b lt e

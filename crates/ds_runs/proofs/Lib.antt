@@ -6,4 +6,5 @@ pub mod RunLaws
 pub mod RunExists
 pub mod Ahead
 pub mod Lags
+pub mod Lasts
 pub mod AllActors

@@ -2,6 +2,7 @@ use Rattle.std.proofs.Common.{ℕ, zero, suc, ◌≡◌, ◌<◌, ◌≤◌, ◌
 use Rattle.std.proofs.lemmas.Option.{same_Some, none-some}
 use Rattle.ds_base.specs.declared.ticks.Tick.{Tick}
 use Rattle.ds_base.specs.Schedules.{Reschedules, IsLater}
+use Rattle.ds_base.proofs.Choices.{low_or_high, lt_or_same}
 use Rattle.ds_runs.specs.Runs.{IsLeast, IsOver, due_at}
 use Rattle.ds_runs.specs.Owed.{AllReschedule}
 
@@ -17,12 +18,6 @@ within (d ∷ ds) (suc rank) tick h = let k = within ds rank tick h in omega (ar
 pub is_later : (now : Tick) (due : Option Tick) (tick : Tick) → IsLater now due → due ≡ Some tick → now.0 < tick.0
 is_later now None tick later h = absurd (none-some tick h)
 is_later now (Some due) tick later h = subst (λ (x : Tick). now.0 < x.0) (same_Some due tick h) later
-
-le_or_lt : (x y : ℕ) → (x ≤ y) ⊎ (y < x)
-le_or_lt x y = grind arith
-
-lt_or_same : (x y : ℕ) → x ≤ y → (x < y) ⊎ (x ≡ y)
-lt_or_same x y h = grind (arith, h)
 
 -- the least of a list is the least of a longer one, where what is put before it is due later
 pub pushed : (due : Option Tick) (dues : List (Option Tick)) (tick : Tick) (rank : ℕ) → IsLeast dues tick rank → ((at : Tick) → due ≡ Some at → tick.0 < at.0)
@@ -58,9 +53,9 @@ find (None ∷ ds) = elim (find ds) [
   still silent (suc rank) tick h = silent rank tick h
 find (Some t ∷ ds) = elim (find ds) [
   | inl silent ↦ inr (t, zero, first_least t ds (λ rank tick h. absurd (silent rank tick h)))
-  | inr l ↦ elim (le_or_lt t.0 l.0.0) [
-    | inl le ↦ inr (t, zero, first_least t ds (λ rank tick h. elim (l.2.least rank tick h) [ inl a ↦ omega (arith, a, le) | inr b ↦ omega (arith, b.0, le) ]))
-    | inr lt ↦ inr (l.0, suc l.1, pushed (Some t) ds l.0 l.1 l.2 (λ at h. subst (λ (x : Tick). l.0.0 < x.0) (same_Some t at h) lt))
+  | inr l ↦ elim (low_or_high l.0.0 t.0) [
+    | inl lt ↦ inr (l.0, suc l.1, pushed (Some t) ds l.0 l.1 l.2 (λ at h. subst (λ (x : Tick). l.0.0 < x.0) (same_Some t at h) lt))
+    | inr le ↦ inr (t, zero, first_least t ds (λ rank tick h. elim (l.2.least rank tick h) [ inl a ↦ omega (arith, a, le) | inr b ↦ omega (arith, b.0, le) ]))
   ]
 ]
 

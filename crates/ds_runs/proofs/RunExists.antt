@@ -1,5 +1,6 @@
 use Rattle.std.proofs.Common.{ℕ, zero, suc, ◌≡◌, ◌<◌, ◌≤◌, ◌+◌, ◌-◌, ◌*◌, ◌⊎◌, inl, inr, List, [], ◌++◌, Some, refl, sym, ◌∙◌, ap, subst, arith}
 use Rattle.ds_base.specs.declared.ticks.Tick.{Tick}
+use Rattle.ds_base.proofs.Choices.{low_or_high}
 use Rattle.ds_runs.specs.Runs.{IsLeast, due_at, TickMachine, MachineStep, Makes, Stops, Ending, At, Stopped, Runs, over, stops, more, steps_of}
 use Rattle.ds_runs.specs.Schedules.{places_remaining}
 use Rattle.ds_runs.specs.Owed.{Schedules}
@@ -8,11 +9,8 @@ use Rattle.ds_runs.proofs.Lists.{within, has_least, least_unique, at_rank, is_la
 use Rattle.ds_runs.proofs.Places.{later_place, remaining_at, remaining_below}
 use Rattle.ds_runs.proofs.RunLaws.{over_here}
 
-le_or_lt : (x y : ℕ) → (x ≤ y) ⊎ (y < x)
-le_or_lt x y = grind arith
-
-same_or_not : (x y : ℕ) → (x ≡ y) ⊎ ((x < y) ⊎ (y < x))
-same_or_not x y = grind arith
+three_ways : (x y : ℕ) → (x ≡ y) ⊎ ((x < y) ⊎ (y < x))
+three_ways x y = grind arith
 
 module _ {S O L : Type 0} (m : TickMachine S O L) (ranks : ℕ) (Sound : S → Type 0) (schedules : Schedules m ranks Sound) where
   -- the least actor is always there
@@ -28,7 +26,7 @@ module _ {S O L : Type 0} (m : TickMachine S O L) (ranks : ℕ) (Sound : S → T
       → ranks * t.0 + r < ranks * u.0 + q
   place_rises s next t r outs u q sound least goes due =
       let small = low_rank s t r sound least in
-      elim (same_or_not q r) [
+      elim (three_ways q r) [
         | inl same ↦ (let P : ℕ → Type 0 = λ x. due_at (m.dues next) x ≡ Some u in
             let lt = is_later t (due_at (m.dues next) r) u (schedules.later s next t r outs sound least goes) (subst P same due) in
             let k = later_place ranks t.0 r u.0 lt small in omega (arith, k))
@@ -64,18 +62,18 @@ module _ {S O L : Type 0} (m : TickMachine S O L) (ranks : ℕ) (Sound : S → T
     from : (n : ℕ) (s : S) → Sound s → (t : Tick) (r : ℕ) → IsLeast (m.dues s) t r → ranks * limit ≤ n + (ranks * t.0 + r)
         → (end : Ending S L) × (outs : List O) × Runs m limit end s outs
     from zero s sound t r least room =
-        elim (le_or_lt limit t.0) [
-          | inl le ↦ (At s, [], over s (over_here (m.dues s) limit t r least le))
-          | inr lt ↦ (let k = later_place ranks t.0 r limit lt (low_rank s t r sound least) in absurd (omega (arith, k, room)))
+        elim (low_or_high t.0 limit) [
+          | inl lt ↦ (let k = later_place ranks t.0 r limit lt (low_rank s t r sound least) in absurd (omega (arith, k, room)))
+          | inr le ↦ (At s, [], over s (over_here (m.dues s) limit t r least le))
         ]
     from (suc n) s sound t r least room =
-        elim (le_or_lt limit t.0) [
-          | inl le ↦ (At s, [], over s (over_here (m.dues s) limit t r least le))
-          | inr lt ↦ goes_to s t r least lt (m.step r s) refl (λ next outs e.
+        elim (low_or_high t.0 limit) [
+          | inl lt ↦ goes_to s t r least lt (m.step r s) refl (λ next outs e.
               (let sound₂ = schedules.stays s next t r outs sound least e in
               let l = least_is next sound₂ in
               let k = place_rises s next t r outs l.0 l.1 sound least e l.2.there in
               from n next sound₂ l.0 l.1 l.2 (omega (arith, k, room))))
+          | inr le ↦ (At s, [], over s (over_here (m.dues s) limit t r least le))
         ]
 
   -- a run takes at most `ranks` steps a tick

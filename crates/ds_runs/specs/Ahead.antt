@@ -27,7 +27,8 @@ pub record MayRunAhead {S O L : Type 0} (m : TickMachine S O L) (p : ℕ) (Priva
 
 -- the same in two laws, where a private step changes nothing but the actor's own part of a state: `after s` is what it makes of that
 -- part, and `put` puts an own part into a state
-pub record HasOwnPart {S O L Own : Type 0} (m : TickMachine S O L) (p : ℕ) (put : Own → S → S) (after : S → Own) (Private : S → Tick → Type 0) : Type 0 where
+pub record HasOwnPart {S O L Own : Type 0} (m : TickMachine S O L) (p : ℕ) (put : Own → S → S) (after : S → Own) (Private : S → Tick
+    → Type 0) : Type 0 where
   -- a private step moves the actor's own due tick on, and no other's
   pub moves : (s : S) (t : Tick) → Private s t → MovesOn p t (m.dues s) (m.dues (put (after s) s))
   -- the inner law: a private step changes the own part, and puts out nothing

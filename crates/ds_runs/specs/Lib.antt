@@ -1,6 +1,7 @@
 pub mod Actors
 pub mod Ahead
 pub mod Lags
+pub mod Lasts
 pub mod Laws
 pub mod Order
 pub mod Owed

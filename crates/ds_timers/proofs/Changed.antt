@@ -4,8 +4,8 @@ use Rattle.std.proofs.Math.Nat.{le-mul_of_pos_right, mod-lt}
 use Rattle.std.proofs.lemmas.Nat.{and_assoc}
 use Rattle.ds_base.specs.declared.ticks.Tick.{Tick}
 use Rattle.ds_base.specs.Schedules.{IsEarly, IsLater, Reschedules}
-use Rattle.ds_timers.specs.Timing.{TimerState, AreTimers, IsTimer, ChangesControl, starts, goes_on, takes_anchor, holds_count, CountsFrom, SchedulesOne, timer_at, pace, runs_free, counted, counter_of, full, timer_due, kept_control, is_start, controlled, control_set, reload_set}
-use Rattle.ds_timers.proofs.Choices.{either, both, not_both, equal_numbers, unequal_numbers, same_or_not}
+use Rattle.ds_base.proofs.Choices.{either_by, both, not_both, equal, unequal, same_or_not}
+use Rattle.ds_timers.specs.Timing.{TimerState, AreTimers, IsTimer, ChangesControl, starts, keeps_anchor, takes_anchor, holds_count, CountsFrom, SchedulesOne, timer_at, pace, runs_free, counted, counter_of, full, timer_due, kept_control, is_start, controlled, control_set, reload_set}
 use Rattle.ds_timers.proofs.Four.{are_set, set_same, set_schedules}
 
 pub pace_above : (control : ℕ) → 0 < pace control
@@ -43,10 +43,10 @@ kept_twice value = and_assoc 0xC7 value 0xC7
 pub controlled_is : (which : ℕ) (t : TimerState) (control : ℕ) (now : Tick) → IsTimer which t → kept_control control ≡ control → IsTimer which (controlled which t control now)
 controlled_is which t control now is kept =
     let free = runs_free which control in
-    either (IsTimer which) (is_start t.control control) _ _
+    either_by (IsTimer which) (is_start t.control control) _ _
     (λ e. record { control = kept; reload = is.reload; count = is.reload; anchored = some_where free now })
-    (λ e. either (IsTimer which) free _ _
-    (λ f. either (IsTimer which) (runs_free which t.control && (pace control == pace t.control)) _ _
+    (λ e. either_by (IsTimer which) free _ _
+    (λ f. either_by (IsTimer which) (runs_free which t.control && (pace control == pace t.control)) _ _
     (λ g. record { control = kept; reload = is.reload; count = is.count; anchored = is.anchored ∙ (both (runs_free which t.control) (pace control == pace t.control) g).0 ∙ sym f })
     (λ g. record { control = kept; reload = is.reload; count = counter_below t now is.count; anchored = sym f }))
     (λ f. record { control = kept; reload = is.reload; count = counter_below t now is.count; anchored = sym f }))
@@ -56,10 +56,10 @@ pub controlled_early : (which : ℕ) (t : TimerState) (control : ℕ) (now : Tic
 controlled_early which t control now was early =
     let free = runs_free which control in
     let P : TimerState → Type 0 = λ x. IsEarly x.since in
-    either P (is_start t.control control) _ _
+    either_by P (is_start t.control control) _ _
     (λ e. early_where free now early)
-    (λ e. either P free _ _
-    (λ f. either P (runs_free which t.control && (pace control == pace t.control)) _ _ (λ g. was) (λ g. early))
+    (λ e. either_by P free _ _
+    (λ f. either_by P (runs_free which t.control && (pace control == pace t.control)) _ _ (λ g. was) (λ g. early))
     (λ f. tt))
 
 -- after a write of its control a timer is due later or not at all
@@ -67,11 +67,11 @@ due_controlled : (which : ℕ) (t : TimerState) (control : ℕ) (now : Tick) →
 due_controlled which t control now is before =
     let free = runs_free which control in
     let P : TimerState → Type 0 = λ x. IsLater now (timer_due x) in
-    either P (is_start t.control control) _ _
+    either_by P (is_start t.control control) _ _
     (λ e. later_where free now t.reload control is.reload)
-    (λ e. either P free _ _
-    (λ f. either P (runs_free which t.control && (pace control == pace t.control)) _ _
-    (λ g. (let p : pace control ≡ pace t.control = equal_numbers (pace control) (pace t.control) (both (runs_free which t.control) (pace control == pace t.control) g).1 in
+    (λ e. either_by P free _ _
+    (λ f. either_by P (runs_free which t.control && (pace control == pace t.control)) _ _
+    (λ g. (let p : pace control ≡ pace t.control = equal (pace control) (pace t.control) (both (runs_free which t.control) (pace control == pace t.control) g).1 in
     subst (λ n. IsLater now (full t.since t.count n)) (sym p) before))
     (λ g. full_later now (counter_of t now) control (counter_below t now is.count)))
     (λ f. tt))
@@ -79,7 +79,7 @@ due_controlled which t control now is before =
 apart : (a : Bool) (x y : ℕ) → (a && (x == y)) ≡ false → (a ≡ false) ⊎ (x ≢ y)
 apart a x y h = elim (not_both a (x == y) h) [
   | inl e ↦ inl e
-  | inr e ↦ inr (unequal_numbers x y e)
+  | inr e ↦ inr (unequal x y e)
 ]
 
 -- the change is by one of the four cases
@@ -88,11 +88,11 @@ changes which t control now =
     let free = runs_free which control in
     let same = pace control == pace t.control in
     let P = ChangesControl which t control now in
-    either P (is_start t.control control) _ _
+    either_by P (is_start t.control control) _ _
     (λ e. starts e refl)
-    (λ e. either P free _ _
-    (λ f. either P (runs_free which t.control && same) _ _
-    (λ g. goes_on (both (runs_free which t.control) same g).0 f (equal_numbers (pace control) (pace t.control) (both (runs_free which t.control) same g).1) refl)
+    (λ e. either_by P free _ _
+    (λ f. either_by P (runs_free which t.control && same) _ _
+    (λ g. keeps_anchor (both (runs_free which t.control) same g).0 f (equal (pace control) (pace t.control) (both (runs_free which t.control) same g).1) refl)
     (λ g. takes_anchor e f (apart (runs_free which t.control) (pace control) (pace t.control) g) refl))
     (λ f. holds_count e f refl))
 

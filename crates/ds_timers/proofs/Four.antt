@@ -1,8 +1,8 @@
 use Rattle.std.proofs.Common.{ℕ, zero, suc, ◌≡◌, ◌<◌, inl, inr, List, [], ◌∷◌, length, slice_set, refl, sym, ◌∙◌, subst, arith, get_or-set_same, get_or-set_other, length-set}
 use Rattle.ds_base.specs.declared.ticks.Tick.{Tick}
 use Rattle.ds_base.specs.Schedules.{IsEarly, IsLater, Reschedules}
+use Rattle.ds_base.proofs.Choices.{same_or_not}
 use Rattle.ds_timers.specs.Timing.{TimerState, AreEarly, AreTimers, IsTimer, SchedulesOne, timer_at, timer_due}
-use Rattle.ds_timers.proofs.Choices.{same_or_not}
 
 each_of : (a b c d : TimerState) → IsTimer 0 a → IsTimer 1 b → IsTimer 2 c → IsTimer 3 d → (which : ℕ) → which < 4 → IsTimer which (timer_at (a ∷ b ∷ c ∷ d ∷ []) which)
 each_of a b c d p q r s zero h = p

@@ -1,4 +1,3 @@
-mod Choices
 pub mod Four
 pub mod Changed
 pub mod Overflowed

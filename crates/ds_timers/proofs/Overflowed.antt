@@ -2,8 +2,8 @@ use Rattle.std.proofs.Common.{ℕ, zero, suc, ◌≡◌, ◌≢◌, ◌<◌, ◌
 use Rattle.std.specs.Prelude.{◌&&◌, ◌==◌, not, if◌then◌else◌, is_some}
 use Rattle.ds_base.specs.declared.ticks.Tick.{Tick}
 use Rattle.ds_base.specs.Schedules.{IsEarly, IsLater}
+use Rattle.ds_base.proofs.Choices.{is_unequal, either_by, equal, equal_self, if_true, if_false}
 use Rattle.ds_timers.specs.Timing.{TimerState, AreEarly, AreTimers, IsTimer, CountsFrom, SchedulesOne, timer_at, pace, runs, counts_up, runs_free, full, timer_due, carries, overflows, after_overflow, overflow_of}
-use Rattle.ds_timers.proofs.Choices.{either, equal_numbers, equal_self, unequal}
 use Rattle.ds_timers.proofs.Changed.{full_later}
 use Rattle.ds_timers.proofs.Four.{are_four}
 
@@ -16,16 +16,16 @@ counted_on count reload c r = grind (arith, rules)
 
 after_is : (which i : ℕ) (before : Bool) (t : TimerState) → IsTimer i t → IsTimer i (after_overflow which i before t)
 after_is which i before t is =
-    either (IsTimer i) (i == which) _ _
+    either_by (IsTimer i) (i == which) _ _
     (λ e. record { control = is.control; reload = is.reload; count = is.reload; anchored = due_where t.since t.count (pace t.control) ∙ is.anchored })
-    (λ e. either (IsTimer i) (carries i before t) _ _
+    (λ e. either_by (IsTimer i) (carries i before t) _ _
     (λ f. record { control = is.control; reload = is.reload; count = counted_on t.count t.reload is.count is.reload; anchored = is.anchored })
     (λ f. is))
 
 after_early : (which i : ℕ) (before : Bool) (t : TimerState) → IsEarly t.since → (i ≡ which → IsEarly (timer_due t)) → IsEarly (after_overflow which i before t).since
 after_early which i before t was early =
     let P : TimerState → Type 0 = λ x. IsEarly x.since in
-    either P (i == which) _ _ (λ e. early (equal_numbers i which e)) (λ e. either P (carries i before t) _ _ (λ f. was) (λ f. was))
+    either_by P (i == which) _ _ (λ e. early (equal i which e)) (λ e. either_by P (carries i before t) _ _ (λ f. was) (λ f. was))
 
 -- after an overflow they are the timers still
 pub overflow_keeps : (timers : List TimerState) (which : ℕ) → AreTimers timers → AreTimers (overflow_of timers which).timers
@@ -39,14 +39,6 @@ overflow_keeps timers which h =
     (after_is which 2 one (timer_at timers 2) (h.each 2 (omega arith)))
     (after_is which 3 two (timer_at timers 3) (h.each 3 (omega arith)))
 
-first : (b : Bool) (x y : TimerState) → b ≡ true → (if b then x else y) ≡ x
-first true x y h = refl
-first false x y h = absurd (grind arith)
-
-second : (b : Bool) (x y : TimerState) → b ≡ false → (if b then x else y) ≡ y
-second true x y h = absurd (grind arith)
-second false x y h = refl
-
 none_of : (o : Option Tick) → is_some o ≡ false → o ≡ None
 none_of None h = refl
 none_of (Some tick) h = absurd (grind arith)
@@ -56,7 +48,7 @@ again t o now e = (let P : Option Tick → Type 0 = λ x. CountsFrom (record t {
     let there : P (Some now) = record { counter = λ at. refl; overflow = refl } in subst P (sym e) there)
 
 own_is : (which : ℕ) (before : Bool) (t : TimerState) → after_overflow which which before t ≡ record t { count = t.reload; since = timer_due t }
-own_is which before t = first (which == which) _ _ (equal_self which)
+own_is which before t = if_true (which == which) _ _ (equal_self which)
 
 carried_late : (a b c : Bool) → (a && b && c) ≡ true → (b && not c) ≡ false
 carried_late true true true h = refl
@@ -67,8 +59,8 @@ carried_late false true true h = refl
 -- another timer is due as before: where it counts up it is never due
 other_due : (which i : ℕ) (before : Bool) (t : TimerState) → i ≢ which → IsTimer i t → timer_due (after_overflow which i before t) ≡ timer_due t
 other_due which i before t ne is =
-    ap timer_due (second (i == which) _ _ (unequal i which ne))
-    ∙ either (λ x. timer_due x ≡ timer_due t) (carries i before t) (record t { count = (if t.count == 65535 then t.reload else t.count + 1) }) t
+    ap timer_due (if_false (i == which) _ _ (is_unequal i which ne))
+    ∙ either_by (λ x. timer_due x ≡ timer_due t) (carries i before t) (record t { count = (if t.count == 65535 then t.reload else t.count + 1) }) t
     (λ e. (let free : runs_free i t.control ≡ false = carried_late before (runs t.control) (counts_up i t.control) e in
     let none : t.since ≡ None = none_of t.since (is.anchored ∙ free) in
     ap (λ o. full o (if t.count == 65535 then t.reload else t.count + 1) (pace t.control)) none ∙ sym (ap (λ o. full o t.count (pace t.control)) none)))

@@ -111,7 +111,7 @@ pub data ChangesControl (which : ℕ) (old : TimerState) (control : ℕ) (now : 
       → new ≡ record old { control = control; count = old.reload; since = if runs_free which control then Some now else None }
       → ChangesControl which old control now new
   -- it counts time on at its pace: it goes on by the anchor that it has
-  goes_on : runs_free which old.control ≡ true → runs_free which control ≡ true → pace control ≡ pace old.control
+  keeps_anchor : runs_free which old.control ≡ true → runs_free which control ≡ true → pace control ≡ pace old.control
       → new ≡ record old { control = control }
       → ChangesControl which old control now new
   -- it ran, and counts time at another pace or counted up before: it takes its counter at this tick as a new anchor

@@ -255,7 +255,8 @@ impl Timers {
     pub fn set_reload(&mut self, which: u8, value: u16)
         requires { which < 4 }
         ensures timers { self.new ≡ reload_set self.old which value }
-        ensures schedule { (now : Tick) (each : ℕ) → each < 4 → Reschedules now (timer_due (timer_at self.old each)) (timer_due (timer_at self.new each)) }
+        ensures schedule { (now : Tick) (each : ℕ) → each < 4
+            → Reschedules now (timer_due (timer_at self.old each)) (timer_due (timer_at self.new each)) }
     {
         self.laws();
         let timer = self.timer(which);
@@ -279,7 +280,8 @@ impl Timers {
         ensures start { is_start (timer_at self.old which).control (kept_control value) ≡ true → runs_free which (kept_control value) ≡ true
             → CountsFrom (timer_at self.new which) (timer_at self.old which).reload now }
         ensures alone { IsLater now (timer_due (timer_at self.old which)) → SchedulesOne which now self.old self.new }
-        ensures schedule { IsLater now (timer_due (timer_at self.old which)) → (each : ℕ) → each < 4 → Reschedules now (timer_due (timer_at self.old each)) (timer_due (timer_at self.new each)) }
+        ensures schedule { IsLater now (timer_due (timer_at self.old which)) → (each : ℕ) → each < 4
+            → Reschedules now (timer_due (timer_at self.old each)) (timer_due (timer_at self.new each)) }
     {
         self.laws();
         let timer = with_control(which, self.timer(which), value & KEPT, now);
@@ -303,7 +305,8 @@ impl Timers {
         requires early { IsEarly (timer_due (timer_at self.old which)) }
         ensures timers { self.new ≡ (overflow_of self.old which).timers }
         ensures bits { result ≡ (overflow_of self.old which).bits }
-        ensures again { (now : Tick) → timer_due (timer_at self.old which) ≡ Some now → CountsFrom (timer_at self.new which) (timer_at self.old which).reload now }
+        ensures again { (now : Tick) → timer_due (timer_at self.old which) ≡ Some now
+            → CountsFrom (timer_at self.new which) (timer_at self.old which).reload now }
         ensures alone { (now : Tick) → timer_due (timer_at self.old which) ≡ Some now → SchedulesOne which now self.old self.new }
         ensures schedule { (now : Tick) (each : ℕ) → each < 4 → timer_due (timer_at self.old which) ≡ Some now
             → Reschedules now (timer_due (timer_at self.old each)) (timer_due (timer_at self.new each)) }

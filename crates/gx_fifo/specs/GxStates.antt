@@ -33,8 +33,8 @@ gx_at_boot = record { geometry = geometry_at_boot; fifo = fifo_at_boot; due = No
 abbrev pub waiting_entries : GxState → ℕ
 waiting_entries s = length s.fifo.entries
 
--- GXSTAT's count: the oldest four entries, which stand next before the engine, don't count, and it is held to 256 (GBATEK, GXSTAT bits 16 to 24; the four
--- are GBATEK's "PIPE")
+-- GXSTAT's count: the oldest four entries, which stand next before the engine, don't count, and it is held to 256 (GBATEK, GXSTAT bits 16 to 24; the
+-- four are GBATEK's "PIPE")
 abbrev pub shown_count : GxState → ℕ
 shown_count s = min 256 (waiting_entries s - 4)
 
@@ -142,8 +142,8 @@ write_port _ value now s = s
 abbrev pub gx_written : GxState → ℕ → ℕ → Tick → GxState
 gx_written s at value now = write_port (gx_port at) value now s
 
--- The head command is done at a tick: its entries leave, and the engine is as the command leaves it. After one that asks for a swap no command begins;
--- otherwise the next one does, at that tick.
+-- The head command is done at a tick: its entries leave, and the engine is as the command leaves it. After one that asks for a swap no command
+-- begins; otherwise the next one does, at that tick.
 abbrev pub command_done : GeometryCommand → Tick → GxState → GxState
 command_done command now s =
     let entries = drop (entries_taken command) s.fifo.entries in

@@ -5,8 +5,8 @@ use Rattle.gx_matrix.specs.CommandTable.{command_row, command_of}
 use Rattle.gx_matrix.specs.declared.commands.GeometryCommand.{GeometryCommand}
 use Rattle.gx_fifo.specs.declared.entries.GxEntry.{GxEntry}
 
--- Packed words (GBATEK, "DS 3D Geometry Commands", "Packed Command"): a word of up to four commands, the lowest byte first, and then the parameters of
--- each of them.
+-- Packed words (GBATEK, "DS 3D Geometry Commands", "Packed Command"): a word of up to four commands, the lowest byte first, and then the parameters
+-- of each of them.
 
 -- the entries that wait, the commands of the last packed word that are left, and how many parameters the first of those was given
 pub record FifoState : Type 0 where

@@ -39,7 +39,8 @@ impl Model for Entries {
 
     ghost view = { λ e. e.ring.items };
 
-    ghost invariant = { λ e. (e.ring.capacity ≡ 324) × (length e.ring.items ≤ 324) × (e.tests ≡ count_by is_test_entry e.ring.items) × (e.stacks ≡ count_by is_stack_entry e.ring.items) };
+    ghost invariant = { λ e. (e.ring.capacity ≡ 324) × (length e.ring.items ≤ 324) × (e.tests ≡ count_by is_test_entry e.ring.items)
+        × (e.stacks ≡ count_by is_stack_entry e.ring.items) };
 }
 
 /// Whether a command is a test.

@@ -39,9 +39,17 @@ impl Model for Gx {
 
     ghost Value = { GxState };
 
-    ghost view = { λ g. record { geometry = g.engine; fifo = g.fifo; due = g.due; swap_waits = g.swap_waits; display = g.display; selector = g.selector } };
+    ghost view = { λ g. record {
+      geometry = g.engine;
+      fifo = g.fifo;
+      due = g.due;
+      swap_waits = g.swap_waits;
+      display = g.display;
+      selector = g.selector;
+    } };
 
-    ghost invariant = { λ g. (is_some g.due ≡ (not g.swap_waits && is_some (complete_command g.fifo.entries))) × IsGiven g.fifo.left g.fifo.given × (g.display < 2 ^ 15) × (bit 13 g.display ≡ false) × (g.selector < 2 ^ 2) };
+    ghost invariant = { λ g. (is_some g.due ≡ (not g.swap_waits && is_some (complete_command g.fifo.entries))) × IsGiven g.fifo.left g.fifo.given
+        × (g.display < 2 ^ 15) × (bit 13 g.display ≡ false) × (g.selector < 2 ^ 2) };
 }
 
 /// When a command that begins at a tick is done.

@@ -1,6 +1,7 @@
 use Rattle.std.proofs.Common.{ℕ, ◌≡◌, ◌≢◌, ◌≤◌, ◌+◌, ◌-◌, ◌/◌, ◌%◌, ◌⊎◌, inl, inr, true, false, List, [], ◌∷◌, length, map, Option, Some, None, refl, ◌∙◌, arith}
-use Rattle.std.specs.Prelude.{◌==◌, nat_lt, nat_le}
+use Rattle.std.specs.Prelude.{nat_lt, nat_le}
 use Rattle.std.specs.List.{list_all}
+use Rattle.ds_base.proofs.Choices.{same_or_not, is_equal, is_unequal}
 use Rattle.gx_geometry.specs.declared.numbers.Kind.{Kind}
 use Rattle.gx_geometry.specs.declared.numbers.Kind.TheVariants.{Triangles, Quads, TriangleStrip, QuadStrip}
 use Rattle.gx_geometry.specs.declared.polygons.Shape.{Shape}
@@ -91,15 +92,6 @@ polygon_same came a ps shape h = rw (has_same came a ps shape h, seen_same came 
 
 -- ---- kind by kind
 
-on : (n m : ℕ) → n ≡ m → (n == m) ≡ true
-on n m e = grind (arith, e)
-
-off : (n m : ℕ) → n ≢ m → (n == m) ≡ false
-off n m e = grind (arith, e)
-
-same_or_other : (n m : ℕ) → (n ≡ m) ⊎ (n ≢ m)
-same_or_other n m = grind arith
-
 below_or_not : (a b : ℕ) → (nat_lt a b ≡ true) ⊎ ((nat_lt a b ≡ false) × (b ≤ a))
 below_or_not a b = grind arith
 
@@ -109,32 +101,32 @@ Found kind (Some k) came a = polygon_at came a (corners kind k)
 
 triangles : (place : ℕ) (came : List Vertex) (a : Arrival) → a.place ≡ place → Found Triangles (completed Triangles place) came a ≡ polygon_by_shape (shape_of Triangles place) came a
 unfolding completed shape_of Found ArePairs
-triangles place came a e = elim (same_or_other (place % 3) 2) [
-  | inl h ↦ rw (on (place % 3) 2 h) (polygon_same came a (corners Triangles (place / 3)) Triangle (omega (arith, e, h), (omega (arith, e, h), (omega (arith, e, h), tt))))
-  | inr h ↦ rw (off (place % 3) 2 h) refl
+triangles place came a e = elim (same_or_not (place % 3) 2) [
+  | inl h ↦ rw (is_equal (place % 3) 2 h) (polygon_same came a (corners Triangles (place / 3)) Triangle (omega (arith, e, h), (omega (arith, e, h), (omega (arith, e, h), tt))))
+  | inr h ↦ rw (is_unequal (place % 3) 2 h) refl
 ]
 
 quads : (place : ℕ) (came : List Vertex) (a : Arrival) → a.place ≡ place → Found Quads (completed Quads place) came a ≡ polygon_by_shape (shape_of Quads place) came a
 unfolding completed shape_of Found ArePairs
-quads place came a e = elim (same_or_other (place % 4) 3) [
-  | inl h ↦ rw (on (place % 4) 3 h) (polygon_same came a (corners Quads (place / 4)) Quad (omega (arith, e, h), (omega (arith, e, h), (omega (arith, e, h), (omega (arith, e, h), tt)))))
-  | inr h ↦ rw (off (place % 4) 3 h) refl
+quads place came a e = elim (same_or_not (place % 4) 3) [
+  | inl h ↦ rw (is_equal (place % 4) 3 h) (polygon_same came a (corners Quads (place / 4)) Quad (omega (arith, e, h), (omega (arith, e, h), (omega (arith, e, h), (omega (arith, e, h), tt)))))
+  | inr h ↦ rw (is_unequal (place % 4) 3 h) refl
 ]
 
 strip : (place : ℕ) (came : List Vertex) (a : Arrival) → a.place ≡ place → Found TriangleStrip (completed TriangleStrip place) came a ≡ polygon_by_shape (shape_of TriangleStrip place) came a
 unfolding completed shape_of Found ArePairs
 strip place came a e = elim (below_or_not place 2) [
   | inl low ↦ rw low refl
-  | inr more ↦ elim (same_or_other (place % 2) 0) [
+  | inr more ↦ elim (same_or_not (place % 2) 0) [
     | inl h ↦
         (let le : 2 ≤ place = more.1 in
         let k : (place - 2) % 2 ≡ 0 = omega (arith, h, le) in
-        rw (more.0, on (place % 2) 0 h, on ((place - 2) % 2) 0 k)
+        rw (more.0, is_equal (place % 2) 0 h, is_equal ((place - 2) % 2) 0 k)
         (polygon_same came a ((place - 2) ∷ (place - 2 + 1) ∷ (place - 2 + 2) ∷ []) Triangle (omega (arith, e, le), (omega (arith, e, le), (omega (arith, e, le), tt)))))
     | inr h ↦
         (let le : 2 ≤ place = more.1 in
         let k : (place - 2) % 2 ≢ 0 = omega (arith, h, le) in
-        rw (more.0, off (place % 2) 0 h, off ((place - 2) % 2) 0 k)
+        rw (more.0, is_unequal (place % 2) 0 h, is_unequal ((place - 2) % 2) 0 k)
         (polygon_same came a ((place - 2 + 1) ∷ (place - 2) ∷ (place - 2 + 2) ∷ []) TurnedTriangle (omega (arith, e, le), (omega (arith, e, le), (omega (arith, e, le), tt)))))
   ]
 ]
@@ -143,11 +135,11 @@ quad_strip : (place : ℕ) (came : List Vertex) (a : Arrival) → a.place ≡ pl
 unfolding completed shape_of Found ArePairs
 quad_strip place came a e = elim (below_or_not place 3) [
   | inl low ↦ rw low refl
-  | inr more ↦ elim (same_or_other (place % 2) 0) [
-    | inl h ↦ rw (more.0, on (place % 2) 0 h) refl
+  | inr more ↦ elim (same_or_not (place % 2) 0) [
+    | inl h ↦ rw (more.0, is_equal (place % 2) 0 h) refl
     | inr h ↦
         (let le : 3 ≤ place = more.1 in
-        rw (more.0, off (place % 2) 0 h)
+        rw (more.0, is_unequal (place % 2) 0 h)
         (polygon_same came a (corners QuadStrip ((place - 3) / 2)) StripQuad (omega (arith, e, le, h), (omega (arith, e, le, h), (omega (arith, e, le, h), (omega (arith, e, le, h), tt))))))
   ]
 ]

@@ -1,6 +1,7 @@
-use Rattle.std.proofs.Common.{ℕ, ◌≡◌, ◌<◌, ◌≤◌, ◌⊎◌, inl, inr, Bool, true, false, List, [], ◌∷◌, ◌++◌, length, take, Option, Some, None, refl, sym, ◌∙◌, ap, arith, append_assoc, append-nil, length-append}
+use Rattle.std.proofs.Common.{ℕ, ◌≡◌, ◌<◌, ◌≤◌, inl, inr, Bool, true, false, List, [], ◌∷◌, ◌++◌, length, take, Option, Some, None, refl, sym, ◌∙◌, ap, arith, append_assoc, append-nil, length-append}
 use Rattle.std.specs.Prelude.{if◌then◌else◌, option_to_list}
 use Rattle.std.proofs.lemmas.List.{take-append-le, take_all, length-take-le}
+use Rattle.ds_base.proofs.Choices.{low_or_high}
 use Rattle.gx_matrix.specs.declared.commands.GeometryCommand.{GeometryCommand}
 use Rattle.gx_matrix.specs.declared.commands.GeometryCommand.TheVariants.{BoxTest, PosTest, VecTest}
 use Rattle.gx_geometry.specs.declared.polygons.Vertex.{Vertex}
@@ -12,9 +13,6 @@ use Rattle.gx_geometry.specs.Lists.{GeometryAct, Command, ClearError, ClearOverf
 use Rattle.gx_geometry.specs.States.{OutcomeState, GeometryState, IsFresh, AreListsSince, overflown, polygon_added, vertex_added, arrived, tested, geometry_after, geometry_error_cleared, overflow_cleared, after_all}
 
 -- The open lists, which grow command by command, are the lists of all commands since the swap.
-
-pub below_or_not : (a b : ℕ) → (a < b) ⊎ (b ≤ a)
-below_or_not a b = grind arith
 
 -- a polygon is added where there is room
 pub polygon_keeps : (p : Option Polygon) (o : OutcomeState) → (polygon_added p o).vertices ≡ o.vertices
@@ -30,7 +28,7 @@ no_room p o h = grind arith
 polygon_step : (p : Option Polygon) (o : OutcomeState) (made : List Polygon) → o.polygons ≡ take most_polygons made →
     (polygon_added p o).polygons ≡ take most_polygons (made ++ option_to_list p)
 polygon_step None o made e = e ∙ ap (λ (xs : List Polygon). take most_polygons xs) (sym (append-nil made))
-polygon_step (Some p) o made e = elim (below_or_not (length made) most_polygons) [
+polygon_step (Some p) o made e = elim (low_or_high (length made) most_polygons) [
   | inl h ↦
       let same : o.polygons ≡ made = e ∙ take_all most_polygons made (omega arith) in
       let room : length o.polygons < most_polygons = omega (arith, ap (λ (xs : List Polygon). length xs) same) in
@@ -71,7 +69,7 @@ polygons_with a came made = made ++ option_to_list (polygon_of (came ++ a.vertex
 arrived_holds : (a : Arrival) (o : OutcomeState) (came : List Vertex) (made : List Polygon) → Holds o came made →
     Holds (arrived a o) (came ++ a.vertex ∷ []) (polygons_with a came made)
 unfolding polygons_with
-arrived_holds a o came made held = elim (below_or_not (length came) most_vertices) [
+arrived_holds a o came made held = elim (low_or_high (length came) most_vertices) [
   | inl h ↦
       let same : o.vertices ≡ came = held.vertices_are ∙ take_all most_vertices came (omega arith) in
       let room : length o.vertices < most_vertices = omega (arith, ap (λ (xs : List Vertex). length xs) same) in

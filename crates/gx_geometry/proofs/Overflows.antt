@@ -1,6 +1,7 @@
 use Rattle.std.proofs.Common.{ℕ, ◌≡◌, ◌<◌, ◌≤◌, ◌+◌, ◌-◌, inl, inr, Bool, true, false, List, [], ◌∷◌, ◌++◌, length, Option, Some, None, refl, sym, ◌∙◌, ap, arith, append_assoc, append-nil, length-append}
 use Rattle.std.specs.Prelude.{◌||◌, nat_lt, if◌then◌else◌, option_to_list, take}
 use Rattle.std.proofs.lemmas.List.{take_all, length-take-le}
+use Rattle.ds_base.proofs.Choices.{low_or_high}
 use Rattle.gx_matrix.specs.declared.commands.GeometryCommand.{GeometryCommand}
 use Rattle.gx_matrix.specs.declared.commands.GeometryCommand.TheVariants.{BoxTest, PosTest, VecTest}
 use Rattle.gx_geometry.specs.Records.{NumbersState}
@@ -10,7 +11,7 @@ use Rattle.gx_geometry.specs.Changes.{numbers_after, gives_vertex}
 use Rattle.gx_geometry.specs.Polygons.{Arrival, arrival_of, polygon_of, most_vertices, most_polygons}
 use Rattle.gx_geometry.specs.Lists.{GeometryAct, Command, ClearError, ClearOverflow, numbers_cleared, arrivals, polygons_of, vertices_of, AreNoClear}
 use Rattle.gx_geometry.specs.States.{OutcomeState, GeometryState, IsOverflowSince, polygon_added, vertex_added, arrived, tested, geometry_after, geometry_error_cleared, overflow_cleared, after_all}
-use Rattle.gx_geometry.proofs.Growing.{below_or_not, arrived_room, arrived_full, dropped, Holds, polygons_with, step_holds, step_vertices, step_polygons, tested_holds, grown, fresh_holds}
+use Rattle.gx_geometry.proofs.Growing.{arrived_room, arrived_full, dropped, Holds, polygons_with, step_holds, step_vertices, step_polygons, tested_holds, grown, fresh_holds}
 
 -- The overflow is set where something was dropped since it was cleared.
 
@@ -42,7 +43,7 @@ polygon_flag : (p : Option Polygon) (o : OutcomeState) (made : List Polygon) →
 polygon_flag None o made e = or_same o.overflow (length made - most_polygons) (length (made ++ []) - most_polygons) (omega (arith, length-append made []))
 polygon_flag (Some p) o made e =
     let one : length (made ++ p ∷ []) ≡ length made + 1 = length-append made (p ∷ []) in
-    elim (below_or_not (length made) most_polygons) [
+    elim (low_or_high (length made) most_polygons) [
       | inl h ↦
           (let same : o.polygons ≡ made = e ∙ take_all most_polygons made (omega arith) in
           let room : length o.polygons < most_polygons = omega (arith, ap (λ (xs : List Polygon). length xs) same) in
@@ -61,7 +62,7 @@ arrived_flag : (a : Arrival) (o : OutcomeState) (came : List Vertex) (made : Lis
 unfolding excess polygons_with
 arrived_flag a o came made held =
     let one : length (came ++ a.vertex ∷ []) ≡ length came + 1 = length-append came (a.vertex ∷ []) in
-    elim (below_or_not (length came) most_vertices) [
+    elim (low_or_high (length came) most_vertices) [
       | inl h ↦
           (let same : o.vertices ≡ came = held.vertices_are ∙ take_all most_vertices came (omega arith) in
           let room : length o.vertices < most_vertices = omega (arith, ap (λ (xs : List Vertex). length xs) same) in

@@ -3,17 +3,17 @@ use Rattle.std.specs.Int.{int_wrap, w16}
 use Rattle.std.specs.List.{list_all}
 use Rattle.line_lanes.specs.Matrices.{at, transform4}
 use Rattle.line_lanes.specs.declared.matrices.Matrix.{Matrix}
-use Rattle.gx_geometry.specs.Records.{PointState}
+use Rattle.gx_geometry.specs.Records.{GivenPointState}
 use Rattle.gx_geometry.specs.declared.boxes.Clipped.{Clipped}
 use Rattle.gx_geometry.specs.declared.boxes.Plane.{Plane}
 use Rattle.gx_geometry.specs.declared.boxes.Plane.TheVariants.{Right, Left, Top, Bottom, Far, Near}
-use Rattle.gx_geometry.specs.Numbers.{low_half, high_half, point_of}
+use Rattle.gx_geometry.specs.Numbers.{low_half, high_half, given_point}
 
 -- A vertex through the clip matrix: x, y, z, 1.0 as a row (GBATEK, "DS 3D Matrix Types")
 abbrev pub clipped_of : List ℤ → Clipped
 clipped_of v = record { x = at v 0; y = at v 1; z = at v 2; w = at v 3 }
 
-unfoldable pub through : PointState → Matrix → Clipped
+unfoldable pub through : GivenPointState → Matrix → Clipped
 through p m = clipped_of (transform4 (p.x ∷ p.y ∷ p.z ∷ pos 4096 ∷ []) m)
 
 -- The box test (GBATEK, BOX_TEST): x, y and z of a corner, and how wide, high and deep the box is; the other corners wrap to halves (our choice)
@@ -25,7 +25,8 @@ corner params m i j k =
     let first = slice_index params 0 in
     let second = slice_index params 1 in
     let third = slice_index params 2 in
-    through (point_of (far_side i (low_half first) (high_half second)) (far_side j (high_half first) (low_half third)) (far_side k (low_half second) (high_half third))) m
+    through (given_point (far_side i (low_half first) (high_half second)) (far_side j (high_half first) (low_half third))
+    (far_side k (low_half second) (high_half third))) m
 
 unfoldable pub corners_of : List ℕ → Matrix → List Clipped
 corners_of params m =

@@ -3,7 +3,7 @@ use Rattle.std.specs.Int.{int_div_euclid, int_rem_euclid, int_wrap, w16}
 use Rattle.ds_base.specs.Bits.{bits}
 use Rattle.line_lanes.specs.Matrices.{cell, column_of, dot4}
 use Rattle.line_lanes.specs.declared.matrices.Matrix.{Matrix}
-use Rattle.gx_geometry.specs.Records.{CoordinatesState, PointState}
+use Rattle.gx_geometry.specs.Records.{CoordinatesState, GivenPointState}
 use Rattle.gx_geometry.specs.Numbers.{ten}
 
 -- Texture coordinates (GBATEK, "DS 3D Texture Coordinates"; the roundings are our choice), and the vector test, which sums the same way
@@ -39,7 +39,7 @@ by_normal word raw m = record {
 }
 
 -- mode 3: those of the vertex, by 2 ^ 20
-unfoldable pub by_vertex : PointState → CoordinatesState → Matrix → CoordinatesState
+unfoldable pub by_vertex : GivenPointState → CoordinatesState → Matrix → CoordinatesState
 by_vertex p raw m = record {
   s = coordinate_moved 1048576 p.x p.y p.z m 0 raw.s;
   t = coordinate_moved 1048576 p.x p.y p.z m 1 raw.t;

@@ -33,8 +33,8 @@ facing sum = held_to_511 (int_div_euclid (neg_ℤ sum) (pos 512))
 abbrev pub half : ℤ → ℤ
 half z = int_div_euclid z (pos 2)
 
--- The levels of a light on a normal: the diffuse one, and the specular one, which is the square of the half vector's, or comes from the table of 128 bytes, which stand
--- four to a word (GBATEK, SHININESS)
+-- The levels of a light on a normal: the diffuse one, and the specular one, which is the square of the half vector's, or comes from the table of 128
+-- bytes, which stand four to a word (GBATEK, SHININESS)
 unfoldable pub table_byte : List ℕ → ℕ → ℕ
 table_byte table i = slice_index table (i / 4) / 2 ^ (8 * (i % 4)) % 2 ^ 8
 

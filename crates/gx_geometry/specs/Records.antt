@@ -5,7 +5,7 @@ use Rattle.gx_geometry.specs.declared.numbers.Kind.{Kind}
 -- The numbers that geometry commands keep (GBATEK, "DS 3D Geometry Commands" and the chapters that it leads to).
 
 -- a vertex as it is given: signed halves with 12 fractional bits (GBATEK, VTX_16)
-pub record PointState : Type 0 where
+pub record GivenPointState : Type 0 where
   pub x : ℤ
   pub y : ℤ
   pub z : ℤ
@@ -15,8 +15,8 @@ pub record CoordinatesState : Type 0 where
   pub s : ℤ
   pub t : ℤ
 
--- a light: its vector, signed words with 9 fractional bits, turned already by the vector matrix as it was when it was given, and its colour of 15 bits (GBATEK,
--- LIGHT_VECTOR, LIGHT_COLOR)
+-- a light: its vector, signed words with 9 fractional bits, turned already by the vector matrix as it was when it was given, and its colour of 15
+-- bits (GBATEK, LIGHT_VECTOR, LIGHT_COLOR)
 pub record LightState : Type 0 where
   pub x : ℤ
   pub y : ℤ
@@ -38,7 +38,7 @@ pub record NumbersState : Type 0 where
   -- the current colour, 15 bits (GBATEK, COLOR)
   pub colour : ℕ
   -- the current vertex
-  pub point : PointState
+  pub point : GivenPointState
   -- the texture coordinates as they were given last, and those that vertices take
   pub raw : CoordinatesState
   pub coordinates : CoordinatesState

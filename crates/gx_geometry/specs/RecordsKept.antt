@@ -4,11 +4,11 @@ use Rattle.gx_geometry.specs.declared.numbers.Light.{Light}
 use Rattle.gx_geometry.specs.declared.numbers.Material.{Material}
 use Rattle.gx_geometry.specs.declared.numbers.Numbers.{Numbers}
 use Rattle.gx_geometry.specs.declared.numbers.Point.{Point}
-use Rattle.gx_geometry.specs.Records.{CoordinatesState, LightState, MaterialState, NumbersState, PointState}
+use Rattle.gx_geometry.specs.Records.{CoordinatesState, LightState, MaterialState, NumbersState, GivenPointState}
 
 -- The numbers that the code's structs stand for (our choice of form). No public call speaks of it.
 
-abbrev pub point_seen : Point → PointState
+abbrev pub point_seen : Point → GivenPointState
 point_seen p = record { x = p.x; y = p.y; z = p.z }
 
 abbrev pub coordinates_seen : Coordinates → CoordinatesState

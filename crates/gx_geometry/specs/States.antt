@@ -24,7 +24,8 @@ pub record Swapped : Type 0 where
   pub vertices : List Vertex
   pub polygons : List Polygon
 
--- What commands bring about beside the numbers: the results of tests, the open lists, and whether a vertex or a polygon was dropped since that was cleared.
+-- What commands bring about beside the numbers: the results of tests, the open lists, and whether a vertex or a polygon was dropped since that was
+-- cleared.
 pub record OutcomeState : Type 0 where
   -- the vertex of the last position test in clip space: x, y, z, w, signed words with 12 fractional bits (GBATEK, POS_RESULT)
   pub position : List ℤ
@@ -130,13 +131,13 @@ after_all [] g = g
 after_all (act ∷ acts) g = after_all acts (after_act act g)
 
 -- a swap at a tick gives out both lists and empties them; all else stays but the parameter, which is used up
-abbrev pub emptied : OutcomeState → OutcomeState
-emptied o = record o { vertices = []; polygons = [] }
+abbrev pub lists_emptied : OutcomeState → OutcomeState
+lists_emptied o = record o { vertices = []; polygons = [] }
 
 unfoldable pub swapped : Tick → GeometryState → GeometryState
 swapped now g = record {
   numbers = record g.numbers { parameter = 0 };
-  outcome = emptied g.outcome;
+  outcome = lists_emptied g.outcome;
   last = record { tick = now; parameter = g.numbers.parameter; vertices = g.outcome.vertices; polygons = g.outcome.polygons };
 }
 

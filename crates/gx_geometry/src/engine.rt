@@ -173,7 +173,8 @@ impl Geometry {
     /// palettes' bases have, and that a command adds at most one vertex to a run.
     pub fn laws(&self)
         ensures bounds { IsGeometry self.now }
-        ensures run { (code : ℕ) (params : List ℕ) → (command_taken geometry_after (command_of code) params self.now).numbers.run ≤ self.now.numbers.run + 1 }
+        ensures run { (code : ℕ) (params : List ℕ) → (command_taken geometry_after (command_of code) params self.now).numbers.run
+            ≤ self.now.numbers.run + 1 }
     {
         let _results = self.outcome.results();
     }

@@ -3,7 +3,7 @@
 ghost use Rattle.std.specs.Prelude.{◌≡◌, ◌<◌, ◌≤◌, ◌^◌, length, IfOk, IfSome};
 ghost use Rattle.gx_matrix.specs.CommandTable.{HasParameters};
 ghost use Rattle.gx_geometry.specs.Polygons.{arrival_of, polygon_of, most_vertices};
-ghost use Rattle.gx_geometry.specs.States.{no_outcome, results_of, tested, polygon_added, vertex_added, arrived, flag_cleared, emptied};
+ghost use Rattle.gx_geometry.specs.States.{no_outcome, results_of, tested, polygon_added, vertex_added, arrived, flag_cleared, lists_emptied};
 ghost use Rattle.gx_geometry.specs.Bounds.{AreSmall, AreLimited};
 ghost use Rattle.gx_geometry.specs.RecordsKept.{numbers_seen};
 
@@ -35,9 +35,17 @@ impl Model for Outcome {
 
     ghost Value = { OutcomeState };
 
-    ghost view = { λ o. record { position = o.results.position; vector = o.results.vector; inside = o.results.inside; vertices = o.vertices; polygons = o.polygons; overflow = o.results.overflow } };
+    ghost view = { λ o. record {
+      position = o.results.position;
+      vector = o.results.vector;
+      inside = o.results.inside;
+      vertices = o.vertices;
+      polygons = o.polygons;
+      overflow = o.results.overflow;
+    } };
 
-    ghost invariant = { λ o. (o.results.vertices ≡ length o.vertices) × (o.results.polygons ≡ length o.polygons) × (length o.vertices ≤ most_vertices) × (length o.polygons ≤ most_polygons) × HaveColours o.vertices × HavePalettes o.polygons };
+    ghost invariant = { λ o. (o.results.vertices ≡ length o.vertices) × (o.results.polygons ≡ length o.polygons) × (length o.vertices ≤ most_vertices)
+        × (length o.polygons ≤ most_polygons) × HaveColours o.vertices × HavePalettes o.polygons };
 }
 
 impl Outcome {
@@ -134,7 +142,7 @@ impl Outcome {
 
     /// A swap takes both lists, which are empty then.
     pub fn swap(&mut self, now: Tick, parameter: u32, last: &mut Lists)
-        ensures emptied { self.new ≡ emptied self.old }
+        ensures emptied { self.new ≡ lists_emptied self.old }
         ensures taken { last.new ≡ record { tick = now; parameter = parameter; vertices = self.old.vertices; polygons = self.old.polygons } }
         ensures limited { AreLimited self.old.vertices self.old.polygons }
     {

@@ -2,7 +2,7 @@ use Rattle.std.proofs.Common.{ℕ, ◌≡◌, refl}
 use Rattle.std.specs.Prelude.{Bool, true, false, if◌then◌else◌, Option, Some, None, pos}
 use Rattle.gx_matrix.specs.declared.currents.Mode.{Mode}
 use Rattle.gx_matrix.specs.declared.currents.Mode.TheVariants.{Projection, Position, PositionAndVector, Texture}
-use Rattle.gx_matrix.specs.Commands.{StacksState, clip_of, failed, pose_place, pose_pushed, pushed, pose_stored, named_place, stored}
+use Rattle.gx_matrix.specs.Commands.{StacksState, clip_of, failed, pose_place, pose_pushed, pushed, pose_stored, named_place, matrix_stored}
 
 -- What stores matrices and changes none leaves the clip matrix.
 
@@ -26,8 +26,8 @@ pose_stored_stays : (place : Option ℕ) (s : StacksState) → clip_of (pose_sto
 pose_stored_stays None s = refl
 pose_stored_stays (Some n) s = refl
 
-pub clip_stored : (mode : Mode) (word : ℕ) (s : StacksState) → clip_of (stored mode word s) ≡ clip_of s
-unfolding stored
+pub clip_stored : (mode : Mode) (word : ℕ) (s : StacksState) → clip_of (matrix_stored mode word s) ≡ clip_of s
+unfolding matrix_stored
 clip_stored Projection word s = refl
 clip_stored Position word s = pose_stored_stays (named_place word) s
 clip_stored PositionAndVector word s = pose_stored_stays (named_place word) s

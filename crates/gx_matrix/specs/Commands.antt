@@ -135,11 +135,11 @@ popped Texture word s =
 unfoldable pub named_place : ℕ → Option ℕ
 named_place word = pose_place (pos (bits 0 5 word))
 
-unfoldable pub stored : Mode → ℕ → StacksState → StacksState
-stored Projection word s = record s { projection = single_stored s.projection }
-stored Position word s = pose_stored (named_place word) s
-stored PositionAndVector word s = pose_stored (named_place word) s
-stored Texture word s = record s { texture = single_stored s.texture }
+unfoldable pub matrix_stored : Mode → ℕ → StacksState → StacksState
+matrix_stored Projection word s = record s { projection = single_stored s.projection }
+matrix_stored Position word s = pose_stored (named_place word) s
+matrix_stored PositionAndVector word s = pose_stored (named_place word) s
+matrix_stored Texture word s = record s { texture = single_stored s.texture }
 
 unfoldable pub matrix_restored : Mode → ℕ → StacksState → StacksState
 matrix_restored Projection word s = record s { projection = single_restored s.projection }
@@ -163,7 +163,7 @@ unfoldable pub commanded : GeometryCommand → List ℕ → StacksState → Stac
 commanded MtxMode params s = record s { mode = mode_of (bits 0 2 (slice_index params 0)) }
 commanded MtxPush params s = pushed s.mode s
 commanded MtxPop params s = popped s.mode (slice_index params 0) s
-commanded MtxStore params s = stored s.mode (slice_index params 0) s
+commanded MtxStore params s = matrix_stored s.mode (slice_index params 0) s
 commanded MtxRestore params s = matrix_restored s.mode (slice_index params 0) s
 commanded command params s = current_changed command params s
 

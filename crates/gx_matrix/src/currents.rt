@@ -1,7 +1,7 @@
 //! The current matrices and their stacks, as commands change them.
 
 ghost use Rattle.std.specs.Prelude.{◌≡◌, ◌<◌, ◌≤◌, pos, negsuc, ◌-ℤ◌, ◌≤ℤ◌, IfSome};
-ghost use Rattle.gx_matrix.specs.Commands.{StacksState, stacks_at_boot, mode_of, matrix_loaded, multiplied, scaled_mode, pose_place, pose_pushed, pushed, popped_place, pose_popped, popped, signed_bits, named_place, pose_stored, stored, pose_restored, matrix_restored, current_changed, commanded, clip_of, levels_of, error_cleared};
+ghost use Rattle.gx_matrix.specs.Commands.{StacksState, stacks_at_boot, mode_of, matrix_loaded, multiplied, scaled_mode, pose_place, pose_pushed, pushed, popped_place, pose_popped, popped, signed_bits, named_place, pose_stored, matrix_stored, pose_restored, matrix_restored, current_changed, commanded, clip_of, levels_of, error_cleared};
 ghost use Rattle.gx_matrix.specs.CommandTable.{HasParameters};
 
 use crate::algebra::{given, identity, product, scaling, translation};
@@ -63,7 +63,15 @@ impl Model for Currents {
 
     ghost Value = { StacksState };
 
-    ghost view = { λ s. record { mode = s.mode; projection = s.projection; texture = s.texture; pose = s.pose; poses = s.poses; level = s.level; error = s.error } };
+    ghost view = { λ s. record {
+      mode = s.mode;
+      projection = s.projection;
+      texture = s.texture;
+      pose = s.pose;
+      poses = s.poses;
+      level = s.level;
+      error = s.error;
+    } };
 
     ghost invariant = { λ s. s.level ≤ 31 };
 }
@@ -257,9 +265,9 @@ impl Currents {
         }
     }
 
-    #[tactic(auto, unfolding(crate::specs::Commands::stored))]
+    #[tactic(auto, unfolding(crate::specs::Commands::matrix_stored))]
     fn store(&mut self, word: u32)
-        ensures { self.new ≡ stored self.old.mode word self.old }
+        ensures { self.new ≡ matrix_stored self.old.mode word self.old }
     {
         match self.mode {
             Mode::Projection => self.projection.stored = self.projection.current,

@@ -2,6 +2,7 @@
 use Rattle.std.proofs.Common.{ℕ, ◌≡◌, ◌<◌, ◌≤◌, ◌+◌, ◌^◌, ◌%◌, List, [], ◌∷◌, ◌++◌, length, get_or, refl, sym, ap, ◌∙◌, arith, inl, inr, ◌⊎◌}
 use Rattle.std.proofs.lemmas.Fmt.{decimal_by_steps, decimal_digit, decimal_nonempty, first_decimal, length-decimal-le}
 use Rattle.std.specs.Fmt.{decimal}
+use Rattle.ds_base.proofs.Choices.{zero_or_more}
 
 abbrev pub AreDigits : List ℕ → Type 0
 AreDigits [] = Unit {0}
@@ -46,10 +47,7 @@ digits_longer (d ∷ a) (g ∷ b) x y c da db nx low high e = omega (arith, digi
 
 -- a number's first digit is 0 where it is 0 alone
 pub leads_zero : (n : ℕ) → n < 2 ^ 64 → get_or (decimal n) 0 0 ≡ 48 → length (decimal n) ≡ 1
-leads_zero n h e = one (zero_or n) where
-  zero_or : (m : ℕ) → (m ≡ 0) ⊎ (0 < m)
-  zero_or m = grind arith
-
+leads_zero n h e = one (zero_or_more n) where
   one : (n ≡ 0) ⊎ (0 < n) → length (decimal n) ≡ 1
   one (inl z) = ap length (decimal_digit n (omega arith))
   one (inr p) = absurd (omega (arith, first_decimal n p h))

@@ -11,6 +11,7 @@ use Rattle.std.specs.Fmt.{decimal}
 use Prim.Native.Nat.{max}
 use Rattle.ds_base.specs.KeyLines.{no_line, line_at, AreKeyLines, ComesAfter}
 use Rattle.ds_base.specs.declared.keys.KeyLine.{KeyLine}
+use Rattle.ds_base.proofs.Choices.{zero_or_more}
 use Rattle.key_scripts.specs.Scripts.{key_names, line_text, script_text, IsLine, AreLines, IsScript, IsFirstBadAt, IsNoLine, IsLate}
 use Rattle.key_scripts.specs.Reader.Names.{common, may_end, stands, after_name, passed, names_from, outcome}
 use Rattle.key_scripts.specs.Reader.Lines.{IsNamed}
@@ -58,10 +59,7 @@ module _ (bits key at reached mark : ℕ) (line name : List ℕ) (in' : key < 12
 
 -- a digit more
 pub digit_more : (line : List ℕ) (count tick : ℕ) → count < length line → count < 11 → tick < 10 ^ count → (0 < count → take count line ≡ decimal tick) → (0 < count → 0 < tick) → 48 ≤ get_or line count 0 → get_or line count 0 ≤ 57 → take (count + 1) line ≡ decimal (tick * 10 + (get_or line count 0 - 48))
-digit_more line count tick h few range text grown low high = one (zero_or count) where
-  zero_or : (m : ℕ) → (m ≡ 0) ⊎ (0 < m)
-  zero_or m = grind arith
-
+digit_more line count tick h few range text grown low high = one (zero_or_more count) where
   digit : ℕ
   digit = get_or line count 0
 

@@ -3,7 +3,7 @@ use Rattle.std.proofs.Math.Nat.{mul-le-mul_left}
 use Rattle.std.specs.Prelude.{replicate}
 use Rattle.std.specs.Simd.Lanes.{zip2}
 use Rattle.std.proofs.lemmas.Simd.{zip2_splat}
-use Rattle.line_lanes.specs.Lanes.{mixed, mixed_pixel}
+use Rattle.line_lanes.specs.Lanes.{mixed_channel, mixed_pixel}
 use Rattle.line_lanes.specs.Pixels.{brightened, darkened, held, red, green, blue}
 
 -- two factors of sixteen sixteenths share a channel out
@@ -11,7 +11,7 @@ shared : (x w e : ℕ) → w + e ≡ 16 → x * w + x * e ≡ x * 16
 shared x w e h = omega arith ∙ ap (λ (s : ℕ). x * s) h
 
 -- a channel mixed with white is brightened
-mixed_white : (w e x y : ℕ) → w + e ≡ 16 → x + y ≡ 31 → mixed w e 0 x 31 ≡ x + y * e / 16
+mixed_white : (w e x y : ℕ) → w + e ≡ 16 → x + y ≡ 31 → mixed_channel w e 0 x 31 ≡ x + y * e / 16
 mixed_white w e x y h k =
     let a : x * w + x * e ≡ x * 16 = shared x w e h in
     let b : x * e + y * e ≡ 31 * e = omega arith ∙ ap (λ (s : ℕ). s * e) k in
@@ -19,7 +19,7 @@ mixed_white w e x y h k =
     omega (arith, a, b, m)
 
 -- a channel mixed with black, and rounded up, is darkened
-mixed_black : (w e x : ℕ) → w + e ≡ 16 → x ≤ 31 → mixed w e 15 x 0 ≡ x - x * e / 16
+mixed_black : (w e x : ℕ) → w + e ≡ 16 → x ≤ 31 → mixed_channel w e 15 x 0 ≡ x - x * e / 16
 mixed_black w e x h k =
     let a : x * w + x * e ≡ x * 16 = shared x w e h in
     omega (arith, a)
@@ -33,14 +33,14 @@ module _ (evy : ℕ) where
   white_pixel : (p : ℕ) → mixed_pixel (16 - held evy) (held evy) 0 p 32767 ≡ brightened evy p
   white_pixel p =
       let e : (16 - held evy) + held evy ≡ 16 = omega arith in
-      let one : (x : ℕ) → x < 32 → mixed (16 - held evy) (held evy) 0 x 31 ≡ x + (31 - x) * held evy / 16 =
+      let one : (x : ℕ) → x < 32 → mixed_channel (16 - held evy) (held evy) 0 x 31 ≡ x + (31 - x) * held evy / 16 =
       λ x h. mixed_white (16 - held evy) (held evy) x (31 - x) e (omega arith) in
       rw (one (red p) (omega arith), one (green p) (omega arith), one (blue p) (omega arith))
 
   black_pixel : (p : ℕ) → mixed_pixel (16 - held evy) (held evy) 15 p 0 ≡ darkened evy p
   black_pixel p =
       let e : (16 - held evy) + held evy ≡ 16 = omega arith in
-      let one : (x : ℕ) → x < 32 → mixed (16 - held evy) (held evy) 15 x 0 ≡ x - x * held evy / 16 =
+      let one : (x : ℕ) → x < 32 → mixed_channel (16 - held evy) (held evy) 15 x 0 ≡ x - x * held evy / 16 =
       λ x h. mixed_black (16 - held evy) (held evy) x e (omega arith) in
       rw (one (red p) (omega arith), one (green p) (omega arith), one (blue p) (omega arith))
 

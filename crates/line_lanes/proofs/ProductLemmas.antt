@@ -2,7 +2,7 @@ use Rattle.std.proofs.Common.{ℕ, ◌≡◌, ◌<◌, ◌+◌, ◌-◌, ◌*◌
 use Rattle.std.specs.Int.{cast_signed, cast_unsigned, int_wrap, w32, w64}
 use Rattle.std.specs.Int.RustNames.{FitsSigned}
 use Rattle.std.proofs.lemmas.Int.{of_z-to_z, wrapping_add_is, wrapping_mul_is, int_wrap-add_left, int_wrap-add_right, SFits-int_wrap}
-use Rattle.line_lanes.specs.Lanes.{cell_of, AreWords}
+use Rattle.line_lanes.specs.Lanes.{sum_cell, AreSignedWords}
 use Rattle.line_lanes.specs.Matrices.{at, cell_of_sum, dot4}
 
 low_of : (n : ℕ) → n % 2 ^ 64 / 4096 % 2 ^ 32 ≡ n / 4096 % 2 ^ 32
@@ -48,13 +48,13 @@ fits_wide z f = record { sfits = omega (arith, f.sfits) }
 abbrev lane : List ℤ → List ℤ → ℕ → ℕ
 lane row column i = cast_unsigned w64 (at row i) * cast_unsigned w64 (at column i) % 2 ^ 64
 
-module _ (row column : List ℤ) (rows : AreWords row) (columns : AreWords column) where
+module _ (row column : List ℤ) (rows : AreSignedWords row) (columns : AreSignedWords column) where
   held_lane : (i : ℕ) → FitsSigned w32 (at row i) → FitsSigned w32 (at column i) → lane row column i ≡ held (at row i *ℤ at column i)
   held_lane i f g = held_product (at row i) (at column i) (fits_wide (at row i) f) (fits_wide (at column i) g)
 
   -- four lanes added up give a row times a column
   pub cell_of_lanes :
-      cell_of ((((lane row column 0 + lane row column 1) % 2 ^ 64 + lane row column 2) % 2 ^ 64 + lane row column 3) % 2 ^ 64) ≡ dot4 row column
+      sum_cell ((((lane row column 0 + lane row column 1) % 2 ^ 64 + lane row column 2) % 2 ^ 64 + lane row column 3) % 2 ^ 64) ≡ dot4 row column
   unfolding dot4
   cell_of_lanes =
       let two : ℤ = (at row 0 *ℤ at column 0) +ℤ (at row 1 *ℤ at column 1) in

@@ -1,7 +1,7 @@
 //! Two targets mixed, channel by channel, by factors in sixteenths. Brightening is a mix with white, darkening one with black.
 ghost use Rattle.std.specs.Prelude.{◌≡◌, ◌<◌, ◌≤◌, ◌+◌, length, IsFalse};
 ghost use Rattle.std.specs.Simd.Lanes.{zip2};
-ghost use Rattle.line_lanes.specs.Lanes.{channel_from, mixed, mixed_pixel};
+ghost use Rattle.line_lanes.specs.Lanes.{channel_from, mixed_channel, mixed_pixel};
 ghost use Rattle.line_lanes.specs.Seconds.{pixels_of, Reaches};
 
 use crate::lanes::{add_each, cap_each, channel_each, joined, raise_each, scale_each, shift_each};
@@ -31,7 +31,7 @@ impl Mix {
         requires top_long { length top ≡ 8 }
         requires second_long { length second ≡ 8 }
         requires small { from < 16 }
-        ensures { let mixed_here = mixed self.eva self.evb self.rounding in
+        ensures { let mixed_here = mixed_channel self.eva self.evb self.rounding in
             result ≡ zip2 (λ p q. mixed_here (channel_from from p) (channel_from from q)) top second }
     {
         let first = scale_each(channel_each(top, from), self.eva);
@@ -60,7 +60,7 @@ impl Mix {
     fn channel(self, x: u16, y: u16) -> u16
         requires x_fits { x < 32 }
         requires y_fits { y < 32 }
-        ensures { result ≡ mixed self.eva self.evb self.rounding x y }
+        ensures { result ≡ mixed_channel self.eva self.evb self.rounding x y }
     {
         ((x * self.eva + y * self.evb + self.rounding) / 16).min(31)
     }

@@ -1,7 +1,7 @@
 //! Rows times columns and matrices, four lanes at a time. Only the sum modulo 2^44 shows in a cell, so lanes of 64 bits may wrap.
 ghost use Rattle.std.specs.Prelude.{◌≡◌, ◌*◌, ◌%◌, ◌^◌, map};
 ghost use Rattle.std.specs.Int.{cast_unsigned, w64};
-ghost use Rattle.line_lanes.specs.Lanes.{AreWords, wide, cell_of, cells_of};
+ghost use Rattle.line_lanes.specs.Lanes.{AreSignedWords, wide, sum_cell, sum_cells};
 ghost use Rattle.line_lanes.specs.Matrices.{dot4, transform4};
 
 use crate::matrices::Matrix;
@@ -17,7 +17,7 @@ fn extended(number: i32) -> u64
 /// Four numbers, each in 64 bits.
 fn widened(numbers: [i32; 4]) -> u64x4
     ensures value { result ≡ wide numbers }
-    ensures words { AreWords numbers }
+    ensures words { AreSignedWords numbers }
 {
     u64x4::from_array([
         extended(numbers[0]),
@@ -30,21 +30,21 @@ fn widened(numbers: [i32; 4]) -> u64x4
 /// A number times each of four.
 fn scaled(by: i32, numbers: [i32; 4]) -> u64x4
     ensures value { result ≡ map (λ x. cast_unsigned w64 by * x % 2 ^ 64) (wide numbers) }
-    ensures words { AreWords numbers }
+    ensures words { AreSignedWords numbers }
 {
     u64x4::splat(extended(by)) * widened(numbers)
 }
 
 /// A sum of products as a cell.
 fn cell_of(sum: u64) -> i32
-    ensures { result ≡ cell_of sum }
+    ensures { result ≡ sum_cell sum }
 {
     ((sum >> 12 & 0xFFFF_FFFF) as u32).cast_signed()
 }
 
 /// The same of each lane.
 fn cells_of(sums: u64x4) -> [i32; 4]
-    ensures { result ≡ cells_of sums }
+    ensures { result ≡ sum_cells sums }
 {
     let [a, b, c, d] = sums.to_array();
     [cell_of(a), cell_of(b), cell_of(c), cell_of(d)]

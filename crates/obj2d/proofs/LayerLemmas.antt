@@ -1,7 +1,7 @@
 use Rattle.std.proofs.Common.{ℕ, zero, suc, Bool, true, ◌≡◌, ◌≢◌, ◌<◌, ◌≤◌, ◌+◌, ◌⊎◌, ◌==◌, inl, inr, refl, sym, ◌∙◌, subst, arith}
 use Rattle.std.proofs.lemmas.Bool.{cases_eq, cases_lt, false≢true}
 use Rattle.obj2d.specs.declared.layers.ObjectPixel.{ObjectPixel}
-use Rattle.obj2d.specs.ObjectLayer.{SeenObject, IsBefore, IsFirst, IsOf, IsTransparent, IsNone, IsInWindow, IsLayerPixel, with_object, pixel_below}
+use Rattle.obj2d.specs.ObjectLayer.{SeenObject, IsBefore, IsFrontObject, IsOf, IsTransparent, IsNone, IsInWindow, IsLayerPixel, with_object, pixel_below}
 
 -- ---- what one more object leaves
 
@@ -31,7 +31,7 @@ below_suc m n h = elim (cases_eq m n) [
   | inr other ↦ inl (omega arith)
 ]
 
-stays_first : (seen : ℕ → SeenObject) (n m : ℕ) → IsFirst seen n m → ((seen n).colour ≢ 0 → (seen n).mode ≢ 2 → IsBefore seen m n) → IsFirst seen (suc n) m
+stays_first : (seen : ℕ → SeenObject) (n m : ℕ) → IsFrontObject seen n m → ((seen n).colour ≢ 0 → (seen n).mode ≢ 2 → IsBefore seen m n) → IsFrontObject seen (suc n) m
 stays_first seen n m h fresh = record {
   known = (let k = h.known in omega arith);
   opaque = h.opaque;
@@ -46,7 +46,7 @@ stays_first seen n m h fresh = record {
 }
 
 becomes_first : (seen : ℕ → SeenObject) (n : ℕ) → (seen n).colour ≢ 0 → (seen n).mode ≢ 2 →
-    ((k : ℕ) → k < n → (seen k).colour ≢ 0 → (seen k).mode ≢ 2 → IsBefore seen n k) → IsFirst seen (suc n) n
+    ((k : ℕ) → k < n → (seen k).colour ≢ 0 → (seen k).mode ≢ 2 → IsBefore seen n k) → IsFrontObject seen (suc n) n
 becomes_first seen n opaque_n shown_n before = record {
   known = omega arith;
   opaque = opaque_n;
@@ -86,7 +86,7 @@ same_window seen n w h fresh = (
 
 -- an object that isn't there, or goes behind, changes nothing
 unchanged : (seen : ℕ → SeenObject) (n : ℕ) (p : ObjectPixel) → IsLayerPixel seen n p →
-    ((m : ℕ) → IsFirst seen n m → IsOf (seen m) p → (seen n).colour ≢ 0 → (seen n).mode ≢ 2 → IsBefore seen m n) →
+    ((m : ℕ) → IsFrontObject seen n m → IsOf (seen m) p → (seen n).colour ≢ 0 → (seen n).mode ≢ 2 → IsBefore seen m n) →
     (IsTransparent p → (seen n).colour ≢ 0 → (seen n).mode ≡ 2) → ((seen n).colour ≢ 0 → (seen n).mode ≢ 2) → IsLayerPixel seen (suc n) p
 unchanged seen n p h before empty other = record {
   top = elim h.top [
@@ -139,7 +139,7 @@ before_lower seen n p h lower k lt opaque shown = elim h.top [
 ]
 
 -- an object with no lower number of priority goes behind the one that is shown
-behind : (seen : ℕ → SeenObject) (n m : ℕ) (p : ObjectPixel) → IsFirst seen n m → IsOf (seen m) p → p.priority ≤ (seen n).priority → IsBefore seen m n
+behind : (seen : ℕ → SeenObject) (n m : ℕ) (p : ObjectPixel) → IsFrontObject seen n m → IsOf (seen m) p → p.priority ≤ (seen n).priority → IsBefore seen m n
 behind seen n m p first of le =
     let same : p.priority ≡ (seen m).priority = of.priority in
     let known = first.known in

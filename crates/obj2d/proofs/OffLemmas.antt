@@ -1,5 +1,6 @@
-use Rattle.std.proofs.Common.{ℕ, zero, suc, Bool, true, false, ◌≡◌, ◌<◌, ◌==◌, ◌&&◌, not, nat_lt, List, refl, sym, ◌∙◌, ap, arith}
+use Rattle.std.proofs.Common.{ℕ, zero, suc, Bool, false, ◌≡◌, ◌<◌, ◌==◌, ◌&&◌, not, nat_lt, List, refl, sym, ◌∙◌, ap, arith}
 use Rattle.ds_base.specs.Bits.{bit}
+use Rattle.ds_base.proofs.Choices.{and_false}
 use Rattle.vram_banks.specs.Cells.{Banks}
 use Rattle.obj2d.specs.declared.objects.Display.{Display}
 use Rattle.obj2d.specs.declared.objects.Object.{Object}
@@ -11,10 +12,6 @@ use Rattle.obj2d.proofs.FormLemmas.{seen_small}
 use Rattle.obj2d.proofs.StripLemmas.{not_drawn}
 
 -- Where the engine shows no objects, no pixel has any.
-
-and_false : (b : Bool) → (b && false) ≡ false
-and_false true = refl
-and_false false = refl
 
 pub none_drawn : (control : ℕ) (o : Object) (line : ℕ) → bit 12 control ≡ false → is_drawn control o line ≡ false
 none_drawn control o line h =

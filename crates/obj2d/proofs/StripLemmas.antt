@@ -180,12 +180,6 @@ same_lt a n m there back = elim (cases_lt a n) [
       ]
 ]
 
-before_span : (left x : ℕ) → left < 512 → x < 256 → span_first left ≤ (x + 512 - left) % 512
-before_span left x a b = elim (cases_lt left 256) [
-  | inl low ↦ (let e = first_low left low in omega (arith, e))
-  | inr high ↦ (let e = first_high left (omega (arith, high)) in omega (arith, e, a, b, high))
-]
-
 after_low : (left n x first count : ℕ) → left < 256 → n ≤ 128 → x < 256 → first ≡ 0 → count ≡ (if nat_lt (n - first) (256 - left) then n - first else 256 - left) →
     nat_lt ((x + 512 - left) % 512) n ≡ nat_lt ((x + 512 - left) % 512) (first + count)
 after_low left n x first count low small b e c = elim (cases_lt (n - first) (256 - left)) [
@@ -281,13 +275,6 @@ laid_more o pixels k place p m before between after small there is_p is_m laid h
     ]
 
 -- ---- the part of a box that is on the screen
-
--- nothing of the box is on the screen before it
-pub laid_none : (o : Object) (pixels : List ℕ) (before : ℕ → ObjectPixel) → IsLaid o pixels (span_first (left_edge o)) before before
-laid_none o pixels before x small =
-    let left : left_edge o < 512 = omega arith in
-    let off : nat_lt (across o x) (span_first (left_edge o)) ≡ false = le-ltb (across o x) (span_first (left_edge o)) (before_span (left_edge o) x left small) in
-    sym (unseen (strip_seen o pixels (span_first (left_edge o)) x) (before x) (rw off refl))
 
 -- nor after it
 pub laid_all : (o : Object) (pixels : List ℕ) (n : ℕ) (before after : ℕ → ObjectPixel) → n ≤ 128 →

@@ -34,7 +34,7 @@ abbrev pub IsBefore : (ℕ → SeenObject) → ℕ → ℕ → Type 0
 IsBefore seen n m = ((seen n).priority < (seen m).priority) ⊎ (((seen n).priority ≡ (seen m).priority) × (n ≤ m))
 
 -- of the objects of numbers below `count` that are opaque and not of mode 2, object n goes before all
-pub record IsFirst (seen : ℕ → SeenObject) (count n : ℕ) : Type 0 where
+pub record IsFrontObject (seen : ℕ → SeenObject) (count n : ℕ) : Type 0 where
   pub known : n < count
   pub opaque : (seen n).colour ≢ 0
   pub shown : (seen n).mode ≢ 2
@@ -62,7 +62,7 @@ IsInWindow seen count = (n : ℕ) × (n < count) × ((seen n).colour ≢ 0) × (
 
 -- the pixel shows the first object, if there is one, and lies in the object window exactly where an object of mode 2 is opaque
 pub record IsLayerPixel (seen : ℕ → SeenObject) (count : ℕ) (p : ObjectPixel) : Type 0 where
-  pub top : ((n : ℕ) × IsFirst seen count n × IsOf (seen n) p) ⊎ (IsNone seen count × IsTransparent p)
+  pub top : ((n : ℕ) × IsFrontObject seen count n × IsOf (seen n) p) ⊎ (IsNone seen count × IsTransparent p)
   pub window : IsTrue p.window ↔ IsInWindow seen count
 
 -- an opaque pixel has bit 15 set; a transparent one has neither priority nor blending

@@ -91,7 +91,8 @@ fn draw(
     requires colours { length palette.now ≡ 512 }
     requires oam { length oam.now ≡ 1024 }
     requires known { number < 128 }
-    ensures { (x : ℕ) → x < 256 → row_pixel into.new x ≡ with_object (seen_at vram.now palette.now oam.now display.now line x number) (row_pixel into.old x) }
+    ensures { (x : ℕ) → x < 256 → row_pixel into.new x
+        ≡ with_object (seen_at vram.now palette.now oam.now display.now line x number) (row_pixel into.old x) }
 {
     let object = object_at(oam, number);
     if is_drawn(display.control, &object, line) {
@@ -195,8 +196,13 @@ pub fn object_row(
 )
     requires colours { length palette.now ≡ 512 }
     requires oam { length oam.now ≡ 1024 }
-    ensures value { (x : ℕ) → x < 256 → pixel_at into.new.pixels x ≡ object_pixel vram.now palette.now oam.now (record { engine = engine; control = control }) line x }
-    ensures stands { (x : ℕ) → x < 256 → IsLayerPixel (seen_at vram.now palette.now oam.now (record { engine = engine; control = control }) line x) 128 (pixel_at into.new.pixels x) }
+    ensures value { (x : ℕ) → x < 256 → pixel_at into.new.pixels x
+        ≡ object_pixel vram.now palette.now oam.now (record { engine = engine; control = control }) line x }
+    ensures stands { (x : ℕ) → x < 256
+        → IsLayerPixel (seen_at vram.now palette.now oam.now (record {
+          engine = engine;
+          control = control;
+        }) line x) 128 (pixel_at into.new.pixels x) }
     ensures form { (x : ℕ) → x < 256 → IsPixel (pixel_at into.new.pixels x) }
 {
     let display = Display { engine, control };
@@ -220,7 +226,8 @@ pub fn shown_row(
 )
     requires colours { length palette.now ≡ 512 }
     requires oam { length oam.now ≡ 1024 }
-    ensures { (x : ℕ) → x < 256 → shown_pixel into.new x ≡ plainly (object_pixel vram.now palette.now oam.now (record { engine = engine; control = control }) line x) }
+    ensures { (x : ℕ) → x < 256 → shown_pixel into.new x
+        ≡ plainly (object_pixel vram.now palette.now oam.now (record { engine = engine; control = control }) line x) }
 {
     let display = Display { engine, control };
     let mut row = WordRow {

@@ -86,7 +86,8 @@ fn paint_tile(
     requires indices { length indices.now ≡ 8 }
     requires room { length into.old ≡ 8 }
     requires narrow { object_has_256 object.now ≡ false → (i : ℕ) → i < 8 → slice_index indices.now i < 16 }
-    ensures { (i : ℕ) → i < 8 → slice_index into.new i ≡ indexed_pixel (object_colour vram.now palette.now display.now object.now) (slice_index indices.now (flipped (flips_across object.now) i)) }
+    ensures { (i : ℕ) → i < 8 → slice_index into.new i
+        ≡ indexed_pixel (object_colour vram.now palette.now display.now object.now) (slice_index indices.now (flipped (flips_across object.now) i)) }
 {
     let flip = flips_across(object);
     let number = palette_number(object);
@@ -168,7 +169,8 @@ fn affine_strip(
     requires colours { length palette.now ≡ 512 }
     requires oam { length oam.now ≡ 1024 }
     requires down { y < box_height object.now }
-    ensures { (x : ℕ) → x < box_width object.now → slice_index into.new x ≡ turned_pixel vram.now palette.now display.now object.now (turn_at oam.now (group object.now)) x y }
+    ensures { (x : ℕ) → x < box_width object.now → slice_index into.new x
+        ≡ turned_pixel vram.now palette.now display.now object.now (turn_at oam.now (group object.now)) x y }
 {
     let turn = turn_of(oam, object);
     for x in 0..box_width(object) {

@@ -6,8 +6,8 @@ ghost use Rattle.obj2d.specs.rows.Words.{pixel_word, word_pixel, covered_word, r
 
 use crate::layers::ObjectPixel;
 
-/// A row of 256 places: a word for each pixel, and whether it lies in the object window. A word has the colour in bits 0 to 15, 0 where no object is; bit
-/// 16 tells of a semi-transparent object; bits 18 and 19 are the priority.
+/// A row of 256 places: a word for each pixel, and whether it lies in the object window. A word has the colour in bits 0 to 15, 0 where no object is;
+/// bit 16 tells of a semi-transparent object; bits 18 and 19 are the priority.
 #[derive(Clone, Copy)]
 pub struct WordRow {
     /// The pixels.
@@ -16,8 +16,8 @@ pub struct WordRow {
     pub windows: [bool; 256],
 }
 
-/// A word with one more pixel. All is found whatever comes of it, so that no branch is taken by tests that can't be foreseen, and many places are laid at
-/// once.
+/// A word with one more pixel. All is found whatever comes of it, so that no branch is taken by tests that can't be foreseen, and many places are
+/// laid at once.
 fn covered_word(colour: u16, priority: u8, blended: bool, word: u32) -> u32
     requires { priority < 4 }
     ensures { result ≡ covered_word colour priority blended word }
@@ -35,7 +35,8 @@ fn covered_word(colour: u16, priority: u8, blended: bool, word: u32) -> u32
 fn covered(colour: u16, priority: u8, mode: u8, word: u32) -> u32
     requires small { priority < 4 }
     requires shown { mode ≢ 2 }
-    ensures { (window : Bool) → word_pixel result window ≡ with_object (record { colour = colour; priority = priority; mode = mode }) (word_pixel word window) }
+    ensures { (window : Bool) → word_pixel result window
+        ≡ with_object (record { colour = colour; priority = priority; mode = mode }) (word_pixel word window) }
 {
     covered_word(colour, priority, mode == 1, word)
 }

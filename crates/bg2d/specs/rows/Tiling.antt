@@ -32,7 +32,8 @@ AreEntries v layer first y entries n = (k : ℕ) → k < n → slice_index entri
 -- the first n tiles' rows of bytes, `count` bytes each
 abbrev pub ArePacked : Banks → TextLayer → ℕ → List ℕ → ℕ → List ℕ → ℕ → Type 0
 ArePacked v layer y entries count bytes n =
-    (k i : ℕ) → k < n → i < count → slice_index bytes (count * k + i) ≡ vram_byte v (background_space layer.engine) (tile_row layer (slice_index entries k) y + i)
+    (k i : ℕ) → k < n → i < count → slice_index bytes (count * k + i)
+    ≡ vram_byte v (background_space layer.engine) (tile_row layer (slice_index entries k) y + i)
 
 -- the indices of 33 tiles' rows, eight each
 abbrev pub AreIndices : Banks → TextLayer → ℕ → List ℕ → List ℕ → Type 0

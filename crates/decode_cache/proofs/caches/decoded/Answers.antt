@@ -1,15 +1,13 @@
 use Rattle.std.proofs.Common.{◌≡◌, ◌≢◌, ◌==◌, ◌∙◌, ℕ, false, ap, arith}
 use Rattle.ds_base.specs.declared.processors.Arch.{Arch}
+use Rattle.ds_base.proofs.Choices.{is_unequal}
 use Rattle.arm_words.specs.ArmTable.{decoded_arm}
 use Rattle.decode_cache.specs.Known.{known}
 use Rattle.decode_cache.proofs.caches.decoded.Goals as goal
 
-apart : (a b : ℕ) → a ≢ b → (a == b) ≡ false
-apart a b h = grind (arith, h)
-
 pub returns-else-this-eq16 : goal.returns-else-this-eq16
 unfolding known
 returns-else-this-eq16 g c = record {
-  instr = rw (apart g.row.BITS 16 c.if-this-eq16.false) (c.decode_arm.ensures.row ∙ ap (λ (arch : Arch). decoded_arm arch c.args.number) c.arch_of-arch.ensures);
+  instr = rw (is_unequal g.row.BITS 16 c.if-this-eq16.false) (c.decode_arm.ensures.row ∙ ap (λ (arch : Arch). decoded_arm arch c.args.number) c.arch_of-arch.ensures);
   fields = c.decode_arm.ensures.fields;
 }

@@ -3,7 +3,7 @@ use Rattle.std.specs.Int.{cast_unsigned, w32, w64}
 use Rattle.std.specs.Int.RustNames.{FitsSigned}
 use Rattle.std.proofs.lemmas.Int.{to_z-of_z}
 use Rattle.line_lanes.specs.declared.matrices.Matrix.{Matrix}
-use Rattle.line_lanes.specs.Lanes.{AreWords, wide}
+use Rattle.line_lanes.specs.Lanes.{AreSignedWords, wide}
 use Rattle.line_lanes.specs.Matrices.{at, cell, row_of, column_of}
 use Rattle.line_lanes.proofs.ProductLemmas.{cell_of_lanes}
 use Rattle.line_lanes.proofs.products.transform4.Goals as goal
@@ -21,11 +21,11 @@ returns c =
     let v1 : FitsSigned w32 (get_or v 1 (pos 0)) = search rules in
     let v2 : FitsSigned w32 (get_or v 2 (pos 0)) = search rules in
     let v3 : FitsSigned w32 (get_or v 3 (pos 0)) = search rules in
-    let words : AreWords v = (v0, v1, v2, v3) in
-    let a : AreWords (row_of m 0) = subst AreWords c.row.ensures c.scaled-first.ensures.words in
-    let b : AreWords (row_of m 1) = subst AreWords c.row-2.ensures c.scaled-second.ensures.words in
-    let d : AreWords (row_of m 2) = subst AreWords c.row-3.ensures c.scaled-third.ensures.words in
-    let e : AreWords (row_of m 3) = subst AreWords c.row-4.ensures c.scaled-fourth.ensures.words in
+    let words : AreSignedWords v = (v0, v1, v2, v3) in
+    let a : AreSignedWords (row_of m 0) = subst AreSignedWords c.row.ensures c.scaled-first.ensures.words in
+    let b : AreSignedWords (row_of m 1) = subst AreSignedWords c.row-2.ensures c.scaled-second.ensures.words in
+    let d : AreSignedWords (row_of m 2) = subst AreSignedWords c.row-3.ensures c.scaled-third.ensures.words in
+    let e : AreSignedWords (row_of m 3) = subst AreSignedWords c.row-4.ensures c.scaled-fourth.ensures.words in
     let first : c.scaled-first.result ≡ scaled (at v 0) (row_of m 0) = rw (to_z-of_z w32 (at v 0) v0, c.row.ensures) at c.scaled-first.ensures.value in
     let second : c.scaled-second.result ≡ scaled (at v 1) (row_of m 1) = rw (to_z-of_z w32 (at v 1) v1, c.row-2.ensures) at c.scaled-second.ensures.value in
     let third : c.scaled-third.result ≡ scaled (at v 2) (row_of m 2) = rw (to_z-of_z w32 (at v 2) v2, c.row-3.ensures) at c.scaled-third.ensures.value in

@@ -2,10 +2,10 @@ use Rattle.std.proofs.Common.{ℕ, ◌≡◌, ◌<◌, ◌⊎◌, inl, inr, List
 use Rattle.ds_base.specs.declared.ticks.Tick.{Tick}
 use Rattle.ds_runs.specs.Ahead.{MayRunAhead}
 use Rattle.ds_runs.specs.Lags.{MayLag}
-use Rattle.ds_machine.specs.Lasts.{IsLast, LeadsTo, here, step}
+use Rattle.ds_runs.specs.Lasts.{IsLast, LeadsTo, here, step}
 use Rattle.ds_runs.specs.Runs.{IsLeast, TickMachine, Makes, Stops, Ending, Runs, over, stops, more}
 use Rattle.ds_runs.proofs.Ahead.{least_stays}
-use Rattle.ds_machine.proofs.ActingDues.{same_or_not}
+use Rattle.ds_base.proofs.Choices.{same_or_not}
 use Rattle.ds_runs.proofs.Lists.{least_unique}
 use Rattle.ds_runs.proofs.RunLaws.{same_makes, not_both}
 

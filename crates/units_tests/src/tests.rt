@@ -12,4 +12,5 @@ mod irqs;
 mod maths;
 mod places;
 mod runs;
+mod states;
 mod timers;

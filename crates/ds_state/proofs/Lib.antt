@@ -1,0 +1,4 @@
+pub mod Codes
+pub mod Exact
+pub mod Loop
+pub mod Written

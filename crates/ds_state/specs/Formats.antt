@@ -1,5 +1,5 @@
 -- Formats of bytes, and the bytes of a state by a format.
-use Rattle.std.specs.Prelude.{ℕ, ℤ, FitsSigned, ◌≡◌, ◌⊎◌, ◌<◌, ◌-◌, ◌^◌, ◌==◌, Bool, true, List, [], ◌∷◌, ◌++◌, length, Option, Some, None, nat_le, bit_and, if◌then◌else◌}
+use Rattle.std.specs.Prelude.{ℕ, ℤ, FitsSigned, ◌≡◌, ◌⊎◌, ◌<◌, ◌+◌, ◌-◌, ◌^◌, ◌==◌, ◌&&◌, Bool, true, List, [], ◌∷◌, ◌++◌, length, Option, Some, None, nat_le, bit_and, if◌then◌else◌}
 use Rattle.std.specs.Int.{w32, cast_unsigned}
 use Rattle.byteorder.specs.Endian.{little_bytes}
 
@@ -102,6 +102,11 @@ kept mask at v = bit_and v mask == v
 
 abbrev pub at_most : ℕ → ℕ → ℕ → Bool
 at_most n at v = nat_le v n
+
+-- a due tick is from the tick of the state on, and no later than 2^32 ticks after it
+abbrev pub soon : ℕ → Option ℕ → Bool
+soon at None = true
+soon at (Some due) = nat_le at due && nat_le due (at + 2 ^ 32)
 
 -- a word as a part of its own
 abbrev pub word_format : Format ℕ ℕ

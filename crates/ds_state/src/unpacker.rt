@@ -2,7 +2,7 @@
 
 ghost use Rattle.std.specs.Prelude.{◌≡◌, ◌≤◌, ◌<◌, ◌^◌, length, IfOk, false, if◌then◌else◌, Ok, Err};
 ghost use Rattle.ds_state.specs.declared.unpacker.Unpacked.TheVariants.{NoMemory, Bad};
-ghost use Rattle.ds_state.specs.Formats.{IsWidth, number, flag, tick, array, signed_word, any, kept, at_most};
+ghost use Rattle.ds_state.specs.Formats.{IsWidth, number, flag, tick, array, signed_word, any, kept, at_most, soon};
 ghost use Rattle.ds_state.specs.Reading.{Gives, GivesIn, GivesSome, GivesTrue, read_code, ruled};
 
 use byteorder::{ByteOrder, LittleEndian};
@@ -200,6 +200,20 @@ impl<'a> Unpacker<'a> {
         } else {
             Some(number)
         })
+    }
+
+    /// Takes the due tick of a state at a tick: none, or from that tick on to 2^32 ticks after it.
+    pub fn take_due(&mut self, at: u64) -> Result<Option<u64>, Unpacked>
+        ensures { Gives (λ x. x) result self.new (ruled (soon at) self.old (read_code tick self.old)) }
+    {
+        let offset = self.place();
+        let due = self.take_tick()?;
+        let soon = match due {
+            Some(due) => due >= at && due - at <= 0x1_0000_0000,
+            None => true,
+        };
+        holds(soon, offset)?;
+        Ok(due)
     }
 
     /// Takes so many bytes as they are; the error may be want of memory, too.

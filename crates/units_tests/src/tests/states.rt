@@ -1,6 +1,7 @@
 //! Bytes that fields are put to and taken from.
 
 use Field::{Bytes, Flag, Half, Kept, Most, None8, Signed, Tick, Word};
+use ds_math::{Divider, Root};
 use ds_state::{Packer, Unpacked, Unpacker};
 use std::alloc::{AllocError, Global};
 
@@ -158,4 +159,83 @@ fn a_take_that_finds_fewer_takes_nothing(rt: HostRuntime) {
         fewer && four == [9; 4] && from.take(2) == Some(0x201) && from.place() == 2,
         "all is left"
     );
+}
+
+/// What of a divider's bytes is read at a tick, with a byte changed and so many of them there: how many were left where it is as it was, or
+/// 100 and where it fails.
+fn divided(bytes: &[u8], at: u32) -> u32 {
+    let mut from = Unpacker::new(bytes);
+    match Divider::unpack(&mut from, ds_base::Tick(at.into())) {
+        Ok(divider) => {
+            let read = divider.read();
+            let same = read.mode == 1
+                && read.numerator == 0x0102_0304_0506_0708
+                && read.denominator == 2;
+            if same && read.busy { from.place() } else { 98 }
+        }
+        Err(Unpacked::Bad { offset }) => offset.saturating_add(100),
+        Err(Unpacked::NoMemory) => 97,
+    }
+}
+
+/// A divider that was started in mode 1 at tick 100 and is due at 168: which byte is changed to what, how many bytes there are, the tick, and
+/// what comes.
+const DIVIDERS: [(usize, u8, usize, u32, u32); 11] = [
+    (0, 1, 42, 100, 41),
+    (0, 1, 42, 168, 41),
+    (0, 1, 42, 169, 133),
+    (0, 4, 42, 100, 100),
+    (0, 1, 41, 100, 41),
+    (0, 1, 40, 100, 133),
+    (0, 1, 0, 100, 100),
+    (0, 1, 8, 100, 101),
+    (36, 1, 42, 100, 41),
+    (37, 1, 42, 100, 133),
+    (40, 0xFF, 42, 100, 133),
+];
+
+#[test]
+fn a_divider_is_taken_back_from_its_bytes(rt: HostRuntime) -> Result<(), AllocError> {
+    let mut divider = Divider::new();
+    divider.start(1, 0x0102_0304_0506_0708, 2, ds_base::Tick(100));
+    let mut packer = Packer::new(rt.alloc());
+    divider.pack(&mut packer)?;
+    packer.put_u8(7)?;
+    let bytes = packer.finish();
+    for (number, (at, byte, count, tick, wanted)) in DIVIDERS.iter().enumerate() {
+        let mut changed = Vec::from_slice(rt.alloc(), &bytes)?;
+        if *at < changed.len() {
+            changed[*at] = *byte;
+        }
+        let (front, _) = changed.split_at(changed.len().min(*count));
+        let got = divided(front, *tick);
+        assert!(rt;
+            bytes.len() == 42 && got == *wanted,
+            "divider {number}: {got}"
+        );
+    }
+    Ok(())
+}
+
+#[test]
+fn units_stand_in_bytes_register_by_register(rt: HostRuntime) -> Result<(), AllocError> {
+    let mut root = Root::new();
+    root.start(true, 0x1_0000_0009, ds_base::Tick(5));
+    let mut packer = Packer::new(rt.alloc());
+    root.pack(&mut packer)?;
+    if root.due().is_some() {
+        root.finish();
+    }
+    root.pack(&mut packer)?;
+    let bytes = packer.finish();
+    let wanted = [
+        1, 9, 0, 0, 0, 1, 0, 0, 0, 0, 0, 0, 0, 31, 0, 0, 0, 0, 0, 0, 0, 1, 9, 0, 0, 0, 1, 0, 0, 0,
+        0, 0, 1, 0, 255, 255, 255, 255, 255, 255, 255, 255,
+    ];
+    assert!(rt;
+        bytes.as_slice() == wanted.as_slice(),
+        "{} bytes",
+        bytes.len()
+    );
+    Ok(())
 }

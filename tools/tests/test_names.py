@@ -42,7 +42,8 @@ class Names(unittest.TestCase):
     def test_lines(self):
         counts, allowed = spec_names.long_lines(TOP), tuple(excepted("long"))
         self.assertEqual({}, {path: count for path, count in counts.items() if not path.startswith(allowed)}, "lines are longer than 150 columns")
-        self.assertEqual([], [front for front in allowed if not any(path.startswith(front) for path in counts)], "these exceptions can go")
+        level = [front for front in allowed if (TOP / front).exists() and not any(path.startswith(front) for path in counts)]
+        self.assertEqual([], level, "these exceptions can go")
 
     def test_counts(self):
         text = (TOP / "docs" / "ADDING.md").read_text(encoding="utf8")

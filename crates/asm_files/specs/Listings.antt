@@ -84,4 +84,5 @@ pub record IsFirstBad (text : List ℕ) (line : ℕ) : Type 0 where
   pub number : line ≡ before + 1
   pub within : before ≤ length (whole_lines text)
   pub front : IsFront (take before (whole_lines text))
-  pub bad : ((before < length (whole_lines text)) × (IsFront (take (before + 1) (whole_lines text)) → ⊥)) ⊎ ((before ≡ length (whole_lines text)) × ((tail text ≢ []) ⊎ (text ≡ [])))
+  pub bad : ((before < length (whole_lines text)) × (IsFront (take (before + 1) (whole_lines text)) → ⊥))
+      ⊎ ((before ≡ length (whole_lines text)) × ((tail text ≢ []) ⊎ (text ≡ [])))

@@ -103,7 +103,8 @@ fn read_lines(
     ensures within { IfOk result (λ n. n ≤ length text.new) }
     ensures ok { IfOk result (λ n. HasPath arch set (first_place start) (whole_lines (drop from text.old)) (take n text.new)) }
     ensures closed { IfOk result (λ n. tail (drop from text.old) ≡ []) }
-    ensures bad { IfErr result (λ b. (count : ℕ) × (b.line ≡ count + 2) × EndsAt arch set (first_place start) (whole_lines (drop from text.old)) (tail (drop from text.old)) count) }
+    ensures bad { IfErr result (λ b. (count : ℕ) × (b.line ≡ count + 2)
+        × EndsAt arch set (first_place start) (whole_lines (drop from text.old)) (tail (drop from text.old)) count) }
 {
     statement_laws();
     let mut place = LinePlace { at: start, left: 0 };

@@ -255,12 +255,6 @@ pub immediate_again : (rotate immed : ℕ) → rotate < 16 → immed < 256 → l
 immediate_again rotate immed hr hi l =
     ap (λ (p : ℕ × List ℕ). rotation_of p.0) (marked_again (immediate rotate immed) [] (below_word rotate immed hr hi) refl) ∙ rotation_again rotate immed hr hi l
 
-shifted_first : (rm : ℕ) (x : List ℕ) → (slice_index (register_name rm ++ x) 0 == 35) ≡ false
-shifted_first rm x = refl
-
-shifted_starts : (rm : ℕ) (x rest : List ℕ) → (slice_index ((register_name rm ++ x) ++ rest) 0 == 35) ≡ false
-shifted_starts rm x rest = refl
-
 pub operand_again : (o : Operand) → HasOperand o → least_operand o ≡ true → operand_at (operand o ++ []) ≡ o
 unfolding operand_at
 operand_again (Immediate rotate immed) h l = rw (immediate_again rotate immed h.0 h.1 l) refl

@@ -291,9 +291,6 @@ letter_plain : (top : Bool) → HasNoFeed (half_letter top)
 letter_plain true = plain_of (codes "t") refl
 letter_plain false = plain_of (codes "b") refl
 
-s_plain : (set_flags : Bool) → HasNoFeed (where_set set_flags (codes "s"))
-s_plain set_flags = where_plain set_flags (codes "s") (plain_of (codes "s") refl)
-
 letters : (x y : Bool) → HasNoFeed (half_letter x ++ half_letter y)
 letters x y = plain_append (half_letter x) (half_letter y) (letter_plain x) (letter_plain y)
 

@@ -9,7 +9,8 @@ use Rattle.asm_text.specs.Starts.{raw_byte}
 -- what holds of all statements
 pub record StatementLaws : Type 0 where
   -- each word or half has a statement of its own at an address
-  pub one : (arch : Arch) (set : Set) (at v w : ℕ) → at < 2 ^ 32 → IsInRange (spelling set v) → IsInRange (spelling set w) → listed arch set at v ≡ listed arch set at w → v ≡ w
+  pub one : (arch : Arch) (set : Set) (at v w : ℕ) → at < 2 ^ 32 → IsInRange (spelling set v) → IsInRange (spelling set w) → listed arch set at v
+      ≡ listed arch set at w → v ≡ w
   -- a byte's line is none
   pub apart : (arch : Arch) (set : Set) (at w b : ℕ) → at < 2 ^ 32 → IsInRange (spelling set w) → b < 256 → listed arch set at w ≢ raw_byte b
   -- each is one line

@@ -13,9 +13,9 @@ use Rattle.arm_words.specs.declared.spellings.Spelling.TheVariants.{Word, Half}
 use Rattle.arm_words.specs.declared.instructions.Instr.TheVariants.{Bx, BlxRegister, Bkpt, Clz, Saturating, Smla, Smlaw, Smulw, Smlal, Smul, Mul, Mla, LongMultiply, Swap, HalfTransfer, Mrs, Msr, MsrImmediate, Compare, Move, Data, DoubleTransfer, Transfer, Multiple, Branch, Coprocessor, Swi, BlxTarget, Pld, Never, ThumbAddSub, ThumbShift, ThumbImmediate, ThumbData, ThumbBx, ThumbBlxRegister, ThumbHigh, ThumbLoadLiteral, ThumbRegisterOffset, ThumbImmediateOffset, ThumbHalfOffset, ThumbStackOffset, ThumbAddress, ThumbAdjustStack, ThumbPushPop, ThumbBkpt, ThumbMultiple, ThumbBranchIf, ThumbSwi, ThumbBranch, ThumbBlxSuffix, ThumbBlPrefix, ThumbBlSuffix}
 
 -- whether a spelling is a half
-abbrev pub is_half : Spelling → Bool
-is_half (Word word) = false
-is_half (Half half) = true
+abbrev pub is_half_spelling : Spelling → Bool
+is_half_spelling (Word word) = false
+is_half_spelling (Half half) = true
 
 -- a name and its operands, with a comma and a space between them
 abbrev pub with_operands : List ℕ → List (List ℕ) → List ℕ
@@ -55,7 +55,8 @@ statement at (Mul cond set_flags rd rm rs) =
 statement at (Mla cond set_flags rd rm rs rn) =
     on (codes "mla" ++ where_set set_flags (codes "s")) cond (register_name rd ∷ register_name rm ∷ register_name rs ∷ register_name rn ∷ [])
 statement at (LongMultiply cond signed accumulate set_flags rd_lo rd_hi rm rs) =
-    on (long_name signed accumulate ++ where_set set_flags (codes "s")) cond (register_name rd_lo ∷ register_name rd_hi ∷ register_name rm ∷ register_name rs ∷ [])
+    on (long_name signed accumulate ++ where_set set_flags (codes "s")) cond (register_name rd_lo ∷ register_name rd_hi ∷ register_name rm
+    ∷ register_name rs ∷ [])
 statement at (Swap cond byte rd rm rn) =
     on (codes "swp" ++ where_set byte (codes "b")) cond (register_name rd ∷ register_name rm ∷ (codes "[" ++ (register_name rn ++ codes "]")) ∷ [])
 statement at (HalfTransfer cond op pre up write_back rn rd by) =
@@ -73,12 +74,15 @@ statement at (Data cond op set_flags rn rd second) =
 statement at (DoubleTransfer cond store pre up write_back rn rd by) =
     on (if store then codes "strd" else codes "ldrd") cond (register_name rd ∷ address pre write_back rn (short_offset up by) ∷ [])
 statement at (Transfer cond pre up byte write_back load rn rd by) =
-    on (load_name load ++ (where_set byte (codes "b") ++ where_set (not pre && write_back) (codes "t"))) cond (register_name rd ∷ address pre write_back rn (offset up by) ∷ [])
+    on (load_name load ++ (where_set byte (codes "b") ++ where_set (not pre && write_back) (codes "t"))) cond (register_name rd
+    ∷ address pre write_back rn (offset up by) ∷ [])
 statement at (Multiple cond pre up user write_back load rn list) =
-    on ((if load then codes "ldm" else codes "stm") ++ block_mode pre up) cond ((register_name rn ++ where_set write_back (codes "!")) ∷ (register_list list ++ where_set user (codes "^")) ∷ [])
+    on ((if load then codes "ldm" else codes "stm") ++ block_mode pre up) cond ((register_name rn ++ where_set write_back (codes "!"))
+    ∷ (register_list list ++ where_set user (codes "^")) ∷ [])
 statement at (Branch cond link by) = on (codes "b" ++ where_set link (codes "l")) cond (hex (arm_target at by) ∷ [])
 statement at (Coprocessor cond load op1 crn rd cp op2 crm) =
-    on (if load then codes "mrc" else codes "mcr") cond ((codes "p" ++ decimal cp) ∷ decimal op1 ∷ register_name rd ∷ (codes "c" ++ decimal crn) ∷ (codes "c" ++ decimal crm) ∷ decimal op2 ∷ [])
+    on (if load then codes "mrc" else codes "mcr") cond ((codes "p" ++ decimal cp) ∷ decimal op1 ∷ register_name rd ∷ (codes "c" ++ decimal crn)
+    ∷ (codes "c" ++ decimal crm) ∷ decimal op2 ∷ [])
 statement at (Swi cond immed) = on (codes "swi") cond (hex immed ∷ [])
 statement at (BlxTarget half by) = with_operands (codes "blx") (hex (if half then half_target at by else arm_target at by) ∷ [])
 statement at (Pld up rn by) = with_operands (codes "pld") (at_offset rn (offset up by) ∷ [])

@@ -256,7 +256,8 @@ fn coprocessor_start(cp: u8, op1: u8, rd: u8, into: &mut Line)
     requires cp { cp < 16 }
     requires op1 { op1 < 8 }
     requires rd { rd < 16 }
-    ensures text { into.new ≡ into.old ++ (codes "p" ++ (decimal cp ++ (codes ", " ++ (decimal op1 ++ (codes ", " ++ (register_name rd ++ codes ", ")))))) }
+    ensures text { into.new ≡ into.old
+        ++ (codes "p" ++ (decimal cp ++ (codes ", " ++ (decimal op1 ++ (codes ", " ++ (register_name rd ++ codes ", ")))))) }
     ensures room { length into.new ≤ length into.old + 14 }
 {
     into.put_text("p");

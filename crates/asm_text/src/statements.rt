@@ -3,7 +3,7 @@
 ghost use Rattle.std.specs.Prelude.{◌≡◌, ◌+◌, ◌≤◌, length, ◌++◌, true};
 ghost use Rattle.arm_words.specs.Fields.{HasFields};
 ghost use Rattle.arm_words.specs.Spellings.{spelled};
-ghost use Rattle.asm_text.specs.Statements.{is_half, statement};
+ghost use Rattle.asm_text.specs.Statements.{is_half_spelling, statement};
 
 use crate::lines::Line;
 use crate::names::{
@@ -215,7 +215,7 @@ pub fn statement(at: u32, instr: &Instr, into: &mut Line)
 fn of_thumb(at: u32, instr: &Instr, into: &mut Line)
     requires room { length into.old ≡ 0 }
     requires fields { HasFields instr.now }
-    requires half { is_half (spelled instr.now) ≡ true }
+    requires half { is_half_spelling (spelled instr.now) ≡ true }
     ensures { into.new ≡ into.old ++ statement at instr.now }
 {
     match *instr {

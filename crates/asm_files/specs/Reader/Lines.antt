@@ -57,7 +57,8 @@ Leads arch set from line bytes to = IsStatement arch set from line bytes to ⊎ 
 abbrev pub Path : Arch → Set → LinePlace → List (List ℕ) → List ℕ → LinePlace → Type 0
 Path arch set from [] bytes to = (bytes ≡ []) × (to ≡ from)
 Path arch set from (line ∷ lines) bytes to =
-    (first : List ℕ) × (mid : LinePlace) × (rest : List ℕ) × (Leads arch set from line first mid) × (bytes ≡ first ++ rest) × (Path arch set mid lines rest to)
+    (first : List ℕ) × (mid : LinePlace) × (rest : List ℕ) × (Leads arch set from line first mid) × (bytes ≡ first ++ rest)
+    × (Path arch set mid lines rest to)
 
 -- lines can stand after a listing's first line
 pub record HasPath (arch : Arch) (set : Set) (from : LinePlace) (lines : List (List ℕ)) (bytes : List ℕ) : Type 0 where
@@ -69,4 +70,5 @@ pub record EndsAt (arch : Arch) (set : Set) (from : LinePlace) (lines : List (Li
   pub within : count ≤ length lines
   pub bytes : List ℕ
   pub front : HasPath arch set from (take count lines) bytes
-  pub bad : ((count < length lines) × ((bytes : List ℕ) → HasPath arch set from (take (count + 1) lines) bytes → ⊥)) ⊎ ((count ≡ length lines) × (tail ≢ []))
+  pub bad : ((count < length lines) × ((bytes : List ℕ) → HasPath arch set from (take (count + 1) lines) bytes → ⊥))
+      ⊎ ((count ≡ length lines) × (tail ≢ []))

@@ -90,7 +90,8 @@ fn candidate(set: Set, at: u32, text: &[u8]) -> Option<u32>
     }
 }
 
-/// The one word or half whose statement at an address a text can be; where it is none's, any or none. (The reader refuses nothing: list it again, and compare.)
+/// The one word or half whose statement at an address a text can be; where it is none's, any or none. (The reader refuses nothing: list it again, and
+/// compare.)
 pub fn only_candidate(set: Set, at: u32, text: &[u8]) -> Option<u32>
     ensures own { (arch : Arch) (word : ℕ) → IsInRange (spelling set word) → text.now ≡ listed arch set at word → result ≡ Some word }
     ensures range { IfSome result (λ word. IsInRange (spelling set word)) }

@@ -2,7 +2,7 @@ use Rattle.std.proofs.Common.{◌≡◌, true, refl}
 use Rattle.arm_words.specs.Spellings.{spelled}
 use Rattle.arm_words.specs.declared.instructions.Instr.{Instr}
 use Rattle.arm_words.specs.declared.instructions.Instr.TheVariants.{Bx, BlxRegister, Bkpt, Clz, Saturating, Smla, Smlaw, Smulw, Smlal, Smul, Mul, Mla, LongMultiply, Swap, HalfTransfer, Mrs, Msr, MsrImmediate, Compare, Move, Data, DoubleTransfer, Transfer, Multiple, Branch, Coprocessor, Swi, BlxTarget, Pld, Never}
-use Rattle.asm_text.specs.Statements.{is_half}
+use Rattle.asm_text.specs.Statements.{is_half_spelling}
 use Rattle.asm_text.proofs.statements.statement.Goals as goal
 
 -- what is none of the words is a half
@@ -10,7 +10,7 @@ pub of_thumb-requires-clause-half : goal.of_thumb-requires-clause-half
 of_thumb-requires-clause-half c =
     let t = c.args.instr.now in
     let d = c.in_default in
-    (elim t as (λ (i : Instr). t ≡ i → is_half (spelled i) ≡ true) [
+    (elim t as (λ (i : Instr). t ≡ i → is_half_spelling (spelled i) ≡ true) [
       | Bx a b ↦ λ e. absurd (d.not-Bx a b e)
       | BlxRegister a b ↦ λ e. absurd (d.not-BlxRegister a b e)
       | Bkpt a ↦ λ e. absurd (d.not-Bkpt a e)

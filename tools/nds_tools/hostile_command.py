@@ -11,7 +11,7 @@
             read, signals: a named status, or the signal's own, and a front of the output
   fuzz      cartridges, headers, scripts, listings and words by chance; each answer is held beside its cause, which is said anew in
             tools/nds_tools/hostile/causes.py. Tells how often each status came. What has no cause, any signal, and any run of over 20 seconds
-            is kept as a folder, with what plays it again
+            of processor time is kept as a folder, with what plays it again
   --runs N  how many tries (10,000)
   --first N the number of the first try (0): with --runs 1 a try that was kept is played again
   --seed S  tries depend on the seed and their number alone; left out, one is taken from the clock and told

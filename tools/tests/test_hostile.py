@@ -5,9 +5,10 @@ import stat
 import struct
 import tempfile
 import unittest
+from unittest import mock
 
 from made import TOP  # noqa: F401 (it puts the tools on the path)
-from nds_tools.hostile import makers
+from nds_tools.hostile import answers, makers
 from nds_tools.hostile.answers import Answer, Runner
 from nds_tools.hostile.checked import MARK, Checked
 from nds_tools.hostile.causes import USAGE, accepted, header_fault, script_fault, wrong
@@ -109,6 +110,21 @@ class Growths(unittest.TestCase):
     def test_a_program_without_the_number(self):
         with tempfile.TemporaryDirectory() as folder:
             self.assertRaises(Untold, Checked, os.path.join(folder, "nds"), b"#!/bin/sh\n")
+
+
+class Bounds(unittest.TestCase):
+    def test_processor_time_counts_and_long_hangs(self):
+        rows = (("while :; do :; done", 30, -14), ("sleep 1.5; exit 3", 30, 3), ("exec sleep 60", 2, -14))
+        with tempfile.TemporaryDirectory() as folder:
+            program = os.path.join(folder, "nds")
+            for text, alarms, status in rows:
+                with open(program, "w", encoding="ascii") as it:
+                    it.write(f"#!/bin/sh\n{text}\n")
+                os.chmod(program, stat.S_IRWXU)
+                runner = Runner(program)
+                with mock.patch.multiple(answers, SECONDS=1, MOST_ALARMS=alarms):
+                    self.assertEqual(runner.run([], {"PATH": os.environ["PATH"]}).status, status, text)
+                os.rmdir(runner.folder)
 
 
 class Tries(unittest.TestCase):

@@ -1,5 +1,7 @@
-use Rattle.std.specs.Prelude.{ℕ, ◌≤◌, ◌+◌, ◌-◌, ◌*◌, ◌/◌, ◌%◌, ◌^◌, ◌==◌, nat_le, nat_lt, ◌&&◌, Bool, true, false, if◌then◌else◌, List, [], ◌∷◌, ◌++◌, Option, Some, None}
+use Rattle.std.specs.Prelude.{ℕ, ◌≤◌, ◌+◌, ◌-◌, ◌*◌, ◌/◌, ◌%◌, ◌^◌, nat_le, nat_lt, ◌&&◌, Bool, true, false, if◌then◌else◌, List, [], ◌∷◌, ◌++◌, Option, Some, None}
 use Rattle.video2d.specs.declared.engine_ports.EnginePort.{EnginePort}
+use Rattle.video2d.specs.declared.engines.Engine.{Engine}
+use Rattle.video2d.specs.declared.engines.Engine.TheVariants.{A, B}
 
 -- The registers of a 2D engine, by their offsets from its base, in the order of GBATEK's list ("DS I/O Maps"). An `EnginePort` stands for
 -- registers of one name that follow one another: the first one's offset, the bytes of each, how many there are, the bits that each keeps
@@ -35,10 +37,11 @@ effect_ports =
     ∷ []
 
 -- engine A has one more, that of display capture
-abbrev pub capture_ports : ℕ → List EnginePort
-capture_ports which = if which == 0 then read_write 0x64 4 1 0xFFFFFFFF ∷ [] else []  -- DISPCAPCNT
+abbrev pub capture_ports : Engine → List EnginePort
+capture_ports A = read_write 0x64 4 1 0xFFFFFFFF ∷ []  -- DISPCAPCNT
+capture_ports B = []
 
-abbrev pub engine_ports : ℕ → List EnginePort
+abbrev pub engine_ports : Engine → List EnginePort
 engine_ports which = background_ports ++ effect_ports ++ capture_ports which
 
 -- one of so many bytes from an offset on
@@ -50,7 +53,7 @@ abbrev pub engine_port_in : List EnginePort → ℕ → Option EnginePort
 engine_port_in [] at = None
 engine_port_in (port ∷ ports) at = if is_within port.first (port.bytes * port.count) at then Some port else engine_port_in ports at
 
-abbrev pub engine_port_at : ℕ → ℕ → Option EnginePort
+abbrev pub engine_port_at : Engine → ℕ → Option EnginePort
 engine_port_at which at = engine_port_in (engine_ports which) at
 
 -- what holds of registers with a byte at an offset; no public clause speaks of it

@@ -7,6 +7,8 @@ use Rattle.bg2d.specs.declared.layers.TextLayer.{TextLayer}
 use Rattle.bg_ext.specs.declared.layers.ExtLayer.{ExtLayer}
 use Rattle.video2d.specs.EnginePorts.{engine_port_at, is_within, kept_bits, read_of}
 use Rattle.video2d.specs.declared.engine_ports.EnginePort.{EnginePort}
+use Rattle.video2d.specs.declared.engines.Engine.{Engine}
+use Rattle.video2d.specs.declared.engines.Engine.TheVariants.{A, B}
 
 -- a running point: the point at the left end of the line, each coordinate a signed word with 8 fractional bits, as an unsigned number
 pub record PointState : Type 0 where
@@ -14,11 +16,16 @@ pub record PointState : Type 0 where
   pub y : ℕ
 
 -- A 2D engine: what its ports keep, a byte an offset from its base, and the running points of backgrounds 2 and 3. One record serves both
--- engines; engine 0 is A, any other is B.
+-- engines.
 pub record EngineState : Type 0 where
   pub ports : List ℕ
   pub two : PointState
   pub three : PointState
+
+-- the number by which layers and objects know an engine
+abbrev pub engine_number : Engine → ℕ
+engine_number A = 0
+engine_number B = 1
 
 abbrev pub point_at_boot : PointState
 point_at_boot = record { x = 0; y = 0 }
@@ -101,7 +108,7 @@ points_stepped e = record e { two = point_stepped e.ports 2 e.two; three = point
 
 -- ---- a byte of the ports is read and written
 
-abbrev pub engine_byte : ℕ → EngineState → ℕ → ℕ
+abbrev pub engine_byte : Engine → EngineState → ℕ → ℕ
 engine_byte which e at = read_of (engine_port_at which at) (slice_index e.ports at)
 
 abbrev pub points_after : ℕ → EngineState → EngineState
@@ -111,14 +118,14 @@ abbrev pub engine_byte_by : Option EnginePort → EngineState → ℕ → ℕ �
 engine_byte_by None e at value = e
 engine_byte_by (Some port) e at value = points_after at (record e { ports = slice_set e.ports at (bit_and value (kept_bits port at)) })
 
-abbrev pub engine_byte_written : ℕ → EngineState → ℕ → ℕ → EngineState
+abbrev pub engine_byte_written : Engine → EngineState → ℕ → ℕ → EngineState
 engine_byte_written which e at value = engine_byte_by (engine_port_at which at) e at value
 
 -- ---- layers
 
-abbrev pub text_layer_of : ℕ → EngineState → ℕ → TextLayer
+abbrev pub text_layer_of : Engine → EngineState → ℕ → TextLayer
 text_layer_of which e n = record {
-  engine = which;
+  engine = engine_number which;
   number = n;
   display = dispcnt e;
   control = bgcnt e n;
@@ -129,9 +136,9 @@ text_layer_of which e n = record {
 abbrev pub point_of : EngineState → ℕ → PointState
 point_of e n = if n == 2 then e.two else e.three
 
-abbrev pub affine_layer_of : ℕ → EngineState → ℕ → AffineLayer
+abbrev pub affine_layer_of : Engine → EngineState → ℕ → AffineLayer
 affine_layer_of which e n = record {
-  engine = which;
+  engine = engine_number which;
   display = dispcnt e;
   control = bgcnt e n;
   x = cast_signed w32 (point_of e n).x;
@@ -140,9 +147,9 @@ affine_layer_of which e n = record {
   pc = cast_signed w16 (number_at Half e.ports (0x10 * n + 4));
 }
 
-abbrev pub ext_layer_of : ℕ → EngineState → ℕ → ExtLayer
+abbrev pub ext_layer_of : Engine → EngineState → ℕ → ExtLayer
 ext_layer_of which e n = record {
-  engine = which;
+  engine = engine_number which;
   number = n;
   display = dispcnt e;
   control = bgcnt e n;

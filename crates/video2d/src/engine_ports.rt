@@ -3,6 +3,8 @@
 ghost use Rattle.std.specs.Prelude.{◌≡◌, Some, IfSome};
 ghost use Rattle.video2d.specs.EnginePorts.{read_write, written_alone, background_ports, effect_ports, capture_ports, engine_port_in, engine_port_at, kept_bits, HasByteAt};
 
+use crate::engines::Engine;
+
 /// Registers of one name that follow one another.
 #[derive(Clone, Copy)]
 pub struct EnginePort {
@@ -84,18 +86,18 @@ fn effect_port(at: u32) -> Option<EnginePort>
     }
 }
 
-fn capture_port(which: u8, at: u32) -> Option<EnginePort>
+fn capture_port(which: Engine, at: u32) -> Option<EnginePort>
     ensures value { result ≡ engine_port_in (capture_ports which) at }
     ensures fits { IfSome result (λ port. HasByteAt port at) }
 {
     match at {
-        0x64..=0x67 if which == 0 => read_write(0x64, 4, 1, 0xFFFF_FFFF),
+        0x64..=0x67 if which == Engine::A => read_write(0x64, 4, 1, 0xFFFF_FFFF),
         _ => None,
     }
 }
 
 /// The registers of an engine of which one has a byte at an offset.
-pub fn engine_port_at(which: u8, at: u32) -> Option<EnginePort>
+pub fn engine_port_at(which: Engine, at: u32) -> Option<EnginePort>
     ensures value { result ≡ engine_port_at which at }
     ensures fits { IfSome result (λ port. HasByteAt port at) }
 {

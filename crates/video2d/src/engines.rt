@@ -1,7 +1,7 @@
-//! A 2D engine's registers.
+//! The two 2D engines, and their registers.
 
 ghost use Rattle.std.specs.Prelude.{◌≡◌, ◌<◌, ◌≤◌, slice_index, slice_set};
-ghost use Rattle.video2d.specs.Engines.{engine_at_boot, dispcnt, bgcnt, bghofs, bgvofs, bldcnt, bldalpha, bldy, dispcapcnt, master_bright, background_mosaic, object_mosaic, points_started, points_stepped, points_after, point_of, engine_byte, engine_byte_written, text_layer_of, affine_layer_of, ext_layer_of};
+ghost use Rattle.video2d.specs.Engines.{engine_at_boot, dispcnt, bgcnt, bghofs, bgvofs, bldcnt, bldalpha, bldy, dispcapcnt, master_bright, background_mosaic, object_mosaic, points_started, points_stepped, points_after, point_of, engine_byte, engine_byte_written, engine_number, text_layer_of, affine_layer_of, ext_layer_of};
 
 use crate::engine_ports::engine_port_at;
 use crate::points::{PORTS, Point, half_at, word_at};
@@ -9,15 +9,36 @@ use bg_ext::ExtLayer;
 use bg2d::{AffineLayer, TextLayer};
 use std::marker::Model;
 
-/// An engine: what its ports keep, and the running points of backgrounds 2 and 3. Engine 0 is A, any other is B.
+/// A 2D engine (GBATEK, "DS Video").
+#[derive(Clone, Copy, PartialEq, Eq)]
+pub enum Engine {
+    /// Engine A, which has display capture, 3D and bases of its own beside what both have.
+    A,
+    /// Engine B.
+    B,
+}
+
+impl Engine {
+    /// The number by which layers and objects know it.
+    pub fn number(self) -> u8
+        ensures { result ≡ engine_number self }
+    {
+        match self {
+            Engine::A => 0,
+            Engine::B => 1,
+        }
+    }
+}
+
+/// An engine's registers: what its ports keep, and the running points of backgrounds 2 and 3.
 #[derive(Drop)]
-pub struct Engine {
+pub struct EngineRegisters {
     ports: [u8; PORTS],
     two: Point,
     three: Point,
 }
 
-impl Model for Engine {
+impl Model for EngineRegisters {
     ghost use Rattle.video2d.specs.Engines.{EngineState};
 
     ghost Value = { EngineState };
@@ -25,13 +46,13 @@ impl Model for Engine {
     ghost view = { λ e. record { ports = e.ports; two = e.two; three = e.three } };
 }
 
-impl Engine {
+impl EngineRegisters {
     /// At boot all is 0.
     #[tactic(auto, unfolding(ds_base::specs::Numbers::zeroes))]
-    pub fn new() -> Engine
+    pub fn new() -> EngineRegisters
         ensures { result ≡ engine_at_boot }
     {
-        Engine {
+        EngineRegisters {
             ports: [0; PORTS],
             two: Point::new(),
             three: Point::new(),
@@ -127,7 +148,7 @@ impl Engine {
     }
 
     /// The byte at an offset, as it is read.
-    pub fn byte(&self, which: u8, at: u32) -> u8
+    pub fn byte(&self, which: Engine, at: u32) -> u8
         requires { at < 112 }
         ensures { result ≡ engine_byte which self.now at }
     {
@@ -159,7 +180,7 @@ impl Engine {
     }
 
     /// A byte is written at an offset.
-    pub fn write_byte(&mut self, which: u8, at: u32, value: u8)
+    pub fn write_byte(&mut self, which: Engine, at: u32, value: u8)
         requires { at < 112 }
         ensures { self.new ≡ engine_byte_written which self.old at value }
     {
@@ -189,12 +210,12 @@ impl Engine {
     }
 
     /// Background n as a text background.
-    pub fn text_layer(&self, which: u8, n: u8) -> TextLayer
+    pub fn text_layer(&self, which: Engine, n: u8) -> TextLayer
         requires { n < 4 }
         ensures { result ≡ text_layer_of which self.now n }
     {
         TextLayer {
-            engine: which,
+            engine: which.number(),
             number: n,
             display: self.dispcnt(),
             control: self.bgcnt(n),
@@ -211,12 +232,12 @@ impl Engine {
     }
 
     /// Background n, 2 or 3, as an affine background.
-    pub fn affine_layer(&self, which: u8, n: u8) -> AffineLayer
+    pub fn affine_layer(&self, which: Engine, n: u8) -> AffineLayer
         requires { n < 4 }
         ensures { result ≡ affine_layer_of which self.now n }
     {
         AffineLayer {
-            engine: which,
+            engine: which.number(),
             display: self.dispcnt(),
             control: self.bgcnt(n),
             x: self.point(n).x().cast_signed(),
@@ -227,12 +248,12 @@ impl Engine {
     }
 
     /// Background n, 2 or 3, as an extended background.
-    pub fn ext_layer(&self, which: u8, n: u8) -> ExtLayer
+    pub fn ext_layer(&self, which: Engine, n: u8) -> ExtLayer
         requires { n < 4 }
         ensures { result ≡ ext_layer_of which self.now n }
     {
         ExtLayer {
-            engine: which,
+            engine: which.number(),
             number: n,
             display: self.dispcnt(),
             control: self.bgcnt(n),

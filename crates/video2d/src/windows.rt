@@ -4,7 +4,7 @@ ghost use Rattle.std.specs.Prelude.{◌≡◌, ◌<◌, ◌≤◌};
 ghost use Rattle.video2d.specs.Windows.{is_between, is_window_on, reaches_line};
 ghost use Rattle.video2d.specs.rows.Composed.{window_line, shown_along};
 
-use crate::engines::Engine;
+use crate::engines::EngineRegisters;
 
 /// The windows of an engine at a line: whether none is on, which of windows 0 and 1 reach the line, whether the object window is on, the sides of
 /// windows 0 and 1, and what is shown in each window and outside.
@@ -48,7 +48,7 @@ fn is_between(first: u8, second: u8, at: u8) -> bool
 }
 
 /// Whether window n, or the object window where n is 2, is on.
-fn is_window_on(engine: &Engine, n: u8) -> bool
+fn is_window_on(engine: &EngineRegisters, n: u8) -> bool
     requires { n < 3 }
     ensures { result ≡ is_window_on engine.now n }
 {
@@ -56,7 +56,7 @@ fn is_window_on(engine: &Engine, n: u8) -> bool
 }
 
 /// Whether window n, 0 or 1, is on and reaches a line.
-fn reaches_line(engine: &Engine, n: u8, line: u8) -> bool
+fn reaches_line(engine: &EngineRegisters, n: u8, line: u8) -> bool
     requires { n < 2 }
     ensures { result ≡ reaches_line engine.now n line }
 {
@@ -66,7 +66,7 @@ fn reaches_line(engine: &Engine, n: u8, line: u8) -> bool
 }
 
 /// The windows of an engine at a line.
-pub fn window_line(engine: &Engine, line: u8) -> WindowLine
+pub fn window_line(engine: &EngineRegisters, line: u8) -> WindowLine
     ensures { result ≡ window_line engine.now line }
 {
     WindowLine {

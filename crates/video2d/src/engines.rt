@@ -1,9 +1,10 @@
 //! The two 2D engines, and their registers.
 
 ghost use Rattle.std.specs.Prelude.{◌≡◌, ◌<◌, ◌≤◌, slice_index, slice_set};
+ghost use Rattle.video2d.specs.DisplayRegisters.{engine_base};
 ghost use Rattle.video2d.specs.Engines.{engine_at_boot, dispcnt, bgcnt, bghofs, bgvofs, bldcnt, bldalpha, bldy, dispcapcnt, master_bright, background_mosaic, object_mosaic, points_started, points_stepped, points_after, point_of, engine_byte, engine_byte_written, engine_number, text_layer_of, affine_layer_of, ext_layer_of};
 
-use crate::engine_ports::engine_port_at;
+use crate::display_registers::{DisplayRegister, engine_row_at};
 use crate::points::{PORTS, Point, half_at, word_at};
 use bg_ext::ExtLayer;
 use bg2d::{AffineLayer, TextLayer};
@@ -19,6 +20,17 @@ pub enum Engine {
 }
 
 impl Engine {
+    /// Where its registers begin, from 4000000h.
+    #[inline(always)]
+    pub fn base(self) -> u32
+        ensures { result ≡ engine_base self }
+    {
+        match self {
+            Engine::A => 0,
+            Engine::B => 0x1000,
+        }
+    }
+
     /// The number by which layers and objects know it.
     pub fn number(self) -> u8
         ensures { result ≡ engine_number self }
@@ -63,7 +75,7 @@ impl EngineRegisters {
     pub fn dispcnt(&self) -> u32
         ensures { result ≡ dispcnt self.now }
     {
-        word_at(&self.ports, 0)
+        word_at(&self.ports, DisplayRegister::Dispcnt.first())
     }
 
     /// BGxCNT of background n.
@@ -71,7 +83,10 @@ impl EngineRegisters {
         requires { n < 4 }
         ensures { result ≡ bgcnt self.now n }
     {
-        half_at(&self.ports, 0x08 + 2 * n as usize)
+        half_at(
+            &self.ports,
+            DisplayRegister::Bg0cnt.first() + 2 * n as usize,
+        )
     }
 
     /// BGxHOFS.
@@ -79,7 +94,10 @@ impl EngineRegisters {
         requires { n < 4 }
         ensures { result ≡ bghofs self.now n }
     {
-        half_at(&self.ports, 0x10 + 4 * n as usize)
+        half_at(
+            &self.ports,
+            DisplayRegister::Bg0hofs.first() + 4 * n as usize,
+        )
     }
 
     /// BGxVOFS.
@@ -87,56 +105,59 @@ impl EngineRegisters {
         requires { n < 4 }
         ensures { result ≡ bgvofs self.now n }
     {
-        half_at(&self.ports, 0x12 + 4 * n as usize)
+        half_at(
+            &self.ports,
+            DisplayRegister::Bg0hofs.first() + 4 * n as usize + 2,
+        )
     }
 
     /// BLDCNT.
     pub fn bldcnt(&self) -> u16
         ensures { result ≡ bldcnt self.now }
     {
-        half_at(&self.ports, 0x50)
+        half_at(&self.ports, DisplayRegister::Bldcnt.first())
     }
 
     /// DISPCAPCNT.
     pub fn dispcapcnt(&self) -> u32
         ensures { result ≡ dispcapcnt self.now }
     {
-        word_at(&self.ports, 0x64)
+        word_at(&self.ports, DisplayRegister::Dispcapcnt.first())
     }
 
     /// MASTER_BRIGHT.
     pub fn master_bright(&self) -> u16
         ensures { result ≡ master_bright self.now }
     {
-        half_at(&self.ports, 0x6C)
+        half_at(&self.ports, DisplayRegister::MasterBright.first())
     }
 
     /// BLDALPHA.
     pub fn bldalpha(&self) -> u16
         ensures { result ≡ bldalpha self.now }
     {
-        half_at(&self.ports, 0x52)
+        half_at(&self.ports, DisplayRegister::Bldalpha.first())
     }
 
     /// The low byte of BLDY.
     pub fn bldy(&self) -> u8
         ensures { result ≡ bldy self.now }
     {
-        self.ports[0x54]
+        self.ports[DisplayRegister::Bldy.first()]
     }
 
     /// The mosaic's sizes for backgrounds.
     pub fn background_mosaic(&self) -> u8
         ensures { result ≡ background_mosaic self.now }
     {
-        self.ports[0x4C]
+        self.ports[DisplayRegister::Mosaic.first()]
     }
 
     /// The mosaic's sizes for objects.
     pub fn object_mosaic(&self) -> u8
         ensures { result ≡ object_mosaic self.now }
     {
-        self.ports[0x4D]
+        self.ports[DisplayRegister::Mosaic.first() + 1]
     }
 
     /// A byte of the windows' registers.
@@ -152,10 +173,10 @@ impl EngineRegisters {
         requires { at < 112 }
         ensures { result ≡ engine_byte which self.now at }
     {
-        match engine_port_at(which, at) {
+        match engine_row_at(which, at) {
             None => 0,
-            Some(port) => {
-                if port.reads {
+            Some(row) => {
+                if row.reads {
                     self.ports[at as usize]
                 } else {
                     0
@@ -184,10 +205,10 @@ impl EngineRegisters {
         requires { at < 112 }
         ensures { self.new ≡ engine_byte_written which self.old at value }
     {
-        match engine_port_at(which, at) {
+        match engine_row_at(which, at) {
             None => {}
-            Some(port) => {
-                self.ports[at as usize] = value & port.kept_bits(at);
+            Some(row) => {
+                self.ports[at as usize] = value & row.kept_bits(at);
                 self.copy_points(at as usize);
             }
         }

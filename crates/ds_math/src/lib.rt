@@ -17,6 +17,8 @@
 
 mod dividers;
 mod roots;
+mod saved;
 
 pub use dividers::{Divider, Quotient};
 pub use roots::{Root, RootSeen};
+pub use saved::saved_laws;

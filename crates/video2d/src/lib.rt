@@ -23,7 +23,7 @@
 #![tactic(auto)]
 
 mod backgrounds;
-mod engine_ports;
+mod display_registers;
 mod engines;
 mod fronts;
 mod layers;
@@ -39,4 +39,6 @@ mod stops;
 mod videos;
 mod windows;
 
+pub use display_registers::{DisplayRegister, DisplayRow, engine_row_at};
+pub use engines::Engine;
 pub use videos::{Shown, Video};

@@ -1,3 +1,4 @@
 pub mod Framing
+pub mod Lengths
 pub mod Playing
 pub mod Rows

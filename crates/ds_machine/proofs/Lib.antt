@@ -9,6 +9,7 @@ pub mod QuietStays
 pub mod DueTicks
 pub mod ActingDues
 pub mod Frames
+pub mod FewFrames
 pub mod Keeps
 pub mod Commutes
 pub mod MachineSchedule

@@ -92,24 +92,24 @@ steps_then s rank tick sound there may = elim may [
   ]
 ]
 
--- ---- what is answered of it: nothing is put out, or a frame at the display's tick
+-- ---- what is answered of it: nothing is put out, or by the display a frame at its tick
 
-abbrev Answers : MachineState → MachineState → List Shown → Type 0
-Answers s next outs = (outs ≡ []) ⊎ ((swapped : Bool) × (outs ≡ shown_at (scan_due s.io.video.scan) next swapped ∷ []))
+abbrev pub Answers : actor.Actor → MachineState → MachineState → List Shown → Type 0
+Answers a s next outs = (outs ≡ []) ⊎ ((swapped : Bool) × (outs ≡ shown_at (scan_due s.io.video.scan) next swapped ∷ []) × (a ≡ Video))
 
 frame_answers : (frame waits : Bool) (s made : MachineState) (outs : List Shown) → after_video s ≡ made
-    → (if frame then shown_at (scan_due s.io.video.scan) (after_video s) waits ∷ [] else []) ≡ outs → Answers s made outs
-frame_answers true waits s made outs same e = inr (waits, sym e ∙ ap (λ (m : MachineState). shown_at (scan_due s.io.video.scan) m waits ∷ []) same)
+    → (if frame then shown_at (scan_due s.io.video.scan) (after_video s) waits ∷ [] else []) ≡ outs → Answers Video s made outs
+frame_answers true waits s made outs same e = inr (waits, sym e ∙ ap (λ (m : MachineState). shown_at (scan_due s.io.video.scan) m waits ∷ []) same, refl)
 frame_answers false waits s made outs same e = inl (sym e)
 
-video_answers : (rank : ℕ) (s made : MachineState) (outs : List Shown) (came : Result display.Shown Stop) → video_step rank came s ≡ Makes made outs → Answers s made outs
+video_answers : (rank : ℕ) (s made : MachineState) (outs : List Shown) (came : Result display.Shown Stop) → video_step rank came s ≡ Makes made outs → Answers Video s made outs
 video_answers rank s made outs (Ok shown) h =
     let put : List Shown = if shown.frame then shown_at (scan_due s.io.video.scan) (after_video s) s.io.gx.swap_waits ∷ [] else [] in
     let k = same_makes (after_video s) made put outs h in
     frame_answers shown.frame s.io.gx.swap_waits s made outs k.0 k.1
 video_answers rank s made outs (Err stop) h = absurd (not_both made s outs (stopped_at rank (scan_due_tick s.io.video.scan) stop) (sym h))
 
-made_answers : (a : actor.Actor) (rank : ℕ) (s made : MachineState) (outs : List Shown) → step_by rank a s ≡ Makes made outs → Answers s made outs
+made_answers : (a : actor.Actor) (rank : ℕ) (s made : MachineState) (outs : List Shown) → step_by rank a s ≡ Makes made outs → Answers a s made outs
 made_answers KeyScript rank s made outs h = inl (sym (same_makes (after_line s.keys s) made [] outs h).1)
 made_answers Video rank s made outs h = video_answers rank s made outs (video_answer s.oam s.io.video) h
 made_answers Geometry rank s made outs h = inl (sym (same_makes (after_geometry s) made [] outs h).1)
@@ -124,13 +124,14 @@ shown_same at tick made swapped =
     let shown : List ℕ → Swapped → Shown = λ frame lists. record { tick = at; frame = frame; swapped = swapped; lists = lists } in
     sym (ap (λ (v : VideoState). shown v.whole (ended tick made).io.gx.geometry.last) k.video ∙ ap (λ (g : GxState). shown made.io.video.whole g.geometry.last) k.gx)
 
-answers_as : (s next : MachineState) (tick : Tick) (rank : ℕ) (outs : List Shown) → Steps (actor_of rank) rank tick s → reference_step rank s ≡ Makes next outs → Answers s next outs
+pub answers_as : (s next : MachineState) (tick : Tick) (rank : ℕ) (outs : List Shown) → Steps (actor_of rank) rank tick s → reference_step rank s ≡ Makes next outs
+    → Answers (actor_of rank) s next outs
 answers_as s next tick rank outs st h =
     let k = step_made_as s next tick rank outs st h in
-    subst (λ (m : MachineState). Answers s m outs) k.2
+    subst (λ (m : MachineState). Answers (actor_of rank) s m outs) k.2
     (elim (made_answers (actor_of rank) rank s k.0 outs k.1) [
       | inl none ↦ inl none
-      | inr some ↦ inr (some.0, some.1 ∙ ap (λ (shown : Shown). shown ∷ []) (shown_same (scan_due s.io.video.scan) tick k.0 some.0))
+      | inr some ↦ inr (some.0, some.1 ∙ ap (λ (shown : Shown). shown ∷ []) (shown_same (scan_due s.io.video.scan) tick k.0 some.0), some.2)
     ])
 
 pub answer_of : (s next : MachineState) (tick : Tick) (rank : ℕ) (outs : List Shown) → Steps (actor_of rank) rank tick s → reference_step rank s ≡ Makes next outs

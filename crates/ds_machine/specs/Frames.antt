@@ -1,9 +1,9 @@
-use Rattle.std.specs.Prelude.{ℕ, ◌≡◌, ◌==◌, if◌then◌else◌, List, [], ◌∷◌, map, Option, Some, None, option_map}
+use Rattle.std.specs.Prelude.{ℕ, ◌≡◌, ◌≤◌, ◌+◌, ◌*◌, ◌==◌, if◌then◌else◌, List, [], ◌∷◌, map, length, Option, Some, None, option_map}
 use Rattle.std.specs.List.{last_or}
 use Rattle.ds_base.specs.declared.ticks.Tick.{Tick}
 use Rattle.ds_base.specs.declared.left_out.LeftOut.{LeftOut}
-use Rattle.ds_runs.specs.Runs.{IsLeast, Makes, Stops}
-use Rattle.ds_machine.specs.Reference.{Shown, dues_of, reference_step}
+use Rattle.ds_runs.specs.Runs.{Ending, IsLeast, Makes, Runs, Stops}
+use Rattle.ds_machine.specs.Reference.{Shown, dues_of, reference, reference_step}
 use Rattle.ds_machine.specs.Sound.{HasSoundParts}
 use Rattle.ds_machine.specs.States.{MachineState}
 use Rattle.gx_geometry.specs.States.{Swapped}
@@ -43,6 +43,11 @@ StepsFollowFrames = (s next : MachineState) (tick : Tick) (rank : ℕ) (outs : L
 abbrev pub StopsLeaveFrames : Type 0
 StopsLeaveFrames = (s left : MachineState) (tick : Tick) (rank : ℕ) (stop : LeftOut) → HasSoundParts s → IsLeast (dues_of s) tick rank → reference_step rank s ≡ Stops stop left
     → last_frame left ≡ last_frame s
+
+-- one becomes whole every 1,120,380 ticks, the first at tick 817,920: a run to a limit puts out no more of them than come before it
+abbrev pub FramesAreFew : Type 0
+FramesAreFew = (limit : ℕ) (start : MachineState) (end : Ending MachineState LeftOut) (outs : List Shown) → HasSoundParts start → Runs reference limit end start outs
+    → 1120380 * length outs ≤ limit + 302460
 
 -- a machine's last swap, if one was made: its lists tell when, and line 192 never begins at tick 0
 abbrev pub last_lists : MachineState → Option Swapped

@@ -2,7 +2,7 @@
 
 ghost use Rattle.ds_runs.specs.Laws.{RunsJoin, RunsAreOne, RunsExist, RunsEnd};
 ghost use Rattle.ds_machine.specs.Apart.{DisplayLeavesNine, GeometryLeavesNine, LeaveNine, LeaveNineOwn, LeaveSeven};
-ghost use Rattle.ds_machine.specs.Frames.{StepsFollowFrames, StepsFollowLists, StopsLeaveFrames, StopsLeaveLists};
+ghost use Rattle.ds_machine.specs.Frames.{FramesAreFew, StepsFollowFrames, StepsFollowLists, StopsLeaveFrames, StopsLeaveLists};
 ghost use Rattle.ds_machine.specs.Halting.{BootsKeepNoMore, RunsKeepNoMore};
 ghost use Rattle.ds_machine.specs.Lagging.{CatchingUpRuns, LagRuns, LagStops};
 ghost use Rattle.ds_machine.specs.OwnSteps.{IsStep7, IsStep9};
@@ -79,12 +79,13 @@ pub fn own_turn_laws()
 {}
 
 /// Does nothing; its contract states that the frame that a step puts out is the machine's last whole frame after it, and that a step that puts out none, or
-/// that stops, leaves the last whole frame; and so it is with the lists of the last swap.
+/// that stops, leaves the last whole frame; and so it is with the lists of the last swap. A run to a limit puts out one frame at most for each 1,120,380 ticks, and one more (`few`).
 pub fn frame_laws()
     ensures step { StepsFollowFrames }
     ensures stop { StopsLeaveFrames }
     ensures lists_step { StepsFollowLists }
     ensures lists_stop { StopsLeaveLists }
+    ensures few { FramesAreFew }
 {}
 
 /// Does nothing; its contract states the laws of running ahead. A step that a processor may take before its turn, on a machine whose units are settled and on which nobody is to

@@ -253,9 +253,10 @@ impl Machine {
         self.parts.seen(proc)
     }
 
-    /// A memory's bytes, from where they lie.
+    /// A memory's bytes, from where they lie: 4 MiB at most.
     pub fn bytes(&self, memory: Memory) -> &[u8]
-        ensures { result.now ≡ memory_of self.now memory }
+        ensures value { result.now ≡ memory_of self.now memory }
+        ensures most { length result.now ≤ 0x400000 }
     {
         self.parts.bytes(memory)
     }

@@ -1,6 +1,6 @@
 //! The machine's parts, and what is told of them.
 
-ghost use Rattle.std.specs.Prelude.{◌≡◌, ◌<◌, slice_index, length, IfOk};
+ghost use Rattle.std.specs.Prelude.{◌≡◌, ◌<◌, ◌≤◌, slice_index, length, IfOk};
 ghost use Rattle.ds_base.specs.Memories.{memory_size};
 ghost use Rattle.ds_ipc.specs.Ipcs.{AreSides};
 ghost use Rattle.ds_ports.specs.Io.{io_at_boot};
@@ -210,9 +210,10 @@ impl Parts {
         self.io.video().frame()
     }
 
-    /// A memory's bytes, from where they lie.
+    /// A memory's bytes, from where they lie: 4 MiB at most.
     pub fn bytes(&self, memory: Memory) -> &[u8]
-        ensures { result.now ≡ memory_of self.now memory }
+        ensures value { result.now ≡ memory_of self.now memory }
+        ensures most { length result.now ≤ 0x400000 }
     {
         match memory {
             Memory::Itcm => self.nine.itcm.bytes(),
@@ -220,7 +221,10 @@ impl Parts {
             Memory::Main | Memory::Shared | Memory::Own7 | Memory::Palette | Memory::Oam => self
                 .map
                 .bytes(memory),
-            Memory::Vram => self.io.vram().bytes(),
+            Memory::Vram => {
+                self.io.vram().bank_laws();
+                self.io.vram().bytes()
+            }
         }
     }
 

@@ -1,6 +1,6 @@
 //! The map.
 
-ghost use Rattle.std.specs.Prelude.{◌≡◌, ◌<◌, ◌≤◌, ◌^◌, slice_index, true, ℕ, IfOk, IfSome, Some};
+ghost use Rattle.std.specs.Prelude.{◌≡◌, ◌<◌, ◌≤◌, ◌^◌, slice_index, length, true, ℕ, IfOk, IfSome, Some};
 ghost use Rattle.ds_base.specs.Memories.{memory_size};
 ghost use Rattle.ds_base.specs.Numbers.{aligned_down, number_at, with_number};
 ghost use Rattle.ds_base.specs.declared.memories.Memory.TheVariants.{Main, Own7};
@@ -295,9 +295,10 @@ impl Map {
         self.write_any(io, proc, now, at, width, value)
     }
 
-    /// A memory's bytes, from where they lie; none of a tightly coupled one, nor of video memory, which is among the units.
+    /// A memory's bytes, from where they lie, 4 MiB at most; none of a tightly coupled one, nor of video memory, which is among the units.
     pub fn bytes(&self, memory: Memory) -> &[u8]
-        ensures { result.now ≡ cells_of self.now memory }
+        ensures value { result.now ≡ cells_of self.now memory }
+        ensures most { length result.now ≤ 0x400000 }
     {
         match memory {
             Memory::Main => self.main.bytes(),

@@ -1,4 +1,5 @@
 pub mod Framing
+pub mod Lengths
 pub mod Playing
 pub mod Rows
 mod LinesOnce

@@ -1,14 +1,15 @@
-use Rattle.std.proofs.Common.{ℕ, ◌≡◌, ◌≤◌, Bool, true, false, if◌then◌else◌, List, [], ◌∷◌, ◌++◌, flat_map, Option, Some, None, max, refl, sym, ◌∙◌, ap, subst, append_assoc, append-nil, arith}
+use Rattle.std.proofs.Common.{ℕ, ◌≡◌, ◌≤◌, ◌<◌, ◌*◌, ◌^◌, length, Bool, true, false, if◌then◌else◌, List, [], ◌∷◌, ◌++◌, flat_map, Option, Some, None, max, refl, sym, ◌∙◌, ap, subst, append_assoc, append-nil, arith}
 use Rattle.std.specs.List.{last_or}
 use Rattle.std.specs.Prelude.{option_to_list}
+use Rattle.std.proofs.lemmas.List.{length-append}
 use Rattle.std.proofs.lemmas.List.Concat.{flat_map-append}
 use Rattle.ds_base.specs.declared.left_out.LeftOut.{LeftOut}
 use Rattle.ds_io.specs.Sinks.{Appended, AppendedFront}
 use Rattle.ds_io.proofs.SinkLemmas.{append_twice, front_after, front_of_more}
 use Rattle.ds_runs.specs.Runs.{At, Ending, Runs}
-use Rattle.ds_machine.specs.Frames.{FollowFrames, FollowLists, WholeFrame, frame_shown, frames_shown, last_frame, last_lists, lists_shown}
+use Rattle.ds_machine.specs.Frames.{FollowFrames, FollowLists, FramesAreFew, WholeFrame, frame_shown, frames_shown, last_frame, last_lists, lists_shown}
 use Rattle.ds_machine.specs.States.{MachineState}
-use Rattle.ds_machine.specs.Sound.{IsSound}
+use Rattle.ds_machine.specs.Sound.{HasSoundParts, IsSound}
 use Rattle.ds_machine.specs.Reference.{Shown, next_shown, reference}
 use Rattle.run_ahead.specs.Consoles.{ConsoleState}
 use Rattle.run_ahead.specs.ToEnd.{TurnsToEnd, at_end, counts, stops}
@@ -20,9 +21,10 @@ use Rattle.run_ahead.proofs.TurnExists.{turns_end}
 use Rattle.run_ahead.proofs.TurnRuns.{ran_to_end, turns_end_as_runs}
 use Rattle.gx_geometry.specs.States.{Swapped}
 use Rattle.nds_records.specs.Lists.{lists_records}
-use Rattle.nds_plays.specs.Inside.{ending, RunsTo, shown_after, shown_now, shown_while}
+use Rattle.nds_plays.specs.Inside.{ending, RunsTo, most_after, most_shown, shown_after, shown_now, shown_while}
 use Rattle.nds_plays.specs.Plays.{Wrote, WroteFront}
 use Rattle.nds_plays.specs.Records.{Latest, frame_records, kept_records, last_records, latest_after, latest_of, output_of, shown_records, swapped_lists}
+use Rattle.nds_plays.proofs.Lengths.{all_short}
 use Rattle.nds_words.specs.declared.commands.Keep.{Keep}
 use Rattle.nds_words.specs.declared.commands.Keep.TheVariants.{All, Last, Nothing}
 
@@ -192,17 +194,23 @@ module _ {S : Type 0} (tells : S → Bool) (taken : S → List ℕ → Type 0) (
     pub going : Going until start outs now
     pub written : Appended tells taken before after (shown_while keep outs)
     pub later : faults before ≤ faults after
+    pub few : length (shown_while keep outs) ≤ most_shown * length outs
 
   pub writing_first : start.stopped ≡ None → Appended tells taken before before [] → Writing start before
-  writing_first open_ none_yet = record { outs = []; going = going_first until start open_; written = nothing keep; later = omega arith } where
+  writing_first open_ none_yet = record { outs = []; going = going_first until start open_; written = nothing keep; later = omega arith; few = none_few keep } where
+    none_few : (keep : Keep) → length (shown_while keep []) ≤ 0
+    none_few All = omega arith
+    none_few Last = omega arith
+    none_few Nothing = omega arith
+
     nothing : (keep : Keep) → Appended tells taken before before (shown_while keep [])
     nothing All = none_yet
     nothing Last = none_yet
     nothing Nothing = none_yet
 
   pub writing_shown : (old now : ConsoleState) (mid after : S) (swapped : Bool) → Writing old mid → TurnsUpTo until old (answers.Frame swapped) now
-      → Appended tells taken mid after (shown_now keep swapped now.machine) → faults mid ≤ faults after → Writing now after
-  writing_shown old now mid after swapped w up put later =
+      → Appended tells taken mid after (shown_now keep swapped now.machine) → faults mid ≤ faults after → length (shown_now keep swapped now.machine) ≤ most_shown → Writing now after
+  writing_shown old now mid after swapped w up put later few =
       let shown = shown_by up in
       let P : List ℕ → Type 0 = λ x. Appended tells taken before after x in
       let first : faults before ≤ faults mid = w.later in record {
@@ -211,6 +219,11 @@ module _ {S : Type 0} (tells : S → Bool) (taken : S → List ℕ → Type 0) (
         written = subst P (now_written keep w.outs shown swapped now.machine (has_shown until old now swapped up))
             (append_twice tells taken before mid after (shown_while keep w.outs) (shown_now keep swapped now.machine) w.written put);
         later = omega (arith, first, later);
+        few = (let so_far = w.few in
+            let is = ap (λ (x : List ℕ). length x) (now_written keep w.outs shown swapped now.machine (has_shown until old now swapped up)) in
+            let both = length-append (shown_while keep w.outs) (shown_now keep swapped now.machine) in
+            let more = length-append w.outs (shown ∷ []) in
+            omega (arith, so_far, few, is, both, more));
       }
 
   -- where the sink fails at a frame or its lists, a front of the run's output is written: its turns go on to their end from here, though the console takes none of them
@@ -240,7 +253,8 @@ module _ {S : Type 0} (tells : S → Bool) (taken : S → List ℕ → Type 0) (
 
   -- the turns up to the one that ends the run
   abbrev HasRunTo : Option LeftOut → ConsoleState → S → Type 0
-  HasRunTo stop now after = (runs : RunsTo until start stop now) × Appended tells taken before after (shown_while keep runs.outs)
+  HasRunTo stop now after =
+      (runs : RunsTo until start stop now) × Appended tells taken before after (shown_while keep runs.outs) × (length (shown_while keep runs.outs) ≤ most_shown * length runs.outs)
 
   pub writing_over : (old now : ConsoleState) (after : S) → Writing old after → TurnsUpTo until old answers.AtEnd now → HasRunTo None now after
   unfolding ends_here
@@ -251,6 +265,7 @@ module _ {S : Type 0} (tells : S → Bool) (taken : S → List ℕ → Type 0) (
         ends_here until start old now answers.AtEnd None w.outs w.going up (ap (λ (x : ConsoleState). x.stopped) t.2 ∙ t.0) (ap (λ (x : ConsoleState). x.limit) t.2) run up.frames up.lists
             (at_end up.before now t),
         w.written,
+        w.few,
       )
 
   pub writing_stopped : (old now : ConsoleState) (after : S) (left : LeftOut) → Writing old after → TurnsUpTo until old (answers.Stopped left) now → HasRunTo (Some left) now after
@@ -261,6 +276,7 @@ module _ {S : Type 0} (tells : S → Bool) (taken : S → List ℕ → Type 0) (
         ends_here until start old now (answers.Stopped left) (Some left) w.outs w.going up (ap (λ (x : ConsoleState). x.stopped) is) (ap (λ (x : ConsoleState). x.limit) is) (up.runs still_open)
             up.frames up.lists (stops up.before now left up.last),
         w.written,
+        w.few,
       )
 
 -- ---- and at the end
@@ -279,8 +295,9 @@ module _ {S : Type 0} (tells : S → Bool) (taken : S → List ℕ → Type 0) (
   abbrev left_to_write : List ℕ
   left_to_write = shown_after keep (latest_of new.machine) ++ last_records until new.turns (ending stop new.machine)
 
-  pub all_written : Appended tells taken mid after left_to_write → Wrote tells taken until keep old (ending stop new.machine) new before after
-  all_written put =
+  pub all_written : until ≤ 2 ^ 56 → HasSoundParts old.machine → FramesAreFew → length (shown_while keep r.outs) ≤ most_shown * length r.outs → length left_to_write ≤ most_after
+      → Appended tells taken mid after left_to_write → Wrote tells taken until keep old (ending stop new.machine) new before after
+  all_written early sound frames each last put =
       let P : List ℕ → Type 0 = λ x. Appended tells taken before after x in
       record {
         turns = r.to_end;
@@ -288,6 +305,8 @@ module _ {S : Type 0} (tells : S → Bool) (taken : S → List ℕ → Type 0) (
         ran = r.ran;
         written = subst P (whole_output until keep old stop new r)
             (append_twice tells taken before mid after (shown_while keep r.outs) left_to_write so_far put);
+        short = subst (λ (x : List ℕ). length x < 2 ^ 64) (whole_output until keep old stop new r)
+            (all_short until (shown_while keep r.outs) left_to_write (length r.outs) early (frames until old.machine (ending stop new.machine) r.outs sound r.ran) each last);
       }
 
   pub front_written : AppendedFront tells taken mid after left_to_write → WroteFront tells taken until keep old before after

@@ -1,4 +1,4 @@
-use Rattle.std.specs.Prelude.{ℕ, ◌≡◌, Bool, List, Some, None, max}
+use Rattle.std.specs.Prelude.{ℕ, ◌≡◌, ◌<◌, ◌^◌, Bool, List, length, Some, None, max}
 use Rattle.ds_base.specs.declared.left_out.LeftOut.{LeftOut}
 use Rattle.ds_io.specs.Faults.{Rose}
 use Rattle.ds_io.specs.Sinks.{Appended, AppendedFront}
@@ -15,13 +15,15 @@ use Rattle.nds_plays.specs.declared.plays.Played.TheVariants as answers
 
 -- What playing a console to a tick writes, and how it answers.
 
--- the whole output of the reference run from a console's machine to a tick was written: turns with that limit end so, at this console, whose count of turns is the one that is written
+-- the whole output of the reference run from a console's machine to a tick was written: turns with that limit end so, at this console, whose count of turns is the one that is written.
+-- It has fewer than 2^64 bytes
 pub record Wrote {S : Type 0} (tells : S → Bool) (taken : S → List ℕ → Type 0) (until : ℕ) (keep : Keep) (start : ConsoleState) (end : Ending MachineState LeftOut) (last : ConsoleState) (old new : S)
     : Type 0 where
   pub turns : TurnsToEnd until start end last
   pub outs : List Shown
   pub ran : Runs reference until end start.machine outs
   pub written : Appended tells taken old new (output_of until last.turns keep (latest_of start.machine) end outs)
+  pub short : length (output_of until last.turns keep (latest_of start.machine) end outs) < 2 ^ 64
 
 -- a front of that output was written: of the one to the end of the run and of its turns, wherever the console came to
 pub record WroteFront {S : Type 0} (tells : S → Bool) (taken : S → List ℕ → Type 0) (until : ℕ) (keep : Keep) (start : ConsoleState) (old new : S) : Type 0 where

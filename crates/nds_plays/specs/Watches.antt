@@ -1,4 +1,4 @@
-use Rattle.std.specs.Prelude.{ℕ, ◌≡◌, ◌≤◌, ◌<◌, ◌%◌, ◌^◌, ◌⊎◌, nat_eq, if◌then◌else◌, Bool, List, [], ◌∷◌, ◌++◌, length, take, map, slice_index, codes, Option, Some, None, max}
+use Rattle.std.specs.Prelude.{ℕ, ◌≡◌, ◌≤◌, ◌<◌, ◌⊎◌, nat_eq, if◌then◌else◌, Bool, List, [], ◌∷◌, ◌++◌, length, take, map, slice_index, codes, Option, Some, None, max}
 use Rattle.std.specs.List.{concat, range_with_len}
 use Rattle.std.specs.Fmt.{decimal}
 use Rattle.sha2.specs.Sha256.{sha256}
@@ -118,13 +118,12 @@ bytes_at memory place count s = map (λ at. slice_index (memory_of s memory) at)
 abbrev pub peeked : Memory → ℕ → ℕ → ConsoleState → List Shown → List ℕ
 peeked memory place count k outs = peek_lines place (bytes_at memory place count k.machine)
 
--- what came of a run, by the console that it comes to: how many bytes it would write where all frames and lists are kept, their SHA-256 (FIPS 180-4), and its counts. A run writes
--- fewer than 2^64 bytes
+-- what came of a run, by the console that it comes to: how many bytes it would write where all frames and lists are kept, their SHA-256 (FIPS 180-4), and its counts
 abbrev pub demo_lines : ℕ → ℕ → List ℕ → ConsoleState → List ℕ
 demo_lines number until output k =
     let s = k.machine in
     concat (codes "demo " ∷ decimal number ∷ codes " " ∷ decimal until
-    ∷ codes "\nbytes " ∷ decimal (length output % 2 ^ 64)
+    ∷ codes "\nbytes " ∷ decimal (length output)
     ∷ codes "\n" ∷ digest_line (sha256 output)
     ∷ codes "steps9 " ∷ decimal s.nine.processor.steps ∷ codes " steps7 " ∷ decimal s.seven.processor.steps ∷ codes " events " ∷ decimal s.events
     ∷ codes " turns " ∷ decimal k.turns ∷ codes "\n" ∷ [])

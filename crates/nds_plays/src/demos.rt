@@ -1,6 +1,6 @@
 //! What came of a run.
 
-ghost use Rattle.std.specs.Prelude.{◌≡◌, ◌≤◌, ◌^◌, None, List, ℕ};
+ghost use Rattle.std.specs.Prelude.{◌≡◌, ◌≤◌, ◌<◌, ◌^◌, None, List, ℕ, length};
 ghost use Rattle.nds_plays.specs.Taken.{HasTaken};
 ghost use Rattle.ds_io.specs.Puts.{Puts};
 ghost use Rattle.nds_plays.specs.Watches.{WritesAfter, demo_lines, demo_of};
@@ -41,7 +41,7 @@ fn put_demo<O: Sink>(
     sink: HashSink,
     console: &Console,
 ) -> Result<(), Failed>
-    ensures { (output : List ℕ) → HasTaken sink output → Puts O.tells O.taken O.faults (demo_lines number until.0 output console.now) result out.old out.new }
+    ensures { (output : List ℕ) → HasTaken sink output → length output < 2 ^ 64 → Puts O.tells O.taken O.faults (demo_lines number until.0 output console.now) result out.old out.new }
 {
     let Counts {
         nine,

@@ -1,8 +1,8 @@
 //! Playing a console: a run, and what it writes.
 
-ghost use Rattle.std.specs.Prelude.{◌≡◌, ◌≤◌, ◌^◌, ◌++◌, None};
+ghost use Rattle.std.specs.Prelude.{◌≡◌, ◌≤◌, ◌+◌, ◌^◌, ◌++◌, length, None, OnOk};
 ghost use Rattle.nds_plays.specs.Plays.{Plays};
-ghost use Rattle.nds_plays.specs.Inside.{Ran, ending, shown_after, shown_now};
+ghost use Rattle.nds_plays.specs.Inside.{Ran, ending, most_after, most_shown, shown_after, shown_now};
 ghost use Rattle.ds_io.specs.Puts.{Puts};
 ghost use Rattle.nds_plays.specs.Records.{last_records, latest_of};
 
@@ -10,6 +10,7 @@ use crate::records::{put_last, put_latest, put_now, put_stop};
 use nds_words::Keep;
 use ds_base::{LeftOut, Tick};
 use ds_io::{Failed, Sink};
+use ds_machine::frame_laws;
 use run_ahead::{Console, Turned};
 
 /// How playing a console ended.
@@ -25,13 +26,15 @@ pub enum Played {
 
 /// Runs a console to a tick, and writes what the run gives: the frames and geometry lists that are kept, each as it comes or the last ones after the run, and then
 /// the records of memories and of the end, or that of the stop alone. Where the run makes no frame whole, the console's last whole frame before it is the last, and so it
-/// is with lists.
+/// is with lists. What is written has fewer than 2^64 bytes: frames are 1,120,380 ticks apart, and what each writes has at most 383,006 bytes.
 pub fn play<O: Sink>(console: &mut Console, until: Tick, keep: Keep, out: &mut O) -> Played
     requires early { until.0 ≤ 2 ^ 56 }
     requires open { console.old.stopped ≡ None }
     ensures played { Plays O.tells O.taken O.faults until.0 keep console.old out.old result console.new out.new }
     ensures later { O.faults out.old ≤ O.faults out.new }
 {
+    console.laws();
+    frame_laws();
     let Ok(stop) = run_to(console, until, keep, out) else {
         return Played::WriteFault;
     };
@@ -76,7 +79,8 @@ fn put_shown<O: Sink>(
     swapped: bool,
     console: &Console,
 ) -> Result<(), Failed>
-    ensures { Puts O.tells O.taken O.faults (shown_now keep swapped console.now.machine) result out.old out.new }
+    ensures put { Puts O.tells O.taken O.faults (shown_now keep swapped console.now.machine) result out.old out.new }
+    ensures few { OnOk result (length (shown_now keep swapped console.now.machine) ≤ most_shown) }
 {
     match keep {
         Keep::All => put_now(out, swapped, console),
@@ -86,7 +90,8 @@ fn put_shown<O: Sink>(
 
 /// Writes the last whole frame and the last lists, where they are kept.
 fn put_kept<O: Sink>(out: &mut O, keep: Keep, console: &Console) -> Result<(), Failed>
-    ensures { Puts O.tells O.taken O.faults (shown_after keep (latest_of console.now.machine)) result out.old out.new }
+    ensures put { Puts O.tells O.taken O.faults (shown_after keep (latest_of console.now.machine)) result out.old out.new }
+    ensures few { OnOk result (length (shown_after keep (latest_of console.now.machine)) ≤ most_shown) }
 {
     match keep {
         Keep::Last => put_latest(out, console),
@@ -101,7 +106,8 @@ fn put_ending<O: Sink>(
     stop: Option<LeftOut>,
     console: &Console,
 ) -> Result<(), Failed>
-    ensures { Puts O.tells O.taken O.faults (last_records until.0 console.now.turns (ending stop console.now.machine)) result out.old out.new }
+    ensures put { Puts O.tells O.taken O.faults (last_records until.0 console.now.turns (ending stop console.now.machine)) result out.old out.new }
+    ensures few { length (last_records until.0 console.now.turns (ending stop console.now.machine)) + most_shown ≤ most_after }
 {
     match stop {
         None => put_last(out, until, console),
@@ -117,7 +123,8 @@ fn put_records<O: Sink>(
     stop: Option<LeftOut>,
     console: &Console,
 ) -> Result<(), Failed>
-    ensures { Puts O.tells O.taken O.faults (shown_after keep (latest_of console.now.machine) ++ last_records until.0 console.now.turns (ending stop console.now.machine)) result out.old out.new }
+    ensures put { Puts O.tells O.taken O.faults (shown_after keep (latest_of console.now.machine) ++ last_records until.0 console.now.turns (ending stop console.now.machine)) result out.old out.new }
+    ensures few { OnOk result (length (shown_after keep (latest_of console.now.machine) ++ last_records until.0 console.now.turns (ending stop console.now.machine)) ≤ most_after) }
 {
     put_kept(out, keep, console)?;
     put_ending(out, until, stop, console)

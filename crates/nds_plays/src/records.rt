@@ -1,13 +1,13 @@
 //! What a run writes.
 
-ghost use Rattle.std.specs.Prelude.{◌≡◌, length, option_to_list};
+ghost use Rattle.std.specs.Prelude.{◌≡◌, ◌≤◌, ◌+◌, length, option_to_list, OnOk};
 ghost use Rattle.std.specs.List.{concat};
 ghost use Rattle.ds_machine.specs.Frames.{last_frame, last_lists};
 ghost use Rattle.ds_runs.specs.Runs.{At};
 ghost use Rattle.ds_io.specs.Puts.{Puts};
 ghost use Rattle.nds_records.specs.Numbers.{halves};
 ghost use Rattle.nds_records.specs.Lists.{lists_records};
-ghost use Rattle.nds_plays.specs.Inside.{records_now};
+ghost use Rattle.nds_plays.specs.Inside.{most_after, most_shown, records_now};
 ghost use Rattle.nds_plays.specs.Records.{frame_record, frame_records, latest_of, latest_records, last_records, stop_record, swapped_lists, kind_number};
 
 use ds_base::{LeftKind, LeftOut, Memory, Proc, Tick};
@@ -38,7 +38,8 @@ fn put_frame<O: Sink>(out: &mut O, tick: Tick, pixels: &[u16]) -> Result<(), Fai
 
 /// The record of a console's last whole frame, where one is whole.
 fn put_last_frame<O: Sink>(out: &mut O, console: &Console) -> Result<(), Failed>
-    ensures { Puts O.tells O.taken O.faults (frame_records (option_to_list (last_frame console.now.machine))) result out.old out.new }
+    ensures put { Puts O.tells O.taken O.faults (frame_records (option_to_list (last_frame console.now.machine))) result out.old out.new }
+    ensures few { length (frame_records (option_to_list (last_frame console.now.machine))) ≤ 196617 }
 {
     match console.framed() {
         None => Ok(()),
@@ -48,8 +49,10 @@ fn put_last_frame<O: Sink>(out: &mut O, console: &Console) -> Result<(), Failed>
 
 /// The record of the lists of a console's last swap, where there was one.
 fn put_last_lists<O: Sink>(out: &mut O, console: &Console) -> Result<(), Failed>
-    ensures { Puts O.tells O.taken O.faults (lists_records (option_to_list (last_lists console.now.machine))) result out.old out.new }
+    ensures put { Puts O.tells O.taken O.faults (lists_records (option_to_list (last_lists console.now.machine))) result out.old out.new }
+    ensures few { OnOk result (length (lists_records (option_to_list (last_lists console.now.machine))) ≤ 186389) }
 {
+    console.laws();
     let lists = console.lists();
     if lists.tick().0 == 0 {
         return Ok(());
@@ -59,7 +62,8 @@ fn put_last_lists<O: Sink>(out: &mut O, console: &Console) -> Result<(), Failed>
 
 /// The records of a console's last whole frame and of its last lists, where there are any.
 pub(crate) fn put_latest<O: Sink>(out: &mut O, console: &Console) -> Result<(), Failed>
-    ensures { Puts O.tells O.taken O.faults (latest_records (latest_of console.now.machine)) result out.old out.new }
+    ensures put { Puts O.tells O.taken O.faults (latest_records (latest_of console.now.machine)) result out.old out.new }
+    ensures few { OnOk result (length (latest_records (latest_of console.now.machine)) ≤ most_shown) }
 {
     put_last_frame(out, console)?;
     put_last_lists(out, console)
@@ -67,17 +71,20 @@ pub(crate) fn put_latest<O: Sink>(out: &mut O, console: &Console) -> Result<(), 
 
 /// The record of a console's last lists, where waiting lists were just swapped.
 fn put_swapped<O: Sink>(out: &mut O, swapped: bool, console: &Console) -> Result<(), Failed>
-    ensures { Puts O.tells O.taken O.faults (lists_records (swapped_lists swapped console.now.machine.io.gx.geometry.last)) result out.old out.new }
+    ensures put { Puts O.tells O.taken O.faults (lists_records (swapped_lists swapped console.now.machine.io.gx.geometry.last)) result out.old out.new }
+    ensures few { OnOk result (length (lists_records (swapped_lists swapped console.now.machine.io.gx.geometry.last)) ≤ 186389) }
 {
     if !swapped {
         return Ok(());
     }
+    console.laws();
     put_lists(out, console.lists())
 }
 
 /// The records of the frame that just became whole, and of the lists that were swapped there.
 pub(crate) fn put_now<O: Sink>(out: &mut O, swapped: bool, console: &Console) -> Result<(), Failed>
-    ensures { Puts O.tells O.taken O.faults (records_now swapped console.now.machine) result out.old out.new }
+    ensures put { Puts O.tells O.taken O.faults (records_now swapped console.now.machine) result out.old out.new }
+    ensures few { OnOk result (length (records_now swapped console.now.machine) ≤ most_shown) }
 {
     put_last_frame(out, console)?;
     put_swapped(out, swapped, console)
@@ -120,7 +127,8 @@ pub(crate) fn put_stop<O: Sink>(out: &mut O, left: LeftOut) -> Result<(), Failed
 
 /// The records of memories, from where they lie, and of the end.
 pub(crate) fn put_last<O: Sink>(out: &mut O, until: Tick, console: &Console) -> Result<(), Failed>
-    ensures { Puts O.tells O.taken O.faults (last_records until.0 console.now.turns (At console.now.machine)) result out.old out.new }
+    ensures put { Puts O.tells O.taken O.faults (last_records until.0 console.now.turns (At console.now.machine)) result out.old out.new }
+    ensures few { length (last_records until.0 console.now.turns (At console.now.machine)) + most_shown ≤ most_after }
 {
     let counts = console.counts();
     let numbers = [

@@ -1,2 +1,3 @@
 mod LineLists
 pub mod Joined
+pub mod Lengths

@@ -1,6 +1,6 @@
 //! The lists of a swap as bytes.
 
-ghost use Rattle.std.specs.Prelude.{◌≡◌, ◌∷◌, ◌++◌, []};
+ghost use Rattle.std.specs.Prelude.{◌≡◌, ◌+◌, ◌*◌, ◌∷◌, ◌++◌, [], length, OnOk};
 ghost use Rattle.std.specs.List.{concat};
 ghost use Rattle.ds_io.specs.Puts.{Puts};
 ghost use Rattle.nds_records.specs.Numbers.{words, halves};
@@ -101,7 +101,8 @@ fn put_vertices<O: Sink>(out: &mut O, vertices: &[Vertex]) -> Result<(), Failed>
 
 /// The records of polygons, each from a small buffer.
 fn put_polygons<O: Sink>(out: &mut O, polygons: &[Polygon]) -> Result<(), Failed>
-    ensures { Puts O.tells O.taken O.faults (polygon_records polygons.now) result out.old out.new }
+    ensures put { Puts O.tells O.taken O.faults (polygon_records polygons.now) result out.old out.new }
+    ensures long { OnOk result (length (polygon_records polygons.now) ≡ 25 * length polygons.now) }
 {
     for polygon in polygons {
         put_all(out, &polygon_bytes(polygon))?;
@@ -127,16 +128,18 @@ fn put_head<O: Sink>(out: &mut O, lists: &Lists) -> Result<(), Failed>
 
 /// The records of the vertices, and then of the polygons.
 fn put_both<O: Sink>(out: &mut O, lists: &Lists) -> Result<(), Failed>
-    ensures { Puts O.tells O.taken O.faults (vertex_records lists.now.vertices ++ polygon_records lists.now.polygons) result out.old out.new }
+    ensures put { Puts O.tells O.taken O.faults (vertex_records lists.now.vertices ++ polygon_records lists.now.polygons) result out.old out.new }
+    ensures long { OnOk result (length (polygon_records lists.now.polygons) ≡ 25 * length lists.now.polygons) }
 {
     put_vertices(out, lists.vertices())?;
     put_polygons(out, lists.polygons())
 }
 
 /// Puts the record of the lists of a swap to a sink. It fails where a call of the sink fails; a front of the record was put then, and the sink's
-/// count of faults rose.
+/// count of faults rose. The record has 21 bytes, 22 for each vertex, and 25 for each polygon.
 pub fn put_lists<O: Sink>(out: &mut O, lists: &Lists) -> Result<(), Failed>
-    ensures { Puts O.tells O.taken O.faults (lists_record lists.now) result out.old out.new }
+    ensures put { Puts O.tells O.taken O.faults (lists_record lists.now) result out.old out.new }
+    ensures long { OnOk result (length (lists_record lists.now) ≡ 21 + 22 * length lists.now.vertices + 25 * length lists.now.polygons) }
 {
     put_head(out, lists)?;
     put_both(out, lists)

@@ -263,9 +263,10 @@ impl Console {
         self.machine.seen(proc)
     }
 
-    /// A memory's bytes, from where they lie.
+    /// A memory's bytes, from where they lie: 4 MiB at most.
     pub fn bytes(&self, memory: Memory) -> &[u8]
-        ensures { result.now ≡ memory_of self.now.machine memory }
+        ensures value { result.now ≡ memory_of self.now.machine memory }
+        ensures most { length result.now ≤ 0x400000 }
     {
         self.machine.bytes(memory)
     }

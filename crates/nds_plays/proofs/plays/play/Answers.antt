@@ -11,8 +11,8 @@ returns-then-is_err-clause-played g c =
     let m = c.run_to.new.console.machine in
     let ran = c.in-Ok.ensures.ran in
     let put = puts_failed g.O.Sink.tells g.O.Sink.taken g.O.Sink.faults (shown_after c.args.keep (latest_of m) ++ last_records c.args.until.0 c.run_to.new.console.turns (ending c.in-Ok.stop m))
-    c.run_to.new.out c.put_records.new.out c.put_records.result c.put_records.ensures (sym c.is_err.ensures.value ∙ c.if-is_err.true) in (
-      front_written g.O.Sink.tells g.O.Sink.taken c.args.until.0 c.args.keep c.args.console.now c.in-Ok.stop c.run_to.new.console c.args.out.now c.run_to.new.out c.put_records.new.out ran.0 ran.1 put.0,
+    c.run_to.new.out c.put_records.new.out c.put_records.result c.put_records.ensures.put (sym c.is_err.ensures.value ∙ c.if-is_err.true) in (
+      front_written g.O.Sink.tells g.O.Sink.taken c.args.until.0 c.args.keep c.args.console.now c.in-Ok.stop c.run_to.new.console c.args.out.now c.run_to.new.out c.put_records.new.out ran.0 ran.1.0 put.0,
       rose_within (g.O.Sink.faults c.args.out.now) (g.O.Sink.faults c.run_to.new.out) (g.O.Sink.faults c.put_records.new.out) c.in-Ok.ensures.later put.1,
       ran.0.turned,
     )

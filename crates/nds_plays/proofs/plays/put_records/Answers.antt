@@ -3,9 +3,9 @@ use Rattle.nds_plays.specs.Records.{last_records, latest_of}
 use Rattle.ds_io.proofs.Putting.{puts_then}
 use Rattle.nds_plays.proofs.plays.put_records.Goals as goal
 
-pub returns : goal.returns
-returns g c =
+pub returns-clause-put : goal.returns-clause-put
+returns-clause-put g c =
     let m = c.args.console.now.machine in
-    let kept = c.in_ok-put_kept.ensures in
+    let kept = c.in_ok-put_kept.ensures.put in
     puts_then g.O.Sink.tells g.O.Sink.taken g.O.Sink.faults (shown_after c.args.keep (latest_of m)) (last_records c.args.until.0 c.args.console.now.turns (ending c.args.stop m))
-    c.args.out.now c.put_kept.new.out c.put_ending.new.out c.put_ending.result kept.0 kept.1 c.put_ending.ensures
+    c.args.out.now c.put_kept.new.out c.put_ending.new.out c.put_ending.result kept.0 kept.1 c.put_ending.ensures.put

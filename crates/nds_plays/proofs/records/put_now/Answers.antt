@@ -5,9 +5,9 @@ use Rattle.nds_plays.specs.Records.{frame_records, swapped_lists}
 use Rattle.ds_io.proofs.Putting.{puts_then}
 use Rattle.nds_plays.proofs.records.put_now.Goals as goal
 
-pub returns : goal.returns
-returns g c =
+pub returns-clause-put : goal.returns-clause-put
+returns-clause-put g c =
     let m = c.args.console.now.machine in
-    let first = c.in_ok-put_last_frame.ensures in
+    let first = c.in_ok-put_last_frame.ensures.put in
     puts_then g.O.Sink.tells g.O.Sink.taken g.O.Sink.faults (frame_records (option_to_list (last_frame m))) (lists_records (swapped_lists c.args.swapped m.io.gx.geometry.last))
-    c.args.out.now c.put_last_frame.new.out c.put_swapped.new.out c.put_swapped.result first.0 first.1 c.put_swapped.ensures
+    c.args.out.now c.put_last_frame.new.out c.put_swapped.new.out c.put_swapped.result first.0 first.1 c.put_swapped.ensures.put

@@ -8,8 +8,8 @@ use Rattle.nds_records.specs.Lists.{polygon_record, polygon_records}
 use Rattle.ds_io.proofs.Pieces.{pieces}
 use Rattle.nds_records.proofs.lists.put_polygons.Goals as goal
 
-pub returns-in_err-put_all : goal.returns-in_err-put_all
-returns-in_err-put_all g c =
+pub returns-in_err-put_all-clause-put : goal.returns-in_err-put_all-clause-put
+returns-in_err-put_all-clause-put g c =
     let p = err_from_is_err_and c.from_residual.result c.from_residual.ensures.1 in
     let f : Polygon → List ℕ = λ x. concat (polygon_record x) in
     let i : ℕ = c.loop-polygon.polygon-index in

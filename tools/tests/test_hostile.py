@@ -5,12 +5,16 @@ import stat
 import struct
 import tempfile
 import unittest
+from unittest import mock
 
 from made import TOP  # noqa: F401 (it puts the tools on the path)
-from nds_tools.hostile import makers
+from nds_tools.hostile import answers, makers
 from nds_tools.hostile.answers import Answer, Runner
+from nds_tools.hostile.checked import MARK, Checked
 from nds_tools.hostile.causes import USAGE, accepted, header_fault, script_fault, wrong
 from nds_tools.hostile.fuzz import batch
+from nds_tools.hostile.memory import refused_by
+from nds_tools.words import Untold
 
 LOOP = struct.pack("<I", 0xEAFFFFFE)
 
@@ -69,6 +73,58 @@ class Causes(unittest.TestCase):
         )
         for words, answer, right in rows:
             self.assertEqual(wrong(words, files, answer) is None, right, (words, answer))
+
+
+# A program in whose last four bytes the number of the growth to refuse stands, and what it makes of that number.
+REFUSING = """#!/bin/sh
+number=$(tail -c 4 "$0" | od -An -tu4 | tr -d ' ')
+[ $number -gt 3 ] && exit 0
+%s
+exit 12
+"""
+
+
+class Growths(unittest.TestCase):
+    def refused(self, made_of_it):
+        """Refuses each growth of such a program; returns how many there were, and what was wrong."""
+        with tempfile.TemporaryDirectory() as folder:
+            program = os.path.join(folder, "nds")
+            checked = Checked(program, (REFUSING % made_of_it).encode() + MARK.to_bytes(4, "little"))
+            runner = Runner(program)
+            told = refused_by(checked, runner, ["list", "cart", "9"])
+            os.rmdir(runner.folder)
+        return told.growths, told.wrong
+
+    def test_each_growth_is_refused(self):
+        rows = (
+            (":", (3, [])),
+            ("echo out of memory >&2", (3, [])),
+            ("[ $number -eq 2 ] && exit 0", (3, ["growth 2: Done, 0 bytes, b''"])),
+            ("[ $number -eq 3 ] && echo x", (3, ["growth 3: NoMemory, 2 bytes, b''"])),
+            ("[ $number -eq 1 ] && { echo bad access >&2; exit 1; }", (3, ["growth 1: status 1, 0 bytes, b'bad access\\n'"])),
+            ("exit 0", (0, ["no growth was refused"])),
+        )
+        for made_of_it, wanted in rows:
+            self.assertEqual(self.refused(made_of_it), wanted, made_of_it)
+
+    def test_a_program_without_the_number(self):
+        with tempfile.TemporaryDirectory() as folder:
+            self.assertRaises(Untold, Checked, os.path.join(folder, "nds"), b"#!/bin/sh\n")
+
+
+class Bounds(unittest.TestCase):
+    def test_processor_time_counts_and_long_hangs(self):
+        rows = (("while :; do :; done", 30, -14), ("sleep 1.5; exit 3", 30, 3), ("exec sleep 60", 2, -14))
+        with tempfile.TemporaryDirectory() as folder:
+            program = os.path.join(folder, "nds")
+            for text, alarms, status in rows:
+                with open(program, "w", encoding="ascii") as it:
+                    it.write(f"#!/bin/sh\n{text}\n")
+                os.chmod(program, stat.S_IRWXU)
+                runner = Runner(program)
+                with mock.patch.multiple(answers, SECONDS=1, MOST_ALARMS=alarms):
+                    self.assertEqual(runner.run([], {"PATH": os.environ["PATH"]}).status, status, text)
+                os.rmdir(runner.folder)
 
 
 class Tries(unittest.TestCase):

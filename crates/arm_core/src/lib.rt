@@ -1,6 +1,19 @@
 //! A processor's core: its 37 registers, the bus through which it reaches memory, and what each instruction does. `specs/` has the
 //! meaning of every instruction of both architectures, one file a class of the ARM Architecture Reference Manual: the list of its
 //! accesses, the registers after it, and its cost.
+//!
+//! Proved, each call by one equation with the definition of the same name: `Registers` is the register file (which of the 37 words a
+//! register of a mode is, r15 as it is read, stored and written, CPSR and SPSR, the entry of an exception, the registers at boot);
+//! conditions, operands with their carry, addresses and lists of registers; result, carry and overflow; the table of costs
+//! (`Class::clocks`, `Class::cost`); `equivalent`, the ARM instruction that does what a Thumb instruction does. `FlatBus` is a bus of one
+//! list of bytes, which refuses no write. `footprint` tells exactly the bytes that an instruction's accesses of data reach, before it is
+//! executed (clause `covers`), in the order in which they are first reached (`order`).
+//!
+//! `Bus` is a contract for others to meet: an abstract state, and a memory machine on it. What an access answers and the state after it are
+//! functions of the state before it, a write is refused exactly where the machine says so, and no call changes which references it holds
+//! (its identity).
+//!
+//! Only tested, in `arm_exec_tests`: that the meanings are the manual's.
 #![tactic(auto)]
 
 mod addresses;

@@ -1,5 +1,8 @@
 //! The console's time.
 
+ghost use Rattle.std.specs.Prelude.{◌≡◌};
+ghost use Rattle.ds_base.specs.Schedules.{due_number, numbered_due};
+
 /// A place in time, in clocks of ARM9 since boot. A bus clock, which is the clock of ARM7, is 2 ticks. A run's ticks stay at
 /// most 2^56. (Our choice: the unit of all due ticks.)
 #[derive(Clone, Copy, PartialEq, Eq, PartialOrd, Ord, Debug)]
@@ -12,4 +15,26 @@ pub struct Due {
     pub tick: Tick,
     /// The actor's rank, below 24; at equal ticks the least rank goes first.
     pub rank: u8,
+}
+
+impl Tick {
+    /// A due tick as a number, None where there is none.
+    pub const fn number_of(due: Option<Tick>) -> Option<u64>
+        ensures { result ≡ due_number due }
+    {
+        match due {
+            Some(tick) => Some(tick.0),
+            None => None,
+        }
+    }
+
+    /// The due tick of a number, None where there is none.
+    pub const fn numbered(number: Option<u64>) -> Option<Tick>
+        ensures { result ≡ numbered_due number }
+    {
+        match number {
+            Some(number) => Some(Tick(number)),
+            None => None,
+        }
+    }
 }

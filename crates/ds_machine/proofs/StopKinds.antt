@@ -62,6 +62,8 @@ use Rattle.video2d.specs.Pictures.{is_enabled as is_engine_enabled, is_forced_bl
 use Rattle.video2d.specs.Scans.{blanks_drawn_line}
 use Rattle.video2d.specs.Stops.{first_need, needed_if, needs_capture, needs_display_mode, needs_mode, needs_of_background, needs_of_engine, needs_of_line, needs_of_object, needs_of_objects, needs_of_objects_shown, value_of_engine}
 use Rattle.video2d.specs.Videos.{VideoState, answer_unless, video_shown, video_stop}
+use Rattle.video2d.specs.declared.engines.Engine.{Engine}
+use Rattle.video2d.specs.declared.engines.Engine.TheVariants.{A, B}
 use Rattle.video2d.specs.declared.videos.Shown as display
 use Rattle.ds_machine.specs.Channels.{channel_step, moved_by}
 use Rattle.ds_machine.specs.Reference.{Shown, awake, due_by, step_by, video_step}
@@ -119,7 +121,11 @@ each_named : (need : ℕ → Option Stop) → ((n : ℕ) → IsNamed (need n)) �
 each_named need h [] = tt
 each_named need h (n ∷ ns) = (h n, each_named need h ns)
 
-module _ (which : ℕ) (e : EngineState) where
+capture_named : (which : Engine) (e : EngineState) → IsNamed (needs_capture which e)
+capture_named A e = need_named _ kinds.Capture _ (λ e. cc)
+capture_named B e = tt
+
+module _ (which : Engine) (e : EngineState) where
   background_named : (n : ℕ) → IsNamed (needs_of_background which e n)
   background_named n =
       named_if (shows_layers which e && is_background_on e n) _
@@ -147,7 +153,7 @@ module _ (which : ℕ) (e : EngineState) where
 
   -- what an engine needs before its backgrounds
   mode_named : IsNamed (needs_display_mode which e) × (IsNamed (needs_mode which e) × IsNamed (needs_capture which e))
-  mode_named = (need_named _ kinds.DisplayMode _ (λ e. cc), (need_named _ kinds.BgMode _ (λ e. cc), need_named _ kinds.Capture _ (λ e. cc)))
+  mode_named = (need_named _ kinds.DisplayMode _ (λ e. cc), (need_named _ kinds.BgMode _ (λ e. cc), capture_named which e))
 
   engine_named : (power : ℕ) (oam : List ℕ) (line : ℕ) → IsNamed (needs_of_engine which power e oam line)
   engine_named power oam line =
@@ -163,8 +169,8 @@ module _ (which : ℕ) (e : EngineState) where
 
 line_named : (oam : List ℕ) (v : VideoState) → IsNamed (video_stop oam v)
 line_named oam v =
-    let needs : List (Option Stop) = needs_of_engine 0 v.power v.a oam v.scan.line ∷ needs_of_engine 1 v.power v.b oam v.scan.line ∷ [] in
-    let h : AreNamed needs = (engine_named 0 v.a v.power oam v.scan.line, (engine_named 1 v.b v.power oam v.scan.line, tt)) in
+    let needs : List (Option Stop) = needs_of_engine A v.power v.a oam v.scan.line ∷ needs_of_engine B v.power v.b oam v.scan.line ∷ [] in
+    let h : AreNamed needs = (engine_named A v.a v.power oam v.scan.line, (engine_named B v.b v.power oam v.scan.line, tt)) in
     named_if (blanks_drawn_line v.scan) (needs_of_line v.power v.a v.b oam v.scan.line) (first_named needs h)
 
 -- ---- those of the ports, and of the map

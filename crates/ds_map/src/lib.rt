@@ -4,6 +4,13 @@
 //! (specs/Maps.antt). A view lends its parts to a processor for one step: ARM7's is the map alone; ARM9's has CP15 and the tightly coupled
 //! memories before it. Each view is a memory machine by definition (specs/Views.antt) and a `Bus` by code.
 //! (GBATEK, "DS Memory Map".)
+//!
+//! Proved: `Map::read`, `fetch` and `write`: what a processor reads, fetches and writes at any address at a tick, of any width, aligned
+//! down, what a read leaves, the stop for which a write is refused, and that all else stays; bytes that ARM9 doesn't write are dropped.
+//! Each is by what the processor reaches (`map_seen`), and leaves what it doesn't (clause `apart`). `SevenView` and `NineView` are buses:
+//! each access is that of the processor's memory machine (`seven_memory`, `nine_memory`) on what they borrow. ARM9's places each access by
+//! CP15's numbers: ITCM, then DTCM, which fetches don't see, then the map. `move_unit` moves a channel's unit, which reaches the map alone:
+//! read, taken, written, or refused and still in the plan (`unit_moved`, `unit_refusal`). Memory is taken in `Map::new` alone.
 #![tactic(auto)]
 
 mod blocks;

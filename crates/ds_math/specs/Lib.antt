@@ -1,3 +1,4 @@
 pub mod Dividers
 pub mod Division
 pub mod Roots
+pub mod Saved

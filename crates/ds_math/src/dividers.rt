@@ -6,6 +6,8 @@ ghost use Rattle.ds_base.specs.declared.ticks.Tick.{Tick};
 ghost use Rattle.ds_math.specs.Division.{modulo};
 ghost use Rattle.ds_math.specs.Dividers.{IsDivider, divider_at_boot, division_started, division_finished, divider_seen, division_ticks, dividend, divisor, quotient_by_zero, quotient_word, remainder_word, HoldsResults};
 
+mod saved;
+
 use ds_base::Tick;
 use std::marker::Model;
 

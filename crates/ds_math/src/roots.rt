@@ -5,6 +5,8 @@ ghost use Rattle.ds_base.specs.Schedules.{IsEarly, Reschedules};
 ghost use Rattle.ds_base.specs.declared.ticks.Tick.{Tick};
 ghost use Rattle.ds_math.specs.Roots.{IsRootUnit, root_at_boot, root_started, root_finished, root_seen, radicand, IsRoot};
 
+mod saved;
+
 use ds_base::Tick;
 use std::marker::Model;
 

@@ -1,5 +1,18 @@
 //! What each address names, as either processor sees it: the two address tables of the console (GBATEK, "DS Memory Map" and
 //! "DS Memory Control - WRAM"), past ARM9's tightly coupled memories.
+//!
+//! Proved of `place(proc, wramcnt, at)`, which tells what an address names for a processor past ARM9's tightly coupled memories (a byte of
+//! a memory, the cells of banks of video memory at an address of a space, a port, a byte of the boot ROM, or nothing): the place is that of
+//! the first region of the table in which the address lies, at the remainder of its offset (clause `value`), and of every such region, and
+//! `Nothing` where it lies in none (`stands`); no other place meets `stands` (`only`), so every 32-bit address has exactly one place, for
+//! each processor and each WRAMCNT. `within`: a cell's number is below its memory's size, and an address of a space below the space's.
+//! `rom_word(proc, at)` is the word of a processor's boot ROM at a multiple of 4: that of the list of all 121 words of the stub that stands
+//! in place of the console's boot ROMs, routine by routine, each beside its statement, and 0 past the list (`word`); from 1E4h on it is 0
+//! (`zeros`). No call takes memory.
+//!
+//! Only tested: that the tables are the console's, along each border of both tables on both sides, for each WRAMCNT (`units_tests`); that
+//! the words are those of their statements: `nds_rows` has the stub's listing, of which `asm` makes exactly the words of `rom_word`, for
+//! both processors.
 #![tactic(auto)]
 
 mod boot_roms;

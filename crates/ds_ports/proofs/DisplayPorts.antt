@@ -1,4 +1,4 @@
-use Rattle.std.proofs.Common.{ℕ, ◌≡◌, ◌==◌, Bool, true, false, if◌then◌else◌, List, refl, ◌∙◌, ap}
+use Rattle.std.proofs.Common.{ℕ, ◌≡◌, List, refl, ◌∙◌, ap}
 use Rattle.ds_base.specs.declared.memories.Width.{Width}
 use Rattle.ds_base.specs.declared.memories.Width.TheVariants.{Byte, Half, Word}
 use Rattle.ds_base.specs.declared.processors.Proc.{Proc}
@@ -7,25 +7,25 @@ use Rattle.video2d.specs.Engines.{EngineState}
 use Rattle.video2d.specs.Ports.{video_port}
 use Rattle.video2d.specs.Scans.{ScanState}
 use Rattle.video2d.specs.Videos.{VideoState, video_byte_written, video_byte_written_by, video_written, with_engine}
+use Rattle.video2d.specs.declared.engines.Engine.{Engine}
+use Rattle.video2d.specs.declared.engines.Engine.TheVariants.{A, B}
 use Rattle.video2d.specs.declared.ports.VideoPort.{VideoPort}
-use Rattle.video2d.specs.declared.ports.VideoPort.TheVariants.{Status, Count, Engine, Power, Nothing}
+use Rattle.video2d.specs.declared.ports.VideoPort.TheVariants.{Status, Count, OfEngine, Power, Nothing}
 
 -- Accesses of the display's ports leave it where it is, and its last whole frame.
 
 abbrev left_of : VideoState → ScanState × List ℕ
 left_of v = (v.scan, v.whole)
 
-engine_leaves : (which : ℕ) (v : VideoState) (e : EngineState) → left_of (with_engine which v e) ≡ left_of v
-engine_leaves which v e = go (which == 0) where
-  go : (b : Bool) → left_of (if b then record v { a = e } else record v { b = e }) ≡ left_of v
-  go true = refl
-  go false = refl
+engine_leaves : (which : Engine) (v : VideoState) (e : EngineState) → left_of (with_engine which v e) ≡ left_of v
+engine_leaves A v e = refl
+engine_leaves B v e = refl
 
 port_leaves : (port : VideoPort) (proc : Proc) (v : VideoState) (value : ℕ) → left_of (video_byte_written_by port proc v value) ≡ left_of v
 port_leaves (Status byte) Nine v value = refl
 port_leaves (Status byte) Seven v value = refl
 port_leaves (Count byte) proc v value = refl
-port_leaves (Engine which at) proc v value = engine_leaves which v _
+port_leaves (OfEngine which at) proc v value = engine_leaves which v _
 port_leaves (Power byte) proc v value = refl
 port_leaves Nothing proc v value = refl
 

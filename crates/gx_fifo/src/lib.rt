@@ -3,6 +3,23 @@
 //!
 //! `specs/` has the list of entries and its head command (Entries), the packed words (PackedWords), the table of ports and what each reads
 //! (GxPorts), and the whole with what each call leaves (GxStates).
+//!
+//! The definition is a list of entries, each a command by its name and a word, with the commands left of the last packed word; there is no
+//! ring in it. The head command is the first entry's, and takes as many entries as it has parameters, and one where it has none, whatever
+//! they were written for. The code keeps a ring of 324 entries, and beside it how many of them GXSTAT asks for; that these counts are those
+//! of the list is proved.
+//!
+//! Proved. `Gx::port_write` leaves exactly `gx_written`, where at most 320 entries wait: what a packed word or a parameter, a word to a
+//! command's own port, DISP3DCNT and GXSTAT leave; it adds four entries at most (clause `grows`), and leaves the due tick as it was or
+//! later than `now` (`schedule`). `Gx::due`: when the head command is done, `2 * clocks` ticks after it was complete and first.
+//! `Gx::finish`, where one is due and the run has at most 2^56 vertices: the engine after the command, without its entries, and the next
+//! command begun at that tick. `Gx::swap` is true exactly where a swap waited, and what it gives out are the lists of all that was done
+//! since the swap before (`lists`). `laws`: at most 324 entries; at most four commands left of a packed word, the first given fewer
+//! parameters than it has; a command is due exactly where the head command is complete and no swap waits; which bits are kept; a command
+//! adds one vertex to the run at most.
+//!
+//! Only tested, in `gx_tests`: ticks, packed words, GXSTAT, results, the stall and a swap, worked by hand, and that `Gx::new` succeeds with
+//! ample memory.
 #![tactic(auto)]
 
 mod entries;

@@ -3,6 +3,18 @@
 //! vectors are rows. Every cell of a product is floor(sum / 4096) of the exact sum of products, wrapped to a signed word. Nothing
 //! here takes memory. All geometry commands stand here too, by GBATEK's names: `specs/CommandTable` is their list, `specs/Commands` what those
 //! of matrices leave.
+//!
+//! The definition is matrix algebra over whole numbers: a matrix is a rule that gives a cell by row and column, once for 4 by 4, 4 by 3 and
+//! 3 by 3, and a cell of a product is a row times a column (`dot4`). The code sends each row of the left matrix through the right one.
+//!
+//! Proved: `GeometryCommand::of`, `parameters` and `clocks` are the table of the geometry commands (`command_row`): at most 32 parameters,
+//! at least one bus clock, no two commands with one code (clause `code` of `parameters`). `Stacks::command` leaves exactly `command_taken`,
+//! for every command with its number of parameters: the current matrices, the places of all stacks, the levels and the error, and that all
+//! else stays; what can't be done sets the error and changes nothing else. `Stacks::clip` is position times projection: it is kept, and
+//! made anew by the commands that may change it; that it is the product at every time is an invariant. The level is 31 at most (clause
+//! `level`). `clear_error` clears the error and makes the projection and texture levels 0.
+//!
+//! Only tested, in `gx_tests`: matrices and products worked by hand, and both ends of each stack.
 #![tactic(auto)]
 
 mod algebra;

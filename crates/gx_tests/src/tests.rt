@@ -5,10 +5,12 @@ use std::alloc::{AllocError, Global};
 use std::process::Abort;
 
 mod clips;
+mod commands;
 mod fifo;
 mod lights;
 mod lists;
 mod matrices;
+mod ports;
 mod rig;
 mod stacks;
 mod swaps;
@@ -22,7 +24,16 @@ enum Which {
     Texture,
 }
 
-/// One line of a table.
+/// Which side of a triangle is seen.
+#[derive(Clone, Copy)]
+enum Seen {
+    Front,
+    Back,
+    /// None: it is seen edge on.
+    Edge,
+}
+
+/// One line of a table. A command is named by its code.
 #[derive(Clone, Copy)]
 enum Line {
     /// A new engine.
@@ -32,6 +43,11 @@ enum Line {
     Give(u8, u32),
     Pair(u8, u32, u32),
     Triple(u8, u32, u32, u32),
+    /// A command with three signed numbers of ten bits in one parameter.
+    Tens(u8, i16, i16, i16),
+    /// VTX_16 and POS_TEST, with three signed halves.
+    Vtx16(i16, i16, i16),
+    PosTest(i16, i16, i16),
     /// Four or three more parameters of the next command, and this command with all of them.
     Four(u32, u32, u32, u32),
     Three(u32, u32, u32),
@@ -65,17 +81,17 @@ enum Line {
     Last(i32, i32, i32, i32),
     Coloured(u16),
     Textured(i16, i16),
-    /// The results of the position, the vector and the box test.
+    /// The results of the position and the vector test; a box test, of x, y and z and of width, height and depth, and whether it is seen.
     Position(i32, i32, i32, i32),
     Vector(i16, i16, i16),
-    Box(u32, u32, u32, bool),
+    Box([i16; 3], [i16; 3], bool),
     Inside(bool),
-    /// A triangle in a new engine by attributes, and whether it is turned or seen edge on: how many polygons it makes.
-    Side(u32, bool, bool, usize),
+    /// A triangle in a new engine by attributes, and the side that is seen: how many polygons it makes.
+    Side(u32, Seen, usize),
     /// Vertices before and after a swap, by the run's kind: how many polygons they make after it.
     Across(u32, u32, u32, usize),
-    /// The light of number 0 on a normal in a new engine: attributes, light vector, light colour, 30h's and 31h's parameter, normal, colour.
-    Lit(u32, u32, u32, u32, u32, u32, u16),
+    /// The light of number 0 on a normal in a new engine: POLYGON_ATTR, its vector and colour, DIF_AMB, SPE_EMI, the normal, and the colour then.
+    Lit(u32, [i16; 3], u32, u32, u32, [i16; 3], u16),
     /// Texture coordinates 10, -20 in a new engine by the transform's mode, the normal and the vertex's x, and the coordinates then.
     Mapped(u32, u32, u32, i16, i16),
 }

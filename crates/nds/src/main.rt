@@ -1,5 +1,8 @@
 //! The program: it hands the system's files and streams and the command line's words to the top call, and ends with the number
 //! of its status. It does nothing else.
+//!
+//! It is trusted, and has no contract of its own, so no wrong bodies. Status 12 or 13 where the system can't give the words. One run is
+//! stored: without words the status is 2.
 #![tactic(auto)]
 
 ghost use Rattle.std.specs.Prelude.{◌≡◌, None};

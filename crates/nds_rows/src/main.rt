@@ -1,17 +1,23 @@
-//! Plays tables of rows over the top call, and tells how many rows of each table hold. Each word of the command line is a file of rows; `data/README.md` has
-//! their language. In short:
+//! Plays tables of rows over the top call, and tells how many rows of each table hold. Each word of the command line is a file of rows;
+//! `data/README.md` has their language. In short:
 //!
 //!     table a limit is the greatest so far   ; a heading, and then what is said of all rows of the table
 //!     both EAFFFFFE                          ; what calls go over: here both processors' images
 //!     is note ""                             ; what is seen after the row's call: here no note
 //!     row run 9 | is end 9 3 2 0 5           ; a row: what its call goes over, the call, and what is seen
 //!
-//! `row_files` reads a file into what its lines say, and holds what a call wrote beside what is wanted. `tables` goes over the lines of a file, and `rows` over those
-//! of a row: `calls` makes its call, `consoles` looks at the console that the call left, and `checks` holds what is seen beside the fact.
+//! `row_files` reads a file into what its lines say, and holds what a call wrote beside what is wanted. `tables` goes over the lines of a
+//! file, and `rows` over those of a row: `calls` makes its call, `consoles` looks at the console that the call left, and `checks` holds
+//! what is seen beside the fact.
 //!
-//! A console is large, and each function that has one as a value is dear to prove. So it stands in one place, a local of `rows`, and all others borrow it.
+//! A console is large, and each function that has one as a value is dear to prove. So it stands in one place, a local of `rows`, and all
+//! others borrow it.
 //!
 //! Its functions promise nothing beside being safe: what is known of shelves, sinks and consoles stands in their own crates.
+//!
+//! The gate compares what it prints with what it must print. In `wrong.rows` stand rows that don't hold, in each kind of number and text:
+//! what is told of each is compared too, so a checker by which they held is seen. What the rows expect is worked out by hand.
+//! `data/README.md` tells which subjects the files have.
 #![tactic(auto)]
 
 mod calls;

@@ -3,6 +3,7 @@
 mod base;
 mod boot_roms;
 mod bursts;
+mod cards;
 mod coprocessors;
 mod dma;
 mod dma_lines;
@@ -11,4 +12,5 @@ mod irqs;
 mod maths;
 mod places;
 mod runs;
+mod states;
 mod timers;

@@ -10,6 +10,7 @@ use Rattle.vram_banks.specs.Cells.{Banks}
 use Rattle.video2d.specs.Backgrounds.{background_pixel}
 use Rattle.video2d.specs.Effects.{blends, brightness_changed, colour_of, effect, effects_where, eva, evb, front_colour, is_first_target, is_second_target, top_alone, with_effects}
 use Rattle.video2d.specs.Engines.{EngineState, bgcnt, bldcnt, dispcnt}
+use Rattle.video2d.specs.declared.engines.Engine.{Engine}
 use Rattle.video2d.specs.Layers.{SeenLayer, at_priority, backdrop_of, from_priority, front_to_back, layers_of, seen_background, seen_objects}
 use Rattle.video2d.specs.Pictures.{composed_pixel, display_of, layered_pixel, pixels_at}
 use Rattle.video2d.specs.Windows.{shown_at}
@@ -208,7 +209,7 @@ front_alone e line x b p w z blank =
 plain_parts : (w z : ℕ) → ((w == 0) && (z == 0)) ≡ true → (w ≡ 0) × (z ≡ 0)
 plain_parts w z h = grind (arith, h)
 
-pub plain_layered : (v : Banks) (colours object_colours oam : List ℕ) (which : ℕ) (e : EngineState) (line x : ℕ) → x < 256 → is_plain e ≡ true →
+pub plain_layered : (v : Banks) (colours object_colours oam : List ℕ) (which : Engine) (e : EngineState) (line x : ℕ) → x < 256 → is_plain e ≡ true →
     plain_pixel v colours which e line x ≡ layered_pixel v colours object_colours oam which e line x
 plain_layered v colours object_colours oam which e line x small h =
     let parts = plain_parts (bits 12 4 (dispcnt e)) (effect e) h in
@@ -217,7 +218,7 @@ plain_layered v colours object_colours oam which e line x small h =
     sym (front_alone e line x (palette_colour colours 0) (pixels_at v colours object_colours oam which e line x) parts.0 parts.1 blank)
 
 -- a background that is off is transparent
-pub off_clear : (v : Banks) (colours : List ℕ) (which : ℕ) (e : EngineState) (line n x : ℕ) → bit (8 + n) (dispcnt e) ≡ false →
+pub off_clear : (v : Banks) (colours : List ℕ) (which : Engine) (e : EngineState) (line n x : ℕ) → bit (8 + n) (dispcnt e) ≡ false →
     background_pixel v colours which e line n x ≡ 0
 unfolding background_pixel
 off_clear v colours which e line n x h = rw h refl
@@ -229,7 +230,7 @@ over_clear p s behind h = grind (arith, h)
 -- ---- and one where only objects are added, and no layer is a second target
 
 -- of the objects their colours and priorities alone count
-pub calm_plainly : (v : Banks) (colours : List ℕ) (which : ℕ) (e : EngineState) (line x : ℕ) (p : ObjectPixel) →
+pub calm_plainly : (v : Banks) (colours : List ℕ) (which : Engine) (e : EngineState) (line x : ℕ) (p : ObjectPixel) →
     calm_over v colours which e line x (plainly p) ≡ calm_over v colours which e line x p
 unfolding calm_over
 calm_plainly v colours which e line x p = refl
@@ -259,7 +260,7 @@ front_with_objects e line x b p w z t small =
     ∙ ap (laid_all ss) (laid_other 4 o rest 0 (λ (h : o.priority ≡ 4). omega (arith, h, small)) ∙ last_laid e b p.bg0 p.bg1 p.bg2 p.bg3)
     ∙ all_laid e b (o ∷ seen_background e 0 p.bg0 ∷ seen_background e 1 p.bg1 ∷ seen_background e 2 p.bg2 ∷ seen_background e 3 p.bg3 ∷ []) (b % 2 ^ 15)
 
-pub calm_layered : (v : Banks) (colours object_colours oam : List ℕ) (which : ℕ) (e : EngineState) (line x : ℕ) → is_calm e ≡ true →
+pub calm_layered : (v : Banks) (colours object_colours oam : List ℕ) (which : Engine) (e : EngineState) (line x : ℕ) → is_calm e ≡ true →
     calm_pixel v colours object_colours oam which e line x ≡ layered_pixel v colours object_colours oam which e line x
 unfolding calm_over
 calm_layered v colours object_colours oam which e line x h =

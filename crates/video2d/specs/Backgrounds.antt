@@ -1,4 +1,4 @@
-use Rattle.std.specs.Prelude.{ℕ, ◌+◌, ◌==◌, ◌&&◌, Bool, if◌then◌else◌, not, List, [], ◌∷◌, slice_index_or}
+use Rattle.std.specs.Prelude.{ℕ, ◌+◌, ◌==◌, ◌&&◌, Bool, false, if◌then◌else◌, not, List, [], ◌∷◌, slice_index_or}
 use Rattle.ds_base.specs.Bits.{bit, bits}
 use Rattle.vram_banks.specs.Cells.{Banks}
 use Rattle.bg2d.specs.AffinePixels.{affine_pixel}
@@ -7,6 +7,8 @@ use Rattle.bg_ext.specs.ExtendedPixels.{ext_pixel}
 use Rattle.video2d.specs.Engines.{EngineState, dispcnt, text_layer_of, affine_layer_of, ext_layer_of}
 use Rattle.video2d.specs.declared.backgrounds.BackgroundKind.{BackgroundKind}
 use Rattle.video2d.specs.declared.backgrounds.BackgroundKind.TheVariants.{Text, Affine, Extended, LeftOut}
+use Rattle.video2d.specs.declared.engines.Engine.{Engine}
+use Rattle.video2d.specs.declared.engines.Engine.TheVariants.{A, B}
 
 -- What the backgrounds of an engine are, and the pixel of each (GBATEK, "DS Video BG Modes / Control").
 
@@ -17,8 +19,9 @@ background_mode e = bits 0 3 (dispcnt e)
 abbrev pub is_background_on : EngineState → ℕ → Bool
 is_background_on e n = bit (8 + n) (dispcnt e)
 
-abbrev pub is_background_3d : ℕ → EngineState → ℕ → Bool
-is_background_3d which e n = (which == 0) && ((n == 0) && bit 3 (dispcnt e))
+abbrev pub is_background_3d : Engine → EngineState → ℕ → Bool
+is_background_3d A e n = (n == 0) && bit 3 (dispcnt e)
+is_background_3d B e n = false
 
 -- the kinds of backgrounds 0 to 3 in each of the eight modes, of which 6 and 7 are left out
 abbrev pub kinds_by_mode : List (List BackgroundKind)
@@ -36,7 +39,7 @@ kinds_by_mode =
 abbrev pub background_kind : ℕ → ℕ → BackgroundKind
 background_kind mode n = slice_index_or (slice_index_or kinds_by_mode mode []) n LeftOut
 
-abbrev pub kind_pixel : BackgroundKind → Banks → List ℕ → ℕ → EngineState → ℕ → ℕ → ℕ → ℕ
+abbrev pub kind_pixel : BackgroundKind → Banks → List ℕ → Engine → EngineState → ℕ → ℕ → ℕ → ℕ
 kind_pixel Text v palette which e line n x = text_pixel v palette (text_layer_of which e n) line x
 kind_pixel Affine v palette which e line n x = affine_pixel v palette (affine_layer_of which e n) x
 kind_pixel Extended v palette which e line n x = ext_pixel v palette (ext_layer_of which e n) x
@@ -45,7 +48,7 @@ kind_pixel LeftOut v palette which e line n x = 0
 
 -- the pixel of background n at place x of a line: 0 where it is transparent, and one that is off or shows 3D is so everywhere. `palette` has
 -- the 512 bytes of the engine's background palette
-unfoldable pub background_pixel : Banks → List ℕ → ℕ → EngineState → ℕ → ℕ → ℕ → ℕ
+unfoldable pub background_pixel : Banks → List ℕ → Engine → EngineState → ℕ → ℕ → ℕ → ℕ
 background_pixel v palette which e line n x =
     if is_background_on e n && not (is_background_3d which e n)
     then kind_pixel (background_kind (background_mode e) n) v palette which e line n x else 0

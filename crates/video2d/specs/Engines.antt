@@ -5,8 +5,11 @@ use Rattle.ds_base.specs.declared.memories.Width.TheVariants.{Half, Word}
 use Rattle.bg2d.specs.declared.layers.AffineLayer.{AffineLayer}
 use Rattle.bg2d.specs.declared.layers.TextLayer.{TextLayer}
 use Rattle.bg_ext.specs.declared.layers.ExtLayer.{ExtLayer}
-use Rattle.video2d.specs.EnginePorts.{engine_port_at, is_within, kept_bits, read_of}
-use Rattle.video2d.specs.declared.engine_ports.EnginePort.{EnginePort}
+use Rattle.video2d.specs.DisplayRegisters.{engine_row_at, display_offset, is_within, kept_at, read_of}
+use Rattle.video2d.specs.declared.display_registers.DisplayRegister.TheVariants.{Bg0cnt, Bg0hofs, Bldalpha, Bldcnt, Bldy, Dispcapcnt, Dispcnt, MasterBright, Mosaic}
+use Rattle.video2d.specs.declared.display_registers.DisplayRow.{DisplayRow}
+use Rattle.video2d.specs.declared.engines.Engine.{Engine}
+use Rattle.video2d.specs.declared.engines.Engine.TheVariants.{A, B}
 
 -- a running point: the point at the left end of the line, each coordinate a signed word with 8 fractional bits, as an unsigned number
 pub record PointState : Type 0 where
@@ -14,11 +17,16 @@ pub record PointState : Type 0 where
   pub y : ℕ
 
 -- A 2D engine: what its ports keep, a byte an offset from its base, and the running points of backgrounds 2 and 3. One record serves both
--- engines; engine 0 is A, any other is B.
+-- engines.
 pub record EngineState : Type 0 where
   pub ports : List ℕ
   pub two : PointState
   pub three : PointState
+
+-- the number by which layers and objects know an engine
+abbrev pub engine_number : Engine → ℕ
+engine_number A = 0
+engine_number B = 1
 
 abbrev pub point_at_boot : PointState
 point_at_boot = record { x = 0; y = 0 }
@@ -29,41 +37,41 @@ engine_at_boot = record { ports = zeroes 112; two = point_at_boot; three = point
 -- ---- the registers by GBATEK's names; n is a background's number
 
 abbrev pub dispcnt : EngineState → ℕ
-dispcnt e = number_at Word e.ports 0x00
+dispcnt e = number_at Word e.ports (display_offset Dispcnt)
 
 abbrev pub bgcnt : EngineState → ℕ → ℕ
-bgcnt e n = number_at Half e.ports (0x08 + 2 * n)
+bgcnt e n = number_at Half e.ports (display_offset Bg0cnt + 2 * n)
 
 abbrev pub bghofs : EngineState → ℕ → ℕ
-bghofs e n = number_at Half e.ports (0x10 + 4 * n)
+bghofs e n = number_at Half e.ports (display_offset Bg0hofs + 4 * n)
 
 abbrev pub bgvofs : EngineState → ℕ → ℕ
-bgvofs e n = number_at Half e.ports (0x12 + 4 * n)
+bgvofs e n = number_at Half e.ports (display_offset Bg0hofs + 4 * n + 2)
 
 abbrev pub bldcnt : EngineState → ℕ
-bldcnt e = number_at Half e.ports 0x50
+bldcnt e = number_at Half e.ports (display_offset Bldcnt)
 
 abbrev pub bldalpha : EngineState → ℕ
-bldalpha e = number_at Half e.ports 0x52
+bldalpha e = number_at Half e.ports (display_offset Bldalpha)
 
 abbrev pub bldy : EngineState → ℕ
-bldy e = slice_index e.ports 0x54
+bldy e = slice_index e.ports (display_offset Bldy)
 
 abbrev pub dispcapcnt : EngineState → ℕ
-dispcapcnt e = number_at Word e.ports 0x64
+dispcapcnt e = number_at Word e.ports (display_offset Dispcapcnt)
 
 abbrev pub master_bright : EngineState → ℕ
-master_bright e = number_at Half e.ports 0x6C
+master_bright e = number_at Half e.ports (display_offset MasterBright)
 
 -- the mosaic's sizes: the low byte of MOSAIC for backgrounds, and the high one for objects
 abbrev pub background_mosaic : EngineState → ℕ
-background_mosaic e = slice_index e.ports 0x4C
+background_mosaic e = slice_index e.ports (display_offset Mosaic)
 
 abbrev pub object_mosaic : EngineState → ℕ
-object_mosaic e = slice_index e.ports 0x4D
+object_mosaic e = slice_index e.ports (display_offset Mosaic + 1)
 
 -- ---- running points (GBATEK, "LCD I/O BG Rotation/Scaling"): the point at the left end of the line, each coordinate a word with 8 fractional
--- bits. PA to PD, X and Y of background n stand from offset 10h n on
+-- bits. PA to PD, X and Y of background n stand from offset 10h n on (BG2PA, BG3PA)
 
 -- a half, and a number of 28 bits, as signed words
 abbrev pub word_of_half : ℕ → ℕ
@@ -101,24 +109,24 @@ points_stepped e = record e { two = point_stepped e.ports 2 e.two; three = point
 
 -- ---- a byte of the ports is read and written
 
-abbrev pub engine_byte : ℕ → EngineState → ℕ → ℕ
-engine_byte which e at = read_of (engine_port_at which at) (slice_index e.ports at)
+abbrev pub engine_byte : Engine → EngineState → ℕ → ℕ
+engine_byte which e at = read_of (engine_row_at which at) (slice_index e.ports at)
 
 abbrev pub points_after : ℕ → EngineState → EngineState
 points_after at e = record e { two = point_written e.ports 2 at e.two; three = point_written e.ports 3 at e.three }
 
-abbrev pub engine_byte_by : Option EnginePort → EngineState → ℕ → ℕ → EngineState
+abbrev pub engine_byte_by : Option DisplayRow → EngineState → ℕ → ℕ → EngineState
 engine_byte_by None e at value = e
-engine_byte_by (Some port) e at value = points_after at (record e { ports = slice_set e.ports at (bit_and value (kept_bits port at)) })
+engine_byte_by (Some row) e at value = points_after at (record e { ports = slice_set e.ports at (bit_and value (kept_at row at)) })
 
-abbrev pub engine_byte_written : ℕ → EngineState → ℕ → ℕ → EngineState
-engine_byte_written which e at value = engine_byte_by (engine_port_at which at) e at value
+abbrev pub engine_byte_written : Engine → EngineState → ℕ → ℕ → EngineState
+engine_byte_written which e at value = engine_byte_by (engine_row_at which at) e at value
 
 -- ---- layers
 
-abbrev pub text_layer_of : ℕ → EngineState → ℕ → TextLayer
+abbrev pub text_layer_of : Engine → EngineState → ℕ → TextLayer
 text_layer_of which e n = record {
-  engine = which;
+  engine = engine_number which;
   number = n;
   display = dispcnt e;
   control = bgcnt e n;
@@ -129,9 +137,9 @@ text_layer_of which e n = record {
 abbrev pub point_of : EngineState → ℕ → PointState
 point_of e n = if n == 2 then e.two else e.three
 
-abbrev pub affine_layer_of : ℕ → EngineState → ℕ → AffineLayer
+abbrev pub affine_layer_of : Engine → EngineState → ℕ → AffineLayer
 affine_layer_of which e n = record {
-  engine = which;
+  engine = engine_number which;
   display = dispcnt e;
   control = bgcnt e n;
   x = cast_signed w32 (point_of e n).x;
@@ -140,9 +148,9 @@ affine_layer_of which e n = record {
   pc = cast_signed w16 (number_at Half e.ports (0x10 * n + 4));
 }
 
-abbrev pub ext_layer_of : ℕ → EngineState → ℕ → ExtLayer
+abbrev pub ext_layer_of : Engine → EngineState → ℕ → ExtLayer
 ext_layer_of which e n = record {
-  engine = which;
+  engine = engine_number which;
   number = n;
   display = dispcnt e;
   control = bgcnt e n;

@@ -1,7 +1,7 @@
 pub mod Backgrounds
 pub mod Effects
 pub mod Engines
-pub mod EnginePorts
+pub mod DisplayRegisters
 pub mod Kept
 pub mod Pictures
 pub mod Layers

@@ -9,9 +9,11 @@ use Rattle.bg_ext.specs.BankPixels.{vram_pixel}
 use Rattle.tiles2d.specs.Colours.{palette_colour}
 use Rattle.video2d.specs.Backgrounds.{background_pixel}
 use Rattle.video2d.specs.Effects.{effects_where}
-use Rattle.video2d.specs.Engines.{EngineState, dispcnt, master_bright}
+use Rattle.video2d.specs.Engines.{EngineState, dispcnt, engine_number, master_bright}
 use Rattle.video2d.specs.Layers.{front_to_back, layers_of}
 use Rattle.video2d.specs.Windows.{shown_at}
+use Rattle.video2d.specs.declared.engines.Engine.{Engine}
+use Rattle.video2d.specs.declared.engines.Engine.TheVariants.{A, B}
 use Rattle.video2d.specs.declared.layers.LayerPixels.{LayerPixels}
 use Rattle.video2d.specs.declared.lines.Screen.{Screen}
 use Rattle.video2d.specs.declared.lines.Screen.TheVariants.{White, Layers, Bank, MainMemory}
@@ -22,20 +24,23 @@ use Rattle.video2d.specs.declared.lines.Screen.TheVariants.{White, Layers, Bank,
 -- ---- the pixel of an engine
 
 -- its palettes, and its memory of objects (GBATEK, "DS Memory Map": palettes of A and B, 1K each, backgrounds first; OAM of A and B, 1K each)
-abbrev pub background_palette : ℕ → List ℕ → List ℕ
-background_palette which palette = if which == 0 then slice_range palette 0 512 else slice_range palette 1024 1536
+abbrev pub background_palette : Engine → List ℕ → List ℕ
+background_palette A palette = slice_range palette 0 512
+background_palette B palette = slice_range palette 1024 1536
 
-abbrev pub object_palette : ℕ → List ℕ → List ℕ
-object_palette which palette = if which == 0 then slice_range palette 512 1024 else slice_range palette 1536 2048
+abbrev pub object_palette : Engine → List ℕ → List ℕ
+object_palette A palette = slice_range palette 512 1024
+object_palette B palette = slice_range palette 1536 2048
 
-abbrev pub object_memory : ℕ → List ℕ → List ℕ
-object_memory which oam = if which == 0 then slice_range oam 0 1024 else slice_range oam 1024 2048
+abbrev pub object_memory : Engine → List ℕ → List ℕ
+object_memory A oam = slice_range oam 0 1024
+object_memory B oam = slice_range oam 1024 2048
 
-abbrev pub display_of : ℕ → EngineState → Display
-display_of which e = record { engine = which; control = dispcnt e }
+abbrev pub display_of : Engine → EngineState → Display
+display_of which e = record { engine = engine_number which; control = dispcnt e }
 
 -- what the layers have at a place, by the palettes for backgrounds and objects and the memory of objects
-abbrev pub pixels_at : Banks → List ℕ → List ℕ → List ℕ → ℕ → EngineState → ℕ → ℕ → LayerPixels
+abbrev pub pixels_at : Banks → List ℕ → List ℕ → List ℕ → Engine → EngineState → ℕ → ℕ → LayerPixels
 pixels_at v colours object_colours oam which e line x = record {
   bg0 = background_pixel v colours which e line 0 x;
   bg1 = background_pixel v colours which e line 1 x;
@@ -50,20 +55,23 @@ composed_pixel e line x backdrop p =
     let shown = shown_at e p.objects.window line x in effects_where (bit 5 shown) e (front_to_back (layers_of e shown backdrop p))
 
 -- the backdrop is colour 0 of the palette for backgrounds
-abbrev pub layered_pixel : Banks → List ℕ → List ℕ → List ℕ → ℕ → EngineState → ℕ → ℕ → ℕ
+abbrev pub layered_pixel : Banks → List ℕ → List ℕ → List ℕ → Engine → EngineState → ℕ → ℕ → ℕ
 layered_pixel v colours object_colours oam which e line x =
     composed_pixel e line x (palette_colour colours 0) (pixels_at v colours object_colours oam which e line x)
 
 -- POWCNT1 (GBATEK, "DS Power Control"): bit 1 enables engine A and bit 9 engine B; bit 15 sends A to the upper screen, 0, and B to the lower, 1
-abbrev pub is_enabled : ℕ → ℕ → Bool
-is_enabled which power = if which == 0 then bit 1 power else bit 9 power
+abbrev pub is_enabled : Engine → ℕ → Bool
+is_enabled A power = bit 1 power
+is_enabled B power = bit 9 power
 
-abbrev pub screen_of : ℕ → ℕ → ℕ
-screen_of which power = if bit 15 power then (if which == 0 then 0 else 1) else (if which == 0 then 1 else 0)
+abbrev pub screen_of : Engine → ℕ → ℕ
+screen_of A power = if bit 15 power then 0 else 1
+screen_of B power = if bit 15 power then 1 else 0
 
 -- the display mode: two bits, of which engine B has the low one alone (GBATEK, "DS Video BG Modes / Control", DISPCNT bits 16 and 17)
-abbrev pub display_mode : ℕ → EngineState → ℕ
-display_mode which e = if which == 0 then bits 16 2 (dispcnt e) else bits 16 1 (dispcnt e)
+abbrev pub display_mode : Engine → EngineState → ℕ
+display_mode A e = bits 16 2 (dispcnt e)
+display_mode B e = bits 16 1 (dispcnt e)
 
 abbrev pub is_forced_blank : EngineState → Bool
 is_forced_blank e = bit 7 (dispcnt e)
@@ -73,15 +81,15 @@ is_forced_blank e = bit 7 (dispcnt e)
 abbrev pub screens_by_mode : List Screen
 screens_by_mode = White ∷ Layers ∷ Bank ∷ MainMemory ∷ []
 
-abbrev pub screen_shown : ℕ → EngineState → Screen
+abbrev pub screen_shown : Engine → EngineState → Screen
 screen_shown which e = if is_forced_blank e then White else slice_index_or screens_by_mode (display_mode which e) MainMemory
 
 -- it shows its layers: display mode 1, and no forced blank
-abbrev pub shows_layers : ℕ → EngineState → Bool
+abbrev pub shows_layers : Engine → EngineState → Bool
 shows_layers which e = not (is_forced_blank e) && (display_mode which e == 1)
 
 -- the colour at a place: of a bank it is that of its pixel, as it lies there
-abbrev pub screen_kind_pixel : Screen → Banks → List ℕ → List ℕ → ℕ → EngineState → ℕ → ℕ → ℕ
+abbrev pub screen_kind_pixel : Screen → Banks → List ℕ → List ℕ → Engine → EngineState → ℕ → ℕ → ℕ
 screen_kind_pixel White v palette oam which e line x = 0x7FFF
 screen_kind_pixel Layers v palette oam which e line x =
     layered_pixel v (background_palette which palette) (object_palette which palette) (object_memory which oam) which e line x
@@ -89,11 +97,11 @@ screen_kind_pixel Bank v palette oam which e line x = vram_pixel v (dispcnt e) l
 -- no line shows main memory: the display stops before it is drawn
 screen_kind_pixel MainMemory v palette oam which e line x = 0
 
-abbrev pub screen_pixel : Banks → List ℕ → List ℕ → ℕ → EngineState → ℕ → ℕ → ℕ
+abbrev pub screen_pixel : Banks → List ℕ → List ℕ → Engine → EngineState → ℕ → ℕ → ℕ
 screen_pixel v palette oam which e line x = screen_kind_pixel (screen_shown which e) v palette oam which e line x
 
 -- a disabled engine's pixels are 0 (our choice); on those of the other master brightness acts last, whatever they show
-abbrev pub engine_pixel : Banks → List ℕ → List ℕ → ℕ → ℕ → EngineState → ℕ → ℕ → ℕ
+abbrev pub engine_pixel : Banks → List ℕ → List ℕ → Engine → ℕ → EngineState → ℕ → ℕ → ℕ
 engine_pixel v palette oam which power e line x =
     if is_enabled which power then mastered (master_bright e) (screen_pixel v palette oam which e line x) else 0
 
@@ -104,7 +112,7 @@ unfoldable pub line_of : (ℕ → ℕ) → List ℕ
 line_of pixel = map pixel (range_with_len 0 256)
 
 -- an engine's line
-unfoldable pub engine_line : Banks → List ℕ → List ℕ → ℕ → ℕ → EngineState → ℕ → List ℕ
+unfoldable pub engine_line : Banks → List ℕ → List ℕ → Engine → ℕ → EngineState → ℕ → List ℕ
 engine_line v palette oam which power e line = line_of (engine_pixel v palette oam which power e line)
 
 -- a frame has 192 lines of the upper screen, and then those of the lower

@@ -3,6 +3,8 @@ use Rattle.ds_base.specs.Bits.{bit, bits, flag}
 use Rattle.ds_base.specs.Interrupts.{interrupt_bit}
 use Rattle.ds_base.specs.declared.interrupts.Interrupt.{Interrupt}
 use Rattle.ds_base.specs.declared.interrupts.Interrupt.TheVariants.{VBlank, HBlank, VCount}
+use Rattle.video2d.specs.DisplayRegisters.{display_row}
+use Rattle.video2d.specs.declared.display_registers.DisplayRegister.TheVariants.{Dispstat}
 use Rattle.video2d.specs.Scans.{ScanState, in_vblank}
 
 -- DISPSTAT, of which each processor has its own (GBATEK, "LCD I/O Interrupts and Status"): the flags of V-blank, H-blank and V-count in bits 0
@@ -24,9 +26,9 @@ with_half_byte byte half value = if byte == 0 then half / 256 * 256 + value else
 abbrev pub status_at_boot : StatusState
 status_at_boot = record { kept = 0; matched = false }
 
--- enables and setting are kept (bit 6 is unused)
+-- enables and setting are kept
 abbrev pub status_written : StatusState → ℕ → ℕ → StatusState
-status_written s byte value = record s { kept = bit_and (with_half_byte byte s.kept value) 0xFFB8 }
+status_written s byte value = record s { kept = bit_and (with_half_byte byte s.kept value) (display_row Dispstat).kept }
 
 -- nine bits: bit 8 stands apart
 abbrev pub vcount_setting : StatusState → ℕ

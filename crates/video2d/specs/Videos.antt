@@ -11,8 +11,10 @@ use Rattle.video2d.specs.Ports.{video_port}
 use Rattle.video2d.specs.Scans.{ScanState, blanks_drawn_line, line_after, scan_after, scan_at_boot, starts_vblank}
 use Rattle.video2d.specs.Statuses.{StatusState, half_byte, raised_at_hblank, raised_at_start, status_at_boot, status_started, status_word, status_written, with_half_byte}
 use Rattle.video2d.specs.Stops.{needs_of_line}
+use Rattle.video2d.specs.declared.engines.Engine.{Engine}
+use Rattle.video2d.specs.declared.engines.Engine.TheVariants.{A, B}
 use Rattle.video2d.specs.declared.ports.VideoPort.{VideoPort}
-use Rattle.video2d.specs.declared.ports.VideoPort.TheVariants.{Status, Count, Engine, Power, Nothing}
+use Rattle.video2d.specs.declared.ports.VideoPort.TheVariants.{Status, Count, OfEngine, Power, Nothing}
 use Rattle.video2d.specs.declared.videos.Shown.{Shown}
 
 -- The display: its events and its ports (GBATEK, "DS Video", "LCD I/O Interrupts and Status", "DS Power Control").
@@ -51,13 +53,14 @@ abbrev pub status_of : VideoState → Proc → StatusState
 status_of v Nine = v.nine
 status_of v Seven = v.seven
 
-abbrev pub engine_of : VideoState → ℕ → EngineState
-engine_of v which = if which == 0 then v.a else v.b
+abbrev pub engine_of : VideoState → Engine → EngineState
+engine_of v A = v.a
+engine_of v B = v.b
 
 abbrev pub video_byte_by : VideoPort → Proc → VideoState → ℕ
 video_byte_by (Status byte) proc v = half_byte byte (status_word v.scan (status_of v proc))
 video_byte_by (Count byte) proc v = half_byte byte v.scan.line
-video_byte_by (Engine which at) proc v = engine_byte which (engine_of v which) at
+video_byte_by (OfEngine which at) proc v = engine_byte which (engine_of v which) at
 video_byte_by (Power byte) proc v = half_byte byte v.power
 video_byte_by Nothing proc v = 0
 
@@ -69,14 +72,15 @@ abbrev pub with_status : Proc → VideoState → StatusState → VideoState
 with_status Nine v status = record v { nine = status }
 with_status Seven v status = record v { seven = status }
 
-abbrev pub with_engine : ℕ → VideoState → EngineState → VideoState
-with_engine which v e = if which == 0 then record v { a = e } else record v { b = e }
+abbrev pub with_engine : Engine → VideoState → EngineState → VideoState
+with_engine A v e = record v { a = e }
+with_engine B v e = record v { b = e }
 
 -- VCOUNT can't be written (our choice: GBATEK says that writing it sets the line)
 abbrev pub video_byte_written_by : VideoPort → Proc → VideoState → ℕ → VideoState
 video_byte_written_by (Status byte) proc v value = with_status proc v (status_written (status_of v proc) byte value)
 video_byte_written_by (Count byte) proc v value = v
-video_byte_written_by (Engine which at) proc v value = with_engine which v (engine_byte_written which (engine_of v which) at value)
+video_byte_written_by (OfEngine which at) proc v value = with_engine which v (engine_byte_written which (engine_of v which) at value)
 video_byte_written_by (Power byte) proc v value = record v { power = with_half_byte byte v.power value }
 video_byte_written_by Nothing proc v value = v
 
@@ -95,12 +99,12 @@ abbrev pub video_stop : List ℕ → VideoState → Option Stop
 video_stop oam v = if blanks_drawn_line v.scan then needs_of_line v.power v.a v.b oam v.scan.line else None
 
 -- a line is drawn: each engine's, on its screen
-abbrev pub drawn_with : Banks → List ℕ → List ℕ → VideoState → ℕ → List ℕ → List ℕ
+abbrev pub drawn_with : Banks → List ℕ → List ℕ → VideoState → Engine → List ℕ → List ℕ
 drawn_with m palette oam v which frame =
     line_laid (line_place (screen_of which v.power) v.scan.line) (engine_line m palette oam which v.power (engine_of v which) v.scan.line) frame
 
 abbrev pub line_drawn : Banks → List ℕ → List ℕ → VideoState → List ℕ
-line_drawn m palette oam v = drawn_with m palette oam v 1 (drawn_with m palette oam v 0 v.drawn)
+line_drawn m palette oam v = drawn_with m palette oam v B (drawn_with m palette oam v A v.drawn)
 
 -- a line's H-blank: one of lines 0 to 191 is drawn, and then the points of the affine backgrounds go on, whatever is shown
 abbrev pub video_blanked : Banks → List ℕ → List ℕ → VideoState → VideoState

@@ -1,5 +1,7 @@
 use Rattle.std.specs.Prelude.{ℕ, ◌+◌, ◌*◌, ◌==◌, ◌&&◌, ◌||◌, nat_le, nat_lt, Bool, if◌then◌else◌, slice_index}
 use Rattle.ds_base.specs.Bits.{bit, bits}
+use Rattle.video2d.specs.DisplayRegisters.{display_offset}
+use Rattle.video2d.specs.declared.display_registers.DisplayRegister.TheVariants.{Win0h, Win0v, Winin, Winout}
 use Rattle.video2d.specs.Engines.{EngineState, dispcnt}
 
 -- What an engine's windows show at a place (GBATEK, "LCD I/O Window Feature").
@@ -11,16 +13,16 @@ is_between first second at = if nat_lt second first then nat_le first at || nat_
 
 -- the sides of windows 0 and 1: WINxH has the left one in its high byte and the right one in its low byte, WINxV the top and the bottom
 abbrev pub window_left : EngineState → ℕ → ℕ
-window_left e n = slice_index e.ports (0x41 + 2 * n)
+window_left e n = slice_index e.ports (display_offset Win0h + 1 + 2 * n)
 
 abbrev pub window_right : EngineState → ℕ → ℕ
-window_right e n = slice_index e.ports (0x40 + 2 * n)
+window_right e n = slice_index e.ports (display_offset Win0h + 2 * n)
 
 abbrev pub window_top : EngineState → ℕ → ℕ
-window_top e n = slice_index e.ports (0x45 + 2 * n)
+window_top e n = slice_index e.ports (display_offset Win0v + 1 + 2 * n)
 
 abbrev pub window_bottom : EngineState → ℕ → ℕ
-window_bottom e n = slice_index e.ports (0x44 + 2 * n)
+window_bottom e n = slice_index e.ports (display_offset Win0v + 2 * n)
 
 -- windows 0 and 1, and the object window, by DISPCNT's bits 13 to 15
 abbrev pub is_window_on : EngineState → ℕ → Bool
@@ -34,13 +36,13 @@ is_in_window e n line x = reaches_line e n line && is_between (window_left e n) 
 
 -- what is shown in windows 0 and 1 by the bytes of WININ; outside and in the object window by those of WINOUT
 abbrev pub shown_in : EngineState → ℕ → ℕ
-shown_in e n = slice_index e.ports (0x48 + n)
+shown_in e n = slice_index e.ports (display_offset Winin + n)
 
 abbrev pub shown_outside : EngineState → ℕ
-shown_outside e = slice_index e.ports 0x4A
+shown_outside e = slice_index e.ports (display_offset Winout)
 
 abbrev pub shown_in_objects : EngineState → ℕ
-shown_in_objects e = slice_index e.ports 0x4B
+shown_in_objects e = slice_index e.ports (display_offset Winout + 1)
 
 -- what is shown at a place: backgrounds by bits 0 to 3, objects by bit 4, effects by bit 5. Window 0 goes before window 1, the object window and
 -- the outside; where no window is on, all is shown

@@ -3,7 +3,7 @@
 ghost use Rattle.std.specs.Prelude.{◌≡◌, ◌<◌, ◌+◌, ℕ, length, slice_index};
 ghost use Rattle.video2d.specs.Backgrounds.{background_mode, is_background_on, is_background_3d, background_kind, background_pixel};
 
-use crate::engines::Engine;
+use crate::engines::{Engine, EngineRegisters};
 use bg_ext::ext_row;
 use bg2d::{affine_row, text_row};
 use vram_banks::{Row, Vram};
@@ -66,14 +66,14 @@ pub fn background_kind(mode: u32, n: u8) -> BackgroundKind
 }
 
 /// DISPCNT's background mode.
-pub fn background_mode(engine: &Engine) -> u32
+pub fn background_mode(engine: &EngineRegisters) -> u32
     ensures { result ≡ background_mode engine.now }
 {
     engine.dispcnt() % 8
 }
 
 /// Whether background n is on.
-pub fn is_background_on(engine: &Engine, n: u8) -> bool
+pub fn is_background_on(engine: &EngineRegisters, n: u8) -> bool
     requires { n < 4 }
     ensures { result ≡ is_background_on engine.now n }
 {
@@ -81,10 +81,10 @@ pub fn is_background_on(engine: &Engine, n: u8) -> bool
 }
 
 /// Whether background n shows 3D.
-fn is_background_3d(which: u8, engine: &Engine, n: u8) -> bool
+fn is_background_3d(which: Engine, engine: &EngineRegisters, n: u8) -> bool
     ensures { result ≡ is_background_3d which engine.now n }
 {
-    which == 0 && n == 0 && (engine.dispcnt() >> 3) % 2 == 1
+    which == Engine::A && n == 0 && (engine.dispcnt() >> 3) % 2 == 1
 }
 
 /// A row that is transparent.
@@ -101,8 +101,8 @@ fn clear(into: &mut Row)
 pub fn background_row(
     vram: &Vram,
     palette: &[u8],
-    which: u8,
-    engine: &Engine,
+    which: Engine,
+    engine: &EngineRegisters,
     line: u8,
     n: u8,
     into: &mut Row,

@@ -1,23 +1,56 @@
-//! A 2D engine's registers.
+//! The two 2D engines, and their registers.
 
 ghost use Rattle.std.specs.Prelude.{◌≡◌, ◌<◌, ◌≤◌, slice_index, slice_set};
-ghost use Rattle.video2d.specs.Engines.{engine_at_boot, dispcnt, bgcnt, bghofs, bgvofs, bldcnt, bldalpha, bldy, dispcapcnt, master_bright, background_mosaic, object_mosaic, points_started, points_stepped, points_after, point_of, engine_byte, engine_byte_written, text_layer_of, affine_layer_of, ext_layer_of};
+ghost use Rattle.video2d.specs.DisplayRegisters.{engine_base};
+ghost use Rattle.video2d.specs.Engines.{engine_at_boot, dispcnt, bgcnt, bghofs, bgvofs, bldcnt, bldalpha, bldy, dispcapcnt, master_bright, background_mosaic, object_mosaic, points_started, points_stepped, points_after, point_of, engine_byte, engine_byte_written, engine_number, text_layer_of, affine_layer_of, ext_layer_of};
 
-use crate::engine_ports::engine_port_at;
+use crate::display_registers::{DisplayRegister, engine_row_at};
 use crate::points::{PORTS, Point, half_at, word_at};
 use bg_ext::ExtLayer;
 use bg2d::{AffineLayer, TextLayer};
 use std::marker::Model;
 
-/// An engine: what its ports keep, and the running points of backgrounds 2 and 3. Engine 0 is A, any other is B.
+/// A 2D engine (GBATEK, "DS Video").
+#[derive(Clone, Copy, PartialEq, Eq)]
+pub enum Engine {
+    /// Engine A, which has display capture, 3D and bases of its own beside what both have.
+    A,
+    /// Engine B.
+    B,
+}
+
+impl Engine {
+    /// Where its registers begin, from 4000000h.
+    #[inline(always)]
+    pub fn base(self) -> u32
+        ensures { result ≡ engine_base self }
+    {
+        match self {
+            Engine::A => 0,
+            Engine::B => 0x1000,
+        }
+    }
+
+    /// The number by which layers and objects know it.
+    pub fn number(self) -> u8
+        ensures { result ≡ engine_number self }
+    {
+        match self {
+            Engine::A => 0,
+            Engine::B => 1,
+        }
+    }
+}
+
+/// An engine's registers: what its ports keep, and the running points of backgrounds 2 and 3.
 #[derive(Drop)]
-pub struct Engine {
+pub struct EngineRegisters {
     ports: [u8; PORTS],
     two: Point,
     three: Point,
 }
 
-impl Model for Engine {
+impl Model for EngineRegisters {
     ghost use Rattle.video2d.specs.Engines.{EngineState};
 
     ghost Value = { EngineState };
@@ -25,13 +58,13 @@ impl Model for Engine {
     ghost view = { λ e. record { ports = e.ports; two = e.two; three = e.three } };
 }
 
-impl Engine {
+impl EngineRegisters {
     /// At boot all is 0.
     #[tactic(auto, unfolding(ds_base::specs::Numbers::zeroes))]
-    pub fn new() -> Engine
+    pub fn new() -> EngineRegisters
         ensures { result ≡ engine_at_boot }
     {
-        Engine {
+        EngineRegisters {
             ports: [0; PORTS],
             two: Point::new(),
             three: Point::new(),
@@ -42,7 +75,7 @@ impl Engine {
     pub fn dispcnt(&self) -> u32
         ensures { result ≡ dispcnt self.now }
     {
-        word_at(&self.ports, 0)
+        word_at(&self.ports, DisplayRegister::Dispcnt.first())
     }
 
     /// BGxCNT of background n.
@@ -50,7 +83,10 @@ impl Engine {
         requires { n < 4 }
         ensures { result ≡ bgcnt self.now n }
     {
-        half_at(&self.ports, 0x08 + 2 * n as usize)
+        half_at(
+            &self.ports,
+            DisplayRegister::Bg0cnt.first() + 2 * n as usize,
+        )
     }
 
     /// BGxHOFS.
@@ -58,7 +94,10 @@ impl Engine {
         requires { n < 4 }
         ensures { result ≡ bghofs self.now n }
     {
-        half_at(&self.ports, 0x10 + 4 * n as usize)
+        half_at(
+            &self.ports,
+            DisplayRegister::Bg0hofs.first() + 4 * n as usize,
+        )
     }
 
     /// BGxVOFS.
@@ -66,56 +105,59 @@ impl Engine {
         requires { n < 4 }
         ensures { result ≡ bgvofs self.now n }
     {
-        half_at(&self.ports, 0x12 + 4 * n as usize)
+        half_at(
+            &self.ports,
+            DisplayRegister::Bg0hofs.first() + 4 * n as usize + 2,
+        )
     }
 
     /// BLDCNT.
     pub fn bldcnt(&self) -> u16
         ensures { result ≡ bldcnt self.now }
     {
-        half_at(&self.ports, 0x50)
+        half_at(&self.ports, DisplayRegister::Bldcnt.first())
     }
 
     /// DISPCAPCNT.
     pub fn dispcapcnt(&self) -> u32
         ensures { result ≡ dispcapcnt self.now }
     {
-        word_at(&self.ports, 0x64)
+        word_at(&self.ports, DisplayRegister::Dispcapcnt.first())
     }
 
     /// MASTER_BRIGHT.
     pub fn master_bright(&self) -> u16
         ensures { result ≡ master_bright self.now }
     {
-        half_at(&self.ports, 0x6C)
+        half_at(&self.ports, DisplayRegister::MasterBright.first())
     }
 
     /// BLDALPHA.
     pub fn bldalpha(&self) -> u16
         ensures { result ≡ bldalpha self.now }
     {
-        half_at(&self.ports, 0x52)
+        half_at(&self.ports, DisplayRegister::Bldalpha.first())
     }
 
     /// The low byte of BLDY.
     pub fn bldy(&self) -> u8
         ensures { result ≡ bldy self.now }
     {
-        self.ports[0x54]
+        self.ports[DisplayRegister::Bldy.first()]
     }
 
     /// The mosaic's sizes for backgrounds.
     pub fn background_mosaic(&self) -> u8
         ensures { result ≡ background_mosaic self.now }
     {
-        self.ports[0x4C]
+        self.ports[DisplayRegister::Mosaic.first()]
     }
 
     /// The mosaic's sizes for objects.
     pub fn object_mosaic(&self) -> u8
         ensures { result ≡ object_mosaic self.now }
     {
-        self.ports[0x4D]
+        self.ports[DisplayRegister::Mosaic.first() + 1]
     }
 
     /// A byte of the windows' registers.
@@ -127,14 +169,14 @@ impl Engine {
     }
 
     /// The byte at an offset, as it is read.
-    pub fn byte(&self, which: u8, at: u32) -> u8
+    pub fn byte(&self, which: Engine, at: u32) -> u8
         requires { at < 112 }
         ensures { result ≡ engine_byte which self.now at }
     {
-        match engine_port_at(which, at) {
+        match engine_row_at(which, at) {
             None => 0,
-            Some(port) => {
-                if port.reads {
+            Some(row) => {
+                if row.reads {
                     self.ports[at as usize]
                 } else {
                     0
@@ -159,14 +201,14 @@ impl Engine {
     }
 
     /// A byte is written at an offset.
-    pub fn write_byte(&mut self, which: u8, at: u32, value: u8)
+    pub fn write_byte(&mut self, which: Engine, at: u32, value: u8)
         requires { at < 112 }
         ensures { self.new ≡ engine_byte_written which self.old at value }
     {
-        match engine_port_at(which, at) {
+        match engine_row_at(which, at) {
             None => {}
-            Some(port) => {
-                self.ports[at as usize] = value & port.kept_bits(at);
+            Some(row) => {
+                self.ports[at as usize] = value & row.kept_bits(at);
                 self.copy_points(at as usize);
             }
         }
@@ -189,12 +231,12 @@ impl Engine {
     }
 
     /// Background n as a text background.
-    pub fn text_layer(&self, which: u8, n: u8) -> TextLayer
+    pub fn text_layer(&self, which: Engine, n: u8) -> TextLayer
         requires { n < 4 }
         ensures { result ≡ text_layer_of which self.now n }
     {
         TextLayer {
-            engine: which,
+            engine: which.number(),
             number: n,
             display: self.dispcnt(),
             control: self.bgcnt(n),
@@ -211,12 +253,12 @@ impl Engine {
     }
 
     /// Background n, 2 or 3, as an affine background.
-    pub fn affine_layer(&self, which: u8, n: u8) -> AffineLayer
+    pub fn affine_layer(&self, which: Engine, n: u8) -> AffineLayer
         requires { n < 4 }
         ensures { result ≡ affine_layer_of which self.now n }
     {
         AffineLayer {
-            engine: which,
+            engine: which.number(),
             display: self.dispcnt(),
             control: self.bgcnt(n),
             x: self.point(n).x().cast_signed(),
@@ -227,12 +269,12 @@ impl Engine {
     }
 
     /// Background n, 2 or 3, as an extended background.
-    pub fn ext_layer(&self, which: u8, n: u8) -> ExtLayer
+    pub fn ext_layer(&self, which: Engine, n: u8) -> ExtLayer
         requires { n < 4 }
         ensures { result ≡ ext_layer_of which self.now n }
     {
         ExtLayer {
-            engine: which,
+            engine: which.number(),
             number: n,
             display: self.dispcnt(),
             control: self.bgcnt(n),

@@ -5,7 +5,7 @@ ghost use Rattle.video2d.specs.Pictures.{pixels_at};
 ghost use Rattle.video2d.specs.rows.Composed.{row_pixels};
 
 use crate::backgrounds::background_row;
-use crate::engines::Engine;
+use crate::engines::{Engine, EngineRegisters};
 use obj2d::{ObjectPixel, ObjectRow, object_row};
 use vram_banks::{Row, Vram};
 
@@ -68,8 +68,8 @@ pub fn draw_rows(
     colours: &[u8],
     object_colours: &[u8],
     oam: &[u8],
-    which: u8,
-    engine: &Engine,
+    which: Engine,
+    engine: &EngineRegisters,
     line: u8,
     into: &mut LayerRows,
 )
@@ -89,7 +89,7 @@ pub fn draw_rows(
         object_colours,
         oam,
         control,
-        which,
+        which.number(),
         line,
         &mut into.objects,
     );

@@ -5,7 +5,7 @@ ghost use Rattle.bg_ext.specs.BankPixels.{vram_pixel};
 ghost use Rattle.video2d.specs.Engines.{dispcnt};
 ghost use Rattle.video2d.specs.Pictures.{layered_pixel, is_enabled, display_mode, is_forced_blank, screen_shown, shows_layers, screen_pixel, engine_pixel, engine_line, background_palette, object_palette, object_memory};
 
-use crate::engines::Engine;
+use crate::engines::{Engine, EngineRegisters};
 use crate::layers::{draw_rows, empty_rows};
 use crate::mixes::{MixRow, finish_row, line_order, mix_rows};
 use crate::plains::{calm_line, is_calm, is_plain, plain_layers, plain_line};
@@ -31,23 +31,26 @@ pub enum Screen {
 }
 
 /// The display mode: two bits of DISPCNT, of which engine B has the low one alone.
-pub fn display_mode(which: u8, engine: &Engine) -> u32
+pub fn display_mode(which: Engine, engine: &EngineRegisters) -> u32
     ensures value { result ≡ display_mode which engine.now }
     ensures small { result < 4 }
 {
     let mode = (engine.dispcnt() >> 16) % 4;
-    if which == 0 { mode } else { mode % 2 }
+    match which {
+        Engine::A => mode,
+        Engine::B => mode % 2,
+    }
 }
 
 /// Whether the engine's blank is forced.
-pub fn is_forced_blank(engine: &Engine) -> bool
+pub fn is_forced_blank(engine: &EngineRegisters) -> bool
     ensures { result ≡ is_forced_blank engine.now }
 {
     (engine.dispcnt() >> 7) % 2 == 1
 }
 
 /// What the engine's screen shows.
-fn screen_shown(which: u8, engine: &Engine) -> Screen
+fn screen_shown(which: Engine, engine: &EngineRegisters) -> Screen
     ensures { result ≡ screen_shown which engine.now }
 {
     if is_forced_blank(engine) {
@@ -62,17 +65,20 @@ fn screen_shown(which: u8, engine: &Engine) -> Screen
 }
 
 /// Whether the engine shows its layers.
-pub fn shows_layers(which: u8, engine: &Engine) -> bool
+pub fn shows_layers(which: Engine, engine: &EngineRegisters) -> bool
     ensures { result ≡ shows_layers which engine.now }
 {
     !is_forced_blank(engine) && display_mode(which, engine) == 1
 }
 
 /// Whether POWCNT1 enables an engine.
-pub fn is_enabled(which: u8, power: u16) -> bool
+pub fn is_enabled(which: Engine, power: u16) -> bool
     ensures { result ≡ is_enabled which power }
 {
-    let bit = if which == 0 { 1 } else { 9 };
+    let bit = match which {
+        Engine::A => 1,
+        Engine::B => 9,
+    };
     (power >> bit) % 2 == 1
 }
 
@@ -83,8 +89,8 @@ fn composed_line(
     colours: &[u8],
     object_colours: &[u8],
     oam: &[u8],
-    which: u8,
-    engine: &Engine,
+    which: Engine,
+    engine: &EngineRegisters,
     line: u8,
     into: &mut [u16; 256],
 )
@@ -120,8 +126,8 @@ fn layered_line(
     colours: &[u8],
     object_colours: &[u8],
     oam: &[u8],
-    which: u8,
-    engine: &Engine,
+    which: Engine,
+    engine: &EngineRegisters,
     line: u8,
     into: &mut [u16; 256],
 )
@@ -158,41 +164,38 @@ fn layered_line(
 }
 
 /// The palette of an engine's backgrounds, in the memory of both engines' palettes.
-fn background_palette(which: u8, palette: &[u8]) -> &[u8]
+fn background_palette(which: Engine, palette: &[u8]) -> &[u8]
     requires { length palette.now ≡ 2048 }
     ensures value { result.now ≡ background_palette which palette.now }
     ensures long { length result.now ≡ 512 }
 {
-    if which == 0 {
-        &palette[0..512]
-    } else {
-        &palette[1024..1536]
+    match which {
+        Engine::A => &palette[0..512],
+        Engine::B => &palette[1024..1536],
     }
 }
 
 /// The palette of its objects, likewise.
-fn object_palette(which: u8, palette: &[u8]) -> &[u8]
+fn object_palette(which: Engine, palette: &[u8]) -> &[u8]
     requires { length palette.now ≡ 2048 }
     ensures value { result.now ≡ object_palette which palette.now }
     ensures long { length result.now ≡ 512 }
 {
-    if which == 0 {
-        &palette[512..1024]
-    } else {
-        &palette[1536..2048]
+    match which {
+        Engine::A => &palette[512..1024],
+        Engine::B => &palette[1536..2048],
     }
 }
 
 /// The objects of an engine, in the memory of both engines' objects.
-pub fn object_memory(which: u8, oam: &[u8]) -> &[u8]
+pub fn object_memory(which: Engine, oam: &[u8]) -> &[u8]
     requires { length oam.now ≡ 2048 }
     ensures value { result.now ≡ object_memory which oam.now }
     ensures long { length result.now ≡ 1024 }
 {
-    if which == 0 {
-        &oam[0..1024]
-    } else {
-        &oam[1024..2048]
+    match which {
+        Engine::A => &oam[0..1024],
+        Engine::B => &oam[1024..2048],
     }
 }
 
@@ -206,7 +209,7 @@ fn colours_of(row: &Row, into: &mut [u16; 256])
 }
 
 /// Draws the line of a bank that is shown as it lies.
-fn bank_line(vram: &Vram, engine: &Engine, line: u8, into: &mut [u16; 256])
+fn bank_line(vram: &Vram, engine: &EngineRegisters, line: u8, into: &mut [u16; 256])
     ensures { (x : ℕ) → x < 256 → slice_index into.new x ≡ vram_pixel vram.now (dispcnt engine.now) line x % 2 ^ 15 }
 {
     let mut row = Row { pixels: [0; 256] };
@@ -219,8 +222,8 @@ fn layers_line(
     vram: &Vram,
     palette: &[u8],
     oam: &[u8],
-    which: u8,
-    engine: &Engine,
+    which: Engine,
+    engine: &EngineRegisters,
     line: u8,
     into: &mut [u16; 256],
 )
@@ -248,8 +251,8 @@ fn screen_line(
     vram: &Vram,
     palette: &[u8],
     oam: &[u8],
-    which: u8,
-    engine: &Engine,
+    which: Engine,
+    engine: &EngineRegisters,
     line: u8,
     into: &mut [u16; 256],
 )
@@ -270,9 +273,9 @@ fn shown_line(
     vram: &Vram,
     palette: &[u8],
     oam: &[u8],
-    which: u8,
+    which: Engine,
     power: u16,
-    engine: &Engine,
+    engine: &EngineRegisters,
     line: u8,
     into: &mut [u16; 256],
 )
@@ -293,9 +296,9 @@ pub fn engine_line(
     vram: &Vram,
     palette: &[u8],
     oam: &[u8],
-    which: u8,
+    which: Engine,
     power: u16,
-    engine: &Engine,
+    engine: &EngineRegisters,
     line: u8,
     into: &mut [u16; 256],
 )

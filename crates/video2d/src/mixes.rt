@@ -8,7 +8,7 @@ ghost use Rattle.video2d.specs.Effects.{brightness_changed, eva, evb};
 ghost use Rattle.video2d.specs.Engines.{bgcnt};
 ghost use Rattle.video2d.specs.rows.Composed.{word_target, mix_kind, mix_of, line_order, mixed_at, finished, row_pixels, row_mixed};
 
-use crate::engines::Engine;
+use crate::engines::EngineRegisters;
 use crate::fronts::{FrontPair, NO_WORD, front_of};
 use crate::layers::{LayerPixels, LayerRows};
 use crate::windows::{WindowLine, shown_along, window_line};
@@ -114,7 +114,7 @@ fn mixed_at(order: &LineOrder, pixels: LayerPixels, x: u8) -> MixedPixel
 }
 
 /// The priority of background n.
-pub fn priority(engine: &Engine, n: u8) -> u8
+pub fn priority(engine: &EngineRegisters, n: u8) -> u8
     requires { n < 4 }
     ensures { result ≡ bits 0 2 (bgcnt engine.now n) }
 {
@@ -122,7 +122,7 @@ pub fn priority(engine: &Engine, n: u8) -> u8
 }
 
 /// What doesn't change along a line.
-pub fn line_order(engine: &Engine, line: u8, backdrop: u16) -> LineOrder
+pub fn line_order(engine: &EngineRegisters, line: u8, backdrop: u16) -> LineOrder
     ensures { result ≡ line_order engine.now line backdrop }
 {
     LineOrder {
@@ -163,7 +163,7 @@ pub fn mix_rows(order: &LineOrder, rows: &LayerRows, into: &mut MixRow)
 }
 
 /// Makes a row brighter or darker, by BLDCNT and BLDY.
-fn change_brightness(engine: &Engine, row: &mut [u16])
+fn change_brightness(engine: &EngineRegisters, row: &mut [u16])
     ensures { row.new ≡ map (brightness_changed engine.now) row.old }
 {
     let factor = engine.bldy() % 32;
@@ -175,7 +175,7 @@ fn change_brightness(engine: &Engine, row: &mut [u16])
 }
 
 /// Blends a row with the next one, by BLDALPHA.
-fn blend_rows(engine: &Engine, top: &mut [u16], next: &[u16])
+fn blend_rows(engine: &EngineRegisters, top: &mut [u16], next: &[u16])
     requires { length top.old ≡ length next.now }
     ensures { top.new ≡ zip2 (blended (eva engine.now) (evb engine.now)) top.old next.now }
 {
@@ -197,7 +197,7 @@ fn chosen(kind: u8, plain: u16, blended: u16, changed: u16) -> u16
 }
 
 /// Mixes the places of a line.
-pub fn finish_row(engine: &Engine, mixes: &MixRow, into: &mut [u16; 256])
+pub fn finish_row(engine: &EngineRegisters, mixes: &MixRow, into: &mut [u16; 256])
     ensures { (x : ℕ) → x < 256 → slice_index into.new x ≡ finished engine.now (row_mixed mixes.now x) }
 {
     let mut blended = mixes.top;

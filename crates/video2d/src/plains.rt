@@ -6,14 +6,14 @@ ghost use Rattle.video2d.specs.Layers.{seen_objects};
 ghost use Rattle.video2d.specs.rows.Plain.{background_seen, backgrounds_seen, calm_layers, calm_over, calm_pixel, is_calm, is_plain, laid_at, over, over_at, plain_pixel};
 
 use crate::backgrounds::{background_row, is_background_on};
-use crate::engines::Engine;
+use crate::engines::{Engine, EngineRegisters};
 use crate::mixes::priority;
 use obj2d::{ShownRow, shown_row};
 use tiles2d::palette_colour;
 use vram_banks::{Row, Vram};
 
 /// Whether objects and windows are off, and there is no effect.
-pub fn is_plain(engine: &Engine) -> bool
+pub fn is_plain(engine: &EngineRegisters) -> bool
     ensures { result ≡ is_plain engine.now }
 {
     (engine.dispcnt() >> 12) % 16 == 0 && (engine.bldcnt() >> 6) % 4 == 0
@@ -49,8 +49,8 @@ fn lay_row(row: &Row, into: &mut [u16; 256])
 fn lay_background(
     vram: &Vram,
     colours: &[u8],
-    which: u8,
-    engine: &Engine,
+    which: Engine,
+    engine: &EngineRegisters,
     line: u8,
     n: u8,
     turn: u8,
@@ -74,8 +74,8 @@ fn lay_background(
 fn lay_priority(
     vram: &Vram,
     colours: &[u8],
-    which: u8,
-    engine: &Engine,
+    which: Engine,
+    engine: &EngineRegisters,
     line: u8,
     turn: u8,
     into: &mut [u16; 256],
@@ -93,8 +93,8 @@ fn lay_priority(
 pub fn plain_layers(
     vram: &Vram,
     colours: &[u8],
-    which: u8,
-    engine: &Engine,
+    which: Engine,
+    engine: &EngineRegisters,
     line: u8,
     into: &mut [u16; 256],
 )
@@ -109,7 +109,7 @@ pub fn plain_layers(
 }
 
 /// Whether windows are off and no effect can act: there is none, and no layer is a second target.
-pub fn is_calm(engine: &Engine) -> bool
+pub fn is_calm(engine: &EngineRegisters) -> bool
     ensures { result ≡ is_calm engine.now }
 {
     (engine.dispcnt() >> 13) % 8 == 0
@@ -147,8 +147,8 @@ fn lay_objects(objects: &ShownRow, turn: u8, into: &mut [u16; 256])
 fn lay_turn(
     vram: &Vram,
     colours: &[u8],
-    which: u8,
-    engine: &Engine,
+    which: Engine,
+    engine: &EngineRegisters,
     line: u8,
     objects: &ShownRow,
     turn: u8,
@@ -166,8 +166,8 @@ fn lay_turn(
 fn lay_turns(
     vram: &Vram,
     colours: &[u8],
-    which: u8,
-    engine: &Engine,
+    which: Engine,
+    engine: &EngineRegisters,
     line: u8,
     objects: &ShownRow,
     into: &mut [u16; 256],
@@ -189,8 +189,8 @@ pub fn calm_line(
     colours: &[u8],
     object_colours: &[u8],
     oam: &[u8],
-    which: u8,
-    engine: &Engine,
+    which: Engine,
+    engine: &EngineRegisters,
     line: u8,
     into: &mut [u16; 256],
 )
@@ -209,7 +209,7 @@ pub fn calm_line(
         object_colours,
         oam,
         control,
-        which,
+        which.number(),
         line,
         &mut objects,
     );

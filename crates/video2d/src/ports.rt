@@ -3,6 +3,7 @@
 ghost use Rattle.std.specs.Prelude.{◌≡◌, ◌<◌, ◌≤◌};
 ghost use Rattle.video2d.specs.Ports.{video_port, port_of_nine, port_of_one, IsInPorts};
 
+use crate::engines::Engine;
 use ds_base::Proc;
 
 /// A byte of a port of the display.
@@ -12,8 +13,8 @@ pub enum VideoPort {
     Status(u8),
     /// A byte of VCOUNT.
     Count(u8),
-    /// A byte of an engine's registers: which engine, 0 for A and 1 for B, and the offset from its base.
-    Engine(u8, u32),
+    /// A byte of an engine's registers, by its offset from the engine's base.
+    OfEngine(Engine, u32),
     /// A byte of POWCNT1.
     Power(u8),
     /// No port of the display.
@@ -26,10 +27,10 @@ fn port_of_nine(at: u32) -> VideoPort
     ensures inside { IsInPorts result }
 {
     match at {
-        0x000..=0x06F => VideoPort::Engine(0, at),
+        0x000..=0x06F => VideoPort::OfEngine(Engine::A, at),
         0x304 => VideoPort::Power(0),
         0x305 => VideoPort::Power(1),
-        0x1000..=0x106F => VideoPort::Engine(1, at - 0x1000),
+        0x1000..=0x106F => VideoPort::OfEngine(Engine::B, at - 0x1000),
         _ => VideoPort::Nothing,
     }
 }

@@ -4,12 +4,10 @@ ghost use Rattle.std.specs.Prelude.{◌≡◌, ◌≤◌, ◌+◌, ◌*◌};
 ghost use Rattle.ds_base.specs.Bits.{bits, flag};
 ghost use Rattle.video2d.specs.Statuses.{half_byte, with_half_byte, status_at_boot, status_written, vcount_setting, status_word, status_started, raised_where, raised_at_hblank, raised_at_start};
 
+use crate::display_registers::DisplayRegister;
 use crate::scans::Scan;
 use ds_base::Interrupt;
 use std::marker::Model;
-
-/// The bits that DISPSTAT keeps.
-const KEPT: u16 = 0xFFB8;
 
 /// One processor's DISPSTAT: what it keeps, and its V-count flag.
 #[derive(Drop)]
@@ -90,7 +88,8 @@ impl Status {
     pub fn write(&mut self, byte: u8, value: u8)
         ensures { self.new ≡ status_written self.old byte value }
     {
-        self.kept = with_half_byte(byte, self.kept, value) & KEPT;
+        self.kept = with_half_byte(byte, self.kept, value)
+            & DisplayRegister::Dispstat.row().kept as u16;
     }
 
     /// The line at whose start V-count's flag is set.

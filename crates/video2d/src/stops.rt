@@ -5,7 +5,7 @@ ghost use Rattle.video2d.specs.Pictures.{object_memory};
 ghost use Rattle.video2d.specs.Stops.{needed_if, first_need, value_of_engine, needs_display_mode, needs_mode, needs_capture, needs_of_background, needs_of_object, needs_of_objects, needs_of_objects_shown, needs_of_engine, needs_of_line};
 
 use crate::backgrounds::{background_mode, is_background_on};
-use crate::engines::Engine;
+use crate::engines::{Engine, EngineRegisters};
 use crate::lines::{display_mode, is_enabled, is_forced_blank, object_memory, shows_layers};
 use ds_base::{LeftKind, Stop};
 use obj2d::{covers_line, is_mosaic_object, object_mode};
@@ -31,14 +31,17 @@ fn or_else(first: Option<Stop>, second: Option<Stop>) -> Option<Stop>
 }
 
 /// Engine B's values have 256 more.
-fn value_of_engine(which: u8, value: u32) -> u32
+fn value_of_engine(which: Engine, value: u32) -> u32
     requires { value < 256 }
     ensures { result ≡ value_of_engine which value }
 {
-    if which == 0 { value } else { 256 + value }
+    match which {
+        Engine::A => value,
+        Engine::B => 256 + value,
+    }
 }
 
-fn needs_display_mode(which: u8, engine: &Engine) -> Option<Stop>
+fn needs_display_mode(which: Engine, engine: &EngineRegisters) -> Option<Stop>
     ensures { result ≡ needs_display_mode which engine.now }
 {
     let mode = display_mode(which, engine);
@@ -49,7 +52,7 @@ fn needs_display_mode(which: u8, engine: &Engine) -> Option<Stop>
     )
 }
 
-fn needs_mode(which: u8, engine: &Engine) -> Option<Stop>
+fn needs_mode(which: Engine, engine: &EngineRegisters) -> Option<Stop>
     ensures { result ≡ needs_mode which engine.now }
 {
     let mode = background_mode(engine);
@@ -60,14 +63,18 @@ fn needs_mode(which: u8, engine: &Engine) -> Option<Stop>
     )
 }
 
-fn needs_capture(which: u8, engine: &Engine) -> Option<Stop>
+fn needs_capture(which: Engine, engine: &EngineRegisters) -> Option<Stop>
     ensures { result ≡ needs_capture which engine.now }
 {
     let capture = engine.dispcapcnt();
-    needed_if(which == 0 && capture >> 31 == 1, LeftKind::Capture, capture)
+    needed_if(
+        which == Engine::A && capture >> 31 == 1,
+        LeftKind::Capture,
+        capture,
+    )
 }
 
-fn needs_of_background(which: u8, engine: &Engine, n: u8) -> Option<Stop>
+fn needs_of_background(which: Engine, engine: &EngineRegisters, n: u8) -> Option<Stop>
     requires { n < 4 }
     ensures { result ≡ needs_of_background which engine.now n }
 {
@@ -79,7 +86,13 @@ fn needs_of_background(which: u8, engine: &Engine, n: u8) -> Option<Stop>
 }
 
 /// What the object of a number needs. `oam` has the engine's 1,024 bytes of objects.
-fn needs_of_object(which: u8, engine: &Engine, oam: &[u8], line: u8, n: usize) -> Option<Stop>
+fn needs_of_object(
+    which: Engine,
+    engine: &EngineRegisters,
+    oam: &[u8],
+    line: u8,
+    n: usize,
+) -> Option<Stop>
     requires oam { length oam.now ≡ 1024 }
     requires known { n < 128 }
     ensures { result ≡ needs_of_object which engine.now oam.now line n }
@@ -107,7 +120,7 @@ fn needs_of_object(which: u8, engine: &Engine, oam: &[u8], line: u8, n: usize) -
 }
 
 /// What the first object needs that needs anything.
-fn needs_of_objects(which: u8, engine: &Engine, oam: &[u8], line: u8) -> Option<Stop>
+fn needs_of_objects(which: Engine, engine: &EngineRegisters, oam: &[u8], line: u8) -> Option<Stop>
     requires { length oam.now ≡ 1024 }
     ensures { result ≡ needs_of_objects which engine.now oam.now line }
 {
@@ -120,7 +133,12 @@ fn needs_of_objects(which: u8, engine: &Engine, oam: &[u8], line: u8) -> Option<
 }
 
 /// What objects need where layers are shown. `oam` has the bytes of both engines' objects.
-fn needs_of_objects_shown(which: u8, engine: &Engine, oam: &[u8], line: u8) -> Option<Stop>
+fn needs_of_objects_shown(
+    which: Engine,
+    engine: &EngineRegisters,
+    oam: &[u8],
+    line: u8,
+) -> Option<Stop>
     requires { length oam.now ≡ 2048 }
     ensures { result ≡ needs_of_objects_shown which engine.now (object_memory which oam.now) line }
 {
@@ -132,7 +150,13 @@ fn needs_of_objects_shown(which: u8, engine: &Engine, oam: &[u8], line: u8) -> O
 }
 
 /// What an engine's line needs that isn't there, in order.
-fn needs_of_engine(which: u8, power: u16, engine: &Engine, oam: &[u8], line: u8) -> Option<Stop>
+fn needs_of_engine(
+    which: Engine,
+    power: u16,
+    engine: &EngineRegisters,
+    oam: &[u8],
+    line: u8,
+) -> Option<Stop>
     requires { length oam.now ≡ 2048 }
     ensures { result ≡ needs_of_engine which power engine.now oam.now line }
 {
@@ -150,12 +174,18 @@ fn needs_of_engine(which: u8, power: u16, engine: &Engine, oam: &[u8], line: u8)
 }
 
 /// Why the line that is to be drawn stops, if it does: the first need of both engines. `oam` has the bytes of both engines' objects.
-pub fn needs_of_line(power: u16, a: &Engine, b: &Engine, oam: &[u8], line: u8) -> Option<Stop>
+pub fn needs_of_line(
+    power: u16,
+    a: &EngineRegisters,
+    b: &EngineRegisters,
+    oam: &[u8],
+    line: u8,
+) -> Option<Stop>
     requires { length oam.now ≡ 2048 }
     ensures { result ≡ needs_of_line power a.now b.now oam.now line }
 {
     or_else(
-        needs_of_engine(0, power, a, oam, line),
-        needs_of_engine(1, power, b, oam, line),
+        needs_of_engine(Engine::A, power, a, oam, line),
+        needs_of_engine(Engine::B, power, b, oam, line),
     )
 }

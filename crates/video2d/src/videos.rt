@@ -5,9 +5,9 @@ ghost use Rattle.video2d.specs.Kept.{kept_byte};
 ghost use Rattle.video2d.specs.Pictures.{screen_of, line_place};
 ghost use Rattle.video2d.specs.Scans.{scan_due, scan_due_tick, is_drawn_line, framed_by};
 ghost use Rattle.video2d.specs.Statuses.{status_word};
-ghost use Rattle.video2d.specs.Videos.{video_at_boot, status_of, video_shown, video_byte, video_byte_written, video_written, video_stop, drawn_with, video_blanked, video_line_started, video_raised, video_after_event, video_answer};
+ghost use Rattle.video2d.specs.Videos.{video_at_boot, engine_of, status_of, video_shown, video_byte, video_byte_written, video_written, video_stop, drawn_with, video_blanked, video_line_started, video_raised, video_after_event, video_answer};
 
-use crate::engines::Engine;
+use crate::engines::{Engine, EngineRegisters};
 use crate::lines::engine_line;
 use crate::ports::{VideoPort, video_port};
 use crate::scans::Scan;
@@ -39,8 +39,8 @@ pub struct Video {
     scan: Scan,
     nine: Status,
     seven: Status,
-    a: Engine,
-    b: Engine,
+    a: EngineRegisters,
+    b: EngineRegisters,
     power: u16,
     drawn: Screens,
     whole: Screens,
@@ -55,11 +55,11 @@ impl Model for Video {
 }
 
 /// Which screen an engine is sent to: 0 is the upper, 1 the lower.
-fn screen_of(which: u8, power: u16) -> usize
+fn screen_of(which: Engine, power: u16) -> usize
     ensures value { result ≡ screen_of which power }
     ensures small { result ≤ 1 }
 {
-    if (power >> 15 == 1) == (which == 0) {
+    if (power >> 15 == 1) == (which == Engine::A) {
         0
     } else {
         1
@@ -88,8 +88,8 @@ impl Video {
             scan: Scan::new(),
             nine: Status::new(),
             seven: Status::new(),
-            a: Engine::new(),
-            b: Engine::new(),
+            a: EngineRegisters::new(),
+            b: EngineRegisters::new(),
             power: 0,
             drawn,
             whole,
@@ -129,6 +129,16 @@ impl Video {
         }
     }
 
+    #[inline(always)]
+    fn engine(&self, which: Engine) -> &EngineRegisters
+        ensures { result.now ≡ engine_of self.now which }
+    {
+        match which {
+            Engine::A => &self.a,
+            Engine::B => &self.b,
+        }
+    }
+
     /// A processor's DISPSTAT as it is read, both bytes.
     #[inline(always)]
     pub fn status_read(&self, proc: Proc) -> u16
@@ -152,13 +162,7 @@ impl Video {
         match video_port(proc, at) {
             VideoPort::Status(byte) => half_byte(byte, self.status(proc).word(&self.scan)),
             VideoPort::Count(byte) => half_byte(byte, self.scan.line()),
-            VideoPort::Engine(which, at) => {
-                if which == 0 {
-                    self.a.byte(which, at)
-                } else {
-                    self.b.byte(which, at)
-                }
-            }
+            VideoPort::OfEngine(which, at) => self.engine(which).byte(which, at),
             VideoPort::Power(byte) => half_byte(byte, self.power),
             VideoPort::Nothing => 0,
         }
@@ -170,13 +174,7 @@ impl Video {
     {
         match video_port(proc, at) {
             VideoPort::Status(byte) => half_byte(byte, self.status(proc).kept()),
-            VideoPort::Engine(which, at) => {
-                if which == 0 {
-                    self.a.kept(at)
-                } else {
-                    self.b.kept(at)
-                }
-            }
+            VideoPort::OfEngine(which, at) => self.engine(which).kept(at),
             VideoPort::Power(byte) => half_byte(byte, self.power),
             VideoPort::Count(_) => 0,
             VideoPort::Nothing => 0,
@@ -192,13 +190,10 @@ impl Video {
                 Proc::Nine => self.nine.write(byte, value),
                 Proc::Seven => self.seven.write(byte, value),
             },
-            VideoPort::Engine(which, at) => {
-                if which == 0 {
-                    self.a.write_byte(which, at, value);
-                } else {
-                    self.b.write_byte(which, at, value);
-                }
-            }
+            VideoPort::OfEngine(which, at) => match which {
+                Engine::A => self.a.write_byte(which, at, value),
+                Engine::B => self.b.write_byte(which, at, value),
+            },
             VideoPort::Power(byte) => self.power = with_half_byte(byte, self.power, value),
             VideoPort::Count(_) => {}
             VideoPort::Nothing => {}
@@ -242,7 +237,7 @@ impl Video {
     }
 
     /// Draws an engine's line on its screen.
-    fn draw(&mut self, vram: &Vram, palette: &[u8], oam: &[u8], which: u8)
+    fn draw(&mut self, vram: &Vram, palette: &[u8], oam: &[u8], which: Engine)
         requires colours { length palette.now ≡ 2048 }
         requires objects { length oam.now ≡ 2048 }
         requires drawn { IsTrue (is_drawn_line self.old.scan.line) }
@@ -250,9 +245,15 @@ impl Video {
     {
         let line = self.scan.line() as u8;
         let mut row = [0; 256];
-        let engine = if which == 0 { &self.a } else { &self.b };
         engine_line(
-            vram, palette, oam, which, self.power, engine, line, &mut row,
+            vram,
+            palette,
+            oam,
+            which,
+            self.power,
+            self.engine(which),
+            line,
+            &mut row,
         );
         let place = line_place(screen_of(which, self.power), line);
         self.drawn.lay(place, &row);
@@ -267,8 +268,8 @@ impl Video {
         ensures { self.new ≡ video_blanked vram.now palette.now oam.now self.old }
     {
         if self.scan.blanks_drawn() {
-            self.draw(vram, palette, oam, 0);
-            self.draw(vram, palette, oam, 1);
+            self.draw(vram, palette, oam, Engine::A);
+            self.draw(vram, palette, oam, Engine::B);
             self.a.step_points();
             self.b.step_points();
         }

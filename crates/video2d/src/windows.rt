@@ -4,7 +4,8 @@ ghost use Rattle.std.specs.Prelude.{◌≡◌, ◌<◌, ◌≤◌};
 ghost use Rattle.video2d.specs.Windows.{is_between, is_window_on, reaches_line};
 ghost use Rattle.video2d.specs.rows.Composed.{window_line, shown_along};
 
-use crate::engines::Engine;
+use crate::display_registers::DisplayRegister;
+use crate::engines::EngineRegisters;
 
 /// The windows of an engine at a line: whether none is on, which of windows 0 and 1 reach the line, whether the object window is on, the sides of
 /// windows 0 and 1, and what is shown in each window and outside.
@@ -48,7 +49,7 @@ fn is_between(first: u8, second: u8, at: u8) -> bool
 }
 
 /// Whether window n, or the object window where n is 2, is on.
-fn is_window_on(engine: &Engine, n: u8) -> bool
+fn is_window_on(engine: &EngineRegisters, n: u8) -> bool
     requires { n < 3 }
     ensures { result ≡ is_window_on engine.now n }
 {
@@ -56,17 +57,17 @@ fn is_window_on(engine: &Engine, n: u8) -> bool
 }
 
 /// Whether window n, 0 or 1, is on and reaches a line.
-fn reaches_line(engine: &Engine, n: u8, line: u8) -> bool
+fn reaches_line(engine: &EngineRegisters, n: u8, line: u8) -> bool
     requires { n < 2 }
     ensures { result ≡ reaches_line engine.now n line }
 {
-    let top = engine.window_byte(0x45 + 2 * n as usize);
-    let bottom = engine.window_byte(0x44 + 2 * n as usize);
+    let top = engine.window_byte(DisplayRegister::Win0v.first() + 1 + 2 * n as usize);
+    let bottom = engine.window_byte(DisplayRegister::Win0v.first() + 2 * n as usize);
     is_window_on(engine, n) && is_between(top, bottom, line)
 }
 
 /// The windows of an engine at a line.
-pub fn window_line(engine: &Engine, line: u8) -> WindowLine
+pub fn window_line(engine: &EngineRegisters, line: u8) -> WindowLine
     ensures { result ≡ window_line engine.now line }
 {
     WindowLine {
@@ -74,14 +75,14 @@ pub fn window_line(engine: &Engine, line: u8) -> WindowLine
         zero: reaches_line(engine, 0, line),
         one: reaches_line(engine, 1, line),
         objects: is_window_on(engine, 2),
-        zero_left: engine.window_byte(0x41),
-        zero_right: engine.window_byte(0x40),
-        one_left: engine.window_byte(0x43),
-        one_right: engine.window_byte(0x42),
-        in_zero: engine.window_byte(0x48),
-        in_one: engine.window_byte(0x49),
-        in_objects: engine.window_byte(0x4B),
-        outside: engine.window_byte(0x4A),
+        zero_left: engine.window_byte(DisplayRegister::Win0h.first() + 1),
+        zero_right: engine.window_byte(DisplayRegister::Win0h.first()),
+        one_left: engine.window_byte(DisplayRegister::Win0h.first() + 3),
+        one_right: engine.window_byte(DisplayRegister::Win0h.first() + 2),
+        in_zero: engine.window_byte(DisplayRegister::Winin.first()),
+        in_one: engine.window_byte(DisplayRegister::Winin.first() + 1),
+        in_objects: engine.window_byte(DisplayRegister::Winout.first() + 1),
+        outside: engine.window_byte(DisplayRegister::Winout.first()),
     }
 }
 

@@ -13,9 +13,25 @@ mod layers;
 mod nexts;
 mod objects;
 mod ports;
+mod registers;
 mod stage;
 mod stops;
 mod windows;
+
+/// A screen.
+#[derive(Clone, Copy)]
+enum Screen {
+    Upper,
+    Lower,
+}
+
+/// What an event starts: no DMA, that of H-blank, or that of V-blank, with a frame made whole.
+#[derive(Clone, Copy)]
+enum Starts {
+    Nothing,
+    HblankDma,
+    VblankDma,
+}
 
 /// One line of a table.
 #[derive(Clone, Copy)]
@@ -25,15 +41,18 @@ enum Line {
     Reads(Proc, u32, u8),
     /// When the next event is due.
     Due(u64),
-    /// Goes on until the display is in a line, before or after its H-blank.
-    To(u16, bool),
-    /// The next event comes: the bits that it raises at ARM9 and ARM7, whether it triggers V-blank DMA (and makes a frame whole), and H-blank DMA.
-    Event(u32, u32, bool, bool),
+    /// Goes on until the display is in a line, before its H-blank, or in a line's H-blank.
+    ToLine(u16),
+    ToHblank(u16),
+    /// Goes on through line 191 until the frame is whole.
+    NextFrame,
+    /// The next event comes: the bits that it raises at ARM9 and ARM7, and what it starts.
+    Event(u32, u32, Starts),
     /// The next event stops, and nothing changes.
     Stops(LeftKind, u32),
-    /// A pixel of the last whole frame: screen (0 is the upper), line, place, colour.
-    Pixel(usize, usize, usize, u16),
-    /// A bank's control.
+    /// A pixel of the last whole frame: screen, line, place, colour.
+    Pixel(Screen, usize, usize, u16),
+    /// A bank's control, by the bank's letter.
     Bank(u8, u8),
     /// So many words of a space from an address on are written.
     Fill(Space, u32, u32, u32),
@@ -45,7 +64,7 @@ enum Line {
     Objects,
     /// The attributes of an object; engine B's are those from 128 on.
     Object(usize, u16, u16, u16),
-    /// A colour in the memory of palettes: engine A's backgrounds from 0 on, its objects from 100h, engine B's backgrounds from 200h, its objects from 300h.
+    /// A colour in the memory of palettes: engine A's backgrounds from 0 on, its objects from 100h; engine B's from 200h and 300h.
     Colour(usize, u16),
     /// An engine's DISPCNT and BG0CNT to BG3CNT, by the engine's base.
     Layers(u32, u32, u16, u16, u16, u16),

@@ -2,6 +2,22 @@
 //!
 //! A reviewer reads `specs/BankMap` (the bank table, controls, and which cell stands where) and `specs/Cells` (what is read and written).
 //! `specs/paging` has what the code keeps beside bytes and controls; no public call speaks of it. Tests stand in `rows2d_tests`.
+//!
+//! The definition is the bank table as data, to be laid beside GBATEK's: for each bank rows of MST, space, base, what the two bits of OFS
+//! add, and size. From it come a relation (a cell of a bank stands at an address of a space: `Stands`, and so a byte of the 656K is there:
+//! `IsThere`) and the byte at an address of a space (`vram_byte`): the OR over the nine banks of the cell that a bank has there, or 0.
+//! Definitions of layers are written over that byte.
+//!
+//! Proved. `read`: the number whose bytes are those at the addresses from `at` on, aligned down (clause `value`), as narrow as the access
+//! (`narrow`); each is the OR of exactly the cells that stand at its address, taken by remainder of the space's size, and 0 where none
+//! stands (`stands`). `write`: each byte goes into every cell that stands at its address (`value`), and every other cell and all controls
+//! are as before (`changed`). `row`: place i has the byte at the exact sum `at` + i. `set_control`: the control keeps MST, OFS and bit 7 of
+//! what is written. `bank_laws`: 671,744 bytes and nine controls, each with no bits but those that its bank keeps; a cell that stands at an
+//! address of a space lies in a bank that is allotted to ARM7 exactly where the space is ARM7's (`allotted`). `allotted7`, `c`, `d`: bit 0
+//! is 1 exactly where C stands somewhere in ARM7's space, bit 1 where D does. `Vram::new` alone takes memory.
+//!
+//! Only tested: that the table is the console's (for every MST and OFS both ends of each page of the space, with one byte before it and one
+//! past it; textures' MSTs seen nowhere; each space's size), and that `new` succeeds with ample memory.
 #![tactic(auto)]
 
 mod banks;

@@ -7,7 +7,10 @@ from typing import Dict, Optional, Sequence
 
 from nds_tools.words import Untold
 
+# The bound of a run in seconds of processor time, which a busy machine doesn't shorten; and how often so many seconds have to pass by
+# the clock for a run that hangs.
 SECONDS = 20
+MOST_ALARMS = 30
 NAMES = {0: "Done", 2: "Usage", 3: "NoFile", 4: "ReadFault", 5: "WriteFault", 6: "TooLong", 7: "BadHeader", 8: "BadScript", 9: "LeftOut", 10: "BadText", 12: "NoMemory"}
 
 
@@ -41,7 +44,7 @@ class Runner:
                 it.write(data)
 
     def run(self, words: Sequence[str], environment: Optional[Dict[str, str]] = None) -> Answer:
-        """Runs the program with these words, and ends it by SIGALRM after a bound that no small run comes near."""
+        """Runs the program with these words, and ends it after a bound that no small run comes near, which counts as SIGALRM."""
         for it in (self.out, self.note):
             os.ftruncate(it, 0)
             os.lseek(it, 0, os.SEEK_SET)
@@ -54,20 +57,34 @@ class Runner:
         return Answer(self.waited(child), whole(self.out), whole(self.note))
 
     def waited(self, child: int) -> int:
-        """Waits for a run, and kills one that passes its bound: as if by SIGALRM."""
-        late = False
+        """Waits for a run, and kills one that passes its bound, of processor time or, many times longer, by the clock: as if by SIGALRM."""
+        late, alarms = False, 0
 
-        def kill(number: int, frame: object) -> None:
-            nonlocal late
-            late = True
-            os.kill(child, signal.SIGKILL)
+        def look(number: int, frame: object) -> None:
+            nonlocal late, alarms
+            alarms += 1
+            late = processor_time(child) >= SECONDS or alarms >= MOST_ALARMS
+            if late:
+                os.kill(child, signal.SIGKILL)
+            else:
+                signal.alarm(SECONDS)
 
-        before = signal.signal(signal.SIGALRM, kill)
+        before = signal.signal(signal.SIGALRM, look)
         signal.alarm(SECONDS)
         _, status = os.waitpid(child, 0)
         signal.alarm(0)
         signal.signal(signal.SIGALRM, before)
         return -signal.SIGALRM if late else os.waitstatus_to_exitcode(status)
+
+
+def processor_time(child: int) -> float:
+    """Returns how many seconds of processor time a run has taken, and 0 where it has just ended."""
+    try:
+        with open(f"/proc/{child}/stat", encoding="ascii", errors="replace") as it:
+            fields = it.read().rpartition(")")[2].split()
+    except OSError:
+        return 0
+    return (int(fields[11]) + int(fields[12])) / os.sysconf("SC_CLK_TCK")
 
 
 def whole(file: int) -> bytes:

@@ -7,12 +7,15 @@ import tempfile
 from dataclasses import dataclass
 from typing import Dict, List, Optional, Tuple
 
-from nds_tools.hostile.answers import Runner
+from nds_tools.hostile.answers import Answer, Runner
+from nds_tools.hostile.checked import Checked, caught
 from nds_tools.hostile.makers import LOOP
 from nds_tools.words import Untold
 
 NO_MEMORY = 12
 NOTE = b"out of memory\n"
+# How many numbers in a row have to be past a run's growths, before it is taken that there are no more.
+PAST = 4
 # A library before the C library: the call with the number NDS_REFUSE, from 1, of those that take memory answers that there is none. At the end it writes how many there were.
 LIBRARY = r"""
 #define _GNU_SOURCE
@@ -98,9 +101,27 @@ def refused(runner: Runner, words: List[str], made: str, folder: str) -> Told:
     wrong = [] if good.status == 0 else [f"without a refusal: {good.name()}"]
     for number in range(1, growths + 1):
         answer = runner.run(words, {**environment, "NDS_REFUSE": str(number)})
-        if answer.status != NO_MEMORY or answer.out or answer.note not in (NOTE, b""):
-            wrong.append(f"growth {number}: {answer.name()}, {len(answer.out)} bytes, {answer.note!r}")
+        wrong += wrong_of(number, answer)
     return Told(" ".join(words), growths, wrong)
+
+
+def wrong_of(number: int, answer: Answer) -> List[str]:
+    """Returns what is wrong with the answer of a run of which this growth was refused."""
+    right = answer.status == NO_MEMORY and not answer.out and answer.note in (NOTE, b"")
+    return [] if right else [f"growth {number}: {answer.name()}, {len(answer.out)} bytes, {answer.note[-300:]!r}"]
+
+
+def refused_by(checked: Checked, runner: Runner, words: List[str]) -> Told:
+    """Refuses each growth of a command in turn, by the number in the program itself; those past the last leave the run as it is."""
+    answers: List[Answer] = []
+    past = 0
+    while past < PAST:
+        checked.refuse(len(answers) + 1)
+        answers.append(runner.run(words))
+        past = past + 1 if answers[-1].status == 0 else 0
+    growths = len(answers) - PAST
+    wrong = [text for number, it in enumerate(answers[:growths], 1) for text in wrong_of(number, it)]
+    return Told(" ".join(words), growths, wrong or ([] if growths else ["no growth was refused"]))
 
 
 def limited(runner: Runner, words: List[str]) -> Told:
@@ -135,13 +156,24 @@ def memory(program: str) -> bool:
     runner = Runner(program)
     files, asked = commands()
     runner.put(files)
-    right = True
     with tempfile.TemporaryDirectory() as folder:
         made = library(folder)
-        for words in asked:
-            for told in (refused(runner, words, made, folder), limited(runner, words)):
-                print(f"{told.growths:5} refusals, {len(told.wrong)} wrong: {told.name}", flush=True)
-                right = right and not told.wrong
-                for it in told.wrong:
-                    print(f"      {it}")
-    return right
+        return all([tell(it) for words in asked for it in (refused(runner, words, made, folder), limited(runner, words))])
+
+
+def checked_memory() -> bool:
+    """Tries all commands of the program that `rt try` makes, and tells of each. Returns whether nothing was wrong."""
+    files, asked = commands()
+    with tempfile.TemporaryDirectory() as folder:
+        checked = caught(folder)
+        runner = Runner(checked.path)
+        runner.put(files)
+        return all([tell(refused_by(checked, runner, words)) for words in asked])
+
+
+def tell(told: Told) -> bool:
+    """Tells what refusals came to. Returns whether nothing was wrong."""
+    print(f"{told.growths:5} refusals, {len(told.wrong)} wrong: {told.name}", flush=True)
+    for it in told.wrong:
+        print(f"      {it}", flush=True)
+    return not told.wrong

@@ -36,6 +36,29 @@ fn data_processing_is_an_operation_of_its_form(rt: HostRuntime) -> Result<(), Al
         Nzcv(0b0110), R(14, 0x8000_0001),               Arm(0xE08E_E00E), Is(AddRegister), To(LR, 2),          Near, Both(1, 1), // add r14, r14, r14
         Nzcv(0b1001), R(2, 0xF), R(14, 0xF00),          Arm(0xE18E_D002), Is(OrrRegister), To(SP, 0xF0F),      Near, Both(1, 1), // orr r13, r14, r2
         Nzcv(0b1111), R(1, 0xFFFF_FFFF), R(14, 0xFF00), Arm(0xE1C1_000E), Is(BicRegister), To(0, 0xFFFF_00FF), Near, Both(1, 1), // bic r0, r1, r14
+        // of operands with bits alone and in common each has a result of its own
+        Nzcv(0b1111), R(1, 0xFF0), Arm(0xE201_00FF), Is(AndNumber),    To(0, 0xF0),         Near, Both(1, 1), // and r0, r1, #0xff
+        Nzcv(0b1111), R(1, 0xFF0), Arm(0xE221_00FF), Is(EorNumber),    To(0, 0xF0F),        Near, Both(1, 1), // eor r0, r1, #0xff
+        Nzcv(0b1111), R(1, 0xFF0), Arm(0xE241_00FF), Is(SubNumber),    To(0, 0xEF1),        Near, Both(1, 1), // sub r0, r1, #0xff
+        Nzcv(0b1111), R(1, 0xFF0), Arm(0xE261_00FF), Is(RsbNumber),    To(0, 0xFFFF_F10F),  Near, Both(1, 1), // rsb r0, r1, #0xff
+        Nzcv(0b1111), R(1, 0xFF0), Arm(0xE281_00FF), Is(AddNumber),    To(0, 0x10EF),       Near, Both(1, 1), // add r0, r1, #0xff
+        Nzcv(0b1111), R(1, 0xFF0), Arm(0xE381_00FF), Is(OrrNumber),    To(0, 0xFFF),        Near, Both(1, 1), // orr r0, r1, #0xff
+        Nzcv(0b1111), R(1, 0xFF0), Arm(0xE3C1_00FF), Is(BicNumber),    To(0, 0xF00),        Near, Both(1, 1), // bic r0, r1, #0xff
+        Nzcv(0b1111), R(1, 0xFF0), R(2, 0xFF), Arm(0xE001_0002), Is(AndRegister),  To(0, 0xF0),         Near, Both(1, 1), // and r0, r1, r2
+        Nzcv(0b1111), R(1, 0xFF0), R(2, 0xFF), Arm(0xE021_0002), Is(EorRegister),  To(0, 0xF0F),        Near, Both(1, 1), // eor r0, r1, r2
+        Nzcv(0b1111), R(1, 0xFF0), R(2, 0xFF), Arm(0xE041_0002), Is(SubRegister),  To(0, 0xEF1),        Near, Both(1, 1), // sub r0, r1, r2
+        Nzcv(0b1111), R(1, 0xFF0), R(2, 0xFF), Arm(0xE061_0002), Is(RsbRegister),  To(0, 0xFFFF_F10F),  Near, Both(1, 1), // rsb r0, r1, r2
+        Nzcv(0b1111), R(1, 0xFF0), R(2, 0xFF), Arm(0xE081_0002), Is(AddRegister),  To(0, 0x10EF),       Near, Both(1, 1), // add r0, r1, r2
+        Nzcv(0b1111), R(1, 0xFF0), R(2, 0xFF), Arm(0xE181_0002), Is(OrrRegister),  To(0, 0xFFF),        Near, Both(1, 1), // orr r0, r1, r2
+        Nzcv(0b1111), R(1, 0xFF0), R(2, 0xFF), Arm(0xE1C1_0002), Is(BicRegister),  To(0, 0xF00),        Near, Both(1, 1), // bic r0, r1, r2
+        Nzcv(0b1111), R(1, 0xFF0), R(2, 0xFF), Arm(0xE251_00FF), Is(SubsNumber),   To(0, 0xEF1),        Flags(0b0010), Near, Both(1, 1), // subs r0, r1, #0xff
+        Nzcv(0b1111), R(1, 0xFF0), R(2, 0xFF), Arm(0xE291_00FF), Is(AddsNumber),   To(0, 0x10EF),       Flags(0b0000), Near, Both(1, 1), // adds r0, r1, #0xff
+        Nzcv(0b1111), R(1, 0xFF0), R(2, 0xFF), Arm(0xE011_0002), Is(AndsRegister), To(0, 0xF0),         Flags(0b0011), Near, Both(1, 1), // ands r0, r1, r2
+        Nzcv(0b1111), R(1, 0xFF0), R(2, 0xFF), Arm(0xE031_0002), Is(EorsRegister), To(0, 0xF0F),        Flags(0b0011), Near, Both(1, 1), // eors r0, r1, r2
+        Nzcv(0b1111), R(1, 0xFF0), R(2, 0xFF), Arm(0xE051_0002), Is(SubsRegister), To(0, 0xEF1),        Flags(0b0010), Near, Both(1, 1), // subs r0, r1, r2
+        Nzcv(0b1111), R(1, 0xFF0), R(2, 0xFF), Arm(0xE091_0002), Is(AddsRegister), To(0, 0x10EF),       Flags(0b0000), Near, Both(1, 1), // adds r0, r1, r2
+        Nzcv(0b1111), R(1, 0xFF0), R(2, 0xFF), Arm(0xE191_0002), Is(OrrsRegister), To(0, 0xFFF),        Flags(0b0011), Near, Both(1, 1), // orrs r0, r1, r2
+        Nzcv(0b1111), R(1, 0xFF0), R(2, 0xFF), Arm(0xE1D1_0002), Is(BicsRegister), To(0, 0xF00),        Flags(0b0011), Near, Both(1, 1), // bics r0, r1, r2
         // a difference has C where nothing is borrowed, as with 0, and V where the signs part
         Nzcv(0b0000), R(14, 5),
             Arm(0xE25E_0000), Is(SubsNumber),   To(0, 5), Flags(0b0010),            Near, Both(1, 1), // subs r0, r14, #0x0

@@ -1,8 +1,13 @@
 //! What the lines are tried on.
 
-ghost use Rattle.std.specs.Prelude.{◌≤◌};
+ghost use Rattle.std.specs.Prelude.{◌<◌, ◌≤◌};
 
-use super::{Line, Which};
+use super::commands::{
+    BEGIN_VTXS, BOX_TEST, COLOR, DIF_AMB, LIGHT_COLOR, LIGHT_VECTOR, MTX_LOAD_4X4, MTX_MODE,
+    NORMAL, PLTT_BASE, POLYGON_ATTR, POS_TEST, SHININESS, SPE_EMI, SWAP_BUFFERS, TEXCOORD,
+    TEXIMAGE_PARAM, VIEWPORT, VTX_16, VTX_DIFF,
+};
+use super::{Line, Seen, Which};
 use ds_base::Tick;
 use gx_geometry::{Geometry, Polygon, Vertex};
 use gx_matrix::{GeometryCommand, Matrix};
@@ -29,9 +34,9 @@ impl Rig {
     pub fn seen(&mut self, alloc: Global, line: Line) -> Result<(u32, u32), AllocError> {
         match line {
             Line::New => *self = Rig::new(alloc)?,
-            Line::Side(attributes, turned, edge, made) => {
+            Line::Side(attributes, side, made) => {
                 *self = Rig::new(alloc)?;
-                let seen = self.side(attributes, turned, edge);
+                let seen = self.side(attributes, side);
                 return Ok(((seen != made) as u32, 0));
             }
             Line::Across(kind, earlier, later, made) => {
@@ -41,10 +46,8 @@ impl Rig {
             }
             Line::Lit(attributes, vector, light, first, second, normal, colour) => {
                 *self = Rig::new(alloc)?;
-                return Ok((
-                    self.lit(attributes, [vector, light, first, second, normal]),
-                    colour as u32,
-                ));
+                let words = [tens(vector), light, first, second, tens(normal)];
+                return Ok((self.lit(attributes, words), colour as u32));
             }
             Line::Mapped(mode, normal, x, s, t) => {
                 *self = Rig::new(alloc)?;
@@ -62,6 +65,9 @@ impl Rig {
             Line::Give(code, word) => (self.run(code, &[word]), 1),
             Line::Pair(code, a, b) => (self.run(code, &[a, b]), 1),
             Line::Triple(code, a, b, c) => (self.run(code, &[a, b, c]), 1),
+            Line::Tens(code, x, y, z) => (self.run(code, &[tens([x, y, z])]), 1),
+            Line::Vtx16(x, y, z) => (self.run(VTX_16, &[halves(x, y), halves(z, 0)]), 1),
+            Line::PosTest(x, y, z) => (self.run(POS_TEST, &[halves(x, y), halves(z, 0)]), 1),
             Line::Four(a, b, c, d) => (self.wait(&[a, b, c, d]), 1),
             Line::Three(a, b, c) => (self.wait(&[a, b, c]), 1),
             Line::Many(code) => (self.many(code), 1),
@@ -87,15 +93,18 @@ impl Rig {
             Line::Stack(code, word, level, error, diagonal) => {
                 return (self.stack(code, word, level, error, diagonal), 0);
             }
-            Line::Box(a, b, c, inside) => {
-                return (
-                    2 * self.run(0x70, &[a, b, c]) + self.engine.results().inside as u32,
-                    2 + inside as u32,
-                );
-            }
+            Line::Box(at, sides, inside) => return (self.boxed(at, sides), 2 + inside as u32),
             asked => return self.asked(asked),
         }
         (0, 0)
+    }
+
+    /// A box test: 2, and 1 more where the box is seen.
+    fn boxed(&mut self, at: [i16; 3], sides: [i16; 3]) -> u32 {
+        let [x, y, z] = at;
+        let [width, height, depth] = sides;
+        let words = [halves(x, y), halves(z, width), halves(height, depth)];
+        2 * self.run(BOX_TEST, &words) + self.engine.results().inside as u32
     }
 
     /// What is asked of the matrices and the list of commands.
@@ -285,59 +294,64 @@ impl Rig {
     }
 
     fn begun(&mut self, attributes: u32, kind: u32) {
-        let _set = self.run(0x29, &[attributes]);
-        let _begun = self.run(0x40, &[kind]);
+        let _set = self.run(POLYGON_ATTR, &[attributes]);
+        let _begun = self.run(BEGIN_VTXS, &[kind]);
     }
 
     fn vertex(&mut self, x: u32, y: u32) {
-        let _given = self.run(0x23, &[x % 0x1_0000 + y % 0x1_0000 * 0x1_0000, 0]);
+        let _given = self.run(VTX_16, &[x % 0x1_0000 + y % 0x1_0000 * 0x1_0000, 0]);
     }
 
     /// The colour, the texture parameter and the viewport come in the middle of the triangle. How many polygons there are after a swap.
-    fn side(&mut self, attributes: u32, turned: bool, edge: bool) -> usize {
+    fn side(&mut self, attributes: u32, side: Seen) -> usize {
         self.begun(attributes, 0);
-        let _colour = self.run(0x20, &[0x1F]);
-        let _texture = self.run(0x2A, &[7]);
-        let _palette = self.run(0x2B, &[0xFFFF_FFFF]);
-        let (x, y) = if turned { (0, 0x1000) } else { (0x1000, 0) };
+        let _colour = self.run(COLOR, &[0x1F]);
+        let _texture = self.run(TEXIMAGE_PARAM, &[7]);
+        let _palette = self.run(PLTT_BASE, &[0xFFFF_FFFF]);
+        let (x, y) = match side {
+            Seen::Back => (0, 0x1000),
+            Seen::Front | Seen::Edge => (0x1000, 0),
+        };
         self.vertex(0, 0);
         self.vertex(x, y);
-        let _viewport = self.run(0x60, &[0xBFFF_0000]);
-        let _texture = self.run(0x2A, &[5]);
-        if edge {
-            self.vertex(0, 0);
-        } else {
-            self.vertex(y, x);
+        let _viewport = self.run(VIEWPORT, &[0xBFFF_0000]);
+        let _texture = self.run(TEXIMAGE_PARAM, &[5]);
+        match side {
+            Seen::Edge => self.vertex(0, 0),
+            Seen::Front | Seen::Back => self.vertex(y, x),
         }
-        let _parameter = self.run(0x50, &[1]);
+        let _parameter = self.run(SWAP_BUFFERS, &[1]);
         self.engine.swap(Tick(77));
         self.engine.lists().polygons().len()
     }
 
     fn across(&mut self, kind: u32, earlier: u32, later: u32) -> usize {
         self.begun(0xC0, kind);
-        let _set = self.run(0x29, &[0]);
-        let _before = self.repeat(earlier, 0x28, 0);
+        let _set = self.run(POLYGON_ATTR, &[0]);
+        let _before = self.repeat(earlier, VTX_DIFF, 0);
         self.engine.swap(Tick(1));
-        let _after = self.repeat(later, 0x28, 0);
+        let _after = self.repeat(later, VTX_DIFF, 0);
         self.engine.swap(Tick(2));
         self.engine.lists().polygons().len()
     }
 
-    /// The table has 100 at place 127 and 50 at place 31. After the colour is seen, 30h with bit 15 gives another at once.
+    /// The table has 100 at place 127 and 50 at place 31. After the colour is seen, DIF_AMB with bit 15 gives another at once.
     fn lit(&mut self, attributes: u32, words: [u32; 5]) -> u32 {
         let mut table = [0; 32];
         table[31] = 100 << 24;
         table[7] = 50 << 24;
-        let _table = self.run(0x34, &table);
+        let _table = self.run(SHININESS, &table);
         self.begun(attributes, 0);
-        for (number, code) in [0x32, 0x33, 0x30, 0x31, 0x21].iter().enumerate() {
+        for (number, code) in [LIGHT_VECTOR, LIGHT_COLOR, DIF_AMB, SPE_EMI, NORMAL]
+            .iter()
+            .enumerate()
+        {
             let _given = self.run(*code, &[words[number % 5]]);
         }
-        let _vertex = self.run(0x28, &[0]);
+        let _vertex = self.run(VTX_DIFF, &[0]);
         let colour = self.last().colour as u32;
-        let _diffuse = self.run(0x30, &[0xFFFF]);
-        let _vertex = self.run(0x28, &[0]);
+        let _diffuse = self.run(DIF_AMB, &[0xFFFF]);
+        let _vertex = self.run(VTX_DIFF, &[0]);
         if self.last().colour == 0x7FFF {
             colour
         } else {
@@ -347,9 +361,9 @@ impl Rig {
 
     /// Without a transform the coordinates stay as they were.
     fn mapped(&mut self, mode: u32, normal: u32, x: u32) -> u32 {
-        let _mode = self.run(0x10, &[3]);
+        let _mode = self.run(MTX_MODE, &[3]);
         let _loaded = self.run(
-            0x16,
+            MTX_LOAD_4X4,
             &[
                 0x2000,
                 0x1000,
@@ -369,12 +383,12 @@ impl Rig {
                 0,
             ],
         );
-        let _texture = self.run(0x2A, &[mode % 4 * 0x4000_0000]);
-        let _coordinates = self.run(0x22, &[0xFFEC_000A]);
-        let _normal = self.run(0x21, &[normal]);
+        let _texture = self.run(TEXIMAGE_PARAM, &[mode % 4 * 0x4000_0000]);
+        let _coordinates = self.run(TEXCOORD, &[0xFFEC_000A]);
+        let _normal = self.run(NORMAL, &[normal]);
         self.vertex(x, 0);
         let first = self.last();
-        let _texture = self.run(0x2A, &[0]);
+        let _texture = self.run(TEXIMAGE_PARAM, &[0]);
         self.vertex(0, 0);
         let second = self.last();
         if first.s == second.s && first.t == second.t {
@@ -388,6 +402,18 @@ impl Rig {
 /// Two signed halves as a word.
 fn halves(low: i16, high: i16) -> u32 {
     low.cast_unsigned() as u32 + 0x1_0000 * high.cast_unsigned() as u32
+}
+
+/// Three signed numbers of ten bits as a word.
+fn tens(numbers: [i16; 3]) -> u32 {
+    let [x, y, z] = numbers;
+    ten(x) + 0x400 * ten(y) + 0x10_0000 * ten(z)
+}
+
+fn ten(number: i16) -> u32
+    ensures { result < 0x400 }
+{
+    number.cast_unsigned() as u32 % 0x400
 }
 
 fn number_of(code: u8, parameters: u8, clocks: u16) -> u32 {

@@ -9,6 +9,7 @@ use Rattle.video2d.specs.Effects.{effect}
 use Rattle.video2d.specs.Engines.{EngineState, bldcnt, dispcnt}
 use Rattle.video2d.specs.Layers.{SeenLayer, seen_background, seen_objects}
 use Rattle.video2d.specs.Pictures.{display_of}
+use Rattle.video2d.specs.declared.engines.Engine.{Engine}
 
 -- How the code draws a line where the engine's registers leave the layers as they are: backgrounds are laid over the backdrop, from back to
 -- front. No public clause speaks of it.
@@ -31,10 +32,10 @@ laid_at p [] behind = behind
 laid_at p (s ∷ layers) behind = over_at p s (laid_at p layers behind)
 
 -- the backgrounds at a place
-abbrev pub background_seen : Banks → List ℕ → ℕ → EngineState → ℕ → ℕ → ℕ → SeenLayer
+abbrev pub background_seen : Banks → List ℕ → Engine → EngineState → ℕ → ℕ → ℕ → SeenLayer
 background_seen v colours which e line n x = seen_background e n (background_pixel v colours which e line n x)
 
-abbrev pub backgrounds_seen : Banks → List ℕ → ℕ → EngineState → ℕ → ℕ → List SeenLayer
+abbrev pub backgrounds_seen : Banks → List ℕ → Engine → EngineState → ℕ → ℕ → List SeenLayer
 backgrounds_seen v colours which e line x =
     background_seen v colours which e line 0 x
     ∷ background_seen v colours which e line 1 x
@@ -42,7 +43,7 @@ backgrounds_seen v colours which e line x =
     ∷ background_seen v colours which e line 3 x
     ∷ []
 
-abbrev pub plain_pixel : Banks → List ℕ → ℕ → EngineState → ℕ → ℕ → ℕ
+abbrev pub plain_pixel : Banks → List ℕ → Engine → EngineState → ℕ → ℕ → ℕ
 plain_pixel v colours which e line x =
     let layers = backgrounds_seen v colours which e line x in
     laid_at 0 layers (laid_at 1 layers (laid_at 2 layers (laid_at 3 layers (palette_colour colours 0 % 2 ^ 15))))
@@ -52,14 +53,14 @@ plain_pixel v colours which e line x =
 abbrev pub is_calm : EngineState → Bool
 is_calm e = (bits 13 3 (dispcnt e) == 0) && ((effect e == 0) && (bits 8 6 (bldcnt e) == 0))
 
-abbrev pub calm_layers : Banks → List ℕ → ℕ → EngineState → ℕ → ObjectPixel → ℕ → List SeenLayer
+abbrev pub calm_layers : Banks → List ℕ → Engine → EngineState → ℕ → ObjectPixel → ℕ → List SeenLayer
 calm_layers v colours which e line objects x = seen_objects objects ∷ backgrounds_seen v colours which e line x
 
-unfoldable pub calm_over : Banks → List ℕ → ℕ → EngineState → ℕ → ℕ → ObjectPixel → ℕ
+unfoldable pub calm_over : Banks → List ℕ → Engine → EngineState → ℕ → ℕ → ObjectPixel → ℕ
 calm_over v colours which e line x objects =
     let layers = calm_layers v colours which e line objects x in
     laid_at 0 layers (laid_at 1 layers (laid_at 2 layers (laid_at 3 layers (palette_colour colours 0 % 2 ^ 15))))
 
-abbrev pub calm_pixel : Banks → List ℕ → List ℕ → List ℕ → ℕ → EngineState → ℕ → ℕ → ℕ
+abbrev pub calm_pixel : Banks → List ℕ → List ℕ → List ℕ → Engine → EngineState → ℕ → ℕ → ℕ
 calm_pixel v colours object_colours oam which e line x =
     calm_over v colours which e line x (object_pixel v object_colours oam (display_of which e) line x)

@@ -2,7 +2,7 @@
 
 ghost use Rattle.std.specs.Prelude.{◌<◌};
 
-use super::Line;
+use super::{Line, Screen, Starts};
 use ds_base::{Proc, Space, Stop, Width};
 use std::alloc::{AllocError, Global};
 use video2d::{Shown, Video};
@@ -44,7 +44,7 @@ impl Stage {
     pub fn seen(&mut self, line: Line) -> (u64, u64) {
         match line {
             Line::Write(proc, at, width, value) => self.video.port_write(proc, at, width, value),
-            Line::Bank(bank, value) => self.vram.set_control(bank % 9, value),
+            Line::Bank(bank, value) => self.vram.set_control(bank.wrapping_sub(b'A') % 9, value),
             Line::Fill(space, at, count, value) => self.fill(space, at % 0x100000, count, value),
             Line::Count(space, at) => self.count(space, at % 0x100000),
             Line::Backgrounds => self.backgrounds(),
@@ -68,11 +68,10 @@ impl Stage {
         match line {
             Line::Reads(proc, at, byte) => (self.video.port_read(proc, at) as u64, byte as u64),
             Line::Due(tick) => (self.video.due().0, tick),
-            Line::To(line, blanked) => (self.go_to(line, blanked), 0),
-            Line::Event(nine, seven, vblank, hblank) => (
-                self.event_faults([nine, seven], [vblank, hblank]),
-                0,
-            ),
+            Line::ToLine(line) => (self.go_to(line, false), 0),
+            Line::ToHblank(line) => (self.go_to(line, true), 0),
+            Line::NextFrame => (self.next_frame(), 0),
+            Line::Event(nine, seven, starts) => (self.event_faults([nine, seven], starts), 0),
             Line::Stops(kind, value) => (self.stop_faults(Stop { kind, value }), 0),
             Line::Pixel(screen, line, x, colour) => (self.pixel(screen, line, x), colour as u64),
             _ => (0, 1),
@@ -108,15 +107,25 @@ impl Stage {
         2
     }
 
+    /// 0 where the next frame is made whole.
+    fn next_frame(&mut self) -> u64 {
+        match self.go_to(191, true) {
+            0 => self.go_to(192, false),
+            fault => fault,
+        }
+    }
+
     /// How many of the event's answers aren't those.
-    fn event_faults(&mut self, raised: [u32; 2], started: [bool; 2]) -> u64 {
+    fn event_faults(&mut self, raised: [u32; 2], starts: Starts) -> u64 {
+        let vblank = matches!(starts, Starts::VblankDma);
+        let hblank = matches!(starts, Starts::HblankDma);
         match self.event() {
             Some(Ok(shown)) => {
                 (shown.raised.nine != raised[0]) as u64
                     + (shown.raised.seven != raised[1]) as u64
-                    + (shown.vblank != started[0]) as u64
-                    + (shown.frame != started[0]) as u64
-                    + (shown.hblank != started[1]) as u64
+                    + (shown.vblank != vblank) as u64
+                    + (shown.frame != vblank) as u64
+                    + (shown.hblank != hblank) as u64
             }
             _ => 8,
         }
@@ -136,8 +145,12 @@ impl Stage {
         }
     }
 
-    fn pixel(&self, screen: usize, line: usize, x: usize) -> u64 {
-        let place = 256 * (192 * (screen % 2) + line % 192) + x % 256;
+    fn pixel(&self, screen: Screen, line: usize, x: usize) -> u64 {
+        let first = match screen {
+            Screen::Upper => 0,
+            Screen::Lower => 192,
+        };
+        let place = 256 * (first + line % 192) + x % 256;
         match self.video.frame().get(place) {
             Some(pixel) => *pixel as u64,
             None => 0x1_0000,

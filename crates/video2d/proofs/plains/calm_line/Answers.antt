@@ -1,6 +1,7 @@
 use Rattle.std.proofs.Common.{ℕ, ◌∙◌, ap}
 use Rattle.obj2d.specs.declared.layers.ObjectPixel.{ObjectPixel}
 use Rattle.obj2d.specs.ObjectLayer.{object_pixel, plainly}
+use Rattle.video2d.specs.Engines.{engine_number}
 use Rattle.video2d.specs.rows.Plain.{calm_over}
 use Rattle.video2d.proofs.PlainLemmas.{calm_plainly}
 use Rattle.video2d.proofs.plains.calm_line.Goals as goal
@@ -8,9 +9,11 @@ use Rattle.video2d.proofs.plains.calm_line.Goals as goal
 pub returns : goal.returns
 returns c = λ x small.
     let a = c.args in
-    let pixel : ℕ → ObjectPixel = λ k. object_pixel a.vram.now a.object_colours.now a.oam.now (record { engine = a.which; control = k }) a.line x in
+    let pixel : ℕ → ℕ → ObjectPixel =
+    λ n k. object_pixel a.vram.now a.object_colours.now a.oam.now (record { engine = n; control = k }) a.line x in
     c.lay_turns.ensures x small
     ∙ ap (calm_over a.vram.now a.colours.now a.which a.engine.now a.line x)
     (c.shown_row.ensures x small
-    ∙ ap (λ (k : ℕ). plainly (pixel k)) c.dispcnt-control.ensures)
+    ∙ ap (λ n. plainly (pixel n c.dispcnt-control.result)) c.number.ensures
+    ∙ ap (λ k. plainly (pixel (engine_number a.which) k)) c.dispcnt-control.ensures)
     ∙ calm_plainly a.vram.now a.colours.now a.which a.engine.now a.line x _

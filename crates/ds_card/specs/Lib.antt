@@ -1,0 +1,3 @@
+pub mod CardPorts
+pub mod Cards
+pub mod Transfers

@@ -1,0 +1,39 @@
+use Rattle.std.specs.Prelude.{ℕ, ◌≡◌, List, [], ◌∷◌, true, false, map, take, length, Option, Some, None, IsSome}
+use Rattle.std.specs.List.{range_with_len}
+use Rattle.ds_base.specs.declared.memories.Width.{Width}
+use Rattle.ds_base.specs.declared.processors.Proc.{Proc}
+use Rattle.ds_base.specs.declared.ticks.Tick.{Tick}
+use Rattle.ds_card.specs.CardPorts.{block_words}
+use Rattle.ds_card.specs.Cards.{CardState, IsCard, begun, card_after_event, card_after_read, card_due, card_taken, card_word, card_written, is_busy}
+
+-- THE WORDS OF A TRANSFER, in order, and that its starter takes these and no others.
+
+-- the words of a transfer by the card's command and block, over a cartridge's file
+unfoldable pub transfer_words : List ℕ → CardState → List ℕ
+transfer_words file s = map (card_word file s.command) (range_with_len 0 (block_words s.romctrl))
+
+-- what may happen to a card, whoever does it, and the word that the starter takes with it, if it does
+pub data CardHappens (file : List ℕ) (s : CardState) : Option ℕ → CardState → Type 0 where
+  wrote : (proc : Proc) (at : ℕ) (width : Width) (value : ℕ) (now : Tick) → CardHappens file s None (card_written s proc at width value now)
+  was_read : (proc : Proc) (at : ℕ) (width : Width) (now : Tick) → CardHappens file s (card_taken s proc at width) (card_after_read s proc at width now)
+  came : IsSome (card_due s) → CardHappens file s None (card_after_event file s)
+
+abbrev pub and_taken : Option ℕ → List ℕ → List ℕ
+and_taken None words = words
+and_taken (Some word) words = word ∷ words
+
+-- one after another while a transfer is busy, to at most its end, with the words that are taken, in order
+pub data CardGoesOn (file : List ℕ) : CardState → List ℕ → CardState → Type 0 where
+  stays : (s : CardState) → CardGoesOn file s [] s
+  goes_on : (s next last : CardState) (word : Option ℕ) (words : List ℕ)
+      → is_busy s ≡ true → CardHappens file s word next → CardGoesOn file next words last → CardGoesOn file s (and_taken word words) last
+
+-- the words that were taken from a transfer's start on are the first of its words, and all of them where it has ended
+pub record TakesInOrder (file : List ℕ) (s last : CardState) (words : List ℕ) : Type 0 where
+  pub first : words ≡ take (length words) (transfer_words file s)
+  pub whole : is_busy last ≡ false → words ≡ transfer_words file s
+
+abbrev pub TransfersInOrder : Type 0
+TransfersInOrder =
+    (file : List ℕ) (s last : CardState) (words : List ℕ) (proc : Proc) (now : Tick)
+    → IsCard s → s.transfer ≡ Some (begun proc now) → CardGoesOn file s words last → TakesInOrder file s last words

@@ -1,0 +1,387 @@
+//! The card, and the calls of its users.
+
+ghost use Rattle.std.specs.Prelude.{◌≡◌, ◌≤◌, ◌+◌, ◌^◌, IsSome, Some, None, slice_index_or};
+ghost use Rattle.ds_base.specs.Schedules.{IsEarly, Reschedules};
+ghost use Rattle.ds_base.specs.Numbers.{value_by, width_bytes};
+ghost use Rattle.ds_card.specs.CardPorts.{auxspicnt_at, kept_auxspicnt, overwritten};
+ghost use Rattle.ds_card.specs.Cards.{IsCard, IsTaking, card_at_boot, card_refusal, card_written, card_value, card_after_read, card_byte, card_word, read_raised, card_due, card_starter, card_after_event, due_after, end_interrupt, event_readies, event_raised, is_known, is_ready, last_raised, none_raised, ports_written, raised_at, taken_by};
+
+use crate::ports;
+use ds_base::{Interrupt, LeftKind, Proc, Raised, Stop, Tick, Width};
+use std::marker::Model;
+
+/// The next word of a transfer.
+#[derive(Clone, Copy, PartialEq, Eq)]
+pub enum NextWord {
+    /// It is ready from this tick on.
+    Due(Tick),
+    /// It is ready to be taken.
+    Ready(u32),
+}
+
+/// A transfer that is busy.
+#[derive(Clone, Copy, PartialEq, Eq)]
+pub struct Transfer {
+    /// The processor that started it, which alone takes its words.
+    pub starter: Proc,
+    /// How many words were taken.
+    pub taken: u32,
+    /// The next one.
+    pub next: NextWord,
+}
+
+/// What a read gives.
+#[derive(Clone, Copy, PartialEq, Eq)]
+pub struct CardRead {
+    /// The value, below 2^(8 bytes of its width).
+    pub value: u32,
+    /// The interrupt of a transfer that ends with it.
+    pub raised: Raised,
+}
+
+/// What the card's event makes.
+#[derive(Clone, Copy, PartialEq, Eq)]
+pub struct CardDone {
+    /// Whether a word is ready, for which the starter's DMA waits.
+    pub ready: bool,
+    /// The interrupt of a transfer that ends with it.
+    pub raised: Raised,
+}
+
+/// The card's port. Contracts see its registers' bytes as they are kept, and the transfer while one is busy.
+#[derive(Drop)]
+pub struct Card {
+    nine: [u8; 2],
+    seven: [u8; 2],
+    romctrl: [u8; 4],
+    command: [u8; 8],
+    transfer: Option<Transfer>,
+}
+
+impl Model for Card {
+    ghost use Rattle.ds_card.specs.Cards.{CardState, IsCard};
+
+    ghost Value = { CardState };
+
+    ghost view = { λ c. record { nine = c.nine; seven = c.seven; romctrl = c.romctrl; command = c.command; transfer = c.transfer } };
+
+    ghost invariant = { λ c. IsCard (record { nine = c.nine; seven = c.seven; romctrl = c.romctrl; command = c.command; transfer = c.transfer }) };
+}
+
+impl Card {
+    /// The card at boot: all registers 0, and no transfer.
+    pub fn new() -> Card
+        ensures { result ≡ card_at_boot }
+    {
+        Card {
+            nine: [0; 2],
+            seven: [0; 2],
+            romctrl: [0; 4],
+            command: [0; 8],
+            transfer: None,
+        }
+    }
+
+    /// When its event comes, None exactly where no transfer is busy or a word is ready.
+    pub fn due(&self) -> Option<Tick>
+        ensures { result ≡ card_due self.now }
+    {
+        match self.transfer {
+            Some(
+                Transfer {
+                    next: NextWord::Due(tick),
+                    ..
+                },
+            ) => Some(tick),
+            _ => None,
+        }
+    }
+
+    /// The processor that started the transfer, None exactly where none is busy.
+    pub fn starter(&self) -> Option<Proc>
+        ensures { result ≡ card_starter self.now }
+    {
+        self.transfer.map(|it| it.starter)
+    }
+
+    /// A processor writes at an offset above 4000000h, aligned down to the width. A write that covers ROMCTRL's top byte and sets bit 31
+    /// starts a transfer for the writer, where none is busy. It answers the stop exactly where its command is left out; then all stays as
+    /// it was.
+    pub fn write(
+        &mut self,
+        proc: Proc,
+        at: u32,
+        width: Width,
+        value: u32,
+        now: Tick,
+    ) -> Option<Stop>
+        requires { IsEarly (Some now) }
+        ensures answer { result ≡ card_refusal self.old at width value }
+        ensures state { self.new ≡ card_written self.old proc at width value now }
+        ensures schedule { Reschedules now (card_due self.old) (card_due self.new) }
+    {
+        let at = ports::aligned(width, at);
+        let mut raw = self.romctrl;
+        ports::overwrite(&mut raw, ports::ROMCTRL, width, at, value);
+        let starting = self.transfer.is_none() && ports::starts(width, at, &raw);
+        if starting && !is_known(self.command[0]) {
+            return Some(Stop {
+                kind: LeftKind::CardTransfer,
+                value: ports::word(&raw),
+            });
+        }
+        self.write_ports(proc, at, width, value);
+        if starting {
+            self.transfer = Some(Transfer {
+                starter: proc,
+                taken: 0,
+                next: due_after(now),
+            });
+        }
+        None
+    }
+
+    /// A processor reads at an offset above 4000000h, aligned down to the width. The starter's read of the data port by a whole word takes
+    /// the word that is ready; any other changes nothing.
+    pub fn read(&mut self, proc: Proc, at: u32, width: Width, now: Tick) -> CardRead
+        requires { IsEarly (Some now) }
+        ensures value { result.value ≡ card_value self.old proc at width }
+        ensures raised { result.raised ≡ read_raised self.old proc at width }
+        ensures state { self.new ≡ card_after_read self.old proc at width now }
+        ensures schedule { Reschedules now (card_due self.old) (card_due self.new) }
+    {
+        let at = ports::aligned(width, at);
+        let shown = CardRead {
+            value: self.shown(proc, at, width),
+            raised: none_raised(),
+        };
+        let Some(transfer) = self.transfer else {
+            return shown;
+        };
+        let NextWord::Ready(word) = transfer.next else {
+            return shown;
+        };
+        if transfer.starter != proc || width != Width::Word || at != ports::DATA {
+            return shown;
+        }
+        CardRead {
+            value: word,
+            raised: self.take(transfer.starter, transfer.taken, now),
+        }
+    }
+
+    /// Its event, for the cartridge's file: the next word is ready, or a transfer without words ends.
+    pub fn event(&mut self, file: &[u8]) -> CardDone
+        requires { IsSome (card_due self.old) }
+        ensures ready { result.ready ≡ event_readies self.old }
+        ensures raised { result.raised ≡ event_raised self.old }
+        ensures state { self.new ≡ card_after_event file.now self.old }
+        ensures schedule { card_due self.new ≡ None }
+    {
+        let none = CardDone {
+            ready: false,
+            raised: none_raised(),
+        };
+        let Some(transfer) = self.transfer else {
+            return none;
+        };
+        if ports::block_words(&self.romctrl) == 0 {
+            self.transfer = None;
+            return CardDone {
+                ready: false,
+                raised: self.end_raised(transfer.starter),
+            };
+        }
+        let word = word_of(file, &self.command, transfer.taken);
+        self.transfer = Some(Transfer {
+            starter: transfer.starter,
+            taken: transfer.taken,
+            next: NextWord::Ready(word),
+        });
+        CardDone {
+            ready: true,
+            raised: none_raised(),
+        }
+    }
+
+    /// Does nothing; its contract states what holds of the card at every time.
+    pub fn laws(&self)
+        ensures { IsCard self.now }
+    {
+        let _kept = &self.romctrl;
+    }
+
+    fn write_ports(&mut self, proc: Proc, at: u32, width: Width, value: u32)
+        requires { at + width_bytes width ≤ 2 ^ 32 }
+        ensures { self.new ≡ ports_written self.old proc at width value }
+    {
+        match proc {
+            Proc::Nine => write_auxspicnt(&mut self.nine, width, at, value),
+            Proc::Seven => write_auxspicnt(&mut self.seven, width, at, value),
+        }
+        if self.transfer.is_none() {
+            ports::overwrite(&mut self.romctrl, ports::ROMCTRL, width, at, value);
+            ports::keep_romctrl(&mut self.romctrl);
+            ports::overwrite(&mut self.command, ports::COMMAND, width, at, value);
+        }
+    }
+
+    fn end_raised(&self, starter: Proc) -> Raised
+        ensures { result ≡ raised_at starter (end_interrupt self.now starter) }
+    {
+        let port = match starter {
+            Proc::Nine => &self.nine,
+            Proc::Seven => &self.seven,
+        };
+        let bits = if port[1] / 64 % 2 == 1 {
+            Interrupt::CardTransfer.bit()
+        } else {
+            0
+        };
+        raised_at(starter, bits)
+    }
+
+    /// Takes the word that is ready.
+    fn take(&mut self, starter: Proc, taken: u32, now: Tick) -> Raised
+        requires early { IsEarly (Some now) }
+        requires busy { IsTaking self.old starter taken }
+        ensures raised { result ≡ last_raised self.old self.old.transfer }
+        ensures state { self.new ≡ taken_by self.old self.old.transfer now }
+    {
+        let words = ports::block_words(&self.romctrl);
+        if taken + 1 == words {
+            self.transfer = None;
+            return self.end_raised(starter);
+        }
+        self.transfer = Some(Transfer {
+            starter,
+            taken: taken + 1,
+            next: due_after(now),
+        });
+        none_raised()
+    }
+
+    fn shown(&self, proc: Proc, at: u32, width: Width) -> u32
+        requires { at + width_bytes width ≤ 2 ^ 32 }
+        ensures { result ≡ value_by width (card_byte self.now proc) at }
+    {
+        match width {
+            Width::Byte => self.byte(proc, at) as u32,
+            Width::Half => self.byte(proc, at) as u32 + 256 * self.byte(proc, at + 1) as u32,
+            Width::Word => {
+                self.byte(proc, at) as u32
+                    + 256 * self.byte(proc, at + 1) as u32
+                    + 65536 * self.byte(proc, at + 2) as u32
+                    + 16777216 * self.byte(proc, at + 3) as u32
+            }
+        }
+    }
+
+    fn byte(&self, proc: Proc, place: u32) -> u8
+        ensures { result ≡ card_byte self.now proc place }
+    {
+        let own = match proc {
+            Proc::Nine => &self.nine,
+            Proc::Seven => &self.seven,
+        };
+        if ports::AUXSPICNT <= place && place < ports::AUXSPICNT + 2 {
+            own[(place - ports::AUXSPICNT) as usize]
+        } else if ports::ROMCTRL <= place && place < ports::ROMCTRL + 4 {
+            let shown = ports::shown_romctrl(
+                &self.romctrl,
+                self.is_ready(),
+                self.transfer.is_some(),
+            );
+            shown[(place - ports::ROMCTRL) as usize]
+        } else if ports::COMMAND <= place && place < ports::COMMAND + 8 {
+            self.command[(place - ports::COMMAND) as usize]
+        } else {
+            0
+        }
+    }
+
+    fn is_ready(&self) -> bool
+        ensures { result ≡ is_ready self.now.transfer }
+    {
+        match self.transfer {
+            Some(
+                Transfer {
+                    next: NextWord::Ready(_),
+                    ..
+                },
+            ) => true,
+            _ => false,
+        }
+    }
+}
+
+fn write_auxspicnt(port: &mut [u8; 2], width: Width, at: u32, value: u32)
+    requires { at + width_bytes width ≤ 2 ^ 32 }
+    ensures { port.new ≡ kept_auxspicnt (overwritten auxspicnt_at port.old width at value) }
+{
+    ports::overwrite(port, ports::AUXSPICNT, width, at, value);
+    ports::keep_auxspicnt(port);
+}
+
+fn is_known(first: u8) -> bool
+    ensures { result ≡ is_known first }
+{
+    first == 0xB7 || first == 0xB8
+}
+
+fn due_after(now: Tick) -> NextWord
+    requires { IsEarly (Some now) }
+    ensures { result ≡ due_after now }
+{
+    NextWord::Due(Tick(now.0 + 40))
+}
+
+fn none_raised() -> Raised
+    ensures { result ≡ none_raised }
+{
+    Raised { nine: 0, seven: 0 }
+}
+
+fn raised_at(starter: Proc, bits: u32) -> Raised
+    ensures { result ≡ raised_at starter bits }
+{
+    match starter {
+        Proc::Nine => Raised {
+            nine: bits,
+            seven: 0,
+        },
+        Proc::Seven => Raised {
+            nine: 0,
+            seven: bits,
+        },
+    }
+}
+
+fn file_byte(file: &[u8], place: u64) -> u32
+    ensures { result ≡ slice_index_or file.now place 0 }
+{
+    match file.get(place as usize) {
+        Some(byte) => *byte as u32,
+        None => 0,
+    }
+}
+
+/// The word of a number that a command asks for.
+fn word_of(file: &[u8], command: &[u8; 8], number: u32) -> u32
+    ensures { result ≡ card_word file.now command.now number }
+{
+    if command[0] == 0xB8 {
+        return 0xFC2;
+    }
+    let asked = u32::from_be_bytes([command[1], command[2], command[3], command[4]]);
+    let from = if asked < 0x8000 {
+        0x8000 + asked % 0x200
+    } else {
+        asked
+    };
+    let at = from as u64 + 4 * number as u64;
+    file_byte(file, at)
+        + 256 * file_byte(file, at + 1)
+        + 65536 * file_byte(file, at + 2)
+        + 16777216 * file_byte(file, at + 3)
+}

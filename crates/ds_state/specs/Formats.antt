@@ -1,0 +1,113 @@
+-- Formats of bytes, and the bytes of a state by a format.
+use Rattle.std.specs.Prelude.{ℕ, ℤ, FitsSigned, ◌≡◌, ◌⊎◌, ◌<◌, ◌+◌, ◌-◌, ◌^◌, ◌==◌, ◌&&◌, Bool, true, List, [], ◌∷◌, ◌++◌, length, Option, Some, None, nat_le, bit_and, if◌then◌else◌}
+use Rattle.std.specs.Int.{w32, cast_unsigned}
+use Rattle.byteorder.specs.Endian.{little_bytes}
+
+-- how one field stands in bytes: a number of so many bytes, a flag in one byte, a tick in eight with all bits 1 for none, or so many bytes
+-- as they are
+pub data Code : Type 0 → Type 1 where
+  number : ℕ → Code ℕ
+  flag : Code Bool
+  tick : Code (Option ℕ)
+  array : ℕ → Code (List ℕ)
+  signed_word : Code ℤ
+
+abbrev pub width : {V : Type 0} → Code V → ℕ
+width (number n) = n
+width flag = 1
+width tick = 8
+width (array n) = n
+width signed_word = 4
+
+-- how many bytes a number may have
+abbrev pub IsWidth : ℕ → Type 0
+IsWidth bytes = (bytes ≡ 1) ⊎ ((bytes ≡ 2) ⊎ ((bytes ≡ 4) ⊎ (bytes ≡ 8)))
+
+abbrev pub no_tick : ℕ
+no_tick = 2 ^ 64 - 1
+
+abbrev pub tick_number : Option ℕ → ℕ
+tick_number None = no_tick
+tick_number (Some t) = t
+
+abbrev pub spelled : {V : Type 0} → Code V → V → List ℕ
+spelled (number n) v = little_bytes n v
+spelled flag v = little_bytes 1 (if v then 1 else 0)
+spelled tick v = little_bytes 8 (tick_number v)
+spelled (array n) v = v
+spelled signed_word v = little_bytes 4 (cast_unsigned w32 v)
+
+-- the values that have a spelling
+abbrev pub Fits : {V : Type 0} → Code V → V → Type 0
+Fits (number n) v = v < 256 ^ n
+Fits flag v = Unit {0}
+Fits tick None = Unit {0}
+Fits tick (Some t) = t < no_tick
+Fits (array n) v = length v ≡ n
+Fits signed_word v = FitsSigned w32 v
+
+-- A format of states S, which reads an A: one field after another. A field has its code, what it says of the state, its rule, and what
+-- comes after its value. The rule looks at the tick, too. A part is a format of its own, and a list so many of them.
+pub data Format : Type 0 → Type 0 → Type 1 where
+  done : {S A : Type 0} → A → Format S A
+  field : {S A V : Type 0} → Code V → (S → V) → (ℕ → V → Bool) → (V → Format S A) → Format S A
+  part : {S A T : Type 0} → Format T T → (S → T) → (T → Format S A) → Format S A
+  list : {S A T : Type 0} → ℕ → Format T T → (S → List T) → (List T → Format S A) → Format S A
+
+-- the bytes of a state
+abbrev pub bytes_each : {T : Type 0} → (T → List ℕ) → List T → List ℕ
+bytes_each bytes [] = []
+bytes_each bytes (t ∷ ts) = bytes t ++ bytes_each bytes ts
+
+abbrev pub bytes_of : {S A : Type 0} → Format S A → S → List ℕ
+bytes_of (done a) s = []
+bytes_of (field c get rule next) s = spelled c (get s) ++ bytes_of (next (get s)) s
+bytes_of (part f get next) s = bytes_of f (get s) ++ bytes_of (next (get s)) s
+bytes_of (list n f get next) s = bytes_each (bytes_of f) (get s) ++ bytes_of (next (get s)) s
+
+-- the same after others, as they are put
+abbrev pub written_each : {T : Type 0} → (List ℕ → T → List ℕ) → List ℕ → List T → List ℕ
+written_each write before [] = before
+written_each write before (t ∷ ts) = written_each write (write before t) ts
+
+abbrev pub written : {S A : Type 0} → Format S A → List ℕ → S → List ℕ
+written (done a) before s = before
+written (field c get rule next) before s = written (next (get s)) (before ++ spelled c (get s)) s
+written (part f get next) before s = written (next (get s)) (written f before (get s)) s
+written (list n f get next) before s = written (next (get s)) (written_each (written f) before (get s)) s
+
+-- one format after another
+infixl 10 ◌>>=◌
+abbrev pub ◌>>=◌ : {S A B : Type 0} → Format S A → (A → Format S B) → Format S B
+(done a) >>= k = k a
+(field c get rule next) >>= k = field c get rule (λ v. next v >>= k)
+(part f get next) >>= k = part f get (λ t. next t >>= k)
+(list n f get next) >>= k = list n f get (λ ts. next ts >>= k)
+
+abbrev pub one : {S V : Type 0} → Code V → (S → V) → (ℕ → V → Bool) → Format S V
+one c get rule = field c get rule (λ v. done v)
+
+abbrev pub its : {S T : Type 0} → Format T T → (S → T) → Format S T
+its f get = part f get (λ t. done t)
+
+abbrev pub each : {S T : Type 0} → ℕ → Format T T → (S → List T) → Format S (List T)
+each n f get = list n f get (λ ts. done ts)
+
+-- rules of one field
+abbrev pub any : {V : Type 0} → ℕ → V → Bool
+any at v = true
+
+abbrev pub kept : ℕ → ℕ → ℕ → Bool
+kept mask at v = bit_and v mask == v
+
+abbrev pub at_most : ℕ → ℕ → ℕ → Bool
+at_most n at v = nat_le v n
+
+-- a due tick is from the tick of the state on, and no later than 2^32 ticks after it
+abbrev pub soon : ℕ → Option ℕ → Bool
+soon at None = true
+soon at (Some due) = nat_le at due && nat_le due (at + 2 ^ 32)
+
+-- a word as a part of its own
+abbrev pub word_format : Format ℕ ℕ
+word_format = one (number 4) (λ w. w) any

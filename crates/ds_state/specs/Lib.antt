@@ -1,0 +1,4 @@
+pub mod Formats
+pub mod Laws
+pub mod Loops
+pub mod Reading

@@ -1,0 +1,54 @@
+//! Lists of parts, each with a format of its own.
+
+ghost use Rattle.std.specs.Prelude.{◌≡◌, ℕ, List, length, map, IfOk, OnOk};
+ghost use Rattle.ds_state.specs.Formats.{written_each};
+ghost use Rattle.ds_state.specs.Reading.{Left, Read, GivesIn, read_list};
+
+use crate::packer::Packer;
+use crate::unpacker::{Unpacked, Unpacker};
+use std::alloc::{AllocError, Global};
+
+/// A value that stands in bytes by a format.
+pub trait Part: Sized + Drop {
+    ghost State: { Type 0 };
+
+    ghost state: { Self → State };
+
+    ghost reader: { ℕ → Left → Read State };
+
+    ghost writer: { List ℕ → State → List ℕ };
+
+    fn put(&self, into: &mut Packer) -> Result<(), AllocError>
+        ensures { OnOk result (into.new ≡ writer into.old (state self.now)) };
+
+    fn take(alloc: Global, from: &mut Unpacker, at: u64) -> Result<Self, Unpacked>
+        ensures { GivesIn state result from.new (reader at from.old) };
+}
+
+/// So many parts.
+pub fn take_list<T: Part>(
+    alloc: Global,
+    from: &mut Unpacker,
+    count: u32,
+    at: u64,
+) -> Result<Vec<T>, Unpacked>
+    ensures reads { GivesIn (λ v. map T.state v.items) result from.new (read_list (T.reader at) count from.old) }
+    ensures long { IfOk result (λ v. length v.items ≡ count) }
+{
+    let mut parts = Vec::new(alloc);
+    for _ in 0..count {
+        let part = T::take(alloc, from, at)?;
+        parts.push(part)?;
+    }
+    Ok(parts)
+}
+
+/// The parts one after another.
+pub fn put_list<T: Part>(into: &mut Packer, parts: &[T]) -> Result<(), AllocError>
+    ensures { OnOk result (into.new ≡ written_each T.writer into.old (map T.state parts.now)) }
+{
+    for part in parts {
+        part.put(into)?;
+    }
+    Ok(())
+}

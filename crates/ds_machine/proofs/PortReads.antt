@@ -13,7 +13,7 @@ use Rattle.ds_map.specs.Accesses.{map_read}
 use Rattle.ds_map.specs.Maps.{MapState}
 use Rattle.ds_ports.specs.Io.{IoState}
 use Rattle.ds_ports.specs.Ports.{port_read, read_unchanged, whole_if, whole_in}
-use Rattle.ds_ports.specs.RegisterMap.{PortRow, map_of_nine, map_of_seven, row_bytes, slot_by, slot_in, slot_of}
+use Rattle.ds_ports.specs.RegisterMap.{PortRow, register_map, row_bytes, slot_by, slot_in, slot_of}
 use Rattle.ds_ports.specs.Registers.{meaning_of}
 use Rattle.ds_ports.specs.declared.registers.Register.{Register}
 use Rattle.ds_ports.specs.declared.registers.Register.TheVariants.{Ipcfiforecv}
@@ -77,8 +77,8 @@ other_by limit (r ∷ rows) at h lt =
 
 other_at : (proc : Proc) (at : ℕ) → at < 0x100000 → IfSome (slot_of proc at) IsOther
 unfolding slot_of
-other_at Nine at lt = other_by 0x100000 map_of_nine at refl lt
-other_at Seven at lt = other_by 0x100000 map_of_seven at refl lt
+other_at Nine at lt = other_by 0x100000 (register_map Nine) at refl lt
+other_at Seven at lt = other_by 0x100000 (register_map Seven) at refl lt
 
 -- ---- so a read there
 

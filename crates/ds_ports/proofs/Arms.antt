@@ -20,7 +20,7 @@ use Rattle.ds_ports.specs.Acting.{is_armed}
 use Rattle.ds_ports.specs.Io.{IoState}
 use Rattle.ds_ports.specs.Ports.{byte_written, half_written, ignores, port_read, port_written, read_unchanged, slot_joined, slot_written, whole_if, whole_in, word_written, written_or}
 use Rattle.ds_ports.specs.ProcessorIo.{ProcessorIoState, haltcnt_written, kept_keycnt, keys_hold, keys_told, processor_io_raised}
-use Rattle.ds_ports.specs.RegisterMap.{PortRow, map_of_nine, row_bytes, slot_by, slot_in, slot_of}
+use Rattle.ds_ports.specs.RegisterMap.{PortRow, register_map, row_bytes, slot_by, slot_in, slot_of}
 use Rattle.ds_ports.specs.Registers.{after_write, meaning_of}
 use Rattle.ds_ports.specs.declared.registers.Register.{Register}
 use Rattle.ds_ports.specs.declared.registers.Register.TheVariants.{Dmasad, Dmadad, Dmacnt, Keycnt, Haltcnt}
@@ -191,7 +191,7 @@ slot_by_fits (r ∷ rows) at h out =
 
 slot_of_fits : (at : ℕ) → is_control_word (at / 4) ≡ false → OfKind is_no_control (slot_of Nine at)
 unfolding slot_of
-slot_of_fits at out = slot_by_fits map_of_nine at refl out
+slot_of_fits at out = slot_by_fits (register_map Nine) at refl out
 
 -- ---- a relation that each register's write keeps, a write keeps
 

@@ -1,4 +1,5 @@
 pub mod RegisterMaps
+pub mod DisplayRows
 pub mod DisplayPorts
 pub mod HeldDues
 pub mod GxPorts

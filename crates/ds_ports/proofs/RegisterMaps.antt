@@ -1,4 +1,4 @@
-use Rattle.std.proofs.Common.{ℕ, zero, suc, ◌≡◌, ◌<◌, ◌≤◌, ◌+◌, ◌-◌, ◌/◌, ◌⊎◌, inl, inr, Bool, true, false, true≢false, ◌&&◌, nat_le, nat_lt, if◌then◌else◌, List, [], ◌∷◌, ◌++◌, Option, Some, None, refl, sym, ◌∙◌, subst, arith}
+use Rattle.std.proofs.Common.{ℕ, zero, suc, ◌≡◌, ◌<◌, ◌≤◌, ◌+◌, ◌-◌, ◌/◌, ◌⊎◌, inl, inr, Bool, true, false, true≢false, ◌==◌, ◌&&◌, ◌||◌, nat_le, nat_lt, if◌then◌else◌, List, [], ◌∷◌, ◌++◌, Option, Some, None, refl, sym, ◌∙◌, subst, arith}
 use Rattle.std.specs.Prelude.{IfSome}
 use Rattle.std.proofs.Math.Nat.{div-lt_iff_lt-mul, mod-lt}
 use Rattle.ds_base.specs.declared.processors.Proc.{Proc}
@@ -6,7 +6,7 @@ use Rattle.ds_ports.specs.declared.registers.Slot.{Slot}
 use Rattle.ds_base.specs.declared.processors.Proc.TheVariants.{Nine, Seven}
 use Rattle.ds_ports.specs.RegisterMap.{PortRow, row_bytes, slot_in, slot_by, slot_of, register_map, IsSlot}
 use Rattle.ds_ports.specs.Registers.{meaning_of}
-use Rattle.ds_ports.specs.Parts.{Part, whole, slot_among, looked_up, parts_of_nine, parts_of_seven}
+use Rattle.ds_ports.specs.Parts.{Part, whole, slot_among, looked_up, high_parts, low_parts, parts_of}
 
 -- all rows lie from one offset up to another
 abbrev pub lie : ℕ → ℕ → List PortRow → Bool
@@ -84,13 +84,51 @@ found from (p ∷ parts) at h =
       | inr past ↦ passed p.rows (whole parts) at (elsewhere from p.limit p.rows at three.1 (inr past.0)) ∙ found p.limit parts at three.2 ∙ rw past.1 refl
     ]
 
-pub nine_by_parts : (at : ℕ) → slot_of Nine at ≡ looked_up parts_of_nine at
+pub map_by_parts : (proc : Proc) (at : ℕ) → slot_of proc at ≡ looked_up (parts_of proc) at
 unfolding slot_of
-nine_by_parts at = found 0 parts_of_nine at refl
+map_by_parts Nine at = found 0 (parts_of Nine) at refl
+map_by_parts Seven at = found 0 (parts_of Seven) at refl
 
-pub seven_by_parts : (at : ℕ) → slot_of Seven at ≡ looked_up parts_of_seven at
-unfolding slot_of
-seven_by_parts at = found 0 parts_of_seven at refl
+-- an offset below the end of some parts is looked up in them, and one past them in the others
+abbrev ends_at : ℕ → List Part → Bool
+ends_at limit [] = false
+ends_at limit (p ∷ parts) = (p.limit == limit) || ends_at limit parts
+
+abbrev ends_by : ℕ → List Part → Bool
+ends_by limit [] = true
+ends_by limit (p ∷ parts) = nat_le p.limit limit && ends_by limit parts
+
+same_limit : (a b : ℕ) → (a == b) ≡ true → a ≡ b
+same_limit a b h = grind arith
+
+below_is : (a b : ℕ) → a < b → nat_lt a b ≡ true
+below_is a b l = grind (arith, l)
+
+past_is : (a b : ℕ) → b ≤ a → nat_lt a b ≡ false
+past_is a b l = grind (arith, l)
+
+within : (limit : ℕ) (parts others : List Part) (at : ℕ) → ends_at limit parts ≡ true → at < limit → looked_up (parts ++ others) at ≡ looked_up parts at
+within limit [] others at h l = absurd (true≢false (sym h))
+within limit (p ∷ parts) others at h l = elim (below_or_not at p.limit) [
+  | inl below ↦ rw below.1 refl
+  | inr past ↦ rw past.1 (within limit parts others at (further (p.limit == limit) refl past.0) l)
+] where
+  further : (here : Bool) → (p.limit == limit) ≡ here → p.limit ≤ at → ends_at limit parts ≡ true
+  further true e past = absurd (let same = same_limit p.limit limit e in omega (arith, same, past, l))
+  further false e past = rw e at h
+
+beyond : (limit : ℕ) (parts others : List Part) (at : ℕ) → ends_by limit parts ≡ true → limit ≤ at → looked_up (parts ++ others) at ≡ looked_up others at
+beyond limit [] others at h l = refl
+beyond limit (p ∷ parts) others at h l =
+    let two = both (nat_le p.limit limit) (ends_by limit parts) h in
+    let up = le_of p.limit limit two.0 in
+    rw (past_is at p.limit (omega (arith, up, l))) (beyond limit parts others at two.1 l)
+
+pub looked_up_low : (proc : Proc) (at : ℕ) → at < 0x200 → looked_up (parts_of proc) at ≡ looked_up (low_parts proc) at
+looked_up_low proc at l = within 0x200 (low_parts proc) (high_parts proc) at refl l
+
+pub looked_up_high : (proc : Proc) (at : ℕ) → 0x200 ≤ at → looked_up (parts_of proc) at ≡ looked_up (high_parts proc) at
+looked_up_high proc at l = beyond 0x200 (low_parts proc) (high_parts proc) at refl l
 
 -- what holds of each place below one
 abbrev pub each_below : ℕ → (ℕ → Bool) → Bool

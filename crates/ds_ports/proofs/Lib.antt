@@ -18,7 +18,8 @@ pub mod Ascending
 pub mod Wholes
 pub mod Often
 pub mod Covered
-pub mod Shares
+pub mod Touched
+pub mod Passed
 pub mod GxApart
 pub mod Arms
 pub mod OwnWrites

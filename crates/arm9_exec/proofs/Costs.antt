@@ -1,19 +1,15 @@
-use Rattle.std.proofs.Common.{ℕ, ◌≡◌, Bool, true, false, if◌then◌else◌, Option, Some, None, refl, arith}
-use Rattle.ds_base.specs.Accesses.{MemoryMachine}
+use Rattle.std.proofs.Common.{ℕ, ◌≡◌, Bool, true, false, if◌then◌else◌, refl, arith}
 use Rattle.ds_base.specs.declared.processors.Arch.TheVariants.{V5}
 use Rattle.arm_core.specs.Conditions.{holds}
-use Rattle.arm_core.specs.Effects.{carried_out}
-use Rattle.arm_core.specs.Exceptions.{interrupt_meaning}
 use Rattle.arm_core.specs.Meanings.{skipped}
 use Rattle.arm_core.specs.Registers.{RegisterState, register}
-use Rattle.arm_core.specs.Steps.{FetchOutcome, enters, fetched}
 use Rattle.arm_exec.specs.Costs.{CostsSome}
-use Rattle.arm_exec.proofs.Costs.{some_cost, carried_out_costs, word_costs}
-use Rattle.cp15_tcm.specs.Registers.{Cp15State, Cp15Register, vectors_of, write_answer}
+use Rattle.arm_exec.proofs.Costs.{some_cost}
+use Rattle.cp15_tcm.specs.Registers.{Cp15State, Cp15Register, write_answer}
 use Rattle.cp15_tcm.specs.declared.answers.Mcr.{Mcr}
 use Rattle.cp15_tcm.specs.declared.answers.Mcr.TheVariants as mcr
-use Rattle.arm9_exec.specs.Arm9.{Outcome9, arm9, beside, executed_or_moved, step9_of}
-use Rattle.arm9_exec.specs.Coprocessors.{carried_over, move_of, moved_if, register_moved, written_by}
+use Rattle.arm9_exec.specs.Arm9.{Outcome9}
+use Rattle.arm9_exec.specs.Coprocessors.{carried_over, moved_if, register_moved, written_by}
 use Rattle.arm9_exec.specs.declared.coprocessors.Moved.{Moved}
 
 -- Every step of ARM9 costs a clock at least.

@@ -1,4 +1,4 @@
-use Rattle.std.proofs.Common.{ℕ, zero, suc, Bool, true, ◌&&◌, ◌≡◌, ◌<◌, ◌+◌, ◌*◌, ◌/◌, ◌%◌, ◌==◌, ◌^◌, inl, inr, refl, sym, ◌∙◌, ap, arith}
+use Rattle.std.proofs.Common.{ℕ, Bool, true, ◌≡◌, ◌<◌, ◌*◌, ◌==◌, ◌^◌, refl}
 use Rattle.std.specs.Int.{rotate_right, w32}
 use Rattle.arm_words.specs.Canonical.{immediate, turned_back}
 use Rattle.std.specs.Prelude.{nat_lt}

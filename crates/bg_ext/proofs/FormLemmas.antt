@@ -5,7 +5,6 @@ use Rattle.vram_banks.specs.Cells.{Banks}
 use Rattle.vram_banks.specs.Colours.{HasForm, opaque_pixel, palette_colour}
 use Rattle.vram_banks.proofs.FormLemmas.{choice_form, zero_form, opaque_form, indexed_form}
 use Rattle.bg_ext.specs.declared.layers.ExtLayer.{ExtLayer}
-use Rattle.bg_ext.specs.BankPixels.{vram_pixel}
 use Rattle.bg_ext.specs.ExtendedPixels.{is_bitmap, has_halves, direct_pixel, half_pixel, byte_pixel, ext_entry, entry_colour, entry_pixel, ext_point_pixel, ext_place_pixel, ext_across, ext_down, ext_pixel}
 
 -- A pixel has bit 15 set, or is 0.
@@ -40,7 +39,3 @@ place_form v palette layer (Some x) (Some y) = point_form v palette layer x y
 pub ext_form : (v : Banks) (palette : List ℕ) (layer : ExtLayer) (x : ℕ) → HasForm (ext_pixel v palette layer x)
 unfolding ext_pixel
 ext_form v palette layer x = place_form v palette layer (ext_across layer x) (ext_down layer x)
-
-pub vram_form : (v : Banks) (display line x : ℕ) → HasForm (vram_pixel v display line x)
-unfolding vram_pixel
-vram_form v display line x = opaque_form _

@@ -1,6 +1,5 @@
-use Rattle.std.proofs.Common.{ℕ, ◌≡◌, ◌≤◌, ◌<◌, ◌+◌, ◌-◌, ◌^◌, ◌==◌, ◌||◌, Bool, true, false, List, [], ◌∷◌, All, filter, length, cond, nat_le, min, arith, refl, get_or}
+use Rattle.std.proofs.Common.{ℕ, ◌≡◌, ◌≤◌, ◌<◌, ◌+◌, ◌-◌, ◌^◌, ◌==◌, ◌||◌, Bool, true, false, List, [], ◌∷◌, filter, length, cond, nat_le, min, arith, refl}
 use Rattle.std.specs.List.{list_any}
-use Rattle.std.proofs.lemmas.List.Folds.{Any-from_list_any}
 use Rattle.ds_io.specs.Faults.{Rose}
 use Rattle.ds_io.specs.Numbered.{Numbered, called, fails_now, fault_count}
 
@@ -46,18 +45,6 @@ count_rises_at (x ∷ xs) a b lt h = here (x == b) refl h (λ any. count_rises_a
       length (filter (λ x. nat_le x a) (x ∷ xs)) + 1 ≤ length (filter (λ x. nat_le x b) (x ∷ xs))
   here true e any rest = step_more (nat_le x a) (nat_le x b) x _ _ (above x a b lt e) (equal_reaches x b e) (count_rises xs a b (omega (arith, lt)))
   here false e any rest = rest_more (nat_le x a) (nat_le x b) x _ _ (reaches x a b (omega (arith, lt))) (rest any)
-
--- a number among some is below what all of them are below
-pub among_below : (xs : List ℕ) (x most : ℕ) → All (λ call. (0 < call) × (call < most)) xs → list_any (λ call. call == x) xs ≡ true → x < most
-among_below xs x most all h =
-    let any = Any-from_list_any (λ call. call == x) xs h in
-    let at : get_or xs any.0 any.1 ≡ any.1 = any.3 in
-    let below : get_or xs any.0 any.1 < most = (all any.0 any.1 any.2).1 in
-    let same : (any.1 == x) ≡ true = any.4 in
-    let is : any.1 ≡ x = equal any.1 x same in
-    grind (arith, at, below, is) where
-      equal : (a b : ℕ) → (a == b) ≡ true → a ≡ b
-      equal a b e = grind (arith, e)
 
 -- a call never makes the count of faults less
 pub later_call : (n : Numbered) → n.made < 2 ^ 64 → fault_count n ≤ fault_count (called n)

@@ -22,15 +22,6 @@ left_moved : (l : Option (List ℕ)) (k : ℕ) → unwrap_or (option_map (drop k
 left_moved None k = sym (drop_all k [] (omega arith))
 left_moved (Some xs) k = refl
 
--- nothing was taken yet
-pub took_none : (t : Option Told) → Took t [] t
-took_none None = refl
-took_none (Some s) = let e : option_map (drop 0) s.left ≡ s.left = none_moved s.left in
-    (omega arith, refl, rw e refl) where
-      none_moved : (l : Option (List ℕ)) → option_map (drop 0) l ≡ l
-      none_moved None = refl
-      none_moved (Some xs) = refl
-
 -- the same where the shelf's place is known
 more_at : (s : Told) (new : Option Told) (all into put : List ℕ) (n : ℕ) → length all ≤ length (left_of s) → all ≡ take (length all) (left_of s) →
     Reads (Some (moved s (length all))) into n put new → Took (Some s) (all ++ take n put) new

@@ -1,5 +1,5 @@
 use Rattle.std.proofs.Common.{ℕ, ◌≤◌, ◌+◌, List, [], ◌++◌, length, take, drop, Bool, arith, append_assoc, append-nil, length-append, sym, subst}
-use Rattle.std.proofs.Math.Seq.{take-append-add, take-add, take-length}
+use Rattle.std.proofs.Math.Seq.{take-append-add, take-add}
 use Rattle.std.proofs.lemmas.List.{take-append-le}
 use Rattle.ds_io.specs.Sinks.{Appended, AppendedFront}
 
@@ -32,22 +32,6 @@ module _ {S : Type 0} (tells : S → Bool) (taken : S → List ℕ → Type 0) w
     count = part.count;
     within = (let le : part.count ≤ length a = part.within in simp length-append (omega arith));
     front = (let le : part.count ≤ length a = part.within in rw take-append-le part.front);
-  }
-
-  -- all the bytes are a front of them
-  pub front_of_all : (old new : S) (a : List ℕ) → Appended tells taken old new a → AppendedFront tells taken old new a
-  front_of_all old new a all = record {
-    count = length a;
-    within = omega arith;
-    front = rw take-length all;
-  }
-
-  -- none of the bytes are a front of them
-  pub front_of_none : (old new : S) (a : List ℕ) → Appended tells taken old new [] → AppendedFront tells taken old new a
-  front_of_none old new a none = record {
-    count = 0;
-    within = omega arith;
-    front = none;
   }
 
   -- the next n bytes

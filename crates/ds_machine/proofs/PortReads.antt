@@ -1,7 +1,4 @@
-use Rattle.std.proofs.Common.{ℕ, ◌≡◌, ◌<◌, ◌≤◌, ◌+◌, ◌-◌, ◌/◌, ◌⊎◌, inl, inr, Bool, true, false, true≢false, ◌&&◌, nat_le, nat_lt, List, [], ◌∷◌, Option, Some, None, refl, arith}
-use Rattle.std.specs.Prelude.{IfSome, ◌||◌, not}
-use Rattle.std.proofs.Math.Nat.{div-lt_iff_lt-mul}
-use Rattle.std.proofs.lemmas.Bool.{not-true}
+use Rattle.std.proofs.Common.{ℕ, ◌≡◌, ◌<◌, ◌≤◌, ◌+◌, ◌-◌, Bool, true, false, true≢false, ◌&&◌, nat_le, nat_lt, Option, Some, None, refl, sym, arith}
 use Rattle.ds_base.specs.Numbers.{aligned_down, width_bytes}
 use Rattle.ds_base.specs.declared.memories.Width.{Width}
 use Rattle.ds_base.specs.declared.memories.Width.TheVariants.{Byte, Half, Word}
@@ -13,76 +10,41 @@ use Rattle.ds_map.specs.Accesses.{map_read}
 use Rattle.ds_map.specs.Maps.{MapState}
 use Rattle.ds_ports.specs.Io.{IoState}
 use Rattle.ds_ports.specs.Ports.{port_read, read_unchanged, whole_if, whole_in}
-use Rattle.ds_ports.specs.RegisterMap.{PortRow, map_of_nine, map_of_seven, row_bytes, slot_by, slot_in, slot_of}
+use Rattle.ds_ports.specs.RegisterMap.{PortRow, row_bytes, slot_of}
 use Rattle.ds_ports.specs.Registers.{meaning_of}
 use Rattle.ds_ports.specs.declared.registers.Register.{Register}
 use Rattle.ds_ports.specs.declared.registers.Register.TheVariants.{Ipcfiforecv}
 use Rattle.ds_ports.specs.declared.registers.Slot.{Slot}
-use Rattle.ds_ports.proofs.RegisterMaps.{both, each_below, of_each}
+use Rattle.ds_ports.proofs.Covered.{OfKind, slot_is}
 use Rattle.ds_machine.proofs.PlacesByWords.{in_row, past_row}
 
 -- A read of a port from 4000000h to 40FFFFFh leaves all units as they are: IPCFIFORECV, of which a read takes a word, doesn't stand there.
 
 -- ---- a read of any other register leaves them
 
-abbrev is_received : Register → Bool
-is_received Ipcfiforecv = true
-is_received _ = false
+abbrev is_other : Register → Bool
+is_other Ipcfiforecv = false
+is_other _ = true
 
-register_leaves : (register : Register) → is_received register ≡ false → (proc : Proc) (u : IoState) → (meaning_of register).after_read proc u ≡ u
-register_leaves Ipcfiforecv h proc u = absurd (true≢false h)
+register_leaves : (register : Register) → is_other register ≡ true → (proc : Proc) (u : IoState) → (meaning_of register).after_read proc u ≡ u
+register_leaves Ipcfiforecv h proc u = absurd (true≢false (sym h))
 register_leaves _ h proc u = refl
 
 -- ---- the rows that begin below a limit have no other
 
-abbrev has_others : PortRow → Bool
-has_others r = nat_lt 0 r.bytes && each_below r.count (λ place. not (is_received (r.register place)))
+abbrev is_high : PortRow → Bool
+is_high r = nat_le 0x100000 r.offset
 
-abbrev have_others_below : ℕ → List PortRow → Bool
-have_others_below limit [] = true
-have_others_below limit (r ∷ rows) = (nat_le limit r.offset || has_others r) && have_others_below limit rows
+outside : (offset bytes at : ℕ) → nat_le 0x100000 offset ≡ true → at < 0x100000 → (nat_le offset at && nat_lt at (offset + bytes)) ≡ false
+outside offset bytes at h lt = grind (arith, h, lt)
 
-inside_or_not : (offset bytes at : ℕ) → ((offset ≤ at) × (at - offset < bytes) × ((nat_le offset at && nat_lt at (offset + bytes)) ≡ true)) ⊎ ((nat_le offset at && nat_lt at (offset + bytes)) ≡ false)
-inside_or_not offset bytes at = grind arith
-
-past_or_others : (limit offset : ℕ) (b : Bool) → (nat_le limit offset || b) ≡ true → (limit ≤ offset) ⊎ (b ≡ true)
-past_or_others limit offset b h = grind (arith, h)
-
-some_bytes : (n : ℕ) → nat_lt 0 n ≡ true → 0 < n
-some_bytes n h = grind (arith, h)
-
-other_in : (r : PortRow) (offset : ℕ) → has_others r ≡ true → offset < row_bytes r → is_received (slot_in r offset).register ≡ false
-other_in r offset h lt =
-    let test : ℕ → Bool = λ place. not (is_received (r.register place)) in
-    let two = both (nat_lt 0 r.bytes) (each_below r.count test) h in
-    not-true (is_received (r.register (offset / r.bytes)))
-    (of_each r.count test (offset / r.bytes) two.1 ((div-lt_iff_lt-mul (some_bytes r.bytes two.0)).1 (omega (arith, lt))))
-
-abbrev IsOther : Slot → Type 0
-IsOther slot = is_received slot.register ≡ false
-
-other_by : (limit : ℕ) (rows : List PortRow) (at : ℕ) → have_others_below limit rows ≡ true → at < limit → IfSome (slot_by rows at) IsOther
-other_by limit [] at h lt = tt
-other_by limit (r ∷ rows) at h lt =
-    let two = both (nat_le limit r.offset || has_others r) (have_others_below limit rows) h in
-    elim (inside_or_not r.offset (row_bytes r) at) [
-      | inl inside ↦
-          (let low = inside.0 in
-          rw inside.2 (elim (past_or_others limit r.offset (has_others r) two.0) [
-            | inl past ↦ absurd (omega (arith, low, lt, past))
-            | inr others ↦ other_in r (at - r.offset) others inside.1
-          ]))
-      | inr outside ↦ rw outside (other_by limit rows at two.1 lt)
-    ]
-
-other_at : (proc : Proc) (at : ℕ) → at < 0x100000 → IfSome (slot_of proc at) IsOther
-unfolding slot_of
-other_at Nine at lt = other_by 0x100000 map_of_nine at refl lt
-other_at Seven at lt = other_by 0x100000 map_of_seven at refl lt
+other_at : (proc : Proc) (at : ℕ) → at < 0x100000 → OfKind is_other (slot_of proc at)
+other_at Nine at lt = slot_is is_high is_other Nine at refl (λ r h. outside r.offset (row_bytes r) at h lt)
+other_at Seven at lt = slot_is is_high is_other Seven at refl (λ r h. outside r.offset (row_bytes r) at h lt)
 
 -- ---- so a read there
 
-slot_leaves : (proc : Proc) (u : IoState) (slot : Option Slot) → IfSome slot IsOther → read_unchanged proc u (whole_in Word slot) ≡ u
+slot_leaves : (proc : Proc) (u : IoState) (slot : Option Slot) → OfKind is_other slot → read_unchanged proc u (whole_in Word slot) ≡ u
 slot_leaves proc u None other = refl
 slot_leaves proc u (Some slot) other = whole (nat_le (slot.byte + width_bytes Word) slot.bytes) where
   whole : (b : Bool) → read_unchanged proc u (whole_if b slot) ≡ u

@@ -17,7 +17,6 @@ ghost use Rattle.ds_machine.specs.Steps.{nine_reach, tick_of};
 ghost use Rattle.ds_machine.specs.Touching as touching;
 ghost use Rattle.ds_runs.specs.Actors.{actor_of};
 ghost use Rattle.ds_runs.specs.Runs.{due_at};
-ghost use Rattle.video2d.specs.Scans.{framed_by, scan_due_tick, starts_vblank, ScanState};
 
 use crate::parts::Parts;
 use crate::touching::{reads, writes};
@@ -25,12 +24,9 @@ use arm_core::{Registers, Touch, equivalent};
 use arm_exec::enters;
 use arm_words::Instr;
 use cp15_tcm::Tcm;
-use ds_base::{Proc, Tick};
+use ds_base::Proc;
 use ds_places::{Place, place};
 use ds_runs::Actor;
-
-/// VCOUNT's offset from 4000000h.
-const VCOUNT: u32 = 6;
 
 /// Whether a port shows how far geometry is, gives it something to do, or makes it heard, by its offset from 4000000h.
 #[inline(always)]
@@ -81,30 +77,7 @@ fn base_laws(s: &Registers, instr: &Instr)
     }
 }
 
-/// Whether the display's next event is the start of line 192, by its tick, by when the last whole frame became so, and by the lower byte of VCOUNT: that tick
-/// is 1,120,380 ticks after the one before it, and the first one's is 817,920.
-fn is_vblank(due: Tick, framed: Option<Tick>, count: u8) -> bool
-    ensures { (scan : ScanState) → due ≡ scan_due_tick scan → framed ≡ framed_by scan → count ≡ scan.line % 2 ^ 8 → result ≡ starts_vblank scan }
-{
-    match framed {
-        None => due.0 == 817_920,
-        Some(last) => due.0 >= last.0 && due.0 - last.0 == 1_120_380 && count == 191,
-    }
-}
-
 impl Parts {
-    /// Whether the display's next event is the start of line 192.
-    fn starts_vblank(&self) -> bool
-        ensures { result ≡ starts_vblank self.now.io.video.scan }
-    {
-        let video = self.io.video();
-        is_vblank(
-            video.due(),
-            video.framed(),
-            video.port_read(Proc::Nine, VCOUNT),
-        )
-    }
-
     /// Whether what an address of ARM9's names past its tightly coupled memories is an observed port, as a write or else a read reaches it.
     #[inline(always)]
     fn is_observed(&self, at: u32, writing: bool) -> bool
@@ -189,7 +162,7 @@ impl Parts {
         ensures { result ≡ observes_by actor self.now }
     {
         match actor {
-            Actor::Video => self.starts_vblank(),
+            Actor::Video => self.io.video().starts_vblank(),
             Actor::Dma {
                 proc: Proc::Nine,
                 ..

@@ -1,5 +1,6 @@
 use Rattle.std.specs.Prelude.{◌||◌}
-use Rattle.std.proofs.Common.{ℕ, ◌≡◌, ◌<◌, ◌+◌, ◌-◌, ◌/◌, ◌==◌, ◌&&◌, nat_le, Bool, true, false, true≢false, if◌then◌else◌, [], ◌∷◌, Option, Some, None, refl, ◌∙◌, ap, arith}
+use Rattle.std.proofs.Common.{ℕ, ◌≡◌, ◌<◌, ◌+◌, ◌-◌, ◌/◌, ◌==◌, ◌&&◌, nat_le, Bool, true, false, if◌then◌else◌, [], ◌∷◌, Option, Some, None, refl, ◌∙◌, ap, arith, List}
+use Rattle.ds_base.proofs.Choices.{either, neither}
 use Rattle.ds_base.specs.Memories.{memory_size}
 use Rattle.ds_base.specs.Numbers.{aligned_down, width_bytes}
 use Rattle.ds_base.specs.declared.left_out.Stop.{Stop}
@@ -17,13 +18,14 @@ use Rattle.ds_places.specs.declared.kinds.Place.TheVariants.{Banks, Cell, Nothin
 use Rattle.ds_ports.specs.Io.{IoState, channel_moved, with_gx}
 use Rattle.ds_ports.specs.Ports.{port_refusal, port_written, unless_stopped}
 use Rattle.ds_ports.proofs.Arms.{ArmsNoMore, KeepsControls, arms_by, arms_kept, arms_then, finished_arms, is_control_word, keeps_by, keeps_same, read_dma, seven_write_dma, write_keeps}
-use Rattle.ds_ports.proofs.Covered.{chosen}
-use Rattle.ds_ports.proofs.GxApart.{IsApartFromGeometry, is_geometry_offset, moved_apart, reads_apart, refusals_apart, values_apart, writes_apart}
+use Rattle.ds_ports.proofs.GxApart.{IsApartFromGeometry, covers_apart, is_geometry_offset, moved_apart, of_geometry, with_it}
 use Rattle.gx_fifo.specs.GxStates.{GxState}
 use Rattle.vram_banks.specs.Cells.{vram_written}
-use Rattle.ds_map.specs.Accesses.{after_read_at, fetched_at, is_byte_of_nine, map_fetched, map_read, map_refusal, map_value, map_written, refusal_at, takes_no_bytes, value_at, written_at}
+use Rattle.ds_map.specs.Accesses.{after_read_at, is_byte_of_nine, map_fetched, map_read, map_refusal, map_value, map_written, takes_no_bytes, written_at}
 use Rattle.ds_map.specs.Maps.{MapState}
 use Rattle.ds_map.specs.Moves.{after_unit, unit_moved, unit_read, unit_refusal, unit_taken}
+use Rattle.ds_map.proofs.Passed as passed
+use Rattle.ds_map.proofs.Passed.{IsPast, OfOthers, PlacePasses, fetch_passes, place_passes}
 
 -- Accesses of the map that neither see geometry nor change it: ARM7's, and ARM9's but for some ports. They enable no channel of ARM9's with the start of the geometry FIFO.
 
@@ -40,10 +42,6 @@ abbrev pub IsApartPlace : Proc → Place → Type 0
 IsApartPlace Nine (Port at) = is_seen_port at ≡ false
 IsApartPlace proc place = Unit {0}
 
-or_false : (a b : Bool) → (a || b) ≡ false → (a ≡ false) × (b ≡ false)
-or_false true b h = absurd (true≢false h)
-or_false false b h = (refl, h)
-
 -- each byte of an access stands in the same word
 same_word : (width : Width) (at k : ℕ) → k < width_bytes width → (aligned_down width at + k) / 4 ≡ at / 4
 same_word Byte at k l = omega (arith, l)
@@ -57,15 +55,15 @@ module _ (width : Width) (at k : ℕ) (l : k < width_bytes width) (h : is_seen_p
   no_geometry : is_geometry_offset (aligned_down width at + k) ≡ false
   no_geometry =
       let word = at / 4 in
-      let a = or_false (word == 0x18) ((nat_le 0x100 word && nat_le word 0x1BF) || is_control_word word) h in
-      let b = or_false (nat_le 0x100 word && nat_le word 0x1BF) (is_control_word word) a.1 in
+      let a = neither (word == 0x18) ((nat_le 0x100 word && nat_le word 0x1BF) || is_control_word word) h in
+      let b = neither (nat_le 0x100 word && nat_le word 0x1BF) (is_control_word word) a.1 in
       elsewhere (aligned_down width at + k) word (same_word width at k l) a.0 b.0
 
   no_control : is_control_word ((aligned_down width at + k) / 4) ≡ false
   no_control =
       let word = at / 4 in
-      let a = or_false (word == 0x18) ((nat_le 0x100 word && nat_le word 0x1BF) || is_control_word word) h in
-      let b = or_false (nat_le 0x100 word && nat_le word 0x1BF) (is_control_word word) a.1 in
+      let a = neither (word == 0x18) ((nat_le 0x100 word && nat_le word 0x1BF) || is_control_word word) h in
+      let b = neither (nat_le 0x100 word && nat_le word 0x1BF) (is_control_word word) a.1 in
       ap is_control_word (same_word width at k l) ∙ b.1
 
 port_apart : (proc : Proc) (width : Width) (at : ℕ) → IsApartPlace proc (Port at) → IsApartFromGeometry proc (aligned_down width at) width
@@ -114,122 +112,57 @@ apart_anyhow Seven w v at h = tt
 abbrev pub gx_in_map : GxState → MapState → MapState
 gx_in_map g m = record m { io = with_gx g m.io }
 
-stop_so : (g : GxState) (refused : Option Stop) (u v : IoState) → unless_stopped refused (with_gx g u) (with_gx g v) ≡ with_gx g (unless_stopped refused u v)
-stop_so g None u v = refl
-stop_so g (Some stop) u v = refl
+-- geometry is no memory, and doesn't share any out
+of_others : OfOthers of_geometry
+of_others = record { bytes = refl; controls = refl; wram = refl }
+
+past : (proc : Proc) (width : Width) (place : Place) → IsApartPlace proc place → IsPast of_geometry proc width place
+past proc width (Port at) h = covers_apart proc (aligned_down width at) width (port_apart proc width at h)
+past proc width (Cell memory at) h = tt
+past proc width (Banks space at) h = tt
+past proc width (Rom at) h = tt
+past proc width Nothing h = tt
+
+abbrev same_bytes : List ℕ → List ℕ
+same_bytes bytes = bytes
 
 module _ (g : GxState) (proc : Proc) (m : MapState) where
-  -- what is read
-  value_there : (now : Tick) (place : Place) (width : Width) → IsApartPlace proc place → value_at proc now place (gx_in_map g m) width ≡ value_at proc now place m width
-  value_there now (Cell memory at) width h = refl
-  value_there now (Banks space at) width h = refl
-  value_there now (Port at) width h = values_apart g proc now m.io (aligned_down width at) width (port_apart proc width at h)
-  value_there now (Rom at) width h = refl
-  value_there now Nothing width h = refl
+  passes : (width : Width) (place : Place) → IsApartPlace proc place → PlacePasses same_bytes (with_gx g) proc m width place
+  passes width place h = place_passes of_geometry of_others (with_it g) proc m width place (past proc width place h)
 
   pub value : (now : Tick) (at : ℕ) (width : Width) → IsApartPlace proc (place_of proc m.io.wramcnt at) → map_value proc now (gx_in_map g m) at width ≡ map_value proc now m at width
-  unfolding map_value
-  value now at width h = value_there now (place_of proc m.io.wramcnt at) width h
-
-  -- what is fetched, at every address
-  fetched_there : (place : Place) (width : Width) → fetched_at proc place (gx_in_map g m) width ≡ fetched_at proc place m width
-  fetched_there (Cell memory at) width = refl
-  fetched_there (Banks space at) width = refl
-  fetched_there (Port at) width = refl
-  fetched_there (Rom at) width = refl
-  fetched_there Nothing width = refl
+  value now at width h = passed.value same_bytes (with_gx g) proc m refl at width now (passes width (place_of proc m.io.wramcnt at) h)
 
   pub fetched : (at : ℕ) (width : Width) → map_fetched proc (gx_in_map g m) at width ≡ map_fetched proc m at width
-  unfolding map_fetched
-  fetched at width = fetched_there (place_of proc m.io.wramcnt at) width
-
-  -- what a read leaves
-  read_there : (place : Place) (width : Width) → IsApartPlace proc place → after_read_at proc place (gx_in_map g m) width ≡ gx_in_map g (after_read_at proc place m width)
-  read_there (Cell memory at) width h = refl
-  read_there (Banks space at) width h = refl
-  read_there (Port at) width h =
-      ap (λ (u : IoState). (let left : MapState = record m { io = u } in left)) (reads_apart g proc m.io (aligned_down width at) width (port_apart proc width at h))
-  read_there (Rom at) width h = refl
-  read_there Nothing width h = refl
+  fetched at width = passed.fetched same_bytes (with_gx g) proc m refl at width (fetch_passes of_geometry of_others (with_it g) proc m width (place_of proc m.io.wramcnt at))
 
   pub read : (at : ℕ) (width : Width) → IsApartPlace proc (place_of proc m.io.wramcnt at) → map_read proc (gx_in_map g m) at width ≡ gx_in_map g (map_read proc m at width)
-  unfolding map_read
-  read at width h = read_there (place_of proc m.io.wramcnt at) width h
-
-  -- why a write is refused
-  refusal_there : (place : Place) (width : Width) (number : ℕ) → IsApartPlace proc place → refusal_at proc place (gx_in_map g m) width number ≡ refusal_at proc place m width number
-  refusal_there (Cell memory at) width number h = refl
-  refusal_there (Banks space at) width number h = refl
-  refusal_there (Port at) width number h = refusals_apart g proc m.io (aligned_down width at) width number (port_apart proc width at h)
-  refusal_there (Rom at) width number h = refl
-  refusal_there Nothing width number h = refl
+  read at width h = passed.read same_bytes (with_gx g) proc m refl at width (passes width (place_of proc m.io.wramcnt at) h)
 
   pub refusal : (at : ℕ) (width : Width) (number : ℕ) → IsApartPlace proc (place_of proc m.io.wramcnt at)
       → map_refusal proc (gx_in_map g m) at width number ≡ map_refusal proc m at width number
-  unfolding map_refusal
-  refusal at width number h = refusal_there (place_of proc m.io.wramcnt at) width number h
-
-  -- what a write leaves
-  port_there : (now : Tick) (at : ℕ) (width : Width) (number : ℕ) → IsApartFromGeometry proc at width
-      → unless_stopped (port_refusal proc (with_gx g m.io) at width number) (with_gx g m.io) (port_written proc now (with_gx g m.io) at width number)
-      ≡ with_gx g (unless_stopped (port_refusal proc m.io at width number) m.io (port_written proc now m.io at width number))
-  port_there now at width number h =
-      let after = port_written proc now m.io at width number in
-      ap (λ (r : Option Stop). unless_stopped r (with_gx g m.io) (port_written proc now (with_gx g m.io) at width number)) (refusals_apart g proc m.io at width number h)
-      ∙ ap (λ (u : IoState). unless_stopped (port_refusal proc m.io at width number) (with_gx g m.io) u) (writes_apart g proc now m.io at width number h)
-      ∙ stop_so g (port_refusal proc m.io at width number) m.io after
-
-  written_there : (now : Tick) (place : Place) (width : Width) (number : ℕ) → IsApartPlace proc place
-      → written_at proc now place (gx_in_map g m) width number ≡ gx_in_map g (written_at proc now place m width number)
-  written_there now (Cell memory at) width number h = refl
-  written_there now (Banks space at) width number h =
-      chosen (λ (x : MapState). gx_in_map g x) (is_byte_of_nine proc width && takes_no_bytes Vram) m (record m { io = record m.io { vram = vram_written m.io.vram space at width number } })
-  written_there now (Port at) width number h =
-      ap (λ (u : IoState). (let left : MapState = record m { io = u } in left)) (port_there now (aligned_down width at) width number (port_apart proc width at h))
-  written_there now (Rom at) width number h = refl
-  written_there now Nothing width number h = refl
+  refusal at width number h = passed.refusal same_bytes (with_gx g) proc m refl at width number (passes width (place_of proc m.io.wramcnt at) h)
 
   pub written : (now : Tick) (at : ℕ) (width : Width) (number : ℕ) → IsApartPlace proc (place_of proc m.io.wramcnt at)
       → map_written proc now (gx_in_map g m) at width number ≡ gx_in_map g (map_written proc now m at width number)
-  unfolding map_written
-  written now at width number h = written_there now (place_of proc m.io.wramcnt at) width number h
+  written now at width number h = passed.written same_bytes (with_gx g) proc m refl at width now number (passes width (place_of proc m.io.wramcnt at) h)
 
--- ---- the DMA unit
+  -- the DMA unit
+  module _ (now : Tick) (unit : DmaUnit) (from : IsApartPlace proc (place_of proc m.io.wramcnt unit.from)) (to : IsApartPlace proc (place_of proc m.io.wramcnt unit.to)) where
+    abbrev taken : MapState
+    taken = unit_taken proc now unit m
 
-module _ (g : GxState) (proc : Proc) (m : MapState) (now : Tick) (unit : DmaUnit) (from : IsApartPlace proc (place_of proc m.io.wramcnt unit.from))
-    (to : IsApartPlace proc (place_of proc m.io.wramcnt unit.to)) where
-  abbrev taken : MapState
-  taken = unit_taken proc now unit m
+    to_passes : PlacePasses same_bytes (with_gx g) proc taken unit.width (place_of proc taken.io.wramcnt unit.to)
+    to_passes =
+        place_passes of_geometry of_others (with_it g) proc taken unit.width (place_of proc taken.io.wramcnt unit.to)
+        (past proc unit.width (place_of proc taken.io.wramcnt unit.to) (apart_anyhow proc m.io.wramcnt taken.io.wramcnt unit.to to))
 
-  abbrev moved_number : ℕ
-  moved_number = map_value proc now m unit.from unit.width
+    pub unit_refuses : unit_refusal proc now unit (gx_in_map g m) ≡ unit_refusal proc now unit m
+    unit_refuses =
+        passed.unit_refuses same_bytes (with_gx g) proc m now unit refl (passes unit.width (place_of proc m.io.wramcnt unit.from) from) (moved_apart g proc now) refl to_passes
 
-  taken_so : unit_taken proc now unit (gx_in_map g m) ≡ gx_in_map g taken
-  taken_so =
-      let left = unit_read proc unit m in
-      ap (λ (x : MapState). (let next : MapState = record x { io = channel_moved proc now x.io } in next)) (read g proc m unit.from unit.width from)
-      ∙ ap (λ (u : IoState). (let next : MapState = record left { io = u } in next)) (moved_apart g proc now left.io)
-
-  to_taken : IsApartPlace proc (place_of proc taken.io.wramcnt unit.to)
-  to_taken = apart_anyhow proc m.io.wramcnt taken.io.wramcnt unit.to to
-
-  pub unit_refuses : unit_refusal proc now unit (gx_in_map g m) ≡ unit_refusal proc now unit m
-  unit_refuses =
-      ap (λ (x : MapState). map_refusal proc x unit.to unit.width (map_value proc now (gx_in_map g m) unit.from unit.width)) taken_so
-      ∙ ap (λ (n : ℕ). map_refusal proc (gx_in_map g taken) unit.to unit.width n) (value g proc m now unit.from unit.width from)
-      ∙ refusal g proc taken unit.to unit.width moved_number to_taken
-
-  after_so : (refused : Option Stop) → after_unit refused proc now unit (gx_in_map g m) ≡ gx_in_map g (after_unit refused proc now unit m)
-  after_so None =
-      ap (λ (x : MapState). map_written proc now x unit.to unit.width (map_value proc now (gx_in_map g m) unit.from unit.width)) taken_so
-      ∙ ap (λ (n : ℕ). map_written proc now (gx_in_map g taken) unit.to unit.width n) (value g proc m now unit.from unit.width from)
-      ∙ written g proc taken now unit.to unit.width moved_number to_taken
-  after_so (Some stop) = read g proc m unit.from unit.width from
-
-  pub unit_moves : unit_moved proc now unit (gx_in_map g m) ≡ gx_in_map g (unit_moved proc now unit m)
-  unit_moves =
-      ap (λ (r : Option Stop). after_unit r proc now unit (gx_in_map g m)) unit_refuses
-      ∙ after_so (unit_refusal proc now unit m)
+    pub unit_moves : unit_moved proc now unit (gx_in_map g m) ≡ gx_in_map g (unit_moved proc now unit m)
+    unit_moves = passed.unit_moves same_bytes (with_gx g) proc m now unit refl (passes unit.width (place_of proc m.io.wramcnt unit.from) from) (moved_apart g proc now) refl to_passes
 
 -- ---- ARM9's channels
 
@@ -255,16 +188,12 @@ unless_keeps : (refused : Option Stop) (u v : IoState) → KeepsControls u.nine.
 unless_keeps None u v k = k
 unless_keeps (Some stop) u v k = keeps_same u.nine.dma
 
-banks_keep : (b : Bool) (m n : MapState) → n.io.nine.dma ≡ m.io.nine.dma → (if b then m else n).io.nine.dma ≡ m.io.nine.dma
-banks_keep true m n e = refl
-banks_keep false m n e = e
-
 written_keeps_there : (proc : Proc) (now : Tick) (place : Place) (m : MapState) (width : Width) (number : ℕ) → IsApartPlace proc place
     → KeepsControls m.io.nine.dma (written_at proc now place m width number).io.nine.dma
 written_keeps_there proc now (Cell memory at) m width number h = keeps_same m.io.nine.dma
 written_keeps_there proc now (Banks space at) m width number h =
     keeps_by m.io.nine.dma _
-    (banks_keep (is_byte_of_nine proc width && takes_no_bytes Vram) m (record m { io = record m.io { vram = vram_written m.io.vram space at width number } }) refl)
+    (either (λ (x : MapState). x.io.nine.dma ≡ m.io.nine.dma) (is_byte_of_nine proc width && takes_no_bytes Vram) m (record m { io = record m.io { vram = vram_written m.io.vram space at width number } }) refl refl)
 written_keeps_there proc now (Port at) m width number h =
     unless_keeps (port_refusal proc m.io (aligned_down width at) width number) m.io (port_written proc now m.io (aligned_down width at) width number)
     (port_keeps proc now m.io at width number h)

@@ -1,4 +1,5 @@
 use Rattle.std.proofs.Common.{ℕ, ◌≡◌, ◌<◌, ◌+◌, ◌-◌, ◌%◌, ◌==◌, Bool, true, false, ◌&&◌, nat_le, nat_lt, if◌then◌else◌, Option, Some, None, List, [], ◌∷◌, length, refl, sym, ◌∙◌, ap, subst, arith}
+use Rattle.ds_base.proofs.Choices.{either}
 use Rattle.ds_base.specs.Memories.{memory_size}
 use Rattle.ds_base.specs.Numbers.{aligned_down, width_bytes}
 use Rattle.ds_base.specs.declared.left_out.Stop.{Stop}
@@ -14,16 +15,22 @@ use Rattle.ds_places.specs.AddressTables.{Cells, Content, Region, place_at, plac
 use Rattle.ds_places.specs.declared.kinds.Place.{Place}
 use Rattle.ds_places.specs.declared.kinds.Place.TheVariants.{Banks, Cell, Nothing, Port, Rom}
 use Rattle.ds_ports.specs.Io.{IoState, channel_moved, with_shares}
-use Rattle.ds_ports.specs.Ports.{port_read, port_refusal, port_written, unless_stopped}
-use Rattle.ds_ports.proofs.Shares.{seven_read_stays, seven_reads, seven_refusals, seven_values, seven_write_stays, seven_writes}
+use Rattle.ds_ports.specs.Ports.{port_read, port_refusal, port_value, port_written, unless_stopped}
+use Rattle.ds_ports.specs.Touches as touches
+use Rattle.ds_ports.specs.Touches.{UnitPart, BankControls, VideoMemory, WramControl, io_graft, is_part}
+use Rattle.ds_ports.proofs.Covered.{covers_all}
+use Rattle.ds_ports.proofs.Passed.{leaves, read_left, write_left}
 use Rattle.vram_banks.specs.Cells as cells
+use Rattle.vram_banks.specs.Mixes.{mixed}
 use Rattle.vram_banks.specs.Cells.{vram_value, vram_written}
 use Rattle.vram_banks.proofs.Allotted.{value_allotted, written_allotted, written_controls, written_length}
 use Rattle.vram_banks.proofs.Mixes.{IsAll, number_other, with_number_length, with_number_other}
-use Rattle.ds_map.specs.Accesses.{after_read_at, fetched_at, map_fetched, map_read, map_refusal, map_value, map_written, refusal_at, value_at, written_at}
+use Rattle.ds_map.specs.Accesses.{after_read_at, map_fetched, map_read, map_refusal, map_value, map_written, written_at}
 use Rattle.ds_map.specs.Maps.{MapState}
 use Rattle.ds_map.specs.Moves.{after_unit, unit_moved, unit_read, unit_refusal, unit_taken}
-use Rattle.ds_map.specs.Shares.{IsSharedSo, SharedPart, is_shown_to_nine, map_put, mixed_banks, shares_put}
+use Rattle.ds_map.specs.Shares.{IsSharedSo, SharedPart, is_apart, is_shown_to_nine, map_put, mixed_banks, shared_put, shares_put}
+use Rattle.ds_map.proofs.Passed as passed
+use Rattle.ds_map.proofs.Passed.{BanksPass, FetchPasses, PlacePasses, PortsPass, port_passes}
 
 -- ARM7's accesses of the map, where ARM9's bytes of the memories that both reach are others: they come to the same, and those bytes stay.
 
@@ -39,14 +46,10 @@ abbrev ArePast : (ℕ → Bool) → Width → List Region → Type 0
 ArePast shown width [] = Unit {0}
 ArePast shown width (r ∷ rs) = ((offset : ℕ) → IsPast shown width (place_at r.content offset)) × ArePast shown width rs
 
-either : (shown : ℕ → Bool) (width : Width) (b : Bool) (one other : Place) → IsPast shown width one → IsPast shown width other → IsPast shown width (if b then one else other)
-either shown width true one other h k = h
-either shown width false one other h k = k
-
 by_regions : (shown : ℕ → Bool) (width : Width) (rs : List Region) (at : ℕ) → ArePast shown width rs → IsPast shown width (place_by rs at)
 by_regions shown width [] at h = tt
 by_regions shown width (r ∷ rs) at h =
-    either shown width (nat_le r.first at && nat_le at r.last) (place_at r.content (at - r.first)) (place_by rs at) (h.0 (at - r.first)) (by_regions shown width rs at h.1)
+    either (IsPast shown width) (nat_le r.first at && nat_le at r.last) (place_at r.content (at - r.first)) (place_by rs at) (h.0 (at - r.first)) (by_regions shown width rs at h.1)
 
 -- an access lies in one half of shared work RAM
 in_first_half : (width : Width) (offset k : ℕ) → k < width_bytes width → nat_le 0x4000 (aligned_down width (0 + offset % 0x4000) + k) ≡ false
@@ -111,13 +114,19 @@ record AreSharedAlike (u v : IoState) : Type 0 where
   pub wramcnt : v.wramcnt ≡ u.wramcnt
 
 read_alike : (u : IoState) (at : ℕ) (width : Width) → AreSharedAlike u (port_read Seven u at width)
-read_alike u at width = let h = seven_read_stays u at width in record { vram = h.0; wramcnt = h.1 }
+read_alike u at width = record {
+  vram = λ i. record { bytes = read_left VideoMemory Seven u at width refl i; controls = read_left BankControls Seven u at width refl i };
+  wramcnt = read_left WramControl Seven u at width refl;
+}
 
 write_alike : (now : Tick) (u : IoState) (at : ℕ) (width : Width) (value : ℕ) → AreSharedAlike u (port_written Seven now u at width value)
-write_alike now u at width value = let h = seven_write_stays now u at width value in record { vram = h.0; wramcnt = h.1 }
-
-put_alike : (own : SharedPart) (u v : IoState) → AreSharedAlike u v → with_shares (mixed_banks own.vram u.vram.bytes) own.wramcnt v ≡ shares_put own v
-put_alike own u v alike = ap (λ (b : cells.Banks). with_shares (mixed_banks own.vram b.bytes) own.wramcnt v) (sym alike.vram)
+write_alike now u at width value =
+    let bytes = write_left VideoMemory Seven now u at width value (covers_all (leaves VideoMemory Seven) Seven at width refl) in
+    let controls = write_left BankControls Seven now u at width value (covers_all (leaves BankControls Seven) Seven at width refl) in
+    record {
+      vram = λ i. record { bytes = bytes i; controls = controls i };
+      wramcnt = write_left WramControl Seven now u at width value (covers_all (leaves WramControl Seven) Seven at width refl);
+    }
 
 so_alike : (own : SharedPart) (shared : List ℕ) (u v : IoState) → AreSharedAlike u v → IsSharedSo own shared u → IsSharedSo own shared v
 so_alike own shared u v alike so = record {
@@ -131,71 +140,84 @@ stop_alike : (refused : Option Stop) (u v : IoState) → AreSharedAlike u v → 
 stop_alike None u v alike = alike
 stop_alike (Some stop) u v alike = record { vram = refl; wramcnt = refl }
 
-stop_put : (refused : Option Stop) (own : SharedPart) (u v : IoState) → unless_stopped refused (shares_put own u) (shares_put own v) ≡ shares_put own (unless_stopped refused u v)
-stop_put None own u v = refl
-stop_put (Some stop) own u v = refl
+-- ARM9's bytes of video memory are a part of the units, which no register of ARM7's touches
+abbrev of_memory : UnitPart → Bool
+of_memory = is_part VideoMemory
+
+module _ (own : SharedPart) (shared : List ℕ) (u : IoState) (so : IsSharedSo own shared u) (at : ℕ) (width : Width) where
+  abbrev there : IoState
+  there = shares_put own u
+
+  as_graft : (v : IoState) → AreSharedAlike u v → shares_put own v ≡ io_graft of_memory there v
+  as_graft v alike = λ i. record v {
+    vram = record {
+      bytes = mixed (is_apart own.vram.controls) own.vram.bytes (ap (λ (b : cells.Banks). b.bytes) alike.vram i);
+      controls = (so.controls ∙ ap (λ (b : cells.Banks). b.controls) (sym alike.vram)) i;
+    };
+    wramcnt = (so.wramcnt ∙ sym alike.wramcnt) i;
+  }
+
+  ports_pass : PortsPass (shares_put own) Seven u at width
+  ports_pass =
+      let it = as_graft u (record { vram = refl; wramcnt = refl }) in
+      let p = port_passes of_memory there Seven u at width (covers_all (touches.is_apart of_memory Seven) Seven at width refl) in
+      record {
+        value = λ now. ap (λ (x : IoState). port_value Seven now x at width) it ∙ p.value now;
+        read = ap (λ (x : IoState). port_read Seven x at width) it ∙ p.read ∙ sym (as_graft (port_read Seven u at width) (read_alike u at width));
+        refusal = λ value. ap (λ (x : IoState). port_refusal Seven x at width value) it ∙ p.refusal value;
+        written = λ now value. ap (λ (x : IoState). port_written Seven now x at width value) it ∙ p.written now value
+            ∙ sym (as_graft (port_written Seven now u at width value) (write_alike now u at width value));
+      }
 
 -- ---- accesses
 
 module _ (own : SharedPart) (m : MapState) (so : IsSharedSo own m.memories.shared m.io) where
-  abbrev OwnPast : Width → Place → Type 0
-  OwnPast width place = IsPast (is_shown_to_nine own.wramcnt) width place
+  abbrev shared_changed : List ℕ → List ℕ
+  shared_changed = shared_put own
 
-  -- the banks that are put in
-  abbrev put_banks : cells.Banks
-  put_banks = mixed_banks own.vram m.io.vram.bytes
+  banks_pass : (space : Space) (at : ℕ) (width : Width) → space ≡ Arm7 → BanksPass (shares_put own) m.io space at width
+  banks_pass space at width e = subst (λ (s : Space). BanksPass (shares_put own) m.io s at width) (sym e) (record {
+    value = banks_value own.vram m.io.vram so.controls so.bytes at width;
+    written = λ value. ap (λ (b : cells.Banks). with_shares b own.wramcnt m.io) (banks_written own.vram m.io.vram so.controls so.bytes at width value);
+  })
 
-  banks_there : (space : Space) (at : ℕ) (width : Width) → space ≡ Arm7 → vram_value put_banks space at width ≡ vram_value m.io.vram space at width
-  banks_there space at width e =
-      let P : Space → Type 0 = λ s. vram_value put_banks s at width ≡ vram_value m.io.vram s at width in
-      subst P (sym e) (banks_value own.vram m.io.vram so.controls so.bytes at width)
+  passes : (width : Width) (place : Place) → IsPast (is_shown_to_nine own.wramcnt) width place → PlacePasses shared_changed (shares_put own) Seven m width place
+  passes width (Cell Shared at) past = record {
+    number = number_other (is_shown_to_nine own.wramcnt) own.shared m.memories.shared width (aligned_down width at) so.shared past;
+    put = λ value. with_number_other (is_shown_to_nine own.wramcnt) own.shared m.memories.shared width (aligned_down width at) value so.shared past;
+  }
+  passes width (Cell _ at) past = tt
+  passes width (Banks space at) past = banks_pass space at width past
+  passes width (Port at) past = ports_pass own m.memories.shared m.io so (aligned_down width at) width
+  passes width (Rom at) past = tt
+  passes width Nothing past = tt
 
-  -- what is read
-  value_there : (now : Tick) (place : Place) (width : Width) → OwnPast width place → value_at Seven now place (map_put own m) width ≡ value_at Seven now place m width
-  value_there now (Cell Shared at) width past = number_other (is_shown_to_nine own.wramcnt) own.shared m.memories.shared width (aligned_down width at) so.shared past
-  value_there now (Cell _ at) width past = refl
-  value_there now (Banks space at) width past = banks_there space at width past
-  value_there now (Port at) width past = seven_values put_banks own.wramcnt now m.io (aligned_down width at) width so.controls so.wramcnt
-  value_there now (Rom at) width past = refl
-  value_there now Nothing width past = refl
+  passes_at : (at : ℕ) (width : Width) → PlacePasses shared_changed (shares_put own) Seven m width (place_of Seven m.io.wramcnt at)
+  passes_at at width =
+      passes width (place_of Seven m.io.wramcnt at)
+      (subst (λ (w : ℕ). IsPast (is_shown_to_nine w) width (place_of Seven m.io.wramcnt at)) (sym so.wramcnt) (place_past m.io.wramcnt at width))
+
+  fetch_by : (width : Width) (place : Place) → PlacePasses shared_changed (shares_put own) Seven m width place → FetchPasses shared_changed (shares_put own) Seven m width place
+  fetch_by width (Port at) h = tt
+  fetch_by width (Cell memory at) h = h
+  fetch_by width (Banks space at) h = h
+  fetch_by width (Rom at) h = h
+  fetch_by width Nothing h = h
 
   pub value : (now : Tick) (at : ℕ) (width : Width) → map_value Seven now (map_put own m) at width ≡ map_value Seven now m at width
-  unfolding map_value
-  value now at width =
-      value_there now (place_of Seven own.wramcnt at) width (place_past own.wramcnt at width)
-      ∙ ap (λ (w : ℕ). value_at Seven now (place_of Seven w at) m width) so.wramcnt
-
-  -- what is fetched
-  fetched_there : (place : Place) (width : Width) → OwnPast width place → fetched_at Seven place (map_put own m) width ≡ fetched_at Seven place m width
-  fetched_there (Cell Shared at) width past = number_other (is_shown_to_nine own.wramcnt) own.shared m.memories.shared width (aligned_down width at) so.shared past
-  fetched_there (Cell _ at) width past = refl
-  fetched_there (Banks space at) width past = banks_there space at width past
-  fetched_there (Port at) width past = refl
-  fetched_there (Rom at) width past = refl
-  fetched_there Nothing width past = refl
+  value now at width = passed.value shared_changed (shares_put own) Seven m so.wramcnt at width now (passes_at at width)
 
   pub fetched : (at : ℕ) (width : Width) → map_fetched Seven (map_put own m) at width ≡ map_fetched Seven m at width
-  unfolding map_fetched
-  fetched at width =
-      fetched_there (place_of Seven own.wramcnt at) width (place_past own.wramcnt at width)
-      ∙ ap (λ (w : ℕ). fetched_at Seven (place_of Seven w at) m width) so.wramcnt
-
-  -- what a read leaves
-  read_there : (place : Place) (width : Width) → after_read_at Seven place (map_put own m) width ≡ map_put own (after_read_at Seven place m width)
-  read_there (Cell memory at) width = refl
-  read_there (Banks space at) width = refl
-  read_there (Port at) width =
-      let down = aligned_down width at in
-      ap (λ (u : IoState). (let left : MapState = record (map_put own m) { io = u } in left))
-      (seven_reads put_banks own.wramcnt m.io down width ∙ put_alike own m.io (port_read Seven m.io down width) (read_alike m.io down width))
-  read_there (Rom at) width = refl
-  read_there Nothing width = refl
+  fetched at width = passed.fetched shared_changed (shares_put own) Seven m so.wramcnt at width (fetch_by width (place_of Seven m.io.wramcnt at) (passes_at at width))
 
   pub read : (at : ℕ) (width : Width) → map_read Seven (map_put own m) at width ≡ map_put own (map_read Seven m at width)
-  unfolding map_read
-  read at width =
-      read_there (place_of Seven own.wramcnt at) width
-      ∙ ap (λ (w : ℕ). map_put own (after_read_at Seven (place_of Seven w at) m width)) so.wramcnt
+  read at width = passed.read shared_changed (shares_put own) Seven m so.wramcnt at width (passes_at at width)
+
+  pub refusal : (at : ℕ) (width : Width) (number : ℕ) → map_refusal Seven (map_put own m) at width number ≡ map_refusal Seven m at width number
+  refusal at width number = passed.refusal shared_changed (shares_put own) Seven m so.wramcnt at width number (passes_at at width)
+
+  pub written : (now : Tick) (at : ℕ) (width : Width) (number : ℕ) → map_written Seven now (map_put own m) at width number ≡ map_put own (map_written Seven now m at width number)
+  written now at width number = passed.written shared_changed (shares_put own) Seven m so.wramcnt at width now number (passes_at at width)
 
   read_stays_there : (place : Place) (width : Width) → (let left = after_read_at Seven place m width in IsSharedSo own left.memories.shared left.io)
   read_stays_there (Cell memory at) width = so
@@ -208,54 +230,6 @@ module _ (own : SharedPart) (m : MapState) (so : IsSharedSo own m.memories.share
   pub read_stays : (at : ℕ) (width : Width) → IsSharedSo own (map_read Seven m at width).memories.shared (map_read Seven m at width).io
   unfolding map_read
   read_stays at width = read_stays_there (place_of Seven m.io.wramcnt at) width
-
-  -- why a write is refused
-  refusal_there : (place : Place) (width : Width) (number : ℕ) → refusal_at Seven place (map_put own m) width number ≡ refusal_at Seven place m width number
-  refusal_there (Cell memory at) width number = refl
-  refusal_there (Banks space at) width number = refl
-  refusal_there (Port at) width number = seven_refusals put_banks own.wramcnt m.io (aligned_down width at) width number
-  refusal_there (Rom at) width number = refl
-  refusal_there Nothing width number = refl
-
-  pub refusal : (at : ℕ) (width : Width) (number : ℕ) → map_refusal Seven (map_put own m) at width number ≡ map_refusal Seven m at width number
-  unfolding map_refusal
-  refusal at width number =
-      refusal_there (place_of Seven own.wramcnt at) width number
-      ∙ ap (λ (w : ℕ). refusal_at Seven (place_of Seven w at) m width number) so.wramcnt
-
-  -- what a write leaves
-  port_there : (now : Tick) (at : ℕ) (width : Width) (number : ℕ)
-      → unless_stopped (port_refusal Seven (shares_put own m.io) at width number) (shares_put own m.io) (port_written Seven now (shares_put own m.io) at width number)
-      ≡ shares_put own (unless_stopped (port_refusal Seven m.io at width number) m.io (port_written Seven now m.io at width number))
-  port_there now at width number =
-      let after = port_written Seven now m.io at width number in
-      ap (λ (r : Option Stop). unless_stopped r (shares_put own m.io) (port_written Seven now (shares_put own m.io) at width number))
-      (seven_refusals put_banks own.wramcnt m.io at width number)
-      ∙ ap (λ (u : IoState). unless_stopped (port_refusal Seven m.io at width number) (shares_put own m.io) u)
-      (seven_writes put_banks own.wramcnt now m.io at width number ∙ put_alike own m.io after (write_alike now m.io at width number))
-      ∙ stop_put (port_refusal Seven m.io at width number) own m.io after
-
-  written_there : (now : Tick) (place : Place) (width : Width) (number : ℕ) → OwnPast width place
-      → written_at Seven now place (map_put own m) width number ≡ map_put own (written_at Seven now place m width number)
-  written_there now (Cell Shared at) width number past =
-      ap (λ (bytes : List ℕ). (let left : MapState = record m { memories = record m.memories { shared = bytes }; io = shares_put own m.io } in left))
-      (with_number_other (is_shown_to_nine own.wramcnt) own.shared m.memories.shared width (aligned_down width at) number so.shared past)
-  written_there now (Cell _ at) width number past = refl
-  written_there now (Banks space at) width number past =
-      let P : Space → Type 0 = λ s. written_at Seven now (Banks s at) (map_put own m) width number ≡ map_put own (written_at Seven now (Banks s at) m width number) in
-      subst P (sym past)
-      (ap (λ (b : cells.Banks). (let left : MapState = record (map_put own m) { io = with_shares b own.wramcnt m.io } in left))
-      (banks_written own.vram m.io.vram so.controls so.bytes at width number))
-  written_there now (Port at) width number past =
-      ap (λ (u : IoState). (let left : MapState = record (map_put own m) { io = u } in left)) (port_there now (aligned_down width at) width number)
-  written_there now (Rom at) width number past = refl
-  written_there now Nothing width number past = refl
-
-  pub written : (now : Tick) (at : ℕ) (width : Width) (number : ℕ) → map_written Seven now (map_put own m) at width number ≡ map_put own (map_written Seven now m at width number)
-  unfolding map_written
-  written now at width number =
-      written_there now (place_of Seven own.wramcnt at) width number (place_past own.wramcnt at width)
-      ∙ ap (λ (w : ℕ). map_put own (written_at Seven now (place_of Seven w at) m width number)) so.wramcnt
 
   written_stays_there : (now : Tick) (place : Place) (width : Width) (number : ℕ)
       → (let left = written_at Seven now place m width number in IsSharedSo own left.memories.shared left.io)
@@ -294,32 +268,24 @@ module _ (own : SharedPart) (m : MapState) (so : IsSharedSo own m.memories.share
   abbrev number : ℕ
   number = map_value Seven now m unit.from unit.width
 
-  unit_taken_same : unit_taken Seven now unit (map_put own m) ≡ map_put own taken
-  unit_taken_same = ap (λ (x : MapState). (let left : MapState = record x { io = channel_moved Seven now x.io } in left)) (read own m so unit.from unit.width)
-
   -- taking it from the plan changes the channels alone
   taken_stays : IsSharedSo own taken.memories.shared taken.io
   taken_stays =
       let left = unit_read Seven unit m in
       so_alike own left.memories.shared left.io taken.io (record { vram = refl; wramcnt = refl }) (read_stays own m so unit.from unit.width)
 
+  moved : (u : IoState) → channel_moved Seven now (shares_put own u) ≡ shares_put own (channel_moved Seven now u)
+  moved u = refl
+
   pub unit_refuses : unit_refusal Seven now unit (map_put own m) ≡ unit_refusal Seven now unit m
   unit_refuses =
-      ap (λ (x : MapState). map_refusal Seven x unit.to unit.width (map_value Seven now (map_put own m) unit.from unit.width)) unit_taken_same
-      ∙ ap (λ (n : ℕ). map_refusal Seven (map_put own taken) unit.to unit.width n) (value own m so now unit.from unit.width)
-      ∙ refusal own taken taken_stays unit.to unit.width number
-
-  after_same : (refused : Option Stop) → after_unit refused Seven now unit (map_put own m) ≡ map_put own (after_unit refused Seven now unit m)
-  after_same None =
-      ap (λ (x : MapState). map_written Seven now x unit.to unit.width (map_value Seven now (map_put own m) unit.from unit.width)) unit_taken_same
-      ∙ ap (λ (n : ℕ). map_written Seven now (map_put own taken) unit.to unit.width n) (value own m so now unit.from unit.width)
-      ∙ written own taken taken_stays now unit.to unit.width number
-  after_same (Some stop) = read own m so unit.from unit.width
+      passed.unit_refuses (shared_put own) (shares_put own) Seven m now unit so.wramcnt (passes_at own m so unit.from unit.width) moved taken_stays.wramcnt
+      (passes_at own taken taken_stays unit.to unit.width)
 
   pub unit_moves : unit_moved Seven now unit (map_put own m) ≡ map_put own (unit_moved Seven now unit m)
   unit_moves =
-      ap (λ (r : Option Stop). after_unit r Seven now unit (map_put own m)) unit_refuses
-      ∙ after_same (unit_refusal Seven now unit m)
+      passed.unit_moves (shared_put own) (shares_put own) Seven m now unit so.wramcnt (passes_at own m so unit.from unit.width) moved taken_stays.wramcnt
+      (passes_at own taken taken_stays unit.to unit.width)
 
   after_stays : (refused : Option Stop) → (let left = after_unit refused Seven now unit m in IsSharedSo own left.memories.shared left.io)
   after_stays None = written_stays own taken taken_stays now unit.to unit.width number

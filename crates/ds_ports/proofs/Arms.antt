@@ -1,13 +1,12 @@
 use Rattle.std.specs.Prelude.{◌||◌}
-use Rattle.std.proofs.Common.{ℕ, zero, suc, ◌≡◌, ◌<◌, ◌≤◌, ◌+◌, ◌-◌, ◌/◌, ◌%◌, ◌^◌, ◌⊎◌, inl, inr, ◌==◌, ◌&&◌, not, nat_le, nat_lt, Bool, true, false, true≢false, if◌then◌else◌, List, [], ◌∷◌, length, map, slice_set, Option, Some, None, refl, sym, ◌∙◌, ap, subst, arith, rules, length-set}
-use Rattle.std.proofs.Math.Nat.{div-lt_iff_lt-mul}
+use Rattle.std.proofs.Common.{ℕ, zero, suc, ◌≡◌, ◌<◌, ◌≤◌, ◌+◌, ◌-◌, ◌/◌, ◌%◌, ◌^◌, inl, inr, ◌==◌, ◌&&◌, not, Bool, true, false, true≢false, if◌then◌else◌, List, [], ◌∷◌, length, map, slice_set, Some, None, refl, sym, ◌∙◌, ap, subst, arith, rules, length-set}
 use Rattle.std.proofs.lemmas.List.{length-map}
+use Rattle.ds_base.proofs.Choices.{both, equal, one_of}
 use Rattle.ds_base.specs.Bits.{bits}
 use Rattle.ds_base.specs.Interrupts.{interrupt_bit}
 use Rattle.ds_base.specs.Numbers.{width_bytes}
 use Rattle.ds_base.specs.declared.interrupts.Interrupt.TheVariants.{Keys}
 use Rattle.ds_base.specs.declared.memories.Width.{Width}
-use Rattle.ds_base.specs.declared.memories.Width.TheVariants.{Byte, Half, Word}
 use Rattle.ds_base.specs.declared.processors.Proc.{Proc}
 use Rattle.ds_base.specs.declared.processors.Proc.TheVariants.{Nine, Seven}
 use Rattle.ds_base.specs.declared.ticks.Tick.{Tick}
@@ -18,15 +17,16 @@ use Rattle.ds_dma.specs.declared.controls.Cause.{Cause}
 use Rattle.ds_dma.specs.declared.controls.Cause.TheVariants.{Geometry}
 use Rattle.ds_ports.specs.Acting.{is_armed}
 use Rattle.ds_ports.specs.Io.{IoState}
-use Rattle.ds_ports.specs.Ports.{byte_written, half_written, ignores, port_read, port_written, read_unchanged, slot_joined, slot_written, whole_if, whole_in, word_written, written_or}
+use Rattle.ds_ports.specs.Ports.{port_read, port_written}
 use Rattle.ds_ports.specs.ProcessorIo.{ProcessorIoState, haltcnt_written, kept_keycnt, keys_hold, keys_told, processor_io_raised}
-use Rattle.ds_ports.specs.RegisterMap.{PortRow, map_of_nine, row_bytes, slot_by, slot_in, slot_of}
-use Rattle.ds_ports.specs.Registers.{after_write, meaning_of}
+use Rattle.ds_ports.specs.RegisterMap.{PortRow, register_map, row_bytes, slot_in, slot_of}
+use Rattle.ds_ports.specs.Registers.{after_write}
 use Rattle.ds_ports.specs.declared.registers.Register.{Register}
 use Rattle.ds_ports.specs.declared.registers.Register.TheVariants.{Dmasad, Dmadad, Dmacnt, Keycnt, Haltcnt}
-use Rattle.ds_ports.specs.declared.registers.Slot.{Slot}
-use Rattle.ds_ports.proofs.Covered.{ByteIs, Covers, HalfIs, OfKind, WordIs, covers}
-use Rattle.ds_ports.proofs.RegisterMaps.{both, each_below, of_each}
+use Rattle.ds_ports.specs.Touches.{DmaNine}
+use Rattle.ds_ports.proofs.Covered.{OfKind, covers, covers_all, write_leaves}
+use Rattle.ds_ports.proofs.Passed.{leaves, read_left, write_left}
+use Rattle.ds_ports.proofs.RegisterMaps.{each_place, of_place, slot_by_all}
 
 -- Which of ARM9's channels are enabled with the start of the geometry FIFO is told by their controls, and of ports those are changed by writes of DMAxCNT alone.
 
@@ -140,106 +140,26 @@ is_no_control _ = true
 abbrev place_fits : PortRow → ℕ → Bool
 place_fits r place = is_no_control (r.register place) || ((r.bytes == 4) && ((r.offset % 4 == 0) && is_control_word (r.offset / 4 + place)))
 
-abbrev row_fits : PortRow → Bool
-row_fits r = nat_lt 0 r.bytes && each_below r.count (place_fits r)
-
-abbrev rows_fit : List PortRow → Bool
-rows_fit [] = true
-rows_fit (r ∷ rows) = row_fits r && rows_fit rows
-
-some_of : (n : ℕ) → nat_lt 0 n ≡ true → 0 < n
-some_of n h = grind (arith, h)
-
-this_or_that : (a b : Bool) → (a || b) ≡ true → (a ≡ true) ⊎ (b ≡ true)
-this_or_that true b h = inl refl
-this_or_that false b h = inr h
-
-equal_of : (a b : ℕ) → (a == b) ≡ true → a ≡ b
-equal_of a b h = grind (arith, rules)
-
-inside_or_not : (offset bytes at : ℕ)
-    → ((at - offset < bytes) × (offset ≤ at) × ((nat_le offset at && nat_lt at (offset + bytes)) ≡ true)) ⊎ ((nat_le offset at && nat_lt at (offset + bytes)) ≡ false)
-inside_or_not offset bytes at = grind arith
-
 same_word : (offset at : ℕ) → offset % 4 ≡ 0 → offset ≤ at → offset / 4 + (at - offset) / 4 ≡ at / 4
 same_word offset at h le = omega (arith, h, le)
 
-slot_fits : (r : PortRow) (at : ℕ) → row_fits r ≡ true → at - r.offset < row_bytes r → r.offset ≤ at → is_control_word (at / 4) ≡ false
+slot_fits : (r : PortRow) (at : ℕ) → each_place place_fits r ≡ true → at - r.offset < row_bytes r → r.offset ≤ at → is_control_word (at / 4) ≡ false
     → is_no_control (slot_in r (at - r.offset)).register ≡ true
 slot_fits r at h inside le out =
     let place = (at - r.offset) / r.bytes in
-    let two = both (nat_lt 0 r.bytes) (each_below r.count (place_fits r)) h in
-    let fits : place_fits r place ≡ true = of_each r.count (place_fits r) place two.1 ((div-lt_iff_lt-mul (some_of r.bytes two.0)).1 (omega (arith, inside))) in
-    elim (this_or_that (is_no_control (r.register place)) ((r.bytes == 4) && ((r.offset % 4 == 0) && is_control_word (r.offset / 4 + place))) fits) [
+    elim (one_of (is_no_control (r.register place)) ((r.bytes == 4) && ((r.offset % 4 == 0) && is_control_word (r.offset / 4 + place))) (of_place place_fits r (at - r.offset) h inside)) [
       | inl other ↦ other
       | inr there ↦
           (let four = both (r.bytes == 4) ((r.offset % 4 == 0) && is_control_word (r.offset / 4 + place)) there in
           let whole = both (r.offset % 4 == 0) (is_control_word (r.offset / 4 + place)) four.1 in
           let word : r.offset / 4 + place ≡ at / 4 =
-          ap (λ (n : ℕ). r.offset / 4 + (at - r.offset) / n) (equal_of r.bytes 4 four.0) ∙ same_word r.offset at (equal_of (r.offset % 4) 0 whole.0) le in
+          ap (λ (n : ℕ). r.offset / 4 + (at - r.offset) / n) (equal r.bytes 4 four.0) ∙ same_word r.offset at (equal (r.offset % 4) 0 whole.0) le in
           absurd (true≢false (sym whole.1 ∙ ap is_control_word word ∙ out)))
-    ]
-
-slot_by_fits : (rows : List PortRow) (at : ℕ) → rows_fit rows ≡ true → is_control_word (at / 4) ≡ false → OfKind is_no_control (slot_by rows at)
-slot_by_fits [] at h out = tt
-slot_by_fits (r ∷ rows) at h out =
-    let two = both (row_fits r) (rows_fit rows) h in
-    elim (inside_or_not r.offset (row_bytes r) at) [
-      | inl inside ↦ rw inside.2 (slot_fits r at two.0 inside.0 inside.1 out)
-      | inr outside ↦ rw outside (slot_by_fits rows at two.1 out)
     ]
 
 slot_of_fits : (at : ℕ) → is_control_word (at / 4) ≡ false → OfKind is_no_control (slot_of Nine at)
 unfolding slot_of
-slot_of_fits at out = slot_by_fits map_of_nine at refl out
-
--- ---- a relation that each register's write keeps, a write keeps
-
-whole_if_is : (kind : Register → Bool) (b : Bool) (slot : Slot) → kind slot.register ≡ true → OfKind kind (whole_if b slot)
-whole_if_is kind true slot h = h
-whole_if_is kind false slot h = tt
-
-whole_is : (kind : Register → Bool) (width : Width) (slot : Option Slot) → OfKind kind slot → OfKind kind (whole_in width slot)
-whole_is kind width None h = tt
-whole_is kind width (Some slot) h = whole_if_is kind _ slot h
-
-either : (P : IoState → Type 0) (b : Bool) (u v : IoState) → P u → P v → P (if b then u else v)
-either P true u v p q = p
-either P false u v p q = q
-
-module _ (kind : Register → Bool) (proc : Proc) (now : Tick) (R : IoState → IoState → Type 0) (same : (u : IoState) → R u u) (joined : (u v w : IoState) → R u v → R v w → R u w)
-    (each : (u : IoState) (register : Register) (n word : ℕ) → kind register ≡ true → R u (after_write proc now u register n word)) where
-  slot_leaves : (u : IoState) (width : Width) (slot : Slot) (value : ℕ) → kind slot.register ≡ true → R u (slot_written proc now u width slot value)
-  slot_leaves u width slot value h =
-      either (R u) (ignores width slot.register) u (after_write proc now u slot.register slot.number (slot_joined proc u width slot value)) (same u)
-      (each u slot.register slot.number (slot_joined proc u width slot value) h)
-
-  or_leaves : (u : IoState) (width : Width) (slot : Option Slot) (value : ℕ) (other : IoState) → OfKind kind slot → R u other → R u (written_or proc now u width slot value other)
-  or_leaves u width None value other h r = r
-  or_leaves u width (Some slot) value other h r = slot_leaves u width slot value h
-
-  byte_leaves : (u : IoState) (at value : ℕ) → ByteIs kind proc at → R u (byte_written proc now u at value)
-  byte_leaves u at value h = or_leaves u Byte (slot_of proc at) value u h (same u)
-
-  half_leaves : (u : IoState) (at value : ℕ) → HalfIs kind proc at → R u (half_written proc now u at value)
-  half_leaves u at value h =
-      let first = byte_written proc now u at value in
-      let second = byte_written proc now first (at + 1) (value / 2 ^ 8) in
-      or_leaves u Half (whole_in Half (slot_of proc at)) value second (whole_is kind Half (slot_of proc at) h.0)
-      (joined u first second (byte_leaves u at value h.0) (byte_leaves first (at + 1) (value / 2 ^ 8) h.1))
-
-  word_leaves : (u : IoState) (at value : ℕ) → WordIs kind proc at → R u (word_written proc now u at value)
-  word_leaves u at value h =
-      let first = half_written proc now u at value in
-      let second = half_written proc now first (at + 2) (value / 2 ^ 16) in
-      or_leaves u Word (whole_in Word (slot_of proc at)) value second (whole_is kind Word (slot_of proc at) h.0.0)
-      (joined u first second (half_leaves u at value h.0) (half_leaves first (at + 2) (value / 2 ^ 16) h.1))
-
-  write_leaves : (u : IoState) (at : ℕ) (width : Width) (value : ℕ) → Covers kind proc at width → R u (port_written proc now u at width value)
-  unfolding port_written
-  write_leaves u at Byte value h = byte_leaves u at value h
-  write_leaves u at Half value h = half_leaves u at value h
-  write_leaves u at Word value h = word_leaves u at value h
+slot_of_fits at out = slot_by_all (λ s. is_no_control s.register ≡ true) (each_place place_fits) (register_map Nine) at refl (λ r h inside le lies. slot_fits r at h inside le out)
 
 -- ---- each register
 
@@ -262,14 +182,6 @@ nine_keeps now u Keycnt n word h = keeps_by u.nine.dma _ (told_dma (record u.nin
 nine_keeps now u Haltcnt n word h = keeps_by u.nine.dma _ (halt_dma u.nine (word % 2 ^ 8))
 nine_keeps now u _ n word h = keeps_same u.nine.dma
 
-seven_leaves : (now : Tick) (u : IoState) (register : Register) (n word : ℕ) → (after_write Seven now u register n word).nine.dma ≡ u.nine.dma
-seven_leaves now u Dmacnt n word = refl
-seven_leaves now u _ n word = refl
-
-read_leaves : (proc : Proc) (u : IoState) (register : Register) → ((meaning_of register).after_read proc u).nine.dma ≡ u.nine.dma
-read_leaves proc u Dmacnt = refl
-read_leaves proc u _ = refl
-
 -- ---- accesses: a write of ARM9's none of whose bytes lies in those words keeps the controls; and ARM7's keep all of ARM9's channels, and so do reads
 
 pub write_keeps : (now : Tick) (u : IoState) (at : ℕ) (width : Width) (value : ℕ) → ((k : ℕ) → k < width_bytes width → is_control_word ((at + k) / 4) ≡ false)
@@ -278,29 +190,8 @@ write_keeps now u at width value apart =
     write_leaves is_no_control Nine now (λ x y. KeepsControls x.nine.dma y.nine.dma) (λ x. keeps_same x.nine.dma) (λ x y z. keeps_then x.nine.dma y.nine.dma z.nine.dma)
     (nine_keeps now) u at width value (covers is_no_control Nine at width (λ k l. slot_of_fits (at + k) (apart k l)))
 
-abbrev any_kind : Register → Bool
-any_kind register = true
-
-any_slot : (slot : Option Slot) → OfKind any_kind slot
-any_slot None = tt
-any_slot (Some slot) = refl
-
 pub seven_write_dma : (now : Tick) (u : IoState) (at : ℕ) (width : Width) (value : ℕ) → (port_written Seven now u at width value).nine.dma ≡ u.nine.dma
-seven_write_dma now u at width value =
-    write_leaves any_kind Seven now (λ x y. y.nine.dma ≡ x.nine.dma) (λ x. refl) (λ x y z k l. l ∙ k) (λ x register n word h. seven_leaves now x register n word) u at width value
-    (covers any_kind Seven at width (λ k l. any_slot (slot_of Seven (at + k))))
-
-unchanged_dma : (proc : Proc) (u : IoState) (slot : Option Slot) → (read_unchanged proc u slot).nine.dma ≡ u.nine.dma
-unchanged_dma proc u None = refl
-unchanged_dma proc u (Some slot) = read_leaves proc u slot.register
+seven_write_dma now u at width value = write_left DmaNine Seven now u at width value (covers_all (leaves DmaNine Seven) Seven at width refl)
 
 pub read_dma : (proc : Proc) (u : IoState) (at : ℕ) (width : Width) → (port_read proc u at width).nine.dma ≡ u.nine.dma
-unfolding port_read
-read_dma proc u at Byte = refl
-read_dma proc u at Half = refl
-read_dma proc u at Word = unchanged_dma proc u (whole_in Word (slot_of proc at))
-
--- a write whose offset `at` stands in one word of those that aren't DMAxCNT's
-pub control_stays : (now : Tick) (u : IoState) (at : ℕ) (width : Width) (value : ℕ) → ((k : ℕ) → k < width_bytes width → is_control_word ((at + k) / 4) ≡ false) → (which : ℕ)
-    → (channel_at (port_written Nine now u at width value).nine.dma.channels which).cnt ≡ (channel_at u.nine.dma.channels which).cnt
-control_stays now u at width value apart which = (write_keeps now u at width value apart).cnt which
+read_dma proc u at width = read_left DmaNine proc u at width refl

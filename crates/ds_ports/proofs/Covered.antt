@@ -1,6 +1,6 @@
-use Rattle.std.proofs.Common.{ℕ, ◌≡◌, ◌<◌, ◌+◌, ◌-◌, ◌*◌, ◌/◌, ◌^◌, ◌⊎◌, inl, inr, Bool, true, false, true≢false, ◌&&◌, nat_le, nat_lt, if◌then◌else◌, List, [], ◌∷◌, Option, Some, None, refl, sym, ◌∙◌, ap, subst, arith}
+use Rattle.std.proofs.Common.{ℕ, ◌≡◌, ◌<◌, ◌+◌, ◌-◌, ◌*◌, ◌/◌, ◌^◌, inl, inr, Bool, true, false, true≢false, if◌then◌else◌, Option, Some, None, refl, sym, ◌∙◌, ap, subst, arith}
 use Rattle.std.specs.Prelude.{◌||◌, IfSome}
-use Rattle.std.proofs.Math.Nat.{div-lt_iff_lt-mul}
+use Rattle.ds_base.proofs.Choices.{either, never, one_of}
 use Rattle.ds_base.specs.Numbers.{width_bytes}
 use Rattle.ds_base.specs.declared.left_out.Stop.{Stop}
 use Rattle.ds_base.specs.declared.memories.Width.{Width}
@@ -9,11 +9,11 @@ use Rattle.ds_base.specs.declared.processors.Proc.{Proc}
 use Rattle.ds_base.specs.declared.ticks.Tick.{Tick}
 use Rattle.ds_ports.specs.Io.{IoState}
 use Rattle.ds_ports.specs.Ports.{byte_refusal, byte_written, first_stop, half_refusal, half_written, ignores, part, port_byte, port_half, port_read, port_refusal, port_value, port_word, port_written, read_or, read_unchanged, refusal_or, slot_joined, slot_refusal, slot_value, slot_written, whole_if, whole_in, with_bytes_from, word_refusal, word_written, written_or}
-use Rattle.ds_ports.specs.RegisterMap.{PortRow, register_map, row_bytes, slot_by, slot_in, slot_of}
+use Rattle.ds_ports.specs.RegisterMap.{PortRow, register_map, slot_of}
 use Rattle.ds_ports.specs.Registers.{after_write, meaning_of}
 use Rattle.ds_ports.specs.declared.registers.Register.{Register}
 use Rattle.ds_ports.specs.declared.registers.Slot.{Slot}
-use Rattle.ds_ports.proofs.RegisterMaps.{both, each_below, of_each}
+use Rattle.ds_ports.proofs.RegisterMaps.{all_rows, each_place, lies_in, of_place, slot_by_all}
 
 -- A law of the registers of which an access covers bytes is a law of the access.
 
@@ -30,56 +30,23 @@ OfKind kind slot = IfSome slot (λ s. kind s.register ≡ true)
 abbrev pub is_of_row : (Register → Bool) → PortRow → ℕ → Bool
 is_of_row kind r place = kind (r.register place)
 
-abbrev pub row_is : (Register → Bool) → PortRow → Bool
-row_is kind r = nat_lt 0 r.bytes && each_below r.count (is_of_row kind r)
-
--- all rows have registers of a kind, but for those that are skipped
-abbrev pub rows_are : (PortRow → Bool) → (Register → Bool) → List PortRow → Bool
-rows_are skips kind [] = true
-rows_are skips kind (r ∷ rows) = (skips r || row_is kind r) && rows_are skips kind rows
+-- a row has registers of a kind, or is skipped
+abbrev pub row_is : (PortRow → Bool) → (Register → Bool) → PortRow → Bool
+row_is skips kind r = skips r || each_place (is_of_row kind) r
 
 -- none is
 abbrev pub no_row : PortRow → Bool
 no_row r = false
 
--- an offset lies in a row
-abbrev pub lies_in : PortRow → ℕ → Bool
-lies_in r at = nat_le r.offset at && nat_lt at (r.offset + row_bytes r)
-
-some_of : (n : ℕ) → nat_lt 0 n ≡ true → 0 < n
-some_of n h = grind (arith, h)
-
-this_or_that : (a b : Bool) → (a || b) ≡ true → (a ≡ true) ⊎ (b ≡ true)
-this_or_that true b h = inl refl
-this_or_that false b h = inr h
-
-row_has : (kind : Register → Bool) (r : PortRow) (offset : ℕ) → row_is kind r ≡ true → offset < row_bytes r → kind (slot_in r offset).register ≡ true
-row_has kind r offset h inside =
-    let two = both (nat_lt 0 r.bytes) (each_below r.count (is_of_row kind r)) h in
-    of_each r.count (is_of_row kind r) (offset / r.bytes) two.1 ((div-lt_iff_lt-mul (some_of r.bytes two.0)).1 (omega (arith, inside)))
-
-inside_or_not : (offset bytes at : ℕ) → ((at - offset < bytes) × ((nat_le offset at && nat_lt at (offset + bytes)) ≡ true)) ⊎ ((nat_le offset at && nat_lt at (offset + bytes)) ≡ false)
-inside_or_not offset bytes at = grind arith
-
-slot_by_is : (skips : PortRow → Bool) (kind : Register → Bool) (rows : List PortRow) (at : ℕ) → rows_are skips kind rows ≡ true
-    → ((r : PortRow) → skips r ≡ true → lies_in r at ≡ false) → OfKind kind (slot_by rows at)
-slot_by_is skips kind [] at h out = tt
-slot_by_is skips kind (r ∷ rows) at h out =
-    let two = both (skips r || row_is kind r) (rows_are skips kind rows) h in
-    elim (inside_or_not r.offset (row_bytes r) at) [
-      | inl inside ↦
-          rw inside.1 (elim (this_or_that (skips r) (row_is kind r) two.0) [
-            | inl skipped ↦ absurd (true≢false (sym inside.1 ∙ out r skipped))
-            | inr has ↦ row_has kind r (at - r.offset) has inside.0
-          ])
-      | inr outside ↦ rw outside (slot_by_is skips kind rows at two.1 out)
-    ]
-
 -- an offset that no skipped row has
-pub slot_is : (skips : PortRow → Bool) (kind : Register → Bool) (proc : Proc) (at : ℕ) → rows_are skips kind (register_map proc) ≡ true
-    → ((r : PortRow) → skips r ≡ true → lies_in r at ≡ false) → IfSome (slot_of proc at) (λ s. kind s.register ≡ true)
+pub slot_is : (skips : PortRow → Bool) (kind : Register → Bool) (proc : Proc) (at : ℕ) → all_rows (row_is skips kind) (register_map proc) ≡ true
+    → ((r : PortRow) → skips r ≡ true → lies_in r at ≡ false) → OfKind kind (slot_of proc at)
 unfolding slot_of
-slot_is skips kind proc at h out = slot_by_is skips kind (register_map proc) at h out
+slot_is skips kind proc at h out =
+    slot_by_all (λ s. kind s.register ≡ true) (row_is skips kind) (register_map proc) at h (λ r test inside le lies. elim (one_of (skips r) (each_place (is_of_row kind) r) test) [
+      | inl skipped ↦ never (lies_in r at) lies (out r skipped)
+      | inr has ↦ of_place (is_of_row kind) r (at - r.offset) has inside
+    ])
 
 -- ---- the registers of which an access covers bytes
 
@@ -109,6 +76,10 @@ module _ (kind : Register → Bool) (proc : Proc) where
   covers at Word h =
       ((byte_at at 0 at (omega arith) (h 0 (omega arith)), h 1 (omega arith)), (h 2 (omega arith), byte_at at 3 (at + 2 + 1) (omega arith) (h 3 (omega arith))))
 
+-- and where all registers of the map are of one
+pub covers_all : (kind : Register → Bool) (proc : Proc) (at : ℕ) (width : Width) → all_rows (row_is no_row kind) (register_map proc) ≡ true → Covers kind proc at width
+covers_all kind proc at width h = covers kind proc at width (λ k l. slot_is no_row kind proc (at + k) h (λ r skipped. absurd (true≢false (sym skipped))))
+
 -- the register in which it lies is one of them
 whole_if_is : (kind : Register → Bool) (b : Bool) (slot : Slot) → kind slot.register ≡ true → OfKind kind (whole_if b slot)
 whole_if_is kind true slot h = h
@@ -117,6 +88,54 @@ whole_if_is kind false slot h = tt
 whole_is : (kind : Register → Bool) (width : Width) (slot : Option Slot) → OfKind kind slot → OfKind kind (whole_in width slot)
 whole_is kind width None h = tt
 whole_is kind width (Some slot) h = whole_if_is kind _ slot h
+
+-- ---- a relation that each register's write keeps, or its read, an access keeps
+
+module _ (kind : Register → Bool) (proc : Proc) (now : Tick) (R : IoState → IoState → Type 0) (same : (u : IoState) → R u u) (joined : (u v w : IoState) → R u v → R v w → R u w)
+    (each : (u : IoState) (register : Register) (n word : ℕ) → kind register ≡ true → R u (after_write proc now u register n word)) where
+  slot_leaves : (u : IoState) (width : Width) (slot : Slot) (value : ℕ) → kind slot.register ≡ true → R u (slot_written proc now u width slot value)
+  slot_leaves u width slot value h =
+      either (R u) (ignores width slot.register) u (after_write proc now u slot.register slot.number (slot_joined proc u width slot value)) (same u)
+      (each u slot.register slot.number (slot_joined proc u width slot value) h)
+
+  or_leaves : (u : IoState) (width : Width) (slot : Option Slot) (value : ℕ) (other : IoState) → OfKind kind slot → R u other → R u (written_or proc now u width slot value other)
+  or_leaves u width None value other h r = r
+  or_leaves u width (Some slot) value other h r = slot_leaves u width slot value h
+
+  byte_leaves : (u : IoState) (at value : ℕ) → ByteIs kind proc at → R u (byte_written proc now u at value)
+  byte_leaves u at value h = or_leaves u Byte (slot_of proc at) value u h (same u)
+
+  half_leaves : (u : IoState) (at value : ℕ) → HalfIs kind proc at → R u (half_written proc now u at value)
+  half_leaves u at value h =
+      let first = byte_written proc now u at value in
+      let second = byte_written proc now first (at + 1) (value / 2 ^ 8) in
+      or_leaves u Half (whole_in Half (slot_of proc at)) value second (whole_is kind Half (slot_of proc at) h.0)
+      (joined u first second (byte_leaves u at value h.0) (byte_leaves first (at + 1) (value / 2 ^ 8) h.1))
+
+  word_leaves : (u : IoState) (at value : ℕ) → WordIs kind proc at → R u (word_written proc now u at value)
+  word_leaves u at value h =
+      let first = half_written proc now u at value in
+      let second = half_written proc now first (at + 2) (value / 2 ^ 16) in
+      or_leaves u Word (whole_in Word (slot_of proc at)) value second (whole_is kind Word (slot_of proc at) h.0.0)
+      (joined u first second (half_leaves u at value h.0) (half_leaves first (at + 2) (value / 2 ^ 16) h.1))
+
+  pub write_leaves : (u : IoState) (at : ℕ) (width : Width) (value : ℕ) → Covers kind proc at width → R u (port_written proc now u at width value)
+  unfolding port_written
+  write_leaves u at Byte value h = byte_leaves u at value h
+  write_leaves u at Half value h = half_leaves u at value h
+  write_leaves u at Word value h = word_leaves u at value h
+
+module _ (kind : Register → Bool) (proc : Proc) (R : IoState → IoState → Type 0) (same : (u : IoState) → R u u)
+    (each : (u : IoState) (register : Register) → kind register ≡ true → R u ((meaning_of register).after_read proc u)) where
+  unchanged_leaves : (u : IoState) (slot : Option Slot) → OfKind kind slot → R u (read_unchanged proc u slot)
+  unchanged_leaves u None h = same u
+  unchanged_leaves u (Some slot) h = each u slot.register h
+
+  pub read_leaves : (u : IoState) (at : ℕ) (width : Width) → Covers kind proc at width → R u (port_read proc u at width)
+  unfolding port_read
+  read_leaves u at Byte h = same u
+  read_leaves u at Half h = same u
+  read_leaves u at Word h = unchanged_leaves u (whole_in Word (slot_of proc at)) (whole_is kind Word (slot_of proc at) h.0.0)
 
 -- ---- a change of the units that registers of a kind don't see, and leave as it is
 

@@ -1,5 +1,5 @@
-use Rattle.std.proofs.Common.{ℕ, suc, ◌≡◌, ◌+◌, ◌%◌, ◌^◌, ◌==◌, Bool, true, false, if◌then◌else◌, List, [], ◌∷◌, ◌++◌, Option, Some, None, is_some, refl, ◌∙◌, ap, arith}
-use Rattle.ds_base.specs.Bits.{bits}
+use Rattle.std.specs.Prelude.{◌&&◌, not}
+use Rattle.std.proofs.Common.{ℕ, suc, ◌≡◌, ◌+◌, ◌==◌, Bool, true, false, if◌then◌else◌, List, [], ◌∷◌, ◌++◌, Option, Some, None, is_some, refl, ◌∙◌, ap, arith}
 use Rattle.ds_base.specs.declared.memories.Width.TheVariants.{Half, Word}
 use Rattle.ds_base.specs.declared.processors.Proc.{Proc}
 use Rattle.ds_base.specs.declared.processors.Proc.TheVariants.{Nine, Seven}
@@ -14,14 +14,16 @@ use Rattle.ds_runs.proofs.Firsts.{first_of_append}
 use Rattle.ds_timers.specs.Timing.{timer_at, timer_due}
 use Rattle.ds_ports.specs.Acting.{first_acting_io_due}
 use Rattle.ds_ports.specs.Dues.{dma_due_in, io_due}
-use Rattle.ds_ports.specs.Inside.{first_with, moves_dues}
-use Rattle.ds_ports.specs.ProcessorIo.{ProcessorIoState, haltcnt_written, ie_written, if_written, ime_written, keycnt_written, kept_keycnt, keys_hold, keys_told}
+use Rattle.ds_ports.specs.Inside.{first_with, moves_dues, moving_parts}
+use Rattle.ds_ports.specs.ProcessorIo.{ProcessorIoState, keys_hold, keys_told}
 use Rattle.ds_ports.specs.Registers.{after_write, meaning_of}
 use Rattle.ds_ports.specs.Io.{IoState, keys_pressed, io_of, with_halted, with_io_of}
+use Rattle.ds_ports.specs.Touches.{UnitPart, Display, among, beyond, changes_any, io_graft}
 use Rattle.ds_ports.specs.declared.registers.Register.{Register}
-use Rattle.ds_ports.specs.declared.registers.Register.TheVariants.{DisplayHalf, DisplayWord, Dmasad, Dmadad, Dmacnt, TmcntL, TmcntH, Keycnt, Ipcfiforecv, Ime, Ie, If, Divcnt, DivNumer, DivDenom, Sqrtcnt, SqrtParam, GxWord, GxCommand, Haltcnt}
+use Rattle.ds_ports.specs.declared.registers.Register.TheVariants.{DisplayHalf, DisplayWord, Ipcfiforecv}
 use Rattle.vram_banks.specs.Cells.{Banks}
 use Rattle.ds_ports.proofs.DisplayPorts.{written_scan}
+use Rattle.ds_ports.proofs.Passed.{first_false, stays_by_row}
 
 -- The first of what is due behind the ports: how it is found; and what leaves the first of what acts as it is.
 
@@ -129,32 +131,22 @@ unfolding first_acting_io_due
 reads_move_none proc u Ipcfiforecv = refl
 reads_move_none proc u _ = refl
 
-halt_still : (processor_io : ProcessorIoState) (value : ℕ) → IsStill processor_io (haltcnt_written processor_io value)
-halt_still processor_io value = go (bits 6 2 value == 2) refl where
-  go : (b : Bool) → (bits 6 2 value == 2) ≡ b → IsStill processor_io (haltcnt_written processor_io value)
-  go true e = rw e (refl, refl)
-  go false e = rw e (refl, refl)
+-- what is due depends on the parts that move it, and on the display
+abbrev due_parts : List UnitPart
+due_parts = Display ∷ moving_parts
+
+dues_blind : (t u : IoState) → first_acting_io_due (io_graft (beyond due_parts) t u) ≡ first_acting_io_due u
+unfolding first_acting_io_due
+dues_blind t u = refl
+
+by_row : (proc : Proc) (now : Tick) (u : IoState) (register : Register) (number value : ℕ) → (changes_any (among due_parts) proc register && not (moves_dues register)) ≡ false
+    → moves_dues register ≡ false → first_acting_io_due (after_write proc now u register number value) ≡ first_acting_io_due u
+by_row proc now u register number value row none =
+    stays_by_row proc now u register number value due_parts first_acting_io_due dues_blind (first_false (changes_any (among due_parts) proc register) (moves_dues register) row none)
 
 pub writes_move_none : (proc : Proc) (now : Tick) (u : IoState) (register : Register) (number value : ℕ) → moves_dues register ≡ false
     → first_acting_io_due (after_write proc now u register number value) ≡ first_acting_io_due u
-writes_move_none proc now u Dmasad number value h = absurd (grind (arith, h))
-writes_move_none proc now u Dmadad number value h = absurd (grind (arith, h))
-writes_move_none proc now u Dmacnt number value h = absurd (grind (arith, h))
-writes_move_none proc now u TmcntL number value h = absurd (grind (arith, h))
-writes_move_none proc now u TmcntH number value h = absurd (grind (arith, h))
-writes_move_none proc now u Divcnt number value h = absurd (grind (arith, h))
-writes_move_none proc now u DivNumer number value h = absurd (grind (arith, h))
-writes_move_none proc now u DivDenom number value h = absurd (grind (arith, h))
-writes_move_none proc now u Sqrtcnt number value h = absurd (grind (arith, h))
-writes_move_none proc now u SqrtParam number value h = absurd (grind (arith, h))
-writes_move_none proc now u GxWord number value h = absurd (grind (arith, h))
-writes_move_none proc now u GxCommand number value h = absurd (grind (arith, h))
-writes_move_none proc now u Keycnt number value h =
-    still proc u (keycnt_written (io_of u proc) u.pressed (value % 2 ^ 16)) (told_still (record (io_of u proc) { keycnt = kept_keycnt (value % 2 ^ 16) }) u.pressed)
-writes_move_none proc now u Ime number value h = still proc u (ime_written (io_of u proc) value) (refl, refl)
-writes_move_none proc now u Ie number value h = still proc u (ie_written proc (io_of u proc) value) (refl, refl)
-writes_move_none proc now u If number value h = still proc u (if_written (io_of u proc) value) (refl, refl)
-writes_move_none proc now u Haltcnt number value h = still proc u (haltcnt_written (io_of u proc) (value % 2 ^ 8)) (halt_still (io_of u proc) (value % 2 ^ 8))
-writes_move_none proc now u DisplayHalf number value h = same u (after_write proc now u DisplayHalf number value) (written_scan proc u.video number Half value) refl refl refl refl refl refl refl refl
-writes_move_none proc now u DisplayWord number value h = same u (after_write proc now u DisplayWord number value) (written_scan proc u.video number Word value) refl refl refl refl refl refl refl refl
-writes_move_none proc now u register number value h = same u (after_write proc now u register number value) refl refl refl refl refl refl refl refl refl
+writes_move_none proc now u DisplayHalf number value none = same u (after_write proc now u DisplayHalf number value) (written_scan proc u.video number Half value) refl refl refl refl refl refl refl refl
+writes_move_none proc now u DisplayWord number value none = same u (after_write proc now u DisplayWord number value) (written_scan proc u.video number Word value) refl refl refl refl refl refl refl refl
+writes_move_none Nine now u register number value none = by_row Nine now u register number value refl none
+writes_move_none Seven now u register number value none = by_row Seven now u register number value refl none

@@ -1,6 +1,7 @@
 use Rattle.std.proofs.Common.{ℕ, ◌≡◌, ◌<◌, inl, inr, Bool, true, false, true≢false, if◌then◌else◌, List, Option, Some, None, refl, sym, ◌∙◌, ap, subst, arith}
 use Rattle.std.specs.Prelude.{◌||◌, ◌&&◌, ◌==◌, IsSome}
 use Rattle.std.proofs.lemmas.Option.{none-some}
+use Rattle.ds_base.proofs.Choices.{either}
 use Rattle.ds_base.specs.Schedules.{IsLater, Reschedules}
 use Rattle.ds_base.specs.declared.left_out.Stop.{Stop}
 use Rattle.ds_base.specs.declared.processors.Proc.{Proc}
@@ -181,10 +182,6 @@ module _ (now : Tick) (u : IoState) (v : VideoState) (all : IsIo u) (later : now
 
   display_happens : Happens now u (record u { video = v })
   display_happens = unchanged_happens now u (record u { video = v }) all display_unchanged display_each refl
-
-either : {A : Type 0} (P : A → Type 0) (b : Bool) (x y : A) → P x → P y → P (if b then x else y)
-either P true x y h k = h
-either P false x y h k = k
 
 channels_happen : (shown : Shown) (now : Tick) (u : IoState) → IsIo u → Happens now u (channels_shown shown now u)
 channels_happen shown now u all =

@@ -1,6 +1,6 @@
-use Rattle.std.proofs.Common.{ℕ, ◌≡◌, ◌<◌, ◌≤◌, ◌+◌, ◌-◌, ◌/◌, ◌^◌, ◌⊎◌, inl, inr, Bool, true, false, true≢false, ◌&&◌, nat_le, nat_lt, if◌then◌else◌, List, [], ◌∷◌, Option, Some, None, refl, sym, ◌∙◌, ap, subst, arith}
+use Rattle.std.proofs.Common.{ℕ, ◌≡◌, ◌≤◌, ◌+◌, ◌-◌, ◌/◌, ◌^◌, Bool, true, false, true≢false, ◌&&◌, nat_lt, if◌then◌else◌, Option, Some, None, refl, sym, ◌∙◌, ap, subst, arith}
 use Rattle.std.specs.Prelude.{IfSome, not}
-use Rattle.std.proofs.Math.Nat.{div-lt_iff_lt-mul}
+use Rattle.ds_base.proofs.Choices.{either}
 use Rattle.ds_base.specs.declared.left_out.Stop.{Stop}
 use Rattle.ds_base.specs.declared.memories.Width.{Width}
 use Rattle.ds_base.specs.declared.memories.Width.TheVariants.{Byte, Half, Word}
@@ -11,16 +11,17 @@ use Rattle.gx_fifo.specs.declared.ports.GxPort.{GxPort}
 use Rattle.gx_fifo.specs.declared.ports.GxPort.TheVariants.{Display, Fifo, Direct, Status, Lengths, Position, Vector, Clip, VectorMatrix, Unlisted}
 use Rattle.gx_fifo.specs.GxPorts.{gx_port}
 use Rattle.gx_fifo.specs.GxStates.{AreWaiting, GxState, gx_written, waiting_entries, write_port}
-use Rattle.ds_ports.specs.Io.{IoState, with_io_of}
+use Rattle.ds_ports.specs.Io.{IoState}
 use Rattle.ds_ports.specs.Ports.{byte_written, half_written, ignores, is_narrow, port_refusal, port_written, slot_joined, slot_written, unless_stopped, whole_if, whole_in, word_written, written_or}
-use Rattle.ds_ports.specs.ProcessorIo.{ProcessorIoState}
-use Rattle.ds_ports.specs.RegisterMap.{PortRow, register_map, row_bytes, slot_by, slot_in, slot_of}
+use Rattle.ds_ports.specs.RegisterMap.{PortRow, register_map, slot_of}
 use Rattle.ds_ports.specs.Registers.{after_write, gx_set}
+use Rattle.ds_ports.specs.Touches as touches
 use Rattle.ds_ports.specs.declared.registers.Register.{Register}
-use Rattle.ds_ports.specs.declared.registers.Register.TheVariants.{GxWord, GxCommand, Dmasad, Dmadad, Dmacnt, TmcntL, TmcntH, Keycnt, Ime, Ie, If, Haltcnt}
+use Rattle.ds_ports.specs.declared.registers.Register.TheVariants.{GxWord, GxCommand}
 use Rattle.ds_ports.specs.declared.registers.Slot.{Slot}
 use Rattle.ds_ports.proofs.GxPorts.{port_grows}
-use Rattle.ds_ports.proofs.RegisterMaps.{both, each_below, of_each}
+use Rattle.ds_ports.proofs.Passed.{leaves, row_leaves}
+use Rattle.ds_ports.proofs.RegisterMaps.{each_place, of_place, slot_by_all}
 
 -- An access adds four entries at most to those that wait for geometry: one of a whole word of a command's port alone adds any.
 
@@ -38,38 +39,13 @@ keeps_entries _ number = true
 abbrev place_keeps : PortRow → ℕ → Bool
 place_keeps r place = keeps_entries (r.register place) (r.number place)
 
-abbrev some_bytes : PortRow → Bool
-some_bytes r = nat_lt 0 r.bytes
-
-abbrev rows_keep : List PortRow → Bool
-rows_keep [] = true
-rows_keep (r ∷ rows) = (some_bytes r && each_below r.count (place_keeps r)) && rows_keep rows
-
 abbrev Keeps : Slot → Type 0
 Keeps s = keeps_entries s.register s.number ≡ true
 
-some_of : (n : ℕ) → nat_lt 0 n ≡ true → 0 < n
-some_of n h = grind (arith, h)
-
-slot_in_keeps : (r : PortRow) (offset : ℕ) → 0 < r.bytes → each_below r.count (place_keeps r) ≡ true → offset < row_bytes r → Keeps (slot_in r offset)
-slot_in_keeps r offset some few inside = of_each r.count (place_keeps r) (offset / r.bytes) few ((div-lt_iff_lt-mul some).1 (omega (arith, inside)))
-
-slot_by_keeps : (rows : List PortRow) (at : ℕ) → rows_keep rows ≡ true → IfSome (slot_by rows at) Keeps
-slot_by_keeps [] at h = tt
-slot_by_keeps (r ∷ rows) at h =
-    let two = both (some_bytes r && each_below r.count (place_keeps r)) (rows_keep rows) h in
-    let first = both (some_bytes r) (each_below r.count (place_keeps r)) two.0 in
-    elim (inside_or_not r.offset (row_bytes r) at) [
-      | inl inside ↦ rw inside.1 (slot_in_keeps r (at - r.offset) (some_of r.bytes first.0) first.1 inside.0)
-      | inr outside ↦ rw outside (slot_by_keeps rows at two.1)
-    ] where
-      inside_or_not : (offset bytes at : ℕ) → ((at - offset < bytes) × ((nat_le offset at && nat_lt at (offset + bytes)) ≡ true)) ⊎ ((nat_le offset at && nat_lt at (offset + bytes)) ≡ false)
-      inside_or_not offset bytes at = grind arith
-
 slot_keeps : (proc : Proc) (at : ℕ) → IfSome (slot_of proc at) Keeps
 unfolding slot_of gx_port
-slot_keeps Nine at = slot_by_keeps (register_map Nine) at refl
-slot_keeps Seven at = slot_by_keeps (register_map Seven) at refl
+slot_keeps Nine at = slot_by_all Keeps (each_place place_keeps) (register_map Nine) at refl (λ r h inside le lies. of_place place_keeps r (at - r.offset) h inside)
+slot_keeps Seven at = slot_by_all Keeps (each_place place_keeps) (register_map Seven) at refl (λ r h inside le lies. of_place place_keeps r (at - r.offset) h inside)
 
 whole_if_keeps : (b : Bool) (slot : Slot) → Keeps slot → IfSome (whole_if b slot) Keeps
 whole_if_keeps true slot k = k
@@ -94,10 +70,6 @@ port_keeps (Clip i) value now s h = refl
 port_keeps (VectorMatrix i) value now s h = refl
 port_keeps Unlisted value now s h = refl
 
-either : {A : Type 0} (P : A → Type 0) (b : Bool) (x y : A) → P x → P y → P (if b then x else y)
-either P true x y h k = h
-either P false x y h k = k
-
 word_keeps : (proc : Proc) (now : Tick) (u : IoState) (number value : ℕ) → not (adds_entries (gx_port number)) ≡ true
     → waiting_entries (gx_set proc now u number value).gx ≡ waiting_entries u.gx
 word_keeps Nine now u number value h =
@@ -110,30 +82,20 @@ set_grows : (proc : Proc) (now : Tick) (u : IoState) (number value : ℕ) → Ar
 set_grows Nine now u number value waiting = port_grows u.gx number value now waiting
 set_grows Seven now u number value waiting = omega arith
 
-gx_stays : (proc : Proc) (u : IoState) (processor_io : ProcessorIoState) → (with_io_of proc u processor_io).gx ≡ u.gx
-gx_stays Nine u processor_io = refl
-gx_stays Seven u processor_io = refl
-
 abbrev is_gx : Register → Bool
 is_gx GxWord = true
 is_gx GxCommand = true
 is_gx _ = false
 
+leaves_gx : (proc : Proc) (register : Register) → is_gx register ≡ false → leaves touches.Geometry proc register ≡ true
+leaves_gx proc GxWord h = absurd (true≢false h)
+leaves_gx proc GxCommand h = absurd (true≢false h)
+leaves_gx Nine _ h = refl
+leaves_gx Seven _ h = refl
+
 others_leave : (proc : Proc) (now : Tick) (u : IoState) (register : Register) (number value : ℕ) → is_gx register ≡ false
     → (after_write proc now u register number value).gx ≡ u.gx
-others_leave proc now u GxWord number value h = absurd (true≢false h)
-others_leave proc now u GxCommand number value h = absurd (true≢false h)
-others_leave proc now u Dmasad number value h = gx_stays proc u _
-others_leave proc now u Dmadad number value h = gx_stays proc u _
-others_leave proc now u Dmacnt number value h = gx_stays proc u _
-others_leave proc now u TmcntL number value h = gx_stays proc u _
-others_leave proc now u TmcntH number value h = gx_stays proc u _
-others_leave proc now u Keycnt number value h = gx_stays proc u _
-others_leave proc now u Ime number value h = gx_stays proc u _
-others_leave proc now u Ie number value h = gx_stays proc u _
-others_leave proc now u If number value h = gx_stays proc u _
-others_leave proc now u Haltcnt number value h = gx_stays proc u _
-others_leave proc now u _ number value h = refl
+others_leave proc now u register number value h = row_leaves touches.Geometry proc now u register number value (leaves_gx proc register h)
 
 -- ---- a write of a register's bytes
 

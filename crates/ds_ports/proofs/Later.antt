@@ -1,5 +1,6 @@
-use Rattle.std.proofs.Common.{ℕ, ◌≡◌, ◌<◌, ◌+◌, ◌/◌, ◌%◌, ◌^◌, inl, inr, Bool, true, false, if◌then◌else◌, List, Option, Some, None, refl, sym, ◌∙◌, ap, subst, arith}
+use Rattle.std.proofs.Common.{ℕ, ◌≡◌, ◌<◌, ◌+◌, ◌/◌, ◌%◌, ◌^◌, inl, inr, Bool, true, false, List, Option, Some, None, refl, sym, ◌∙◌, ap, subst, arith}
 use Rattle.std.specs.Prelude.{◌==◌, IfSome}
+use Rattle.ds_base.proofs.Choices.{either}
 use Rattle.ds_base.specs.Bits.{bits}
 use Rattle.ds_base.specs.Schedules.{IsLater, Reschedules}
 use Rattle.ds_base.specs.declared.left_out.Stop.{Stop}
@@ -43,10 +44,6 @@ use Rattle.video2d.specs.Scans.{ScanState, scan_due_tick}
 use Rattle.video2d.specs.Videos.{VideoState, video_written}
 
 -- Accesses make no due tick earlier, and leave each at its tick or later.
-
-either : {A : Type 0} (P : A → Type 0) (b : Bool) (x y : A) → P x → P y → P (if b then x else y)
-either P true x y h k = h
-either P false x y h k = k
 
 -- a due tick that is as it was, or later than a tick, is later where it was
 pub still_later : (now : Tick) (old new : Option Tick) → IsLater now old → Reschedules now old new → IsLater now new

@@ -1,4 +1,5 @@
 pub mod RegisterMaps
+pub mod DisplayRows
 pub mod DisplayPorts
 pub mod HeldDues
 pub mod GxPorts
@@ -17,7 +18,8 @@ pub mod Ascending
 pub mod Wholes
 pub mod Often
 pub mod Covered
-pub mod Shares
+pub mod Touched
+pub mod Passed
 pub mod GxApart
 pub mod Arms
 pub mod OwnWrites

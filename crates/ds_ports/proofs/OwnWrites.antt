@@ -1,4 +1,4 @@
-use Rattle.std.proofs.Common.{ℕ, ◌≡◌, Bool, true, true≢false, refl, sym}
+use Rattle.std.proofs.Common.{ℕ, ◌≡◌, true, true≢false, refl, sym}
 use Rattle.ds_base.specs.declared.processors.Proc.{Proc}
 use Rattle.ds_base.specs.declared.ticks.Tick.{Tick}
 use Rattle.ds_ports.specs.Inside.{is_own, own_written}

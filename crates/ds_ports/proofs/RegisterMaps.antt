@@ -1,12 +1,13 @@
-use Rattle.std.proofs.Common.{ℕ, zero, suc, ◌≡◌, ◌<◌, ◌≤◌, ◌+◌, ◌-◌, ◌/◌, ◌⊎◌, inl, inr, Bool, true, false, true≢false, ◌&&◌, nat_le, nat_lt, if◌then◌else◌, List, [], ◌∷◌, ◌++◌, Option, Some, None, refl, sym, ◌∙◌, subst, arith}
+use Rattle.std.proofs.Common.{ℕ, zero, suc, ◌≡◌, ◌<◌, ◌≤◌, ◌+◌, ◌-◌, ◌/◌, ◌⊎◌, inl, inr, Bool, true, false, true≢false, ◌==◌, ◌&&◌, ◌||◌, nat_le, nat_lt, if◌then◌else◌, List, [], ◌∷◌, ◌++◌, Option, Some, None, refl, sym, ◌∙◌, subst, arith}
 use Rattle.std.specs.Prelude.{IfSome}
 use Rattle.std.proofs.Math.Nat.{div-lt_iff_lt-mul, mod-lt}
+use Rattle.ds_base.proofs.Choices.{both, le_of, lt_of}
 use Rattle.ds_base.specs.declared.processors.Proc.{Proc}
 use Rattle.ds_ports.specs.declared.registers.Slot.{Slot}
 use Rattle.ds_base.specs.declared.processors.Proc.TheVariants.{Nine, Seven}
 use Rattle.ds_ports.specs.RegisterMap.{PortRow, row_bytes, slot_in, slot_by, slot_of, register_map, IsSlot}
 use Rattle.ds_ports.specs.Registers.{meaning_of}
-use Rattle.ds_ports.specs.Parts.{Part, whole, slot_among, looked_up, parts_of_nine, parts_of_seven}
+use Rattle.ds_ports.specs.Parts.{Part, whole, slot_among, looked_up, high_parts, low_parts, parts_of}
 
 -- all rows lie from one offset up to another
 abbrev pub lie : ℕ → ℕ → List PortRow → Bool
@@ -23,16 +24,8 @@ all_three true true false h = absurd (grind arith)
 all_three true false c h = absurd (grind arith)
 all_three false b c h = absurd (grind arith)
 
-pub both : (a b : Bool) → (a && b) ≡ true → (a ≡ true) × (b ≡ true)
-both true true h = (refl, refl)
-both true false h = absurd (true≢false (sym h))
-both false b h = absurd (true≢false (sym h))
-
 last_or_not : (i n : ℕ) → i < suc n → (i ≡ n) ⊎ (i < n)
 last_or_not i n l = grind (arith, l)
-
-pub le_of : (a b : ℕ) → nat_le a b ≡ true → a ≤ b
-le_of a b h = grind arith
 
 below_or_not : (a b : ℕ) → ((a < b) × (nat_lt a b ≡ true)) ⊎ ((b ≤ a) × (nat_lt a b ≡ false))
 below_or_not a b = grind arith
@@ -84,13 +77,51 @@ found from (p ∷ parts) at h =
       | inr past ↦ passed p.rows (whole parts) at (elsewhere from p.limit p.rows at three.1 (inr past.0)) ∙ found p.limit parts at three.2 ∙ rw past.1 refl
     ]
 
-pub nine_by_parts : (at : ℕ) → slot_of Nine at ≡ looked_up parts_of_nine at
+pub map_by_parts : (proc : Proc) (at : ℕ) → slot_of proc at ≡ looked_up (parts_of proc) at
 unfolding slot_of
-nine_by_parts at = found 0 parts_of_nine at refl
+map_by_parts Nine at = found 0 (parts_of Nine) at refl
+map_by_parts Seven at = found 0 (parts_of Seven) at refl
 
-pub seven_by_parts : (at : ℕ) → slot_of Seven at ≡ looked_up parts_of_seven at
-unfolding slot_of
-seven_by_parts at = found 0 parts_of_seven at refl
+-- an offset below the end of some parts is looked up in them, and one past them in the others
+abbrev ends_at : ℕ → List Part → Bool
+ends_at limit [] = false
+ends_at limit (p ∷ parts) = (p.limit == limit) || ends_at limit parts
+
+abbrev ends_by : ℕ → List Part → Bool
+ends_by limit [] = true
+ends_by limit (p ∷ parts) = nat_le p.limit limit && ends_by limit parts
+
+same_limit : (a b : ℕ) → (a == b) ≡ true → a ≡ b
+same_limit a b h = grind arith
+
+below_is : (a b : ℕ) → a < b → nat_lt a b ≡ true
+below_is a b l = grind (arith, l)
+
+past_is : (a b : ℕ) → b ≤ a → nat_lt a b ≡ false
+past_is a b l = grind (arith, l)
+
+within : (limit : ℕ) (parts others : List Part) (at : ℕ) → ends_at limit parts ≡ true → at < limit → looked_up (parts ++ others) at ≡ looked_up parts at
+within limit [] others at h l = absurd (true≢false (sym h))
+within limit (p ∷ parts) others at h l = elim (below_or_not at p.limit) [
+  | inl below ↦ rw below.1 refl
+  | inr past ↦ rw past.1 (within limit parts others at (further (p.limit == limit) refl past.0) l)
+] where
+  further : (here : Bool) → (p.limit == limit) ≡ here → p.limit ≤ at → ends_at limit parts ≡ true
+  further true e past = absurd (let same = same_limit p.limit limit e in omega (arith, same, past, l))
+  further false e past = rw e at h
+
+beyond : (limit : ℕ) (parts others : List Part) (at : ℕ) → ends_by limit parts ≡ true → limit ≤ at → looked_up (parts ++ others) at ≡ looked_up others at
+beyond limit [] others at h l = refl
+beyond limit (p ∷ parts) others at h l =
+    let two = both (nat_le p.limit limit) (ends_by limit parts) h in
+    let up = le_of p.limit limit two.0 in
+    rw (past_is at p.limit (omega (arith, up, l))) (beyond limit parts others at two.1 l)
+
+pub looked_up_low : (proc : Proc) (at : ℕ) → at < 0x200 → looked_up (parts_of proc) at ≡ looked_up (low_parts proc) at
+looked_up_low proc at l = within 0x200 (low_parts proc) (high_parts proc) at refl l
+
+pub looked_up_high : (proc : Proc) (at : ℕ) → 0x200 ≤ at → looked_up (parts_of proc) at ≡ looked_up (high_parts proc) at
+looked_up_high proc at l = beyond 0x200 (low_parts proc) (high_parts proc) at refl l
 
 -- what holds of each place below one
 abbrev pub each_below : ℕ → (ℕ → Bool) → Bool
@@ -106,40 +137,55 @@ of_each (suc n) p i h l =
       | inr before ↦ of_each n p i two.1 before
     ]
 
+-- an offset lies in a row
+abbrev pub lies_in : PortRow → ℕ → Bool
+lies_in r at = nat_le r.offset at && nat_lt at (r.offset + row_bytes r)
+
+pub inside_or_not : (offset bytes at : ℕ)
+    → ((at - offset < bytes) × (offset ≤ at) × ((nat_le offset at && nat_lt at (offset + bytes)) ≡ true)) ⊎ ((nat_le offset at && nat_lt at (offset + bytes)) ≡ false)
+inside_or_not offset bytes at = grind arith
+
+abbrev pub all_rows : (PortRow → Bool) → List PortRow → Bool
+all_rows test [] = true
+all_rows test (r ∷ rows) = test r && all_rows test rows
+
+-- what holds at each offset into rows that pass a test holds of what stands at an offset
+pub slot_by_all : (Q : Slot → Type 0) (test : PortRow → Bool) (rows : List PortRow) (at : ℕ) → all_rows test rows ≡ true
+    → ((r : PortRow) → test r ≡ true → at - r.offset < row_bytes r → r.offset ≤ at → lies_in r at ≡ true → Q (slot_in r (at - r.offset))) → IfSome (slot_by rows at) Q
+slot_by_all Q test [] at h each = tt
+slot_by_all Q test (r ∷ rows) at h each =
+    let two = both (test r) (all_rows test rows) h in
+    elim (inside_or_not r.offset (row_bytes r) at) [
+      | inl inside ↦ rw inside.2 (each r two.0 inside.0 inside.1 inside.2)
+      | inr outside ↦ rw outside (slot_by_all Q test rows at two.1 each)
+    ]
+
+-- what holds of each place of a row holds of the place of an offset into it
+abbrev pub each_place : (PortRow → ℕ → Bool) → PortRow → Bool
+each_place p r = nat_lt 0 r.bytes && each_below r.count (p r)
+
+pub of_place : (p : PortRow → ℕ → Bool) (r : PortRow) (offset : ℕ) → each_place p r ≡ true → offset < row_bytes r → p r (offset / r.bytes) ≡ true
+of_place p r offset h inside =
+    let two = both (nat_lt 0 r.bytes) (each_below r.count (p r)) h in
+    of_each r.count (p r) (offset / r.bytes) two.1 ((div-lt_iff_lt-mul (lt_of 0 r.bytes two.0)).1 (omega (arith, inside)))
+
 -- each row has registers of at most four bytes, and no more of a name than there are
 abbrev pub is_of_its_name : PortRow → ℕ → Bool
 is_of_its_name r place = nat_lt (r.number place) (meaning_of (r.register place)).count
 
-abbrev pub fit : List PortRow → Bool
-fit [] = true
-fit (r ∷ rows) = (nat_lt 0 r.bytes && nat_le r.bytes 4) && each_below r.count (is_of_its_name r) && fit rows
+abbrev fits : PortRow → Bool
+fits r = nat_le r.bytes 4 && each_place is_of_its_name r
 
-lt_of : (a b : ℕ) → nat_lt a b ≡ true → a < b
-lt_of a b h = grind arith
-
-slot_in-is : (r : PortRow) (offset : ℕ) → 0 < r.bytes → r.bytes ≤ 4 → each_below r.count (is_of_its_name r) ≡ true → offset < row_bytes r → IsSlot (slot_in r offset)
-slot_in-is r offset some small few inside = record {
-  number = lt_of (r.number (offset / r.bytes)) (meaning_of (r.register (offset / r.bytes))).count
-      (of_each r.count (is_of_its_name r) (offset / r.bytes) few ((div-lt_iff_lt-mul some).1 (omega (arith, inside))));
-  byte = mod-lt offset some;
-  bytes = small;
-}
-
-pub slot_by-is : (rows : List PortRow) (at : ℕ) → fit rows ≡ true → IfSome (slot_by rows at) IsSlot
-slot_by-is [] at h = tt
-slot_by-is (r ∷ rows) at h =
-    let three = all_three (nat_lt 0 r.bytes && nat_le r.bytes 4) (each_below r.count (is_of_its_name r)) (fit rows) h in
-    elim (inside_or_not r.offset (row_bytes r) at) [
-      | inl inside ↦ rw inside.1 (slot_in-is r (at - r.offset) (sized r.bytes three.0).0 (sized r.bytes three.0).1 three.1 inside.0)
-      | inr outside ↦ rw outside (slot_by-is rows at three.2)
-    ] where
-      sized : (n : ℕ) → (nat_lt 0 n && nat_le n 4) ≡ true → (0 < n) × (n ≤ 4)
-      sized n h = grind arith
-
-      inside_or_not : (offset bytes at : ℕ) → ((at - offset < bytes) × ((nat_le offset at && nat_lt at (offset + bytes)) ≡ true)) ⊎ ((nat_le offset at && nat_lt at (offset + bytes)) ≡ false)
-      inside_or_not offset bytes at = grind arith
+slot_in-is : (r : PortRow) (offset : ℕ) → fits r ≡ true → offset < row_bytes r → IsSlot (slot_in r offset)
+slot_in-is r offset h inside =
+    let two = both (nat_le r.bytes 4) (each_place is_of_its_name r) h in
+    record {
+      number = lt_of (r.number (offset / r.bytes)) (meaning_of (r.register (offset / r.bytes))).count (of_place is_of_its_name r offset two.1 inside);
+      byte = mod-lt offset (lt_of 0 r.bytes (both (nat_lt 0 r.bytes) (each_below r.count (is_of_its_name r)) two.1).0);
+      bytes = le_of r.bytes 4 two.0;
+    }
 
 pub some_slot : (proc : Proc) (at : ℕ) → IfSome (slot_of proc at) IsSlot
 unfolding slot_of
-some_slot Nine at = slot_by-is (register_map Nine) at refl
-some_slot Seven at = slot_by-is (register_map Seven) at refl
+some_slot Nine at = slot_by_all IsSlot fits (register_map Nine) at refl (λ r h inside le lies. slot_in-is r (at - r.offset) h inside)
+some_slot Seven at = slot_by_all IsSlot fits (register_map Seven) at refl (λ r h inside le lies. slot_in-is r (at - r.offset) h inside)

@@ -1,9 +1,9 @@
-use Rattle.std.proofs.Common.{ℕ, ◌≡◌, ◌<◌, ◌%◌, ◌^◌, ◌==◌, max, Bool, true, false, true≢false, if◌then◌else◌, bit_and, bit_or, refl, sym, ◌∙◌, ap, subst, arith}
-use Rattle.std.specs.Prelude.{◌&&◌}
+use Rattle.std.proofs.Common.{ℕ, ◌≡◌, ◌<◌, ◌%◌, ◌^◌, ◌==◌, max, Bool, true, false, if◌then◌else◌, bit_and, bit_or, refl, sym, ◌∙◌, ap, subst, arith}
+use Rattle.std.specs.Prelude.{◌&&◌, not, List, [], ◌∷◌}
 use Rattle.std.specs.Int.{bit_at, bit_not, w32}
 use Rattle.std.proofs.lemmas.Nat.{and_le_r}
 use Rattle.std.proofs.lemmas.Nat.Bits.{bit_at-pow_other, bit_at_and, bit_at_not, bit_at_or, same_from_bits}
-use Rattle.ds_base.specs.Bits.{bits}
+use Rattle.ds_base.proofs.Choices.{both, both_true, equal, is_equal}
 use Rattle.ds_base.specs.declared.processors.Proc.{Proc}
 use Rattle.ds_base.specs.declared.processors.Proc.TheVariants.{Nine, Seven}
 use Rattle.ds_base.specs.declared.processors.Raised.{Raised}
@@ -14,11 +14,14 @@ use Rattle.ds_ipc.specs.Ipcs.{IpcState, ipc_control_raised, ipc_control_written,
 use Rattle.ds_timers.specs.Irqs.{events, level}
 use Rattle.gx_fifo.specs.GxStates.{gx_level}
 use Rattle.ds_ports.specs.Inside.{moves_dues}
-use Rattle.ds_ports.specs.ProcessorIo.{haltcnt_written, if_written, keycnt_written, keys_hold, kept_keycnt, processor_io_raised}
+use Rattle.ds_ports.specs.ProcessorIo.{if_written, keycnt_written, keys_hold, kept_keycnt, processor_io_raised}
 use Rattle.ds_ports.specs.Registers.{after_write, meaning_of}
 use Rattle.ds_ports.specs.Io.{IoState, both_raised, is_settled}
+use Rattle.ds_ports.specs.Touches as touches
+use Rattle.ds_ports.specs.Touches.{UnitPart, DmaNine, IrqNine, Released, among, changes_any}
 use Rattle.ds_ports.specs.declared.registers.Register.{Register}
-use Rattle.ds_ports.specs.declared.registers.Register.TheVariants.{Dmasad, Dmadad, Dmacnt, TmcntL, TmcntH, Keycnt, Ipcsync, Ipcfifocnt, Ipcfifosend, Ipcfiforecv, If, Divcnt, DivNumer, DivDenom, Sqrtcnt, SqrtParam, GxWord, GxCommand, Haltcnt}
+use Rattle.ds_ports.specs.declared.registers.Register.TheVariants.{Ie, If, Ime, Ipcfifocnt, Ipcfiforecv, Ipcfifosend, Ipcsync, Keycnt}
+use Rattle.ds_ports.proofs.Passed.{first_false, stays_by_row}
 
 -- What leaves nothing to settle where nothing was: reads, and writes that move no due tick. Events that are raised or acknowledged never touch the level's bit.
 
@@ -39,21 +42,15 @@ and_through x b m = same_from_bits (bit_and (bit_or x (bit_and b m)) m) (bit_or 
     let f = bit_at_and x m i in
     omega (arith, a, c, d, e, f))
 
-equal_is : (x y : ℕ) → (x == y) ≡ true → x ≡ y
-equal_is x y h = grind (arith, h)
-
-is_equal : (x y : ℕ) → x ≡ y → (x == y) ≡ true
-is_equal x y h = grind (arith, h)
-
 -- the level's bit of IF is as it would be told
 abbrev is_told : ℕ → Bool → Bool
 is_told x on = (if on then bit_or x level else events x) == x
 
 raised_told : (x b : ℕ) (on : Bool) → is_told x on ≡ true → is_told (bit_or x (events b)) on ≡ true
 raised_told x b true h =
-    is_equal (bit_or (bit_or x (events b)) level) (bit_or x (events b)) (or_swapped x (events b) level ∙ ap (λ (n : ℕ). bit_or n (events b)) (equal_is (bit_or x level) x h))
+    is_equal (bit_or (bit_or x (events b)) level) (bit_or x (events b)) (or_swapped x (events b) level ∙ ap (λ (n : ℕ). bit_or n (events b)) (equal (bit_or x level) x h))
 raised_told x b false h =
-    is_equal (events (bit_or x (events b))) (bit_or x (events b)) (and_through x b (bit_not w32 level) ∙ ap (λ (n : ℕ). bit_or n (events b)) (equal_is (events x) x h))
+    is_equal (events (bit_or x (events b))) (bit_or x (events b)) (and_through x b (bit_not w32 level) ∙ ap (λ (n : ℕ). bit_or n (events b)) (equal (events x) x h))
 
 -- an acknowledgement leaves the level's bit
 
@@ -83,7 +80,7 @@ no_level b = (let a = bit_at_and b (bit_not w32 level) 21 in omega (arith, a))
 stays_set : (b i : ℕ) → max (bit_at (bit_not w32 (events b)) i) (bit_at level i) ≡ bit_at (bit_not w32 (events b)) i
 stays_set b i = go (i == 21) refl where
   go : (c : Bool) → (i == 21) ≡ c → max (bit_at (bit_not w32 (events b)) i) (bit_at level i) ≡ bit_at (bit_not w32 (events b)) i
-  go true e = subst (λ (k : ℕ). max (bit_at (bit_not w32 (events b)) k) (bit_at level k) ≡ bit_at (bit_not w32 (events b)) k) (sym (equal_is i 21 e))
+  go true e = subst (λ (k : ℕ). max (bit_at (bit_not w32 (events b)) k) (bit_at level k) ≡ bit_at (bit_not w32 (events b)) k) (sym (equal i 21 e))
       (let a = bit_at_not w32 (events b) 21 (events_small b) (omega arith) in let n = no_level b in omega (arith, a, n))
   go false e = (let n = bit_at-pow_other 21 i (λ same. grind (arith, e, same)) in omega (arith, n))
 
@@ -93,30 +90,22 @@ kept_within b = same_from_bits (bit_or (bit_not w32 (events b)) level) (bit_not 
 acked_told : (x b : ℕ) (on : Bool) → is_told x on ≡ true → is_told (bit_and x (bit_not w32 (events b))) on ≡ true
 acked_told x b true h =
     is_equal (bit_or (bit_and x (bit_not w32 (events b))) level) (bit_and x (bit_not w32 (events b)))
-    (or_through x (bit_not w32 (events b)) level ∙ ap (λ (n : ℕ). bit_and n (bit_or (bit_not w32 (events b)) level)) (equal_is (bit_or x level) x h)
+    (or_through x (bit_not w32 (events b)) level ∙ ap (λ (n : ℕ). bit_and n (bit_or (bit_not w32 (events b)) level)) (equal (bit_or x level) x h)
     ∙ ap (λ (n : ℕ). bit_and x n) (kept_within b))
 acked_told x b false h =
     is_equal (events (bit_and x (bit_not w32 (events b)))) (bit_and x (bit_not w32 (events b)))
-    (and_swapped x (bit_not w32 (events b)) (bit_not w32 level) ∙ ap (λ (n : ℕ). bit_and n (bit_not w32 (events b))) (equal_is (events x) x h))
-
-two : (a b : Bool) → (a && b) ≡ true → (a ≡ true) × (b ≡ true)
-two true true h = (refl, refl)
-two true false h = absurd (true≢false (sym h))
-two false b h = absurd (true≢false (sym h))
-
-both_true : (a b : Bool) → a ≡ true → b ≡ true → (a && b) ≡ true
-both_true a b h k = rw (h, k) refl
+    (and_swapped x (bit_not w32 (events b)) (bit_not w32 level) ∙ ap (λ (n : ℕ). bit_and n (bit_not w32 (events b))) (equal (events x) x h))
 
 -- bits are raised at ARM9
 nine_raised : (u : IoState) (n : ℕ) → is_settled u ≡ true → is_settled (record u { nine = processor_io_raised u.nine n }) ≡ true
 nine_raised u n h =
-    let parts = two _ _ h in
+    let parts = both _ _ h in
     both_true _ _ (raised_told u.nine.irq.if_ n (gx_level u.gx) parts.0) parts.1
 
 -- some are acknowledged there
 nine_acked : (u : IoState) (word : ℕ) → is_settled u ≡ true → is_settled (record u { nine = if_written u.nine word }) ≡ true
 nine_acked u word h =
-    let parts = two _ _ h in
+    let parts = both _ _ h in
     both_true _ _ (acked_told u.nine.irq.if_ word (gx_level u.gx) parts.0) parts.1
 
 passed_raised : (u : IoState) (ipc : IpcState) (raised : Raised) → is_settled u ≡ true → is_settled (both_raised (record u { ipc = ipc }) raised) ≡ true
@@ -132,31 +121,24 @@ keys_settled u value h = go (keys_hold (kept_keycnt value) u.pressed) where
   go true = nine_raised u (interrupt_bit Keys) h
   go false = h
 
-halt_settled : (u : IoState) (value : ℕ) → is_settled u ≡ true → is_settled (record u { nine = haltcnt_written u.nine value }) ≡ true
-halt_settled u value h = go (bits 6 2 value == 2) where
-  go : (b : Bool) → is_settled (record u { nine = if b then record u.nine { halted = true } else u.nine }) ≡ true
-  go true = h
-  go false = h
+-- what is left to settle depends on ARM9's interrupt words and channels, on geometry and on what a stall left
+abbrev settled_parts : List UnitPart
+settled_parts = IrqNine ∷ touches.Geometry ∷ Released ∷ DmaNine ∷ []
+
+by_row : (proc : Proc) (now : Tick) (u : IoState) (register : Register) (number value : ℕ) → (changes_any (among settled_parts) proc register && not (moves_dues register)) ≡ false
+    → moves_dues register ≡ false → is_settled u ≡ true → is_settled (after_write proc now u register number value) ≡ true
+by_row proc now u register number value row none h =
+    stays_by_row proc now u register number value settled_parts is_settled (λ t x. refl) (first_false (changes_any (among settled_parts) proc register) (moves_dues register) row none) ∙ h
 
 pub writes_leave_settled : (proc : Proc) (now : Tick) (u : IoState) (register : Register) (number value : ℕ) → moves_dues register ≡ false → is_settled u ≡ true
     → is_settled (after_write proc now u register number value) ≡ true
-writes_leave_settled proc now u Dmasad number value none h = absurd (grind (arith, none))
-writes_leave_settled proc now u Dmadad number value none h = absurd (grind (arith, none))
-writes_leave_settled proc now u Dmacnt number value none h = absurd (grind (arith, none))
-writes_leave_settled proc now u TmcntL number value none h = absurd (grind (arith, none))
-writes_leave_settled proc now u TmcntH number value none h = absurd (grind (arith, none))
-writes_leave_settled proc now u Divcnt number value none h = absurd (grind (arith, none))
-writes_leave_settled proc now u DivNumer number value none h = absurd (grind (arith, none))
-writes_leave_settled proc now u DivDenom number value none h = absurd (grind (arith, none))
-writes_leave_settled proc now u Sqrtcnt number value none h = absurd (grind (arith, none))
-writes_leave_settled proc now u SqrtParam number value none h = absurd (grind (arith, none))
-writes_leave_settled proc now u GxWord number value none h = absurd (grind (arith, none))
-writes_leave_settled proc now u GxCommand number value none h = absurd (grind (arith, none))
 writes_leave_settled Nine now u If number value none h = nine_acked u value h
 writes_leave_settled Nine now u Keycnt number value none h = keys_settled u (value % 2 ^ 16) h
-writes_leave_settled Nine now u Haltcnt number value none h = halt_settled u (value % 2 ^ 8) h
+writes_leave_settled Nine now u Ime number value none h = h
+writes_leave_settled Nine now u Ie number value none h = h
 writes_leave_settled proc now u Ipcsync number value none h = passed_raised u (ipc_sync_written u.ipc proc (value % 2 ^ 16)) (ipc_sync_raised u.ipc proc (value % 2 ^ 16)) h
 writes_leave_settled proc now u Ipcfifocnt number value none h = passed_raised u (ipc_control_written u.ipc proc (value % 2 ^ 16)) (ipc_control_raised u.ipc proc (value % 2 ^ 16)) h
 writes_leave_settled proc now u Ipcfifosend number value none h = passed_raised u (ipc_sent u.ipc proc value) (ipc_send_raised u.ipc proc) h
-writes_leave_settled Nine now u register number value none h = h
-writes_leave_settled Seven now u register number value none h = h
+writes_leave_settled proc now u Ipcfiforecv number value none h = h
+writes_leave_settled Nine now u register number value none h = by_row Nine now u register number value refl none h
+writes_leave_settled Seven now u register number value none h = by_row Seven now u register number value refl none h

@@ -4,6 +4,7 @@ use Rattle.std.specs.Int.{bit_not, w32}
 use Rattle.std.proofs.Math.Nat.{le-max_left}
 use Rattle.std.proofs.lemmas.List.{length-drop}
 use Rattle.std.proofs.lemmas.Nat.Bits.{bit_at_and, bit_at_or, same_from_bits}
+use Rattle.ds_base.proofs.Choices.{both, both_true, equal, is_equal}
 use Rattle.ds_base.specs.Schedules.{IsLater, Reschedules}
 use Rattle.ds_base.specs.declared.processors.Proc.{Proc}
 use Rattle.ds_base.specs.declared.processors.Proc.TheVariants.{Nine, Seven}
@@ -163,9 +164,6 @@ triggered_happens now u all = go (is_half_empty u.gx) where
   go true = nine_happens now u all
   go false = nothing_happens now u all
 
-equal_is : (x y : ℕ) → (x == y) ≡ true → x ≡ y
-equal_is x y h = grind (arith, h)
-
 -- what a stall left is kept only where it holds back the channel that is due: no due tick changes
 kept_tick : (released : ℕ) (which : ℕ) (d : Option Tick) → released_at (if comes_before (due_with which d) released then released else 0) d ≡ released_at released d
 kept_tick released which None = refl
@@ -181,7 +179,7 @@ kept_due true released which channel f same e = refl
 kept_due false released which channel f false e = refl
 kept_due false released which channel f true e =
     let P : ℕ → Type 0 = λ x. released_at (if comes_before (due_with which (f which)) released then released else 0) (f x) ≡ released_at released (f x) in
-    subst P (sym (equal_is channel which e)) (kept_tick released which (f which))
+    subst P (sym (equal channel which e)) (kept_tick released which (f which))
 
 pub kept_same : (u : IoState) (channel : ℕ) → io_due (Dma Nine channel) (release_kept u) ≡ io_due (Dma Nine channel) u
 kept_same u channel =
@@ -230,17 +228,6 @@ levelled_twice : (s : IrqState) (on : Bool) → (irq_levelled (irq_levelled s on
 levelled_twice s true = or_twice s.if_ level
 levelled_twice s false = and_twice s.if_ (bit_not w32 level)
 
-is_equal : (x y : ℕ) → x ≡ y → (x == y) ≡ true
-is_equal x y h = grind (arith, h)
-
-two : (a b : Bool) → (a && b) ≡ true → (a ≡ true) × (b ≡ true)
-two true true h = (refl, refl)
-two true false h = absurd (true≢false (sym h))
-two false b h = absurd (true≢false (sym h))
-
-both_true : (a b : Bool) → a ≡ true → b ≡ true → (a && b) ≡ true
-both_true a b h k = rw (h, k) refl
-
 no_more : (a b : Bool) → b ≡ false → not (a && b) ≡ true
 no_more true b h = rw h refl
 no_more false b h = refl
@@ -263,10 +250,10 @@ kept_stays u e = ap (λ (tick : ℕ). record u { released = tick }) e
 
 pub settled_stays : (now : Tick) (u : IoState) → IsIo u → is_settled u ≡ true → settled now u ≡ u
 settled_stays now u all h =
-    let parts = two _ _ h in
-    let rest = two _ _ parts.1 in
-    ap (λ (x : IoState). release_kept (geometry_triggered now x)) (told_stays u (equal_is _ _ parts.0)) ∙ ap release_kept (triggered_stays now u all rest.0)
-    ∙ kept_stays u (equal_is _ _ rest.1)
+    let parts = both _ _ h in
+    let rest = both _ _ parts.1 in
+    ap (λ (x : IoState). release_kept (geometry_triggered now x)) (told_stays u (equal _ _ parts.0)) ∙ ap release_kept (triggered_stays now u all rest.0)
+    ∙ kept_stays u (equal _ _ rest.1)
 
 -- what is kept once is kept
 kept_again : (due : Option DmaDue) (released : ℕ) (b : Bool) → comes_before due released ≡ b

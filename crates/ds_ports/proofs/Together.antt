@@ -7,7 +7,7 @@ use Rattle.ds_base.specs.declared.processors.Proc.{Proc}
 use Rattle.ds_base.specs.declared.processors.Proc.TheVariants.{Nine, Seven}
 use Rattle.ds_ports.specs.RegisterMap.{IsWidth, PortRow, StandsWhole, register_map, row_bytes, slot_by, slot_in, slot_of}
 use Rattle.ds_ports.specs.declared.registers.Slot.{Slot}
-use Rattle.ds_ports.proofs.RegisterMaps.{both, le_of}
+use Rattle.ds_base.proofs.Choices.{both, le_of}
 use Rattle.ds_ports.proofs.Spans.{lies, none_before, rise}
 
 -- A register stands whole at a multiple of its width.

@@ -1,5 +1,6 @@
-use Rattle.std.specs.Prelude.{ℕ, ◌%◌, ◌^◌, Bool, true, false, Option}
+use Rattle.std.specs.Prelude.{ℕ, ◌%◌, ◌^◌, Bool, true, false, List, [], ◌∷◌, Option}
 use Rattle.ds_base.specs.declared.processors.Proc.{Proc}
+use Rattle.ds_base.specs.declared.processors.Proc.TheVariants.{Nine}
 use Rattle.ds_base.specs.declared.ticks.Due.{Due}
 use Rattle.ds_base.specs.declared.ticks.Tick.{Tick}
 use Rattle.ds_dma.specs.declared.controls.DmaPort.TheVariants.{Source, Target, Control}
@@ -7,26 +8,20 @@ use Rattle.ds_runs.specs.Order.{first_from}
 use Rattle.ds_ports.specs.Dues.{dues_with}
 use Rattle.ds_ports.specs.Io.{IoState}
 use Rattle.ds_ports.specs.ProcessorIo.{ProcessorIoState, control_written, dma_written, haltcnt_written, ie_written, if_written, ime_written, keycnt_written, reload_written}
+use Rattle.ds_ports.specs.Touches as touches
+use Rattle.ds_ports.specs.Touches.{UnitPart, Division, DmaNine, DmaSeven, Released, TimersNine, TimersSeven, among, changes_any}
 use Rattle.ds_ports.specs.declared.registers.Register.{Register}
 use Rattle.ds_ports.specs.declared.registers.Register.TheVariants.{DisplayHalf, DisplayWord, GxWord, GxCommand, Dmasad, Dmadad, Dmacnt, TmcntL, TmcntH, Keycnt, Ime, Ie, If, Haltcnt, Vramcnt, Vramstat, Divcnt, DivNumer, DivDenom, DivResult, DivremResult, Sqrtcnt, SqrtResult, SqrtParam}
 
 -- What the code's parts say of one another. No public clause speaks of it.
 
--- a write of a register may change when something is due, or leave something to settle
+-- a write of a register may change when something is due, or leave something to settle: it changes one of these parts of the units. The display is due too, but by its scan, which no
+-- register changes. (Both processors' registers of a name change such parts, or none of them does)
+abbrev pub moving_parts : List UnitPart
+moving_parts = TimersNine ∷ TimersSeven ∷ Division ∷ touches.SquareRoot ∷ touches.Geometry ∷ Released ∷ DmaNine ∷ DmaSeven ∷ []
+
 abbrev pub moves_dues : Register → Bool
-moves_dues Dmasad = true
-moves_dues Dmadad = true
-moves_dues Dmacnt = true
-moves_dues TmcntL = true
-moves_dues TmcntH = true
-moves_dues Divcnt = true
-moves_dues DivNumer = true
-moves_dues DivDenom = true
-moves_dues Sqrtcnt = true
-moves_dues SqrtParam = true
-moves_dues GxWord = true
-moves_dues GxCommand = true
-moves_dues _ = false
+moves_dues register = changes_any (among moving_parts) Nine register
 
 -- what a write of a register that is the processor's own leaves of that, by the keys that are pressed
 abbrev pub own_written : Register → Proc → Tick → ℕ → ProcessorIoState → ℕ → ℕ → ProcessorIoState

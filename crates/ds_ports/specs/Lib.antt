@@ -6,5 +6,6 @@ pub mod Parts
 pub mod Ports
 pub mod RegisterMap
 pub mod Registers
+pub mod Touches
 pub mod Io
 pub mod Happenings

@@ -1,6 +1,8 @@
-use Rattle.std.specs.Prelude.{ℕ, nat_lt, if◌then◌else◌, List, [], ◌∷◌, ◌++◌, Option, None}
+use Rattle.std.specs.Prelude.{ℕ, ◌+◌, ◌-◌, nat_lt, if◌then◌else◌, List, [], ◌∷◌, ◌++◌, Option, Some, None}
+use Rattle.ds_base.specs.declared.processors.Proc.{Proc}
 use Rattle.ds_ports.specs.declared.registers.Slot.{Slot}
-use Rattle.ds_ports.specs.RegisterMap.{PortRow, slot_by, status_rows, display_rows, effect_rows, capture_rows, dma_rows, timer_and_ipc_rows, control_rows, maths_rows, power_rows, geometry_rows, receive_rows, seven_early_rows, seven_timer_and_ipc_rows, seven_control_rows}
+use Rattle.ds_ports.specs.RegisterMap.{PortRow, display_port, slot_by, slot_in, display_control_rows, status_rows, drawing_rows, gx_control_rows, output_rows, dma_rows, fill_rows, timer_and_key_rows, more_key_rows, ipc_rows, interrupt_rows, memory_rows, maths_rows, boot_rows, power_rows, geometry_rows, second_engine_rows, receive_rows}
+use Rattle.video2d.specs.declared.display_registers.DisplayRow.{DisplayRow}
 
 -- A map is cut into parts, each with the offset at which it ends, so that an offset is looked up in its part alone. No public clause speaks
 -- of them.
@@ -8,6 +10,11 @@ use Rattle.ds_ports.specs.RegisterMap.{PortRow, slot_by, status_rows, display_ro
 -- what some rows have at an offset; it doesn't unfold by itself, since the rows are many
 unfoldable pub slot_among : List PortRow → ℕ → Option Slot
 slot_among rows at = slot_by rows at
+
+-- the byte at an offset of a row of the display's registers, if there is one, whose offset counts from a base
+abbrev pub slot_from : ℕ → ℕ → Option DisplayRow → Option Slot
+slot_from base at None = None
+slot_from base at (Some row) = Some (slot_in (display_port base row) (at - (base + row.first)))
 
 pub record Part : Type 0 where
   pub limit : ℕ
@@ -24,11 +31,17 @@ abbrev pub looked_up : List Part → ℕ → Option Slot
 looked_up [] at = None
 looked_up (p ∷ parts) at = if nat_lt at p.limit then slot_among p.rows at else looked_up parts at
 
-abbrev pub parts_of_nine : List Part
-parts_of_nine =
-    map_part 0x040 (display_rows 0 status_rows) ∷ map_part 0x0B0 (effect_rows 0 capture_rows) ∷ map_part 0x100 dma_rows ∷ map_part 0x200 timer_and_ipc_rows ∷ map_part 0x280 control_rows
-    ∷ map_part 0x300 maths_rows ∷ map_part 0x400 power_rows ∷ map_part 0x1000 geometry_rows ∷ map_part 0x1040 (display_rows 0x1000 [])
-    ∷ map_part 0x100000 (effect_rows 0x1000 []) ∷ map_part 0x100004 receive_rows ∷ []
+abbrev pub low_parts : Proc → List Part
+low_parts proc =
+    map_part 0x004 (display_control_rows proc) ∷ map_part 0x008 status_rows ∷ map_part 0x060 (drawing_rows proc) ∷ map_part 0x064 (gx_control_rows proc)
+    ∷ map_part 0x0B0 (output_rows proc) ∷ map_part 0x0E0 dma_rows ∷ map_part 0x100 (fill_rows proc) ∷ map_part 0x136 timer_and_key_rows
+    ∷ map_part 0x180 (more_key_rows proc) ∷ map_part 0x200 ipc_rows ∷ []
 
-abbrev pub parts_of_seven : List Part
-parts_of_seven = map_part 0x0B0 status_rows ∷ map_part 0x100 seven_early_rows ∷ map_part 0x200 seven_timer_and_ipc_rows ∷ map_part 0x100000 seven_control_rows ∷ map_part 0x100004 receive_rows ∷ []
+abbrev pub high_parts : Proc → List Part
+high_parts proc =
+    map_part 0x240 interrupt_rows ∷ map_part 0x280 (memory_rows proc) ∷ map_part 0x300 (maths_rows proc) ∷ map_part 0x301 boot_rows
+    ∷ map_part 0x400 (power_rows proc) ∷ map_part 0x1000 (geometry_rows proc) ∷ map_part 0x100000 (second_engine_rows proc)
+    ∷ map_part 0x100004 receive_rows ∷ []
+
+abbrev pub parts_of : Proc → List Part
+parts_of proc = low_parts proc ++ high_parts proc

@@ -5,9 +5,14 @@ use Rattle.ds_ports.specs.declared.registers.Register.{Register}
 use Rattle.ds_ports.specs.declared.registers.Register.TheVariants.{DisplayHalf, DisplayWord, GxWord, GxCommand, Dmasad, Dmadad, Dmacnt, Dmafill, TmcntL, TmcntH, Keyinput, Keycnt, Extkeyin, Ipcsync, Ipcfifocnt, Ipcfifosend, Ipcfiforecv, Romctrl, Ime, Ie, If, Vramcnt, Wramcnt, Vramstat, Wramstat, Divcnt, DivNumer, DivDenom, DivResult, DivremResult, Sqrtcnt, SqrtResult, SqrtParam, Postflg, Haltcnt}
 use Rattle.ds_ports.specs.declared.registers.Slot.{Slot}
 use Rattle.ds_ports.specs.Registers.{meaning_of}
+use Rattle.video2d.specs.DisplayRegisters.{control_registers, display_row, drawing_registers, engine_base, engine_registers, output_registers}
+use Rattle.video2d.specs.declared.display_registers.DisplayRegister.{DisplayRegister}
+use Rattle.video2d.specs.declared.display_registers.DisplayRegister.TheVariants.{Dispstat, Vcount, Powcnt1}
+use Rattle.video2d.specs.declared.display_registers.DisplayRow.{DisplayRow}
+use Rattle.video2d.specs.declared.engines.Engine.TheVariants.{A, B}
 
--- The register map of each processor (GBATEK, "DS I/O Maps"): the offset from 4000000h, how many bytes each register of the row has, and what
--- they are; GBATEK's names stand beside. Offsets that no row has aren't ports of this console.
+-- The register map (GBATEK, "DS I/O Maps"): the offset from 4000000h, how many bytes each register of the row has, and what they are; GBATEK's names
+-- stand beside. A row that both processors have stands once. Offsets that no row has aren't ports of this console.
 
 -- how many registers stand there one after another, and by their place among them, counted from 0, which register each is, and which of its name
 pub record PortRow : Type 0 where
@@ -24,17 +29,25 @@ port_row offset bytes count register = record { offset = offset; bytes = bytes; 
 abbrev pub row_from : ℕ → ℕ → ℕ → ℕ → Register → PortRow
 row_from first offset bytes count register = record (port_row offset bytes count register) { number = λ place. first + place }
 
--- the display's, of two bytes each, and of four: the number of each is its offset, by which the display knows it
-abbrev pub display_halves : ℕ → ℕ → PortRow
-display_halves offset count = record (port_row offset 2 count DisplayHalf) { number = λ place. offset + 2 * place }
+-- the display's, by the rows of its own table and the base from which their offsets count: the number of each is its offset, by which the display
+-- knows it
+abbrev pub display_port : ℕ → DisplayRow → PortRow
+display_port base row = record {
+  offset = base + row.first;
+  bytes = row.bytes;
+  count = row.count;
+  register = λ place. if row.bytes == 4 then DisplayWord else DisplayHalf;
+  number = λ place. base + row.first + row.bytes * place;
+}
 
+abbrev pub display_ports : ℕ → List DisplayRegister → List PortRow
+display_ports base [] = []
+display_ports base (register ∷ registers) = display_port base (display_row register) ∷ display_ports base registers
+
+-- geometry's, of four bytes each: their numbers are their offsets too
 abbrev pub words_by_offset : ℕ → ℕ → Register → PortRow
 words_by_offset offset count register = record (port_row offset 4 count register) { number = λ place. offset + 4 * place }
 
-abbrev pub display_words : ℕ → ℕ → PortRow
-display_words offset count = words_by_offset offset count DisplayWord
-
--- geometry's, of four bytes each, the same
 abbrev pub gx_words : ℕ → ℕ → PortRow
 gx_words offset count = words_by_offset offset count GxWord
 
@@ -60,73 +73,74 @@ three_in_turn offset bytes times first second third = record {
   number = λ place. place / 3;
 }
 
--- ---- both processors'
+-- ---- the rows, in the order of their offsets; those that both processors have stand once
+
+-- engine A's, between which each processor's status and the 3D engine's control stand
+abbrev pub display_control_rows : Proc → List PortRow
+display_control_rows Nine = display_ports (engine_base A) control_registers
+display_control_rows Seven = []
 
 abbrev pub status_rows : List PortRow
-status_rows =
-    display_halves 0x004 1  -- DISPSTAT
-    ∷ display_halves 0x006 1  -- VCOUNT
-    ∷ []
+status_rows = display_ports 0 (Dispstat ∷ Vcount ∷ [])
 
--- ---- ARM9's
+abbrev pub drawing_rows : Proc → List PortRow
+drawing_rows Nine = display_ports (engine_base A) drawing_registers
+drawing_rows Seven = []
 
--- a 2D engine's, by its base and by what stands between them: engine A's at 0 and engine B's at 1000h
-abbrev pub display_rows : ℕ → List PortRow → List PortRow
-display_rows base between =
-    (display_words (base + 0x00) 1 ∷ between)  -- DISPCNT
-    ++ (display_halves (base + 0x08) 4  -- BG0CNT to BG3CNT
-    ∷ display_halves (base + 0x10) 8  -- BG0HOFS, BG0VOFS to BG3HOFS, BG3VOFS
-    ∷ display_halves (base + 0x20) 4  -- BG2PA, BG2PB, BG2PC, BG2PD
-    ∷ display_words (base + 0x28) 2  -- BG2X, BG2Y
-    ∷ display_halves (base + 0x30) 4  -- BG3PA, BG3PB, BG3PC, BG3PD
-    ∷ display_words (base + 0x38) 2  -- BG3X, BG3Y
-    ∷ [])
+abbrev pub gx_control_rows : Proc → List PortRow
+gx_control_rows Nine = gx_words 0x060 1 ∷ []  -- DISP3DCNT
+gx_control_rows Seven = []
 
-abbrev pub effect_rows : ℕ → List PortRow → List PortRow
-effect_rows base between =
-    (display_halves (base + 0x40) 4  -- WIN0H, WIN1H, WIN0V, WIN1V
-    ∷ display_halves (base + 0x48) 2  -- WININ, WINOUT
-    ∷ display_halves (base + 0x4C) 1  -- MOSAIC
-    ∷ display_halves (base + 0x50) 3  -- BLDCNT, BLDALPHA, BLDY
-    ∷ between)
-    ++ (display_halves (base + 0x6C) 1 ∷ [])  -- MASTER_BRIGHT
-
--- engine A's alone: the 3D engine's control, and display capture
-abbrev pub capture_rows : List PortRow
-capture_rows =
-    gx_words 0x060 1  -- DISP3DCNT
-    ∷ display_words 0x064 1  -- DISPCAPCNT
-    ∷ []
+abbrev pub output_rows : Proc → List PortRow
+output_rows Nine = display_ports (engine_base A) (output_registers A)
+output_rows Seven = []
 
 abbrev pub dma_rows : List PortRow
-dma_rows =
-    three_in_turn 0x0B0 4 4 Dmasad Dmadad Dmacnt  -- DMA0SAD, DMA0DAD, DMA0CNT to DMA3SAD, DMA3DAD, DMA3CNT
-    ∷ port_row 0x0E0 4 4 Dmafill  -- DMA0FILL to DMA3FILL
-    ∷ []
+dma_rows = three_in_turn 0x0B0 4 4 Dmasad Dmadad Dmacnt ∷ []  -- DMA0SAD, DMA0DAD, DMA0CNT to DMA3SAD, DMA3DAD, DMA3CNT
 
-abbrev pub timer_and_ipc_rows : List PortRow
-timer_and_ipc_rows =
+abbrev pub fill_rows : Proc → List PortRow
+fill_rows Nine = port_row 0x0E0 4 4 Dmafill ∷ []  -- DMA0FILL to DMA3FILL
+fill_rows Seven = []
+
+abbrev pub timer_and_key_rows : List PortRow
+timer_and_key_rows =
     two_in_turn 0x100 2 4 TmcntL TmcntH  -- TM0CNT_L, TM0CNT_H to TM3CNT_L, TM3CNT_H
     ∷ port_row 0x130 2 1 Keyinput  -- KEYINPUT
     ∷ port_row 0x132 2 1 Keycnt  -- KEYCNT
-    ∷ port_row 0x180 2 1 Ipcsync  -- IPCSYNC
+    ∷ []
+
+abbrev pub more_key_rows : Proc → List PortRow
+more_key_rows Nine = []
+more_key_rows Seven = port_row 0x136 2 1 Extkeyin ∷ []  -- EXTKEYIN
+
+abbrev pub ipc_rows : List PortRow
+ipc_rows =
+    port_row 0x180 2 1 Ipcsync  -- IPCSYNC
     ∷ port_row 0x184 2 1 Ipcfifocnt  -- IPCFIFOCNT
     ∷ port_row 0x188 4 1 Ipcfifosend  -- IPCFIFOSEND
     ∷ port_row 0x1A4 4 1 Romctrl  -- ROMCTRL
     ∷ []
 
-abbrev pub control_rows : List PortRow
-control_rows =
+abbrev pub interrupt_rows : List PortRow
+interrupt_rows =
     port_row 0x208 4 1 Ime  -- IME
     ∷ port_row 0x210 4 1 Ie  -- IE
     ∷ port_row 0x214 4 1 If  -- IF
-    ∷ port_row 0x240 1 7 Vramcnt  -- VRAMCNT_A to VRAMCNT_G
+    ∷ []
+
+abbrev pub memory_rows : Proc → List PortRow
+memory_rows Nine =
+    port_row 0x240 1 7 Vramcnt  -- VRAMCNT_A to VRAMCNT_G
     ∷ port_row 0x247 1 1 Wramcnt  -- WRAMCNT
     ∷ row_from 7 0x248 1 2 Vramcnt  -- VRAMCNT_H, VRAMCNT_I
     ∷ []
+memory_rows Seven =
+    port_row 0x240 1 1 Vramstat  -- VRAMSTAT
+    ∷ port_row 0x241 1 1 Wramstat  -- WRAMSTAT
+    ∷ []
 
-abbrev pub maths_rows : List PortRow
-maths_rows =
+abbrev pub maths_rows : Proc → List PortRow
+maths_rows Nine =
     port_row 0x280 4 1 Divcnt  -- DIVCNT
     ∷ port_row 0x290 4 2 DivNumer  -- DIV_NUMER, its low and its high word
     ∷ port_row 0x298 4 2 DivDenom  -- DIV_DENOM, the same
@@ -136,15 +150,17 @@ maths_rows =
     ∷ port_row 0x2B4 4 1 SqrtResult  -- SQRT_RESULT
     ∷ port_row 0x2B8 4 2 SqrtParam  -- SQRT_PARAM, its low and its high word
     ∷ []
+maths_rows Seven = []
 
-abbrev pub power_rows : List PortRow
-power_rows =
-    port_row 0x300 1 1 Postflg  -- POSTFLG
-    ∷ display_halves 0x304 1  -- POWCNT1
-    ∷ []
+abbrev pub boot_rows : List PortRow
+boot_rows = port_row 0x300 1 1 Postflg ∷ []  -- POSTFLG
 
-abbrev pub geometry_rows : List PortRow
-geometry_rows =
+abbrev pub power_rows : Proc → List PortRow
+power_rows Nine = display_ports 0 (Powcnt1 ∷ [])
+power_rows Seven = port_row 0x301 1 1 Haltcnt ∷ []  -- HALTCNT
+
+abbrev pub geometry_rows : Proc → List PortRow
+geometry_rows Nine =
     gx_commands 0x400 16  -- GXFIFO
     ∷ gx_commands 0x440 112  -- MTX_MODE to VEC_TEST, the geometry commands
     ∷ gx_words 0x600 1  -- GXSTAT
@@ -154,53 +170,28 @@ geometry_rows =
     ∷ gx_words 0x640 16  -- CLIPMTX_RESULT
     ∷ gx_words 0x680 9  -- VECMTX_RESULT
     ∷ []
+geometry_rows Seven = []
+
+abbrev pub second_engine_rows : Proc → List PortRow
+second_engine_rows Nine = display_ports (engine_base B) (engine_registers B)
+second_engine_rows Seven = []
 
 abbrev pub receive_rows : List PortRow
 receive_rows = port_row 0x100000 4 1 Ipcfiforecv ∷ []  -- IPCFIFORECV
 
--- ---- ARM7's
-
-abbrev pub seven_early_rows : List PortRow
-seven_early_rows =
-    three_in_turn 0x0B0 4 4 Dmasad Dmadad Dmacnt  -- DMA0SAD, DMA0DAD, DMA0CNT to DMA3SAD, DMA3DAD, DMA3CNT
-    ∷ []
-
-abbrev pub seven_timer_and_ipc_rows : List PortRow
-seven_timer_and_ipc_rows =
-    two_in_turn 0x100 2 4 TmcntL TmcntH  -- TM0CNT_L, TM0CNT_H to TM3CNT_L, TM3CNT_H
-    ∷ port_row 0x130 2 1 Keyinput  -- KEYINPUT
-    ∷ port_row 0x132 2 1 Keycnt  -- KEYCNT
-    ∷ port_row 0x136 2 1 Extkeyin  -- EXTKEYIN
-    ∷ port_row 0x180 2 1 Ipcsync  -- IPCSYNC
-    ∷ port_row 0x184 2 1 Ipcfifocnt  -- IPCFIFOCNT
-    ∷ port_row 0x188 4 1 Ipcfifosend  -- IPCFIFOSEND
-    ∷ port_row 0x1A4 4 1 Romctrl  -- ROMCTRL
-    ∷ []
-
-abbrev pub seven_control_rows : List PortRow
-seven_control_rows =
-    port_row 0x208 4 1 Ime  -- IME
-    ∷ port_row 0x210 4 1 Ie  -- IE
-    ∷ port_row 0x214 4 1 If  -- IF
-    ∷ port_row 0x240 1 1 Vramstat  -- VRAMSTAT
-    ∷ port_row 0x241 1 1 Wramstat  -- WRAMSTAT
-    ∷ port_row 0x300 1 1 Postflg  -- POSTFLG
-    ∷ port_row 0x301 1 1 Haltcnt  -- HALTCNT
-    ∷ []
-
--- ---- the maps
-
-abbrev pub map_of_nine : List PortRow
-map_of_nine =
-    display_rows 0 status_rows ++ effect_rows 0 capture_rows ++ dma_rows ++ timer_and_ipc_rows ++ control_rows ++ maths_rows ++ power_rows ++ geometry_rows
-    ++ display_rows 0x1000 [] ++ effect_rows 0x1000 [] ++ receive_rows
-
-abbrev pub map_of_seven : List PortRow
-map_of_seven = status_rows ++ seven_early_rows ++ seven_timer_and_ipc_rows ++ seven_control_rows ++ receive_rows
+-- ---- the map of each
 
 abbrev pub register_map : Proc → List PortRow
-register_map Nine = map_of_nine
-register_map Seven = map_of_seven
+register_map proc =
+    display_control_rows proc ++ status_rows ++ drawing_rows proc ++ gx_control_rows proc ++ output_rows proc
+    ++ dma_rows ++ fill_rows proc
+    ++ timer_and_key_rows ++ more_key_rows proc ++ ipc_rows
+    ++ interrupt_rows ++ memory_rows proc
+    ++ maths_rows proc
+    ++ boot_rows ++ power_rows proc
+    ++ geometry_rows proc
+    ++ second_engine_rows proc
+    ++ receive_rows
 
 -- ---- what stands at an offset
 

@@ -1,11 +1,14 @@
 //! The register map: which register stands at an offset.
 
-ghost use Rattle.std.specs.Prelude.{◌≡◌, ◌<◌, ◌≤◌, ◌+◌, ◌-◌, ◌*◌, ◌/◌, [], ◌%◌, ◌^◌, ◌==◌, if◌then◌else◌, Some, IfSome};
-ghost use Rattle.ds_ports.specs.Parts.{looked_up, slot_among, parts_of_nine, parts_of_seven};
-ghost use Rattle.ds_ports.specs.RegisterMap.{slot_of, IsSlot, status_rows, display_rows, effect_rows, capture_rows, dma_rows, timer_and_ipc_rows, control_rows, maths_rows, power_rows, geometry_rows, receive_rows, seven_early_rows, seven_timer_and_ipc_rows, seven_control_rows};
+ghost use Rattle.std.specs.Prelude.{◌≡◌, ◌<◌, ◌≤◌, ◌+◌, ◌-◌, ◌*◌, ◌/◌, [], ◌%◌, ◌^◌, ◌==◌, ◌++◌, if◌then◌else◌, Some, IfSome};
+ghost use Rattle.ds_ports.specs.Parts.{high_parts, looked_up, low_parts, parts_of, slot_among, slot_from};
+ghost use Rattle.ds_ports.specs.RegisterMap.{slot_of, IsSlot, display_ports, display_control_rows, status_rows, drawing_rows, gx_control_rows, output_rows, dma_rows, fill_rows, timer_and_key_rows, more_key_rows, ipc_rows, interrupt_rows, memory_rows, maths_rows, boot_rows, power_rows, geometry_rows, second_engine_rows, receive_rows};
 ghost use Rattle.ds_ports.specs.declared.registers.Register.TheVariants.{DisplayHalf};
+ghost use Rattle.video2d.specs.DisplayRegisters.{control_registers, drawing_registers, engine_registers, output_registers, HasByteAt};
+ghost use Rattle.video2d.specs.declared.engines.Engine.TheVariants.{A, B};
 
 use ds_base::Proc;
+use video2d::{DisplayRow, Engine, control_row_at, drawing_row_at, engine_row_at, output_row_at};
 
 /// A register, by GBATEK's name ("DS I/O Maps"). Those of one name are told apart by a `Slot`'s number.
 #[derive(Clone, Copy, PartialEq, Eq)]
@@ -206,7 +209,47 @@ fn in_three(
     })
 }
 
+/// The byte at an offset from 4000000h of a row of the display's registers, whose offset counts from a base.
+#[inline(always)]
+fn in_display_row(base: u32, row: DisplayRow, at: u32) -> Option<Slot>
+    requires base { base ≤ at }
+    requires within { HasByteAt row (at - base) }
+    ensures { result ≡ slot_from base at (Some row) }
+{
+    if row.bytes == 4 {
+        words(Register::DisplayWord, base + row.first, at)
+    } else {
+        halves(base + row.first, at)
+    }
+}
+
+/// The same of the row that was found.
+#[inline(always)]
+fn in_display(base: u32, row: Option<DisplayRow>, at: u32) -> Option<Slot>
+    requires base { base ≤ at }
+    requires within { IfSome row (λ row. HasByteAt row (at - base)) }
+    ensures { result ≡ slot_from base at row }
+{
+    match row {
+        None => None,
+        Some(row) => in_display_row(base, row, at),
+    }
+}
+
+/// Engine A's control.
+#[inline(always)]
+#[tactic(auto, unfolding(crate::specs::Parts::slot_among))]
+fn display_control(proc: Proc, at: u32) -> Option<Slot>
+    ensures { result ≡ slot_among (display_control_rows proc) at }
+{
+    match proc {
+        Proc::Nine => in_display(0, control_row_at(at), at),
+        Proc::Seven => None,
+    }
+}
+
 /// Each processor's display status.
+#[inline(always)]
 #[tactic(auto, unfolding(crate::specs::Parts::slot_among))]
 fn status(at: u32) -> Option<Slot>
     ensures { result ≡ slot_among status_rows at }
@@ -218,43 +261,62 @@ fn status(at: u32) -> Option<Slot>
     }
 }
 
-/// Engine A's backgrounds.
+/// Its backgrounds, windows and effects.
+#[inline(always)]
 #[tactic(auto, unfolding(crate::specs::Parts::slot_among))]
-fn display(at: u32) -> Option<Slot>
-    ensures { result ≡ slot_among (display_rows 0 status_rows) at }
+fn drawing(proc: Proc, at: u32) -> Option<Slot>
+    ensures { result ≡ slot_among (drawing_rows proc) at }
 {
-    match at {
-        0x000..=0x003 => words(Register::DisplayWord, 0x000, at), // DISPCNT
-        0x004..=0x005 => halves(0x004, at), // DISPSTAT
-        0x006..=0x007 => halves(0x006, at), // VCOUNT
-        0x008..=0x00F => halves(0x008, at), // BG0CNT to BG3CNT
-        0x010..=0x01F => halves(0x010, at), // BG0HOFS, BG0VOFS to BG3HOFS, BG3VOFS
-        0x020..=0x027 => halves(0x020, at), // BG2PA, BG2PB, BG2PC, BG2PD
-        0x028..=0x02F => words(Register::DisplayWord, 0x028, at), // BG2X, BG2Y
-        0x030..=0x037 => halves(0x030, at), // BG3PA, BG3PB, BG3PC, BG3PD
-        0x038..=0x03F => words(Register::DisplayWord, 0x038, at), // BG3X, BG3Y
-        _ => None,
+    match proc {
+        Proc::Nine => in_display(0, drawing_row_at(at), at),
+        Proc::Seven => None,
     }
 }
 
-/// Engine A's windows and effects.
+/// The 3D engine's control.
+#[inline(always)]
 #[tactic(auto, unfolding(crate::specs::Parts::slot_among))]
-fn effects(at: u32) -> Option<Slot>
-    ensures { result ≡ slot_among (effect_rows 0 capture_rows) at }
+fn gx_control(proc: Proc, at: u32) -> Option<Slot>
+    ensures { result ≡ slot_among (gx_control_rows proc) at }
 {
-    match at {
-        0x040..=0x047 => halves(0x040, at), // WIN0H, WIN1H, WIN0V, WIN1V
-        0x048..=0x04B => halves(0x048, at), // WININ, WINOUT
-        0x04C..=0x04D => halves(0x04C, at), // MOSAIC
-        0x050..=0x055 => halves(0x050, at), // BLDCNT, BLDALPHA, BLDY
-        0x060..=0x063 => words(Register::GxWord, 0x060, at), // DISP3DCNT
-        0x064..=0x067 => words(Register::DisplayWord, 0x064, at), // DISPCAPCNT
-        0x06C..=0x06D => halves(0x06C, at), // MASTER_BRIGHT
-        _ => None,
+    match proc {
+        Proc::Nine => match at {
+            0x060..=0x063 => words(Register::GxWord, 0x060, at), // DISP3DCNT
+            _ => None,
+        },
+        Proc::Seven => None,
     }
 }
 
-/// ARM9's DMA channels.
+/// Its display capture and master brightness.
+#[inline(always)]
+#[tactic(auto, unfolding(crate::specs::Parts::slot_among))]
+fn output(proc: Proc, at: u32) -> Option<Slot>
+    ensures { result ≡ slot_among (output_rows proc) at }
+{
+    match proc {
+        Proc::Nine => in_display(0, output_row_at(Engine::A, at), at),
+        Proc::Seven => None,
+    }
+}
+
+/// What ARM9's DMA is filled from.
+#[inline(always)]
+#[tactic(auto, unfolding(crate::specs::Parts::slot_among))]
+fn fills(proc: Proc, at: u32) -> Option<Slot>
+    ensures { result ≡ slot_among (fill_rows proc) at }
+{
+    match proc {
+        Proc::Nine => match at {
+            0x0E0..=0x0EF => in_row(Register::Dmafill, 4, at - 0x0E0), // DMA0FILL to DMA3FILL
+            _ => None,
+        },
+        Proc::Seven => None,
+    }
+}
+
+/// DMA channels.
+#[inline(always)]
 #[tactic(auto, unfolding(crate::specs::Parts::slot_among))]
 fn dma(at: u32) -> Option<Slot>
     ensures { result ≡ slot_among dma_rows at }
@@ -267,21 +329,46 @@ fn dma(at: u32) -> Option<Slot>
             4,
             at - 0x0B0,
         ), // DMA0SAD, DMA0DAD, DMA0CNT to DMA3SAD, DMA3DAD, DMA3CNT
-        0x0E0..=0x0EF => in_row(Register::Dmafill, 4, at - 0x0E0), // DMA0FILL to DMA3FILL
         _ => None,
     }
 }
 
-/// ARM9's timers, keys, and what passes between the processors.
+/// The keys that ARM7 alone reads.
 #[inline(always)]
 #[tactic(auto, unfolding(crate::specs::Parts::slot_among))]
-fn timers_and_ipc(at: u32) -> Option<Slot>
-    ensures { result ≡ slot_among timer_and_ipc_rows at }
+fn more_keys(proc: Proc, at: u32) -> Option<Slot>
+    ensures { result ≡ slot_among (more_key_rows proc) at }
+{
+    match proc {
+        Proc::Nine => None,
+        Proc::Seven => match at {
+            0x136..=0x137 => in_row(Register::Extkeyin, 2, at - 0x136), // EXTKEYIN
+            _ => None,
+        },
+    }
+}
+
+/// Timers and keys.
+#[inline(always)]
+#[tactic(auto, unfolding(crate::specs::Parts::slot_among))]
+fn timers_and_keys(at: u32) -> Option<Slot>
+    ensures { result ≡ slot_among timer_and_key_rows at }
 {
     match at {
         0x100..=0x10F => in_two(Register::TmcntL, Register::TmcntH, 2, at - 0x100), // TM0CNT_L, TM0CNT_H to TM3CNT_L, TM3CNT_H
         0x130..=0x131 => in_row(Register::Keyinput, 2, at - 0x130), // KEYINPUT
         0x132..=0x133 => in_row(Register::Keycnt, 2, at - 0x132), // KEYCNT
+        _ => None,
+    }
+}
+
+/// What passes between the processors, and to the card.
+#[inline(always)]
+#[tactic(auto, unfolding(crate::specs::Parts::slot_among))]
+fn ipc(at: u32) -> Option<Slot>
+    ensures { result ≡ slot_among ipc_rows at }
+{
+    match at {
         0x180..=0x181 => in_row(Register::Ipcsync, 2, at - 0x180), // IPCSYNC
         0x184..=0x185 => in_row(Register::Ipcfifocnt, 2, at - 0x184), // IPCFIFOCNT
         0x188..=0x18B => in_row(Register::Ipcfifosend, 4, at - 0x188), // IPCFIFOSEND
@@ -290,99 +377,125 @@ fn timers_and_ipc(at: u32) -> Option<Slot>
     }
 }
 
-/// ARM9's interrupts and memory control.
+/// The control of shared memories, and its status.
+#[inline(always)]
 #[tactic(auto, unfolding(crate::specs::Parts::slot_among))]
-fn controls(at: u32) -> Option<Slot>
-    ensures { result ≡ slot_among control_rows at }
+fn memories(proc: Proc, at: u32) -> Option<Slot>
+    ensures { result ≡ slot_among (memory_rows proc) at }
+{
+    match proc {
+        Proc::Nine => match at {
+            0x240..=0x246 => in_row(Register::Vramcnt, 1, at - 0x240), // VRAMCNT_A to VRAMCNT_G
+            0x247..=0x247 => in_row(Register::Wramcnt, 1, at - 0x247), // WRAMCNT
+            0x248..=0x249 => in_row_from(7, Register::Vramcnt, 1, at - 0x248), // VRAMCNT_H, VRAMCNT_I
+            _ => None,
+        },
+        Proc::Seven => match at {
+            0x240..=0x240 => in_row(Register::Vramstat, 1, at - 0x240), // VRAMSTAT
+            0x241..=0x241 => in_row(Register::Wramstat, 1, at - 0x241), // WRAMSTAT
+            _ => None,
+        },
+    }
+}
+
+/// Interrupts.
+#[inline(always)]
+#[tactic(auto, unfolding(crate::specs::Parts::slot_among))]
+fn interrupts(at: u32) -> Option<Slot>
+    ensures { result ≡ slot_among interrupt_rows at }
 {
     match at {
         0x208..=0x20B => in_row(Register::Ime, 4, at - 0x208), // IME
         0x210..=0x213 => in_row(Register::Ie, 4, at - 0x210), // IE
         0x214..=0x217 => in_row(Register::If, 4, at - 0x214), // IF
-        0x240..=0x246 => in_row(Register::Vramcnt, 1, at - 0x240), // VRAMCNT_A to VRAMCNT_G
-        0x247..=0x247 => in_row(Register::Wramcnt, 1, at - 0x247), // WRAMCNT
-        0x248..=0x249 => in_row_from(7, Register::Vramcnt, 1, at - 0x248), // VRAMCNT_H, VRAMCNT_I
         _ => None,
     }
 }
 
 /// The divider and the square root.
+#[inline(always)]
 #[tactic(auto, unfolding(crate::specs::Parts::slot_among))]
-fn maths(at: u32) -> Option<Slot>
-    ensures { result ≡ slot_among maths_rows at }
+fn maths(proc: Proc, at: u32) -> Option<Slot>
+    ensures { result ≡ slot_among (maths_rows proc) at }
 {
-    match at {
-        0x280..=0x283 => in_row(Register::Divcnt, 4, at - 0x280), // DIVCNT
-        0x290..=0x297 => in_row(Register::DivNumer, 4, at - 0x290), // DIV_NUMER, its low and its high word
-        0x298..=0x29F => in_row(Register::DivDenom, 4, at - 0x298), // DIV_DENOM, its low and its high word
-        0x2A0..=0x2A7 => in_row(Register::DivResult, 4, at - 0x2A0), // DIV_RESULT, its low and its high word
-        0x2A8..=0x2AF => in_row(Register::DivremResult, 4, at - 0x2A8), // DIVREM_RESULT, its low and its high word
-        0x2B0..=0x2B3 => in_row(Register::Sqrtcnt, 4, at - 0x2B0), // SQRTCNT
-        0x2B4..=0x2B7 => in_row(Register::SqrtResult, 4, at - 0x2B4), // SQRT_RESULT
-        0x2B8..=0x2BF => in_row(Register::SqrtParam, 4, at - 0x2B8), // SQRT_PARAM, its low and its high word
-        _ => None,
+    match proc {
+        Proc::Nine => match at {
+            0x280..=0x283 => in_row(Register::Divcnt, 4, at - 0x280), // DIVCNT
+            0x290..=0x297 => in_row(Register::DivNumer, 4, at - 0x290), // DIV_NUMER, its low and its high word
+            0x298..=0x29F => in_row(Register::DivDenom, 4, at - 0x298), // DIV_DENOM, its low and its high word
+            0x2A0..=0x2A7 => in_row(Register::DivResult, 4, at - 0x2A0), // DIV_RESULT, its low and its high word
+            0x2A8..=0x2AF => in_row(Register::DivremResult, 4, at - 0x2A8), // DIVREM_RESULT, its low and its high word
+            0x2B0..=0x2B3 => in_row(Register::Sqrtcnt, 4, at - 0x2B0), // SQRTCNT
+            0x2B4..=0x2B7 => in_row(Register::SqrtResult, 4, at - 0x2B4), // SQRT_RESULT
+            0x2B8..=0x2BF => in_row(Register::SqrtParam, 4, at - 0x2B8), // SQRT_PARAM, its low and its high word
+            _ => None,
+        },
+        Proc::Seven => None,
     }
 }
 
-/// ARM9's power control.
+/// Power control.
+#[inline(always)]
 #[tactic(auto, unfolding(crate::specs::Parts::slot_among))]
-fn power(at: u32) -> Option<Slot>
-    ensures { result ≡ slot_among power_rows at }
+fn power(proc: Proc, at: u32) -> Option<Slot>
+    ensures { result ≡ slot_among (power_rows proc) at }
+{
+    match proc {
+        Proc::Nine => match at {
+            0x304..=0x305 => halves(0x304, at), // POWCNT1
+            _ => None,
+        },
+        Proc::Seven => match at {
+            0x301..=0x301 => in_row(Register::Haltcnt, 1, at - 0x301), // HALTCNT
+            _ => None,
+        },
+    }
+}
+
+/// That the boot is over.
+#[inline(always)]
+#[tactic(auto, unfolding(crate::specs::Parts::slot_among))]
+fn boot(at: u32) -> Option<Slot>
+    ensures { result ≡ slot_among boot_rows at }
 {
     match at {
         0x300..=0x300 => in_row(Register::Postflg, 1, at - 0x300), // POSTFLG
-        0x304..=0x305 => halves(0x304, at), // POWCNT1
         _ => None,
     }
 }
 
 /// The geometry engine.
+#[inline(always)]
 #[tactic(auto, unfolding(crate::specs::Parts::slot_among))]
-fn geometry(at: u32) -> Option<Slot>
-    ensures { result ≡ slot_among geometry_rows at }
+fn geometry(proc: Proc, at: u32) -> Option<Slot>
+    ensures { result ≡ slot_among (geometry_rows proc) at }
 {
-    match at {
-        0x400..=0x43F => words(Register::GxCommand, 0x400, at), // GXFIFO
-        0x440..=0x5FF => words(Register::GxCommand, 0x440, at), // MTX_MODE to VEC_TEST, the geometry commands
-        0x600..=0x603 => words(Register::GxWord, 0x600, at), // GXSTAT
-        0x604..=0x607 => words(Register::GxWord, 0x604, at), // RAM_COUNT
-        0x620..=0x62F => words(Register::GxWord, 0x620, at), // POS_RESULT
-        0x630..=0x637 => words(Register::GxWord, 0x630, at), // VEC_RESULT, three halves
-        0x640..=0x67F => words(Register::GxWord, 0x640, at), // CLIPMTX_RESULT
-        0x680..=0x6A3 => words(Register::GxWord, 0x680, at), // VECMTX_RESULT
-        _ => None,
+    match proc {
+        Proc::Nine => match at {
+            0x400..=0x43F => words(Register::GxCommand, 0x400, at), // GXFIFO
+            0x440..=0x5FF => words(Register::GxCommand, 0x440, at), // MTX_MODE to VEC_TEST, the geometry commands
+            0x600..=0x603 => words(Register::GxWord, 0x600, at), // GXSTAT
+            0x604..=0x607 => words(Register::GxWord, 0x604, at), // RAM_COUNT
+            0x620..=0x62F => words(Register::GxWord, 0x620, at), // POS_RESULT
+            0x630..=0x637 => words(Register::GxWord, 0x630, at), // VEC_RESULT, three halves
+            0x640..=0x67F => words(Register::GxWord, 0x640, at), // CLIPMTX_RESULT
+            0x680..=0x6A3 => words(Register::GxWord, 0x680, at), // VECMTX_RESULT
+            _ => None,
+        },
+        Proc::Seven => None,
     }
 }
 
-/// Engine B's backgrounds.
+/// Engine B.
+#[inline(always)]
 #[tactic(auto, unfolding(crate::specs::Parts::slot_among))]
-fn second_display(at: u32) -> Option<Slot>
-    ensures { result ≡ slot_among (display_rows 0x1000 []) at }
+fn second_engine(proc: Proc, at: u32) -> Option<Slot>
+    requires { 0x1000 ≤ at }
+    ensures { result ≡ slot_among (second_engine_rows proc) at }
 {
-    match at {
-        0x1000..=0x1003 => words(Register::DisplayWord, 0x1000, at), // DISPCNT
-        0x1008..=0x100F => halves(0x1008, at), // BG0CNT to BG3CNT
-        0x1010..=0x101F => halves(0x1010, at), // BG0HOFS, BG0VOFS to BG3HOFS, BG3VOFS
-        0x1020..=0x1027 => halves(0x1020, at), // BG2PA, BG2PB, BG2PC, BG2PD
-        0x1028..=0x102F => words(Register::DisplayWord, 0x1028, at), // BG2X, BG2Y
-        0x1030..=0x1037 => halves(0x1030, at), // BG3PA, BG3PB, BG3PC, BG3PD
-        0x1038..=0x103F => words(Register::DisplayWord, 0x1038, at), // BG3X, BG3Y
-        _ => None,
-    }
-}
-
-/// Engine B's windows and effects.
-#[tactic(auto, unfolding(crate::specs::Parts::slot_among))]
-fn second_effects(at: u32) -> Option<Slot>
-    ensures { result ≡ slot_among (effect_rows 0x1000 []) at }
-{
-    match at {
-        0x1040..=0x1047 => halves(0x1040, at), // WIN0H, WIN1H, WIN0V, WIN1V
-        0x1048..=0x104B => halves(0x1048, at), // WININ, WINOUT
-        0x104C..=0x104D => halves(0x104C, at), // MOSAIC
-        0x1050..=0x1055 => halves(0x1050, at), // BLDCNT, BLDALPHA, BLDY
-        0x106C..=0x106D => halves(0x106C, at), // MASTER_BRIGHT
-        _ => None,
+    match proc {
+        Proc::Nine => in_display(0x1000, engine_row_at(Engine::B, at - 0x1000), at),
+        Proc::Seven => None,
     }
 }
 
@@ -398,104 +511,65 @@ fn receive(at: u32) -> Option<Slot>
     }
 }
 
-/// ARM7's DMA channels.
-#[tactic(auto, unfolding(crate::specs::Parts::slot_among))]
-fn early_of_seven(at: u32) -> Option<Slot>
-    ensures { result ≡ slot_among seven_early_rows at }
-{
-    match at {
-        0x0B0..=0x0DF => in_three(
-            Register::Dmasad,
-            Register::Dmadad,
-            Register::Dmacnt,
-            4,
-            at - 0x0B0,
-        ), // DMA0SAD, DMA0DAD, DMA0CNT to DMA3SAD, DMA3DAD, DMA3CNT
-        _ => None,
-    }
-}
-
-/// ARM7's timers, keys, and what passes between the processors.
+/// By the lower parts of a processor's map.
 #[inline(always)]
-#[tactic(auto, unfolding(crate::specs::Parts::slot_among))]
-fn timers_and_ipc_of_seven(at: u32) -> Option<Slot>
-    ensures { result ≡ slot_among seven_timer_and_ipc_rows at }
+fn by_low_parts(proc: Proc, at: u32) -> Option<Slot>
+    ensures { result ≡ looked_up (low_parts proc) at }
 {
     match at {
-        0x100..=0x10F => in_two(Register::TmcntL, Register::TmcntH, 2, at - 0x100), // TM0CNT_L, TM0CNT_H to TM3CNT_L, TM3CNT_H
-        0x130..=0x131 => in_row(Register::Keyinput, 2, at - 0x130), // KEYINPUT
-        0x132..=0x133 => in_row(Register::Keycnt, 2, at - 0x132), // KEYCNT
-        0x136..=0x137 => in_row(Register::Extkeyin, 2, at - 0x136), // EXTKEYIN
-        0x180..=0x181 => in_row(Register::Ipcsync, 2, at - 0x180), // IPCSYNC
-        0x184..=0x185 => in_row(Register::Ipcfifocnt, 2, at - 0x184), // IPCFIFOCNT
-        0x188..=0x18B => in_row(Register::Ipcfifosend, 4, at - 0x188), // IPCFIFOSEND
-        0x1A4..=0x1A7 => in_row(Register::Romctrl, 4, at - 0x1A4), // ROMCTRL
+        0..=0x003 => display_control(proc, at),
+        0x004..=0x007 => status(at),
+        0x008..=0x05F => drawing(proc, at),
+        0x060..=0x063 => gx_control(proc, at),
+        0x064..=0x0AF => output(proc, at),
+        0x0B0..=0x0DF => dma(at),
+        0x0E0..=0x0FF => fills(proc, at),
+        0x100..=0x135 => timers_and_keys(at),
+        0x136..=0x17F => more_keys(proc, at),
+        0x180..=0x1FF => ipc(at),
         _ => None,
     }
 }
 
-/// ARM7's interrupts, memory status and power control.
-#[tactic(auto, unfolding(crate::specs::Parts::slot_among))]
-fn controls_of_seven(at: u32) -> Option<Slot>
-    ensures { result ≡ slot_among seven_control_rows at }
-{
-    match at {
-        0x208..=0x20B => in_row(Register::Ime, 4, at - 0x208), // IME
-        0x210..=0x213 => in_row(Register::Ie, 4, at - 0x210), // IE
-        0x214..=0x217 => in_row(Register::If, 4, at - 0x214), // IF
-        0x240..=0x240 => in_row(Register::Vramstat, 1, at - 0x240), // VRAMSTAT
-        0x241..=0x241 => in_row(Register::Wramstat, 1, at - 0x241), // WRAMSTAT
-        0x300..=0x300 => in_row(Register::Postflg, 1, at - 0x300), // POSTFLG
-        0x301..=0x301 => in_row(Register::Haltcnt, 1, at - 0x301), // HALTCNT
-        _ => None,
-    }
-}
-
-/// The byte of one of ARM9's registers.
+/// By the parts above them.
 #[inline(always)]
-fn slot_of_nine(at: u32) -> Option<Slot>
-    ensures { result ≡ looked_up parts_of_nine at }
+fn by_high_parts(proc: Proc, at: u32) -> Option<Slot>
+    ensures { result ≡ looked_up (high_parts proc) at }
 {
     match at {
-        0..=0x03F => display(at),
-        0x040..=0x0AF => effects(at),
-        0x0B0..=0x0FF => dma(at),
-        0x100..=0x1FF => timers_and_ipc(at),
-        0x200..=0x27F => controls(at),
-        0x280..=0x2FF => maths(at),
-        0x300..=0x3FF => power(at),
-        0x400..=0xFFF => geometry(at),
-        0x1000..=0x103F => second_display(at),
-        0x1040..=0xF_FFFF => second_effects(at),
+        0..=0x23F => interrupts(at),
+        0x240..=0x27F => memories(proc, at),
+        0x280..=0x2FF => maths(proc, at),
+        0x300..=0x300 => boot(at),
+        0x301..=0x3FF => power(proc, at),
+        0x400..=0xFFF => geometry(proc, at),
+        0x1000..=0xF_FFFF => second_engine(proc, at),
         0x10_0000..=0x10_0003 => receive(at),
         _ => None,
     }
 }
 
-/// The byte of one of ARM7's registers.
+/// By all of them.
 #[inline(always)]
-fn slot_of_seven(at: u32) -> Option<Slot>
-    ensures { result ≡ looked_up parts_of_seven at }
+fn by_parts(proc: Proc, at: u32) -> Option<Slot>
+    ensures { result ≡ looked_up (parts_of proc) at }
 {
-    match at {
-        0..=0x0AF => status(at),
-        0x0B0..=0x0FF => early_of_seven(at),
-        0x100..=0x1FF => timers_and_ipc_of_seven(at),
-        0x200..=0xF_FFFF => controls_of_seven(at),
-        0x10_0000..=0x10_0003 => receive(at),
-        _ => None,
+    if at < 0x200 {
+        by_low_parts(proc, at)
+    } else {
+        by_high_parts(proc, at)
     }
 }
 
 /// By a processor's map.
 #[inline(always)]
-#[tactic(auto, using(crate::proofs::RegisterMaps::nine_by_parts, crate::proofs::RegisterMaps::seven_by_parts))]
+#[tactic(auto, using(crate::proofs::RegisterMaps::map_by_parts))]
 fn by_map(proc: Proc, at: u32) -> Option<Slot>
     ensures { result ≡ slot_of proc at }
 {
     match proc {
-        Proc::Nine => slot_of_nine(at),
-        Proc::Seven => slot_of_seven(at),
+        Proc::Nine => by_parts(Proc::Nine, at),
+        Proc::Seven => by_parts(Proc::Seven, at),
     }
 }
 

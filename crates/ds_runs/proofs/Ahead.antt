@@ -1,13 +1,10 @@
-use Rattle.std.proofs.Common.{ℕ, ◌≡◌, ◌≢◌, ◌<◌, ◌≤◌, ◌+◌, ◌-◌, ◌*◌, ◌⊎◌, inl, inr, List, [], ◌++◌, Option, Some, refl, sym, ◌∙◌, ap, subst, arith}
-use Rattle.std.proofs.Math.Nat.{mul-le-mul_left}
+use Rattle.std.proofs.Common.{ℕ, ◌≡◌, ◌≢◌, ◌<◌, ◌≤◌, ◌⊎◌, inl, inr, List, [], ◌++◌, Option, Some, refl, sym, ◌∙◌, ap, subst, arith}
 use Rattle.std.proofs.lemmas.Option.{same_Some}
 use Rattle.ds_base.specs.declared.ticks.Tick.{Tick}
 use Rattle.ds_base.proofs.Choices.{same_or_not}
 use Rattle.ds_runs.specs.Runs.{IsLeast, due_at, TickMachine, MachineStep, Makes, Stops, Ending, At, Stopped, Runs, over, stops, more}
 use Rattle.ds_runs.specs.Ahead.{MovesOn, MayRunAhead, HasOwnPart, AheadAgrees}
-use Rattle.ds_runs.specs.Schedules.{places_remaining}
 use Rattle.ds_runs.proofs.Lists.{is_later}
-use Rattle.ds_runs.proofs.Places.{remaining_at, remaining_below}
 use Rattle.ds_runs.proofs.RunLaws.{same_makes, same_stops, not_both}
 
 -- Taking an actor's step before its turn.
@@ -159,14 +156,6 @@ pub ahead_agrees : {S O L : Type 0} (m : TickMachine S O L) (p : ℕ) (Private :
 ahead_agrees m p Private laws limit end outs s ahead t a lt e =
     (λ run. run_ahead m limit p Private laws end s outs run ahead t a lt e, λ run. run_back m limit p Private laws end ahead outs run s t a lt e)
 
--- what runs on from a state is the rest of the run from the start; so is what runs on from the state after a private step
-pub goes_on_ahead : {S O L : Type 0} (m : TickMachine S O L) (p : ℕ) (Private : S → Tick → Type 0) → MayRunAhead m p Private
-    → (limit : ℕ) (start s ahead : S) (t : Tick) (front : List O) → Private s t → t.0 < limit → m.step p s ≡ Makes ahead []
-    → ((end : Ending S L) (rest : List O) → Runs m limit end s rest → Runs m limit end start (front ++ rest))
-    → (end : Ending S L) (rest : List O) → Runs m limit end ahead rest → Runs m limit end start (front ++ rest)
-goes_on_ahead m p Private laws limit start s ahead t front a lt e on end rest run =
-    on end rest (run_back m limit p Private laws end ahead rest run s t a lt e)
-
 -- the two laws are enough
 pub ahead_from_own : {S O L Own : Type 0} (m : TickMachine S O L) (p : ℕ) (put : Own → S → S) (after : S → Own) (Private : S → Tick → Type 0)
     → HasOwnPart m p put after Private → MayRunAhead m p Private
@@ -184,17 +173,3 @@ ahead_from_own {S} {O} {L} {Own} m p put after Private two = record {
 } where
   comes : (s ahead : S) (t : Tick) → Private s t → m.step p s ≡ Makes ahead [] → put (after s) s ≡ ahead
   comes s ahead t a e = (same_makes (put (after s) s) ahead [] [] (sym (two.inner s t a) ∙ e)).0
-
--- where one actor alone moves on, no more places are left
-pub places_stay : (ranks limit p : ℕ) (t : Tick) (olds news : List (Option Tick)) → MovesOn p t olds news
-    → places_remaining ranks limit 0 news ≤ places_remaining ranks limit 0 olds
-places_stay ranks limit p t olds news moves = remaining_below ranks limit 0 (places_remaining ranks limit 0 olds) news go where
-  go : (q : ℕ) (v : Tick) → due_at news q ≡ Some v → ranks * limit - (ranks * v.0 + (0 + q)) ≤ places_remaining ranks limit 0 olds
-  go q v h = elim (same_or_not q p) [
-    | inl same ↦ (let P : ℕ → Type 0 = λ x. due_at news x ≡ Some v in
-        let lt = is_later t (due_at news p) v moves.later (subst P same h) in
-        let le = mul-le-mul_left {m = t.0} {n = v.0} ranks (omega (arith, lt)) in
-        let there = remaining_at ranks limit 0 olds p t moves.there in
-        omega (arith, le, there, same))
-    | inr other ↦ remaining_at ranks limit 0 olds q v (sym (moves.others q other) ∙ h)
-  ]

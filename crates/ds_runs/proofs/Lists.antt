@@ -92,11 +92,6 @@ all_join now [] (y ∷ ys) c d h k = absurd h
 all_join now (x ∷ xs) [] c d h k = absurd h
 all_join now (x ∷ xs) (y ∷ ys) c d h k = (h.0, all_join now xs ys c d h.1 k)
 
--- one due tick becomes later, and the others stay
-pub one_moves : (now : Tick) (front : List (Option Tick)) (old new : Option Tick) (back : List (Option Tick)) → IsLater now new
-    → AllReschedule now (front ++ old ∷ back) (front ++ new ∷ back)
-one_moves now front old new back later = all_join now front front (old ∷ back) (new ∷ back) (all_stay now front) (inr later, all_stay now back)
-
 -- something holds of each entry of a list with its rank, from a rank on
 abbrev pub EachFrom : (ℕ → Option Tick → Type 0) → ℕ → List (Option Tick) → Type 0
 EachFrom P from [] = Unit {0}
@@ -117,13 +112,3 @@ IsNotBefore tick rank other (Some at) = (tick.0 < at.0) ⊎ ((tick.0 ≡ at.0) �
 not_before : (tick : Tick) (rank other : ℕ) (due : Option Tick) → IsNotBefore tick rank other due → (at : Tick) → due ≡ Some at → (tick.0 < at.0) ⊎ ((tick.0 ≡ at.0) × (rank ≤ other))
 not_before tick rank other None h at e = absurd (none-some at e)
 not_before tick rank other (Some u) h at e = subst (λ (x : Tick). (tick.0 < x.0) ⊎ ((tick.0 ≡ x.0) × (rank ≤ other))) (same_Some u at e) h
-
--- the least of a literal list, entry by entry
-pub least_of_each : (dues : List (Option Tick)) (tick : Tick) (rank : ℕ) → due_at dues rank ≡ Some tick → EachFrom (IsNotBefore tick rank) zero dues → IsLeast dues tick rank
-least_of_each dues tick rank there each = record { there = there; least = go } where
-  go : (other : ℕ) (at : Tick) → due_at dues other ≡ Some at → (tick.0 < at.0) ⊎ ((tick.0 ≡ at.0) × (rank ≤ other))
-  go other at h =
-      let k = each_at (IsNotBefore tick rank) zero dues each other (within dues other at h) in
-      let e : zero + other ≡ other = omega arith in
-      let P : ℕ → Type 0 = λ x. IsNotBefore tick rank x (due_at dues other) in
-      not_before tick rank other (due_at dues other) (subst P e k) at h

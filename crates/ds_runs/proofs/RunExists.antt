@@ -2,11 +2,10 @@ use Rattle.std.proofs.Common.{ℕ, zero, suc, ◌≡◌, ◌<◌, ◌≤◌, ◌
 use Rattle.ds_base.specs.declared.ticks.Tick.{Tick}
 use Rattle.ds_base.proofs.Choices.{low_or_high}
 use Rattle.ds_runs.specs.Runs.{IsLeast, due_at, TickMachine, MachineStep, Makes, Stops, Ending, At, Stopped, Runs, over, stops, more, steps_of}
-use Rattle.ds_runs.specs.Schedules.{places_remaining}
 use Rattle.ds_runs.specs.Owed.{Schedules}
 use Rattle.ds_runs.specs.Laws.{RunsEnd}
 use Rattle.ds_runs.proofs.Lists.{within, has_least, least_unique, at_rank, is_later}
-use Rattle.ds_runs.proofs.Places.{later_place, remaining_at, remaining_below}
+use Rattle.ds_runs.proofs.Places.{later_place}
 use Rattle.ds_runs.proofs.RunLaws.{over_here}
 
 three_ways : (x y : ℕ) → (x ≡ y) ⊎ ((x < y) ⊎ (y < x))
@@ -39,16 +38,6 @@ module _ {S O L : Type 0} (m : TickMachine S O L) (ranks : ℕ) (Sound : S → T
               let k = later_place ranks t.0 r u.0 lt small in omega (arith, k))
         ]
       ]
-
-  -- a step below the limit leaves fewer places
-  pub fewer_remaining : (limit : ℕ) (s next : S) (t : Tick) (r : ℕ) (outs : List O) → Sound s → IsLeast (m.dues s) t r → t.0 < limit → m.step r s ≡ Makes next outs
-      → places_remaining ranks limit 0 (m.dues next) < places_remaining ranks limit 0 (m.dues s)
-  fewer_remaining limit s next t r outs sound least lt goes =
-      let here = remaining_at ranks limit 0 (m.dues s) r t least.there in
-      let below = later_place ranks t.0 r limit lt (low_rank s t r sound least) in
-      let bound : ℕ = ranks * limit - (ranks * t.0 + r) - 1 in
-      let rest = remaining_below ranks limit 0 bound (m.dues next) (λ q u due. (let k = place_rises s next t r outs u q sound least goes due in omega (arith, k, below))) in
-      omega (arith, here, below, rest)
 
   -- every sound state runs to every limit
   pub run_exists : (limit : ℕ) (s : S) → Sound s → (end : Ending S L) × (outs : List O) × Runs m limit end s outs

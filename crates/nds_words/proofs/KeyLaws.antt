@@ -8,9 +8,6 @@ use Rattle.nds_words.specs.Reader.Lines.{some, keys_from}
 use Rattle.nds_words.proofs.NameLaws.{Gives, Fails, common_whole, names_apart}
 use Rattle.nds_words.proofs.NamesRead.{IsNames, IsBegun, names_sound, names_begun, names_most, names_again, twelve_fit, fit_twelve}
 
-keys_none : keys_text 0 ≡ 32 ∷ 45 ∷ []
-keys_none = refl
-
 keys_some : (bits : ℕ) → (bits == 0) ≡ false → keys_text bits ≡ marked 32 (chosen key_names bits)
 keys_some bits e = rw e refl
 

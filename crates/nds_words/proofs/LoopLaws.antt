@@ -2,7 +2,7 @@
 use Rattle.std.proofs.Common.{ℕ, zero, suc, ◌≡◌, ◌≢◌, ◌<◌, ◌≤◌, ◌+◌, ◌-◌, ◌*◌, ◌/◌, ◌%◌, ◌^◌, true, false, List, [], ◌∷◌, ◌++◌, length, take, drop, get_or, length-drop, Result, Ok, Err, refl, sym, ap, ◌∙◌, arith, inl, inr, ◌⊎◌, subst, append_assoc, length-append}
 use Rattle.ds_base.specs.Texts.{HasNoFeed}
 use Rattle.std.proofs.lemmas.Bool.{cases_eq, and_left, and_right, ne_eqb, and_from, eq-eqb}
-use Rattle.std.proofs.lemmas.List.{drop_all, drop-drop, append-nil, take_more, drop_more, take-append-drop, get_or_at, get_or_append_left}
+use Rattle.std.proofs.lemmas.List.{drop_all, drop-drop, append-nil, take_more, drop_more, get_or_at, get_or_append_left}
 use Rattle.std.proofs.lemmas.List.Elements.{All-push}
 use Rattle.std.proofs.lemmas.Fmt.{decimal_digit, decimal_step}
 use Rattle.std.proofs.Math.Nat.{mul-add, mul_left_comm, mul_assoc, pow-suc, pow-le-pow_right}
@@ -99,9 +99,6 @@ pub plain_more : (text : List ℕ) (end : ℕ) → end < length text → HasNoFe
 plain_more [] end h p n = absurd (omega arith)
 plain_more (b ∷ text) zero h p n = (n, tt)
 plain_more (b ∷ text) (suc end) h p n = let e : suc end + 1 ≡ suc (end + 1) = omega arith in rw e (p.0, plain_more text end (omega arith) p.1 n)
-
-pub parted_at : (text : List ℕ) (end : ℕ) → end < length text → get_or text end 0 ≡ 10 → IsParted text (take end text) (drop (end + 1) text)
-parted_at text end h e = inl (sym (take-append-drop end text) ∙ ap (λ (z : List ℕ). take end text ++ z) (drop_more text end 0 h ∙ ap (λ (z : ℕ). z ∷ drop (end + 1) text) e))
 
 -- a line more
 text_push : (lines : List KeyLine) (line : KeyLine) → script_text (lines ++ line ∷ []) ≡ script_text lines ++ (line_text line ++ 10 ∷ [])

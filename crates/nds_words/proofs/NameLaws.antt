@@ -40,9 +40,6 @@ fails_any P (Err most) f = f most
 step_true : (a b : ℕ) (x y : ℕ) → (a == b) ≡ true → (if a == b then x else y) ≡ x
 step_true a b x y e = rw e refl
 
-step_false : (a b : ℕ) (x y : ℕ) → (a == b) ≡ false → (if a == b then x else y) ≡ y
-step_false a b x y e = rw e refl
-
 pub common_piece : (piece text : List ℕ) → common piece text ≤ length piece
 common_piece [] text = omega arith
 common_piece (p ∷ piece) [] = omega arith

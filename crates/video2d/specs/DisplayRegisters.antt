@@ -1,4 +1,4 @@
-use Rattle.std.specs.Prelude.{ℕ, ◌≤◌, ◌+◌, ◌-◌, ◌*◌, ◌/◌, ◌%◌, ◌^◌, nat_le, nat_lt, ◌&&◌, Bool, true, false, if◌then◌else◌, List, [], ◌∷◌, ◌++◌, Option, Some, None}
+use Rattle.std.specs.Prelude.{ℕ, ◌≡◌, ◌≤◌, ◌+◌, ◌-◌, ◌*◌, ◌/◌, ◌%◌, ◌^◌, nat_le, nat_lt, ◌&&◌, Bool, true, false, if◌then◌else◌, List, [], ◌∷◌, ◌++◌, Option, Some, None}
 use Rattle.video2d.specs.declared.display_registers.DisplayRegister.{DisplayRegister}
 use Rattle.video2d.specs.declared.display_registers.DisplayRegister.TheVariants.{Dispstat, Vcount, Powcnt1, Dispcnt, Bg0cnt, Bg0hofs, Bg2pa, Bg2x, Bg3pa, Bg3x, Win0h, Win0v, Winin, Winout, Mosaic, Bldcnt, Bldalpha, Bldy, MasterBright, Dispcapcnt}
 use Rattle.video2d.specs.declared.display_registers.DisplayRow.{DisplayRow}
@@ -43,21 +43,27 @@ display_row MasterBright = read_write 0x6C 2 1 0xC01F  -- MASTER_BRIGHT
 
 -- ---- an engine's, of which display capture is A's alone
 
+abbrev pub control_registers : List DisplayRegister
+control_registers = Dispcnt ∷ []
+
 abbrev pub background_registers : List DisplayRegister
-background_registers = Dispcnt ∷ Bg0cnt ∷ Bg0hofs ∷ Bg2pa ∷ Bg2x ∷ Bg3pa ∷ Bg3x ∷ []
+background_registers = Bg0cnt ∷ Bg0hofs ∷ Bg2pa ∷ Bg2x ∷ Bg3pa ∷ Bg3x ∷ []
 
 abbrev pub window_registers : List DisplayRegister
 window_registers = Win0h ∷ Win0v ∷ Winin ∷ Winout ∷ Mosaic ∷ []
 
 abbrev pub effect_registers : List DisplayRegister
-effect_registers = Bldcnt ∷ Bldalpha ∷ Bldy ∷ MasterBright ∷ []
+effect_registers = Bldcnt ∷ Bldalpha ∷ Bldy ∷ []
 
-abbrev pub capture_registers : Engine → List DisplayRegister
-capture_registers A = Dispcapcnt ∷ []
-capture_registers B = []
+abbrev pub drawing_registers : List DisplayRegister
+drawing_registers = background_registers ++ window_registers ++ effect_registers
+
+abbrev pub output_registers : Engine → List DisplayRegister
+output_registers A = Dispcapcnt ∷ MasterBright ∷ []
+output_registers B = MasterBright ∷ []
 
 abbrev pub engine_registers : Engine → List DisplayRegister
-engine_registers which = background_registers ++ window_registers ++ effect_registers ++ capture_registers which
+engine_registers which = control_registers ++ drawing_registers ++ output_registers which
 
 -- where its registers begin, from 4000000h, and how many bytes from there on are its own
 abbrev pub engine_base : Engine → ℕ
@@ -88,11 +94,12 @@ row_among (register ∷ registers) at = if has_byte (display_row register) at th
 abbrev pub engine_row_at : Engine → ℕ → Option DisplayRow
 engine_row_at which at = row_among (engine_registers which) at
 
--- what holds of a row with a byte at an offset
+-- what holds of a row with a byte at an offset: its registers have two bytes or four
 pub record HasByteAt (row : DisplayRow) (at : ℕ) : Type 0 where
   pub from : row.first ≤ at
-  pub some : 1 ≤ row.bytes
+  pub some : 2 ≤ row.bytes
   pub few : row.bytes ≤ 4
+  pub even : row.bytes % 2 ≡ 0
 
 -- the bits that the byte at an offset keeps
 abbrev pub kept_at : DisplayRow → ℕ → ℕ

@@ -1,7 +1,7 @@
 //! The display's registers, by GBATEK's names ("DS I/O Maps").
 
 ghost use Rattle.std.specs.Prelude.{◌≡◌, IfSome};
-ghost use Rattle.video2d.specs.DisplayRegisters.{read_write, written_alone, display_row, display_offset, background_registers, window_registers, effect_registers, capture_registers, row_among, engine_row_at, kept_at, HasByteAt};
+ghost use Rattle.video2d.specs.DisplayRegisters.{read_write, written_alone, display_row, display_offset, control_registers, background_registers, window_registers, effect_registers, drawing_registers, output_registers, row_among, engine_row_at, kept_at, HasByteAt};
 
 use crate::engines::Engine;
 
@@ -146,7 +146,6 @@ fn background_row_at(at: u32) -> Option<DisplayRow>
     ensures fits { IfSome result (λ row. HasByteAt row at) }
 {
     match at {
-        0x00..=0x03 => Some(DisplayRegister::Dispcnt.row()),
         0x08..=0x0F => Some(DisplayRegister::Bg0cnt.row()),
         0x10..=0x1F => Some(DisplayRegister::Bg0hofs.row()),
         0x20..=0x27 => Some(DisplayRegister::Bg2pa.row()),
@@ -181,18 +180,49 @@ fn effect_row_at(at: u32) -> Option<DisplayRow>
         0x50..=0x51 => Some(DisplayRegister::Bldcnt.row()),
         0x52..=0x53 => Some(DisplayRegister::Bldalpha.row()),
         0x54..=0x55 => Some(DisplayRegister::Bldy.row()),
-        0x6C..=0x6D => Some(DisplayRegister::MasterBright.row()),
         _ => None,
     }
 }
 
+/// The row of an engine's control, if it has a byte at an offset from the engine's base.
 #[inline(always)]
-fn capture_row_at(which: Engine, at: u32) -> Option<DisplayRow>
-    ensures value { result ≡ row_among (capture_registers which) at }
+pub fn control_row_at(at: u32) -> Option<DisplayRow>
+    ensures value { result ≡ row_among control_registers at }
     ensures fits { IfSome result (λ row. HasByteAt row at) }
 {
     match at {
-        0x64..=0x67 if which == Engine::A => Some(DisplayRegister::Dispcapcnt.row()),
+        0x00..=0x03 => Some(DisplayRegister::Dispcnt.row()),
+        _ => None,
+    }
+}
+
+/// The row of an engine's backgrounds, windows and effects, of which one has a byte there.
+#[inline(always)]
+pub fn drawing_row_at(at: u32) -> Option<DisplayRow>
+    ensures value { result ≡ row_among drawing_registers at }
+    ensures fits { IfSome result (λ row. HasByteAt row at) }
+{
+    match background_row_at(at) {
+        Some(row) => Some(row),
+        None => match window_row_at(at) {
+            Some(row) => Some(row),
+            None => effect_row_at(at),
+        },
+    }
+}
+
+/// The row of display capture or master brightness, if it has a byte there.
+#[inline(always)]
+pub fn output_row_at(which: Engine, at: u32) -> Option<DisplayRow>
+    ensures value { result ≡ row_among (output_registers which) at }
+    ensures fits { IfSome result (λ row. HasByteAt row at) }
+{
+    match at {
+        0x64..=0x67 => match which {
+            Engine::A => Some(DisplayRegister::Dispcapcnt.row()),
+            Engine::B => None,
+        },
+        0x6C..=0x6D => Some(DisplayRegister::MasterBright.row()),
         _ => None,
     }
 }
@@ -203,14 +233,11 @@ pub fn engine_row_at(which: Engine, at: u32) -> Option<DisplayRow>
     ensures value { result ≡ engine_row_at which at }
     ensures fits { IfSome result (λ row. HasByteAt row at) }
 {
-    match background_row_at(at) {
+    match control_row_at(at) {
         Some(row) => Some(row),
-        None => match window_row_at(at) {
+        None => match drawing_row_at(at) {
             Some(row) => Some(row),
-            None => match effect_row_at(at) {
-                Some(row) => Some(row),
-                None => capture_row_at(which, at),
-            },
+            None => output_row_at(which, at),
         },
     }
 }

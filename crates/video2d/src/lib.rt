@@ -39,6 +39,8 @@ mod stops;
 mod videos;
 mod windows;
 
-pub use display_registers::{DisplayRegister, DisplayRow, engine_row_at};
+pub use display_registers::{
+    DisplayRegister, DisplayRow, control_row_at, drawing_row_at, engine_row_at, output_row_at,
+};
 pub use engines::Engine;
 pub use videos::{Shown, Video};

@@ -3,7 +3,7 @@
 ghost use Rattle.std.specs.Prelude.{◌≡◌, ◌<◌, ◌≤◌, ◌^◌, ◌+◌, IfOk, IsTrue, IsFalse, length};
 ghost use Rattle.video2d.specs.Kept.{kept_byte};
 ghost use Rattle.video2d.specs.Pictures.{screen_of, line_place};
-ghost use Rattle.video2d.specs.Scans.{scan_due, scan_due_tick, is_drawn_line, framed_by};
+ghost use Rattle.video2d.specs.Scans.{scan_due, scan_due_tick, is_drawn_line, framed_by, starts_vblank};
 ghost use Rattle.video2d.specs.Statuses.{status_word};
 ghost use Rattle.video2d.specs.Videos.{video_at_boot, engine_of, status_of, video_shown, video_byte, video_byte_written, video_written, video_stop, drawn_with, video_blanked, video_line_started, video_raised, video_after_event, video_answer};
 
@@ -118,6 +118,14 @@ impl Video {
         ensures { result ≡ framed_by self.now.scan }
     {
         self.scan.framed()
+    }
+
+    /// Whether the next event is the start of line 192, with which V-blank begins and a frame becomes whole.
+    #[inline(always)]
+    pub fn starts_vblank(&self) -> bool
+        ensures { result ≡ starts_vblank self.now.scan }
+    {
+        self.scan.starts_vblank()
     }
 
     fn status(&self, proc: Proc) -> &Status
@@ -313,9 +321,9 @@ impl Video {
                 nine: self.raised(&self.nine),
                 seven: self.raised(&self.seven),
             },
-            vblank: self.scan.starts_vblank(),
+            vblank: self.starts_vblank(),
             hblank: self.scan.blanks_drawn(),
-            frame: self.scan.starts_vblank(),
+            frame: self.starts_vblank(),
         }
     }
 

@@ -29,4 +29,5 @@ pub record IsNamed (line : List ℕ) (from bits key at reached mark : ℕ) : Typ
   pub few : reached ≤ from + 7 * key
   pub fits : bits < 2 ^ key
   pub unmoved : bits ≡ 0 → at ≡ from
-  pub same : outcome bits (2 ^ key) at reached (names_from mark (drop key key_names) (drop at line)) ≡ outcome 0 1 from from (names_from 32 key_names (drop from line))
+  pub same : outcome bits (2 ^ key) at reached (names_from mark (drop key key_names) (drop at line))
+      ≡ outcome 0 1 from from (names_from 32 key_names (drop from line))

@@ -1,4 +1,4 @@
-use Rattle.std.proofs.Common.{◌≡◌, ◌≢◌, ◌==◌, ◌∙◌, ℕ, false, ap, arith}
+use Rattle.std.proofs.Common.{◌∙◌, false, ap}
 use Rattle.ds_base.specs.declared.processors.Arch.{Arch}
 use Rattle.ds_base.proofs.Choices.{is_unequal}
 use Rattle.arm_words.specs.ArmTable.{decoded_arm}

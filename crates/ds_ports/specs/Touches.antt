@@ -141,8 +141,8 @@ abbrev pub touch_row : List UnitPart → List UnitPart → TouchRow
 touch_row shows changes = record { shows = shows; changes = changes }
 
 -- one that is read alone, one that shows the part that it changes, and one that touches nothing
-abbrev pub read_of : UnitPart → TouchRow
-read_of p = touch_row (p ∷ []) []
+abbrev pub shows_alone : UnitPart → TouchRow
+shows_alone p = touch_row (p ∷ []) []
 
 abbrev pub kept_in : UnitPart → TouchRow
 kept_in p = touch_row (p ∷ []) (p ∷ [])
@@ -164,9 +164,9 @@ touch_of proc Dmacnt = kept_in (dma_of proc)
 touch_of proc Dmafill = kept_in Fill
 touch_of proc TmcntL = kept_in (timers_of proc)
 touch_of proc TmcntH = kept_in (timers_of proc)
-touch_of proc Keyinput = read_of Pressed
+touch_of proc Keyinput = shows_alone Pressed
 touch_of proc Keycnt = touch_row (Pressed ∷ keycnt_of proc ∷ irq_of proc ∷ []) (keycnt_of proc ∷ irq_of proc ∷ [])
-touch_of proc Extkeyin = read_of Pressed
+touch_of proc Extkeyin = shows_alone Pressed
 touch_of proc Ipcsync = touch_row both_sides both_sides
 touch_of proc Ipcfifocnt = touch_row both_sides both_sides
 touch_of proc Ipcfifosend = touch_row both_sides both_sides
@@ -177,15 +177,15 @@ touch_of proc Ie = kept_in (irq_of proc)
 touch_of proc If = kept_in (irq_of proc)
 touch_of proc Vramcnt = kept_in BankControls
 touch_of proc Wramcnt = kept_in WramControl
-touch_of proc Vramstat = read_of BankControls
-touch_of proc Wramstat = read_of WramControl
+touch_of proc Vramstat = shows_alone BankControls
+touch_of proc Wramstat = shows_alone WramControl
 touch_of proc Divcnt = kept_in Division
 touch_of proc DivNumer = kept_in Division
 touch_of proc DivDenom = kept_in Division
-touch_of proc DivResult = read_of Division
-touch_of proc DivremResult = read_of Division
+touch_of proc DivResult = shows_alone Division
+touch_of proc DivremResult = shows_alone Division
 touch_of proc Sqrtcnt = kept_in SquareRoot
-touch_of proc SqrtResult = read_of SquareRoot
+touch_of proc SqrtResult = shows_alone SquareRoot
 touch_of proc SqrtParam = kept_in SquareRoot
 touch_of proc Postflg = untouching
 touch_of proc Haltcnt = kept_in (halt_of proc)

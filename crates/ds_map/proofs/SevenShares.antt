@@ -16,10 +16,9 @@ use Rattle.ds_places.specs.declared.kinds.Place.{Place}
 use Rattle.ds_places.specs.declared.kinds.Place.TheVariants.{Banks, Cell, Nothing, Port, Rom}
 use Rattle.ds_ports.specs.Io.{IoState, channel_moved, with_shares}
 use Rattle.ds_ports.specs.Ports.{port_read, port_refusal, port_value, port_written, unless_stopped}
-use Rattle.ds_ports.specs.Touches as touches
-use Rattle.ds_ports.specs.Touches.{UnitPart, BankControls, VideoMemory, WramControl, io_graft, is_part}
+use Rattle.ds_ports.specs.Touches.{UnitPart, BankControls, VideoMemory, WramControl, io_graft, is_part, touches_none}
 use Rattle.ds_ports.proofs.Covered.{covers_all}
-use Rattle.ds_ports.proofs.Passed.{leaves, read_left, write_left}
+use Rattle.ds_ports.proofs.Passed.{keeps_part, read_left, write_left}
 use Rattle.vram_banks.specs.Cells as cells
 use Rattle.vram_banks.specs.Mixes.{mixed}
 use Rattle.vram_banks.specs.Cells.{vram_value, vram_written}
@@ -85,13 +84,6 @@ all_past wramcnt width =
 place_past : (wramcnt at : ℕ) (width : Width) → IsPast (is_shown_to_nine wramcnt) width (place_of Seven wramcnt at)
 place_past wramcnt at width = by_regions (is_shown_to_nine wramcnt) width (regions_of_seven wramcnt) at (all_past wramcnt width)
 
-pub shared_seven : (wramcnt at : ℕ) (width : Width) (place : ℕ) → place_of Seven wramcnt at ≡ Cell Shared place
-    → IsAll (is_shown_to_nine wramcnt) false width (aligned_down width place)
-shared_seven wramcnt at width place e = subst (λ (p : Place). IsPast (is_shown_to_nine wramcnt) width p) e (place_past wramcnt at width)
-
-pub banks_seven : (wramcnt at : ℕ) (space : Space) (place : ℕ) → place_of Seven wramcnt at ≡ Banks space place → space ≡ Arm7
-banks_seven wramcnt at space place e = subst (λ (p : Place). IsPast (is_shown_to_nine wramcnt) Byte p) e (place_past wramcnt at Byte)
-
 -- ---- video memory at ARM7's addresses, with other bytes of ARM9's
 
 module _ (own theirs : cells.Banks) (controls : own.controls ≡ theirs.controls) (long : length own.bytes ≡ length theirs.bytes) where
@@ -121,11 +113,11 @@ read_alike u at width = record {
 
 write_alike : (now : Tick) (u : IoState) (at : ℕ) (width : Width) (value : ℕ) → AreSharedAlike u (port_written Seven now u at width value)
 write_alike now u at width value =
-    let bytes = write_left VideoMemory Seven now u at width value (covers_all (leaves VideoMemory Seven) Seven at width refl) in
-    let controls = write_left BankControls Seven now u at width value (covers_all (leaves BankControls Seven) Seven at width refl) in
+    let bytes = write_left VideoMemory Seven now u at width value (covers_all (keeps_part VideoMemory Seven) Seven at width refl) in
+    let controls = write_left BankControls Seven now u at width value (covers_all (keeps_part BankControls Seven) Seven at width refl) in
     record {
       vram = λ i. record { bytes = bytes i; controls = controls i };
-      wramcnt = write_left WramControl Seven now u at width value (covers_all (leaves WramControl Seven) Seven at width refl);
+      wramcnt = write_left WramControl Seven now u at width value (covers_all (keeps_part WramControl Seven) Seven at width refl);
     }
 
 so_alike : (own : SharedPart) (shared : List ℕ) (u v : IoState) → AreSharedAlike u v → IsSharedSo own shared u → IsSharedSo own shared v
@@ -160,7 +152,7 @@ module _ (own : SharedPart) (shared : List ℕ) (u : IoState) (so : IsSharedSo o
   ports_pass : PortsPass (shares_put own) Seven u at width
   ports_pass =
       let it = as_graft u (record { vram = refl; wramcnt = refl }) in
-      let p = port_passes of_memory there Seven u at width (covers_all (touches.is_apart of_memory Seven) Seven at width refl) in
+      let p = port_passes of_memory there Seven u at width (covers_all (touches_none of_memory Seven) Seven at width refl) in
       record {
         value = λ now. ap (λ (x : IoState). port_value Seven now x at width) it ∙ p.value now;
         read = ap (λ (x : IoState). port_read Seven x at width) it ∙ p.read ∙ sym (as_graft (port_read Seven u at width) (read_alike u at width));

@@ -12,7 +12,7 @@ use Rattle.arm_core.specs.declared.outcomes.Stepped.TheVariants.{Cost, Halted, L
 use Rattle.ds_dma.specs.declared.controls.Cause.TheVariants as causes
 use Rattle.ds_map.specs.Maps.{MapState}
 use Rattle.ds_map.specs.Moves.{next_unit, unit_moved, unit_refusal}
-use Rattle.ds_map.specs.Shares.{IsSharedSo, SharedPart, is_apart, is_shown_to_nine, map_put, shares_put}
+use Rattle.ds_map.specs.Shares.{IsSharedSo, SharedPart, is_beyond_seven, is_shown_to_nine, map_put, shares_put}
 use Rattle.ds_map.specs.Views.{SevenReach, seven_memory}
 use Rattle.ds_map.proofs.SevenShares as seven_map
 use Rattle.ds_ports.specs.Dues.{io_due}
@@ -43,7 +43,7 @@ use Rattle.ds_machine.proofs.OuterSteps.{not_woken, settled_halted}
 pub put_own_of : (s : MachineState) → with_nine_own (nine_own_of s) s ≡ s
 put_own_of s =
     let shown = is_shown_to_nine s.io.wramcnt in
-    let apart = is_apart s.io.vram.controls in
+    let apart = is_beyond_seven s.io.vram.controls in
     let own = nine_own_of s in
     ap (λ (bytes : List ℕ). (let m : MachineState = record s { shared = bytes; io = shares_put own.share s.io } in m))
     (mixed_twice shown s.shared [] s.shared ∙ mixed_same shown s.shared)
@@ -53,7 +53,7 @@ put_own_of s =
 pub own_of_put : (t s : MachineState) → nine_own_of (with_nine_own (nine_own_of t) s) ≡ nine_own_of t
 own_of_put t s =
     let shown = is_shown_to_nine t.io.wramcnt in
-    let apart = is_apart t.io.vram.controls in
+    let apart = is_beyond_seven t.io.vram.controls in
     let own = nine_own_of t in
     let vram = mixed apart (mixed apart own.share.vram.bytes s.io.vram.bytes) [] in
     ap (λ (bytes : List ℕ). (let o : NineOwn = record own { share = record own.share { shared = bytes; vram = record own.share.vram { bytes = vram } } } in o))
@@ -67,7 +67,7 @@ is_shared_so s = record {
   wramcnt = refl;
   controls = refl;
   shared = mixed_length (is_shown_to_nine s.io.wramcnt) s.shared [];
-  bytes = mixed_length (is_apart s.io.vram.controls) s.io.vram.bytes [];
+  bytes = mixed_length (is_beyond_seven s.io.vram.controls) s.io.vram.bytes [];
 }
 
 -- ---- what ARM7 reaches

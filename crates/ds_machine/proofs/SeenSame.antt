@@ -13,7 +13,7 @@ use Rattle.ds_map.specs.Views.{tcm_fetched}
 use Rattle.ds_ports.specs.Io.{with_gx}
 use Rattle.gx_fifo.specs.GxStates.{GxState}
 use Rattle.ds_map.proofs.GxApart as gx_map
-use Rattle.ds_machine.specs.Observed.{fetch_of, seen_by, seen_of}
+use Rattle.ds_machine.specs.Inspections.{fetch_of, seen_by, seen_of}
 use Rattle.ds_machine.specs.Reference.{processor_due}
 use Rattle.ds_machine.specs.States.{MachineState, ProcessorState}
 use Rattle.ds_machine.specs.Steps.{is_blocked, line_of, nine_reach, processor_of, seven_reach, tick_of}

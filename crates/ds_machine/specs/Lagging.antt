@@ -80,8 +80,8 @@ observes_by a s = false
 
 -- some steps of quiet geometry, one after another, each due before the place of a rank at a tick
 pub data TakesGeometry (tick rank : ℕ) : MachineState → MachineState → Type 0 where
-  none : (start : MachineState) → TakesGeometry tick rank start start
-  more : (start before next : MachineState) → TakesGeometry tick rank start before → is_behind tick rank before ≡ true → reference_step geometry_rank before ≡ Makes next []
+  no_geometry : (start : MachineState) → TakesGeometry tick rank start start
+  more_geometry : (start before next : MachineState) → TakesGeometry tick rank start before → is_behind tick rank before ≡ true → reference_step geometry_rank before ≡ Makes next []
       → TakesGeometry tick rank start next
 
 -- all of them: geometry caught up with that place

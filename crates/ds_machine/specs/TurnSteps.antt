@@ -43,8 +43,8 @@ pub record IsFirst (until : ℕ) (s : MachineState) (first : First) : Type 0 whe
 
 -- a processor took some steps of its turn, one after another; before one that observes geometry, geometry caught up
 pub data TakesSteps (until : ℕ) (proc : Proc) : MachineState → MachineState → Type 0 where
-  none : (start : MachineState) → TakesSteps until proc start start
-  more : (start before caught next : MachineState) → TakesSteps until proc start before → BelongsToTurn until before proc
+  no_steps : (start : MachineState) → TakesSteps until proc start start
+  more_steps : (start before caught next : MachineState) → TakesSteps until proc start before → BelongsToTurn until before proc
       → CatchesUpFor (processor_of before proc).due (rank_of proc) before caught → reference_step (rank_of proc) caught ≡ Makes next [] → TakesSteps until proc start next
 
 -- an actor may take the next step: it is due at a tick that a run may come to, and is the least; or it is the least acting actor, whose step doesn't observe geometry; or it is a

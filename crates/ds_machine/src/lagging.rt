@@ -113,7 +113,7 @@ impl Parts {
 
     /// Whether none of the bytes that are reached as data is one, by what an instruction does with them.
     fn is_data_apart(&self, instr: &Instr, touch: Touch) -> bool
-        ensures { result ≡ data_apart self.now (touching.reads instr.now) (touching.writes instr.now) touch }
+        ensures { result ≡ data_apart self.now (touching.reads_data instr.now) (touching.writes_data instr.now) touch }
     {
         (!reads(instr) || self.is_touch_apart(touch, false))
             && (!writes(instr) || self.is_touch_apart(touch, true))

@@ -12,7 +12,7 @@ ghost use Rattle.ds_base.specs.declared.processors.Proc.TheVariants.{Nine};
 ghost use Rattle.ds_places.specs.AddressTables.{place_of};
 ghost use Rattle.ds_map.specs.Maps.{MemoriesState};
 ghost use Rattle.ds_map.specs.Shares.{is_private_place};
-ghost use Rattle.ds_machine.specs.QuietPorts.{is_quiet_port};
+ghost use Rattle.ds_machine.specs.QuietPorts.{is_steady_port};
 ghost use Rattle.ds_machine.specs.PrivateSides as sides;
 ghost use Rattle.ds_machine.specs.DecodedSteps.{operation_outcome, RunsAs};
 ghost use Rattle.ds_machine.specs.PrivateSides.{is_private_tcm, SideOf};
@@ -105,7 +105,7 @@ pub trait Side {
         ensures state { 0 < result → state self.new ≡ (operation_outcome memory side s.old (state self.old) operation.now).state }
         ensures stepped { 0 < result → (operation_outcome memory side s.old (state self.old) operation.now).stepped ≡ Cost result }
         ensures executes { 0 < result → RunsAs memory side s.old (state self.old) operation.now }
-        ensures near { 0 < result → IsNear is_quiet_port (operation_meaning side.arch s.old operation.now).accesses }
+        ensures near { 0 < result → IsNear is_steady_port (operation_meaning side.arch s.old operation.now).accesses }
         ensures io { io (state self.new) ≡ io (state self.old) }
         ensures same { identity self.new ≡ identity self.old };
 }

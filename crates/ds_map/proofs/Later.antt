@@ -10,7 +10,7 @@ use Rattle.ds_base.specs.declared.ticks.Tick.{Tick}
 use Rattle.ds_places.specs.AddressTables.{place_of}
 use Rattle.ds_places.specs.declared.kinds.Place.{Place}
 use Rattle.ds_places.specs.declared.kinds.Place.TheVariants as place
-use Rattle.ds_ports.specs.Happenings.{Goes, IsProcessorIo, IsQuiet}
+use Rattle.ds_ports.specs.Happenings.{Goes, IsProcessorIo, HasOnlyLaterEvents}
 use Rattle.ds_ports.specs.Ports.{port_refusal, port_written, unless_stopped}
 use Rattle.ds_ports.specs.Io.{IoState, io_of}
 use Rattle.ds_ports.proofs.Later.{AreUnchanged, all_unchanged, goes_nowhere, leaves_all, unchanged_goes, port_unchanged, write_goes}
@@ -41,7 +41,7 @@ module _ (proc : Proc) (now : Tick) where
   banks_go : (u : IoState) (vram : Banks) → Goes proc now u u → Goes proc now u (record u { vram = vram })
   banks_go u vram g = record { is = g.is; quiet = g.quiet; each = g.each; other = g.other; told = g.told; scan = g.scan; whole = g.whole; geometry = leaves_all proc u (record u { vram = vram }) refl refl }
 
-  module _ (m : MapState) (is : IsProcessorIo (io_of m.io proc)) (quiet : IsQuiet now (io_of m.io proc)) where
+  module _ (m : MapState) (is : IsProcessorIo (io_of m.io proc)) (quiet : HasOnlyLaterEvents now (io_of m.io proc)) where
     stays : Goes proc now m.io m.io
     stays = goes_nowhere proc now m.io is quiet
 

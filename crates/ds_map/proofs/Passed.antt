@@ -23,7 +23,7 @@ use Rattle.vram_banks.specs.Cells as cells
 use Rattle.vram_banks.specs.Cells.{vram_value, vram_written}
 use Rattle.ds_map.specs.Accesses.{after_read_at, cell_put, fetched_at, is_byte_of_nine, map_fetched, map_read, map_refusal, map_value, map_written, refusal_at, takes_no_bytes, value_at, written_at}
 use Rattle.ds_map.specs.Maps.{MapState, MemoriesState, cells_of, with_cells}
-use Rattle.ds_map.specs.Moves.{after_unit, unit_moved, unit_read, unit_refusal, unit_taken}
+use Rattle.ds_map.specs.Moves.{map_after_unit, unit_moved, unit_read, unit_refusal, unit_taken}
 
 -- An access of the map passes a change of what is in it where what stands at its address passes it: it comes to the same, and leaves what it left, changed. Proved once, for
 -- all changes of shared work RAM and of the units.
@@ -175,7 +175,7 @@ module _ (shared : List ℕ → List ℕ) (io : IoState → IoState) where
           ∙ ap (map_refusal proc (changed taken) unit.to unit.width) (value proc m same unit.from unit.width now from)
           ∙ refusal proc taken still unit.to unit.width moved_number to
 
-      after_so : (refused : Option Stop) → after_unit refused proc now unit (changed m) ≡ changed (after_unit refused proc now unit m)
+      after_so : (refused : Option Stop) → map_after_unit refused proc now unit (changed m) ≡ changed (map_after_unit refused proc now unit m)
       after_so None =
           ap (λ (x : MapState). map_written proc now x unit.to unit.width (map_value proc now (changed m) unit.from unit.width)) taken_so
           ∙ ap (map_written proc now (changed taken) unit.to unit.width) (value proc m same unit.from unit.width now from)
@@ -183,7 +183,7 @@ module _ (shared : List ℕ → List ℕ) (io : IoState → IoState) where
       after_so (Some stop) = read proc m same unit.from unit.width from
 
       pub unit_moves : unit_moved proc now unit (changed m) ≡ changed (unit_moved proc now unit m)
-      unit_moves = ap (λ (r : Option Stop). after_unit r proc now unit (changed m)) unit_refuses ∙ after_so (unit_refusal proc now unit m)
+      unit_moves = ap (λ (r : Option Stop). map_after_unit r proc now unit (changed m)) unit_refuses ∙ after_so (unit_refusal proc now unit m)
 
 -- ---- some parts of the units from elsewhere, of those that the place's registers don't touch
 

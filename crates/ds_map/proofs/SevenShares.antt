@@ -26,8 +26,8 @@ use Rattle.vram_banks.proofs.Allotted.{value_allotted, written_allotted, written
 use Rattle.vram_banks.proofs.Mixes.{IsAll, number_other, with_number_length, with_number_other}
 use Rattle.ds_map.specs.Accesses.{after_read_at, map_fetched, map_read, map_refusal, map_value, map_written, written_at}
 use Rattle.ds_map.specs.Maps.{MapState}
-use Rattle.ds_map.specs.Moves.{after_unit, unit_moved, unit_read, unit_refusal, unit_taken}
-use Rattle.ds_map.specs.Shares.{IsSharedSo, SharedPart, is_apart, is_shown_to_nine, map_put, mixed_banks, shared_put, shares_put}
+use Rattle.ds_map.specs.Moves.{map_after_unit, unit_moved, unit_read, unit_refusal, unit_taken}
+use Rattle.ds_map.specs.Shares.{IsSharedSo, SharedPart, is_beyond_seven, is_shown_to_nine, map_put, mixed_banks, shared_put, shares_put}
 use Rattle.ds_map.proofs.Passed as passed
 use Rattle.ds_map.proofs.Passed.{BanksPass, FetchPasses, PlacePasses, PortsPass, port_passes}
 
@@ -143,7 +143,7 @@ module _ (own : SharedPart) (shared : List ℕ) (u : IoState) (so : IsSharedSo o
   as_graft : (v : IoState) → AreSharedAlike u v → shares_put own v ≡ io_graft of_memory there v
   as_graft v alike = λ i. record v {
     vram = record {
-      bytes = mixed (is_apart own.vram.controls) own.vram.bytes (ap (λ (b : cells.Banks). b.bytes) alike.vram i);
+      bytes = mixed (is_beyond_seven own.vram.controls) own.vram.bytes (ap (λ (b : cells.Banks). b.bytes) alike.vram i);
       controls = (so.controls ∙ ap (λ (b : cells.Banks). b.controls) (sym alike.vram)) i;
     };
     wramcnt = (so.wramcnt ∙ sym alike.wramcnt) i;
@@ -279,7 +279,7 @@ module _ (own : SharedPart) (m : MapState) (so : IsSharedSo own m.memories.share
       passed.unit_moves (shared_put own) (shares_put own) Seven m now unit so.wramcnt (passes_at own m so unit.from unit.width) moved taken_stays.wramcnt
       (passes_at own taken taken_stays unit.to unit.width)
 
-  after_stays : (refused : Option Stop) → (let left = after_unit refused Seven now unit m in IsSharedSo own left.memories.shared left.io)
+  after_stays : (refused : Option Stop) → (let left = map_after_unit refused Seven now unit m in IsSharedSo own left.memories.shared left.io)
   after_stays None = written_stays own taken taken_stays now unit.to unit.width number
   after_stays (Some stop) = read_stays own m so unit.from unit.width
 

@@ -27,9 +27,9 @@ unit_taken proc now unit m = let read = unit_read proc unit m in record read { i
 abbrev pub unit_refusal : Proc → Tick → DmaUnit → MapState → Option Stop
 unit_refusal proc now unit m = map_refusal proc (unit_taken proc now unit m) unit.to unit.width (map_value proc now m unit.from unit.width)
 
-abbrev pub after_unit : Option Stop → Proc → Tick → DmaUnit → MapState → MapState
-after_unit None proc now unit m = map_written proc now (unit_taken proc now unit m) unit.to unit.width (map_value proc now m unit.from unit.width)
-after_unit (Some stop) proc now unit m = unit_read proc unit m
+abbrev pub map_after_unit : Option Stop → Proc → Tick → DmaUnit → MapState → MapState
+map_after_unit None proc now unit m = map_written proc now (unit_taken proc now unit m) unit.to unit.width (map_value proc now m unit.from unit.width)
+map_after_unit (Some stop) proc now unit m = unit_read proc unit m
 
 abbrev pub unit_moved : Proc → Tick → DmaUnit → MapState → MapState
-unit_moved proc now unit m = after_unit (unit_refusal proc now unit m) proc now unit m
+unit_moved proc now unit m = map_after_unit (unit_refusal proc now unit m) proc now unit m

@@ -26,7 +26,7 @@ use Rattle.ds_timers.proofs.Changed.{control_schedules, control_set_is, reload_l
 use Rattle.ds_timers.proofs.Four.{one_reschedules}
 use Rattle.gx_fifo.specs.GxStates.{AreWaiting, GxState, is_stalled}
 use Rattle.ds_ports.specs.Dues.{io_due}
-use Rattle.ds_ports.specs.Happenings.{IsIo, IsTold, Goes, LeavesGeometry, IsUnchanged, IsProcessorIo, IsQuiet, ReschedulesEach}
+use Rattle.ds_ports.specs.Happenings.{IsIo, IsTold, Goes, LeavesGeometry, IsUnchanged, IsProcessorIo, HasOnlyLaterEvents, ReschedulesEach}
 use Rattle.ds_ports.specs.ProcessorIo.{ProcessorIoState, dma_written, haltcnt_written, kept_keycnt, keycnt_written, keys_hold, keys_told, processor_io_raised}
 use Rattle.ds_ports.specs.Ports.{port_read, port_refusal, port_written, unless_stopped}
 use Rattle.ds_ports.specs.RegisterMap.{IsSlot}
@@ -63,7 +63,7 @@ AreLater now timers = (which : ℕ) → which < 4 → IsLater now (timer_due (ti
 
 -- what accesses of the processor at a tick keep
 abbrev Stands : Tick → ProcessorIoState → Type 0
-Stands now processor_io = IsProcessorIo processor_io × IsQuiet now processor_io
+Stands now processor_io = IsProcessorIo processor_io × HasOnlyLaterEvents now processor_io
 
 -- nothing changed
 pub unchanged_same : (processor_io : ProcessorIoState) → IsUnchanged processor_io processor_io
@@ -187,7 +187,7 @@ leaves_on proc a b c g h = record {
   of_seven = λ e. h.of_seven e ∙ g.of_seven e;
 }
 
-pub goes_nowhere : (proc : Proc) (now : Tick) (u : IoState) → IsProcessorIo (io_of u proc) → IsQuiet now (io_of u proc) → Goes proc now u u
+pub goes_nowhere : (proc : Proc) (now : Tick) (u : IoState) → IsProcessorIo (io_of u proc) → HasOnlyLaterEvents now (io_of u proc) → Goes proc now u u
 goes_nowhere proc now u is quiet = record { is = is; quiet = quiet; each = λ a l. inl refl; other = unchanged_same (io_of u (other_proc proc)); told = told_nothing (io_of u (other_proc proc)).irq; scan = refl; whole = refl; geometry = leaves_all proc u u refl refl }
 
 pub goes_on : (proc : Proc) (now : Tick) (a b c : IoState) → Goes proc now a b → Goes proc now b c → Goes proc now a c
@@ -219,7 +219,7 @@ shared_goes : (proc : Proc) (now : Tick) (u new : IoState) → ((each : Proc) �
     → LeavesGeometry proc u new → Stands now (io_of u proc) → ReschedulesEach now u new → Goes proc now u new
 shared_goes proc now u new same scan whole geometry s each = record {
   is = subst IsProcessorIo (sym (same proc)) s.0;
-  quiet = subst (IsQuiet now) (sym (same proc)) s.1;
+  quiet = subst (HasOnlyLaterEvents now) (sym (same proc)) s.1;
   each = each;
   other = subst (IsUnchanged (io_of u (other_proc proc))) (sym (same (other_proc proc))) (unchanged_same (io_of u (other_proc proc)));
   told = subst (λ (o : ProcessorIoState). IsTold (io_of u (other_proc proc)).irq o.irq) (sym (same (other_proc proc))) (told_nothing (io_of u (other_proc proc)).irq);
@@ -267,7 +267,7 @@ both_unchanged u ipc_after raised ipc = record { processor_io = processor_io; to
   dues (Dma Seven channel) = refl
   dues _ = refl
 
-pub unchanged_goes : (proc : Proc) (now : Tick) (old new : IoState) → IsProcessorIo (io_of old proc) → IsQuiet now (io_of old proc) → AreUnchanged old new → Goes proc now old new
+pub unchanged_goes : (proc : Proc) (now : Tick) (old new : IoState) → IsProcessorIo (io_of old proc) → HasOnlyLaterEvents now (io_of old proc) → AreUnchanged old new → Goes proc now old new
 unchanged_goes proc now old new is quiet left =
     let s = alike now (io_of old proc) (io_of new proc) (left.processor_io proc).timers (left.processor_io proc).dma (is, quiet) in
     record { is = s.0; quiet = s.1; each = λ a l. inl (left.dues a); other = left.processor_io (other_proc proc); told = left.told (other_proc proc); scan = left.scan; whole = left.whole; geometry = leaves_all proc old new left.gx left.released }
@@ -371,7 +371,7 @@ register_goes proc now u s register number l value =
 
 -- ---- accesses
 
-pub write_goes : (proc : Proc) (now : Tick) (u : IoState) (at : ℕ) (width : Width) (value : ℕ) → IsProcessorIo (io_of u proc) → IsQuiet now (io_of u proc)
+pub write_goes : (proc : Proc) (now : Tick) (u : IoState) (at : ℕ) (width : Width) (value : ℕ) → IsProcessorIo (io_of u proc) → HasOnlyLaterEvents now (io_of u proc)
     → Goes proc now u (port_written proc now u at width value)
 write_goes proc now u at width value is quiet =
     let stays : (x : IoState) → Stands now (io_of x proc) → Goes proc now x x = λ x s. goes_nowhere proc now x s.0 s.1 in
@@ -380,14 +380,14 @@ write_goes proc now u at width value is quiet =
     (λ x slot word own s. register_goes proc now x s slot.register slot.number own.number word) u at width value (are_all IsSlot proc (some_slot proc) at width) (is, quiet)
 
 -- a write that may be refused, and then leaves all
-unless_goes : (proc : Proc) (now : Tick) (stop : Option Stop) (u v : IoState) → IsProcessorIo (io_of u proc) → IsQuiet now (io_of u proc) → Goes proc now u v
+unless_goes : (proc : Proc) (now : Tick) (stop : Option Stop) (u v : IoState) → IsProcessorIo (io_of u proc) → HasOnlyLaterEvents now (io_of u proc) → Goes proc now u v
     → Goes proc now u (unless_stopped stop u v)
 unless_goes proc now None u v is quiet goes = goes
 unless_goes proc now (Some stop) u v is quiet goes = goes_nowhere proc now u is quiet
 
 pub put_goes : (proc : Proc) (now : Tick) (old new : IoState) (at : ℕ) (width : Width) (value : ℕ)
     → new ≡ unless_stopped (port_refusal proc old at width value) old (port_written proc now old at width value)
-    → IsProcessorIo (io_of old proc) → IsQuiet now (io_of old proc) → Goes proc now old new
+    → IsProcessorIo (io_of old proc) → HasOnlyLaterEvents now (io_of old proc) → Goes proc now old new
 put_goes proc now old new at width value is_new is quiet =
     subst (Goes proc now old) (sym is_new)
     (unless_goes proc now (port_refusal proc old at width value) old (port_written proc now old at width value) is quiet (write_goes proc now old at width value is quiet))

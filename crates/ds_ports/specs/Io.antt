@@ -157,12 +157,12 @@ geometry_triggered now u = if is_half_empty u.gx then record u { nine = processo
 
 -- The tick after a stall's end is kept while it holds back the channel of ARM9's that is due, which would come before it. So nothing is kept that has no effect: the tick
 -- then is told by when the channel is due.
-abbrev pub comes_before : Option DmaDue → ℕ → Bool
-comes_before None tick = false
-comes_before (Some due) tick = nat_lt due.tick.0 tick
+abbrev pub channel_comes_before : Option DmaDue → ℕ → Bool
+channel_comes_before None tick = false
+channel_comes_before (Some due) tick = nat_lt due.tick.0 tick
 
 abbrev pub release_of : IoState → ℕ
-release_of u = if comes_before (dma_due u.nine.dma) u.released then u.released else 0
+release_of u = if channel_comes_before (dma_due u.nine.dma) u.released then u.released else 0
 
 abbrev pub release_kept : IoState → IoState
 release_kept u = record u { released = release_of u }

@@ -29,7 +29,7 @@ use Rattle.vram_banks.specs.Cells.{allotted_of}
 
 -- What each register is, a paragraph each, in the order of GBATEK's list ("DS I/O Maps").
 
-pub record Meaning : Type 0 where
+pub record RegisterMeaning : Type 0 where
   -- those of its name are told apart by a number below this: from 0 on, or the offset of the first byte where it is the display's or geometry's
   pub count : ℕ
   -- it is reached by whole words alone: narrower reads give 0, and narrower writes are ignored (our choice)
@@ -48,7 +48,7 @@ pub record Meaning : Type 0 where
 -- ---- how they are made
 
 -- one that reads 0, keeps nothing, and ignores writes
-abbrev pub idle : Meaning
+abbrev pub idle : RegisterMeaning
 idle = record {
   count = 1;
   takes_words = false;
@@ -60,15 +60,15 @@ idle = record {
 }
 
 -- one that is read alone
-abbrev pub read_only : (IoState → ℕ) → Meaning
+abbrev pub read_only : (IoState → ℕ) → RegisterMeaning
 read_only value = record idle { value = λ proc now u n. value u }
 
 -- one that is written alone
-abbrev pub write_only : (Proc → Tick → IoState → ℕ → ℕ → IoState) → Meaning
+abbrev pub write_only : (Proc → Tick → IoState → ℕ → ℕ → IoState) → RegisterMeaning
 write_only written = record idle { written = written }
 
 -- one that reads what it keeps
-abbrev pub plain : (IoState → ℕ → ℕ) → (IoState → Tick → ℕ → ℕ → IoState) → Meaning
+abbrev pub plain : (IoState → ℕ → ℕ) → (IoState → Tick → ℕ → ℕ → IoState) → RegisterMeaning
 plain kept written = record idle { value = λ proc now u n. kept u n; kept = λ proc u n. kept u n; written = λ proc now u n word. written u now n word }
 
 -- a write that changes what the processor has of its own, by the keys that are pressed
@@ -76,14 +76,14 @@ abbrev pub on_own : (Proc → Tick → ℕ → ProcessorIoState → ℕ → ℕ 
 on_own written proc now u n word = with_io_of proc u (written proc now u.pressed (io_of u proc) n word)
 
 -- such a one of what each processor has of its own
-abbrev pub plain_of_processor : (ProcessorIoState → ℕ → ℕ) → (Proc → Tick → ℕ → ProcessorIoState → ℕ → ℕ → ProcessorIoState) → Meaning
+abbrev pub plain_of_processor : (ProcessorIoState → ℕ → ℕ) → (Proc → Tick → ℕ → ProcessorIoState → ℕ → ℕ → ProcessorIoState) → RegisterMeaning
 plain_of_processor kept written =
     record idle { value = λ proc now u n. kept (io_of u proc) n; kept = λ proc u n. kept (io_of u proc) n; written = on_own written }
 
 -- ---- what they are made from
 
 -- DMAxSAD, DMAxDAD or DMAxCNT (GBATEK, "DS DMA Transfers")
-abbrev pub channel_register : DmaPort → Meaning
+abbrev pub channel_register : DmaPort → RegisterMeaning
 channel_register port = record (plain_of_processor (λ processor_io n. channel_word port (channel_at processor_io.dma.channels n)) (λ proc now pressed processor_io n word. dma_written processor_io now port n word)) {
   count = 4;
   refusal = λ proc u n word. channel_refusal (io_of u proc).dma.proc n port word (channel_at (io_of u proc).dma.channels n);
@@ -144,7 +144,7 @@ halt_refusal value = if is_mode_left_out value then Some (record { kind = HaltMo
 
 -- one of the display's, of which the number is the offset of its first byte: what it reads, what it keeps, and what a write leaves, are told
 -- byte by byte where the display is
-abbrev pub display_register : Width → Meaning
+abbrev pub display_register : Width → RegisterMeaning
 display_register width = record idle {
   count = 0x1070;
   value = λ proc now u n. value_by width (video_byte proc u.video) n;
@@ -162,7 +162,7 @@ abbrev pub gx_set : Proc → Tick → IoState → ℕ → ℕ → IoState
 gx_set Nine now u n word = record u { gx = gx_port_written u.gx n word now }
 gx_set Seven now u n word = u
 
-abbrev pub gx_register : Bool → Meaning
+abbrev pub gx_register : Bool → RegisterMeaning
 gx_register takes_words = record idle {
   count = 0x6A4;
   takes_words = takes_words;
@@ -173,7 +173,7 @@ gx_register takes_words = record idle {
 
 -- ---- the registers
 
-abbrev pub meaning_of : Register → Meaning
+abbrev pub meaning_of : Register → RegisterMeaning
 -- the display's (GBATEK, "DS Video", "LCD I/O Interrupts and Status", "DS Power Control"; what of each is kept and read stands with `EnginePort`)
 meaning_of DisplayHalf = display_register Half
 meaning_of DisplayWord = display_register Word

@@ -8,7 +8,7 @@ ghost use Rattle.ds_base.specs.declared.processors.Proc.{Proc};
 ghost use Rattle.ds_base.specs.declared.ticks.Tick.{Tick};
 ghost use Rattle.ds_ports.specs.Ports.{GoesAscending, byte_refusal, byte_written, first_stop, half_refusal, half_written, ignores, with_bytes_from, part, port_byte, port_half, port_read, port_refusal, port_value, port_word, port_written, slot_joined, slot_refusal, slot_value, slot_written, unless_stopped, whole_in, word_refusal, word_written};
 ghost use Rattle.gx_fifo.specs.GxStates.{AreWaiting, waiting_entries};
-ghost use Rattle.ds_ports.specs.Happenings.{Goes, IsProcessorIo, IsQuiet};
+ghost use Rattle.ds_ports.specs.Happenings.{Goes, IsProcessorIo, HasOnlyLaterEvents};
 ghost use Rattle.ds_ports.specs.RegisterMap.{IsSlot, StandsWhole, slot_of};
 ghost use Rattle.ds_ports.specs.Io.{IoState, io_of};
 
@@ -419,7 +419,7 @@ impl Io {
         requires early { IsEarly (Some now) }
         ensures refusal { result ≡ port_refusal proc self.old at width value }
         ensures next { self.new ≡ unless_stopped (port_refusal proc self.old at width value) self.old (port_written proc now self.old at width value) }
-        ensures schedule { IsProcessorIo (io_of self.old proc) → IsQuiet now (io_of self.old proc) → Goes proc now self.old self.new }
+        ensures schedule { IsProcessorIo (io_of self.old proc) → HasOnlyLaterEvents now (io_of self.old proc) → Goes proc now self.old self.new }
         ensures grows { AreWaiting self.old.gx → waiting_entries self.new.gx ≤ waiting_entries self.old.gx + 4 }
     {
         self.put_any(proc, now, at, width, value)

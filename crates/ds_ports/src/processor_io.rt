@@ -12,7 +12,7 @@ ghost use Rattle.ds_timers.specs.Timing.{counter_of, overflow_of, timer_at, time
 ghost use Rattle.ds_ports.specs.Acting.{any_armed, is_armed};
 ghost use Rattle.ds_ports.specs.Happenings.{IsProcessorIo};
 ghost use Rattle.ds_ports.specs.Inside.{own_written};
-ghost use Rattle.ds_ports.specs.Io.{comes_before};
+ghost use Rattle.ds_ports.specs.Io.{channel_comes_before};
 ghost use Rattle.ds_ports.specs.ProcessorIo.{before_move, control_written, dma_written, extkeyin_word, haltcnt_written, ie_written, if_written, ime_written, interrupts_of, blocks_processor, keycnt_written, keyinput_word, keys_hold, keys_told, processor_io_at_boot, processor_io_moved, processor_io_put_back, processor_io_raised, processor_io_triggered, reload_written};
 ghost use Rattle.ds_ports.specs.Registers.{meaning_of};
 
@@ -426,7 +426,7 @@ impl ProcessorIo {
 
     /// Whether the channel that is due comes before a number of ticks.
     pub fn is_due_before(&self, ticks: u64) -> bool
-        ensures { result ≡ comes_before (dma_due self.now.dma) ticks }
+        ensures { result ≡ channel_comes_before (dma_due self.now.dma) ticks }
     {
         match self.dma.due() {
             Some(due) => due.tick.0 < ticks,

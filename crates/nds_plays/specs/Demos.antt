@@ -19,8 +19,8 @@ abbrev pub operations : List ℕ
 operations = 0 ∷ 1 ∷ 2 ∷ 3 ∷ 4 ∷ 5 ∷ 12 ∷ 14 ∷ []
 
 -- a register of three bits from bit k on of what was drawn
-abbrev pub register_at : ℕ → ℕ → ℕ
-register_at k x = x / 2 ^ k % 8
+abbrev pub drawn_register : ℕ → ℕ → ℕ
+drawn_register k x = x / 2 ^ k % 8
 
 -- the word at a place of the body, by the draw for it, whose upper 24 bits count: the last is a branch to the first; at the middle of each
 -- 256 rd is stored at 4 times the place from r10 on, and at the end of each 16 from r9 on; any other is an operation on rn and rm into rd,
@@ -28,9 +28,9 @@ register_at k x = x / 2 ^ k % 8
 abbrev pub body_word : ℕ → ℕ → ℕ
 body_word place s =
     let x = s / 2 ^ 8 in
-    let rd = register_at 0 x in
-    let rn = register_at 3 x in
-    let rm = register_at 6 x in
+    let rd = drawn_register 0 x in
+    let rn = drawn_register 3 x in
+    let rm = drawn_register 6 x in
     let operation = slice_index_or operations (x / 2 ^ 9 % 8) 0 in
     if place == 1023 then 0xEAFFFBFF
     else if place % 256 == 127 then 0xE58A0000 + 0x1000 * rd + 4 * place

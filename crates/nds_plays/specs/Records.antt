@@ -9,7 +9,7 @@ use Rattle.ds_base.specs.declared.processors.Proc.TheVariants.{Nine, Seven}
 use Rattle.ds_runs.specs.Runs.{Ending, At, Stopped}
 use Rattle.ds_machine.specs.Frames.{WholeFrame, frame_shown, frames_shown, last_frame, last_lists, lists_shown}
 use Rattle.ds_machine.specs.States.{MachineState}
-use Rattle.ds_machine.specs.Observed.{memory_of, registers_of}
+use Rattle.ds_machine.specs.Inspections.{memory_of, registers_of}
 use Rattle.ds_machine.specs.Reference.{Shown}
 use Rattle.gx_geometry.specs.States.{Swapped}
 use Rattle.nds_records.specs.Lists.{lists_records}

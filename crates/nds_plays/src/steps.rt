@@ -2,12 +2,12 @@
 
 ghost use Rattle.std.specs.Prelude.{◌≡◌, ◌≤◌, ◌<◌, ◌+◌, ◌^◌, None, length, option_to_list};
 ghost use Rattle.std.specs.List.{concat};
-ghost use Rattle.ds_machine.specs.Observed.{seen_of};
+ghost use Rattle.ds_machine.specs.Inspections.{seen_of};
 ghost use Rattle.ds_machine.specs.Sound.{IsSound};
 ghost use Rattle.ds_io.specs.Puts.{Puts};
 ghost use Rattle.run_ahead.specs.TickTurns.{IsTickBefore};
 ghost use Rattle.nds_plays.specs.TraceParts.{IsLineDue, Took};
-ghost use Rattle.nds_plays.specs.Watches.{Traces, rank_of, seen_line};
+ghost use Rattle.nds_plays.specs.Watches.{Traces, processor_rank, seen_line};
 
 use asm_text::Set;
 use crate::plays::Played;
@@ -27,7 +27,7 @@ pub(crate) enum Taken {
 
 /// A processor's rank.
 fn rank_of(proc: Proc) -> u8
-    ensures { result ≡ rank_of proc }
+    ensures { result ≡ processor_rank proc }
 {
     match proc {
         Proc::Nine => 22,

@@ -17,7 +17,7 @@ RunsSo tells taken faults ticks keep old before WriteFault new after = Plays tel
 RunsSo tells taken faults ticks keep old before other new after = ⊥
 
 -- the status of how a run went
-abbrev pub status_of : Played → Status
-status_of answers.Done = Done
-status_of (answers.LeftOut left) = LeftOut left
-status_of answers.WriteFault = WriteFault
+abbrev pub played_status : Played → Status
+played_status answers.Done = Done
+played_status (answers.LeftOut left) = LeftOut left
+played_status answers.WriteFault = WriteFault

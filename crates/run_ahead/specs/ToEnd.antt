@@ -16,7 +16,7 @@ use Rattle.run_ahead.specs.declared.turns.Turned.TheVariants.{AtEnd, Stopped}
 -- turns is the run's
 pub data TurnsToEnd (until : ℕ) : ConsoleState → Ending MachineState LeftOut → ConsoleState → Type 0 where
   at_end : (old new : ConsoleState) → Turns until old AtEnd new → TurnsToEnd until old (At new.machine) new
-  stops : (old new : ConsoleState) (left : LeftOut) → Turns until old (Stopped left) new → TurnsToEnd until old (runs.Stopped left) new
+  meets_stop : (old new : ConsoleState) (left : LeftOut) → Turns until old (Stopped left) new → TurnsToEnd until old (runs.Stopped left) new
   counts : (old next last : ConsoleState) (answer : Turned) (end : Ending MachineState LeftOut) → counted_of answer ≡ 1 → Turns until old answer next → TurnsToEnd until next end last
       → TurnsToEnd until old end last
 
@@ -44,8 +44,8 @@ TurnsEndAsRuns = (until : ℕ) (c last : ConsoleState) (end : Ending MachineStat
 
 -- turns one after another, each with a limit of its own, and what they put out
 pub data TurnsOn : ConsoleState → ConsoleState → List Shown → Type 0 where
-  none : (start : ConsoleState) → TurnsOn start start []
-  turn : (start before now : ConsoleState) (outs : List Shown) (until : ℕ) (answer : Turned) → TurnsOn start before outs → Turns until before answer now
+  no_turn_on : (start : ConsoleState) → TurnsOn start start []
+  one_turn_on : (start before now : ConsoleState) (outs : List Shown) (until : ℕ) (answer : Turned) → TurnsOn start before outs → Turns until before answer now
       → TurnsOn start now (outs ++ shown_in answer before.machine now.machine)
 
 -- unless one stops, the run to each limit that isn't below the console's is what they put out and then the run from there

@@ -135,13 +135,13 @@ turns_remaining until s = 2 * places_remaining 24 until 0 (acting_dues s) + one_
 
 -- a console is as it was after some turns with a limit
 pub data HasTurned (until : ℕ) : ConsoleState → ConsoleState → Type 0 where
-  none : (start : ConsoleState) → HasTurned until start start
-  turn : (start before now : ConsoleState) (answer : Turned) → HasTurned until start before → Turns until before answer now → HasTurned until start now
+  no_turn : (start : ConsoleState) → HasTurned until start start
+  one_turn : (start before now : ConsoleState) (answer : Turned) → HasTurned until start before → Turns until before answer now → HasTurned until start now
 
 -- how many of a console's turns count
 abbrev pub turns_in : {until : ℕ} {start now : ConsoleState} → HasTurned until start now → ℕ
-turns_in (none start) = 0
-turns_in (turn start before now answer earlier last) = counted_of answer + turns_in earlier
+turns_in (no_turn start) = 0
+turns_in (one_turn start before now answer earlier last) = counted_of answer + turns_in earlier
 
 -- a console is as it was after as many turns with a limit as its counts say
 pub record IsAfterItsTurns (until : ℕ) (start now : ConsoleState) : Type 0 where
@@ -154,8 +154,8 @@ TurnsAddUp = (until : ℕ) (start now : ConsoleState) (turned : HasTurned until 
 
 -- each of these turns ran
 abbrev pub EachRan : {until : ℕ} {start now : ConsoleState} → HasTurned until start now → Type 0
-EachRan (none start) = Unit {0}
-EachRan (turn start before now answer earlier last) = EachRan earlier × (answer ≡ Ran)
+EachRan (no_turn start) = Unit {0}
+EachRan (one_turn start before now answer earlier last) = EachRan earlier × (answer ≡ Ran)
 
 -- a console ran on: it took some turns with a limit, each of which ran. What the reference run does from there is the rest of what it
 -- does from before them, and the last whole frame and the last lists are as they were

@@ -5,7 +5,7 @@ ghost use Rattle.ds_base.specs.Memories.{memory_size};
 ghost use Rattle.ds_machine.specs.Acting.{IsActing};
 ghost use Rattle.ds_machine.specs.Booted.{machine_booted};
 ghost use Rattle.ds_machine.specs.Frames.{framed_of, FollowFrames, FollowLists};
-ghost use Rattle.ds_machine.specs.Observed.{memory_of, registers_of, seen_of};
+ghost use Rattle.ds_machine.specs.Inspections.{memory_of, registers_of, seen_of};
 ghost use Rattle.ds_ipc.specs.Ipcs.{AreSides};
 ghost use Rattle.ds_machine.specs.TurnSteps.{HasLimit};
 ghost use Rattle.ds_machine.specs.TurnSteps.{IsLeastBelow};

@@ -2,7 +2,7 @@
 
 ghost use Rattle.std.specs.Prelude.{◌≡◌, ◌<◌, ℕ};
 ghost use Rattle.video2d.specs.Layers.{seen_objects, shown_through};
-ghost use Rattle.video2d.specs.rows.Composed.{layer_base, layer_word, with_word, background_through, front_of};
+ghost use Rattle.video2d.specs.rows.Composed.{layer_base, layer_word, with_layer_word, background_through, front_of};
 
 use crate::layers::LayerPixels;
 use crate::mixes::LineOrder;
@@ -47,7 +47,7 @@ fn layer_word(pixel: u16, priority: u8, target: u8, blended: bool) -> u32
 
 /// One more word.
 fn with_word(word: u32, pair: FrontPair) -> FrontPair
-    ensures { result ≡ with_word word pair }
+    ensures { result ≡ with_layer_word word pair }
 {
     if word < pair.top {
         FrontPair {

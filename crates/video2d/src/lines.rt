@@ -3,7 +3,7 @@
 ghost use Rattle.std.specs.Prelude.{◌≡◌, ◌<◌, ◌%◌, ◌^◌, ℕ, length, slice_index};
 ghost use Rattle.bg_ext.specs.BankPixels.{vram_pixel};
 ghost use Rattle.video2d.specs.Engines.{dispcnt};
-ghost use Rattle.video2d.specs.Pictures.{layered_pixel, is_enabled, display_mode, is_forced_blank, screen_shown, shows_layers, screen_pixel, engine_pixel, engine_line, background_palette, object_palette, object_memory};
+ghost use Rattle.video2d.specs.Pictures.{layered_pixel, is_engine_enabled, display_mode, is_forced_blank, screen_shown, shows_layers, screen_pixel, engine_pixel, engine_line, background_palette, object_palette, object_memory};
 
 use crate::engines::{Engine, EngineRegisters};
 use crate::layers::{draw_rows, empty_rows};
@@ -72,7 +72,7 @@ pub fn shows_layers(which: Engine, engine: &EngineRegisters) -> bool
 
 /// Whether POWCNT1 enables an engine.
 pub fn is_enabled(which: Engine, power: u16) -> bool
-    ensures { result ≡ is_enabled which power }
+    ensures { result ≡ is_engine_enabled which power }
 {
     let bit = match which {
         Engine::A => 1,

@@ -15,7 +15,8 @@ transfer_words file s = map (card_word file s.command) (range_with_len 0 (block_
 -- what may happen to a card, whoever does it, and the word that the starter takes with it, if it does
 pub data CardHappens (file : List ℕ) (s : CardState) : Option ℕ → CardState → Type 0 where
   wrote : (proc : Proc) (at : ℕ) (width : Width) (value : ℕ) (now : Tick) → CardHappens file s None (card_written s proc at width value now)
-  was_read : (proc : Proc) (at : ℕ) (width : Width) (now : Tick) → CardHappens file s (card_taken s proc at width) (card_after_read s proc at width now)
+  was_read : (proc : Proc) (at : ℕ) (width : Width) (now : Tick)
+      → CardHappens file s (card_taken s proc at width) (card_after_read s proc at width now)
   came : IsSome (card_due s) → CardHappens file s None (card_after_event file s)
 
 abbrev pub and_taken : Option ℕ → List ℕ → List ℕ

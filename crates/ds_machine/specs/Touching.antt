@@ -71,15 +71,18 @@ abbrev pub all_private : MachineState → Proc → (writing fetching : Bool) →
 all_private s proc writing fetching touch = list_all (is_private_to s proc writing fetching) (touched_bytes touch)
 
 abbrev pub data_private : MachineState → Proc → (reads_data writes_data : Bool) → Touch → Bool
-data_private s proc reads_data writes_data touch = (not reads_data || all_private s proc false false touch) && (not writes_data || all_private s proc true false touch)
+data_private s proc reads_data writes_data touch =
+    (not reads_data || all_private s proc false false touch) && (not writes_data || all_private s proc true false touch)
 
--- what is fetched at r15 lies in private places; and an instruction is of a kind that may be taken before its turn, and its accesses of data stay there
+-- what is fetched at r15 lies in private places; and an instruction is of a kind that may be taken before its turn, and its accesses of data stay
+-- there
 abbrev pub FetchStaysPrivate : MachineState → Proc → Type 0
 FetchStaysPrivate s Nine = ReachesPrivate nine_side (nine_reach (tick_of s.nine.processor) s) (next_fetch s.nine.processor.registers)
 FetchStaysPrivate s Seven = ReachesPrivate seven_side (seven_reach (tick_of s.seven.processor) s) (next_fetch s.seven.processor.registers)
 
 abbrev pub InstrReaches : {S : Type 0} → SideOf S → S → RegisterState → Instr → Type 0
-InstrReaches side state s instr = (may_go_ahead side.arch (Some instr) ≡ true) × AllReachPrivate side state (data_accesses side.arch (side.base state) s (Some instr))
+InstrReaches side state s instr =
+    (may_go_ahead side.arch (Some instr) ≡ true) × AllReachPrivate side state (data_accesses side.arch (side.base state) s (Some instr))
 
 abbrev pub InstrStaysPrivate : MachineState → Proc → Instr → Type 0
 InstrStaysPrivate s Nine instr = InstrReaches nine_side (nine_reach (tick_of s.nine.processor) s) s.nine.processor.registers instr
@@ -93,7 +96,8 @@ is_told_nothing irq = not irq.ime || bits 16 3 irq.ie == 0
 
 -- the four bytes of a word that is aligned are private together
 pub record GoesByWords {S : Type 0} (side : SideOf S) : Type 0 where
-  pub same : (state : S) (writing fetching : Bool) (a b : ℕ) → a / 4 ≡ b / 4 → side.is_private state writing fetching a ≡ side.is_private state writing fetching b
+  pub same : (state : S) (writing fetching : Bool) (a b : ℕ) → a / 4 ≡ b / 4 → side.is_private state writing fetching a
+      ≡ side.is_private state writing fetching b
 
 -- an access writes
 abbrev pub stores : TransferOp → Bool

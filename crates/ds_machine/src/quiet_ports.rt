@@ -1,4 +1,5 @@
-//! Ports of which a read changes no unit and shows nothing of geometry: loads from them are taken as those of RAM are. Programs that wait for something make them again and again.
+//! Ports of which a read changes no unit and shows nothing of geometry: loads from them are taken as those of RAM are. Programs that wait for
+//! something make them again and again.
 
 ghost use Rattle.std.specs.Prelude.{◌≡◌};
 ghost use Rattle.ds_machine.specs.QuietPorts as ports;

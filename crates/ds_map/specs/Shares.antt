@@ -12,14 +12,15 @@ use Rattle.ds_map.specs.Maps.{MapState}
 
 -- the byte of shared work RAM at a place is shown to ARM9, by WRAMCNT (GBATEK, "DS Memory Control - WRAM")
 abbrev pub is_shown_to_nine : ℕ → ℕ → Bool
-is_shown_to_nine wramcnt at = if wramcnt == 0 then true else (if wramcnt == 1 then nat_le 0x4000 at else (if wramcnt == 2 then nat_lt at 0x4000 else false))
+is_shown_to_nine wramcnt at =
+    if wramcnt == 0 then true else (if wramcnt == 1 then nat_le 0x4000 at else (if wramcnt == 2 then nat_lt at 0x4000 else false))
 
 -- a byte of the memory of all banks is out of ARM7's reach
 abbrev pub is_beyond_seven : List ℕ → ℕ → Bool
 is_beyond_seven controls cell = not (is_allotted controls cell)
 
--- ARM9 alone reaches a place that it has past its tightly coupled memories (our choice of which): shared work RAM, since it has a place there only where WRAMCNT shows it to
--- ARM9; palettes and OAM; video memory where none of its cells lies in a bank that is allotted to ARM7; its boot ROM
+-- ARM9 alone reaches a place that it has past its tightly coupled memories (our choice of which): shared work RAM, since it has a place there only
+-- where WRAMCNT shows it to ARM9; palettes and OAM; video memory where none of its cells lies in a bank that is allotted to ARM7; its boot ROM
 abbrev pub is_private_place : List ℕ → Place → Bool
 is_private_place controls (Cell Shared at) = true
 is_private_place controls (Cell Palette at) = true

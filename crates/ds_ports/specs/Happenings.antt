@@ -40,7 +40,8 @@ pub record IsUnchanged (old new : ProcessorIoState) : Type 0 where
   pub halted : new.halted ≡ old.halted
   pub dma : new.dma ≡ old.dma
 
--- the interrupts that one processor raises at the other, bits 16 to 18 of IF (GBATEK, "DS Interrupts": IPC sync, send FIFO empty, receive FIFO not empty)
+-- the interrupts that one processor raises at the other, bits 16 to 18 of IF (GBATEK, "DS Interrupts": IPC sync, send FIFO empty, receive FIFO not
+-- empty)
 abbrev pub ipc_bits : ℕ
 ipc_bits = interrupt_bit IpcSync + interrupt_bit SendFifoEmpty + interrupt_bit ReceiveFifoNotEmpty
 

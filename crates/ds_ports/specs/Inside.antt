@@ -15,8 +15,8 @@ use Rattle.ds_ports.specs.declared.registers.Register.TheVariants.{DisplayHalf, 
 
 -- What the code's parts say of one another. No public clause speaks of it.
 
--- a write of a register may change when something is due, or leave something to settle: it changes one of these parts of the units. The display is due too, but by its scan, which no
--- register changes. (Both processors' registers of a name change such parts, or none of them does)
+-- a write of a register may change when something is due, or leave something to settle: it changes one of these parts of the units. The display is
+-- due too, but by its scan, which no register changes. (Both processors' registers of a name change such parts, or none of them does)
 abbrev pub moving_parts : List UnitPart
 moving_parts = TimersNine ∷ TimersSeven ∷ Division ∷ touches.SquareRoot ∷ touches.Geometry ∷ Released ∷ DmaNine ∷ DmaSeven ∷ []
 

@@ -69,7 +69,8 @@ write_only written = record idle { written = written }
 
 -- one that reads what it keeps
 abbrev pub plain : (IoState → ℕ → ℕ) → (IoState → Tick → ℕ → ℕ → IoState) → RegisterMeaning
-plain kept written = record idle { value = λ proc now u n. kept u n; kept = λ proc u n. kept u n; written = λ proc now u n word. written u now n word }
+plain kept written =
+    record idle { value = λ proc now u n. kept u n; kept = λ proc u n. kept u n; written = λ proc now u n word. written u now n word }
 
 -- a write that changes what the processor has of its own, by the keys that are pressed
 abbrev pub on_own : (Proc → Tick → ℕ → ProcessorIoState → ℕ → ℕ → ProcessorIoState) → Proc → Tick → IoState → ℕ → ℕ → IoState
@@ -84,10 +85,12 @@ plain_of_processor kept written =
 
 -- DMAxSAD, DMAxDAD or DMAxCNT (GBATEK, "DS DMA Transfers")
 abbrev pub channel_register : DmaPort → RegisterMeaning
-channel_register port = record (plain_of_processor (λ processor_io n. channel_word port (channel_at processor_io.dma.channels n)) (λ proc now pressed processor_io n word. dma_written processor_io now port n word)) {
-  count = 4;
-  refusal = λ proc u n word. channel_refusal (io_of u proc).dma.proc n port word (channel_at (io_of u proc).dma.channels n);
-}
+channel_register port = record
+    (plain_of_processor (λ processor_io n. channel_word port (channel_at processor_io.dma.channels n))
+    (λ proc now pressed processor_io n word. dma_written processor_io now port n word)) {
+      count = 4;
+      refusal = λ proc u n word. channel_refusal (io_of u proc).dma.proc n port word (channel_at (io_of u proc).dma.channels n);
+    }
 
 -- the low and the high word of a number of 64 bits, by 0 and 1, and that number with another word there
 abbrev pub word_of_two : ℕ → ℕ → ℕ
@@ -152,9 +155,9 @@ display_register width = record idle {
   written = λ proc now u n word. record u { video = video_written proc u.video n width word };
 }
 
--- one of geometry's, of which the number is the offset of its first byte: what it reads, what it keeps, and what a write leaves, are told where geometry
--- is. ARM9 alone has them. More than 320 entries never wait where one is written, since a stall holds ARM9 and its DMA first: a write there is
--- ignored (our choice of form).
+-- one of geometry's, of which the number is the offset of its first byte: what it reads, what it keeps, and what a write leaves, are told where
+-- geometry is. ARM9 alone has them. More than 320 entries never wait where one is written, since a stall holds ARM9 and its DMA first: a write there
+-- is ignored (our choice of form).
 abbrev pub gx_port_written : GxState → ℕ → ℕ → Tick → GxState
 gx_port_written s at value now = if nat_lt 320 (waiting_entries s) then s else gx_written s at value now
 
@@ -184,15 +187,20 @@ meaning_of Dmacnt = channel_register Control
 -- DMA0FILL to DMA3FILL (the same chapter)
 meaning_of Dmafill = record (plain (λ u n. slice_index_or u.fill n 0) (λ u now n word. record u { fill = slice_set u.fill n word })) { count = 4 }
 -- TM0CNT_L to TM3CNT_L: a timer's counter, which is written as its reload (GBATEK, "DS Timers")
-meaning_of TmcntL = record (plain_of_processor (λ processor_io n. (timer_at processor_io.timers n).reload) (λ proc now pressed processor_io n word. reload_written processor_io n (word % 2 ^ 16))) {
-  count = 4;
-  value = λ proc now u n. counter_of (timer_at (io_of u proc).timers n) now;
-}
+meaning_of TmcntL = record
+    (plain_of_processor (λ processor_io n. (timer_at processor_io.timers n).reload)
+    (λ proc now pressed processor_io n word. reload_written processor_io n (word % 2 ^ 16))) {
+      count = 4;
+      value = λ proc now u n. counter_of (timer_at (io_of u proc).timers n) now;
+    }
 -- TM0CNT_H to TM3CNT_H: its control (the same chapter)
-meaning_of TmcntH = record (plain_of_processor (λ processor_io n. (timer_at processor_io.timers n).control) (λ proc now pressed processor_io n word. control_written processor_io n (word % 2 ^ 16) now)) { count = 4 }
+meaning_of TmcntH = record
+    (plain_of_processor (λ processor_io n. (timer_at processor_io.timers n).control)
+    (λ proc now pressed processor_io n word. control_written processor_io n (word % 2 ^ 16) now)) { count = 4 }
 -- KEYINPUT, KEYCNT and EXTKEYIN (GBATEK, "DS Keypad")
 meaning_of Keyinput = read_only (λ u. keyinput_word u.pressed)
-meaning_of Keycnt = plain_of_processor (λ processor_io n. processor_io.keycnt) (λ proc now pressed processor_io n word. keycnt_written processor_io pressed (word % 2 ^ 16))
+meaning_of Keycnt = plain_of_processor (λ processor_io n. processor_io.keycnt)
+    (λ proc now pressed processor_io n word. keycnt_written processor_io pressed (word % 2 ^ 16))
 meaning_of Extkeyin = read_only (λ u. extkeyin_word u.pressed)
 -- IPCSYNC (GBATEK, "DS Inter Process Communication (IPC)")
 meaning_of Ipcsync = record idle {
@@ -219,7 +227,8 @@ meaning_of Romctrl = record (plain (λ u n. u.romctrl) (λ u now n word. record 
   refusal = λ proc u n word. card_refusal word;
 }
 -- IME, IE and IF (GBATEK, "DS Interrupts")
-meaning_of Ime = plain_of_processor (λ processor_io n. flag 0 processor_io.irq.ime) (λ proc now pressed processor_io n word. ime_written processor_io word)
+meaning_of Ime =
+    plain_of_processor (λ processor_io n. flag 0 processor_io.irq.ime) (λ proc now pressed processor_io n word. ime_written processor_io word)
 meaning_of Ie = plain_of_processor (λ processor_io n. processor_io.irq.ie) (λ proc now pressed processor_io n word. ie_written proc processor_io word)
 meaning_of If = record idle {
   value = λ proc now u n. (io_of u proc).irq.if_;

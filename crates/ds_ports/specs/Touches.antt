@@ -6,8 +6,8 @@ use Rattle.ds_ports.specs.Io.{IoState}
 use Rattle.ds_ports.specs.declared.registers.Register.{Register}
 use Rattle.ds_ports.specs.declared.registers.Register.TheVariants.{DisplayHalf, DisplayWord, GxWord, GxCommand, Dmasad, Dmadad, Dmacnt, Dmafill, TmcntL, TmcntH, Keyinput, Keycnt, Extkeyin, Ipcsync, Ipcfifocnt, Ipcfifosend, Ipcfiforecv, Romctrl, Ime, Ie, If, Vramcnt, Wramcnt, Vramstat, Wramstat, Divcnt, DivNumer, DivDenom, DivResult, DivremResult, Sqrtcnt, SqrtResult, SqrtParam, Postflg, Haltcnt}
 
--- What each register touches: a column beside the register map. It is no part of what the console does, but follows from it, and is proved of each row: a register depends on no
--- other parts of the units than those of its row, and an access of it changes no others than those that the row says.
+-- What each register touches: a column beside the register map. It is no part of what the console does, but follows from it, and is proved of each
+-- row: a register depends on no other parts of the units than those of its row, and an access of it changes no others than those that the row says.
 
 -- ---- the parts of the units: each is what some register, event or due tick may use without the rest
 

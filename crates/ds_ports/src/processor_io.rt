@@ -227,7 +227,8 @@ impl ProcessorIo {
         requires which { which < 4 }
         requires due { IsSome (timer_due (timer_at self.old.timers which)) }
         requires early { IsEarly (timer_due (timer_at self.old.timers which)) }
-        ensures { self.new ≡ processor_io_raised (record self.old { timers = (overflow_of self.old.timers which).timers }) (overflow_of self.old.timers which).bits }
+        ensures { self.new ≡ processor_io_raised (record self.old { timers = (overflow_of self.old.timers which).timers })
+            (overflow_of self.old.timers which).bits }
     {
         let bits = self.timers.overflow(which);
         self.irq.raise(bits);
@@ -415,7 +416,8 @@ impl ProcessorIo {
     #[tactic(auto, using(crate::proofs::Dues::first_channel))]
     pub fn first_channel(&self, rank: u8) -> Option<Due>
         requires { rank < 2 ^ 6 }
-        ensures { result ≡ first_from rank (channel_due self.now.dma 0 ∷ channel_due self.now.dma 1 ∷ channel_due self.now.dma 2 ∷ channel_due self.now.dma 3 ∷ []) }
+        ensures { result ≡ first_from rank (channel_due self.now.dma 0 ∷ channel_due self.now.dma 1 ∷ channel_due self.now.dma 2
+            ∷ channel_due self.now.dma 3 ∷ []) }
     {
         let due = self.dma.due()?;
         Some(Due {

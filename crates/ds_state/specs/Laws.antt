@@ -26,7 +26,8 @@ StandsFor f at s = Keeps f at s × (made f s ≡ s)
 abbrev pub Says : {S A : Type 0} → (A → S) → Format S A → ℕ → (A → Type 0) → Type 0
 Says state (done a) at P = P a
 Says state (then_field c get rule next) at P = (v : _) → Fits c v → rule at v ≡ true → Says state (next v) at (λ a. (get (state a) ≡ v) × P a)
-Says state (then_part f get next) at P = Says (λ t. t) f at (λ t. Unit {0}) × ((t : _) → StandsFor f at t → Says state (next t) at (λ a. (get (state a) ≡ t) × P a))
+Says state (then_part f get next) at P =
+    Says (λ t. t) f at (λ t. Unit {0}) × ((t : _) → StandsFor f at t → Says state (next t) at (λ a. (get (state a) ≡ t) × P a))
 Says state (list n f get next) at P =
     Says (λ t. t) f at (λ t. Unit {0})
     × ((ts : List _) → length ts ≡ n → AllByRecursion (StandsFor f at) ts → Says state (next ts) at (λ a. (get (state a) ≡ ts) × P a))
@@ -38,10 +39,12 @@ IsExact f at = Says (λ s. s) f at (λ s. Unit {0})
 -- the bytes of a state, whatever stands behind them, are read as that state, and what is left is what stands behind
 abbrev pub RoundTrips : {S : Type 0} → Format S S → ℕ → S → Type 0
 RoundTrips f at s =
-    (place : ℕ) (rest : List ℕ) → read_format f at (record { place = place; bytes = bytes_written f [] s ++ rest }) ≡ Ok (s, record { place = place + length (bytes_written f [] s); bytes = rest })
+    (place : ℕ) (rest : List ℕ) → read_format f at (record { place = place; bytes = bytes_written f [] s ++ rest })
+    ≡ Ok (s, record { place = place + length (bytes_written f [] s); bytes = rest })
 
 -- bytes that are read as a state are its bytes, and then what is left
 abbrev pub OneSpelling : {S : Type 0} → Format S S → ℕ → Type 0
 OneSpelling {S = S} f at =
-    (place : ℕ) (bytes : List ℕ) (s : S) (left : Left) → ((i : ℕ) → slice_index bytes i < 256) → read_format f at (record { place = place; bytes = bytes }) ≡ Ok (s, left)
+    (place : ℕ) (bytes : List ℕ) (s : S) (left : Left) → ((i : ℕ) → slice_index bytes i < 256)
+    → read_format f at (record { place = place; bytes = bytes }) ≡ Ok (s, left)
     → bytes ≡ bytes_written f [] s ++ left.bytes

@@ -51,15 +51,16 @@ nine_start =
 abbrev pub seven_start : List ℕ
 seven_start = 0xE3A0950E ∷ 0xE2899901 ∷ 0xE3A0A622 ∷ []
 
--- the eight numbers of the header that aren't 0, from its byte 20h on: where ARM9's image stands in the file, where it begins to run, where it goes to,
--- and how many bytes it has; and the same of ARM7's
+-- the eight numbers of the header that aren't 0, from its byte 20h on: where ARM9's image stands in the file, where it begins to run, where it goes
+-- to, and how many bytes it has; and the same of ARM7's
 abbrev pub demo_fields : List ℕ
 demo_fields = 0x200 ∷ 0x2000000 ∷ 0x2000000 ∷ 0x1028 ∷ 0x1400 ∷ 0x3800000 ∷ 0x3800000 ∷ 0x100C ∷ []
 
 -- the file: a header of 512 bytes, ARM9's image at 200h, and ARM7's at 1400h, whose body is drawn after ARM9's; 0 between them
 abbrev pub demo_words : ℕ → List ℕ
 demo_words number =
-    replicate 8 0 ++ (demo_fields ++ (replicate 112 0 ++ (nine_start ++ (body number ++ (replicate 118 0 ++ (seven_start ++ body (drawn number 1024)))))))
+    replicate 8 0 ++ (demo_fields
+    ++ (replicate 112 0 ++ (nine_start ++ (body number ++ (replicate 118 0 ++ (seven_start ++ body (drawn number 1024)))))))
 
 abbrev pub demo_file : ℕ → List ℕ
 demo_file number = flat_map (little_bytes 4) (demo_words number)

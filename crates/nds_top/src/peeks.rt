@@ -7,11 +7,11 @@ ghost use Rattle.nds_plays.specs.Calls.{around};
 ghost use Rattle.nds_top.specs.ViewAnswers.{PeekGives};
 
 use crate::statuses::status_of;
-use nds_words::RunFiles;
 use ds_base::{Memory, Tick};
 use ds_io::{Shelf, Sink};
 use nds_answers::Ended;
 use nds_plays::seat_run;
+use nds_words::RunFiles;
 use run_ahead::{Console, turn_laws};
 use std::alloc::Global;
 
@@ -31,7 +31,8 @@ pub fn peek<'a, F: Shelf, O: Sink>(
     requires few { count ≤ 4096 }
     requires within { place + count ≤ memory_size memory }
     requires empty { seat.old ≡ None }
-    ensures answer { PeekGives (around F.told F.faults O.tells O.taken O.faults shelf.old shelf.new out.old out.new seat.new) files.entry.cart.now (option_map (λ name. name.now) files.entry.keys) ticks memory place count result.file.now result.status }
+    ensures answer { PeekGives (around F.told F.faults O.tells O.taken O.faults shelf.old shelf.new out.old out.new seat.new) files.entry.cart.now
+        (option_map (λ name. name.now) files.entry.keys) ticks memory place count result.file.now result.status }
     ensures files { files_of (F.told shelf.new) ≡ files_of (F.told shelf.old) }
 {
     if let Err(ended) = seat_run(alloc, files.cart, files.keys, shelf, seat) {

@@ -6,11 +6,11 @@ ghost use Rattle.nds_plays.specs.Calls.{around};
 ghost use Rattle.nds_top.specs.RunAnswers.{RunGives};
 ghost use Rattle.nds_top.specs.Inside.{RunsSo};
 
-use nds_words::{Keep, RunFiles};
 use ds_base::Tick;
 use ds_io::{Shelf, Sink};
 use nds_answers::{Ended, Status};
 use nds_plays::{Played, play, seat_run};
+use nds_words::{Keep, RunFiles};
 use run_ahead::{Console, turn_laws};
 use std::alloc::Global;
 
@@ -26,7 +26,8 @@ pub fn run<'a, F: Shelf, O: Sink>(
 ) -> Ended<'a>
     requires early { ticks ≤ 100000000000 }
     requires empty { seat.old ≡ None }
-    ensures answer { RunGives (around F.told F.faults O.tells O.taken O.faults shelf.old shelf.new out.old out.new seat.new) files.entry.cart.now (option_map (λ name. name.now) files.entry.keys) ticks keep result.file.now result.status }
+    ensures answer { RunGives (around F.told F.faults O.tells O.taken O.faults shelf.old shelf.new out.old out.new seat.new) files.entry.cart.now
+        (option_map (λ name. name.now) files.entry.keys) ticks keep result.file.now result.status }
     ensures files { files_of (F.told shelf.new) ≡ files_of (F.told shelf.old) }
 {
     if let Err(ended) = seat_run(alloc, files.cart, files.keys, shelf, seat) {

@@ -11,9 +11,9 @@ use obj2d::ObjectPixel;
 /// No layer.
 pub const NO_WORD: u32 = 0xFFFF_FFFF;
 
-/// The words of the layer in front and of the next one. A word has the layer's colour in bits 0 to 14; bit 15 tells of a semi-transparent object; it has
-/// the layer's number among the targets of effects in bits 16 to 18, its place among layers of one priority in bits 19 to 21, and its priority from
-/// bit 22 on: of two layers, the one in front has the lesser word.
+/// The words of the layer in front and of the next one. A word has the layer's colour in bits 0 to 14; bit 15 tells of a semi-transparent object; it
+/// has the layer's number among the targets of effects in bits 16 to 18, its place among layers of one priority in bits 19 to 21, and its priority
+/// from bit 22 on: of two layers, the one in front has the lesser word.
 #[derive(Clone, Copy)]
 pub struct FrontPair {
     /// The layer in front, `NO_WORD` where there is none.

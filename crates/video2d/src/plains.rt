@@ -57,7 +57,8 @@ fn lay_background(
 )
     requires colours { length colours.now ≡ 512 }
     requires known { n < 4 }
-    ensures { (x : ℕ) → x < 256 → slice_index into.new x ≡ over_at turn (background_seen vram.now colours.now which engine.now line n x) (slice_index into.old x) }
+    ensures { (x : ℕ) → x < 256 → slice_index into.new x
+        ≡ over_at turn (background_seen vram.now colours.now which engine.now line n x) (slice_index into.old x) }
 {
     if !is_background_on(engine, n) {
         return;
@@ -80,7 +81,8 @@ fn lay_priority(
     into: &mut [u16; 256],
 )
     requires { length colours.now ≡ 512 }
-    ensures { (x : ℕ) → x < 256 → slice_index into.new x ≡ laid_at turn (backgrounds_seen vram.now colours.now which engine.now line x) (slice_index into.old x) }
+    ensures { (x : ℕ) → x < 256 → slice_index into.new x
+        ≡ laid_at turn (backgrounds_seen vram.now colours.now which engine.now line x) (slice_index into.old x) }
 {
     lay_background(vram, colours, which, engine, line, 3, turn, into);
     lay_background(vram, colours, which, engine, line, 2, turn, into);
@@ -154,7 +156,8 @@ fn lay_turn(
     into: &mut [u16; 256],
 )
     requires { length colours.now ≡ 512 }
-    ensures { (x : ℕ) → x < 256 → slice_index into.new x ≡ laid_at turn (calm_layers vram.now colours.now which engine.now line (shown_pixel objects.now x) x) (slice_index into.old x) }
+    ensures { (x : ℕ) → x < 256 → slice_index into.new x
+        ≡ laid_at turn (calm_layers vram.now colours.now which engine.now line (shown_pixel objects.now x) x) (slice_index into.old x) }
 {
     lay_priority(vram, colours, which, engine, line, turn, into);
     lay_objects(objects, turn, into);

@@ -32,11 +32,13 @@ def names_of(text):
 
 
 def places_by_name(top):
-    """Each public name of the specs of all crates with the places of its definitions."""
+    """Each public name of the specs of all crates with the places of its definitions; an operator is no name, since what it stands between tells
+    which one is meant."""
     places = {}
     for path in files(top, SOURCES[:1]):
         for name, number in names_of(path.read_text(encoding="utf8")):
-            places.setdefault(name, []).append(f"{path.relative_to(top)}:{number}")
+            if "◌" not in name:
+                places.setdefault(name, []).append(f"{path.relative_to(top)}:{number}")
     return places
 
 
@@ -61,12 +63,12 @@ def is_there(top, page, path):
 
 
 def words_of(top):
-    """Every word of the sources, the tools, the examples and the shell commands at the top."""
+    """Every word of the sources, the tools, the examples and the shell commands at the top, but for those that are excepted."""
     words = set()
     places = ("crates/*/specs/**/*.antt", "crates/*/src/**/*.rt", "crates/*/proofs/**/*.antt", "crates/*/must-fail/*", "crates/*/wrong-bodies/*",
               "tools/**/*", "examples/**/*", "*")
     for path in files(top, places):
-        if path.is_file() and path.suffix != ".md":
+        if path.is_file() and path.suffix != ".md" and path.name != "names_excepted.txt":
             words.update(re.findall(r"\w+", path.read_bytes().decode("utf8", "replace")))
             words.update(re.findall(r"\w+", path.stem))
     return words

@@ -61,12 +61,12 @@ def is_there(top, page, path):
 
 
 def words_of(top):
-    """Every word of the sources, the tools, the examples and the shell commands at the top."""
+    """Every word of the sources, the tools, the examples and the shell commands at the top, but of the exceptions to this rule."""
     words = set()
     places = ("crates/*/specs/**/*.antt", "crates/*/src/**/*.rt", "crates/*/proofs/**/*.antt", "crates/*/must-fail/*", "crates/*/wrong-bodies/*",
               "tools/**/*", "examples/**/*", "*")
     for path in files(top, places):
-        if path.is_file() and path.suffix != ".md":
+        if path.is_file() and path.suffix != ".md" and path.name != "names_excepted.txt":
             words.update(re.findall(r"\w+", path.read_bytes().decode("utf8", "replace")))
             words.update(re.findall(r"\w+", path.stem))
     return words

@@ -32,13 +32,11 @@ def names_of(text):
 
 
 def places_by_name(top):
-    """Each public name of the specs of all crates with the places of its definitions; an operator is no name, since what it stands between tells
-    which one is meant."""
+    """Each public name of the specs of all crates with the places of its definitions."""
     places = {}
     for path in files(top, SOURCES[:1]):
         for name, number in names_of(path.read_text(encoding="utf8")):
-            if "◌" not in name:
-                places.setdefault(name, []).append(f"{path.relative_to(top)}:{number}")
+            places.setdefault(name, []).append(f"{path.relative_to(top)}:{number}")
     return places
 
 
@@ -63,7 +61,7 @@ def is_there(top, page, path):
 
 
 def words_of(top):
-    """Every word of the sources, the tools, the examples and the shell commands at the top, but for those that are excepted."""
+    """Every word of the sources, the tools, the examples and the shell commands at the top, but of the exceptions to this rule."""
     words = set()
     places = ("crates/*/specs/**/*.antt", "crates/*/src/**/*.rt", "crates/*/proofs/**/*.antt", "crates/*/must-fail/*", "crates/*/wrong-bodies/*",
               "tools/**/*", "examples/**/*", "*")

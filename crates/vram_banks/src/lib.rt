@@ -3,9 +3,9 @@
 //! Character Data", "LCD Color Palettes", "LCD I/O BG Control", "LCD I/O BG Rotation/Scaling").
 //!
 //! A reviewer reads `specs/BankMap` (the bank table, controls, and which cell stands where) and `specs/Cells` (what is read and written).
-//! `specs/paging` has what the code keeps beside bytes and controls; no public call speaks of it. For layers `specs/Tiles` says which index a tile has at a place,
-//! `specs/Colours` which pixel an index gives, `specs/Bases` where maps and tiles begin, and `specs/Points` which place of a background is
-//! shown; their code takes a tile's row of eight at once. Tests stand in `rows2d_tests`.
+//! `specs/paging` has what the code keeps beside bytes and controls; no public call speaks of it. For layers `specs/Tiles` says which index a
+//! tile has at a place, `specs/Colours` which pixel an index gives, `specs/Bases` where maps and tiles begin, and `specs/Points` which place of
+//! a background is shown; their code takes a tile's row of eight at once. Tests stand in `rows2d_tests`.
 //!
 //! The definition is the bank table as data, to be laid beside GBATEK's: for each bank rows of MST, space, base, what the two bits of OFS
 //! add, and size. From it come a relation (a cell of a bank stands at an address of a space: `Stands`, and so a byte of the 656K is there:

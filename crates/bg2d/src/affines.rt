@@ -5,7 +5,10 @@ ghost use Rattle.vram_banks.specs.Colours.{HasForm};
 ghost use Rattle.bg2d.specs.AffinePixels.{affine_size, affine_point_pixel, affine_pixel};
 
 use crate::layers::AffineLayer;
-use vram_banks::{Row, Vram, affine_coordinate, background_space, byte, colour_pixel, map_base, place_within, tile_base};
+use vram_banks::{
+    Row, Vram, affine_coordinate, background_space, byte, colour_pixel, map_base, place_within,
+    tile_base,
+};
 
 /// The size in pixels, the same both ways.
 fn affine_size(layer: &AffineLayer) -> u32

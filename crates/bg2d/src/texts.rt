@@ -10,7 +10,10 @@ ghost use Rattle.vram_banks.specs.Tiles.{flipped};
 ghost use Rattle.bg2d.specs.rows.Tiling.{block_line, is_extended, tile_row, AreEntries, IsBlockLine, ArePacked, AreIndices, AreNarrow, ArePainted, IsTable, IsKept};
 
 use crate::layers::TextLayer;
-use vram_banks::{Row, Vram, background_palette_space, background_space, copy_eight, copy_four, fill_table, flipped, map_base, paint_by_table, paint_standard, tile_base, unpack};
+use vram_banks::{
+    Row, Vram, background_palette_space, background_space, copy_eight, copy_four, fill_table,
+    flipped, map_base, paint_by_table, paint_standard, tile_base, unpack,
+};
 
 /// How many tiles a row touches: 256 pixels, and a tile's part at either end.
 const TILES: usize = 33;

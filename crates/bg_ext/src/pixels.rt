@@ -12,7 +12,10 @@ use crate::layers::{
     size_number,
 };
 use ds_base::Space;
-use vram_banks::{Vram, background_palette_space, background_space, byte, colour_pixel, extended_pixel, flipped, half, map_base, opaque_pixel, tile_base};
+use vram_banks::{
+    Vram, background_palette_space, background_space, byte, colour_pixel, extended_pixel, flipped,
+    half, map_base, opaque_pixel, tile_base,
+};
 
 /// The half of a number among bytes.
 #[inline(always)]

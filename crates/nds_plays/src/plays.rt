@@ -7,10 +7,10 @@ ghost use Rattle.ds_io.specs.Puts.{Puts};
 ghost use Rattle.nds_plays.specs.Records.{last_records, latest_of};
 
 use crate::records::{put_last, put_latest, put_now, put_stop};
-use nds_words::Keep;
 use ds_base::{LeftOut, Tick};
 use ds_io::{Failed, Sink};
 use ds_machine::frame_laws;
+use nds_words::Keep;
 use run_ahead::{Console, Turned};
 
 /// How playing a console ended.

@@ -9,8 +9,8 @@ ghost use Rattle.run_ahead.specs.TickTurns.{IsTickBefore};
 ghost use Rattle.nds_plays.specs.TraceParts.{IsLineDue, Took};
 ghost use Rattle.nds_plays.specs.Watches.{Traces, rank_of, seen_line};
 
-use asm_text::Set;
 use crate::plays::Played;
+use asm_text::Set;
 use ds_base::{LeftOut, Proc, Tick};
 use ds_io::{Failed, Sink, put_all};
 use nds_records::{OutLine, entry_line, step_line};

@@ -14,9 +14,9 @@ use crate::listings::{assemble, list};
 use crate::peeks::peek;
 use crate::runs::run;
 use crate::steps::trace;
-use nds_words::{Command, read_words};
 use ds_io::{Shelf, Sink};
 use nds_answers::{Ended, Status, note};
+use nds_words::{Command, read_words};
 use run_ahead::Console;
 use std::alloc::Global;
 

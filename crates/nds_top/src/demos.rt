@@ -5,11 +5,11 @@ ghost use Rattle.nds_plays.specs.Calls.{around};
 ghost use Rattle.nds_top.specs.ViewAnswers.{DemoGives};
 
 use crate::statuses::status_of;
-use nds_plays::{demo_cart, switch_on};
 use ds_base::{Keys, Tick};
 use ds_header::Cart;
 use ds_io::{Shelf, Sink};
 use nds_answers::Status;
+use nds_plays::{demo_cart, switch_on};
 use run_ahead::{Console, turn_laws};
 use std::alloc::Global;
 

@@ -3,9 +3,9 @@
 ghost use Rattle.nds_top.specs.Laws.{AnswersAreOne, IsComplete};
 
 use asm_files::listing_laws;
-use nds_words::{script_laws, word_laws};
 use ds_io::{Shelf, Sink};
 use nds_plays::trace_laws;
+use nds_words::{script_laws, word_laws};
 use run_ahead::{reference_laws, turn_laws};
 
 /// Does nothing; its contract states what follows from when each answer of `ds_main` comes, for calls in which no count of faults rose and whose shelf tells its files. Where the

@@ -7,11 +7,11 @@ ghost use Rattle.nds_plays.specs.Calls.{around};
 ghost use Rattle.nds_top.specs.ViewAnswers.{PeekGives};
 
 use crate::statuses::status_of;
-use nds_words::RunFiles;
 use ds_base::{Memory, Tick};
 use ds_io::{Shelf, Sink};
 use nds_answers::Ended;
 use nds_plays::seat_run;
+use nds_words::RunFiles;
 use run_ahead::{Console, turn_laws};
 use std::alloc::Global;
 

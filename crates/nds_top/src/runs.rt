@@ -6,11 +6,11 @@ ghost use Rattle.nds_plays.specs.Calls.{around};
 ghost use Rattle.nds_top.specs.RunAnswers.{RunGives};
 ghost use Rattle.nds_top.specs.Inside.{RunsSo};
 
-use nds_words::{Keep, RunFiles};
 use ds_base::Tick;
 use ds_io::{Shelf, Sink};
 use nds_answers::{Ended, Status};
 use nds_plays::{Played, play, seat_run};
+use nds_words::{Keep, RunFiles};
 use run_ahead::{Console, turn_laws};
 use std::alloc::Global;
 

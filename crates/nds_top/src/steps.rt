@@ -6,11 +6,11 @@ ghost use Rattle.nds_plays.specs.Calls.{around};
 ghost use Rattle.nds_top.specs.ViewAnswers.{TraceGives};
 
 use crate::statuses::status_of;
-use nds_words::RunFiles;
 use ds_base::{Proc, Tick};
 use ds_io::{Shelf, Sink};
 use nds_answers::Ended;
 use nds_plays::{empty_seat, let_go, seat_run};
+use nds_words::RunFiles;
 use run_ahead::Console;
 use std::alloc::Global;
 

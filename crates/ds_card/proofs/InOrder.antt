@@ -8,11 +8,11 @@ use Rattle.ds_base.specs.declared.processors.Proc.{Proc}
 use Rattle.ds_base.specs.declared.processors.Proc.TheVariants.{Nine, Seven}
 use Rattle.ds_base.specs.declared.ticks.Tick.{Tick}
 use Rattle.ds_base.proofs.Choices.{equal, unequal}
-use Rattle.ds_card.specs.CardPorts.{block_words, data_at}
-use Rattle.ds_card.specs.Cards.{CardState, IsCard, IsUnderWay, begun, card_after_read, card_taken, card_word, card_written, due_after, is_busy, is_last, is_whole_word, ready_word, same_proc, taken_by}
+use Rattle.ds_card.specs.CardPorts.{block_words, data_port_at}
+use Rattle.ds_card.specs.Cards.{CardState, IsCard, IsUnderWay, transfer_begun, card_after_read, card_taken, card_word, card_written, next_word_after, is_busy, is_last_word, is_whole_word, ready_word, same_proc, taken_by}
 use Rattle.ds_card.specs.Transfers.{CardGoesOn, CardHappens, TransfersInOrder, and_taken, transfer_words}
 use Rattle.ds_card.specs.Transfers.CardHappens.{wrote, was_read, came}
-use Rattle.ds_card.specs.Transfers.CardGoesOn.{stays, goes_on}
+use Rattle.ds_card.specs.Transfers.CardGoesOn.{stays_so, goes_further}
 use Rattle.ds_card.specs.declared.cards.NextWord.TheVariants.{Ready}
 use Rattle.ds_card.specs.declared.cards.Transfer.{Transfer}
 
@@ -62,12 +62,12 @@ some_left : (word : ℕ → ℕ) (count : ℕ) (t : Transfer) (w : ℕ) → Stan
 some_left word count t w st h = elim st.left [ inl lt ↦ lt | inr none ↦ none-some w (sym none.2 ∙ h) ]
 
 next_stands : (word : ℕ → ℕ) (count : ℕ) (t : Transfer) (now : Tick) → t.taken < count → (t.taken + 1 == count) ≡ false
-    → Stands word count (record t { taken = t.taken + 1; next = due_after now })
+    → Stands word count (record t { taken = t.taken + 1; next = next_word_after now })
 next_stands word count t now lt h = record { left = inl (let ne = unequal (t.taken + 1) count h in grind (arith, lt, ne)); ready = λ w e. none-some w e }
 
 take_follows : (file : List ℕ) (s : CardState) (t : Transfer) (now : Tick) (last : Bool)
-    → is_last s t.taken ≡ last → t.taken < block_words s.romctrl
-    → Follows file s (if last then record s { transfer = None } else record s { transfer = Some (record t { taken = t.taken + 1; next = due_after now }) }) (suc t.taken)
+    → is_last_word s t.taken ≡ last → t.taken < block_words s.romctrl
+    → Follows file s (if last then record s { transfer = None } else record s { transfer = Some (record t { taken = t.taken + 1; next = next_word_after now }) }) (suc t.taken)
 take_follows file s t now true h lt = record { romctrl = refl; command = refl; stands = (let e = equal (t.taken + 1) (block_words s.romctrl) h in omega (arith, e)) }
 take_follows file s t now false h lt =
     record { romctrl = refl; command = refl; stands = (next_stands (card_word file s.command) (block_words s.romctrl) t now lt h, omega arith) }
@@ -80,8 +80,8 @@ read_follows file s t proc at width now st = by_taken (card_taken (record s { tr
       → Happened file s (if is_some got then taken_by (record s { transfer = Some t }) (Some t) now else record s { transfer = Some t }) t.taken got
   by_taken None e = (t.taken, refl, record { romctrl = refl; command = refl; stands = (st, refl) })
   by_taken (Some w) e =
-      let is : ready_word t.next ≡ Some w = was_ready (is_whole_word width && (aligned_down width at == data_at)) (same_proc proc t.starter) (ready_word t.next) w e in
-      (suc t.taken, (refl, st.ready w is), take_follows file s t now (is_last s t.taken) refl (some_left (card_word file s.command) (block_words s.romctrl) t w st is))
+      let is : ready_word t.next ≡ Some w = was_ready (is_whole_word width && (aligned_down width at == data_port_at)) (same_proc proc t.starter) (ready_word t.next) w e in
+      (suc t.taken, (refl, st.ready w is), take_follows file s t now (is_last_word s t.taken) refl (some_left (card_word file s.command) (block_words s.romctrl) t w st is))
 
 -- ---- its event
 
@@ -168,8 +168,8 @@ takes_on file s next last words taken f takes =
 all_follow : (file : List ℕ) (s last : CardState) (words : List ℕ) (taken : ℕ)
     → StandsIn (card_word file s.command) (block_words s.romctrl) taken s.transfer → CardGoesOn file s words last
     → TakesFrom (card_word file s.command) (block_words s.romctrl) taken last words
-all_follow file s last words taken st (stays only) = none_follows (card_word file s.command) (block_words s.romctrl) taken s s.transfer refl st
-all_follow file s last words taken st (goes_on only next end got rest busy happens more) =
+all_follow file s last words taken st (stays_so only) = none_follows (card_word file s.command) (block_words s.romctrl) taken s s.transfer refl st
+all_follow file s last words taken st (goes_further only next end got rest busy happens more) =
     by_transfer s.transfer refl st (λ after stood. all_follow file next last rest after stood more) where
       by_transfer : (there : Option Transfer) → s.transfer ≡ there → StandsIn (card_word file s.command) (block_words s.romctrl) taken there
           → ((after : ℕ) → StandsIn (card_word file next.command) (block_words next.romctrl) after next.transfer
@@ -184,7 +184,7 @@ all_follow file s last words taken st (goes_on only next end got rest busy happe
 
 -- from its start on
 begun_stands : (s : CardState) (proc : Proc) (now : Tick) (file : List ℕ)
-    → IsCard s → s.transfer ≡ Some (begun proc now) → StandsIn (card_word file s.command) (block_words s.romctrl) 0 s.transfer
+    → IsCard s → s.transfer ≡ Some (transfer_begun proc now) → StandsIn (card_word file s.command) (block_words s.romctrl) 0 s.transfer
 begun_stands s proc now file is h =
     subst (λ (x : Option Transfer). StandsIn (card_word file s.command) (block_words s.romctrl) 0 x) (sym h)
     (record { left = (subst (λ (x : Option Transfer). IsUnderWay s x) h is.transfer).1; ready = λ w e. none-some w e }, refl)

@@ -11,7 +11,7 @@ use Rattle.ds_base.specs.declared.processors.Proc.{Proc}
 use Rattle.ds_base.specs.declared.processors.Proc.TheVariants.{Nine, Seven}
 use Rattle.ds_base.specs.declared.processors.Raised.{Raised}
 use Rattle.ds_base.specs.declared.ticks.Tick.{Tick}
-use Rattle.ds_card.specs.CardPorts.{auxspicnt_at, block_words, command_at, data_at, is_within, kept_auxspicnt, kept_romctrl, overwritten, romctrl_at, shown_romctrl, starts_at}
+use Rattle.ds_card.specs.CardPorts.{auxspicnt_at, block_words, command_at, data_port_at, is_byte_of, kept_auxspicnt, kept_romctrl, overwritten, romctrl_at, shown_romctrl, starts_at}
 use Rattle.ds_card.specs.declared.cards.NextWord.{NextWord}
 use Rattle.ds_card.specs.declared.cards.NextWord.TheVariants.{Due, Ready}
 use Rattle.ds_card.specs.declared.cards.Transfer.{Transfer}
@@ -50,8 +50,8 @@ abbrev pub is_known : ℕ → Bool
 is_known first = (first == 0xB7) || (first == 0xB8)
 
 -- the identity of every card (our choice: a made one of 16 MBytes)
-abbrev pub identity : ℕ
-identity = 0xFC2
+abbrev pub card_identity : ℕ
+card_identity = 0xFC2
 
 -- the address that a command asks for, highest byte first
 abbrev pub asked_at : List ℕ → ℕ
@@ -65,7 +65,7 @@ given_from asked = if nat_lt asked 0x8000 then 0x8000 + asked % 0x200 else asked
 -- the word of a number, from 0 on, that a command asks for; past the file's end bytes are 0, and pages have no end (our choice)
 abbrev pub card_word : List ℕ → List ℕ → ℕ → ℕ
 card_word file command number =
-    if slice_index_or command 0 0 == 0xB8 then identity
+    if slice_index_or command 0 0 == 0xB8 then card_identity
     else value_by Word (λ place. slice_index_or file place 0) (given_from (asked_at command) + 4 * number)
 
 -- ---- what is written
@@ -74,8 +74,8 @@ card_word file command number =
 abbrev pub word_ticks : ℕ
 word_ticks = 40
 
-abbrev pub due_after : Tick → NextWord
-due_after now = Due (record { 0 = now.0 + word_ticks })
+abbrev pub next_word_after : Tick → NextWord
+next_word_after now = Due (record { 0 = now.0 + word_ticks })
 
 -- the ports after a write. ROMCTRL and the command are let be while a transfer is busy (our choice).
 abbrev pub ports_written : CardState → Proc → ℕ → Width → ℕ → CardState
@@ -92,27 +92,27 @@ abbrev pub is_starting : CardState → ℕ → Width → ℕ → Bool
 is_starting s at width value = not (is_busy s) && starts_at width at (overwritten romctrl_at s.romctrl width at value)
 
 -- a start with another command is refused; what is told is ROMCTRL as it was to be written
-abbrev pub refusal_at : CardState → ℕ → Width → ℕ → Option Stop
-refusal_at s at width value =
+abbrev pub start_refusal_at : CardState → ℕ → Width → ℕ → Option Stop
+start_refusal_at s at width value =
     if is_starting s at width value && not (is_known (slice_index_or s.command 0 0))
     then Some (record { kind = kinds.CardTransfer; value = number_at Word (overwritten romctrl_at s.romctrl width at value) 0 })
     else None
 
-abbrev pub card_refusal : CardState → ℕ → Width → ℕ → Option Stop
-card_refusal s at width value = refusal_at s (aligned_down width at) width value
+abbrev pub start_refusal : CardState → ℕ → Width → ℕ → Option Stop
+start_refusal s at width value = start_refusal_at s (aligned_down width at) width value
 
-abbrev pub begun : Proc → Tick → Transfer
-begun proc now = record { starter = proc; taken = 0; next = due_after now }
+abbrev pub transfer_begun : Proc → Tick → Transfer
+transfer_begun proc now = record { starter = proc; taken = 0; next = next_word_after now }
 
 -- the card after a write that isn't refused, at an aligned offset; a refused one leaves all as it was
-abbrev pub written_at : CardState → Proc → ℕ → Width → ℕ → Tick → CardState
-written_at s proc at width value now =
+abbrev pub card_written_at : CardState → Proc → ℕ → Width → ℕ → Tick → CardState
+card_written_at s proc at width value now =
     let ports = ports_written s proc at width value in
-    if is_starting s at width value then record ports { transfer = Some (begun proc now) } else ports
+    if is_starting s at width value then record ports { transfer = Some (transfer_begun proc now) } else ports
 
 abbrev pub card_written : CardState → Proc → ℕ → Width → ℕ → Tick → CardState
 card_written s proc at width value now =
-    if is_some (card_refusal s at width value) then s else written_at s proc (aligned_down width at) width value now
+    if is_some (start_refusal s at width value) then s else card_written_at s proc (aligned_down width at) width value now
 
 -- ---- how a transfer goes on
 
@@ -120,9 +120,9 @@ card_written s proc at width value now =
 abbrev pub end_interrupt : CardState → Proc → ℕ
 end_interrupt s starter = if bit 14 (number_at Half (auxspicnt_of s starter) 0) then interrupt_bit interrupts.CardTransfer else 0
 
-abbrev pub raised_at : Proc → ℕ → Raised
-raised_at Nine bits = record { nine = bits; seven = 0 }
-raised_at Seven bits = record { nine = 0; seven = bits }
+abbrev pub raised_on : Proc → ℕ → Raised
+raised_on Nine bits = record { nine = bits; seven = 0 }
+raised_on Seven bits = record { nine = 0; seven = bits }
 
 abbrev pub none_raised : Raised
 none_raised = record { nine = 0; seven = 0 }
@@ -160,7 +160,7 @@ event_readies s = not (block_words s.romctrl == 0)
 
 abbrev pub ended_on : CardState → Option Transfer → Raised
 ended_on s None = none_raised
-ended_on s (Some t) = raised_at t.starter (end_interrupt s t.starter)
+ended_on s (Some t) = raised_on t.starter (end_interrupt s t.starter)
 
 abbrev pub event_raised : CardState → Raised
 event_raised s = if event_readies s then none_raised else ended_on s s.transfer
@@ -187,7 +187,7 @@ is_whole_word Word = true
 is_whole_word other = false
 
 abbrev pub card_taken : CardState → Proc → ℕ → Width → Option ℕ
-card_taken s proc at width = if is_whole_word width && (aligned_down width at == data_at) then word_for proc s.transfer else None
+card_taken s proc at width = if is_whole_word width && (aligned_down width at == data_port_at) then word_for proc s.transfer else None
 
 abbrev pub is_ready : Option Transfer → Bool
 is_ready None = false
@@ -196,9 +196,9 @@ is_ready (Some t) = is_some (ready_word t.next)
 -- what a byte of its ports shows; the data port alone shows nothing by bytes
 abbrev pub card_byte : CardState → Proc → ℕ → ℕ
 card_byte s proc place =
-    if is_within auxspicnt_at 2 place then slice_index_or (auxspicnt_of s proc) (place - auxspicnt_at) 0
-    else if is_within romctrl_at 4 place then slice_index_or (shown_romctrl s.romctrl (is_ready s.transfer) (is_busy s)) (place - romctrl_at) 0
-    else if is_within command_at 8 place then slice_index_or s.command (place - command_at) 0
+    if is_byte_of auxspicnt_at 2 place then slice_index_or (auxspicnt_of s proc) (place - auxspicnt_at) 0
+    else if is_byte_of romctrl_at 4 place then slice_index_or (shown_romctrl s.romctrl (is_ready s.transfer) (is_busy s)) (place - romctrl_at) 0
+    else if is_byte_of command_at 8 place then slice_index_or s.command (place - command_at) 0
     else 0
 
 abbrev pub value_or : Option ℕ → ℕ → ℕ
@@ -209,21 +209,21 @@ abbrev pub card_value : CardState → Proc → ℕ → Width → ℕ
 card_value s proc at width = value_or (card_taken s proc at width) (value_by width (card_byte s proc) (aligned_down width at))
 
 -- a word is taken: the next one is on its way, or the transfer ends with the last
-abbrev pub is_last : CardState → ℕ → Bool
-is_last s taken = taken + 1 == block_words s.romctrl
+abbrev pub is_last_word : CardState → ℕ → Bool
+is_last_word s taken = taken + 1 == block_words s.romctrl
 
 abbrev pub taken_by : CardState → Option Transfer → Tick → CardState
 taken_by s None now = s
 taken_by s (Some t) now =
-    if is_last s t.taken then record s { transfer = None }
-    else record s { transfer = Some (record t { taken = t.taken + 1; next = due_after now }) }
+    if is_last_word s t.taken then record s { transfer = None }
+    else record s { transfer = Some (record t { taken = t.taken + 1; next = next_word_after now }) }
 
 abbrev pub card_after_read : CardState → Proc → ℕ → Width → Tick → CardState
 card_after_read s proc at width now = if is_some (card_taken s proc at width) then taken_by s s.transfer now else s
 
 abbrev pub last_raised : CardState → Option Transfer → Raised
 last_raised s None = none_raised
-last_raised s (Some t) = if is_last s t.taken then raised_at t.starter (end_interrupt s t.starter) else none_raised
+last_raised s (Some t) = if is_last_word s t.taken then raised_on t.starter (end_interrupt s t.starter) else none_raised
 
 abbrev pub read_raised : CardState → Proc → ℕ → Width → Raised
 read_raised s proc at width = if is_some (card_taken s proc at width) then last_raised s s.transfer else none_raised

@@ -4,7 +4,7 @@ use Rattle.ds_base.specs.declared.memories.Width.{Width}
 use Rattle.ds_base.specs.declared.processors.Proc.{Proc}
 use Rattle.ds_base.specs.declared.ticks.Tick.{Tick}
 use Rattle.ds_card.specs.CardPorts.{block_words}
-use Rattle.ds_card.specs.Cards.{CardState, IsCard, begun, card_after_event, card_after_read, card_due, card_taken, card_word, card_written, is_busy}
+use Rattle.ds_card.specs.Cards.{CardState, IsCard, transfer_begun, card_after_event, card_after_read, card_due, card_taken, card_word, card_written, is_busy}
 
 -- THE WORDS OF A TRANSFER, in order, and that its starter takes these and no others.
 
@@ -15,7 +15,8 @@ transfer_words file s = map (card_word file s.command) (range_with_len 0 (block_
 -- what may happen to a card, whoever does it, and the word that the starter takes with it, if it does
 pub data CardHappens (file : List ℕ) (s : CardState) : Option ℕ → CardState → Type 0 where
   wrote : (proc : Proc) (at : ℕ) (width : Width) (value : ℕ) (now : Tick) → CardHappens file s None (card_written s proc at width value now)
-  was_read : (proc : Proc) (at : ℕ) (width : Width) (now : Tick) → CardHappens file s (card_taken s proc at width) (card_after_read s proc at width now)
+  was_read : (proc : Proc) (at : ℕ) (width : Width) (now : Tick)
+      → CardHappens file s (card_taken s proc at width) (card_after_read s proc at width now)
   came : IsSome (card_due s) → CardHappens file s None (card_after_event file s)
 
 abbrev pub and_taken : Option ℕ → List ℕ → List ℕ
@@ -24,8 +25,8 @@ and_taken (Some word) words = word ∷ words
 
 -- one after another while a transfer is busy, to at most its end, with the words that are taken, in order
 pub data CardGoesOn (file : List ℕ) : CardState → List ℕ → CardState → Type 0 where
-  stays : (s : CardState) → CardGoesOn file s [] s
-  goes_on : (s next last : CardState) (word : Option ℕ) (words : List ℕ)
+  stays_so : (s : CardState) → CardGoesOn file s [] s
+  goes_further : (s next last : CardState) (word : Option ℕ) (words : List ℕ)
       → is_busy s ≡ true → CardHappens file s word next → CardGoesOn file next words last → CardGoesOn file s (and_taken word words) last
 
 -- the words that were taken from a transfer's start on are the first of its words, and all of them where it has ended
@@ -36,4 +37,4 @@ pub record TakesInOrder (file : List ℕ) (s last : CardState) (words : List ℕ
 abbrev pub TransfersInOrder : Type 0
 TransfersInOrder =
     (file : List ℕ) (s last : CardState) (words : List ℕ) (proc : Proc) (now : Tick)
-    → IsCard s → s.transfer ≡ Some (begun proc now) → CardGoesOn file s words last → TakesInOrder file s last words
+    → IsCard s → s.transfer ≡ Some (transfer_begun proc now) → CardGoesOn file s words last → TakesInOrder file s last words

@@ -4,7 +4,7 @@ ghost use Rattle.std.specs.Prelude.{◌≡◌, ◌≤◌, ◌+◌, ◌^◌, IsSo
 ghost use Rattle.ds_base.specs.Schedules.{IsEarly, Reschedules};
 ghost use Rattle.ds_base.specs.Numbers.{value_by, width_bytes};
 ghost use Rattle.ds_card.specs.CardPorts.{auxspicnt_at, kept_auxspicnt, overwritten};
-ghost use Rattle.ds_card.specs.Cards.{IsCard, IsTaking, card_at_boot, card_refusal, card_written, card_value, card_after_read, card_byte, card_word, read_raised, card_due, card_starter, card_after_event, due_after, end_interrupt, event_readies, event_raised, is_known, is_ready, last_raised, none_raised, ports_written, raised_at, taken_by};
+ghost use Rattle.ds_card.specs.Cards.{IsCard, IsTaking, card_at_boot, start_refusal, card_written, card_value, card_after_read, card_byte, card_word, read_raised, card_due, card_starter, card_after_event, next_word_after, end_interrupt, event_readies, event_raised, is_known, is_ready, last_raised, none_raised, ports_written, raised_on, taken_by};
 
 use crate::ports;
 use ds_base::{Interrupt, LeftKind, Proc, Raised, Stop, Tick, Width};
@@ -116,7 +116,7 @@ impl Card {
         now: Tick,
     ) -> Option<Stop>
         requires { IsEarly (Some now) }
-        ensures answer { result ≡ card_refusal self.old at width value }
+        ensures answer { result ≡ start_refusal self.old at width value }
         ensures state { self.new ≡ card_written self.old proc at width value now }
         ensures schedule { Reschedules now (card_due self.old) (card_due self.new) }
     {
@@ -227,7 +227,7 @@ impl Card {
     }
 
     fn end_raised(&self, starter: Proc) -> Raised
-        ensures { result ≡ raised_at starter (end_interrupt self.now starter) }
+        ensures { result ≡ raised_on starter (end_interrupt self.now starter) }
     {
         let port = match starter {
             Proc::Nine => &self.nine,
@@ -331,7 +331,7 @@ fn is_known(first: u8) -> bool
 
 fn due_after(now: Tick) -> NextWord
     requires { IsEarly (Some now) }
-    ensures { result ≡ due_after now }
+    ensures { result ≡ next_word_after now }
 {
     NextWord::Due(Tick(now.0 + 40))
 }
@@ -343,7 +343,7 @@ fn none_raised() -> Raised
 }
 
 fn raised_at(starter: Proc, bits: u32) -> Raised
-    ensures { result ≡ raised_at starter bits }
+    ensures { result ≡ raised_on starter bits }
 {
     match starter {
         Proc::Nine => Raised {

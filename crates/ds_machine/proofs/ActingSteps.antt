@@ -18,7 +18,7 @@ use Rattle.ds_runs.proofs.RunLaws.{same_makes, not_both}
 use Rattle.ds_ports.specs.Acting.{is_quiet}
 use Rattle.ds_machine.specs.Acting.{acting_dues}
 use Rattle.ds_machine.specs.Frames.{FollowFrames, FollowLists, WholeFrame, frames_shown, last_frame, last_lists, lists_shown}
-use Rattle.ds_machine.specs.Lagging.{ActsApart, CatchesUpFor, CatchesUpIf, ComesBeforeAll, StepsBeforeGeometry, TakesGeometry, none, observes_by}
+use Rattle.ds_machine.specs.Lagging.{ActsApart, CatchesUpFor, CatchesUpIf, ComesBeforeAll, StepsBeforeGeometry, TakesGeometry, no_geometry, observes_by}
 use Rattle.ds_machine.specs.Private.{IsAhead, rank_of}
 use Rattle.ds_machine.specs.Reference.{Shown, dues_of, processor_due, reference, reference_step}
 use Rattle.ds_machine.specs.Sound.{IsSound}
@@ -74,7 +74,7 @@ module _ (s : MachineState) (tick : Tick) (rank : ℕ) (sound : IsSound s) where
   stays_so : (caught : MachineState) → caught ≡ s → due_at (acting_dues s) rank ≡ Some tick → MayThen s rank tick → CaughtUp s caught tick rank
   stays_so caught same acts may =
       subst (λ (m : MachineState). CaughtUp s m tick rank) (sym same)
-      (record { so = caught_so tick.0 rank s s sound (none s); acts = acts; may = may; came = inl refl; runs = λ limit lt end outs. (λ run. run, λ run. run) })
+      (record { so = caught_so tick.0 rank s s sound (no_geometry s); acts = acts; may = may; came = inl refl; runs = λ limit lt end outs. (λ run. run, λ run. run) })
 
   -- the least that acts
   least_caught : (caught : MachineState) → IsLeast (acting_dues s) tick rank → (b : Bool) → observes_by (actor_of rank) s ≡ b → CatchesUpIf b tick.0 rank s caught

@@ -22,7 +22,7 @@ use Rattle.gx_geometry.specs.States.{Swapped, geometry_after}
 use Rattle.gx_matrix.specs.declared.commands.GeometryCommand.{GeometryCommand}
 use Rattle.ds_machine.specs.Acting.{acting_dues, is_behind, is_due_before}
 use Rattle.ds_machine.specs.Frames.{last_frame, last_lists}
-use Rattle.ds_machine.specs.Lagging.{CatchesUp, CatchesUpFor, CatchesUpIf, CatchingUpRuns, ComesBeforeAll, TakesGeometry, more, none, observes_by}
+use Rattle.ds_machine.specs.Lagging.{CatchesUp, CatchesUpFor, CatchesUpIf, CatchingUpRuns, ComesBeforeAll, TakesGeometry, more_geometry, no_geometry, observes_by}
 use Rattle.ds_machine.specs.Private.{rank_of}
 use Rattle.ds_machine.specs.Reference.{Shown, dues_of, reference, reference_step}
 use Rattle.ds_machine.specs.Sound.{IsSound}
@@ -152,8 +152,8 @@ taken_so tick rank s next sound behind makes =
     subst (CaughtSo s) (same_makes (late_put (gx_finished s.io.gx) s) next [] [] (sym (quiet_step s sound quiet) ∙ makes)).0 (step_so s sound quiet)
 
 pub caught_so : (tick rank : ℕ) (s now : MachineState) → IsSound s → TakesGeometry tick rank s now → CaughtSo s now
-caught_so tick rank s now sound (none start) = stays_so start sound
-caught_so tick rank s now sound (more start mid next takes behind makes) =
+caught_so tick rank s now sound (no_geometry start) = stays_so start sound
+caught_so tick rank s now sound (more_geometry start mid next takes behind makes) =
     let k = caught_so tick rank start mid sound takes in then_so start mid next k (taken_so tick rank mid next k.sound behind makes)
 
 pub caught_statuses : (tick rank : ℕ) (s now : MachineState) → IsSound s → TakesGeometry tick rank s now → HasBothStatuses s → HasBothStatuses now
@@ -195,8 +195,8 @@ caught_least tick rank s caught sound least up = elim (quiet_or_loud (is_quiet c
 -- ---- how many steps there were
 
 some_more : (tick rank : ℕ) (s now : MachineState) → IsSound s → is_behind tick rank s ≡ true → TakesGeometry tick rank s now → is_behind tick rank now ≡ false → counts_of s < counts_of now
-some_more tick rank s now sound behind (none start) level = absurd (true≢false (sym behind ∙ level))
-some_more tick rank s now sound behind (more start mid next takes late makes) level =
+some_more tick rank s now sound behind (no_geometry start) level = absurd (true≢false (sym behind ∙ level))
+some_more tick rank s now sound behind (more_geometry start mid next takes late makes) level =
     let k = caught_so tick rank start mid sound takes in
     let quiet = (behind_is tick rank mid late).quiet in
     let e = ap counts_of (same_makes (late_put (gx_finished mid.io.gx) mid) next [] [] (sym (quiet_step mid k.sound quiet) ∙ makes)).0 in
@@ -210,8 +210,8 @@ caught_more tick rank s caught sound behind up = some_more tick rank s caught so
 
 takes_runs : (tick rank limit : ℕ) (s now : MachineState) → IsSound s → ComesBeforeAll tick rank s → TakesGeometry tick rank s now → 24 * tick + rank ≤ 24 * limit
     → (end : Ending MachineState LeftOut) (outs : List Shown) → Runs reference limit end s outs ↔ Runs reference limit end now outs
-takes_runs tick rank limit s now sound before (none start) le end outs = (λ run. run, λ run. run)
-takes_runs tick rank limit s now sound before (more start mid next takes behind makes) le end outs =
+takes_runs tick rank limit s now sound before (no_geometry start) le end outs = (λ run. run, λ run. run)
+takes_runs tick rank limit s now sound before (more_geometry start mid next takes behind makes) le end outs =
     let k = behind_steps tick rank mid (still_before tick rank start mid sound before takes) behind in
     let earlier = k.earlier in
     let first = takes_runs tick rank limit start mid sound before takes le end outs in
@@ -281,7 +281,7 @@ observed_before s tick rank may observes = elim may.may [
 
 -- where geometry isn't behind, it caught up
 pub level_caught : (tick rank : ℕ) (s : MachineState) → is_behind tick rank s ≡ false → CatchesUp tick rank s s
-level_caught tick rank s level = record { steps = none s; level = level }
+level_caught tick rank s level = record { steps = no_geometry s; level = level }
 
 pub level_for : (tick rank : ℕ) (s : MachineState) → is_behind tick rank s ≡ false → CatchesUpFor tick rank s s
 level_for tick rank s level = by_step (observes_by (actor_of rank) s) where
@@ -298,4 +298,4 @@ unseen_for tick rank s unseen = by_step (observes_by (actor_of rank) s) unseen w
 -- what comes before a step is caught up, or nothing
 pub caught_for : (observes : Bool) (tick rank : ℕ) (s caught : MachineState) → CatchesUpIf observes tick rank s caught → TakesGeometry tick rank s caught
 caught_for true tick rank s caught up = up.steps
-caught_for false tick rank s caught same = subst (TakesGeometry tick rank s) (sym same) (none s)
+caught_for false tick rank s caught same = subst (TakesGeometry tick rank s) (sym same) (no_geometry s)

@@ -15,10 +15,10 @@ use Rattle.ds_dma.proofs.Turns.{all_later}
 use Rattle.ds_ipc.specs.Ipcs.{other_proc}
 use Rattle.ds_map.specs.Accesses.{map_value}
 use Rattle.ds_map.specs.Maps.{MapState}
-use Rattle.ds_map.specs.Moves.{next_unit, after_unit, unit_read, unit_refusal, unit_taken}
+use Rattle.ds_map.specs.Moves.{next_unit, map_after_unit, unit_read, unit_refusal, unit_taken}
 use Rattle.ds_map.proofs.Later.{map_read_unchanged, map_write_goes}
 use Rattle.ds_ports.specs.Dues.{held_due, io_due}
-use Rattle.ds_ports.specs.Happenings.{IsIo, IsTold, Goes, IsUnchanged, IsQuiet, ReschedulesEach}
+use Rattle.ds_ports.specs.Happenings.{IsIo, IsTold, Goes, IsUnchanged, HasOnlyLaterEvents, ReschedulesEach}
 use Rattle.ds_ports.proofs.HeldDues.{held_later}
 use Rattle.ds_ports.specs.ProcessorIo.{ProcessorIoState}
 use Rattle.ds_ports.specs.Io.{IoState, io_of, is_held}
@@ -66,16 +66,16 @@ left_due of s map proc left =
 
 -- the machine after the unit was moved
 abbrev pub machine_after_unit : Proc → Tick → DmaUnit → MachineState → MachineState
-machine_after_unit proc now unit s = one_event (delayed_past proc now (with_map proc s (after_unit None proc now unit (map_of proc s))))
+machine_after_unit proc now unit s = one_event (delayed_past proc now (with_map proc s (map_after_unit None proc now unit (map_of proc s))))
 
 module _ (rank : ℕ) (proc : Proc) (now : Tick) (unit : DmaUnit) (s : MachineState) where
   made_by : (refusal : Option Stop) (made : MachineState) (outs : List Shown)
-      → moved_by rank proc now refusal (with_map proc s (after_unit refusal proc now unit (map_of proc s))) ≡ Makes made outs → made ≡ machine_after_unit proc now unit s
+      → moved_by rank proc now refusal (with_map proc s (map_after_unit refusal proc now unit (map_of proc s))) ≡ Makes made outs → made ≡ machine_after_unit proc now unit s
   made_by None made outs h = sym (same_makes (machine_after_unit proc now unit s) made [] outs h).0
   made_by (Some stop) made outs h = absurd (not_both made (with_map proc s (unit_read proc unit (map_of proc s))) outs _ (sym h))
 
   left_by : (refusal : Option Stop) (left : MachineState) (stop : LeftOut)
-      → (let step : MachineStep MachineState Shown LeftOut = moved_by rank proc now refusal (with_map proc s (after_unit refusal proc now unit (map_of proc s))) in step ≡ Stops stop left)
+      → (let step : MachineStep MachineState Shown LeftOut = moved_by rank proc now refusal (with_map proc s (map_after_unit refusal proc now unit (map_of proc s))) in step ≡ Stops stop left)
       → with_map proc s (unit_read proc unit (map_of proc s)) ≡ left
   left_by None left stop h = absurd (not_both (machine_after_unit proc now unit s) left [] stop h)
   left_by (Some why) left stop h = (same_stops (with_map proc s (unit_read proc unit (map_of proc s))) left _ stop h).1
@@ -98,7 +98,7 @@ event_counts s = omega arith
 
 pub unit_counts : (proc : Proc) (now : Tick) (unit : DmaUnit) (s : MachineState) → counts_of (machine_after_unit proc now unit s) ≡ counts_of s + 1
 unit_counts proc now unit s =
-    let moved = with_map proc s (after_unit None proc now unit (map_of proc s)) in
+    let moved = with_map proc s (map_after_unit None proc now unit (map_of proc s)) in
     let k = put_counts proc moved (past_tick (is_halted moved proc) now (processor_of moved proc)) in
     let e = event_counts (delayed_past proc now moved) in
     omega (arith, k, e)
@@ -162,7 +162,7 @@ module _ (proc : Proc) (channel : ℕ) (now : Tick) (unit : DmaUnit) (s : Machin
   taken = unit_taken proc now unit (map_of proc s)
 
   abbrev written : MapState
-  written = after_unit None proc now unit (map_of proc s)
+  written = map_after_unit None proc now unit (map_of proc s)
 
   read_io : IsIo read
   read_io = unchanged_io s.io read sound.io left
@@ -170,7 +170,7 @@ module _ (proc : Proc) (channel : ℕ) (now : Tick) (unit : DmaUnit) (s : Machin
   moves : MovedGoes proc now read taken.io
   moves = moved_goes proc now read read_io (same_some proc s.io read (left.processor_io proc) (channel_is_due proc channel now s.io due))
 
-  is_quiet : IsQuiet now (io_of taken.io proc)
+  is_quiet : HasOnlyLaterEvents now (io_of taken.io proc)
   is_quiet = record {
     timers = λ which small. subst (λ (all : List TimerState). IsLater now (timer_due (timer_at all which))) (sym (moves.timers proc ∙ (left.processor_io proc).timers)) (timers which small);
     dma = moves.later;

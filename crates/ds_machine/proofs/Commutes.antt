@@ -15,23 +15,24 @@ use Rattle.arm_core.specs.Meanings.{meaning, skipped}
 use Rattle.arm_core.specs.Registers.{RegisterState, is_thumb}
 use Rattle.arm_core.specs.Steps as steps
 use Rattle.arm_core.specs.Steps.{FetchOutcome, Setting, enters, executed_word, fetched, fetched_half, fetched_word, stop_of}
+use Rattle.ds_machine.specs.Private.{data_accesses}
 use Rattle.ds_machine.specs.PrivateSides.{SideOf, side_taken}
 use Rattle.ds_machine.specs.Sides.{taken}
 
 -- A change of what a processor reaches that none of its accesses tells or undoes, none of its steps does.
 
--- in the states I what is read, fetched and refused is the same in the changed state, and each access leaves there what it leaves of the state, changed; and each leaves
--- such a state
-pub record Commutes {S : Type 0} (m : MemoryMachine S) (I : S → Type 0) (f : S → S) : Type 0 where
-  pub fetched : (s : S) (at : ℕ) (width : Width) → I s → m.fetch_value (f s) at width ≡ m.fetch_value s at width
-  pub read : (s : S) (at : ℕ) (width : Width) → I s → m.read_value (f s) at width ≡ m.read_value s at width
-  pub refuses : (s : S) (at : ℕ) (width : Width) (value : ℕ) → I s → m.refusal (f s) at width value ≡ m.refusal s at width value
-  pub fetches : (s : S) (at : ℕ) (width : Width) → I s → m.fetch_next (f s) at width ≡ f (m.fetch_next s at width)
-  pub reads : (s : S) (at : ℕ) (width : Width) → I s → m.read_next (f s) at width ≡ f (m.read_next s at width)
-  pub writes : (s : S) (at : ℕ) (width : Width) (value : ℕ) → I s → m.write_next (f s) at width value ≡ f (m.write_next s at width value)
-  pub fetch_stays : (s : S) (at : ℕ) (width : Width) → I s → I (m.fetch_next s at width)
-  pub read_stays : (s : S) (at : ℕ) (width : Width) → I s → I (m.read_next s at width)
-  pub write_stays : (s : S) (at : ℕ) (width : Width) (value : ℕ) → I s → I (m.write_next s at width value)
+-- Of accesses that are allowed one after another from a state what is read, fetched and refused is the same in the changed state, and each leaves there what it leaves of the state,
+-- changed; and the rest is allowed from what it leaves
+pub record Commutes {S : Type 0} (m : MemoryMachine S) (All : S → List Access → Type 0) (f : S → S) : Type 0 where
+  pub fetched : (s : S) (at : ℕ) (width : Width) (rest : List Access) → All s (Fetch at width ∷ rest) → m.fetch_value (f s) at width ≡ m.fetch_value s at width
+  pub read : (s : S) (at : ℕ) (width : Width) (rest : List Access) → All s (Read at width ∷ rest) → m.read_value (f s) at width ≡ m.read_value s at width
+  pub refuses : (s : S) (at : ℕ) (width : Width) (value : ℕ) (rest : List Access) → All s (Write at width value ∷ rest) → m.refusal (f s) at width value ≡ m.refusal s at width value
+  pub fetches : (s : S) (at : ℕ) (width : Width) (rest : List Access) → All s (Fetch at width ∷ rest) → m.fetch_next (f s) at width ≡ f (m.fetch_next s at width)
+  pub reads : (s : S) (at : ℕ) (width : Width) (rest : List Access) → All s (Read at width ∷ rest) → m.read_next (f s) at width ≡ f (m.read_next s at width)
+  pub writes : (s : S) (at : ℕ) (width : Width) (value : ℕ) (rest : List Access) → All s (Write at width value ∷ rest) → m.write_next (f s) at width value ≡ f (m.write_next s at width value)
+  pub fetch_stays : (s : S) (at : ℕ) (width : Width) (rest : List Access) → All s (Fetch at width ∷ rest) → All (m.fetch_next s at width) rest
+  pub read_stays : (s : S) (at : ℕ) (width : Width) (rest : List Access) → All s (Read at width ∷ rest) → All (m.read_next s at width) rest
+  pub write_stays : (s : S) (at : ℕ) (width : Width) (value : ℕ) (rest : List Access) → All s (Write at width value ∷ rest) → All (m.write_next s at width value) rest
 
 -- accesses, and a step, with a changed state
 abbrev pub performed_so : {S : Type 0} → (S → S) → Performed S → Performed S
@@ -39,11 +40,6 @@ performed_so f p = record p { state = f p.state }
 
 abbrev pub outcome_so : {S : Type 0} → (S → S) → Outcome S → Outcome S
 outcome_so f o = record o { state = f o.state }
-
--- what a side's words come to commutes with the change
-abbrev pub ExecutesSo : {S : Type 0} → SideOf S → (S → Type 0) → (S → S) → Type 0
-ExecutesSo {S} side I f = (old : RegisterState) (s : S) (number : ℕ) (instr : Option Instr) → I s
-    → side.executed old (f s) number instr ≡ outcome_so f (side.executed old s number instr)
 
 refused_so : {S : Type 0} (f : S → S) (stop : Option Stop) (left : S) (rest : Performed S)
     → refused_or stop (f left) (performed_so f rest) ≡ performed_so f (refused_or stop left rest)
@@ -60,68 +56,73 @@ record SameWord {S : Type 0} (a b : FetchOutcome S) : Type 0 where
   number : a.number ≡ b.number
   instr : a.instr ≡ b.instr
 
-module _ {S : Type 0} (m : MemoryMachine S) (I : S → Type 0) (f : S → S) (c : Commutes m I f) where
-  performed_commutes : (s : S) (accesses : List Access) → I s → perform m (f s) accesses ≡ performed_so f (perform m s accesses)
+module _ {S : Type 0} (m : MemoryMachine S) (All : S → List Access → Type 0) (f : S → S) (c : Commutes m All f) where
+  performed_commutes : (s : S) (accesses : List Access) → All s accesses → perform m (f s) accesses ≡ performed_so f (perform m s accesses)
   performed_commutes s [] i = refl
   performed_commutes s (Fetch at width ∷ rest) i =
       let value = m.fetch_value s at width in
-      ap (λ (v : ℕ). with_value v (perform m (m.fetch_next (f s) at width) rest)) (c.fetched s at width i)
-      ∙ ap (λ (x : S). with_value value (perform m x rest)) (c.fetches s at width i)
-      ∙ ap (with_value value) (performed_commutes (m.fetch_next s at width) rest (c.fetch_stays s at width i))
+      ap (λ (v : ℕ). with_value v (perform m (m.fetch_next (f s) at width) rest)) (c.fetched s at width rest i)
+      ∙ ap (λ (x : S). with_value value (perform m x rest)) (c.fetches s at width rest i)
+      ∙ ap (with_value value) (performed_commutes (m.fetch_next s at width) rest (c.fetch_stays s at width rest i))
   performed_commutes s (Read at width ∷ rest) i =
       let value = m.read_value s at width in
-      ap (λ (v : ℕ). with_value v (perform m (m.read_next (f s) at width) rest)) (c.read s at width i)
-      ∙ ap (λ (x : S). with_value value (perform m x rest)) (c.reads s at width i)
-      ∙ ap (with_value value) (performed_commutes (m.read_next s at width) rest (c.read_stays s at width i))
+      ap (λ (v : ℕ). with_value v (perform m (m.read_next (f s) at width) rest)) (c.read s at width rest i)
+      ∙ ap (λ (x : S). with_value value (perform m x rest)) (c.reads s at width rest i)
+      ∙ ap (with_value value) (performed_commutes (m.read_next s at width) rest (c.read_stays s at width rest i))
   performed_commutes s (Write at width value ∷ rest) i =
       let next = m.write_next s at width value in
       let stop = m.refusal s at width value in
-      ap (λ (x : Option Stop). refused_or x (m.write_next (f s) at width value) (perform m (m.write_next (f s) at width value) rest)) (c.refuses s at width value i)
-      ∙ ap (λ (x : S). refused_or stop x (perform m x rest)) (c.writes s at width value i)
-      ∙ ap (refused_or stop (f next)) (performed_commutes next rest (c.write_stays s at width value i))
+      ap (λ (x : Option Stop). refused_or x (m.write_next (f s) at width value) (perform m (m.write_next (f s) at width value) rest)) (c.refuses s at width value rest i)
+      ∙ ap (λ (x : S). refused_or stop x (perform m x rest)) (c.writes s at width value rest i)
+      ∙ ap (refused_or stop (f next)) (performed_commutes next rest (c.write_stays s at width value rest i))
       ∙ refused_so f stop next (perform m next rest)
 
-  carried_commutes : (arch : Arch) (old : RegisterState) (s : S) (meant : Meaning) → I s
+  carried_commutes : (arch : Arch) (old : RegisterState) (s : S) (meant : Meaning) → All s meant.accesses
       → carried_out m arch old (f s) meant ≡ outcome_so f (carried_out m arch old s meant)
   carried_commutes arch old s meant i =
       let done = perform m s meant.accesses in
       ap (λ (p : Performed S). concluded arch old meant p p.stop) (performed_commutes s meant.accesses i) ∙ concluded_so f arch old meant done done.stop
 
-  unless_commutes : (setting : Setting) (old : RegisterState) (s : S) (instr : Instr) (stop : Option Stop) → I s
+  unless_commutes : (setting : Setting) (old : RegisterState) (s : S) (instr : Instr) (stop : Option Stop) → All s (meaning setting.arch setting.base old instr).accesses
       → steps.executed_unless m setting old (f s) instr stop ≡ outcome_so f (steps.executed_unless m setting old s instr stop)
   unless_commutes setting old s instr None i = carried_commutes setting.arch old s (meaning setting.arch setting.base old instr) i
   unless_commutes setting old s instr (Some stop) i = refl
 
-  pub word_commutes : (setting : Setting) (old : RegisterState) (s : S) (number : ℕ) (instr : Option Instr) → I s
-      → executed_word m setting old (f s) number instr ≡ outcome_so f (executed_word m setting old s number instr)
-  word_commutes setting old s number None i =
-      carried_commutes setting.arch old s (if holds (condition_of number) old.cpsr then undefined_meaning setting.base old else skipped old) i
-  word_commutes setting old s number (Some instr) i = unless_commutes setting old s instr (stop_of setting old instr) i
+  skipped_commutes : (setting : Setting) (old : RegisterState) (s : S) (b : Bool) → All s []
+      → (let meant : Meaning = if b then undefined_meaning setting.base old else skipped old in carried_out m setting.arch old (f s) meant ≡ outcome_so f (carried_out m setting.arch old s meant))
+  skipped_commutes setting old s true none = carried_commutes setting.arch old s (undefined_meaning setting.base old) none
+  skipped_commutes setting old s false none = carried_commutes setting.arch old s (skipped old) none
 
-  fetched_commutes : (arch : Arch) (old : RegisterState) (s : S) → I s → SameWord (fetched m arch old (f s)) (fetched m arch old s)
+  -- what a word or half comes to, by the accesses of data that it makes
+  pub word_commutes : (setting : Setting) (old : RegisterState) (s : S) (number : ℕ) (instr : Option Instr) → All s [] → All s (data_accesses setting.arch setting.base old instr)
+      → executed_word m setting old (f s) number instr ≡ outcome_so f (executed_word m setting old s number instr)
+  word_commutes setting old s number None none i = skipped_commutes setting old s (holds (condition_of number) old.cpsr) none
+  word_commutes setting old s number (Some instr) none i = unless_commutes setting old s instr (stop_of setting old instr) i
+
+  fetched_commutes : (arch : Arch) (old : RegisterState) (s : S) → ((width : Width) → All s (Fetch old.pc width ∷ [])) → SameWord (fetched m arch old (f s)) (fetched m arch old s)
   fetched_commutes arch old s i = by_state (is_thumb old) where
     by_state : (thumb : Bool) → SameWord (if thumb then fetched_half m arch old (f s) else fetched_word m arch old (f s))
         (if thumb then fetched_half m arch old s else fetched_word m arch old s)
-    by_state true = record { number = refl; instr = ap (λ (half : ℕ). decoded_thumb arch (half % 2 ^ 16)) (c.fetched s old.pc Half i) }
+    by_state true = record { number = refl; instr = ap (λ (half : ℕ). decoded_thumb arch (half % 2 ^ 16)) (c.fetched s old.pc Half [] (i Half)) }
     by_state false = record {
-      number = ap (λ (word : ℕ). word / 2 ^ 28) (c.fetched s old.pc Word i);
-      instr = ap (decoded_arm arch) (c.fetched s old.pc Word i);
+      number = ap (λ (word : ℕ). word / 2 ^ 28) (c.fetched s old.pc Word [] (i Word));
+      instr = ap (decoded_arm arch) (c.fetched s old.pc Word [] (i Word));
     }
 
-  pub taken_commutes : (side : SideOf S) → ((s : S) → I s → side.base (f s) ≡ side.base s) → ExecutesSo side I f
-      → (line : Bool) (old : RegisterState) (s : S) → I s → side_taken m side line old (f s) ≡ outcome_so f (side_taken m side line old s)
+  pub taken_commutes : (side : SideOf S) (line : Bool) (old : RegisterState) (s : S) → All s [] → ((width : Width) → All s (Fetch old.pc width ∷ [])) → side.base (f s) ≡ side.base s
+      → (enters line old ≡ false → (let fetch = fetched m side.arch old s in side.executed old (f s) fetch.number fetch.instr ≡ outcome_so f (side.executed old s fetch.number fetch.instr)))
+      → side_taken m side line old (f s) ≡ outcome_so f (side_taken m side line old s)
   unfolding taken
-  taken_commutes side base executes line old s i = by_entry (enters line old) where
-    by_entry : (b : Bool) → (if b then carried_out m side.arch old (f s) (interrupt_meaning (side.base (f s)) old)
+  taken_commutes side line old s none fetch base executes = by_entry (enters line old) refl where
+    by_entry : (b : Bool) → enters line old ≡ b → (if b then carried_out m side.arch old (f s) (interrupt_meaning (side.base (f s)) old)
         else let fetch = fetched m side.arch old (f s) in side.executed old (f s) fetch.number fetch.instr)
         ≡ outcome_so f (if b then carried_out m side.arch old s (interrupt_meaning (side.base s) old)
         else let fetch = fetched m side.arch old s in side.executed old s fetch.number fetch.instr)
-    by_entry true =
-        ap (λ (base : ℕ). carried_out m side.arch old (f s) (interrupt_meaning base old)) (base s i)
-        ∙ carried_commutes side.arch old s (interrupt_meaning (side.base s) old) i
-    by_entry false =
-        let fetch = fetched m side.arch old s in
-        let same = fetched_commutes side.arch old s i in
+    by_entry true e =
+        ap (λ (base : ℕ). carried_out m side.arch old (f s) (interrupt_meaning base old)) base
+        ∙ carried_commutes side.arch old s (interrupt_meaning (side.base s) old) none
+    by_entry false e =
+        let same = fetched_commutes side.arch old s fetch in
         ap (λ (number : ℕ). side.executed old (f s) number (fetched m side.arch old (f s)).instr) same.number
-        ∙ ap (side.executed old (f s) fetch.number) same.instr
-        ∙ executes old s fetch.number fetch.instr i
+        ∙ ap (side.executed old (f s) (fetched m side.arch old s).number) same.instr
+        ∙ executes e

@@ -18,7 +18,7 @@ use Rattle.ds_machine.specs.Lagging as geometry
 use Rattle.ds_machine.specs.Lagging.{CatchesUpFor, CatchesUpIf, TakesGeometry, observes_by}
 use Rattle.ds_machine.specs.NextEvents.{IsNextEvent, TookStep, acting_events_of, comes_before, due_at_least, is_least_by, least_kept, least_of, limit_by, line_kept, past_other, waits_until}
 use Rattle.ds_machine.specs.Private.{IsAhead, IsBelowFence, ProcessorStaysPrivate, rank_of}
-use Rattle.ds_machine.specs.TurnSteps.{BelongsToTurn, ComesFirst, HasLimit, MayStep, TakesSteps, more, none}
+use Rattle.ds_machine.specs.TurnSteps.{BelongsToTurn, ComesFirst, HasLimit, MayStep, TakesSteps, more_steps, no_steps}
 use Rattle.ds_machine.specs.Hearing.{Fences, geometry_rank}
 use Rattle.ds_machine.specs.Reference.{awake, due_unless, processor_due, step_by}
 use Rattle.ds_machine.specs.StepAnswers.{stepped_of}
@@ -475,7 +475,7 @@ pub goes_on : (until : ℕ) (proc : Proc) (next_event : NextEvent) (limit : ℕ)
 goes_on until proc next_event limit start before now g took is =
     let across = least_kept next_event (other_proc proc) in
     record {
-      steps = more start before before now g.steps took.belongs (needs_none before proc took.apart) took.made;
+      steps = more_steps start before before now g.steps took.belongs (needs_none before proc took.apart) took.made;
       kept = is;
       running = took.running;
       io = took.io ∙ g.io;
@@ -485,8 +485,8 @@ goes_on until proc next_event limit start before now g took is =
 -- ---- what some of them leave
 
 statuses_caught : (tick rank : ℕ) (s now : MachineState) → TakesGeometry tick rank s now → HasBothStatuses s → HasBothStatuses now
-statuses_caught tick rank s now (geometry.none start) h = h
-statuses_caught tick rank s now (geometry.more start before next earlier behind made) h =
+statuses_caught tick rank s now (geometry.no_geometry start) h = h
+statuses_caught tick rank s now (geometry.more_geometry start before next earlier behind made) h =
     statuses_done before next geometry_rank answers.Made (statuses_caught tick rank start before earlier h) made
 
 statuses_if : (observes : Bool) (tick rank : ℕ) (s caught : MachineState) → CatchesUpIf observes tick rank s caught → HasBothStatuses s → HasBothStatuses caught
@@ -494,8 +494,8 @@ statuses_if true tick rank s caught catches h = statuses_caught tick rank s caug
 statuses_if false tick rank s caught catches h = subst HasBothStatuses (sym catches) h
 
 pub statuses_taken : (until : ℕ) (proc : Proc) (s next : MachineState) → TakesSteps until proc s next → HasBothStatuses s → HasBothStatuses next
-statuses_taken until proc s next (none start) h = h
-statuses_taken until proc s next (more start before caught last earlier b catches made) h =
+statuses_taken until proc s next (no_steps start) h = h
+statuses_taken until proc s next (more_steps start before caught last earlier b catches made) h =
     statuses_done caught last (rank_of proc) answers.Made
     (statuses_if (observes_by (actor_of (rank_of proc)) before) (processor_of before proc).due (rank_of proc) before caught catches (statuses_taken until proc start before earlier h)) made
 

@@ -10,7 +10,7 @@ use Rattle.arm_core.specs.Steps.{enters}
 use Rattle.arm_core.specs.declared.outcomes.Stepped as arm
 use Rattle.arm_core.specs.declared.outcomes.Stepped.TheVariants.{Cost, Halted, Left}
 use Rattle.ds_map.specs.Views.{NineReach, SevenReach, nine_memory, seven_memory}
-use Rattle.ds_map.specs.Shares.{IsSharedSo, is_apart, is_shown_to_nine, shared_put}
+use Rattle.ds_map.specs.Shares.{IsSharedSo, is_beyond_seven, is_shown_to_nine, shared_put}
 use Rattle.ds_ports.specs.Happenings.{IsIo}
 use Rattle.ds_ports.specs.Io.{IoState, is_settled, with_shares}
 use Rattle.ds_ports.specs.ProcessorIo.{ProcessorIoState}
@@ -101,7 +101,7 @@ fits s = record {
   wramcnt = refl;
   controls = refl;
   shared = mixed_length (is_shown_to_nine s.io.wramcnt) s.shared [];
-  bytes = mixed_length (is_apart s.io.vram.controls) s.io.vram.bytes [];
+  bytes = mixed_length (is_beyond_seven s.io.vram.controls) s.io.vram.bytes [];
 }
 
 own_again : (own : ℕ → Bool) (xs ys : List ℕ) → mixed own (mixed own xs ys) xs ≡ xs
@@ -117,7 +117,7 @@ put_again tick s =
       };
     } in
     let bytes = s.io.vram.bytes in
-    let apart = is_apart s.io.vram.controls in
+    let apart = is_beyond_seven s.io.vram.controls in
     ap (λ (xs : List ℕ). with_bytes xs (mixed apart (mixed apart bytes []) bytes)) (own_again (is_shown_to_nine s.io.wramcnt) s.shared [])
     ∙ ap (with_bytes s.shared) (own_again apart bytes [])
 
@@ -157,7 +157,7 @@ put_after : (s : MachineState) (rest : NineReach) (own : NineReachOwn) (register
     ≡ with_nine_own (nine_by (nine_own_of s) (costing registers (put_nine own rest) clocks)) s
 put_after s rest own registers clocks =
     let share = own.bytes.share in
-    let apart = is_apart share.vram.controls in
+    let apart = is_beyond_seven share.vram.controls in
     let shown = is_shown_to_nine share.wramcnt in
     let after = nine_by (nine_own_of s) (costing registers (put_nine own rest) clocks) in
     let with_bytes : List ℕ → List ℕ → MachineState = λ shared bytes. with_nine_part after.part (record s {
@@ -213,7 +213,7 @@ nine_fits rest s h =
       wramcnt = so.wramcnt;
       controls = so.controls;
       shared = mixed_length (is_shown_to_nine share.wramcnt) share.shared rest.map.memories.shared ∙ so.shared;
-      bytes = mixed_length (is_apart share.vram.controls) share.vram.bytes rest.map.io.vram.bytes ∙ so.bytes;
+      bytes = mixed_length (is_beyond_seven share.vram.controls) share.vram.bytes rest.map.io.vram.bytes ∙ so.bytes;
     })
 
 -- ---- when actors are due after it: no other's due tick moves, and the processor's becomes later

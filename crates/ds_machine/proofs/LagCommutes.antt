@@ -1,28 +1,19 @@
 use Rattle.std.specs.Prelude.{◌||◌, not}
-use Rattle.std.proofs.Common.{ℕ, ◌≡◌, ◌≢◌, ◌+◌, ◌/◌, ◌%◌, ◌^◌, ◌==◌, ◌&&◌, Bool, true, false, true≢false, if◌then◌else◌, List, [], ◌∷◌, length, Option, Some, None, Result, Ok, Err, refl, sym, ◌∙◌, ap, subst}
+use Rattle.std.proofs.Common.{ℕ, ◌≡◌, ◌≢◌, ◌+◌, ◌==◌, ◌&&◌, Bool, true, false, true≢false, if◌then◌else◌, List, [], ◌∷◌, length, Option, Some, None, refl, sym, ◌∙◌, ap, subst}
 use Rattle.std.proofs.lemmas.Bool.{or_from, or_parts}
-use Rattle.ds_base.specs.Accesses.{Access, Fetch, Performed, Read, Write, perform, refused_or, with_value}
+use Rattle.ds_base.specs.Accesses.{Access, Fetch, Read, Write}
 use Rattle.ds_base.specs.declared.keys.KeyLine.{KeyLine}
 use Rattle.ds_base.specs.declared.left_out.LeftOut.{LeftOut}
 use Rattle.ds_base.specs.declared.left_out.Stop.{Stop}
 use Rattle.ds_base.specs.declared.memories.Width.{Width}
-use Rattle.ds_base.specs.declared.memories.Width.TheVariants.{Half, Word}
-use Rattle.ds_base.specs.declared.processors.Arch.{Arch}
 use Rattle.ds_base.specs.declared.processors.Arch.TheVariants.{V5}
 use Rattle.ds_base.specs.declared.processors.Proc.{Proc}
 use Rattle.ds_base.specs.declared.processors.Proc.TheVariants.{Nine, Seven}
 use Rattle.ds_base.specs.declared.ticks.Tick.{Tick}
-use Rattle.arm_words.specs.ArmTable.{decoded_arm}
-use Rattle.arm_words.specs.Parts.{condition_of}
-use Rattle.arm_words.specs.ThumbTable.{decoded_thumb}
 use Rattle.arm_words.specs.declared.instructions.Instr.{Instr}
-use Rattle.arm_core.specs.Conditions.{holds}
-use Rattle.arm_core.specs.Effects.{Meaning, Outcome, carried_out, concluded}
-use Rattle.arm_core.specs.Exceptions.{interrupt_meaning, undefined_meaning}
-use Rattle.arm_core.specs.Meanings.{meaning, skipped}
-use Rattle.arm_core.specs.Registers.{RegisterState, is_thumb}
-use Rattle.arm_core.specs.Steps as steps
-use Rattle.arm_core.specs.Steps.{Setting, enters, executed_word, fetched, fetched_half, fetched_word, stop_of}
+use Rattle.arm_core.specs.Effects.{Outcome}
+use Rattle.arm_core.specs.Registers.{RegisterState}
+use Rattle.arm_core.specs.Steps.{FetchOutcome, enters, fetched}
 use Rattle.arm_core.specs.declared.outcomes.Stepped as arm
 use Rattle.arm_core.specs.declared.outcomes.Stepped.TheVariants.{Cost, Halted, Left}
 use Rattle.arm7_exec.specs.Arm7.{arm7}
@@ -48,40 +39,43 @@ use Rattle.ds_places.specs.AddressTables.{place_of}
 use Rattle.ds_places.specs.declared.kinds.Place.{Place}
 use Rattle.ds_places.specs.declared.kinds.Place.TheVariants.{Banks, Cell, Nothing, Port, Rom}
 use Rattle.ds_ports.specs.Dues.{io_due}
-use Rattle.ds_ports.specs.Io.{IoState, both_raised, channels_triggered, io_event, level_told, release_kept, settled, shown_to_others, video_done, with_gx}
+use Rattle.ds_ports.specs.Io.{IoState, both_raised, channels_triggered, io_event, keys_pressed, level_told, release_kept, settled, shown_to_others, video_done, with_gx}
 use Rattle.ds_ports.specs.ProcessorIo.{processor_io_triggered}
 use Rattle.ds_ports.proofs.Arms.{ArmsNoMore, KeepsControls, armed, arms_by, arms_kept, arms_same, arms_then, keeps_same, told_dma, triggered_keeps}
 use Rattle.ds_ports.proofs.GxApart.{channel_due_apart, event_apart, video_apart}
-use Rattle.ds_runs.specs.Runs.{MachineStep, Makes, Stops}
+use Rattle.ds_runs.specs.Runs.{MachineStep, Makes}
 use Rattle.ds_runs.specs.declared.actors.Actor as actor
 use Rattle.ds_runs.specs.declared.actors.Actor.TheVariants.{KeyScript, Video, Timer, Divider, SquareRoot, Geometry, Card, Dma, Processor}
 use Rattle.ds_runs.proofs.RunLaws.{same_makes}
 use Rattle.ds_timers.specs.Irqs.{irq_levelled}
 use Rattle.gx_fifo.specs.GxStates.{GxState, gx_level, is_half_empty, is_stalled, shown_count}
 use Rattle.video2d.specs.Scans.{scan_due, scan_due_tick, starts_vblank}
-use Rattle.video2d.specs.Videos.{answer_unless, unless_stop, video_after_event, video_answer, video_shown, video_stop}
-use Rattle.video2d.specs.declared.videos.Shown as display
+use Rattle.video2d.specs.Videos.{answer_unless, unless_stop, video_after_event, video_shown, video_stop}
 use Rattle.ds_machine.specs.Apart.{step_with}
-use Rattle.ds_machine.specs.Channels.{channel_step, moved_by, one_event}
+use Rattle.ds_machine.specs.Channels.{channel_step, delayed_past, moved_by, one_event}
 use Rattle.ds_machine.specs.Lagging.{access_observes, any_observes, channel_observes, is_observed_past, is_observed_place, nine_observes, observes_by}
 use Rattle.ds_ports.specs.Acting.{any_armed, is_armed}
 use Rattle.ds_machine.specs.Private.{data_accesses}
 use Rattle.ds_machine.specs.Reference.{Shown, after_event, after_line, after_video, shown_at, step_by, swapped_if, video_step}
 use Rattle.ds_machine.specs.PrivateSides.{nine_side, seven_side, side_taken}
-use Rattle.ds_machine.specs.Sides.{nine_executed, taken}
+use Rattle.ds_machine.specs.Sides.{nine_executed}
 use Rattle.ds_machine.specs.States.{MachineState}
 use Rattle.ds_machine.specs.Statuses.{left_by}
-use Rattle.ds_machine.specs.Steps.{ended, goes_on, line_of, machine_concluded, machine_settled, map_of, nine_reach, outcome_of, seven_reach, tick_of, wakes, with_io, with_map, with_nine, with_seven, woken, woken_one}
-use Rattle.ds_machine.proofs.Commutes.{Commutes, outcome_so, performed_so, taken_commutes, word_commutes}
-use Rattle.ds_machine.proofs.Keeps.{Follows, taken_follows, word_follows}
+use Rattle.ds_machine.specs.Steps.{ended, goes_on, line_of, machine_concluded, machine_settled, map_of, nine_reach, seven_reach, tick_of, wakes, with_io, with_map, with_nine, with_seven, woken, woken_one}
+use Rattle.ds_machine.proofs.Commutes.{Commutes, outcome_so, taken_commutes, word_commutes}
+use Rattle.ds_machine.proofs.Keeps.{FollowsEach, taken_leads, word_leads}
 
 -- A step that doesn't observe geometry comes to the same with another geometry engine, and leaves that as it was.
 
+-- and with another count of events, on which each step counts on
+abbrev pub put_with : (ℕ → ℕ) → GxState → MachineState → MachineState
+put_with count g s = record s { io = with_gx g s.io; events = count s.events }
+
 abbrev pub gx_put : GxState → MachineState → MachineState
-gx_put g s = record s { io = with_gx g s.io }
+gx_put g s = put_with (λ n. n) g s
 
 abbrev pub late_put : GxState → MachineState → MachineState
-late_put g s = record s { io = with_gx g s.io; events = s.events + 1 }
+late_put g s = put_with (λ n. n + 1) g s
 
 -- ---- places
 
@@ -108,9 +102,6 @@ nine_put g r = record r { map = gx_in_map g r.map }
 record NineGoes (r left : NineReach) : Type 0 where
   cp15 : left.cp15 ≡ r.cp15
   arms : ArmsNoMore r.map.io.nine.dma left.map.io.nine.dma
-
-goes_on_so : (r mid left : NineReach) → NineGoes r mid → NineGoes mid left → NineGoes r left
-goes_on_so r mid left a b = record { cp15 = b.cp15 ∙ a.cp15; arms = arms_then r.map.io.nine.dma mid.map.io.nine.dma left.map.io.nine.dma a.arms b.arms }
 
 goes_same : (r : NineReach) → NineGoes r r
 goes_same r = record { cp15 = refl; arms = arms_same r.map.io.nine.dma }
@@ -178,171 +169,114 @@ written_goes Past r at width value h = record {
   arms = arms_kept r.map.io.nine.dma _ (gx_map.map_written_keeps Nine r.now r.map at width value (place_apart (place_of Nine r.map.io.wramcnt at) h));
 }
 
--- ---- what an instruction's accesses come to
+-- ---- ARM9's step, where its instruction's accesses don't observe geometry
 
-refused_so : (g : GxState) (stop : Option Stop) (left : NineReach) (rest : Performed NineReach)
-    → refused_or stop (nine_put g left) (performed_so (nine_put g) rest) ≡ performed_so (nine_put g) (refused_or stop left rest)
-refused_so g None left rest = refl
-refused_so g (Some stop) left rest = refl
+abbrev NoneObserve : NineReach → List Access → Type 0
+NoneObserve r accesses = any_observes r accesses ≡ false
 
-performed_put : (g : GxState) (r : NineReach) (accesses : List Access) → any_observes r accesses ≡ false
-    → perform nine_memory (nine_put g r) accesses ≡ performed_so (nine_put g) (perform nine_memory r accesses)
-performed_put g r [] h = refl
-performed_put g r (Fetch at width ∷ rest) h =
-    let value = nine_memory.fetch_value r at width in
-    ap (λ (v : ℕ). with_value v (perform nine_memory (nine_put g r) rest)) (fetched_so g (tcm_of r.cp15 at false true) r at width)
-    ∙ ap (with_value value) (performed_put g r rest h)
-performed_put g r (Read at width ∷ rest) h =
-    let tcm = tcm_of r.cp15 at false false in
-    let k = or_parts (access_observes r (Read at width)) (any_observes r rest) h in
-    let value = tcm_value tcm r at width in
-    let next = tcm_read tcm r at width in
-    ap (λ (v : ℕ). with_value v (perform nine_memory (tcm_read tcm (nine_put g r) at width) rest)) (value_so g tcm r at width k.0)
-    ∙ ap (λ (x : NineReach). with_value value (perform nine_memory x rest)) (read_so g tcm r at width k.0)
-    ∙ ap (with_value value) (performed_put g next rest (any_again r next rest (read_goes tcm r at width).cp15 k.1))
-performed_put g r (Write at width value ∷ rest) h =
-    let tcm = tcm_of r.cp15 at true false in
-    let k = or_parts (access_observes r (Write at width value)) (any_observes r rest) h in
-    let stop = tcm_refusal tcm r at width value in
-    let next = tcm_written tcm r at width value in
-    let put = tcm_written tcm (nine_put g r) at width value in
-    ap (λ (x : Option Stop). refused_or x put (perform nine_memory put rest)) (refusal_so g tcm r at width value k.0)
-    ∙ ap (λ (x : NineReach). refused_or stop x (perform nine_memory x rest)) (written_so g tcm r at width value k.0)
-    ∙ ap (refused_or stop (nine_put g next)) (performed_put g next rest (any_again r next rest (written_goes tcm r at width value k.0).cp15 k.1))
-    ∙ refused_so g stop next (perform nine_memory next rest)
+-- the first doesn't, and after what it leaves the rest doesn't
+first_apart : (r : NineReach) (access : Access) (rest : List Access) → NoneObserve r (access ∷ rest) → access_observes r access ≡ false
+first_apart r access rest h = (or_parts (access_observes r access) (any_observes r rest) h).0
 
-refused_goes : (r : NineReach) (stop : Option Stop) (left : NineReach) (rest : Performed NineReach) → NineGoes r left → NineGoes left rest.state → NineGoes r (refused_or stop left rest).state
-refused_goes r None left rest a b = goes_on_so r left rest.state a b
-refused_goes r (Some stop) left rest a b = a
+rest_apart : (r left : NineReach) (access : Access) (rest : List Access) → NineGoes r left → NoneObserve r (access ∷ rest) → NoneObserve left rest
+rest_apart r left access rest goes h = any_again r left rest goes.cp15 (or_parts (access_observes r access) (any_observes r rest) h).1
 
-performed_goes : (r : NineReach) (accesses : List Access) → any_observes r accesses ≡ false → NineGoes r (perform nine_memory r accesses).state
-performed_goes r [] h = goes_same r
-performed_goes r (Fetch at width ∷ rest) h = performed_goes r rest h
-performed_goes r (Read at width ∷ rest) h =
-    let tcm = tcm_of r.cp15 at false false in
-    let k = or_parts (access_observes r (Read at width)) (any_observes r rest) h in
-    let next = tcm_read tcm r at width in
-    let one = read_goes tcm r at width in
-    goes_on_so r next (perform nine_memory next rest).state one (performed_goes next rest (any_again r next rest one.cp15 k.1))
-performed_goes r (Write at width value ∷ rest) h =
-    let tcm = tcm_of r.cp15 at true false in
-    let k = or_parts (access_observes r (Write at width value)) (any_observes r rest) h in
-    let next = tcm_written tcm r at width value in
-    let one = written_goes tcm r at width value k.0 in
-    refused_goes r (tcm_refusal tcm r at width value) next (perform nine_memory next rest) one (performed_goes next rest (any_again r next rest one.cp15 k.1))
+read_on : (r : NineReach) (at : ℕ) (width : Width) → NineGoes r (nine_memory.read_next r at width)
+read_on r at width = read_goes (tcm_of r.cp15 at false false) r at width
 
-concluded_put : (g : GxState) (arch : Arch) (old : RegisterState) (meant : Meaning) (done : Performed NineReach) (stop : Option Stop)
-    → concluded arch old meant (performed_so (nine_put g) done) stop ≡ outcome_so (nine_put g) (concluded arch old meant done stop)
-concluded_put g arch old meant done None = refl
-concluded_put g arch old meant done (Some stop) = refl
+written_on : (r : NineReach) (at : ℕ) (width : Width) (value : ℕ) (rest : List Access) → NoneObserve r (Write at width value ∷ rest) → NineGoes r (nine_memory.write_next r at width value)
+written_on r at width value rest h = written_goes (tcm_of r.cp15 at true false) r at width value (first_apart r (Write at width value) rest h)
 
-concluded_goes : (r : NineReach) (arch : Arch) (old : RegisterState) (meant : Meaning) (done : Performed NineReach) (stop : Option Stop) → NineGoes r done.state
-    → NineGoes r (concluded arch old meant done stop).state
-concluded_goes r arch old meant done None k = k
-concluded_goes r arch old meant done (Some stop) k = k
+nine_commutes : (g : GxState) → Commutes nine_memory NoneObserve (nine_put g)
+nine_commutes g = record {
+  fetched = λ r at width rest h. fetched_so g (tcm_of r.cp15 at false true) r at width;
+  read = λ r at width rest h. value_so g (tcm_of r.cp15 at false false) r at width (first_apart r (Read at width) rest h);
+  refuses = λ r at width value rest h. refusal_so g (tcm_of r.cp15 at true false) r at width value (first_apart r (Write at width value) rest h);
+  fetches = λ r at width rest h. refl;
+  reads = λ r at width rest h. read_so g (tcm_of r.cp15 at false false) r at width (first_apart r (Read at width) rest h);
+  writes = λ r at width value rest h. written_so g (tcm_of r.cp15 at true false) r at width value (first_apart r (Write at width value) rest h);
+  fetch_stays = λ r at width rest h. h;
+  read_stays = λ r at width rest h. rest_apart r (nine_memory.read_next r at width) (Read at width) rest (read_on r at width) h;
+  write_stays = λ r at width value rest h. rest_apart r (nine_memory.write_next r at width value) (Write at width value) rest (written_on r at width value rest h) h;
+}
 
--- what an outcome is with another geometry engine, and what it leaves
-record Puts (g : GxState) (r : NineReach) (put came : Outcome NineReach) : Type 0 where
-  same : put ≡ outcome_so (nine_put g) came
-  arms : ArmsNoMore r.map.io.nine.dma came.state.map.io.nine.dma
+abbrev NineArms : NineReach → NineReach → Type 0
+NineArms r left = ArmsNoMore r.map.io.nine.dma left.map.io.nine.dma
 
-module _ (g : GxState) (old : RegisterState) (r : NineReach) where
-  carried_puts : (arch : Arch) (meant : Meaning) → any_observes r meant.accesses ≡ false
-      → Puts g r (carried_out nine_memory arch old (nine_put g r) meant) (carried_out nine_memory arch old r meant)
-  carried_puts arch meant h =
-      let done = perform nine_memory r meant.accesses in
-      record {
-        same = ap (λ (p : Performed NineReach). concluded arch old meant p p.stop) (performed_put g r meant.accesses h) ∙ concluded_put g arch old meant done done.stop;
-        arms = (concluded_goes r arch old meant done done.stop (performed_goes r meant.accesses h)).arms;
-      }
+nine_follows : FollowsEach nine_memory NoneObserve NineArms
+nine_follows = record {
+  stays = λ r h. arms_same r.map.io.nine.dma;
+  joins = λ r t u a b. arms_then r.map.io.nine.dma t.map.io.nine.dma u.map.io.nine.dma a b;
+  fetches = λ r at width rest h. (arms_same r.map.io.nine.dma, h);
+  reads = λ r at width rest h.
+      let one = read_on r at width in (one.arms, rest_apart r (nine_memory.read_next r at width) (Read at width) rest one h);
+  writes = λ r at width value rest h.
+      let one = written_on r at width value rest h in (one.arms, rest_apart r (nine_memory.write_next r at width value) (Write at width value) rest one h);
+}
 
-  undefined_puts : (setting : Setting) (b : Bool)
-      → Puts g r (carried_out nine_memory setting.arch old (nine_put g r) (if b then undefined_meaning setting.base old else skipped old))
-      (carried_out nine_memory setting.arch old r (if b then undefined_meaning setting.base old else skipped old))
-  undefined_puts setting true = carried_puts setting.arch (undefined_meaning setting.base old) refl
-  undefined_puts setting false = carried_puts setting.arch (skipped old) refl
+past_entry : (enter observes : Bool) → (not enter && observes) ≡ false → enter ≡ false → observes ≡ false
+past_entry true observes h e = absurd (true≢false e)
+past_entry false observes h e = h
 
-  unless_puts : (setting : Setting) (instr : Instr) (stop : Option Stop) → any_observes r (meaning setting.arch setting.base old instr).accesses ≡ false
-      → Puts g r (steps.executed_unless nine_memory setting old (nine_put g r) instr stop) (steps.executed_unless nine_memory setting old r instr stop)
-  unless_puts setting instr None h = carried_puts setting.arch (meaning setting.arch setting.base old instr) h
-  unless_puts setting instr (Some stop) h = record { same = refl; arms = arms_same r.map.io.nine.dma }
+-- what it comes to with another geometry engine, and what it leaves of ARM9's channels
+module _ (old : RegisterState) (r : NineReach) where
+  abbrev next_word : FetchOutcome NineReach
+  next_word = fetched nine_memory V5 old r
 
-  word_puts : (setting : Setting) (number : ℕ) (instr : Option Instr) → any_observes r (data_accesses setting.arch setting.base old instr) ≡ false
-      → Puts g r (executed_word nine_memory setting old (nine_put g r) number instr) (executed_word nine_memory setting old r number instr)
-  word_puts setting number None h = undefined_puts setting (holds (condition_of number) old.cpsr)
-  word_puts setting number (Some instr) h = unless_puts setting instr (stop_of setting old instr) h
+  abbrev IsApart : Bool → Type 0
+  IsApart line = (not (enters line old) && any_observes r (data_accesses V5 (vectors_of r.cp15) old next_word.instr)) ≡ false
 
-  executed_puts : (number : ℕ) (instr : Option Instr) (move : Option Moved) → any_observes r (data_accesses V5 (vectors_of r.cp15) old instr) ≡ false
-      → Puts g r (nine_executed old (nine_put g r) number instr move) (nine_executed old r number instr move)
-  executed_puts number instr None h = word_puts (arm9 r.cp15) number instr h
-  executed_puts number instr (Some move) h = record { same = refl; arms = arms_same r.map.io.nine.dma }
+  executed_same : (g : GxState) (number : ℕ) (instr : Option Instr) (move : Option Moved) → NoneObserve r (data_accesses V5 (vectors_of r.cp15) old instr)
+      → nine_executed old (nine_put g r) number instr move ≡ outcome_so (nine_put g) (nine_executed old r number instr move)
+  executed_same g number instr None h = word_commutes nine_memory NoneObserve (nine_put g) (nine_commutes g) (arm9 r.cp15) old r number instr refl h
+  executed_same g number instr (Some move) h = refl
 
-  -- what is fetched is the same
-  fetched_number : (thumb : Bool) → (if thumb then fetched_half nine_memory V5 old (nine_put g r) else fetched_word nine_memory V5 old (nine_put g r)).number
-      ≡ (if thumb then fetched_half nine_memory V5 old r else fetched_word nine_memory V5 old r).number
-  fetched_number true = refl
-  fetched_number false = ap (λ (word : ℕ). word / 2 ^ 28) (fetched_so g (tcm_of r.cp15 old.pc false true) r old.pc Word)
+  executed_arms : (number : ℕ) (instr : Option Instr) (move : Option Moved) → NoneObserve r (data_accesses V5 (vectors_of r.cp15) old instr)
+      → NineArms r (nine_executed old r number instr move).state
+  executed_arms number instr None h = word_leads nine_memory NoneObserve NineArms nine_follows (arm9 r.cp15) old r number instr refl h
+  executed_arms number instr (Some move) h = arms_same r.map.io.nine.dma
 
-  fetched_instr : (thumb : Bool) → (if thumb then fetched_half nine_memory V5 old (nine_put g r) else fetched_word nine_memory V5 old (nine_put g r)).instr
-      ≡ (if thumb then fetched_half nine_memory V5 old r else fetched_word nine_memory V5 old r).instr
-  fetched_instr true = ap (λ (half : ℕ). decoded_thumb V5 (half % 2 ^ 16)) (fetched_so g (tcm_of r.cp15 old.pc false true) r old.pc Half)
-  fetched_instr false = ap (decoded_arm V5) (fetched_so g (tcm_of r.cp15 old.pc false true) r old.pc Word)
+  taken_same : (g : GxState) (line : Bool) → IsApart line → side_taken nine_memory nine_side line old (nine_put g r) ≡ outcome_so (nine_put g) (side_taken nine_memory nine_side line old r)
+  taken_same g line h =
+      taken_commutes nine_memory NoneObserve (nine_put g) (nine_commutes g) nine_side line old r refl (λ width. refl) refl (λ e.
+      executed_same g next_word.number next_word.instr (move_of next_word.instr) (past_entry (enters line old) (any_observes r (data_accesses V5 (vectors_of r.cp15) old next_word.instr)) h e))
 
-  -- ARM9's step, where its instruction's accesses don't observe geometry
-  entry_puts : (enter : Bool) → (not enter && any_observes r (data_accesses V5 (vectors_of r.cp15) old (fetched nine_memory V5 old r).instr)) ≡ false
-      → Puts g r
-      (if enter then carried_out nine_memory V5 old (nine_put g r) (interrupt_meaning (vectors_of r.cp15) old)
-      else let f = fetched nine_memory V5 old (nine_put g r) in nine_executed old (nine_put g r) f.number f.instr (move_of f.instr))
-      (if enter then carried_out nine_memory V5 old r (interrupt_meaning (vectors_of r.cp15) old)
-      else let f = fetched nine_memory V5 old r in nine_executed old r f.number f.instr (move_of f.instr))
-  entry_puts true h = carried_puts V5 (interrupt_meaning (vectors_of r.cp15) old) refl
-  entry_puts false h =
-      let there = fetched nine_memory V5 old (nine_put g r) in
-      let f = fetched nine_memory V5 old r in
-      let k = executed_puts f.number f.instr (move_of f.instr) h in
-      record {
-        same = ap (λ (number : ℕ). nine_executed old (nine_put g r) number there.instr (move_of there.instr)) (fetched_number (is_thumb old))
-            ∙ ap (λ (instr : Option Instr). nine_executed old (nine_put g r) f.number instr (move_of instr)) (fetched_instr (is_thumb old)) ∙ k.same;
-        arms = k.arms;
-      }
-
-  taken_puts : (line : Bool) → (not (enters line old) && any_observes r (data_accesses V5 (vectors_of r.cp15) old (fetched nine_memory V5 old r).instr)) ≡ false
-      → Puts g r (side_taken nine_memory nine_side line old (nine_put g r)) (side_taken nine_memory nine_side line old r)
-  unfolding taken
-  taken_puts line h = entry_puts (enters line old) h
+  taken_arms : (line : Bool) → IsApart line → NineArms r (side_taken nine_memory nine_side line old r).state
+  taken_arms line h =
+      taken_leads nine_memory NoneObserve NineArms nine_follows nine_side line old r refl (λ e.
+      executed_arms next_word.number next_word.instr (move_of next_word.instr) (past_entry (enters line old) (any_observes r (data_accesses V5 (vectors_of r.cp15) old next_word.instr)) h e))
 
 -- ---- ARM7's step: none of its accesses sees geometry, or changes it or ARM9's channels
 
 abbrev seven_put : GxState → SevenReach → SevenReach
 seven_put g r = record r { map = gx_in_map g r.map }
 
-abbrev Every : SevenReach → Type 0
-Every r = Unit {0}
+abbrev Every : SevenReach → List Access → Type 0
+Every r accesses = Unit {0}
 
 seven_commutes : (g : GxState) → Commutes seven_memory Every (seven_put g)
 seven_commutes g = record {
-  fetched = λ r at width i. gx_map.fetched g Seven r.map at width;
-  read = λ r at width i. gx_map.value g Seven r.map r.now at width tt;
-  refuses = λ r at width value i. gx_map.refusal g Seven r.map at width value tt;
-  fetches = λ r at width i. refl;
-  reads = λ r at width i. ap (λ (m : MapState). (let left : SevenReach = record r { map = m } in left)) (gx_map.read g Seven r.map at width tt);
-  writes = λ r at width value i. ap (λ (m : MapState). (let left : SevenReach = record r { map = m } in left)) (gx_map.written g Seven r.map r.now at width value tt);
-  fetch_stays = λ r at width i. tt;
-  read_stays = λ r at width i. tt;
-  write_stays = λ r at width value i. tt;
+  fetched = λ r at width rest i. gx_map.fetched g Seven r.map at width;
+  read = λ r at width rest i. gx_map.value g Seven r.map r.now at width tt;
+  refuses = λ r at width value rest i. gx_map.refusal g Seven r.map at width value tt;
+  fetches = λ r at width rest i. refl;
+  reads = λ r at width rest i. ap (λ (m : MapState). (let left : SevenReach = record r { map = m } in left)) (gx_map.read g Seven r.map at width tt);
+  writes = λ r at width value rest i. ap (λ (m : MapState). (let left : SevenReach = record r { map = m } in left)) (gx_map.written g Seven r.map r.now at width value tt);
+  fetch_stays = λ r at width rest i. tt;
+  read_stays = λ r at width rest i. tt;
+  write_stays = λ r at width value rest i. tt;
 }
 
 abbrev SevenGoes : SevenReach → SevenReach → Type 0
 SevenGoes r left = ArmsNoMore r.map.io.nine.dma left.map.io.nine.dma
 
-seven_follows : Follows seven_memory Every SevenGoes
+seven_follows : FollowsEach seven_memory Every SevenGoes
 seven_follows = record {
   stays = λ r i. arms_same r.map.io.nine.dma;
   joins = λ r t u a b. arms_then r.map.io.nine.dma t.map.io.nine.dma u.map.io.nine.dma a b;
-  ends = λ r t k. tt;
-  fetches = λ r at width i. arms_same r.map.io.nine.dma;
-  reads = λ r at width i. arms_by r.map.io.nine.dma _ (gx_map.map_read_dma Seven r.map at width);
-  writes = λ r at width value i. arms_kept r.map.io.nine.dma _ (gx_map.map_written_keeps Seven r.now r.map at width value tt);
+  fetches = λ r at width rest i. (arms_same r.map.io.nine.dma, tt);
+  reads = λ r at width rest i. (arms_by r.map.io.nine.dma _ (gx_map.map_read_dma Seven r.map at width), tt);
+  writes = λ r at width value rest i. (arms_kept r.map.io.nine.dma _ (gx_map.map_written_keeps Seven r.now r.map at width value tt), tt);
 }
 
 -- ---- processors in the machine
@@ -350,238 +284,197 @@ seven_follows = record {
 abbrev Step : Type 0
 Step = MachineStep MachineState Shown LeftOut
 
-concluded_gx : (rank : ℕ) (proc : Proc) (g : GxState) (s : MachineState) (came : arm.Stepped)
-    → (let step : Step = machine_concluded rank proc (gx_put g s) came in step) ≡ step_with (gx_put g) (machine_concluded rank proc s came)
-concluded_gx rank Nine g s (Cost clocks) = refl
-concluded_gx rank Nine g s (Halted clocks) = refl
-concluded_gx rank Nine g s (Left stop) = refl
-concluded_gx rank Seven g s (Cost clocks) = refl
-concluded_gx rank Seven g s (Halted clocks) = refl
-concluded_gx rank Seven g s (Left stop) = refl
+module _ (count : ℕ → ℕ) (on : (n : ℕ) → count (n + 1) ≡ count n + 1) (g : GxState) where
+  abbrev put : MachineState → MachineState
+  put s = put_with count g s
 
-concluded_dma : (rank : ℕ) (proc : Proc) (s : MachineState) (came : arm.Stepped)
-    → (left_by (let step : Step = machine_concluded rank proc s came in step)).io.nine.dma ≡ s.io.nine.dma
-concluded_dma rank Nine s (Cost clocks) = refl
-concluded_dma rank Nine s (Halted clocks) = refl
-concluded_dma rank Nine s (Left stop) = refl
-concluded_dma rank Seven s (Cost clocks) = refl
-concluded_dma rank Seven s (Halted clocks) = refl
-concluded_dma rank Seven s (Left stop) = refl
+  -- the count goes on
+  counts : (s : MachineState) → one_event (put s) ≡ put (one_event s)
+  counts s = ap (λ (n : ℕ). (let m : MachineState = record s { io = with_gx g s.io; events = n } in m)) (sym (on s.events))
 
--- a step with another geometry engine, and what it leaves of ARM9's channels
-record Lets (g : GxState) (s : MachineState) (put came : Step) : Type 0 where
-  same : put ≡ step_with (gx_put g) came
-  arms : ArmsNoMore s.io.nine.dma (left_by came).io.nine.dma
+  concluded_gx : (rank : ℕ) (proc : Proc) (s : MachineState) (came : arm.Stepped)
+      → (let step : Step = machine_concluded rank proc (put s) came in step) ≡ step_with put (machine_concluded rank proc s came)
+  concluded_gx rank Nine s (Cost clocks) = refl
+  concluded_gx rank Nine s (Halted clocks) = refl
+  concluded_gx rank Nine s (Left stop) = refl
+  concluded_gx rank Seven s (Cost clocks) = refl
+  concluded_gx rank Seven s (Halted clocks) = refl
+  concluded_gx rank Seven s (Left stop) = refl
 
-nine_lets : (rank : ℕ) (g : GxState) (s : MachineState) → nine_observes s ≡ false → Lets g s (step_by rank (Processor Nine) (gx_put g s)) (step_by rank (Processor Nine) s)
-nine_lets rank g s h =
-    let r = nine_reach (tick_of s.nine.processor) s in
-    let o = side_taken nine_memory nine_side (line_of s Nine) s.nine.processor.registers r in
-    let k = taken_puts g s.nine.processor.registers r (line_of s Nine) h in
-    record {
-      same = ap (λ (x : Outcome NineReach). (let step : Step = machine_concluded rank Nine (with_nine (gx_put g s) x) x.stepped in step)) k.same
-          ∙ concluded_gx rank Nine g (with_nine s o) o.stepped;
-      arms = arms_then s.io.nine.dma o.state.map.io.nine.dma _ k.arms (arms_by o.state.map.io.nine.dma _ (concluded_dma rank Nine (with_nine s o) o.stepped));
-    }
+  concluded_dma : (rank : ℕ) (proc : Proc) (s : MachineState) (came : arm.Stepped)
+      → (left_by (let step : Step = machine_concluded rank proc s came in step)).io.nine.dma ≡ s.io.nine.dma
+  concluded_dma rank Nine s (Cost clocks) = refl
+  concluded_dma rank Nine s (Halted clocks) = refl
+  concluded_dma rank Nine s (Left stop) = refl
+  concluded_dma rank Seven s (Cost clocks) = refl
+  concluded_dma rank Seven s (Halted clocks) = refl
+  concluded_dma rank Seven s (Left stop) = refl
 
-seven_lets : (rank : ℕ) (g : GxState) (s : MachineState) → Lets g s (step_by rank (Processor Seven) (gx_put g s)) (step_by rank (Processor Seven) s)
-seven_lets rank g s =
-    let f = seven_put g in
-    let c = seven_commutes g in
-    let r = seven_reach (tick_of s.seven.processor) s in
-    let old = s.seven.processor.registers in
-    let o = side_taken seven_memory seven_side (line_of s Seven) old r in
-    let k : SevenGoes r o.state = taken_follows seven_memory Every SevenGoes seven_follows seven_side
-    (λ old r number instr i. word_follows seven_memory Every SevenGoes seven_follows arm7 old r number instr i) (line_of s Seven) old r tt in
-    record {
-      same = ap (λ (x : Outcome SevenReach). (let step : Step = machine_concluded rank Seven (with_seven (gx_put g s) x) x.stepped in step))
-          (taken_commutes seven_memory Every f c seven_side (λ r i. refl) (λ old r number instr i. word_commutes seven_memory Every f c arm7 old r number instr i) (line_of s Seven) old r tt)
-          ∙ concluded_gx rank Seven g (with_seven s o) o.stepped;
-      arms = arms_then s.io.nine.dma o.state.map.io.nine.dma _ k (arms_by o.state.map.io.nine.dma _ (concluded_dma rank Seven (with_seven s o) o.stepped));
-    }
+  -- a step with another geometry engine, and what it leaves of ARM9's channels
+  record Lets (s : MachineState) (with_it came : Step) : Type 0 where
+    same : with_it ≡ step_with put came
+    arms : ArmsNoMore s.io.nine.dma (left_by came).io.nine.dma
 
--- ---- a channel's unit
+  nine_lets : (rank : ℕ) (s : MachineState) → nine_observes s ≡ false → Lets s (step_by rank (Processor Nine) (put s)) (step_by rank (Processor Nine) s)
+  nine_lets rank s h =
+      let r = nine_reach (tick_of s.nine.processor) s in
+      let old = s.nine.processor.registers in
+      let o = side_taken nine_memory nine_side (line_of s Nine) old r in
+      record {
+        same = ap (λ (x : Outcome NineReach). (let step : Step = machine_concluded rank Nine (with_nine (put s) x) x.stepped in step)) (taken_same old r g (line_of s Nine) h)
+            ∙ concluded_gx rank Nine (with_nine s o) o.stepped;
+        arms = arms_then s.io.nine.dma o.state.map.io.nine.dma _ (taken_arms old r (line_of s Nine) h)
+            (arms_by o.state.map.io.nine.dma _ (concluded_dma rank Nine (with_nine s o) o.stepped));
+      }
 
-moved_gx : (rank : ℕ) (proc : Proc) (now : Tick) (refused : Option Stop) (g : GxState) (s : MachineState)
-    → (let step : Step = moved_by rank proc now refused (gx_put g s) in step) ≡ step_with (gx_put g) (moved_by rank proc now refused s)
-moved_gx rank Nine now None g s = refl
-moved_gx rank Seven now None g s = refl
-moved_gx rank proc now (Some stop) g s = refl
+  seven_lets : (rank : ℕ) (s : MachineState) → Lets s (step_by rank (Processor Seven) (put s)) (step_by rank (Processor Seven) s)
+  seven_lets rank s =
+      let r = seven_reach (tick_of s.seven.processor) s in
+      let old = s.seven.processor.registers in
+      let o = side_taken seven_memory seven_side (line_of s Seven) old r in
+      let f = fetched seven_memory seven_side.arch old r in
+      let k : SevenGoes r o.state = taken_leads seven_memory Every SevenGoes seven_follows seven_side (line_of s Seven) old r tt (λ e.
+      word_leads seven_memory Every SevenGoes seven_follows arm7 old r f.number f.instr tt tt) in
+      record {
+        same = ap (λ (x : Outcome SevenReach). (let step : Step = machine_concluded rank Seven (with_seven (put s) x) x.stepped in step))
+            (taken_commutes seven_memory Every (seven_put g) (seven_commutes g) seven_side (line_of s Seven) old r tt (λ width. tt) refl (λ e.
+            word_commutes seven_memory Every (seven_put g) (seven_commutes g) arm7 old r f.number f.instr tt tt))
+            ∙ concluded_gx rank Seven (with_seven s o) o.stepped;
+        arms = arms_then s.io.nine.dma o.state.map.io.nine.dma _ k (arms_by o.state.map.io.nine.dma _ (concluded_dma rank Seven (with_seven s o) o.stepped));
+      }
 
-moved_dma : (rank : ℕ) (proc : Proc) (now : Tick) (refused : Option Stop) (s : MachineState)
-    → (left_by (let step : Step = moved_by rank proc now refused s in step)).io.nine.dma ≡ s.io.nine.dma
-moved_dma rank Nine now None s = refl
-moved_dma rank Seven now None s = refl
-moved_dma rank proc now (Some stop) s = refl
+  -- ---- a channel's unit
 
-unit_lets : (rank : ℕ) (proc : Proc) (now : Tick) (g : GxState) (s : MachineState) (unit : DmaUnit) → IsApartPlace proc (place_of proc s.io.wramcnt unit.from)
-    → IsApartPlace proc (place_of proc s.io.wramcnt unit.to)
-    → (let m = map_of proc s in
-    let n = gx_in_map g m in
-    Lets g s (moved_by rank proc now (unit_refusal proc now unit n) (with_map proc (gx_put g s) (unit_moved proc now unit n)))
-    (moved_by rank proc now (unit_refusal proc now unit m) (with_map proc s (unit_moved proc now unit m))))
-unit_lets rank proc now g s unit from to =
-    let m = map_of proc s in
-    let n = gx_in_map g m in
-    let refused = unit_refusal proc now unit m in
-    let left = unit_moved proc now unit m in
-    record {
-      same = ap (λ (x : Option Stop). (let step : Step = moved_by rank proc now x (with_map proc (gx_put g s) (unit_moved proc now unit n)) in step)) (gx_map.unit_refuses g proc m now unit from to)
-          ∙ ap (λ (x : MapState). (let step : Step = moved_by rank proc now refused (with_map proc (gx_put g s) x) in step)) (gx_map.unit_moves g proc m now unit from to)
-          ∙ moved_gx rank proc now refused g (with_map proc s left);
-      arms = arms_then s.io.nine.dma left.io.nine.dma _ (gx_map.unit_arms proc m now unit to) (arms_by left.io.nine.dma _ (moved_dma rank proc now refused (with_map proc s left)));
-    }
+  moved_gx : (rank : ℕ) (proc : Proc) (now : Tick) (refused : Option Stop) (s : MachineState)
+      → (let step : Step = moved_by rank proc now refused (put s) in step) ≡ step_with put (moved_by rank proc now refused s)
+  moved_gx rank Nine now None s = ap (λ (m : MachineState). (let step : Step = Makes m [] in step)) (counts (delayed_past Nine now s))
+  moved_gx rank Seven now None s = ap (λ (m : MachineState). (let step : Step = Makes m [] in step)) (counts (delayed_past Seven now s))
+  moved_gx rank proc now (Some stop) s = refl
 
-nine_channel : (rank : ℕ) (due : Option Tick) (g : GxState) (s : MachineState) → channel_observes s.io ≡ false
-    → Lets g s (channel_step rank Nine due (gx_put g s)) (channel_step rank Nine due s)
-nine_channel rank None g s h = record { same = refl; arms = arms_same s.io.nine.dma }
-nine_channel rank (Some now) g s h =
-    let unit = next_unit s.io Nine in
-    let k = or_parts (is_observed_place (place_of Nine s.io.wramcnt unit.from)) (is_observed_place (place_of Nine s.io.wramcnt unit.to)) h in
-    unit_lets rank Nine now g s unit (place_apart (place_of Nine s.io.wramcnt unit.from) k.0) (place_apart (place_of Nine s.io.wramcnt unit.to) k.1)
+  moved_dma : (rank : ℕ) (proc : Proc) (now : Tick) (refused : Option Stop) (s : MachineState)
+      → (left_by (let step : Step = moved_by rank proc now refused s in step)).io.nine.dma ≡ s.io.nine.dma
+  moved_dma rank Nine now None s = refl
+  moved_dma rank Seven now None s = refl
+  moved_dma rank proc now (Some stop) s = refl
 
-seven_channel : (rank : ℕ) (due : Option Tick) (g : GxState) (s : MachineState) → Lets g s (channel_step rank Seven due (gx_put g s)) (channel_step rank Seven due s)
-seven_channel rank None g s = record { same = refl; arms = arms_same s.io.nine.dma }
-seven_channel rank (Some now) g s = unit_lets rank Seven now g s (next_unit s.io Seven) tt tt
+  unit_lets : (rank : ℕ) (proc : Proc) (now : Tick) (s : MachineState) (unit : DmaUnit) → IsApartPlace proc (place_of proc s.io.wramcnt unit.from)
+      → IsApartPlace proc (place_of proc s.io.wramcnt unit.to)
+      → (let m = map_of proc s in
+      let n = gx_in_map g m in
+      Lets s (moved_by rank proc now (unit_refusal proc now unit n) (with_map proc (put s) (unit_moved proc now unit n)))
+      (moved_by rank proc now (unit_refusal proc now unit m) (with_map proc s (unit_moved proc now unit m))))
+  unit_lets rank proc now s unit from to =
+      let m = map_of proc s in
+      let n = gx_in_map g m in
+      let refused = unit_refusal proc now unit m in
+      let left = unit_moved proc now unit m in
+      record {
+        same = ap (λ (x : Option Stop). (let step : Step = moved_by rank proc now x (with_map proc (put s) (unit_moved proc now unit n)) in step)) (gx_map.unit_refuses g proc m now unit from to)
+            ∙ ap (λ (x : MapState). (let step : Step = moved_by rank proc now refused (with_map proc (put s) x) in step)) (gx_map.unit_moves g proc m now unit from to)
+            ∙ moved_gx rank proc now refused (with_map proc s left);
+        arms = arms_then s.io.nine.dma left.io.nine.dma _ (gx_map.unit_arms proc m now unit to) (arms_by left.io.nine.dma _ (moved_dma rank proc now refused (with_map proc s left)));
+      }
 
--- ---- the display
+  nine_channel : (rank : ℕ) (due : Option Tick) (s : MachineState) → channel_observes s.io ≡ false
+      → Lets s (channel_step rank Nine due (put s)) (channel_step rank Nine due s)
+  nine_channel rank None s h = record { same = refl; arms = arms_same s.io.nine.dma }
+  nine_channel rank (Some now) s h =
+      let unit = next_unit s.io Nine in
+      let k = or_parts (is_observed_place (place_of Nine s.io.wramcnt unit.from)) (is_observed_place (place_of Nine s.io.wramcnt unit.to)) h in
+      unit_lets rank Nine now s unit (place_apart (place_of Nine s.io.wramcnt unit.from) k.0) (place_apart (place_of Nine s.io.wramcnt unit.to) k.1)
 
-video_step_so : (g : GxState) (s : MachineState) (b : Bool) (x y : Shown) → b ≡ false
-    → (let step : Step = Makes (one_event (with_io (gx_put g s) (swapped_if b (scan_due_tick s.io.video.scan) (video_done s.palette s.oam (with_gx g s.io))))) (if b then x ∷ [] else []) in step)
-    ≡ step_with (gx_put g) (Makes (one_event (with_io s (swapped_if b (scan_due_tick s.io.video.scan) (video_done s.palette s.oam s.io)))) (if b then y ∷ [] else []))
-video_step_so g s true x y h = absurd (true≢false h)
-video_step_so g s false x y h =
-    ap (λ (u : IoState). (let step : Step = Makes (one_event (with_io (gx_put g s) u)) [] in step)) (video_apart g s.palette s.oam s.io)
+  seven_channel : (rank : ℕ) (due : Option Tick) (s : MachineState) → Lets s (channel_step rank Seven due (put s)) (channel_step rank Seven due s)
+  seven_channel rank None s = record { same = refl; arms = arms_same s.io.nine.dma }
+  seven_channel rank (Some now) s = unit_lets rank Seven now s (next_unit s.io Seven) tt tt
 
-swap_dma : (b : Bool) (now : Tick) (u : IoState) → (swapped_if b now u).nine.dma ≡ u.nine.dma
-swap_dma true now u = refl
-swap_dma false now u = refl
+  -- ---- the display
 
-channels_keep : (vblank hblank : Bool) (now : Tick) (u : IoState)
-    → KeepsControls u.nine.dma (if vblank then channels_triggered causes.VBlank now u else (if hblank then channels_triggered causes.HBlank now u else u)).nine.dma
-channels_keep true hblank now u = triggered_keeps u.nine.dma causes.VBlank now
-channels_keep false true now u = triggered_keeps u.nine.dma causes.HBlank now
-channels_keep false false now u = keeps_same u.nine.dma
+  video_step_so : (s : MachineState) (b : Bool) (x y : Shown) → b ≡ false
+      → (let step : Step = Makes (one_event (with_io (put s) (swapped_if b (scan_due_tick s.io.video.scan) (video_done s.palette s.oam (with_gx g s.io))))) (if b then x ∷ [] else []) in step)
+      ≡ step_with put (Makes (one_event (with_io s (swapped_if b (scan_due_tick s.io.video.scan) (video_done s.palette s.oam s.io)))) (if b then y ∷ [] else []))
+  video_step_so s true x y h = absurd (true≢false h)
+  video_step_so s false x y h =
+      ap (λ (u : IoState). (let step : Step = Makes (one_event (with_io (put s) u)) [] in step)) (video_apart g s.palette s.oam s.io)
+      ∙ ap (λ (m : MachineState). (let step : Step = Makes m [] in step)) (counts (with_io s (video_done s.palette s.oam s.io)))
 
-video_keeps : (palette oam : List ℕ) (u : IoState) → KeepsControls u.nine.dma (video_done palette oam u).nine.dma
-video_keeps palette oam u = by_stop (video_stop oam u.video) where
-  by_stop : (stop : Option Stop)
-      → KeepsControls u.nine.dma (unless_stop stop (shown_to_others (video_shown u.video) (scan_due_tick u.video.scan) (record u { video = video_after_event u.vram palette oam u.video })) u).nine.dma
-  by_stop None =
-      channels_keep (video_shown u.video).vblank (video_shown u.video).hblank (scan_due_tick u.video.scan)
-      (both_raised (record u { video = video_after_event u.vram palette oam u.video }) (video_shown u.video).raised)
-  by_stop (Some stop) = keeps_same u.nine.dma
+  swap_dma : (b : Bool) (now : Tick) (u : IoState) → (swapped_if b now u).nine.dma ≡ u.nine.dma
+  swap_dma true now u = refl
+  swap_dma false now u = refl
 
-video_lets : (rank : ℕ) (stop : Option Stop) (g : GxState) (s : MachineState) → starts_vblank s.io.video.scan ≡ false
-    → Lets g s (video_step rank (answer_unless stop (video_shown s.io.video)) (gx_put g s)) (video_step rank (answer_unless stop (video_shown s.io.video)) s)
-video_lets rank None g s h = record {
-  same = video_step_so g s (starts_vblank s.io.video.scan) (shown_at (scan_due s.io.video.scan) (after_video (gx_put g s)) g.swap_waits)
-      (shown_at (scan_due s.io.video.scan) (after_video s) s.io.gx.swap_waits) h;
-  arms =
-      (let shown = video_done s.palette s.oam s.io in
-      arms_then s.io.nine.dma shown.nine.dma _ (arms_kept s.io.nine.dma shown.nine.dma (video_keeps s.palette s.oam s.io))
-      (arms_by shown.nine.dma _ (swap_dma (starts_vblank s.io.video.scan) (scan_due_tick s.io.video.scan) shown)));
-}
-video_lets rank (Some stop) g s h = record { same = refl; arms = arms_same s.io.nine.dma }
+  channels_keep : (vblank hblank : Bool) (now : Tick) (u : IoState)
+      → KeepsControls u.nine.dma (if vblank then channels_triggered causes.VBlank now u else (if hblank then channels_triggered causes.HBlank now u else u)).nine.dma
+  channels_keep true hblank now u = triggered_keeps u.nine.dma causes.VBlank now
+  channels_keep false true now u = triggered_keeps u.nine.dma causes.HBlank now
+  channels_keep false false now u = keeps_same u.nine.dma
 
--- ---- the key script
+  video_keeps : (palette oam : List ℕ) (u : IoState) → KeepsControls u.nine.dma (video_done palette oam u).nine.dma
+  video_keeps palette oam u = by_stop (video_stop oam u.video) where
+    by_stop : (stop : Option Stop)
+        → KeepsControls u.nine.dma (unless_stop stop (shown_to_others (video_shown u.video) (scan_due_tick u.video.scan) (record u { video = video_after_event u.vram palette oam u.video })) u).nine.dma
+    by_stop None =
+        channels_keep (video_shown u.video).vblank (video_shown u.video).hblank (scan_due_tick u.video.scan)
+        (both_raised (record u { video = video_after_event u.vram palette oam u.video }) (video_shown u.video).raised)
+    by_stop (Some stop) = keeps_same u.nine.dma
 
-line_so : (g : GxState) (s : MachineState) (lines : List KeyLine) → after_line lines (gx_put g s) ≡ gx_put g (after_line lines s)
-line_so g s [] = refl
-line_so g s (line ∷ lines) = refl
+  video_lets : (rank : ℕ) (stop : Option Stop) (s : MachineState) → starts_vblank s.io.video.scan ≡ false
+      → Lets s (video_step rank (answer_unless stop (video_shown s.io.video)) (put s)) (video_step rank (answer_unless stop (video_shown s.io.video)) s)
+  video_lets rank None s h = record {
+    same = video_step_so s (starts_vblank s.io.video.scan) (shown_at (scan_due s.io.video.scan) (after_video (put s)) g.swap_waits)
+        (shown_at (scan_due s.io.video.scan) (after_video s) s.io.gx.swap_waits) h;
+    arms =
+        (let shown = video_done s.palette s.oam s.io in
+        arms_then s.io.nine.dma shown.nine.dma _ (arms_kept s.io.nine.dma shown.nine.dma (video_keeps s.palette s.oam s.io))
+        (arms_by shown.nine.dma _ (swap_dma (starts_vblank s.io.video.scan) (scan_due_tick s.io.video.scan) shown)));
+  }
+  video_lets rank (Some stop) s h = record { same = refl; arms = arms_same s.io.nine.dma }
 
-line_dma : (s : MachineState) (lines : List KeyLine) → (after_line lines s).io.nine.dma ≡ s.io.nine.dma
-line_dma s [] = refl
-line_dma s (line ∷ lines) = told_dma s.io.nine line.pressed
+  -- ---- the key script
 
--- ---- each actor
+  line_so : (s : MachineState) (lines : List KeyLine) → after_line lines (put s) ≡ put (after_line lines s)
+  line_so s [] = refl
+  line_so s (line ∷ lines) = counts (record (with_io s (keys_pressed s.io line.pressed)) { keys = lines })
 
-event_lets : (rank : ℕ) (a : actor.Actor) (g : GxState) (s : MachineState) → (io_event a s.io).nine.dma ≡ s.io.nine.dma → a ≢ Geometry
-    → Lets g s (Makes (after_event a (gx_put g s)) []) (Makes (after_event a s) [])
-event_lets rank a g s e other = record {
-  same = ap (λ (u : IoState). (let step : Step = Makes (one_event (with_io (gx_put g s) u)) [] in step)) (event_apart g a s.io other);
-  arms = arms_by s.io.nine.dma _ e;
-}
+  line_dma : (s : MachineState) (lines : List KeyLine) → (after_line lines s).io.nine.dma ≡ s.io.nine.dma
+  line_dma s [] = refl
+  line_dma s (line ∷ lines) = told_dma s.io.nine line.pressed
 
-lets : (rank : ℕ) (a : actor.Actor) (g : GxState) (s : MachineState) → a ≢ Geometry → observes_by a s ≡ false → is_stalled g ≡ is_stalled s.io.gx
-    → Lets g s (step_by rank a (gx_put g s)) (step_by rank a s)
-lets rank KeyScript g s other h same = record {
-  same = ap (λ (m : MachineState). (let step : Step = Makes m [] in step)) (line_so g s s.keys);
-  arms = arms_by s.io.nine.dma _ (line_dma s s.keys);
-}
-lets rank Video g s other h same = video_lets rank (video_stop s.oam s.io.video) g s h
-lets rank (Timer Nine number) g s other h same = event_lets rank (Timer Nine number) g s refl other
-lets rank (Timer Seven number) g s other h same = event_lets rank (Timer Seven number) g s refl other
-lets rank Divider g s other h same = event_lets rank Divider g s refl other
-lets rank SquareRoot g s other h same = event_lets rank SquareRoot g s refl other
-lets rank Geometry g s other h same = absurd (other refl)
-lets rank Card g s other h same = event_lets rank Card g s refl other
-lets rank (Dma Nine channel) g s other h same =
-    let due = io_due (Dma Nine channel) s.io in
-    let k = nine_channel rank due g s h in
-    record {
-      same = ap (λ (x : Option Tick). (let step : Step = channel_step rank Nine x (gx_put g s) in step)) (channel_due_apart g channel s.io same) ∙ k.same;
-      arms = k.arms;
-    }
-lets rank (Dma Seven channel) g s other h same = seven_channel rank (io_due (Dma Seven channel) s.io) g s
-lets rank (Processor Nine) g s other h same = nine_lets rank g s h
-lets rank (Processor Seven) g s other h same = seven_lets rank g s
+  -- ---- each actor
+
+  event_lets : (rank : ℕ) (a : actor.Actor) (s : MachineState) → (io_event a s.io).nine.dma ≡ s.io.nine.dma → a ≢ Geometry
+      → Lets s (Makes (after_event a (put s)) []) (Makes (after_event a s) [])
+  event_lets rank a s e other = record {
+    same = ap (λ (u : IoState). (let step : Step = Makes (one_event (with_io (put s) u)) [] in step)) (event_apart g a s.io other)
+        ∙ ap (λ (m : MachineState). (let step : Step = Makes m [] in step)) (counts (with_io s (io_event a s.io)));
+    arms = arms_by s.io.nine.dma _ e;
+  }
+
+  lets : (rank : ℕ) (a : actor.Actor) (s : MachineState) → a ≢ Geometry → observes_by a s ≡ false → is_stalled g ≡ is_stalled s.io.gx
+      → Lets s (step_by rank a (put s)) (step_by rank a s)
+  lets rank KeyScript s other h same = record {
+    same = ap (λ (m : MachineState). (let step : Step = Makes m [] in step)) (line_so s s.keys);
+    arms = arms_by s.io.nine.dma _ (line_dma s s.keys);
+  }
+  lets rank Video s other h same = video_lets rank (video_stop s.oam s.io.video) s h
+  lets rank (Timer Nine number) s other h same = event_lets rank (Timer Nine number) s refl other
+  lets rank (Timer Seven number) s other h same = event_lets rank (Timer Seven number) s refl other
+  lets rank Divider s other h same = event_lets rank Divider s refl other
+  lets rank SquareRoot s other h same = event_lets rank SquareRoot s refl other
+  lets rank Geometry s other h same = absurd (other refl)
+  lets rank Card s other h same = event_lets rank Card s refl other
+  lets rank (Dma Nine channel) s other h same =
+      let due = io_due (Dma Nine channel) s.io in
+      let k = nine_channel rank due s h in
+      record {
+        same = ap (λ (x : Option Tick). (let step : Step = channel_step rank Nine x (put s) in step)) (channel_due_apart g channel s.io same) ∙ k.same;
+        arms = k.arms;
+      }
+  lets rank (Dma Seven channel) s other h same = seven_channel rank (io_due (Dma Seven channel) s.io) s
+  lets rank (Processor Nine) s other h same = nine_lets rank s h
+  lets rank (Processor Seven) s other h same = seven_lets rank s
 
 pub gx_commutes : (rank : ℕ) (a : actor.Actor) (g : GxState) (s : MachineState) → a ≢ Geometry → observes_by a s ≡ false → is_stalled g ≡ is_stalled s.io.gx
     → step_by rank a (gx_put g s) ≡ step_with (gx_put g) (step_by rank a s)
-gx_commutes rank a g s other h same = (lets rank a g s other h same).same
-
--- ---- counts of events
-
-abbrev counted : MachineState → MachineState
-counted s = record s { events = s.events + 1 }
-
-count_line : (s : MachineState) (lines : List KeyLine) → after_line lines (counted s) ≡ counted (after_line lines s)
-count_line s [] = refl
-count_line s (line ∷ lines) = refl
-
-count_concluded : (rank : ℕ) (proc : Proc) (s : MachineState) (came : arm.Stepped)
-    → (let step : Step = machine_concluded rank proc (counted s) came in step) ≡ step_with counted (machine_concluded rank proc s came)
-count_concluded rank Nine s (Cost clocks) = refl
-count_concluded rank Nine s (Halted clocks) = refl
-count_concluded rank Nine s (Left stop) = refl
-count_concluded rank Seven s (Cost clocks) = refl
-count_concluded rank Seven s (Halted clocks) = refl
-count_concluded rank Seven s (Left stop) = refl
-
-count_moved : (rank : ℕ) (proc : Proc) (now : Tick) (refused : Option Stop) (s : MachineState)
-    → (let step : Step = moved_by rank proc now refused (counted s) in step) ≡ step_with counted (moved_by rank proc now refused s)
-count_moved rank Nine now None s = refl
-count_moved rank Seven now None s = refl
-count_moved rank proc now (Some stop) s = refl
-
-count_channel : (rank : ℕ) (proc : Proc) (due : Option Tick) (s : MachineState)
-    → (let step : Step = channel_step rank proc due (counted s) in step) ≡ step_with counted (channel_step rank proc due s)
-count_channel rank proc None s = refl
-count_channel rank proc (Some now) s =
-    let unit = next_unit s.io proc in
-    count_moved rank proc now (unit_refusal proc now unit (map_of proc s)) (with_map proc s (unit_moved proc now unit (map_of proc s)))
-
-count_video : (rank : ℕ) (answer : Result display.Shown Stop) (s : MachineState) → video_step rank answer (counted s) ≡ step_with counted (video_step rank answer s)
-count_video rank (Ok shown) s = refl
-count_video rank (Err stop) s = refl
-
-count_step : (rank : ℕ) (a : actor.Actor) (s : MachineState) → a ≢ Geometry → step_by rank a (counted s) ≡ step_with counted (step_by rank a s)
-count_step rank KeyScript s other = ap (λ (m : MachineState). (let step : Step = Makes m [] in step)) (count_line s s.keys)
-count_step rank Video s other = count_video rank (video_answer s.oam s.io.video) s
-count_step rank (Timer proc number) s other = refl
-count_step rank Divider s other = refl
-count_step rank SquareRoot s other = refl
-count_step rank Geometry s other = absurd (other refl)
-count_step rank Card s other = refl
-count_step rank (Dma Nine channel) s other = count_channel rank Nine (io_due (Dma Nine channel) s.io) s
-count_step rank (Dma Seven channel) s other = count_channel rank Seven (io_due (Dma Seven channel) s.io) s
-count_step rank (Processor Nine) s other = let o = outcome_of Nine (tick_of s.nine.processor) s in count_concluded rank Nine o.machine o.stepped
-count_step rank (Processor Seven) s other = let o = outcome_of Seven (tick_of s.seven.processor) s in count_concluded rank Seven o.machine o.stepped
-
-both_so : (g : GxState) (came : Step) → step_with counted (step_with (gx_put g) came) ≡ step_with (late_put g) came
-both_so g (Makes next outs) = refl
-both_so g (Stops stop left) = refl
+gx_commutes rank a g s other h same = (lets (λ n. n) (λ n. refl) g rank a s other h same).same
 
 -- ---- the laws
 
@@ -590,8 +483,7 @@ none_of a b c d h k l m = rw (h, k, l, m) refl
 
 pub late_commutes : (rank : ℕ) (a : actor.Actor) (g : GxState) (s : MachineState) → a ≢ Geometry → observes_by a s ≡ false → is_stalled g ≡ is_stalled s.io.gx
     → step_by rank a (late_put g s) ≡ step_with (late_put g) (step_by rank a s)
-late_commutes rank a g s other h same =
-    count_step rank a (gx_put g s) other ∙ ap (step_with counted) (gx_commutes rank a g s other h same) ∙ both_so g (step_by rank a s)
+late_commutes rank a g s other h same = (lets (λ n. n + 1) (λ n. refl) g rank a s other h same).same
 
 pub apart_commutes : (rank : ℕ) (a : actor.Actor) (g : GxState) (s : MachineState) → a ≢ Geometry → observes_by a s ≡ false → is_stalled g ≡ false → is_stalled s.io.gx ≡ false
     → step_by rank a (late_put g s) ≡ step_with (late_put g) (step_by rank a s)
@@ -613,25 +505,10 @@ module _ (rank : ℕ) (a : actor.Actor) (s made : MachineState) (outs : List Sho
       ap (λ (m : MachineState). m.io.gx) (same_makes made (gx_put s.io.gx made) outs outs both).0
 
   made_arms : ArmsNoMore s.io.nine.dma made.io.nine.dma
-  made_arms = subst (λ (x : Step). ArmsNoMore s.io.nine.dma (left_by x).io.nine.dma) came (lets rank a s.io.gx s other apart refl).arms
-
-  pub four_left : length s.io.nine.dma.channels ≡ 4 → length made.io.nine.dma.channels ≡ 4
-  four_left four = made_arms.long ∙ four
+  made_arms = subst (λ (x : Step). ArmsNoMore s.io.nine.dma (left_by x).io.nine.dma) came (lets (λ n. n) (λ n. refl) s.io.gx rank a s other apart refl).arms
 
   pub arms_left : any_armed s.io.nine.dma ≡ false → any_armed made.io.nine.dma ≡ false
   arms_left = none_armed s.io.nine.dma made.io.nine.dma made_arms
-
--- and so where it stops
-module _ (rank : ℕ) (a : actor.Actor) (s left : MachineState) (stop : LeftOut) (other : a ≢ Geometry) (apart : observes_by a s ≡ false) (came : step_by rank a s ≡ Stops stop left) where
-  pub stopped_gx : left.io.gx ≡ s.io.gx
-  stopped_gx =
-      let both : (let step : Step = Stops stop left in step) ≡ Stops stop (gx_put s.io.gx left) =
-      sym came ∙ gx_commutes rank a s.io.gx s other apart refl ∙ ap (step_with (gx_put s.io.gx)) came in
-      ap (λ (x : Step). (left_by x).io.gx) both
-
-  pub stopped_arms : any_armed s.io.nine.dma ≡ false → any_armed left.io.nine.dma ≡ false
-  stopped_arms =
-      none_armed s.io.nine.dma left.io.nine.dma (subst (λ (x : Step). ArmsNoMore s.io.nine.dma (left_by x).io.nine.dma) came (lets rank a s.io.gx s other apart refl).arms)
 
 -- ---- what follows a step, where no channel is armed and nothing is told by GXSTAT's selector
 
@@ -732,9 +609,6 @@ module _ (tick : Tick) (m : MachineState) (four : length m.io.nine.dma.channels 
 
   pub ended_gx_left : (ended tick m).io.gx ≡ m.io.gx
   ended_gx_left = end_stays.gx
-
-  pub ended_dma_left : (ended tick m).io.nine.dma ≡ m.io.nine.dma
-  ended_dma_left = end_stays.dma
 
   pub ended_disarmed : any_armed (ended tick m).io.nine.dma ≡ false
   ended_disarmed = ap any_armed end_stays.dma ∙ none

@@ -17,7 +17,7 @@ use Rattle.cp15_tcm.specs.declared.answers.Tcm.TheVariants.{Itcm, Dtcm, Past}
 use Rattle.ds_map.specs.Accesses.{map_read}
 use Rattle.ds_map.specs.Maps.{MapState}
 use Rattle.ds_map.specs.Views.{NineReach, SevenReach, nine_memory, seven_memory, tcm_read}
-use Rattle.ds_machine.specs.QuietPorts.{is_quiet_port}
+use Rattle.ds_machine.specs.QuietPorts.{is_steady_port}
 use Rattle.ds_machine.proofs.PortReads.{read_io}
 use Rattle.ds_machine.proofs.QuietPorts.{quiet_at}
 use Rattle.ds_machine.proofs.RamAccesses.{ram_read_io, ram_tcm_writes, write_io}
@@ -25,12 +25,12 @@ use Rattle.ds_machine.proofs.RamAccesses.{ram_read_io, ram_tcm_writes, write_io}
 -- No access of RAM changes a unit, nor does a load from a port of which a read changes none.
 
 abbrev pub is_near_at : ℕ → Bool
-is_near_at at = is_ram at || is_quiet_port at
+is_near_at at = is_ram at || is_steady_port at
 
 -- ---- a load from there
 
 near_read : (proc : Proc) (m : MapState) (at : ℕ) (width : Width) → is_near_at at ≡ true → (map_read proc m at width).io ≡ m.io
-near_read proc m at width near = elim (or_cases (is_ram at) (is_quiet_port at) near) [
+near_read proc m at width near = elim (or_cases (is_ram at) (is_steady_port at) near) [
   | inl ram ↦ ram_read_io proc m at width ram
   | inr quiet ↦ (let q = quiet_at at quiet in read_io proc m at width q.low q.high)
 ]
@@ -48,7 +48,7 @@ write_unchanged : {S : Type 0} (stop : Option Stop) (left : S) → (refused_or s
 write_unchanged None left = refl
 write_unchanged (Some stop) left = refl
 
-nine_io : (r : NineReach) (accesses : List Access) → IsNear is_quiet_port accesses → (perform nine_memory r accesses).state.map.io ≡ r.map.io
+nine_io : (r : NineReach) (accesses : List Access) → IsNear is_steady_port accesses → (perform nine_memory r accesses).state.map.io ≡ r.map.io
 nine_io r [] near = refl
 nine_io r (Fetch at width ∷ []) near = refl
 nine_io r (Read at width ∷ []) near = tcm_reads (tcm_of r.cp15 at false false) r at width near
@@ -57,7 +57,7 @@ nine_io r (Write at width value ∷ []) ram =
     rw (write_unchanged (nine_memory.refusal r at width value) left) (ram_tcm_writes (tcm_of r.cp15 at true false) r at width value ram)
 nine_io r (access ∷ other ∷ rest) near = absurd near
 
-seven_io : (r : SevenReach) (accesses : List Access) → IsNear is_quiet_port accesses → (perform seven_memory r accesses).state.map.io ≡ r.map.io
+seven_io : (r : SevenReach) (accesses : List Access) → IsNear is_steady_port accesses → (perform seven_memory r accesses).state.map.io ≡ r.map.io
 seven_io r [] near = refl
 seven_io r (Fetch at width ∷ []) near = refl
 seven_io r (Read at width ∷ []) near = near_read Seven r.map at width near
@@ -74,14 +74,14 @@ state_left arch old m done (Some stop) = refl
 
 -- where it is run, by its cost, and where it isn't
 pub nine_stays : (cost : ℕ) (s : RegisterState) (r after : NineReach) (m : Meaning) → (cost ≡ 0 → after ≡ r)
-    → (0 < cost → after ≡ (carried_out nine_memory V5 s r m).state) → (0 < cost → IsNear is_quiet_port m.accesses) → after.map.io ≡ r.map.io
+    → (0 < cost → after ≡ (carried_out nine_memory V5 s r m).state) → (0 < cost → IsNear is_steady_port m.accesses) → after.map.io ≡ r.map.io
 nine_stays zero s r after m none some near = ap (λ (x : NineReach). x.map.io) (none refl)
 nine_stays (suc cost) s r after m none some near =
     let done : Performed NineReach = perform nine_memory r m.accesses in
     ap (λ (x : NineReach). x.map.io) (some (omega arith) ∙ state_left V5 s m done done.stop) ∙ nine_io r m.accesses (near (omega arith))
 
 pub seven_stays : (cost : ℕ) (s : RegisterState) (r after : SevenReach) (m : Meaning) → (cost ≡ 0 → after ≡ r)
-    → (0 < cost → after ≡ (carried_out seven_memory V4 s r m).state) → (0 < cost → IsNear is_quiet_port m.accesses) → after.map.io ≡ r.map.io
+    → (0 < cost → after ≡ (carried_out seven_memory V4 s r m).state) → (0 < cost → IsNear is_steady_port m.accesses) → after.map.io ≡ r.map.io
 seven_stays zero s r after m none some near = ap (λ (x : SevenReach). x.map.io) (none refl)
 seven_stays (suc cost) s r after m none some near =
     let done : Performed SevenReach = perform seven_memory r m.accesses in

@@ -23,7 +23,7 @@ use Rattle.ds_places.specs.declared.kinds.Place.TheVariants.{Cell, Banks, Port, 
 use Rattle.ds_runs.specs.declared.actors.Actor.TheVariants.{Processor}
 use Rattle.ds_machine.specs.Lagging.{any_observes, is_observed_past, is_observed_place, observes_by}
 use Rattle.ds_machine.specs.Private.{data_accesses}
-use Rattle.ds_machine.specs.QuietPorts.{is_quiet_port}
+use Rattle.ds_machine.specs.QuietPorts.{is_steady_port}
 use Rattle.ds_machine.specs.PrivateSides.{SideOf, nine_side}
 use Rattle.ds_machine.specs.States.{MachineState}
 use Rattle.ds_machine.specs.Steps.{line_of, nine_reach, processor_of, tick_of}
@@ -53,12 +53,12 @@ quiet_apart (Dtcm place) wramcnt at q = refl
 quiet_apart Past wramcnt at q = ap is_observed_place (port_place Nine wramcnt at q.low q.high) ∙ q.apart
 
 load_apart : (t : Tcm) (wramcnt at : ℕ) → is_near_at at ≡ true → is_observed_past t wramcnt at ≡ false
-load_apart t wramcnt at near = elim (or_cases (is_ram at) (is_quiet_port at) near) [
+load_apart t wramcnt at near = elim (or_cases (is_ram at) (is_steady_port at) near) [
   | inl ram ↦ past_apart t wramcnt at ram
   | inr quiet ↦ quiet_apart t wramcnt at (quiet_at at quiet)
 ]
 
-all_apart : (r : NineReach) (accesses : List Access) → IsNear is_quiet_port accesses → any_observes r accesses ≡ false
+all_apart : (r : NineReach) (accesses : List Access) → IsNear is_steady_port accesses → any_observes r accesses ≡ false
 all_apart r [] near = refl
 all_apart r (Fetch at width ∷ []) near = refl
 all_apart r (Read at width ∷ []) near =
@@ -70,15 +70,15 @@ all_apart r (access ∷ other ∷ rest) near = absurd near
 -- ---- of a decoded operation
 
 meant : {S : Type 0} (side : SideOf S) (base : ℕ) (s : RegisterState) (instr : Option Instr) → is_other (operation_of instr).op ≡ false
-    → IsNear is_quiet_port (operation_meaning side.arch s (operation_of instr)).accesses → IsNear is_quiet_port (data_accesses side.arch base s instr)
+    → IsNear is_steady_port (operation_meaning side.arch s (operation_of instr)).accesses → IsNear is_steady_port (data_accesses side.arch base s instr)
 meant side base s None known near = absurd (true≢false known)
-meant side base s (Some instr) known near = subst (λ (m : Meaning). IsNear is_quiet_port m.accesses) (sym (operation_means side.arch base s instr known)) near
+meant side base s (Some instr) known near = subst (λ (m : Meaning). IsNear is_steady_port m.accesses) (sym (operation_means side.arch base s instr known)) near
 
 pub near_known : {S : Type 0} (memory : MemoryMachine S) (side : SideOf S) (state : S) (s : RegisterState) (op : Operation)
-    → op ≡ operation_of (fetched memory side.arch s state).instr → is_other op.op ≡ false → IsNear is_quiet_port (operation_meaning side.arch s op).accesses → DataIsNear memory side s state
+    → op ≡ operation_of (fetched memory side.arch s state).instr → is_other op.op ≡ false → IsNear is_steady_port (operation_meaning side.arch s op).accesses → DataIsNear memory side s state
 near_known memory side state s op e known near =
     meant side (side.base state) s (fetched memory side.arch s state).instr (subst (λ (o : Operation). is_other o.op ≡ false) e known)
-    (subst (λ (o : Operation). IsNear is_quiet_port (operation_meaning side.arch s o).accesses) e near)
+    (subst (λ (o : Operation). IsNear is_steady_port (operation_meaning side.arch s o).accesses) e near)
 
 -- ---- in the machine
 

@@ -38,7 +38,7 @@ use Rattle.ds_machine.specs.Reference.{due_by, dues_of}
 use Rattle.ds_machine.specs.PrivateSides.{SideOf, nine_side}
 use Rattle.ds_machine.specs.States.{MachineState}
 use Rattle.ds_machine.specs.Steps.{nine_reach, tick_of}
-use Rattle.ds_machine.specs.Touching.{GoesByWords, reads, writes}
+use Rattle.ds_machine.specs.Touching.{GoesByWords, reads_data, writes_data}
 use Rattle.ds_machine.proofs.DecodedStays.{same_word}
 use Rattle.ds_machine.proofs.DueTicks.{due_of_rank, low_rank}
 use Rattle.ds_machine.proofs.PlacesByWords.{are_rows, dtcm_same, from_same, itcm_same, row_facts, rows_of_nine, upto_same}
@@ -218,7 +218,7 @@ same_test false false h k = absurd (true≢false (sym (k refl)))
 
 pub instr_observes_by : (s : MachineState) (instr : Instr) (touch : Touch) → HasBase s.nine.processor.registers (equivalent instr)
     → Covers touch (meaning V5 (nine_side.base (nine_reach (tick_of s.nine.processor) s)) s.nine.processor.registers instr).accesses
-    → not (data_apart s (reads (equivalent instr)) (writes (equivalent instr)) touch)
+    → not (data_apart s (reads_data (equivalent instr)) (writes_data (equivalent instr)) touch)
     ≡ any_observes (nine_reach (tick_of s.nine.processor) s) (data_accesses V5 (nine_side.base (nine_reach (tick_of s.nine.processor) s)) s.nine.processor.registers (Some instr))
 instr_observes_by s instr touch has covers =
     let r = nine_reach (tick_of s.nine.processor) s in
@@ -226,8 +226,8 @@ instr_observes_by s instr touch has covers =
     let m = meaning V5 base s.nine.processor.registers instr in
     let low = meant_below s.nine.processor.registers base instr has in
     let suits = meant_suits V5 base s.nine.processor.registers instr in
-    let rd = reads (equivalent instr) in
-    let wr = writes (equivalent instr) in
+    let rd = reads_data (equivalent instr) in
+    let wr = writes_data (equivalent instr) in
     same_test (data_apart s rd wr touch) (any_observes r m.accesses)
     (λ h. none_by r m.accesses low (data_passes apart_side r rd wr touch m.accesses suits covers h))
     (λ h. data_passed apart_side r rd wr touch m.accesses suits covers (by_none r m.accesses low h))

@@ -14,7 +14,7 @@ use Rattle.cp15_tcm.specs.declared.answers.Tcm.{Tcm}
 use Rattle.cp15_tcm.specs.declared.answers.Tcm.TheVariants.{Itcm, Dtcm, Past}
 use Rattle.ds_map.specs.Views.{NineReach, SevenReach, nine_memory, seven_memory, tcm_read, tcm_written}
 use Rattle.ds_map.proofs.Later.{map_read_goes, map_write_goes}
-use Rattle.ds_ports.specs.Happenings.{Goes, IsProcessorIo, IsQuiet}
+use Rattle.ds_ports.specs.Happenings.{Goes, IsProcessorIo, HasOnlyLaterEvents}
 use Rattle.ds_ports.specs.Io.{IoState, io_of}
 use Rattle.ds_ports.proofs.Later.{goes_nowhere, goes_on}
 use Rattle.ds_machine.specs.PrivateSides.{nine_side, seven_side}
@@ -27,7 +27,7 @@ use Rattle.ds_machine.proofs.Keeps.{Follows, taken_follows, word_follows}
 
 -- what holds of a processor's own where it makes an access
 abbrev pub IsReady : Proc → Tick → IoState → Type 0
-IsReady proc now u = IsProcessorIo (io_of u proc) × IsQuiet now (io_of u proc)
+IsReady proc now u = IsProcessorIo (io_of u proc) × HasOnlyLaterEvents now (io_of u proc)
 
 -- the accesses are made at the same tick
 abbrev pub Leads : Proc → (now : Tick) (old : IoState) (later : Tick) (new : IoState) → Type 0
@@ -38,7 +38,7 @@ leads_on proc t u v a b c one two =
     (two.0 ∙ one.0, goes_on proc t a b c one.1 (subst (λ (x : Tick). Goes proc x b c) one.0 two.1))
 
 pub leads_ready : (proc : Proc) (t u : Tick) (a b : IoState) → Leads proc t a u b → IsReady proc u b
-leads_ready proc t u a b one = (one.1.is, subst (λ (x : Tick). IsQuiet x (io_of b proc)) (sym one.0) one.1.quiet)
+leads_ready proc t u a b one = (one.1.is, subst (λ (x : Tick). HasOnlyLaterEvents x (io_of b proc)) (sym one.0) one.1.quiet)
 
 seven_follows : Follows seven_memory (λ (r : SevenReach). IsReady Seven r.now r.map.io) (λ (r t : SevenReach). Leads Seven r.now r.map.io t.now t.map.io)
 seven_follows = record {
@@ -92,7 +92,7 @@ seven_goes now s i =
     (λ (r t : SevenReach). Leads Seven r.now r.map.io t.now t.map.io) seven_follows arm7 old r number instr i)
     (line_of s Seven) s.seven.processor.registers (seven_reach now s) i).1
 
-pub step_goes : (proc : Proc) (now : Tick) (s : MachineState) → IsProcessorIo (io_of s.io proc) → IsQuiet now (io_of s.io proc)
+pub step_goes : (proc : Proc) (now : Tick) (s : MachineState) → IsProcessorIo (io_of s.io proc) → HasOnlyLaterEvents now (io_of s.io proc)
     → Goes proc now s.io (outcome_of proc now s).machine.io
 step_goes Nine now s is quiet = nine_goes now s (is, quiet)
 step_goes Seven now s is quiet = seven_goes now s (is, quiet)

@@ -5,7 +5,7 @@ use Rattle.ds_base.specs.declared.processors.Proc.TheVariants.{Nine, Seven}
 use Rattle.ds_base.specs.declared.ticks.Tick.{Tick}
 use Rattle.arm_core.specs.declared.outcomes.Stepped as arm
 use Rattle.arm_core.specs.declared.outcomes.Stepped.TheVariants.{Cost, Halted, Left}
-use Rattle.ds_ports.specs.Happenings.{IsQuiet}
+use Rattle.ds_ports.specs.Happenings.{HasOnlyLaterEvents}
 use Rattle.ds_ports.specs.Io.{io_of}
 use Rattle.ds_ports.proofs.Later.{still_later}
 use Rattle.ds_runs.specs.Actors.{actor_of}
@@ -31,10 +31,10 @@ use Rattle.ds_machine.proofs.Wakes.{ends}
 
 -- A step of a processor's turn that is taken leaves the processor due later, or not at all: so a loop over such steps ends.
 
-quiet_turn : (until : ℕ) (s : MachineState) (proc : Proc) (b : BelongsToTurn until s proc) → IsQuiet b.tick (io_of s.io proc)
+quiet_turn : (until : ℕ) (s : MachineState) (proc : Proc) (b : BelongsToTurn until s proc) → HasOnlyLaterEvents b.tick (io_of s.io proc)
 quiet_turn until s proc b = elim b.goes [
   | inl least ↦ quiet_acting s b.tick proc least
-  | inr ahead ↦ subst (λ (t : Tick). IsQuiet t (io_of s.io proc)) (sym (own_tick s proc b.tick b.due)) (quiet_ahead s proc ahead)
+  | inr ahead ↦ subst (λ (t : Tick). HasOnlyLaterEvents t (io_of s.io proc)) (sym (own_tick s proc b.tick b.due)) (quiet_ahead s proc ahead)
 ]
 
 -- what came of it

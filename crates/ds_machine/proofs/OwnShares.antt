@@ -1,16 +1,18 @@
 use Rattle.std.proofs.Common.{ℕ, ◌≡◌, Bool, true, false, if◌then◌else◌, List, [], Option, Some, None, refl, sym, ◌∙◌, ap, subst}
+use Rattle.ds_base.specs.Accesses.{Access}
 use Rattle.ds_base.specs.declared.left_out.LeftOut.{LeftOut}
 use Rattle.ds_base.specs.declared.left_out.Stop.{Stop}
 use Rattle.ds_base.specs.declared.processors.Proc.TheVariants.{Nine, Seven}
 use Rattle.ds_base.specs.declared.ticks.Tick.{Tick}
 use Rattle.arm7_exec.specs.Arm7.{arm7}
 use Rattle.arm_core.specs.Effects.{Outcome}
+use Rattle.arm_core.specs.Steps.{fetched}
 use Rattle.arm_core.specs.declared.outcomes.Stepped as arm
 use Rattle.arm_core.specs.declared.outcomes.Stepped.TheVariants.{Cost, Halted, Left}
 use Rattle.ds_dma.specs.declared.controls.Cause.TheVariants as causes
 use Rattle.ds_map.specs.Maps.{MapState}
 use Rattle.ds_map.specs.Moves.{next_unit, unit_moved, unit_refusal}
-use Rattle.ds_map.specs.Shares.{IsSharedSo, SharedPart, is_apart, is_shown_to_nine, map_put, shares_put}
+use Rattle.ds_map.specs.Shares.{IsSharedSo, SharedPart, is_beyond_seven, is_shown_to_nine, map_put, shares_put}
 use Rattle.ds_map.specs.Views.{SevenReach, seven_memory}
 use Rattle.ds_map.proofs.SevenShares as seven_map
 use Rattle.ds_ports.specs.Dues.{io_due}
@@ -41,7 +43,7 @@ use Rattle.ds_machine.proofs.OuterSteps.{not_woken, settled_halted}
 pub put_own_of : (s : MachineState) → with_nine_own (nine_own_of s) s ≡ s
 put_own_of s =
     let shown = is_shown_to_nine s.io.wramcnt in
-    let apart = is_apart s.io.vram.controls in
+    let apart = is_beyond_seven s.io.vram.controls in
     let own = nine_own_of s in
     ap (λ (bytes : List ℕ). (let m : MachineState = record s { shared = bytes; io = shares_put own.share s.io } in m))
     (mixed_twice shown s.shared [] s.shared ∙ mixed_same shown s.shared)
@@ -51,7 +53,7 @@ put_own_of s =
 pub own_of_put : (t s : MachineState) → nine_own_of (with_nine_own (nine_own_of t) s) ≡ nine_own_of t
 own_of_put t s =
     let shown = is_shown_to_nine t.io.wramcnt in
-    let apart = is_apart t.io.vram.controls in
+    let apart = is_beyond_seven t.io.vram.controls in
     let own = nine_own_of t in
     let vram = mixed apart (mixed apart own.share.vram.bytes s.io.vram.bytes) [] in
     ap (λ (bytes : List ℕ). (let o : NineOwn = record own { share = record own.share { shared = bytes; vram = record own.share.vram { bytes = vram } } } in o))
@@ -65,7 +67,7 @@ is_shared_so s = record {
   wramcnt = refl;
   controls = refl;
   shared = mixed_length (is_shown_to_nine s.io.wramcnt) s.shared [];
-  bytes = mixed_length (is_apart s.io.vram.controls) s.io.vram.bytes [];
+  bytes = mixed_length (is_beyond_seven s.io.vram.controls) s.io.vram.bytes [];
 }
 
 -- ---- what ARM7 reaches
@@ -76,17 +78,20 @@ reach_put own r = record r { map = map_put own r.map }
 abbrev IsReachedSo : SharedPart → SevenReach → Type 0
 IsReachedSo own r = IsSharedSo own r.map.memories.shared r.map.io
 
-seven_commutes : (own : SharedPart) → Commutes seven_memory (IsReachedSo own) (reach_put own)
+abbrev AllReachedSo : SharedPart → SevenReach → List Access → Type 0
+AllReachedSo own r accesses = IsReachedSo own r
+
+seven_commutes : (own : SharedPart) → Commutes seven_memory (AllReachedSo own) (reach_put own)
 seven_commutes own = record {
-  fetched = λ r at width i. seven_map.fetched own r.map i at width;
-  read = λ r at width i. seven_map.value own r.map i r.now at width;
-  refuses = λ r at width value i. seven_map.refusal own r.map i at width value;
-  fetches = λ r at width i. refl;
-  reads = λ r at width i. ap (λ (m : MapState). (let left : SevenReach = record r { map = m } in left)) (seven_map.read own r.map i at width);
-  writes = λ r at width value i. ap (λ (m : MapState). (let left : SevenReach = record r { map = m } in left)) (seven_map.written own r.map i r.now at width value);
-  fetch_stays = λ r at width i. i;
-  read_stays = λ r at width i. seven_map.read_stays own r.map i at width;
-  write_stays = λ r at width value i. seven_map.written_stays own r.map i r.now at width value;
+  fetched = λ r at width rest i. seven_map.fetched own r.map i at width;
+  read = λ r at width rest i. seven_map.value own r.map i r.now at width;
+  refuses = λ r at width value rest i. seven_map.refusal own r.map i at width value;
+  fetches = λ r at width rest i. refl;
+  reads = λ r at width rest i. ap (λ (m : MapState). (let left : SevenReach = record r { map = m } in left)) (seven_map.read own r.map i at width);
+  writes = λ r at width value rest i. ap (λ (m : MapState). (let left : SevenReach = record r { map = m } in left)) (seven_map.written own r.map i r.now at width value);
+  fetch_stays = λ r at width rest i. i;
+  read_stays = λ r at width rest i. seven_map.read_stays own r.map i at width;
+  write_stays = λ r at width value rest i. seven_map.written_stays own r.map i r.now at width value;
 }
 
 seven_follows : (own : SharedPart) → Follows seven_memory (IsReachedSo own) (λ r t. IsReachedSo own t)
@@ -114,13 +119,13 @@ seven_concluded rank own s (Left stop) = refl
 seven_steps : (rank : ℕ) (own : NineOwn) (s : MachineState) → IsSharedSo own.share s.shared s.io
     → step_by rank (Processor Seven) (with_nine_own own s) ≡ step_with (with_nine_own own) (step_by rank (Processor Seven) s)
 seven_steps rank own s shared =
-    let f = reach_put own.share in
-    let I = IsReachedSo own.share in
-    let c = seven_commutes own.share in
+    let old = s.seven.processor.registers in
+    let r = seven_reach (tick_of s.seven.processor) s in
     let o = seven_taken s in
     ap (λ (o : Outcome SevenReach). (let step : MachineStep MachineState Shown LeftOut = machine_concluded rank Seven (with_seven (with_nine_own own s) o) o.stepped in step))
-    (taken_commutes seven_memory I f c seven_side (λ r i. refl) (λ old r number instr i. word_commutes seven_memory I f c arm7 old r number instr i)
-    (line_of s Seven) s.seven.processor.registers (seven_reach (tick_of s.seven.processor) s) shared)
+    (taken_commutes seven_memory (AllReachedSo own.share) (reach_put own.share) (seven_commutes own.share) seven_side (line_of s Seven) old r shared (λ width. shared) refl (λ e.
+    let fetch = fetched seven_memory seven_side.arch old r in
+    word_commutes seven_memory (AllReachedSo own.share) (reach_put own.share) (seven_commutes own.share) arm7 old r fetch.number fetch.instr shared shared))
     ∙ seven_concluded rank own (with_seven s o) o.stepped
 
 shared_after : (rank : ℕ) (own : SharedPart) (s : MachineState) (came : arm.Stepped) → IsSharedSo own s.shared s.io

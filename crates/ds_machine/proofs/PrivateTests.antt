@@ -33,12 +33,12 @@ use Rattle.arm_core.specs.Transfers.{half_or_signed_meaning, load_meaning, signe
 use Rattle.arm_core.specs.declared.addresses.Addressed.{Addressed}
 use Rattle.arm_core.specs.declared.touches.Touch.{Touch}
 use Rattle.ds_map.specs.Views.{nine_memory, seven_memory}
-use Rattle.ds_machine.specs.Observed.{fetch_of}
+use Rattle.ds_machine.specs.Inspections.{fetch_of}
 use Rattle.ds_machine.specs.Private.{AllReachPrivate, ProcessorStaysPrivate, ReachesPrivate, StaysPrivate, data_accesses, may_go_ahead, next_fetch}
 use Rattle.ds_machine.specs.PrivateSides.{SideOf, nine_side, seven_side}
 use Rattle.ds_machine.specs.States.{MachineState}
 use Rattle.ds_machine.specs.Steps.{nine_reach, processor_of, seven_reach, tick_of}
-use Rattle.ds_machine.specs.Touching.{FetchStaysPrivate, InstrReaches, InstrStaysPrivate, IsFootprint, data_private, half_writes, instr_at, is_private_to, reads, writes}
+use Rattle.ds_machine.specs.Touching.{FetchStaysPrivate, InstrReaches, InstrStaysPrivate, IsFootprint, data_private, half_writes, instr_at, is_private_to, reads_data, writes_data}
 
 -- What the code tells of private places is so.
 
@@ -135,7 +135,7 @@ pub plain_none : (arch : Arch) (base : ℕ) (s : RegisterState) (instr : Instr) 
 plain_none arch base s (instrs.Data cond op set_flags rn rd operand) = refl
 plain_none arch base s _ = refl
 
-act_suits : (arch : Arch) (base : ℕ) (s : RegisterState) (i : Instr) → Suits (reads i) (writes i) (act arch base s i).accesses
+act_suits : (arch : Arch) (base : ℕ) (s : RegisterState) (i : Instr) → Suits (reads_data i) (writes_data i) (act arch base s i).accesses
 act_suits arch base s (instrs.Transfer cond pre up byte write_back load rn rd offset) =
     word_or_byte_suits arch s load byte rn rd (addressed s pre up write_back rn (offset_value s offset))
 act_suits arch base s (instrs.HalfTransfer cond op pre up write_back rn rd offset) =
@@ -148,9 +148,9 @@ act_suits arch base s (instrs.ThumbLoadLiteral rd immed) = tt
 act_suits arch base s i = plain_none arch base s i
 
 pub meant_suits : (arch : Arch) (base : ℕ) (s : RegisterState) (i : Instr)
-    → Suits (reads (equivalent i)) (writes (equivalent i)) (meaning arch base s i).accesses ⊎ ((meaning arch base s i).accesses ≡ [])
+    → Suits (reads_data (equivalent i)) (writes_data (equivalent i)) (meaning arch base s i).accesses ⊎ ((meaning arch base s i).accesses ≡ [])
 meant_suits arch base s i = by_condition (holds (condition i) s.cpsr) where
-  by_condition : (b : Bool) → Suits (reads (equivalent i)) (writes (equivalent i)) (if b then act arch base s (equivalent i) else skipped s).accesses
+  by_condition : (b : Bool) → Suits (reads_data (equivalent i)) (writes_data (equivalent i)) (if b then act arch base s (equivalent i) else skipped s).accesses
       ⊎ ((if b then act arch base s (equivalent i) else skipped s).accesses ≡ [])
   by_condition true = inl (act_suits arch base s (equivalent i))
   by_condition false = inr refl
@@ -287,11 +287,11 @@ module _ {S : Type 0} (side : SideOf S) (state : S) where
       (so_where w (list_all q (touched_bytes touch)) (λ e. touch_over q touch accesses covers (none_passes q (accessed_bytes accesses) nothing)))
 
   instr_is : (s : RegisterState) (instr : Instr) (touch : Touch) → Covers touch (meaning side.arch (side.base state) s instr).accesses
-      → ((may_go_ahead side.arch (Some instr) && tested (reads (equivalent instr)) (writes (equivalent instr)) touch) ≡ true) ↔ InstrReaches side state s instr
+      → ((may_go_ahead side.arch (Some instr) && tested (reads_data (equivalent instr)) (writes_data (equivalent instr)) touch) ≡ true) ↔ InstrReaches side state s instr
   instr_is s instr touch covers =
       let m = meaning side.arch (side.base state) s instr in
-      let r = reads (equivalent instr) in
-      let w = writes (equivalent instr) in
+      let r = reads_data (equivalent instr) in
+      let w = writes_data (equivalent instr) in
       let go = may_go_ahead side.arch (Some instr) in
       let suits = meant_suits side.arch (side.base state) s instr in (
         λ h. ((and_parts go (tested r w touch) h).0, data_passes r w touch m.accesses suits covers (and_parts go (tested r w touch) h).1),
@@ -326,7 +326,7 @@ module _ {S : Type 0} (side : SideOf S) (state : S) where
 -- ---- in the machine
 
 pub instr_stays : (s : MachineState) (proc : Proc) (instr : Instr) (touch : Touch) → IsFootprint s proc instr touch
-    → ((may_go_ahead (architecture_of proc) (Some instr) && data_private s proc (reads (equivalent instr)) (writes (equivalent instr)) touch) ≡ true) ↔ InstrStaysPrivate s proc instr
+    → ((may_go_ahead (architecture_of proc) (Some instr) && data_private s proc (reads_data (equivalent instr)) (writes_data (equivalent instr)) touch) ≡ true) ↔ InstrStaysPrivate s proc instr
 instr_stays s Nine instr touch is =
     let r = nine_reach (tick_of s.nine.processor) s in
     instr_is nine_side r s.nine.processor.registers instr touch (is (nine_side.base r))

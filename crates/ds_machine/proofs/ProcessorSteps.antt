@@ -11,7 +11,7 @@ use Rattle.arm_core.specs.declared.outcomes.Stepped as arm
 use Rattle.arm_core.specs.declared.outcomes.Stepped.TheVariants.{Cost, Halted, Left}
 use Rattle.arm_exec.specs.Costs.{CostsSome}
 use Rattle.ds_ipc.specs.Ipcs.{other_proc}
-use Rattle.ds_ports.specs.Happenings.{IsIo, Goes, IsProcessorIo, IsQuiet, ReschedulesEach}
+use Rattle.ds_ports.specs.Happenings.{IsIo, Goes, IsProcessorIo, HasOnlyLaterEvents, ReschedulesEach}
 use Rattle.ds_ports.specs.Io.{io_of}
 use Rattle.ds_ports.proofs.Later.{all_io_dues, goes_io, of_both, processor_io_is}
 use Rattle.ds_runs.specs.Runs.{MachineStep, Makes, Stops}
@@ -105,11 +105,11 @@ step_concluded rank proc tick s m next came done at machine stepped h =
     ∙ ap (step m) (sym stepped)
     ∙ same_shown rank proc tick m s next came done h
 
-reach_goes : (proc : Proc) (tick : Tick) (s : MachineState) → tick_of (processor_of s proc) ≡ tick → IsProcessorIo (io_of s.io proc) → IsQuiet tick (io_of s.io proc)
+reach_goes : (proc : Proc) (tick : Tick) (s : MachineState) → tick_of (processor_of s proc) ≡ tick → IsProcessorIo (io_of s.io proc) → HasOnlyLaterEvents tick (io_of s.io proc)
     → Goes proc tick s.io (reached_by proc s).io
 reach_goes proc tick s e is quiet =
     subst (λ (t : Tick). Goes proc t s.io (reached_by proc s).io) e
-    (step_goes proc (tick_of (processor_of s proc)) s is (subst (λ (t : Tick). IsQuiet t (io_of s.io proc)) (sym e) quiet))
+    (step_goes proc (tick_of (processor_of s proc)) s is (subst (λ (t : Tick). HasOnlyLaterEvents t (io_of s.io proc)) (sym e) quiet))
 
 -- ---- how it goes on
 
@@ -191,7 +191,7 @@ gone_stays proc m tick (Left stop) took = absurd took
 -- where it makes its accesses
 pub record Operation (proc : Proc) (tick : Tick) (s : MachineState) : Type 0 where
   pub sound : HasSoundParts s
-  pub quiet : IsQuiet tick (io_of s.io proc)
+  pub quiet : HasOnlyLaterEvents tick (io_of s.io proc)
   pub due : processor_due s proc ≡ Some tick
 
 module _ (proc : Proc) (tick : Tick) (s : MachineState) (r : Operation proc tick s) where

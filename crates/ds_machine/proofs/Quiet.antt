@@ -8,7 +8,7 @@ use Rattle.ds_base.specs.declared.ticks.Tick.{Tick}
 use Rattle.ds_dma.specs.Channels.{ready_by}
 use Rattle.ds_dma.specs.States.{DmaState, AreReadyLater, any_runs, channel_at}
 use Rattle.ds_ports.specs.Dues.{io_due}
-use Rattle.ds_ports.specs.Happenings.{IsQuiet}
+use Rattle.ds_ports.specs.Happenings.{HasOnlyLaterEvents}
 use Rattle.ds_ports.specs.ProcessorIo.{ProcessorIoState, blocks_processor}
 use Rattle.ds_ports.specs.Io.{io_of}
 use Rattle.ds_runs.specs.Actors.{actor_of}
@@ -117,18 +117,18 @@ not_halted s proc h = (or_parts _ _ (own_blocks s proc h)).0
 
 -- so where a processor takes its step, as the least of all or as the least acting actor
 quiet_due : (s : MachineState) (tick : Tick) (proc : Proc) → processor_due s proc ≡ Some tick
-    → ((which : ℕ) → which < 4 → IsLater tick (io_due (Timer proc which) s.io)) → IsQuiet tick (io_of s.io proc)
+    → ((which : ℕ) → which < 4 → IsLater tick (io_due (Timer proc which) s.io)) → HasOnlyLaterEvents tick (io_of s.io proc)
 quiet_due s tick proc due timers = record {
   timers = timers;
   dma = none_blocked tick (io_of s.io proc) (own_blocks s proc (due_then (is_blocked s proc) (processor_of s proc) tick due).0);
 }
 
 pub quiet_processor : (s : MachineState) (tick : Tick) (rank : ℕ) (proc : Proc) → IsLeast (dues_of s) tick rank → actor_of rank ≡ Processor proc
-    → IsQuiet tick (io_of s.io proc)
+    → HasOnlyLaterEvents tick (io_of s.io proc)
 quiet_processor s tick rank proc least is =
     quiet_due s tick proc (due_of_step s rank tick (Processor proc) least is) (timers_later s tick rank least (ap comes_late is) proc)
 
-pub quiet_acting : (s : MachineState) (tick : Tick) (proc : Proc) → IsLeast (acting_dues s) tick (rank_of proc) → IsQuiet tick (io_of s.io proc)
+pub quiet_acting : (s : MachineState) (tick : Tick) (proc : Proc) → IsLeast (acting_dues s) tick (rank_of proc) → HasOnlyLaterEvents tick (io_of s.io proc)
 quiet_acting s tick proc least = quiet_due s tick proc (sym (acting_processor s proc) ∙ least.there) (acting_timers_later s tick (rank_of proc) least (late proc) proc) where
   late : (proc : Proc) → comes_late (actor_of (rank_of proc)) ≡ true
   late Nine = refl
@@ -142,7 +142,7 @@ fence_timers s proc tick below which lt = later_if tick (io_due (Timer proc whic
     let P : actor.Actor → Type 0 = λ a. Fences a proc in
     below has.0 at there (subst P (sym has.1.there) refl)))
 
-pub quiet_ahead : (s : MachineState) (proc : Proc) → IsAhead s proc → IsQuiet (tick_of (processor_of s proc)) (io_of s.io proc)
+pub quiet_ahead : (s : MachineState) (proc : Proc) → IsAhead s proc → HasOnlyLaterEvents (tick_of (processor_of s proc)) (io_of s.io proc)
 quiet_ahead s proc ahead = record {
   timers = fence_timers s proc (tick_of (processor_of s proc)) ahead.below;
   dma = none_blocked (tick_of (processor_of s proc)) (io_of s.io proc) (own_blocks s proc ahead.private.free);

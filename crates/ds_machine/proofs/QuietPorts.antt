@@ -2,7 +2,7 @@ use Rattle.std.proofs.Common.{ℕ, ◌≡◌, ◌≤◌, ◌<◌, ◌-◌, ◌/�
 use Rattle.std.specs.Prelude.{not}
 use Rattle.std.proofs.lemmas.Bool.{and_parts, not-true}
 use Rattle.ds_machine.specs.Lagging.{is_observed_port}
-use Rattle.ds_machine.specs.QuietPorts.{is_quiet_port}
+use Rattle.ds_machine.specs.QuietPorts.{is_steady_port}
 
 -- Where ports stand of which a read changes no unit, and shows nothing of geometry.
 
@@ -14,7 +14,7 @@ pub record IsQuietAt (at : ℕ) : Type 0 where
   pub high : at < 0x04100000
   pub apart : is_observed_port (at - 0x04000000) ≡ false
 
-pub quiet_at : (at : ℕ) → is_quiet_port at ≡ true → IsQuietAt at
+pub quiet_at : (at : ℕ) → is_steady_port at ≡ true → IsQuietAt at
 quiet_at at h =
     let two = and_parts (at / 2 ^ 20 == 0x40) (not (is_observed_port (at - 0x04000000))) h in
     let b = bounds at two.0 in

@@ -37,7 +37,7 @@ use Rattle.ds_dma.specs.declared.controls.Cause.TheVariants as causes
 use Rattle.ds_dma.specs.declared.channels.Unit.{Unit as DmaUnit}
 use Rattle.ds_map.specs.Accesses.{map_value}
 use Rattle.ds_map.specs.Maps.{MapState}
-use Rattle.ds_map.specs.Moves.{after_unit, next_unit, unit_moved, unit_read, unit_refusal, unit_taken}
+use Rattle.ds_map.specs.Moves.{map_after_unit, next_unit, unit_moved, unit_read, unit_refusal, unit_taken}
 use Rattle.ds_map.specs.Views.{NineReach, SevenReach, nine_memory, seven_memory, tcm_read, tcm_written}
 use Rattle.ds_map.proofs.Later.{map_read_unchanged}
 use Rattle.ds_ports.specs.Dues.{held_due, io_due}
@@ -317,7 +317,7 @@ taken_leaves : (proc : Proc) (now : Tick) (unit : DmaUnit) (m : MapState) → (u
 taken_leaves proc now unit m = moved_leaves proc now (unit_read proc unit m).io ∙ read_leaves proc unit m
 
 unit_grows : (stop : Option Stop) (now : Tick) (unit : DmaUnit) (m : MapState) → AreWaiting m.io.gx
-    → waiting_entries (after_unit stop Nine now unit m).io.gx ≤ waiting_entries m.io.gx + 4
+    → waiting_entries (map_after_unit stop Nine now unit m).io.gx ≤ waiting_entries m.io.gx + 4
 unit_grows None now unit m w =
     let e = taken_leaves Nine now unit m in
     let g = nine_grows now (unit_taken Nine now unit m) unit.to unit.width (map_value Nine now m unit.from unit.width) in
@@ -384,7 +384,7 @@ seven_steps_leave_geometry rank s is =
     by_actor (λ (x : MachineState). x.io.gx ≡ s.io.gx) rank (Processor Seven) s is
     (processor_leaves rank Seven s (processor_due s Seven) ∙ seven_taken (line_of s Seven) s.seven.processor.registers (seven_reach (tick_of s.seven.processor) s))
 
-seven_unit : (stop : Option Stop) (now : Tick) (unit : DmaUnit) (m : MapState) → (after_unit stop Seven now unit m).io.gx ≡ m.io.gx
+seven_unit : (stop : Option Stop) (now : Tick) (unit : DmaUnit) (m : MapState) → (map_after_unit stop Seven now unit m).io.gx ≡ m.io.gx
 seven_unit None now unit m =
     seven_stays now (unit_taken Seven now unit m) unit.to unit.width (map_value Seven now m unit.from unit.width) ∙ taken_leaves Seven now unit m
 seven_unit (Some stop) now unit m = read_leaves Seven unit m

@@ -282,8 +282,8 @@ stops_count_none rank s left stop h = stop_counts s left rank stop h
 
 pub running_taken : (limit tick rank : ℕ) (s now : MachineState) → ComesBeforeAll tick rank s → ((u : ℕ) → u ≤ tick → 24 * u + 12 < 24 * tick + rank → u < limit)
     → TakesGeometry tick rank s now → IsRunning limit s → IsRunning limit now
-running_taken limit tick rank s now before below (lagging.none start) running = running
-running_taken limit tick rank s now before below (lagging.more start mid next takes behind makes) running =
+running_taken limit tick rank s now before below (lagging.no_geometry start) running = running
+running_taken limit tick rank s now before below (lagging.more_geometry start mid next takes behind makes) running =
     let first = running_taken limit tick rank start mid before below takes running in
     let k = behind_steps tick rank mid (still_before tick rank start mid running.sound before takes) behind in
     running_then limit mid next k.next 12 [] k.least.there (inl k.least) (below k.next.0 k.early k.earlier) makes first

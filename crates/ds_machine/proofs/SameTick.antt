@@ -10,7 +10,7 @@ use Rattle.ds_runs.specs.Runs.{IsLeast, Makes, Stops, due_at}
 use Rattle.ds_runs.proofs.AllActors.{actors_differ}
 use Rattle.ds_runs.proofs.Lists.{is_later, least_unique}
 use Rattle.ds_machine.specs.Acting.{acting_dues, is_due_before}
-use Rattle.ds_machine.specs.Lagging.{StepsBeforeGeometry, more, none, observes_by}
+use Rattle.ds_machine.specs.Lagging.{StepsBeforeGeometry, more_geometry, no_geometry, observes_by}
 use Rattle.ds_machine.specs.Reference.{Shown, dues_of, reference, reference_step}
 use Rattle.ds_machine.specs.Sound.{IsSound}
 use Rattle.ds_machine.specs.States.{MachineState}
@@ -80,7 +80,7 @@ module _ (s : MachineState) (tick due : Tick) (first rank : ℕ) (sound : IsSoun
 
     late_so : CaughtSo s steps.next
     late_so =
-        caught_so (u.0 + 1) 0 s steps.next sound (more s s steps.next (none s) (behind_next (is_quiet s.io) s.io.gx.due u quiet (due_of_least s 12 u geometry)) steps.makes)
+        caught_so (u.0 + 1) 0 s steps.next sound (more_geometry s s steps.next (no_geometry s) (behind_next (is_quiet s.io) s.io.gx.due u quiet (due_of_least s 12 u geometry)) steps.makes)
 
     waits_for : WaitsForGeometry s tick rank
     waits_for = record { due = u; same = due_then; geometry = geometry; late = steps.next; steps = steps.makes; least = least_late; so = late_so }

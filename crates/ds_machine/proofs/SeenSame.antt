@@ -9,15 +9,11 @@ use Rattle.arm_core.specs.Steps.{enters}
 use Rattle.cp15_tcm.specs.TightlyCoupled.{tcm_of}
 use Rattle.cp15_tcm.specs.declared.answers.Tcm.{Tcm}
 use Rattle.cp15_tcm.specs.declared.answers.Tcm.TheVariants.{Itcm, Dtcm, Past}
-use Rattle.ds_map.specs.Accesses.{fetched_at, map_fetched}
-use Rattle.ds_map.specs.Maps.{MapState}
 use Rattle.ds_map.specs.Views.{tcm_fetched}
-use Rattle.ds_places.specs.AddressTables.{place_of}
-use Rattle.ds_places.specs.declared.kinds.Place.{Place}
-use Rattle.ds_places.specs.declared.kinds.Place.TheVariants.{Cell, Banks, Port, Rom, Nothing}
 use Rattle.ds_ports.specs.Io.{with_gx}
 use Rattle.gx_fifo.specs.GxStates.{GxState}
-use Rattle.ds_machine.specs.Observed.{fetch_of, seen_by, seen_of}
+use Rattle.ds_map.proofs.GxApart as gx_map
+use Rattle.ds_machine.specs.Inspections.{fetch_of, seen_by, seen_of}
 use Rattle.ds_machine.specs.Reference.{processor_due}
 use Rattle.ds_machine.specs.States.{MachineState, ProcessorState}
 use Rattle.ds_machine.specs.Steps.{is_blocked, line_of, nine_reach, processor_of, seven_reach, tick_of}
@@ -32,26 +28,15 @@ use Rattle.ds_machine.proofs.OwnRemaining.{still_due}
 abbrev with_geometry : GxState → ℕ → MachineState → MachineState
 with_geometry g events s = record s { io = with_gx g s.io; events = events }
 
-place_fetched : (proc : Proc) (place : Place) (g : GxState) (m : MapState) (width : Width) → fetched_at proc place (record m { io = with_gx g m.io }) width ≡ fetched_at proc place m width
-place_fetched proc (Cell memory at) g m width = refl
-place_fetched proc (Banks space at) g m width = refl
-place_fetched proc (Port at) g m width = refl
-place_fetched proc (Rom at) g m width = refl
-place_fetched proc Nothing g m width = refl
-
-past_fetched : (proc : Proc) (g : GxState) (m : MapState) (at : ℕ) (width : Width) → map_fetched proc (record m { io = with_gx g m.io }) at width ≡ map_fetched proc m at width
-unfolding map_fetched
-past_fetched proc g m at width = place_fetched proc (place_of proc m.io.wramcnt at) g m width
-
 module _ (g : GxState) (events : ℕ) (s : MachineState) where
   nine_fetched : (tcm : Tcm) (now : Tick) (at : ℕ) (width : Width) → tcm_fetched tcm (nine_reach now (with_geometry g events s)) at width ≡ tcm_fetched tcm (nine_reach now s) at width
   nine_fetched (Itcm place) now at width = refl
   nine_fetched (Dtcm place) now at width = refl
-  nine_fetched Past now at width = past_fetched Nine g (nine_reach now s).map at width
+  nine_fetched Past now at width = gx_map.fetched g Nine (nine_reach now s).map at width
 
   fetch_same : (proc : Proc) (at : ℕ) (width : Width) → fetch_of (with_geometry g events s) proc at width ≡ fetch_of s proc at width
   fetch_same Nine at width = nine_fetched (tcm_of s.nine.cp15 at false true) (tick_of s.nine.processor) at width
-  fetch_same Seven at width = past_fetched Seven g (seven_reach (tick_of s.seven.processor) s).map at width
+  fetch_same Seven at width = gx_map.fetched g Seven (seven_reach (tick_of s.seven.processor) s).map at width
 
 -- by what it fetches
 module _ (p : ProcessorState) (first second : ℕ → Width → ℕ) (same : (at : ℕ) (width : Width) → first at width ≡ second at width) where

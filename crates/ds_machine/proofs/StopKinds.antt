@@ -58,7 +58,7 @@ use Rattle.ds_runs.specs.declared.actors.Actor as actor
 use Rattle.ds_runs.specs.declared.actors.Actor.TheVariants.{Dma, Processor, Video}
 use Rattle.video2d.specs.Backgrounds.{is_background_on}
 use Rattle.video2d.specs.Engines.{EngineState, background_mosaic, bgcnt}
-use Rattle.video2d.specs.Pictures.{is_enabled as is_engine_enabled, is_forced_blank, object_memory, shows_layers}
+use Rattle.video2d.specs.Pictures.{is_engine_enabled, is_forced_blank, object_memory, shows_layers}
 use Rattle.video2d.specs.Scans.{blanks_drawn_line}
 use Rattle.video2d.specs.Stops.{first_need, needed_if, needs_capture, needs_display_mode, needs_mode, needs_of_background, needs_of_engine, needs_of_line, needs_of_object, needs_of_objects, needs_of_objects_shown, value_of_engine}
 use Rattle.video2d.specs.Videos.{VideoState, answer_unless, video_shown, video_stop}

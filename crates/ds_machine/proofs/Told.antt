@@ -14,7 +14,7 @@ use Rattle.arm_core.specs.declared.outcomes.Stepped as arm
 use Rattle.arm_core.specs.declared.outcomes.Stepped.TheVariants.{Cost, Halted, Left}
 use Rattle.ds_dma.specs.declared.channels.Unit.{Unit as DmaUnit}
 use Rattle.ds_ipc.specs.Ipcs.{other_proc}
-use Rattle.ds_map.specs.Moves.{after_unit, next_unit, unit_refusal}
+use Rattle.ds_map.specs.Moves.{map_after_unit, next_unit, unit_refusal}
 use Rattle.ds_ports.specs.Happenings.{IsTold, IsUnchanged, ipc_bits}
 use Rattle.ds_ports.specs.Io.{io_of}
 use Rattle.ds_ports.specs.ProcessorIo.{ProcessorIoState}
@@ -110,7 +110,7 @@ channel_tells rank proc channel tick s st =
     IsOnlyTold (io_of s.io (other_proc proc)) (io_of (left_by step).io (other_proc proc))))
     (sym st.due) (by_refusal unit (unit_refusal proc tick unit (map_of proc s))) where
       by_refusal : (unit : DmaUnit) (refusal : Option Stop)
-          → (let step : MachineStep MachineState Shown LeftOut = moved_by rank proc tick refusal (with_map proc s (after_unit refusal proc tick unit (map_of proc s))) in
+          → (let step : MachineStep MachineState Shown LeftOut = moved_by rank proc tick refusal (with_map proc s (map_after_unit refusal proc tick unit (map_of proc s))) in
           IsOnlyTold (io_of s.io (other_proc proc)) (io_of (left_by step).io (other_proc proc)))
       by_refusal unit None =
           let timers = channel_timers proc channel rank tick s st in record {

@@ -13,7 +13,7 @@ use Rattle.ds_machine.specs.Reference.{Shown, reference, reference_step}
 use Rattle.ds_machine.specs.Sound.{IsSound}
 use Rattle.ds_machine.specs.States.{MachineState, counts_of}
 use Rattle.ds_machine.specs.Steps.{processor_of, tick_of}
-use Rattle.ds_machine.specs.TurnSteps.{BelongsToTurn, MayAct, TakesSteps, more, none}
+use Rattle.ds_machine.specs.TurnSteps.{BelongsToTurn, MayAct, TakesSteps, more_steps, no_steps}
 use Rattle.ds_machine.proofs.ActingDues.{acting_processor}
 use Rattle.ds_machine.proofs.ActingSteps.{Acted, ActedStops, acted_keeps, acting_runs}
 use Rattle.ds_machine.proofs.DueTicks.{own_tick}
@@ -52,8 +52,8 @@ belongs_stops until s caught left proc stop b catches h = record { caught = caug
 -- ---- the machine goes on
 
 pub running_along : (until limit : ℕ) (proc : Proc) (s next : MachineState) → until ≤ limit → TakesSteps until proc s next → IsRunning limit s → IsRunning limit next
-running_along until limit proc s next le (none start) running = running
-running_along until limit proc s next le (more start before caught last earlier b catches h) running =
+running_along until limit proc s next le (no_steps start) running = running
+running_along until limit proc s next le (more_steps start before caught last earlier b catches h) running =
     let below = belongs_below until before proc b in
     running_acted limit before last (tick_of (processor_of before proc)) (rank_of proc) [] (belongs_acted until before caught last proc [] b catches h) (omega (arith, below, le))
     (running_along until limit proc start before le earlier running)
@@ -67,8 +67,8 @@ pub record KeptAlong (s next : MachineState) : Type 0 where
   pub more : counts_of s ≤ counts_of next
 
 pub takes_along : (until : ℕ) (proc : Proc) (s next : MachineState) → IsSound s → TakesSteps until proc s next → KeptAlong s next
-takes_along until proc s next sound (none start) = record { sound = sound; frame = refl; lists = refl; more = omega arith }
-takes_along until proc s next sound (more start before caught last earlier b catches h) =
+takes_along until proc s next sound (no_steps start) = record { sound = sound; frame = refl; lists = refl; more = omega arith }
+takes_along until proc s next sound (more_steps start before caught last earlier b catches h) =
     let first = takes_along until proc start before sound earlier in
     let then = acted_keeps before last (tick_of (processor_of before proc)) (rank_of proc) [] first.sound (belongs_acted until before caught last proc [] b catches h) in
     let one = first.more in
@@ -79,8 +79,8 @@ takes_along until proc s next sound (more start before caught last earlier b cat
 
 pub takes_run : (until : ℕ) (proc : Proc) (s next : MachineState) → IsSound s → TakesSteps until proc s next → (limit : ℕ) → until ≤ limit
     → (end : Ending MachineState LeftOut) (outs : List Shown) → Runs reference limit end s outs ↔ Runs reference limit end next outs
-takes_run until proc s next sound (none start) limit room end outs = (λ run. run, λ run. run)
-takes_run until proc s next sound (more start before caught last earlier b catches h) limit room end outs =
+takes_run until proc s next sound (no_steps start) limit room end outs = (λ run. run, λ run. run)
+takes_run until proc s next sound (more_steps start before caught last earlier b catches h) limit room end outs =
     let below = belongs_below until before proc b in
     let first = takes_run until proc start before sound earlier limit room end outs in
     let then =

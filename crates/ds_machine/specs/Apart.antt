@@ -11,9 +11,9 @@ use Rattle.ds_machine.specs.Reference.{Shown, past_stall, step_by}
 use Rattle.ds_machine.specs.States.{MachineState, NineState, SevenState}
 use Rattle.ds_machine.specs.Statuses.{left_by}
 
--- What an actor's step leaves alone and doesn't depend on: a processor's own part, which that processor and its DMA channels alone reach: the channels for the
--- tick at which it is due, and for the memories that are not the other's. The display reads palettes and OAM, and geometry moves ARM9's due tick at the end of a
--- stall. (Settling and waking, which follow a step, aren't part of it.)
+-- What an actor's step leaves alone and doesn't depend on: a processor's own part, which that processor and its DMA channels alone reach: the
+-- channels for the tick at which it is due, and for the memories that are not the other's. The display reads palettes and OAM, and geometry moves
+-- ARM9's due tick at the end of a stall. (Settling and waking, which follow a step, aren't part of it.)
 
 -- what ARM9, its channels, geometry and the display alone reach: its own part, palettes and OAM
 pub record NinePart : Type 0 where
@@ -63,8 +63,8 @@ with_nine_own own s = with_nine_part own.part (record s { shared = shared_put ow
 abbrev pub nine_own_of : MachineState → NineOwn
 nine_own_of s = record { part = record { nine = s.nine; palette = s.palette; oam = s.oam }; share = shared_of s.shared s.io }
 
--- with other bytes there, shared out as they are, a step of an actor that isn't in ARM9's fence comes to the same, and what ARM9 alone reaches is as it was. (ARM7 and its channels reach
--- the rest of shared work RAM and of video memory, and never change how they are shared out.)
+-- with other bytes there, shared out as they are, a step of an actor that isn't in ARM9's fence comes to the same, and what ARM9 alone reaches is as
+-- it was. (ARM7 and its channels reach the rest of shared work RAM and of video memory, and never change how they are shared out.)
 abbrev pub IsOutside : actor.Actor → Type 0
 IsOutside a = (a ≢ Processor Nine) × (Fences a Nine → ⊥)
 
@@ -82,7 +82,8 @@ pub record ShowLeaves (rank : ℕ) (own : NineState) (s : MachineState) : Type 0
 abbrev pub DisplayLeavesNine : Type 0
 DisplayLeavesNine = (rank : ℕ) (own : NineState) (s : MachineState) → ShowLeaves rank own s
 
--- geometry, with another part of ARM9's, comes to the same, and all of that part is as it was but for the tick at which ARM9 is due, which is past the end of a stall
+-- geometry, with another part of ARM9's, comes to the same, and all of that part is as it was but for the tick at which ARM9 is due, which is past
+-- the end of a stall
 abbrev pub past_stall_of : MachineState → NinePart → NinePart
 past_stall_of s own = record own { nine = record own.nine { processor = record own.nine.processor { due = past_stall s.io own.nine.processor.due } } }
 

@@ -14,7 +14,8 @@ use Rattle.ds_machine.specs.Steps.{is_halted, map_of, processor_of, with_map, wi
 abbrev pub one_event : MachineState → MachineState
 one_event s = record s { events = s.events + 1 }
 
--- a processor is due after a tick at the earliest: so it is after each unit that a channel of it moves (our choice); one that is halted isn't due, and has 0 there
+-- a processor is due after a tick at the earliest: so it is after each unit that a channel of it moves (our choice); one that is halted isn't due,
+-- and has 0 there
 abbrev pub past_tick : Bool → Tick → ProcessorState → ProcessorState
 past_tick halted now p = record p { due = if halted then 0 else max p.due (now.0 + 1) }
 
@@ -33,4 +34,5 @@ moved_by rank proc now (Some stop) s = Stops (stopped_at rank now stop) s
 abbrev pub channel_step : {O : Type 0} → ℕ → Proc → Option Tick → MachineState → MachineStep MachineState O LeftOut
 channel_step rank proc None s = Makes s []
 channel_step rank proc (Some now) s =
-    let unit = next_unit s.io proc in moved_by rank proc now (unit_refusal proc now unit (map_of proc s)) (with_map proc s (unit_moved proc now unit (map_of proc s)))
+    let unit = next_unit s.io proc in moved_by rank proc now (unit_refusal proc now unit (map_of proc s))
+    (with_map proc s (unit_moved proc now unit (map_of proc s)))

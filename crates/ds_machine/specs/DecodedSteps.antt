@@ -17,4 +17,5 @@ operation_outcome memory side s state operation = carried_out memory side.arch s
 -- it is what any instruction comes to that it was decoded from
 abbrev pub RunsAs : {S : Type 0} → MemoryMachine S → SideOf S → RegisterState → S → Operation → Type 0
 RunsAs memory side s state operation =
-    (number : ℕ) (instr : Option Instr) → operation ≡ operation_of instr → side.executed s state number instr ≡ operation_outcome memory side s state operation
+    (number : ℕ) (instr : Option Instr) → operation ≡ operation_of instr → side.executed s state number instr
+    ≡ operation_outcome memory side s state operation

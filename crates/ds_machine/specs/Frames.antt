@@ -37,16 +37,19 @@ FollowFrames old new outs = last_frame new ≡ last_or (last_frame old) (frames_
 
 -- so it is after each step; and one that stops leaves the last whole frame
 abbrev pub StepsFollowFrames : Type 0
-StepsFollowFrames = (s next : MachineState) (tick : Tick) (rank : ℕ) (outs : List Shown) → HasSoundParts s → IsLeast (dues_of s) tick rank → reference_step rank s ≡ Makes next outs
+StepsFollowFrames = (s next : MachineState) (tick : Tick) (rank : ℕ) (outs : List Shown) → HasSoundParts s → IsLeast (dues_of s) tick rank
+    → reference_step rank s ≡ Makes next outs
     → FollowFrames s next outs
 
 abbrev pub StopsLeaveFrames : Type 0
-StopsLeaveFrames = (s left : MachineState) (tick : Tick) (rank : ℕ) (stop : LeftOut) → HasSoundParts s → IsLeast (dues_of s) tick rank → reference_step rank s ≡ Stops stop left
+StopsLeaveFrames = (s left : MachineState) (tick : Tick) (rank : ℕ) (stop : LeftOut) → HasSoundParts s → IsLeast (dues_of s) tick rank
+    → reference_step rank s ≡ Stops stop left
     → last_frame left ≡ last_frame s
 
 -- one becomes whole every 1,120,380 ticks, the first at tick 817,920: a run to a limit puts out no more of them than come before it
 abbrev pub FramesAreFew : Type 0
-FramesAreFew = (limit : ℕ) (start : MachineState) (end : Ending MachineState LeftOut) (outs : List Shown) → HasSoundParts start → Runs reference limit end start outs
+FramesAreFew = (limit : ℕ) (start : MachineState) (end : Ending MachineState LeftOut) (outs : List Shown) → HasSoundParts start
+    → Runs reference limit end start outs
     → 1120380 * length outs ≤ limit + 302460
 
 -- a machine's last swap, if one was made: its lists tell when, and line 192 never begins at tick 0
@@ -64,9 +67,11 @@ FollowLists old new outs = last_lists new ≡ last_or (last_lists old) (lists_sh
 
 -- so it is after each step; and one that stops leaves the last lists
 abbrev pub StepsFollowLists : Type 0
-StepsFollowLists = (s next : MachineState) (tick : Tick) (rank : ℕ) (outs : List Shown) → HasSoundParts s → IsLeast (dues_of s) tick rank → reference_step rank s ≡ Makes next outs
+StepsFollowLists = (s next : MachineState) (tick : Tick) (rank : ℕ) (outs : List Shown) → HasSoundParts s → IsLeast (dues_of s) tick rank
+    → reference_step rank s ≡ Makes next outs
     → FollowLists s next outs
 
 abbrev pub StopsLeaveLists : Type 0
-StopsLeaveLists = (s left : MachineState) (tick : Tick) (rank : ℕ) (stop : LeftOut) → HasSoundParts s → IsLeast (dues_of s) tick rank → reference_step rank s ≡ Stops stop left
+StopsLeaveLists = (s left : MachineState) (tick : Tick) (rank : ℕ) (stop : LeftOut) → HasSoundParts s → IsLeast (dues_of s) tick rank
+    → reference_step rank s ≡ Stops stop left
     → last_lists left ≡ last_lists s

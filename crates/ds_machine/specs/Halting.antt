@@ -7,8 +7,8 @@ use Rattle.ds_machine.specs.Sound.{HasSoundParts}
 use Rattle.ds_machine.specs.States.{MachineState}
 use Rattle.ds_machine.specs.Steps.{is_halted, processor_of}
 
--- Nothing is kept that has no effect: while a processor is halted the tick of its next step is 0, and what is kept of a stall's end holds back a channel, which is part of
--- what is settled.
+-- Nothing is kept that has no effect: while a processor is halted the tick of its next step is 0, and what is kept of a stall's end holds back a
+-- channel, which is part of what is settled.
 
 pub record KeepsNoMore (s : MachineState) : Type 0 where
   pub halted : (proc : Proc) → is_halted s proc ≡ true → (processor_of s proc).due ≡ 0
@@ -20,4 +20,5 @@ BootsKeepNoMore = (s : MachineState) → s.io ≡ io_at_boot → KeepsNoMore s
 
 -- and wherever a run ends, from a machine of which it is so
 abbrev pub RunsKeepNoMore : Type 0
-RunsKeepNoMore = (limit : ℕ) (start end : MachineState) (outs : List Shown) → Runs reference limit (At end) start outs → HasSoundParts start → KeepsNoMore start → KeepsNoMore end
+RunsKeepNoMore = (limit : ℕ) (start end : MachineState) (outs : List Shown) → Runs reference limit (At end) start outs → HasSoundParts start
+    → KeepsNoMore start → KeepsNoMore end

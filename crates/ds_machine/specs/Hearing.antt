@@ -6,8 +6,8 @@ use Rattle.ds_runs.specs.declared.actors.Actor.TheVariants.{KeyScript, Video, Ti
 
 -- Whom a processor hears of, and where geometry stands among the actors.
 
--- the actors that may halt a processor, or wake it, or make it wait: the key script, the display, its timers, its DMA channels, the card, and geometry for ARM9
--- (our choice; the card isn't built yet)
+-- the actors that may halt a processor, or wake it, or make it wait: the key script, the display, its timers, its DMA channels, the card, and
+-- geometry for ARM9 (our choice; the card isn't built yet)
 abbrev pub Fences : actor.Actor → Proc → Type 0
 Fences KeyScript proc = Unit {0}
 Fences Video proc = Unit {0}

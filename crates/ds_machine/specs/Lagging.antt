@@ -27,12 +27,13 @@ use Rattle.ds_machine.specs.PrivateSides.{nine_side}
 use Rattle.ds_machine.specs.States.{MachineState}
 use Rattle.ds_machine.specs.Steps.{line_of, nine_reach, tick_of}
 
--- Geometry may lag: while nobody sees how far it is, others step though its steps are due before theirs; it catches up before a step that observes it. Our choice.
+-- Geometry may lag: while nobody sees how far it is, others step though its steps are due before theirs; it catches up before a step that observes
+-- it. Our choice.
 
 -- ---- steps that observe geometry
 
--- a port that shows how far geometry is, gives it something to do, or makes it heard: DISP3DCNT at 60h; what stands from 400h to 6FFh; and DMA0CNT to DMA3CNT at B8h, C4h, D0h
--- and DCh
+-- a port that shows how far geometry is, gives it something to do, or makes it heard: DISP3DCNT at 60h; what stands from 400h to 6FFh; and DMA0CNT to
+-- DMA3CNT at B8h, C4h, D0h and DCh
 abbrev pub is_observed_port : ℕ → Bool
 is_observed_port at =
     let word = at / 4 in
@@ -80,8 +81,9 @@ observes_by a s = false
 
 -- some steps of quiet geometry, one after another, each due before the place of a rank at a tick
 pub data TakesGeometry (tick rank : ℕ) : MachineState → MachineState → Type 0 where
-  none : (start : MachineState) → TakesGeometry tick rank start start
-  more : (start before next : MachineState) → TakesGeometry tick rank start before → is_behind tick rank before ≡ true → reference_step geometry_rank before ≡ Makes next []
+  no_geometry : (start : MachineState) → TakesGeometry tick rank start start
+  more_geometry : (start before next : MachineState) → TakesGeometry tick rank start before → is_behind tick rank before ≡ true
+      → reference_step geometry_rank before ≡ Makes next []
       → TakesGeometry tick rank start next
 
 -- all of them: geometry caught up with that place
@@ -104,7 +106,8 @@ ComesBeforeAll tick rank s = (other : ℕ) (at : Tick) → due_at (acting_dues s
 
 -- then catching up with it changes neither where a run past it ends nor what that run puts out
 abbrev pub CatchingUpRuns : Type 0
-CatchingUpRuns = (s caught : MachineState) (tick rank limit : ℕ) → IsSound s → ComesBeforeAll tick rank s → CatchesUp tick rank s caught → 24 * tick + rank ≤ 24 * limit
+CatchingUpRuns = (s caught : MachineState) (tick rank limit : ℕ) → IsSound s → ComesBeforeAll tick rank s → CatchesUp tick rank s caught
+    → 24 * tick + rank ≤ 24 * limit
     → (end : Ending MachineState LeftOut) (outs : List Shown) → Runs reference limit end s outs ↔ Runs reference limit end caught outs
 
 -- ---- what lagging comes to
@@ -122,10 +125,12 @@ pub record StepsBeforeGeometry (s : MachineState) (rank : ℕ) (tick : Tick) : T
 
 -- taken before quiet geometry's steps that are due before it, it changes neither where a run to a later tick ends nor what that run puts out
 abbrev pub LagRuns : Type 0
-LagRuns = (s next : MachineState) (rank : ℕ) (tick : Tick) (limit : ℕ) (outs : List Shown) → StepsBeforeGeometry s rank tick → tick.0 < limit → reference_step rank s ≡ Makes next outs
+LagRuns = (s next : MachineState) (rank : ℕ) (tick : Tick) (limit : ℕ) (outs : List Shown) → StepsBeforeGeometry s rank tick → tick.0 < limit
+    → reference_step rank s ≡ Makes next outs
     → (end : Ending MachineState LeftOut) (rest : List Shown) → Runs reference limit end s (outs ++ rest) ↔ Runs reference limit end next rest
 
 -- and where it stops the machine, the run stops so
 abbrev pub LagStops : Type 0
-LagStops = (s after : MachineState) (rank : ℕ) (tick : Tick) (limit : ℕ) (stop : LeftOut) → StepsBeforeGeometry s rank tick → tick.0 < limit → reference_step rank s ≡ Stops stop after
+LagStops = (s after : MachineState) (rank : ℕ) (tick : Tick) (limit : ℕ) (stop : LeftOut) → StepsBeforeGeometry s rank tick → tick.0 < limit
+    → reference_step rank s ≡ Stops stop after
     → Runs reference limit (Stopped stop) s []

@@ -10,7 +10,7 @@ pub mod Counting
 pub mod Frames
 pub mod NextEvents
 pub mod QuietPorts
-pub mod Observed
+pub mod Inspections
 pub mod FenceTicks
 pub mod Private
 pub mod Touching

@@ -56,7 +56,8 @@ comes_before Seven n other = nat_lt n other
 -- a processor is the least acting actor by it
 abbrev pub is_least_by : NextEvent → MachineState → Proc → Bool
 is_least_by next_event s proc =
-    nat_lt (waits_until next_event s proc) next_event.events_until.0 && comes_before proc (waits_until next_event s proc) (waits_until next_event s (other_proc proc))
+    nat_lt (waits_until next_event s proc) next_event.events_until.0
+    && comes_before proc (waits_until next_event s proc) (waits_until next_event s (other_proc proc))
 
 -- the first tick at which it isn't, or isn't due below a limit any more
 abbrev pub past_other : Proc → ℕ → ℕ
@@ -66,8 +67,8 @@ past_other Seven other = other
 abbrev pub limit_by : NextEvent → MachineState → Proc → ℕ → ℕ
 limit_by next_event s proc until = min (min next_event.events_until.0 until) (past_other proc (waits_until next_event s (other_proc proc)))
 
--- what is kept is so of a machine: no actor but the processors acts before a tick; unless that is 0 one acts at it, no halted processor is to wake, and the units behind
--- the ports are settled; each processor's least tick says whether it is blocked; and its interrupt line is up or isn't
+-- what is kept is so of a machine: no actor but the processors acts before a tick; unless that is 0 one acts at it, no halted processor is to wake,
+-- and the units behind the ports are settled; each processor's least tick says whether it is blocked; and its interrupt line is up or isn't
 pub record IsNextEvent (next_event : NextEvent) (s : MachineState) : Type 0 where
   pub events : IsOver (acting_events_of s) next_event.events_until.0
   pub first : 0 < next_event.events_until.0 → (rank : ℕ) × (due_at (acting_events_of s) rank ≡ Some next_event.events_until)

@@ -13,7 +13,8 @@ abbrev pub with_cp15 : Outcome9 NineReach → Outcome NineReach
 with_cp15 o = record { registers = o.registers; state = record o.state { cp15 = o.cp }; stepped = o.stepped }
 
 abbrev pub IsStep9 : Type 0
-IsStep9 = (line : Bool) (s : RegisterState) (r : NineReach) → side_taken nine_memory nine_side line s r ≡ with_cp15 (step9_of nine_memory line s r.cp15 r)
+IsStep9 =
+    (line : Bool) (s : RegisterState) (r : NineReach) → side_taken nine_memory nine_side line s r ≡ with_cp15 (step9_of nine_memory line s r.cp15 r)
 
 abbrev pub IsStep7 : Type 0
 IsStep7 = (line : Bool) (s : RegisterState) (r : SevenReach) → side_taken seven_memory seven_side line s r ≡ step7_of seven_memory line s r

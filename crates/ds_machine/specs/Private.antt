@@ -27,7 +27,8 @@ use Rattle.ds_machine.specs.PrivateSides.{SideOf, nine_side, seven_side}
 use Rattle.ds_machine.specs.States.{MachineState}
 use Rattle.ds_machine.specs.Steps.{is_blocked, line_of, nine_reach, processor_of, seven_reach, tick_of}
 
--- Which steps a processor may take before its turn: those that reach what it alone reaches, while it hears of nobody. Our choice; a console's turn rests on it.
+-- Which steps a processor may take before its turn: those that reach what it alone reaches, while it hears of nobody. Our choice; a console's turn
+-- rests on it.
 
 -- ---- over what a processor reaches
 
@@ -35,7 +36,8 @@ use Rattle.ds_machine.specs.Steps.{is_blocked, line_of, nine_reach, processor_of
 abbrev pub ReachesPrivate : {S : Type 0} → SideOf S → S → Access → Type 0
 ReachesPrivate side state (Fetch at width) = (byte : ℕ) → Contains (access_bytes (Fetch at width)) byte → side.is_private state false true byte ≡ true
 ReachesPrivate side state (Read at width) = (byte : ℕ) → Contains (access_bytes (Read at width)) byte → side.is_private state false false byte ≡ true
-ReachesPrivate side state (Write at width value) = (byte : ℕ) → Contains (access_bytes (Write at width value)) byte → side.is_private state true false byte ≡ true
+ReachesPrivate side state (Write at width value) =
+    (byte : ℕ) → Contains (access_bytes (Write at width value)) byte → side.is_private state true false byte ≡ true
 
 abbrev pub AllReachPrivate : {S : Type 0} → SideOf S → S → List Access → Type 0
 AllReachPrivate side state [] = Unit {0}
@@ -76,15 +78,16 @@ abbrev pub ProcessorStaysPrivate : MachineState → Proc → Type 0
 ProcessorStaysPrivate s Nine = StaysPrivate nine_memory nine_side s.nine.processor.registers (nine_reach (tick_of s.nine.processor) s)
 ProcessorStaysPrivate s Seven = StaysPrivate seven_memory seven_side s.seven.processor.registers (seven_reach (tick_of s.seven.processor) s)
 
--- nothing that another actor raises reaches a processor: its I flag is set, or its IME is 0, or its IE has none of the interrupts that the other processor
--- raises, bits 16 to 18 (GBATEK, "DS Interrupts": IPC sync, send FIFO empty, receive FIFO not empty)
+-- nothing that another actor raises reaches a processor: its I flag is set, or its IME is 0, or its IE has none of the interrupts that the other
+-- processor raises, bits 16 to 18 (GBATEK, "DS Interrupts": IPC sync, send FIFO empty, receive FIFO not empty)
 abbrev pub hears_nobody : RegisterState → IrqState → Bool
 hears_nobody s irq = bit 7 s.cpsr || (not irq.ime || bits 16 3 irq.ie == 0)
 
 abbrev pub is_deaf : MachineState → Proc → Bool
 is_deaf s proc = hears_nobody (processor_of s proc).registers (io_of s.io proc).irq
 
--- a processor's next step may be taken before its turn, but for when it is due: it is due, its interrupt line is down, it is deaf, and it stays in private places
+-- a processor's next step may be taken before its turn, but for when it is due: it is due, its interrupt line is down, it is deaf, and it stays in
+-- private places
 pub record IsPrivate (s : MachineState) (proc : Proc) : Type 0 where
   pub free : is_blocked s proc ≡ false
   pub down : line_of s proc ≡ false
@@ -121,7 +124,8 @@ rank_of Seven = 23
 
 -- ---- what running ahead comes to
 
--- a processor's step at a tick is one that others leave as it is, whoever steps first: it is harmless and below the processor's fence, and nothing is to be settled, or to be woken
+-- a processor's step at a tick is one that others leave as it is, whoever steps first: it is harmless and below the processor's fence, and nothing is
+-- to be settled, or to be woken
 pub record RunsAhead (proc : Proc) (s : MachineState) (t : Tick) : Type 0 where
   pub sound : IsSound s
   pub harmless : IsHarmless s proc
@@ -139,5 +143,6 @@ AheadSteps = (s : MachineState) (proc : Proc) → IsSound s → IsAhead s proc �
 
 -- taken before its turn, it changes neither where a run to a later tick ends nor what that run puts out
 abbrev pub AheadRuns : Type 0
-AheadRuns = (s next : MachineState) (proc : Proc) (limit : ℕ) → IsSound s → IsAhead s proc → (processor_of s proc).due < limit → reference_step (rank_of proc) s ≡ Makes next []
+AheadRuns = (s next : MachineState) (proc : Proc) (limit : ℕ) → IsSound s → IsAhead s proc → (processor_of s proc).due < limit
+    → reference_step (rank_of proc) s ≡ Makes next []
     → (end : Ending MachineState LeftOut) (outs : List Shown) → Runs reference limit end s outs ↔ Runs reference limit end next outs

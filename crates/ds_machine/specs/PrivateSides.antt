@@ -14,7 +14,8 @@ use Rattle.ds_map.specs.Shares.{is_private_place}
 use Rattle.ds_map.specs.Views.{NineReach, SevenReach}
 use Rattle.ds_machine.specs.Sides.{StepOf, nine_step, seven_step, taken}
 
--- What running ahead asks of a processor beside its step: the places that it alone reaches, and whose bytes no other actor changes (our choice of which).
+-- What running ahead asks of a processor beside its step: the places that it alone reaches, and whose bytes no other actor changes (our choice of
+-- which).
 
 -- what parts one processor from the other, over the states of what it reaches
 pub record SideOf (S : Type 0) : Type 0 where
@@ -25,14 +26,14 @@ pub record SideOf (S : Type 0) : Type 0 where
   pub executed : RegisterState → S → ℕ → Option Instr → Outcome S
 
 -- its step goes by the rest
-abbrev pub step_of : {S : Type 0} → SideOf S → StepOf S
-step_of side = record { arch = side.arch; base = side.base; executed = side.executed }
+abbrev pub side_step : {S : Type 0} → SideOf S → StepOf S
+side_step side = record { arch = side.arch; base = side.base; executed = side.executed }
 
 abbrev pub side_taken : {S : Type 0} → MemoryMachine S → SideOf S → Bool → RegisterState → S → Outcome S
-side_taken memory side line s state = taken memory (step_of side) line s state
+side_taken memory side line s state = taken memory (side_step side) line s state
 
--- ARM9's are ITCM and DTCM, and past them by the present map the bytes of shared work RAM that WRAMCNT shows to it, palettes, OAM, the addresses of video memory none of
--- whose cells lies in a bank that is allotted to ARM7, and its boot ROM
+-- ARM9's are ITCM and DTCM, and past them by the present map the bytes of shared work RAM that WRAMCNT shows to it, palettes, OAM, the addresses of
+-- video memory none of whose cells lies in a bank that is allotted to ARM7, and its boot ROM
 abbrev pub is_private_tcm : Tcm → MapState → ℕ → Bool
 is_private_tcm (Itcm place) m at = true
 is_private_tcm (Dtcm place) m at = true

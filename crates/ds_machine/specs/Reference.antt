@@ -68,16 +68,16 @@ after_line (line ∷ lines) s = one_event (record (with_io s (keys_pressed s.io 
 abbrev pub after_event : actor.Actor → MachineState → MachineState
 after_event a s = one_event (with_io s (io_event a s.io))
 
--- geometry's: the head command is done, and where that ends a stall ARM9 is due after that tick at the earliest, also while DMA still holds it; while it is
--- halted it isn't due: a stall's end wakes none (our choice)
+-- geometry's: the head command is done, and where that ends a stall ARM9 is due after that tick at the earliest, also while DMA still holds it; while
+-- it is halted it isn't due: a stall's end wakes none (our choice)
 abbrev pub past_stall : IoState → ℕ → ℕ
 past_stall u due = if stall_ends u && not u.nine.halted then max due (tick_after u.gx.due due) else due
 
 abbrev pub after_geometry : MachineState → MachineState
 after_geometry s = with_processor Nine (after_event Geometry s) (record s.nine.processor { due = past_stall s.io s.nine.processor.due })
 
--- the display's, which reads palettes and OAM, by what it answers: the start of line 192 makes a frame whole, and swaps geometry lists that wait, and that is
--- put out (GBATEK, SWAP_BUFFERS); a line that needs what isn't there stops, and then the machine is as it was
+-- the display's, which reads palettes and OAM, by what it answers: the start of line 192 makes a frame whole, and swaps geometry lists that wait, and
+-- that is put out (GBATEK, SWAP_BUFFERS); a line that needs what isn't there stops, and then the machine is as it was
 abbrev pub swapped_if : Bool → Tick → IoState → IoState
 swapped_if whole now u = if whole then geometry_swapped now u else u
 
@@ -88,7 +88,8 @@ abbrev pub after_video : MachineState → MachineState
 after_video s = one_event (with_io s (display_done s))
 
 abbrev pub video_step : ℕ → Result display.Shown Stop → MachineState → MachineStep MachineState Shown LeftOut
-video_step rank (Ok shown) s = Makes (after_video s) (if shown.frame then shown_at (scan_due s.io.video.scan) (after_video s) s.io.gx.swap_waits ∷ [] else [])
+video_step rank (Ok shown) s =
+    Makes (after_video s) (if shown.frame then shown_at (scan_due s.io.video.scan) (after_video s) s.io.gx.swap_waits ∷ [] else [])
 video_step rank (Err stop) s = Stops (stopped_at rank (scan_due_tick s.io.video.scan) stop) s
 
 -- what an actor's step comes to

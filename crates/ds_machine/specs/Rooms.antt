@@ -23,8 +23,9 @@ use Rattle.ds_machine.specs.States.{MachineState}
 use Rattle.ds_machine.specs.Statuses.{left_by}
 use Rattle.ds_machine.specs.Steps.{is_blocked, line_of, map_of, nine_reach, tick_of}
 
--- Whatever is written to geometry finds room. Its FIFO has room for 324 entries, and a word that is written adds four at most; so a write while more than 320 wait
--- would be ignored, and there is none: more than 260 hold ARM9 and its DMA (GBATEK, "GXFIFO"), and an instruction makes sixteen accesses at most.
+-- Whatever is written to geometry finds room. Its FIFO has room for 324 entries, and a word that is written adds four at most; so a write while more
+-- than 320 wait would be ignored, and there is none: more than 260 hold ARM9 and its DMA (GBATEK, "GXFIFO"), and an instruction makes sixteen
+-- accesses at most.
 
 -- ---- instructions
 
@@ -32,7 +33,8 @@ use Rattle.ds_machine.specs.Steps.{is_blocked, line_of, map_of, nine_reach, tick
 abbrev pub InstructionsAreShort : Type 0
 InstructionsAreShort = (arch : Arch) (base : ℕ) (s : RegisterState) (instr : Instr) → length (meaning arch base s instr).accesses ≤ 16
 
--- the accesses of data of a step: those of the instruction that is fetched. The entry of an interrupt makes none, nor does a word or half without an instruction
+-- the accesses of data of a step: those of the instruction that is fetched. The entry of an interrupt makes none, nor does a word or half without an
+-- instruction
 abbrev pub accesses_of : Arch → ℕ → RegisterState → Option Instr → List Access
 accesses_of arch base s None = []
 accesses_of arch base s (Some instr) = (meaning arch base s instr).accesses
@@ -55,8 +57,8 @@ FindsRoom (Fetch at width ∷ rest) r = HasRoom r.map × FindsRoom rest (nine_me
 FindsRoom (Read at width ∷ rest) r = HasRoom r.map × FindsRoom rest (nine_memory.read_next r at width)
 FindsRoom (Write at width value ∷ rest) r = HasRoom r.map × FindsRoom rest (nine_memory.write_next r at width value)
 
--- where a step of ARM9 finds room: each of its accesses does, and no more wait after it than the FIFO has room for. These accesses are all that it makes of
--- what ARM9 reaches, but for what a move to CP15 changes there
+-- where a step of ARM9 finds room: each of its accesses does, and no more wait after it than the FIFO has room for. These accesses are all that it
+-- makes of what ARM9 reaches, but for what a move to CP15 changes there
 pub record StepFindsRoom (line : Bool) (s : RegisterState) (r : NineReach) : Type 0 where
   pub accesses : FindsRoom (step_accesses nine_memory nine_side line s r) r
   pub after : waiting_entries (side_taken nine_memory nine_side line s r).state.map.io.gx ≤ most_entries

@@ -26,9 +26,9 @@ pub record SevenState : Type 0 where
   pub processor : ProcessorState
   pub wram : List ℕ
 
--- the whole machine; main memory and shared work RAM, which both processors reach; palettes and OAM, which ARM9 and its DMA channels alone reach; the units
--- behind the ports, among them video memory, the display and the geometry engine; `keys` are the lines of the key script that are to come, and `events` counts the steps of
--- all actors but the processors
+-- the whole machine; main memory and shared work RAM, which both processors reach; palettes and OAM, which ARM9 and its DMA channels alone reach; the
+-- units behind the ports, among them video memory, the display and the geometry engine; `keys` are the lines of the key script that are to come, and
+-- `events` counts the steps of all actors but the processors
 pub record MachineState : Type 0 where
   pub nine : NineState
   pub seven : SevenState

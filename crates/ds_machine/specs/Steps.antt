@@ -54,8 +54,8 @@ with_map proc s m = record s {
   io = m.io;
 }
 
--- whether a processor is halted; whether it is blocked, so that it isn't due: it is halted, a channel of it runs, or a stall of geometry holds it; and
--- whether its interrupt line is up
+-- whether a processor is halted; whether it is blocked, so that it isn't due: it is halted, a channel of it runs, or a stall of geometry holds it;
+-- and whether its interrupt line is up
 abbrev pub is_halted : MachineState → Proc → Bool
 is_halted s proc = (io_of s.io proc).halted
 
@@ -95,9 +95,15 @@ pub record StepOutcome : Type 0 where
 
 abbrev pub outcome_of : Proc → Tick → MachineState → StepOutcome
 outcome_of Nine now s =
-    let o = taken nine_memory nine_step (line_of s Nine) s.nine.processor.registers (nine_reach now s) in record { machine = with_nine s o; stepped = o.stepped }
+    let o = taken nine_memory nine_step (line_of s Nine) s.nine.processor.registers (nine_reach now s) in record {
+      machine = with_nine s o;
+      stepped = o.stepped;
+    }
 outcome_of Seven now s =
-    let o = taken seven_memory seven_step (line_of s Seven) s.seven.processor.registers (seven_reach now s) in record { machine = with_seven s o; stepped = o.stepped }
+    let o = taken seven_memory seven_step (line_of s Seven) s.seven.processor.registers (seven_reach now s) in record {
+      machine = with_seven s o;
+      stepped = o.stepped;
+    }
 
 -- the machine with other units behind the ports
 abbrev pub with_io : MachineState → IoState → MachineState
@@ -107,8 +113,8 @@ with_io s io = record s { io = io }
 abbrev pub with_halt : Proc → MachineState → Bool → MachineState
 with_halt proc s halted = with_io s (with_halted proc s.io halted)
 
--- A processor after a step that costs so many of its clocks. While it is halted the tick at which its next step is due is 0: it goes on after the tick at which it wakes,
--- whatever it had before.
+-- A processor after a step that costs so many of its clocks. While it is halted the tick at which its next step is due is 0: it goes on after the
+-- tick at which it wakes, whatever it had before.
 abbrev pub went_on : Proc → ℕ → Bool → ProcessorState → ProcessorState
 went_on proc clocks halted p = record p { due = if halted then 0 else p.due + ticks_per_clock proc * clocks; steps = p.steps + 1 }
 
@@ -146,8 +152,8 @@ woken_one proc tick s = if wakes s proc then goes_on proc tick s else s
 abbrev pub woken : Tick → MachineState → MachineState
 woken tick s = woken_one Seven tick (woken_one Nine tick s)
 
--- What follows each step that is taken at a tick: the units behind the ports settle, and then halted processors wake that are to (our choice of order: a level
--- that rises at a step wakes at it).
+-- What follows each step that is taken at a tick: the units behind the ports settle, and then halted processors wake that are to (our choice of
+-- order: a level that rises at a step wakes at it).
 
 abbrev pub machine_settled : Tick → MachineState → MachineState
 machine_settled tick s = with_io s (settled tick s.io)

@@ -23,7 +23,7 @@ use Rattle.ds_base.specs.declared.ticks.Tick.{Tick}
 use Rattle.ds_map.specs.Views.{nine_memory, seven_memory}
 use Rattle.ds_timers.specs.Irqs.{IrqState}
 use Rattle.ds_machine.specs.Private.{AllReachPrivate, IsBelowFence, ReachesPrivate, data_accesses, is_deaf, may_go_ahead, next_fetch}
-use Rattle.ds_machine.specs.QuietPorts.{is_quiet_port}
+use Rattle.ds_machine.specs.QuietPorts.{is_steady_port}
 use Rattle.ds_machine.specs.PrivateSides.{SideOf, is_private_to_seven, nine_side, seven_side}
 use Rattle.ds_machine.specs.States.{MachineState}
 use Rattle.ds_machine.specs.Steps.{line_of, nine_reach, processor_of, seven_reach, tick_of}
@@ -45,22 +45,22 @@ abbrev pub half_writes : HalfOp → Bool
 half_writes Strh = true
 half_writes _ = false
 
-abbrev pub reads : Instr → Bool
-reads (Transfer cond pre up byte write_back load rn rd offset) = load
-reads (HalfTransfer cond op pre up write_back rn rd offset) = not (half_writes op)
-reads (DoubleTransfer cond store pre up write_back rn rd offset) = not store
-reads (Multiple cond pre up user write_back load rn list) = load
-reads (Swap cond byte rd rm rn) = true
-reads (ThumbLoadLiteral rd immed) = true
-reads _ = false
+abbrev pub reads_data : Instr → Bool
+reads_data (Transfer cond pre up byte write_back load rn rd offset) = load
+reads_data (HalfTransfer cond op pre up write_back rn rd offset) = not (half_writes op)
+reads_data (DoubleTransfer cond store pre up write_back rn rd offset) = not store
+reads_data (Multiple cond pre up user write_back load rn list) = load
+reads_data (Swap cond byte rd rm rn) = true
+reads_data (ThumbLoadLiteral rd immed) = true
+reads_data _ = false
 
-abbrev pub writes : Instr → Bool
-writes (Transfer cond pre up byte write_back load rn rd offset) = not load
-writes (HalfTransfer cond op pre up write_back rn rd offset) = half_writes op
-writes (DoubleTransfer cond store pre up write_back rn rd offset) = store
-writes (Multiple cond pre up user write_back load rn list) = not load
-writes (Swap cond byte rd rm rn) = true
-writes _ = false
+abbrev pub writes_data : Instr → Bool
+writes_data (Transfer cond pre up byte write_back load rn rd offset) = not load
+writes_data (HalfTransfer cond op pre up write_back rn rd offset) = half_writes op
+writes_data (DoubleTransfer cond store pre up write_back rn rd offset) = store
+writes_data (Multiple cond pre up user write_back load rn list) = not load
+writes_data (Swap cond byte rd rm rn) = true
+writes_data _ = false
 
 -- a touch has exactly the bytes that an instruction of a processor's reaches
 abbrev pub IsFootprint : MachineState → Proc → Instr → Touch → Type 0
@@ -70,16 +70,19 @@ IsFootprint s proc instr touch = (base : ℕ) → Covers touch (meaning (archite
 abbrev pub all_private : MachineState → Proc → (writing fetching : Bool) → Touch → Bool
 all_private s proc writing fetching touch = list_all (is_private_to s proc writing fetching) (touched_bytes touch)
 
-abbrev pub data_private : MachineState → Proc → (reads writes : Bool) → Touch → Bool
-data_private s proc reads writes touch = (not reads || all_private s proc false false touch) && (not writes || all_private s proc true false touch)
+abbrev pub data_private : MachineState → Proc → (reads_data writes_data : Bool) → Touch → Bool
+data_private s proc reads_data writes_data touch =
+    (not reads_data || all_private s proc false false touch) && (not writes_data || all_private s proc true false touch)
 
--- what is fetched at r15 lies in private places; and an instruction is of a kind that may be taken before its turn, and its accesses of data stay there
+-- what is fetched at r15 lies in private places; and an instruction is of a kind that may be taken before its turn, and its accesses of data stay
+-- there
 abbrev pub FetchStaysPrivate : MachineState → Proc → Type 0
 FetchStaysPrivate s Nine = ReachesPrivate nine_side (nine_reach (tick_of s.nine.processor) s) (next_fetch s.nine.processor.registers)
 FetchStaysPrivate s Seven = ReachesPrivate seven_side (seven_reach (tick_of s.seven.processor) s) (next_fetch s.seven.processor.registers)
 
 abbrev pub InstrReaches : {S : Type 0} → SideOf S → S → RegisterState → Instr → Type 0
-InstrReaches side state s instr = (may_go_ahead side.arch (Some instr) ≡ true) × AllReachPrivate side state (data_accesses side.arch (side.base state) s (Some instr))
+InstrReaches side state s instr =
+    (may_go_ahead side.arch (Some instr) ≡ true) × AllReachPrivate side state (data_accesses side.arch (side.base state) s (Some instr))
 
 abbrev pub InstrStaysPrivate : MachineState → Proc → Instr → Type 0
 InstrStaysPrivate s Nine instr = InstrReaches nine_side (nine_reach (tick_of s.nine.processor) s) s.nine.processor.registers instr
@@ -93,7 +96,8 @@ is_told_nothing irq = not irq.ime || bits 16 3 irq.ie == 0
 
 -- the four bytes of a word that is aligned are private together
 pub record GoesByWords {S : Type 0} (side : SideOf S) : Type 0 where
-  pub same : (state : S) (writing fetching : Bool) (a b : ℕ) → a / 4 ≡ b / 4 → side.is_private state writing fetching a ≡ side.is_private state writing fetching b
+  pub same : (state : S) (writing fetching : Bool) (a b : ℕ) → a / 4 ≡ b / 4 → side.is_private state writing fetching a
+      ≡ side.is_private state writing fetching b
 
 -- an access writes
 abbrev pub stores : TransferOp → Bool
@@ -116,7 +120,7 @@ DataStaysPrivate now s Seven = DataStays seven_memory seven_side s.seven.process
 
 -- what is fetched makes one access of data at most, and that one of RAM, or a load from a port that changes no unit and isn't observed
 abbrev pub DataIsNear : {S : Type 0} → MemoryMachine S → SideOf S → RegisterState → S → Type 0
-DataIsNear memory side s state = IsNear is_quiet_port (data_accesses side.arch (side.base state) s (fetched memory side.arch s state).instr)
+DataIsNear memory side s state = IsNear is_steady_port (data_accesses side.arch (side.base state) s (fetched memory side.arch s state).instr)
 
 abbrev pub DataStaysNear : Tick → MachineState → Proc → Type 0
 DataStaysNear now s Nine = DataIsNear nine_memory nine_side s.nine.processor.registers (nine_reach now s)

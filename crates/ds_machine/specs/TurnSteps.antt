@@ -29,7 +29,8 @@ pub record BelongsToTurn (until : ℕ) (s : MachineState) (proc : Proc) : Type 0
 
 -- due at this tick it would come before all other acting actors
 abbrev pub ComesFirst : MachineState → Proc → ℕ → Type 0
-ComesFirst s proc tick = (other : ℕ) (at : Tick) → other ≢ rank_of proc → due_at (acting_dues s) other ≡ Some at → (tick < at.0) ⊎ ((tick ≡ at.0) × (rank_of proc ≤ other))
+ComesFirst s proc tick =
+    (other : ℕ) (at : Tick) → other ≢ rank_of proc → due_at (acting_dues s) other ≡ Some at → (tick < at.0) ⊎ ((tick ≡ at.0) × (rank_of proc ≤ other))
 
 -- a processor isn't blocked, and this is the first tick at which it wouldn't be the least acting actor, or not be due below the limit of a turn
 pub record HasLimit (until : ℕ) (s : MachineState) (proc : Proc) (limit : ℕ) : Type 0 where
@@ -43,12 +44,13 @@ pub record IsFirst (until : ℕ) (s : MachineState) (first : First) : Type 0 whe
 
 -- a processor took some steps of its turn, one after another; before one that observes geometry, geometry caught up
 pub data TakesSteps (until : ℕ) (proc : Proc) : MachineState → MachineState → Type 0 where
-  none : (start : MachineState) → TakesSteps until proc start start
-  more : (start before caught next : MachineState) → TakesSteps until proc start before → BelongsToTurn until before proc
-      → CatchesUpFor (processor_of before proc).due (rank_of proc) before caught → reference_step (rank_of proc) caught ≡ Makes next [] → TakesSteps until proc start next
+  no_steps : (start : MachineState) → TakesSteps until proc start start
+  more_steps : (start before caught next : MachineState) → TakesSteps until proc start before → BelongsToTurn until before proc
+      → CatchesUpFor (processor_of before proc).due (rank_of proc) before caught → reference_step (rank_of proc) caught ≡ Makes next []
+      → TakesSteps until proc start next
 
--- an actor may take the next step: it is due at a tick that a run may come to, and is the least; or it is the least acting actor, whose step doesn't observe geometry; or it is a
--- processor that may step before its turn
+-- an actor may take the next step: it is due at a tick that a run may come to, and is the least; or it is the least acting actor, whose step doesn't
+-- observe geometry; or it is a processor that may step before its turn
 pub record MayStep (s : MachineState) (rank : ℕ) : Type 0 where
   pub tick : Tick
   pub due : due_at (dues_of s) rank ≡ Some tick
@@ -68,17 +70,20 @@ pub record ActsThen (caught : MachineState) (rank : ℕ) : Type 0 where
   pub sound : IsSound caught
 
 abbrev pub ActingMayStep : Type 0
-ActingMayStep = (s caught : MachineState) (tick : Tick) (rank : ℕ) → IsSound s → MayAct s tick rank → tick.0 ≤ 2 ^ 56 → CatchesUpFor tick.0 rank s caught → ActsThen caught rank
+ActingMayStep = (s caught : MachineState) (tick : Tick) (rank : ℕ) → IsSound s → MayAct s tick rank → tick.0 ≤ 2 ^ 56
+    → CatchesUpFor tick.0 rank s caught → ActsThen caught rank
 
 -- and changes neither where a run to a later tick ends nor, after what it puts out, what that run puts out
 abbrev pub ActingRuns : Type 0
-ActingRuns = (s caught next : MachineState) (tick : Tick) (rank limit : ℕ) (outs : List Shown) → IsSound s → MayAct s tick rank → CatchesUpFor tick.0 rank s caught → tick.0 < limit
+ActingRuns = (s caught next : MachineState) (tick : Tick) (rank limit : ℕ) (outs : List Shown) → IsSound s → MayAct s tick rank
+    → CatchesUpFor tick.0 rank s caught → tick.0 < limit
     → reference_step rank caught ≡ Makes next outs → (end : Ending MachineState LeftOut) (rest : List Shown)
     → Runs reference limit end s (outs ++ rest) ↔ Runs reference limit end next rest
 
 -- where it stops the machine, the run stops so
 abbrev pub ActingStops : Type 0
-ActingStops = (s caught after : MachineState) (tick : Tick) (rank limit : ℕ) (stop : LeftOut) → IsSound s → MayAct s tick rank → CatchesUpFor tick.0 rank s caught → tick.0 < limit
+ActingStops = (s caught after : MachineState) (tick : Tick) (rank limit : ℕ) (stop : LeftOut) → IsSound s → MayAct s tick rank
+    → CatchesUpFor tick.0 rank s caught → tick.0 < limit
     → reference_step rank caught ≡ Stops stop after → Runs reference limit (Stopped stop) s []
 
 -- ---- how many steps a processor may still take below a limit: fewer than ticks are left to it

@@ -65,7 +65,8 @@ impl Parts {
         requires due { io_due actors.Geometry self.old.io ≡ Some tick }
         requires early { tick.0 ≤ 2 ^ 56 }
         requires run { self.old.io.gx.geometry.numbers.run ≤ 2 ^ 56 }
-        ensures { self.new ≡ with_processor Nine (with_io self.old (io_event actors.Geometry self.old.io)) (record self.old.nine.processor { due = past_stall self.old.io self.old.nine.processor.due }) }
+        ensures { self.new ≡ with_processor Nine (with_io self.old (io_event actors.Geometry self.old.io))
+            (record self.old.nine.processor { due = past_stall self.old.io self.old.nine.processor.due }) }
     {
         let stalled = self.io.is_stalled();
         self.io.event(Actor::Geometry);

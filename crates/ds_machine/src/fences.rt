@@ -55,7 +55,8 @@ impl Parts {
     /// The first of the key script, the display, a processor's timers, whose ranks begin at one, and some others.
     fn first_before(&self, proc: Proc, rank: u8, others: Option<Due>) -> Due
         requires { rank < 2 ^ 6 }
-        ensures { Some result ≡ order.earlier (due_with_rank 0 (keys_due self.now.keys)) (order.earlier (due_with_rank 1 (Some (scan_due_tick self.now.io.video.scan)))
+        ensures { Some result
+            ≡ order.earlier (due_with_rank 0 (keys_due self.now.keys)) (order.earlier (due_with_rank 1 (Some (scan_due_tick self.now.io.video.scan)))
             (order.earlier (first_from rank (timer_dues self.now.io proc)) others)) }
     {
         let first = earlier(self.io.processor(proc).first_timer(rank), others);
@@ -111,7 +112,8 @@ impl Parts {
         tick.0 < self.fence(proc).0 && matches!(self.touches(proc), Private::Yes)
     }
 
-    /// Whether a processor's next step belongs to its turn with a limit: it is due below the limit, and is the least acting step, or may be taken before its turn.
+    /// Whether a processor's next step belongs to its turn with a limit: it is due below the limit, and is the least acting step, or may be taken
+    /// before its turn.
     pub fn belongs(&self, proc: Proc, until: Tick) -> bool
         ensures { (result ≡ true) ↔ BelongsToTurn until.0 self.now proc }
     {

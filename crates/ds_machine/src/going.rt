@@ -32,8 +32,9 @@ pub enum Gone {
 }
 
 impl Parts {
-    /// A processor's step at its tick, where it is one of the fast path, and where it is ahead of its turn reaches private places alone. It costs, and changes no unit: so no
-    /// processor wakes, and what is kept stays. It observes nothing of geometry: it reaches RAM alone, or loads from a port that isn't observed.
+    /// A processor's step at its tick, where it is one of the fast path, and where it is ahead of its turn reaches private places alone. It costs,
+    /// and changes no unit: so no processor wakes, and what is kept stays. It observes nothing of geometry: it reaches RAM alone, or loads from a
+    /// port that isn't observed.
     #[inline(always)]
     fn processor_fast(&mut self, next_event: NextEvent, proc: Proc, tick: Tick, ahead: bool) -> Gone
         requires next_event { IsNextEvent next_event self.old }
@@ -45,7 +46,8 @@ impl Parts {
         requires counted { (processor_of self.old proc).steps ≤ 2 ^ 61 }
         ensures over_same { result ≡ gone.Over → self.new ≡ self.old }
         ensures unknown { result ≡ gone.Unknown → self.new ≡ self.old }
-        ensures made { (rank : ℕ) → result ≡ gone.Took → awake (Some tick) (step_by rank (Actor.Processor proc) self.old) ≡ stepped_of self.old Made self.new }
+        ensures made { (rank : ℕ) → result ≡ gone.Took → awake (Some tick) (step_by rank (Actor.Processor proc) self.old)
+            ≡ stepped_of self.old Made self.new }
         ensures stays { ahead ≡ true → result ≡ gone.Took → DataStaysPrivate tick self.old proc }
         ensures apart { result ≡ gone.Took → observes_by (Actor.Processor proc) self.old ≡ false }
         ensures over { result ≡ gone.Over → (ahead ≡ true) × (DataStaysPrivate tick self.old proc → ⊥) }
@@ -128,8 +130,8 @@ impl Parts {
         self.processor_fast(next_event, proc, Tick(due), ahead)
     }
 
-    /// A processor takes steps of its turn, while they are of the fast path; by the first tick at which it isn't the least acting one any more. The answer is whether its turn is
-    /// over; where it isn't known to be, the next step isn't one of the fast path.
+    /// A processor takes steps of its turn, while they are of the fast path; by the first tick at which it isn't the least acting one any more. The
+    /// answer is whether its turn is over; where it isn't known to be, the next step isn't one of the fast path.
     #[inline(always)]
     pub fn go_fast(&mut self, next_event: NextEvent, proc: Proc, until: Tick, limit: u64) -> bool
         requires next_event { IsNextEvent next_event self.old }
@@ -154,7 +156,8 @@ impl Parts {
         }
     }
 
-    /// The processor that is the least acting actor and due below a limit, where that is known; None where it isn't, or where another actor is the least that acts.
+    /// The processor that is the least acting actor and due below a limit, where that is known; None where it isn't, or where another actor is the
+    /// least that acts.
     #[inline(always)]
     pub fn first_by(&self, next_event: NextEvent, until: Tick) -> Option<First>
         requires next_event { IsNextEvent next_event self.now }

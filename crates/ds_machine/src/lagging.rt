@@ -113,7 +113,7 @@ impl Parts {
 
     /// Whether none of the bytes that are reached as data is one, by what an instruction does with them.
     fn is_data_apart(&self, instr: &Instr, touch: Touch) -> bool
-        ensures { result ≡ data_apart self.now (touching.reads instr.now) (touching.writes instr.now) touch }
+        ensures { result ≡ data_apart self.now (touching.reads_data instr.now) (touching.writes_data instr.now) touch }
     {
         (!reads(instr) || self.is_touch_apart(touch, false))
             && (!writes(instr) || self.is_touch_apart(touch, true))
@@ -122,7 +122,8 @@ impl Parts {
     /// Whether an access of data of an instruction of ARM9's is of an observed port.
     fn instr_observes(&self, instr: &Instr) -> bool
         requires { HasFields instr.now }
-        ensures { result ≡ (let r = nine_reach (tick_of self.now.nine.processor) self.now in any_observes r (data_accesses V5 (nine_side.base r) self.now.nine.processor.registers (Some instr.now))) }
+        ensures { result ≡ (let r = nine_reach (tick_of self.now.nine.processor) self.now in any_observes r
+            (data_accesses V5 (nine_side.base r) self.now.nine.processor.registers (Some instr.now))) }
     {
         let form = equivalent(instr);
         base_laws(&self.processor(Proc::Nine).core.registers, &form);

@@ -23,11 +23,11 @@ pub fn reference_laws()
     ensures end { RunsEnd reference 24 HasSoundParts }
 {}
 
-/// Does nothing; its contract states that a step neither changes a processor's own part nor depends on it, but for that processor's steps and those of its
-/// DMA channels. The display reads palettes and OAM, which stand with ARM9's part; `display` says that it changes none of that part, and depends on nothing else of it;
-/// `geometry` says that geometry's step changes the tick at which ARM9 is due and nothing else of that part, and depends on nothing else of it. `shares` says it of all that ARM9
-/// alone reaches by the present map, also its bytes of shared work RAM and of video memory, and how those are shared out: the actors outside its fence neither change it nor
-/// depend on those bytes.
+/// Does nothing; its contract states that a step neither changes a processor's own part nor depends on it, but for that processor's steps and those
+/// of its DMA channels. The display reads palettes and OAM, which stand with ARM9's part; `display` says that it changes none of that part, and
+/// depends on nothing else of it; `geometry` says that geometry's step changes the tick at which ARM9 is due and nothing else of that part, and
+/// depends on nothing else of it. `shares` says it of all that ARM9 alone reaches by the present map, also its bytes of shared work RAM and of video
+/// memory, and how those are shared out: the actors outside its fence neither change it nor depend on those bytes.
 #[tactic(auto, using(crate::proofs::Apart::leave_nine, crate::proofs::Apart::leave_seven))]
 pub fn own_part_laws()
     ensures nine { LeaveNine }
@@ -37,32 +37,33 @@ pub fn own_part_laws()
     ensures geometry { GeometryLeavesNine }
 {}
 
-/// Does nothing; its contract states that a processor's step is that of the processor's own crate: ARM9's that of `step9`, with CP15 in what it reaches, and ARM7's that
-/// of `step7`.
+/// Does nothing; its contract states that a processor's step is that of the processor's own crate: ARM9's that of `step9`, with CP15 in what it
+/// reaches, and ARM7's that of `step7`.
 #[tactic(auto, using(crate::proofs::OwnSteps::is_step9, crate::proofs::OwnSteps::is_step7))]
 pub fn own_step_laws()
     ensures nine { IsStep9 }
     ensures seven { IsStep7 }
 {}
 
-/// Does nothing; its contract states that CPSR and each SPSR of both processors have no bits but those that are kept, in every state that comes up: at boot,
-/// after each step of any actor, and at the end of every run.
+/// Does nothing; its contract states that CPSR and each SPSR of both processors have no bits but those that are kept, in every state that comes up:
+/// at boot, after each step of any actor, and at the end of every run.
 pub fn status_laws()
     ensures boot { BootsWithStatuses }
     ensures step { StepsKeepStatuses }
     ensures run { RunsKeepStatuses }
 {}
 
-/// Does nothing; its contract states that nothing is kept that has no effect, at boot and wherever a run ends: a halted processor has no tick, and what is kept of a stall's end
-/// holds back a channel of ARM9's.
+/// Does nothing; its contract states that nothing is kept that has no effect, at boot and wherever a run ends: a halted processor has no tick, and
+/// what is kept of a stall's end holds back a channel of ARM9's.
 pub fn kept_laws()
     ensures boot { BootsKeepNoMore }
     ensures run { RunsKeepNoMore }
 {}
 
-/// Does nothing; its contract states the laws of a machine that goes on, and how many steps it took. So does one that is at a tick, as at boot it is at 0, and took at most 24 steps
-/// for each tick before (`start`); a step that is due below a limit and is taken leaves one, by the same limit (`step`), as each later limit serves too (`rise`). All its steps add up
-/// to at most 24 times its limit (`few`): so no count comes near 2^64. Each step that is taken is one more (`count`), and one that stops counts none (`stop`).
+/// Does nothing; its contract states the laws of a machine that goes on, and how many steps it took. So does one that is at a tick, as at boot it is
+/// at 0, and took at most 24 steps for each tick before (`start`); a step that is due below a limit and is taken leaves one, by the same limit
+/// (`step`), as each later limit serves too (`rise`). All its steps add up to at most 24 times its limit (`few`): so no count comes near 2^64. Each
+/// step that is taken is one more (`count`), and one that stops counts none (`stop`).
 pub fn running_laws()
     ensures start { StartsRunning }
     ensures step { StepsKeepRunning }
@@ -72,14 +73,15 @@ pub fn running_laws()
     ensures stop { StopsCountNone }
 {}
 
-/// Does nothing; its contract states that a step of a processor's turn that is taken, after geometry caught up where the step observes it, leaves the processor fewer ticks
-/// below the limit: it is due later afterwards, or not at all. So a loop over such steps ends.
+/// Does nothing; its contract states that a step of a processor's turn that is taken, after geometry caught up where the step observes it, leaves the
+/// processor fewer ticks below the limit: it is due later afterwards, or not at all. So a loop over such steps ends.
 pub fn own_turn_laws()
     ensures { TurnStepsFall }
 {}
 
-/// Does nothing; its contract states that the frame that a step puts out is the machine's last whole frame after it, and that a step that puts out none, or
-/// that stops, leaves the last whole frame; and so it is with the lists of the last swap. A run to a limit puts out one frame at most for each 1,120,380 ticks, and one more (`few`).
+/// Does nothing; its contract states that the frame that a step puts out is the machine's last whole frame after it, and that a step that puts out
+/// none, or that stops, leaves the last whole frame; and so it is with the lists of the last swap. A run to a limit puts out one frame at most for
+/// each 1,120,380 ticks, and one more (`few`).
 pub fn frame_laws()
     ensures step { StepsFollowFrames }
     ensures stop { StopsLeaveFrames }
@@ -88,27 +90,28 @@ pub fn frame_laws()
     ensures few { FramesAreFew }
 {}
 
-/// Does nothing; its contract states the laws of running ahead. A step that a processor may take before its turn, on a machine whose units are settled and on which nobody is to
-/// wake, is always taken, puts out nothing and leaves such a machine. And to each limit past its tick the run from the state after it ends where the run from the state before it
-/// ends, and puts out the same.
+/// Does nothing; its contract states the laws of running ahead. A step that a processor may take before its turn, on a machine whose units are
+/// settled and on which nobody is to wake, is always taken, puts out nothing and leaves such a machine. And to each limit past its tick the run from
+/// the state after it ends where the run from the state before it ends, and puts out the same.
 #[tactic(auto, using(crate::proofs::AheadRuns::ahead_steps, crate::proofs::AheadRuns::ahead_runs))]
 pub fn ahead_laws()
     ensures steps { AheadSteps }
     ensures runs { AheadRuns }
 {}
 
-/// Does nothing; its contract states the laws of lagging. The step of the least actor that acts, where quiet geometry doesn't, may be taken before geometry's steps that are due
-/// before it, if it doesn't observe geometry: to each limit past its tick the run from the state after it ends where the run from the state before it ends, and puts out the rest
-/// of the same. And where such a step stops the machine, the run stops so.
+/// Does nothing; its contract states the laws of lagging. The step of the least actor that acts, where quiet geometry doesn't, may be taken before
+/// geometry's steps that are due before it, if it doesn't observe geometry: to each limit past its tick the run from the state after it ends where
+/// the run from the state before it ends, and puts out the rest of the same. And where such a step stops the machine, the run stops so.
 pub fn lag_laws()
     ensures runs { LagRuns }
     ensures stops { LagStops }
 {}
 
-/// Does nothing; its contract states the laws of a turn's steps. `caught` says that to each limit from a place on, before which no actor acts, the run from the state in which
-/// geometry caught up with that place ends where the run from the state before it ends, and puts out the same. Once geometry caught up, where the step observes it, the step of the
-/// least acting actor, or of a processor that may step before its turn, may be taken (`may`); to each limit past its tick the run from the state after it ends where the run from
-/// the state before it ends, and puts out the rest of the same (`runs`); and where it stops the machine, the run stops so (`stops`).
+/// Does nothing; its contract states the laws of a turn's steps. `caught` says that to each limit from a place on, before which no actor acts, the
+/// run from the state in which geometry caught up with that place ends where the run from the state before it ends, and puts out the same. Once
+/// geometry caught up, where the step observes it, the step of the least acting actor, or of a processor that may step before its turn, may be taken
+/// (`may`); to each limit past its tick the run from the state after it ends where the run from the state before it ends, and puts out the rest of
+/// the same (`runs`); and where it stops the machine, the run stops so (`stops`).
 pub fn acting_laws()
     ensures caught { CatchingUpRuns }
     ensures may { ActingMayStep }

@@ -12,7 +12,7 @@ ghost use Rattle.ds_machine.specs.Acting.{is_behind, IsActing};
 ghost use Rattle.ds_machine.specs.Booted.{machine_booted};
 ghost use Rattle.ds_machine.specs.Frames.{framed_of};
 ghost use Rattle.ds_machine.specs.Lagging.{observes_by, CatchesUp, CatchesUpFor, ComesBeforeAll};
-ghost use Rattle.ds_machine.specs.Observed.{memory_of, registers_of, seen_of};
+ghost use Rattle.ds_machine.specs.Inspections.{memory_of, registers_of, seen_of};
 ghost use Rattle.ds_machine.specs.Private.{IsFence, IsPrivate};
 ghost use Rattle.ds_machine.specs.TurnSteps.{BelongsToTurn, HasLimit, IsFirst, MayAct, MayStep, TakesSteps};
 ghost use Rattle.ds_machine.specs.declared.answers.Private.TheVariants.{Yes};
@@ -53,9 +53,9 @@ impl Model for Machine {
 }
 
 impl Machine {
-    /// The machine as it is when it is switched on with a cartridge and a key script: ARM9's image is copied to memory, then ARM7's, then the
-    /// header; both processors are due at once. The images go to RAM, and leave the units behind the ports as they are at boot. No step was taken, so that none stopped it. All
-    /// memory of a run is taken here.
+    /// The machine as it is when it is switched on with a cartridge and a key script: ARM9's image is copied to memory, then ARM7's, then the header;
+    /// both processors are due at once. The images go to RAM, and leave the units behind the ports as they are at boot. No step was taken, so that
+    /// none stopped it. All memory of a run is taken here.
     pub fn new(alloc: Global, cart: &Cart, keys: Keys) -> Result<Machine, AllocError>
         ensures booted { IfOk result (λ machine. machine ≡ machine_booted cart.now keys) }
         ensures units { IfOk result (λ machine. machine.io ≡ io_at_boot) }
@@ -91,10 +91,11 @@ impl Machine {
         self.parts.due_of(rank)
     }
 
-    /// The step of the actor that is due first; or of the first that acts, where its step doesn't observe geometry, though quiet geometry may be due before it; or of a processor
-    /// that may step before its turn. Then the geometry FIFO's interrupt is told as it is and DMA is triggered that waits for it, and halted processors wake whose IE and IF
-    /// share a bit. A step that needs what is left out stops; the accesses before the refused one stand, and registers and due ticks are as they were. After such a step no other
-    /// may be taken: `running` says that the last one didn't stop. It is so at boot, and after each step that is taken.
+    /// The step of the actor that is due first; or of the first that acts, where its step doesn't observe geometry, though quiet geometry may be due
+    /// before it; or of a processor that may step before its turn. Then the geometry FIFO's interrupt is told as it is and DMA is triggered that
+    /// waits for it, and halted processors wake whose IE and IF share a bit. A step that needs what is left out stops; the accesses before the
+    /// refused one stand, and registers and due ticks are as they were. After such a step no other may be taken: `running` says that the last one
+    /// didn't stop. It is so at boot, and after each step that is taken.
     #[inline(always)]
     pub fn step(&mut self, rank: u8) -> Done
         requires running { IsRunning last_limit self.old }
@@ -108,7 +109,8 @@ impl Machine {
         done
     }
 
-    /// The processor that is the least acting actor and due below a limit, where that is known at once; None where it isn't, or where another actor is the least that acts.
+    /// The processor that is the least acting actor and due below a limit, where that is known at once; None where it isn't, or where another actor
+    /// is the least that acts.
     #[inline(always)]
     pub fn first(&self, until: Tick) -> Option<First>
         requires { until.0 ≤ 2 ^ 56 }
@@ -117,9 +119,9 @@ impl Machine {
         self.parts.first_by(self.next_event, until)
     }
 
-    /// A processor takes steps of its turn with a limit, while they are of the fast path; by the first tick at which it isn't the least acting one any more. The answer is whether
-    /// its turn is over; where it isn't known to be, `belongs` tells it, and the next step, where it belongs to the turn, is to be taken by `step`. No unit behind the ports
-    /// changes: so no frame becomes whole, and no lists are swapped.
+    /// A processor takes steps of its turn with a limit, while they are of the fast path; by the first tick at which it isn't the least acting one
+    /// any more. The answer is whether its turn is over; where it isn't known to be, `belongs` tells it, and the next step, where it belongs to the
+    /// turn, is to be taken by `step`. No unit behind the ports changes: so no frame becomes whole, and no lists are swapped.
     #[inline(always)]
     pub fn go_fast(&mut self, proc: Proc, until: Tick, limit: u64) -> bool
         requires running { IsRunning last_limit self.old }
@@ -133,7 +135,8 @@ impl Machine {
         self.parts.go_fast(self.next_event, proc, until, limit)
     }
 
-    /// The first tick at which a processor that isn't blocked isn't the least acting actor, or isn't due below a limit, any more, while it alone takes steps, where that is known.
+    /// The first tick at which a processor that isn't blocked isn't the least acting actor, or isn't due below a limit, any more, while it alone
+    /// takes steps, where that is known.
     pub fn limit_of(&self, proc: Proc, until: Tick) -> Option<u64>
         requires { until.0 ≤ 2 ^ 56 }
         ensures { IfSome result (λ limit. HasLimit until.0 self.now proc limit) }
@@ -141,23 +144,24 @@ impl Machine {
         self.parts.limit_of(self.next_event, proc, until)
     }
 
-    /// Whether a processor's next step may be taken before its turn, but for when it is due: it is due, its interrupt line is down, nothing that another actor
-    /// raises reaches it, and the step reaches private places alone.
+    /// Whether a processor's next step may be taken before its turn, but for when it is due: it is due, its interrupt line is down, nothing that
+    /// another actor raises reaches it, and the step reaches private places alone.
     pub fn touches(&self, proc: Proc) -> Private
         ensures { (result ≡ Yes) ↔ IsPrivate self.now proc }
     {
         self.parts.touches(proc)
     }
 
-    /// The least tick at which one acts of those that may halt a processor, wake it or make it wait: the key script, the display, its timers, its DMA channels, and for
-    /// ARM9 geometry, unless it is quiet.
+    /// The least tick at which one acts of those that may halt a processor, wake it or make it wait: the key script, the display, its timers, its DMA
+    /// channels, and for ARM9 geometry, unless it is quiet.
     pub fn fence(&self, proc: Proc) -> Tick
         ensures { IsFence self.now proc result }
     {
         self.parts.fence(proc)
     }
 
-    /// Whether a processor's next step belongs to its turn with a limit: it is due below the limit, and is the least acting step, or may be taken before its turn.
+    /// Whether a processor's next step belongs to its turn with a limit: it is due below the limit, and is the least acting step, or may be taken
+    /// before its turn.
     pub fn belongs(&self, proc: Proc, until: Tick) -> bool
         ensures { (result ≡ true) ↔ BelongsToTurn until.0 self.now proc }
     {
@@ -174,8 +178,9 @@ impl Machine {
         self.parts.belongs_by(proc, until, limit)
     }
 
-    /// Whether the next step of the actor of a rank, which is due, observes geometry: the start of line 192, a unit of ARM9's channels that reads or writes an observed port, or a
-    /// step of ARM9's whose instruction does; a fetch doesn't, nor an instruction whose condition fails, nor the entry of an interrupt.
+    /// Whether the next step of the actor of a rank, which is due, observes geometry: the start of line 192, a unit of ARM9's channels that reads or
+    /// writes an observed port, or a step of ARM9's whose instruction does; a fetch doesn't, nor an instruction whose condition fails, nor the entry
+    /// of an interrupt.
     pub fn observes(&self, rank: u8) -> bool
         requires { IsSome (due_at (dues_of self.now) rank) }
         ensures { result ≡ observes_by (actor_of rank) self.now }
@@ -183,8 +188,8 @@ impl Machine {
         self.parts.observes(rank)
     }
 
-    /// Whether geometry is due and quiet: GXSTAT's selector is 0, no channel of ARM9's is enabled with the start of the geometry FIFO, and at most 260 entries wait. Its steps may
-    /// then be taken later than those of others, since nobody hears of them.
+    /// Whether geometry is due and quiet: GXSTAT's selector is 0, no channel of ARM9's is enabled with the start of the geometry FIFO, and at most
+    /// 260 entries wait. Its steps may then be taken later than those of others, since nobody hears of them.
     pub fn quiet(&self) -> bool
         ensures { result ≡ is_quiet self.now.io }
     {
@@ -214,8 +219,9 @@ impl Machine {
         }
     }
 
-    /// Before a step of a turn, on a machine that goes on, takes the steps of quiet geometry that are due before it, where that step observes geometry. Else nothing changes. The
-    /// step is that of the actor of a rank, which acts at a tick: it is the first that acts, or a processor that may step before its turn.
+    /// Before a step of a turn, on a machine that goes on, takes the steps of quiet geometry that are due before it, where that step observes
+    /// geometry. Else nothing changes. The step is that of the actor of a rank, which acts at a tick: it is the first that acts, or a processor that
+    /// may step before its turn.
     #[inline(always)]
     pub fn catch_up_before(&mut self, tick: Tick, rank: u8)
         requires running { IsRunning last_limit self.old }
@@ -230,10 +236,10 @@ impl Machine {
         }
     }
 
-    /// Does nothing; its contract states what holds of every machine: each unit's numbers are those that it can have, and the lines of the key
-    /// script that are to come rise; neither FIFO between the processors holds more than 16 words, each of 32 bits; CPSR and each SPSR of both
-    /// processors have no bits but those that are kept; and no more than 324 entries wait for geometry, whose open lists and those of the last swap have at most 6,144 vertices
-    /// and 2,048 polygons.
+    /// Does nothing; its contract states what holds of every machine: each unit's numbers are those that it can have, and the lines of the key script
+    /// that are to come rise; neither FIFO between the processors holds more than 16 words, each of 32 bits; CPSR and each SPSR of both processors
+    /// have no bits but those that are kept; and no more than 324 entries wait for geometry, whose open lists and those of the last swap have at most
+    /// 6,144 vertices and 2,048 polygons.
     pub fn laws(&self)
         ensures parts { HasSoundParts self.now }
         ensures ipc { AreSides self.now.io.ipc }
@@ -245,8 +251,8 @@ impl Machine {
         self.parts.gx_laws();
     }
 
-    /// What a processor does next: the entry of an interrupt, or a word of ARM code or a half of Thumb code; nothing while it isn't due: it is halted, a DMA channel of it
-    /// runs, or a stall of geometry holds it.
+    /// What a processor does next: the entry of an interrupt, or a word of ARM code or a half of Thumb code; nothing while it isn't due: it is
+    /// halted, a DMA channel of it runs, or a stall of geometry holds it.
     pub fn seen(&self, proc: Proc) -> Seen
         ensures { result ≡ seen_of self.now proc }
     {

@@ -14,7 +14,8 @@ use ds_base::{Proc, Tick};
 /// What the units behind the ports, the key script and the display tell: it stands still while a processor's steps change none of them.
 #[derive(Clone, Copy)]
 pub struct NextEvent {
-    /// No actor but the processors acts before this tick, and one does at it; 0 where a halted processor is to wake, or the units behind the ports aren't settled.
+    /// No actor but the processors acts before this tick, and one does at it; 0 where a halted processor is to wake, or the units behind the ports
+    /// aren't settled.
     pub events_until: Tick,
     /// ARM9 is due at this tick at the earliest: 0, or past all ticks of a run while it is blocked.
     pub nine_least: u64,
@@ -76,7 +77,8 @@ fn past_if_below(tick: u64, end: u64) -> u64
 }
 
 impl Parts {
-    /// A tick before which no actor but the processors acts, and at which one does; 0 where a halted processor is to wake, or the units behind the ports aren't settled.
+    /// A tick before which no actor but the processors acts, and at which one does; 0 where a halted processor is to wake, or the units behind the
+    /// ports aren't settled.
     fn next_event_tick(&self) -> Tick
         ensures events { IsOver (acting_events_of self.now) result.0 }
         ensures first { 0 < result.0 → (rank : ℕ) × (due_at (acting_events_of self.now) rank ≡ Some result) }

@@ -6,7 +6,7 @@ ghost use Rattle.ds_ipc.specs.Ipcs.{AreSides};
 ghost use Rattle.ds_ports.specs.Io.{io_at_boot};
 ghost use Rattle.gx_fifo.specs.GxStates.{IsGx};
 ghost use Rattle.ds_machine.specs.Booted.{machine_blank, machine_booted};
-ghost use Rattle.ds_machine.specs.Observed.{fetch_of, memory_of, seen_of};
+ghost use Rattle.ds_machine.specs.Inspections.{fetch_of, memory_of, seen_of};
 ghost use Rattle.ds_machine.specs.Processors.{state_of};
 ghost use Rattle.ds_machine.specs.Sound.{HasSoundParts};
 ghost use Rattle.ds_machine.specs.Steps.{is_blocked, line_of, processor_of};

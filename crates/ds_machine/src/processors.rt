@@ -13,8 +13,8 @@ use arm_core::Core;
 use ds_base::{Proc, Tick};
 use ds_header::Cart;
 
-/// A processor: the tick at which its next step is due, which is 0 while it is halted, its core, and how many steps it took. (The two numbers don't lie side by side: each step changes both, and they would be
-/// brought together and taken apart again.)
+/// A processor: the tick at which its next step is due, which is 0 while it is halted, its core, and how many steps it took. (The two numbers don't
+/// lie side by side: each step changes both, and they would be brought together and taken apart again.)
 #[derive(Drop)]
 pub struct Processor {
     pub due: u64,

@@ -12,7 +12,7 @@ ghost use Rattle.ds_base.specs.declared.processors.Proc.TheVariants.{Nine};
 ghost use Rattle.ds_places.specs.AddressTables.{place_of};
 ghost use Rattle.ds_map.specs.Maps.{MemoriesState};
 ghost use Rattle.ds_map.specs.Shares.{is_private_place};
-ghost use Rattle.ds_machine.specs.QuietPorts.{is_quiet_port};
+ghost use Rattle.ds_machine.specs.QuietPorts.{is_steady_port};
 ghost use Rattle.ds_machine.specs.PrivateSides as sides;
 ghost use Rattle.ds_machine.specs.DecodedSteps.{operation_outcome, RunsAs};
 ghost use Rattle.ds_machine.specs.PrivateSides.{is_private_tcm, SideOf};
@@ -95,8 +95,8 @@ pub trait Side {
         ensures executes { RunsAs memory side s.old (state self.old) operation.now }
         ensures same { identity self.new ≡ identity self.old };
 
-    /// Runs an operation, where it is frequent and reaches RAM alone, or loads from a port that changes no unit and isn't observed; so no unit changes. The result is its cost; 0
-    /// where it isn't run, and then nothing is changed.
+    /// Runs an operation, where it is frequent and reaches RAM alone, or loads from a port that changes no unit and isn't observed; so no unit
+    /// changes. The result is its cost; 0 where it isn't run, and then nothing is changed.
     fn run_fast(&mut self, s: &mut Registers, operation: &Operation) -> u32
         requires { HasOperation operation.now }
         ensures none { result ≡ 0 → (s.new ≡ s.old) × (state self.new ≡ state self.old) }
@@ -105,13 +105,13 @@ pub trait Side {
         ensures state { 0 < result → state self.new ≡ (operation_outcome memory side s.old (state self.old) operation.now).state }
         ensures stepped { 0 < result → (operation_outcome memory side s.old (state self.old) operation.now).stepped ≡ Cost result }
         ensures executes { 0 < result → RunsAs memory side s.old (state self.old) operation.now }
-        ensures near { 0 < result → IsNear is_quiet_port (operation_meaning side.arch s.old operation.now).accesses }
+        ensures near { 0 < result → IsNear is_steady_port (operation_meaning side.arch s.old operation.now).accesses }
         ensures io { io (state self.new) ≡ io (state self.old) }
         ensures same { identity self.new ≡ identity self.old };
 }
 
-/// Whether the byte at an address past the tightly coupled memories lies in ARM9's private places, by what WRAMCNT keeps. Video memory does, whatever is allotted to ARM7: no address of
-/// ARM9's reaches that.
+/// Whether the byte at an address past the tightly coupled memories lies in ARM9's private places, by what WRAMCNT keeps. Video memory does, whatever
+/// is allotted to ARM7: no address of ARM9's reaches that.
 #[inline(always)]
 #[tactic(auto, using(crate::proofs::PlacesByWords::private_by_rows))]
 fn is_private_past(wramcnt: u8, at: u32) -> bool
@@ -132,7 +132,8 @@ fn is_private_past(wramcnt: u8, at: u32) -> bool
 /// Whether the byte at an address lies in ARM9's private places, as a write, a fetch, or else a read reaches it.
 #[inline(always)]
 pub fn is_private_to_nine(cp: &Cp15, io: &Io, at: u32, writing: bool, fetching: bool) -> bool
-    ensures { (memories : MemoriesState) → result ≡ is_private_tcm (tcm_of cp.now at writing fetching) (record { memories = memories; io = io.now }) at }
+    ensures { (memories : MemoriesState) → result
+        ≡ is_private_tcm (tcm_of cp.now at writing fetching) (record { memories = memories; io = io.now }) at }
 {
     match cp.tcm_place(at, writing, fetching) {
         Tcm::Past => is_private_past(io.wramcnt(), at),

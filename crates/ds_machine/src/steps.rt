@@ -143,7 +143,8 @@ fn stores(op: TransferOp) -> bool
     }
 }
 
-/// Whether an operation's access of data is to a private place, if it makes one. Of what isn't decoded it tells nothing: true, since `run_fast` doesn't run that.
+/// Whether an operation's access of data is to a private place, if it makes one. Of what isn't decoded it tells nothing: true, since `run_fast`
+/// doesn't run that.
 #[inline(always)]
 fn access_stays<V: Side>(s: &Registers, view: &V, next: &Operation) -> bool
     requires { HasOperation next.now }
@@ -159,8 +160,8 @@ fn access_stays<V: Side>(s: &Registers, view: &V, next: &Operation) -> bool
     }
 }
 
-/// The step, where it is fast: a frequent instruction, which reaches RAM alone, or loads from a port that changes no unit and isn't observed; where it is ahead of its turn, it
-/// also has to reach private places alone. Where it isn't taken nothing is changed. No unit changes.
+/// The step, where it is fast: a frequent instruction, which reaches RAM alone, or loads from a port that changes no unit and isn't observed; where
+/// it is ahead of its turn, it also has to reach private places alone. Where it isn't taken nothing is changed. No unit changes.
 #[inline]
 pub fn take_fast<V: Side, const VERSION: u32>(
     s: &mut Registers,

@@ -34,7 +34,7 @@ fn may_go_ahead(arch: Arch, instr: &Instr) -> bool
 
 /// Whether the data accesses of an instruction in its form of ARM code are reads, or a read and a write.
 pub fn reads(instr: &Instr) -> bool
-    ensures { result ≡ touching.reads instr.now }
+    ensures { result ≡ touching.reads_data instr.now }
 {
     match *instr {
         Instr::Transfer { load, .. } => load,
@@ -48,7 +48,7 @@ pub fn reads(instr: &Instr) -> bool
 
 /// Whether they are writes, or a read and a write.
 pub fn writes(instr: &Instr) -> bool
-    ensures { result ≡ touching.writes instr.now }
+    ensures { result ≡ touching.writes_data instr.now }
 {
     match *instr {
         Instr::Transfer { load, .. } => !load,
@@ -141,7 +141,7 @@ impl Parts {
 
     /// Whether all bytes that are reached as data lie in private places, by what an instruction does with them.
     fn is_data_private(&self, proc: Proc, instr: &Instr, touch: Touch) -> bool
-        ensures { result ≡ data_private self.now proc (touching.reads instr.now) (touching.writes instr.now) touch }
+        ensures { result ≡ data_private self.now proc (touching.reads_data instr.now) (touching.writes_data instr.now) touch }
     {
         (!reads(instr) || self.is_touch_private(proc, touch, false, false))
             && (!writes(instr) || self.is_touch_private(proc, touch, true, false))

@@ -22,8 +22,8 @@ use ds_map::{NineView, SevenView};
 use ds_runs::Actor;
 
 impl Parts {
-    /// The step of the least actor, or of the least acting one, where its step doesn't observe geometry, or of a processor that may step before its turn, on a machine that goes
-    /// on.
+    /// The step of the least actor, or of the least acting one, where its step doesn't observe geometry, or of a processor that may step before its
+    /// turn, on a machine that goes on.
     #[inline(always)]
     pub fn step(&mut self, rank: u8) -> Done
         requires may { MayStep self.old rank }
@@ -115,7 +115,8 @@ impl Parts {
         }
     }
 
-    /// Takes it where it is fast, and where it is ahead of its turn reaches private places alone. Where it isn't taken nothing is changed. No unit changes.
+    /// Takes it where it is fast, and where it is ahead of its turn reaches private places alone. Where it isn't taken nothing is changed. No unit
+    /// changes.
     #[inline(always)]
     pub fn take_fast(&mut self, proc: Proc, now: Tick, line: bool, ahead: bool) -> Fast
         requires early { now.0 ≤ 2 ^ 56 }

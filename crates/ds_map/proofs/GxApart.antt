@@ -23,7 +23,7 @@ use Rattle.gx_fifo.specs.GxStates.{GxState}
 use Rattle.vram_banks.specs.Cells.{vram_written}
 use Rattle.ds_map.specs.Accesses.{after_read_at, is_byte_of_nine, map_fetched, map_read, map_refusal, map_value, map_written, takes_no_bytes, written_at}
 use Rattle.ds_map.specs.Maps.{MapState}
-use Rattle.ds_map.specs.Moves.{after_unit, unit_moved, unit_read, unit_refusal, unit_taken}
+use Rattle.ds_map.specs.Moves.{map_after_unit, unit_moved, unit_read, unit_refusal, unit_taken}
 use Rattle.ds_map.proofs.Passed as passed
 use Rattle.ds_map.proofs.Passed.{IsPast, OfOthers, PlacePasses, fetch_passes, place_passes}
 
@@ -211,7 +211,7 @@ moved_arms Nine now u = finished_arms u.nine.dma now
 moved_arms Seven now u = arms_by u.nine.dma u.nine.dma refl
 
 module _ (proc : Proc) (m : MapState) (now : Tick) (unit : DmaUnit) (to : IsApartPlace proc (place_of proc m.io.wramcnt unit.to)) where
-  after_arms : (refused : Option Stop) → ArmsNoMore m.io.nine.dma (after_unit refused proc now unit m).io.nine.dma
+  after_arms : (refused : Option Stop) → ArmsNoMore m.io.nine.dma (map_after_unit refused proc now unit m).io.nine.dma
   after_arms None =
       let left = unit_read proc unit m in
       let taken = unit_taken proc now unit m in

@@ -1,4 +1,5 @@
 use Rattle.std.proofs.Common.{ℕ, ◌≡◌, ◌<◌, ◌≤◌, ◌+◌, ◌-◌, ◌%◌, ◌^◌, ◌==◌, ◌&&◌, nat_le, nat_lt, Bool, true, false, true≢false, if◌then◌else◌, List, [], ◌∷◌, length, None, refl, sym, ◌∙◌, ap, subst, arith}
+use Rattle.ds_base.proofs.Choices.{either}
 use Rattle.ds_base.specs.Memories.{memory_size}
 use Rattle.ds_base.specs.Numbers.{aligned_down, width_bytes, with_number}
 use Rattle.ds_base.specs.declared.memories.Memory.TheVariants.{Shared, Palette, Oam}
@@ -30,14 +31,10 @@ abbrev AllHold : (Place → Type 0) → List Region → Type 0
 AllHold P [] = Unit {0}
 AllHold P (r ∷ rs) = ((offset : ℕ) → P (place_at r.content offset)) × AllHold P rs
 
-chosen : (P : Place → Type 0) (b : Bool) (one other : Place) → P one → P other → P (if b then one else other)
-chosen P true one other h k = h
-chosen P false one other h k = k
-
 by_all : (P : Place → Type 0) (rs : List Region) (at : ℕ) → P Nothing → AllHold P rs → P (place_by rs at)
 by_all P [] at none all = none
 by_all P (r ∷ rs) at none all =
-    chosen P (nat_le r.first at && nat_le at r.last) (place_at r.content (at - r.first)) (place_by rs at) (all.0 (at - r.first)) (by_all P rs at none all.1)
+    either P (nat_le r.first at && nat_le at r.last) (place_at r.content (at - r.first)) (place_by rs at) (all.0 (at - r.first)) (by_all P rs at none all.1)
 
 -- of shared work RAM bytes stand there that are shown to it, all that an access reaches; of video memory no space of ARM7's
 abbrev IsOf : (ℕ → Bool) → Place → Type 0
@@ -75,14 +72,6 @@ nine_places : (w at : ℕ) → IsOf (is_shown_to_nine w) (place_of Nine w at)
 nine_places w at =
     by_all (IsOf (is_shown_to_nine w)) (regions_of_nine w) at tt
     (λ o. tt, (shared_so w, (λ o. tt, (λ o. tt, (λ o. refl, (λ o. refl, (λ o. refl, (λ o. refl, (λ o. refl, (λ o. tt, (λ o. tt, tt)))))))))))
-
-pub shared_nine : (wramcnt at place : ℕ) → place_of Nine wramcnt at ≡ Cell Shared place → (width : Width) → IsAll (is_shown_to_nine wramcnt) true width (aligned_down width place)
-shared_nine wramcnt at place e width k lt =
-    let of : IsOf (is_shown_to_nine wramcnt) (Cell Shared place) = subst (IsOf (is_shown_to_nine wramcnt)) e (nine_places wramcnt at) in
-    of width k lt
-
-pub banks_nine : (wramcnt at : ℕ) (space : Space) (place : ℕ) → place_of Nine wramcnt at ≡ Banks space place → same_space space Arm7 ≡ false
-banks_nine wramcnt at space place e = subst (IsOf (is_shown_to_nine wramcnt)) e (nine_places wramcnt at)
 
 -- past the last address there is nothing
 not_in : (first last at : ℕ) → last < at → (nat_le first at && nat_le at last) ≡ false

@@ -16,14 +16,14 @@ use Rattle.ds_places.specs.declared.kinds.Place.{Place}
 use Rattle.ds_places.specs.declared.kinds.Place.TheVariants.{Banks, Cell, Nothing, Port, Rom}
 use Rattle.ds_ports.specs.Io.{IoState, channel_moved}
 use Rattle.ds_ports.specs.Ports.{port_read, port_refusal, port_value, port_written, unless_stopped}
-use Rattle.ds_ports.specs.Touches.{UnitPart, BankControls, VideoMemory, WramControl, io_graft, is_apart}
+use Rattle.ds_ports.specs.Touches.{UnitPart, BankControls, VideoMemory, WramControl, io_graft, touches_none}
 use Rattle.ds_ports.proofs.Covered.{Covers, chosen, read_passes, refusal_passes, value_same, write_passes}
 use Rattle.ds_ports.proofs.Passed.{passes, reads}
 use Rattle.vram_banks.specs.Cells as cells
 use Rattle.vram_banks.specs.Cells.{vram_value, vram_written}
 use Rattle.ds_map.specs.Accesses.{after_read_at, cell_put, fetched_at, is_byte_of_nine, map_fetched, map_read, map_refusal, map_value, map_written, refusal_at, takes_no_bytes, value_at, written_at}
 use Rattle.ds_map.specs.Maps.{MapState, MemoriesState, cells_of, with_cells}
-use Rattle.ds_map.specs.Moves.{after_unit, unit_moved, unit_read, unit_refusal, unit_taken}
+use Rattle.ds_map.specs.Moves.{map_after_unit, unit_moved, unit_read, unit_refusal, unit_taken}
 
 -- An access of the map passes a change of what is in it where what stands at its address passes it: it comes to the same, and leaves what it left, changed. Proved once, for
 -- all changes of shared work RAM and of the units.
@@ -175,7 +175,7 @@ module _ (shared : List ℕ → List ℕ) (io : IoState → IoState) where
           ∙ ap (map_refusal proc (changed taken) unit.to unit.width) (value proc m same unit.from unit.width now from)
           ∙ refusal proc taken still unit.to unit.width moved_number to
 
-      after_so : (refused : Option Stop) → after_unit refused proc now unit (changed m) ≡ changed (after_unit refused proc now unit m)
+      after_so : (refused : Option Stop) → map_after_unit refused proc now unit (changed m) ≡ changed (map_after_unit refused proc now unit m)
       after_so None =
           ap (λ (x : MapState). map_written proc now x unit.to unit.width (map_value proc now (changed m) unit.from unit.width)) taken_so
           ∙ ap (map_written proc now (changed taken) unit.to unit.width) (value proc m same unit.from unit.width now from)
@@ -183,16 +183,16 @@ module _ (shared : List ℕ → List ℕ) (io : IoState → IoState) where
       after_so (Some stop) = read proc m same unit.from unit.width from
 
       pub unit_moves : unit_moved proc now unit (changed m) ≡ changed (unit_moved proc now unit m)
-      unit_moves = ap (λ (r : Option Stop). after_unit r proc now unit (changed m)) unit_refuses ∙ after_so (unit_refusal proc now unit m)
+      unit_moves = ap (λ (r : Option Stop). map_after_unit r proc now unit (changed m)) unit_refuses ∙ after_so (unit_refusal proc now unit m)
 
 -- ---- some parts of the units from elsewhere, of those that the place's registers don't touch
 
-pub port_passes : (P : UnitPart → Bool) (t : IoState) (proc : Proc) (u : IoState) (at : ℕ) (width : Width) → Covers (is_apart P proc) proc at width → PortsPass (io_graft P t) proc u at width
+pub port_passes : (P : UnitPart → Bool) (t : IoState) (proc : Proc) (u : IoState) (at : ℕ) (width : Width) → Covers (touches_none P proc) proc at width → PortsPass (io_graft P t) proc u at width
 port_passes P t proc u at width h = record {
-  value = λ now. value_same (is_apart P proc) proc now u (io_graft P t u) (reads P t proc now u) at width h;
-  read = read_passes (is_apart P proc) proc (io_graft P t) (passes P t proc) u at width h;
-  refusal = λ value. refusal_passes (is_apart P proc) proc (io_graft P t) (passes P t proc) u at width value h;
-  written = λ now value. write_passes (is_apart P proc) proc (io_graft P t) (passes P t proc) now u at width value h;
+  value = λ now. value_same (touches_none P proc) proc now u (io_graft P t u) (reads P t proc now u) at width h;
+  read = read_passes (touches_none P proc) proc (io_graft P t) (passes P t proc) u at width h;
+  refusal = λ value. refusal_passes (touches_none P proc) proc (io_graft P t) (passes P t proc) u at width value h;
+  written = λ now value. write_passes (touches_none P proc) proc (io_graft P t) (passes P t proc) now u at width value h;
 }
 
 -- of video memory and of how memories are shared out none is of them
@@ -202,16 +202,10 @@ pub record OfOthers (P : UnitPart → Bool) : Type 0 where
   pub wram : P WramControl ≡ false
 
 abbrev pub IsPast : (UnitPart → Bool) → Proc → Width → Place → Type 0
-IsPast P proc width (Port at) = Covers (is_apart P proc) proc (aligned_down width at) width
+IsPast P proc width (Port at) = Covers (touches_none P proc) proc (aligned_down width at) width
 IsPast P proc width place = Unit {0}
 
-abbrev pub units_changed : (UnitPart → Bool) → IoState → MapState → MapState
-units_changed P t = changed (λ bytes. bytes) (io_graft P t)
-
 module _ (P : UnitPart → Bool) (others : OfOthers P) (t : IoState) where
-  pub same_shares : (u : IoState) → (io_graft P t u).wramcnt ≡ u.wramcnt
-  same_shares u = ap (λ (b : Bool). pick b t.wramcnt u.wramcnt) others.wram
-
   same_banks : (u : IoState) (v : cells.Banks) → (let w : cells.Banks = record { bytes = pick (P VideoMemory) t.vram.bytes v.bytes; controls = pick (P BankControls) t.vram.controls v.controls } in w) ≡ v
   same_banks u v = λ i. record { bytes = pick (others.bytes i) t.vram.bytes v.bytes; controls = pick (others.controls i) t.vram.controls v.controls }
 

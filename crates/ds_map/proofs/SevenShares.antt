@@ -16,10 +16,9 @@ use Rattle.ds_places.specs.declared.kinds.Place.{Place}
 use Rattle.ds_places.specs.declared.kinds.Place.TheVariants.{Banks, Cell, Nothing, Port, Rom}
 use Rattle.ds_ports.specs.Io.{IoState, channel_moved, with_shares}
 use Rattle.ds_ports.specs.Ports.{port_read, port_refusal, port_value, port_written, unless_stopped}
-use Rattle.ds_ports.specs.Touches as touches
-use Rattle.ds_ports.specs.Touches.{UnitPart, BankControls, VideoMemory, WramControl, io_graft, is_part}
+use Rattle.ds_ports.specs.Touches.{UnitPart, BankControls, VideoMemory, WramControl, io_graft, is_part, touches_none}
 use Rattle.ds_ports.proofs.Covered.{covers_all}
-use Rattle.ds_ports.proofs.Passed.{leaves, read_left, write_left}
+use Rattle.ds_ports.proofs.Passed.{keeps_part, read_left, write_left}
 use Rattle.vram_banks.specs.Cells as cells
 use Rattle.vram_banks.specs.Mixes.{mixed}
 use Rattle.vram_banks.specs.Cells.{vram_value, vram_written}
@@ -27,8 +26,8 @@ use Rattle.vram_banks.proofs.Allotted.{value_allotted, written_allotted, written
 use Rattle.vram_banks.proofs.Mixes.{IsAll, number_other, with_number_length, with_number_other}
 use Rattle.ds_map.specs.Accesses.{after_read_at, map_fetched, map_read, map_refusal, map_value, map_written, written_at}
 use Rattle.ds_map.specs.Maps.{MapState}
-use Rattle.ds_map.specs.Moves.{after_unit, unit_moved, unit_read, unit_refusal, unit_taken}
-use Rattle.ds_map.specs.Shares.{IsSharedSo, SharedPart, is_apart, is_shown_to_nine, map_put, mixed_banks, shared_put, shares_put}
+use Rattle.ds_map.specs.Moves.{map_after_unit, unit_moved, unit_read, unit_refusal, unit_taken}
+use Rattle.ds_map.specs.Shares.{IsSharedSo, SharedPart, is_beyond_seven, is_shown_to_nine, map_put, mixed_banks, shared_put, shares_put}
 use Rattle.ds_map.proofs.Passed as passed
 use Rattle.ds_map.proofs.Passed.{BanksPass, FetchPasses, PlacePasses, PortsPass, port_passes}
 
@@ -85,13 +84,6 @@ all_past wramcnt width =
 place_past : (wramcnt at : ℕ) (width : Width) → IsPast (is_shown_to_nine wramcnt) width (place_of Seven wramcnt at)
 place_past wramcnt at width = by_regions (is_shown_to_nine wramcnt) width (regions_of_seven wramcnt) at (all_past wramcnt width)
 
-pub shared_seven : (wramcnt at : ℕ) (width : Width) (place : ℕ) → place_of Seven wramcnt at ≡ Cell Shared place
-    → IsAll (is_shown_to_nine wramcnt) false width (aligned_down width place)
-shared_seven wramcnt at width place e = subst (λ (p : Place). IsPast (is_shown_to_nine wramcnt) width p) e (place_past wramcnt at width)
-
-pub banks_seven : (wramcnt at : ℕ) (space : Space) (place : ℕ) → place_of Seven wramcnt at ≡ Banks space place → space ≡ Arm7
-banks_seven wramcnt at space place e = subst (λ (p : Place). IsPast (is_shown_to_nine wramcnt) Byte p) e (place_past wramcnt at Byte)
-
 -- ---- video memory at ARM7's addresses, with other bytes of ARM9's
 
 module _ (own theirs : cells.Banks) (controls : own.controls ≡ theirs.controls) (long : length own.bytes ≡ length theirs.bytes) where
@@ -121,11 +113,11 @@ read_alike u at width = record {
 
 write_alike : (now : Tick) (u : IoState) (at : ℕ) (width : Width) (value : ℕ) → AreSharedAlike u (port_written Seven now u at width value)
 write_alike now u at width value =
-    let bytes = write_left VideoMemory Seven now u at width value (covers_all (leaves VideoMemory Seven) Seven at width refl) in
-    let controls = write_left BankControls Seven now u at width value (covers_all (leaves BankControls Seven) Seven at width refl) in
+    let bytes = write_left VideoMemory Seven now u at width value (covers_all (keeps_part VideoMemory Seven) Seven at width refl) in
+    let controls = write_left BankControls Seven now u at width value (covers_all (keeps_part BankControls Seven) Seven at width refl) in
     record {
       vram = λ i. record { bytes = bytes i; controls = controls i };
-      wramcnt = write_left WramControl Seven now u at width value (covers_all (leaves WramControl Seven) Seven at width refl);
+      wramcnt = write_left WramControl Seven now u at width value (covers_all (keeps_part WramControl Seven) Seven at width refl);
     }
 
 so_alike : (own : SharedPart) (shared : List ℕ) (u v : IoState) → AreSharedAlike u v → IsSharedSo own shared u → IsSharedSo own shared v
@@ -151,7 +143,7 @@ module _ (own : SharedPart) (shared : List ℕ) (u : IoState) (so : IsSharedSo o
   as_graft : (v : IoState) → AreSharedAlike u v → shares_put own v ≡ io_graft of_memory there v
   as_graft v alike = λ i. record v {
     vram = record {
-      bytes = mixed (is_apart own.vram.controls) own.vram.bytes (ap (λ (b : cells.Banks). b.bytes) alike.vram i);
+      bytes = mixed (is_beyond_seven own.vram.controls) own.vram.bytes (ap (λ (b : cells.Banks). b.bytes) alike.vram i);
       controls = (so.controls ∙ ap (λ (b : cells.Banks). b.controls) (sym alike.vram)) i;
     };
     wramcnt = (so.wramcnt ∙ sym alike.wramcnt) i;
@@ -160,7 +152,7 @@ module _ (own : SharedPart) (shared : List ℕ) (u : IoState) (so : IsSharedSo o
   ports_pass : PortsPass (shares_put own) Seven u at width
   ports_pass =
       let it = as_graft u (record { vram = refl; wramcnt = refl }) in
-      let p = port_passes of_memory there Seven u at width (covers_all (touches.is_apart of_memory Seven) Seven at width refl) in
+      let p = port_passes of_memory there Seven u at width (covers_all (touches_none of_memory Seven) Seven at width refl) in
       record {
         value = λ now. ap (λ (x : IoState). port_value Seven now x at width) it ∙ p.value now;
         read = ap (λ (x : IoState). port_read Seven x at width) it ∙ p.read ∙ sym (as_graft (port_read Seven u at width) (read_alike u at width));
@@ -287,7 +279,7 @@ module _ (own : SharedPart) (m : MapState) (so : IsSharedSo own m.memories.share
       passed.unit_moves (shared_put own) (shares_put own) Seven m now unit so.wramcnt (passes_at own m so unit.from unit.width) moved taken_stays.wramcnt
       (passes_at own taken taken_stays unit.to unit.width)
 
-  after_stays : (refused : Option Stop) → (let left = after_unit refused Seven now unit m in IsSharedSo own left.memories.shared left.io)
+  after_stays : (refused : Option Stop) → (let left = map_after_unit refused Seven now unit m in IsSharedSo own left.memories.shared left.io)
   after_stays None = written_stays own taken taken_stays now unit.to unit.width number
   after_stays (Some stop) = read_stays own m so unit.from unit.width
 

@@ -15,7 +15,7 @@ use Rattle.ds_ports.specs.Ports.{port_refusal, port_written, unless_stopped}
 use Rattle.ds_ports.specs.Io.{IoState, channel_moved, channel_put_back, io_of}
 use Rattle.ds_map.specs.Accesses.{map_read, map_refusal, map_value, map_written, written_at, refusal_at}
 use Rattle.ds_map.specs.Maps.{MapState}
-use Rattle.ds_map.specs.Moves.{after_unit, unit_read, unit_refusal, unit_taken}
+use Rattle.ds_map.specs.Moves.{map_after_unit, unit_read, unit_refusal, unit_taken}
 use Rattle.ds_map.proofs.Later.{map_read_unchanged}
 
 -- A channel's unit: it is still due after its read, and where its write is refused all is as it was after the read.
@@ -48,14 +48,14 @@ taken_back : (proc : Proc) (now : Tick) (u : IoState) → channel_put_back proc 
 taken_back Nine now u = refl
 taken_back Seven now u = refl
 
-left_by_stop : (refused : Option Stop) (proc : Proc) (now : Tick) (unit : DmaUnit) (m : MapState) → IsSome refused → after_unit refused proc now unit m ≡ unit_read proc unit m
+left_by_stop : (refused : Option Stop) (proc : Proc) (now : Tick) (unit : DmaUnit) (m : MapState) → IsSome refused → map_after_unit refused proc now unit m ≡ unit_read proc unit m
 left_by_stop None proc now unit m h = absurd (true≢false (sym h))
 left_by_stop (Some stop) proc now unit m h = refl
 
 pub put_back_is : (proc : Proc) (now : Tick) (unit : DmaUnit) (m written : MapState) → IsSome (unit_refusal proc now unit m)
     → written ≡ map_written proc now (unit_taken proc now unit m) unit.to unit.width (map_value proc now m unit.from unit.width)
     → (let back : MapState = record written { io = channel_put_back proc (before_move (io_of (unit_read proc unit m).io proc)) written.io } in back)
-    ≡ after_unit (unit_refusal proc now unit m) proc now unit m
+    ≡ map_after_unit (unit_refusal proc now unit m) proc now unit m
 put_back_is proc now unit m written h w =
     let read = unit_read proc unit m in
     let stays = w ∙ refused_leaves proc now (unit_taken proc now unit m) unit.to unit.width (map_value proc now m unit.from unit.width) h in

@@ -85,11 +85,15 @@ written_at proc now (Banks space at) m width value =
     if is_byte_of_nine proc width && takes_no_bytes Vram then m
     else record m { io = record m.io { vram = vram_written m.io.vram space at width value } }
 written_at proc now (Port at) m width value =
-    record m { io = unless_stopped (port_refusal proc m.io (aligned_down width at) width value) m.io (port_written proc now m.io (aligned_down width at) width value) }
+    record m {
+      io = unless_stopped (port_refusal proc m.io (aligned_down width at) width value) m.io
+          (port_written proc now m.io (aligned_down width at) width value);
+    }
 written_at proc now (Rom at) m width value = m
 written_at proc now Nothing m width value = m
 
--- what a processor reads, fetches and writes at an address at a tick, what a read leaves, and why a write is refused, past the tightly coupled memories
+-- what a processor reads, fetches and writes at an address at a tick, what a read leaves, and why a write is refused, past the tightly coupled
+-- memories
 unfoldable pub map_value : Proc → Tick → MapState → ℕ → Width → ℕ
 map_value proc now m at width = value_at proc now (place_of proc m.io.wramcnt at) m width
 

@@ -9,8 +9,8 @@ use Rattle.ds_map.specs.Accesses.{map_read, map_refusal, map_value, map_written}
 use Rattle.ds_map.specs.Maps.{MapState}
 use Rattle.ds_ports.specs.Io.{IoState, channel_moved, io_of}
 
--- How a DMA channel moves a unit (GBATEK, "DS DMA Transfers"; the order is our choice): it reads it, takes it from its plan with all that taking the last
--- one brings, and then writes it. Where the write is refused all is as it was after the read: the unit is still in the plan.
+-- How a DMA channel moves a unit (GBATEK, "DS DMA Transfers"; the order is our choice): it reads it, takes it from its plan with all that taking the
+-- last one brings, and then writes it. Where the write is refused all is as it was after the read: the unit is still in the plan.
 
 -- the unit that the channel of a processor that is due moves
 abbrev pub next_unit : IoState → Proc → DmaUnit
@@ -27,9 +27,9 @@ unit_taken proc now unit m = let read = unit_read proc unit m in record read { i
 abbrev pub unit_refusal : Proc → Tick → DmaUnit → MapState → Option Stop
 unit_refusal proc now unit m = map_refusal proc (unit_taken proc now unit m) unit.to unit.width (map_value proc now m unit.from unit.width)
 
-abbrev pub after_unit : Option Stop → Proc → Tick → DmaUnit → MapState → MapState
-after_unit None proc now unit m = map_written proc now (unit_taken proc now unit m) unit.to unit.width (map_value proc now m unit.from unit.width)
-after_unit (Some stop) proc now unit m = unit_read proc unit m
+abbrev pub map_after_unit : Option Stop → Proc → Tick → DmaUnit → MapState → MapState
+map_after_unit None proc now unit m = map_written proc now (unit_taken proc now unit m) unit.to unit.width (map_value proc now m unit.from unit.width)
+map_after_unit (Some stop) proc now unit m = unit_read proc unit m
 
 abbrev pub unit_moved : Proc → Tick → DmaUnit → MapState → MapState
-unit_moved proc now unit m = after_unit (unit_refusal proc now unit m) proc now unit m
+unit_moved proc now unit m = map_after_unit (unit_refusal proc now unit m) proc now unit m

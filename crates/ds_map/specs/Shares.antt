@@ -12,14 +12,15 @@ use Rattle.ds_map.specs.Maps.{MapState}
 
 -- the byte of shared work RAM at a place is shown to ARM9, by WRAMCNT (GBATEK, "DS Memory Control - WRAM")
 abbrev pub is_shown_to_nine : ℕ → ℕ → Bool
-is_shown_to_nine wramcnt at = if wramcnt == 0 then true else (if wramcnt == 1 then nat_le 0x4000 at else (if wramcnt == 2 then nat_lt at 0x4000 else false))
+is_shown_to_nine wramcnt at =
+    if wramcnt == 0 then true else (if wramcnt == 1 then nat_le 0x4000 at else (if wramcnt == 2 then nat_lt at 0x4000 else false))
 
 -- a byte of the memory of all banks is out of ARM7's reach
-abbrev pub is_apart : List ℕ → ℕ → Bool
-is_apart controls cell = not (is_allotted controls cell)
+abbrev pub is_beyond_seven : List ℕ → ℕ → Bool
+is_beyond_seven controls cell = not (is_allotted controls cell)
 
--- ARM9 alone reaches a place that it has past its tightly coupled memories (our choice of which): shared work RAM, since it has a place there only where WRAMCNT shows it to
--- ARM9; palettes and OAM; video memory where none of its cells lies in a bank that is allotted to ARM7; its boot ROM
+-- ARM9 alone reaches a place that it has past its tightly coupled memories (our choice of which): shared work RAM, since it has a place there only
+-- where WRAMCNT shows it to ARM9; palettes and OAM; video memory where none of its cells lies in a bank that is allotted to ARM7; its boot ROM
 abbrev pub is_private_place : List ℕ → Place → Bool
 is_private_place controls (Cell Shared at) = true
 is_private_place controls (Cell Palette at) = true
@@ -36,7 +37,7 @@ pub record SharedPart : Type 0 where
 
 -- video memory with ARM9's bytes, and with others in the banks that are allotted to ARM7
 abbrev pub mixed_banks : cells.Banks → List ℕ → cells.Banks
-mixed_banks own others = record own { bytes = mixed (is_apart own.controls) own.bytes others }
+mixed_banks own others = record own { bytes = mixed (is_beyond_seven own.controls) own.bytes others }
 
 abbrev pub shares_put : SharedPart → IoState → IoState
 shares_put own u = with_shares (mixed_banks own.vram u.vram.bytes) own.wramcnt u

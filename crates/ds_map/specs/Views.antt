@@ -30,7 +30,8 @@ seven_memory = record {
   write_next = λ r at width value. record r { map = map_written Seven r.now r.map at width value };
 }
 
--- what ARM9 reaches at the tick of its step: the map behind its tightly coupled memories, which stand where CP15's numbers say; no access changes CP15
+-- what ARM9 reaches at the tick of its step: the map behind its tightly coupled memories, which stand where CP15's numbers say; no access changes
+-- CP15
 pub record NineReach : Type 0 where
   pub map : MapState
   pub cp15 : Cp15State

@@ -310,7 +310,8 @@ impl Map {
         }
     }
 
-    /// The display's event, with palettes and OAM, which stay as they are: what it does beside what it changes of the units. Where it stops, nothing changes.
+    /// The display's event, with palettes and OAM, which stay as they are: what it does beside what it changes of the units. Where it stops, nothing
+    /// changes.
     pub fn show(&self, io: &mut Io) -> Result<Shown, Stop>
         requires early { scan_due io.old.video.scan ≤ 2 ^ 56 }
         ensures answer { result ≡ video_answer self.now.oam io.old.video }

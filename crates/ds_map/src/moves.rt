@@ -13,8 +13,8 @@ use ds_dma::Unit;
 use ds_ports::Io;
 
 impl Map {
-    /// Moves a unit for the channel of a processor that is due, at a tick: reads it, takes it from the channel's plan, and writes it. Where the write is
-    /// refused, the unit is still in the plan. What the processor doesn't reach stays.
+    /// Moves a unit for the channel of a processor that is due, at a tick: reads it, takes it from the channel's plan, and writes it. Where the write
+    /// is refused, the unit is still in the plan. What the processor doesn't reach stays.
     pub fn move_unit(&mut self, io: &mut Io, proc: Proc, now: Tick, unit: Unit) -> Option<Stop>
         requires due { IsSome (dma_due (io_of io.old proc).dma) }
         requires early { IsEarly (Some now) }

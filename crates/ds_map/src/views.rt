@@ -68,7 +68,14 @@ pub fn fetched_by_nine(
     at: u32,
     width: Width,
 ) -> u32
-    ensures { (now : Tick) → result ≡ nine_memory.fetch_value (record { map = map_seen Nine map.now io.now; cp15 = cp.now; itcm = itcm.now; dtcm = dtcm.now; now = now }) at width }
+    ensures { (now : Tick) → result
+        ≡ nine_memory.fetch_value (record {
+          map = map_seen Nine map.now io.now;
+          cp15 = cp.now;
+          itcm = itcm.now;
+          dtcm = dtcm.now;
+          now = now;
+        }) at width }
 {
     match cp.tcm_place(at, false, true) {
         Tcm::Itcm(place) => itcm.number(place as usize, width),

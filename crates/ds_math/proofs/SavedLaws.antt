@@ -5,7 +5,7 @@ use Rattle.ds_math.specs.Roots.{RootState, IsRootUnit}
 use Rattle.ds_math.specs.Saved.{DividersAreSaved, RootsAreSaved, divider_format, root_format}
 use Rattle.ds_base.specs.Schedules.{due_number}
 use Rattle.ds_state.specs.Formats.{soon}
-use Rattle.ds_state.specs.Laws.{IsExact, Stands}
+use Rattle.ds_state.specs.Laws.{IsExact, StandsFor}
 use Rattle.ds_state.proofs.Exact.{one_spelling, round_trips}
 use Rattle.ds_state.proofs.Soon.{soon_fits}
 
@@ -19,7 +19,7 @@ root_exact : (at : ℕ) → IsExact root_format at
 unfolding root_format
 root_exact at = λ wide _ _ value _ _ root _ _ due _ _. (number_again due, search rules)
 
-divider_stands : (at : ℕ) (d : DividerState) → at ≤ 2 ^ 56 → IsDivider d → soon at (due_number d.due) ≡ true → Stands divider_format at d
+divider_stands : (at : ℕ) (d : DividerState) → at ≤ 2 ^ 56 → IsDivider d → soon at (due_number d.due) ≡ true → StandsFor divider_format at d
 unfolding divider_format
 divider_stands at d early is due =
     let fits = soon_fits at _ early due in
@@ -27,7 +27,7 @@ divider_stands at d early is due =
     let mode = is.mode in let numerator = is.numerator in let denominator = is.denominator in let quotient = is.quotient in let remainder = is.remainder in
     (search rules, rw again refl)
 
-root_stands : (at : ℕ) (r : RootState) → at ≤ 2 ^ 56 → IsRootUnit r → soon at (due_number r.due) ≡ true → Stands root_format at r
+root_stands : (at : ℕ) (r : RootState) → at ≤ 2 ^ 56 → IsRootUnit r → soon at (due_number r.due) ≡ true → StandsFor root_format at r
 unfolding root_format
 root_stands at r early is due =
     let fits = soon_fits at _ early due in

@@ -2,27 +2,27 @@ use Rattle.std.specs.Prelude.{ℕ, ◌≡◌, ◌≤◌, ◌^◌, true}
 use Rattle.ds_base.specs.Schedules.{due_number, numbered_due}
 use Rattle.ds_math.specs.Dividers.{DividerState, IsDivider}
 use Rattle.ds_math.specs.Roots.{RootState, IsRootUnit}
-use Rattle.ds_state.specs.Formats.{Format, number, flag, tick, done, ◌>>=◌, one, any, at_most, soon}
+use Rattle.ds_state.specs.Formats.{Format, number_code, flag_code, tick, done, ◌>>=◌, one_field, any, at_most, soon}
 use Rattle.ds_state.specs.Laws.{OneSpelling, RoundTrips}
 
 -- The units' states in bytes: each register as it stands, and the due tick of what runs.
 
 unfoldable pub divider_format : Format DividerState DividerState
 divider_format = do
-  mode ← one (number 1) (λ d. d.mode) (at_most 3)
-  numerator ← one (number 8) (λ d. d.numerator) any
-  denominator ← one (number 8) (λ d. d.denominator) any
-  quotient ← one (number 8) (λ d. d.quotient) any
-  remainder ← one (number 8) (λ d. d.remainder) any
-  due ← one tick (λ d. due_number d.due) soon
+  mode ← one_field (number_code 1) (λ d. d.mode) (at_most 3)
+  numerator ← one_field (number_code 8) (λ d. d.numerator) any
+  denominator ← one_field (number_code 8) (λ d. d.denominator) any
+  quotient ← one_field (number_code 8) (λ d. d.quotient) any
+  remainder ← one_field (number_code 8) (λ d. d.remainder) any
+  due ← one_field tick (λ d. due_number d.due) soon
   done (record { mode = mode; numerator = numerator; denominator = denominator; quotient = quotient; remainder = remainder; due = numbered_due due })
 
 unfoldable pub root_format : Format RootState RootState
 root_format = do
-  wide ← one flag (λ r. r.wide) any
-  value ← one (number 8) (λ r. r.value) any
-  root ← one (number 4) (λ r. r.root) any
-  due ← one tick (λ r. due_number r.due) soon
+  wide ← one_field flag_code (λ r. r.wide) any
+  value ← one_field (number_code 8) (λ r. r.value) any
+  root ← one_field (number_code 4) (λ r. r.root) any
+  due ← one_field tick (λ r. due_number r.due) soon
   done (record { wide = wide; value = value; root = root; due = numbered_due due })
 
 -- their bytes are read as they were, and bytes that are read are theirs

@@ -1,8 +1,7 @@
 use Rattle.std.specs.Prelude.{◌||◌}
-use Rattle.std.proofs.Common.{ℕ, zero, suc, ◌≡◌, ◌<◌, ◌≤◌, ◌+◌, ◌-◌, ◌/◌, ◌%◌, ◌^◌, inl, inr, ◌==◌, ◌&&◌, not, Bool, true, false, true≢false, if◌then◌else◌, List, [], ◌∷◌, length, map, slice_set, Some, None, refl, sym, ◌∙◌, ap, subst, arith, rules, length-set}
+use Rattle.std.proofs.Common.{ℕ, zero, suc, ◌≡◌, ◌<◌, ◌≤◌, ◌+◌, ◌-◌, ◌/◌, ◌%◌, inl, inr, ◌==◌, ◌&&◌, not, Bool, true, false, true≢false, if◌then◌else◌, List, [], ◌∷◌, length, map, slice_set, Some, None, refl, sym, ◌∙◌, ap, subst, arith, rules, length-set}
 use Rattle.std.proofs.lemmas.List.{length-map}
 use Rattle.ds_base.proofs.Choices.{both, equal, one_of}
-use Rattle.ds_base.specs.Bits.{bits}
 use Rattle.ds_base.specs.Interrupts.{interrupt_bit}
 use Rattle.ds_base.specs.Numbers.{width_bytes}
 use Rattle.ds_base.specs.declared.interrupts.Interrupt.TheVariants.{Keys}
@@ -18,14 +17,14 @@ use Rattle.ds_dma.specs.declared.controls.Cause.TheVariants.{Geometry}
 use Rattle.ds_ports.specs.Acting.{is_armed}
 use Rattle.ds_ports.specs.Io.{IoState}
 use Rattle.ds_ports.specs.Ports.{port_read, port_written}
-use Rattle.ds_ports.specs.ProcessorIo.{ProcessorIoState, haltcnt_written, kept_keycnt, keys_hold, keys_told, processor_io_raised}
+use Rattle.ds_ports.specs.ProcessorIo.{ProcessorIoState, keys_hold, keys_told, processor_io_raised}
 use Rattle.ds_ports.specs.RegisterMap.{PortRow, register_map, row_bytes, slot_in, slot_of}
 use Rattle.ds_ports.specs.Registers.{after_write}
 use Rattle.ds_ports.specs.declared.registers.Register.{Register}
-use Rattle.ds_ports.specs.declared.registers.Register.TheVariants.{Dmasad, Dmadad, Dmacnt, Keycnt, Haltcnt}
+use Rattle.ds_ports.specs.declared.registers.Register.TheVariants.{Dmasad, Dmadad, Dmacnt}
 use Rattle.ds_ports.specs.Touches.{DmaNine}
-use Rattle.ds_ports.proofs.Covered.{OfKind, covers, covers_all, write_leaves}
-use Rattle.ds_ports.proofs.Passed.{leaves, read_left, write_left}
+use Rattle.ds_ports.proofs.Covered.{Of, OfKind, covers, covers_all, write_leaves}
+use Rattle.ds_ports.proofs.Passed.{keeps_part, read_left, row_leaves, write_left}
 use Rattle.ds_ports.proofs.RegisterMaps.{each_place, of_place, slot_by_all}
 
 -- Which of ARM9's channels are enabled with the start of the geometry FIFO is told by their controls, and of ports those are changed by writes of DMAxCNT alone.
@@ -159,7 +158,7 @@ slot_fits r at h inside le out =
 
 slot_of_fits : (at : ℕ) → is_control_word (at / 4) ≡ false → OfKind is_no_control (slot_of Nine at)
 unfolding slot_of
-slot_of_fits at out = slot_by_all (λ s. is_no_control s.register ≡ true) (each_place place_fits) (register_map Nine) at refl (λ r h inside le lies. slot_fits r at h inside le out)
+slot_of_fits at out = slot_by_all (Of is_no_control) (each_place place_fits) (register_map Nine) at refl (λ r h inside le lies. slot_fits r at h inside le out)
 
 -- ---- each register
 
@@ -170,28 +169,23 @@ dma_of false x p e = refl
 pub told_dma : (processor_io : ProcessorIoState) (pressed : ℕ) → (keys_told processor_io pressed).dma ≡ processor_io.dma
 told_dma processor_io pressed = dma_of (keys_hold processor_io.keycnt pressed) (processor_io_raised processor_io (interrupt_bit Keys)) processor_io refl
 
-halt_dma : (processor_io : ProcessorIoState) (value : ℕ) → (haltcnt_written processor_io value).dma ≡ processor_io.dma
-halt_dma processor_io value = dma_of (bits 6 2 value == 2) (record processor_io { halted = true }) processor_io refl
-
 nine_keeps : (now : Tick) (u : IoState) (register : Register) (n word : ℕ) → is_no_control register ≡ true
     → KeepsControls u.nine.dma (after_write Nine now u register n word).nine.dma
 nine_keeps now u Dmacnt n word h = absurd (true≢false (sym h))
 nine_keeps now u Dmasad n word h = keeps_set u.nine.dma n (record (channel_at u.nine.dma.channels n) { sad = kept_address word }) refl
 nine_keeps now u Dmadad n word h = keeps_set u.nine.dma n (record (channel_at u.nine.dma.channels n) { dad = kept_address word }) refl
-nine_keeps now u Keycnt n word h = keeps_by u.nine.dma _ (told_dma (record u.nine { keycnt = kept_keycnt (word % 2 ^ 16) }) u.pressed)
-nine_keeps now u Haltcnt n word h = keeps_by u.nine.dma _ (halt_dma u.nine (word % 2 ^ 8))
-nine_keeps now u _ n word h = keeps_same u.nine.dma
+nine_keeps now u register n word h = keeps_by u.nine.dma _ (row_leaves DmaNine Nine now u register n word refl)
 
 -- ---- accesses: a write of ARM9's none of whose bytes lies in those words keeps the controls; and ARM7's keep all of ARM9's channels, and so do reads
 
 pub write_keeps : (now : Tick) (u : IoState) (at : ℕ) (width : Width) (value : ℕ) → ((k : ℕ) → k < width_bytes width → is_control_word ((at + k) / 4) ≡ false)
     → KeepsControls u.nine.dma (port_written Nine now u at width value).nine.dma
 write_keeps now u at width value apart =
-    write_leaves is_no_control Nine now (λ x y. KeepsControls x.nine.dma y.nine.dma) (λ x. keeps_same x.nine.dma) (λ x y z. keeps_then x.nine.dma y.nine.dma z.nine.dma)
-    (nine_keeps now) u at width value (covers is_no_control Nine at width (λ k l. slot_of_fits (at + k) (apart k l)))
+    write_leaves (Of is_no_control) Nine now (λ x y. KeepsControls x.nine.dma y.nine.dma) (λ x. keeps_same x.nine.dma) (λ x y z. keeps_then x.nine.dma y.nine.dma z.nine.dma)
+    (λ x slot word h. nine_keeps now x slot.register slot.number word h) u at width value (covers is_no_control Nine at width (λ k l. slot_of_fits (at + k) (apart k l)))
 
 pub seven_write_dma : (now : Tick) (u : IoState) (at : ℕ) (width : Width) (value : ℕ) → (port_written Seven now u at width value).nine.dma ≡ u.nine.dma
-seven_write_dma now u at width value = write_left DmaNine Seven now u at width value (covers_all (leaves DmaNine Seven) Seven at width refl)
+seven_write_dma now u at width value = write_left DmaNine Seven now u at width value (covers_all (keeps_part DmaNine Seven) Seven at width refl)
 
 pub read_dma : (proc : Proc) (u : IoState) (at : ℕ) (width : Width) → (port_read proc u at width).nine.dma ≡ u.nine.dma
 read_dma proc u at width = read_left DmaNine proc u at width refl

@@ -24,8 +24,11 @@ chosen f false x y = refl
 
 -- ---- the registers that rows of a map have
 
+abbrev pub Of : (Register → Bool) → Slot → Type 0
+Of kind slot = kind slot.register ≡ true
+
 abbrev pub OfKind : (Register → Bool) → Option Slot → Type 0
-OfKind kind slot = IfSome slot (λ s. kind s.register ≡ true)
+OfKind kind slot = IfSome slot (Of kind)
 
 abbrev pub is_of_row : (Register → Bool) → PortRow → ℕ → Bool
 is_of_row kind r place = kind (r.register place)
@@ -43,27 +46,36 @@ pub slot_is : (skips : PortRow → Bool) (kind : Register → Bool) (proc : Proc
     → ((r : PortRow) → skips r ≡ true → lies_in r at ≡ false) → OfKind kind (slot_of proc at)
 unfolding slot_of
 slot_is skips kind proc at h out =
-    slot_by_all (λ s. kind s.register ≡ true) (row_is skips kind) (register_map proc) at h (λ r test inside le lies. elim (one_of (skips r) (each_place (is_of_row kind) r) test) [
+    slot_by_all (Of kind) (row_is skips kind) (register_map proc) at h (λ r test inside le lies. elim (one_of (skips r) (each_place (is_of_row kind) r) test) [
       | inl skipped ↦ never (lies_in r at) lies (out r skipped)
       | inr has ↦ of_place (is_of_row kind) r (at - r.offset) has inside
     ])
 
 -- ---- the registers of which an access covers bytes
 
-abbrev pub ByteIs : (Register → Bool) → Proc → ℕ → Type 0
-ByteIs kind proc at = OfKind kind (slot_of proc at)
-
-abbrev pub HalfIs : (Register → Bool) → Proc → ℕ → Type 0
-HalfIs kind proc at = ByteIs kind proc at × ByteIs kind proc (at + 1)
-
-abbrev pub WordIs : (Register → Bool) → Proc → ℕ → Type 0
-WordIs kind proc at = HalfIs kind proc at × HalfIs kind proc (at + 2)
+abbrev pub AreAll : (Slot → Type 0) → Proc → ℕ → Width → Type 0
+AreAll Q proc at Byte = IfSome (slot_of proc at) Q
+AreAll Q proc at Half = IfSome (slot_of proc at) Q × IfSome (slot_of proc (at + 1)) Q
+AreAll Q proc at Word = (IfSome (slot_of proc at) Q × IfSome (slot_of proc (at + 1)) Q) × (IfSome (slot_of proc (at + 2)) Q × IfSome (slot_of proc (at + 2 + 1)) Q)
 
 -- they are of a kind
 abbrev pub Covers : (Register → Bool) → Proc → ℕ → Width → Type 0
-Covers kind proc at Byte = ByteIs kind proc at
-Covers kind proc at Half = HalfIs kind proc at
-Covers kind proc at Word = WordIs kind proc at
+Covers kind proc at width = AreAll (Of kind) proc at width
+
+abbrev pub ByteIs : (Register → Bool) → Proc → ℕ → Type 0
+ByteIs kind proc at = Covers kind proc at Byte
+
+abbrev pub HalfIs : (Register → Bool) → Proc → ℕ → Type 0
+HalfIs kind proc at = Covers kind proc at Half
+
+abbrev pub WordIs : (Register → Bool) → Proc → ℕ → Type 0
+WordIs kind proc at = Covers kind proc at Word
+
+-- what holds at each offset holds of each of its bytes
+pub are_all : (Q : Slot → Type 0) (proc : Proc) → ((at : ℕ) → IfSome (slot_of proc at) Q) → (at : ℕ) (width : Width) → AreAll Q proc at width
+are_all Q proc h at Byte = h at
+are_all Q proc h at Half = (h at, h (at + 1))
+are_all Q proc h at Word = ((h at, h (at + 1)), (h (at + 2), h (at + 2 + 1)))
 
 -- so it is where each of its bytes is of one
 module _ (kind : Register → Bool) (proc : Proc) where
@@ -78,48 +90,48 @@ module _ (kind : Register → Bool) (proc : Proc) where
 
 -- and where all registers of the map are of one
 pub covers_all : (kind : Register → Bool) (proc : Proc) (at : ℕ) (width : Width) → all_rows (row_is no_row kind) (register_map proc) ≡ true → Covers kind proc at width
-covers_all kind proc at width h = covers kind proc at width (λ k l. slot_is no_row kind proc (at + k) h (λ r skipped. absurd (true≢false (sym skipped))))
+covers_all kind proc at width h = are_all (Of kind) proc (λ k. slot_is no_row kind proc k h (λ r skipped. absurd (true≢false (sym skipped)))) at width
 
 -- the register in which it lies is one of them
-whole_if_is : (kind : Register → Bool) (b : Bool) (slot : Slot) → kind slot.register ≡ true → OfKind kind (whole_if b slot)
-whole_if_is kind true slot h = h
-whole_if_is kind false slot h = tt
+whole_if_is : (Q : Slot → Type 0) (b : Bool) (slot : Slot) → Q slot → IfSome (whole_if b slot) Q
+whole_if_is Q true slot h = h
+whole_if_is Q false slot h = tt
 
-whole_is : (kind : Register → Bool) (width : Width) (slot : Option Slot) → OfKind kind slot → OfKind kind (whole_in width slot)
-whole_is kind width None h = tt
-whole_is kind width (Some slot) h = whole_if_is kind _ slot h
+whole_is : (Q : Slot → Type 0) (width : Width) (slot : Option Slot) → IfSome slot Q → IfSome (whole_in width slot) Q
+whole_is Q width None h = tt
+whole_is Q width (Some slot) h = whole_if_is Q _ slot h
 
 -- ---- a relation that each register's write keeps, or its read, an access keeps
 
-module _ (kind : Register → Bool) (proc : Proc) (now : Tick) (R : IoState → IoState → Type 0) (same : (u : IoState) → R u u) (joined : (u v w : IoState) → R u v → R v w → R u w)
-    (each : (u : IoState) (register : Register) (n word : ℕ) → kind register ≡ true → R u (after_write proc now u register n word)) where
-  slot_leaves : (u : IoState) (width : Width) (slot : Slot) (value : ℕ) → kind slot.register ≡ true → R u (slot_written proc now u width slot value)
+module _ (Q : Slot → Type 0) (proc : Proc) (now : Tick) (R : IoState → IoState → Type 0) (same : (u : IoState) → R u u) (joined : (u v w : IoState) → R u v → R v w → R u w)
+    (each : (u : IoState) (slot : Slot) (word : ℕ) → Q slot → R u (after_write proc now u slot.register slot.number word)) where
+  slot_leaves : (u : IoState) (width : Width) (slot : Slot) (value : ℕ) → Q slot → R u (slot_written proc now u width slot value)
   slot_leaves u width slot value h =
       either (R u) (ignores width slot.register) u (after_write proc now u slot.register slot.number (slot_joined proc u width slot value)) (same u)
-      (each u slot.register slot.number (slot_joined proc u width slot value) h)
+      (each u slot (slot_joined proc u width slot value) h)
 
-  or_leaves : (u : IoState) (width : Width) (slot : Option Slot) (value : ℕ) (other : IoState) → OfKind kind slot → R u other → R u (written_or proc now u width slot value other)
+  or_leaves : (u : IoState) (width : Width) (slot : Option Slot) (value : ℕ) (other : IoState) → IfSome slot Q → R u other → R u (written_or proc now u width slot value other)
   or_leaves u width None value other h r = r
   or_leaves u width (Some slot) value other h r = slot_leaves u width slot value h
 
-  byte_leaves : (u : IoState) (at value : ℕ) → ByteIs kind proc at → R u (byte_written proc now u at value)
+  byte_leaves : (u : IoState) (at value : ℕ) → AreAll Q proc at Byte → R u (byte_written proc now u at value)
   byte_leaves u at value h = or_leaves u Byte (slot_of proc at) value u h (same u)
 
-  half_leaves : (u : IoState) (at value : ℕ) → HalfIs kind proc at → R u (half_written proc now u at value)
+  half_leaves : (u : IoState) (at value : ℕ) → AreAll Q proc at Half → R u (half_written proc now u at value)
   half_leaves u at value h =
       let first = byte_written proc now u at value in
       let second = byte_written proc now first (at + 1) (value / 2 ^ 8) in
-      or_leaves u Half (whole_in Half (slot_of proc at)) value second (whole_is kind Half (slot_of proc at) h.0)
+      or_leaves u Half (whole_in Half (slot_of proc at)) value second (whole_is Q Half (slot_of proc at) h.0)
       (joined u first second (byte_leaves u at value h.0) (byte_leaves first (at + 1) (value / 2 ^ 8) h.1))
 
-  word_leaves : (u : IoState) (at value : ℕ) → WordIs kind proc at → R u (word_written proc now u at value)
+  word_leaves : (u : IoState) (at value : ℕ) → AreAll Q proc at Word → R u (word_written proc now u at value)
   word_leaves u at value h =
       let first = half_written proc now u at value in
       let second = half_written proc now first (at + 2) (value / 2 ^ 16) in
-      or_leaves u Word (whole_in Word (slot_of proc at)) value second (whole_is kind Word (slot_of proc at) h.0.0)
+      or_leaves u Word (whole_in Word (slot_of proc at)) value second (whole_is Q Word (slot_of proc at) h.0.0)
       (joined u first second (half_leaves u at value h.0) (half_leaves first (at + 2) (value / 2 ^ 16) h.1))
 
-  pub write_leaves : (u : IoState) (at : ℕ) (width : Width) (value : ℕ) → Covers kind proc at width → R u (port_written proc now u at width value)
+  pub write_leaves : (u : IoState) (at : ℕ) (width : Width) (value : ℕ) → AreAll Q proc at width → R u (port_written proc now u at width value)
   unfolding port_written
   write_leaves u at Byte value h = byte_leaves u at value h
   write_leaves u at Half value h = half_leaves u at value h
@@ -135,7 +147,7 @@ module _ (kind : Register → Bool) (proc : Proc) (R : IoState → IoState → T
   unfolding port_read
   read_leaves u at Byte h = same u
   read_leaves u at Half h = same u
-  read_leaves u at Word h = unchanged_leaves u (whole_in Word (slot_of proc at)) (whole_is kind Word (slot_of proc at) h.0.0)
+  read_leaves u at Word h = unchanged_leaves u (whole_in Word (slot_of proc at)) (whole_is (Of kind) Word (slot_of proc at) h.0.0)
 
 -- ---- a change of the units that registers of a kind don't see, and leave as it is
 
@@ -172,7 +184,7 @@ module _ (kind : Register → Bool) (proc : Proc) (change : IoState → IoState)
         let first = byte_written proc now u at value in
         ap (λ (v : IoState). written_or proc now (change u) Half whole value (byte_written proc now v (at + 1) (value / 2 ^ 8))) (byte_passes u at value h.0)
         ∙ ap (λ (v : IoState). written_or proc now (change u) Half whole value v) (byte_passes first (at + 1) (value / 2 ^ 8) h.1)
-        ∙ or_passes u Half whole value (byte_written proc now first (at + 1) (value / 2 ^ 8)) (whole_is kind Half (slot_of proc at) h.0)
+        ∙ or_passes u Half whole value (byte_written proc now first (at + 1) (value / 2 ^ 8)) (whole_is (Of kind) Half (slot_of proc at) h.0)
 
     word_passes : (u : IoState) (at value : ℕ) → WordIs kind proc at → word_written proc now (change u) at value ≡ change (word_written proc now u at value)
     word_passes u at value h =
@@ -180,7 +192,7 @@ module _ (kind : Register → Bool) (proc : Proc) (change : IoState → IoState)
         let first = half_written proc now u at value in
         ap (λ (v : IoState). written_or proc now (change u) Word whole value (half_written proc now v (at + 2) (value / 2 ^ 16))) (half_passes u at value h.0)
         ∙ ap (λ (v : IoState). written_or proc now (change u) Word whole value v) (half_passes first (at + 2) (value / 2 ^ 16) h.1)
-        ∙ or_passes u Word whole value (half_written proc now first (at + 2) (value / 2 ^ 16)) (whole_is kind Word (slot_of proc at) h.0.0)
+        ∙ or_passes u Word whole value (half_written proc now first (at + 2) (value / 2 ^ 16)) (whole_is (Of kind) Word (slot_of proc at) h.0.0)
 
     pub write_passes : (u : IoState) (at : ℕ) (width : Width) (value : ℕ) → Covers kind proc at width
         → port_written proc now (change u) at width value ≡ change (port_written proc now u at width value)
@@ -198,7 +210,7 @@ module _ (kind : Register → Bool) (proc : Proc) (change : IoState → IoState)
   unfolding port_read
   read_passes u at Byte h = refl
   read_passes u at Half h = refl
-  read_passes u at Word h = unchanged_passes u (whole_in Word (slot_of proc at)) (whole_is kind Word (slot_of proc at) h.0.0)
+  read_passes u at Word h = unchanged_passes u (whole_in Word (slot_of proc at)) (whole_is (Of kind) Word (slot_of proc at) h.0.0)
 
   -- refusals
   slot_refuses : (u : IoState) (width : Width) (slot : Slot) (value : ℕ) → kind slot.register ≡ true → slot_refusal proc (change u) width slot value ≡ slot_refusal proc u width slot value
@@ -220,14 +232,14 @@ module _ (kind : Register → Bool) (proc : Proc) (change : IoState → IoState)
       let whole = whole_in Half (slot_of proc at) in
       ap (λ (stop : Option Stop). refusal_or proc (change u) Half whole value (first_stop stop (byte_refusal proc (change u) (at + 1) (value / 2 ^ 8)))) (byte_refuses u at value h.0)
       ∙ ap (λ (stop : Option Stop). refusal_or proc (change u) Half whole value (first_stop (byte_refusal proc u at value) stop)) (byte_refuses u (at + 1) (value / 2 ^ 8) h.1)
-      ∙ or_refuses u Half whole value (first_stop (byte_refusal proc u at value) (byte_refusal proc u (at + 1) (value / 2 ^ 8))) (whole_is kind Half (slot_of proc at) h.0)
+      ∙ or_refuses u Half whole value (first_stop (byte_refusal proc u at value) (byte_refusal proc u (at + 1) (value / 2 ^ 8))) (whole_is (Of kind) Half (slot_of proc at) h.0)
 
   word_refuses : (u : IoState) (at value : ℕ) → WordIs kind proc at → word_refusal proc (change u) at value ≡ word_refusal proc u at value
   word_refuses u at value h =
       let whole = whole_in Word (slot_of proc at) in
       ap (λ (stop : Option Stop). refusal_or proc (change u) Word whole value (first_stop stop (half_refusal proc (change u) (at + 2) (value / 2 ^ 16)))) (half_refuses u at value h.0)
       ∙ ap (λ (stop : Option Stop). refusal_or proc (change u) Word whole value (first_stop (half_refusal proc u at value) stop)) (half_refuses u (at + 2) (value / 2 ^ 16) h.1)
-      ∙ or_refuses u Word whole value (first_stop (half_refusal proc u at value) (half_refusal proc u (at + 2) (value / 2 ^ 16))) (whole_is kind Word (slot_of proc at) h.0.0)
+      ∙ or_refuses u Word whole value (first_stop (half_refusal proc u at value) (half_refusal proc u (at + 2) (value / 2 ^ 16))) (whole_is (Of kind) Word (slot_of proc at) h.0.0)
 
   pub refusal_passes : (u : IoState) (at : ℕ) (width : Width) (value : ℕ) → Covers kind proc at width → port_refusal proc (change u) at width value ≡ port_refusal proc u at width value
   unfolding port_refusal
@@ -256,14 +268,14 @@ module _ (kind : Register → Bool) (proc : Proc) (now : Tick) (u v : IoState) (
       let whole = whole_in Half (slot_of proc at) in
       ap (λ (n : ℕ). read_or proc now v Half whole (n + 2 ^ 8 * port_byte proc now v (at + 1))) (byte_same at h.0)
       ∙ ap (λ (n : ℕ). read_or proc now v Half whole (port_byte proc now u at + 2 ^ 8 * n)) (byte_same (at + 1) h.1)
-      ∙ or_same Half whole (port_byte proc now u at + 2 ^ 8 * port_byte proc now u (at + 1)) (whole_is kind Half (slot_of proc at) h.0)
+      ∙ or_same Half whole (port_byte proc now u at + 2 ^ 8 * port_byte proc now u (at + 1)) (whole_is (Of kind) Half (slot_of proc at) h.0)
 
   word_same : (at : ℕ) → WordIs kind proc at → port_word proc now v at ≡ port_word proc now u at
   word_same at h =
       let whole = whole_in Word (slot_of proc at) in
       ap (λ (n : ℕ). read_or proc now v Word whole (n + 2 ^ 16 * port_half proc now v (at + 2))) (half_same at h.0)
       ∙ ap (λ (n : ℕ). read_or proc now v Word whole (port_half proc now u at + 2 ^ 16 * n)) (half_same (at + 2) h.1)
-      ∙ or_same Word whole (port_half proc now u at + 2 ^ 16 * port_half proc now u (at + 2)) (whole_is kind Word (slot_of proc at) h.0.0)
+      ∙ or_same Word whole (port_half proc now u at + 2 ^ 16 * port_half proc now u (at + 2)) (whole_is (Of kind) Word (slot_of proc at) h.0.0)
 
   pub value_same : (at : ℕ) (width : Width) → Covers kind proc at width → port_value proc now v at width ≡ port_value proc now u at width
   unfolding port_value

@@ -18,7 +18,7 @@ use Rattle.ds_ports.specs.Inside.{first_with, moves_dues, moving_parts}
 use Rattle.ds_ports.specs.ProcessorIo.{ProcessorIoState, keys_hold, keys_told}
 use Rattle.ds_ports.specs.Registers.{after_write, meaning_of}
 use Rattle.ds_ports.specs.Io.{IoState, keys_pressed, io_of, with_halted, with_io_of}
-use Rattle.ds_ports.specs.Touches.{UnitPart, Display, among, beyond, changes_any, io_graft}
+use Rattle.ds_ports.specs.Touches.{UnitPart, Display, among, beyond, changes_some, io_graft}
 use Rattle.ds_ports.specs.declared.registers.Register.{Register}
 use Rattle.ds_ports.specs.declared.registers.Register.TheVariants.{DisplayHalf, DisplayWord, Ipcfiforecv}
 use Rattle.vram_banks.specs.Cells.{Banks}
@@ -139,10 +139,10 @@ dues_blind : (t u : IoState) → first_acting_io_due (io_graft (beyond due_parts
 unfolding first_acting_io_due
 dues_blind t u = refl
 
-by_row : (proc : Proc) (now : Tick) (u : IoState) (register : Register) (number value : ℕ) → (changes_any (among due_parts) proc register && not (moves_dues register)) ≡ false
+by_row : (proc : Proc) (now : Tick) (u : IoState) (register : Register) (number value : ℕ) → (changes_some (among due_parts) proc register && not (moves_dues register)) ≡ false
     → moves_dues register ≡ false → first_acting_io_due (after_write proc now u register number value) ≡ first_acting_io_due u
 by_row proc now u register number value row none =
-    stays_by_row proc now u register number value due_parts first_acting_io_due dues_blind (first_false (changes_any (among due_parts) proc register) (moves_dues register) row none)
+    stays_by_row proc now u register number value due_parts first_acting_io_due dues_blind (first_false (changes_some (among due_parts) proc register) (moves_dues register) row none)
 
 pub writes_move_none : (proc : Proc) (now : Tick) (u : IoState) (register : Register) (number value : ℕ) → moves_dues register ≡ false
     → first_acting_io_due (after_write proc now u register number value) ≡ first_acting_io_due u

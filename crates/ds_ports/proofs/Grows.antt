@@ -20,7 +20,7 @@ use Rattle.ds_ports.specs.declared.registers.Register.{Register}
 use Rattle.ds_ports.specs.declared.registers.Register.TheVariants.{GxWord, GxCommand}
 use Rattle.ds_ports.specs.declared.registers.Slot.{Slot}
 use Rattle.ds_ports.proofs.GxPorts.{port_grows}
-use Rattle.ds_ports.proofs.Passed.{leaves, row_leaves}
+use Rattle.ds_ports.proofs.Passed.{keeps_part, row_leaves}
 use Rattle.ds_ports.proofs.RegisterMaps.{each_place, of_place, slot_by_all}
 
 -- An access adds four entries at most to those that wait for geometry: one of a whole word of a command's port alone adds any.
@@ -87,7 +87,7 @@ is_gx GxWord = true
 is_gx GxCommand = true
 is_gx _ = false
 
-leaves_gx : (proc : Proc) (register : Register) → is_gx register ≡ false → leaves touches.Geometry proc register ≡ true
+leaves_gx : (proc : Proc) (register : Register) → is_gx register ≡ false → keeps_part touches.Geometry proc register ≡ true
 leaves_gx proc GxWord h = absurd (true≢false h)
 leaves_gx proc GxCommand h = absurd (true≢false h)
 leaves_gx Nine _ h = refl

@@ -12,19 +12,17 @@ use Rattle.ds_runs.specs.declared.actors.Actor as actor
 use Rattle.ds_runs.specs.declared.actors.Actor.TheVariants.{Timer, Geometry, Dma}
 use Rattle.ds_ports.specs.Dues.{held_due, io_due}
 use Rattle.ds_ports.specs.Io.{IoState, both_raised, channel_moved, channels_triggered, io_at_boot, io_event, shown_to_others, video_done, with_gx}
-use Rattle.ds_ports.specs.Ports.{port_read, port_refusal, port_value, port_written}
 use Rattle.ds_ports.specs.RegisterMap.{PortRow, row_bytes}
 use Rattle.ds_ports.specs.declared.registers.Register.{Register}
 use Rattle.ds_ports.specs.Touches as touches
-use Rattle.ds_ports.specs.Touches.{UnitPart, is_apart, is_part}
-use Rattle.ds_ports.proofs.Passed.{passes, reads}
-use Rattle.ds_ports.proofs.Covered.{Covers, Passes, ReadTheSame, chosen, covers, covers_all, read_passes, refusal_passes, slot_is, value_same, write_passes}
+use Rattle.ds_ports.specs.Touches.{UnitPart, touches_none, is_part}
+use Rattle.ds_ports.proofs.Covered.{Covers, chosen, covers, covers_all, slot_is}
 use Rattle.gx_fifo.specs.GxStates.{GxState, is_stalled}
 use Rattle.video2d.specs.Scans.{scan_due_tick}
 use Rattle.video2d.specs.Videos.{unless_stop, video_after_event, video_shown, video_stop}
 use Rattle.video2d.specs.declared.videos.Shown.{Shown}
 
--- What neither sees geometry nor changes it: all accesses of ports but those that reach its registers, and the units' events but its own.
+-- What neither sees geometry nor changes it: the registers of all ports but its own, and the units' events but its own.
 
 -- ---- geometry's registers stand in two ranges: DISP3DCNT, and those from GXFIFO on (GBATEK, "DS I/O Maps")
 
@@ -41,7 +39,7 @@ abbrev pub of_geometry : UnitPart → Bool
 of_geometry = is_part touches.Geometry
 
 abbrev pub no_geometry : Proc → Register → Bool
-no_geometry proc = is_apart of_geometry proc
+no_geometry proc = touches_none of_geometry proc
 
 abbrev is_geometry_row : PortRow → Bool
 is_geometry_row r = (nat_le 0x60 r.offset && nat_le (r.offset + row_bytes r) 0x64) || (nat_le 0x400 r.offset && nat_le (r.offset + row_bytes r) 0x700)
@@ -55,34 +53,8 @@ covers_apart Nine at width apart =
     covers (no_geometry Nine) Nine at width (λ k l. slot_is is_geometry_row (no_geometry Nine) Nine (at + k) refl (λ r h. elsewhere r.offset (row_bytes r) (at + k) h (apart k l)))
 covers_apart Seven at width apart = covers_all (no_geometry Seven) Seven at width refl
 
--- ---- each other register passes it
-
 abbrev pub with_it : GxState → IoState
 with_it g = record io_at_boot { gx = g }
-
-gx_pass : (g : GxState) (proc : Proc) → Passes (no_geometry proc) proc (λ u. with_gx g u)
-gx_pass g proc = passes of_geometry (with_it g) proc
-
-gx_value : (g : GxState) (proc : Proc) (now : Tick) (u : IoState) → ReadTheSame (no_geometry proc) proc now u (with_gx g u)
-gx_value g proc now u = reads of_geometry (with_it g) proc now u
-
--- ---- accesses
-
-pub writes_apart : (g : GxState) (proc : Proc) (now : Tick) (u : IoState) (at : ℕ) (width : Width) (value : ℕ) → IsApartFromGeometry proc at width
-    → port_written proc now (with_gx g u) at width value ≡ with_gx g (port_written proc now u at width value)
-writes_apart g proc now u at width value apart = write_passes (no_geometry proc) proc (λ x. with_gx g x) (gx_pass g proc) now u at width value (covers_apart proc at width apart)
-
-pub reads_apart : (g : GxState) (proc : Proc) (u : IoState) (at : ℕ) (width : Width) → IsApartFromGeometry proc at width
-    → port_read proc (with_gx g u) at width ≡ with_gx g (port_read proc u at width)
-reads_apart g proc u at width apart = read_passes (no_geometry proc) proc (λ x. with_gx g x) (gx_pass g proc) u at width (covers_apart proc at width apart)
-
-pub refusals_apart : (g : GxState) (proc : Proc) (u : IoState) (at : ℕ) (width : Width) (value : ℕ) → IsApartFromGeometry proc at width
-    → port_refusal proc (with_gx g u) at width value ≡ port_refusal proc u at width value
-refusals_apart g proc u at width value apart = refusal_passes (no_geometry proc) proc (λ x. with_gx g x) (gx_pass g proc) u at width value (covers_apart proc at width apart)
-
-pub values_apart : (g : GxState) (proc : Proc) (now : Tick) (u : IoState) (at : ℕ) (width : Width) → IsApartFromGeometry proc at width
-    → port_value proc now (with_gx g u) at width ≡ port_value proc now u at width
-values_apart g proc now u at width apart = value_same (no_geometry proc) proc now u (with_gx g u) (gx_value g proc now u) at width (covers_apart proc at width apart)
 
 -- ---- the units
 

@@ -1,11 +1,11 @@
-use Rattle.std.proofs.Common.{ℕ, ◌≡◌, ◌<◌, ◌+◌, ◌/◌, ◌%◌, ◌^◌, inl, inr, Bool, true, false, List, Option, Some, None, refl, sym, ◌∙◌, ap, subst, arith}
-use Rattle.std.specs.Prelude.{◌==◌, IfSome}
+use Rattle.std.proofs.Common.{ℕ, ◌≡◌, ◌<◌, ◌+◌, ◌%◌, ◌^◌, inl, inr, true, List, Option, Some, None, refl, sym, ◌∙◌, ap, subst, arith}
+use Rattle.std.specs.Prelude.{◌==◌}
 use Rattle.ds_base.proofs.Choices.{either}
 use Rattle.ds_base.specs.Bits.{bits}
 use Rattle.ds_base.specs.Schedules.{IsLater, Reschedules}
 use Rattle.ds_base.specs.declared.left_out.Stop.{Stop}
 use Rattle.ds_base.specs.declared.memories.Width.{Width}
-use Rattle.ds_base.specs.declared.memories.Width.TheVariants.{Byte, Half, Word}
+use Rattle.ds_base.specs.declared.memories.Width.TheVariants.{Half, Word}
 use Rattle.ds_base.specs.declared.processors.Proc.{Proc}
 use Rattle.ds_base.specs.declared.processors.Proc.TheVariants.{Nine, Seven}
 use Rattle.ds_base.specs.declared.processors.Raised.{Raised}
@@ -26,15 +26,16 @@ use Rattle.ds_timers.proofs.Changed.{control_schedules, control_set_is, reload_l
 use Rattle.ds_timers.proofs.Four.{one_reschedules}
 use Rattle.gx_fifo.specs.GxStates.{AreWaiting, GxState, is_stalled}
 use Rattle.ds_ports.specs.Dues.{io_due}
-use Rattle.ds_ports.specs.Happenings.{IsIo, IsTold, Goes, LeavesGeometry, IsUnchanged, IsProcessorIo, IsQuiet, ReschedulesEach}
+use Rattle.ds_ports.specs.Happenings.{IsIo, IsTold, Goes, LeavesGeometry, IsUnchanged, IsProcessorIo, HasOnlyLaterEvents, ReschedulesEach}
 use Rattle.ds_ports.specs.ProcessorIo.{ProcessorIoState, dma_written, haltcnt_written, kept_keycnt, keycnt_written, keys_hold, keys_told, processor_io_raised}
-use Rattle.ds_ports.specs.Ports.{byte_written, half_written, ignores, port_read, port_refusal, port_written, read_unchanged, slot_joined, slot_written, unless_stopped, whole_if, whole_in, word_written, written_or}
-use Rattle.ds_ports.specs.RegisterMap.{IsSlot, slot_of}
+use Rattle.ds_ports.specs.Ports.{port_read, port_refusal, port_written, unless_stopped}
+use Rattle.ds_ports.specs.RegisterMap.{IsSlot}
 use Rattle.ds_ports.specs.Registers.{after_write, gx_port_written, gx_set, meaning_of}
 use Rattle.ds_ports.specs.Io.{IoState, both_raised, io_of, with_io_of}
 use Rattle.ds_ports.specs.declared.registers.Register.{Register}
 use Rattle.ds_ports.specs.declared.registers.Register.TheVariants.{DisplayHalf, DisplayWord, Dmasad, Dmadad, Dmacnt, TmcntL, TmcntH, Keycnt, Ipcsync, Ipcfifocnt, Ipcfifosend, Ipcfiforecv, Ime, Ie, If, Divcnt, DivNumer, DivDenom, Sqrtcnt, SqrtParam, GxWord, GxCommand, Haltcnt}
-use Rattle.ds_ports.specs.declared.registers.Slot.{Slot}
+use Rattle.ds_ports.proofs.Covered.{are_all, read_leaves, write_leaves}
+use Rattle.ds_ports.proofs.Passed.{any_covered, any_register}
 use Rattle.ds_ports.proofs.HeldDues.{held_reschedules, stall_begins}
 use Rattle.ds_ports.proofs.GxPorts.{port_last, port_run, port_schedules, port_stalls, port_waiting}
 use Rattle.ds_ports.proofs.DisplayPorts.{written_scan, written_whole}
@@ -62,7 +63,7 @@ AreLater now timers = (which : ℕ) → which < 4 → IsLater now (timer_due (ti
 
 -- what accesses of the processor at a tick keep
 abbrev Stands : Tick → ProcessorIoState → Type 0
-Stands now processor_io = IsProcessorIo processor_io × IsQuiet now processor_io
+Stands now processor_io = IsProcessorIo processor_io × HasOnlyLaterEvents now processor_io
 
 -- nothing changed
 pub unchanged_same : (processor_io : ProcessorIoState) → IsUnchanged processor_io processor_io
@@ -186,7 +187,7 @@ leaves_on proc a b c g h = record {
   of_seven = λ e. h.of_seven e ∙ g.of_seven e;
 }
 
-pub goes_nowhere : (proc : Proc) (now : Tick) (u : IoState) → IsProcessorIo (io_of u proc) → IsQuiet now (io_of u proc) → Goes proc now u u
+pub goes_nowhere : (proc : Proc) (now : Tick) (u : IoState) → IsProcessorIo (io_of u proc) → HasOnlyLaterEvents now (io_of u proc) → Goes proc now u u
 goes_nowhere proc now u is quiet = record { is = is; quiet = quiet; each = λ a l. inl refl; other = unchanged_same (io_of u (other_proc proc)); told = told_nothing (io_of u (other_proc proc)).irq; scan = refl; whole = refl; geometry = leaves_all proc u u refl refl }
 
 pub goes_on : (proc : Proc) (now : Tick) (a b c : IoState) → Goes proc now a b → Goes proc now b c → Goes proc now a c
@@ -218,7 +219,7 @@ shared_goes : (proc : Proc) (now : Tick) (u new : IoState) → ((each : Proc) �
     → LeavesGeometry proc u new → Stands now (io_of u proc) → ReschedulesEach now u new → Goes proc now u new
 shared_goes proc now u new same scan whole geometry s each = record {
   is = subst IsProcessorIo (sym (same proc)) s.0;
-  quiet = subst (IsQuiet now) (sym (same proc)) s.1;
+  quiet = subst (HasOnlyLaterEvents now) (sym (same proc)) s.1;
   each = each;
   other = subst (IsUnchanged (io_of u (other_proc proc))) (sym (same (other_proc proc))) (unchanged_same (io_of u (other_proc proc)));
   told = subst (λ (o : ProcessorIoState). IsTold (io_of u (other_proc proc)).irq o.irq) (sym (same (other_proc proc))) (told_nothing (io_of u (other_proc proc)).irq);
@@ -246,12 +247,6 @@ pub record AreUnchanged (old new : IoState) : Type 0 where
 pub unchanged_is : (old new : ProcessorIoState) → IsUnchanged old new → IsProcessorIo old → IsProcessorIo new
 unchanged_is old new l is = record { timers = subst AreTimers (sym l.timers) is.timers; dma = subst IsDma (sym l.dma) is.dma }
 
-pub unchanged_quiet : (now : Tick) (old new : ProcessorIoState) → IsUnchanged old new → IsQuiet now old → IsQuiet now new
-unchanged_quiet now old new l quiet = record {
-  timers = λ which lt. subst (λ (timers : List TimerState). IsLater now (timer_due (timer_at timers which))) (sym l.timers) (quiet.timers which lt);
-  dma = subst (AreReadyLater now) (sym l.dma) quiet.dma;
-}
-
 pub all_unchanged : (u : IoState) → AreUnchanged u u
 all_unchanged u = record { processor_io = λ each. unchanged_same (io_of u each); told = λ each. told_nothing (io_of u each).irq; dues = λ a. refl; scan = refl; whole = refl; gx = refl; released = refl }
 
@@ -272,7 +267,7 @@ both_unchanged u ipc_after raised ipc = record { processor_io = processor_io; to
   dues (Dma Seven channel) = refl
   dues _ = refl
 
-pub unchanged_goes : (proc : Proc) (now : Tick) (old new : IoState) → IsProcessorIo (io_of old proc) → IsQuiet now (io_of old proc) → AreUnchanged old new → Goes proc now old new
+pub unchanged_goes : (proc : Proc) (now : Tick) (old new : IoState) → IsProcessorIo (io_of old proc) → HasOnlyLaterEvents now (io_of old proc) → AreUnchanged old new → Goes proc now old new
 unchanged_goes proc now old new is quiet left =
     let s = alike now (io_of old proc) (io_of new proc) (left.processor_io proc).timers (left.processor_io proc).dma (is, quiet) in
     record { is = s.0; quiet = s.1; each = λ a l. inl (left.dues a); other = left.processor_io (other_proc proc); told = left.told (other_proc proc); scan = left.scan; whole = left.whole; geometry = leaves_all proc old new left.gx left.released }
@@ -376,81 +371,35 @@ register_goes proc now u s register number l value =
 
 -- ---- accesses
 
-slot_goes : (proc : Proc) (now : Tick) (u : IoState) (width : Width) (slot : Slot) (value : ℕ) → IsSlot slot → Stands now (io_of u proc)
-    → Goes proc now u (slot_written proc now u width slot value)
-slot_goes proc now u width slot value is s =
-    either (Goes proc now u) (ignores width slot.register) u _ (goes_nowhere proc now u s.0 s.1)
-    (register_goes proc now u s slot.register slot.number is.number (slot_joined proc u width slot value))
-
-or_goes : (proc : Proc) (now : Tick) (u : IoState) (width : Width) (slot : Option Slot) (value : ℕ) (other : IoState) → IfSome slot IsSlot
-    → Stands now (io_of u proc) → Goes proc now u other → Goes proc now u (written_or proc now u width slot value other)
-or_goes proc now u width None value other is s g = g
-or_goes proc now u width (Some slot) value other is s g = slot_goes proc now u width slot value is s
-
-whole_if_is : (b : Bool) (slot : Slot) → IsSlot slot → IfSome (whole_if b slot) IsSlot
-whole_if_is true slot is = is
-whole_if_is false slot is = tt
-
-whole_is : (width : Width) (slot : Option Slot) → IfSome slot IsSlot → IfSome (whole_in width slot) IsSlot
-whole_is width None is = tt
-whole_is width (Some slot) is = whole_if_is _ slot is
-
-byte_goes : (proc : Proc) (now : Tick) (u : IoState) (at value : ℕ) → Stands now (io_of u proc) → Goes proc now u (byte_written proc now u at value)
-byte_goes proc now u at value s = or_goes proc now u Byte (slot_of proc at) value u (some_slot proc at) s (goes_nowhere proc now u s.0 s.1)
-
-half_goes : (proc : Proc) (now : Tick) (u : IoState) (at value : ℕ) → Stands now (io_of u proc) → Goes proc now u (half_written proc now u at value)
-half_goes proc now u at value s =
-    let first = byte_written proc now u at value in
-    let second = byte_written proc now first (at + 1) (value / 2 ^ 8) in
-    let g = byte_goes proc now u at value s in
-    or_goes proc now u Half (whole_in Half (slot_of proc at)) value second (whole_is Half (slot_of proc at) (some_slot proc at)) s
-    (goes_on proc now u first second g (byte_goes proc now first (at + 1) (value / 2 ^ 8) (g.is, g.quiet)))
-
-word_goes : (proc : Proc) (now : Tick) (u : IoState) (at value : ℕ) → Stands now (io_of u proc) → Goes proc now u (word_written proc now u at value)
-word_goes proc now u at value s =
-    let first = half_written proc now u at value in
-    let second = half_written proc now first (at + 2) (value / 2 ^ 16) in
-    let g = half_goes proc now u at value s in
-    or_goes proc now u Word (whole_in Word (slot_of proc at)) value second (whole_is Word (slot_of proc at) (some_slot proc at)) s
-    (goes_on proc now u first second g (half_goes proc now first (at + 2) (value / 2 ^ 16) (g.is, g.quiet)))
-
-pub write_goes : (proc : Proc) (now : Tick) (u : IoState) (at : ℕ) (width : Width) (value : ℕ) → IsProcessorIo (io_of u proc) → IsQuiet now (io_of u proc)
+pub write_goes : (proc : Proc) (now : Tick) (u : IoState) (at : ℕ) (width : Width) (value : ℕ) → IsProcessorIo (io_of u proc) → HasOnlyLaterEvents now (io_of u proc)
     → Goes proc now u (port_written proc now u at width value)
-unfolding port_written
-write_goes proc now u at Byte value is quiet = byte_goes proc now u at value (is, quiet)
-write_goes proc now u at Half value is quiet = half_goes proc now u at value (is, quiet)
-write_goes proc now u at Word value is quiet = word_goes proc now u at value (is, quiet)
+write_goes proc now u at width value is quiet =
+    let stays : (x : IoState) → Stands now (io_of x proc) → Goes proc now x x = λ x s. goes_nowhere proc now x s.0 s.1 in
+    write_leaves IsSlot proc now (λ x y. Stands now (io_of x proc) → Goes proc now x y) stays
+    (λ x y z g h s. (let first = g s in goes_on proc now x y z first (h (first.is, first.quiet))))
+    (λ x slot word own s. register_goes proc now x s slot.register slot.number own.number word) u at width value (are_all IsSlot proc (some_slot proc) at width) (is, quiet)
 
 -- a write that may be refused, and then leaves all
-unless_goes : (proc : Proc) (now : Tick) (stop : Option Stop) (u v : IoState) → IsProcessorIo (io_of u proc) → IsQuiet now (io_of u proc) → Goes proc now u v
+unless_goes : (proc : Proc) (now : Tick) (stop : Option Stop) (u v : IoState) → IsProcessorIo (io_of u proc) → HasOnlyLaterEvents now (io_of u proc) → Goes proc now u v
     → Goes proc now u (unless_stopped stop u v)
 unless_goes proc now None u v is quiet goes = goes
 unless_goes proc now (Some stop) u v is quiet goes = goes_nowhere proc now u is quiet
 
 pub put_goes : (proc : Proc) (now : Tick) (old new : IoState) (at : ℕ) (width : Width) (value : ℕ)
     → new ≡ unless_stopped (port_refusal proc old at width value) old (port_written proc now old at width value)
-    → IsProcessorIo (io_of old proc) → IsQuiet now (io_of old proc) → Goes proc now old new
+    → IsProcessorIo (io_of old proc) → HasOnlyLaterEvents now (io_of old proc) → Goes proc now old new
 put_goes proc now old new at width value is_new is quiet =
     subst (Goes proc now old) (sym is_new)
     (unless_goes proc now (port_refusal proc old at width value) old (port_written proc now old at width value) is quiet (write_goes proc now old at width value is quiet))
 
 -- ---- reads: nothing is due otherwise than before
 
--- ---- reads
-
 register_unchanged : (proc : Proc) (u : IoState) (register : Register) → AreUnchanged u ((meaning_of register).after_read proc u)
 register_unchanged proc u Ipcfiforecv = both_unchanged u _ _ (receive_ipc u.ipc proc)
 register_unchanged proc u _ = all_unchanged u
 
-slot_unchanged : (proc : Proc) (u : IoState) (slot : Option Slot) → AreUnchanged u (read_unchanged proc u slot)
-slot_unchanged proc u None = all_unchanged u
-slot_unchanged proc u (Some slot) = register_unchanged proc u slot.register
-
 pub port_unchanged : (proc : Proc) (u : IoState) (at : ℕ) (width : Width) → AreUnchanged u (port_read proc u at width)
-unfolding port_read
-port_unchanged proc u at Byte = all_unchanged u
-port_unchanged proc u at Half = all_unchanged u
-port_unchanged proc u at Word = slot_unchanged proc u (whole_in Word (slot_of proc at))
+port_unchanged proc u at width = read_leaves any_register proc AreUnchanged all_unchanged (λ x r h. register_unchanged proc x r) u at width (any_covered proc at width)
 
 -- what holds of one processor and of the other holds of both
 pub of_both : (P : Proc → Type 0) (proc : Proc) → P proc → P (other_proc proc) → (each : Proc) → P each

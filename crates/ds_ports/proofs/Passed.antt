@@ -19,9 +19,9 @@ use Rattle.ds_ports.specs.Io.{IoState}
 use Rattle.ds_ports.specs.Ports.{port_read, port_written}
 use Rattle.ds_ports.specs.Registers.{after_write, meaning_of}
 use Rattle.ds_ports.specs.declared.registers.Register.{Register}
-use Rattle.ds_ports.proofs.Covered.{Covers, Passes, ReadTheSame, covers_all, read_leaves, write_leaves}
+use Rattle.ds_ports.proofs.Covered.{Covers, Of, Passes, ReadTheSame, covers_all, read_leaves, write_leaves}
 use Rattle.ds_ports.proofs.Touched as touched
-use Rattle.ds_ports.specs.Touches.{UnitPart, Display, VideoMemory, BankControls, WramControl, IpcNine, IpcSeven, Pressed, Fill, Card, Division, SquareRoot, Geometry, Released, IrqNine, IrqSeven, TimersNine, TimersSeven, KeycntNine, KeycntSeven, HaltNine, HaltSeven, DmaNine, DmaSeven, among, beyond, both_sides, changes_any, is_apart, is_part, io_graft, none_of, touch_of}
+use Rattle.ds_ports.specs.Touches.{UnitPart, Display, VideoMemory, BankControls, WramControl, IpcNine, IpcSeven, Pressed, Fill, Card, Division, SquareRoot, Geometry, Released, IrqNine, IrqSeven, TimersNine, TimersSeven, KeycntNine, KeycntSeven, HaltNine, HaltSeven, DmaNine, DmaSeven, among, beyond, both_sides, changes_some, touches_none, is_part, io_graft, none_of, touch_of}
 use Rattle.ds_ports.proofs.Touched.{unchanged, untouched}
 
 -- The units behind the ports have parts; what a register doesn't touch, an access of it passes.
@@ -144,7 +144,7 @@ module _ (P : UnitPart → Bool) (t : IoState) (proc : Proc) where
   abbrev parts_of : Register → List UnitPart
   parts_of r = (touch_of proc r).shows ++ (touch_of proc r).changes
 
-  module _ (r : Register) (h : is_apart P proc r ≡ true) where
+  module _ (r : Register) (h : touches_none P proc r ≡ true) where
     within : Within P (untouched proc r)
     within i e = beyond_so (among (parts_of r) i) (none_apart P (parts_of r) h i e)
 
@@ -157,7 +157,7 @@ module _ (P : UnitPart → Bool) (t : IoState) (proc : Proc) where
     tells_so : {V : Type 0} (f : IoState → V) (u : IoState) → ((t : IoState) → f (io_graft (untouched proc r) t u) ≡ f u) → f (io_graft P t u) ≡ f u
     tells_so {V} f u row = ap f (sym (inside units (untouched proc r) P t u refl within)) ∙ row (io_graft P t u)
 
-  pub passes : Passes (is_apart P proc) proc (io_graft P t)
+  pub passes : Passes (touches_none P proc) proc (io_graft P t)
   passes = record {
     kept = λ u r n h. tells_so r h (λ x. (meaning_of r).kept proc x n) u (λ x. touched.kept x u (record { 0 = 0 }) n 0 proc r);
     refusal = λ u r n word h. tells_so r h (λ x. (meaning_of r).refusal proc x n word) u (λ x. touched.refusal x u (record { 0 = 0 }) n word proc r);
@@ -165,7 +165,7 @@ module _ (P : UnitPart → Bool) (t : IoState) (proc : Proc) where
     written = λ now u r n word h. leaves_so r h (λ x. after_write proc now x r n word) u (λ x. touched.written x u now n word proc r);
   }
 
-  pub reads : (now : Tick) (u : IoState) → ReadTheSame (is_apart P proc) proc now u (io_graft P t u)
+  pub reads : (now : Tick) (u : IoState) → ReadTheSame (touches_none P proc) proc now u (io_graft P t u)
   reads now u r n h = tells_so r h (λ x. (meaning_of r).value proc now x n) u (λ x. touched.value x u now n 0 proc r)
 
 -- ---- what a register doesn't change, an access leaves
@@ -175,7 +175,7 @@ module _ (proc : Proc) (now : Tick) (u : IoState) (r : Register) (n word : ℕ) 
   row_changes = changes_by units (among (touch_of proc r).changes) u (after_write proc now u r n word) refl (touched.left u now n word proc r)
 
   -- what depends on some parts alone stays where none of them is changed
-  pub stays_by_row : {V : Type 0} (parts : List UnitPart) (v : IoState → V) → ((t x : IoState) → v (io_graft (beyond parts) t x) ≡ v x) → changes_any (among parts) proc r ≡ false
+  pub stays_by_row : {V : Type 0} (parts : List UnitPart) (v : IoState → V) → ((t x : IoState) → v (io_graft (beyond parts) t x) ≡ v x) → changes_some (among parts) proc r ≡ false
       → v (after_write proc now u r n word) ≡ v u
   stays_by_row {V} parts v blind h =
       let apart = none_apart (among parts) (touch_of proc r).changes (not_false (none_of (among parts) (touch_of proc r).changes) h) in
@@ -188,25 +188,25 @@ first_false true b h k = sym (ap not k) ∙ h
 first_false false b h k = refl
 
 -- a register leaves a part
-abbrev pub leaves : UnitPart → Proc → Register → Bool
-leaves p proc r = unchanged proc r p
+abbrev pub keeps_part : UnitPart → Proc → Register → Bool
+keeps_part p proc r = unchanged proc r p
 
 module _ (p : UnitPart) (proc : Proc) where
-  pub row_leaves : (now : Tick) (u : IoState) (r : Register) (n word : ℕ) → leaves p proc r ≡ true → io_get (after_write proc now u r n word) p ≡ io_get u p
+  pub row_leaves : (now : Tick) (u : IoState) (r : Register) (n word : ℕ) → keeps_part p proc r ≡ true → io_get (after_write proc now u r n word) p ≡ io_get u p
   row_leaves now u r n word h = (row_changes proc now u r n word).others p (not_in (among (touch_of proc r).changes p) h)
 
-  pub write_left : (now : Tick) (u : IoState) (at : ℕ) (width : Width) (value : ℕ) → Covers (leaves p proc) proc at width → io_get (port_written proc now u at width value) p ≡ io_get u p
+  pub write_left : (now : Tick) (u : IoState) (at : ℕ) (width : Width) (value : ℕ) → Covers (keeps_part p proc) proc at width → io_get (port_written proc now u at width value) p ≡ io_get u p
   write_left now u at width value h =
-      write_leaves (leaves p proc) proc now (λ x y. io_get y p ≡ io_get x p) (λ x. refl) (λ x y z k l. l ∙ k) (row_leaves now) u at width value h
+      write_leaves (Of (keeps_part p proc)) proc now (λ x y. io_get y p ≡ io_get x p) (λ x. refl) (λ x y z k l. l ∙ k) (λ x slot word k. row_leaves now x slot.register slot.number word k) u at width value h
 
   read_row : (u : IoState) (r : Register) → among both_sides p ≡ false → io_get ((meaning_of r).after_read proc u) p ≡ io_get u p
   read_row u r h = (changes_by units (among both_sides) u ((meaning_of r).after_read proc u) refl (touched.read_left u (record { 0 = 0 }) 0 0 proc r)).others p h
 
 -- and a read leaves all but what passes between the processors
-abbrev any_register : Register → Bool
+abbrev pub any_register : Register → Bool
 any_register r = true
 
-any_covered : (proc : Proc) (at : ℕ) (width : Width) → Covers any_register proc at width
+pub any_covered : (proc : Proc) (at : ℕ) (width : Width) → Covers any_register proc at width
 any_covered Nine at width = covers_all any_register Nine at width refl
 any_covered Seven at width = covers_all any_register Seven at width refl
 

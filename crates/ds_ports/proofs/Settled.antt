@@ -18,7 +18,7 @@ use Rattle.ds_ports.specs.ProcessorIo.{if_written, keycnt_written, keys_hold, ke
 use Rattle.ds_ports.specs.Registers.{after_write, meaning_of}
 use Rattle.ds_ports.specs.Io.{IoState, both_raised, is_settled}
 use Rattle.ds_ports.specs.Touches as touches
-use Rattle.ds_ports.specs.Touches.{UnitPart, DmaNine, IrqNine, Released, among, changes_any}
+use Rattle.ds_ports.specs.Touches.{UnitPart, DmaNine, IrqNine, Released, among, changes_some}
 use Rattle.ds_ports.specs.declared.registers.Register.{Register}
 use Rattle.ds_ports.specs.declared.registers.Register.TheVariants.{Ie, If, Ime, Ipcfifocnt, Ipcfiforecv, Ipcfifosend, Ipcsync, Keycnt}
 use Rattle.ds_ports.proofs.Passed.{first_false, stays_by_row}
@@ -125,10 +125,10 @@ keys_settled u value h = go (keys_hold (kept_keycnt value) u.pressed) where
 abbrev settled_parts : List UnitPart
 settled_parts = IrqNine ∷ touches.Geometry ∷ Released ∷ DmaNine ∷ []
 
-by_row : (proc : Proc) (now : Tick) (u : IoState) (register : Register) (number value : ℕ) → (changes_any (among settled_parts) proc register && not (moves_dues register)) ≡ false
+by_row : (proc : Proc) (now : Tick) (u : IoState) (register : Register) (number value : ℕ) → (changes_some (among settled_parts) proc register && not (moves_dues register)) ≡ false
     → moves_dues register ≡ false → is_settled u ≡ true → is_settled (after_write proc now u register number value) ≡ true
 by_row proc now u register number value row none h =
-    stays_by_row proc now u register number value settled_parts is_settled (λ t x. refl) (first_false (changes_any (among settled_parts) proc register) (moves_dues register) row none) ∙ h
+    stays_by_row proc now u register number value settled_parts is_settled (λ t x. refl) (first_false (changes_some (among settled_parts) proc register) (moves_dues register) row none) ∙ h
 
 pub writes_leave_settled : (proc : Proc) (now : Tick) (u : IoState) (register : Register) (number value : ℕ) → moves_dues register ≡ false → is_settled u ≡ true
     → is_settled (after_write proc now u register number value) ≡ true

@@ -20,10 +20,11 @@ is_armed control = is_enabled control && waits_for Nine causes.Geometry control
 
 abbrev pub any_armed : DmaState → Bool
 any_armed dma =
-    is_armed (channel_at dma.channels 0).cnt || is_armed (channel_at dma.channels 1).cnt || is_armed (channel_at dma.channels 2).cnt || is_armed (channel_at dma.channels 3).cnt
+    is_armed (channel_at dma.channels 0).cnt || is_armed (channel_at dma.channels 1).cnt || is_armed (channel_at dma.channels 2).cnt
+    || is_armed (channel_at dma.channels 3).cnt
 
--- Geometry is due, and nobody hears of what it does: GXSTAT's selector is 0, so that no interrupt follows how much waits; it starts no channel of ARM9's; and no stall holds ARM9
--- (GBATEK, "GXSTAT", "GXFIFO").
+-- Geometry is due, and nobody hears of what it does: GXSTAT's selector is 0, so that no interrupt follows how much waits; it starts no channel of
+-- ARM9's; and no stall holds ARM9 (GBATEK, "GXSTAT", "GXFIFO").
 abbrev pub is_quiet : IoState → Bool
 is_quiet u = is_some u.gx.due && ((u.gx.selector == 0) && (not (any_armed u.nine.dma) && not (is_stalled u.gx)))
 

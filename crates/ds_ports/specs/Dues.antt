@@ -28,7 +28,8 @@ abbrev pub dma_due_in : IoState → Proc → ℕ → Option Tick
 dma_due_in u Nine channel = held_due (is_stalled u.gx) u.released (channel_due u.nine.dma channel)
 dma_due_in u Seven channel = channel_due u.seven.dma channel
 
--- when an actor behind the ports is due; the key script and the processors stand elsewhere, and are never due here, nor is the card, which isn't built yet
+-- when an actor behind the ports is due; the key script and the processors stand elsewhere, and are never due here, nor is the card, which isn't
+-- built yet
 abbrev pub due_in_io : IoState → actor.Actor → Option Tick
 due_in_io u Video = Some (scan_due_tick u.video.scan)
 due_in_io u (Timer proc number) = timer_due (timer_at (io_of u proc).timers number)

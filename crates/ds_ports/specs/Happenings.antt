@@ -29,7 +29,7 @@ pub record IsIo (u : IoState) : Type 0 where
   pub gx : AreWaiting u.gx
 
 -- a processor's timers, and its channels that run, come later than a tick: so it is where the processor, or a channel of it, makes an access then
-pub record IsQuiet (now : Tick) (processor_io : ProcessorIoState) : Type 0 where
+pub record HasOnlyLaterEvents (now : Tick) (processor_io : ProcessorIoState) : Type 0 where
   pub timers : (which : ℕ) → which < 4 → IsLater now (timer_due (timer_at processor_io.timers which))
   pub dma : AreReadyLater now processor_io.dma
 
@@ -40,7 +40,8 @@ pub record IsUnchanged (old new : ProcessorIoState) : Type 0 where
   pub halted : new.halted ≡ old.halted
   pub dma : new.dma ≡ old.dma
 
--- the interrupts that one processor raises at the other, bits 16 to 18 of IF (GBATEK, "DS Interrupts": IPC sync, send FIFO empty, receive FIFO not empty)
+-- the interrupts that one processor raises at the other, bits 16 to 18 of IF (GBATEK, "DS Interrupts": IPC sync, send FIFO empty, receive FIFO not
+-- empty)
 abbrev pub ipc_bits : ℕ
 ipc_bits = interrupt_bit IpcSync + interrupt_bit SendFifoEmpty + interrupt_bit ReceiveFifoNotEmpty
 
@@ -71,7 +72,7 @@ pub record LeavesGeometry (proc : Proc) (old new : IoState) : Type 0 where
 -- told of the IPC interrupts and of nothing else; the display is where it was, and so is its last whole frame
 pub record Goes (proc : Proc) (now : Tick) (old new : IoState) : Type 0 where
   pub is : IsProcessorIo (io_of new proc)
-  pub quiet : IsQuiet now (io_of new proc)
+  pub quiet : HasOnlyLaterEvents now (io_of new proc)
   pub each : ReschedulesEach now old new
   pub other : IsUnchanged (io_of old (other_proc proc)) (io_of new (other_proc proc))
   pub told : IsTold (io_of old (other_proc proc)).irq (io_of new (other_proc proc)).irq

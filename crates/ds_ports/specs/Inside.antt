@@ -9,19 +9,19 @@ use Rattle.ds_ports.specs.Dues.{dues_with}
 use Rattle.ds_ports.specs.Io.{IoState}
 use Rattle.ds_ports.specs.ProcessorIo.{ProcessorIoState, control_written, dma_written, haltcnt_written, ie_written, if_written, ime_written, keycnt_written, reload_written}
 use Rattle.ds_ports.specs.Touches as touches
-use Rattle.ds_ports.specs.Touches.{UnitPart, Division, DmaNine, DmaSeven, Released, TimersNine, TimersSeven, among, changes_any}
+use Rattle.ds_ports.specs.Touches.{UnitPart, Division, DmaNine, DmaSeven, Released, TimersNine, TimersSeven, among, changes_some}
 use Rattle.ds_ports.specs.declared.registers.Register.{Register}
 use Rattle.ds_ports.specs.declared.registers.Register.TheVariants.{DisplayHalf, DisplayWord, GxWord, GxCommand, Dmasad, Dmadad, Dmacnt, TmcntL, TmcntH, Keycnt, Ime, Ie, If, Haltcnt, Vramcnt, Vramstat, Divcnt, DivNumer, DivDenom, DivResult, DivremResult, Sqrtcnt, SqrtResult, SqrtParam}
 
 -- What the code's parts say of one another. No public clause speaks of it.
 
--- a write of a register may change when something is due, or leave something to settle: it changes one of these parts of the units. The display is due too, but by its scan, which no
--- register changes. (Both processors' registers of a name change such parts, or none of them does)
+-- a write of a register may change when something is due, or leave something to settle: it changes one of these parts of the units. The display is
+-- due too, but by its scan, which no register changes. (Both processors' registers of a name change such parts, or none of them does)
 abbrev pub moving_parts : List UnitPart
 moving_parts = TimersNine ∷ TimersSeven ∷ Division ∷ touches.SquareRoot ∷ touches.Geometry ∷ Released ∷ DmaNine ∷ DmaSeven ∷ []
 
 abbrev pub moves_dues : Register → Bool
-moves_dues register = changes_any (among moving_parts) Nine register
+moves_dues register = changes_some (among moving_parts) Nine register
 
 -- what a write of a register that is the processor's own leaves of that, by the keys that are pressed
 abbrev pub own_written : Register → Proc → Tick → ℕ → ProcessorIoState → ℕ → ℕ → ProcessorIoState

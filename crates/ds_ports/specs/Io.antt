@@ -25,9 +25,9 @@ use Rattle.vram_banks.specs.Cells.{Banks, blank_banks}
 -- What stands behind the ports.
 
 -- the display; video memory with its controls; WRAMCNT, which shares out the shared work RAM (GBATEK, "DS Memory Control"); what passes between the
--- processors; the keys that are pressed; the four words of DMA0FILL to DMA3FILL; ROMCTRL, which both processors share; the divider and the
--- square root unit; the geometry engine with what waits for it; the tick before which ARM9's DMA isn't due, which is the one after the geometry command
--- that ended the last stall while that holds a channel back, and else 0; and what each processor has of its own
+-- processors; the keys that are pressed; the four words of DMA0FILL to DMA3FILL; ROMCTRL, which both processors share; the divider and the square
+-- root unit; the geometry engine with what waits for it; the tick before which ARM9's DMA isn't due, which is the one after the geometry command that
+-- ended the last stall while that holds a channel back, and else 0; and what each processor has of its own
 pub record IoState : Type 0 where
   pub video : VideoState
   pub vram : Banks
@@ -146,8 +146,8 @@ is_held u Nine = blocks_processor u.nine || is_stalled u.gx
 is_held u Seven = blocks_processor u.seven
 
 -- ---- what follows each step that is taken at a tick: the level of geometry's interrupt is told as it is, the channels are triggered that wait for
--- geometry where its FIFO has room (GBATEK, GXSTAT bits 25 and 30 to 31; that it follows the whole step is our choice), and what a stall left is forgotten
--- where it holds back no channel
+-- geometry where its FIFO has room (GBATEK, GXSTAT bits 25 and 30 to 31; that it follows the whole step is our choice), and what a stall left is
+-- forgotten where it holds back no channel
 
 abbrev pub level_told : IoState → IoState
 level_told u = record u { nine = record u.nine { irq = irq_levelled u.nine.irq (gx_level u.gx) } }
@@ -155,14 +155,14 @@ level_told u = record u { nine = record u.nine { irq = irq_levelled u.nine.irq (
 abbrev pub geometry_triggered : Tick → IoState → IoState
 geometry_triggered now u = if is_half_empty u.gx then record u { nine = processor_io_triggered u.nine causes.Geometry now } else u
 
--- The tick after a stall's end is kept while it holds back the channel of ARM9's that is due, which would come before it. So nothing is kept that has no effect: the tick
--- then is told by when the channel is due.
-abbrev pub comes_before : Option DmaDue → ℕ → Bool
-comes_before None tick = false
-comes_before (Some due) tick = nat_lt due.tick.0 tick
+-- The tick after a stall's end is kept while it holds back the channel of ARM9's that is due, which would come before it. So nothing is kept that has
+-- no effect: the tick then is told by when the channel is due.
+abbrev pub channel_comes_before : Option DmaDue → ℕ → Bool
+channel_comes_before None tick = false
+channel_comes_before (Some due) tick = nat_lt due.tick.0 tick
 
 abbrev pub release_of : IoState → ℕ
-release_of u = if comes_before (dma_due u.nine.dma) u.released then u.released else 0
+release_of u = if channel_comes_before (dma_due u.nine.dma) u.released then u.released else 0
 
 abbrev pub release_kept : IoState → IoState
 release_kept u = record u { released = release_of u }
@@ -173,11 +173,12 @@ settled now u = release_kept (geometry_triggered now (level_told u))
 -- nothing of this is left to do
 abbrev pub is_settled : IoState → Bool
 is_settled u =
-    ((irq_levelled u.nine.irq (gx_level u.gx)).if_ == u.nine.irq.if_) && (not (is_half_empty u.gx && awaits_geometry u.nine.dma) && (release_of u == u.released))
+    ((irq_levelled u.nine.irq (gx_level u.gx)).if_ == u.nine.irq.if_)
+    && (not (is_half_empty u.gx && awaits_geometry u.nine.dma) && (release_of u == u.released))
 
--- What the event of an actor behind the ports leaves, where it is due. Five have none here, and leave all: the key script, which presses keys; the display,
--- whose event stands above, since it reads memories; the card, which isn't built yet; a DMA channel, whose event is an access of memory and stands below in
--- parts; and a processor, whose steps are instructions.
+-- What the event of an actor behind the ports leaves, where it is due. Five have none here, and leave all: the key script, which presses keys; the
+-- display, whose event stands above, since it reads memories; the card, which isn't built yet; a DMA channel, whose event is an access of memory and
+-- stands below in parts; and a processor, whose steps are instructions.
 abbrev pub io_event : actor.Actor → IoState → IoState
 io_event (Timer proc number) u = timer_overflows proc number u
 io_event Divider u = division_done u

@@ -33,7 +33,8 @@ looked_up (p ∷ parts) at = if nat_lt at p.limit then slot_among p.rows at else
 
 abbrev pub low_parts : Proc → List Part
 low_parts proc =
-    map_part 0x004 (display_control_rows proc) ∷ map_part 0x008 status_rows ∷ map_part 0x060 (drawing_rows proc) ∷ map_part 0x064 (gx_control_rows proc)
+    map_part 0x004 (display_control_rows proc) ∷ map_part 0x008 status_rows ∷ map_part 0x060 (drawing_rows proc)
+    ∷ map_part 0x064 (gx_control_rows proc)
     ∷ map_part 0x0B0 (output_rows proc) ∷ map_part 0x0E0 dma_rows ∷ map_part 0x100 (fill_rows proc) ∷ map_part 0x136 timer_and_key_rows
     ∷ map_part 0x180 (more_key_rows proc) ∷ map_part 0x200 ipc_rows ∷ []
 

@@ -47,7 +47,8 @@ ignores width register = is_narrow width && (meaning_of register).takes_words
 
 -- what some bytes of a register read, or the number that is read in its stead
 abbrev pub slot_value : Proc → Tick → IoState → Width → Slot → ℕ
-slot_value proc now u width slot = if ignores width slot.register then 0 else part width slot.byte ((meaning_of slot.register).value proc now u slot.number)
+slot_value proc now u width slot =
+    if ignores width slot.register then 0 else part width slot.byte ((meaning_of slot.register).value proc now u slot.number)
 
 abbrev pub read_or : Proc → Tick → IoState → Width → Option Slot → ℕ → ℕ
 read_or proc now u width None other = other
@@ -98,11 +99,13 @@ byte_written proc now u at value = written_or proc now u Byte (slot_of proc at) 
 
 abbrev pub half_written : Proc → Tick → IoState → ℕ → ℕ → IoState
 half_written proc now u at value =
-    written_or proc now u Half (whole_in Half (slot_of proc at)) value (byte_written proc now (byte_written proc now u at value) (at + 1) (value / 2 ^ 8))
+    written_or proc now u Half (whole_in Half (slot_of proc at)) value
+    (byte_written proc now (byte_written proc now u at value) (at + 1) (value / 2 ^ 8))
 
 abbrev pub word_written : Proc → Tick → IoState → ℕ → ℕ → IoState
 word_written proc now u at value =
-    written_or proc now u Word (whole_in Word (slot_of proc at)) value (half_written proc now (half_written proc now u at value) (at + 2) (value / 2 ^ 16))
+    written_or proc now u Word (whole_in Word (slot_of proc at)) value
+    (half_written proc now (half_written proc now u at value) (at + 2) (value / 2 ^ 16))
 
 -- what a write leaves that isn't refused
 unfoldable pub port_written : Proc → Tick → IoState → ℕ → Width → ℕ → IoState
@@ -117,7 +120,8 @@ first_stop None other = other
 first_stop (Some stop) other = Some stop
 
 abbrev pub slot_refusal : Proc → IoState → Width → Slot → ℕ → Option Stop
-slot_refusal proc u width slot value = if ignores width slot.register then None else (meaning_of slot.register).refusal proc u slot.number (slot_joined proc u width slot value)
+slot_refusal proc u width slot value =
+    if ignores width slot.register then None else (meaning_of slot.register).refusal proc u slot.number (slot_joined proc u width slot value)
 
 abbrev pub refusal_or : Proc → IoState → Width → Option Slot → ℕ → Option Stop → Option Stop
 refusal_or proc u width None value other = other
@@ -128,11 +132,13 @@ byte_refusal proc u at value = refusal_or proc u Byte (slot_of proc at) value No
 
 abbrev pub half_refusal : Proc → IoState → ℕ → ℕ → Option Stop
 half_refusal proc u at value =
-    refusal_or proc u Half (whole_in Half (slot_of proc at)) value (first_stop (byte_refusal proc u at value) (byte_refusal proc u (at + 1) (value / 2 ^ 8)))
+    refusal_or proc u Half (whole_in Half (slot_of proc at)) value
+    (first_stop (byte_refusal proc u at value) (byte_refusal proc u (at + 1) (value / 2 ^ 8)))
 
 abbrev pub word_refusal : Proc → IoState → ℕ → ℕ → Option Stop
 word_refusal proc u at value =
-    refusal_or proc u Word (whole_in Word (slot_of proc at)) value (first_stop (half_refusal proc u at value) (half_refusal proc u (at + 2) (value / 2 ^ 16)))
+    refusal_or proc u Word (whole_in Word (slot_of proc at)) value
+    (first_stop (half_refusal proc u at value) (half_refusal proc u (at + 2) (value / 2 ^ 16)))
 
 unfoldable pub port_refusal : Proc → IoState → ℕ → Width → ℕ → Option Stop
 port_refusal proc u at Byte value = byte_refusal proc u at value
@@ -144,7 +150,8 @@ abbrev pub unless_stopped : Option Stop → IoState → IoState → IoState
 unless_stopped None old new = new
 unless_stopped (Some stop) old new = old
 
--- ---- laws of these: an access at a multiple of its width that lies in no one register is one of each register that begins in it, whole, in ascending address
+-- ---- laws of these: an access at a multiple of its width that lies in no one register is one of each register that begins in it, whole, in
+-- ascending address
 
 abbrev pub width_of : ℕ → Width
 width_of bytes = if bytes == 1 then Byte else (if bytes == 2 then Half else Word)

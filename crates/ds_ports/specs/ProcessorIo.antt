@@ -98,7 +98,8 @@ processor_io_triggered processor_io cause now = record processor_io { dma = dma_
 
 -- the channel that is due moves its first unit at a tick, and raises its interrupt at its end
 abbrev pub processor_io_moved : ProcessorIoState → Tick → ProcessorIoState
-processor_io_moved processor_io now = processor_io_raised (record processor_io { dma = dma_finished processor_io.dma now }) (finished_bits processor_io.dma)
+processor_io_moved processor_io now =
+    processor_io_raised (record processor_io { dma = dma_finished processor_io.dma now }) (finished_bits processor_io.dma)
 
 -- what that changes, as it was before: the channels and the interrupt words
 pub record BeforeMove : Type 0 where

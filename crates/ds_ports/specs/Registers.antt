@@ -29,7 +29,7 @@ use Rattle.vram_banks.specs.Cells.{allotted_of}
 
 -- What each register is, a paragraph each, in the order of GBATEK's list ("DS I/O Maps").
 
-pub record Meaning : Type 0 where
+pub record RegisterMeaning : Type 0 where
   -- those of its name are told apart by a number below this: from 0 on, or the offset of the first byte where it is the display's or geometry's
   pub count : ℕ
   -- it is reached by whole words alone: narrower reads give 0, and narrower writes are ignored (our choice)
@@ -48,7 +48,7 @@ pub record Meaning : Type 0 where
 -- ---- how they are made
 
 -- one that reads 0, keeps nothing, and ignores writes
-abbrev pub idle : Meaning
+abbrev pub idle : RegisterMeaning
 idle = record {
   count = 1;
   takes_words = false;
@@ -60,34 +60,37 @@ idle = record {
 }
 
 -- one that is read alone
-abbrev pub read_only : (IoState → ℕ) → Meaning
+abbrev pub read_only : (IoState → ℕ) → RegisterMeaning
 read_only value = record idle { value = λ proc now u n. value u }
 
 -- one that is written alone
-abbrev pub write_only : (Proc → Tick → IoState → ℕ → ℕ → IoState) → Meaning
+abbrev pub write_only : (Proc → Tick → IoState → ℕ → ℕ → IoState) → RegisterMeaning
 write_only written = record idle { written = written }
 
 -- one that reads what it keeps
-abbrev pub plain : (IoState → ℕ → ℕ) → (IoState → Tick → ℕ → ℕ → IoState) → Meaning
-plain kept written = record idle { value = λ proc now u n. kept u n; kept = λ proc u n. kept u n; written = λ proc now u n word. written u now n word }
+abbrev pub plain : (IoState → ℕ → ℕ) → (IoState → Tick → ℕ → ℕ → IoState) → RegisterMeaning
+plain kept written =
+    record idle { value = λ proc now u n. kept u n; kept = λ proc u n. kept u n; written = λ proc now u n word. written u now n word }
 
 -- a write that changes what the processor has of its own, by the keys that are pressed
 abbrev pub on_own : (Proc → Tick → ℕ → ProcessorIoState → ℕ → ℕ → ProcessorIoState) → Proc → Tick → IoState → ℕ → ℕ → IoState
 on_own written proc now u n word = with_io_of proc u (written proc now u.pressed (io_of u proc) n word)
 
 -- such a one of what each processor has of its own
-abbrev pub plain_of_processor : (ProcessorIoState → ℕ → ℕ) → (Proc → Tick → ℕ → ProcessorIoState → ℕ → ℕ → ProcessorIoState) → Meaning
+abbrev pub plain_of_processor : (ProcessorIoState → ℕ → ℕ) → (Proc → Tick → ℕ → ProcessorIoState → ℕ → ℕ → ProcessorIoState) → RegisterMeaning
 plain_of_processor kept written =
     record idle { value = λ proc now u n. kept (io_of u proc) n; kept = λ proc u n. kept (io_of u proc) n; written = on_own written }
 
 -- ---- what they are made from
 
 -- DMAxSAD, DMAxDAD or DMAxCNT (GBATEK, "DS DMA Transfers")
-abbrev pub channel_register : DmaPort → Meaning
-channel_register port = record (plain_of_processor (λ processor_io n. channel_word port (channel_at processor_io.dma.channels n)) (λ proc now pressed processor_io n word. dma_written processor_io now port n word)) {
-  count = 4;
-  refusal = λ proc u n word. channel_refusal (io_of u proc).dma.proc n port word (channel_at (io_of u proc).dma.channels n);
-}
+abbrev pub channel_register : DmaPort → RegisterMeaning
+channel_register port = record
+    (plain_of_processor (λ processor_io n. channel_word port (channel_at processor_io.dma.channels n))
+    (λ proc now pressed processor_io n word. dma_written processor_io now port n word)) {
+      count = 4;
+      refusal = λ proc u n word. channel_refusal (io_of u proc).dma.proc n port word (channel_at (io_of u proc).dma.channels n);
+    }
 
 -- the low and the high word of a number of 64 bits, by 0 and 1, and that number with another word there
 abbrev pub word_of_two : ℕ → ℕ → ℕ
@@ -144,7 +147,7 @@ halt_refusal value = if is_mode_left_out value then Some (record { kind = HaltMo
 
 -- one of the display's, of which the number is the offset of its first byte: what it reads, what it keeps, and what a write leaves, are told
 -- byte by byte where the display is
-abbrev pub display_register : Width → Meaning
+abbrev pub display_register : Width → RegisterMeaning
 display_register width = record idle {
   count = 0x1070;
   value = λ proc now u n. value_by width (video_byte proc u.video) n;
@@ -152,9 +155,9 @@ display_register width = record idle {
   written = λ proc now u n word. record u { video = video_written proc u.video n width word };
 }
 
--- one of geometry's, of which the number is the offset of its first byte: what it reads, what it keeps, and what a write leaves, are told where geometry
--- is. ARM9 alone has them. More than 320 entries never wait where one is written, since a stall holds ARM9 and its DMA first: a write there is
--- ignored (our choice of form).
+-- one of geometry's, of which the number is the offset of its first byte: what it reads, what it keeps, and what a write leaves, are told where
+-- geometry is. ARM9 alone has them. More than 320 entries never wait where one is written, since a stall holds ARM9 and its DMA first: a write there
+-- is ignored (our choice of form).
 abbrev pub gx_port_written : GxState → ℕ → ℕ → Tick → GxState
 gx_port_written s at value now = if nat_lt 320 (waiting_entries s) then s else gx_written s at value now
 
@@ -162,7 +165,7 @@ abbrev pub gx_set : Proc → Tick → IoState → ℕ → ℕ → IoState
 gx_set Nine now u n word = record u { gx = gx_port_written u.gx n word now }
 gx_set Seven now u n word = u
 
-abbrev pub gx_register : Bool → Meaning
+abbrev pub gx_register : Bool → RegisterMeaning
 gx_register takes_words = record idle {
   count = 0x6A4;
   takes_words = takes_words;
@@ -173,7 +176,7 @@ gx_register takes_words = record idle {
 
 -- ---- the registers
 
-abbrev pub meaning_of : Register → Meaning
+abbrev pub meaning_of : Register → RegisterMeaning
 -- the display's (GBATEK, "DS Video", "LCD I/O Interrupts and Status", "DS Power Control"; what of each is kept and read stands with `EnginePort`)
 meaning_of DisplayHalf = display_register Half
 meaning_of DisplayWord = display_register Word
@@ -184,15 +187,20 @@ meaning_of Dmacnt = channel_register Control
 -- DMA0FILL to DMA3FILL (the same chapter)
 meaning_of Dmafill = record (plain (λ u n. slice_index_or u.fill n 0) (λ u now n word. record u { fill = slice_set u.fill n word })) { count = 4 }
 -- TM0CNT_L to TM3CNT_L: a timer's counter, which is written as its reload (GBATEK, "DS Timers")
-meaning_of TmcntL = record (plain_of_processor (λ processor_io n. (timer_at processor_io.timers n).reload) (λ proc now pressed processor_io n word. reload_written processor_io n (word % 2 ^ 16))) {
-  count = 4;
-  value = λ proc now u n. counter_of (timer_at (io_of u proc).timers n) now;
-}
+meaning_of TmcntL = record
+    (plain_of_processor (λ processor_io n. (timer_at processor_io.timers n).reload)
+    (λ proc now pressed processor_io n word. reload_written processor_io n (word % 2 ^ 16))) {
+      count = 4;
+      value = λ proc now u n. counter_of (timer_at (io_of u proc).timers n) now;
+    }
 -- TM0CNT_H to TM3CNT_H: its control (the same chapter)
-meaning_of TmcntH = record (plain_of_processor (λ processor_io n. (timer_at processor_io.timers n).control) (λ proc now pressed processor_io n word. control_written processor_io n (word % 2 ^ 16) now)) { count = 4 }
+meaning_of TmcntH = record
+    (plain_of_processor (λ processor_io n. (timer_at processor_io.timers n).control)
+    (λ proc now pressed processor_io n word. control_written processor_io n (word % 2 ^ 16) now)) { count = 4 }
 -- KEYINPUT, KEYCNT and EXTKEYIN (GBATEK, "DS Keypad")
 meaning_of Keyinput = read_only (λ u. keyinput_word u.pressed)
-meaning_of Keycnt = plain_of_processor (λ processor_io n. processor_io.keycnt) (λ proc now pressed processor_io n word. keycnt_written processor_io pressed (word % 2 ^ 16))
+meaning_of Keycnt = plain_of_processor (λ processor_io n. processor_io.keycnt)
+    (λ proc now pressed processor_io n word. keycnt_written processor_io pressed (word % 2 ^ 16))
 meaning_of Extkeyin = read_only (λ u. extkeyin_word u.pressed)
 -- IPCSYNC (GBATEK, "DS Inter Process Communication (IPC)")
 meaning_of Ipcsync = record idle {
@@ -219,7 +227,8 @@ meaning_of Romctrl = record (plain (λ u n. u.romctrl) (λ u now n word. record 
   refusal = λ proc u n word. card_refusal word;
 }
 -- IME, IE and IF (GBATEK, "DS Interrupts")
-meaning_of Ime = plain_of_processor (λ processor_io n. flag 0 processor_io.irq.ime) (λ proc now pressed processor_io n word. ime_written processor_io word)
+meaning_of Ime =
+    plain_of_processor (λ processor_io n. flag 0 processor_io.irq.ime) (λ proc now pressed processor_io n word. ime_written processor_io word)
 meaning_of Ie = plain_of_processor (λ processor_io n. processor_io.irq.ie) (λ proc now pressed processor_io n word. ie_written proc processor_io word)
 meaning_of If = record idle {
   value = λ proc now u n. (io_of u proc).irq.if_;

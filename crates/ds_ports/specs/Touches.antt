@@ -6,8 +6,8 @@ use Rattle.ds_ports.specs.Io.{IoState}
 use Rattle.ds_ports.specs.declared.registers.Register.{Register}
 use Rattle.ds_ports.specs.declared.registers.Register.TheVariants.{DisplayHalf, DisplayWord, GxWord, GxCommand, Dmasad, Dmadad, Dmacnt, Dmafill, TmcntL, TmcntH, Keyinput, Keycnt, Extkeyin, Ipcsync, Ipcfifocnt, Ipcfifosend, Ipcfiforecv, Romctrl, Ime, Ie, If, Vramcnt, Wramcnt, Vramstat, Wramstat, Divcnt, DivNumer, DivDenom, DivResult, DivremResult, Sqrtcnt, SqrtResult, SqrtParam, Postflg, Haltcnt}
 
--- What each register touches: a column beside the register map. It is no part of what the console does, but follows from it, and is proved of each row: a register depends on no
--- other parts of the units than those of its row, and an access of it changes no others than those that the row says.
+-- What each register touches: a column beside the register map. It is no part of what the console does, but follows from it, and is proved of each
+-- row: a register depends on no other parts of the units than those of its row, and an access of it changes no others than those that the row says.
 
 -- ---- the parts of the units: each is what some register, event or due tick may use without the rest
 
@@ -133,29 +133,29 @@ dma_of Seven = DmaSeven
 -- ---- the table
 
 -- what a register shows of the units, or needs for what a write leaves; and what an access of it may change
-pub record Touch : Type 0 where
+pub record TouchRow : Type 0 where
   pub shows : List UnitPart
   pub changes : List UnitPart
 
-abbrev pub touch : List UnitPart → List UnitPart → Touch
-touch shows changes = record { shows = shows; changes = changes }
+abbrev pub touch_row : List UnitPart → List UnitPart → TouchRow
+touch_row shows changes = record { shows = shows; changes = changes }
 
 -- one that is read alone, one that shows the part that it changes, and one that touches nothing
-abbrev pub read_of : UnitPart → Touch
-read_of p = touch (p ∷ []) []
+abbrev pub shows_alone : UnitPart → TouchRow
+shows_alone p = touch_row (p ∷ []) []
 
-abbrev pub kept_in : UnitPart → Touch
-kept_in p = touch (p ∷ []) (p ∷ [])
+abbrev pub kept_in : UnitPart → TouchRow
+kept_in p = touch_row (p ∷ []) (p ∷ [])
 
-abbrev pub untouching : Touch
-untouching = touch [] []
+abbrev pub untouching : TouchRow
+untouching = touch_row [] []
 
 -- what passes between the processors may interrupt both
 abbrev pub both_sides : List UnitPart
 both_sides = IpcNine ∷ IpcSeven ∷ IrqNine ∷ IrqSeven ∷ []
 
 -- for a processor, by register, in the order of GBATEK's list ("DS I/O Maps")
-abbrev pub touch_of : Proc → Register → Touch
+abbrev pub touch_of : Proc → Register → TouchRow
 touch_of proc DisplayHalf = kept_in Display
 touch_of proc DisplayWord = kept_in Display
 touch_of proc Dmasad = kept_in (dma_of proc)
@@ -164,28 +164,28 @@ touch_of proc Dmacnt = kept_in (dma_of proc)
 touch_of proc Dmafill = kept_in Fill
 touch_of proc TmcntL = kept_in (timers_of proc)
 touch_of proc TmcntH = kept_in (timers_of proc)
-touch_of proc Keyinput = read_of Pressed
-touch_of proc Keycnt = touch (Pressed ∷ keycnt_of proc ∷ irq_of proc ∷ []) (keycnt_of proc ∷ irq_of proc ∷ [])
-touch_of proc Extkeyin = read_of Pressed
-touch_of proc Ipcsync = touch both_sides both_sides
-touch_of proc Ipcfifocnt = touch both_sides both_sides
-touch_of proc Ipcfifosend = touch both_sides both_sides
-touch_of proc Ipcfiforecv = touch both_sides both_sides
+touch_of proc Keyinput = shows_alone Pressed
+touch_of proc Keycnt = touch_row (Pressed ∷ keycnt_of proc ∷ irq_of proc ∷ []) (keycnt_of proc ∷ irq_of proc ∷ [])
+touch_of proc Extkeyin = shows_alone Pressed
+touch_of proc Ipcsync = touch_row both_sides both_sides
+touch_of proc Ipcfifocnt = touch_row both_sides both_sides
+touch_of proc Ipcfifosend = touch_row both_sides both_sides
+touch_of proc Ipcfiforecv = touch_row both_sides both_sides
 touch_of proc Romctrl = kept_in Card
 touch_of proc Ime = kept_in (irq_of proc)
 touch_of proc Ie = kept_in (irq_of proc)
 touch_of proc If = kept_in (irq_of proc)
 touch_of proc Vramcnt = kept_in BankControls
 touch_of proc Wramcnt = kept_in WramControl
-touch_of proc Vramstat = read_of BankControls
-touch_of proc Wramstat = read_of WramControl
+touch_of proc Vramstat = shows_alone BankControls
+touch_of proc Wramstat = shows_alone WramControl
 touch_of proc Divcnt = kept_in Division
 touch_of proc DivNumer = kept_in Division
 touch_of proc DivDenom = kept_in Division
-touch_of proc DivResult = read_of Division
-touch_of proc DivremResult = read_of Division
+touch_of proc DivResult = shows_alone Division
+touch_of proc DivremResult = shows_alone Division
 touch_of proc Sqrtcnt = kept_in SquareRoot
-touch_of proc SqrtResult = read_of SquareRoot
+touch_of proc SqrtResult = shows_alone SquareRoot
 touch_of proc SqrtParam = kept_in SquareRoot
 touch_of proc Postflg = untouching
 touch_of proc Haltcnt = kept_in (halt_of proc)
@@ -200,9 +200,9 @@ none_of P [] = true
 none_of P (p ∷ ps) = if P p then false else none_of P ps
 
 -- a register touches no part of a set
-abbrev pub is_apart : (UnitPart → Bool) → Proc → Register → Bool
-is_apart P proc r = none_of P ((touch_of proc r).shows ++ (touch_of proc r).changes)
+abbrev pub touches_none : (UnitPart → Bool) → Proc → Register → Bool
+touches_none P proc r = none_of P ((touch_of proc r).shows ++ (touch_of proc r).changes)
 
 -- a register may change some part of a set
-abbrev pub changes_any : (UnitPart → Bool) → Proc → Register → Bool
-changes_any P proc r = not (none_of P (touch_of proc r).changes)
+abbrev pub changes_some : (UnitPart → Bool) → Proc → Register → Bool
+changes_some P proc r = not (none_of P (touch_of proc r).changes)

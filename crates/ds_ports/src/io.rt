@@ -171,16 +171,17 @@ impl Io {
         self.first
     }
 
-    /// Whether geometry is due and quiet: nobody hears of what it does, since GXSTAT's selector is 0, no channel of ARM9's is enabled with the start of
-    /// the geometry FIFO, whether or not it runs, and no stall holds ARM9.
+    /// Whether geometry is due and quiet: nobody hears of what it does, since GXSTAT's selector is 0, no channel of ARM9's is enabled with the start
+    /// of the geometry FIFO, whether or not it runs, and no stall holds ARM9.
     pub fn is_quiet(&self) -> bool
         ensures { result ≡ is_quiet self.now }
     {
         self.units.is_quiet()
     }
 
-    /// The event of an actor behind the ports that is due: a timer overflows and its interrupts are raised, a division or a square root is done,
-    /// or the head command of geometry, which may end a stall: then ARM9's channels are due at the next tick or later. The display's is told by `show`, a DMA channel's by `move_channel`.
+    /// The event of an actor behind the ports that is due: a timer overflows and its interrupts are raised, a division or a square root is done, or
+    /// the head command of geometry, which may end a stall: then ARM9's channels are due at the next tick or later. The display's is told by `show`,
+    /// a DMA channel's by `move_channel`.
     pub fn event(&mut self, actor: Actor)
         requires numbered { IsNumbered actor }
         requires due { IsSome (io_due actor self.old) }
@@ -237,7 +238,8 @@ impl Io {
         requires { IsEarly (Some now) }
         ensures state { self.new ≡ geometry_swapped now self.old }
         ensures waited { result ≡ self.old.gx.swap_waits }
-        ensures lists { self.old.gx.swap_waits ≡ true → AreListsSince self.old.gx.geometry self.new.gx.geometry.last.vertices self.new.gx.geometry.last.polygons }
+        ensures lists { self.old.gx.swap_waits ≡ true
+            → AreListsSince self.old.gx.geometry self.new.gx.geometry.last.vertices self.new.gx.geometry.last.polygons }
     {
         self.settled = false;
         let waited = self.units.swap(now);
@@ -284,8 +286,8 @@ impl Io {
     }
 
     /// What follows each step at a tick: bit 21 of ARM9's IF tells geometry's level as it is, ARM9's channels that wait for geometry are triggered
-    /// where its count is below 128, and the tick after a stall's end is kept only while it holds back the channel that is due. It costs nothing where nothing happened since the last such call but halts, writes of video memory, reads of ports,
-    /// and writes of ports that move no due tick.
+    /// where its count is below 128, and the tick after a stall's end is kept only while it holds back the channel that is due. It costs nothing
+    /// where nothing happened since the last such call but halts, writes of video memory, reads of ports, and writes of ports that move no due tick.
     #[inline(always)]
     #[tactic(auto, using(crate::proofs::Settles::settled_stays))]
     pub fn settle(&mut self, now: Tick)

@@ -8,7 +8,7 @@ ghost use Rattle.ds_base.specs.declared.processors.Proc.{Proc};
 ghost use Rattle.ds_base.specs.declared.ticks.Tick.{Tick};
 ghost use Rattle.ds_ports.specs.Ports.{GoesAscending, byte_refusal, byte_written, first_stop, half_refusal, half_written, ignores, with_bytes_from, part, port_byte, port_half, port_read, port_refusal, port_value, port_word, port_written, slot_joined, slot_refusal, slot_value, slot_written, unless_stopped, whole_in, word_refusal, word_written};
 ghost use Rattle.gx_fifo.specs.GxStates.{AreWaiting, waiting_entries};
-ghost use Rattle.ds_ports.specs.Happenings.{Goes, IsProcessorIo, IsQuiet};
+ghost use Rattle.ds_ports.specs.Happenings.{Goes, IsProcessorIo, HasOnlyLaterEvents};
 ghost use Rattle.ds_ports.specs.RegisterMap.{IsSlot, StandsWhole, slot_of};
 ghost use Rattle.ds_ports.specs.Io.{IoState, io_of};
 
@@ -256,7 +256,8 @@ impl Io {
         requires whole { slot.byte + width_bytes width ≤ 4 }
         requires early { IsEarly (Some now) }
         ensures refusal { result ≡ slot_refusal proc self.old width slot value }
-        ensures next { self.new ≡ unless_stopped (slot_refusal proc self.old width slot value) self.old (slot_written proc now self.old width slot value) }
+        ensures next { self.new
+            ≡ unless_stopped (slot_refusal proc self.old width slot value) self.old (slot_written proc now self.old width slot value) }
     {
         if ignores(width, slot.register) {
             return None;
@@ -384,7 +385,8 @@ impl Io {
         requires at { at < 2 ^ 24 }
         requires early { IsEarly (Some now) }
         ensures refusal { result ≡ port_refusal proc self.old at width value }
-        ensures next { self.new ≡ unless_stopped (port_refusal proc self.old at width value) self.old (port_written proc now self.old at width value) }
+        ensures next { self.new
+            ≡ unless_stopped (port_refusal proc self.old at width value) self.old (port_written proc now self.old at width value) }
     {
         match width {
             Width::Byte => self.put_byte(proc, now, at, value),
@@ -400,7 +402,8 @@ impl Io {
         requires at { at < 2 ^ 24 }
         requires early { IsEarly (Some now) }
         ensures refusal { result ≡ port_refusal proc self.old at width value }
-        ensures next { self.new ≡ unless_stopped (port_refusal proc self.old at width value) self.old (port_written proc now self.old at width value) }
+        ensures next { self.new
+            ≡ unless_stopped (port_refusal proc self.old at width value) self.old (port_written proc now self.old at width value) }
     {
         match whole_in(width, slot_at(proc, at)) {
             Some(slot) => self.put_part(proc, now, width, slot, value),
@@ -408,18 +411,18 @@ impl Io {
         }
     }
 
-    /// A processor's write at an offset from 4000000h, at a tick. Where it is refused, it gives the stop and leaves all: exactly where it
-    /// would write HALTCNT's modes 1 or 3, kind HaltMode with the byte written; ROMCTRL's bit 31, kind CardTransfer with the whole word; or a
-    /// DMA control that is refused, kind DmaStart with the control as it would be kept. `schedule`: it leaves each due tick as it was, or later than its
-    /// own, where the processor's timers and its running channels come later than that.
-    /// `grows`: it adds four entries at most to those that wait for geometry.
+    /// A processor's write at an offset from 4000000h, at a tick. Where it is refused, it gives the stop and leaves all: exactly where it would write
+    /// HALTCNT's modes 1 or 3, kind HaltMode with the byte written; ROMCTRL's bit 31, kind CardTransfer with the whole word; or a DMA control that is
+    /// refused, kind DmaStart with the control as it would be kept. `schedule`: it leaves each due tick as it was, or later than its own, where the
+    /// processor's timers and its running channels come later than that. `grows`: it adds four entries at most to those that wait for geometry.
     #[inline(always)]
     pub fn put(&mut self, proc: Proc, now: Tick, at: u32, width: Width, value: u32) -> Option<Stop>
         requires at { at < 2 ^ 24 }
         requires early { IsEarly (Some now) }
         ensures refusal { result ≡ port_refusal proc self.old at width value }
-        ensures next { self.new ≡ unless_stopped (port_refusal proc self.old at width value) self.old (port_written proc now self.old at width value) }
-        ensures schedule { IsProcessorIo (io_of self.old proc) → IsQuiet now (io_of self.old proc) → Goes proc now self.old self.new }
+        ensures next { self.new
+            ≡ unless_stopped (port_refusal proc self.old at width value) self.old (port_written proc now self.old at width value) }
+        ensures schedule { IsProcessorIo (io_of self.old proc) → HasOnlyLaterEvents now (io_of self.old proc) → Goes proc now self.old self.new }
         ensures grows { AreWaiting self.old.gx → waiting_entries self.new.gx ≤ waiting_entries self.old.gx + 4 }
     {
         self.put_any(proc, now, at, width, value)
@@ -433,5 +436,6 @@ impl Io {
 #[tactic(auto, using(crate::proofs::Together::stands_whole))]
 pub fn register_laws()
     ensures rows { (proc : Proc) (at : ℕ) → IfSome (slot_of proc at) (StandsWhole proc at) }
-    ensures ascending { (proc : Proc) (now : Tick) (u : IoState) (at : ℕ) (width : Width) (value : ℕ) → at % width_bytes width ≡ 0 → whole_in width (slot_of proc at) ≡ None → GoesAscending proc now u at width value }
+    ensures ascending { (proc : Proc) (now : Tick) (u : IoState) (at : ℕ) (width : Width) (value : ℕ) → at % width_bytes width ≡ 0
+        → whole_in width (slot_of proc at) ≡ None → GoesAscending proc now u at width value }
 {}

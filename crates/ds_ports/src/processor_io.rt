@@ -12,7 +12,7 @@ ghost use Rattle.ds_timers.specs.Timing.{counter_of, overflow_of, timer_at, time
 ghost use Rattle.ds_ports.specs.Acting.{any_armed, is_armed};
 ghost use Rattle.ds_ports.specs.Happenings.{IsProcessorIo};
 ghost use Rattle.ds_ports.specs.Inside.{own_written};
-ghost use Rattle.ds_ports.specs.Io.{comes_before};
+ghost use Rattle.ds_ports.specs.Io.{channel_comes_before};
 ghost use Rattle.ds_ports.specs.ProcessorIo.{before_move, control_written, dma_written, extkeyin_word, haltcnt_written, ie_written, if_written, ime_written, interrupts_of, blocks_processor, keycnt_written, keyinput_word, keys_hold, keys_told, processor_io_at_boot, processor_io_moved, processor_io_put_back, processor_io_raised, processor_io_triggered, reload_written};
 ghost use Rattle.ds_ports.specs.Registers.{meaning_of};
 
@@ -227,7 +227,8 @@ impl ProcessorIo {
         requires which { which < 4 }
         requires due { IsSome (timer_due (timer_at self.old.timers which)) }
         requires early { IsEarly (timer_due (timer_at self.old.timers which)) }
-        ensures { self.new ≡ processor_io_raised (record self.old { timers = (overflow_of self.old.timers which).timers }) (overflow_of self.old.timers which).bits }
+        ensures { self.new ≡ processor_io_raised (record self.old { timers = (overflow_of self.old.timers which).timers })
+            (overflow_of self.old.timers which).bits }
     {
         let bits = self.timers.overflow(which);
         self.irq.raise(bits);
@@ -415,7 +416,8 @@ impl ProcessorIo {
     #[tactic(auto, using(crate::proofs::Dues::first_channel))]
     pub fn first_channel(&self, rank: u8) -> Option<Due>
         requires { rank < 2 ^ 6 }
-        ensures { result ≡ first_from rank (channel_due self.now.dma 0 ∷ channel_due self.now.dma 1 ∷ channel_due self.now.dma 2 ∷ channel_due self.now.dma 3 ∷ []) }
+        ensures { result ≡ first_from rank (channel_due self.now.dma 0 ∷ channel_due self.now.dma 1 ∷ channel_due self.now.dma 2
+            ∷ channel_due self.now.dma 3 ∷ []) }
     {
         let due = self.dma.due()?;
         Some(Due {
@@ -426,7 +428,7 @@ impl ProcessorIo {
 
     /// Whether the channel that is due comes before a number of ticks.
     pub fn is_due_before(&self, ticks: u64) -> bool
-        ensures { result ≡ comes_before (dma_due self.now.dma) ticks }
+        ensures { result ≡ channel_comes_before (dma_due self.now.dma) ticks }
     {
         match self.dma.due() {
             Some(due) => due.tick.0 < ticks,

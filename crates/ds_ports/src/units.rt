@@ -160,7 +160,8 @@ impl Units {
         requires { IsEarly (Some now) }
         ensures state { self.new ≡ geometry_swapped now self.old }
         ensures waited { result ≡ self.old.gx.swap_waits }
-        ensures lists { self.old.gx.swap_waits ≡ true → AreListsSince self.old.gx.geometry self.new.gx.geometry.last.vertices self.new.gx.geometry.last.polygons }
+        ensures lists { self.old.gx.swap_waits ≡ true
+            → AreListsSince self.old.gx.geometry self.new.gx.geometry.last.vertices self.new.gx.geometry.last.polygons }
     {
         self.gx.swap(now)
     }

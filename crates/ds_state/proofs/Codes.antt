@@ -9,8 +9,8 @@ use Rattle.byteorder.specs.Numbers.{little_from-cons, little_from-lt, little_num
 use Rattle.std.proofs.lemmas.List.{length-append, length-take-le}
 use Rattle.std.proofs.Math.Seq.{take-append_seam, drop-append_seam}
 use Rattle.std.proofs.lemmas.Bool.{ne_eqb, eqb-false}
-use Rattle.ds_state.specs.Formats.{Code, number, flag, tick, array, signed_word, width, no_tick, tick_number, Fits, spelled}
-use Rattle.ds_state.specs.Reading.{Left, value, flag_of, tick_of, read_code}
+use Rattle.ds_state.specs.Formats.{Code, number_code, flag_code, tick, array, signed_word, code_width, no_tick, tick_number, Fits, code_bytes}
+use Rattle.ds_state.specs.Reading.{Left, value, flag_of, tick_read, read_code}
 
 -- bytes
 abbrev pub AreBytes : List ℕ → Type 0
@@ -45,9 +45,9 @@ bytes_again (suc n) (b ∷ bs) h le =
     let low : (b + 256 * y) % 256 ≡ b = let lt = h 0 in omega arith in
     rw (whole, low, bytes_up n 0 b y (h 0), bytes_again n bs (λ i. h (suc i)) (omega (arith, le))) refl
 
-pub length_spelled : {V : Type 0} (c : Code V) (v : V) → Fits c v → length (spelled c v) ≡ width c
-length_spelled (number n) v h = length-bytes_low_first 0 n v
-length_spelled flag v h = refl
+pub length_spelled : {V : Type 0} (c : Code V) (v : V) → Fits c v → length (code_bytes c v) ≡ code_width c
+length_spelled (number_code n) v h = length-bytes_low_first 0 n v
+length_spelled flag_code v h = refl
 length_spelled tick v h = refl
 length_spelled (array n) v h = h
 length_spelled signed_word v h = refl
@@ -65,7 +65,7 @@ tick_fits : (v : Option ℕ) → Fits tick v → tick_number v < 256 ^ 8
 tick_fits None h = omega arith
 tick_fits (Some t) h = omega (arith, h)
 
-tick_back : (v : Option ℕ) → Fits tick v → tick_of (tick_number v) ≡ v
+tick_back : (v : Option ℕ) → Fits tick v → tick_read (tick_number v) ≡ v
 tick_back None h = refl
 tick_back (Some t) h =
     let e : (t == no_tick) ≡ false = ne_eqb t no_tick (λ same. omega (arith, h, same)) in
@@ -82,22 +82,22 @@ signed_fits : (n : ℕ) → n < 2 ^ 32 → FitsSigned w32 (cast_signed w32 n)
 signed_fits n lt = search rules
 
 -- where a value's spelling stands, the value is read
-value_back : {V : Type 0} (c : Code V) (v : V) (rest : List ℕ) → Fits c v → value c (spelled c v ++ rest) ≡ Some v
-value_back (number n) v rest h = ap (λ (x : ℕ). Some x) (little_number-reads_back n v rest h)
-value_back flag true rest h = ap flag_of (little_number-reads_back 1 1 rest (omega arith))
-value_back flag false rest h = ap flag_of (little_number-reads_back 1 0 rest (omega arith))
-value_back tick v rest h = ap (λ (x : Option ℕ). Some x) (ap tick_of (little_number-reads_back 8 (tick_number v) rest (tick_fits v h)) ∙ tick_back v h)
+value_back : {V : Type 0} (c : Code V) (v : V) (rest : List ℕ) → Fits c v → value c (code_bytes c v ++ rest) ≡ Some v
+value_back (number_code n) v rest h = ap (λ (x : ℕ). Some x) (little_number-reads_back n v rest h)
+value_back flag_code true rest h = ap flag_of (little_number-reads_back 1 1 rest (omega arith))
+value_back flag_code false rest h = ap flag_of (little_number-reads_back 1 0 rest (omega arith))
+value_back tick v rest h = ap (λ (x : Option ℕ). Some x) (ap tick_read (little_number-reads_back 8 (tick_number v) rest (tick_fits v h)) ∙ tick_back v h)
 value_back (array n) v rest h = ap (λ (x : List ℕ). Some x) (ap (λ (k : ℕ). take k (v ++ rest)) (sym h) ∙ take-append_seam v rest)
 value_back signed_word v rest h = ap (λ (x : ℤ). Some x) (ap (cast_signed w32) (little_number-reads_back 4 (cast_unsigned w32 v) rest (cast_fits v h)) ∙ to_z-of_z h)
 
 pub code_back : {V : Type 0} (c : Code V) (v : V) (place : ℕ) (rest : List ℕ) → Fits c v
-    → read_code c (left place (spelled c v ++ rest)) ≡ Ok (v, left (place + length (spelled c v)) rest)
+    → read_code c (left place (code_bytes c v ++ rest)) ≡ Ok (v, left (place + length (code_bytes c v)) rest)
 unfolding read_code
 code_back c v place rest h =
-    let e : length (spelled c v) ≡ width c = length_spelled c v h in
-    let long : nat_lt (length (spelled c v ++ rest)) (width c) ≡ false = not_short (length (spelled c v ++ rest)) (width c) (rw (length-append (spelled c v) rest, e) (omega arith)) in
-    let back : value c (spelled c v ++ rest) ≡ Some v = value_back c v rest h in
-    let moved : drop (width c) (spelled c v ++ rest) ≡ rest = ap (λ (k : ℕ). drop k (spelled c v ++ rest)) (sym e) ∙ drop-append_seam (spelled c v) rest in
+    let e : length (code_bytes c v) ≡ code_width c = length_spelled c v h in
+    let long : nat_lt (length (code_bytes c v ++ rest)) (code_width c) ≡ false = not_short (length (code_bytes c v ++ rest)) (code_width c) (rw (length-append (code_bytes c v) rest, e) (omega arith)) in
+    let back : value c (code_bytes c v ++ rest) ≡ Some v = value_back c v rest h in
+    let moved : drop (code_width c) (code_bytes c v ++ rest) ≡ rest = ap (λ (k : ℕ). drop k (code_bytes c v ++ rest)) (sym e) ∙ drop-append_seam (code_bytes c v) rest in
     rw (long, back, moved, e) refl
 
 some_inj : {V : Type 0} {a b : V} → Some a ≡ Some b → a ≡ b
@@ -122,13 +122,13 @@ tick_fitted n true h lt = tt
 tick_fitted n false h lt = let ne : n ≡ no_tick → ⊥ = eqb-false n no_tick h in omega (arith, ne, lt)
 
 -- what is read is spelled so
-pub code_spells : {V : Type 0} (c : Code V) (bytes : List ℕ) (v : V) → AreBytes bytes → width c ≤ length bytes → value c bytes ≡ Some v
-    → (spelled c v ≡ take (width c) bytes) × Fits c v
-code_spells (number n) bytes v are le h = (ap (little_bytes n) (sym (some_inj h)) ∙ bytes_again n bytes are le, subst (λ (x : ℕ). x < 256 ^ n) (some_inj h) (little_from-lt 0 n bytes are))
-code_spells flag bytes v are le h = (ap (little_bytes 1) (flag_spells (little_number 1 bytes) v h) ∙ bytes_again 1 bytes are le, tt)
+pub code_spells : {V : Type 0} (c : Code V) (bytes : List ℕ) (v : V) → AreBytes bytes → code_width c ≤ length bytes → value c bytes ≡ Some v
+    → (code_bytes c v ≡ take (code_width c) bytes) × Fits c v
+code_spells (number_code n) bytes v are le h = (ap (little_bytes n) (sym (some_inj h)) ∙ bytes_again n bytes are le, subst (λ (x : ℕ). x < 256 ^ n) (some_inj h) (little_from-lt 0 n bytes are))
+code_spells flag_code bytes v are le h = (ap (little_bytes 1) (flag_spells (little_number 1 bytes) v h) ∙ bytes_again 1 bytes are le, tt)
 code_spells tick bytes v are le h =
     let n = little_number 8 bytes in
-    let e : tick_of n ≡ v = some_inj h in (
+    let e : tick_read n ≡ v = some_inj h in (
       ap (little_bytes 8) (ap tick_number (sym e) ∙ tick_spells n (n == no_tick) refl) ∙ bytes_again 8 bytes are le,
       subst (Fits tick) e (tick_fitted n (n == no_tick) refl (little_from-lt 0 8 bytes are)),
     )

@@ -3,15 +3,15 @@ use Rattle.std.proofs.Common.{◌≡◌, ℕ, suc, ◌+◌, ◌-◌, ◌<◌, �
 use Rattle.std.proofs.lemmas.List.{append-nil}
 use Rattle.ds_state.specs.declared.unpacker.Unpacked.{Unpacked}
 use Rattle.ds_state.specs.declared.unpacker.Unpacked.TheVariants.{NoMemory, Bad}
-use Rattle.ds_state.specs.Reading.{Left, Read, ◌>>=◌, read_list, FailsIn}
+use Rattle.ds_state.specs.Reading.{Left, ReadAnswer, ◌>>=◌, read_list, FailsIn}
 use Rattle.ds_state.specs.Loops.{with_front}
 
-front_more : {T : Type 0} (front : List T) (x : T) (r : Read (List T)) → with_front front (r >>= (λ q. Ok (x ∷ q.0, q.1))) ≡ with_front (front ++ x ∷ []) r
+front_more : {T : Type 0} (front : List T) (x : T) (r : ReadAnswer (List T)) → with_front front (r >>= (λ q. Ok (x ∷ q.0, q.1))) ≡ with_front (front ++ x ∷ []) r
 front_more {T = T} front x (Ok q) = ap (λ (ns : List T). Ok (ns, q.1)) (simp append_assoc)
 front_more front x (Err e) = refl
 
 -- one more is read
-pub goes_on : {T : Type 0} (reader : Left → Read T) (front : List T) (count i : ℕ) (l : Left) (x : T) (after : Left) (total : Read (List T)) → i < count → reader l ≡ Ok (x, after)
+pub goes_on : {T : Type 0} (reader : Left → ReadAnswer T) (front : List T) (count i : ℕ) (l : Left) (x : T) (after : Left) (total : ReadAnswer (List T)) → i < count → reader l ≡ Ok (x, after)
     → with_front front (read_list reader (count - i) l) ≡ total → with_front (front ++ x ∷ []) (read_list reader (count - (i + 1)) after) ≡ total
 goes_on reader front count i l x after total lt h so_far =
     let k : count - i ≡ suc (count - (i + 1)) = omega arith in
@@ -19,7 +19,7 @@ goes_on reader front count i l x after total lt h so_far =
     sym one ∙ so_far
 
 -- one isn't read
-pub ends : {T : Type 0} (e : Unpacked) (reader : Left → Read T) (front : List T) (count i : ℕ) (l : Left) (total : Read (List T)) → i < count → FailsIn e (reader l)
+pub ends : {T : Type 0} (e : Unpacked) (reader : Left → ReadAnswer T) (front : List T) (count i : ℕ) (l : Left) (total : ReadAnswer (List T)) → i < count → FailsIn e (reader l)
     → with_front front (read_list reader (count - i) l) ≡ total → FailsIn e total
 ends NoMemory reader front count i l total lt h so_far = tt
 ends (Bad o) reader front count i l total lt h so_far =
@@ -28,7 +28,7 @@ ends (Bad o) reader front count i l total lt h so_far =
     sym so_far ∙ one
 
 -- all are read
-pub is_done : {T : Type 0} (reader : Left → Read T) (front : List T) (count i : ℕ) (l : Left) (total : Read (List T)) → count ≤ i → with_front front (read_list reader (count - i) l) ≡ total → total ≡ Ok (front, l)
+pub is_done : {T : Type 0} (reader : Left → ReadAnswer T) (front : List T) (count i : ℕ) (l : Left) (total : ReadAnswer (List T)) → count ≤ i → with_front front (read_list reader (count - i) l) ≡ total → total ≡ Ok (front, l)
 is_done {T = T} reader front count i l total le so_far =
     let k : count - i ≡ 0 = omega arith in
     let one : with_front front (read_list reader (count - i) l) ≡ Ok (front, l) = rw k (ap (λ (ns : List T). Ok (ns, l)) (append-nil front)) in

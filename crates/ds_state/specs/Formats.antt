@@ -6,22 +6,22 @@ use Rattle.byteorder.specs.Endian.{little_bytes}
 -- how one field stands in bytes: a number of so many bytes, a flag in one byte, a tick in eight with all bits 1 for none, or so many bytes
 -- as they are
 pub data Code : Type 0 → Type 1 where
-  number : ℕ → Code ℕ
-  flag : Code Bool
+  number_code : ℕ → Code ℕ
+  flag_code : Code Bool
   tick : Code (Option ℕ)
   array : ℕ → Code (List ℕ)
   signed_word : Code ℤ
 
-abbrev pub width : {V : Type 0} → Code V → ℕ
-width (number n) = n
-width flag = 1
-width tick = 8
-width (array n) = n
-width signed_word = 4
+abbrev pub code_width : {V : Type 0} → Code V → ℕ
+code_width (number_code n) = n
+code_width flag_code = 1
+code_width tick = 8
+code_width (array n) = n
+code_width signed_word = 4
 
 -- how many bytes a number may have
-abbrev pub IsWidth : ℕ → Type 0
-IsWidth bytes = (bytes ≡ 1) ⊎ ((bytes ≡ 2) ⊎ ((bytes ≡ 4) ⊎ (bytes ≡ 8)))
+abbrev pub IsCodeWidth : ℕ → Type 0
+IsCodeWidth bytes = (bytes ≡ 1) ⊎ ((bytes ≡ 2) ⊎ ((bytes ≡ 4) ⊎ (bytes ≡ 8)))
 
 abbrev pub no_tick : ℕ
 no_tick = 2 ^ 64 - 1
@@ -30,17 +30,17 @@ abbrev pub tick_number : Option ℕ → ℕ
 tick_number None = no_tick
 tick_number (Some t) = t
 
-abbrev pub spelled : {V : Type 0} → Code V → V → List ℕ
-spelled (number n) v = little_bytes n v
-spelled flag v = little_bytes 1 (if v then 1 else 0)
-spelled tick v = little_bytes 8 (tick_number v)
-spelled (array n) v = v
-spelled signed_word v = little_bytes 4 (cast_unsigned w32 v)
+abbrev pub code_bytes : {V : Type 0} → Code V → V → List ℕ
+code_bytes (number_code n) v = little_bytes n v
+code_bytes flag_code v = little_bytes 1 (if v then 1 else 0)
+code_bytes tick v = little_bytes 8 (tick_number v)
+code_bytes (array n) v = v
+code_bytes signed_word v = little_bytes 4 (cast_unsigned w32 v)
 
 -- the values that have a spelling
 abbrev pub Fits : {V : Type 0} → Code V → V → Type 0
-Fits (number n) v = v < 256 ^ n
-Fits flag v = Unit {0}
+Fits (number_code n) v = v < 256 ^ n
+Fits flag_code v = Unit {0}
 Fits tick None = Unit {0}
 Fits tick (Some t) = t < no_tick
 Fits (array n) v = length v ≡ n
@@ -50,8 +50,8 @@ Fits signed_word v = FitsSigned w32 v
 -- comes after its value. The rule looks at the tick, too. A part is a format of its own, and a list so many of them.
 pub data Format : Type 0 → Type 0 → Type 1 where
   done : {S A : Type 0} → A → Format S A
-  field : {S A V : Type 0} → Code V → (S → V) → (ℕ → V → Bool) → (V → Format S A) → Format S A
-  part : {S A T : Type 0} → Format T T → (S → T) → (T → Format S A) → Format S A
+  then_field : {S A V : Type 0} → Code V → (S → V) → (ℕ → V → Bool) → (V → Format S A) → Format S A
+  then_part : {S A T : Type 0} → Format T T → (S → T) → (T → Format S A) → Format S A
   list : {S A T : Type 0} → ℕ → Format T T → (S → List T) → (List T → Format S A) → Format S A
 
 -- the bytes of a state
@@ -61,8 +61,8 @@ bytes_each bytes (t ∷ ts) = bytes t ++ bytes_each bytes ts
 
 abbrev pub bytes_of : {S A : Type 0} → Format S A → S → List ℕ
 bytes_of (done a) s = []
-bytes_of (field c get rule next) s = spelled c (get s) ++ bytes_of (next (get s)) s
-bytes_of (part f get next) s = bytes_of f (get s) ++ bytes_of (next (get s)) s
+bytes_of (then_field c get rule next) s = code_bytes c (get s) ++ bytes_of (next (get s)) s
+bytes_of (then_part f get next) s = bytes_of f (get s) ++ bytes_of (next (get s)) s
 bytes_of (list n f get next) s = bytes_each (bytes_of f) (get s) ++ bytes_of (next (get s)) s
 
 -- the same after others, as they are put
@@ -70,25 +70,25 @@ abbrev pub written_each : {T : Type 0} → (List ℕ → T → List ℕ) → Lis
 written_each write before [] = before
 written_each write before (t ∷ ts) = written_each write (write before t) ts
 
-abbrev pub written : {S A : Type 0} → Format S A → List ℕ → S → List ℕ
-written (done a) before s = before
-written (field c get rule next) before s = written (next (get s)) (before ++ spelled c (get s)) s
-written (part f get next) before s = written (next (get s)) (written f before (get s)) s
-written (list n f get next) before s = written (next (get s)) (written_each (written f) before (get s)) s
+abbrev pub bytes_written : {S A : Type 0} → Format S A → List ℕ → S → List ℕ
+bytes_written (done a) before s = before
+bytes_written (then_field c get rule next) before s = bytes_written (next (get s)) (before ++ code_bytes c (get s)) s
+bytes_written (then_part f get next) before s = bytes_written (next (get s)) (bytes_written f before (get s)) s
+bytes_written (list n f get next) before s = bytes_written (next (get s)) (written_each (bytes_written f) before (get s)) s
 
 -- one format after another
 infixl 10 ◌>>=◌
 abbrev pub ◌>>=◌ : {S A B : Type 0} → Format S A → (A → Format S B) → Format S B
 (done a) >>= k = k a
-(field c get rule next) >>= k = field c get rule (λ v. next v >>= k)
-(part f get next) >>= k = part f get (λ t. next t >>= k)
+(then_field c get rule next) >>= k = then_field c get rule (λ v. next v >>= k)
+(then_part f get next) >>= k = then_part f get (λ t. next t >>= k)
 (list n f get next) >>= k = list n f get (λ ts. next ts >>= k)
 
-abbrev pub one : {S V : Type 0} → Code V → (S → V) → (ℕ → V → Bool) → Format S V
-one c get rule = field c get rule (λ v. done v)
+abbrev pub one_field : {S V : Type 0} → Code V → (S → V) → (ℕ → V → Bool) → Format S V
+one_field c get rule = then_field c get rule (λ v. done v)
 
 abbrev pub its : {S T : Type 0} → Format T T → (S → T) → Format S T
-its f get = part f get (λ t. done t)
+its f get = then_part f get (λ t. done t)
 
 abbrev pub each : {S T : Type 0} → ℕ → Format T T → (S → List T) → Format S (List T)
 each n f get = list n f get (λ ts. done ts)
@@ -97,8 +97,8 @@ each n f get = list n f get (λ ts. done ts)
 abbrev pub any : {V : Type 0} → ℕ → V → Bool
 any at v = true
 
-abbrev pub kept : ℕ → ℕ → ℕ → Bool
-kept mask at v = bit_and v mask == v
+abbrev pub keeps_mask : ℕ → ℕ → ℕ → Bool
+keeps_mask mask at v = bit_and v mask == v
 
 abbrev pub at_most : ℕ → ℕ → ℕ → Bool
 at_most n at v = nat_le v n
@@ -110,4 +110,4 @@ soon at (Some due) = nat_le at due && nat_le due (at + 2 ^ 32)
 
 -- a word as a part of its own
 abbrev pub word_format : Format ℕ ℕ
-word_format = one (number 4) (λ w. w) any
+word_format = one_field (number_code 4) (λ w. w) any

@@ -2,7 +2,7 @@
 
 ghost use Rattle.std.specs.Prelude.{◌≡◌, ◌≤◌, ◌<◌, ◌^◌, ◌++◌, if◌then◌else◌, OnOk, OnErr, []};
 ghost use Rattle.byteorder.specs.Endian.{little_bytes};
-ghost use Rattle.ds_state.specs.Formats.{IsWidth, tick_number};
+ghost use Rattle.ds_state.specs.Formats.{IsCodeWidth, tick_number};
 
 use byteorder::{ByteOrder, LittleEndian};
 use std::alloc::{AllocError, Global};
@@ -34,7 +34,7 @@ impl Packer {
 
     /// Puts a number in 1, 2, 4 or 8 bytes, the lowest first.
     pub fn put(&mut self, value: u64, bytes: u8) -> Result<(), AllocError>
-        requires width { IsWidth bytes }
+        requires width { IsCodeWidth bytes }
         requires fits { value < 256 ^ bytes }
         ensures ok { OnOk result (self.new ≡ self.old ++ little_bytes bytes value) }
         ensures err { OnErr result (self.new ≡ self.old) }

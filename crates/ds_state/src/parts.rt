@@ -2,7 +2,7 @@
 
 ghost use Rattle.std.specs.Prelude.{◌≡◌, ℕ, List, length, map, IfOk, OnOk};
 ghost use Rattle.ds_state.specs.Formats.{written_each};
-ghost use Rattle.ds_state.specs.Reading.{Left, Read, GivesIn, read_list};
+ghost use Rattle.ds_state.specs.Reading.{Left, ReadAnswer, GivesIn, read_list};
 
 use crate::packer::Packer;
 use crate::unpacker::{Unpacked, Unpacker};
@@ -14,7 +14,7 @@ pub trait Part: Sized + Drop {
 
     ghost state: { Self → State };
 
-    ghost reader: { ℕ → Left → Read State };
+    ghost reader: { ℕ → Left → ReadAnswer State };
 
     ghost writer: { List ℕ → State → List ℕ };
 

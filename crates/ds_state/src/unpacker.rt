@@ -2,8 +2,8 @@
 
 ghost use Rattle.std.specs.Prelude.{◌≡◌, ◌≤◌, ◌<◌, ◌^◌, length, IfOk, false, if◌then◌else◌, Ok, Err};
 ghost use Rattle.ds_state.specs.declared.unpacker.Unpacked.TheVariants.{NoMemory, Bad};
-ghost use Rattle.ds_state.specs.Formats.{IsWidth, number, flag, tick, array, signed_word, any, kept, at_most, soon};
-ghost use Rattle.ds_state.specs.Reading.{Gives, GivesIn, GivesSome, GivesTrue, read_code, ruled};
+ghost use Rattle.ds_state.specs.Formats.{IsCodeWidth, number_code, flag_code, tick, array, signed_word, any, keeps_mask, at_most, soon};
+ghost use Rattle.ds_state.specs.Reading.{GivesRead, GivesIn, GivesSome, GivesTrue, read_code, ruled};
 
 use byteorder::{ByteOrder, LittleEndian};
 use std::alloc::{AllocError, AllocFailed, Global};
@@ -70,8 +70,8 @@ impl<'a> Unpacker<'a> {
     /// Takes a number of 1, 2, 4 or 8 bytes, the lowest first; None exactly where fewer are left, and then it takes nothing.
     #[tactic(auto, unfolding(crate::specs::Reading::read_code))]
     pub fn take(&mut self, bytes: u8) -> Option<u64>
-        requires { IsWidth bytes }
-        ensures { GivesSome result self.old self.new (read_code (number bytes) self.old) }
+        requires { IsCodeWidth bytes }
+        ensures { GivesSome result self.old self.new (read_code (number_code bytes) self.old) }
     {
         let count = bytes as usize;
         if self.rest.len() < count {
@@ -104,7 +104,7 @@ impl<'a> Unpacker<'a> {
     /// Takes a signed number of four bytes. The error is where a field begins that isn't whole or breaks its rule; so with each call below.
     #[tactic(auto, unfolding(crate::specs::Reading::read_code))]
     pub fn take_i32(&mut self) -> Result<i32, Unpacked>
-        ensures { Gives (λ x. x) result self.new (read_code signed_word self.old) }
+        ensures { GivesRead (λ x. x) result self.new (read_code signed_word self.old) }
     {
         Ok(self.take_u32()?.cast_signed())
     }
@@ -119,7 +119,7 @@ impl<'a> Unpacker<'a> {
     /// Takes a byte.
     #[tactic(auto, unfolding(crate::specs::Reading::read_code))]
     pub fn take_u8(&mut self) -> Result<u8, Unpacked>
-        ensures { Gives (λ x. x) result self.new (read_code (number 1) self.old) }
+        ensures { GivesRead (λ x. x) result self.new (read_code (number_code 1) self.old) }
     {
         let offset = self.place;
         if self.rest.len() < 1 {
@@ -134,7 +134,7 @@ impl<'a> Unpacker<'a> {
     /// Takes a number of two bytes.
     #[tactic(auto, unfolding(crate::specs::Reading::read_code))]
     pub fn take_u16(&mut self) -> Result<u16, Unpacked>
-        ensures { Gives (λ x. x) result self.new (read_code (number 2) self.old) }
+        ensures { GivesRead (λ x. x) result self.new (read_code (number_code 2) self.old) }
     {
         let offset = self.place;
         if self.rest.len() < 2 {
@@ -149,7 +149,7 @@ impl<'a> Unpacker<'a> {
     /// Takes a number of eight bytes.
     #[tactic(auto, unfolding(crate::specs::Reading::read_code))]
     pub fn take_u64(&mut self) -> Result<u64, Unpacked>
-        ensures { Gives (λ x. x) result self.new (read_code (number 8) self.old) }
+        ensures { GivesRead (λ x. x) result self.new (read_code (number_code 8) self.old) }
     {
         let offset = self.place;
         if self.rest.len() < 8 {
@@ -164,7 +164,7 @@ impl<'a> Unpacker<'a> {
     /// Takes a number of four bytes.
     #[tactic(auto, unfolding(crate::specs::Reading::read_code))]
     pub fn take_u32(&mut self) -> Result<u32, Unpacked>
-        ensures { Gives (λ x. x) result self.new (read_code (number 4) self.old) }
+        ensures { GivesRead (λ x. x) result self.new (read_code (number_code 4) self.old) }
     {
         let offset = self.place;
         if self.rest.len() < 4 {
@@ -179,7 +179,7 @@ impl<'a> Unpacker<'a> {
     /// Takes a byte that is 0 or 1.
     #[tactic(auto, unfolding(crate::specs::Reading::read_code))]
     pub fn take_flag(&mut self) -> Result<bool, Unpacked>
-        ensures { Gives (λ x. x) result self.new (read_code flag self.old) }
+        ensures { GivesRead (λ x. x) result self.new (read_code flag_code self.old) }
     {
         let offset = self.place;
         match self.take_u8()? {
@@ -192,7 +192,7 @@ impl<'a> Unpacker<'a> {
     /// Takes a tick of eight bytes, None where all bits are 1.
     #[tactic(auto, unfolding(crate::specs::Reading::read_code))]
     pub fn take_tick(&mut self) -> Result<Option<u64>, Unpacked>
-        ensures { Gives (λ x. x) result self.new (read_code tick self.old) }
+        ensures { GivesRead (λ x. x) result self.new (read_code tick self.old) }
     {
         let number = self.take_u64()?;
         Ok(if number == u64::MAX {
@@ -204,7 +204,7 @@ impl<'a> Unpacker<'a> {
 
     /// Takes the due tick of a state at a tick: none, or from that tick on to 2^32 ticks after it.
     pub fn take_due(&mut self, at: u64) -> Result<Option<u64>, Unpacked>
-        ensures { Gives (λ x. x) result self.new (ruled (soon at) self.old (read_code tick self.old)) }
+        ensures { GivesRead (λ x. x) result self.new (ruled (soon at) self.old (read_code tick self.old)) }
     {
         let offset = self.place();
         let due = self.take_tick()?;
@@ -235,7 +235,7 @@ impl<'a> Unpacker<'a> {
 
     /// Takes a byte that is no more than a number.
     pub fn take_at_most(&mut self, most: u8) -> Result<u8, Unpacked>
-        ensures reads { Gives (λ x. x) result self.new (ruled (at_most most 0) self.old (read_code (number 1) self.old)) }
+        ensures reads { GivesRead (λ x. x) result self.new (ruled (at_most most 0) self.old (read_code (number_code 1) self.old)) }
         ensures most { IfOk result (λ x. x ≤ most) }
     {
         let offset = self.place;
@@ -246,7 +246,7 @@ impl<'a> Unpacker<'a> {
 
     /// Takes a half that has no bits but these.
     pub fn take_kept_half(&mut self, mask: u16) -> Result<u16, Unpacked>
-        ensures { Gives (λ x. x) result self.new (ruled (kept mask 0) self.old (read_code (number 2) self.old)) }
+        ensures { GivesRead (λ x. x) result self.new (ruled (keeps_mask mask 0) self.old (read_code (number_code 2) self.old)) }
     {
         let offset = self.place;
         let value = self.take_u16()?;
@@ -256,7 +256,7 @@ impl<'a> Unpacker<'a> {
 
     /// Takes a byte that has no bits but these.
     pub fn take_kept(&mut self, mask: u8) -> Result<u8, Unpacked>
-        ensures { Gives (λ x. x) result self.new (ruled (kept mask 0) self.old (read_code (number 1) self.old)) }
+        ensures { GivesRead (λ x. x) result self.new (ruled (keeps_mask mask 0) self.old (read_code (number_code 1) self.old)) }
     {
         let offset = self.place;
         let value = self.take_u8()?;

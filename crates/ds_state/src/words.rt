@@ -7,17 +7,17 @@ use std::alloc::{AllocError, Global};
 
 impl Part for u32 {
     ghost use Rattle.std.specs.Prelude.{ℕ};
-    ghost use Rattle.ds_state.specs.Formats.{written};
-    ghost use Rattle.ds_state.specs.Reading.{read};
+    ghost use Rattle.ds_state.specs.Formats.{bytes_written};
+    ghost use Rattle.ds_state.specs.Reading.{read_format};
     ghost use Rattle.ds_state.specs.Formats.{word_format};
 
     ghost State = { ℕ };
 
     ghost state = { λ w. w };
 
-    ghost reader = { read word_format };
+    ghost reader = { read_format word_format };
 
-    ghost writer = { written word_format };
+    ghost writer = { bytes_written word_format };
 
     fn put(&self, into: &mut Packer) -> Result<(), AllocError> {
         into.put_u32(*self)

@@ -64,6 +64,8 @@ RefusesScript files rose name (BadScript line column) = (text : List ℕ) × IsF
 RefusesScript files rose name other = Refuses files rose name most_script other
 
 -- when each refusal of a run's files comes, and of which file it speaks: of the cartridge; or, where that is accepted, of the key script
-pub data RefusesRun (files : Option (List Named)) (rose : Type 0) (cart : List ℕ) (keys : Option (List ℕ)) (status : Status) (named : List ℕ) : Type 0 where
+pub data RefusesRun (files : Option (List Named)) (rose : Type 0) (cart : List ℕ) (keys : Option (List ℕ)) (status : Status)
+    (named : List ℕ) : Type 0 where
   cartridge : RefusesCart files rose cart status → named ≡ cart → RefusesRun files rose cart keys status named
-  script : (file : List ℕ) → IsCart files cart file → keys ≡ Some named → RefusesScript files rose named status → RefusesRun files rose cart keys status named
+  script : (file : List ℕ) → IsCart files cart file → keys ≡ Some named → RefusesScript files rose named status
+      → RefusesRun files rose cart keys status named

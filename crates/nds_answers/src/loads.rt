@@ -103,7 +103,9 @@ pub fn load_run<'a, F: Shelf>(
 ) -> Result<(Cart, Keys), Ended<'a>>
     ensures cart { IfOk result (λ both. IsCart (files_of (F.told shelf.old)) cart.entry.now both.0) }
     ensures keys { IfOk result (λ both. AreKeys (files_of (F.told shelf.old)) (option_map (λ name. name.now) keys.entry) both.1) }
-    ensures err { IfErr result (λ ended. RefusesRun (files_of (F.told shelf.old)) (Rose (F.faults shelf.old) (F.faults shelf.new)) cart.entry.now (option_map (λ name. name.now) keys.entry) ended.status ended.file.now) }
+    ensures err { IfErr result
+        (λ ended. RefusesRun (files_of (F.told shelf.old)) (Rose (F.faults shelf.old) (F.faults shelf.new)) cart.entry.now
+        (option_map (λ name. name.now) keys.entry) ended.status ended.file.now) }
     ensures files { files_of (F.told shelf.new) ≡ files_of (F.told shelf.old) }
 {
     let file = match load_cart(alloc, shelf, cart) {

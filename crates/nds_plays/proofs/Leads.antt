@@ -10,7 +10,7 @@ use Rattle.ds_runs.proofs.RunLaws.{not_both, same_makes}
 use Rattle.ds_machine.specs.Acting.{acting_dues}
 use Rattle.ds_machine.specs.Lagging.{CatchesUp, CatchesUpIf, ComesBeforeAll, TakesGeometry, observes_by}
 use Rattle.ds_machine.specs.Lagging as lagging
-use Rattle.ds_machine.specs.Observed.{seen_of}
+use Rattle.ds_machine.specs.Inspections.{seen_of}
 use Rattle.ds_machine.specs.Reference.{Shown, dues_of, processor_due, reference, reference_step}
 use Rattle.ds_machine.specs.Sound.{IsSound}
 use Rattle.ds_machine.specs.States.{MachineState}
@@ -23,32 +23,32 @@ use Rattle.ds_machine.proofs.SameTick.{CrossesGeometry, StopsAfterGeometry, Wait
 use Rattle.run_ahead.proofs.StepTurns.{before_all}
 use Rattle.run_ahead.proofs.TickTurns.{acts_at_it}
 use Rattle.nds_plays.specs.TraceParts.{IsLineDue, TakesTick}
-use Rattle.nds_plays.specs.Watches.{line_of, lines_of, rank_of, seen_line}
+use Rattle.nds_plays.specs.Watches.{step_lines, run_lines, processor_rank, seen_line}
 use Rattle.ds_machine.proofs.SeenSame.{seen_same}
 
 -- What a turn of one tick says of the lines of a run: a run from after it goes on from before it, with the line of the turn's step first.
 
 -- ---- lines
 
-no_match : (proc : Proc) (rank : ℕ) → rank < 22 → nat_eq rank (rank_of proc) ≡ false
+no_match : (proc : Proc) (rank : ℕ) → rank < 22 → nat_eq rank (processor_rank proc) ≡ false
 no_match Nine rank lt = grind (arith, lt)
 no_match Seven rank lt = grind (arith, lt)
 
 -- no actor but a processor has any
-no_line : (proc : Proc) (rank : ℕ) (tick : Tick) (s : MachineState) → rank < 22 → line_of proc rank tick s ≡ []
+no_line : (proc : Proc) (rank : ℕ) (tick : Tick) (s : MachineState) → rank < 22 → step_lines proc rank tick s ≡ []
 no_line proc rank tick s lt = ap (λ (b : Bool). if b then seen_line proc tick.0 (seen_of s proc) ∷ [] else []) (no_match proc rank lt)
 
 same_rank : (rank other : ℕ) → nat_eq rank other ≡ true → rank ≡ other
 same_rank rank other h = grind (arith, h)
 
-due_by_rank : (s : MachineState) (proc : Proc) (rank : ℕ) (tick : Tick) → due_at (acting_dues s) rank ≡ Some tick → nat_eq rank (rank_of proc) ≡ true → processor_due s proc ≡ Some tick
+due_by_rank : (s : MachineState) (proc : Proc) (rank : ℕ) (tick : Tick) → due_at (acting_dues s) rank ≡ Some tick → nat_eq rank (processor_rank proc) ≡ true → processor_due s proc ≡ Some tick
 due_by_rank s Nine rank tick acts is = sym (acting_processor s Nine) ∙ ap (due_at (acting_dues s)) (sym (same_rank rank 22 is)) ∙ acts
 due_by_rank s Seven rank tick acts is = sym (acting_processor s Seven) ∙ ap (due_at (acting_dues s)) (sym (same_rank rank 23 is)) ∙ acts
 
 -- an actor's line is the same after steps of quiet geometry
-line_same : (proc : Proc) (rank : ℕ) (tick : Tick) (s now : MachineState) → CaughtSo s now → due_at (acting_dues s) rank ≡ Some tick → line_of proc rank tick now ≡ line_of proc rank tick s
-line_same proc rank tick s now so acts = by_match (nat_eq rank (rank_of proc)) refl where
-  by_match : (b : Bool) → nat_eq rank (rank_of proc) ≡ b
+line_same : (proc : Proc) (rank : ℕ) (tick : Tick) (s now : MachineState) → CaughtSo s now → due_at (acting_dues s) rank ≡ Some tick → step_lines proc rank tick now ≡ step_lines proc rank tick s
+line_same proc rank tick s now so acts = by_match (nat_eq rank (processor_rank proc)) refl where
+  by_match : (b : Bool) → nat_eq rank (processor_rank proc) ≡ b
       → (if b then seen_line proc tick.0 (seen_of now proc) ∷ [] else []) ≡ (if b then seen_line proc tick.0 (seen_of s proc) ∷ [] else [])
   by_match true is = ap (λ (seen : Seen). (let lines : List (List ℕ) = seen_line proc tick.0 seen ∷ [] in lines)) (seen_same s now proc tick so (due_by_rank s proc rank tick acts is))
   by_match false is = refl
@@ -58,7 +58,7 @@ line_same proc rank tick s now so acts = by_match (nat_eq rank (rank_of proc)) r
 pub record GoesOnFrom (until : ℕ) (proc : Proc) (start : MachineState) (told : List (List ℕ)) (end : Ending MachineState LeftOut) (now : MachineState) (outs : List Shown) (run : Runs reference until end now outs) : Type 0 where
   pub all : List Shown
   pub whole : Runs reference until end start all
-  pub lines : lines_of proc whole ≡ told ++ lines_of proc run
+  pub lines : run_lines proc whole ≡ told ++ run_lines proc run
 
 -- each run goes on so
 abbrev pub Leads : ℕ → Proc → MachineState → List (List ℕ) → MachineState → Type 0
@@ -74,20 +74,20 @@ leads_twice until proc a b c first second one two end outs run =
     record {
       all = earlier.all;
       whole = earlier.whole;
-      lines = earlier.lines ∙ ap (λ (x : List (List ℕ)). first ++ x) later.lines ∙ sym (append_assoc first second (lines_of proc run));
+      lines = earlier.lines ∙ ap (λ (x : List (List ℕ)). first ++ x) later.lines ∙ sym (append_assoc first second (run_lines proc run));
     }
 
 -- it stops, and has no line
 pub record StopsFrom (until : ℕ) (proc : Proc) (s : MachineState) (stop : LeftOut) : Type 0 where
   pub all : List Shown
   pub whole : Runs reference until (Stopped stop) s all
-  pub lines : lines_of proc whole ≡ []
+  pub lines : run_lines proc whole ≡ []
 
 module _ (until : ℕ) (proc : Proc) where
   -- ---- the step of the least of all
 
   least_leads : (s next : MachineState) (tick : Tick) (rank : ℕ) (outs : List Shown) → IsLeast (dues_of s) tick rank → tick.0 < until → reference_step rank s ≡ Makes next outs
-      → Leads until proc s (line_of proc rank tick s) next
+      → Leads until proc s (step_lines proc rank tick s) next
   least_leads s next tick rank outs least below makes end rest run = record { all = outs ++ rest; whole = more end s next tick rank outs rest least below makes run; lines = refl }
 
   -- geometry's has no line
@@ -96,8 +96,8 @@ module _ (until : ℕ) (proc : Proc) where
       subst (λ (x : List (List ℕ)). Leads until proc s x next) (no_line proc 12 tick s (omega arith)) (least_leads s next tick 12 [] least below makes)
 
   takes_lead : (tick rank : ℕ) (s now : MachineState) → IsSound s → ComesBeforeAll tick rank s → 24 * tick + rank ≤ 24 * until → TakesGeometry tick rank s now → Leads until proc s [] now
-  takes_lead tick rank s now sound before room (lagging.none start) = leads_none until proc start
-  takes_lead tick rank s now sound before room (lagging.more start mid next takes behind makes) =
+  takes_lead tick rank s now sound before room (lagging.no_geometry start) = leads_none until proc start
+  takes_lead tick rank s now sound before room (lagging.more_geometry start mid next takes behind makes) =
       let k = behind_steps tick rank mid (still_before tick rank start mid sound before takes) behind in
       let earlier = k.earlier in
       leads_twice until proc start mid next [] [] (takes_lead tick rank start mid sound before room takes) (geometry_leads mid next k.next k.least (omega (arith, earlier, room)) makes)
@@ -107,7 +107,7 @@ module _ (until : ℕ) (proc : Proc) where
   record Begun (end : Ending MachineState LeftOut) (s next : MachineState) (all : List Shown) (run : Runs reference until end s all) : Type 0 where
     rest : List Shown
     after : Runs reference until end next rest
-    lines : lines_of proc run ≡ lines_of proc after
+    lines : run_lines proc run ≡ run_lines proc after
 
   begun : (end : Ending MachineState LeftOut) (s next : MachineState) (all : List Shown) (due : Tick) → IsLeast (dues_of s) due 12 → due.0 < until → reference_step 12 s ≡ Makes next []
       → (run : Runs reference until end s all) → Begun end s next all run
@@ -120,7 +120,7 @@ module _ (until : ℕ) (proc : Proc) where
       let both = same_makes mid next outs [] (sym (subst (λ (r : ℕ). reference_step r s0 ≡ Makes mid outs) same.1 goes) ∙ makes) in
       let told = no_line proc rank tick s0 (let twelve = same.1 in omega (arith, twelve)) in
       let whole : Runs reference until end₀ s0 (outs ++ rest) = more end₀ s0 mid tick rank outs rest least₁ below₁ goes run in
-      let here : Begun end₀ s0 mid (outs ++ rest) whole = record { rest = rest; after = run; lines = ap (λ (x : List (List ℕ)). x ++ lines_of proc run) told } in
+      let here : Begun end₀ s0 mid (outs ++ rest) whole = record { rest = rest; after = run; lines = ap (λ (x : List (List ℕ)). x ++ run_lines proc run) told } in
       subst (λ (m : MachineState). Begun end₀ s0 m (outs ++ rest) whole) both.0 here
 
   -- ---- the step of the actor that acts
@@ -132,17 +132,17 @@ module _ (until : ℕ) (proc : Proc) where
     waits_lead : (w : WaitsForGeometry s tick rank) → Leads until proc s [] w.late
     waits_lead w = geometry_leads s w.late w.due w.geometry (waits_below w) w.steps
 
-    crosses_lead : (next : MachineState) (outs : List Shown) → CrossesGeometry s next tick rank outs → Leads until proc s (line_of proc rank tick s) next
+    crosses_lead : (next : MachineState) (outs : List Shown) → CrossesGeometry s next tick rank outs → Leads until proc s (step_lines proc rank tick s) next
     crosses_lead next outs c end all run =
         let w = c.waits in
         let k = begun end next c.both all w.due c.still (waits_below w) c.last run in
-        let told = line_of proc rank tick w.late in
+        let told = step_lines proc rank tick w.late in
         let whole = leads_twice until proc s w.late c.both [] told (waits_lead w) (least_leads w.late c.both tick rank outs w.least below c.then) end k.rest k.after in
         record {
           all = whole.all;
           whole = whole.whole;
-          lines = whole.lines ∙ ap (λ (x : List (List ℕ)). x ++ lines_of proc k.after) (line_same proc rank tick s w.late w.so acts)
-              ∙ ap (λ (x : List (List ℕ)). line_of proc rank tick s ++ x) (sym k.lines);
+          lines = whole.lines ∙ ap (λ (x : List (List ℕ)). x ++ run_lines proc k.after) (line_same proc rank tick s w.late w.so acts)
+              ∙ ap (λ (x : List (List ℕ)). step_lines proc rank tick s ++ x) (sym k.lines);
         }
 
     -- it stops
@@ -173,12 +173,12 @@ module _ (until : ℕ) (proc : Proc) where
       caught_leads caught up = takes_lead tick.0 rank s caught sound (comes_first tick rank s least) (place_below s tick rank least.there below_all) up.steps
 
       acting_leads : (b : Bool) → observes_by (actor_of rank) s ≡ b → (caught next : MachineState) (outs : List Shown) → CatchesUpIf b tick.0 rank s caught
-          → reference_step rank caught ≡ Makes next outs → Leads until proc s (line_of proc rank tick s) next
+          → reference_step rank caught ≡ Makes next outs → Leads until proc s (step_lines proc rank tick s) next
       acting_leads true e caught next outs up makes =
           let so = caught_so tick.0 rank s caught sound up.steps in
           let step = least_leads caught next tick rank outs (caught_least tick rank s caught sound least up) below_all makes in
           subst (λ (x : List (List ℕ)). Leads until proc s x next) (line_same proc rank tick s caught so least.there)
-          (leads_twice until proc s caught next [] (line_of proc rank tick caught) (caught_leads caught up) step)
+          (leads_twice until proc s caught next [] (step_lines proc rank tick caught) (caught_leads caught up) step)
       acting_leads false e caught next outs same makes =
           let here = subst (λ (m : MachineState). reference_step rank m ≡ Makes next outs) same makes in
           elim (made_then s tick before.tick before.rank rank sound before.least (at_it tick rank least below) least e next outs here) [
@@ -205,16 +205,16 @@ module _ (until : ℕ) (proc : Proc) where
     none_below tick le = grind (arith, le)
 
     line_is : (line : Option (List ℕ)) → IsLineDue limit proc s line → (tick : Tick) (rank : ℕ) → IsLeast (acting_dues s) tick rank → tick.0 < limit
-        → option_to_list line ≡ line_of proc rank tick s
+        → option_to_list line ≡ step_lines proc rank tick s
     line_is line due tick rank least below =
         let same = least_unique (acting_dues s) due.acting.tick due.acting.rank tick rank due.acts least in
-        due.is ∙ ap (λ (t : Tick). if nat_lt t.0 limit then line_of proc due.acting.rank t s else []) same.0
-        ∙ ap (λ (b : Bool). if b then line_of proc due.acting.rank tick s else []) (below_is tick.0 below)
-        ∙ ap (λ (r : ℕ). line_of proc r tick s) same.1
+        due.is ∙ ap (λ (t : Tick). if nat_lt t.0 limit then step_lines proc due.acting.rank t s else []) same.0
+        ∙ ap (λ (b : Bool). if b then step_lines proc due.acting.rank tick s else []) (below_is tick.0 below)
+        ∙ ap (λ (r : ℕ). step_lines proc r tick s) same.1
 
     none_is : (line : Option (List ℕ)) → IsLineDue limit proc s line → IsOver (acting_dues s) limit → option_to_list line ≡ []
     none_is line due none =
-        due.is ∙ ap (λ (b : Bool). if b then line_of proc due.acting.rank due.acting.tick s else []) (none_below due.acting.tick.0 (none due.acting.rank due.acting.tick due.acts.there))
+        due.is ∙ ap (λ (b : Bool). if b then step_lines proc due.acting.rank due.acting.tick s else []) (none_below due.acting.tick.0 (none due.acting.rank due.acting.tick due.acts.there))
 
     taken_leads : (line : Option (List ℕ)) (next : MachineState) (outs : List Shown) → IsLineDue limit proc s line → TakesActing limit s outs next → Leads until proc s (option_to_list line) next
     taken_leads line next outs due t =

@@ -9,7 +9,7 @@ use Rattle.ds_base.specs.declared.processors.Proc.{Proc}
 use Rattle.ds_base.specs.declared.processors.Proc.TheVariants.{Nine, Seven}
 use Rattle.ds_base.specs.declared.ticks.Tick.{Tick}
 use Rattle.ds_machine.specs.Frames.{WholeFrame, framed_of, last_frame}
-use Rattle.ds_machine.specs.Observed.{memory_of, registers_of}
+use Rattle.ds_machine.specs.Inspections.{memory_of, registers_of}
 use Rattle.ds_machine.specs.States.{MachineState}
 use Rattle.ds_runs.specs.Runs.{At}
 use Rattle.gx_geometry.specs.States.{Swapped}

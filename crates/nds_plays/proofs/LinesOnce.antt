@@ -4,7 +4,7 @@ use Rattle.ds_runs.specs.Runs.{Ending, Makes, Runs, Stops, TickMachine, more, ov
 use Rattle.ds_runs.proofs.Lists.{least_unique}
 use Rattle.ds_runs.proofs.RunLaws.{not_both, same_makes}
 use Rattle.ds_machine.specs.Reference.{reference}
-use Rattle.nds_plays.specs.Watches.{LinesAreOne, line_of, told_of}
+use Rattle.nds_plays.specs.Watches.{LinesAreOne, step_lines, told_of}
 
 -- What is told of a run's steps is one list.
 
@@ -35,4 +35,4 @@ module _ {S O L X : Type 0} (m : TickMachine S O L) (limit : ℕ) (tell : ℕ �
       ∙ ap (λ (x : List X). tell r₂ t₂ s ++ x) later
 
 pub lines_are_one : LinesAreOne
-lines_are_one proc limit s end end₂ outs outs₂ run run₂ = told_once reference limit (line_of proc) s end end₂ outs outs₂ run run₂
+lines_are_one proc limit s end end₂ outs outs₂ run run₂ = told_once reference limit (step_lines proc) s end end₂ outs outs₂ run run₂

@@ -12,8 +12,8 @@ use Rattle.ds_machine.specs.States.{MachineState}
 use Rattle.ds_machine.specs.Sound.{HasSoundParts, IsSound}
 use Rattle.ds_machine.specs.Reference.{Shown, next_shown, reference}
 use Rattle.run_ahead.specs.Consoles.{ConsoleState}
-use Rattle.run_ahead.specs.ToEnd.{TurnsToEnd, at_end, counts, stops}
-use Rattle.run_ahead.specs.Turns.{GoesOn, RanOn, TurnsUpTo, HasTurned, none, turn}
+use Rattle.run_ahead.specs.ToEnd.{TurnsToEnd, at_end, counts, meets_stop}
+use Rattle.run_ahead.specs.Turns.{GoesOn, RanOn, TurnsUpTo, HasTurned, no_turn, one_turn}
 use Rattle.run_ahead.specs.declared.turns.Turned.{Turned}
 use Rattle.run_ahead.specs.declared.turns.Turned.TheVariants as answers
 use Rattle.run_ahead.proofs.RunningOn.{raised_again, turned_twice}
@@ -121,7 +121,7 @@ going_first until start open_ = record {
   on = λ limit le end outs run. run;
   frames = refl;
   lists = refl;
-  turned = none start;
+  turned = no_turn start;
   limit = refl;
   ends = λ end last rest. rest;
 }
@@ -158,7 +158,7 @@ going_shown until start old now outs swapped up so_far =
       on = goes_twice until start.machine before.machine now.machine outs (shown ∷ []) going.on (up.runs up.last.0);
       frames = up.frames ∙ sym (last_put (last_frame start.machine) outs shown);
       lists = up.lists ∙ ap (λ (o : Option Swapped). last_or o (lists_shown (shown ∷ []))) going.lists ∙ sym (then_lists outs (shown ∷ []) (last_lists start.machine));
-      turned = turn start before now (answers.Frame swapped) going.turned up.last;
+      turned = one_turn start before now (answers.Frame swapped) going.turned up.last;
       limit = raised_again until start before now going.limit is;
       ends = λ end last rest. going.ends end last (counts before now last (answers.Frame swapped) end refl up.last rest);
     }
@@ -181,7 +181,7 @@ ends_here until start old now answer stop outs so_far up stopped limit run frame
       limit = limit ∙ going.limit;
       frames = frames ∙ going.frames;
       lists = lists ∙ going.lists;
-      turned = turn start up.before now answer going.turned up.last;
+      turned = one_turn start up.before now answer going.turned up.last;
       to_end = going.ends (ending stop now.machine) now last;
     }
 
@@ -274,7 +274,7 @@ module _ {S : Type 0} (tells : S → Bool) (taken : S → List ℕ → Type 0) (
       let still_open = up.ran.stopped ∙ w.going.still_open in
       let is = (up.last.0 still_open).1 in (
         ends_here until start old now (answers.Stopped left) (Some left) w.outs w.going up (ap (λ (x : ConsoleState). x.stopped) is) (ap (λ (x : ConsoleState). x.limit) is) (up.runs still_open)
-            up.frames up.lists (stops up.before now left up.last),
+            up.frames up.lists (meets_stop up.before now left up.last),
         w.written,
         w.few,
       )

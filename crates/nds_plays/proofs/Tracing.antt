@@ -13,7 +13,7 @@ use Rattle.ds_machine.specs.Reference.{Shown, reference, dues_of}
 use Rattle.ds_machine.specs.States.{MachineState}
 use Rattle.run_ahead.specs.Consoles.{ConsoleState}
 use Rattle.run_ahead.specs.Turns.{HasRuns, one_more_turn, run_to}
-use Rattle.nds_plays.specs.Watches.{lines_of, trace_of, Traces}
+use Rattle.nds_plays.specs.Watches.{run_lines, trace_of, Traces}
 use Rattle.nds_plays.proofs.Leads.{GoesOnFrom, Leads, StopsFrom, leads_none, leads_twice}
 use Rattle.nds_plays.specs.declared.plays.Played.TheVariants as answers
 
@@ -76,12 +76,12 @@ module _ {S : Type 0} (tells : S → Bool) (taken : S → List ℕ → Type 0) (
 
   -- the trace of a run that goes on
   trace_split : (told : List (List ℕ)) (left : ℕ) (end : Ending MachineState LeftOut) (now : MachineState) (outs : List Shown) (run : Runs reference until end now outs) (on : GoesOnFrom until proc start told end now outs run)
-      → length told + left ≡ count → trace_of proc count on.whole ≡ concat told ++ concat (take left (lines_of proc run))
+      → length told + left ≡ count → trace_of proc count on.whole ≡ concat told ++ concat (take left (run_lines proc run))
   trace_split told left end now outs run on counted =
-      ap (λ (n : ℕ). concat (take n (lines_of proc on.whole))) (sym counted)
+      ap (λ (n : ℕ). concat (take n (run_lines proc on.whole))) (sym counted)
       ∙ ap (λ (x : List (List ℕ)). concat (take (length told + left) x)) on.lines
-      ∙ ap concat (take-append-add told (lines_of proc run) left)
-      ∙ concat-append told (take left (lines_of proc run))
+      ∙ ap concat (take-append-add told (run_lines proc run) left)
+      ∙ concat-append told (take left (run_lines proc run))
 
   -- all lines are written
   pub tracing_full : (now : MachineState) (after : S) (left : ℕ) (w : Tracing now after left) → left ≡ 0 → HasRuns now → Traces tells taken faults until proc count start before answers.Done after
@@ -90,8 +90,8 @@ module _ {S : Type 0} (tells : S → Bool) (taken : S → List ℕ → Type 0) (
       let on = w.on rest.0 rest.1 rest.2 in
       let P : List ℕ → Type 0 = λ x. Appended tells taken before after x in
       let all : trace_of proc count on.whole ≡ concat w.told =
-      trace_split w.told left rest.0 now rest.1 rest.2 on w.counted ∙ ap (λ (n : ℕ). concat w.told ++ concat (take n (lines_of proc rest.2))) none_left ∙ append-nil (concat w.told) in
-      let long : length (lines_of proc on.whole) ≡ length w.told + length (lines_of proc rest.2) = ap length on.lines ∙ length-append w.told (lines_of proc rest.2) in
+      trace_split w.told left rest.0 now rest.1 rest.2 on w.counted ∙ ap (λ (n : ℕ). concat w.told ++ concat (take n (run_lines proc rest.2))) none_left ∙ append-nil (concat w.told) in
+      let long : length (run_lines proc on.whole) ≡ length w.told + length (run_lines proc rest.2) = ap length on.lines ∙ length-append w.told (run_lines proc rest.2) in
       let counted = w.counted in
       (rest.0, on.all, on.whole, inl (omega (arith, long, counted, none_left)), subst P (sym all) w.written)
 
@@ -101,7 +101,7 @@ module _ {S : Type 0} (tells : S → Bool) (taken : S → List ℕ → Type 0) (
   take_none (suc n) = refl
 
   ended : (now : MachineState) (after : S) (left : ℕ) (w : Tracing now after left) (end : Ending MachineState LeftOut) (outs : List Shown) (run : Runs reference until end now outs) (on : GoesOnFrom until proc start w.told end now outs run)
-      → lines_of proc run ≡ [] → Appended tells taken before after (trace_of proc count on.whole)
+      → run_lines proc run ≡ [] → Appended tells taken before after (trace_of proc count on.whole)
   ended now after left w end outs run on none_told =
       let P : List ℕ → Type 0 = λ x. Appended tells taken before after x in
       let all : trace_of proc count on.whole ≡ concat w.told =
@@ -119,8 +119,8 @@ module _ {S : Type 0} (tells : S → Bool) (taken : S → List ℕ → Type 0) (
       → Traces tells taken faults until proc count start before (answers.LeftOut stop) after
   tracing_stopped now after left w stop k some =
       let on = w.on (Stopped stop) k.all k.whole in
-      let long : length (lines_of proc on.whole) ≡ length w.told + 0 =
-      ap length on.lines ∙ length-append w.told (lines_of proc k.whole) ∙ ap (λ (x : List (List ℕ)). length w.told + length x) k.lines in
+      let long : length (run_lines proc on.whole) ≡ length w.told + 0 =
+      ap length on.lines ∙ length-append w.told (run_lines proc k.whole) ∙ ap (λ (x : List (List ℕ)). length w.told + length x) k.lines in
       let counted = w.counted in
       (on.all, on.whole, omega (arith, long, counted, some), ended now after left w (Stopped stop) k.all k.whole on k.lines)
 
@@ -135,7 +135,7 @@ module _ {S : Type 0} (tells : S → Bool) (taken : S → List ℕ → Type 0) (
       let rest = has until in
       let on = on_by now after left w next line leads rest.0 rest.1 rest.2 in
       let told = w.told ++ option_to_list line in
-      let more_lines = concat (take fewer (lines_of proc rest.2)) in
+      let more_lines = concat (take fewer (run_lines proc rest.2)) in
       let P : List ℕ → Type 0 = λ x. AppendedFront tells taken before latest x in
       let first : faults before ≤ faults after = w.later in
       let all : trace_of proc count on.whole ≡ (concat w.told ++ concat (option_to_list line)) ++ more_lines =

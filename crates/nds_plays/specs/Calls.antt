@@ -24,7 +24,8 @@ pub record Call (S : Type 0) : Type 1 where
   pub seat : Option ConsoleState
 
 -- a call with these meanings of its shelf and its output's sink, and with both as they were before and after
-abbrev pub around : {F S : Type 0} → (told : F → Option Told) → (shelf_faults : F → ℕ) → (tells : S → Bool) → (taken : S → List ℕ → Type 0) → (out_faults : S → ℕ)
+abbrev pub around : {F S : Type 0} → (told : F → Option Told) → (shelf_faults : F → ℕ) → (tells : S → Bool) → (taken : S → List ℕ → Type 0)
+    → (out_faults : S → ℕ)
     → (shelf_old shelf_new : F) → (old new : S) → (seat : Option ConsoleState) → Call S
 around told shelf_faults tells taken out_faults shelf_old shelf_new old new seat = record {
   files = files_of (told shelf_old);
@@ -45,7 +46,8 @@ IsUntouched c = (c.new ≡ c.old) × (c.seat ≡ None)
 
 -- this holds of the machine at boot, from the cartridge's file with the key script's lines
 abbrev pub FromBoot : {S : Type 0} → Call S → List ℕ → Option (List ℕ) → (MachineState → Type 0) → Type 0
-FromBoot c cart keys holds = (file : List ℕ) × (lines : List KeyLine) × IsCart c.files cart file × AreKeys c.files keys lines × holds (machine_booted file lines)
+FromBoot c cart keys holds =
+    (file : List ℕ) × (lines : List KeyLine) × IsCart c.files cart file × AreKeys c.files keys lines × holds (machine_booted file lines)
 
 -- a console that is switched on, with its machine at boot
 abbrev pub switched_on : MachineState → ConsoleState
@@ -53,7 +55,8 @@ switched_on boot = record { machine = boot; limit = 0; stopped = None; turns = 0
 
 -- the seat has such a console, with the cartridge's file and the key script's lines
 abbrev pub IsSwitchedOn : Option (List Named) → List ℕ → Option (List ℕ) → Option ConsoleState → Type 0
-IsSwitchedOn files cart keys seat = (file : List ℕ) × (lines : List KeyLine) × IsCart files cart file × AreKeys files keys lines × (seat ≡ Some (switched_on (machine_booted file lines)))
+IsSwitchedOn files cart keys seat = (file : List ℕ) × (lines : List KeyLine) × IsCart files cart file × AreKeys files keys lines
+    × (seat ≡ Some (switched_on (machine_booted file lines)))
 
 -- the seat has a console that was switched on so, as after as many turns with the tick as its counts say, of which this holds
 abbrev pub Seated : {S : Type 0} → Call S → MachineState → ℕ → (ConsoleState → Type 0) → Type 0

@@ -19,8 +19,8 @@ abbrev pub operations : List ℕ
 operations = 0 ∷ 1 ∷ 2 ∷ 3 ∷ 4 ∷ 5 ∷ 12 ∷ 14 ∷ []
 
 -- a register of three bits from bit k on of what was drawn
-abbrev pub register_at : ℕ → ℕ → ℕ
-register_at k x = x / 2 ^ k % 8
+abbrev pub drawn_register : ℕ → ℕ → ℕ
+drawn_register k x = x / 2 ^ k % 8
 
 -- the word at a place of the body, by the draw for it, whose upper 24 bits count: the last is a branch to the first; at the middle of each
 -- 256 rd is stored at 4 times the place from r10 on, and at the end of each 16 from r9 on; any other is an operation on rn and rm into rd,
@@ -28,9 +28,9 @@ register_at k x = x / 2 ^ k % 8
 abbrev pub body_word : ℕ → ℕ → ℕ
 body_word place s =
     let x = s / 2 ^ 8 in
-    let rd = register_at 0 x in
-    let rn = register_at 3 x in
-    let rm = register_at 6 x in
+    let rd = drawn_register 0 x in
+    let rn = drawn_register 3 x in
+    let rm = drawn_register 6 x in
     let operation = slice_index_or operations (x / 2 ^ 9 % 8) 0 in
     if place == 1023 then 0xEAFFFBFF
     else if place % 256 == 127 then 0xE58A0000 + 0x1000 * rd + 4 * place
@@ -51,15 +51,16 @@ nine_start =
 abbrev pub seven_start : List ℕ
 seven_start = 0xE3A0950E ∷ 0xE2899901 ∷ 0xE3A0A622 ∷ []
 
--- the eight numbers of the header that aren't 0, from its byte 20h on: where ARM9's image stands in the file, where it begins to run, where it goes to,
--- and how many bytes it has; and the same of ARM7's
+-- the eight numbers of the header that aren't 0, from its byte 20h on: where ARM9's image stands in the file, where it begins to run, where it goes
+-- to, and how many bytes it has; and the same of ARM7's
 abbrev pub demo_fields : List ℕ
 demo_fields = 0x200 ∷ 0x2000000 ∷ 0x2000000 ∷ 0x1028 ∷ 0x1400 ∷ 0x3800000 ∷ 0x3800000 ∷ 0x100C ∷ []
 
 -- the file: a header of 512 bytes, ARM9's image at 200h, and ARM7's at 1400h, whose body is drawn after ARM9's; 0 between them
 abbrev pub demo_words : ℕ → List ℕ
 demo_words number =
-    replicate 8 0 ++ (demo_fields ++ (replicate 112 0 ++ (nine_start ++ (body number ++ (replicate 118 0 ++ (seven_start ++ body (drawn number 1024)))))))
+    replicate 8 0 ++ (demo_fields
+    ++ (replicate 112 0 ++ (nine_start ++ (body number ++ (replicate 118 0 ++ (seven_start ++ body (drawn number 1024)))))))
 
 abbrev pub demo_file : ℕ → List ℕ
 demo_file number = flat_map (little_bytes 4) (demo_words number)

@@ -56,17 +56,22 @@ shown_now All swapped s = records_now swapped s
 shown_now Last swapped s = []
 shown_now Nothing swapped s = []
 
--- how many bytes what a step puts out has at most: a frame's record 196,617, and that of the lists of a swap with 6,144 vertices and 2,048 polygons 186,389
+-- how many bytes what a step puts out has at most: a frame's record 196,617, and that of the lists of a swap with 6,144 vertices and 2,048 polygons
+-- 186,389
 abbrev pub most_shown : ℕ
 most_shown = 383006
 
--- and what comes after a run: the last frame and the last lists, eight memories of 4 MiB at most and two processors' registers, and the record of the end
+-- and what comes after a run: the last frame and the last lists, eight memories of 4 MiB at most and two processors' registers, and the record of the
+-- end
 abbrev pub most_after : ℕ
 most_after = 40000000
 
--- what running a console did, by its answer: it came to an end, and what it put out so far is written; or the sink failed, and a front of the output is written
-abbrev pub Ran : {S : Type 0} → (S → Bool) → (S → List ℕ → Type 0) → (S → ℕ) → ℕ → Keep → ConsoleState → S → Result (Option LeftOut) Failed → ConsoleState → S → Type 0
+-- what running a console did, by its answer: it came to an end, and what it put out so far is written; or the sink failed, and a front of the output
+-- is written
+abbrev pub Ran : {S : Type 0} → (S → Bool) → (S → List ℕ → Type 0) → (S → ℕ) → ℕ → Keep → ConsoleState → S → Result (Option LeftOut) Failed
+    → ConsoleState → S → Type 0
 Ran tells taken faults until keep old before (Ok stop) new after =
-    (runs : RunsTo until old stop new) × Appended tells taken before after (shown_while keep runs.outs) × (length (shown_while keep runs.outs) ≤ most_shown * length runs.outs)
+    (runs : RunsTo until old stop new) × Appended tells taken before after (shown_while keep runs.outs)
+    × (length (shown_while keep runs.outs) ≤ most_shown * length runs.outs)
 Ran tells taken faults until keep old before (Err failed) new after =
     WroteFront tells taken until keep old before after × Rose (faults before) (faults after) × HasTurned until old new

@@ -9,7 +9,7 @@ use Rattle.ds_base.specs.declared.processors.Proc.TheVariants.{Nine, Seven}
 use Rattle.ds_runs.specs.Runs.{Ending, At, Stopped}
 use Rattle.ds_machine.specs.Frames.{WholeFrame, frame_shown, frames_shown, last_frame, last_lists, lists_shown}
 use Rattle.ds_machine.specs.States.{MachineState}
-use Rattle.ds_machine.specs.Observed.{memory_of, registers_of}
+use Rattle.ds_machine.specs.Inspections.{memory_of, registers_of}
 use Rattle.ds_machine.specs.Reference.{Shown}
 use Rattle.gx_geometry.specs.States.{Swapped}
 use Rattle.nds_records.specs.Lists.{lists_records}
@@ -83,8 +83,8 @@ swapped_lists swapped lists = if swapped then lists ∷ [] else []
 abbrev pub shown_records : Shown → List ℕ
 shown_records shown = frame_records (frame_shown shown ∷ []) ++ lists_records (swapped_lists shown.swapped shown.lists)
 
--- what is written of a run's frames and lists, by what there was before it and what it put out: all of them, the last frame and then the last lists, or none.
--- Where it makes no frame whole the one before it is the last, and so it is with lists
+-- what is written of a run's frames and lists, by what there was before it and what it put out: all of them, the last frame and then the last lists,
+-- or none. Where it makes no frame whole the one before it is the last, and so it is with lists
 abbrev pub kept_records : Keep → Latest → List Shown → List ℕ
 kept_records All before outs = flat_map shown_records outs
 kept_records Last before outs = latest_records (latest_after before outs)

@@ -7,7 +7,7 @@ use Rattle.ds_machine.specs.States.{MachineState}
 use Rattle.run_ahead.specs.Consoles.{ConsoleState}
 use Rattle.run_ahead.specs.TickTurns.{StopsActing, TakesActing}
 use Rattle.run_ahead.specs.Turns.{TakesQuiet, one_more_turn, run_to}
-use Rattle.nds_plays.specs.Watches.{line_of}
+use Rattle.nds_plays.specs.Watches.{step_lines}
 use Rattle.nds_plays.specs.declared.steps.Taken.{Taken}
 use Rattle.nds_plays.specs.declared.steps.Taken.TheVariants.{Step, Stop}
 
@@ -15,7 +15,7 @@ use Rattle.nds_plays.specs.declared.steps.Taken.TheVariants.{Step, Stop}
 
 -- the line of the actor that acts next, where it is the processor and acts below a limit
 abbrev pub line_below : ℕ → Proc → Due → MachineState → List (List ℕ)
-line_below limit proc acting s = if nat_lt acting.tick.0 limit then line_of proc acting.rank acting.tick s else []
+line_below limit proc acting s = if nat_lt acting.tick.0 limit then step_lines proc acting.rank acting.tick s else []
 
 pub record IsLineDue (limit : ℕ) (proc : Proc) (s : MachineState) (line : Option (List ℕ)) : Type 0 where
   pub acting : Due

@@ -11,7 +11,7 @@ use Rattle.ds_base.specs.declared.ticks.Tick.{Tick}
 use Rattle.ds_io.specs.Faults.{Rose}
 use Rattle.ds_io.specs.Sinks.{Appended, AppendedFront}
 use Rattle.ds_runs.specs.Runs.{TickMachine, Ending, At, Stopped, Runs, over, stops, more}
-use Rattle.ds_machine.specs.Observed.{memory_of, seen_of}
+use Rattle.ds_machine.specs.Inspections.{memory_of, seen_of}
 use Rattle.ds_machine.specs.Reference.{Shown, reference}
 use Rattle.ds_machine.specs.States.{MachineState}
 use Rattle.ds_machine.specs.declared.answers.Seen.{Seen}
@@ -32,15 +32,16 @@ use Rattle.nds_plays.specs.declared.plays.Played.TheVariants as answers
 
 -- what is told of a run's steps, one after another, by the rank, the tick and the state in which each is taken. A step that stops the
 -- machine isn't taken
-abbrev pub told_of : {S O L X : Type 0} {m : TickMachine S O L} {limit : ℕ} {end : Ending S L} {s : S} {outs : List O} → (ℕ → Tick → S → List X) → Runs m limit end s outs → List X
+abbrev pub told_of : {S O L X : Type 0} {m : TickMachine S O L} {limit : ℕ} {end : Ending S L} {s : S} {outs : List O} → (ℕ → Tick → S → List X)
+    → Runs m limit end s outs → List X
 told_of tell (over s none) = []
 told_of tell (stops s after tick rank stop least below halts) = []
 told_of tell (more end s next tick rank outs rest least below goes run) = tell rank tick s ++ told_of tell run
 
 -- a processor's rank
-abbrev pub rank_of : Proc → ℕ
-rank_of Nine = 22
-rank_of Seven = 23
+abbrev pub processor_rank : Proc → ℕ
+processor_rank Nine = 22
+processor_rank Seven = 23
 
 -- the line of what a processor does at a tick. At its own step a processor is never idle
 abbrev pub seen_line : Proc → ℕ → Seen → List ℕ
@@ -50,21 +51,24 @@ seen_line proc tick (Half at half) = step_line (architecture_of proc) Thumb tick
 seen_line proc tick Idle = []
 
 -- the line of a step, where it is the processor's: by what it does next, in the state before
-abbrev pub line_of : Proc → ℕ → Tick → MachineState → List (List ℕ)
-line_of proc rank tick s = if nat_eq rank (rank_of proc) then seen_line proc tick.0 (seen_of s proc) ∷ [] else []
+abbrev pub step_lines : Proc → ℕ → Tick → MachineState → List (List ℕ)
+step_lines proc rank tick s = if nat_eq rank (processor_rank proc) then seen_line proc tick.0 (seen_of s proc) ∷ [] else []
 
 -- the lines of a processor's steps in a run
-abbrev pub lines_of : {limit : ℕ} {end : Ending MachineState LeftOut} {s : MachineState} {outs : List Shown} → Proc → Runs reference limit end s outs → List (List ℕ)
-lines_of proc run = told_of (line_of proc) run
+abbrev pub run_lines : {limit : ℕ} {end : Ending MachineState LeftOut} {s : MachineState} {outs : List Shown} → Proc → Runs reference limit end s outs
+    → List (List ℕ)
+run_lines proc run = told_of (step_lines proc) run
 
 -- they are those of the run, whichever derivation of it is looked at
 abbrev pub LinesAreOne : Type 0
-LinesAreOne = (proc : Proc) (limit : ℕ) (s : MachineState) (end end₂ : Ending MachineState LeftOut) (outs outs₂ : List Shown) (run : Runs reference limit end s outs)
-    (run₂ : Runs reference limit end₂ s outs₂) → lines_of proc run ≡ lines_of proc run₂
+LinesAreOne = (proc : Proc) (limit : ℕ) (s : MachineState) (end end₂ : Ending MachineState LeftOut) (outs outs₂ : List Shown)
+    (run : Runs reference limit end s outs)
+    (run₂ : Runs reference limit end₂ s outs₂) → run_lines proc run ≡ run_lines proc run₂
 
 -- a trace: its first lines
-abbrev pub trace_of : {limit : ℕ} {end : Ending MachineState LeftOut} {s : MachineState} {outs : List Shown} → Proc → ℕ → Runs reference limit end s outs → List ℕ
-trace_of proc count run = concat (take count (lines_of proc run))
+abbrev pub trace_of : {limit : ℕ} {end : Ending MachineState LeftOut} {s : MachineState} {outs : List Shown} → Proc → ℕ
+    → Runs reference limit end s outs → List ℕ
+trace_of proc count run = concat (take count (run_lines proc run))
 
 -- a run comes to its limit
 abbrev pub IsAt : Ending MachineState LeftOut → Type 0
@@ -73,42 +77,50 @@ IsAt (Stopped left) = ⊥
 
 -- a trace of the reference run from a machine was written whole: so many lines, or those of a run that comes to its tick
 abbrev pub TracedWhole : {S : Type 0} → (S → Bool) → (S → List ℕ → Type 0) → ℕ → Proc → ℕ → MachineState → S → S → Type 0
-TracedWhole tells taken until proc count start before after = (end : Ending MachineState LeftOut) × (outs : List Shown) × (run : Runs reference until end start outs)
-    × ((count ≤ length (lines_of proc run)) ⊎ IsAt end) × Appended tells taken before after (trace_of proc count run)
+TracedWhole tells taken until proc count start before after =
+    (end : Ending MachineState LeftOut) × (outs : List Shown) × (run : Runs reference until end start outs)
+    × ((count ≤ length (run_lines proc run)) ⊎ IsAt end) × Appended tells taken before after (trace_of proc count run)
 
 -- the run stops before there are so many lines, and those that it has were written
 abbrev pub TracedToStop : {S : Type 0} → (S → Bool) → (S → List ℕ → Type 0) → ℕ → Proc → ℕ → MachineState → LeftOut → S → S → Type 0
 TracedToStop tells taken until proc count start left before after = (outs : List Shown) × (run : Runs reference until (Stopped left) start outs)
-    × (length (lines_of proc run) < count) × Appended tells taken before after (trace_of proc count run)
+    × (length (run_lines proc run) < count) × Appended tells taken before after (trace_of proc count run)
 
 -- a front of it was written
 abbrev pub TracedFront : {S : Type 0} → (S → Bool) → (S → List ℕ → Type 0) → ℕ → Proc → ℕ → MachineState → S → S → Type 0
-TracedFront tells taken until proc count start before after = (end : Ending MachineState LeftOut) × (outs : List Shown) × (run : Runs reference until end start outs)
+TracedFront tells taken until proc count start before after =
+    (end : Ending MachineState LeftOut) × (outs : List Shown) × (run : Runs reference until end start outs)
     × AppendedFront tells taken before after (trace_of proc count run)
 
 -- what a trace wrote, by its answer
 abbrev pub Traces : {S : Type 0} → (S → Bool) → (S → List ℕ → Type 0) → (S → ℕ) → ℕ → Proc → ℕ → MachineState → S → played.Played → S → Type 0
 Traces tells taken faults until proc count start before answers.Done after = TracedWhole tells taken until proc count start before after
-Traces tells taken faults until proc count start before (answers.LeftOut left) after = TracedToStop tells taken until proc count start left before after
+Traces tells taken faults until proc count start before (answers.LeftOut left) after =
+    TracedToStop tells taken until proc count start left before after
 Traces tells taken faults until proc count start before answers.WriteFault after =
     Rose (faults before) (faults after) × TracedFront tells taken until proc count start before after
 
 -- ---- what is written after a run
 
--- the reference run from a console's machine was taken, and the console is as after turns with that limit, up to their end; by the stop that it came to
+-- the reference run from a console's machine was taken, and the console is as after turns with that limit, up to their end; by the stop that it came
+-- to
 abbrev pub RanTo : ℕ → ConsoleState → Option LeftOut → ConsoleState → List Shown → Type 0
-RanTo until old None new outs = Runs reference until (At new.machine) old.machine outs × (new.stopped ≡ None) × (new.limit ≡ max old.limit until) × HasTurned until old new
+RanTo until old None new outs =
+    Runs reference until (At new.machine) old.machine outs × (new.stopped ≡ None) × (new.limit ≡ max old.limit until) × HasTurned until old new
     × TurnsToEnd until old (At new.machine) new
 RanTo until old (Some left) new outs = Runs reference until (Stopped left) old.machine outs × (new.stopped ≡ Some left) × HasTurned until old new
 
--- by the answer, these bytes of the console that the run comes to, and of what it put out, were written after it, or a front of them; where it stops nothing was
-abbrev pub WritesAfter : {S : Type 0} → (S → Bool) → (S → List ℕ → Type 0) → (S → ℕ) → ℕ → (ConsoleState → List Shown → List ℕ) → ConsoleState → S → played.Played → ConsoleState → S → Type 0
+-- by the answer, these bytes of the console that the run comes to, and of what it put out, were written after it, or a front of them; where it stops
+-- nothing was
+abbrev pub WritesAfter : {S : Type 0} → (S → Bool) → (S → List ℕ → Type 0) → (S → ℕ) → ℕ → (ConsoleState → List Shown → List ℕ) → ConsoleState → S
+    → played.Played → ConsoleState → S → Type 0
 WritesAfter tells taken faults until bytes old before answers.Done new after =
     (outs : List Shown) × RanTo until old None new outs × Appended tells taken before after (bytes new outs)
 WritesAfter tells taken faults until bytes old before (answers.LeftOut left) new after =
     (outs : List Shown) × RanTo until old (Some left) new outs × (after ≡ before)
 WritesAfter tells taken faults until bytes old before answers.WriteFault new after =
-    Rose (faults before) (faults after) × ((outs : List Shown) × RanTo until old None new outs × AppendedFront tells taken before after (bytes new outs))
+    Rose (faults before) (faults after)
+    × ((outs : List Shown) × RanTo until old None new outs × AppendedFront tells taken before after (bytes new outs))
 
 -- so many bytes of a memory from a place on
 abbrev pub bytes_at : Memory → ℕ → ℕ → MachineState → List ℕ
@@ -118,7 +130,8 @@ bytes_at memory place count s = map (λ at. slice_index (memory_of s memory) at)
 abbrev pub peeked : Memory → ℕ → ℕ → ConsoleState → List Shown → List ℕ
 peeked memory place count k outs = peek_lines place (bytes_at memory place count k.machine)
 
--- what came of a run, by the console that it comes to: how many bytes it would write where all frames and lists are kept, their SHA-256 (FIPS 180-4), and its counts
+-- what came of a run, by the console that it comes to: how many bytes it would write where all frames and lists are kept, their SHA-256 (FIPS 180-4),
+-- and its counts
 abbrev pub demo_lines : ℕ → ℕ → List ℕ → ConsoleState → List ℕ
 demo_lines number until output k =
     let s = k.machine in

@@ -19,7 +19,8 @@ use run_ahead::{Console, Counts};
 pub fn demo<O: Sink>(console: &mut Console, number: u32, until: Tick, out: &mut O) -> Played
     requires early { until.0 ≤ 2 ^ 56 }
     requires open { console.old.stopped ≡ None }
-    ensures { WritesAfter O.tells O.taken O.faults until.0 (demo_of number until.0 console.old.machine) console.old out.old result console.new out.new }
+    ensures { WritesAfter O.tells O.taken O.faults until.0
+        (demo_of number until.0 console.old.machine) console.old out.old result console.new out.new }
 {
     let mut sink = HashSink::new();
     match play(console, until, Keep::All, &mut sink) {
@@ -41,7 +42,8 @@ fn put_demo<O: Sink>(
     sink: HashSink,
     console: &Console,
 ) -> Result<(), Failed>
-    ensures { (output : List ℕ) → HasTaken sink output → length output < 2 ^ 64 → Puts O.tells O.taken O.faults (demo_lines number until.0 output console.now) result out.old out.new }
+    ensures { (output : List ℕ) → HasTaken sink output → length output < 2 ^ 64
+        → Puts O.tells O.taken O.faults (demo_lines number until.0 output console.now) result out.old out.new }
 {
     let Counts {
         nine,

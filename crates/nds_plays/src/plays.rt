@@ -24,9 +24,10 @@ pub enum Played {
     WriteFault,
 }
 
-/// Runs a console to a tick, and writes what the run gives: the frames and geometry lists that are kept, each as it comes or the last ones after the run, and then
-/// the records of memories and of the end, or that of the stop alone. Where the run makes no frame whole, the console's last whole frame before it is the last, and so it
-/// is with lists. What is written has fewer than 2^64 bytes: frames are 1,120,380 ticks apart, and what each writes has at most 383,006 bytes.
+/// Runs a console to a tick, and writes what the run gives: the frames and geometry lists that are kept, each as it comes or the last ones after the
+/// run, and then the records of memories and of the end, or that of the stop alone. Where the run makes no frame whole, the console's last whole
+/// frame before it is the last, and so it is with lists. What is written has fewer than 2^64 bytes: frames are 1,120,380 ticks apart, and what each
+/// writes has at most 383,006 bytes.
 pub fn play<O: Sink>(console: &mut Console, until: Tick, keep: Keep, out: &mut O) -> Played
     requires early { until.0 ≤ 2 ^ 56 }
     requires open { console.old.stopped ≡ None }
@@ -47,7 +48,8 @@ pub fn play<O: Sink>(console: &mut Console, until: Tick, keep: Keep, out: &mut O
     }
 }
 
-/// Runs a console until no actor is due below a tick, or until it stops, and writes each frame and the lists that are swapped with it as they come, where all are kept.
+/// Runs a console until no actor is due below a tick, or until it stops, and writes each frame and the lists that are swapped with it as they come,
+/// where all are kept.
 fn run_to<O: Sink>(
     console: &mut Console,
     until: Tick,
@@ -123,8 +125,10 @@ fn put_records<O: Sink>(
     stop: Option<LeftOut>,
     console: &Console,
 ) -> Result<(), Failed>
-    ensures put { Puts O.tells O.taken O.faults (shown_after keep (latest_of console.now.machine) ++ last_records until.0 console.now.turns (ending stop console.now.machine)) result out.old out.new }
-    ensures few { OnOk result (length (shown_after keep (latest_of console.now.machine) ++ last_records until.0 console.now.turns (ending stop console.now.machine)) ≤ most_after) }
+    ensures put { Puts O.tells O.taken O.faults (shown_after keep (latest_of console.now.machine)
+        ++ last_records until.0 console.now.turns (ending stop console.now.machine)) result out.old out.new }
+    ensures few { OnOk result (length (shown_after keep (latest_of console.now.machine)
+        ++ last_records until.0 console.now.turns (ending stop console.now.machine)) ≤ most_after) }
 {
     put_kept(out, keep, console)?;
     put_ending(out, until, stop, console)

@@ -71,7 +71,8 @@ pub(crate) fn put_latest<O: Sink>(out: &mut O, console: &Console) -> Result<(), 
 
 /// The record of a console's last lists, where waiting lists were just swapped.
 fn put_swapped<O: Sink>(out: &mut O, swapped: bool, console: &Console) -> Result<(), Failed>
-    ensures put { Puts O.tells O.taken O.faults (lists_records (swapped_lists swapped console.now.machine.io.gx.geometry.last)) result out.old out.new }
+    ensures put { Puts O.tells O.taken O.faults
+        (lists_records (swapped_lists swapped console.now.machine.io.gx.geometry.last)) result out.old out.new }
     ensures few { OnOk result (length (lists_records (swapped_lists swapped console.now.machine.io.gx.geometry.last)) ≤ 186389) }
 {
     if !swapped {

@@ -53,7 +53,8 @@ pub fn switch_on(
     put_made(Console::new(alloc, cart, keys), seat)
 }
 
-/// Finds and checks the files of a run, and switches on a console with them, in the seat, which is empty before; or says how the call ends without one.
+/// Finds and checks the files of a run, and switches on a console with them, in the seat, which is empty before; or says how the call ends without
+/// one.
 pub fn seat_run<'a, F: Shelf>(
     alloc: Global,
     cart: &'a str,
@@ -63,7 +64,9 @@ pub fn seat_run<'a, F: Shelf>(
 ) -> Result<(), Ended<'a>>
     requires { seat.old ≡ None }
     ensures ok { OnOk result (IsSwitchedOn (files_of (F.told shelf.old)) cart.entry.now (option_map (λ name. name.now) keys.entry) seat.new) }
-    ensures err { IfErr result (λ ended. RefusesRun (files_of (F.told shelf.old)) (Rose (F.faults shelf.old) (F.faults shelf.new)) cart.entry.now (option_map (λ name. name.now) keys.entry) ended.status ended.file.now) }
+    ensures err { IfErr result
+        (λ ended. RefusesRun (files_of (F.told shelf.old)) (Rose (F.faults shelf.old) (F.faults shelf.new)) cart.entry.now
+        (option_map (λ name. name.now) keys.entry) ended.status ended.file.now) }
     ensures none { OnErr result (seat.new ≡ None) }
     ensures files { files_of (F.told shelf.new) ≡ files_of (F.told shelf.old) }
 {

@@ -2,12 +2,12 @@
 
 ghost use Rattle.std.specs.Prelude.{◌≡◌, ◌≤◌, ◌<◌, ◌+◌, ◌^◌, None, length, option_to_list};
 ghost use Rattle.std.specs.List.{concat};
-ghost use Rattle.ds_machine.specs.Observed.{seen_of};
+ghost use Rattle.ds_machine.specs.Inspections.{seen_of};
 ghost use Rattle.ds_machine.specs.Sound.{IsSound};
 ghost use Rattle.ds_io.specs.Puts.{Puts};
 ghost use Rattle.run_ahead.specs.TickTurns.{IsTickBefore};
 ghost use Rattle.nds_plays.specs.TraceParts.{IsLineDue, Took};
-ghost use Rattle.nds_plays.specs.Watches.{Traces, rank_of, seen_line};
+ghost use Rattle.nds_plays.specs.Watches.{Traces, processor_rank, seen_line};
 
 use crate::plays::Played;
 use asm_text::Set;
@@ -27,7 +27,7 @@ pub(crate) enum Taken {
 
 /// A processor's rank.
 fn rank_of(proc: Proc) -> u8
-    ensures { result ≡ rank_of proc }
+    ensures { result ≡ processor_rank proc }
 {
     match proc {
         Proc::Nine => 22,
@@ -59,7 +59,8 @@ fn line_due(console: &Console, proc: Proc, limit: Tick) -> Option<OutLine>
     Some(seen_line(proc, acting.tick, console.seen(proc)))
 }
 
-/// Takes a turn whose limit is the tick after the one at which the first actor is due: one step of an actor that acts, or those of quiet geometry alone.
+/// Takes a turn whose limit is the tick after the one at which the first actor is due: one step of an actor that acts, or those of quiet geometry
+/// alone.
 fn take(console: &mut Console, limit: Tick) -> Taken
     requires early { limit.0 ≤ 2 ^ 56 }
     requires sound { IsSound console.old.machine }
@@ -95,8 +96,8 @@ fn fewer(left: u32, line: &Option<OutLine>) -> u32
 }
 
 /// Runs a console to a tick, and writes the first steps of a processor, so many at most: a line a step, which is found before the step is taken and
-/// written once it was. A step at which it stops has no line. It runs no further than to the last line. Each turn is one of a single tick, so that it takes one step of the processor
-/// at most.
+/// written once it was. A step at which it stops has no line. It runs no further than to the last line. Each turn is one of a single tick, so that it
+/// takes one step of the processor at most.
 pub fn trace<O: Sink>(
     console: &mut Console,
     until: Tick,

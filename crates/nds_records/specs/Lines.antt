@@ -21,7 +21,8 @@ all_digits Thumb half = hex_digits 4 half
 -- `TICK ADDRESS WORD STATEMENT`: an instruction that is executed at a tick
 abbrev pub step_line : Arch → Set → ℕ → ℕ → ℕ → List ℕ
 step_line arch set tick at word =
-    concat (decimal_digits 12 tick ∷ codes " " ∷ hex_digits 8 at ∷ codes " " ∷ all_digits set word ∷ codes " " ∷ listed arch set at word ∷ (10 ∷ []) ∷ [])
+    concat (decimal_digits 12 tick ∷ codes " " ∷ hex_digits 8 at ∷ codes " " ∷ all_digits set word ∷ codes " " ∷ listed arch set at word ∷ (10 ∷ [])
+    ∷ [])
 
 -- `TICK ADDRESS irq`: an interrupt's entry at a tick, from this address
 abbrev pub entry_line : ℕ → ℕ → List ℕ
@@ -33,7 +34,8 @@ peek_line place bytes = concat (hex_digits 8 place ∷ codes ":" ∷ flat_map (�
 
 -- bytes from a place on, 16 a line, and fewer on the last
 abbrev pub peek_lines : ℕ → List ℕ → List ℕ
-peek_lines place bytes = flat_map (λ line. peek_line (place + 16 * line) (take 16 (drop (16 * line) bytes))) (range_with_len 0 ((length bytes + 15) / 16))
+peek_lines place bytes =
+    flat_map (λ line. peek_line (place + 16 * line) (take 16 (drop (16 * line) bytes))) (range_with_len 0 ((length bytes + 15) / 16))
 
 -- `sha256 DIGITS`: a digest
 abbrev pub digest_line : List ℕ → List ℕ

@@ -18,8 +18,8 @@ half_of z = cast_unsigned w16 z
 abbrev pub vertex_record : Vertex → List (List ℕ)
 vertex_record v = words (word_of v.x ∷ word_of v.y ∷ word_of v.z ∷ word_of v.w ∷ []) ∷ halves (v.colour ∷ half_of v.s ∷ half_of v.t ∷ []) ∷ []
 
--- a polygon: its attributes, its texture's parameter, its palette's base and its viewport, how many vertices it has, and their four places in the list, the
--- fourth also where it isn't used
+-- a polygon: its attributes, its texture's parameter, its palette's base and its viewport, how many vertices it has, and their four places in the
+-- list, the fourth also where it isn't used
 abbrev pub polygon_record : Polygon → List (List ℕ)
 polygon_record p = words (p.attributes ∷ p.texture ∷ p.palette ∷ p.viewport ∷ []) ∷ (p.corners ∷ []) ∷ halves p.indices ∷ []
 
@@ -31,7 +31,8 @@ polygon_records polygons = flat_map (λ (p : Polygon). concat (polygon_record p)
 
 -- the record: 'G', the tick of the swap, its parameter, how many vertices and polygons there are, the vertices and then the polygons
 abbrev pub lists_head : Swapped → List (List ℕ)
-lists_head lists = codes "G" ∷ longs (lists.tick.0 ∷ []) ∷ words (lists.parameter ∷ []) ∷ words (length lists.vertices ∷ []) ∷ words (length lists.polygons ∷ []) ∷ []
+lists_head lists = codes "G" ∷ longs (lists.tick.0 ∷ []) ∷ words (lists.parameter ∷ []) ∷ words (length lists.vertices ∷ [])
+    ∷ words (length lists.polygons ∷ []) ∷ []
 
 abbrev pub lists_record : Swapped → List ℕ
 lists_record lists = concat (lists_head lists) ++ (vertex_records lists.vertices ++ polygon_records lists.polygons)

@@ -26,7 +26,8 @@ pub enum Quantity {
     Consoles,
     /// Whether the output's sink tells all that was put, 0 or 1.
     Told,
-    /// Whether the output is the one that was kept: 0 if not, 1 if it is a front of it that isn't all, 2 if it is all of it, 3 if only its last eight bytes, the count of turns, differ.
+    /// Whether the output is the one that was kept: 0 if not, 1 if it is a front of it that isn't all, 2 if it is all of it, 3 if only its last eight
+    /// bytes, the count of turns, differ.
     Kept,
     /// Words of a memory, from a place on, in the output and in the console.
     Words(Memory, usize),

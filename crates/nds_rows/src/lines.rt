@@ -78,7 +78,8 @@ fn answer_number(line: &mut Cursor<'_>) -> u64 {
     }
 }
 
-/// What a turn answers, and its limit after it: the limit, the answer's number, and where it stopped the numbers of the stop: kind, tick, rank and value.
+/// What a turn answers, and its limit after it: the limit, the answer's number, and where it stopped the numbers of the stop: kind, tick, rank and
+/// value.
 fn answer_of(line: &mut Cursor<'_>) -> Vec<Option<u64>> {
     let until = Some(line.number());
     let answer = answer_number(line);

@@ -31,7 +31,7 @@ use Rattle.nds_plays.specs.declared.plays.Played.{Played}
 use Rattle.nds_plays.specs.declared.plays.Played.TheVariants as played
 use Rattle.nds_top.specs.RunAnswers.{RunGives}
 use Rattle.nds_top.specs.ViewAnswers.{DemoGives, GivesBy, TracedBy, WroteAfter, demo_booted}
-use Rattle.nds_plays.specs.Watches.{IsAt, LinesAreOne, demo_of, lines_of, peeked, trace_of}
+use Rattle.nds_plays.specs.Watches.{IsAt, LinesAreOne, demo_of, run_lines, peeked, trace_of}
 use Rattle.nds_top.specs.Answers.{CommandGives, Gives, nothing, command}
 use Rattle.nds_top.specs.Laws.{CanBeDone, ComesTo, HadNoFault}
 use Rattle.nds_top.proofs.Outcomes.{IsOne, ReadLaws, RunComes, loaded, cart_fine, cart_refusal, cart_refused, loaded_comes, memory_or_not, not_both, read_fine, refusal, refused, run_comes_one, run_refused, same_file}
@@ -73,7 +73,7 @@ pub record TraceWrites (proc : Proc) (count ticks : ℕ) (boot : MachineState) (
   pub end : Ending MachineState LeftOut
   pub outs : List Shown
   pub ran : Runs reference ticks end boot outs
-  pub ends : TraceEnds count (length (lines_of proc ran)) end s
+  pub ends : TraceEnds count (length (run_lines proc ran)) end s
   pub is : bytes ≡ trace_of proc count ran
 
 -- bytes after it
@@ -120,8 +120,8 @@ module _ (laws : TopLaws) where
   trace_one proc count ticks boot s t xs ys a b =
       let same = laws.lines proc ticks boot a.end b.end a.outs b.outs a.ran b.ran in
       let e = (laws.runs ticks boot a.end b.end a.outs b.outs a.ran b.ran).0 in
-      let ends = subst (λ (n : ℕ). TraceEnds count n b.end s) (ap (λ (ls : List (List ℕ)). length ls) same) (subst (λ (x : Ending MachineState LeftOut). TraceEnds count (length (lines_of proc a.ran)) x s) e a.ends) in
-      (trace_status count (length (lines_of proc b.ran)) b.end s t ends b.ends, a.is ∙ ap (λ (ls : List (List ℕ)). concat (take count ls)) same ∙ sym b.is)
+      let ends = subst (λ (n : ℕ). TraceEnds count n b.end s) (ap (λ (ls : List (List ℕ)). length ls) same) (subst (λ (x : Ending MachineState LeftOut). TraceEnds count (length (run_lines proc a.ran)) x s) e a.ends) in
+      (trace_status count (length (run_lines proc b.ran)) b.end s t ends b.ends, a.is ∙ ap (λ (ls : List (List ℕ)). concat (take count ls)) same ∙ sym b.is)
 
   pub after_one : (tell : ConsoleState → List Shown → List ℕ) (ticks : ℕ) (boot : MachineState) → IsOne (AfterWrites tell ticks boot)
   after_one tell ticks boot statuses.Done statuses.Done xs ys a b =
@@ -348,7 +348,7 @@ module _ (laws : TopLaws) (files : List Named) where
   done_then (AskTrace cart keys ticks proc count) s bytes can h =
       let w = loaded_comes laws.reads files cart keys (TraceWrites proc count ticks) s bytes can.0 can.1 can.2 can.3 h in
       let to = can.4 in
-      ends_done count (length (lines_of proc w.ran)) to.0 w.end s (laws.runs ticks (machine_booted can.0 can.1) w.end (At to.0) w.outs to.1 w.ran to.2).0 w.ends
+      ends_done count (length (run_lines proc w.ran)) to.0 w.end s (laws.runs ticks (machine_booted can.0 can.1) w.end (At to.0) w.outs to.1 w.ran to.2).0 w.ends
   done_then (AskPeek cart keys ticks memory place count) s bytes can h =
       after_ends (peeked memory place count) ticks (machine_booted can.0 can.1) s bytes can.4
       (loaded_comes laws.reads files cart keys (AfterWrites (peeked memory place count) ticks) s bytes can.0 can.1 can.2 can.3 h)

@@ -17,11 +17,11 @@ use Rattle.nds_plays.specs.declared.plays.Played.TheVariants.{Done, LeftOut, Wri
 use Rattle.nds_top.proofs.Running.{at_ticks, after_its_turns}
 use Rattle.nds_plays.specs.Watches.{Traces, WritesAfter, demo_of}
 use Rattle.nds_top.specs.ViewAnswers.{GivesBy, TracedBy, WroteAfter, DemoGives, demo_booted}
-use Rattle.nds_top.specs.Inside.{status_of}
+use Rattle.nds_top.specs.Inside.{played_status}
 
 -- what was done gives the status of how the run went
 pub gives_done : {S : Type 0} (c : Call S) (cart : List ℕ) (keys : Option (List ℕ)) (did : Played → MachineState → Type 0) (named : List ℕ) (answer : Played) → FromBoot c cart keys (did answer)
-    → GivesBy c cart keys did named (status_of answer)
+    → GivesBy c cart keys did named (played_status answer)
 gives_done c cart keys did named Done was = was
 gives_done c cart keys did named (LeftOut left) was = was
 gives_done c cart keys did named WriteFault was = was
@@ -72,7 +72,7 @@ module _ {F S : Type 0} (told : F → Option Told) (shelf_faults : F → ℕ) (t
       (w.0, (after_its_turns ticks file lines console sum w.1.1.3, ((w.1.0, w.1.1.0, w.1.2), at_ticks _ _ w.1.1.2, w.1.1.1, w.1.1.4)))
 
 -- what a demo did gives the status of how its run went
-pub demo_done : {S : Type 0} (c : Call S) (number ticks : ℕ) (answer : Played) → WroteAfter c ticks (demo_of number ticks (demo_booted number)) answer (demo_booted number) → DemoGives c number ticks (status_of answer)
+pub demo_done : {S : Type 0} (c : Call S) (number ticks : ℕ) (answer : Played) → WroteAfter c ticks (demo_of number ticks (demo_booted number)) answer (demo_booted number) → DemoGives c number ticks (played_status answer)
 demo_done c number ticks Done was = was
 demo_done c number ticks (LeftOut left) was = was
 demo_done c number ticks WriteFault was = was

@@ -12,12 +12,13 @@ use Rattle.run_ahead.specs.Consoles.{ConsoleState}
 -- what a run of a console to a tick does, by its status
 abbrev pub RunsSo : {S : Type 0} → (S → Bool) → (S → List ℕ → Type 0) → (S → ℕ) → ℕ → Keep → ConsoleState → S → Status → ConsoleState → S → Type 0
 RunsSo tells taken faults ticks keep old before Done new after = Plays tells taken faults ticks keep old before answers.Done new after
-RunsSo tells taken faults ticks keep old before (LeftOut left) new after = Plays tells taken faults ticks keep old before (answers.LeftOut left) new after
+RunsSo tells taken faults ticks keep old before (LeftOut left) new after =
+    Plays tells taken faults ticks keep old before (answers.LeftOut left) new after
 RunsSo tells taken faults ticks keep old before WriteFault new after = Plays tells taken faults ticks keep old before answers.WriteFault new after
 RunsSo tells taken faults ticks keep old before other new after = ⊥
 
 -- the status of how a run went
-abbrev pub status_of : Played → Status
-status_of answers.Done = Done
-status_of (answers.LeftOut left) = LeftOut left
-status_of answers.WriteFault = WriteFault
+abbrev pub played_status : Played → Status
+played_status answers.Done = Done
+played_status (answers.LeftOut left) = LeftOut left
+played_status answers.WriteFault = WriteFault

@@ -30,7 +30,8 @@ ComesTo ticks boot = (end : MachineState) × (outs : List Shown) × Runs referen
 
 -- the files of a run are there, short enough and accepted, and its reference run comes to the tick
 abbrev pub CanRun : List Named → List ℕ → Option (List ℕ) → ℕ → Type 0
-CanRun files cart keys ticks = (file : List ℕ) × (lines : List KeyLine) × IsCart (Some files) cart file × AreKeys (Some files) keys lines × ComesTo ticks (machine_booted file lines)
+CanRun files cart keys ticks = (file : List ℕ) × (lines : List KeyLine) × IsCart (Some files) cart file × AreKeys (Some files) keys lines
+    × ComesTo ticks (machine_booted file lines)
 
 -- what is asked for can be done with these files: a demo needs none
 abbrev pub CanBeDone : List Named → Asked → Type 0
@@ -42,17 +43,23 @@ CanBeDone files (AskPeek cart keys ticks memory place count) = CanRun files cart
 CanBeDone files (AskDemo number ticks) = ComesTo ticks (demo_booted number)
 
 -- then it is done, or there was no memory
-abbrev pub IsComplete : {F S : Type 0} → (told : F → Option Told) → (shelf_faults : F → ℕ) → (tells : S → Bool) → (taken : S → List ℕ → Type 0) → (out_faults : S → ℕ) → Type 0
-IsComplete {F} {S} told shelf_faults tells taken out_faults = (shelf_old shelf_new : F) (old new : S) (seat : Option ConsoleState) (files : List Named) (words : List (List ℕ)) (asked : Asked)
+abbrev pub IsComplete : {F S : Type 0} → (told : F → Option Told) → (shelf_faults : F → ℕ) → (tells : S → Bool) → (taken : S → List ℕ → Type 0)
+    → (out_faults : S → ℕ) → Type 0
+IsComplete {F} {S} told shelf_faults tells taken out_faults =
+    (shelf_old shelf_new : F) (old new : S) (seat : Option ConsoleState) (files : List Named) (words : List (List ℕ)) (asked : Asked)
     (named : List ℕ) (status : Status) → (let c : Call S = around told shelf_faults tells taken out_faults shelf_old shelf_new old new seat in
-    c.files ≡ Some files → HadNoFault c → Asks words asked → CanBeDone files asked → Gives c words named status → (status ≡ Done) ⊎ (status ≡ NoMemory))
+    c.files ≡ Some files → HadNoFault c → Asks words asked → CanBeDone files asked → Gives c words named status → (status ≡ Done)
+    ⊎ (status ≡ NoMemory))
 
 -- and the same words over the same files have one answer and write the same bytes, over any two sinks, but for want of memory
-abbrev pub AnswersAreOne : {F S T : Type 0} → (told : F → Option Told) → (shelf_faults : F → ℕ) → (tells : S → Bool) → (taken : S → List ℕ → Type 0) → (out_faults : S → ℕ)
+abbrev pub AnswersAreOne : {F S T : Type 0} → (told : F → Option Told) → (shelf_faults : F → ℕ) → (tells : S → Bool) → (taken : S → List ℕ → Type 0)
+    → (out_faults : S → ℕ)
     → (tells₂ : T → Bool) → (taken₂ : T → List ℕ → Type 0) → (out_faults₂ : T → ℕ) → Type 0
-AnswersAreOne {F} {S} {T} told shelf_faults tells taken out_faults tells₂ taken₂ out_faults₂ = (shelf_old shelf_new shelf_old₂ shelf_new₂ : F) (old new : S) (old₂ new₂ : T)
+AnswersAreOne {F} {S} {T} told shelf_faults tells taken out_faults tells₂ taken₂ out_faults₂ =
+    (shelf_old shelf_new shelf_old₂ shelf_new₂ : F) (old new : S) (old₂ new₂ : T)
     (seat seat₂ : Option ConsoleState) (files : List Named) (words : List (List ℕ)) (named named₂ : List ℕ) (status status₂ : Status) →
     (let c : Call S = around told shelf_faults tells taken out_faults shelf_old shelf_new old new seat in
     let d : Call T = around told shelf_faults tells₂ taken₂ out_faults₂ shelf_old₂ shelf_new₂ old₂ new₂ seat₂ in
-    c.files ≡ Some files → d.files ≡ Some files → HadNoFault c → HadNoFault d → status ≢ NoMemory → status₂ ≢ NoMemory → Gives c words named status → Gives d words named₂ status₂
+    c.files ≡ Some files → d.files ≡ Some files → HadNoFault c → HadNoFault d → status ≢ NoMemory → status₂ ≢ NoMemory → Gives c words named status
+    → Gives d words named₂ status₂
     → (status ≡ status₂) × ((bytes : List ℕ) × Appended tells taken old new bytes × Appended tells₂ taken₂ old₂ new₂ bytes))

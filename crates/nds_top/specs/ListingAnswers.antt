@@ -34,7 +34,8 @@ abbrev pub AsmGives : {S : Type 0} → Call S → List ℕ → Status → Type 0
 AsmGives c name Done = (text : List ℕ) × (image : List ℕ) × IsFileRead c.files name most_text text × IsListing text image
     × Appended c.tells c.taken c.old c.new image × (c.seat ≡ None)
 -- a front of it was written
-AsmGives c name WriteFault = Rose c.out_before c.out_after × ((text : List ℕ) × (image : List ℕ) × IsFileRead c.files name most_text text × IsListing text image
+AsmGives c name WriteFault =
+    Rose c.out_before c.out_after × ((text : List ℕ) × (image : List ℕ) × IsFileRead c.files name most_text text × IsListing text image
     × AppendedFront c.tells c.taken c.old c.new image) × (c.seat ≡ None)
 -- the text is no listing, and this is its first bad line
 AsmGives c name (BadText line) = IsUntouched c × ((text : List ℕ) × IsFileRead c.files name most_text text × IsFirstBad text line)

@@ -15,7 +15,8 @@ use Rattle.nds_plays.specs.Plays.{Wrote, WroteFront}
 abbrev pub RunGives : {S : Type 0} → Call S → List ℕ → Option (List ℕ) → ℕ → Keep → List ℕ → Status → Type 0
 -- the whole output of the reference run from boot was written, which comes to the tick
 RunGives c cart keys ticks keep named Done = FromBoot c cart keys (λ boot.
-    Seated c boot ticks (λ k. Wrote c.tells c.taken ticks keep (switched_on boot) (At k.machine) k c.old c.new × (k.limit ≡ ticks) × (k.stopped ≡ None)))
+    Seated c boot ticks (λ k. Wrote c.tells c.taken ticks keep (switched_on boot) (At k.machine) k c.old c.new × (k.limit ≡ ticks)
+    × (k.stopped ≡ None)))
 -- the whole output of the reference run from boot was written, which stops there
 RunGives c cart keys ticks keep named (LeftOut left) = FromBoot c cart keys (λ boot.
     Seated c boot ticks (λ k. Wrote c.tells c.taken ticks keep (switched_on boot) (Stopped left) k c.old c.new × (k.stopped ≡ Some left)))

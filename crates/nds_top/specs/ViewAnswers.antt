@@ -20,8 +20,8 @@ use Rattle.nds_plays.specs.Watches.{TracedWhole, TracedToStop, TracedFront, peek
 
 -- When each answer to `trace`, to `peek` and to `demo` comes, and what it leaves. Want of memory is free.
 
--- when each answer of a command that runs a cartridge with a key script comes, and of which file it speaks: by what it did, where the cartridge ran; otherwise
--- the files are refused, nothing was written, and no console is left
+-- when each answer of a command that runs a cartridge with a key script comes, and of which file it speaks: by what it did, where the cartridge ran;
+-- otherwise the files are refused, nothing was written, and no console is left
 abbrev pub GivesBy : {S : Type 0} → Call S → List ℕ → Option (List ℕ) → (Played → MachineState → Type 0) → List ℕ → Status → Type 0
 GivesBy c cart keys did named Done = FromBoot c cart keys (did answers.Done)
 GivesBy c cart keys did named (LeftOut left) = FromBoot c cart keys (did (answers.LeftOut left))
@@ -39,14 +39,16 @@ TracedBy c ticks proc count answers.WriteFault boot =
 abbrev pub WroteAfter : {S : Type 0} → Call S → ℕ → (ConsoleState → List Shown → List ℕ) → Played → MachineState → Type 0
 -- the reference run comes to the tick, as the console's turns do, and they were written
 WroteAfter c ticks bytes answers.Done boot = Seated c boot ticks (λ k.
-    ((outs : List Shown) × Runs reference ticks (At k.machine) boot outs × Appended c.tells c.taken c.old c.new (bytes k outs)) × (k.limit ≡ ticks) × (k.stopped ≡ None)
+    ((outs : List Shown) × Runs reference ticks (At k.machine) boot outs × Appended c.tells c.taken c.old c.new (bytes k outs)) × (k.limit ≡ ticks)
+    × (k.stopped ≡ None)
     × TurnsToEnd ticks (switched_on boot) (At k.machine) k)
 -- it stops, and nothing was written
 WroteAfter c ticks bytes (answers.LeftOut left) boot =
     (c.new ≡ c.old) × Seated c boot ticks (λ k. ((outs : List Shown) × Runs reference ticks (Stopped left) boot outs) × (k.stopped ≡ Some left))
 -- it comes to the tick, and a front of them was written
 WroteAfter c ticks bytes answers.WriteFault boot = Rose c.out_before c.out_after × Seated c boot ticks (λ k.
-    ((outs : List Shown) × Runs reference ticks (At k.machine) boot outs × AppendedFront c.tells c.taken c.old c.new (bytes k outs)) × (k.limit ≡ ticks) × (k.stopped ≡ None)
+    ((outs : List Shown) × Runs reference ticks (At k.machine) boot outs × AppendedFront c.tells c.taken c.old c.new (bytes k outs))
+    × (k.limit ≡ ticks) × (k.stopped ≡ None)
     × TurnsToEnd ticks (switched_on boot) (At k.machine) k)
 
 -- when each answer to `trace` comes, and of which file it speaks

@@ -30,7 +30,8 @@ use std::alloc::Global;
 ///   as halves, `9t` and `7t`.
 /// - `asm FILE` writes the bytes whose listing the file is. All of it is read before the first byte is written.
 /// - `trace CART KEYS TICKS PROC COUNT` runs a cartridge as `run` does, to the tick at most, and writes a line for each of the first
-///   steps of ARM9, `9`, or ARM7, `7`: when it is taken, and what is executed. It runs no further than to the last line. A step at which the run stops has none.
+///   steps of ARM9, `9`, or ARM7, `7`: when it is taken, and what is executed. It runs no further than to the last line. A step at which the run
+///   stops has none.
 /// - `peek CART KEYS TICKS MEMORY PLACE LENGTH` runs a cartridge as `run` does, and writes bytes of a memory as they are at the tick.
 ///   MEMORY is `main`, `wram`, `wram7`, `itcm`, `dtcm`, `palette`, `vram` or `oam`. Where the run stops nothing is written.
 /// - `demo NUMBER TICKS` runs the cartridge that is made from a number, and writes how many bytes `run` would write of it with all frames and
@@ -48,7 +49,8 @@ pub fn ds_main<F: Shelf, O: Sink, N: Sink>(
     seat: &mut Option<Console>,
 ) -> Status
     requires { seat.old ≡ None }
-    ensures answer { Answered (around F.told F.faults O.tells O.taken O.faults shelf.old shelf.new out.old out.new seat.new) (map string_bytes words.now) result (λ line. Noted N.tells N.taken N.faults line notes.old notes.new) }
+    ensures answer { Answered (around F.told F.faults O.tells O.taken O.faults shelf.old shelf.new out.old out.new seat.new)
+        (map string_bytes words.now) result (λ line. Noted N.tells N.taken N.faults line notes.old notes.new) }
     ensures files { files_of (F.told shelf.new) ≡ files_of (F.told shelf.old) }
 {
     match read_words(words) {
@@ -74,7 +76,8 @@ fn carry_out<'a, F: Shelf, O: Sink>(
 ) -> Ended<'a>
     requires allowed { IsAllowed (asked_by command) }
     requires empty { seat.old ≡ None }
-    ensures answer { CommandGives (around F.told F.faults O.tells O.taken O.faults shelf.old shelf.new out.old out.new seat.new) (asked_by command.entry) result.file.now result.status }
+    ensures answer { CommandGives (around F.told F.faults O.tells O.taken O.faults shelf.old shelf.new out.old out.new seat.new)
+        (asked_by command.entry) result.file.now result.status }
     ensures files { files_of (F.told shelf.new) ≡ files_of (F.told shelf.old) }
 {
     match command {

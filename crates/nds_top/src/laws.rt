@@ -8,9 +8,10 @@ use nds_plays::trace_laws;
 use nds_words::{script_laws, word_laws};
 use run_ahead::{reference_laws, turn_laws};
 
-/// Does nothing; its contract states what follows from when each answer of `ds_main` comes, for calls in which no count of faults rose and whose shelf tells its files. Where the
-/// words ask for something whose files are there, short enough and accepted, and whose reference run comes to its tick, the answer is Done, or there was no memory; a listing or an
-/// assembling needs its own file alone, and a demo none. And but for want of memory the same words over the same files have one status, and write the same bytes.
+/// Does nothing; its contract states what follows from when each answer of `ds_main` comes, for calls in which no count of faults rose and whose
+/// shelf tells its files. Where the words ask for something whose files are there, short enough and accepted, and whose reference run comes to its
+/// tick, the answer is Done, or there was no memory; a listing or an assembling needs its own file alone, and a demo none. And but for want of memory
+/// the same words over the same files have one status, and write the same bytes.
 pub fn top_laws<F: Shelf, O: Sink, P: Sink>()
     ensures complete { IsComplete F.told F.faults O.tells O.taken O.faults }
     ensures one { AnswersAreOne F.told F.faults O.tells O.taken O.faults P.tells P.taken P.faults }

@@ -19,7 +19,7 @@
 //!   them; no console is left.
 //! - `peek`: exactly the lines of the memory's bytes in the state that the reference run comes to at the tick; under LeftOut nothing was
 //!   written; the seat has the console as after `run`.
-//! - `demo`: the same of four lines, on the cartridge that the number stands for: the length, modulo 2^64, and the SHA-256 of what `run`
+//! - `demo`: the same of four lines, on the cartridge that the number stands for: the length and the SHA-256 of what `run`
 //!   writes of it with `all`; no other answer comes but want of memory.
 //! - `notes` has what it had, followed by the status's line, or by a front of it where its count of faults rose; the name in the line is
 //!   that of the file which the status speaks of.

@@ -31,7 +31,8 @@ pub fn peek<'a, F: Shelf, O: Sink>(
     requires few { count ≤ 4096 }
     requires within { place + count ≤ memory_size memory }
     requires empty { seat.old ≡ None }
-    ensures answer { PeekGives (around F.told F.faults O.tells O.taken O.faults shelf.old shelf.new out.old out.new seat.new) files.entry.cart.now (option_map (λ name. name.now) files.entry.keys) ticks memory place count result.file.now result.status }
+    ensures answer { PeekGives (around F.told F.faults O.tells O.taken O.faults shelf.old shelf.new out.old out.new seat.new) files.entry.cart.now
+        (option_map (λ name. name.now) files.entry.keys) ticks memory place count result.file.now result.status }
     ensures files { files_of (F.told shelf.new) ≡ files_of (F.told shelf.old) }
 {
     if let Err(ended) = seat_run(alloc, files.cart, files.keys, shelf, seat) {

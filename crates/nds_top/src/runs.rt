@@ -26,7 +26,8 @@ pub fn run<'a, F: Shelf, O: Sink>(
 ) -> Ended<'a>
     requires early { ticks ≤ 100000000000 }
     requires empty { seat.old ≡ None }
-    ensures answer { RunGives (around F.told F.faults O.tells O.taken O.faults shelf.old shelf.new out.old out.new seat.new) files.entry.cart.now (option_map (λ name. name.now) files.entry.keys) ticks keep result.file.now result.status }
+    ensures answer { RunGives (around F.told F.faults O.tells O.taken O.faults shelf.old shelf.new out.old out.new seat.new) files.entry.cart.now
+        (option_map (λ name. name.now) files.entry.keys) ticks keep result.file.now result.status }
     ensures files { files_of (F.told shelf.new) ≡ files_of (F.told shelf.old) }
 {
     if let Err(ended) = seat_run(alloc, files.cart, files.keys, shelf, seat) {

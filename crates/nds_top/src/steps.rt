@@ -25,7 +25,8 @@ pub fn trace<'a, F: Shelf, O: Sink>(
     out: &mut O,
 ) -> Ended<'a>
     requires { ticks ≤ 100000000000 }
-    ensures answer { TraceGives (around F.told F.faults O.tells O.taken O.faults shelf.old shelf.new out.old out.new None) files.entry.cart.now (option_map (λ name. name.now) files.entry.keys) ticks proc count result.file.now result.status }
+    ensures answer { TraceGives (around F.told F.faults O.tells O.taken O.faults shelf.old shelf.new out.old out.new None) files.entry.cart.now
+        (option_map (λ name. name.now) files.entry.keys) ticks proc count result.file.now result.status }
     ensures files { files_of (F.told shelf.new) ≡ files_of (F.told shelf.old) }
 {
     let mut seat = empty_seat();
@@ -47,7 +48,8 @@ fn trace_seated<'a, F: Shelf, O: Sink>(
 ) -> Ended<'a>
     requires early { ticks ≤ 100000000000 }
     requires empty { seat.old ≡ None }
-    ensures answer { TraceGives (around F.told F.faults O.tells O.taken O.faults shelf.old shelf.new out.old out.new None) files.entry.cart.now (option_map (λ name. name.now) files.entry.keys) ticks proc count result.file.now result.status }
+    ensures answer { TraceGives (around F.told F.faults O.tells O.taken O.faults shelf.old shelf.new out.old out.new None) files.entry.cart.now
+        (option_map (λ name. name.now) files.entry.keys) ticks proc count result.file.now result.status }
     ensures files { files_of (F.told shelf.new) ≡ files_of (F.told shelf.old) }
 {
     if let Err(ended) = seat_run(alloc, files.cart, files.keys, shelf, seat) {

@@ -42,8 +42,10 @@ fn script_of(keys: &str) -> Option<&str>
 /// The files of a run and its tick.
 #[tactic(auto, using(crate::proofs::WordLists::keys_named))]
 fn run_words<'a>(cart: &'a str, keys: &'a str, ticks: &str) -> Option<(RunFiles<'a>, u64)>
-    ensures some { IfSome result (λ run. AskForRun cart.entry.now keys.entry.now ticks.now run.0.cart.now (option_map (λ name. name.now) run.0.keys) run.1) }
-    ensures none { IfNone result ((file : List ℕ) → (script : Option (List ℕ)) → (end : ℕ) → ¬ AskForRun cart.entry.now keys.entry.now ticks.now file script end) }
+    ensures some { IfSome result
+        (λ run. AskForRun cart.entry.now keys.entry.now ticks.now run.0.cart.now (option_map (λ name. name.now) run.0.keys) run.1) }
+    ensures none { IfNone result ((file : List ℕ) → (script : Option (List ℕ)) → (end : ℕ)
+        → ¬ AskForRun cart.entry.now keys.entry.now ticks.now file script end) }
 {
     if !is_name(cart) || !is_name(keys) {
         return None;
@@ -117,7 +119,8 @@ fn peek_of<'a>(
     place: &str,
     count: &str,
 ) -> Option<Command<'a>>
-    ensures some { IfSome result (λ c. Asks (codes "peek" ∷ cart.entry.now ∷ keys.entry.now ∷ ticks.now ∷ memory.now ∷ place.now ∷ count.now ∷ []) (asked_by c)) }
+    ensures some { IfSome result (λ c. Asks (codes "peek" ∷ cart.entry.now ∷ keys.entry.now ∷ ticks.now ∷ memory.now ∷ place.now ∷ count.now
+        ∷ []) (asked_by c)) }
     ensures none { IfNone result (AskNothing (codes "peek" ∷ cart.entry.now ∷ keys.entry.now ∷ ticks.now ∷ memory.now ∷ place.now ∷ count.now ∷ [])) }
 {
     let (files, ticks) = run_words(cart, keys, ticks)?;

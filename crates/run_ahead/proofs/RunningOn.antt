@@ -1,7 +1,7 @@
 use Rattle.std.proofs.Common.{ℕ, ◌≡◌, ◌+◌, [], max, refl, sym, ◌∙◌, ap, subst, arith}
 use Rattle.ds_machine.specs.Frames.{last_frame, last_lists}
 use Rattle.run_ahead.specs.Consoles.{ConsoleState}
-use Rattle.run_ahead.specs.Turns.{Turns, GoesOn, RanOn, run_to, one_more_turn, counted_of, turns_in, HasTurned, none, turn}
+use Rattle.run_ahead.specs.Turns.{Turns, GoesOn, RanOn, run_to, one_more_turn, counted_of, turns_in, HasTurned, no_turn, one_turn}
 use Rattle.run_ahead.specs.declared.turns.Turned as turned
 use Rattle.run_ahead.specs.declared.turns.Turned.TheVariants as answers
 use Rattle.run_ahead.proofs.TurnLaws.{turns_add_up}
@@ -10,8 +10,8 @@ use Rattle.run_ahead.proofs.TurnLaws.{turns_add_up}
 
 -- turns and then more turns
 pub turned_twice : (until : ℕ) (a b c : ConsoleState) → HasTurned until a b → HasTurned until b c → HasTurned until a c
-turned_twice until a b c first (none start) = first
-turned_twice until a b c first (turn start before now answer earlier last) = turn a before now answer (turned_twice until a start before first earlier) last
+turned_twice until a b c first (no_turn start) = first
+turned_twice until a b c first (one_turn start before now answer earlier last) = one_turn a before now answer (turned_twice until a start before first earlier) last
 
 max_twice : (a b c : ℕ) → max a c ≡ max b c → max (max a c) c ≡ max b c
 max_twice a b c h = omega (arith, h)
@@ -26,7 +26,7 @@ raised_again until start before now raised is =
 -- before the first the console ran on
 pub ran_first : (until : ℕ) (start : ConsoleState) → RanOn until start start
 ran_first until start = record {
-  turned = none start;
+  turned = no_turn start;
   each_ran = tt;
   stopped = refl;
   limit = refl;
@@ -39,7 +39,7 @@ ran_first until start = record {
 pub ran_more : (until : ℕ) (start before now : ConsoleState) → RanOn until start before → Turns until before answers.Ran now → GoesOn until before.machine now.machine []
     → last_frame now.machine ≡ last_frame before.machine → last_lists now.machine ≡ last_lists before.machine → RanOn until start now
 ran_more until start before now ran last on frame lists = record {
-  turned = turn start before now answers.Ran ran.turned last;
+  turned = one_turn start before now answers.Ran ran.turned last;
   each_ran = (ran.each_ran, refl);
   stopped = ap (λ (x : ConsoleState). x.stopped) last.2 ∙ ran.stopped;
   limit = raised_again until start before now ran.limit last.2;
@@ -51,4 +51,4 @@ ran_more until start before now ran last on frame lists = record {
 -- what these and a last one add to the counts
 pub up_to_counts : (until : ℕ) (start before now : ConsoleState) (answer : turned.Turned) (ran : RanOn until start before) → Turns until before answer now
     → now.turns ≡ counted_of answer + turns_in ran.turned + start.turns
-up_to_counts until start before now answer ran last = turns_add_up until start now (turn start before now answer ran.turned last)
+up_to_counts until start before now answer ran last = turns_add_up until start now (one_turn start before now answer ran.turned last)

@@ -17,7 +17,7 @@ use Rattle.ds_machine.specs.Sound.{IsSound}
 use Rattle.ds_machine.specs.StepAnswers.{Steps}
 use Rattle.ds_machine.specs.States.{MachineState, counts_of}
 use Rattle.ds_machine.specs.Steps.{processor_of, tick_of}
-use Rattle.ds_machine.specs.TurnSteps.{BelongsToTurn, IsLeastBelow, MayAct, TakesSteps, none, more, own_remaining}
+use Rattle.ds_machine.specs.TurnSteps.{BelongsToTurn, IsLeastBelow, MayAct, TakesSteps, no_steps, more_steps, own_remaining}
 use Rattle.ds_machine.specs.declared.answers.Done as answer
 use Rattle.ds_machine.specs.declared.answers.Done.TheVariants.{Made, Frame, Stopped}
 use Rattle.ds_machine.proofs.ActingDues.{acting_processor}
@@ -36,8 +36,8 @@ use Rattle.run_ahead.specs.Turns.{GoesOn, StretchStops, TakesStretch}
 
 -- some steps and then more
 pub takes_twice : (until : ℕ) (proc : Proc) (a b c : MachineState) → TakesSteps until proc a b → TakesSteps until proc b c → TakesSteps until proc a c
-takes_twice until proc a b c first (none start) = first
-takes_twice until proc a b c first (more start before caught next earlier belongs catches h) = more a before caught next (takes_twice until proc a start before first earlier) belongs catches h
+takes_twice until proc a b c first (no_steps start) = first
+takes_twice until proc a b c first (more_steps start before caught next earlier belongs catches h) = more_steps a before caught next (takes_twice until proc a start before first earlier) belongs catches h
 
 -- some steps and then a stretch
 pub took_twice : (until : ℕ) (proc : Proc) (a b c : MachineState) (stop : Option LeftOut) → TakesSteps until proc a b → TookStretch until proc b stop c → TookStretch until proc a stop c
@@ -86,8 +86,8 @@ sound_along until proc start now sound steps = (takes_along until proc start now
 
 -- the processor has no more ticks left
 pub own_along : (until : ℕ) (proc : Proc) (start now : MachineState) → IsSound start → TakesSteps until proc start now → own_remaining until now proc ≤ own_remaining until start proc
-own_along until proc start now sound (none s) = omega arith
-own_along until proc start now sound (more s before caught next earlier belongs catches h) =
+own_along until proc start now sound (no_steps s) = omega arith
+own_along until proc start now sound (more_steps s before caught next earlier belongs catches h) =
     let k = own_along until proc s before sound earlier in
     let falls = turn_steps_fall until before caught next proc [] (sound_along until proc s before sound earlier) belongs catches h in
     omega (arith, k, falls)
@@ -106,8 +106,8 @@ abbrev pub TookSome : MachineState → MachineState → Type 0
 TookSome start now = counts_of start < counts_of now
 
 some_or_none : (until : ℕ) (proc : Proc) (start now : MachineState) → IsSound start → TakesSteps until proc start now → (now ≡ start) ⊎ TookSome start now
-some_or_none until proc start now sound (none s) = inl refl
-some_or_none until proc start now sound (more s before caught next earlier belongs catches h) =
+some_or_none until proc start now sound (no_steps s) = inl refl
+some_or_none until proc start now sound (more_steps s before caught next earlier belongs catches h) =
     let along = takes_along until proc s before sound earlier in
     let few = along.more in
     let one = (acted_keeps before next (tick_of (processor_of before proc)) (rank_of proc) [] along.sound (belongs_acted until before caught next proc [] belongs catches h)).more in
@@ -139,8 +139,8 @@ first_fewer until start before caught next proc same sound first belongs catches
 -- and no further one leaves more
 fewer_along : (until : ℕ) (proc : Proc) (start now : MachineState) → IsSound start → IsLeastBelow until start proc → TakesSteps until proc start now
     → (now ≡ start) ⊎ (places_left until now < places_left until start)
-fewer_along until proc start now sound first (none s) = inl refl
-fewer_along until proc start now sound first (more s before caught next earlier belongs catches h) = elim (fewer_along until proc s before sound first earlier) [
+fewer_along until proc start now sound first (no_steps s) = inl refl
+fewer_along until proc start now sound first (more_steps s before caught next earlier belongs catches h) = elim (fewer_along until proc s before sound first earlier) [
   | inl same ↦ inr (first_fewer until s before caught next proc same (sound_along until proc s before sound earlier) first belongs catches h)
   | inr fewer ↦
       (let here = sound_along until proc s before sound earlier in

@@ -10,7 +10,7 @@ use Rattle.ds_machine.specs.Reference.{Shown, next_shown, reference_step}
 use Rattle.ds_machine.specs.Sound.{IsSound}
 use Rattle.ds_machine.specs.States.{MachineState}
 use Rattle.ds_machine.specs.Steps.{processor_of}
-use Rattle.ds_machine.specs.TurnSteps.{BelongsToTurn, TakesSteps, none, more, own_remaining, ticks_left}
+use Rattle.ds_machine.specs.TurnSteps.{BelongsToTurn, TakesSteps, no_steps, more_steps, own_remaining, ticks_left}
 use Rattle.ds_machine.proofs.ActingDues.{acting_processor, due_where_acts}
 use Rattle.ds_machine.proofs.DueTicks.{own_tick}
 use Rattle.ds_machine.proofs.OwnRemaining.{turn_steps_fall}
@@ -49,8 +49,8 @@ module _ (until : ℕ) (tick : Tick) (proc : Proc) (s : MachineState) (sound : I
   at_most_one : (now : MachineState) → TakesSteps until proc s now → (now ≡ s) ⊎ StepsOnce now
   at_most_one now steps = go s now steps refl where
     go : (start now : MachineState) → TakesSteps until proc start now → start ≡ s → (now ≡ s) ⊎ StepsOnce now
-    go start now (none m) is = inl is
-    go start now (more m before caught next earlier belongs catches h) is = elim (go m before earlier is) [
+    go start now (no_steps m) is = inl is
+    go start now (more_steps m before caught next earlier belongs catches h) is = elim (go m before earlier is) [
       | inl same ↦ (let P : MachineState → Type 0 = λ x. CatchesUpFor (processor_of x proc).due (rank_of proc) x caught in inr (caught, subst P same catches, h))
       | inr once ↦ absurd (none_after before once belongs)
     ]

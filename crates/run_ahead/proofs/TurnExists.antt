@@ -17,7 +17,7 @@ use Rattle.ds_machine.specs.Reference.{Shown, next_shown, reference_step}
 use Rattle.ds_machine.specs.StepAnswers.{Steps}
 use Rattle.ds_machine.specs.States.{MachineState}
 use Rattle.ds_machine.specs.Steps.{processor_of}
-use Rattle.ds_machine.specs.TurnSteps.{BelongsToTurn, IsLeastBelow, TakesSteps, none, more, own_remaining, ticks_left}
+use Rattle.ds_machine.specs.TurnSteps.{BelongsToTurn, IsLeastBelow, TakesSteps, no_steps, more_steps, own_remaining, ticks_left}
 use Rattle.ds_machine.specs.declared.answers.Done as answer
 use Rattle.ds_machine.specs.declared.answers.Done.TheVariants as answers
 use Rattle.ds_machine.proofs.ActingDues.{acting_low, quiet_or_loud}
@@ -30,7 +30,7 @@ use Rattle.ds_machine.proofs.StepsMay.{answer_of}
 use Rattle.gx_fifo.specs.GxStates.{gx_finished}
 use Rattle.run_ahead.specs.Consoles.{ConsoleState}
 use Rattle.run_ahead.specs.Inside.{TookStretch, TookTurn}
-use Rattle.run_ahead.specs.ToEnd.{HasTurnsToEnd, TurnsEnd, TurnsToEnd, at_end, counts, stops}
+use Rattle.run_ahead.specs.ToEnd.{HasTurnsToEnd, TurnsEnd, TurnsToEnd, at_end, counts, meets_stop}
 use Rattle.run_ahead.specs.Turns.{Turns, counted_of, one_more_turn, run_to, turns_remaining}
 use Rattle.run_ahead.specs.declared.turns.Turned as turned
 use Rattle.run_ahead.specs.declared.turns.Turned.TheVariants as turns
@@ -53,15 +53,15 @@ catch_test tick rank start s sound takes true e rec =
     let here = (caught_so tick rank start s sound takes).sound in
     let next = late_put (gx_finished s.io.gx) s in
     let makes = quiet_step s here (behind_is tick rank s e).quiet in
-    rec next (lagging.more start s next takes e makes) (fewer_left tick rank s next here e makes)
+    rec next (lagging.more_geometry start s next takes e makes) (fewer_left tick rank s next here e makes)
 
 catches_from : (n tick rank : ℕ) (start s : MachineState) → IsSound start → TakesGeometry tick rank start s → ticks_left (tick + 1) s.io.gx.due ≤ n → HasCaught tick rank start
-catches_from zero tick rank start s sound takes few = catch_test tick rank start s sound takes (is_behind tick rank s) refl (λ next more falls. absurd (omega (arith, falls, few)))
+catches_from zero tick rank start s sound takes few = catch_test tick rank start s sound takes (is_behind tick rank s) refl (λ next more_steps falls. absurd (omega (arith, falls, few)))
 catches_from (suc n) tick rank start s sound takes few =
-    catch_test tick rank start s sound takes (is_behind tick rank s) refl (λ next more falls. catches_from n tick rank start next sound more (omega (arith, falls, few)))
+    catch_test tick rank start s sound takes (is_behind tick rank s) refl (λ next more_steps falls. catches_from n tick rank start next sound more_steps (omega (arith, falls, few)))
 
 catches_up : (tick rank : ℕ) (s : MachineState) → IsSound s → (caught : MachineState) × CatchesUp tick rank s caught
-catches_up tick rank s sound = catches_from (ticks_left (tick + 1) s.io.gx.due) tick rank s s sound (lagging.none s) (omega arith)
+catches_up tick rank s sound = catches_from (ticks_left (tick + 1) s.io.gx.due) tick rank s s sound (lagging.no_geometry s) (omega arith)
 
 catches_if : (observes : Bool) (tick rank : ℕ) (s : MachineState) → IsSound s → (caught : MachineState) × CatchesUpIf observes tick rank s caught
 catches_if true tick rank s sound = catches_up tick rank s sound
@@ -95,7 +95,7 @@ module _ (until : ℕ) (proc : Proc) (start : MachineState) (sound : IsSound sta
     by_step b caught catches (Stops left next) e = (Some left, next, (s, takes, b, (caught, catches, e)))
     by_step b caught catches (Makes next outs) e =
         let h = makes_nothing b caught catches next outs e in
-        rec next (more start s caught next takes b catches h) (turn_steps_fall until s caught next proc [] here b catches h)
+        rec next (more_steps start s caught next takes b catches h) (turn_steps_fall until s caught next proc [] here b catches h)
 
     by_test : (BelongsToTurn until s proc) ⊎ (BelongsToTurn until s proc → ⊥) → HasStretch until proc start
     by_test (inr never) = (None, s, (takes, never))
@@ -106,7 +106,7 @@ module _ (until : ℕ) (proc : Proc) (start : MachineState) (sound : IsSound sta
   stretch_from (suc n) s takes few = stretch_step s takes (λ next further falls. stretch_from n next further (omega (arith, falls, few)))
 
   has_stretch : HasStretch until proc start
-  has_stretch = stretch_from (own_remaining until start proc) start (none start) (omega arith)
+  has_stretch = stretch_from (own_remaining until start proc) start (no_steps start) (omega arith)
 
 -- ---- a machine takes a turn
 
@@ -166,7 +166,7 @@ module _ (until : ℕ) (c : ConsoleState) (still_open : c.stopped ≡ None) (sou
   console_took answers.Made next t = (turns.Ran, one_more_turn (run_to c until next), (still_open, t, refl))
   console_took (answers.Frame swapped) next t = (turns.Frame swapped, one_more_turn (run_to c until next), (still_open, t, refl))
   console_took (answers.Stopped left) next t =
-      (turns.Stopped left, record (run_to c until next) { stopped = Some left }, (λ none. (t, refl), λ some. absurd (true≢false (sym (subst (λ (o : Option LeftOut). IsSome o) still_open some)))))
+      (turns.Stopped left, record (run_to c until next) { stopped = Some left }, (λ no_steps. (t, refl), λ some. absurd (true≢false (sym (subst (λ (o : Option LeftOut). IsSome o) still_open some)))))
 
   has_turn : HasTurn until c
   has_turn =
@@ -210,7 +210,7 @@ module _ (until : ℕ) (c : ConsoleState) (still_open : c.stopped ≡ None) (sou
   one_more : (n : ℕ) → turns_remaining until c.machine ≤ n → ((k : ℕ) → k < n → AllEndFrom until k) → (a : turned.Turned) (new : ConsoleState) → Turns until c a new → counted_of a ≡ 1
       → HasTurnsToEnd until c
   one_more n few rec a new t one =
-      let falls = turn_falls until c a new (λ none. sound) t one in
+      let falls = turn_falls until c a new (λ no_steps. sound) t one in
       let go = further until c new a sound t one in
       let rest = rec (turns_remaining until new.machine) (omega (arith, falls, few)) new go.still_open go.sound (omega arith) in
       (rest.0, rest.1, counts c new rest.1 a rest.0 one t rest.2)
@@ -219,7 +219,7 @@ module _ (until : ℕ) (c : ConsoleState) (still_open : c.stopped ≡ None) (sou
   goes_to_end n few rec turns.Ran new t = one_more n few rec turns.Ran new t refl
   goes_to_end n few rec (turns.Frame swapped) new t = one_more n few rec (turns.Frame swapped) new t refl
   goes_to_end n few rec turns.AtEnd new t = (_, new, at_end c new t)
-  goes_to_end n few rec (turns.Stopped left) new t = (_, new, stops c new left t)
+  goes_to_end n few rec (turns.Stopped left) new t = (_, new, meets_stop c new left t)
 
 all_end : (until n : ℕ) → (k : ℕ) → k < n → AllEndFrom until k
 all_end until zero k lt c still_open sound few = absurd (omega (arith, lt))

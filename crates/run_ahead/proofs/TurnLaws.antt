@@ -15,7 +15,7 @@ use Rattle.ds_machine.proofs.CatchingUp.{caught_so, catching_up_runs}
 use Rattle.ds_machine.proofs.MachineSchedule.{reference_schedules}
 use Rattle.ds_machine.proofs.TurnSteps.{takes_along}
 use Rattle.run_ahead.specs.Consoles.{ConsoleState}
-use Rattle.run_ahead.specs.Turns.{TakesEvent, TakesQuiet, MeetsStop, Turns, RunsOn, GoesOn, HasRuns, turns_remaining, one_if, counted_of, shown_in, turns_in, HasTurned, none, turn, TurnsAddUp}
+use Rattle.run_ahead.specs.Turns.{TakesEvent, TakesQuiet, MeetsStop, Turns, RunsOn, GoesOn, HasRuns, turns_remaining, one_if, counted_of, shown_in, turns_in, HasTurned, no_turn, one_turn, TurnsAddUp}
 use Rattle.run_ahead.specs.declared.turns.Turned as turned
 use Rattle.run_ahead.specs.declared.turns.Turned.TheVariants as answers
 use Rattle.run_ahead.proofs.StepTurns.{before_all, event_acted, event_keeps, event_leaves}
@@ -115,8 +115,8 @@ turn_counts until old (answers.Stopped left) new t = let e = stopped_counts unti
 pub turns_add_up : TurnsAddUp
 turns_add_up until start now t = add t where
   add : {until : ℕ} {start now : ConsoleState} (t : HasTurned until start now) → now.turns ≡ turns_in t + start.turns
-  add (none start) = omega arith
-  add {until} (turn start before now answer earlier last) =
+  add (no_turn start) = omega arith
+  add {until} (one_turn start before now answer earlier last) =
       let e = turn_counts until before answer now last in
       let f = add earlier in
       omega (arith, e, f)

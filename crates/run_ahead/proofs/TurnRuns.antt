@@ -8,7 +8,7 @@ use Rattle.ds_machine.specs.States.{MachineState}
 use Rattle.ds_machine.specs.Sound.{IsSound}
 use Rattle.ds_machine.specs.Reference.{Shown, reference}
 use Rattle.run_ahead.specs.Consoles.{ConsoleState}
-use Rattle.run_ahead.specs.ToEnd.{TurnsEndAsRuns, TurnsKeepRuns, TurnsOn, TurnsStopAsRuns, TurnsToEnd, at_end, counts, stops, none, turn}
+use Rattle.run_ahead.specs.ToEnd.{TurnsEndAsRuns, TurnsKeepRuns, TurnsOn, TurnsStopAsRuns, TurnsToEnd, at_end, counts, meets_stop, no_turn_on, one_turn_on}
 use Rattle.run_ahead.specs.Turns.{GoesOn, HasTurned, EachRan, Turns, counted_of, shown_in}
 use Rattle.run_ahead.specs.Turns as one_limit
 use Rattle.run_ahead.specs.declared.turns.Turned as turned
@@ -28,12 +28,12 @@ record LeadsOn (until : ℕ) (old new : ConsoleState) (a : turned.Turned) : Type
 leads_on : (until : ℕ) (old new : ConsoleState) (a : turned.Turned) → GoesFurther old → Turns until old a new → new.stopped ≡ None → LeadsOn until old new a
 leads_on until old new answers.Ran so t open_ = record {
   still = further until old new answers.Ran so.sound t refl;
-  goes = runs_on until old answers.Ran new (λ none. so.sound) t so.still_open;
+  goes = runs_on until old answers.Ran new (λ no_turn_on. so.sound) t so.still_open;
   limit = ap (λ (x : ConsoleState). x.limit) t.2;
 }
 leads_on until old new (answers.Frame swapped) so t open_ = record {
   still = further until old new (answers.Frame swapped) so.sound t refl;
-  goes = runs_on until old (answers.Frame swapped) new (λ none. so.sound) t so.still_open;
+  goes = runs_on until old (answers.Frame swapped) new (λ no_turn_on. so.sound) t so.still_open;
   limit = ap (λ (x : ConsoleState). x.limit) t.2;
 }
 leads_on until old new answers.AtEnd so t open_ =
@@ -51,8 +51,8 @@ leads_on until old new (answers.Stopped left) so t open_ =
 pub turns_end_as_runs : TurnsEndAsRuns
 turns_end_as_runs until c last end open_ sound (at_end _ new t) =
     let same : new.machine ≡ c.machine = ap (λ (x : ConsoleState). x.machine) t.2 in
-    ([], subst (λ (m : MachineState). Runs reference until (At m) c.machine []) (sym same) (runs_on until c answers.AtEnd new (λ none. sound) t open_))
-turns_end_as_runs until c last end open_ sound (stops _ new left t) = ([], runs_on until c (answers.Stopped left) new (λ none. sound) t open_)
+    ([], subst (λ (m : MachineState). Runs reference until (At m) c.machine []) (sym same) (runs_on until c answers.AtEnd new (λ no_turn_on. sound) t open_))
+turns_end_as_runs until c last end open_ sound (meets_stop _ new left t) = ([], runs_on until c (answers.Stopped left) new (λ no_turn_on. sound) t open_)
 turns_end_as_runs until c last end open_ sound (counts _ next _ a _ one t rest) =
     let still = further until c next a sound t one in
     let k = leads_on until c next a (record { still_open = open_; sound = sound }) t still.still_open in
@@ -62,8 +62,8 @@ turns_end_as_runs until c last end open_ sound (counts _ next _ a _ one t rest) 
 -- what ran on goes to the end that is left
 pub ran_to_end : (until : ℕ) (start now last : ConsoleState) (end : Ending MachineState LeftOut) (t : HasTurned until start now) → EachRan t → TurnsToEnd until now end last
     → TurnsToEnd until start end last
-ran_to_end until start now last end (one_limit.none _) each rest = rest
-ran_to_end until start now last end (one_limit.turn _ before _ a earlier t) each rest =
+ran_to_end until start now last end (one_limit.no_turn _) each rest = rest
+ran_to_end until start now last end (one_limit.one_turn _ before _ a earlier t) each rest =
     ran_to_end until start before last end earlier each.0 (counts before now last a end (ap counted_of each.1) t rest)
 
 -- ---- with a limit each
@@ -92,8 +92,8 @@ was_open until old new (answers.Stopped left) t open_ = by_stop old.stopped refl
   by_stop (Some l) e = (let k = t.1 (subst (λ (o : Option LeftOut). IsSome o) (sym e) refl) in sym (ap (λ (x : ConsoleState). x.stopped) k.1) ∙ open_)
 
 along : (start now : ConsoleState) (front : List Shown) → GoesFurther start → TurnsOn start now front → now.stopped ≡ None → Along start now front
-along start now front so (none _) open_ = record { still = so; keeps = λ limit le end outs run. run }
-along start now front so (turn _ before _ outs until a earlier t) open_ =
+along start now front so (no_turn_on _) open_ = record { still = so; keeps = λ limit le end outs run. run }
+along start now front so (one_turn_on _ before _ outs until a earlier t) open_ =
     let k = along start before outs so earlier (was_open until before now a t open_) in
     let on = leads_on until before now a k.still t open_ in
     let shown = shown_in a before.machine now.machine in
@@ -125,7 +125,7 @@ module _ (start before now : ConsoleState) (outs : List Shown) (until : ℕ) (le
       let limit : now.limit ≡ max before.limit until = ap (λ (x : ConsoleState). x.limit) k.1 in
       let same : stop ≡ left = same_Some stop left (sym (ap (λ (x : ConsoleState). x.stopped) k.1) ∙ is) in
       let so_far = along start before outs so earlier e in
-      let run = subst (λ (l : LeftOut). Runs reference until (runs.Stopped l) before.machine []) same (runs_on until before (answers.Stopped stop) now (λ none. so_far.still.sound) t e) in
+      let run = subst (λ (l : LeftOut). Runs reference until (runs.Stopped l) before.machine []) same (runs_on until before (answers.Stopped stop) now (λ no_turn_on. so_far.still.sound) t e) in
       so_far.keeps now.limit (omega (arith, limit)) (runs.Stopped left) [] (stops_later until now.limit left before.machine [] (omega (arith, limit)) run)
 
   stopped_before : (a : turned.Turned) → Turns until before a now → (stop : LeftOut) → before.stopped ≡ Some stop
@@ -134,12 +134,12 @@ module _ (start before now : ConsoleState) (outs : List Shown) (until : ℕ) (le
       let k = stopped_is until before now stop e a t in
       let run = rec (ap (λ (x : ConsoleState). x.stopped) (sym k.1) ∙ is) in
       let P : List Shown → Type 0 = λ x. Runs reference now.limit (runs.Stopped left) start.machine x in
-      let none : outs ++ shown_in a before.machine now.machine ≡ outs = ap (λ (x : turned.Turned). outs ++ shown_in x before.machine now.machine) k.0 ∙ append-nil outs in
-      subst P (sym none) (subst (λ (x : ConsoleState). Runs reference x.limit (runs.Stopped left) start.machine outs) (sym k.1) run)
+      let no_turn_on : outs ++ shown_in a before.machine now.machine ≡ outs = ap (λ (x : turned.Turned). outs ++ shown_in x before.machine now.machine) k.0 ∙ append-nil outs in
+      subst P (sym no_turn_on) (subst (λ (x : ConsoleState). Runs reference x.limit (runs.Stopped left) start.machine outs) (sym k.1) run)
 
 pub turns_stop_as_runs : TurnsStopAsRuns
-turns_stop_as_runs start now front open_ sound (none _) left is = absurd (none-some left (sym open_ ∙ is))
-turns_stop_as_runs start now front open_ sound (turn _ before _ outs until a earlier t) left is =
+turns_stop_as_runs start now front open_ sound (no_turn_on _) left is = absurd (none-some left (sym open_ ∙ is))
+turns_stop_as_runs start now front open_ sound (one_turn_on _ before _ outs until a earlier t) left is =
     by_stop before.stopped refl (λ was. turns_stop_as_runs start before outs open_ sound earlier left was) where
       so : GoesFurther start
       so = record { still_open = open_; sound = sound }

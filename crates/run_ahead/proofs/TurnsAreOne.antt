@@ -23,7 +23,7 @@ use Rattle.ds_machine.proofs.ActingDues.{due_where_acts}
 use Rattle.ds_machine.proofs.CatchingUp.{behind_is}
 use Rattle.ds_machine.proofs.DueTicks.{due_of_rank}
 use Rattle.run_ahead.specs.Consoles.{ConsoleState}
-use Rattle.run_ahead.specs.ToEnd.{TurnIsOne, TurnsAreOne, TurnsToEnd, at_end, counts, stops}
+use Rattle.run_ahead.specs.ToEnd.{TurnIsOne, TurnsAreOne, TurnsToEnd, at_end, counts, meets_stop}
 use Rattle.run_ahead.specs.Turns.{MeetsStop, TakesEvent, TakesQuiet, TakesStretch, Turns, counted_of, one_more_turn, run_to}
 use Rattle.run_ahead.specs.declared.turns.Turned as turned
 use Rattle.run_ahead.specs.declared.turns.Turned.TheVariants as answers
@@ -72,8 +72,8 @@ abbrev GeometrySteps : ℕ → ℕ → MachineState → MachineState → Type 0
 GeometrySteps tick rank s next = (is_behind tick rank s ≡ true) × (reference_step 12 s ≡ Makes next [])
 
 geometry_chain : (tick rank : ℕ) (s now : MachineState) → TakesGeometry tick rank s now → Chain (GeometrySteps tick rank) s now
-geometry_chain tick rank s now (lagging.none _) = none s
-geometry_chain tick rank s now (lagging.more start before _ earlier behind h) = more start before now (geometry_chain tick rank start before earlier) (behind, h)
+geometry_chain tick rank s now (lagging.no_geometry _) = none s
+geometry_chain tick rank s now (lagging.more_geometry start before _ earlier behind h) = more start before now (geometry_chain tick rank start before earlier) (behind, h)
 
 caught_one : (tick rank : ℕ) (s a b : MachineState) → CatchesUp tick rank s a → CatchesUp tick rank s b → a ≡ b
 caught_one tick rank s a b first second =
@@ -98,8 +98,8 @@ abbrev OwnStep : ℕ → Proc → MachineState → MachineState → Type 0
 OwnStep until proc s next = BelongsToTurn until s proc × Comes (processor_of s proc).due (rank_of proc) s (Makes next [])
 
 own_chain : (until : ℕ) (proc : Proc) (s now : MachineState) → TakesSteps until proc s now → Chain (OwnStep until proc) s now
-own_chain until proc s now (steps.none _) = none s
-own_chain until proc s now (steps.more start before caught _ earlier belongs catches h) =
+own_chain until proc s now (steps.no_steps _) = none s
+own_chain until proc s now (steps.more_steps start before caught _ earlier belongs catches h) =
     more start before now (own_chain until proc start before earlier) (belongs, (caught, catches, h))
 
 -- how they end: none belongs to the turn, or one stops
@@ -338,7 +338,7 @@ record Opens (until : ℕ) (c : ConsoleState) (end : Ending MachineState LeftOut
 
 opens : (until : ℕ) (c last : ConsoleState) (end : Ending MachineState LeftOut) → TurnsToEnd until c end last → Opens until c end last
 opens until c last end (at_end _ new t) = record { answer = answers.AtEnd; next = new; first = t; rest = inr (refl, refl, refl) }
-opens until c last end (stops _ new left t) = record { answer = answers.Stopped left; next = new; first = t; rest = inr (refl, refl, refl) }
+opens until c last end (meets_stop _ new left t) = record { answer = answers.Stopped left; next = new; first = t; rest = inr (refl, refl, refl) }
 opens until c last end (counts _ next _ a _ one t rest) = record { answer = a; next = next; first = t; rest = inl (one, rest) }
 
 not_one : (a b : turned.Turned) → a ≡ b → counted_of a ≡ 0 → counted_of b ≡ 1 → ⊥
@@ -356,7 +356,7 @@ last_turn until c new last end a t adds_none second =
 
 pub turns_are_one : TurnsAreOne
 turns_are_one until c last last₂ end end₂ (at_end _ new t) second = last_turn until c new last₂ end₂ answers.AtEnd t refl second
-turns_are_one until c last last₂ end end₂ (stops _ new left t) second = last_turn until c new last₂ end₂ (answers.Stopped left) t refl second
+turns_are_one until c last last₂ end end₂ (meets_stop _ new left t) second = last_turn until c new last₂ end₂ (answers.Stopped left) t refl second
 turns_are_one until c last last₂ end end₂ (counts _ next _ a _ one t rest) second =
     let k = opens until c last₂ end₂ second in
     let s = turn_is_one until c next k.next a k.answer t k.first in

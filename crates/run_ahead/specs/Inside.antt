@@ -26,7 +26,8 @@ abbrev pub TookStretch : ℕ → Proc → MachineState → Option LeftOut → Ma
 TookStretch until proc old None new = TakesSteps until proc old new × ¬ BelongsToTurn until new proc
 TookStretch until proc old (Some left) new =
     (before : MachineState) × TakesSteps until proc old before × BelongsToTurn until before proc
-    × ((caught : MachineState) × CatchesUpFor (processor_of before proc).due (rank_of proc) before caught × (reference_step (rank_of proc) caught ≡ Stops left new))
+    × ((caught : MachineState) × CatchesUpFor (processor_of before proc).due (rank_of proc) before caught
+    × (reference_step (rank_of proc) caught ≡ Stops left new))
 
 -- a step of a processor's turn, wherever it isn't known to be of the fast path, by what came of it, with the stop if there is one
 abbrev pub TookSlowly : ℕ → Proc → MachineState → Slow → Option LeftOut → MachineState → Type 0
@@ -35,7 +36,8 @@ TookSlowly until proc old slow.Took stop new =
     × (reference_step (rank_of proc) caught ≡ Makes new [])) × (stop ≡ None)
 TookSlowly until proc old slow.Over stop new = (¬ BelongsToTurn until old proc) × (new ≡ old) × (stop ≡ None)
 TookSlowly until proc old slow.Stopped stop new =
-    BelongsToTurn until old proc × ((left : LeftOut) × (stop ≡ Some left) × ((caught : MachineState) × CatchesUpFor (processor_of old proc).due (rank_of proc) old caught
+    BelongsToTurn until old proc
+    × ((left : LeftOut) × (stop ≡ Some left) × ((caught : MachineState) × CatchesUpFor (processor_of old proc).due (rank_of proc) old caught
     × (reference_step (rank_of proc) caught ≡ Stops left new)))
 
 -- a machine took a turn below a limit, by what it came to

@@ -50,5 +50,6 @@ pub record IsTickBefore (until : ℕ) (s : MachineState) : Type 0 where
 
 -- so it is where the turn's limit is the tick after that: a processor is due later after its step
 abbrev pub TurnsOfOneTick : Type 0
-TurnsOfOneTick = (until : ℕ) (old : ConsoleState) (answer : Turned) (new : ConsoleState) → IsSound old.machine → old.stopped ≡ None → IsTickBefore until old.machine
+TurnsOfOneTick = (until : ℕ) (old : ConsoleState) (answer : Turned) (new : ConsoleState) → IsSound old.machine → old.stopped ≡ None
+    → IsTickBefore until old.machine
     → Turns until old answer new → IsTickTurn until old.machine answer new.machine

@@ -12,12 +12,13 @@ use Rattle.run_ahead.specs.declared.turns.Turned.TheVariants.{AtEnd, Stopped}
 
 -- Turns one after another: with one limit up to their end, and with a limit each.
 
--- turns with a limit from a console on, up to the first that doesn't count: no actor is due below the limit, or it stops. How they end, and the console then, whose count of
--- turns is the run's
+-- turns with a limit from a console on, up to the first that doesn't count: no actor is due below the limit, or it stops. How they end, and the
+-- console then, whose count of turns is the run's
 pub data TurnsToEnd (until : ℕ) : ConsoleState → Ending MachineState LeftOut → ConsoleState → Type 0 where
   at_end : (old new : ConsoleState) → Turns until old AtEnd new → TurnsToEnd until old (At new.machine) new
-  stops : (old new : ConsoleState) (left : LeftOut) → Turns until old (Stopped left) new → TurnsToEnd until old (runs.Stopped left) new
-  counts : (old next last : ConsoleState) (answer : Turned) (end : Ending MachineState LeftOut) → counted_of answer ≡ 1 → Turns until old answer next → TurnsToEnd until next end last
+  meets_stop : (old new : ConsoleState) (left : LeftOut) → Turns until old (Stopped left) new → TurnsToEnd until old (runs.Stopped left) new
+  counts : (old next last : ConsoleState) (answer : Turned) (end : Ending MachineState LeftOut) → counted_of answer ≡ 1 → Turns until old answer next
+      → TurnsToEnd until next end last
       → TurnsToEnd until old end last
 
 -- turns go on to their end
@@ -30,27 +31,32 @@ TurnsEnd = (until : ℕ) (c : ConsoleState) → c.stopped ≡ None → IsSound c
 
 -- a turn with a limit is one: what it answers, and what it leaves
 abbrev pub TurnIsOne : Type 0
-TurnIsOne = (until : ℕ) (old new new₂ : ConsoleState) (answer answer₂ : Turned) → Turns until old answer new → Turns until old answer₂ new₂ → (answer ≡ answer₂) × (new ≡ new₂)
+TurnIsOne = (until : ℕ) (old new new₂ : ConsoleState) (answer answer₂ : Turned) → Turns until old answer new → Turns until old answer₂ new₂
+    → (answer ≡ answer₂) × (new ≡ new₂)
 
 -- so turns with a limit from a console on are one list: they end in one way, at one console, with one count of turns
 abbrev pub TurnsAreOne : Type 0
-TurnsAreOne = (until : ℕ) (c last last₂ : ConsoleState) (end end₂ : Ending MachineState LeftOut) → TurnsToEnd until c end last → TurnsToEnd until c end₂ last₂
+TurnsAreOne =
+    (until : ℕ) (c last last₂ : ConsoleState) (end end₂ : Ending MachineState LeftOut) → TurnsToEnd until c end last → TurnsToEnd until c end₂ last₂
     → (end ≡ end₂) × (last ≡ last₂)
 
 -- they end as the reference run does
 abbrev pub TurnsEndAsRuns : Type 0
-TurnsEndAsRuns = (until : ℕ) (c last : ConsoleState) (end : Ending MachineState LeftOut) → c.stopped ≡ None → IsSound c.machine → TurnsToEnd until c end last
+TurnsEndAsRuns =
+    (until : ℕ) (c last : ConsoleState) (end : Ending MachineState LeftOut) → c.stopped ≡ None → IsSound c.machine → TurnsToEnd until c end last
     → (outs : List Shown) × Runs reference until end c.machine outs
 
 -- turns one after another, each with a limit of its own, and what they put out
 pub data TurnsOn : ConsoleState → ConsoleState → List Shown → Type 0 where
-  none : (start : ConsoleState) → TurnsOn start start []
-  turn : (start before now : ConsoleState) (outs : List Shown) (until : ℕ) (answer : Turned) → TurnsOn start before outs → Turns until before answer now
+  no_turn_on : (start : ConsoleState) → TurnsOn start start []
+  one_turn_on : (start before now : ConsoleState) (outs : List Shown) (until : ℕ) (answer : Turned) → TurnsOn start before outs
+      → Turns until before answer now
       → TurnsOn start now (outs ++ shown_in answer before.machine now.machine)
 
 -- unless one stops, the run to each limit that isn't below the console's is what they put out and then the run from there
 abbrev pub TurnsKeepRuns : Type 0
-TurnsKeepRuns = (start now : ConsoleState) (front : List Shown) → start.stopped ≡ None → IsSound start.machine → TurnsOn start now front → now.stopped ≡ None
+TurnsKeepRuns =
+    (start now : ConsoleState) (front : List Shown) → start.stopped ≡ None → IsSound start.machine → TurnsOn start now front → now.stopped ≡ None
     → (limit : ℕ) → now.limit ≤ limit → (end : Ending MachineState LeftOut) (outs : List Shown) → Runs reference limit end now.machine outs
     → Runs reference limit end start.machine (front ++ outs)
 

@@ -19,7 +19,8 @@ use Rattle.run_ahead.specs.declared.turns.Turned.TheVariants.{Ran, Frame, AtEnd,
 
 -- A turn: what it does, and what that says of the reference run.
 
--- the least acting actor of a machine is due below the limit, and isn't a processor: its event is the turn; where it observes geometry, geometry catches up before it
+-- the least acting actor of a machine is due below the limit, and isn't a processor: its event is the turn; where it observes geometry, geometry
+-- catches up before it
 pub record TakesEvent (until : ℕ) (old : MachineState) (outs : List Shown) (new : MachineState) : Type 0 where
   pub tick : Tick
   pub rank : ℕ
@@ -86,7 +87,8 @@ abbrev pub Turns : ℕ → ConsoleState → Turned → ConsoleState → Type 0
 Turns until old Ran new = (old.stopped ≡ None)
     × (TakesEvent until old.machine [] new.machine ⊎ (TakesStretch until old.machine new.machine ⊎ TakesQuiet until old.machine new.machine))
     × (new ≡ one_more_turn (run_to old until new.machine))
-Turns until old (Frame swapped) new = (old.stopped ≡ None) × TakesEvent until old.machine (next_shown old.machine new.machine swapped ∷ []) new.machine
+Turns until old (Frame swapped) new =
+    (old.stopped ≡ None) × TakesEvent until old.machine (next_shown old.machine new.machine swapped ∷ []) new.machine
     × (new ≡ one_more_turn (run_to old until new.machine))
 Turns until old AtEnd new = (old.stopped ≡ None) × IsOver (dues_of old.machine) until × (new ≡ run_to old until old.machine)
 Turns until old (Stopped left) new =
@@ -124,8 +126,8 @@ counted_of (Frame swapped) = 1
 counted_of AtEnd = 0
 counted_of (Stopped left) = 0
 
--- no more turns than this take a step below a limit, from a state on: a loop over turns counts it down. Each turn but that of quiet geometry alone leaves fewer places of acting
--- actors, and after that one no geometry is left to catch up
+-- no more turns than this take a step below a limit, from a state on: a loop over turns counts it down. Each turn but that of quiet geometry alone
+-- leaves fewer places of acting actors, and after that one no geometry is left to catch up
 abbrev pub one_if : Bool → ℕ
 one_if true = 1
 one_if false = 0
@@ -135,13 +137,14 @@ turns_remaining until s = 2 * places_remaining 24 until 0 (acting_dues s) + one_
 
 -- a console is as it was after some turns with a limit
 pub data HasTurned (until : ℕ) : ConsoleState → ConsoleState → Type 0 where
-  none : (start : ConsoleState) → HasTurned until start start
-  turn : (start before now : ConsoleState) (answer : Turned) → HasTurned until start before → Turns until before answer now → HasTurned until start now
+  no_turn : (start : ConsoleState) → HasTurned until start start
+  one_turn : (start before now : ConsoleState) (answer : Turned) → HasTurned until start before → Turns until before answer now
+      → HasTurned until start now
 
 -- how many of a console's turns count
 abbrev pub turns_in : {until : ℕ} {start now : ConsoleState} → HasTurned until start now → ℕ
-turns_in (none start) = 0
-turns_in (turn start before now answer earlier last) = counted_of answer + turns_in earlier
+turns_in (no_turn start) = 0
+turns_in (one_turn start before now answer earlier last) = counted_of answer + turns_in earlier
 
 -- a console is as it was after as many turns with a limit as its counts say
 pub record IsAfterItsTurns (until : ℕ) (start now : ConsoleState) : Type 0 where
@@ -154,8 +157,8 @@ TurnsAddUp = (until : ℕ) (start now : ConsoleState) (turned : HasTurned until 
 
 -- each of these turns ran
 abbrev pub EachRan : {until : ℕ} {start now : ConsoleState} → HasTurned until start now → Type 0
-EachRan (none start) = Unit {0}
-EachRan (turn start before now answer earlier last) = EachRan earlier × (answer ≡ Ran)
+EachRan (no_turn start) = Unit {0}
+EachRan (one_turn start before now answer earlier last) = EachRan earlier × (answer ≡ Ran)
 
 -- a console ran on: it took some turns with a limit, each of which ran. What the reference run does from there is the rest of what it
 -- does from before them, and the last whole frame and the last lists are as they were

@@ -5,7 +5,7 @@ ghost use Rattle.ds_base.specs.Memories.{memory_size};
 ghost use Rattle.ds_machine.specs.Acting.{IsActing};
 ghost use Rattle.ds_machine.specs.Booted.{machine_booted};
 ghost use Rattle.ds_machine.specs.Frames.{framed_of, FollowFrames, FollowLists};
-ghost use Rattle.ds_machine.specs.Observed.{memory_of, registers_of, seen_of};
+ghost use Rattle.ds_machine.specs.Inspections.{memory_of, registers_of, seen_of};
 ghost use Rattle.ds_ipc.specs.Ipcs.{AreSides};
 ghost use Rattle.ds_machine.specs.TurnSteps.{HasLimit};
 ghost use Rattle.ds_machine.specs.TurnSteps.{IsLeastBelow};
@@ -72,9 +72,10 @@ impl Model for Console {
 
     ghost view = { λ c. record { machine = c.machine; limit = c.limit; stopped = c.stopped; turns = c.turns } };
 
-    // there were at most 24 steps for each tick below its limit; a turn whose limit isn't above the open one neither raises its limit nor comes after a stop; unless it stopped its
-    // machine goes on, by that limit; and each turn that counts took a step
-    ghost invariant = { λ c. (counts_of c.machine ≤ 24 * c.limit) × (c.limit ≤ 2 ^ 56) × (c.open_until ≡ open_of c.limit c.stopped) × (c.stopped ≡ None → IsRunning c.limit c.machine) × (c.turns ≤ counts_of c.machine) };
+    // there were at most 24 steps for each tick below its limit; a turn whose limit isn't above the open one neither raises its limit nor comes after
+    // a stop; unless it stopped its machine goes on, by that limit; and each turn that counts took a step
+    ghost invariant = { λ c. (counts_of c.machine ≤ 24 * c.limit) × (c.limit ≤ 2 ^ 56) × (c.open_until ≡ open_of c.limit c.stopped)
+        × (c.stopped ≡ None → IsRunning c.limit c.machine) × (c.turns ≤ counts_of c.machine) };
 }
 
 impl Console {
@@ -92,11 +93,12 @@ impl Console {
         })
     }
 
-    /// One turn: nothing where no actor is due below the limit; where quiet geometry alone is, all its steps below the limit; and otherwise the step of the first actor that acts,
-    /// as quiet geometry doesn't, and where that is a processor then the longest run of its further steps that belong to the turn: each is due below the limit, and is the least
-    /// acting one or may be taken before its turn. Before a step that observes geometry, geometry catches up. After a stop every turn answers the same and changes nothing. The
-    /// frame that a turn made whole is the last whole one after it, and every other turn leaves the last whole one as it was; and so it is with the geometry lists that were
-    /// swapped there. A turn that takes a step and doesn't stop counts, and fewer such turns are left below the limit.
+    /// One turn: nothing where no actor is due below the limit; where quiet geometry alone is, all its steps below the limit; and otherwise the step
+    /// of the first actor that acts, as quiet geometry doesn't, and where that is a processor then the longest run of its further steps that belong
+    /// to the turn: each is due below the limit, and is the least acting one or may be taken before its turn. Before a step that observes geometry,
+    /// geometry catches up. After a stop every turn answers the same and changes nothing. The frame that a turn made whole is the last whole one
+    /// after it, and every other turn leaves the last whole one as it was; and so it is with the geometry lists that were swapped there. A turn that
+    /// takes a step and doesn't stop counts, and fewer such turns are left below the limit.
     #[inline(never)]
     pub fn turn(&mut self, until: Tick) -> Turned
         requires { until.0 ≤ 2 ^ 56 }
@@ -134,10 +136,11 @@ impl Console {
         }
     }
 
-    /// Does nothing; its contract states what holds of every console's machine: each unit's numbers are those that it can have, and the lines of the key
-    /// script that are to come rise; unless the console has stopped no halted processor is to wake, and the units behind the ports are settled; neither FIFO
-    /// between the processors holds more than 16 words, each of 32 bits; CPSR and each SPSR of both processors have no bits but those that are kept; no more than 324 entries wait
-    /// for geometry, whose open lists and those of the last swap have at most 6,144 vertices and 2,048 polygons; and no more turns counted than 24 times the limit.
+    /// Does nothing; its contract states what holds of every console's machine: each unit's numbers are those that it can have, and the lines of the
+    /// key script that are to come rise; unless the console has stopped no halted processor is to wake, and the units behind the ports are settled;
+    /// neither FIFO between the processors holds more than 16 words, each of 32 bits; CPSR and each SPSR of both processors have no bits but those
+    /// that are kept; no more than 324 entries wait for geometry, whose open lists and those of the last swap have at most 6,144 vertices and 2,048
+    /// polygons; and no more turns counted than 24 times the limit.
     pub fn laws(&self)
         ensures parts { HasSoundParts self.now.machine }
         ensures sound { self.now.stopped ≡ None → IsSound self.now.machine }
@@ -151,8 +154,8 @@ impl Console {
         self.machine.laws();
     }
 
-    /// A turn, where it raises no limit and the least acting actor is known to be a processor: the fast path stands here, and has one caller. Where it isn't taken nothing is
-    /// changed. The answer has no stop in it, which would be moved at each turn.
+    /// A turn, where it raises no limit and the least acting actor is known to be a processor: the fast path stands here, and has one caller. Where
+    /// it isn't taken nothing is changed. The answer has no stop in it, which would be moved at each turn.
     #[inline(always)]
     fn at_once(&mut self, until: Tick) -> AtOnce
         requires { until.0 ≤ 2 ^ 56 }

@@ -45,8 +45,9 @@ pub enum Slow {
     Stopped,
 }
 
-/// Takes a processor's next step, where it belongs to its turn with a limit; where it observes geometry, geometry catches up before it. It is told a tick before which the
-/// processor is known to be the least acting actor, or 0. A stop is put where stops are kept: an answer that carried it would be moved at each turn.
+/// Takes a processor's next step, where it belongs to its turn with a limit; where it observes geometry, geometry catches up before it. It is told a
+/// tick before which the processor is known to be the least acting actor, or 0. A stop is put where stops are kept: an answer that carried it would
+/// be moved at each turn.
 #[inline(never)]
 fn step_slowly(
     machine: &mut Machine,
@@ -98,8 +99,9 @@ pub fn take_first(
     }
 }
 
-/// Takes a processor's steps that belong to its turn with a limit, one after another, up to the first that doesn't, or to one that stops the machine, whose stop is put where
-/// stops are kept. The answer is whether there is one. It begins with the first tick at which the processor isn't the least acting one any more.
+/// Takes a processor's steps that belong to its turn with a limit, one after another, up to the first that doesn't, or to one that stops the machine,
+/// whose stop is put where stops are kept. The answer is whether there is one. It begins with the first tick at which the processor isn't the least
+/// acting one any more.
 #[inline(always)]
 fn take_stretch(
     machine: &mut Machine,
@@ -176,8 +178,8 @@ fn take_event(machine: &mut Machine, acting: Due, until: Tick) -> Done
     machine.step(acting.rank)
 }
 
-/// Takes a turn of a machine, of which the least actor that acts is given: where it is due below a limit, an event's step, or the steps of a processor that belong to its turn;
-/// where quiet geometry alone is, all its steps below the limit.
+/// Takes a turn of a machine, of which the least actor that acts is given: where it is due below a limit, an event's step, or the steps of a
+/// processor that belong to its turn; where quiet geometry alone is, all its steps below the limit.
 pub fn take_turn(machine: &mut Machine, acting: Due, until: Tick) -> Done
     requires early { until.0 ≤ 2 ^ 56 }
     requires going { IsRunning last_limit machine.old }

@@ -3,7 +3,7 @@ use Rattle.std.proofs.lemmas.Bool.{cases_eq, cases_lt}
 use Rattle.ds_base.specs.Bits.{flag}
 use Rattle.video2d.specs.Layers.{SeenLayer, at_priority, from_priority, front_to_back}
 use Rattle.video2d.specs.declared.fronts.FrontPair.{FrontPair}
-use Rattle.video2d.specs.rows.Composed.{no_word, place_of, layer_base, layer_word, nothing, with_word, least_of}
+use Rattle.video2d.specs.rows.Composed.{no_word, target_place, layer_base, layer_word, no_layers, with_layer_word, front_words}
 
 -- The two least words are those of the first two layers from front to back.
 
@@ -115,7 +115,7 @@ put_in p (suc more) s ss opaque low high =
 -- ---- layers of known priorities and targets, in the order in which they count
 
 abbrev pub IsKnown : ℕ → SeenLayer → Type 0
-IsKnown place t = (t.pixel ≢ 0) × (t.priority < 5) × (t.target < 6) × (place < place_of t.target)
+IsKnown place t = (t.pixel ≢ 0) × (t.priority < 5) × (t.target < 6) × (place < target_place t.target)
 
 abbrev pub AllKnown : ℕ → List SeenLayer → Type 0
 AllKnown place [] = Unit {0}
@@ -123,7 +123,7 @@ AllKnown place (t ∷ ts) = IsKnown place t × AllKnown place ts
 
 abbrev pub AllPast : ℕ → List SeenLayer → Type 0
 AllPast place [] = Unit {0}
-AllPast place (t ∷ ts) = (t.priority < 5) × (t.target < 6) × (place < place_of t.target) × AllPast place ts
+AllPast place (t ∷ ts) = (t.priority < 5) × (t.target < 6) × (place < target_place t.target) × AllPast place ts
 
 joined_known : (place : ℕ) (ts us : List SeenLayer) → AllKnown place ts → AllKnown place us → AllKnown place (ts ++ us)
 joined_known place [] us h k = k
@@ -149,7 +149,7 @@ all_known place p (suc more) ss h =
 
 -- ---- words
 
-place_small : (target : ℕ) → target < 6 → place_of target < 8
+place_small : (target : ℕ) → target < 6 → target_place target < 8
 place_small target h = grind (arith, h)
 
 flag_small : (b : Bool) → flag 0 b < 2
@@ -169,7 +169,7 @@ word_small s opaque p t =
     let g = place_small s.target t in
     omega (arith, e, f, g, p, t)
 
-word_less : (s t : SeenLayer) → s.pixel ≢ 0 → s.priority < 5 → s.target < 6 → IsKnown (place_of s.target) t → s.priority ≤ t.priority → layer_word s < layer_word t
+word_less : (s t : SeenLayer) → s.pixel ≢ 0 → s.priority < 5 → s.target < 6 → IsKnown (target_place s.target) t → s.priority ≤ t.priority → layer_word s < layer_word t
 word_less s t opaque p g k le =
     let e = opaque_word s opaque in
     let d = opaque_word t k.0 in
@@ -179,7 +179,7 @@ word_less s t opaque p g k le =
     let after = k.3 in
     omega (arith, e, d, f, p, g, p2, g2, after, le)
 
-word_more : (s t : SeenLayer) → s.pixel ≢ 0 → s.priority < 5 → s.target < 6 → IsKnown (place_of s.target) t → t.priority < s.priority → layer_word t < layer_word s
+word_more : (s t : SeenLayer) → s.pixel ≢ 0 → s.priority < 5 → s.target < 6 → IsKnown (target_place s.target) t → t.priority < s.priority → layer_word t < layer_word s
 word_more s t opaque p g k lt =
     let e = opaque_word s opaque in
     let d = opaque_word t k.0 in
@@ -191,7 +191,7 @@ word_more s t opaque p g k lt =
 
 -- the words of the first two
 abbrev pub pair_of : List SeenLayer → FrontPair
-pair_of [] = nothing
+pair_of [] = no_layers
 pair_of (t ∷ []) = record { top = layer_word t; next = no_word }
 pair_of (t ∷ (u ∷ us)) = record { top = layer_word t; next = layer_word u }
 
@@ -214,25 +214,25 @@ pair_top_small (t ∷ (u ∷ us)) place h =
     let lt = word_small t k.0 k.1 k.2 in
     omega (arith, lt)
 
-word_first : (w : ℕ) (p : FrontPair) → w < p.top → with_word w p ≡ record { top = w; next = p.top }
+word_first : (w : ℕ) (p : FrontPair) → w < p.top → with_layer_word w p ≡ record { top = w; next = p.top }
 word_first w p h = grind (arith, h)
 
-word_second : (w : ℕ) (p : FrontPair) → p.top ≤ w → w < p.next → with_word w p ≡ record { top = p.top; next = w }
+word_second : (w : ℕ) (p : FrontPair) → p.top ≤ w → w < p.next → with_layer_word w p ≡ record { top = p.top; next = w }
 word_second w p h k = grind (arith, h, k)
 
-word_past : (w : ℕ) (p : FrontPair) → p.top ≤ w → p.next ≤ w → with_word w p ≡ p
+word_past : (w : ℕ) (p : FrontPair) → p.top ≤ w → p.next ≤ w → with_layer_word w p ≡ p
 word_past w p h k = grind (arith, h, k)
 
 ahead_one : (s t : SeenLayer) (ts : List SeenLayer) → s.priority ≤ t.priority → inserted s (t ∷ ts) ≡ s ∷ (t ∷ ts)
 ahead_one s t ts le = grind (arith, le)
 
-put_word : (s : SeenLayer) (ts : List SeenLayer) → s.pixel ≢ 0 → s.priority < 5 → s.target < 6 → AllKnown (place_of s.target) ts →
-    pair_of (inserted s ts) ≡ with_word (layer_word s) (pair_of ts)
+put_word : (s : SeenLayer) (ts : List SeenLayer) → s.pixel ≢ 0 → s.priority < 5 → s.target < 6 → AllKnown (target_place s.target) ts →
+    pair_of (inserted s ts) ≡ with_layer_word (layer_word s) (pair_of ts)
 put_word s [] opaque p g h =
     let lt = word_small s opaque p g in
-    sym (word_first (layer_word s) nothing (omega (arith, lt)))
+    sym (word_first (layer_word s) no_layers (omega (arith, lt)))
 put_word s (t ∷ []) opaque p g h =
-    let k : IsKnown (place_of s.target) t = h.0 in
+    let k : IsKnown (target_place s.target) t = h.0 in
     let small = word_small s opaque p g in
     let pair : FrontPair = record { top = layer_word t; next = no_word } in
     elim (cases_lt t.priority s.priority) [
@@ -244,8 +244,8 @@ put_word s (t ∷ []) opaque p g h =
           ap pair_of (ahead_one s t [] (omega (arith, ge))) ∙ sym (word_first (layer_word s) pair less))
     ]
 put_word s (t ∷ (u ∷ us)) opaque p g h =
-    let k : IsKnown (place_of s.target) t = h.0 in
-    let j : IsKnown (place_of s.target) u = h.1.0 in
+    let k : IsKnown (target_place s.target) t = h.0 in
+    let j : IsKnown (target_place s.target) u = h.1.0 in
     let pair : FrontPair = record { top = layer_word t; next = layer_word u } in
     elim (cases_lt t.priority s.priority) [
       | inl lt ↦
@@ -270,20 +270,20 @@ put_word s (t ∷ (u ∷ us)) opaque p g h =
 
 abbrev pub Ranked : List SeenLayer → Type 0
 Ranked [] = Unit {0}
-Ranked (s ∷ ss) = (s.priority < 5) × (s.target < 6) × AllPast (place_of s.target) ss × Ranked ss
+Ranked (s ∷ ss) = (s.priority < 5) × (s.target < 6) × AllPast (target_place s.target) ss × Ranked ss
 
-pub fronts : (ss : List SeenLayer) → Ranked ss → least_of ss ≡ pair_of (front_to_back ss)
+pub fronts : (ss : List SeenLayer) → Ranked ss → front_words ss ≡ pair_of (front_to_back ss)
 fronts [] h = refl
 fronts (s ∷ ss) h =
     let L : List SeenLayer = front_to_back ss in
-    let rest : least_of ss ≡ pair_of L = fronts ss h.3 in
-    let known : AllKnown (place_of s.target) L = all_known (place_of s.target) 0 5 ss h.2 in
-    ap (with_word (layer_word s)) rest
+    let rest : front_words ss ≡ pair_of L = fronts ss h.3 in
+    let known : AllKnown (target_place s.target) L = all_known (target_place s.target) 0 5 ss h.2 in
+    ap (with_layer_word (layer_word s)) rest
     ∙ elim (cases_eq s.pixel 0) [
       | inl clear ↦
-          (let a = pair_top_small L (place_of s.target) known in
-          let b = pair_small L (place_of s.target) known in
-          ap (λ (w : ℕ). with_word w (pair_of L)) (clear_word s clear)
+          (let a = pair_top_small L (target_place s.target) known in
+          let b = pair_small L (target_place s.target) known in
+          ap (λ (w : ℕ). with_layer_word w (pair_of L)) (clear_word s clear)
           ∙ word_past no_word (pair_of L) a b
           ∙ ap pair_of (sym (still_hidden 0 5 s ss clear)))
       | inr opaque ↦

@@ -5,10 +5,10 @@ use Rattle.video2d.specs.Effects.{brightness_changed, colour_of, effect, effects
 use Rattle.video2d.specs.Engines.{EngineState, bgcnt, bldcnt}
 use Rattle.video2d.specs.Layers.{SeenLayer, backdrop_of, front_to_back, layers_of, seen_background, seen_objects, shown_through}
 use Rattle.video2d.specs.Pictures.{composed_pixel}
-use Rattle.video2d.specs.Windows.{shown_at}
+use Rattle.video2d.specs.Windows.{shown_by_windows}
 use Rattle.video2d.specs.declared.fronts.FrontPair.{FrontPair}
 use Rattle.video2d.specs.declared.layers.LayerPixels.{LayerPixels}
-use Rattle.video2d.specs.rows.Composed.{finished, layer_word, line_order, mix_of, mixed_at, no_word, place_of, word_target}
+use Rattle.video2d.specs.rows.Composed.{finished, layer_word, line_order, mix_of, mixed_at, no_word, target_place, word_target}
 use Rattle.video2d.proofs.FrontLemmas.{AllKnown, AllPast, IsFilled, IsKnown, Ranked, all_known, filled_by, filled_more, fronts, opaque_word, pair_of, word_small}
 
 -- What the kernels make of the two least words is what effects make of the layers from front to back.
@@ -20,7 +20,7 @@ flag_below true = omega arith
 flag_below false = omega arith
 
 word_is : (s : SeenLayer) → s.pixel ≢ 0 → s.priority < 5 →
-    layer_word s ≡ 4194304 * s.priority + 524288 * place_of s.target + 65536 * s.target + 32768 * flag 0 s.blended + s.pixel % 2 ^ 15
+    layer_word s ≡ 4194304 * s.priority + 524288 * target_place s.target + 65536 * s.target + 32768 * flag 0 s.blended + s.pixel % 2 ^ 15
 word_is s opaque p = let e = opaque_word s opaque in omega (arith, e, p)
 
 colour_of_word : (s : SeenLayer) → s.pixel ≢ 0 → s.priority < 5 → layer_word s % 2 ^ 15 ≡ colour_of s
@@ -106,10 +106,10 @@ backdrop_opaque colour = omega arith
 
 past_one : (place : ℕ) (s : SeenLayer) (ss : List SeenLayer) → s.priority < 5 → s.target < 4 → place < s.target + 2 → AllPast place ss → AllPast place (s ∷ ss)
 past_one place s ss p g lt h = (p, omega (arith, g), past_target place s.target g lt, h) where
-  past_target : (place target : ℕ) → target < 4 → place < target + 2 → place < place_of target
+  past_target : (place target : ℕ) → target < 4 → place < target + 2 → place < target_place target
   past_target place target g lt = grind (arith, g, lt)
 
-ranked_one : (s : SeenLayer) (ss : List SeenLayer) → s.priority < 5 → s.target < 6 → AllPast (place_of s.target) ss → Ranked ss → Ranked (s ∷ ss)
+ranked_one : (s : SeenLayer) (ss : List SeenLayer) → s.priority < 5 → s.target < 6 → AllPast (target_place s.target) ss → Ranked ss → Ranked (s ∷ ss)
 ranked_one s ss p g h rest = (p, g, h, rest)
 
 ranked : (e : EngineState) (shown backdrop : ℕ) (p : LayerPixels) → p.objects.priority < 4 → Ranked (layers_of e shown backdrop p)
@@ -158,7 +158,7 @@ filled e shown backdrop p small =
 known_of : (ss : List SeenLayer) → Ranked ss → AllPast 0 ss
 known_of [] h = tt
 known_of (s ∷ ss) h = (h.0, h.1, some_place s.target, known_of ss h.3) where
-  some_place : (target : ℕ) → 0 < place_of target
+  some_place : (target : ℕ) → 0 < target_place target
   some_place target = grind arith
 
 -- so the rows make the composed pixel
@@ -166,7 +166,7 @@ pub mixes : (e : EngineState) (line x backdrop : ℕ) (p : LayerPixels) → p.ob
     finished e (mixed_at (line_order e line backdrop) p x) ≡ composed_pixel e line x backdrop p
 unfolding mixed_at composed_pixel
 mixes e line x backdrop p small =
-    let shown : ℕ = shown_at e p.objects.window line x in
+    let shown : ℕ = shown_by_windows e p.objects.window line x in
     let layers : List SeenLayer = layers_of e shown backdrop p in
     let order : Ranked layers = ranked e shown backdrop p small in
     ap (λ (f : FrontPair). finished e (mix_of (bldcnt e) (bit 5 shown) f)) (fronts layers order)

@@ -13,9 +13,9 @@ use Rattle.video2d.specs.Engines.{EngineState, bgcnt, bldcnt, dispcnt}
 use Rattle.video2d.specs.declared.engines.Engine.{Engine}
 use Rattle.video2d.specs.Layers.{SeenLayer, at_priority, backdrop_of, from_priority, front_to_back, layers_of, seen_background, seen_objects}
 use Rattle.video2d.specs.Pictures.{composed_pixel, display_of, layered_pixel, pixels_at}
-use Rattle.video2d.specs.Windows.{shown_at}
+use Rattle.video2d.specs.Windows.{shown_by_windows}
 use Rattle.video2d.specs.declared.layers.LayerPixels.{LayerPixels}
-use Rattle.video2d.specs.rows.Plain.{calm_over, calm_pixel, is_calm, is_plain, laid_at, over, over_at, plain_pixel}
+use Rattle.video2d.specs.rows.Plain.{calm_over, calm_pixel, is_calm, is_plain_engine, laid_at, laid_over, over_at, plain_pixel}
 use Rattle.video2d.proofs.FrontLemmas.{hidden, other, still_hidden, taken}
 
 -- Where no window, no object and no effect can act, what is seen is the layer in front.
@@ -142,13 +142,13 @@ still e (t ∷ (u ∷ us)) z h =
 
 -- ---- the layers of a place
 
-all_shown : (e : EngineState) (in_objects : Bool) (line x : ℕ) → bits 13 3 (dispcnt e) ≡ 0 → shown_at e in_objects line x ≡ 0x3F
+all_shown : (e : EngineState) (in_objects : Bool) (line x : ℕ) → bits 13 3 (dispcnt e) ≡ 0 → shown_by_windows e in_objects line x ≡ 0x3F
 all_shown e in_objects line x h = grind (arith, h)
 
 not_fourth : (word : ℕ) → bits 0 2 word ≢ 4
 not_fourth word = omega arith
 
-backdrop_seen : (colour : ℕ) → over (backdrop_of colour).pixel 0 ≡ colour % 2 ^ 15
+backdrop_seen : (colour : ℕ) → laid_over (backdrop_of colour).pixel 0 ≡ colour % 2 ^ 15
 backdrop_seen colour = grind arith
 
 -- the backdrop, behind all
@@ -209,7 +209,7 @@ front_alone e line x b p w z blank =
 plain_parts : (w z : ℕ) → ((w == 0) && (z == 0)) ≡ true → (w ≡ 0) × (z ≡ 0)
 plain_parts w z h = grind (arith, h)
 
-pub plain_layered : (v : Banks) (colours object_colours oam : List ℕ) (which : Engine) (e : EngineState) (line x : ℕ) → x < 256 → is_plain e ≡ true →
+pub plain_layered : (v : Banks) (colours object_colours oam : List ℕ) (which : Engine) (e : EngineState) (line x : ℕ) → x < 256 → is_plain_engine e ≡ true →
     plain_pixel v colours which e line x ≡ layered_pixel v colours object_colours oam which e line x
 plain_layered v colours object_colours oam which e line x small h =
     let parts = plain_parts (bits 12 4 (dispcnt e)) (effect e) h in

@@ -95,11 +95,12 @@ point_written ports n at p =
     else (if is_within (0x10 * n + 12) 4 at then record p { y = coordinate_at ports (0x10 * n + 12) } else p)
 
 -- PB and PD are added after a line, modulo 2^32
-abbrev pub moved_by : ℕ → ℕ → ℕ
-moved_by coordinate half = (coordinate + word_of_half half) % 2 ^ 32
+abbrev pub coordinate_stepped : ℕ → ℕ → ℕ
+coordinate_stepped coordinate half = (coordinate + word_of_half half) % 2 ^ 32
 
 abbrev pub point_stepped : List ℕ → ℕ → PointState → PointState
-point_stepped ports n p = record { x = moved_by p.x (number_at Half ports (0x10 * n + 2)); y = moved_by p.y (number_at Half ports (0x10 * n + 6)) }
+point_stepped ports n p =
+    record { x = coordinate_stepped p.x (number_at Half ports (0x10 * n + 2)); y = coordinate_stepped p.y (number_at Half ports (0x10 * n + 6)) }
 
 abbrev pub points_started : EngineState → EngineState
 points_started e = record e { two = point_started e.ports 2; three = point_started e.ports 3 }

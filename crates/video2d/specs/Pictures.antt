@@ -11,7 +11,7 @@ use Rattle.video2d.specs.Backgrounds.{background_pixel}
 use Rattle.video2d.specs.Effects.{effects_where}
 use Rattle.video2d.specs.Engines.{EngineState, dispcnt, engine_number, master_bright}
 use Rattle.video2d.specs.Layers.{front_to_back, layers_of}
-use Rattle.video2d.specs.Windows.{shown_at}
+use Rattle.video2d.specs.Windows.{shown_by_windows}
 use Rattle.video2d.specs.declared.engines.Engine.{Engine}
 use Rattle.video2d.specs.declared.engines.Engine.TheVariants.{A, B}
 use Rattle.video2d.specs.declared.layers.LayerPixels.{LayerPixels}
@@ -52,7 +52,7 @@ pixels_at v colours object_colours oam which e line x = record {
 -- the colour that they make: windows show some of the layers, which lie from front to back, and effects act on the front ones
 unfoldable pub composed_pixel : EngineState → ℕ → ℕ → ℕ → LayerPixels → ℕ
 composed_pixel e line x backdrop p =
-    let shown = shown_at e p.objects.window line x in effects_where (bit 5 shown) e (front_to_back (layers_of e shown backdrop p))
+    let shown = shown_by_windows e p.objects.window line x in effects_where (bit 5 shown) e (front_to_back (layers_of e shown backdrop p))
 
 -- the backdrop is colour 0 of the palette for backgrounds
 abbrev pub layered_pixel : Banks → List ℕ → List ℕ → List ℕ → Engine → EngineState → ℕ → ℕ → ℕ
@@ -60,9 +60,9 @@ layered_pixel v colours object_colours oam which e line x =
     composed_pixel e line x (palette_colour colours 0) (pixels_at v colours object_colours oam which e line x)
 
 -- POWCNT1 (GBATEK, "DS Power Control"): bit 1 enables engine A and bit 9 engine B; bit 15 sends A to the upper screen, 0, and B to the lower, 1
-abbrev pub is_enabled : Engine → ℕ → Bool
-is_enabled A power = bit 1 power
-is_enabled B power = bit 9 power
+abbrev pub is_engine_enabled : Engine → ℕ → Bool
+is_engine_enabled A power = bit 1 power
+is_engine_enabled B power = bit 9 power
 
 abbrev pub screen_of : Engine → ℕ → ℕ
 screen_of A power = if bit 15 power then 0 else 1
@@ -103,17 +103,17 @@ screen_pixel v palette oam which e line x = screen_kind_pixel (screen_shown whic
 -- a disabled engine's pixels are 0 (our choice); on those of the other master brightness acts last, whatever they show
 abbrev pub engine_pixel : Banks → List ℕ → List ℕ → Engine → ℕ → EngineState → ℕ → ℕ → ℕ
 engine_pixel v palette oam which power e line x =
-    if is_enabled which power then mastered (master_bright e) (screen_pixel v palette oam which e line x) else 0
+    if is_engine_enabled which power then mastered (master_bright e) (screen_pixel v palette oam which e line x) else 0
 
 -- ---- lines and frames
 
 -- the 256 pixels of a line; a list of so many doesn't unfold by itself
-unfoldable pub line_of : (ℕ → ℕ) → List ℕ
-line_of pixel = map pixel (range_with_len 0 256)
+unfoldable pub whole_line : (ℕ → ℕ) → List ℕ
+whole_line pixel = map pixel (range_with_len 0 256)
 
 -- an engine's line
 unfoldable pub engine_line : Banks → List ℕ → List ℕ → Engine → ℕ → EngineState → ℕ → List ℕ
-engine_line v palette oam which power e line = line_of (engine_pixel v palette oam which power e line)
+engine_line v palette oam which power e line = whole_line (engine_pixel v palette oam which power e line)
 
 -- a frame has 192 lines of the upper screen, and then those of the lower
 abbrev pub line_place : ℕ → ℕ → ℕ

@@ -8,7 +8,7 @@ use Rattle.obj2d.specs.Attributes.{mode, object_at, object_has_mosaic}
 use Rattle.obj2d.specs.Places.{covers}
 use Rattle.video2d.specs.Backgrounds.{background_mode, is_background_on}
 use Rattle.video2d.specs.Engines.{EngineState, dispcnt, bgcnt, dispcapcnt, background_mosaic, object_mosaic}
-use Rattle.video2d.specs.Pictures.{display_mode, is_enabled, is_forced_blank, object_memory, shows_layers}
+use Rattle.video2d.specs.Pictures.{display_mode, is_engine_enabled, is_forced_blank, object_memory, shows_layers}
 use Rattle.video2d.specs.declared.engines.Engine.{Engine}
 use Rattle.video2d.specs.declared.engines.Engine.TheVariants.{A, B}
 
@@ -69,7 +69,7 @@ needs_of_objects_shown which e oam line = if shows_layers which e then needs_of_
 
 abbrev pub needs_of_engine : Engine → ℕ → EngineState → List ℕ → ℕ → Option Stop
 needs_of_engine which power e oam line =
-    if is_enabled which power && not (is_forced_blank e)
+    if is_engine_enabled which power && not (is_forced_blank e)
     then first_need (
     needs_display_mode which e ∷ needs_mode which e ∷ needs_capture which e
     ∷ needs_of_background which e 0 ∷ needs_of_background which e 1 ∷ needs_of_background which e 2 ∷ needs_of_background which e 3

@@ -35,8 +35,8 @@ abbrev pub is_in_window : EngineState → ℕ → ℕ → ℕ → Bool
 is_in_window e n line x = reaches_line e n line && is_between (window_left e n) (window_right e n) x
 
 -- what is shown in windows 0 and 1 by the bytes of WININ; outside and in the object window by those of WINOUT
-abbrev pub shown_in : EngineState → ℕ → ℕ
-shown_in e n = slice_index e.ports (display_offset Winin + n)
+abbrev pub shown_in_window : EngineState → ℕ → ℕ
+shown_in_window e n = slice_index e.ports (display_offset Winin + n)
 
 abbrev pub shown_outside : EngineState → ℕ
 shown_outside e = slice_index e.ports (display_offset Winout)
@@ -46,9 +46,9 @@ shown_in_objects e = slice_index e.ports (display_offset Winout + 1)
 
 -- what is shown at a place: backgrounds by bits 0 to 3, objects by bit 4, effects by bit 5. Window 0 goes before window 1, the object window and
 -- the outside; where no window is on, all is shown
-abbrev pub shown_at : EngineState → Bool → ℕ → ℕ → ℕ
-shown_at e in_objects line x =
+abbrev pub shown_by_windows : EngineState → Bool → ℕ → ℕ → ℕ
+shown_by_windows e in_objects line x =
     if bits 13 3 (dispcnt e) == 0 then 0x3F
-    else (if is_in_window e 0 line x then shown_in e 0
-    else (if is_in_window e 1 line x then shown_in e 1
+    else (if is_in_window e 0 line x then shown_in_window e 0
+    else (if is_in_window e 1 line x then shown_in_window e 1
     else (if is_window_on e 2 && in_objects then shown_in_objects e else shown_outside e)))

@@ -2,7 +2,7 @@
 
 ghost use Rattle.std.specs.Prelude.{◌≡◌, ◌<◌, ℕ};
 ghost use Rattle.video2d.specs.Layers.{seen_objects, shown_through};
-ghost use Rattle.video2d.specs.rows.Composed.{layer_base, layer_word, with_word, background_through, front_of};
+ghost use Rattle.video2d.specs.rows.Composed.{layer_base, layer_word, with_layer_word, background_through, front_of};
 
 use crate::layers::LayerPixels;
 use crate::mixes::LineOrder;
@@ -11,9 +11,9 @@ use obj2d::ObjectPixel;
 /// No layer.
 pub const NO_WORD: u32 = 0xFFFF_FFFF;
 
-/// The words of the layer in front and of the next one. A word has the layer's colour in bits 0 to 14; bit 15 tells of a semi-transparent object; it has
-/// the layer's number among the targets of effects in bits 16 to 18, its place among layers of one priority in bits 19 to 21, and its priority from
-/// bit 22 on: of two layers, the one in front has the lesser word.
+/// The words of the layer in front and of the next one. A word has the layer's colour in bits 0 to 14; bit 15 tells of a semi-transparent object; it
+/// has the layer's number among the targets of effects in bits 16 to 18, its place among layers of one priority in bits 19 to 21, and its priority
+/// from bit 22 on: of two layers, the one in front has the lesser word.
 #[derive(Clone, Copy)]
 pub struct FrontPair {
     /// The layer in front, `NO_WORD` where there is none.
@@ -47,7 +47,7 @@ fn layer_word(pixel: u16, priority: u8, target: u8, blended: bool) -> u32
 
 /// One more word.
 fn with_word(word: u32, pair: FrontPair) -> FrontPair
-    ensures { result ≡ with_word word pair }
+    ensures { result ≡ with_layer_word word pair }
 {
     if word < pair.top {
         FrontPair {

@@ -3,7 +3,7 @@
 ghost use Rattle.std.specs.Prelude.{◌≡◌, ◌<◌, ◌%◌, ◌^◌, ℕ, length, slice_index};
 ghost use Rattle.bg_ext.specs.BankPixels.{vram_pixel};
 ghost use Rattle.video2d.specs.Engines.{dispcnt};
-ghost use Rattle.video2d.specs.Pictures.{layered_pixel, is_enabled, display_mode, is_forced_blank, screen_shown, shows_layers, screen_pixel, engine_pixel, engine_line, background_palette, object_palette, object_memory};
+ghost use Rattle.video2d.specs.Pictures.{layered_pixel, is_engine_enabled, display_mode, is_forced_blank, screen_shown, shows_layers, screen_pixel, engine_pixel, engine_line, background_palette, object_palette, object_memory};
 
 use crate::engines::{Engine, EngineRegisters};
 use crate::layers::{draw_rows, empty_rows};
@@ -72,7 +72,7 @@ pub fn shows_layers(which: Engine, engine: &EngineRegisters) -> bool
 
 /// Whether POWCNT1 enables an engine.
 pub fn is_enabled(which: Engine, power: u16) -> bool
-    ensures { result ≡ is_enabled which power }
+    ensures { result ≡ is_engine_enabled which power }
 {
     let bit = match which {
         Engine::A => 1,
@@ -81,8 +81,8 @@ pub fn is_enabled(which: Engine, power: u16) -> bool
     (power >> bit) % 2 == 1
 }
 
-/// Draws the line of an engine's layers, with windows, objects and effects. `colours` and `object_colours` have the 512 bytes of its palettes for backgrounds and for objects, `oam` its
-/// 1,024 bytes of objects.
+/// Draws the line of an engine's layers, with windows, objects and effects. `colours` and `object_colours` have the 512 bytes of its palettes for
+/// backgrounds and for objects, `oam` its 1,024 bytes of objects.
 fn composed_line(
     vram: &Vram,
     colours: &[u8],
@@ -228,7 +228,9 @@ fn layers_line(
 )
     requires colours { length palette.now ≡ 2048 }
     requires oam { length oam.now ≡ 2048 }
-    ensures { (x : ℕ) → x < 256 → slice_index into.new x ≡ layered_pixel vram.now (background_palette which palette.now) (object_palette which palette.now) (object_memory which oam.now) which engine.now line x }
+    ensures { (x : ℕ) → x < 256 → slice_index into.new x
+        ≡ layered_pixel vram.now (background_palette which palette.now) (object_palette which palette.now)
+        (object_memory which oam.now) which engine.now line x }
 {
     let colours = background_palette(which, palette);
     let object_colours = object_palette(which, palette);

@@ -3,7 +3,7 @@
 ghost use Rattle.std.specs.Prelude.{◌≡◌, ◌<◌, ◌==◌, if◌then◌else◌, ℕ, length, slice_index};
 ghost use Rattle.obj2d.specs.ObjectLayer.{shown_pixel};
 ghost use Rattle.video2d.specs.Layers.{seen_objects};
-ghost use Rattle.video2d.specs.rows.Plain.{background_seen, backgrounds_seen, calm_layers, calm_over, calm_pixel, is_calm, is_plain, laid_at, over, over_at, plain_pixel};
+ghost use Rattle.video2d.specs.rows.Plain.{background_seen, backgrounds_seen, calm_layers, calm_over, calm_pixel, is_calm, is_plain_engine, laid_at, laid_over, over_at, plain_pixel};
 
 use crate::backgrounds::{background_row, is_background_on};
 use crate::engines::{Engine, EngineRegisters};
@@ -13,7 +13,7 @@ use vram_banks::{Row, Vram, palette_colour};
 
 /// Whether objects and windows are off, and there is no effect.
 pub fn is_plain(engine: &EngineRegisters) -> bool
-    ensures { result ≡ is_plain engine.now }
+    ensures { result ≡ is_plain_engine engine.now }
 {
     (engine.dispcnt() >> 12) % 16 == 0 && (engine.bldcnt() >> 6) % 4 == 0
 }
@@ -30,14 +30,14 @@ pub fn plain_line(colour: u16, into: &mut [u16; 256])
 /// A pixel over what is behind it.
 #[inline(always)]
 fn over(pixel: u16, behind: u16) -> u16
-    ensures { result ≡ over pixel behind }
+    ensures { result ≡ laid_over pixel behind }
 {
     if pixel == 0 { behind } else { pixel % 0x8000 }
 }
 
 /// Lays a row over what is behind it.
 fn lay_row(row: &Row, into: &mut [u16; 256])
-    ensures { (x : ℕ) → x < 256 → slice_index into.new x ≡ over (slice_index row.now.pixels x) (slice_index into.old x) }
+    ensures { (x : ℕ) → x < 256 → slice_index into.new x ≡ laid_over (slice_index row.now.pixels x) (slice_index into.old x) }
 {
     for x in 0..256usize {
         into[x] = over(row.pixels[x], into[x]);
@@ -57,7 +57,8 @@ fn lay_background(
 )
     requires colours { length colours.now ≡ 512 }
     requires known { n < 4 }
-    ensures { (x : ℕ) → x < 256 → slice_index into.new x ≡ over_at turn (background_seen vram.now colours.now which engine.now line n x) (slice_index into.old x) }
+    ensures { (x : ℕ) → x < 256 → slice_index into.new x
+        ≡ over_at turn (background_seen vram.now colours.now which engine.now line n x) (slice_index into.old x) }
 {
     if !is_background_on(engine, n) {
         return;
@@ -80,7 +81,8 @@ fn lay_priority(
     into: &mut [u16; 256],
 )
     requires { length colours.now ≡ 512 }
-    ensures { (x : ℕ) → x < 256 → slice_index into.new x ≡ laid_at turn (backgrounds_seen vram.now colours.now which engine.now line x) (slice_index into.old x) }
+    ensures { (x : ℕ) → x < 256 → slice_index into.new x
+        ≡ laid_at turn (backgrounds_seen vram.now colours.now which engine.now line x) (slice_index into.old x) }
 {
     lay_background(vram, colours, which, engine, line, 3, turn, into);
     lay_background(vram, colours, which, engine, line, 2, turn, into);
@@ -119,7 +121,7 @@ pub fn is_calm(engine: &EngineRegisters) -> bool
 /// The same, where the pixel has the priority whose turn it is. Both tests are made whatever comes of them, so that many places are laid at once.
 #[inline(always)]
 fn over_in_turn(pixel: u16, priority: u16, turn: u16, behind: u16) -> u16
-    ensures { result ≡ (if priority == turn then over pixel behind else behind) }
+    ensures { result ≡ (if priority == turn then laid_over pixel behind else behind) }
 {
     if (priority == turn) & (pixel != 0) {
         pixel % 0x8000
@@ -154,7 +156,8 @@ fn lay_turn(
     into: &mut [u16; 256],
 )
     requires { length colours.now ≡ 512 }
-    ensures { (x : ℕ) → x < 256 → slice_index into.new x ≡ laid_at turn (calm_layers vram.now colours.now which engine.now line (shown_pixel objects.now x) x) (slice_index into.old x) }
+    ensures { (x : ℕ) → x < 256 → slice_index into.new x
+        ≡ laid_at turn (calm_layers vram.now colours.now which engine.now line (shown_pixel objects.now x) x) (slice_index into.old x) }
 {
     lay_priority(vram, colours, which, engine, line, turn, into);
     lay_objects(objects, turn, into);

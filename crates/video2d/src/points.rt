@@ -4,7 +4,7 @@ ghost use Rattle.std.specs.Prelude.{◌≡◌, ◌<◌, ◌≤◌, ◌+◌, ◌*
 ghost use Rattle.ds_base.specs.Numbers.{number_at};
 ghost use Rattle.ds_base.specs.declared.memories.Width.TheVariants.{Half, Word};
 ghost use Rattle.video2d.specs.DisplayRegisters.{is_within};
-ghost use Rattle.video2d.specs.Engines.{word_of_half, word_of_28, coordinate_at, point_at_boot, point_started, point_written, moved_by, point_stepped};
+ghost use Rattle.video2d.specs.Engines.{word_of_half, word_of_28, coordinate_at, point_at_boot, point_started, point_written, coordinate_stepped, point_stepped};
 
 use std::marker::Model;
 
@@ -79,7 +79,7 @@ fn is_within(first: usize, bytes: usize, at: usize) -> bool
 }
 
 fn moved_by(coordinate: u32, half: u16) -> u32
-    ensures { result ≡ moved_by coordinate half }
+    ensures { result ≡ coordinate_stepped coordinate half }
 {
     coordinate.wrapping_add(word_of_half(half))
 }

@@ -51,7 +51,16 @@ impl Model for Video {
 
     ghost Value = { VideoState };
 
-    ghost view = { λ v. record { scan = v.scan; nine = v.nine; seven = v.seven; a = v.a; b = v.b; power = v.power; drawn = v.drawn; whole = v.whole } };
+    ghost view = { λ v. record {
+      scan = v.scan;
+      nine = v.nine;
+      seven = v.seven;
+      a = v.a;
+      b = v.b;
+      power = v.power;
+      drawn = v.drawn;
+      whole = v.whole;
+    } };
 }
 
 /// Which screen an engine is sent to: 0 is the upper, 1 the lower.

@@ -102,7 +102,8 @@ is_allotted_there controls (Some cell) = is_allotted controls cell
 
 -- one of the cells at an address of a space lies in such a bank
 unfoldable pub meets_allotted : List ℕ → Space → ℕ → Bool
-meets_allotted controls space at = is_allotted_there controls (cell_there controls space at 2) || is_allotted_there controls (cell_there controls space at 3)
+meets_allotted controls space at =
+    is_allotted_there controls (cell_there controls space at 2) || is_allotted_there controls (cell_there controls space at 3)
 
 -- ---- the same as relations over the set of cells that stand at an address
 
@@ -124,5 +125,7 @@ pub record IsRead (v : Banks) (space : Space) (at : ℕ) (width : Width) (value 
 pub record IsWritten (old new : Banks) (space : Space) (at : ℕ) (width : Width) (value : ℕ) : Type 0 where
   pub controls : new.controls ≡ old.controls
   pub long : length new.bytes ≡ length old.bytes
-  pub each : (k cell : ℕ) → k < width_bytes width → IsCellAt old space (aligned_down width at + k) cell → slice_index new.bytes cell ≡ value / 256 ^ k % 256
-  pub others : (cell : ℕ) → ((k : ℕ) → k < width_bytes width → ¬ IsCellAt old space (aligned_down width at + k) cell) → slice_index new.bytes cell ≡ slice_index old.bytes cell
+  pub each : (k cell : ℕ) → k < width_bytes width → IsCellAt old space (aligned_down width at + k) cell → slice_index new.bytes cell
+      ≡ value / 256 ^ k % 256
+  pub others : (cell : ℕ) → ((k : ℕ) → k < width_bytes width → ¬ IsCellAt old space (aligned_down width at + k) cell) → slice_index new.bytes cell
+      ≡ slice_index old.bytes cell

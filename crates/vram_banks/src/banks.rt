@@ -313,7 +313,8 @@ impl Vram {
     pub fn bank_laws(&self)
         ensures state { AreBanks self.now }
         ensures narrow { (space : Space) → (at : ℕ) → vram_byte self.now space at < 256 }
-        ensures allotted { (space : Space) → (at cell : ℕ) → IsCellAt self.now space at cell → (is_allotted self.now.controls cell ≡ true) ↔ (space ≡ Arm7) }
+        ensures allotted { (space : Space) → (at cell : ℕ) → IsCellAt self.now space at cell → (is_allotted self.now.controls cell ≡ true)
+            ↔ (space ≡ Arm7) }
     {
         self.cells.byte_laws();
         self.map.control_laws();

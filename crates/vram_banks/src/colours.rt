@@ -86,7 +86,8 @@ pub fn paint_standard(palette: &[u8], start: usize, flip: bool, indices: &[u8], 
     requires room { length into.old ≡ 8 }
     requires start { start < 256 }
     requires inside { (i : ℕ) → i < 8 → start + slice_index indices.now i < 256 }
-    ensures { (i : ℕ) → i < 8 → slice_index into.new i ≡ indexed_pixel (λ c. palette_colour palette.now (start + c)) (slice_index indices.now (flipped flip i)) }
+    ensures { (i : ℕ) → i < 8 → slice_index into.new i
+        ≡ indexed_pixel (λ c. palette_colour palette.now (start + c)) (slice_index indices.now (flipped flip i)) }
 {
     for i in 0..8 {
         into[i] = standard_pixel(palette, start, indices[flipped(flip, i)]);
@@ -150,7 +151,8 @@ pub fn paint_extended(
     requires small { at < 2 ^ 31 }
     requires indices { length indices.now ≡ 8 }
     requires room { length into.old ≡ 8 }
-    ensures { (i : ℕ) → i < 8 → slice_index into.new i ≡ indexed_pixel (extended_colour vram.now space at) (slice_index indices.now (flipped flip i)) }
+    ensures { (i : ℕ) → i < 8 → slice_index into.new i
+        ≡ indexed_pixel (extended_colour vram.now space at) (slice_index indices.now (flipped flip i)) }
 {
     let mut palette = [0; 512];
     vram.row(space, at - at % 2, &mut palette);

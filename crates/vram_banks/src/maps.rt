@@ -97,7 +97,8 @@ impl Model for BankMap {
 
     ghost view = { λ m. m.controls };
 
-    ghost invariant = { λ m. (length m.pages ≡ 298) × AreWindows m.controls m.windows × ArePages m.windows m.pages 298 × ((bank : ℕ) → bank < 9 → IsControl bank (slice_index m.controls bank)) };
+    ghost invariant = { λ m. (length m.pages ≡ 298) × AreWindows m.controls m.windows × ArePages m.windows m.pages 298
+        × ((bank : ℕ) → bank < 9 → IsControl bank (slice_index m.controls bank)) };
 }
 
 impl BankMap {

@@ -2,8 +2,8 @@
 
 ghost use Rattle.std.specs.Prelude.{◌≡◌, OnOk};
 ghost use Rattle.ds_math.specs.Saved.{divider_format};
-ghost use Rattle.ds_state.specs.Formats.{written};
-ghost use Rattle.ds_state.specs.Reading.{Gives, read};
+ghost use Rattle.ds_state.specs.Formats.{bytes_written};
+ghost use Rattle.ds_state.specs.Reading.{GivesRead, read_format};
 
 use crate::dividers::Divider;
 use ds_base::Tick;
@@ -14,7 +14,7 @@ impl Divider {
     /// Puts its registers and due tick, 41 bytes. The error is want of memory.
     #[tactic(auto, unfolding(crate::specs::Saved::divider_format))]
     pub fn pack(&self, into: &mut Packer) -> Result<(), AllocError>
-        ensures { OnOk result (into.new ≡ written divider_format into.old self.now) }
+        ensures { OnOk result (into.new ≡ bytes_written divider_format into.old self.now) }
     {
         into.put_u8(self.mode)?;
         into.put_u64(self.numerator)?;
@@ -28,7 +28,7 @@ impl Divider {
     /// Takes what `pack` puts. The error is where the first field begins that isn't whole, a mode above 3, or a due tick that isn't soon.
     #[tactic(auto, unfolding(crate::specs::Saved::divider_format))]
     pub fn unpack(from: &mut Unpacker, at: Tick) -> Result<Divider, Unpacked>
-        ensures { Gives (λ d. d) result from.new (read divider_format at.0 from.old) }
+        ensures { GivesRead (λ d. d) result from.new (read_format divider_format at.0 from.old) }
     {
         let mode = from.take_at_most(3)?;
         let numerator = from.take_u64()?;

@@ -2,8 +2,8 @@
 
 ghost use Rattle.std.specs.Prelude.{◌≡◌, OnOk};
 ghost use Rattle.ds_math.specs.Saved.{root_format};
-ghost use Rattle.ds_state.specs.Formats.{written};
-ghost use Rattle.ds_state.specs.Reading.{Gives, read};
+ghost use Rattle.ds_state.specs.Formats.{bytes_written};
+ghost use Rattle.ds_state.specs.Reading.{GivesRead, read_format};
 
 use crate::roots::Root;
 use ds_base::Tick;
@@ -14,7 +14,7 @@ impl Root {
     /// Puts its registers and due tick, 21 bytes. The error is want of memory.
     #[tactic(auto, unfolding(crate::specs::Saved::root_format))]
     pub fn pack(&self, into: &mut Packer) -> Result<(), AllocError>
-        ensures { OnOk result (into.new ≡ written root_format into.old self.now) }
+        ensures { OnOk result (into.new ≡ bytes_written root_format into.old self.now) }
     {
         into.put_flag(self.wide)?;
         into.put_u64(self.value)?;
@@ -27,7 +27,7 @@ impl Root {
     /// soon.
     #[tactic(auto, unfolding(crate::specs::Saved::root_format))]
     pub fn unpack(from: &mut Unpacker, at: Tick) -> Result<Root, Unpacked>
-        ensures { Gives (λ r. r) result from.new (read root_format at.0 from.old) }
+        ensures { GivesRead (λ r. r) result from.new (read_format root_format at.0 from.old) }
     {
         let wide = from.take_flag()?;
         let value = from.take_u64()?;

@@ -62,7 +62,8 @@ impl Units {
     /// The first of ARM9's DMA channels that is due.
     #[tactic(auto, using(crate::proofs::HeldDues::held_first))]
     fn first_channel_of_nine(&self) -> Option<Due>
-        ensures { result ≡ first_from 14 (dma_due_in self.now Nine 0 ∷ dma_due_in self.now Nine 1 ∷ dma_due_in self.now Nine 2 ∷ dma_due_in self.now Nine 3 ∷ []) }
+        ensures { result ≡ first_from 14 (dma_due_in self.now Nine 0 ∷ dma_due_in self.now Nine 1 ∷ dma_due_in self.now Nine 2
+            ∷ dma_due_in self.now Nine 3 ∷ []) }
     {
         if self.gx.stalled() {
             return None;

@@ -98,7 +98,8 @@ impl Units {
     /// So does one of a word of DIV_NUMER.
     fn set_numerator(&mut self, now: Tick, number: u32, value: u32)
         requires { IsEarly (Some now) }
-        ensures { self.new ≡ division_set self.old now self.old.divider.mode (with_word_of_two number self.old.divider.numerator value) self.old.divider.denominator }
+        ensures { self.new ≡ division_set self.old now self.old.divider.mode
+            (with_word_of_two number self.old.divider.numerator value) self.old.divider.denominator }
     {
         let seen = self.divider.read();
         let numerator = with_word_of_two(number, seen.numerator, value);
@@ -109,7 +110,8 @@ impl Units {
     /// So does one of a word of DIV_DENOM.
     fn set_denominator(&mut self, now: Tick, number: u32, value: u32)
         requires { IsEarly (Some now) }
-        ensures { self.new ≡ division_set self.old now self.old.divider.mode self.old.divider.numerator (with_word_of_two number self.old.divider.denominator value) }
+        ensures { self.new ≡ division_set self.old now self.old.divider.mode self.old.divider.numerator
+            (with_word_of_two number self.old.divider.denominator value) }
     {
         let seen = self.divider.read();
         let denominator = with_word_of_two(number, seen.denominator, value);

@@ -5,7 +5,7 @@ use Rattle.obj2d.specs.ObjectLayer.{pixel_at}
 use Rattle.video2d.specs.Effects.{eva, evb, brightness_changed}
 use Rattle.video2d.specs.Engines.{EngineState, dispcnt, bgcnt, bldcnt}
 use Rattle.video2d.specs.Layers.{SeenLayer, backdrop_of, seen_objects, shown_through}
-use Rattle.video2d.specs.Windows.{is_between, is_window_on, reaches_line, window_left, window_right, shown_in, shown_outside, shown_in_objects}
+use Rattle.video2d.specs.Windows.{is_between, is_window_on, reaches_line, window_left, window_right, shown_in_window, shown_outside, shown_in_objects}
 use Rattle.video2d.specs.declared.fronts.FrontPair.{FrontPair}
 use Rattle.video2d.specs.declared.layers.LayerPixels.{LayerPixels}
 use Rattle.video2d.specs.declared.layers.LayerRows.{LayerRows}
@@ -24,28 +24,28 @@ abbrev pub no_word : ℕ
 no_word = 2 ^ 32 - 1
 
 -- where a target stands among layers of one priority
-abbrev pub place_of : ℕ → ℕ
-place_of target = if target == 4 then 1 else target + 2
+abbrev pub target_place : ℕ → ℕ
+target_place target = if target == 4 then 1 else target + 2
 
 -- bits 0 to 14 are the colour, 15 tells of semi-transparent objects, 16 to 18 are the target, 19 to 21 its place, 22 to 24 the priority
 abbrev pub layer_base : ℕ → ℕ → Bool → ℕ
-layer_base priority target blended = 4194304 * (priority % 8) + 524288 * place_of target + 65536 * target + 32768 * flag 0 blended
+layer_base priority target blended = 4194304 * (priority % 8) + 524288 * target_place target + 65536 * target + 32768 * flag 0 blended
 
 abbrev pub layer_word : SeenLayer → ℕ
 layer_word s = if s.pixel == 0 then no_word else layer_base s.priority s.target s.blended + s.pixel % 2 ^ 15
 
-abbrev pub nothing : FrontPair
-nothing = record { top = no_word; next = no_word }
+abbrev pub no_layers : FrontPair
+no_layers = record { top = no_word; next = no_word }
 
 -- one more word
-abbrev pub with_word : ℕ → FrontPair → FrontPair
-with_word word p =
+abbrev pub with_layer_word : ℕ → FrontPair → FrontPair
+with_layer_word word p =
     if nat_lt word p.top then record { top = word; next = p.top }
     else (if nat_lt word p.next then record { top = p.top; next = word } else p)
 
-abbrev pub least_of : List SeenLayer → FrontPair
-least_of [] = nothing
-least_of (s ∷ layers) = with_word (layer_word s) (least_of layers)
+abbrev pub front_words : List SeenLayer → FrontPair
+front_words [] = no_layers
+front_words (s ∷ layers) = with_layer_word (layer_word s) (front_words layers)
 
 -- the layers by their priorities alone
 abbrev pub background_through : ℕ → ℕ → ℕ → ℕ → SeenLayer
@@ -53,7 +53,7 @@ background_through shown priority n pixel = shown_through shown (record { pixel 
 
 abbrev pub front_of : LineOrder → ℕ → LayerPixels → FrontPair
 front_of order shown p =
-    least_of (shown_through shown (seen_objects p.objects)
+    front_words (shown_through shown (seen_objects p.objects)
     ∷ background_through shown order.bg0 0 p.bg0
     ∷ background_through shown order.bg1 1 p.bg1
     ∷ background_through shown order.bg2 2 p.bg2
@@ -73,8 +73,8 @@ window_line e line = record {
   zero_right = window_right e 0;
   one_left = window_left e 1;
   one_right = window_right e 1;
-  in_zero = shown_in e 0;
-  in_one = shown_in e 1;
+  in_zero = shown_in_window e 0;
+  in_one = shown_in_window e 1;
   in_objects = shown_in_objects e;
   outside = shown_outside e;
 }

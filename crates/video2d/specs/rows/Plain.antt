@@ -15,16 +15,16 @@ use Rattle.video2d.specs.declared.engines.Engine.{Engine}
 -- front. No public clause speaks of it.
 
 -- objects and windows are off (DISPCNT bits 12 to 15), and there is no effect
-abbrev pub is_plain : EngineState → Bool
-is_plain e = (bits 12 4 (dispcnt e) == 0) && (effect e == 0)
+abbrev pub is_plain_engine : EngineState → Bool
+is_plain_engine e = (bits 12 4 (dispcnt e) == 0) && (effect e == 0)
 
 -- a pixel over what is behind it
-abbrev pub over : ℕ → ℕ → ℕ
-over pixel behind = if pixel == 0 then behind else pixel % 2 ^ 15
+abbrev pub laid_over : ℕ → ℕ → ℕ
+laid_over pixel behind = if pixel == 0 then behind else pixel % 2 ^ 15
 
 -- the same, where a layer has the priority whose turn it is
 abbrev pub over_at : ℕ → SeenLayer → ℕ → ℕ
-over_at p s behind = if s.priority == p then over s.pixel behind else behind
+over_at p s behind = if s.priority == p then laid_over s.pixel behind else behind
 
 -- layers of one priority over what is behind them
 abbrev pub laid_at : ℕ → List SeenLayer → ℕ → ℕ

@@ -1,7 +1,7 @@
 use Rattle.std.proofs.Common.{◌<◌, true≢false, [], Option, sym, subst, arith}
 use Rattle.ds_base.specs.declared.left_out.LeftOut.{LeftOut}
 use Rattle.ds_machine.specs.Counting.{last_limit}
-use Rattle.ds_machine.specs.TurnSteps.{BelongsToTurn, TakesSteps, none, more, own_remaining}
+use Rattle.ds_machine.specs.TurnSteps.{BelongsToTurn, TakesSteps, no_steps, more_steps, own_remaining}
 use Rattle.ds_machine.specs.States.{MachineState}
 use Rattle.ds_machine.proofs.OwnRemaining.{turn_steps_fall}
 use Rattle.ds_machine.proofs.TurnSteps.{running_along}
@@ -10,7 +10,7 @@ use Rattle.run_ahead.proofs.Stretches.{own_along, sound_along, takes_twice, took
 use Rattle.run_ahead.proofs.machine_turns.take_stretch.Goals as goal
 
 pub steps-init : goal.steps-init
-steps-init c = (none c.args.machine.now, c.requires.running, c.requires.limit)
+steps-init c = (no_steps c.args.machine.now, c.requires.running, c.requires.limit)
 
 pub returns-then-go_fast : goal.returns-then-go_fast
 returns-then-go_fast c = record {
@@ -35,13 +35,13 @@ step_slowly-requires-clause-running c = c.steps.invariant.1
 pub returns-in-Over : goal.returns-in-Over
 returns-in-Over c =
     let same = sym c.in-Over.ensures.1 in
-    let none = c.in-Over.ensures.2 in
+    let no_steps = c.in-Over.ensures.2 in
     record {
-      took = subst (λ (o : Option LeftOut). TookStretch c.args.until.0 c.args.proc c.args.machine.now o c.step_slowly.new.machine) (sym none) (
+      took = subst (λ (o : Option LeftOut). TookStretch c.args.until.0 c.args.proc c.args.machine.now o c.step_slowly.new.machine) (sym no_steps) (
         subst (λ (m : MachineState). TakesSteps c.args.until.0 c.args.proc c.args.machine.now m) same (takes_twice c.args.until.0 c.args.proc c.args.machine.now c.steps.machine c.go_fast.new.self c.steps.invariant.0 c.go_fast.ensures.steps),
         subst (λ (m : MachineState). (BelongsToTurn c.args.until.0 m c.args.proc → ⊥)) same c.in-Over.ensures.0,
       );
-      goes = λ e. none;
+      goes = λ e. no_steps;
       stops = λ e. absurd (true≢false (sym e));
     }
 
@@ -56,17 +56,17 @@ returns-in-Stopped c =
     }
 
 pub steps-preserved : goal.steps-preserved
-steps-preserved c = (more c.args.machine.now c.go_fast.new.self c.in-Took.ensures.1.0 c.step_slowly.new.machine (takes_twice c.args.until.0 c.args.proc c.args.machine.now c.steps.machine c.go_fast.new.self c.steps.invariant.0 c.go_fast.ensures.steps) c.in-Took.ensures.0 c.in-Took.ensures.1.1 c.in-Took.ensures.1.2, c.in-Took.ensures.2, c.in-Some.ensures)
+steps-preserved c = (more_steps c.args.machine.now c.go_fast.new.self c.in-Took.ensures.1.0 c.step_slowly.new.machine (takes_twice c.args.until.0 c.args.proc c.args.machine.now c.steps.machine c.go_fast.new.self c.steps.invariant.0 c.go_fast.ensures.steps) c.in-Took.ensures.0 c.in-Took.ensures.1.1 c.in-Took.ensures.1.2, c.in-Took.ensures.2, c.in-Some.ensures)
 
 pub end_slowly-requires-clause-going : goal.end_slowly-requires-clause-going
 end_slowly-requires-clause-going c =
     let early = c.requires.early in
     running_along c.args.until.0 last_limit c.args.proc c.args.machine.now c.step_slowly.new.machine (omega (arith, early))
-    (more c.args.machine.now c.go_fast.new.self c.in-Took.ensures.1.0 c.step_slowly.new.machine (takes_twice c.args.until.0 c.args.proc c.args.machine.now c.steps.machine c.go_fast.new.self c.steps.invariant.0 c.go_fast.ensures.steps) c.in-Took.ensures.0 c.in-Took.ensures.1.1 c.in-Took.ensures.1.2) c.requires.going
+    (more_steps c.args.machine.now c.go_fast.new.self c.in-Took.ensures.1.0 c.step_slowly.new.machine (takes_twice c.args.until.0 c.args.proc c.args.machine.now c.steps.machine c.go_fast.new.self c.steps.invariant.0 c.go_fast.ensures.steps) c.in-Took.ensures.0 c.in-Took.ensures.1.1 c.in-Took.ensures.1.2) c.requires.going
 
 pub returns-in-None-clause-took : goal.returns-in-None-clause-took
 returns-in-None-clause-took c = took_twice c.args.until.0 c.args.proc c.args.machine.now c.step_slowly.new.machine c.end_slowly.new.machine c.end_slowly.new.stop
-    (more c.args.machine.now c.go_fast.new.self c.in-Took.ensures.1.0 c.step_slowly.new.machine (takes_twice c.args.until.0 c.args.proc c.args.machine.now c.steps.machine c.go_fast.new.self c.steps.invariant.0 c.go_fast.ensures.steps) c.in-Took.ensures.0 c.in-Took.ensures.1.1 c.in-Took.ensures.1.2) c.end_slowly.ensures.took
+    (more_steps c.args.machine.now c.go_fast.new.self c.in-Took.ensures.1.0 c.step_slowly.new.machine (takes_twice c.args.until.0 c.args.proc c.args.machine.now c.steps.machine c.go_fast.new.self c.steps.invariant.0 c.go_fast.ensures.steps) c.in-Took.ensures.0 c.in-Took.ensures.1.1 c.in-Took.ensures.1.2) c.end_slowly.ensures.took
 
 pub steps-smaller : goal.steps-smaller
 steps-smaller c =

@@ -1,7 +1,7 @@
 use Rattle.std.proofs.Common.{[], Option, refl, sym, subst, arith}
 use Rattle.ds_base.specs.declared.left_out.LeftOut.{LeftOut}
 use Rattle.ds_machine.specs.Counting.{last_limit}
-use Rattle.ds_machine.specs.TurnSteps.{BelongsToTurn, TakesSteps, none, more}
+use Rattle.ds_machine.specs.TurnSteps.{BelongsToTurn, TakesSteps, no_steps, more_steps}
 use Rattle.ds_machine.specs.States.{MachineState}
 use Rattle.ds_machine.proofs.OwnRemaining.{turn_steps_fall}
 use Rattle.ds_machine.proofs.TurnSteps.{running_along}
@@ -10,7 +10,7 @@ use Rattle.run_ahead.proofs.Stretches.{sound_along}
 use Rattle.run_ahead.proofs.machine_turns.take_stretch_slowly.Goals as goal
 
 pub steps-init : goal.steps-init
-steps-init c = (none c.args.machine.now, refl)
+steps-init c = (no_steps c.args.machine.now, refl)
 
 pub step_slowly-requires-clause-going : goal.step_slowly-requires-clause-going
 step_slowly-requires-clause-going c =
@@ -35,7 +35,7 @@ returns-in-Stopped c =
     (c.steps.machine, c.steps.invariant.0, c.in-Stopped.ensures.0, stop.2)
 
 pub steps-preserved : goal.steps-preserved
-steps-preserved c = (more c.args.machine.now c.steps.machine c.in-Took.ensures.1.0 c.step_slowly.new.machine c.steps.invariant.0 c.in-Took.ensures.0 c.in-Took.ensures.1.1 c.in-Took.ensures.1.2, c.in-Took.ensures.2)
+steps-preserved c = (more_steps c.args.machine.now c.steps.machine c.in-Took.ensures.1.0 c.step_slowly.new.machine c.steps.invariant.0 c.in-Took.ensures.0 c.in-Took.ensures.1.1 c.in-Took.ensures.1.2, c.in-Took.ensures.2)
 
 pub steps-smaller : goal.steps-smaller
 steps-smaller c =

@@ -1,12 +1,12 @@
 use Rattle.std.proofs.Common.{◌∙◌, inl, inr, sym, arith}
 use Rattle.ds_machine.specs.Counting.{last_limit}
-use Rattle.ds_machine.specs.Lagging.{more, none}
+use Rattle.ds_machine.specs.Lagging.{more_geometry, no_geometry}
 use Rattle.ds_machine.proofs.CatchingUp.{behind_early, behind_is, caught_so, fewer_left}
 use Rattle.ds_machine.proofs.Running.{few_events, running_taken}
 use Rattle.ds_machine.proofs.parts.Parts.catch_up.Goals as goal
 
 pub steps-init : goal.steps-init
-steps-init c = none c.args.self.now
+steps-init c = no_geometry c.args.self.now
 
 pub step_quiet-requires-clause-sound : goal.step_quiet-requires-clause-sound
 step_quiet-requires-clause-sound c = (caught_so c.args.tick.0 c.args.rank c.args.self.now c.steps.self c.requires.running.sound c.steps.invariant).sound
@@ -36,4 +36,4 @@ steps-smaller c =
     (sym c.is_behind.ensures ∙ c.steps-test.true) c.step_quiet.ensures
 
 pub steps-preserved : goal.steps-preserved
-steps-preserved c = more c.args.self.now c.steps.self c.step_quiet.new.self c.steps.invariant (sym c.is_behind.ensures ∙ c.steps-test.true) c.step_quiet.ensures
+steps-preserved c = more_geometry c.args.self.now c.steps.self c.step_quiet.new.self c.steps.invariant (sym c.is_behind.ensures ∙ c.steps-test.true) c.step_quiet.ensures

@@ -1,5 +1,5 @@
 use Rattle.std.proofs.Common.{refl, sym, ◌∙◌, ap, subst, arith}
-use Rattle.ds_machine.specs.TurnSteps.{HasLimit, TakesSteps, none}
+use Rattle.ds_machine.specs.TurnSteps.{HasLimit, TakesSteps, no_steps}
 use Rattle.ds_machine.specs.States.{MachineState}
 use Rattle.ds_machine.proofs.GoingSteps.{free_here, goes_on, limit_here, limit_so}
 use Rattle.ds_machine.proofs.parts.Parts.go_fast.Goals as goal
@@ -8,7 +8,7 @@ pub steps-init : goal.steps-init
 steps-init c =
     let some = c.if-next_event-eq0.false in
     record {
-      steps = none c.args.self.now;
+      steps = no_steps c.args.self.now;
       kept = c.requires.next_event;
       running = c.requires.running;
       io = refl;
@@ -24,7 +24,7 @@ pub go_once-requires-clause-free : goal.go_once-requires-clause-free
 go_once-requires-clause-free c = free_here c.args.next_event c.args.self.now c.args.proc c.args.until.0 c.args.limit c.requires.next_event c.requires.limit
 
 pub returns-then-next_event-eq0-clause-steps : goal.returns-then-next_event-eq0-clause-steps
-returns-then-next_event-eq0-clause-steps c = none c.args.self.now
+returns-then-next_event-eq0-clause-steps c = no_steps c.args.self.now
 
 pub returns-in-Over-clause-steps : goal.returns-in-Over-clause-steps
 returns-in-Over-clause-steps c = subst (TakesSteps c.args.until.0 c.args.proc c.args.self.now) (sym (c.go_once.ensures.over_same c.in-Over.is)) c.steps.invariant.steps

@@ -1,5 +1,5 @@
 use Rattle.std.specs.Prelude.{option_to_list}
-use Rattle.std.proofs.Common.{ℕ, ◌≡◌, ◌≤◌, ◌<◌, ◌+◌, ◌*◌, ◌^◌, Bool, true, false, List, [], ◌∷◌, ◌++◌, length, map, flat_map, Option, Some, None, option_map, refl, subst, arith}
+use Rattle.std.proofs.Common.{ℕ, ◌≡◌, ◌≤◌, ◌<◌, ◌+◌, ◌*◌, ◌^◌, Bool, true, false, List, [], ◌∷◌, ◌++◌, length, map, flat_map, Option, Some, None, option_map, refl, sym, subst, arith}
 use Rattle.std.specs.List.{concat}
 use Rattle.std.proofs.lemmas.List.{length-append}
 use Rattle.ds_base.specs.declared.left_out.LeftOut.{LeftOut}
@@ -11,10 +11,11 @@ use Rattle.ds_base.specs.declared.ticks.Tick.{Tick}
 use Rattle.ds_machine.specs.Frames.{WholeFrame, framed_of, last_frame}
 use Rattle.ds_machine.specs.Inspections.{memory_of, registers_of}
 use Rattle.ds_machine.specs.States.{MachineState}
-use Rattle.ds_runs.specs.Runs.{At}
+use Rattle.ds_runs.specs.Runs.{At, Stopped}
 use Rattle.gx_geometry.specs.States.{Swapped}
 use Rattle.nds_records.specs.Lists.{lists_record, lists_records}
 use Rattle.nds_records.specs.Numbers.{halves, longs, words}
+use Rattle.nds_plays.specs.Inside.{ending}
 use Rattle.nds_plays.specs.Records.{all_memories, end_record, frame_record, frame_records, last_records, memory_record, stop_record, swapped_lists}
 
 -- How long the records are.
@@ -74,9 +75,17 @@ swapped_few false lists few = omega arith
 
 -- ---- what comes last
 
-pub stop_few : (left : LeftOut) → length (concat (stop_record left)) ≤ 15
+stop_few : (left : LeftOut) → length (concat (stop_record left)) ≤ 15
 unfolding longs words
 stop_few left = omega arith
+
+stopped_few : (until turns : ℕ) (left : LeftOut) → length (last_records until turns (Stopped left)) + 383006 ≤ 40000000
+stopped_few until turns left = let few = stop_few left in omega (arith, few)
+
+pub ending_few : (stop : Option LeftOut) (left : LeftOut) (until turns : ℕ) (m : MachineState) → stop ≡ Some left
+    → length (last_records until turns (ending stop m)) + 383006 ≤ 40000000
+ending_few stop left until turns m e =
+    subst (λ (o : Option LeftOut). length (last_records until turns (ending o m)) + 383006 ≤ 40000000) (sym e) (stopped_few until turns left)
 
 lent : (xs ys : List ℕ) → xs ≡ ys → length xs ≤ 4194304 → length ys ≤ 4194304
 lent xs ys e h = subst (λ (x : List ℕ). length x ≤ 4194304) e h

@@ -1,5 +1,7 @@
-use Rattle.std.proofs.Common.{ℕ, ◌≡◌, ◌≤◌, ◌<◌, ◌*◌, ◌^◌, length, Bool, true, false, if◌then◌else◌, List, [], ◌∷◌, ◌++◌, flat_map, Option, Some, None, max, refl, sym, ◌∙◌, ap, subst, append_assoc, append-nil, arith}
+use Rattle.std.proofs.Common.{ℕ, ◌≡◌, ◌≤◌, ◌<◌, ◌*◌, ◌^◌, length, Bool, true, false, true≢false, Result, Ok, Err, is_err, if◌then◌else◌, List, [], ◌∷◌, ◌++◌, flat_map, Option, Some, None, max, refl, sym, ◌∙◌, ap, subst, append_assoc, append-nil, arith}
 use Rattle.std.specs.List.{last_or}
+use Rattle.std.specs.Result.{OnOk}
+use Rattle.ds_io.specs.Puts.{Puts}
 use Rattle.std.specs.Prelude.{option_to_list}
 use Rattle.std.proofs.lemmas.List.{length-append}
 use Rattle.std.proofs.lemmas.List.Concat.{flat_map-append}
@@ -321,3 +323,14 @@ module _ {S : Type 0} (tells : S → Bool) (taken : S → List ℕ → Type 0) (
         written = subst P (whole_output until keep old stop new r)
             (front_after tells taken before mid after (shown_while keep r.outs) left_to_write so_far put);
       }
+
+-- ---- what a call put that didn't fail
+
+pub put_whole : {S E : Type 0} (tells : S → Bool) (taken : S → List ℕ → Type 0) (faults : S → ℕ) (bytes : List ℕ) (old new : S) (result : Result (Unit {0}) E)
+    → Puts tells taken faults bytes result old new → is_err result ≡ false → Appended tells taken old new bytes
+put_whole tells taken faults bytes old new (Ok done) put made = put.0
+put_whole tells taken faults bytes old new (Err fault) put made = absurd (true≢false made)
+
+pub so_of_ok : {E P : Type 0} (result : Result (Unit {0}) E) → OnOk result P → is_err result ≡ false → P
+so_of_ok (Ok done) h made = h
+so_of_ok (Err fault) h made = absurd (true≢false made)

@@ -1,8 +1,10 @@
-use Rattle.std.proofs.Common.{sym, ◌∙◌, ◌++◌}
+use Rattle.std.proofs.Common.{Option, sym, ◌∙◌, ◌++◌, subst}
+use Rattle.ds_base.specs.declared.left_out.LeftOut.{LeftOut}
 use Rattle.nds_plays.specs.Inside.{ending, shown_after}
+use Rattle.nds_plays.specs.Plays.{Wrote}
 use Rattle.nds_plays.specs.Records.{last_records, latest_of}
 use Rattle.ds_io.proofs.Putting.{rose_within}
-use Rattle.nds_plays.proofs.Playing.{front_written}
+use Rattle.nds_plays.proofs.Playing.{all_written, front_written, put_whole, so_of_ok}
 use Rattle.ds_io.proofs.Putting.{puts_failed}
 use Rattle.nds_plays.proofs.plays.play.Goals as goal
 
@@ -12,7 +14,38 @@ returns-then-is_err-clause-played g c =
     let ran = c.in-Ok.ensures.ran in
     let put = puts_failed g.O.Sink.tells g.O.Sink.taken g.O.Sink.faults (shown_after c.args.keep (latest_of m) ++ last_records c.args.until.0 c.run_to.new.console.turns (ending c.in-Ok.stop m))
     c.run_to.new.out c.put_records.new.out c.put_records.result c.put_records.ensures.put (sym c.is_err.ensures.value ∙ c.if-is_err.true) in (
-      front_written g.O.Sink.tells g.O.Sink.taken c.args.until.0 c.args.keep c.args.console.now c.in-Ok.stop c.run_to.new.console c.args.out.now c.run_to.new.out c.put_records.new.out ran.0 ran.1.0 put.0,
+      front_written g.O.Sink.tells g.O.Sink.taken c.args.until.0 c.args.keep c.args.console.now c.in-Ok.stop c.run_to.new.console c.args.out.now c.run_to.new.out c.put_records.new.out ran.0 ran.1 put.0,
       rose_within (g.O.Sink.faults c.args.out.now) (g.O.Sink.faults c.run_to.new.out) (g.O.Sink.faults c.put_records.new.out) c.in-Ok.ensures.later put.1,
+      ran.0.turned,
+    )
+
+pub returns-in-None-clause-played : goal.returns-in-None-clause-played
+returns-in-None-clause-played g c =
+    let new = c.run_to.new.console in
+    let ran = c.in-Ok.ensures.ran in
+    let made = sym c.is_err.ensures.value ∙ c.if-is_err.false in
+    let put = put_whole g.O.Sink.tells g.O.Sink.taken g.O.Sink.faults (shown_after c.args.keep (latest_of new.machine) ++ last_records c.args.until.0 new.turns (ending c.in-Ok.stop new.machine))
+    c.run_to.new.out c.put_records.new.out c.put_records.result c.put_records.ensures.put made in
+    let few = so_of_ok c.put_records.result c.put_records.ensures.few made in
+    let wrote = all_written g.O.Sink.tells g.O.Sink.taken c.args.until.0 c.args.keep c.args.console.now c.in-Ok.stop new c.args.out.now c.run_to.new.out c.put_records.new.out ran.0 ran.1
+    c.requires.early c.laws.ensures.parts c.frame_laws.ensures.few ran.2 few put in (
+      subst (λ (o : Option LeftOut). Wrote g.O.Sink.tells g.O.Sink.taken c.args.until.0 c.args.keep c.args.console.now (ending o new.machine) new c.args.out.now c.put_records.new.out) c.in-None.is wrote,
+      ran.0.stopped ∙ c.in-None.is,
+      ran.0.limit,
+      ran.0.turned,
+    )
+
+pub returns-in-Some-clause-played : goal.returns-in-Some-clause-played
+returns-in-Some-clause-played g c =
+    let new = c.run_to.new.console in
+    let ran = c.in-Ok.ensures.ran in
+    let made = sym c.is_err.ensures.value ∙ c.if-is_err.false in
+    let put = put_whole g.O.Sink.tells g.O.Sink.taken g.O.Sink.faults (shown_after c.args.keep (latest_of new.machine) ++ last_records c.args.until.0 new.turns (ending c.in-Ok.stop new.machine))
+    c.run_to.new.out c.put_records.new.out c.put_records.result c.put_records.ensures.put made in
+    let few = so_of_ok c.put_records.result c.put_records.ensures.few made in
+    let wrote = all_written g.O.Sink.tells g.O.Sink.taken c.args.until.0 c.args.keep c.args.console.now c.in-Ok.stop new c.args.out.now c.run_to.new.out c.put_records.new.out ran.0 ran.1
+    c.requires.early c.laws.ensures.parts c.frame_laws.ensures.few ran.2 few put in (
+      subst (λ (o : Option LeftOut). Wrote g.O.Sink.tells g.O.Sink.taken c.args.until.0 c.args.keep c.args.console.now (ending o new.machine) new c.args.out.now c.put_records.new.out) c.in-Some.is wrote,
+      ran.0.stopped ∙ c.in-Some.is,
       ran.0.turned,
     )

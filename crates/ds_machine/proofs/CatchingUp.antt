@@ -76,9 +76,6 @@ behind_steps tick rank s before h =
       earlier = elim k.earlier [ inl lt ↦ omega (arith, lt) | inr same ↦ (let e = same.0 in let low = same.1 in omega (arith, e, low)) ];
     }
 
-pub behind_least : (tick rank : ℕ) (s : MachineState) → ComesBeforeAll tick rank s → is_behind tick rank s ≡ true → (u : Tick) × IsLeast (dues_of s) u 12 × (24 * u.0 + 12 < 24 * tick + rank)
-behind_least tick rank s before h = let k = behind_steps tick rank s before h in (k.next, k.least, k.earlier)
-
 -- ---- what such steps leave
 
 pub record CaughtSo (s now : MachineState) : Type 0 where

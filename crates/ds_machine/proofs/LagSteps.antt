@@ -201,9 +201,6 @@ due_counted _ g s = refl
 pub others_due : (a : actor.Actor) (g : GxState) (s : MachineState) → a ≢ Geometry → is_stalled g ≡ is_stalled s.io.gx → due_by a (late_put g s) ≡ due_by a s
 others_due a g s other same = due_counted a g s ∙ due_so a g s (not_geometry a other) same
 
-pub others_due_put : (a : actor.Actor) (g : GxState) (s : MachineState) → a ≢ Geometry → is_stalled g ≡ is_stalled s.io.gx → due_by a (gx_put g s) ≡ due_by a s
-others_due_put a g s other same = due_so a g s (not_geometry a other) same
-
 -- all act that are due, but quiet geometry
 quiet_never : (quiet : Bool) (due : Option Tick) → quiet ≡ is_some due → (if quiet then None else due) ≡ None
 quiet_never true due h = refl

@@ -1,4 +1,4 @@
-use Rattle.std.proofs.Common.{ℕ, suc, ◌≡◌, ◌<◌, ◌+◌, ◌-◌, ◌%◌, ◌^◌, ◌==◌, ◌↔◌, ◌⊎◌, inl, inr, if◌then◌else◌, Bool, true, false, true≢false, not, List, [], ◌∷◌, ◌++◌, length, map, Option, Some, None, Contains, refl, sym, ◌∙◌, ap, subst, arith}
+use Rattle.std.proofs.Common.{ℕ, suc, ◌≡◌, ◌<◌, ◌+◌, ◌-◌, ◌%◌, ◌^◌, ◌==◌, ◌↔◌, ◌⊎◌, inl, inr, if◌then◌else◌, Bool, true, false, true≢false, not, List, [], ◌∷◌, ◌++◌, length, map, Option, Some, Contains, refl, sym, ◌∙◌, ap, subst, arith}
 use Rattle.std.specs.Prelude.{◌&&◌, ◌||◌}
 use Rattle.std.specs.List.{list_all}
 use Rattle.std.proofs.lemmas.List.Elements.{All-contains, Contains-append_left, Contains-append_right, Contains-append_cases}
@@ -320,9 +320,6 @@ module _ {S : Type 0} (side : SideOf S) (state : S) where
     ),
   )
 
-  stays_not : (memory : MemoryMachine S) (s : RegisterState) → None ≡ (fetched memory side.arch s state).instr → StaysPrivate memory side s state → ⊥
-  stays_not memory s e k = true≢false (sym (subst (λ (i : Option Instr). may_go_ahead side.arch i ≡ true) (sym e) k.kind))
-
 -- ---- in the machine
 
 pub instr_stays : (s : MachineState) (proc : Proc) (instr : Instr) (touch : Touch) → IsFootprint s proc instr touch
@@ -343,10 +340,6 @@ pub stays_by_instr : (s : MachineState) (proc : Proc) (instr : Instr) → Some i
     → InstrStaysPrivate s proc instr ↔ ProcessorStaysPrivate s proc
 stays_by_instr s Nine instr e fetch = stays_if nine_side (nine_reach (tick_of s.nine.processor) s) nine_memory s.nine.processor.registers instr e fetch
 stays_by_instr s Seven instr e fetch = stays_if seven_side (seven_reach (tick_of s.seven.processor) s) seven_memory s.seven.processor.registers instr e fetch
-
-pub none_stays : (s : MachineState) (proc : Proc) → None ≡ instr_at s proc → ProcessorStaysPrivate s proc → ⊥
-none_stays s Nine e k = stays_not nine_side (nine_reach (tick_of s.nine.processor) s) nine_memory s.nine.processor.registers e k
-none_stays s Seven e k = stays_not seven_side (seven_reach (tick_of s.seven.processor) s) seven_memory s.seven.processor.registers e k
 
 pub fetch_of_stays : (s : MachineState) (proc : Proc) → ProcessorStaysPrivate s proc → FetchStaysPrivate s proc
 fetch_of_stays s Nine k = k.fetch

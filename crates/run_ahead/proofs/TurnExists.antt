@@ -1,6 +1,5 @@
 use Rattle.std.proofs.Common.{ℕ, zero, suc, ◌≡◌, ◌<◌, ◌≤◌, ◌+◌, ◌⊎◌, inl, inr, Bool, true, false, true≢false, List, [], ◌∷◌, Option, Some, None, refl, sym, ◌∙◌, ap, subst, arith}
 use Rattle.std.specs.Prelude.{IsSome}
-use Rattle.std.proofs.lemmas.Option.{none-some}
 use Rattle.ds_base.specs.declared.left_out.LeftOut.{LeftOut}
 use Rattle.ds_base.specs.declared.processors.Proc.{Proc}
 use Rattle.ds_base.specs.declared.processors.Proc.TheVariants.{Nine, Seven}
@@ -30,7 +29,7 @@ use Rattle.ds_machine.proofs.StepsMay.{answer_of}
 use Rattle.gx_fifo.specs.GxStates.{gx_finished}
 use Rattle.run_ahead.specs.Consoles.{ConsoleState}
 use Rattle.run_ahead.specs.Inside.{TookStretch, TookTurn}
-use Rattle.run_ahead.specs.ToEnd.{HasTurnsToEnd, TurnsEnd, TurnsToEnd, at_end, counts, meets_stop}
+use Rattle.run_ahead.specs.ToEnd.{HasTurnsToEnd, TurnsEnd, at_end, counts, meets_stop}
 use Rattle.run_ahead.specs.Turns.{Turns, counted_of, one_more_turn, run_to, turns_remaining}
 use Rattle.run_ahead.specs.declared.turns.Turned as turned
 use Rattle.run_ahead.specs.declared.turns.Turned.TheVariants as turns
@@ -158,10 +157,6 @@ abbrev HasTurn : ℕ → ConsoleState → Type 0
 HasTurn until c = (answer : turned.Turned) × (new : ConsoleState) × Turns until c answer new
 
 module _ (until : ℕ) (c : ConsoleState) (still_open : c.stopped ≡ None) (sound : IsSound c.machine) where
-  some_none : (left : LeftOut) (stopped : Option LeftOut) → stopped ≡ None → IsSome stopped → stopped ≡ Some left
-  some_none left None e some = absurd (true≢false (sym some))
-  some_none left (Some l) e some = absurd (none-some l (sym e))
-
   console_took : (done : answer.Done) (next : MachineState) → TookTurn until c.machine done next → HasTurn until c
   console_took answers.Made next t = (turns.Ran, one_more_turn (run_to c until next), (still_open, t, refl))
   console_took (answers.Frame swapped) next t = (turns.Frame swapped, one_more_turn (run_to c until next), (still_open, t, refl))

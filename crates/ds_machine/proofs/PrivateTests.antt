@@ -44,7 +44,7 @@ use Rattle.ds_machine.specs.Touching.{FetchStaysPrivate, InstrReaches, InstrStay
 
 -- ---- tests of all bytes
 
-all_of : (p : ℕ → Bool) (xs : List ℕ) → ((x : ℕ) → Contains xs x → p x ≡ true) → list_all p xs ≡ true
+pub all_of : (p : ℕ → Bool) (xs : List ℕ) → ((x : ℕ) → Contains xs x → p x ≡ true) → list_all p xs ≡ true
 all_of p [] h = refl
 all_of p (x ∷ xs) h = and_from (p x) (list_all p xs) (h x (0, omega arith, refl)) (all_of p xs (λ y c. h y (suc c.0, (let lt = c.1 in omega (arith, lt)), c.2)))
 
@@ -157,7 +157,7 @@ meant_suits arch base s i = by_condition (holds (condition i) s.cpsr) where
 
 -- ---- accesses by their bytes
 
-abbrev Passes : (ℕ → Bool) → List ℕ → Type 0
+abbrev pub Passes : (ℕ → Bool) → List ℕ → Type 0
 Passes p bytes = (byte : ℕ) → Contains bytes byte → p byte ≡ true
 
 none_passes : (p : ℕ → Bool) (bytes : List ℕ) → bytes ≡ [] → Passes p bytes

@@ -1,5 +1,6 @@
 use Rattle.std.proofs.Common.{ℕ, ◌≡◌, ◌≢◌, ◌<◌, ◌⊎◌, inl, inr, Bool, true, false, if◌then◌else◌, List, [], ◌∷◌, ◌++◌, map, length, Option, Some, None, refl, sym, ◌∙◌, ap, arith}
 use Rattle.std.proofs.lemmas.Option.{none-some}
+use Rattle.ds_base.proofs.Choices.{same_or_not}
 use Rattle.ds_base.specs.declared.processors.Proc.{Proc}
 use Rattle.ds_base.specs.declared.processors.Proc.TheVariants.{Nine, Seven}
 use Rattle.ds_base.specs.declared.ticks.Due.{Due}
@@ -75,13 +76,6 @@ loud_by s loud _ = refl
 pub loud_same : (s : MachineState) → is_quiet s.io ≡ false → acting_dues s ≡ dues_of s
 unfolding acting_dues dues_of
 loud_same s loud = maps_same (λ (a : actor.Actor). acting_due a s) (λ (a : actor.Actor). due_by a s) (loud_by s loud) actors
-
-pub same_or_not : (a b : ℕ) → (a ≡ b) ⊎ (a ≢ b)
-same_or_not a b = grind arith
-
-pub quiet_or_loud : (quiet : Bool) → (quiet ≡ true) ⊎ (quiet ≡ false)
-quiet_or_loud true = inl refl
-quiet_or_loud false = inr refl
 
 -- an actor of another rank than geometry's acts where it is due
 pub other_acts : (s : MachineState) (other : ℕ) → other < 24 → other ≢ 12 → due_at (acting_dues s) other ≡ due_at (dues_of s) other

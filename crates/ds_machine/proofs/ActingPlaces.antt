@@ -1,5 +1,6 @@
 use Rattle.std.proofs.Common.{ℕ, ◌≡◌, ◌≢◌, ◌<◌, ◌≤◌, ◌+◌, ◌-◌, ◌*◌, ◌⊎◌, inl, inr, true, List, [], Option, Some, sym, ◌∙◌, ap, subst, arith}
 use Rattle.std.proofs.lemmas.Option.{none-some}
+use Rattle.ds_base.proofs.Choices.{same_or_not, true_or_false}
 use Rattle.ds_base.specs.declared.processors.Proc.{Proc}
 use Rattle.ds_base.specs.declared.processors.Proc.TheVariants.{Nine, Seven}
 use Rattle.ds_base.specs.declared.ticks.Tick.{Tick}
@@ -17,7 +18,7 @@ use Rattle.ds_machine.specs.Private.{IsAhead, rank_of}
 use Rattle.ds_machine.specs.Reference.{Shown, due_by, reference_step}
 use Rattle.ds_machine.specs.Sound.{IsSound}
 use Rattle.ds_machine.specs.States.{MachineState}
-use Rattle.ds_machine.proofs.ActingDues.{acting_low, acting_of_rank, acts_where_due, due_where_acts, loud_by, quiet_or_loud, same_or_not}
+use Rattle.ds_machine.proofs.ActingDues.{acting_low, acting_of_rank, acts_where_due, due_where_acts, loud_by}
 use Rattle.ds_machine.proofs.ActingSteps.{Acted, CaughtUp, caught_steps, caught_up}
 use Rattle.ds_machine.proofs.DueTicks.{due_of_rank}
 use Rattle.ds_machine.proofs.InnerLaw.{private_is_harmless}
@@ -82,7 +83,7 @@ module _ (s next : MachineState) (tick : Tick) (rank : ℕ) (outs : List Shown) 
     still (inr k) = ahead_quiet caught next k.0 rank outs since_caught.so.sound k.2 k.1 acted.makes ∙ quiet
 
   geometry_since : (u : Tick) → rank ≢ 12 → due_by Geometry caught ≡ Some u → acting_due Geometry next ≡ Some u → ActsSince s tick rank 12 u
-  geometry_since u ne due acts = elim (quiet_or_loud (is_quiet caught.io)) [
+  geometry_since u ne due acts = elim (true_or_false (is_quiet caught.io)) [
     | inl quiet ↦ quiet_since u ne quiet due acts since_caught.may
     | inr loud ↦ acted_before 12 u (λ e. ne (sym e)) (acting_of_rank caught 12 (omega arith) ∙ loud_by caught loud Geometry ∙ due)
   ]

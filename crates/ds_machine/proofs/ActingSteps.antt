@@ -2,6 +2,7 @@ use Rattle.std.proofs.Common.{ℕ, ◌≡◌, ◌<◌, ◌≤◌, ◌^◌, ◌�
 use Rattle.std.specs.Prelude.{◌↔◌}
 use Rattle.std.specs.List.{last_or}
 use Rattle.std.proofs.lemmas.Option.{none-some}
+use Rattle.ds_base.proofs.Choices.{same_or_not, true_or_false}
 use Rattle.arm9_exec.specs.Statuses.{HasNineStatuses}
 use Rattle.arm_exec.specs.Statuses.{HasStatuses}
 use Rattle.ds_base.specs.declared.left_out.LeftOut.{LeftOut}
@@ -27,7 +28,7 @@ use Rattle.ds_machine.specs.Statuses.{HasBothStatuses, left_by}
 use Rattle.ds_machine.specs.Steps.{processor_of}
 use Rattle.ds_machine.specs.TurnSteps.{ActingMayStep, ActingRuns, ActingStops, MayAct, MayStep}
 use Rattle.gx_geometry.specs.States.{Swapped}
-use Rattle.ds_machine.proofs.ActingDues.{acting_low, acting_of_rank, due_where_acts, loud_same, quiet_or_loud, same_or_not}
+use Rattle.ds_machine.proofs.ActingDues.{acting_low, acting_of_rank, due_where_acts, loud_same}
 use Rattle.ds_machine.proofs.AheadRuns.{ahead_runs, ahead_steps}
 use Rattle.ds_machine.proofs.CatchingUp.{CaughtSo, catching_up_runs, caught_least, caught_so, comes_first}
 use Rattle.ds_machine.proofs.CountSteps.{one_more_as, stop_counts}
@@ -65,7 +66,7 @@ pub record CaughtUp (s caught : MachineState) (tick : Tick) (rank : ℕ) : Type 
 
 -- where geometry acts it isn't quiet, so that all act that are due
 acts_loudly : (s : MachineState) (tick : Tick) → due_at (acting_dues s) 12 ≡ Some tick → acting_dues s ≡ dues_of s
-acts_loudly s tick acts = elim (quiet_or_loud (is_quiet s.io)) [
+acts_loudly s tick acts = elim (true_or_false (is_quiet s.io)) [
   | inl quiet ↦ absurd (none-some tick (sym (quiet_acts_never s quiet) ∙ sym (acting_of_rank s 12 (omega arith)) ∙ acts))
   | inr loud ↦ loud_same s loud
 ]

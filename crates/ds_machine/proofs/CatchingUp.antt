@@ -2,6 +2,7 @@ use Rattle.std.specs.Prelude.{◌↔◌, ◌||◌, nat_lt}
 use Rattle.std.proofs.Common.{ℕ, ◌≡◌, ◌<◌, ◌≤◌, ◌+◌, ◌*◌, ◌^◌, ◌==◌, ◌&&◌, ◌⊎◌, inl, inr, Bool, true, false, true≢false, if◌then◌else◌, List, [], Option, Some, None, IsSome, refl, sym, ◌∙◌, ap, subst, arith}
 use Rattle.std.proofs.lemmas.Option.{none-some, same_Some}
 use Rattle.std.proofs.lemmas.Bool.{and_parts}
+use Rattle.ds_base.proofs.Choices.{true_or_false}
 use Rattle.ds_base.specs.Schedules.{IsEarly, IsLater}
 use Rattle.ds_base.specs.declared.left_out.LeftOut.{LeftOut}
 use Rattle.ds_base.specs.declared.processors.Arch.TheVariants.{V4}
@@ -29,7 +30,7 @@ use Rattle.ds_machine.specs.Sound.{IsSound}
 use Rattle.ds_machine.specs.States.{MachineState, NineState, SevenState, counts_of}
 use Rattle.ds_machine.specs.Statuses.{HasBothStatuses}
 use Rattle.ds_machine.specs.TurnSteps.{MayAct, ticks_left}
-use Rattle.ds_machine.proofs.ActingDues.{due_where_acts, loud_same, quiet_or_loud}
+use Rattle.ds_machine.proofs.ActingDues.{due_where_acts, loud_same}
 use Rattle.ds_machine.proofs.GeometryFirst.{ComesFirst, least_acting, least_geometry}
 use Rattle.ds_machine.proofs.LagCommutes.{late_put}
 use Rattle.ds_machine.proofs.LagSteps.{acting_same, no_stall_ends, observes_same, quiet_leaves, quiet_parts, quiet_step, sound_late}
@@ -75,9 +76,6 @@ behind_steps tick rank s before h =
       early = elim k.earlier [ inl lt ↦ omega (arith, lt) | inr same ↦ (let e = same.0 in omega (arith, e)) ];
       earlier = elim k.earlier [ inl lt ↦ omega (arith, lt) | inr same ↦ (let e = same.0 in let low = same.1 in omega (arith, e, low)) ];
     }
-
-pub behind_least : (tick rank : ℕ) (s : MachineState) → ComesBeforeAll tick rank s → is_behind tick rank s ≡ true → (u : Tick) × IsLeast (dues_of s) u 12 × (24 * u.0 + 12 < 24 * tick + rank)
-behind_least tick rank s before h = let k = behind_steps tick rank s before h in (k.next, k.least, k.earlier)
 
 -- ---- what such steps leave
 
@@ -183,7 +181,7 @@ level_first quiet due u tick rank q d h =
     (ap (λ (b : Bool). b && is_due_before (Some u) tick rank) (sym q) ∙ ap (λ (o : Option Tick). quiet && is_due_before o tick rank) (sym d) ∙ h)
 
 pub caught_least : (tick : Tick) (rank : ℕ) (s caught : MachineState) → IsSound s → IsLeast (acting_dues s) tick rank → CatchesUp tick.0 rank s caught → IsLeast (dues_of caught) tick rank
-caught_least tick rank s caught sound least up = elim (quiet_or_loud (is_quiet caught.io)) [
+caught_least tick rank s caught sound least up = elim (true_or_false (is_quiet caught.io)) [
   | inr loud ↦ subst (λ (dues : List (Option Tick)). IsLeast dues tick rank) (loud_same caught loud) still
   | inl quiet ↦ (let k = quiet_parts caught.io quiet in
       least_acting caught k.tick k.due tick rank still (due_where_acts caught rank tick still.there)

@@ -1,4 +1,4 @@
-use Rattle.std.proofs.Common.{ℕ, ◌≡◌, ◌<◌, ◌+◌, inl, inr, Bool, true, false, true≢false, max, List, [], Option, Some, None, refl, sym, ◌∙◌, ap, subst, arith}
+use Rattle.std.proofs.Common.{ℕ, ◌≡◌, ◌<◌, ◌+◌, inl, inr, Bool, true, false, true≢false, List, [], Option, Some, None, refl, sym, ◌∙◌, ap, subst, arith}
 use Rattle.std.proofs.Math.Nat.{le-max_right}
 use Rattle.std.proofs.lemmas.Option.{none-some}
 use Rattle.std.specs.Prelude.{IsSome}
@@ -46,10 +46,6 @@ use Rattle.video2d.specs.Videos.{VideoState}
 pub map_processor : (of : Proc) (s : MachineState) (map : MapState) (proc : Proc) → processor_of (with_map of s map) proc ≡ processor_of s proc
 map_processor of s map Nine = refl
 map_processor of s map Seven = refl
-
-pub event_processor : (s : MachineState) (proc : Proc) → processor_of (one_event s) proc ≡ processor_of s proc
-event_processor s Nine = refl
-event_processor s Seven = refl
 
 pub event_due : (s : MachineState) (proc : Proc) → processor_due (one_event s) proc ≡ processor_due s proc
 event_due s Nine = refl

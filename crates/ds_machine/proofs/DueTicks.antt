@@ -80,9 +80,6 @@ somebody_is s = refl
 pub due_of_least : (s : MachineState) (rank : ℕ) (tick : Tick) → IsLeast (dues_of s) tick rank → due_by (actor_of rank) s ≡ Some tick
 due_of_least s rank tick least = sym (due_of_rank s rank (low_rank s rank tick least.there)) ∙ least.there
 
-pub due_of_step : (s : MachineState) (rank : ℕ) (tick : Tick) (a : actor.Actor) → IsLeast (dues_of s) tick rank → actor_of rank ≡ a → due_by a s ≡ Some tick
-due_of_step s rank tick a least e = subst (λ (x : actor.Actor). due_by x s ≡ Some tick) e (due_of_least s rank tick least)
-
 -- where an actor may step, it is due at an early tick
 pub due_of_may : (s : MachineState) (rank : ℕ) (a : actor.Actor) (may : MayStep s rank) → actor_of rank ≡ a → due_by a s ≡ Some may.tick
 due_of_may s rank a may e =

@@ -1,6 +1,7 @@
 use Rattle.std.proofs.Common.{ℕ, zero, suc, ◌≡◌, ◌<◌, ◌≤◌, ◌^◌, ◌⊎◌, inl, inr, Bool, true, false, true≢false, if◌then◌else◌, List, [], ◌∷◌, ◌++◌, length, Option, Some, refl, sym, ◌∙◌, ap, subst, arith}
 use Rattle.std.specs.Prelude.{◌&&◌}
 use Rattle.std.proofs.lemmas.Option.{same_Some}
+use Rattle.ds_base.proofs.Choices.{lt_or_same}
 use Rattle.ds_base.specs.declared.keys.KeyLine.{KeyLine}
 use Rattle.ds_base.specs.declared.left_out.LeftOut.{LeftOut}
 use Rattle.ds_base.specs.declared.processors.Proc.{Proc}
@@ -60,9 +61,6 @@ nine_there s rank at e h = sym (acting_processor s Nine) ∙ subst (λ (r : ℕ)
 
 seven_there : (s : MachineState) (rank : ℕ) (at : Tick) → rank ≡ 23 → due_at (acting_dues s) rank ≡ Some at → processor_due s Seven ≡ Some at
 seven_there s rank at e h = sym (acting_processor s Seven) ∙ subst (λ (r : ℕ). due_at (acting_dues s) r ≡ Some at) e h
-
-lt_or_same : (x y : ℕ) → x ≤ y → (x < y) ⊎ (x ≡ y)
-lt_or_same x y h = grind (arith, h)
 
 -- ARM9 is the least, where no event acts at its tick or before it, and ARM7 isn't due before it
 nine_least : (s : MachineState) (until : ℕ) (tick : Tick) → IsOver (acting_events_of s) until → tick.0 < until → processor_due s Nine ≡ Some tick

@@ -1,5 +1,6 @@
 use Rattle.std.proofs.Common.{ℕ, ◌≡◌, ◌<◌, ◌≤◌, ◌⊎◌, inl, inr, Some, sym, ◌∙◌, ap, subst, arith}
 use Rattle.std.proofs.lemmas.Option.{same_Some}
+use Rattle.ds_base.proofs.Choices.{low_or_high}
 use Rattle.ds_base.specs.declared.ticks.Tick.{Tick}
 use Rattle.ds_runs.specs.Runs.{IsLeast, due_at}
 use Rattle.ds_machine.specs.Acting.{acting_dues}
@@ -16,18 +17,15 @@ use Rattle.ds_machine.proofs.DueTicks.{due_of_rank}
 abbrev pub ComesFirst : ℕ → ℕ → ℕ → ℕ → Type 0
 ComesFirst u p t r = (u < t) ⊎ ((u ≡ t) × (p ≤ r))
 
-pub le_or_lt : (x y : ℕ) → (x ≤ y) ⊎ (y < x)
-le_or_lt x y = grind arith
-
 -- one of two comes first
 pub one_first : (u p t r : ℕ) → ComesFirst u p t r ⊎ ComesFirst t r u p
-one_first u p t r = elim (le_or_lt t u) [
-  | inr lt ↦ inl (inl lt)
-  | inl le ↦ elim (le_or_lt u t) [
-    | inr lt ↦ inr (inl lt)
-    | inl back ↦ elim (le_or_lt p r) [
-      | inl low ↦ inl (inr (omega (arith, le, back), low))
-      | inr high ↦ inr (inr (omega (arith, le, back), omega (arith, high)))
+one_first u p t r = elim (low_or_high u t) [
+  | inl lt ↦ inl (inl lt)
+  | inr le ↦ elim (low_or_high t u) [
+    | inl lt ↦ inr (inl lt)
+    | inr back ↦ elim (low_or_high r p) [
+      | inl high ↦ inr (inr (omega (arith, le, back), omega (arith, high)))
+      | inr low ↦ inl (inr (omega (arith, le, back), low))
     ]
   ]
 ]

@@ -1,6 +1,7 @@
 use Rattle.std.proofs.Common.{ℕ, ◌≡◌, ◌≢◌, ◌<◌, ◌≤◌, ◌-◌, ◌^◌, ◌⊎◌, inl, inr, if◌then◌else◌, min, nat_le, nat_lt, Bool, true, false, true≢false, List, ◌∷◌, Option, Some, refl, sym, ◌∙◌, ap, subst, arith, []}
 use Rattle.std.proofs.lemmas.Option.{same_Some}
 use Rattle.std.proofs.lemmas.Bool.{and_cases, and_from, and_left, and_parts, and_right}
+use Rattle.ds_base.proofs.Choices.{le_of, lt_of, lt_or_same, same_or_not}
 use Rattle.ds_base.specs.declared.processors.Proc.{Proc}
 use Rattle.ds_base.specs.declared.processors.Proc.TheVariants.{Nine, Seven}
 use Rattle.ds_base.specs.declared.ticks.Tick.{Tick}
@@ -30,7 +31,7 @@ use Rattle.ds_machine.specs.Steps.{is_blocked, line_of, nine_reach, outcome_of, 
 use Rattle.ds_machine.specs.Touching.{DataStaysPrivate, FetchStaysPrivate, MayBeAhead, is_private_to}
 use Rattle.ds_machine.specs.declared.answers.Done.TheVariants as answers
 use Rattle.ds_machine.specs.declared.next_events.NextEvent.{NextEvent}
-use Rattle.ds_machine.proofs.ActingDues.{acting_low, acting_processor, acting_split, same_or_not}
+use Rattle.ds_machine.proofs.ActingDues.{acting_low, acting_processor, acting_split}
 use Rattle.ds_machine.proofs.DueTicks.{own_tick, rank_there, sort_rank, steps_as}
 use Rattle.ds_machine.proofs.DecodedStays.{fetch_by_words}
 use Rattle.ds_machine.proofs.FastSteps.{ComesBefore, due_there, event_there, in_front, kept_is, processor_least, wait_ends, wait_is}
@@ -45,12 +46,6 @@ use Rattle.ds_machine.proofs.Statuses.{statuses_done}
 
 -- ---- tests of numbers
 
-lt_so : (x y : ℕ) → nat_lt x y ≡ true → x < y
-lt_so x y h = elim (lt_cases x y) [ inl k ↦ k.0 | inr k ↦ absurd (true≢false (sym h ∙ k.1)) ]
-
-le_so : (x y : ℕ) → nat_le x y ≡ true → x ≤ y
-le_so x y h = elim (le_cases x y) [ inl k ↦ k.0 | inr k ↦ absurd (true≢false (sym h ∙ k.1)) ]
-
 not_lt : (x y : ℕ) → nat_lt x y ≡ false → y ≤ x
 not_lt x y h = elim (lt_cases x y) [ inl k ↦ absurd (true≢false (sym k.1 ∙ h)) | inr k ↦ k.0 ]
 
@@ -58,8 +53,8 @@ not_le : (x y : ℕ) → nat_le x y ≡ false → y < x
 not_le x y h = elim (le_cases x y) [ inl k ↦ absurd (true≢false (sym k.1 ∙ h)) | inr k ↦ k.0 ]
 
 comes_so : (proc : Proc) (n other : ℕ) → comes_before proc n other ≡ true → ComesBefore proc n other
-comes_so Nine n other h = le_so n other h
-comes_so Seven n other h = lt_so n other h
+comes_so Nine n other h = le_of n other h
+comes_so Seven n other h = lt_of n other h
 
 -- ---- a processor that waits for a tick
 
@@ -103,7 +98,7 @@ pub least_when : (next_event : NextEvent) (s : MachineState) (proc : Proc) (n : 
 least_when next_event s proc n is e lt h =
     let w = waits_until next_event s proc in
     let o = waits_until next_event s (other_proc proc) in
-    let first = lt_so w next_event.events_until.0 (and_parts (nat_lt w next_event.events_until.0) (comes_before proc w o) h).0 in
+    let first = lt_of w next_event.events_until.0 (and_parts (nat_lt w next_event.events_until.0) (comes_before proc w o) h).0 in
     let before = subst (λ (x : ℕ). ComesBefore proc x o) (sym e) (comes_so proc w o (and_parts (nat_lt w next_event.events_until.0) (comes_before proc w o) h).1) in
     let d = due_when next_event s proc n is e lt in
     let after : (at : Tick) → processor_due s (other_proc proc) ≡ Some at → ComesBefore proc n at.0 = λ at there.
@@ -205,9 +200,6 @@ line_is next_event s is Seven = is.seven_line
 pub line_down : (next_event : NextEvent) (s : MachineState) (proc : Proc) (line : Bool) → IsNextEvent next_event s → line ≡ line_kept next_event proc → line ≡ false → line_of s proc ≡ false
 line_down next_event s proc line is e h = sym (line_is next_event s is proc) ∙ sym e ∙ h
 
-pub line_up : (next_event : NextEvent) (s : MachineState) (proc : Proc) (line : Bool) → IsNextEvent next_event s → line ≡ line_kept next_event proc → line_of s proc ≡ false → line ≡ false
-line_up next_event s proc line is e h = e ∙ line_is next_event s is proc ∙ h
-
 own_stays : (s : MachineState) (proc : Proc) → FetchStaysPrivate s proc → DataStaysPrivate (tick_of (processor_of s proc)) s proc → ProcessorStaysPrivate s proc
 own_stays s Nine fetch d = record { fetch = fetch; kind = d.kind; accesses = d.accesses }
 own_stays s Seven fetch d = record { fetch = fetch; kind = d.kind; accesses = d.accesses }
@@ -302,9 +294,6 @@ past_limit next_event s proc until n limit w l le below early = elim (lt_cases n
 
 -- ---- the same by what acts
 
-le_split : (x y : ℕ) → x ≤ y → (x < y) ⊎ (x ≡ y)
-le_split x y le = grind (arith, le)
-
 -- the other processor's rank
 across : (proc : Proc) (other : ℕ) → (other ≡ 22) ⊎ (other ≡ 23) → other ≢ rank_of proc → other ≡ rank_of (other_proc proc)
 across Nine other (inl e) ne = absurd (ne e)
@@ -313,7 +302,7 @@ across Seven other (inl e) ne = e
 across Seven other (inr e) ne = absurd (ne e)
 
 after_other : (proc : Proc) (n wait at : ℕ) → n < past_other proc wait → wait ≡ at → (n < at) ⊎ ((n ≡ at) × (rank_of proc ≤ rank_of (other_proc proc)))
-after_other Nine n wait at lt e = elim (le_split n at (omega (arith, lt, e))) [ inl a ↦ inl a | inr b ↦ inr (b, omega arith) ]
+after_other Nine n wait at lt e = elim (lt_or_same n at (omega (arith, lt, e))) [ inl a ↦ inl a | inr b ↦ inr (b, omega arith) ]
 after_other Seven n wait at lt e = inl (omega (arith, lt, e))
 
 past_if : (proc : Proc) (n wait at : ℕ) → n < 2 ^ 56 → wait ≡ at → (n < at) ⊎ ((n ≡ at) × (rank_of proc ≤ rank_of (other_proc proc))) → n < past_other proc wait

@@ -10,12 +10,12 @@ use Rattle.ds_base.specs.declared.ticks.Tick.{Tick}
 use Rattle.ds_dma.specs.declared.channels.Unit.{Unit as DmaUnit}
 use Rattle.ds_ipc.specs.Ipcs.{other_proc}
 use Rattle.ds_map.specs.Moves.{next_unit}
-use Rattle.ds_ports.specs.Io.{IoState, io_at_boot, io_event, io_of, stall_ends, tick_after}
+use Rattle.ds_ports.specs.Io.{IoState, io_at_boot, io_of, stall_ends, tick_after}
 use Rattle.ds_ports.proofs.Events.{Happens, event_goes, keys_happen}
 use Rattle.ds_ports.proofs.Later.{of_both}
 use Rattle.ds_runs.proofs.RunLaws.{same_makes}
 use Rattle.ds_runs.specs.Actors.{actor_of}
-use Rattle.ds_runs.specs.Runs.{At, Ending, IsLeast, MachineStep, Makes, Runs, over, stops, more}
+use Rattle.ds_runs.specs.Runs.{At, Ending, IsLeast, Makes, Runs, over, stops, more}
 use Rattle.ds_runs.specs.Runs as runs
 use Rattle.ds_runs.specs.declared.actors.Actor as actor
 use Rattle.ds_runs.specs.declared.actors.Actor.TheVariants.{KeyScript, Video, Geometry, Dma, Processor}
@@ -31,6 +31,7 @@ use Rattle.ds_machine.proofs.MachineSchedule.{Steps, channel_timers, display_hap
 use Rattle.ds_machine.proofs.OuterSteps.{settled_halted}
 use Rattle.ds_machine.proofs.ProcessorSteps.{Took, came_by, concludes, costs_some, goes, reached_by, reaches, step_is}
 use Rattle.ds_machine.proofs.VideoEvents.{video_makes}
+use Rattle.ds_machine.proofs.Wakes.{settled_due}
 use Rattle.video2d.specs.Scans.{scan_due_tick}
 
 -- While a processor is halted it has no tick: at each step it is halted or not as before and due as before, or it has none.
@@ -133,10 +134,6 @@ made_still a rank tick s made outs st h =
     (happens_still tick s (after_event a s) g.0 (event_due a s))
 
 -- ---- and what follows it
-
-settled_due : (tick : Tick) (s : MachineState) (proc : Proc) → (processor_of (machine_settled tick s) proc).due ≡ (processor_of s proc).due
-settled_due tick s Nine = refl
-settled_due tick s Seven = refl
 
 on_own : (proc : Proc) (tick : Tick) (s : MachineState) → is_halted (goes_on proc tick s) proc ≡ false
 on_own Nine tick s = refl

@@ -31,6 +31,7 @@ use Rattle.ds_machine.specs.Steps.{is_blocked, line_of, machine_concluded, nine_
 use Rattle.ds_machine.proofs.DueTicks.{steps_as}
 use Rattle.ds_machine.proofs.FastSteps.{cost_ends}
 use Rattle.ds_machine.proofs.Moves.{later_unless}
+use Rattle.ds_machine.proofs.OwnShares.{is_shared_so}
 use Rattle.ds_machine.proofs.PrivateAccesses.{StepsAlike, costing}
 use Rattle.ds_machine.proofs.PrivateSides.{NineReachOwn, NineShared, nine_apart, nine_executes, put_nine, put_shared, shared_wrote, put_seven, seven_apart, seven_executes, seven_wrote}
 use Rattle.ds_machine.proofs.PrivateSteps.{private_alike, taken_alike}
@@ -95,15 +96,6 @@ due_there s proc free = ap (λ (blocked : Bool). due_unless blocked (processor_o
 line_down : (s : RegisterState) → enters false s ≡ false
 line_down s = refl
 
--- what ARM9 reaches of a machine has its own bytes, put into it
-fits : (s : MachineState) → IsSharedSo (nine_own_of s).share s.shared s.io
-fits s = record {
-  wramcnt = refl;
-  controls = refl;
-  shared = mixed_length (is_shown_to_nine s.io.wramcnt) s.shared [];
-  bytes = mixed_length (is_beyond_seven s.io.vram.controls) s.io.vram.bytes [];
-}
-
 own_again : (own : ℕ → Bool) (xs ys : List ℕ) → mixed own (mixed own xs ys) xs ≡ xs
 own_again own xs ys = mixed_twice own xs ys xs ∙ mixed_same own xs
 
@@ -128,7 +120,7 @@ nine_taken : (rest : NineReach) (s : MachineState) → IsHarmless s Nine
 nine_taken rest s h =
     let registers = s.nine.processor.registers in
     let there = nine_reach (tick_of s.nine.processor) s in
-    let k : NineShared s.shared s.io = record { own = nine_reached (nine_own_of s); so = fits s } in
+    let k : NineShared s.shared s.io = record { own = nine_reached (nine_own_of s); so = is_shared_so s } in
     let again = put_again (tick_of s.nine.processor) s in
     subst (λ (r : NineReach). StepsAlike (put_shared s.shared s.io) there rest (side_taken nine_memory nine_side (line_of s Nine) registers r)
     (side_taken nine_memory nine_side false registers (put_nine k.own rest))) again
@@ -259,7 +251,7 @@ HasOwnOf Seven s t = s.seven ≡ t.seven
 stays_by_part : (proc : Proc) (s t : MachineState) → HasOwnOf proc s t → ProcessorStaysPrivate s proc → ProcessorStaysPrivate t proc
 stays_by_part Nine s t same stays =
     let there = nine_reach (tick_of t.nine.processor) t in
-    let k : NineShared s.shared s.io = record { own = nine_reached (nine_own_of s); so = fits s } in
+    let k : NineShared s.shared s.io = record { own = nine_reached (nine_own_of s); so = is_shared_so s } in
     let moved = private_alike nine_memory nine_side (put_shared s.shared s.io) (shared_wrote s.shared s.io) (nine_apart s.shared s.io) s.nine.processor.registers k
     (nine_reach (tick_of s.nine.processor) s) there
     (subst (StaysPrivate nine_memory nine_side s.nine.processor.registers) (sym (put_again (tick_of s.nine.processor) s)) stays) in

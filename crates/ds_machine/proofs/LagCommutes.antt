@@ -1,6 +1,7 @@
 use Rattle.std.specs.Prelude.{◌||◌, not}
 use Rattle.std.proofs.Common.{ℕ, ◌≡◌, ◌≢◌, ◌+◌, ◌==◌, ◌&&◌, Bool, true, false, true≢false, if◌then◌else◌, List, [], ◌∷◌, length, Option, Some, None, refl, sym, ◌∙◌, ap, subst}
 use Rattle.std.proofs.lemmas.Bool.{or_from, or_parts}
+use Rattle.ds_base.proofs.Choices.{and_false}
 use Rattle.ds_base.specs.Accesses.{Access, Fetch, Read, Write}
 use Rattle.ds_base.specs.declared.keys.KeyLine.{KeyLine}
 use Rattle.ds_base.specs.declared.left_out.LeftOut.{LeftOut}
@@ -524,13 +525,9 @@ waits_none true false runs h = refl
 waits_none false waits runs h = refl
 
 -- (a channel of ARM7's never waits for it)
-waits_never : (enabled runs : Bool) → (enabled && false && not runs) ≡ false
-waits_never true runs = refl
-waits_never false runs = refl
-
 waits_armed : (proc : Proc) (c : ChannelState) → is_armed c.cnt ≡ false → is_triggered proc causes.Geometry c ≡ false
 waits_armed Nine c h = waits_none (is_enabled c.cnt) (waits_for Nine causes.Geometry c.cnt) (is_running c) h
-waits_armed Seven c h = waits_never (is_enabled c.cnt) (is_running c)
+waits_armed Seven c h = waits_none (is_enabled c.cnt) false (is_running c) (and_false (is_enabled c.cnt))
 
 pub none_awaits : (dma : DmaState) → any_armed dma ≡ false → awaits_geometry dma ≡ false
 none_awaits dma none =
@@ -560,17 +557,15 @@ settled_so : (tick : Tick) (g : GxState) (u : IoState) → length u.nine.dma.cha
 settled_so tick g u four none here there =
     settled_told tick (with_gx g u) four none ∙ ap release_kept (level_so g u here there) ∙ ap (λ (x : IoState). with_gx g x) (sym (settled_told tick u four none))
 
-nine_wakes : (tick : Tick) (g : GxState) (m : MachineState) → woken_one Nine tick (late_put g m) ≡ late_put g (woken_one Nine tick m)
-nine_wakes tick g m = by_wake (wakes m Nine) where
-  by_wake : (b : Bool) → (if b then goes_on Nine tick (late_put g m) else late_put g m) ≡ late_put g (if b then goes_on Nine tick m else m)
-  by_wake true = refl
-  by_wake false = refl
+goes_so : (proc : Proc) (tick : Tick) (g : GxState) (m : MachineState) (b : Bool)
+    → (if b then goes_on proc tick (late_put g m) else late_put g m) ≡ late_put g (if b then goes_on proc tick m else m)
+goes_so Nine tick g m true = refl
+goes_so Seven tick g m true = refl
+goes_so proc tick g m false = refl
 
-seven_wakes : (tick : Tick) (g : GxState) (m : MachineState) → woken_one Seven tick (late_put g m) ≡ late_put g (woken_one Seven tick m)
-seven_wakes tick g m = by_wake (wakes m Seven) where
-  by_wake : (b : Bool) → (if b then goes_on Seven tick (late_put g m) else late_put g m) ≡ late_put g (if b then goes_on Seven tick m else m)
-  by_wake true = refl
-  by_wake false = refl
+wakes_so : (proc : Proc) (tick : Tick) (g : GxState) (m : MachineState) → woken_one proc tick (late_put g m) ≡ late_put g (woken_one proc tick m)
+wakes_so Nine tick g m = goes_so Nine tick g m (wakes m Nine)
+wakes_so Seven tick g m = goes_so Seven tick g m (wakes m Seven)
 
 pub ended_late : (tick : Tick) (g : GxState) (m : MachineState) → length m.io.nine.dma.channels ≡ 4 → any_armed m.io.nine.dma ≡ false → m.io.gx.selector ≡ 0 → g.selector ≡ 0
     → ended tick (late_put g m) ≡ late_put g (ended tick m)
@@ -578,8 +573,8 @@ unfolding ended
 ended_late tick g m four none there here =
     let rest = machine_settled tick m in
     ap (λ (u : IoState). woken tick (with_io (late_put g m) u)) (settled_so tick g m.io four none here there)
-    ∙ ap (woken_one Seven tick) (nine_wakes tick g rest)
-    ∙ seven_wakes tick g (woken_one Nine tick rest)
+    ∙ ap (woken_one Seven tick) (wakes_so Nine tick g rest)
+    ∙ wakes_so Seven tick g (woken_one Nine tick rest)
 
 -- it leaves geometry, and ARM9's channels
 record Stays (old new : IoState) : Type 0 where

@@ -1,5 +1,6 @@
 use Rattle.std.proofs.Common.{ℕ, ◌≡◌, ◌≢◌, ◌<◌, ◌≤◌, ◌⊎◌, inl, inr, true, false, List, [], Option, Some, None, refl, sym, ◌∙◌, ap, subst, arith}
 use Rattle.std.specs.Prelude.{is_some}
+use Rattle.ds_base.proofs.Choices.{true_or_false}
 use Rattle.ds_base.specs.Schedules.{IsLater, Reschedules}
 use Rattle.ds_base.specs.declared.left_out.LeftOut.{LeftOut}
 use Rattle.ds_base.specs.declared.ticks.Tick.{Tick}
@@ -20,7 +21,7 @@ use Rattle.ds_machine.specs.Reference.{Shown, awake, due_by, dues_of, reference,
 use Rattle.ds_machine.specs.Sound.{HasSoundParts, IsSound}
 use Rattle.ds_machine.specs.States.{MachineState}
 use Rattle.ds_machine.specs.Steps.{ended}
-use Rattle.ds_machine.proofs.ActingDues.{acting_low, acting_of_rank, acts_where_due, loud_same, maps_same, quiet_or_loud}
+use Rattle.ds_machine.proofs.ActingDues.{acting_low, acting_of_rank, acts_where_due, loud_same, maps_same}
 use Rattle.ds_machine.proofs.DueTicks.{due_of_least, due_of_rank, steps_as}
 use Rattle.ds_machine.proofs.GeometryFirst.{least_acting, least_geometry, not_later, one_first}
 use Rattle.ds_machine.proofs.LagCommutes.{apart_commutes, arms_left, ended_disarmed, ended_gx_left, ended_late, gx_commutes, gx_left, gx_put, late_put}
@@ -52,7 +53,7 @@ module _ (s : MachineState) (r : ℕ) (t : Tick) (b : StepsBeforeGeometry s r t)
 steps_first : (s : MachineState) (r : ℕ) (t : Tick) → StepsBeforeGeometry s r t → MayStepFirst reference 12 r s t
 steps_first s r t b = record { other = not_twelve s r t b; there = own_there s r t b; least = go } where
   go : IsLeast (dues_of s) t r ⊎ ((u : Tick) × IsLeast (dues_of s) u 12 × (u.0 ≤ t.0))
-  go = elim (quiet_or_loud (is_quiet s.io)) [
+  go = elim (true_or_false (is_quiet s.io)) [
     | inr loud ↦ inl (subst (λ (dues : List (Option Tick)). IsLeast dues t r) (loud_same s loud) b.acts.least)
     | inl quiet ↦ (let k = quiet_parts s.io quiet in
         elim (one_first k.tick.0 12 t.0 r) [
@@ -65,7 +66,7 @@ steps_first s r t b = record { other = not_twelve s r t b; there = own_there s r
 
 module _ (s : MachineState) (r : ℕ) (t u : Tick) (b : StepsBeforeGeometry s r t) (least : IsLeast (dues_of s) u 12) where
   is_quiet_then : is_quiet s.io ≡ true
-  is_quiet_then = elim (quiet_or_loud (is_quiet s.io)) [
+  is_quiet_then = elim (true_or_false (is_quiet s.io)) [
     | inl quiet ↦ quiet
     | inr loud ↦ (let same = subst (λ (dues : List (Option Tick)). IsLeast dues t r) (loud_same s loud) b.acts.least in
         absurd (not_twelve s r t b (least_unique (dues_of s) t r u 12 same least).1))

@@ -1,6 +1,7 @@
-use Rattle.std.proofs.Common.{ℕ, ◌≡◌, ◌≢◌, ◌%◌, ◌^◌, ◌==◌, Bool, true, false, true≢false, if◌then◌else◌, List, [], ◌∷◌, Option, Some, None, refl, sym, ◌∙◌, ap, arith}
+use Rattle.std.proofs.Common.{ℕ, ◌≡◌, ◌≢◌, ◌%◌, ◌^◌, ◌==◌, Bool, true, false, true≢false, if◌then◌else◌, List, [], ◌∷◌, Option, Some, None, refl, sym, ◌∙◌, ap}
 use Rattle.std.specs.Prelude.{◌&&◌, ◌||◌, not, max, is_some}
 use Rattle.std.proofs.lemmas.Bool.{and_parts, not-true}
+use Rattle.ds_base.proofs.Choices.{equal, is_equal}
 use Rattle.ds_base.specs.Accesses.{Access, Fetch, Read, Write}
 use Rattle.ds_base.specs.Schedules.{IsLater}
 use Rattle.ds_base.specs.declared.left_out.LeftOut.{LeftOut}
@@ -64,12 +65,6 @@ pub record QuietParts (u : IoState) : Type 0 where
   pub disarmed : any_armed u.nine.dma ≡ false
   pub free : is_stalled u.gx ≡ false
 
-pub equal_is : (x y : ℕ) → (x == y) ≡ true → x ≡ y
-equal_is x y h = grind (arith, h)
-
-is_equal : (x y : ℕ) → x ≡ y → (x == y) ≡ true
-is_equal x y h = grind (arith, h)
-
 some_is : (o : Option Tick) → is_some o ≡ true → (tick : Tick) × (o ≡ Some tick)
 some_is None h = absurd (true≢false (sym h))
 some_is (Some tick) h = (tick, refl)
@@ -83,7 +78,7 @@ quiet_parts u h =
     record {
       tick = some.0;
       due = some.1;
-      selector = equal_is u.gx.selector 0 b.0;
+      selector = equal u.gx.selector 0 b.0;
       disarmed = not-true (any_armed u.nine.dma) c.0;
       free = not-true (is_stalled u.gx) c.1;
     }
@@ -200,9 +195,6 @@ due_counted _ g s = refl
 
 pub others_due : (a : actor.Actor) (g : GxState) (s : MachineState) → a ≢ Geometry → is_stalled g ≡ is_stalled s.io.gx → due_by a (late_put g s) ≡ due_by a s
 others_due a g s other same = due_counted a g s ∙ due_so a g s (not_geometry a other) same
-
-pub others_due_put : (a : actor.Actor) (g : GxState) (s : MachineState) → a ≢ Geometry → is_stalled g ≡ is_stalled s.io.gx → due_by a (gx_put g s) ≡ due_by a s
-others_due_put a g s other same = due_so a g s (not_geometry a other) same
 
 -- all act that are due, but quiet geometry
 quiet_never : (quiet : Bool) (due : Option Tick) → quiet ≡ is_some due → (if quiet then None else due) ≡ None

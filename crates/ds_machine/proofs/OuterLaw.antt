@@ -3,6 +3,7 @@ use Rattle.std.specs.Int.{bit_at, bit_not, w32}
 use Rattle.std.proofs.Common.{ℕ, ◌≡◌, ◌≢◌, ◌<◌, ◌⊎◌, inl, inr, Bool, true, false, List, [], Option, Some, None, bit_and, bit_or, refl, sym, ◌∙◌, ap, subst, arith}
 use Rattle.std.proofs.lemmas.Nat.Bits.{bit_at_and, bit_at_or, same_from_bits}
 use Rattle.std.proofs.lemmas.Bool.{and_parts, not-true}
+use Rattle.ds_base.proofs.Choices.{equal, true_or_false}
 use Rattle.ds_base.specs.declared.left_out.LeftOut.{LeftOut}
 use Rattle.ds_base.specs.declared.processors.Proc.{Proc}
 use Rattle.ds_base.specs.declared.processors.Proc.TheVariants.{Nine, Seven}
@@ -36,12 +37,12 @@ use Rattle.ds_machine.specs.Reference.{Shown, awake, due_by, due_unless, dues_of
 use Rattle.ds_machine.specs.Sound.{HasSoundParts, IsSound}
 use Rattle.ds_machine.specs.States.{MachineState, ProcessorState, SevenState}
 use Rattle.ds_machine.specs.Steps.{ended, goes_on, is_blocked, is_halted, line_of, machine_settled, nine_reach, processor_of, seven_reach, tick_of, wakes, woken_one}
-use Rattle.ds_machine.proofs.ActingDues.{acting_low, acting_of_rank, acts_then, loud_same, quiet_or_loud}
+use Rattle.ds_machine.proofs.ActingDues.{acting_low, acting_of_rank, acts_then, loud_same}
 use Rattle.ds_machine.proofs.DueTicks.{due_of_least, due_of_rank, low_rank}
 use Rattle.ds_machine.proofs.InnerLaw.{HasOwnOf, IsCalm, MovesAlone, after_nine, after_seven, calm, harmless_by_part, inner_nine, inner_seven, nine_fits, nine_moves, seven_moves}
 use Rattle.ds_machine.proofs.Apart.{leave_seven}
 use Rattle.ds_machine.proofs.LagCommutes.{late_put}
-use Rattle.ds_machine.proofs.LagSteps.{acting_same, equal_is, quiet_leaves, quiet_parts, quiet_step, sound_late}
+use Rattle.ds_machine.proofs.LagSteps.{acting_same, quiet_leaves, quiet_parts, quiet_step, sound_late}
 use Rattle.ds_machine.proofs.MachineSchedule.{asleep_made, awake_stops, owes_by, reference_schedules, settled_made, step_made, steps_here}
 use Rattle.ds_machine.proofs.OuterLeaves.{LeavesApart, leaves_apart, not_reached}
 use Rattle.ds_machine.proofs.OuterSteps.{not_woken, seven_ended, settled_halted, woken_halted}
@@ -147,7 +148,7 @@ settled_parts u h =
     let waits = is_half_empty u.gx && awaits_geometry u.nine.dma in
     let a = and_parts ((irq_levelled u.nine.irq (gx_level u.gx)).if_ == u.nine.irq.if_) (not waits && (release_of u == u.released)) h in
     let b = and_parts (not waits) (release_of u == u.released) a.1 in
-    record { level = equal_is (irq_levelled u.nine.irq (gx_level u.gx)).if_ u.nine.irq.if_ a.0; none = not-true waits b.0; kept = equal_is (release_of u) u.released b.1 }
+    record { level = equal (irq_levelled u.nine.irq (gx_level u.gx)).if_ u.nine.irq.if_ a.0; none = not-true waits b.0; kept = equal (release_of u) u.released b.1 }
 
 module _ (tick : Tick) (s made : MachineState) (sound : IsSound s) (parts : HasSoundParts made) where
   not_due_dma : (gx : GxState) (dma : DmaState) → gx ≡ s.io.gx → dma ≡ s.io.nine.dma → (is_half_empty gx && awaits_geometry dma) ≡ false
@@ -285,7 +286,7 @@ quiet_apart Nine s r e quiet = inr (refl, e, quiet)
 quiet_apart Seven s r e quiet = inl (λ f. proc_differs (sym (subst (λ (x : ℕ). Fences (actor_of x) Seven) e f)))
 
 apart_from : (proc : Proc) (s : MachineState) (t u : Tick) (r : ℕ) → RunsAhead proc s t → IsLeast (dues_of s) u r → IsApartFrom proc s r
-apart_from proc s t u r ahead least = elim (quiet_or_loud (is_quiet s.io)) [
+apart_from proc s t u r ahead least = elim (true_or_false (is_quiet s.io)) [
   | inr loud ↦ inl (acts_after proc s t u r ahead least (subst (λ (dues : List (Option Tick)). due_at dues r ≡ Some u) (sym (loud_same s loud)) least.there))
   | inl quiet ↦ elim (acts_then s r u least.there) [
     | inl e ↦ quiet_apart proc s r e quiet

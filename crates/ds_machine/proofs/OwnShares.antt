@@ -1,4 +1,4 @@
-use Rattle.std.proofs.Common.{ℕ, ◌≡◌, Bool, true, false, if◌then◌else◌, List, [], Option, Some, None, refl, sym, ◌∙◌, ap, subst}
+use Rattle.std.proofs.Common.{ℕ, ◌≡◌, Bool, true, false, if◌then◌else◌, List, [], Option, Some, None, refl, sym, ◌∙◌, ap}
 use Rattle.ds_base.specs.Accesses.{Access}
 use Rattle.ds_base.specs.declared.left_out.LeftOut.{LeftOut}
 use Rattle.ds_base.specs.declared.left_out.Stop.{Stop}
@@ -30,10 +30,8 @@ use Rattle.ds_machine.specs.Channels.{channel_step, moved_by}
 use Rattle.ds_machine.specs.Reference.{Shown, step_by}
 use Rattle.ds_machine.specs.PrivateSides.{seven_side, side_taken}
 use Rattle.ds_machine.specs.States.{MachineState}
-use Rattle.ds_machine.specs.Statuses.{left_by}
 use Rattle.ds_machine.specs.Steps.{ended, goes_on, is_halted, line_of, machine_concluded, machine_settled, map_of, seven_reach, tick_of, wakes, with_map, with_seven, woken, woken_one}
 use Rattle.ds_machine.proofs.Commutes.{Commutes, taken_commutes, word_commutes}
-use Rattle.ds_machine.proofs.Keeps.{Follows, taken_follows, word_follows}
 use Rattle.ds_machine.proofs.OuterSteps.{not_woken, settled_halted}
 
 -- A step of an actor outside ARM9's fence comes to the same with other bytes in what ARM9 alone reaches by the present map, and leaves that as it was.
@@ -94,16 +92,6 @@ seven_commutes own = record {
   write_stays = λ r at width value rest i. seven_map.written_stays own r.map i r.now at width value;
 }
 
-seven_follows : (own : SharedPart) → Follows seven_memory (IsReachedSo own) (λ r t. IsReachedSo own t)
-seven_follows own = record {
-  stays = λ r i. i;
-  joins = λ r t u i k. k;
-  ends = λ r t k. k;
-  fetches = λ r at width i. i;
-  reads = λ r at width i. seven_map.read_stays own r.map i at width;
-  writes = λ r at width value i. seven_map.written_stays own r.map i r.now at width value;
-}
-
 -- ---- ARM7's step
 
 abbrev seven_taken : MachineState → Outcome SevenReach
@@ -128,19 +116,6 @@ seven_steps rank own s shared =
     word_commutes seven_memory (AllReachedSo own.share) (reach_put own.share) (seven_commutes own.share) arm7 old r fetch.number fetch.instr shared shared))
     ∙ seven_concluded rank own (with_seven s o) o.stepped
 
-shared_after : (rank : ℕ) (own : SharedPart) (s : MachineState) (came : arm.Stepped) → IsSharedSo own s.shared s.io
-    → (let left : MachineState = left_by (let step : MachineStep MachineState Shown LeftOut = machine_concluded rank Seven s came in step) in IsSharedSo own left.shared left.io)
-shared_after rank own s (Cost clocks) h = record { wramcnt = h.wramcnt; controls = h.controls; shared = h.shared; bytes = h.bytes }
-shared_after rank own s (Halted clocks) h = record { wramcnt = h.wramcnt; controls = h.controls; shared = h.shared; bytes = h.bytes }
-shared_after rank own s (Left stop) h = record { wramcnt = h.wramcnt; controls = h.controls; shared = h.shared; bytes = h.bytes }
-
-seven_stays : (own : SharedPart) (s : MachineState) → IsSharedSo own s.shared s.io → IsReachedSo own (seven_taken s).state
-seven_stays own s shared =
-    let I = IsReachedSo own in
-    let k = seven_follows own in
-    taken_follows seven_memory I (λ r t. I t) k seven_side (λ old r number instr i. word_follows seven_memory I (λ r t. I t) k arm7 old r number instr i)
-    (line_of s Seven) s.seven.processor.registers (seven_reach (tick_of s.seven.processor) s) shared
-
 -- ---- a unit that a channel of ARM7's moves
 
 seven_moved : (rank : ℕ) (now : Tick) (refused : Option Stop) (own : NineOwn) (s : MachineState)
@@ -164,19 +139,6 @@ seven_channel rank (Some now) own s shared =
     (seven_map.unit_moves own.share m shared now unit)
     ∙ seven_moved rank now (unit_refusal Seven now unit m) own (with_map Seven s (unit_moved Seven now unit m))
 
-shared_moved : (rank : ℕ) (now : Tick) (refused : Option Stop) (own : SharedPart) (s : MachineState) → IsSharedSo own s.shared s.io
-    → (let left : MachineState = left_by (let step : MachineStep MachineState Shown LeftOut = moved_by rank Seven now refused s in step) in IsSharedSo own left.shared left.io)
-shared_moved rank now None own s h = record { wramcnt = h.wramcnt; controls = h.controls; shared = h.shared; bytes = h.bytes }
-shared_moved rank now (Some stop) own s h = record { wramcnt = h.wramcnt; controls = h.controls; shared = h.shared; bytes = h.bytes }
-
-channel_shared : (rank : ℕ) (due : Option Tick) (own : SharedPart) (s : MachineState) → IsSharedSo own s.shared s.io
-    → (let left : MachineState = left_by (let step : MachineStep MachineState Shown LeftOut = channel_step rank Seven due s in step) in IsSharedSo own left.shared left.io)
-channel_shared rank None own s h = h
-channel_shared rank (Some now) own s h =
-    let unit = next_unit s.io Seven in
-    let m = map_of Seven s in
-    shared_moved rank now (unit_refusal Seven now unit m) own (with_map Seven s (unit_moved Seven now unit m)) (seven_map.unit_stays own m h now unit)
-
 -- ---- each actor
 
 pub leave_nine_own : LeaveNineOwn
@@ -193,28 +155,7 @@ leave_nine_own rank (Dma Seven channel) own s outside shared = seven_channel ran
 leave_nine_own rank (Processor Nine) own s outside shared = absurd (outside.0 refl)
 leave_nine_own rank (Processor Seven) own s outside shared = seven_steps rank own s shared
 
--- such an actor doesn't share the memories out anew
-shares_left : (rank : ℕ) (a : actor.Actor) (own : SharedPart) (s : MachineState) → IsOutside a → IsSharedSo own s.shared s.io
-    → IsSharedSo own (left_by (step_by rank a s)).shared (left_by (step_by rank a s)).io
-shares_left rank KeyScript own s outside h = absurd (outside.1 tt)
-shares_left rank Video own s outside h = absurd (outside.1 tt)
-shares_left rank (Timer Nine number) own s outside h = absurd (outside.1 refl)
-shares_left rank (Timer Seven number) own s outside h = record { wramcnt = h.wramcnt; controls = h.controls; shared = h.shared; bytes = h.bytes }
-shares_left rank Divider own s outside h = record { wramcnt = h.wramcnt; controls = h.controls; shared = h.shared; bytes = h.bytes }
-shares_left rank SquareRoot own s outside h = record { wramcnt = h.wramcnt; controls = h.controls; shared = h.shared; bytes = h.bytes }
-shares_left rank Geometry own s outside h = absurd (outside.1 refl)
-shares_left rank Card own s outside h = absurd (outside.1 tt)
-shares_left rank (Dma Nine channel) own s outside h = absurd (outside.1 refl)
-shares_left rank (Dma Seven channel) own s outside h = channel_shared rank (io_due (Dma Seven channel) s.io) own s h
-shares_left rank (Processor Nine) own s outside h = absurd (outside.0 refl)
-shares_left rank (Processor Seven) own s outside h = let o = seven_taken s in shared_after rank own (with_seven s o) o.stepped (seven_stays own s h)
-
-pub shares_stay : (rank : ℕ) (a : actor.Actor) (own : SharedPart) (s made : MachineState) (outs : List Shown) → IsOutside a → step_by rank a s ≡ Makes made outs
-    → IsSharedSo own s.shared s.io → IsSharedSo own made.shared made.io
-shares_stay rank a own s made outs outside h shared =
-    subst (λ (came : MachineStep MachineState Shown LeftOut). IsSharedSo own (left_by came).shared (left_by came).io) h (shares_left rank a own s outside shared)
-
--- so it leaves all that ARM9 alone reaches
+-- so such an actor leaves all that ARM9 alone reaches
 pub own_stays : (rank : ℕ) (a : actor.Actor) (s made : MachineState) (outs : List Shown) → IsOutside a → step_by rank a s ≡ Makes made outs
     → nine_own_of made ≡ nine_own_of s
 own_stays rank a s made outs outside h =

@@ -1,6 +1,7 @@
 use Rattle.std.proofs.Common.{ℕ, ◌≡◌, ◌≤◌, ◌^◌, inl, inr, Bool, true, false, true≢false, List, [], ◌∷◌, Contains, refl, sym, ap}
 use Rattle.std.specs.Prelude.{not}
 use Rattle.std.proofs.lemmas.Bool.{and_right, or_from}
+use Rattle.ds_base.proofs.Choices.{low_or_high}
 use Rattle.ds_base.specs.Accesses.{Access, Fetch, Read, Write}
 use Rattle.ds_base.specs.Numbers.{aligned_down, width_bytes}
 use Rattle.ds_base.specs.declared.memories.Width.{Width}
@@ -25,7 +26,7 @@ use Rattle.ds_machine.specs.Private.{AllReachPrivate, IsPrivate, ReachesPrivate,
 use Rattle.ds_machine.specs.PrivateSides.{is_private_tcm, nine_side}
 use Rattle.ds_machine.specs.States.{MachineState}
 use Rattle.ds_machine.specs.Steps.{line_of, nine_reach, tick_of}
-use Rattle.ds_machine.proofs.PrivatePlaces.{private_itself, word_or_not}
+use Rattle.ds_machine.proofs.PrivatePlaces.{private_itself}
 
 -- A private step doesn't observe geometry: private places are no ports.
 
@@ -55,7 +56,7 @@ module _ (r : NineReach) where
   at_unseen : (writing : Bool) (width : Width) (at : ℕ)
       → ((byte : ℕ) → Contains (span (aligned_down width at) (width_bytes width)) byte → nine_side.is_private r writing false byte ≡ true)
       → is_observed_past (tcm_of r.cp15 at writing false) r.map.io.wramcnt at ≡ false
-  at_unseen writing width at h = elim (word_or_not at) [
+  at_unseen writing width at h = elim (low_or_high at (2 ^ 32)) [
     | inl lt ↦ tcm_unseen (tcm_of r.cp15 at writing false) r.map at (private_itself (nine_side.is_private r writing false) width at lt h)
     | inr le ↦ none_unseen (tcm_of r.cp15 at writing false) r.map.io.wramcnt at le
   ]

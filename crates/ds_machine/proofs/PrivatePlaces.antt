@@ -40,9 +40,6 @@ own_byte width at =
     subst (λ (x : ℕ). Contains (span (aligned_down width at) (width_bytes width)) (x % 2 ^ 32)) e.0 (span_has (aligned_down width at) (width_bytes width) (at % width_bytes width) e.1)
 
 -- so it is private where all bytes are; or it is no address
-pub word_or_not : (at : ℕ) → (at < 2 ^ 32) ⊎ (2 ^ 32 ≤ at)
-word_or_not at = grind arith
-
 pub private_itself : (is_private : ℕ → Bool) (width : Width) (at : ℕ) → at < 2 ^ 32
     → ((byte : ℕ) → Contains (span (aligned_down width at) (width_bytes width)) byte → is_private byte ≡ true) → is_private at ≡ true
 private_itself is_private width at lt h =

@@ -1,6 +1,7 @@
 use Rattle.std.proofs.Common.{ℕ, ◌≡◌, ◌<◌, ◌≤◌, ◌^◌, Bool, true, false, true≢false, if◌then◌else◌, List, [], Option, Some, None, Contains, inl, inr, refl, sym, ◌∙◌, ap, arith}
 use Rattle.std.specs.Prelude.{not}
 use Rattle.std.proofs.lemmas.Option.{none-some, same_Some}
+use Rattle.ds_base.proofs.Choices.{low_or_high}
 use Rattle.ds_base.specs.Numbers.{aligned_down, width_bytes, with_number}
 use Rattle.ds_base.specs.declared.memories.Width.{Width}
 use Rattle.ds_base.specs.declared.processors.Arch.TheVariants.{V5}
@@ -34,7 +35,7 @@ use Rattle.ds_machine.specs.Private.{AllReachPrivate, data_accesses, stays_behin
 use Rattle.ds_machine.specs.PrivateSides.{is_private_tcm, is_private_to_seven, nine_side, seven_side}
 use Rattle.ds_machine.specs.Sides.{nine_executed}
 use Rattle.ds_machine.proofs.PrivateAccesses.{AsPrivate, IsApart, StepsAlike}
-use Rattle.ds_machine.proofs.PrivatePlaces.{IsLow, low_fixed, low_place, map_fetched_alike, map_none_refused, map_read_leaves, map_value_alike, map_write_leaves, private_itself, word_or_not, wram_written, with_wram}
+use Rattle.ds_machine.proofs.PrivatePlaces.{IsLow, low_fixed, low_place, map_fetched_alike, map_none_refused, map_read_leaves, map_value_alike, map_write_leaves, private_itself, wram_written, with_wram}
 use Rattle.ds_machine.proofs.PrivateSteps.{ExecutesAlike, both_down, word_alike}
 
 -- What either processor reaches in private places stands apart from the rest.
@@ -77,7 +78,7 @@ none_there Past wramcnt at le = no_address wramcnt at le
 at_nine : (cp : Cp15State) (m : MapState) (writing fetching : Bool) (width : Width) (at : ℕ)
     → ((byte : ℕ) → Contains (span (aligned_down width at) (width_bytes width)) byte → is_private_tcm (tcm_of cp byte writing fetching) m byte ≡ true)
     → IsOwnThere (tcm_of cp at writing fetching) m.io.wramcnt at
-at_nine cp m writing fetching width at h = elim (word_or_not at) [
+at_nine cp m writing fetching width at h = elim (low_or_high at (2 ^ 32)) [
   | inl lt ↦ private_there (tcm_of cp at writing fetching) m at (private_itself (λ x. is_private_tcm (tcm_of cp x writing fetching) m x) width at lt h)
   | inr le ↦ none_there (tcm_of cp at writing fetching) m.io.wramcnt at le
 ]
@@ -227,7 +228,7 @@ abbrev pub seven_wrote : List ℕ → ℕ → Width → ℕ → List ℕ
 seven_wrote own at width value = wram_written (low_place at) own width value
 
 at_seven : (width : Width) (at : ℕ) → ((byte : ℕ) → Contains (span (aligned_down width at) (width_bytes width)) byte → is_private_to_seven byte ≡ true) → IsLow at
-at_seven width at h = elim (word_or_not at) [
+at_seven width at h = elim (low_or_high at (2 ^ 32)) [
   | inl lt ↦ inl (private_itself is_private_to_seven width at lt h)
   | inr le ↦ inr le
 ]

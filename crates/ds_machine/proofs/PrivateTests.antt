@@ -1,4 +1,4 @@
-use Rattle.std.proofs.Common.{ℕ, suc, ◌≡◌, ◌<◌, ◌+◌, ◌-◌, ◌%◌, ◌^◌, ◌==◌, ◌↔◌, ◌⊎◌, inl, inr, if◌then◌else◌, Bool, true, false, true≢false, not, List, [], ◌∷◌, ◌++◌, length, map, Option, Some, None, Contains, refl, sym, ◌∙◌, ap, subst, arith}
+use Rattle.std.proofs.Common.{ℕ, suc, ◌≡◌, ◌<◌, ◌+◌, ◌-◌, ◌%◌, ◌^◌, ◌==◌, ◌↔◌, ◌⊎◌, inl, inr, if◌then◌else◌, Bool, true, false, true≢false, not, List, [], ◌∷◌, ◌++◌, length, map, Option, Some, Contains, refl, sym, ◌∙◌, ap, subst, arith}
 use Rattle.std.specs.Prelude.{◌&&◌, ◌||◌}
 use Rattle.std.specs.List.{list_all}
 use Rattle.std.proofs.lemmas.List.Elements.{All-contains, Contains-append_left, Contains-append_right, Contains-append_cases}
@@ -44,7 +44,7 @@ use Rattle.ds_machine.specs.Touching.{FetchStaysPrivate, InstrReaches, InstrStay
 
 -- ---- tests of all bytes
 
-all_of : (p : ℕ → Bool) (xs : List ℕ) → ((x : ℕ) → Contains xs x → p x ≡ true) → list_all p xs ≡ true
+pub all_of : (p : ℕ → Bool) (xs : List ℕ) → ((x : ℕ) → Contains xs x → p x ≡ true) → list_all p xs ≡ true
 all_of p [] h = refl
 all_of p (x ∷ xs) h = and_from (p x) (list_all p xs) (h x (0, omega arith, refl)) (all_of p xs (λ y c. h y (suc c.0, (let lt = c.1 in omega (arith, lt)), c.2)))
 
@@ -157,7 +157,7 @@ meant_suits arch base s i = by_condition (holds (condition i) s.cpsr) where
 
 -- ---- accesses by their bytes
 
-abbrev Passes : (ℕ → Bool) → List ℕ → Type 0
+abbrev pub Passes : (ℕ → Bool) → List ℕ → Type 0
 Passes p bytes = (byte : ℕ) → Contains bytes byte → p byte ≡ true
 
 none_passes : (p : ℕ → Bool) (bytes : List ℕ) → bytes ≡ [] → Passes p bytes
@@ -320,9 +320,6 @@ module _ {S : Type 0} (side : SideOf S) (state : S) where
     ),
   )
 
-  stays_not : (memory : MemoryMachine S) (s : RegisterState) → None ≡ (fetched memory side.arch s state).instr → StaysPrivate memory side s state → ⊥
-  stays_not memory s e k = true≢false (sym (subst (λ (i : Option Instr). may_go_ahead side.arch i ≡ true) (sym e) k.kind))
-
 -- ---- in the machine
 
 pub instr_stays : (s : MachineState) (proc : Proc) (instr : Instr) (touch : Touch) → IsFootprint s proc instr touch
@@ -343,10 +340,6 @@ pub stays_by_instr : (s : MachineState) (proc : Proc) (instr : Instr) → Some i
     → InstrStaysPrivate s proc instr ↔ ProcessorStaysPrivate s proc
 stays_by_instr s Nine instr e fetch = stays_if nine_side (nine_reach (tick_of s.nine.processor) s) nine_memory s.nine.processor.registers instr e fetch
 stays_by_instr s Seven instr e fetch = stays_if seven_side (seven_reach (tick_of s.seven.processor) s) seven_memory s.seven.processor.registers instr e fetch
-
-pub none_stays : (s : MachineState) (proc : Proc) → None ≡ instr_at s proc → ProcessorStaysPrivate s proc → ⊥
-none_stays s Nine e k = stays_not nine_side (nine_reach (tick_of s.nine.processor) s) nine_memory s.nine.processor.registers e k
-none_stays s Seven e k = stays_not seven_side (seven_reach (tick_of s.seven.processor) s) seven_memory s.seven.processor.registers e k
 
 pub fetch_of_stays : (s : MachineState) (proc : Proc) → ProcessorStaysPrivate s proc → FetchStaysPrivate s proc
 fetch_of_stays s Nine k = k.fetch

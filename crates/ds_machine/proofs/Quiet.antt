@@ -22,7 +22,7 @@ use Rattle.ds_machine.specs.Reference.{due_by, dues_of, processor_due}
 use Rattle.ds_machine.specs.States.{MachineState}
 use Rattle.ds_machine.specs.Steps.{is_blocked, is_halted, processor_of, tick_of}
 use Rattle.ds_machine.proofs.ActingDues.{acting_processor, other_acts}
-use Rattle.ds_machine.proofs.DueTicks.{due_of_rank, due_of_step, due_then}
+use Rattle.ds_machine.proofs.DueTicks.{due_of_rank, due_then}
 use Rattle.ds_machine.proofs.Moves.{later_if}
 
 -- Where a processor, or a DMA channel, takes its step, its timers are due later: they have lower ranks.
@@ -122,11 +122,6 @@ quiet_due s tick proc due timers = record {
   timers = timers;
   dma = none_blocked tick (io_of s.io proc) (own_blocks s proc (due_then (is_blocked s proc) (processor_of s proc) tick due).0);
 }
-
-pub quiet_processor : (s : MachineState) (tick : Tick) (rank : ℕ) (proc : Proc) → IsLeast (dues_of s) tick rank → actor_of rank ≡ Processor proc
-    → HasOnlyLaterEvents tick (io_of s.io proc)
-quiet_processor s tick rank proc least is =
-    quiet_due s tick proc (due_of_step s rank tick (Processor proc) least is) (timers_later s tick rank least (ap comes_late is) proc)
 
 pub quiet_acting : (s : MachineState) (tick : Tick) (proc : Proc) → IsLeast (acting_dues s) tick (rank_of proc) → HasOnlyLaterEvents tick (io_of s.io proc)
 quiet_acting s tick proc least = quiet_due s tick proc (sym (acting_processor s proc) ∙ least.there) (acting_timers_later s tick (rank_of proc) least (late proc) proc) where

@@ -1,4 +1,5 @@
-use Rattle.std.proofs.Common.{ℕ, ◌≡◌, ◌<◌, ◌≤◌, ◌-◌, ◌==◌, ◌⊎◌, Bool, true, false, true≢false, if◌then◌else◌, None, inl, inr, refl, sym, arith}
+use Rattle.std.proofs.Common.{ℕ, ◌≡◌, ◌<◌, ◌≤◌, ◌-◌, ◌==◌, Bool, true, false, true≢false, if◌then◌else◌, None, inl, inr, refl, sym, arith}
+use Rattle.ds_base.proofs.Choices.{low_or_high}
 use Rattle.ds_base.specs.Memories.{memory_size}
 use Rattle.ds_base.specs.declared.memories.Memory.TheVariants.{Shared, Own7}
 use Rattle.ds_base.specs.declared.memories.Width.{Width}
@@ -49,15 +50,12 @@ shared_seven w offset = by_tests (w == 0) (w == 1) (w == 2) where
   by_tests false false true = refl
   by_tests false false false = refl
 
-below_or_not : (at bound : ℕ) → (at < bound) ⊎ (bound ≤ at)
-below_or_not at bound = grind arith
-
 pub ram_cells : (proc : Proc) (w at : ℕ) → 0x02000000 ≤ at → at < 0x04000000 → is_cells (place_of proc w at) ≡ true
 ram_cells Nine w at low high = elim (lies_or_not 0x02000000 0x02FFFFFF at) [
   | inl in_main ↦ rw in_main.2 refl
   | inr past_main ↦ rw past_main.1 (elim (lies_or_not 0x03000000 0x03FFFFFF at) [
     | inl in_shared ↦ rw in_shared.2 (shared_nine w (at - 0x03000000))
-    | inr past ↦ elim (below_or_not at 0x03000000) [
+    | inr past ↦ elim (low_or_high at 0x03000000) [
       | inl below ↦ absurd (past_main.0 (low, omega (arith, below)))
       | inr above ↦ absurd (past.0 (above, omega (arith, high)))
     ]
@@ -71,9 +69,9 @@ ram_cells Seven w at low high = elim (lies_or_not 0x00000000 0x00003FFF at) [
       | inl in_shared ↦ rw in_shared.2 (shared_seven w (at - 0x03000000))
       | inr past_shared ↦ rw past_shared.1 (elim (lies_or_not 0x03800000 0x03FFFFFF at) [
         | inl in_own ↦ rw in_own.2 refl
-        | inr past ↦ elim (below_or_not at 0x03000000) [
+        | inr past ↦ elim (low_or_high at 0x03000000) [
           | inl below ↦ absurd (past_main.0 (low, omega (arith, below)))
-          | inr above ↦ elim (below_or_not at 0x03800000) [
+          | inr above ↦ elim (low_or_high at 0x03800000) [
             | inl below ↦ absurd (past_shared.0 (above, omega (arith, below)))
             | inr higher ↦ absurd (past.0 (higher, omega (arith, high)))
           ]

@@ -1,5 +1,6 @@
-use Rattle.std.proofs.Common.{ℕ, ◌≡◌, ◌≤◌, ◌+◌, ◌/◌, ◌^◌, if◌then◌else◌, Bool, true, false, Option, Some, None, refl, sym, ◌∙◌, subst, arith}
+use Rattle.std.proofs.Common.{ℕ, ◌≡◌, ◌≤◌, ◌+◌, ◌/◌, ◌^◌, Option, Some, None, refl, sym, ◌∙◌, subst, arith}
 use Rattle.std.specs.Prelude.{◌&&◌}
+use Rattle.ds_base.proofs.Choices.{either}
 use Rattle.ds_base.specs.Numbers.{aligned_down}
 use Rattle.ds_base.specs.declared.left_out.Stop.{Stop}
 use Rattle.ds_base.specs.declared.memories.Memory.TheVariants.{Vram}
@@ -27,10 +28,6 @@ use Rattle.ds_map.specs.Accesses.{is_byte_of_nine, map_written, takes_no_bytes, 
 use Rattle.ds_map.specs.Maps.{MapState}
 
 -- What a write makes of geometry.
-
-either : {A : Type 0} (P : A → Type 0) (b : Bool) (x y : A) → P x → P y → P (if b then x else y)
-either P true x y h k = h
-either P false x y h k = k
 
 own_leaves : (proc : Proc) (u : IoState) (processor_io : ProcessorIoState) → (with_io_of proc u processor_io).gx ≡ u.gx
 own_leaves Nine u processor_io = refl

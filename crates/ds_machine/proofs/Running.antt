@@ -1,4 +1,5 @@
 use Rattle.std.proofs.Common.{ℕ, ◌≡◌, ◌≢◌, ◌<◌, ◌≤◌, ◌+◌, ◌*◌, ◌^◌, ◌⊎◌, inl, inr, List, ◌∷◌, Option, Some, None, refl, sym, ◌∙◌, ap, subst, arith, []}
+use Rattle.ds_base.proofs.Choices.{same_or_not}
 use Rattle.ds_base.specs.Schedules.{IsLater}
 use Rattle.ds_base.specs.declared.left_out.LeftOut.{LeftOut}
 use Rattle.ds_base.specs.declared.processors.Proc.{Proc}
@@ -28,7 +29,7 @@ use Rattle.ds_machine.specs.TurnSteps.{MayAct, MayStep, own_remaining, ticks_lef
 use Rattle.ds_machine.specs.declared.answers.Done as answer
 use Rattle.ds_machine.specs.declared.answers.Done.TheVariants as answers
 use Rattle.ds_machine.proofs.ActingSteps.{Acted, ActedStops, CaughtUp, apart_goes, caught_up}
-use Rattle.ds_machine.proofs.ActingDues.{due_where_acts, same_or_not}
+use Rattle.ds_machine.proofs.ActingDues.{due_where_acts}
 use Rattle.ds_machine.proofs.AheadRuns.{ahead_steps, runs_ahead}
 use Rattle.ds_machine.proofs.CatchingUp.{behind_steps, still_before}
 use Rattle.ds_machine.proofs.CountSteps.{one_more, one_more_as, stop_counts}

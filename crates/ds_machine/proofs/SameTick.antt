@@ -1,6 +1,7 @@
 use Rattle.std.specs.Prelude.{◌||◌, nat_lt}
 use Rattle.std.proofs.Common.{ℕ, ◌≡◌, ◌≢◌, ◌+◌, ◌==◌, ◌&&◌, ◌⊎◌, inl, inr, Bool, true, false, List, [], Option, Some, sym, ◌∙◌, ap, subst, arith}
 use Rattle.std.proofs.lemmas.Option.{none-some}
+use Rattle.ds_base.proofs.Choices.{true_or_false}
 use Rattle.ds_base.specs.declared.left_out.LeftOut.{LeftOut}
 use Rattle.ds_base.specs.declared.ticks.Tick.{Tick}
 use Rattle.ds_ports.specs.Acting.{is_quiet}
@@ -14,7 +15,7 @@ use Rattle.ds_machine.specs.Lagging.{StepsBeforeGeometry, more_geometry, no_geom
 use Rattle.ds_machine.specs.Reference.{Shown, dues_of, reference, reference_step}
 use Rattle.ds_machine.specs.Sound.{IsSound}
 use Rattle.ds_machine.specs.States.{MachineState}
-use Rattle.ds_machine.proofs.ActingDues.{acting_low, acting_of_rank, loud_same, quiet_or_loud}
+use Rattle.ds_machine.proofs.ActingDues.{acting_low, acting_of_rank, loud_same}
 use Rattle.ds_machine.proofs.CatchingUp.{CaughtSo, caught_so}
 use Rattle.ds_machine.proofs.DueTicks.{due_of_least}
 use Rattle.ds_machine.proofs.LagLaw.{may_lag}
@@ -100,13 +101,13 @@ module _ (s : MachineState) (tick due : Tick) (first rank : ℕ) (sound : IsSoun
   least_where_loud loud = subst (λ (dues : List (Option Tick)). IsLeast dues tick rank) (loud_same s loud) least
 
   pub made_then : (next : MachineState) (outs : List Shown) → reference_step rank s ≡ Makes next outs → IsLeast (dues_of s) tick rank ⊎ CrossesGeometry s next tick rank outs
-  made_then next outs h = elim (quiet_or_loud (is_quiet s.io)) [
+  made_then next outs h = elim (true_or_false (is_quiet s.io)) [
     | inr loud ↦ inl (least_where_loud loud)
     | inl quiet ↦ elim (may_lag.first s rank tick (before quiet)).least [ inl now ↦ inl now | inr late ↦ inr (crosses quiet late.0 late.1 next outs h) ]
   ]
 
   pub stopped_then : (left : MachineState) (stop : LeftOut) → reference_step rank s ≡ Stops stop left → IsLeast (dues_of s) tick rank ⊎ StopsAfterGeometry s tick rank stop
-  stopped_then left stop h = elim (quiet_or_loud (is_quiet s.io)) [
+  stopped_then left stop h = elim (true_or_false (is_quiet s.io)) [
     | inr loud ↦ inl (least_where_loud loud)
     | inl quiet ↦ elim (may_lag.first s rank tick (before quiet)).least [ inl now ↦ inl now | inr late ↦ inr (stops_then quiet late.0 late.1 left stop h) ]
   ]

@@ -1,5 +1,6 @@
-use Rattle.std.proofs.Common.{ℕ, ◌≡◌, ◌+◌, Bool, true, false, if◌then◌else◌, List, [], ◌∷◌, take, All, Option, Some, None, Result, Ok, Err, refl, sym, subst, arith}
+use Rattle.std.proofs.Common.{ℕ, ◌≡◌, ◌+◌, Bool, List, [], ◌∷◌, take, All, Option, Some, None, Result, Ok, Err, refl, sym, subst, arith}
 use Rattle.std.proofs.lemmas.List.Elements.{All-cons, All-nil}
+use Rattle.ds_base.proofs.Choices.{either}
 use Rattle.ds_base.specs.declared.keys.KeyLine.{KeyLine}
 use Rattle.ds_base.specs.declared.left_out.LeftOut.{LeftOut}
 use Rattle.ds_base.specs.declared.left_out.Stop.{Stop}
@@ -130,12 +131,8 @@ on_has : (proc : Proc) (tick : Tick) (s : MachineState) → HasBothStatuses s �
 on_has Nine tick s h = record { nine = h.nine; seven = h.seven }
 on_has Seven tick s h = record { nine = h.nine; seven = h.seven }
 
-either_has : (b : Bool) (x y : MachineState) → HasBothStatuses x → HasBothStatuses y → HasBothStatuses (if b then x else y)
-either_has true x y p q = p
-either_has false x y p q = q
-
 one_has : (proc : Proc) (tick : Tick) (s : MachineState) → HasBothStatuses s → HasBothStatuses (woken_one proc tick s)
-one_has proc tick s h = either_has (wakes s proc) (goes_on proc tick s) s (on_has proc tick s h) h
+one_has proc tick s h = either HasBothStatuses (wakes s proc) (goes_on proc tick s) s (on_has proc tick s h) h
 
 awake_has : (due : Option Tick) (came : MachineStep MachineState Shown LeftOut) → HasBothStatuses (left_by came) → HasBothStatuses (left_by (awake due came))
 unfolding ended

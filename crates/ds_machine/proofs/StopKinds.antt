@@ -1,5 +1,6 @@
 use Rattle.std.proofs.Common.{ℕ, ◌≢◌, ◌==◌, ◌+◌, ◌/◌, ◌%◌, ◌^◌, ◌&&◌, not, Bool, true, false, if◌then◌else◌, List, [], ◌∷◌, map, Option, Some, None, subst}
 use Rattle.std.specs.List.{range_with_len}
+use Rattle.ds_base.proofs.Choices.{either}
 use Rattle.ds_base.specs.Accesses.{Access, Fetch, MemoryMachine, Performed, Read, Write, perform, refused_or}
 use Rattle.ds_base.specs.Bits.{bit}
 use Rattle.ds_base.specs.Numbers.{aligned_down}
@@ -283,16 +284,12 @@ module _ {S : Type 0} (memory : MemoryMachine S) (refuses : (s : S) (at : ℕ) (
   word_came setting old s number None =
       carried_named setting.arch old s (if holds (condition_of number) old.cpsr then undefined_meaning setting.base old else skipped old)
 
-  either_came : (b : Bool) (x y : Outcome S) → CameNamed x.stepped → CameNamed y.stepped → CameNamed (if b then x else y).stepped
-  either_came true x y h k = h
-  either_came false x y h k = k
-
   taken_named : (side : SideOf S) → ((old : RegisterState) (s : S) (number : ℕ) (instr : Option Instr) → CameNamed (side.executed old s number instr).stepped)
       → (line : Bool) (old : RegisterState) (s : S) → CameNamed (side_taken memory side line old s).stepped
   unfolding taken
   taken_named side executes line old s =
       let f = fetched memory side.arch old s in
-      either_came (enters line old) (carried_out memory side.arch old s (interrupt_meaning (side.base s) old)) (side.executed old s f.number f.instr)
+      either (λ (o : Outcome S). CameNamed o.stepped) (enters line old) (carried_out memory side.arch old s (interrupt_meaning (side.base s) old)) (side.executed old s f.number f.instr)
       (carried_named side.arch old s (interrupt_meaning (side.base s) old)) (executes old s f.number f.instr)
 
 -- ---- a move to CP15
@@ -315,16 +312,12 @@ written_named s cp r value mcr.Kept h = tt
 written_named s cp r value mcr.Halt h = tt
 written_named s cp r value (mcr.Left stop) h = h
 
-either_moved : (b : Bool) (x y : MoveOutcome) → CameNamed x.stepped → CameNamed y.stepped → CameNamed (if b then x else y).stepped
-either_moved true x y h k = h
-either_moved false x y h k = k
-
 moved_named : (s : RegisterState) (cp : Cp15State) (m : Moved) → CameNamed (moved_if s cp m).stepped
 moved_named s cp m =
     let r = register_moved m in
     let value = register s m.rd in
-    either_moved (holds m.cond s.cpsr) (carried_over s cp m) _
-    (either_moved m.load _ (written_by s cp r value (write_answer r value)) tt (written_named s cp r value (write_answer r value) (answer_named value r))) tt
+    either (λ (o : MoveOutcome). CameNamed o.stepped) (holds m.cond s.cpsr) (carried_over s cp m) _
+    (either (λ (o : MoveOutcome). CameNamed o.stepped) m.load _ (written_by s cp r value (write_answer r value)) tt (written_named s cp r value (write_answer r value) (answer_named value r))) tt
 
 -- ---- both processors
 

@@ -2,6 +2,7 @@ use Rattle.std.proofs.Common.{ℕ, ◌≡◌, ◌+◌, ◌-◌, ◌*◌, ◌/◌
 use Rattle.std.specs.Int.Bits.{and_block, and_zero_l}
 use Rattle.std.proofs.lemmas.Nat.{and_comm, and_mask, and_or_apart}
 use Rattle.std.specs.Prelude.{◌||◌, not}
+use Rattle.ds_base.proofs.Choices.{and_false, equal}
 use Rattle.ds_base.specs.Bits.{bit, bits}
 use Rattle.ds_base.specs.declared.left_out.LeftOut.{LeftOut}
 use Rattle.ds_base.specs.declared.left_out.Stop.{Stop}
@@ -59,19 +60,13 @@ line_stays old new none told =
 pub line_stays_off : (old new : IrqState) → old.ime ≡ false → IsTold old new → line_is_up new ≡ false
 line_stays_off old new off told = rw (told.ime, off) refl
 
-zero_of : (n : ℕ) → (n == 0) ≡ true → n ≡ 0
-zero_of n h = grind (arith, h)
-
 -- by whether the I flag is set
 stays_down : (masked : Bool) (old new : IrqState) → (masked || (not old.ime || bits 16 3 old.ie == 0)) ≡ true → (line_is_up old && not masked) ≡ false → IsTold old new
     → (line_is_up new && not masked) ≡ false
-stays_down true old new deaf down told = never (line_is_up new) where
-  never : (b : Bool) → (b && false) ≡ false
-  never true = refl
-  never false = refl
+stays_down true old new deaf down told = and_false (line_is_up new)
 stays_down false old new deaf down told = by_ime old.ime refl deaf where
   by_ime : (ime : Bool) → old.ime ≡ ime → (not ime || bits 16 3 old.ie == 0) ≡ true → (line_is_up new && true) ≡ false
-  by_ime true e none = ap (λ (up : Bool). up && true) (line_stays old new (zero_of (bits 16 3 old.ie) none) told) ∙ down
+  by_ime true e none = ap (λ (up : Bool). up && true) (line_stays old new (equal (bits 16 3 old.ie) 0 none) told) ∙ down
   by_ime false e none = ap (λ (up : Bool). up && true) (line_stays_off old new e told)
 
 -- so one that hears nobody enters no interrupt for what it is told, and hears nobody still

@@ -189,7 +189,7 @@ settled_released tick u is none = by_half (is_half_empty u.gx) none where
   by_half true h = ap (λ (dma : DmaState). if channel_comes_before (dma_due dma) u.released then u.released else 0) (awaits_none u.nine.dma tick is.nine.dma.four h)
   by_half false h = refl
 
-settled_due : (tick : Tick) (s : MachineState) (proc : Proc) → (processor_of (machine_settled tick s) proc).due ≡ (processor_of s proc).due
+pub settled_due : (tick : Tick) (s : MachineState) (proc : Proc) → (processor_of (machine_settled tick s) proc).due ≡ (processor_of s proc).due
 settled_due tick s Nine = refl
 settled_due tick s Seven = refl
 

@@ -1,13 +1,12 @@
 use Rattle.std.proofs.Common.{ℕ, zero, suc, ◌≡◌, ◌<◌, ◌≤◌, ◌+◌, ◌⊎◌, inl, inr, Bool, true, false, true≢false, List, [], ◌∷◌, Option, Some, None, refl, sym, ◌∙◌, ap, subst, arith}
 use Rattle.std.specs.Prelude.{IsSome}
-use Rattle.std.proofs.lemmas.Option.{none-some}
+use Rattle.ds_base.proofs.Choices.{low_or_high, true_or_false}
 use Rattle.ds_base.specs.declared.left_out.LeftOut.{LeftOut}
 use Rattle.ds_base.specs.declared.processors.Proc.{Proc}
 use Rattle.ds_base.specs.declared.processors.Proc.TheVariants.{Nine, Seven}
 use Rattle.ds_base.specs.declared.ticks.Due.{Due}
 use Rattle.ds_runs.specs.Actors.{actor_of}
 use Rattle.ds_runs.specs.Runs.{IsLeast, MachineStep, Makes, Stops}
-use Rattle.ds_runs.specs.Runs as runs
 use Rattle.ds_machine.specs.Acting.{acting_dues, is_behind}
 use Rattle.ds_machine.specs.Lagging.{CatchesUp, CatchesUpFor, CatchesUpIf, TakesGeometry, observes_by}
 use Rattle.ds_machine.specs.Lagging as lagging
@@ -20,7 +19,7 @@ use Rattle.ds_machine.specs.Steps.{processor_of}
 use Rattle.ds_machine.specs.TurnSteps.{BelongsToTurn, IsLeastBelow, TakesSteps, no_steps, more_steps, own_remaining, ticks_left}
 use Rattle.ds_machine.specs.declared.answers.Done as answer
 use Rattle.ds_machine.specs.declared.answers.Done.TheVariants as answers
-use Rattle.ds_machine.proofs.ActingDues.{acting_low, quiet_or_loud}
+use Rattle.ds_machine.proofs.ActingDues.{acting_low}
 use Rattle.ds_machine.proofs.ActingSteps.{caught_steps, caught_up}
 use Rattle.ds_machine.proofs.CatchingUp.{behind_is, caught_for, caught_so, fewer_left}
 use Rattle.ds_machine.proofs.LagCommutes.{late_put}
@@ -30,14 +29,14 @@ use Rattle.ds_machine.proofs.StepsMay.{answer_of}
 use Rattle.gx_fifo.specs.GxStates.{gx_finished}
 use Rattle.run_ahead.specs.Consoles.{ConsoleState}
 use Rattle.run_ahead.specs.Inside.{TookStretch, TookTurn}
-use Rattle.run_ahead.specs.ToEnd.{HasTurnsToEnd, TurnsEnd, TurnsToEnd, at_end, counts, meets_stop}
+use Rattle.run_ahead.specs.ToEnd.{HasTurnsToEnd, TurnsEnd, at_end, counts, meets_stop}
 use Rattle.run_ahead.specs.Turns.{Turns, counted_of, one_more_turn, run_to, turns_remaining}
 use Rattle.run_ahead.specs.declared.turns.Turned as turned
 use Rattle.run_ahead.specs.declared.turns.Turned.TheVariants as turns
 use Rattle.run_ahead.proofs.StepTurns.{event_keeps, event_took, is_stop, is_stretch, over_all, over_from}
 use Rattle.run_ahead.proofs.Stretches.{sound_along}
 use Rattle.run_ahead.proofs.TurnLaws.{turn_falls}
-use Rattle.run_ahead.proofs.TurnTests.{belongs_or_not, least_acts, lt_or_not}
+use Rattle.run_ahead.proofs.TurnTests.{belongs_or_not, least_acts}
 
 -- From each sound machine a turn is taken with each limit, and so turns go on to their end.
 
@@ -136,9 +135,9 @@ module _ (until : ℕ) (s : MachineState) (sound : IsSound s) where
         took k.0 next k.1
 
   rank_kind : (rank : ℕ) → rank < 24 → (rank < 22) ⊎ ((proc : Proc) × (rank ≡ rank_of proc))
-  rank_kind rank low = elim (lt_or_not rank 22) [
+  rank_kind rank low = elim (low_or_high rank 22) [
     | inl event ↦ inl event
-    | inr other ↦ elim (lt_or_not rank 23) [ inl nine ↦ inr (Nine, omega (arith, nine, other)) | inr seven ↦ inr (Seven, omega (arith, seven, low)) ]
+    | inr other ↦ elim (low_or_high rank 23) [ inl nine ↦ inr (Nine, omega (arith, nine, other)) | inr seven ↦ inr (Seven, omega (arith, seven, low)) ]
   ]
 
   has_turn_below : (first : Due) → IsLeast (acting_dues s) first.tick first.rank → first.tick.0 < until → HasTook until s
@@ -158,10 +157,6 @@ abbrev HasTurn : ℕ → ConsoleState → Type 0
 HasTurn until c = (answer : turned.Turned) × (new : ConsoleState) × Turns until c answer new
 
 module _ (until : ℕ) (c : ConsoleState) (still_open : c.stopped ≡ None) (sound : IsSound c.machine) where
-  some_none : (left : LeftOut) (stopped : Option LeftOut) → stopped ≡ None → IsSome stopped → stopped ≡ Some left
-  some_none left None e some = absurd (true≢false (sym some))
-  some_none left (Some l) e some = absurd (none-some l (sym e))
-
   console_took : (done : answer.Done) (next : MachineState) → TookTurn until c.machine done next → HasTurn until c
   console_took answers.Made next t = (turns.Ran, one_more_turn (run_to c until next), (still_open, t, refl))
   console_took (answers.Frame swapped) next t = (turns.Frame swapped, one_more_turn (run_to c until next), (still_open, t, refl))
@@ -171,9 +166,9 @@ module _ (until : ℕ) (c : ConsoleState) (still_open : c.stopped ≡ None) (sou
   has_turn : HasTurn until c
   has_turn =
       let first = least_acts c.machine in
-      elim (lt_or_not first.0.tick.0 until) [
+      elim (low_or_high first.0.tick.0 until) [
         | inl below ↦ (let k = has_turn_below until c.machine sound first.0 first.1 below in console_took k.0 k.1 k.2)
-        | inr le ↦ elim (quiet_or_loud (is_behind until 0 c.machine)) [
+        | inr le ↦ elim (true_or_false (is_behind until 0 c.machine)) [
           | inl behind ↦ (let k = quiet_took until c.machine sound first.0 first.1 le behind in console_took k.0 k.1 k.2)
           | inr level ↦ (turns.AtEnd, run_to c until c.machine, (still_open, over_all until c.machine (over_from until c.machine first.0.tick first.0.rank first.1 le) level, refl))
         ]

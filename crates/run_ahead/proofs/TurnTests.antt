@@ -1,10 +1,10 @@
-use Rattle.std.proofs.Common.{ℕ, suc, ◌≡◌, ◌<◌, ◌≤◌, ◌⊎◌, inl, inr, Bool, true, false, true≢false, List, [], ◌∷◌, Option, Some, None, Contains, refl, sym, ◌∙◌, ap, arith}
+use Rattle.std.proofs.Common.{ℕ, ◌≡◌, ◌<◌, ◌⊎◌, inl, inr, Bool, true, false, true≢false, List, [], ◌∷◌, Option, Some, None, refl, sym, ◌∙◌, ap, arith}
 use Rattle.std.specs.List.{list_all}
 use Rattle.std.specs.Prelude.{nat_le, if◌then◌else◌}
 use Rattle.std.proofs.lemmas.Option.{none-some, same_Some}
-use Rattle.std.proofs.lemmas.Bool.{and_from}
 use Rattle.std.proofs.lemmas.List.Elements.{All-contains}
 use Rattle.std.proofs.lemmas.List.Sums.{AllPass-from_list_all}
+use Rattle.ds_base.proofs.Choices.{low_or_high, same_or_not, true_or_false}
 use Rattle.ds_base.specs.Accesses.{Access, Fetch, MemoryMachine, Read, Write}
 use Rattle.ds_base.specs.declared.processors.Proc.{Proc}
 use Rattle.ds_base.specs.declared.processors.Proc.TheVariants.{Nine, Seven}
@@ -28,8 +28,9 @@ use Rattle.ds_machine.specs.PrivateSides.{SideOf, nine_side, seven_side}
 use Rattle.ds_machine.specs.States.{MachineState}
 use Rattle.ds_machine.specs.Steps.{is_blocked, line_of, nine_reach, seven_reach, tick_of}
 use Rattle.ds_machine.specs.TurnSteps.{BelongsToTurn}
-use Rattle.ds_machine.proofs.ActingDues.{quiet_or_loud, same_or_not, somebody_acts}
+use Rattle.ds_machine.proofs.ActingDues.{somebody_acts}
 use Rattle.ds_machine.proofs.FenceFirsts.{ahead_where, below_where, fence_is, least_where, nine_by_parts, rank_where, seven_by_parts}
+use Rattle.ds_machine.proofs.PrivateTests.{Passes, all_of}
 
 -- Whether a processor's step belongs to its turn: it does, or it doesn't.
 
@@ -48,20 +49,10 @@ is_bit true false = inr (λ e. true≢false e)
 is_bit false true = inr (λ e. true≢false (sym e))
 is_bit false false = inl refl
 
-pub lt_or_not : (a b : ℕ) → (a < b) ⊎ (b ≤ a)
-lt_or_not a b = grind arith
-
 -- ---- private places
 
-abbrev Passes : (ℕ → Bool) → List ℕ → Type 0
-Passes p bytes = (byte : ℕ) → Contains bytes byte → p byte ≡ true
-
-all_of : (p : ℕ → Bool) (xs : List ℕ) → Passes p xs → list_all p xs ≡ true
-all_of p [] h = refl
-all_of p (x ∷ xs) h = and_from (p x) (list_all p xs) (h x (0, omega arith, refl)) (all_of p xs (λ y c. h y (suc c.0, (let lt = c.1 in omega (arith, lt)), c.2)))
-
 passes : (p : ℕ → Bool) (xs : List ℕ) → IsDecided (Passes p xs)
-passes p xs = elim (quiet_or_loud (list_all p xs)) [
+passes p xs = elim (true_or_false (list_all p xs)) [
   | inl all ↦ inl (λ x c. All-contains (λ y. p y ≡ true) xs x (AllPass-from_list_all p xs all) c)
   | inr some ↦ inr (λ h. absurd (true≢false (sym (all_of p xs h) ∙ some)))
 ]
@@ -136,7 +127,7 @@ ahead_or_not s proc tick due =
     let fence = fence_there s proc in
     elim (private_or_not s proc) [
       | inr never ↦ inr (λ a. never a.private)
-      | inl private ↦ elim (lt_or_not tick.0 fence.0.0) [
+      | inl private ↦ elim (low_or_high tick.0 fence.0.0) [
         | inl lt ↦ inl (ahead_where s proc fence.0 tick fence.1 due lt private)
         | inr le ↦ inr (λ a. (let lt = below_where s proc fence.0 tick fence.1 due a in absurd (omega (arith, lt, le))))
       ]
@@ -162,7 +153,7 @@ module _ (until : ℕ) (s : MachineState) (proc : Proc) where
 
   due_or_not : (due : Option Tick) → processor_due s proc ≡ due → IsDecided (BelongsToTurn until s proc)
   due_or_not None e = inr (λ b. none-some b.tick (sym e ∙ b.due))
-  due_or_not (Some tick) e = elim (lt_or_not tick.0 until) [
+  due_or_not (Some tick) e = elim (low_or_high tick.0 until) [
     | inl lt ↦ due_below tick e lt
     | inr le ↦ inr (λ b. (let same = ap (λ (t : Tick). t.0) (same_Some tick b.tick (sym e ∙ b.due)) in let lt = b.below in absurd (omega (arith, same, lt, le))))
   ]

@@ -1,5 +1,4 @@
 pub mod Allotted
-pub mod Cases
 pub mod CellLemmas
 pub mod MapLaws
 pub mod Mixes

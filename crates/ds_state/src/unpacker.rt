@@ -2,7 +2,7 @@
 
 ghost use Rattle.std.specs.Prelude.{◌≡◌, ◌≤◌, ◌<◌, ◌^◌, length, IfOk, false, if◌then◌else◌, Ok, Err};
 ghost use Rattle.ds_state.specs.declared.unpacker.Unpacked.TheVariants.{NoMemory, Bad};
-ghost use Rattle.ds_state.specs.Formats.{IsCodeWidth, number_code, flag_code, tick, array, signed_word, signed_half, any, keeps_mask, at_most, soon};
+ghost use Rattle.ds_state.specs.Formats.{IsCodeWidth, number_code, flag_code, tick, array, signed_word, signed_half_code, any, keeps_mask, at_most, soon};
 ghost use Rattle.ds_state.specs.Reading.{GivesRead, GivesIn, GivesSome, GivesTrue, read_code, ruled};
 
 use byteorder::{ByteOrder, LittleEndian};
@@ -112,7 +112,7 @@ impl<'a> Unpacker<'a> {
     /// Takes a signed number of two bytes.
     #[tactic(auto, unfolding(crate::specs::Reading::read_code))]
     pub fn take_i16(&mut self) -> Result<i16, Unpacked>
-        ensures { GivesRead (λ x. x) result self.new (read_code signed_half self.old) }
+        ensures { GivesRead (λ x. x) result self.new (read_code signed_half_code self.old) }
     {
         Ok(self.take_u16()?.cast_signed())
     }

@@ -252,6 +252,28 @@ impl<'a> Unpacker<'a> {
         Ok(value)
     }
 
+    /// Takes a half that is no more than a number.
+    pub fn take_half_at_most(&mut self, most: u16) -> Result<u16, Unpacked>
+        ensures reads { GivesRead (λ x. x) result self.new (ruled (at_most most 0) self.old (read_code (number_code 2) self.old)) }
+        ensures most { IfOk result (λ x. x ≤ most) }
+    {
+        let offset = self.place;
+        let value = self.take_u16()?;
+        holds(value <= most, offset)?;
+        Ok(value)
+    }
+
+    /// Takes a word that is no more than a number.
+    pub fn take_word_at_most(&mut self, most: u32) -> Result<u32, Unpacked>
+        ensures reads { GivesRead (λ x. x) result self.new (ruled (at_most most 0) self.old (read_code (number_code 4) self.old)) }
+        ensures most { IfOk result (λ x. x ≤ most) }
+    {
+        let offset = self.place;
+        let value = self.take_u32()?;
+        holds(value <= most, offset)?;
+        Ok(value)
+    }
+
     /// Takes a half that has no bits but these.
     pub fn take_kept_half(&mut self, mask: u16) -> Result<u16, Unpacked>
         ensures { GivesRead (λ x. x) result self.new (ruled (keeps_mask mask 0) self.old (read_code (number_code 2) self.old)) }

@@ -284,6 +284,16 @@ impl<'a> Unpacker<'a> {
         Ok(value)
     }
 
+    /// Takes a word that has no bits but these.
+    pub fn take_kept_word(&mut self, mask: u32) -> Result<u32, Unpacked>
+        ensures { GivesRead (λ x. x) result self.new (ruled (keeps_mask mask 0) self.old (read_code (number_code 4) self.old)) }
+    {
+        let offset = self.place;
+        let value = self.take_u32()?;
+        holds(value & mask == value, offset)?;
+        Ok(value)
+    }
+
     /// Takes a byte that has no bits but these.
     pub fn take_kept(&mut self, mask: u8) -> Result<u8, Unpacked>
         ensures { GivesRead (λ x. x) result self.new (ruled (keeps_mask mask 0) self.old (read_code (number_code 1) self.old)) }

@@ -110,7 +110,7 @@ impl Io {
         part(
             width,
             slot.byte,
-            self.units().value_of(proc, now, slot.register, slot.number),
+            self.value_of(proc, now, slot.register, slot.number),
         )
     }
 
@@ -199,7 +199,7 @@ impl Io {
         ensures value { result ≡ port_value proc now self.old at width }
         ensures next { self.new ≡ port_read proc self.old at width }
     {
-        if let Some(value) = self.units().value_often(proc, at, width) {
+        if let Some(value) = self.value_often(proc, at, width) {
             return value;
         }
         self.take_by_map(proc, now, at, width)
@@ -211,7 +211,7 @@ impl Io {
         requires whole { slot.byte + width_bytes width ≤ 4 }
         ensures { result ≡ slot_joined proc self.now width slot value }
     {
-        let kept = self.units().kept_of(proc, slot.register, slot.number);
+        let kept = self.kept_of(proc, slot.register, slot.number);
         with_bytes_from(width, slot.byte, kept, value)
     }
 
@@ -225,8 +225,7 @@ impl Io {
             return None;
         }
         let value = self.slot_joined(proc, width, slot, value);
-        self.units()
-            .refusal_of(proc, slot.register, slot.number, value)
+        self.refusal_of(proc, slot.register, slot.number, value)
     }
 
     /// Writes some bytes of a register.
@@ -263,9 +262,7 @@ impl Io {
             return None;
         }
         let value = self.slot_joined(proc, width, slot, value);
-        let stop = self
-            .units()
-            .refusal_of(proc, slot.register, slot.number, value);
+        let stop = self.refusal_of(proc, slot.register, slot.number, value);
         if stop.is_none() {
             self.write_register(proc, now, slot.register, slot.number, value);
         }

@@ -2,7 +2,7 @@
 
 ghost use Rattle.std.specs.Prelude.{◌≡◌, ◌<◌, ◌≤◌, ◌^◌, true, IfOk, IsSome, Some, length};
 ghost use Rattle.ds_base.specs.Schedules.{IsEarly};
-ghost use Rattle.ds_dma.specs.States.{dma_due};
+ghost use Rattle.ds_dma.specs.States.{dma_due, most_waits};
 ghost use Rattle.ds_ipc.specs.Ipcs.{AreSides};
 ghost use Rattle.ds_runs.specs.Actors.{IsNumbered};
 ghost use Rattle.ds_runs.specs.declared.actors.Actor.TheVariants as actors;
@@ -211,15 +211,17 @@ impl Io {
     }
 
     /// A processor's DMA channel that is due moves its first unit at a tick, but for the access itself: the unit isn't its plan's any more,
-    /// and at its end its interrupt is raised where it is enabled. Gives what `put_back` takes this back by.
-    pub fn move_channel(&mut self, proc: Proc, now: Tick) -> Before
+    /// and at its end its interrupt is raised where it is enabled. The access waits so many ticks, which the next unit waits for. Gives what
+    /// `put_back` takes this back by.
+    pub fn move_channel(&mut self, proc: Proc, now: Tick, waits: u32) -> Before
         requires due { IsSome (dma_due (io_of self.old proc).dma) }
         requires early { IsEarly (Some now) }
-        ensures state { self.new ≡ channel_moved proc now self.old }
+        requires waits { waits ≤ most_waits }
+        ensures state { self.new ≡ channel_moved proc now waits self.old }
         ensures before { result ≡ before_move (io_of self.old proc) }
     {
         self.settled = false;
-        let before = self.units.move_channel(proc, now);
+        let before = self.units.move_channel(proc, now, waits);
         self.first = self.units.first_acting();
         before
     }

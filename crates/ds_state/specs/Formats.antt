@@ -121,8 +121,8 @@ abbrev pub tick_where : Bool → ℕ → Option ℕ
 tick_where there n = if there then Some n else None
 
 -- it is at most the tick of the state, and 0 where there was none
-abbrev pub earlier : Bool → ℕ → ℕ → Bool
-earlier there at n = if there then nat_le n at else n == 0
+abbrev pub earlier_tick : Bool → ℕ → ℕ → Bool
+earlier_tick there at n = if there then nat_le n at else n == 0
 
 -- a number that is 0 where it isn't used
 abbrev pub used_where : Bool → ℕ → ℕ → Bool

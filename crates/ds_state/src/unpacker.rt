@@ -2,7 +2,7 @@
 
 ghost use Rattle.std.specs.Prelude.{◌≡◌, ◌≤◌, ◌<◌, ◌^◌, length, IfOk, false, if◌then◌else◌, Ok, Err};
 ghost use Rattle.ds_state.specs.declared.unpacker.Unpacked.TheVariants.{NoMemory, Bad};
-ghost use Rattle.ds_state.specs.Formats.{IsCodeWidth, number_code, flag_code, tick, array, signed_word, signed_half, any, keeps_mask, at_most, earlier, soon, used_where};
+ghost use Rattle.ds_state.specs.Formats.{IsCodeWidth, number_code, flag_code, tick, array, signed_word, signed_half, any, keeps_mask, at_most, earlier_tick, soon, used_where};
 ghost use Rattle.ds_state.specs.Reading.{GivesRead, GivesIn, GivesSome, GivesTrue, read_code, ruled};
 
 use byteorder::{ByteOrder, LittleEndian};
@@ -264,7 +264,7 @@ impl<'a> Unpacker<'a> {
 
     /// Takes the tick of an earlier step than the state's: at most the state's tick, and 0 where there was none.
     pub fn take_earlier(&mut self, there: bool, at: u64) -> Result<u64, Unpacked>
-        ensures reads { GivesRead (λ x. x) result self.new (ruled (earlier there at) self.old (read_code (number_code 8) self.old)) }
+        ensures reads { GivesRead (λ x. x) result self.new (ruled (earlier_tick there at) self.old (read_code (number_code 8) self.old)) }
         ensures most { IfOk result (λ x. x ≤ at) }
     {
         let offset = self.place;

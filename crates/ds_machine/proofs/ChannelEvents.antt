@@ -164,7 +164,7 @@ module _ (proc : Proc) (channel : ℕ) (now : Tick) (unit : DmaUnit) (s : Machin
   read_io = unchanged_io s.io read sound.io left
 
   moves : MovedGoes proc now read taken.io
-  moves = moved_goes proc now read read_io (same_some proc s.io read (left.processor_io proc) (channel_is_due proc channel now s.io due))
+  moves = moved_goes proc now 0 read (omega arith) read_io (same_some proc s.io read (left.processor_io proc) (channel_is_due proc channel now s.io due))
 
   is_quiet : HasOnlyLaterEvents now (io_of taken.io proc)
   is_quiet = record {

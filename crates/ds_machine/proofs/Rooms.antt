@@ -309,7 +309,7 @@ due_unstalled false released due now h = refl
 read_leaves : (proc : Proc) (unit : DmaUnit) (m : MapState) → (unit_read proc unit m).io.gx ≡ m.io.gx
 read_leaves proc unit m = (map_read_unchanged proc m unit.from unit.width).gx
 
-moved_leaves : (proc : Proc) (now : Tick) (u : IoState) → (channel_moved proc now u).gx ≡ u.gx
+moved_leaves : (proc : Proc) (now : Tick) (u : IoState) → (channel_moved proc now 0 u).gx ≡ u.gx
 moved_leaves Nine now u = refl
 moved_leaves Seven now u = refl
 

@@ -12,6 +12,9 @@ use ds_base::{Proc, Stop, Tick};
 use ds_dma::Unit;
 use ds_ports::Io;
 
+/// How long a unit's two accesses wait, in ticks: the machine doesn't add waits yet.
+const NO_WAITS: u32 = 0;
+
 impl Map {
     /// Moves a unit for the channel of a processor that is due, at a tick: reads it, takes it from the channel's plan, and writes it. Where the write
     /// is refused, the unit is still in the plan. What the processor doesn't reach stays.
@@ -25,7 +28,7 @@ impl Map {
         ensures oam { unreached_oam proc self.new ≡ unreached_oam proc self.old }
     {
         let value = self.read(io, proc, now, unit.from, unit.width);
-        let before = io.move_channel(proc, now);
+        let before = io.move_channel(proc, now, NO_WAITS);
         let stop = self.write(io, proc, now, unit.to, unit.width, value);
         if stop.is_some() {
             io.put_back(proc, before);

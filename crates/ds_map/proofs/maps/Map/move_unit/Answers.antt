@@ -28,7 +28,7 @@ returns-then-is_some-clause-map c =
     let memories = c.write-stop.new.self in
     let taken : map_seen proc c.args.self.now c.move_channel-before.new.self ≡ all =
     ap (λ (u : IoState). map_seen proc c.args.self.now u) c.move_channel-before.ensures.state
-    ∙ ap (λ (x : MapState). (let moved : MapState = record x { io = channel_moved proc c.args.now x.io } in moved)) c.read-value.ensures.next in
+    ∙ ap (λ (x : MapState). (let moved : MapState = record x { io = channel_moved proc c.args.now 0 x.io } in moved)) c.read-value.ensures.next in
     let refused : c.write-stop.result ≡ unit_refusal proc c.args.now unit m =
     c.write-stop.ensures.refusal
     ∙ ap (λ (x : MapState). map_refusal proc x unit.to unit.width value) taken

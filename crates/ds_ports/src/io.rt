@@ -1,6 +1,6 @@
 //! The units behind the ports, with the first of them that is due and acts.
 
-ghost use Rattle.std.specs.Prelude.{◌≡◌, ◌<◌, ◌≤◌, ◌^◌, true, IfOk, IsSome, Some, length};
+ghost use Rattle.std.specs.Prelude.{◌≡◌, ◌<◌, ◌≤◌, ◌^◌, false, true, IfOk, IsSome, Some, length};
 ghost use Rattle.ds_base.specs.Schedules.{IsEarly};
 ghost use Rattle.ds_dma.specs.States.{dma_due};
 ghost use Rattle.ds_ipc.specs.Ipcs.{AreSides};
@@ -12,6 +12,7 @@ ghost use Rattle.gx_geometry.specs.States.{AreListsSince};
 ghost use Rattle.vram_banks.specs.Cells.{vram_written};
 ghost use Rattle.ds_ports.specs.Acting.{acting_io_dues, is_quiet};
 ghost use Rattle.ds_ports.specs.Dues.{io_due, io_dues};
+ghost use Rattle.ds_ports.specs.Guards.{is_overfull};
 ghost use Rattle.ds_ports.specs.Happenings.{IsIo};
 ghost use Rattle.ds_ports.specs.Inside.{moves_dues};
 ghost use Rattle.ds_ports.specs.ProcessorIo.{before_move};
@@ -370,6 +371,7 @@ impl Io {
     )
         requires number { number < (meaning_of register).count }
         requires early { IsEarly (Some now) }
+        requires room { is_overfull proc self.old ≡ false }
         ensures { self.new ≡ after_write proc now self.old register number value }
     {
         if moves_dues(register) {
@@ -384,6 +386,7 @@ impl Io {
     fn write_moving(&mut self, proc: Proc, now: Tick, register: Register, number: u32, value: u32)
         requires number { number < (meaning_of register).count }
         requires early { IsEarly (Some now) }
+        requires room { is_overfull proc self.old ≡ false }
         ensures { self.new ≡ after_write proc now self.old register number value }
     {
         self.settled = false;

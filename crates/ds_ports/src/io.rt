@@ -1,6 +1,6 @@
 //! The units behind the ports, with the first of them that is due and acts.
 
-ghost use Rattle.std.specs.Prelude.{◌≡◌, ◌<◌, ◌≤◌, ◌^◌, true, IfOk, IsSome, Some, length};
+ghost use Rattle.std.specs.Prelude.{◌≡◌, ◌<◌, ◌≤◌, ◌^◌, false, true, IfOk, IsSome, Some, length};
 ghost use Rattle.ds_base.specs.Schedules.{IsEarly};
 ghost use Rattle.ds_dma.specs.States.{dma_due};
 ghost use Rattle.ds_runs.specs.Actors.{IsNumbered};
@@ -10,6 +10,7 @@ ghost use Rattle.gx_geometry.specs.States.{AreListsSince};
 ghost use Rattle.vram_banks.specs.Cells.{vram_written};
 ghost use Rattle.ds_ports.specs.Acting.{acting_io_dues};
 ghost use Rattle.ds_ports.specs.Dues.{io_due};
+ghost use Rattle.ds_ports.specs.Guards.{is_overfull};
 ghost use Rattle.ds_ports.specs.Inside.{moves_dues};
 ghost use Rattle.ds_ports.specs.ProcessorIo.{before_move};
 ghost use Rattle.ds_ports.specs.Registers.{after_write, meaning_of};
@@ -258,6 +259,7 @@ impl Io {
     )
         requires number { number < (meaning_of register).count }
         requires early { IsEarly (Some now) }
+        requires room { is_overfull proc self.old ≡ false }
         ensures { self.new ≡ after_write proc now self.old register number value }
     {
         if moves_dues(register) {
@@ -272,6 +274,7 @@ impl Io {
     fn write_moving(&mut self, proc: Proc, now: Tick, register: Register, number: u32, value: u32)
         requires number { number < (meaning_of register).count }
         requires early { IsEarly (Some now) }
+        requires room { is_overfull proc self.old ≡ false }
         ensures { self.new ≡ after_write proc now self.old register number value }
     {
         self.settled = false;

@@ -9,13 +9,12 @@ ghost use Rattle.arm_words.specs.Fields.{HasFields};
 ghost use Rattle.arm_words.specs.ThumbTable.{decoded_thumb};
 ghost use Rattle.arm_ops.specs.Meanings.{access_made};
 ghost use Rattle.ds_machine.specs.PrivateSides.{side_taken};
-ghost use Rattle.ds_machine.specs.Touching.{access_stays, stores, DataIsNear, DataStays, GoesByWords};
+ghost use Rattle.ds_machine.specs.Touching.{access_stays, DataIsNear, DataStays, GoesByWords};
 
 use crate::sides::Side;
 use arm_core::{Registers, Stepped};
 use arm_exec::{Fetched, decoded_half, decoded_word, enters, interrupt};
-use arm_ops::{Operation, TransferOp, access_made, is_other};
-use arm_words::HalfOp;
+use arm_ops::{Operation, access_made, is_other, loads};
 use decode_cache::Decoder;
 use ds_base::Width;
 
@@ -132,17 +131,6 @@ pub struct Fast {
     pub leaves: bool,
 }
 
-/// Whether a kind of access writes.
-#[inline(always)]
-fn stores(op: TransferOp) -> bool
-    ensures { result ≡ stores op }
-{
-    match op {
-        TransferOp::WordOrByte { load, .. } => !load,
-        TransferOp::HalfOrSigned { op } => matches!(op, HalfOp::Strh),
-    }
-}
-
 /// Whether an operation's access of data is to a private place, if it makes one. Of what isn't decoded it tells nothing: true, since `run_fast`
 /// doesn't run that.
 #[inline(always)]
@@ -155,7 +143,7 @@ fn access_stays<V: Side>(s: &Registers, view: &V, next: &Operation) -> bool
 {
     view.place_laws();
     match access_made(s, next) {
-        Some(it) => view.is_private(it.to.address, stores(it.op), false),
+        Some(it) => view.is_private(it.to.address, !loads(it.op), false),
         None => true,
     }
 }

@@ -9,7 +9,7 @@ use Rattle.byteorder.specs.Numbers.{little_from-cons, little_from-lt, little_num
 use Rattle.std.proofs.lemmas.List.{length-append, length-take-le}
 use Rattle.std.proofs.Math.Seq.{take-append_seam, drop-append_seam}
 use Rattle.std.proofs.lemmas.Bool.{ne_eqb, eqb-false}
-use Rattle.ds_state.specs.Formats.{Code, number_code, flag_code, tick, array, signed_word, signed_half, code_width, no_tick, tick_number, Fits, code_bytes}
+use Rattle.ds_state.specs.Formats.{Code, number_code, flag_code, tick, array, signed_word, signed_half_code, code_width, no_tick, tick_number, Fits, code_bytes}
 use Rattle.ds_state.specs.Reading.{Left, value, flag_of, tick_read, read_code}
 
 -- bytes
@@ -51,7 +51,7 @@ length_spelled flag_code v h = refl
 length_spelled tick v h = refl
 length_spelled (array n) v h = h
 length_spelled signed_word v h = refl
-length_spelled signed_half v h = refl
+length_spelled signed_half_code v h = refl
 
 abbrev left : ℕ → List ℕ → Left
 left place bytes = record { place = place; bytes = bytes }
@@ -96,7 +96,7 @@ value_back flag_code false rest h = ap flag_of (little_number-reads_back 1 0 res
 value_back tick v rest h = ap (λ (x : Option ℕ). Some x) (ap tick_read (little_number-reads_back 8 (tick_number v) rest (tick_fits v h)) ∙ tick_back v h)
 value_back (array n) v rest h = ap (λ (x : List ℕ). Some x) (ap (λ (k : ℕ). take k (v ++ rest)) (sym h) ∙ take-append_seam v rest)
 value_back signed_word v rest h = ap (λ (x : ℤ). Some x) (ap (cast_signed w32) (little_number-reads_back 4 (cast_unsigned w32 v) rest (cast_fits v h)) ∙ to_z-of_z h)
-value_back signed_half v rest h = ap (λ (x : ℤ). Some x) (ap (cast_signed w16) (little_number-reads_back 2 (cast_unsigned w16 v) rest (half_fits v h)) ∙ to_z-of_z h)
+value_back signed_half_code v rest h = ap (λ (x : ℤ). Some x) (ap (cast_signed w16) (little_number-reads_back 2 (cast_unsigned w16 v) rest (half_fits v h)) ∙ to_z-of_z h)
 
 pub code_back : {V : Type 0} (c : Code V) (v : V) (place : ℕ) (rest : List ℕ) → Fits c v
     → read_code c (left place (code_bytes c v ++ rest)) ≡ Ok (v, left (place + length (code_bytes c v)) rest)
@@ -146,7 +146,7 @@ code_spells signed_word bytes v are le h =
     let lt : n < 2 ^ 32 = little_from-lt 0 4 bytes are in
     let e : cast_signed w32 n ≡ v = some_inj h in
     (ap (little_bytes 4) (ap (cast_unsigned w32) (sym e) ∙ of_z-to_z w32 n lt) ∙ bytes_again 4 bytes are le, subst (FitsSigned w32) e (signed_fits n lt))
-code_spells signed_half bytes v are le h =
+code_spells signed_half_code bytes v are le h =
     let n = little_number 2 bytes in
     let lt : n < 2 ^ 16 = little_from-lt 0 2 bytes are in
     let e : cast_signed w16 n ≡ v = some_inj h in

@@ -11,7 +11,7 @@ pub data Code : Type 0 → Type 1 where
   tick : Code (Option ℕ)
   array : ℕ → Code (List ℕ)
   signed_word : Code ℤ
-  signed_half : Code ℤ
+  signed_half_code : Code ℤ
 
 abbrev pub code_width : {V : Type 0} → Code V → ℕ
 code_width (number_code n) = n
@@ -19,7 +19,7 @@ code_width flag_code = 1
 code_width tick = 8
 code_width (array n) = n
 code_width signed_word = 4
-code_width signed_half = 2
+code_width signed_half_code = 2
 
 -- how many bytes a number may have
 abbrev pub IsCodeWidth : ℕ → Type 0
@@ -38,7 +38,7 @@ code_bytes flag_code v = little_bytes 1 (if v then 1 else 0)
 code_bytes tick v = little_bytes 8 (tick_number v)
 code_bytes (array n) v = v
 code_bytes signed_word v = little_bytes 4 (cast_unsigned w32 v)
-code_bytes signed_half v = little_bytes 2 (cast_unsigned w16 v)
+code_bytes signed_half_code v = little_bytes 2 (cast_unsigned w16 v)
 
 -- the values that have a spelling
 abbrev pub Fits : {V : Type 0} → Code V → V → Type 0
@@ -48,7 +48,7 @@ Fits tick None = Unit {0}
 Fits tick (Some t) = t < no_tick
 Fits (array n) v = length v ≡ n
 Fits signed_word v = FitsSigned w32 v
-Fits signed_half v = FitsSigned w16 v
+Fits signed_half_code v = FitsSigned w16 v
 
 -- A format of states S, which reads an A: one field after another. A field has its code, what it says of the state, its rule, and what
 -- comes after its value. The rule looks at the tick, too. A part is a format of its own, and a list so many of them.

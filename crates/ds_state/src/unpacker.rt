@@ -2,7 +2,7 @@
 
 ghost use Rattle.std.specs.Prelude.{◌≡◌, ◌≤◌, ◌<◌, ◌^◌, length, IfOk, false, if◌then◌else◌, Ok, Err};
 ghost use Rattle.ds_state.specs.declared.unpacker.Unpacked.TheVariants.{NoMemory, Bad};
-ghost use Rattle.ds_state.specs.Formats.{IsCodeWidth, number_code, flag_code, tick, array, signed_word, signed_half, any, keeps_mask, at_most, earlier_tick, soon, used_where};
+ghost use Rattle.ds_state.specs.Formats.{IsCodeWidth, number_code, flag_code, tick, array, signed_word, signed_half_code, any, keeps_mask, at_most, earlier_tick, soon, used_where};
 ghost use Rattle.ds_state.specs.Reading.{GivesRead, GivesIn, GivesSome, GivesTrue, read_code, ruled};
 
 use byteorder::{ByteOrder, LittleEndian};
@@ -112,7 +112,7 @@ impl<'a> Unpacker<'a> {
     /// Takes a signed number of two bytes.
     #[tactic(auto, unfolding(crate::specs::Reading::read_code))]
     pub fn take_i16(&mut self) -> Result<i16, Unpacked>
-        ensures { GivesRead (λ x. x) result self.new (read_code signed_half self.old) }
+        ensures { GivesRead (λ x. x) result self.new (read_code signed_half_code self.old) }
     {
         Ok(self.take_u16()?.cast_signed())
     }
@@ -248,6 +248,28 @@ impl<'a> Unpacker<'a> {
     {
         let offset = self.place;
         let value = self.take_u8()?;
+        holds(value <= most, offset)?;
+        Ok(value)
+    }
+
+    /// Takes a half that is no more than a number.
+    pub fn take_half_at_most(&mut self, most: u16) -> Result<u16, Unpacked>
+        ensures reads { GivesRead (λ x. x) result self.new (ruled (at_most most 0) self.old (read_code (number_code 2) self.old)) }
+        ensures most { IfOk result (λ x. x ≤ most) }
+    {
+        let offset = self.place;
+        let value = self.take_u16()?;
+        holds(value <= most, offset)?;
+        Ok(value)
+    }
+
+    /// Takes a word that is no more than a number.
+    pub fn take_word_at_most(&mut self, most: u32) -> Result<u32, Unpacked>
+        ensures reads { GivesRead (λ x. x) result self.new (ruled (at_most most 0) self.old (read_code (number_code 4) self.old)) }
+        ensures most { IfOk result (λ x. x ≤ most) }
+    {
+        let offset = self.place;
+        let value = self.take_u32()?;
         holds(value <= most, offset)?;
         Ok(value)
     }

@@ -3,6 +3,10 @@
 ghost use Rattle.std.specs.Prelude.{◌≡◌, [], IfOk};
 ghost use Rattle.gx_geometry.specs.States.{Swapped, no_swap};
 
+mod saved;
+
+pub use saved::{put_polygons, put_vertices, take_polygons, take_vertices};
+
 use crate::capped::Capped;
 use crate::polygons::{Polygon, Vertex};
 use ds_base::Tick;

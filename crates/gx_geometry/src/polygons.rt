@@ -6,6 +6,10 @@ ghost use Rattle.gx_geometry.specs.Polygons.{vertex_of, arrival_of, most_vertice
 ghost use Rattle.gx_geometry.specs.RecordsKept.{numbers_seen};
 ghost use Rattle.gx_geometry.specs.Backs.{shape_of, corners_back, vertex_back, seen_back, indices_back, polygon_back, polygon_by_shape};
 
+mod saved;
+
+pub use saved::{put_polygon, put_vertex, take_polygon, take_vertex};
+
 use crate::boxes::through;
 use crate::exact::product;
 use crate::numbers::{Kind, Numbers};

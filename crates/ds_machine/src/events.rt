@@ -69,9 +69,9 @@ impl Parts {
         ensures { self.new ≡ with_processor Nine (with_io self.old (io_event actors.Geometry self.old.io))
             (record self.old.nine.processor { due = past_stall self.old.io self.old.nine.processor.due }) }
     {
-        let stalled = self.io.is_stalled();
+        let stalled = self.io.gx().stalled();
         self.io.event(Actor::Geometry);
-        if stalled && !self.io.is_stalled() && !self.io.processor(Proc::Nine).is_halted() {
+        if stalled && !self.io.gx().stalled() && !self.io.processor(Proc::Nine).is_halted() {
             self.nine.processor.delay_past(false, tick);
         }
     }

@@ -111,7 +111,7 @@ impl Io {
         part(
             width,
             slot.byte,
-            self.units().value_of(proc, now, slot.register, slot.number),
+            self.value_of(proc, now, slot.register, slot.number),
         )
     }
 
@@ -200,7 +200,7 @@ impl Io {
         ensures value { result ≡ port_value proc now self.old at width }
         ensures next { self.new ≡ port_read proc self.old at width }
     {
-        if let Some(value) = self.units().value_often(proc, at, width) {
+        if let Some(value) = self.value_often(proc, at, width) {
             return value;
         }
         self.take_by_map(proc, now, at, width)
@@ -212,7 +212,7 @@ impl Io {
         requires whole { slot.byte + width_bytes width ≤ 4 }
         ensures { result ≡ slot_joined proc self.now width slot value }
     {
-        let kept = self.units().kept_of(proc, slot.register, slot.number);
+        let kept = self.kept_of(proc, slot.register, slot.number);
         with_bytes_from(width, slot.byte, kept, value)
     }
 
@@ -226,8 +226,7 @@ impl Io {
             return None;
         }
         let value = self.slot_joined(proc, width, slot, value);
-        self.units()
-            .refusal_of(proc, slot.register, slot.number, value)
+        self.refusal_of(proc, slot.register, slot.number, value)
     }
 
     /// Writes some bytes of a register.
@@ -266,9 +265,7 @@ impl Io {
             return None;
         }
         let value = self.slot_joined(proc, width, slot, value);
-        let stop = self
-            .units()
-            .refusal_of(proc, slot.register, slot.number, value);
+        let stop = self.refusal_of(proc, slot.register, slot.number, value);
         if stop.is_none() {
             self.write_register(proc, now, slot.register, slot.number, value);
         }
@@ -417,7 +414,7 @@ impl Io {
         ensures refusal { result ≡ guarded_refusal proc self.old at width value }
         ensures next { self.new ≡ guarded_written proc now self.old at width value }
     {
-        if self.units().is_overfull(proc) {
+        if self.is_overfull(proc) {
             return None;
         }
         match whole_in(width, slot_at(proc, at)) {

@@ -2,7 +2,7 @@
 
 ghost use Rattle.std.specs.Prelude.{◌≡◌, ◌≤◌, ◌<◌, ◌^◌, length, IfOk, false, if◌then◌else◌, Ok, Err};
 ghost use Rattle.ds_state.specs.declared.unpacker.Unpacked.TheVariants.{NoMemory, Bad};
-ghost use Rattle.ds_state.specs.Formats.{IsCodeWidth, number_code, flag_code, tick, array, signed_word, any, keeps_mask, at_most, soon};
+ghost use Rattle.ds_state.specs.Formats.{IsCodeWidth, number_code, flag_code, tick, array, signed_word, signed_half_code, any, keeps_mask, at_most, soon};
 ghost use Rattle.ds_state.specs.Reading.{GivesRead, GivesIn, GivesSome, GivesTrue, read_code, ruled};
 
 use byteorder::{ByteOrder, LittleEndian};
@@ -107,6 +107,14 @@ impl<'a> Unpacker<'a> {
         ensures { GivesRead (λ x. x) result self.new (read_code signed_word self.old) }
     {
         Ok(self.take_u32()?.cast_signed())
+    }
+
+    /// Takes a signed number of two bytes.
+    #[tactic(auto, unfolding(crate::specs::Reading::read_code))]
+    pub fn take_i16(&mut self) -> Result<i16, Unpacked>
+        ensures { GivesRead (λ x. x) result self.new (read_code signed_half_code self.old) }
+    {
+        Ok(self.take_u16()?.cast_signed())
     }
 
     /// Where the next field begins, in bytes from the first.
@@ -244,12 +252,44 @@ impl<'a> Unpacker<'a> {
         Ok(value)
     }
 
+    /// Takes a half that is no more than a number.
+    pub fn take_half_at_most(&mut self, most: u16) -> Result<u16, Unpacked>
+        ensures reads { GivesRead (λ x. x) result self.new (ruled (at_most most 0) self.old (read_code (number_code 2) self.old)) }
+        ensures most { IfOk result (λ x. x ≤ most) }
+    {
+        let offset = self.place;
+        let value = self.take_u16()?;
+        holds(value <= most, offset)?;
+        Ok(value)
+    }
+
+    /// Takes a word that is no more than a number.
+    pub fn take_word_at_most(&mut self, most: u32) -> Result<u32, Unpacked>
+        ensures reads { GivesRead (λ x. x) result self.new (ruled (at_most most 0) self.old (read_code (number_code 4) self.old)) }
+        ensures most { IfOk result (λ x. x ≤ most) }
+    {
+        let offset = self.place;
+        let value = self.take_u32()?;
+        holds(value <= most, offset)?;
+        Ok(value)
+    }
+
     /// Takes a half that has no bits but these.
     pub fn take_kept_half(&mut self, mask: u16) -> Result<u16, Unpacked>
         ensures { GivesRead (λ x. x) result self.new (ruled (keeps_mask mask 0) self.old (read_code (number_code 2) self.old)) }
     {
         let offset = self.place;
         let value = self.take_u16()?;
+        holds(value & mask == value, offset)?;
+        Ok(value)
+    }
+
+    /// Takes a word that has no bits but these.
+    pub fn take_kept_word(&mut self, mask: u32) -> Result<u32, Unpacked>
+        ensures { GivesRead (λ x. x) result self.new (ruled (keeps_mask mask 0) self.old (read_code (number_code 4) self.old)) }
+    {
+        let offset = self.place;
+        let value = self.take_u32()?;
         holds(value & mask == value, offset)?;
         Ok(value)
     }

@@ -26,4 +26,4 @@ pub use algebra::{given, identity, product, scaling, translation};
 pub use commands::GeometryCommand;
 pub use currents::{Mode, Pose, Single};
 pub use line_lanes::Matrix;
-pub use stacks::Stacks;
+pub use stacks::{Stacks, saved_laws};

@@ -9,3 +9,4 @@ pub mod SetLaws
 pub mod NibbleLemmas
 pub mod FormLemmas
 pub mod PaletteLemmas
+pub mod SavedLaws

@@ -31,6 +31,7 @@ mod colours;
 mod maps;
 mod points;
 mod rows;
+mod saved;
 mod tiles;
 mod windows;
 
@@ -42,4 +43,5 @@ pub use colours::{
 };
 pub use points::{affine_coordinate, place_within};
 pub use rows::Row;
+pub use saved::saved_laws;
 pub use tiles::{copy_eight, copy_four, flipped, unpack};

@@ -69,7 +69,7 @@ impl Units {
     }
 
     /// Whether `settle` would leave all as it is.
-    pub fn is_settled(&self) -> bool
+    pub(crate) fn find_settled(&self) -> bool
         ensures { result ≡ is_settled self.now }
     {
         self.nine.is_levelled(self.gx.level())

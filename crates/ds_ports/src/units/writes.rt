@@ -255,7 +255,7 @@ impl Units {
         ensures { result ≡ (meaning_of register).refusal proc self.now number value }
     {
         match register {
-            Register::Dmacnt => self.processor_io(proc).control_refusal(number, value),
+            Register::Dmacnt => self.processor(proc).control_refusal(number, value),
             Register::Romctrl => card_refusal(value),
             Register::Haltcnt => halt_refusal(value % 0x100),
             _ => None,

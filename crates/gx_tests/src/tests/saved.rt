@@ -16,7 +16,11 @@ fn taken(alloc: Global, bytes: &[u8], at: u64) -> Result<u32, AllocError> {
             engine.pack(&mut packer)?;
             let again = packer.finish();
             let (front, _) = some.split_at(some.len().min(again.len()));
-            Ok(if again.as_slice() == front { from.place() } else { 98 })
+            Ok(if again.as_slice() == front {
+                from.place()
+            } else {
+                98
+            })
         }
         Err(Unpacked::Bad { offset }) => Ok(offset.saturating_add(10_000)),
         Err(Unpacked::NoMemory) => Ok(97),
@@ -102,6 +106,7 @@ const FULL: [Row; 5] = [
     (4_633, 1, 191_025, 10_000, 14_633),
     (4_604, 0, 191_025, 10_000, 14_629),
 ];
+
 const SWAPPED: [Row; 4] = [
     (0, 0, 191_025, 10_000, 191_025),
     (0, 0, 191_025, 9_999, 14_637),

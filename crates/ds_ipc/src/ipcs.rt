@@ -24,8 +24,8 @@ pub struct Got {
 /// most 16, and the last word that it received.
 #[derive(Drop)]
 pub struct Ipc {
-    nine: Side,
-    seven: Side,
+    pub(crate) nine: Side,
+    pub(crate) seven: Side,
 }
 
 impl Model for Ipc {

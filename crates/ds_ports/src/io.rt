@@ -1,8 +1,8 @@
 //! The units behind the ports, with the first of them that is due and acts.
 
-ghost use Rattle.std.specs.Prelude.{◌≡◌, ◌<◌, ◌≤◌, ◌^◌, true, IfOk, IsSome, Some, length};
+ghost use Rattle.std.specs.Prelude.{◌≡◌, ◌<◌, ◌≤◌, ◌^◌, false, true, IfOk, IsSome, Some, length};
 ghost use Rattle.ds_base.specs.Schedules.{IsEarly};
-ghost use Rattle.ds_dma.specs.States.{dma_due};
+ghost use Rattle.ds_dma.specs.States.{dma_due, most_waits};
 ghost use Rattle.ds_runs.specs.Actors.{IsNumbered};
 ghost use Rattle.ds_runs.specs.declared.actors.Actor.TheVariants as actors;
 ghost use Rattle.ds_runs.specs.Order.{first_from};
@@ -10,6 +10,7 @@ ghost use Rattle.gx_geometry.specs.States.{AreListsSince};
 ghost use Rattle.vram_banks.specs.Cells.{vram_written};
 ghost use Rattle.ds_ports.specs.Acting.{acting_io_dues};
 ghost use Rattle.ds_ports.specs.Dues.{io_due};
+ghost use Rattle.ds_ports.specs.Guards.{is_overfull};
 ghost use Rattle.ds_ports.specs.Inside.{moves_dues};
 ghost use Rattle.ds_ports.specs.ProcessorIo.{before_move};
 ghost use Rattle.ds_ports.specs.Registers.{after_write, meaning_of};
@@ -153,15 +154,17 @@ impl Io {
     }
 
     /// A processor's DMA channel that is due moves its first unit at a tick, but for the access itself: the unit isn't its plan's any more,
-    /// and at its end its interrupt is raised where it is enabled. Gives what `put_back` takes this back by.
-    pub fn move_channel(&mut self, proc: Proc, now: Tick) -> Before
+    /// and at its end its interrupt is raised where it is enabled. The access waits so many ticks, which the next unit waits for. Gives what
+    /// `put_back` takes this back by.
+    pub fn move_channel(&mut self, proc: Proc, now: Tick, waits: u32) -> Before
         requires due { IsSome (dma_due (io_of self.old proc).dma) }
         requires early { IsEarly (Some now) }
-        ensures state { self.new ≡ channel_moved proc now self.old }
+        requires waits { waits ≤ most_waits }
+        ensures state { self.new ≡ channel_moved proc now waits self.old }
         ensures before { result ≡ before_move (io_of self.old proc) }
     {
         self.settled = false;
-        let before = self.units.move_channel(proc, now);
+        let before = self.units.move_channel(proc, now, waits);
         self.first = self.units.find_acting();
         before
     }
@@ -258,6 +261,7 @@ impl Io {
     )
         requires number { number < (meaning_of register).count }
         requires early { IsEarly (Some now) }
+        requires room { is_overfull proc self.old ≡ false }
         ensures { self.new ≡ after_write proc now self.old register number value }
     {
         if moves_dues(register) {
@@ -272,6 +276,7 @@ impl Io {
     fn write_moving(&mut self, proc: Proc, now: Tick, register: Register, number: u32, value: u32)
         requires number { number < (meaning_of register).count }
         requires early { IsEarly (Some now) }
+        requires room { is_overfull proc self.old ≡ false }
         ensures { self.new ≡ after_write proc now self.old register number value }
     {
         self.settled = false;

@@ -8,9 +8,10 @@
 //! `read`, `take` and `put`: what an access of any width reads and leaves at a tick, register by register in ascending order, each by its
 //! own definition; a narrower write keeps what it doesn't cover, and all else stays. A write leaves each due tick as it was, or later than
 //! its tick (clause `schedule`), where no timer of the processor is due by then and no channel of it that runs is ready by then; it leaves
-//! of geometry what no access changes (`LeavesGeometry`), and adds four entries at most to those that wait for it (`grows`). Clause
-//! `refusal`: the stop for which a write is refused, which leaves all, exactly where it would write HALTCNT's modes 1 or 3, enable a DMA
-//! channel with a start that is left out, or start a transfer of the card.
+//! of geometry what no access changes (`LeavesGeometry`), and adds four entries at most to those that wait for it (`grows`). Where there is
+//! no room for them, one of ARM9's is ignored (`guarded_written`). Clause `refusal`: the stop for which a write is refused, which leaves
+//! all, exactly where it would write HALTCNT's modes 1 or 3, enable a DMA channel with a start that is left out, or start a transfer of the
+//! card.
 //!
 //! `register_laws`: each register of the maps stands at a multiple of its width (`rows`). An access at a multiple of its width that lies in
 //! no one register goes through the registers that begin in it, each whole, in ascending address: what it reads is theirs, 0 where none is,

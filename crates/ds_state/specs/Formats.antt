@@ -112,6 +112,22 @@ abbrev pub soon : ℕ → Option ℕ → Bool
 soon at None = true
 soon at (Some due) = nat_le at due && nat_le due (at + 2 ^ 32)
 
+-- the tick of an earlier step, 0 where there was none
+abbrev pub tick_or_0 : Option ℕ → ℕ
+tick_or_0 None = 0
+tick_or_0 (Some t) = t
+
+abbrev pub tick_where : Bool → ℕ → Option ℕ
+tick_where there n = if there then Some n else None
+
+-- it is at most the tick of the state, and 0 where there was none
+abbrev pub earlier_tick : Bool → ℕ → ℕ → Bool
+earlier_tick there at n = if there then nat_le n at else n == 0
+
+-- a number that is 0 where it isn't used
+abbrev pub used_where : Bool → ℕ → ℕ → Bool
+used_where used at n = if used then true else n == 0
+
 -- a word, and a signed one, as a part of its own
 abbrev pub word_format : Format ℕ ℕ
 word_format = one_field (number_code 4) (λ w. w) any

@@ -35,7 +35,7 @@ number_of_mode (suc (suc zero)) h = refl
 number_of_mode (suc (suc (suc zero))) h = refl
 number_of_mode (suc (suc (suc (suc n)))) h = absurd (omega (arith, h))
 
-stacks_exact : (at : ℕ) → IsExact stacks_format at
+pub stacks_exact : (at : ℕ) → IsExact stacks_format at
 unfolding stacks_format
 stacks_exact at = λ mode _ small level _ _ projection_pushed _ _ texture_pushed _ _ error _ _. (
   matrix_exact at,
@@ -97,7 +97,7 @@ few_modes Position = omega arith
 few_modes PositionAndVector = omega arith
 few_modes Texture = omega arith
 
-stacks_stand : (at : ℕ) (s : StacksState) → AreStacks s → StandsFor stacks_format at s
+pub stacks_stand : (at : ℕ) (s : StacksState) → AreStacks s → StandsFor stacks_format at s
 unfolding stacks_format
 stacks_stand at s are =
     let few = few_modes s.mode in

@@ -286,7 +286,7 @@ impl Bench {
         match channel_due(&self.io, proc, channel) {
             Some(due) if due.0 <= 1 << 56 => {
                 let unit = self.io.processor(proc).unit();
-                self.before = Some(self.io.move_channel(proc, due));
+                self.before = Some(self.io.move_channel(proc, due, 0));
                 (unit.from.into(), unit.to.into(), unit.width.bytes().into())
             }
             _ => NOTHING,

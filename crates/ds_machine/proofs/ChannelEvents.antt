@@ -36,6 +36,7 @@ use Rattle.ds_machine.specs.Sound.{HasSoundParts}
 use Rattle.ds_machine.specs.States.{MachineState, ProcessorState, counts_of}
 use Rattle.ds_machine.specs.Steps.{is_blocked, is_halted, map_of, processor_of, with_map, with_processor}
 use Rattle.ds_machine.proofs.Moves.{Moves, left_after, other_held, unchanged_held, unchanged_io_dues, unchanged_io, moves_of, same_keys, then_io_dues}
+use Rattle.ds_machine.proofs.Rooms.{unit_within}
 use Rattle.ds_machine.proofs.Wakes.{halted_blocks, put_beside, put_counts, put_other, put_processor_io}
 use Rattle.video2d.specs.Videos.{VideoState}
 
@@ -198,7 +199,7 @@ module _ (proc : Proc) (channel : ℕ) (now : Tick) (unit : DmaUnit) (s : Machin
     moved_held = held_alike (other_proc proc) read taken.io moves.other moves.gx
 
   io : IsIo written.io
-  io = goes_io proc now taken.io written.io moves.io goes
+  io = goes_io proc now taken.io written.io (unit_within proc channel now unit s sound.io.gx due) moves.io goes
 
   abbrev past : ProcessorState
   past = let m = with_map proc s written in past_tick (is_halted m proc) now (processor_of m proc)

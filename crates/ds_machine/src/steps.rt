@@ -67,7 +67,8 @@ fn next_decoded<V: Side>(s: &Registers, view: &V) -> Fetched
 /// The step of an instruction that isn't decoded, where no interrupt is entered.
 #[inline(never)]
 fn take_other<V: Side>(s: &mut Registers, view: &mut V, line: bool) -> Stepped
-    requires { enters line s.old ≡ false }
+    requires none { enters line s.old ≡ false }
+    requires room { V.finds_room (V.state view.old) }
     ensures registers { s.new ≡ (side_taken V.memory V.side line s.old (V.state view.old)).registers }
     ensures state { V.state view.new ≡ (side_taken V.memory V.side line s.old (V.state view.old)).state }
     ensures stepped { result ≡ (side_taken V.memory V.side line s.old (V.state view.old)).stepped }
@@ -85,6 +86,7 @@ fn take_operation<V: Side>(s: &mut Registers, view: &mut V, line: bool, next: &O
     requires operation { next.now ≡ operation_of (fetched V.memory V.side.arch s.old (V.state view.old)).instr }
     requires fields { HasOperation next.now }
     requires known { is_other next.now.op ≡ false }
+    requires room { V.finds_room (V.state view.old) }
     ensures registers { s.new ≡ (side_taken V.memory V.side line s.old (V.state view.old)).registers }
     ensures state { V.state view.new ≡ (side_taken V.memory V.side line s.old (V.state view.old)).state }
     ensures stepped { result ≡ (side_taken V.memory V.side line s.old (V.state view.old)).stepped }
@@ -105,6 +107,7 @@ pub fn take<V: Side, const VERSION: u32>(
     line: bool,
 ) -> Stepped
     requires version { arch_of VERSION ≡ V.side.arch }
+    requires room { V.finds_room (V.state view.old) }
     ensures registers { s.new ≡ (side_taken V.memory V.side line s.old (V.state view.old)).registers }
     ensures state { V.state view.new ≡ (side_taken V.memory V.side line s.old (V.state view.old)).state }
     ensures stepped { result ≡ (side_taken V.memory V.side line s.old (V.state view.old)).stepped }
@@ -159,6 +162,7 @@ pub fn take_fast<V: Side, const VERSION: u32>(
     ahead: bool,
 ) -> Fast
     requires version { arch_of VERSION ≡ V.side.arch }
+    requires room { V.finds_room (V.state view.old) }
     ensures none { result.clocks ≡ 0 → (s.new ≡ s.old) × (V.state view.new ≡ V.state view.old) }
     ensures registers { 0 < result.clocks → s.new ≡ (side_taken V.memory V.side line s.old (V.state view.old)).registers }
     ensures state { 0 < result.clocks → V.state view.new ≡ (side_taken V.memory V.side line s.old (V.state view.old)).state }

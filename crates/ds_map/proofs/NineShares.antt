@@ -27,11 +27,11 @@ use Rattle.ds_map.specs.Shares.{IsSharedSo, SharedPart, is_private_place, is_sho
 -- ---- what stands at its addresses
 
 -- something holds at each offset into each region of a table; so it does of the place of an address
-abbrev AllHold : (Place → Type 0) → List Region → Type 0
+abbrev pub AllHold : (Place → Type 0) → List Region → Type 0
 AllHold P [] = Unit {0}
 AllHold P (r ∷ rs) = ((offset : ℕ) → P (place_at r.content offset)) × AllHold P rs
 
-by_all : (P : Place → Type 0) (rs : List Region) (at : ℕ) → P Nothing → AllHold P rs → P (place_by rs at)
+pub by_all : (P : Place → Type 0) (rs : List Region) (at : ℕ) → P Nothing → AllHold P rs → P (place_by rs at)
 by_all P [] at none all = none
 by_all P (r ∷ rs) at none all =
     either P (nat_le r.first at && nat_le at r.last) (place_at r.content (at - r.first)) (place_by rs at) (all.0 (at - r.first)) (by_all P rs at none all.1)

@@ -1,5 +1,4 @@
 use Rattle.std.proofs.Common.{ℕ, ◌≡◌, ◌<◌, ◌+◌, ◌-◌, ◌%◌, ◌==◌, Bool, true, false, ◌&&◌, nat_le, nat_lt, if◌then◌else◌, Option, Some, None, List, [], ◌∷◌, length, refl, sym, ◌∙◌, ap, subst, arith}
-use Rattle.ds_base.proofs.Choices.{either}
 use Rattle.ds_base.specs.Memories.{memory_size}
 use Rattle.ds_base.specs.Numbers.{aligned_down, width_bytes}
 use Rattle.ds_base.specs.declared.left_out.Stop.{Stop}
@@ -11,7 +10,7 @@ use Rattle.ds_base.specs.declared.memories.Width.TheVariants.{Byte, Half, Word}
 use Rattle.ds_base.specs.declared.processors.Proc.TheVariants.{Seven}
 use Rattle.ds_base.specs.declared.ticks.Tick.{Tick}
 use Rattle.ds_dma.specs.declared.channels.Unit.{Unit as DmaUnit}
-use Rattle.ds_places.specs.AddressTables.{Cells, Content, Region, place_at, place_by, place_of, regions_of_seven}
+use Rattle.ds_places.specs.AddressTables.{Cells, Content, place_at, place_of, regions_of_seven}
 use Rattle.ds_places.specs.declared.kinds.Place.{Place}
 use Rattle.ds_places.specs.declared.kinds.Place.TheVariants.{Banks, Cell, Nothing, Port, Rom}
 use Rattle.ds_ports.specs.Io.{IoState, channel_moved, with_shares}
@@ -26,8 +25,9 @@ use Rattle.vram_banks.proofs.Allotted.{value_allotted, written_allotted, written
 use Rattle.vram_banks.proofs.Mixes.{IsAll, number_other, with_number_length, with_number_other}
 use Rattle.ds_map.specs.Accesses.{after_read_at, map_fetched, map_read, map_refusal, map_value, map_written, written_at}
 use Rattle.ds_map.specs.Maps.{MapState}
-use Rattle.ds_map.specs.Moves.{map_after_unit, unit_moved, unit_read, unit_refusal, unit_taken}
+use Rattle.ds_map.specs.Moves.{unit_moved, unit_read, unit_refusal, unit_taken}
 use Rattle.ds_map.specs.Shares.{IsSharedSo, SharedPart, is_beyond_seven, is_shown_to_nine, map_put, mixed_banks, shared_put, shares_put}
+use Rattle.ds_map.proofs.NineShares.{AllHold, by_all}
 use Rattle.ds_map.proofs.Passed as passed
 use Rattle.ds_map.proofs.Passed.{BanksPass, FetchPasses, PlacePasses, PortsPass, port_passes}
 
@@ -40,15 +40,6 @@ abbrev IsPast : (ℕ → Bool) → Width → Place → Type 0
 IsPast shown width (Cell Shared at) = IsAll shown false width (aligned_down width at)
 IsPast shown width (Banks space at) = space ≡ Arm7
 IsPast shown width place = Unit {0}
-
-abbrev ArePast : (ℕ → Bool) → Width → List Region → Type 0
-ArePast shown width [] = Unit {0}
-ArePast shown width (r ∷ rs) = ((offset : ℕ) → IsPast shown width (place_at r.content offset)) × ArePast shown width rs
-
-by_regions : (shown : ℕ → Bool) (width : Width) (rs : List Region) (at : ℕ) → ArePast shown width rs → IsPast shown width (place_by rs at)
-by_regions shown width [] at h = tt
-by_regions shown width (r ∷ rs) at h =
-    either (IsPast shown width) (nat_le r.first at && nat_le at r.last) (place_at r.content (at - r.first)) (place_by rs at) (h.0 (at - r.first)) (by_regions shown width rs at h.1)
 
 -- an access lies in one half of shared work RAM
 in_first_half : (width : Width) (offset k : ℕ) → k < width_bytes width → nat_le 0x4000 (aligned_down width (0 + offset % 0x4000) + k) ≡ false
@@ -76,13 +67,13 @@ shared_past false true is_2 width offset = λ k h. in_first_half width offset k 
 shared_past false false true width offset = λ k h. in_second_half width offset k
 shared_past false false false width offset = λ k h. refl
 
-all_past : (wramcnt : ℕ) (width : Width) → ArePast (is_shown_to_nine wramcnt) width (regions_of_seven wramcnt)
+all_past : (wramcnt : ℕ) (width : Width) → AllHold (IsPast (is_shown_to_nine wramcnt) width) (regions_of_seven wramcnt)
 all_past wramcnt width =
     let shared = shared_past (wramcnt == 0) (wramcnt == 1) (wramcnt == 2) width in
     (λ offset. tt, (λ offset. tt, (shared, (λ offset. tt, (λ offset. tt, (λ offset. refl, tt))))))
 
 place_past : (wramcnt at : ℕ) (width : Width) → IsPast (is_shown_to_nine wramcnt) width (place_of Seven wramcnt at)
-place_past wramcnt at width = by_regions (is_shown_to_nine wramcnt) width (regions_of_seven wramcnt) at (all_past wramcnt width)
+place_past wramcnt at width = by_all (IsPast (is_shown_to_nine wramcnt) width) (regions_of_seven wramcnt) at tt (all_past wramcnt width)
 
 -- ---- video memory at ARM7's addresses, with other bytes of ARM9's
 
@@ -257,9 +248,6 @@ module _ (own : SharedPart) (m : MapState) (so : IsSharedSo own m.memories.share
   abbrev taken : MapState
   taken = unit_taken Seven now unit m
 
-  abbrev number : ℕ
-  number = map_value Seven now m unit.from unit.width
-
   -- taking it from the plan changes the channels alone
   taken_stays : IsSharedSo own taken.memories.shared taken.io
   taken_stays =
@@ -278,10 +266,3 @@ module _ (own : SharedPart) (m : MapState) (so : IsSharedSo own m.memories.share
   unit_moves =
       passed.unit_moves (shared_put own) (shares_put own) Seven m now unit so.wramcnt (passes_at own m so unit.from unit.width) moved taken_stays.wramcnt
       (passes_at own taken taken_stays unit.to unit.width)
-
-  after_stays : (refused : Option Stop) → (let left = map_after_unit refused Seven now unit m in IsSharedSo own left.memories.shared left.io)
-  after_stays None = written_stays own taken taken_stays now unit.to unit.width number
-  after_stays (Some stop) = read_stays own m so unit.from unit.width
-
-  pub unit_stays : IsSharedSo own (unit_moved Seven now unit m).memories.shared (unit_moved Seven now unit m).io
-  unit_stays = after_stays (unit_refusal Seven now unit m)

@@ -414,7 +414,7 @@ impl Io {
         ensures refusal { result ≡ guarded_refusal proc self.old at width value }
         ensures next { self.new ≡ guarded_written proc now self.old at width value }
     {
-        if self.units().is_overfull(proc) {
+        if self.is_overfull(proc) {
             return None;
         }
         match whole_in(width, slot_at(proc, at)) {

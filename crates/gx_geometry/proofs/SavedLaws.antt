@@ -42,9 +42,23 @@ word_exact at = λ w _ _. (refl, tt)
 
 lighting_exact : (at : ℕ) → IsExact lighting_format at
 unfolding lighting_format
-lighting_exact at = λ diffuse _ _ ambient _ _ specular _ _ emission _ _ by_table _ _.
-    (word_exact at, λ table long _. (light_exact at, λ first _. (light_exact at, λ second _. (light_exact at, λ third _. (light_exact at, λ fourth _.
-        search rules)))))
+lighting_exact at = λ diffuse _ _ ambient _ _ specular _ _ emission _ _ by_table _ _. (
+  word_exact at,
+  λ table long _. (
+    light_exact at,
+    λ first _. (
+      light_exact at,
+      λ second _. (
+        light_exact at,
+        λ third _. (
+          light_exact at,
+          λ fourth _.
+              search rules,
+        ),
+      ),
+    ),
+  ),
+)
 
 results_exact : (at : ℕ) → IsExact results_format at
 unfolding results_format
@@ -64,12 +78,32 @@ number_of_kind (suc (suc (suc (suc n)))) h = absurd (omega (arith, h))
 
 geometry_exact : (at : ℕ) → IsExact geometry_format at
 unfolding geometry_format
-geometry_exact at = (stacks_exact at, λ stacks _ overflow _ _ parameter _ _. (current_exact at, λ current _. (lighting_exact at, λ lighting _
-    kind _ small run _ _ first _ _ second _ _ third _ _. (results_exact at, λ results _ vertex_count _ _ polygon_count _ _.
-    (vertex_exact at, λ vertices long _. (polygon_exact at, λ polygons as_long _. (lists_exact at, λ last _.
-        let few : kind < 4 = grind (arith, small) in
-        let number = number_of_kind kind few in
-        search rules)))))))
+geometry_exact at = (
+  stacks_exact at,
+  λ stacks _ overflow _ _ parameter _ _. (
+    current_exact at,
+    λ current _. (
+      lighting_exact at,
+      λ lighting _
+          kind _ small run _ _ first _ _ second _ _ third _ _. (
+            results_exact at,
+            λ results _ vertex_count _ _ polygon_count _ _. (
+              vertex_exact at,
+              λ vertices long _. (
+                polygon_exact at,
+                λ polygons as_long _. (
+                  lists_exact at,
+                  λ last _.
+                      let few : kind < 4 = grind (arith, small) in
+                      let number = number_of_kind kind few in
+                      search rules,
+                ),
+              ),
+            ),
+          ),
+    ),
+  ),
+)
 
 -- numbers that have their bounds stand for themselves
 

@@ -1,7 +1,6 @@
 use Rattle.std.specs.Prelude.{ℕ, ℤ, FitsSigned, ◌≡◌, ◌<◌, ◌≤◌, ◌^◌, ◌==◌, ◌&&◌, ◌||◌, not, nat_le, Bool, true, List, [], ◌∷◌, length, pos, slice_index, slice_index_or}
 use Rattle.std.specs.Int.{w16, w32}
 use Rattle.std.specs.List.{AllByRecursion}
-use Rattle.ds_base.specs.declared.ticks.Tick.{Tick}
 use Rattle.ds_state.specs.Formats.{Format, number_code, flag_code, signed_word, signed_half_code, done, ◌>>=◌, one_field, its, each, any, at_most, word_format, signed_format}
 use Rattle.ds_state.specs.Laws.{OneSpelling, RoundTrips}
 use Rattle.gx_matrix.specs.Saved.{AreStacks, stacks_format}

@@ -9,8 +9,6 @@ ghost use Rattle.gx_geometry.specs.RecordsKept.{numbers_seen};
 
 mod saved;
 
-pub use saved::saved_laws;
-
 use crate::changes::gives_vertex;
 use crate::lists::Lists;
 use crate::numbers::{Coordinates, Kind, Light, Material, Numbers, Point};
@@ -18,6 +16,7 @@ use crate::outcomes::Outcome;
 use crate::results::Results;
 use ds_base::Tick;
 use gx_matrix::{GeometryCommand, Stacks};
+pub use saved::saved_laws;
 use std::alloc::{AllocError, Global};
 use std::marker::Model;
 

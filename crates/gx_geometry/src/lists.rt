@@ -5,11 +5,10 @@ ghost use Rattle.gx_geometry.specs.States.{Swapped, no_swap};
 
 mod saved;
 
-pub use saved::{put_polygons, put_vertices, take_polygons, take_vertices};
-
 use crate::capped::Capped;
 use crate::polygons::{Polygon, Vertex};
 use ds_base::Tick;
+pub use saved::{put_polygons, put_vertices, take_polygons, take_vertices};
 use std::alloc::{AllocError, Global};
 use std::marker::Model;
 use std::mem::swap;

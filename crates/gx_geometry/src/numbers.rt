@@ -9,10 +9,11 @@ ghost use Rattle.gx_geometry.specs.Numbers.{low_half, high_half, kind_of, point_
 
 mod saved;
 
-pub use saved::{Current, Lighting, run_kind_number, put_current, put_lighting, take_current, take_lighting};
-
 use crate::exact::wrapped_sum;
 use gx_matrix::{GeometryCommand, Stacks};
+pub use saved::{
+    Current, Lighting, put_current, put_lighting, run_kind_number, take_current, take_lighting,
+};
 
 /// The kind of the polygons that a run of vertices makes (GBATEK, BEGIN_VTXS).
 #[derive(Clone, Copy)]

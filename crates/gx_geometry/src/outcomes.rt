@@ -9,8 +9,6 @@ ghost use Rattle.gx_geometry.specs.RecordsKept.{numbers_seen};
 
 mod saved;
 
-pub use saved::{put_results, take_length, take_place, take_results};
-
 use crate::boxes::{box_test, through};
 use crate::capped::Capped;
 use crate::coordinates::vector_test;
@@ -20,6 +18,7 @@ use crate::polygons::{Polygon, Vertex, polygon_of, vertex_of};
 use crate::results::Results;
 use ds_base::Tick;
 use gx_matrix::GeometryCommand;
+pub use saved::{put_results, take_length, take_place, take_results};
 use std::alloc::{AllocError, Global};
 use std::marker::Model;
 

@@ -8,7 +8,7 @@ ghost use Rattle.gx_geometry.specs.Saved.{geometry_format, run_until, GeometryIs
 use crate::engine::Geometry;
 use crate::lists::{Lists, put_polygons, put_vertices, take_polygons, take_vertices};
 use crate::numbers::{
-    Numbers, run_kind_number, kind_of, put_current, put_lighting, take_current, take_lighting,
+    Numbers, kind_of, put_current, put_lighting, run_kind_number, take_current, take_lighting,
 };
 use crate::outcomes::{Outcome, put_results, take_length, take_place, take_results};
 use ds_base::Tick;

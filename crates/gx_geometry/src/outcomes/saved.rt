@@ -75,7 +75,9 @@ pub fn take_length(from: &mut Unpacker, recent: [u16; 3]) -> Result<u32, Unpacke
 {
     let offset = from.place();
     let long = from.take_u32()?;
-    let places = is_place(long, recent[0]) && is_place(long, recent[1]) && is_place(long, recent[2]);
+    let places = is_place(long, recent[0])
+        && is_place(long, recent[1])
+        && is_place(long, recent[2]);
     holds(long <= 6144 && places, offset)?;
     Ok(long)
 }
@@ -91,8 +93,15 @@ impl Outcome {
     ) -> Outcome
         requires limited { AreLimited vertices polygons }
         requires places { ArePlaces (length vertices) recent }
-        ensures { result ≡ record { position = results.position; vector = results.vector; inside = results.inside; vertices = vertices;
-            polygons = polygons; overflow = overflow; recent = recent } }
+        ensures { result ≡ record {
+          position = results.position;
+          vector = results.vector;
+          inside = results.inside;
+          vertices = vertices;
+          polygons = polygons;
+          overflow = overflow;
+          recent = recent;
+        } }
     {
         Outcome {
             results: Results {

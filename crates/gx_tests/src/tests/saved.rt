@@ -8,7 +8,7 @@ use std::alloc::{AllocError, Global};
 
 /// How many bytes were taken, where they are those of the engine that is taken; or 10,000 and where a field fails.
 fn taken(alloc: Global, bytes: &[u8], at: u64) -> Result<u32, AllocError> {
-    let (some, _) = bytes.split_at(bytes.len().min(0x1_0000));
+    let (some, _) = bytes.split_at(bytes.len().min(0x10_0000));
     let mut from = Unpacker::new(some);
     match Geometry::unpack(alloc, &mut from, Tick(at)) {
         Ok(engine) => {
@@ -16,16 +16,20 @@ fn taken(alloc: Global, bytes: &[u8], at: u64) -> Result<u32, AllocError> {
             engine.pack(&mut packer)?;
             let again = packer.finish();
             let (front, _) = some.split_at(some.len().min(again.len()));
-            Ok(if again.as_slice() == front { from.place() } else { 98 })
+            Ok(if again.as_slice() == front {
+                from.place()
+            } else {
+                98
+            })
         }
         Err(Unpacked::Bad { offset }) => Ok(offset.saturating_add(10_000)),
         Err(Unpacked::NoMemory) => Ok(97),
     }
 }
 
-/// A byte that is changed to another, how many bytes there are, the tick, and what comes. There are three vertices and a triangle.
+/// Three vertices and a triangle.
 #[rattlefmt::skip]
-const ROWS: [(usize, u8, usize, u64, u32); 38] = [
+const ROWS: [Row; 38] = [
     (0, 1, 4748, 100, 4748), (0, 3, 4749, 100, 4748), (0, 4, 4748, 100, 10_000), (1, 31, 4748, 100, 4748), (1, 32, 4748, 100, 10_001),
     (2, 2, 4748, 100, 10_002), (4, 1, 4748, 100, 4748), (4, 2, 4748, 100, 10_004), (4357, 2, 4748, 100, 14_357),
     // the colour, the palette's base, the table's flag, a light's colour
@@ -54,6 +58,33 @@ fn give(engine: &mut Geometry, code: u8, params: &[u32]) {
     }
 }
 
+/// A byte that is changed to another, how many bytes there are, the tick, and what comes.
+type Row = (usize, u8, usize, u64, u32);
+
+/// The first row that doesn't come so, and what came, or 0 and how many bytes the engine has and one more.
+fn wrong(alloc: Global, engine: &Geometry, rows: &[Row]) -> Result<(usize, u32), AllocError> {
+    let mut packer = Packer::new(alloc);
+    engine.pack(&mut packer)?;
+    packer.put_u8(7)?;
+    let mut bytes = packer.finish();
+    for (number, (at, byte, count, tick, wanted)) in rows.iter().enumerate() {
+        let mut kept = 0;
+        if *at < bytes.len() {
+            kept = bytes[*at];
+            bytes[*at] = *byte;
+        }
+        let (front, _) = bytes.split_at(bytes.len().min(*count));
+        let got = taken(alloc, front, *tick)?;
+        if *at < bytes.len() {
+            bytes[*at] = kept;
+        }
+        if got != *wanted {
+            return Ok((number, got));
+        }
+    }
+    Ok((rows.len(), (bytes.len() % 0x100_0000) as u32))
+}
+
 #[test]
 fn the_engine_is_taken_back_from_its_bytes(rt: HostRuntime) -> Result<(), AllocError> {
     let mut engine = Geometry::new(rt.alloc())?;
@@ -62,22 +93,39 @@ fn the_engine_is_taken_back_from_its_bytes(rt: HostRuntime) -> Result<(), AllocE
     give(&mut engine, 0x23, &[0, 0]);
     give(&mut engine, 0x23, &[0x1000, 0]);
     give(&mut engine, 0x23, &[0x1000_0000, 0]);
-    let mut packer = Packer::new(rt.alloc());
-    engine.pack(&mut packer)?;
-    packer.put_u8(7)?;
-    let mut bytes = packer.finish();
-    for (number, (at, byte, count, tick, wanted)) in ROWS.iter().enumerate() {
-        let mut kept = 0;
-        if *at < bytes.len() {
-            kept = bytes[*at];
-            bytes[*at] = *byte;
-        }
-        let (front, _) = bytes.split_at(bytes.len().min(*count));
-        let got = taken(rt.alloc(), front, *tick)?;
-        if *at < bytes.len() {
-            bytes[*at] = kept;
-        }
-        assert!(rt; bytes.len() == 4749 && got == *wanted, "row {number}: {got} of {}", bytes.len());
+    let (row, got) = wrong(rt.alloc(), &engine, &ROWS)?;
+    assert!(rt; row == ROWS.len() && got == 4749, "row {row}: {got}");
+    Ok(())
+}
+
+/// Both lists are full, one vertex more was dropped, and then they are swapped.
+const FULL: [Row; 5] = [
+    (0, 0, 191_025, 10_000, 191_025),
+    (0, 0, 191_025, 6_144, 14_592),
+    (4_629, 1, 191_025, 10_000, 14_629),
+    (4_633, 1, 191_025, 10_000, 14_633),
+    (4_604, 0, 191_025, 10_000, 14_629),
+];
+
+const SWAPPED: [Row; 4] = [
+    (0, 0, 191_025, 10_000, 191_025),
+    (0, 0, 191_025, 9_999, 14_637),
+    (4_649, 1, 191_025, 10_000, 14_649),
+    (4_653, 1, 191_025, 10_000, 14_653),
+];
+
+#[test]
+fn full_lists_are_taken_back_from_their_bytes(rt: HostRuntime) -> Result<(), AllocError> {
+    let mut engine = Geometry::new(rt.alloc())?;
+    give(&mut engine, 0x29, &[0xC0]);
+    give(&mut engine, 0x40, &[0]);
+    for _ in 0..6_145 {
+        give(&mut engine, 0x23, &[0, 0]);
     }
+    let (row, got) = wrong(rt.alloc(), &engine, &FULL)?;
+    assert!(rt; row == FULL.len() && got == 191_026, "row {row}: {got}");
+    engine.swap(Tick(10_000));
+    let (row, got) = wrong(rt.alloc(), &engine, &SWAPPED)?;
+    assert!(rt; row == SWAPPED.len() && got == 191_026, "row {row}: {got}");
     Ok(())
 }

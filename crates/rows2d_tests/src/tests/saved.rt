@@ -62,7 +62,10 @@ fn video_memory_is_taken_back_from_its_bytes(rt: HostRuntime) -> Result<(), Allo
         if *at < bytes.len() {
             bytes[*at] = kept;
         }
-        assert!(rt; bytes.len() == 671_754 && got == *wanted, "row {number}: {got}");
+        assert!(rt;
+            bytes.len() == 671_754 && got == *wanted,
+            "row {number}: {got}"
+        );
     }
     Ok(())
 }

@@ -1,11 +1,14 @@
 """make-cart: puts compiled or assembled code into a cartridge that `nds` runs.
 
-    tools/make-cart --arm9 F[@ADDR[,ENTRY]].. [--arm7 F[@ADDR[,ENTRY]]..] -o GAME.nds [--title T] [--flat]
+    tools/make-cart --arm9 F[@ADDR[,ENTRY]].. [--arm7 F[@ADDR[,ENTRY]]..] -o GAME.nds [--title T] [--flat] [--file D[=NAME]]..
 
   --arm9 F    ARM9's code: an ELF executable, a listing (docs/LISTING.md), or flat bytes as objcopy -O binary writes them, which have an
               address behind them, or --flat
   --arm7 F    ARM7's code; left out, ARM7 gets an image that halts
   --flat      what is neither an ELF file nor a listing is flat bytes, also a text or a cartridge, which otherwise are refused
+  --file D    a file that goes behind the images, by its own name in the cartridge or by NAME, which may have folders, parted by /;
+              of a folder all files, by their paths in it, below NAME where there is one. They can be found by the usual tables of names
+              and places, which the header tells
   -o GAME     the cartridge to write
   --title T   the title in the header, at most 12 ASCII characters
   --nds PATH  the program that assembles listings; left out, that of NDS_PROGRAM, or this repository's nds
@@ -25,15 +28,16 @@ import sys
 from dataclasses import dataclass
 from typing import List, Optional, Tuple
 
-from nds_tools import names
+from nds_tools import file_tables, names
 from nds_tools.elf import MAGIC, Elf
 from nds_tools.program import assembled, program
 from nds_tools.words import GOOD, Refused, Untold, Words, bytes_of, number
 
 TOOL = "make-cart"
-USAGE = "tools/make-cart --arm9 F[@ADDR[,ENTRY]].. [--arm7 F[@ADDR[,ENTRY]]..] -o GAME.nds [--title T] [--flat] [--nds PATH]"
+USAGE = "tools/make-cart --arm9 F[@ADDR[,ENTRY]].. [--arm7 F[@ADDR[,ENTRY]]..] -o GAME.nds [--title T] [--flat] [--file D[=NAME]].. [--nds PATH]"
 HEADER = 0x200
 MOST = 4_194_304
+MOST_IN_ALL = 33_554_432
 MAIN = (0x0200_0000, 0x02FF_FFFF)
 WORK = (0x037F_8000, 0x0380_FFFF)
 PLACES = ((MAIN,), (MAIN, WORK))
@@ -205,17 +209,21 @@ def check_overlap(nine: Image, seven: Image) -> None:
                 raise Refused(f"overlap: {name} and {other} take the same bytes of main memory, which repeats each 4 MiB")
 
 
-def cartridge(nine: Image, seven: Image, title: bytes) -> bytes:
-    """Returns the file: the header, and both images at multiples of 200h."""
+def cartridge(nine: Image, seven: Image, title: bytes, files: List[str]) -> bytes:
+    """Returns the file: the header, both images at multiples of 200h, and files behind them."""
     nine_at = HEADER
     seven_at = nine_at + len(nine.content) + -len(nine.content) % HEADER
     whole = bytearray(seven_at + len(seven.content))
     whole[:12] = title.ljust(12, b"\0")
     struct.pack_into("<4I", whole, 0x20, nine_at, nine.entry, nine.address, len(nine.content))
     struct.pack_into("<4I", whole, 0x30, seven_at, seven.entry, seven.address, len(seven.content))
-    struct.pack_into("<2I", whole, 0x80, len(whole), HEADER)
     whole[nine_at : nine_at + len(nine.content)] = nine.content
     whole[seven_at:] = seven.content
+    if files:
+        file_tables.add(whole, files, HEADER)
+    struct.pack_into("<2I", whole, 0x80, len(whole), HEADER)
+    if len(whole) > MOST_IN_ALL:
+        raise Refused(f"the cartridge would have {len(whole)} bytes, and has at most {MOST_IN_ALL}")
     return bytes(whole)
 
 
@@ -226,6 +234,7 @@ def main() -> int:
     words.add_argument("-o", dest="to", required=True)
     words.add_argument("--title", default="")
     words.add_argument("--flat", action="store_true")
+    words.add_argument("--file", action="append", default=[])
     words.add_argument("--nds")
     given = words.read()
     title = given.title.encode("ascii", "replace")
@@ -234,7 +243,7 @@ def main() -> int:
     nine = image(0, given.arm9, given.nds, given.flat)
     seven = image(1, given.arm7, given.nds, given.flat) if given.arm7 else Image(USUAL[1], USUAL[1], HALTS)
     check_overlap(nine, seven)
-    whole = cartridge(nine, seven, title)
+    whole = cartridge(nine, seven, title, given.file)
     if given.to == "-":
         sys.stdout.buffer.write(whole)
     else:

@@ -143,6 +143,45 @@ class MakeCart(Room):
         for words in ((f"{code}@0x2000000",), (code, "--flat"), (text, "--flat"), (whole, "--flat")):
             self.made("--arm9", *words)
 
+    def test_files_go_behind_the_images_by_the_usual_tables(self):
+        code = self.put("code.bin", BRANCH)
+        os.makedirs(f"{self.room}/data/d/e")
+        for name, content in (("a.txt", b"one"), ("d/b", b"seven"), ("d/e/c", bytes(600))):
+            self.put(f"data/{name}", content)
+        _, _, whole = self.made("--arm9", code, "--flat", "--file", "data")
+        # three folders, F000h the root, F001h d, F002h e: where each list begins, its first file, its parent (for the root how many there are)
+        head = struct.pack("<I2HI2HI2H", 24, 0, 3, 35, 1, 0xF000, 42, 2, 0xF001)
+        lists = b"\x05a.txt\x81d\x01\xf0\0" + b"\x01b\x81e\x02\xf0\0" + b"\x01c\0"
+        self.assertEqual(struct.unpack_from("<4I", whole, 0x40), (0x600, 45, 0x800, 24))
+        self.assertEqual(whole[0x600 : 0x600 + 45], head + lists)
+        self.assertEqual(struct.unpack_from("<6I", whole, 0x800), (0xA00, 0xA03, 0xC00, 0xC05, 0xE00, 0xE00 + 600))
+        self.assertEqual((whole[0xA00:0xA03], whole[0xC00:0xC05], whole[0xE00:]), (b"one", b"seven", bytes(600)))
+
+    def test_a_file_has_its_own_name_or_another_and_a_cartridge_without_files_no_tables(self):
+        code, level = self.put("code.bin", BRANCH), self.put("level.bin", b"x")
+        os.makedirs(f"{self.room}/data")
+        self.put("data/z", b"z")
+        _, _, whole = self.made("--arm9", code, "--flat", "--file", level, "--file", f"{level}=levels/1", "--file", "data=levels")
+        names, size = struct.unpack_from("<2I", whole, 0x40)
+        head = struct.pack("<I2HI2H", 16, 0, 2, 36, 1, 0xF000)
+        self.assertEqual(whole[names : names + size], head + b"\x09level.bin\x86levels\x01\xf0\0" + b"\x011\x01z\0")
+        self.assertEqual(self.made("--arm9", code, "--flat")[2][0x40:0x50], bytes(16))
+
+    def test_names_that_the_tables_cannot_have_are_refused(self):
+        code, one = self.put("code.bin", BRANCH) + "@0x2000000", self.put("one", b"1")
+        self.refused([
+            (("--arm9", code, "--file", one, "--file", f"{one}=one"), 1, "one is there twice"),
+            (("--arm9", code, "--file", f"{one}=a", "--file", f"{one}=a/b"), 1, "a/b: a is a file already"),
+            (("--arm9", code, "--file", f"{one}=a/b", "--file", f"{one}=a"), 1, "a is there twice"),
+            (("--arm9", code, "--file", f"{one}=a*"), 1, "the name a* in the cartridge"),
+            (("--arm9", code, "--file", f"{one}=a//b"), 1, "the name a//b in the cartridge"),
+            (("--arm9", code, "--file", f"{one}=../b"), 1, "the name ../b in the cartridge"),
+            (("--arm9", code, "--file", f"{one}=" + "n" * 128), 1, "1 to 127 ASCII characters"),
+            (("--arm9", code, "--file", f"{one}="), 2, "has to be FILE or FILE=NAME"),
+            (("--arm9", code, "--file", "none"), 2, "none: No such file"),
+            (("--arm9", code, "--file", self.put("big", bytes(33_554_432))), 1, "and has at most 33554432"),
+        ])  # fmt: skip
+
     def test_no_program_for_a_listing_and_help(self):
         ran = self.run_it("--arm9", self.put("a.txt", ".arm9 0x2000000\n"), "-o", "x.nds", NDS_PROGRAM="/absent")
         self.assertEqual((ran[0], ran[2]), (2, "make-cart: NDS_PROGRAM names no program: /absent\n"))

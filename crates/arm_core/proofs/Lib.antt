@@ -1,4 +1,5 @@
 pub mod Below
+pub mod Data
 pub mod Layouts
 pub mod Masks
 pub mod Places

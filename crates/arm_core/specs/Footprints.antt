@@ -1,7 +1,8 @@
-use Rattle.std.specs.Prelude.{ℕ, zero, suc, ◌≡◌, ◌<◌, ◌+◌, ◌%◌, ◌^◌, ◌↔◌, ◌⊎◌, ◌++◌, Contains, Bool, not, List, [], ◌∷◌, Option}
+use Rattle.std.specs.Prelude.{ℕ, zero, suc, ◌≡◌, ◌<◌, ◌+◌, ◌%◌, ◌^◌, ◌↔◌, ◌⊎◌, ◌++◌, Contains, Bool, true, false, not, List, [], ◌∷◌, Option}
 use Rattle.std.specs.List.{find}
 use Rattle.ds_base.specs.Accesses.{Access, Fetch, Read, Write}
 use Rattle.ds_base.specs.Numbers.{aligned_down, width_bytes}
+use Rattle.ds_base.specs.declared.memories.Width.{Width}
 use Rattle.arm_core.specs.declared.touches.Touch.{Touch}
 use Rattle.arm_core.specs.declared.touches.Touch.TheVariants.{Nothing, Span}
 
@@ -30,6 +31,32 @@ touched_bytes (Span first length) = span first length
 abbrev pub HasBytes : Touch → Type 0
 HasBytes Nothing = Unit {0}
 HasBytes (Span first length) = 0 < length
+
+-- accesses of data: they read and write at addresses that are words, and none is a fetch
+abbrev pub AreOfData : List Access → Type 0
+AreOfData [] = Unit {0}
+AreOfData (Fetch at width ∷ rest) = ⊥
+AreOfData (Read at width ∷ rest) = (at < 2 ^ 32) × AreOfData rest
+AreOfData (Write at width value ∷ rest) = (at < 2 ^ 32) × AreOfData rest
+
+abbrev pub AreReads : List Access → Type 0
+AreReads [] = Unit {0}
+AreReads (Fetch at width ∷ rest) = ⊥
+AreReads (Read at width ∷ rest) = AreReads rest
+AreReads (Write at width value ∷ rest) = ⊥
+
+abbrev pub AreWrites : List Access → Type 0
+AreWrites [] = Unit {0}
+AreWrites (Fetch at width ∷ rest) = ⊥
+AreWrites (Read at width ∷ rest) = ⊥
+AreWrites (Write at width value ∷ rest) = AreWrites rest
+
+-- they are all reads, or all writes, or a read and then a write of one place, or none
+abbrev pub AreAsTold : (reads writes : Bool) → List Access → Type 0
+AreAsTold true true accesses = (at : ℕ) × (width : Width) × (value : ℕ) × (accesses ≡ Read at width ∷ Write at width value ∷ [])
+AreAsTold true false accesses = AreReads accesses
+AreAsTold false true accesses = AreWrites accesses
+AreAsTold false false accesses = accesses ≡ []
 
 -- a touch says that there is nothing exactly where there is no access
 abbrev pub TellsNothing : Touch → List Access → Type 0

@@ -56,4 +56,4 @@ pub use shifter::{
 };
 pub use statuses::replaced;
 pub use thumb::equivalent;
-pub use touches::{Touch, access_touch, footprint, half_touch, width_by};
+pub use touches::{Reach, Touch, access_touch, footprint, half_touch, width_by};

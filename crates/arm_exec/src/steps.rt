@@ -14,33 +14,8 @@ ghost use Rattle.arm_core.specs.Steps.{enters, executed, executed_word, fetched,
 use crate::acts::{act, skip};
 use crate::exceptions::{interrupt, undefined};
 use arm_core::{Bus, Registers, Stepped, condition, equivalent, holds};
-use arm_words::{Condition, Instr, decode_arm, decode_thumb};
+use arm_words::{Instr, condition_of, decode_arm, decode_thumb};
 use ds_base::{Arch, LeftKind, Stop, Width};
-
-/// The condition of a number.
-#[inline(always)]
-fn condition_of(number: u32) -> Condition
-    requires { number < 16 }
-    ensures { result ≡ condition_of number }
-{
-    match number {
-        0 => Condition::Eq,
-        1 => Condition::Ne,
-        2 => Condition::Cs,
-        3 => Condition::Cc,
-        4 => Condition::Mi,
-        5 => Condition::Pl,
-        6 => Condition::Vs,
-        7 => Condition::Vc,
-        8 => Condition::Hi,
-        9 => Condition::Ls,
-        10 => Condition::Ge,
-        11 => Condition::Lt,
-        12 => Condition::Gt,
-        13 => Condition::Le,
-        _ => Condition::Al,
-    }
-}
 
 /// The stop that a call of the boot ROM's function of a number needs, where it has none (GBATEK, "BIOS Functions"; our choice of those
 /// that there are).

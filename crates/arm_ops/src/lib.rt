@@ -27,4 +27,4 @@ mod running;
 pub use making::operation;
 pub use operations::{DataAccess, Number, Op, Operation, ShiftedRegister, Transfer, TransferOp};
 pub use reaching::{access_made, is_other, run_anywhere, run_made, touched};
-pub use running::{Near, run};
+pub use running::{Near, loads, run};

@@ -40,7 +40,7 @@ pub trait Near {
 
 /// Whether a kind of access loads.
 #[inline(always)]
-fn loads(op: TransferOp) -> bool
+pub fn loads(op: TransferOp) -> bool
     ensures { result ≡ loads op }
 {
     match op {

@@ -102,7 +102,7 @@ pub fn byte(word: u32) -> u8
     (word & 0xFF) as u8
 }
 
-/// The condition of a number below 15.
+/// The condition of a number below 15; of any other, always (ARM manual, A3.2 "The condition field").
 pub fn condition(number: u32) -> Condition
     ensures { result ≡ condition_of number }
 {

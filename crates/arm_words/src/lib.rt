@@ -27,6 +27,7 @@ mod thumb;
 
 pub use arm::decode_arm;
 pub use canonicals::{canonical, decode};
+pub use fields::condition as condition_of;
 pub use instructions::Instr;
 pub use operations::{
     CompareOp, DataOp, HalfOp, HighOp, MoveOp, ThumbDataOp, ThumbImmediateOp, ThumbTransferOp,

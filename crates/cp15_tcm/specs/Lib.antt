@@ -1,3 +1,4 @@
 pub mod Registers
+pub mod Saved
 pub mod TightlyCoupled
 pub mod Windows

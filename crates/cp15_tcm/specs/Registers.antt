@@ -79,6 +79,12 @@ dtcm_mask = 0xFFFFF03E
 abbrev pub itcm_mask : ℕ
 itcm_mask = 0x0000003E
 
+-- what holds of them at every time: they have the bits that are kept alone, and the control register the ones that it always has
+pub record IsCp15 (s : Cp15State) : Type 0 where
+  pub control : bit_or (bit_and s.control control_mask) control_ones ≡ s.control
+  pub dtcm : bit_and s.dtcm dtcm_mask ≡ s.dtcm
+  pub itcm : bit_and s.itcm itcm_mask ≡ s.itcm
+
 -- a write that asks for big-endian mode, bit 7 of the control register, is refused
 abbrev pub asks_big_endian : Cp15Register → ℕ → Bool
 asks_big_endian Control value = bit 7 value

@@ -1,12 +1,15 @@
 //! CP15.
 
 ghost use Rattle.std.specs.Prelude.{◌≡◌, ◌<◌};
-ghost use Rattle.cp15_tcm.specs.Registers.{Cp15State, cp15_at_boot, register_of, register_read, vectors_of, Writes};
+ghost use Rattle.cp15_tcm.specs.Registers.{Cp15State, IsCp15, cp15_at_boot, register_of, register_read, vectors_of, Writes};
 ghost use Rattle.cp15_tcm.specs.TightlyCoupled.{tcm_of};
+
+mod saved;
 
 use crate::answers::{Mcr, Tcm};
 use crate::windows::Windows;
 use ds_base::{DTCM_BYTES, ITCM_BYTES, LeftKind, Stop};
+pub use saved::saved_laws;
 use std::marker::Model;
 
 /// The control register's bits that are kept.
@@ -29,7 +32,7 @@ pub struct Cp15 {
 
 impl Model for Cp15 {
     ghost use Rattle.std.specs.Prelude.{◌≡◌};
-    ghost use Rattle.cp15_tcm.specs.Registers.{Cp15State};
+    ghost use Rattle.cp15_tcm.specs.Registers.{Cp15State, IsCp15};
     ghost use Rattle.cp15_tcm.specs.Windows.{windows_of};
 
     ghost Value = { Cp15State };
@@ -38,11 +41,13 @@ impl Model for Cp15 {
 
     ghost inverse = { λ s. record { control = s.control; dtcm = s.dtcm; itcm = s.itcm; windows = windows_of s } };
 
-    ghost invariant = { λ c. c.windows ≡ windows_of (record { control = c.control; dtcm = c.dtcm; itcm = c.itcm }) };
+    ghost invariant = { λ c. (c.windows ≡ windows_of (record { control = c.control; dtcm = c.dtcm; itcm = c.itcm }))
+        × IsCp15 (record { control = c.control; dtcm = c.dtcm; itcm = c.itcm }) };
 }
 
 impl Cp15 {
     fn made(control: u32, dtcm: u32, itcm: u32) -> Cp15
+        requires { IsCp15 (record { control = control; dtcm = dtcm; itcm = itcm }) }
         ensures { result ≡ record { control = control; dtcm = dtcm; itcm = itcm } }
     {
         Cp15 {
@@ -77,6 +82,7 @@ impl Cp15 {
 
     /// MCR writes the register of these codes: it takes the bits that it keeps. Halt comes exactly for the wait for an interrupt
     /// (c7,c0,4); Left exactly where bit 7 of the control register, big-endian mode, would be set, and then nothing changes.
+    #[tactic(auto, using(crate::proofs::Kept::dtcm_kept, crate::proofs::Kept::itcm_kept))]
     pub fn mcr(&mut self, op1: u8, crn: u8, crm: u8, op2: u8, value: u32) -> Mcr
         ensures { Writes (register_of op1 crn crm op2) value self.old result self.new }
     {
@@ -95,6 +101,7 @@ impl Cp15 {
         }
     }
 
+    #[tactic(auto, using(crate::proofs::Kept::control_kept))]
     fn set_control(&mut self, value: u32) -> Mcr
         ensures { Writes (register_of 0 1 0 0) value self.old result self.new }
     {
@@ -133,6 +140,13 @@ impl Cp15 {
             return Tcm::Dtcm(offset % DTCM_BYTES as u32);
         }
         Tcm::Past
+    }
+
+    /// Does nothing; its contract states what holds of CP15 at every time: its registers have only the bits that they keep.
+    pub fn laws(&self)
+        ensures { IsCp15 self.now }
+    {
+        let _control = self.control;
     }
 
     /// The base of the exception vectors: FFFF0000h where the control register has high vectors, and otherwise 0.

@@ -5,7 +5,8 @@
 //! Proved, for every state: `mrc` reads exactly the register of its codes in the table, 0 where there is none. `mcr` (`Writes`): the
 //! register takes exactly the bits that it keeps and nothing else changes; Halt comes exactly for c7,c0,4, Left exactly for bit 7 of the
 //! control register, with the value, and then nothing changes. `tcm_place` is exactly the place of an address: ITCM first, then DTCM, which
-//! fetches don't see, by both load modes. `vectors` is the base of the exception vectors. No call takes memory.
+//! fetches don't see, by both load modes. `vectors` is the base of the exception vectors. `laws`: registers have only the bits that they keep.
+//! `pack`, `unpack`, `saved_laws`: CP15 in bytes; nothing else takes memory.
 //!
 //! Only tested, in `units_tests`: the table's values, and places at the edges of both memories, by rows worked from the manual.
 #![tactic(auto)]
@@ -15,4 +16,4 @@ mod coprocessors;
 mod windows;
 
 pub use answers::{Mcr, Tcm};
-pub use coprocessors::Cp15;
+pub use coprocessors::{Cp15, saved_laws};

@@ -1,4 +1,4 @@
-use Rattle.std.specs.Prelude.{ℕ, ◌+◌, ◌-◌, ◌*◌, ◌/◌, ◌%◌, List, replicate, slice_index, slice_set}
+use Rattle.std.specs.Prelude.{ℕ, ◌+◌, ◌-◌, ◌*◌, ◌/◌, ◌%◌, ◌&&◌, nat_le, nat_lt, Bool, List, replicate, slice_index, slice_set}
 use Rattle.ds_base.specs.declared.memories.Width.{Width}
 use Rattle.ds_base.specs.declared.memories.Width.TheVariants.{Byte, Half, Word}
 
@@ -18,6 +18,10 @@ width_bytes Word = 4
 -- an address or a place, aligned down to an access's width
 abbrev pub aligned_down : Width → ℕ → ℕ
 aligned_down width at = at - at % width_bytes width
+
+-- one of so many bytes from a place on
+abbrev pub is_within : ℕ → ℕ → ℕ → Bool
+is_within first bytes at = nat_le first at && nat_lt at (first + bytes)
 
 -- a number, cut to an access's width
 abbrev pub cut_to : Width → ℕ → ℕ

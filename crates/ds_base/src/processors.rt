@@ -1,7 +1,7 @@
 //! The two processors.
 
 ghost use Rattle.std.specs.Prelude.{◌≡◌};
-ghost use Rattle.ds_base.specs.Processors.{architecture_of, ticks_per_clock};
+ghost use Rattle.ds_base.specs.Processors.{architecture_of, raised_at, ticks_per_clock};
 
 /// One of the console's two processors (GBATEK, "NDS Overview"). It also names the processor's side of what both share.
 #[derive(Clone, Copy, PartialEq, Eq, Debug)]
@@ -52,4 +52,23 @@ pub struct Raised {
     pub nine: u32,
     /// The bits raised in ARM7's IF.
     pub seven: u32,
+}
+
+impl Raised {
+    /// Bits raised at one processor alone.
+    #[inline(always)]
+    pub const fn at(proc: Proc, bits: u32) -> Raised
+        ensures { result ≡ raised_at proc bits }
+    {
+        match proc {
+            Proc::Nine => Raised {
+                nine: bits,
+                seven: 0,
+            },
+            Proc::Seven => Raised {
+                nine: 0,
+                seven: bits,
+            },
+        }
+    }
 }

@@ -1,6 +1,6 @@
-use Rattle.std.specs.Prelude.{ℕ, ◌+◌, ◌-◌, ◌*◌, ◌/◌, ◌%◌, ◌^◌, ◌==◌, ◌&&◌, nat_le, nat_lt, if◌then◌else◌, Bool, List, length, slice_index_or, slice_set}
+use Rattle.std.specs.Prelude.{ℕ, ◌+◌, ◌-◌, ◌*◌, ◌/◌, ◌%◌, ◌^◌, ◌==◌, ◌&&◌, if◌then◌else◌, Bool, List, length, slice_index_or, slice_set}
 use Rattle.ds_base.specs.Bits.{bit, bits, flag}
-use Rattle.ds_base.specs.Numbers.{number_at, put_by, width_bytes}
+use Rattle.ds_base.specs.Numbers.{is_within, number_at, put_by, width_bytes}
 use Rattle.ds_base.specs.declared.memories.Width.{Width}
 use Rattle.ds_base.specs.declared.memories.Width.TheVariants.{Word}
 
@@ -19,13 +19,9 @@ command_at = 0x1A8
 abbrev pub data_port_at : ℕ
 data_port_at = 0x100010
 
--- whether a place is one of the bytes of a port that begins at an offset
-abbrev pub is_byte_of : ℕ → ℕ → ℕ → Bool
-is_byte_of base count place = nat_le base place && nat_lt place (base + count)
-
 -- one byte of a port
 abbrev pub with_byte : ℕ → ℕ → ℕ → List ℕ → List ℕ
-with_byte base place byte port = if is_byte_of base (length port) place then slice_set port (place - base) byte else port
+with_byte base place byte port = if is_within base (length port) place then slice_set port (place - base) byte else port
 
 -- the bytes of a port after an access wrote those of it that it covers
 abbrev pub overwritten : ℕ → List ℕ → Width → ℕ → ℕ → List ℕ
@@ -45,7 +41,7 @@ shown_romctrl port ready busy =
 
 -- a write starts a transfer where it covers ROMCTRL's top byte and sets bit 31
 abbrev pub starts_at : Width → ℕ → List ℕ → Bool
-starts_at width at port = is_byte_of at (width_bytes width) (romctrl_at + 3) && bit 31 (number_at Word port 0)
+starts_at width at port = is_within at (width_bytes width) (romctrl_at + 3) && bit 31 (number_at Word port 0)
 
 -- how many words a transfer has, by ROMCTRL bits 24 to 26: none for 0, 100h << n bytes for n from 1 to 6, and four bytes for 7
 -- (GBATEK, "ROMCTRL")

@@ -1,7 +1,8 @@
 use Rattle.std.specs.Prelude.{ℕ, ◌≡◌, ◌⊎◌, ◌<◌, ◌+◌, ◌-◌, ◌*◌, ◌%◌, ◌==◌, ◌&&◌, ◌||◌, not, nat_lt, if◌then◌else◌, Bool, true, false, List, length, replicate, slice_index_or, Option, Some, None, is_some}
 use Rattle.ds_base.specs.Bits.{bit}
 use Rattle.ds_base.specs.Interrupts.{interrupt_bit}
-use Rattle.ds_base.specs.Numbers.{aligned_down, number_at, value_by}
+use Rattle.ds_base.specs.Numbers.{aligned_down, is_within, number_at, value_by}
+use Rattle.ds_base.specs.Processors.{raised_at}
 use Rattle.ds_base.specs.declared.interrupts.Interrupt.TheVariants as interrupts
 use Rattle.ds_base.specs.declared.left_out.LeftKind.TheVariants as kinds
 use Rattle.ds_base.specs.declared.left_out.Stop.{Stop}
@@ -11,7 +12,7 @@ use Rattle.ds_base.specs.declared.processors.Proc.{Proc}
 use Rattle.ds_base.specs.declared.processors.Proc.TheVariants.{Nine, Seven}
 use Rattle.ds_base.specs.declared.processors.Raised.{Raised}
 use Rattle.ds_base.specs.declared.ticks.Tick.{Tick}
-use Rattle.ds_card.specs.CardPorts.{auxspicnt_at, block_words, command_at, data_port_at, is_byte_of, kept_auxspicnt, kept_romctrl, overwritten, romctrl_at, shown_romctrl, starts_at}
+use Rattle.ds_card.specs.CardPorts.{auxspicnt_at, block_words, command_at, data_port_at, kept_auxspicnt, kept_romctrl, overwritten, romctrl_at, shown_romctrl, starts_at}
 use Rattle.ds_card.specs.declared.cards.NextWord.{NextWord}
 use Rattle.ds_card.specs.declared.cards.NextWord.TheVariants.{Due, Ready}
 use Rattle.ds_card.specs.declared.cards.Transfer.{Transfer}
@@ -120,10 +121,6 @@ card_written s proc at width value now =
 abbrev pub end_interrupt : CardState → Proc → ℕ
 end_interrupt s starter = if bit 14 (number_at Half (auxspicnt_of s starter) 0) then interrupt_bit interrupts.CardTransfer else 0
 
-abbrev pub raised_on : Proc → ℕ → Raised
-raised_on Nine bits = record { nine = bits; seven = 0 }
-raised_on Seven bits = record { nine = 0; seven = bits }
-
 abbrev pub none_raised : Raised
 none_raised = record { nine = 0; seven = 0 }
 
@@ -160,7 +157,7 @@ event_readies s = not (block_words s.romctrl == 0)
 
 abbrev pub ended_on : CardState → Option Transfer → Raised
 ended_on s None = none_raised
-ended_on s (Some t) = raised_on t.starter (end_interrupt s t.starter)
+ended_on s (Some t) = raised_at t.starter (end_interrupt s t.starter)
 
 abbrev pub event_raised : CardState → Raised
 event_raised s = if event_readies s then none_raised else ended_on s s.transfer
@@ -196,9 +193,9 @@ is_ready (Some t) = is_some (ready_word t.next)
 -- what a byte of its ports shows; the data port alone shows nothing by bytes
 abbrev pub card_byte : CardState → Proc → ℕ → ℕ
 card_byte s proc place =
-    if is_byte_of auxspicnt_at 2 place then slice_index_or (auxspicnt_of s proc) (place - auxspicnt_at) 0
-    else if is_byte_of romctrl_at 4 place then slice_index_or (shown_romctrl s.romctrl (is_ready s.transfer) (is_busy s)) (place - romctrl_at) 0
-    else if is_byte_of command_at 8 place then slice_index_or s.command (place - command_at) 0
+    if is_within auxspicnt_at 2 place then slice_index_or (auxspicnt_of s proc) (place - auxspicnt_at) 0
+    else if is_within romctrl_at 4 place then slice_index_or (shown_romctrl s.romctrl (is_ready s.transfer) (is_busy s)) (place - romctrl_at) 0
+    else if is_within command_at 8 place then slice_index_or s.command (place - command_at) 0
     else 0
 
 abbrev pub value_or : Option ℕ → ℕ → ℕ
@@ -223,7 +220,7 @@ card_after_read s proc at width now = if is_some (card_taken s proc at width) th
 
 abbrev pub last_raised : CardState → Option Transfer → Raised
 last_raised s None = none_raised
-last_raised s (Some t) = if is_last_word s t.taken then raised_on t.starter (end_interrupt s t.starter) else none_raised
+last_raised s (Some t) = if is_last_word s t.taken then raised_at t.starter (end_interrupt s t.starter) else none_raised
 
 abbrev pub read_raised : CardState → Proc → ℕ → Width → Raised
 read_raised s proc at width = if is_some (card_taken s proc at width) then last_raised s s.transfer else none_raised

@@ -1,10 +1,11 @@
 //! The card, and the calls of its users.
 
 ghost use Rattle.std.specs.Prelude.{◌≡◌, ◌≤◌, ◌+◌, ◌^◌, IsSome, Some, None, slice_index_or};
+ghost use Rattle.ds_base.specs.Processors.{raised_at};
 ghost use Rattle.ds_base.specs.Schedules.{IsEarly, Reschedules};
 ghost use Rattle.ds_base.specs.Numbers.{value_by, width_bytes};
 ghost use Rattle.ds_card.specs.CardPorts.{auxspicnt_at, kept_auxspicnt, overwritten};
-ghost use Rattle.ds_card.specs.Cards.{IsCard, IsTaking, card_at_boot, start_refusal, card_written, card_value, card_after_read, card_byte, card_word, read_raised, card_due, card_starter, card_after_event, next_word_after, end_interrupt, event_readies, event_raised, is_known, is_ready, last_raised, none_raised, ports_written, raised_on, taken_by};
+ghost use Rattle.ds_card.specs.Cards.{IsCard, IsTaking, card_at_boot, start_refusal, card_written, card_value, card_after_read, card_byte, card_word, read_raised, card_due, card_starter, card_after_event, next_word_after, end_interrupt, event_readies, event_raised, is_known, is_ready, last_raised, none_raised, ports_written, taken_by};
 
 use crate::ports;
 use ds_base::{Interrupt, LeftKind, Proc, Raised, Stop, Tick, Width};
@@ -227,7 +228,7 @@ impl Card {
     }
 
     fn end_raised(&self, starter: Proc) -> Raised
-        ensures { result ≡ raised_on starter (end_interrupt self.now starter) }
+        ensures { result ≡ raised_at starter (end_interrupt self.now starter) }
     {
         let port = match starter {
             Proc::Nine => &self.nine,
@@ -238,7 +239,7 @@ impl Card {
         } else {
             0
         };
-        raised_at(starter, bits)
+        Raised::at(starter, bits)
     }
 
     /// Takes the word that is ready.
@@ -340,21 +341,6 @@ fn none_raised() -> Raised
     ensures { result ≡ none_raised }
 {
     Raised { nine: 0, seven: 0 }
-}
-
-fn raised_at(starter: Proc, bits: u32) -> Raised
-    ensures { result ≡ raised_on starter bits }
-{
-    match starter {
-        Proc::Nine => Raised {
-            nine: bits,
-            seven: 0,
-        },
-        Proc::Seven => Raised {
-            nine: 0,
-            seven: bits,
-        },
-    }
 }
 
 fn file_byte(file: &[u8], place: u64) -> u32

@@ -4,12 +4,13 @@ use Rattle.ds_base.specs.Schedules.{IsEarly}
 use Rattle.ds_base.specs.declared.processors.Proc.{Proc}
 use Rattle.ds_base.specs.declared.ticks.Tick.{Tick}
 use Rattle.ds_base.proofs.Choices.{either_by}
+use Rattle.ds_dma.specs.declared.channels.LastUnit.{LastUnit}
 use Rattle.ds_dma.specs.declared.controls.Cause.{Cause}
 use Rattle.ds_dma.specs.declared.controls.DmaPort.{DmaPort}
 use Rattle.ds_dma.specs.declared.controls.DmaPort.TheVariants.{Source, Target, Control}
 use Rattle.ds_dma.specs.Controls.{kept_channel_control, is_enabled, is_armed_again, starts_immediately}
 use Rattle.ds_dma.specs.Channels.{ChannelState, channel_controlled, channel_set, is_triggered, triggered, is_last_unit, is_last_of_burst, after_unit}
-use Rattle.ds_dma.specs.States.{DmaState, HasEarlyTicks, channel_at}
+use Rattle.ds_dma.specs.States.{DmaState, HasEarlyTicks, channel_at, last_tick}
 use Rattle.ds_dma.proofs.Fours.{at_mapped, set_holds}
 
 -- a tick that is early, where there is one
@@ -45,8 +46,8 @@ taken_early proc which c was =
     either_by P (not (is_last_unit c)) _ _ (λ e. either_by P (is_last_of_burst c) _ _ (λ f. tt) (λ f. was)) (λ e. either_by P (is_armed_again proc c.cnt) _ _ (λ f. tt) (λ f. tt))
 
 -- with another channel in one place and another last unit, both early, all are early still
-pub early_set : (s : DmaState) (which : ℕ) (c : ChannelState) (last : Option Tick) → length s.channels ≡ 4 → HasEarlyTicks s → which < 4 → IsEarly c.trigger
-    → IsEarly last → HasEarlyTicks (record s { channels = slice_set s.channels which c; last = last })
+pub early_set : (s : DmaState) (which : ℕ) (c : ChannelState) (last : Option LastUnit) → length s.channels ≡ 4 → HasEarlyTicks s → which < 4
+    → IsEarly c.trigger → IsEarly (last_tick last) → HasEarlyTicks (record s { channels = slice_set s.channels which c; last = last })
 early_set s which c last four was l put early = record {
   trigger = λ i m. set_holds (λ x. IsEarly x.trigger) s.channels which c four l put i (was.trigger i m);
   last = early;

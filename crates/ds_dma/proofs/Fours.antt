@@ -1,9 +1,9 @@
 use Rattle.std.proofs.Common.{ℕ, ◌≡◌, ◌<◌, inl, inr, List, [], ◌∷◌, length, map, slice_set, refl, sym, ◌∙◌, subst, arith, get_or-set_same, get_or-set_other, length-set, Option}
 use Rattle.std.proofs.lemmas.List.{get_or-map, length-map}
-use Rattle.ds_base.specs.declared.ticks.Tick.{Tick}
 use Rattle.ds_base.proofs.Choices.{same_or_not}
+use Rattle.ds_dma.specs.declared.channels.LastUnit.{LastUnit}
 use Rattle.ds_dma.specs.Channels.{ChannelState, IsChannel}
-use Rattle.ds_dma.specs.States.{DmaState, IsDma, channel_at}
+use Rattle.ds_dma.specs.States.{DmaState, IsDma, WaitsBriefly, channel_at}
 
 -- four are these four
 pub four_are : (channels : List ChannelState) → length channels ≡ 4
@@ -27,14 +27,15 @@ set_holds P channels which c h l put each old = elim (same_or_not each which) [
 ]
 
 -- with another channel in one place they are the channels still
-pub are_set : (s : DmaState) (which : ℕ) (c : ChannelState) (last : Option Tick) → IsDma s → which < 4 → IsChannel s.proc which c
-    → IsDma (record s { channels = slice_set s.channels which c; last = last })
-are_set s which c last h l p = record {
+pub are_set : (s : DmaState) (which : ℕ) (c : ChannelState) (last : Option LastUnit) → IsDma s → which < 4 → IsChannel s.proc which c
+    → WaitsBriefly last → IsDma (record s { channels = slice_set s.channels which c; last = last })
+are_set s which c last h l p brief = record {
   four = length-set s.channels which c ∙ h.four;
   each = λ i m. elim (same_or_not i which) [
     | inl e ↦ subst (λ n. IsChannel s.proc n (channel_at (slice_set s.channels which c) n)) (sym e) (subst (IsChannel s.proc which) (sym (set_same s.channels which c h.four l)) p)
     | inr ne ↦ rw get_or-set_other (h.each i m)
   ];
+  last = brief;
 }
 
 -- what is done to each is done to one
@@ -48,4 +49,5 @@ pub mapped_is : (s : DmaState) (f : ChannelState → ChannelState) → ((which :
 mapped_is s f keeps h = record {
   four = length-map s.channels f ∙ h.four;
   each = λ which l. subst (IsChannel s.proc which) (sym (at_mapped f s.channels which h.four l)) (keeps which (channel_at s.channels which) (h.each which l));
+  last = h.last;
 }

@@ -1,4 +1,6 @@
+pub mod Made
 pub mod Plans
+pub mod SavedLaws
 pub mod Kept
 pub mod Fours
 pub mod Early

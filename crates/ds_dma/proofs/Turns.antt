@@ -1,10 +1,11 @@
-use Rattle.std.proofs.Common.{ℕ, ◌≡◌, ◌<◌, ◌≤◌, inl, inr, List, map, slice_set, refl, sym, ◌∙◌, subst, ap, arith, Bool, true, false, Option, Some, None}
+use Rattle.std.proofs.Common.{ℕ, ◌≡◌, ◌<◌, ◌≤◌, ◌+◌, inl, inr, List, map, slice_set, refl, sym, ◌∙◌, subst, ap, arith, Bool, true, false, Option, Some, None}
 use Rattle.std.specs.Prelude.{◌==◌, if◌then◌else◌, is_some, IsSome}
 use Rattle.std.proofs.Math.Nat.{le-max_left, le-max_right}
 use Rattle.ds_base.specs.Schedules.{IsLater, Reschedules}
 use Rattle.ds_base.specs.declared.processors.Proc.{Proc}
 use Rattle.ds_base.specs.declared.ticks.Tick.{Tick}
 use Rattle.ds_base.proofs.Choices.{either_by, never, equal, is_equal, if_true, if_false}
+use Rattle.ds_dma.specs.declared.channels.LastUnit.{LastUnit}
 use Rattle.ds_dma.specs.declared.controls.Cause.{Cause}
 use Rattle.ds_dma.specs.declared.controls.DmaPort.{DmaPort}
 use Rattle.ds_dma.specs.declared.controls.DmaPort.TheVariants.{Source, Target, Control}
@@ -15,25 +16,25 @@ use Rattle.ds_dma.proofs.Kept.{runs_on}
 use Rattle.ds_dma.proofs.Fours.{set_holds, at_mapped}
 
 -- a channel that is triggered at a tick is ready later
-triggered_later : (last : Option Tick) (now : Tick) → IsLater now (ready_by last (Some now))
+triggered_later : (last : Option LastUnit) (now : Tick) → IsLater now (ready_by last (Some now))
 triggered_later None now = omega arith
-triggered_later (Some last) now = omega (arith, le-max_left now.0 last.0)
+triggered_later (Some last) now = omega (arith, le-max_left now.0 (last.tick.0 + last.waits))
 
 -- after a unit at a tick each channel is ready later
-pub later_after_unit : (now : Tick) (trigger : Option Tick) → IsLater now (ready_by (Some now) trigger)
-later_after_unit now None = tt
-later_after_unit now (Some trigger) = omega (arith, le-max_right trigger.0 now.0)
+pub later_after_unit : (now : Tick) (waits : ℕ) (trigger : Option Tick) → IsLater now (ready_by (Some (record { tick = now; waits = waits })) trigger)
+later_after_unit now waits None = tt
+later_after_unit now waits (Some trigger) = omega (arith, le-max_right trigger.0 (now.0 + waits))
 
 -- where all are ready later, none is due by that tick
 pub all_later : (now : Tick) (s : DmaState) (old : Option Tick) → AreReadyLater now s → (each : ℕ) → each < 4 → Reschedules now old (channel_due s each)
 all_later now s old later each l =
     inr (either_by (IsLater now) (each == least_running s.channels) _ _ (λ e. later each l) (λ e. tt))
 
-pub finished_later : (s : DmaState) (now : Tick) → AreReadyLater now (dma_finished s now)
-finished_later s now = λ which l. later_after_unit now (channel_at (dma_finished s now).channels which).trigger
+pub finished_later : (s : DmaState) (now : Tick) (waits : ℕ) → AreReadyLater now (dma_finished s now waits)
+finished_later s now waits = λ which l. later_after_unit now waits (channel_at (dma_finished s now waits).channels which).trigger
 
 -- a write leaves a channel ready as it was, or later
-controlled_later : (proc : Proc) (which : ℕ) (c : ChannelState) (control : ℕ) (now : Tick) (last : Option Tick) → IsLater now (ready last c)
+controlled_later : (proc : Proc) (which : ℕ) (c : ChannelState) (control : ℕ) (now : Tick) (last : Option LastUnit) → IsLater now (ready last c)
     → IsLater now (ready last (channel_controlled proc which c control now))
 controlled_later proc which c control now last h =
     let P : ChannelState → Type 0 = λ x. IsLater now (ready last x) in
@@ -42,7 +43,7 @@ controlled_later proc which c control now last h =
     (λ was. either_by (λ o. IsLater now (ready_by last o)) (starts_immediately proc control) _ _ (λ e. triggered_later last now) (λ e. tt)))
     (λ off. tt)
 
-set_later : (proc : Proc) (which : ℕ) (port : DmaPort) (value : ℕ) (now : Tick) (c : ChannelState) (last : Option Tick) → IsLater now (ready last c)
+set_later : (proc : Proc) (which : ℕ) (port : DmaPort) (value : ℕ) (now : Tick) (c : ChannelState) (last : Option LastUnit) → IsLater now (ready last c)
     → IsLater now (ready last (channel_set proc which port value now c))
 set_later proc which Source value now c last h = h
 set_later proc which Target value now c last h = h
@@ -55,7 +56,7 @@ written_later s which port value now is l later = λ each m.
     (set_later s.proc which port value now (channel_at s.channels which) s.last (later which l)) each (later each m)
 
 -- and so does an event
-one_triggered : (proc : Proc) (cause : Cause) (now : Tick) (c : ChannelState) (last : Option Tick) → IsLater now (ready last c)
+one_triggered : (proc : Proc) (cause : Cause) (now : Tick) (c : ChannelState) (last : Option LastUnit) → IsLater now (ready last c)
     → IsLater now (ready last (triggered proc cause now c))
 one_triggered proc cause now c last h =
     either_by (λ x. IsLater now (ready last x)) (is_triggered proc cause c) _ _ (λ e. triggered_later last now) (λ e. h)
@@ -128,7 +129,7 @@ least_below channels =
     (λ e. either_by P (is_running (channel_at channels 1)) _ _ (λ f. omega arith)
     (λ f. either_by P (is_running (channel_at channels 2)) _ _ (λ g. omega arith) (λ g. omega arith)))
 
-due_runs : (which : ℕ) (last trigger : Option Tick) → IsSome (due_with which (ready_by last trigger)) → is_some trigger ≡ true
+due_runs : (which : ℕ) (last : Option LastUnit) (trigger : Option Tick) → IsSome (due_with which (ready_by last trigger)) → is_some trigger ≡ true
 due_runs which last None h = never false h refl
 due_runs which last (Some trigger) h = refl
 

@@ -1,4 +1,4 @@
-use Rattle.std.proofs.Common.{ℕ, ◌≡◌, ◌<◌, [], ◌∷◌, length, map, refl, sym, ◌∙◌, ap, arith, Bool, true, false, Option, Some, None}
+use Rattle.std.proofs.Common.{ℕ, ◌≡◌, ◌<◌, ◌≤◌, [], ◌∷◌, length, map, refl, sym, ◌∙◌, ap, arith, Bool, true, false, Option, Some, None}
 use Rattle.std.specs.Prelude.{◌||◌, ◌&&◌, IsSome}
 use Rattle.ds_base.specs.declared.left_out.Stop.{Stop}
 use Rattle.ds_base.specs.declared.processors.Proc.{Proc}
@@ -9,7 +9,7 @@ use Rattle.ds_dma.specs.declared.controls.Cause.TheVariants.{Geometry}
 use Rattle.ds_dma.specs.declared.controls.DmaPort.{DmaPort}
 use Rattle.ds_dma.specs.Controls.{is_enabled, waits_for}
 use Rattle.ds_dma.specs.Channels.{ChannelState, channel_refusal, channel_set, is_running, is_triggered, after_unit, triggered}
-use Rattle.ds_dma.specs.States.{DmaState, IsDma, AreReadyLater, any_runs, awaits_geometry, channel_at, channel_written, dma_due, dma_finished, dma_triggered, due_channel, least_running, unless}
+use Rattle.ds_dma.specs.States.{DmaState, IsDma, AreReadyLater, any_runs, awaits_geometry, channel_at, channel_written, dma_due, dma_finished, dma_triggered, due_channel, least_running, most_waits, unless}
 use Rattle.ds_dma.proofs.Fours.{are_set, at_mapped, four_are, mapped_is}
 use Rattle.ds_dma.proofs.Kept.{taken_is, triggered_is, written_is}
 use Rattle.ds_dma.proofs.Turns.{due_is_on, least_below, still_runs, written_later}
@@ -26,7 +26,7 @@ pub channel_written_is : (s : DmaState) (which : ℕ) (port : DmaPort) (value : 
 channel_written_is s which port value now is l =
     let c = channel_at s.channels which in
     unless_holds IsDma (channel_refusal s.proc which port value c) s _ is
-    (λ e. are_set s which (channel_set s.proc which port value now c) s.last is l (written_is s.proc which port value now c (is.each which l)))
+    (λ e. are_set s which (channel_set s.proc which port value now c) s.last is l (written_is s.proc which port value now c (is.each which l)) is.last)
 
 -- and come later than its tick where they did
 pub channel_written_later : (s : DmaState) (which : ℕ) (port : DmaPort) (value : ℕ) (now : Tick) → IsDma s → which < 4 → AreReadyLater now s
@@ -40,12 +40,12 @@ pub dma_triggered_is : (s : DmaState) (cause : Cause) (now : Tick) → IsDma s �
 dma_triggered_is s cause now is = mapped_is s (triggered s.proc cause now) (λ which c each. triggered_is s.proc which cause now c each) is
 
 -- after the unit that is due they are the channels still
-pub dma_finished_is : (s : DmaState) (now : Tick) → IsDma s → IsSome (dma_due s) → IsDma (dma_finished s now)
-dma_finished_is s now is due =
+pub dma_finished_is : (s : DmaState) (now : Tick) (waits : ℕ) → waits ≤ most_waits → IsDma s → IsSome (dma_due s) → IsDma (dma_finished s now waits)
+dma_finished_is s now waits brief is due =
     let which = least_running s.channels in
     let l = least_below s.channels in
     let c = due_channel s in
-    are_set s which (after_unit s.proc which c) (Some now) is l (taken_is s.proc which c (is.each which l) (due_is_on s is due))
+    are_set s which (after_unit s.proc which c) (Some (record { tick = now; waits = waits })) is l (taken_is s.proc which c (is.each which l) (due_is_on s is due)) brief
 
 or_keeps : (a b x y : Bool) → (a ≡ true → x ≡ true) → (b ≡ true → y ≡ true) → (a || b) ≡ true → (x || y) ≡ true
 or_keeps true b true y f g h = refl

@@ -3,6 +3,7 @@ use Rattle.std.specs.List.{range_with_len}
 use Rattle.ds_base.specs.Interrupts.{interrupt_bit}
 use Rattle.ds_base.specs.declared.processors.Proc.{Proc}
 use Rattle.ds_base.specs.declared.ticks.Tick.{Tick}
+use Rattle.ds_dma.specs.declared.channels.LastUnit.{LastUnit}
 use Rattle.ds_dma.specs.declared.channels.Unit.{Unit as DmaUnit}
 use Rattle.ds_base.specs.declared.left_out.Stop.{Stop}
 use Rattle.ds_dma.specs.declared.controls.Cause.{Cause}
@@ -181,14 +182,14 @@ after_unit proc which c =
 abbrev pub taken_bit : ℕ → ChannelState → ℕ
 taken_bit which c = if is_last_unit c && interrupts c.cnt then interrupt_bit (channel_interrupt which) else 0
 
--- when its next unit is due where its turn has come: 4 ticks after it was triggered, and 4 after the processor's last unit (our choice)
-abbrev pub after_both : Option Tick → Tick → Tick
+-- when its next unit is due where its turn has come: 4 ticks after it was triggered, and 4 after the processor's last unit and its waits (our choice)
+abbrev pub after_both : Option LastUnit → Tick → Tick
 after_both None trigger = record { 0 = trigger.0 + 4 }
-after_both (Some last) trigger = record { 0 = max trigger.0 last.0 + 4 }
+after_both (Some last) trigger = record { 0 = max trigger.0 (last.tick.0 + last.waits) + 4 }
 
-abbrev pub ready_by : Option Tick → Option Tick → Option Tick
+abbrev pub ready_by : Option LastUnit → Option Tick → Option Tick
 ready_by last None = None
 ready_by last (Some trigger) = Some (after_both last trigger)
 
-abbrev pub ready : Option Tick → ChannelState → Option Tick
+abbrev pub ready : Option LastUnit → ChannelState → Option Tick
 ready last c = ready_by last c.trigger

@@ -3,3 +3,4 @@ pub mod ChannelsKept
 pub mod Controls
 pub mod States
 pub mod Relations
+pub mod Saved

@@ -1,33 +1,49 @@
-use Rattle.std.specs.Prelude.{ℕ, ◌≡◌, ◌<◌, ◌==◌, ◌||◌, if◌then◌else◌, Bool, true, false, List, [], ◌∷◌, length, map, slice_index_or, slice_set, Option, Some, None}
+use Rattle.std.specs.Prelude.{ℕ, ◌≡◌, ◌<◌, ◌≤◌, ◌==◌, ◌||◌, if◌then◌else◌, Bool, true, false, List, [], ◌∷◌, length, map, slice_index_or, slice_set, Option, Some, None}
 use Rattle.ds_base.specs.Schedules.{IsEarly, IsLater}
 use Rattle.ds_base.specs.declared.left_out.Stop.{Stop}
 use Rattle.ds_base.specs.declared.processors.Proc.{Proc}
 use Rattle.ds_base.specs.declared.ticks.Tick.{Tick}
+use Rattle.ds_dma.specs.declared.channels.LastUnit.{LastUnit}
 use Rattle.ds_dma.specs.declared.controls.Cause.{Cause}
 use Rattle.ds_dma.specs.declared.controls.Cause.TheVariants.{Geometry}
 use Rattle.ds_dma.specs.declared.controls.DmaPort.{DmaPort}
 use Rattle.ds_dma.specs.declared.dma.DmaDue.{DmaDue}
 use Rattle.ds_dma.specs.Channels.{ChannelState, IsChannel, channel_at_boot, is_running, channel_set, channel_refusal, is_triggered, triggered, after_unit, taken_bit, ready}
 
--- the four channels of a processor, and the tick of its last unit, if there was one (GBATEK, "DS DMA Transfers"; the tick is our choice)
+-- the four channels of a processor, and the tick and the waits of its last unit, if there was one (GBATEK, "DS DMA Transfers"; the last unit is our
+-- choice)
 pub record DmaState : Type 0 where
   pub proc : Proc
   pub channels : List ChannelState
-  pub last : Option Tick
+  pub last : Option LastUnit
 
 abbrev pub channel_at : List ChannelState → ℕ → ChannelState
 channel_at channels which = slice_index_or channels which channel_at_boot
+
+-- a unit's two waits are at most 16 ticks together (our choice: a wait is at most 8 ticks)
+abbrev pub most_waits : ℕ
+most_waits = 16
+
+abbrev pub WaitsBriefly : Option LastUnit → Type 0
+WaitsBriefly None = Unit {0}
+WaitsBriefly (Some last) = last.waits ≤ most_waits
 
 -- what holds at every time
 pub record IsDma (s : DmaState) : Type 0 where
   pub four : length s.channels ≡ 4
   pub each : (which : ℕ) → which < 4 → IsChannel s.proc which (channel_at s.channels which)
+  pub last : WaitsBriefly s.last
+
+-- the tick of the last unit, if there was one
+abbrev pub last_tick : Option LastUnit → Option Tick
+last_tick None = None
+last_tick (Some last) = Some last.tick
 
 -- each trigger and the last unit's tick are ticks that callers may hand in, so that the sums of ticks in the code stay in 64 bits (our choice of
 -- form)
 pub record HasEarlyTicks (s : DmaState) : Type 0 where
   pub trigger : (which : ℕ) → which < 4 → IsEarly (channel_at s.channels which).trigger
-  pub last : IsEarly s.last
+  pub last : IsEarly (last_tick s.last)
 
 -- all is 0 at boot (our choice)
 abbrev pub dma_at_boot : Proc → DmaState
@@ -93,12 +109,12 @@ AreReadyLater now s = (which : ℕ) → which < 4 → IsLater now (ready s.last 
 abbrev pub due_channel : DmaState → ChannelState
 due_channel s = channel_at s.channels (least_running s.channels)
 
--- its first unit is moved at a tick
-abbrev pub dma_finished : DmaState → Tick → DmaState
-dma_finished s now = record s {
+-- its first unit is moved at a tick, with so many ticks of waits
+abbrev pub dma_finished : DmaState → Tick → ℕ → DmaState
+dma_finished s now waits = record s {
   channels = slice_set s.channels (least_running s.channels)
       (after_unit s.proc (least_running s.channels) (due_channel s));
-  last = Some now;
+  last = Some (record { tick = now; waits = waits });
 }
 
 -- the bits of IF that this raises

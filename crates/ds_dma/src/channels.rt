@@ -6,6 +6,9 @@ ghost use Rattle.ds_base.specs.declared.ticks.Tick.{Tick};
 ghost use Rattle.ds_dma.specs.Channels.{is_running, channel_controlled, latched, emptied, channel_word, channel_set, channel_refusal, is_triggered, triggered, after_unit, taken_bit, is_last_unit, armed_again, unit_of, ready};
 ghost use Rattle.ds_dma.specs.ChannelsKept.{channel_seen};
 ghost use Rattle.ds_dma.specs.Controls.{units_counted, disabled};
+ghost use Rattle.ds_dma.specs.States.{WaitsBriefly, last_tick};
+
+pub mod saved;
 
 use crate::controls;
 use crate::controls::{Cause, DmaPort};
@@ -23,6 +26,15 @@ pub struct Unit {
     pub to: u32,
     /// A half or a word.
     pub width: Width,
+}
+
+/// The last unit that a processor's channels moved.
+#[derive(Clone, Copy, PartialEq, Eq)]
+pub struct LastUnit {
+    /// When it was moved.
+    pub tick: Tick,
+    /// The waits of its read and of its write together, in ticks: at most 16.
+    pub waits: u32,
 }
 
 /// A channel's kept numbers, what it has left to do where it is enabled, since when it runs, and what is left of its burst if it has one.
@@ -227,15 +239,16 @@ pub fn raised(which: u8, channel: Channel) -> u32
     }
 }
 
-/// When its next unit is due once no lower channel runs: 4 ticks after its trigger, and 4 after the processor's last unit.
-pub fn ready_at(last: Option<Tick>, channel: Channel) -> Option<Tick>
-    requires last { IsEarly last }
+/// When its next unit is due once no lower channel runs: 4 ticks after its trigger, and 4 after the processor's last unit and its waits.
+pub fn ready_at(last: Option<LastUnit>, channel: Channel) -> Option<Tick>
+    requires last { IsEarly (last_tick last) }
+    requires waits { WaitsBriefly last }
     requires trigger { IsEarly channel.trigger }
     ensures { result ≡ ready last (channel_seen channel) }
 {
     let trigger = channel.trigger?;
     match last {
         None => Some(Tick(trigger.0 + 4)),
-        Some(last) => Some(Tick(trigger.0.max(last.0) + 4)),
+        Some(last) => Some(Tick(trigger.0.max(last.tick.0 + last.waits as u64) + 4)),
     }
 }

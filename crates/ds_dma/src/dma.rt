@@ -1,18 +1,21 @@
 //! The four channels of one processor.
 
-ghost use Rattle.std.specs.Prelude.{◌≡◌, ◌<◌, ◌∷◌, ◌==◌, ℕ, List, Some, None, IsSome, IfSome, true, false, slice_set, map, is_some};
+ghost use Rattle.std.specs.Prelude.{◌≡◌, ◌<◌, ◌≤◌, ◌∷◌, ◌==◌, ℕ, List, Some, None, IsSome, IfSome, true, false, slice_set, map, is_some};
 ghost use Rattle.ds_base.specs.Schedules.{IsEarly, Reschedules};
 ghost use Rattle.ds_base.specs.declared.ticks.Tick.{Tick};
 ghost use Rattle.ds_dma.specs.Channels.{IsChannel, is_running, channel_word, channel_refusal, is_triggered, plan_of, unit_of};
 ghost use Rattle.ds_dma.specs.ChannelsKept.{channel_seen};
 ghost use Rattle.ds_dma.specs.declared.channels.Unit.{Unit as DmaUnit};
 ghost use Rattle.ds_dma.specs.declared.controls.Cause.TheVariants.{Geometry};
-ghost use Rattle.ds_dma.specs.States.{DmaState, IsDma, AreReadyLater, awaits_geometry, channel_at, dma_at_boot, channel_written, dma_triggered, any_runs, least_running, channel_due, dma_due, due_channel, dma_finished, finished_bits};
+ghost use Rattle.ds_dma.specs.States.{DmaState, IsDma, AreReadyLater, awaits_geometry, channel_at, dma_at_boot, channel_written, dma_triggered, any_runs, least_running, channel_due, dma_due, due_channel, dma_finished, finished_bits, WaitsBriefly, last_tick, most_waits};
 
-use crate::channels::{Channel, Unit};
+mod saved;
+
+use crate::channels::{Channel, LastUnit, Unit};
 use crate::controls::{Cause, DmaPort};
 use crate::{channels, controls};
 use ds_base::{Proc, Stop, Tick};
+pub use saved::saved_laws;
 use std::marker::Model;
 
 /// The channel that is due, and when.
@@ -24,12 +27,13 @@ pub struct DmaDue {
     pub channel: u8,
 }
 
-/// The four DMA channels of one processor. Contracts see their words, what each has left to do, and the last unit's tick.
+/// The four DMA channels of one processor. Contracts see their words, what each has left to do, and the last unit's tick and
+/// waits.
 #[derive(Clone, Copy)]
 pub struct Dma {
     proc: Proc,
     channels: [Channel; 4],
-    last: Option<Tick>,
+    last: Option<LastUnit>,
 }
 
 impl Model for Dma {
@@ -89,11 +93,12 @@ impl Dma {
     }
 
     /// Another channel in its place, and another last unit.
-    fn put(&mut self, which: u8, channel: Channel, last: Option<Tick>)
+    fn put(&mut self, which: u8, channel: Channel, last: Option<LastUnit>)
         requires which { which < 4 }
         requires is { IsChannel self.old.proc which (channel_seen channel) }
         requires trigger { IsEarly channel.trigger }
-        requires last { IsEarly last }
+        requires last { IsEarly (last_tick last) }
+        requires waits { WaitsBriefly last }
         ensures { self.new ≡ record self.old { channels = slice_set self.old.channels which (channel_seen channel); last = last } }
     {
         self.channels[which as usize] = channel;
@@ -220,13 +225,14 @@ impl Dma {
         channels::first(self.channel(self.least()))
     }
 
-    /// The unit that is due is moved at a tick. Its channel's plan has it no more. Where it was the last one of a burst, the channel stays
-    /// armed and doesn't run. Where it was the last one of all, the channel is armed again or isn't enabled any more; gives the interrupt's
-    /// bit that this raises, and 0 otherwise.
-    pub fn finish(&mut self, now: Tick) -> u32
+    /// The unit that is due is moved at a tick, and its two accesses waited so many ticks together. Its channel's plan has it no more. Where it
+    /// was the last one of a burst, the channel stays armed and doesn't run. Where it was the last one of all, the channel is armed again or isn't
+    /// enabled any more; gives the interrupt's bit that this raises, and 0 otherwise.
+    pub fn finish(&mut self, now: Tick, waits: u32) -> u32
         requires due { IsSome (dma_due self.old) }
         requires early { IsEarly (Some now) }
-        ensures state { self.new ≡ dma_finished self.old now }
+        requires waits { waits ≤ most_waits }
+        ensures state { self.new ≡ dma_finished self.old now waits }
         ensures bits { result ≡ finished_bits self.old }
         ensures later { AreReadyLater now self.new }
         ensures schedule { (each : ℕ) → each < 4 → Reschedules now (channel_due self.old each) (channel_due self.new each) }
@@ -236,7 +242,8 @@ impl Dma {
         let channel = self.channel(which);
         let bits = channels::raised(which, channel);
         let rest = channels::without_first(self.proc, which, channel);
-        self.put(which, rest, Some(now));
+        let last = Some(LastUnit { tick: now, waits });
+        self.put(which, rest, last);
         bits
     }
 
@@ -248,8 +255,8 @@ impl Dma {
         self.runs(0) || self.runs(1) || self.runs(2) || self.runs(3)
     }
 
-    /// The tick of the last unit that was moved, if one was.
-    pub fn last_unit(&self) -> Option<Tick>
+    /// The tick and the waits of the last unit that was moved, if one was.
+    pub fn last_unit(&self) -> Option<LastUnit>
         ensures { result ≡ self.now.last }
     {
         self.last

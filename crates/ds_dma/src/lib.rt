@@ -8,10 +8,10 @@
 //! and reads; a control's change by three cases; a start that is left out is refused, with the control word, and all stays. `trigger`:
 //! which channels a cause starts, and by the geometry FIFO for how many units: 112, or what is left where that is less. `awaits_geometry`:
 //! whether a channel is enabled with that start and doesn't run; where none is, that cause changes nothing (clause `settled`), and after it
-//! none is (`settles`). `Dma::due`: of the running channels the least is due, 4 ticks after its trigger and after the processor's last
-//! unit, whichever is later; each call tells what it does to due ticks. `relation_laws`: a control's change is one of three cases
-//! (`change`), a unit that is taken one of four (`takes`), of a channel that is due (`some`); and the channel whose turn it is is the least
-//! that runs (`least`).
+//! none is (`settles`). `Dma::due`: of the running channels the least is due, 4 ticks after its trigger, and 4 after the processor's last
+//! unit and the waits of its two accesses, whichever is later; each call tells what it does to due ticks. `relation_laws`: a control's change
+//! is one of three cases (`change`), a unit that is taken one of four (`takes`), of a channel that is due (`some`); and the channel whose turn
+//! it is is the least that runs (`least`). `pack`, `unpack`, `saved_laws`: the channels in bytes.
 //!
 //! Only tested, in `units_tests`: worked rows for each address mode, both widths, counts of 0, repeats, priorities, refusals, bursts.
 #![tactic(auto)]
@@ -21,7 +21,7 @@ mod controls;
 mod dma;
 mod relations;
 
-pub use channels::Unit;
+pub use channels::{LastUnit, Unit};
 pub use controls::{Cause, DmaPort};
-pub use dma::{Dma, DmaDue};
+pub use dma::{Dma, DmaDue, saved_laws};
 pub use relations::relation_laws;

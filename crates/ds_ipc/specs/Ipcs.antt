@@ -1,4 +1,5 @@
 use Rattle.std.specs.Prelude.{ℕ}
+use Rattle.ds_base.specs.Processors.{raised_at}
 use Rattle.ds_base.specs.declared.processors.Proc.{Proc}
 use Rattle.ds_base.specs.declared.processors.Proc.TheVariants.{Nine, Seven}
 use Rattle.ds_base.specs.declared.processors.Raised.{Raised}
@@ -29,11 +30,6 @@ side_of s Seven = s.seven
 abbrev pub sides_from : Proc → Side → Side → IpcState
 sides_from Nine own other = record { nine = own; seven = other }
 sides_from Seven own other = record { nine = other; seven = own }
-
--- bits raised at one processor alone
-abbrev pub raised_at : Proc → ℕ → Raised
-raised_at Nine bits = record { nine = bits; seven = 0 }
-raised_at Seven bits = record { nine = 0; seven = bits }
 
 -- Each call, made by one side: what it answers, what it leaves and what it raises.
 abbrev pub ipc_sync_word : IpcState → Proc → ℕ

@@ -1,2 +1,3 @@
 pub mod Ipcs
+pub mod Saved
 pub mod Sides

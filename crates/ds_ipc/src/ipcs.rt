@@ -1,8 +1,9 @@
 //! Both sides, and the calls of each.
 
 ghost use Rattle.std.specs.Prelude.{◌≡◌, IfOk};
+ghost use Rattle.ds_base.specs.Processors.{raised_at};
 ghost use Rattle.ds_ipc.specs.Sides.{control_kept, sync_kept};
-ghost use Rattle.ds_ipc.specs.Ipcs.{AreSides, side_of, ipc_at_boot, raised_at, ipc_sync_word, ipc_sync_written, ipc_sync_raised, ipc_control_word, ipc_control_written, ipc_control_raised, ipc_sent, ipc_send_raised, ipc_received, ipc_received_word, ipc_receive_raised};
+ghost use Rattle.ds_ipc.specs.Ipcs.{AreSides, side_of, ipc_at_boot, ipc_sync_word, ipc_sync_written, ipc_sync_raised, ipc_control_word, ipc_control_written, ipc_control_raised, ipc_sent, ipc_send_raised, ipc_received, ipc_received_word, ipc_receive_raised};
 
 use crate::sides;
 use crate::sides::{Side, Taken};
@@ -23,8 +24,8 @@ pub struct Got {
 /// most 16, and the last word that it received.
 #[derive(Drop)]
 pub struct Ipc {
-    nine: Side,
-    seven: Side,
+    pub(crate) nine: Side,
+    pub(crate) seven: Side,
 }
 
 impl Model for Ipc {
@@ -35,28 +36,13 @@ impl Model for Ipc {
     ghost view = { λ i. record { nine = i.nine; seven = i.seven } };
 }
 
-fn raised_at(side: Proc, bits: u32) -> Raised
-    ensures { result ≡ raised_at side bits }
-{
-    match side {
-        Proc::Nine => Raised {
-            nine: bits,
-            seven: 0,
-        },
-        Proc::Seven => Raised {
-            nine: 0,
-            seven: bits,
-        },
-    }
-}
-
 fn got_across(across: Proc, taken: Taken) -> Got
     ensures word { result.word ≡ taken.word }
     ensures raised { result.raised ≡ raised_at across taken.raised }
 {
     Got {
         word: taken.word,
-        raised: raised_at(across, taken.raised),
+        raised: Raised::at(across, taken.raised),
     }
 }
 
@@ -96,11 +82,11 @@ impl Ipc {
         ensures raised { result ≡ ipc_sync_raised self.old side value }
     {
         match side {
-            Proc::Nine => raised_at(
+            Proc::Nine => Raised::at(
                 Proc::Seven,
                 sides::sync_write(&mut self.nine, &self.seven, value),
             ),
-            Proc::Seven => raised_at(
+            Proc::Seven => Raised::at(
                 Proc::Nine,
                 sides::sync_write(&mut self.seven, &self.nine, value),
             ),
@@ -133,11 +119,11 @@ impl Ipc {
         ensures raised { result ≡ ipc_control_raised self.old side value }
     {
         match side {
-            Proc::Nine => raised_at(
+            Proc::Nine => Raised::at(
                 Proc::Nine,
                 sides::control_write(&mut self.nine, &mut self.seven, value),
             ),
-            Proc::Seven => raised_at(
+            Proc::Seven => Raised::at(
                 Proc::Seven,
                 sides::control_write(&mut self.seven, &mut self.nine, value),
             ),
@@ -151,8 +137,8 @@ impl Ipc {
         ensures raised { result ≡ ipc_send_raised self.old side }
     {
         match side {
-            Proc::Nine => raised_at(Proc::Seven, sides::send(&mut self.nine, &self.seven, word)),
-            Proc::Seven => raised_at(Proc::Nine, sides::send(&mut self.seven, &self.nine, word)),
+            Proc::Nine => Raised::at(Proc::Seven, sides::send(&mut self.nine, &self.seven, word)),
+            Proc::Seven => Raised::at(Proc::Nine, sides::send(&mut self.seven, &self.nine, word)),
         }
     }
 

@@ -9,13 +9,16 @@
 //! empties the own list and makes the other side's last word 0; the enables count first and the clear after them. Interrupts: 16 by bit 13
 //! where the other side allows it; 17 where its enable goes from 0 to 1 on an empty list, or the list becomes empty, by the other's receive
 //! or by a clear, while it is set; 18 where a word comes to an empty list, or its enable goes from 0 to 1 on one that isn't empty. `laws`:
-//! no list ever holds over 16 words, and the four bits and the last word are no more (`AreSides`). Only `Ipc::new` takes memory.
+//! no list ever holds over 16 words, and the four bits and the last word are no more (`AreSides`). `pack`, `unpack`,
+//! `saved_laws`: both sides in bytes. Only these and `Ipc::new` take memory.
 //!
 //! Only tested, in `units_tests`: that `Ipc::new` succeeds with ample memory, and that the clauses say what a walk of 17 words, each
 //! interrupt and each call of and to a disabled side show.
 #![tactic(auto)]
 
 mod ipcs;
+mod saved;
 mod sides;
 
 pub use ipcs::{Got, Ipc};
+pub use saved::saved_laws;

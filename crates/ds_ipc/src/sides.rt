@@ -4,6 +4,8 @@ ghost use Rattle.std.specs.Prelude.{◌≡◌, ◌≤◌, IfOk};
 ghost use Rattle.ds_base.specs.Bits.{bit, flag};
 ghost use Rattle.ds_ipc.specs.Sides.{IsSide, side_at_boot, raised_if, sync_kept, sync_word, control_kept, sync_written, sync_raised, control_word, fifo_control_written, control_forgotten, control_raised, sent, send_raised, received, received_word, oldest_taken, receive_raised};
 
+pub mod saved;
+
 use circular_buffer::HeapCircularBuffer;
 use ds_base::Interrupt;
 use std::alloc::{AllocError, Global};

@@ -36,6 +36,7 @@ use Rattle.ds_machine.specs.Sound.{HasSoundParts}
 use Rattle.ds_machine.specs.States.{MachineState, ProcessorState, counts_of}
 use Rattle.ds_machine.specs.Steps.{is_blocked, is_halted, map_of, processor_of, with_map, with_processor}
 use Rattle.ds_machine.proofs.Moves.{Moves, left_after, other_held, unchanged_held, unchanged_io_dues, unchanged_io, moves_of, same_keys, then_io_dues}
+use Rattle.ds_machine.proofs.Rooms.{unit_within}
 use Rattle.ds_machine.proofs.Wakes.{halted_blocks, put_beside, put_counts, put_other, put_processor_io}
 use Rattle.video2d.specs.Videos.{VideoState}
 
@@ -164,7 +165,7 @@ module _ (proc : Proc) (channel : ℕ) (now : Tick) (unit : DmaUnit) (s : Machin
   read_io = unchanged_io s.io read sound.io left
 
   moves : MovedGoes proc now read taken.io
-  moves = moved_goes proc now read read_io (same_some proc s.io read (left.processor_io proc) (channel_is_due proc channel now s.io due))
+  moves = moved_goes proc now 0 read (omega arith) read_io (same_some proc s.io read (left.processor_io proc) (channel_is_due proc channel now s.io due))
 
   is_quiet : HasOnlyLaterEvents now (io_of taken.io proc)
   is_quiet = record {
@@ -198,7 +199,7 @@ module _ (proc : Proc) (channel : ℕ) (now : Tick) (unit : DmaUnit) (s : Machin
     moved_held = held_alike (other_proc proc) read taken.io moves.other moves.gx
 
   io : IsIo written.io
-  io = goes_io proc now taken.io written.io moves.io goes
+  io = goes_io proc now taken.io written.io (unit_within proc channel now unit s sound.io.gx due) moves.io goes
 
   abbrev past : ProcessorState
   past = let m = with_map proc s written in past_tick (is_halted m proc) now (processor_of m proc)

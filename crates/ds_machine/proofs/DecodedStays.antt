@@ -1,5 +1,5 @@
 use Rattle.std.proofs.Common.{ℕ, zero, suc, ◌≡◌, ◌<◌, ◌+◌, ◌%◌, ◌/◌, ◌^◌, ◌==◌, if◌then◌else◌, Bool, true, false, true≢false, List, [], ◌∷◌, length, Option, Some, None, Contains, refl, sym, ◌∙◌, ap, subst, arith}
-use Rattle.std.specs.Prelude.{IfSome, slice_index_or}
+use Rattle.std.specs.Prelude.{IfSome, not, slice_index_or}
 use Rattle.ds_base.specs.Accesses.{Access, Fetch, MemoryMachine, Read, Write}
 use Rattle.ds_base.specs.Numbers.{aligned_down, width_bytes}
 use Rattle.ds_base.specs.declared.memories.Width.{Width}
@@ -9,25 +9,22 @@ use Rattle.ds_base.specs.declared.processors.Arch.TheVariants.{V4, V5}
 use Rattle.arm_words.specs.declared.instructions.Instr.{Instr}
 use Rattle.arm_words.specs.declared.instructions.Instr.TheVariants.{Bkpt, Coprocessor, Swi, ThumbBkpt, ThumbSwi}
 use Rattle.arm_words.specs.declared.operations.HalfOp.TheVariants.{Strh, Ldrh, Ldrsb, Ldrsh}
-use Rattle.arm_core.specs.Conditions.{holds}
 use Rattle.arm_core.specs.Effects.{Meaning}
 use Rattle.arm_core.specs.Footprints.{span}
 use Rattle.arm_core.specs.Registers.{RegisterState}
 use Rattle.arm_core.specs.Steps.{fetched}
 use Rattle.arm_core.specs.Transfers.{load_meaning, signed_byte, signed_half}
 use Rattle.arm_core.specs.declared.addresses.Addressed.{Addressed}
-use Rattle.arm_ops.specs.Meanings.{access_made, access_meaning, access_of, accesses_by, single_transfer_meaning}
-use Rattle.arm_ops.specs.Operations.{is_other, operation_of}
+use Rattle.arm_ops.specs.Meanings.{access_made, access_meaning, accesses_by, single_transfer_meaning}
+use Rattle.arm_ops.specs.Operations.{is_other, loads, operation_of}
 use Rattle.arm_ops.specs.declared.operations.DataAccess.{DataAccess}
-use Rattle.arm_ops.specs.declared.operations.Op.{Op}
-use Rattle.arm_ops.specs.declared.operations.Op.TheVariants.{Other}
 use Rattle.arm_ops.specs.declared.operations.Operation.{Operation}
 use Rattle.arm_ops.specs.declared.operations.TransferOp.{TransferOp}
 use Rattle.arm_ops.specs.declared.operations.TransferOp.TheVariants.{WordOrByte, HalfOrSigned}
 use Rattle.arm_ops.proofs.Laws.{made_accesses, operation_means}
 use Rattle.ds_machine.specs.Private.{AllReachPrivate, ReachesPrivate, data_accesses, may_go_ahead, next_fetch}
 use Rattle.ds_machine.specs.PrivateSides.{SideOf}
-use Rattle.ds_machine.specs.Touching.{DataStays, GoesByWords, access_stays, stores}
+use Rattle.ds_machine.specs.Touching.{DataStays, GoesByWords, access_stays}
 use Rattle.ds_machine.proofs.PrivatePlaces.{private_itself}
 
 -- What a decoded operation reaches, by the address of its access.
@@ -63,7 +60,7 @@ abbrev pub IsOne : Bool → ℕ → List Access → Type 0
 IsOne false at accesses = (width : Width) × (accesses ≡ Read at width ∷ [])
 IsOne true at accesses = (width : Width) × (value : ℕ) × (accesses ≡ Write at width value ∷ [])
 
-pub one_by : (arch : Arch) (s : RegisterState) (op : TransferOp) (rn rd : ℕ) (to : Addressed) → IsOne (stores op) to.address (single_transfer_meaning arch s op rn rd to).accesses
+pub one_by : (arch : Arch) (s : RegisterState) (op : TransferOp) (rn rd : ℕ) (to : Addressed) → IsOne (not (loads op)) to.address (single_transfer_meaning arch s op rn rd to).accesses
 one_by arch s (WordOrByte true true) rn rd to = (Byte, refl)
 one_by arch s (WordOrByte true false) rn rd to = (Word, refl)
 one_by arch s (WordOrByte false true) rn rd to = (Byte, _, refl)
@@ -96,12 +93,12 @@ module _ {S : Type 0} (side : SideOf S) (state : S) (words : GoesByWords side) w
   reach_made : (arch : Arch) (s : RegisterState) (access : Option DataAccess) → IfSome access (λ it. it.to.address < 2 ^ 32) → access_stays side state access ≡ true
       → AllReachPrivate side state (accesses_by arch s access)
   reach_made arch s None low h = tt
-  reach_made arch s (Some it) low h = reach_one (stores it.op) it.to.address (access_meaning arch s it).accesses low (one_by arch s it.op it.rn it.rd it.to) h
+  reach_made arch s (Some it) low h = reach_one (not (loads it.op)) it.to.address (access_meaning arch s it).accesses low (one_by arch s it.op it.rn it.rd it.to) h
 
   made_reached : (arch : Arch) (s : RegisterState) (access : Option DataAccess) → IfSome access (λ it. it.to.address < 2 ^ 32) → AllReachPrivate side state (accesses_by arch s access)
       → access_stays side state access ≡ true
   made_reached arch s None low k = refl
-  made_reached arch s (Some it) low k = reached_one (stores it.op) it.to.address (access_meaning arch s it).accesses low (one_by arch s it.op it.rn it.rd it.to) k
+  made_reached arch s (Some it) low k = reached_one (not (loads it.op)) it.to.address (access_meaning arch s it).accesses low (one_by arch s it.op it.rn it.rd it.to) k
 
 -- ---- what is decoded
 

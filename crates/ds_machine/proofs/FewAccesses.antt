@@ -1,4 +1,4 @@
-use Rattle.std.proofs.Common.{ℕ, zero, suc, ◌≡◌, ◌≤◌, ◌+◌, ◌^◌, ◌%◌, ◌==◌, ◌&&◌, not, if◌then◌else◌, Bool, true, false, List, [], ◌∷◌, length, map, refl, ap, arith}
+use Rattle.std.proofs.Common.{ℕ, zero, suc, ◌≡◌, ◌≤◌, ◌+◌, ◌^◌, ◌%◌, ◌==◌, ◌&&◌, not, if◌then◌else◌, Bool, true, false, List, [], ◌∷◌, length, map, Option, Some, None, refl, ap, arith}
 use Rattle.std.proofs.lemmas.List.{length-map}
 use Rattle.ds_base.specs.Bits.{bit}
 use Rattle.ds_base.specs.declared.memories.Width.TheVariants.{Byte, Half}
@@ -20,9 +20,16 @@ use Rattle.arm_core.specs.Swaps.{swap_meaning}
 use Rattle.arm_core.specs.Thumb.{equivalent}
 use Rattle.arm_core.specs.Transfers.{half_or_signed_meaning, load_meaning, signed_byte, signed_half, signed_half_meaning, word_or_byte_meaning}
 use Rattle.arm_core.specs.declared.addresses.Addressed.{Addressed}
+use Rattle.arm_ops.specs.Meanings.{access_of, computed, meaning_by, op_meaning, operation_meaning, single_transfer_meaning}
+use Rattle.arm_ops.specs.declared.operations.DataAccess.{DataAccess}
+use Rattle.arm_ops.specs.declared.operations.Op.{Op}
+use Rattle.arm_ops.specs.declared.operations.Op.TheVariants.{Plain}
+use Rattle.arm_ops.specs.declared.operations.Operation.{Operation}
+use Rattle.arm_ops.specs.declared.operations.TransferOp.{TransferOp}
+use Rattle.arm_ops.specs.declared.operations.TransferOp.TheVariants.{WordOrByte, HalfOrSigned}
 use Rattle.ds_machine.specs.Rooms.{InstructionsAreShort}
 
--- An instruction makes sixteen accesses at most: a list names sixteen registers, and all others make two at most.
+-- An instruction makes sixteen accesses at most: a list names sixteen registers, and all others make two at most. So it is of operations.
 
 abbrev IsShort : Meaning → Type 0
 IsShort m = length m.accesses ≤ 16
@@ -164,3 +171,22 @@ module _ (arch : Arch) (base : ℕ) (s : RegisterState) where
 pub instructions_are_short : InstructionsAreShort
 instructions_are_short arch base s instr =
     either (holds (condition instr) s.cpsr) (act arch base s (equivalent instr)) (skipped s) (act_short arch base s (equivalent instr)) none
+
+-- ---- every operation
+
+module _ (arch : Arch) (s : RegisterState) where
+  computed_short : (op : Op) → IsShort (computed arch s op)
+  computed_short (Plain instr) = processing_short arch 0 s instr
+  computed_short _ = none
+
+  transfer_short : (op : TransferOp) (rn rd : ℕ) (to : Addressed) → IsShort (single_transfer_meaning arch s op rn rd to)
+  transfer_short (WordOrByte load byte) rn rd to = word_or_byte_short arch s load byte rn rd to
+  transfer_short (HalfOrSigned op) rn rd to = half_or_signed_short arch s op rn rd to
+
+  op_short : (op : Op) (access : Option DataAccess) → IsShort (meaning_by arch s op access)
+  op_short op None = computed_short op
+  op_short op (Some it) = transfer_short it.op it.rn it.rd it.to
+
+  pub operations_are_short : (operation : Operation) → length (operation_meaning arch s operation).accesses ≤ 16
+  operations_are_short operation =
+      either (holds operation.cond s.cpsr) (op_meaning arch s operation.op) (skipped s) (op_short operation.op (access_of s operation.op)) none

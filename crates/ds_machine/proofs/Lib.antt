@@ -35,6 +35,7 @@ pub mod Reached
 pub mod FewAccesses
 pub mod RoomWrites
 pub mod Rooms
+pub mod GuardedSteps
 pub mod DecodedOperations
 pub mod DecodedStays
 pub mod Taken

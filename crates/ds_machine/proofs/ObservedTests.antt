@@ -1,4 +1,4 @@
-use Rattle.std.proofs.Common.{ℕ, ◌≡◌, ◌<◌, ◌+◌, ◌-◌, ◌*◌, ◌/◌, ◌%◌, ◌^◌, ◌==◌, nat_le, not, if◌then◌else◌, Bool, true, false, true≢false, List, [], ◌∷◌, map, Option, Some, None, refl, sym, ◌∙◌, ap, subst, arith}
+use Rattle.std.proofs.Common.{ℕ, ◌≡◌, ◌<◌, ◌-◌, ◌/◌, ◌==◌, nat_le, not, if◌then◌else◌, Bool, true, false, true≢false, List, [], ◌∷◌, map, Option, Some, None, refl, sym, ◌∙◌, ap, subst, arith}
 use Rattle.std.specs.Prelude.{◌&&◌, ◌||◌, IsSome}
 use Rattle.std.proofs.lemmas.Bool.{not-true, or_from, or_parts}
 use Rattle.ds_base.specs.Accesses.{Access, Fetch, Read, Write}
@@ -6,22 +6,9 @@ use Rattle.ds_base.specs.declared.processors.Arch.TheVariants.{V5}
 use Rattle.ds_base.specs.declared.processors.Proc.TheVariants.{Nine}
 use Rattle.ds_base.specs.declared.ticks.Tick.{Tick}
 use Rattle.arm_words.specs.declared.instructions.Instr.{Instr}
-use Rattle.arm_words.specs.declared.instructions.Instr.TheVariants as instrs
-use Rattle.arm_words.specs.declared.operations.HalfOp.{HalfOp}
-use Rattle.arm_words.specs.declared.operations.HalfOp.TheVariants.{Strh, Ldrh, Ldrsb, Ldrsh}
-use Rattle.arm_core.specs.Addressing.{addressed, list_bytes, listed_registers, lowest, moved_base, offset_value, short_offset_value}
-use Rattle.arm_core.specs.Conditions.{holds}
-use Rattle.arm_core.specs.Doubles.{double_at}
-use Rattle.arm_core.specs.Footprints.{Covers}
-use Rattle.arm_core.specs.Meanings.{act, condition, meaning, skipped}
-use Rattle.arm_core.specs.Multiples as multiples
-use Rattle.arm_core.specs.Multiples.{multiple_meaning, reached_bank, stored_value, stores_new_base, transferred}
-use Rattle.arm_core.specs.Registers.{RegisterState, register}
-use Rattle.arm_core.specs.Swaps.{swap_meaning}
-use Rattle.arm_core.specs.Thumb.{equivalent}
-use Rattle.arm_core.specs.Transfers.{half_or_signed_meaning, word_or_byte_meaning}
-use Rattle.arm_core.specs.declared.addresses.Addressed.{Addressed}
-use Rattle.arm_core.specs.declared.touches.Touch.{Touch}
+use Rattle.arm_core.specs.Footprints.{AreOfData}
+use Rattle.arm_core.specs.Meanings.{meaning}
+use Rattle.arm_core.specs.declared.touches.Reach.{Reach}
 use Rattle.cp15_tcm.specs.Registers.{Cp15State}
 use Rattle.cp15_tcm.specs.TightlyCoupled.{in_dtcm, in_itcm, tcm_of}
 use Rattle.cp15_tcm.specs.declared.answers.Tcm.TheVariants.{Itcm, Dtcm, Past}
@@ -32,102 +19,20 @@ use Rattle.ds_runs.specs.Actors.{actor_of}
 use Rattle.ds_runs.specs.Runs.{due_at}
 use Rattle.ds_runs.specs.declared.actors.Actor as actor
 use Rattle.ds_machine.specs.Lagging.{any_observes, is_observed_past, is_observed_place}
-use Rattle.ds_machine.specs.Observing.{HasBase, data_apart}
+use Rattle.ds_machine.specs.Observing.{data_apart}
 use Rattle.ds_machine.specs.Private.{AllReachPrivate, data_accesses}
 use Rattle.ds_machine.specs.Reference.{due_by, dues_of}
 use Rattle.ds_machine.specs.PrivateSides.{SideOf, nine_side}
 use Rattle.ds_machine.specs.States.{MachineState}
 use Rattle.ds_machine.specs.Steps.{nine_reach, tick_of}
-use Rattle.ds_machine.specs.Touching.{GoesByWords, reads_data, writes_data}
+use Rattle.ds_machine.specs.Touching.{GoesByWords, IsFootprint}
 use Rattle.ds_machine.proofs.DecodedStays.{same_word}
 use Rattle.ds_machine.proofs.DueTicks.{due_of_rank, low_rank}
 use Rattle.ds_machine.proofs.PlacesByWords.{are_rows, dtcm_same, from_same, itcm_same, row_facts, rows_of_nine, upto_same}
 use Rattle.ds_machine.proofs.PrivatePlaces.{private_itself}
-use Rattle.ds_machine.proofs.PrivateTests.{data_passed, data_passes, meant_suits, plain_none}
+use Rattle.ds_machine.proofs.PrivateTests.{data_passed, data_passes}
 
 -- What the code tells of accesses that observe geometry is so: it asks each byte of an instruction's accesses, and an access is asked by its address.
-
--- ---- accesses of data, whose addresses are words
-
-abbrev AreBelow : List Access → Type 0
-AreBelow [] = Unit {0}
-AreBelow (Fetch at width ∷ rest) = ⊥
-AreBelow (Read at width ∷ rest) = (at < 2 ^ 32) × AreBelow rest
-AreBelow (Write at width value ∷ rest) = (at < 2 ^ 32) × AreBelow rest
-
-below : (x : ℕ) → x % 2 ^ 32 < 2 ^ 32
-below x = omega arith
-
-words_at : (at : ℕ) → at < 2 ^ 32 → at - at % 4 < 2 ^ 32
-words_at at h = omega (arith, h)
-
-reads_below : (at : ℕ) (rs : List ℕ) → at < 2 ^ 32 → AreBelow (multiples.reads at rs)
-reads_below at [] h = tt
-reads_below at (r ∷ rs) h = (h, reads_below ((at + 4) % 2 ^ 32) rs (below (at + 4)))
-
-writes_below : (at : ℕ) (values : List ℕ) → at < 2 ^ 32 → AreBelow (multiples.writes at values)
-writes_below at [] h = tt
-writes_below at (value ∷ values) h = (h, writes_below ((at + 4) % 2 ^ 32) values (below (at + 4)))
-
-moved_below : (up : Bool) (base offset : ℕ) → moved_base up base offset < 2 ^ 32
-moved_below true base offset = below (base + offset)
-moved_below false base offset = below (base + 2 ^ 32 - offset)
-
-lowest_below : (pre up : Bool) (base bytes : ℕ) → base < 2 ^ 32 → lowest pre up base bytes < 2 ^ 32
-lowest_below false true base bytes h = h
-lowest_below true true base bytes h = below (base + 4)
-lowest_below false false base bytes h = below (base + 2 ^ 32 + 4 - bytes)
-lowest_below true false base bytes h = below (base + 2 ^ 32 - bytes)
-
-module _ (s : RegisterState) where
-  addressed_below : (pre up write_back : Bool) (rn offset : ℕ) → register s rn < 2 ^ 32 → (addressed s pre up write_back rn offset).address < 2 ^ 32
-  addressed_below true up write_back rn offset h = moved_below up (register s rn) offset
-  addressed_below false up write_back rn offset h = h
-
-  word_or_byte_below : (load byte : Bool) (rn rd : ℕ) (to : Addressed) → to.address < 2 ^ 32 → AreBelow (word_or_byte_meaning V5 s load byte rn rd to).accesses
-  word_or_byte_below true true rn rd to h = (h, tt)
-  word_or_byte_below true false rn rd to h = (h, tt)
-  word_or_byte_below false true rn rd to h = (h, tt)
-  word_or_byte_below false false rn rd to h = (h, tt)
-
-  half_below : (op : HalfOp) (rn rd : ℕ) (to : Addressed) → to.address < 2 ^ 32 → AreBelow (half_or_signed_meaning V5 s op rn rd to).accesses
-  half_below Strh rn rd to h = (h, tt)
-  half_below Ldrh rn rd to h = (h, tt)
-  half_below Ldrsb rn rd to h = (h, tt)
-  half_below Ldrsh rn rd to h = (h, tt)
-
-  double_below : (store : Bool) (rn rd : ℕ) (to : Addressed) → to.address < 2 ^ 32 → AreBelow (double_at s store rn rd to).accesses
-  double_below true rn rd to h = (words_at to.address h, (below (to.address - to.address % 4 + 4), tt))
-  double_below false rn rd to h = (words_at to.address h, (below (to.address - to.address % 4 + 4), tt))
-
-  swap_below : (byte : Bool) (rd rm rn : ℕ) → register s rn < 2 ^ 32 → AreBelow (swap_meaning s byte rd rm rn).accesses
-  swap_below true rd rm rn h = (h, (h, tt))
-  swap_below false rd rm rn h = (h, (h, tt))
-
-  multiple_below : (pre up user write_back load : Bool) (rn list : ℕ) → register s rn < 2 ^ 32 → AreBelow (multiple_meaning V5 s pre up user write_back load rn list).accesses
-  multiple_below pre up user write_back true rn list h =
-      reads_below (lowest pre up (register s rn) (list_bytes list)) (listed_registers (transferred V5 list)) (lowest_below pre up (register s rn) (list_bytes list) h)
-  multiple_below pre up user write_back false rn list h =
-      let value = stored_value s (reached_bank s user) rn (write_back && not (rn == 15) && stores_new_base V5 rn list) (moved_base up (register s rn) (list_bytes list)) in
-      writes_below (lowest pre up (register s rn) (list_bytes list)) (map value (listed_registers (transferred V5 list))) (lowest_below pre up (register s rn) (list_bytes list) h)
-
-  act_below : (base : ℕ) (i : Instr) → HasBase s i → AreBelow (act V5 base s i).accesses
-  act_below base (instrs.Transfer cond pre up byte write_back load rn rd offset) h =
-      let by = offset_value s offset in word_or_byte_below load byte rn rd (addressed s pre up write_back rn by) (addressed_below pre up write_back rn by h)
-  act_below base (instrs.HalfTransfer cond op pre up write_back rn rd offset) h =
-      let by = short_offset_value s offset in half_below op rn rd (addressed s pre up write_back rn by) (addressed_below pre up write_back rn by h)
-  act_below base (instrs.DoubleTransfer cond store pre up write_back rn rd offset) h =
-      let by = short_offset_value s offset in double_below store rn rd (addressed s pre up write_back rn by) (addressed_below pre up write_back rn by h)
-  act_below base (instrs.Multiple cond pre up user write_back load rn list) h = multiple_below pre up user write_back load rn list h
-  act_below base (instrs.Swap cond byte rd rm rn) h = swap_below byte rd rm rn h
-  act_below base (instrs.ThumbLoadLiteral rd immed) h = (below (register s 15 - register s 15 % 4 + 4 * immed), tt)
-  act_below base i h = subst AreBelow (sym (plain_none V5 base s i)) tt
-
-  meant_below : (base : ℕ) (i : Instr) → HasBase s (equivalent i) → AreBelow (meaning V5 base s i).accesses
-  meant_below base i h = by_condition (holds (condition i) s.cpsr) where
-    by_condition : (b : Bool) → AreBelow (if b then act V5 base s (equivalent i) else skipped s).accesses
-    by_condition true = act_below base (equivalent i) h
-    by_condition false = tt
 
 -- ---- the four bytes of a word that is aligned are observed together
 
@@ -189,7 +94,7 @@ module _ (r : NineReach) where
   abbrev at_write : ℕ → Bool
   at_write at = is_observed_past (tcm_of r.cp15 at true false) r.map.io.wramcnt at
 
-  none_by : (accesses : List Access) → AreBelow accesses → AllReachPrivate apart_side r accesses → any_observes r accesses ≡ false
+  none_by : (accesses : List Access) → AreOfData accesses → AllReachPrivate apart_side r accesses → any_observes r accesses ≡ false
   none_by [] low h = refl
   none_by (Fetch at width ∷ rest) low h = absurd low
   none_by (Read at width ∷ rest) low h =
@@ -197,7 +102,7 @@ module _ (r : NineReach) where
   none_by (Write at width value ∷ rest) low h =
       or_from (at_write at) (any_observes r rest) (not-true (at_write at) (private_itself (apart_side.is_private r true false) width at low.0 h.0)) (none_by rest low.1 h.1)
 
-  by_none : (accesses : List Access) → AreBelow accesses → any_observes r accesses ≡ false → AllReachPrivate apart_side r accesses
+  by_none : (accesses : List Access) → AreOfData accesses → any_observes r accesses ≡ false → AllReachPrivate apart_side r accesses
   by_none [] low h = tt
   by_none (Fetch at width ∷ rest) low h = absurd low
   by_none (Read at width ∷ rest) low h = (
@@ -216,21 +121,17 @@ same_test true o h k = sym (h refl)
 same_test false true h k = refl
 same_test false false h k = absurd (true≢false (sym (k refl)))
 
-pub instr_observes_by : (s : MachineState) (instr : Instr) (touch : Touch) → HasBase s.nine.processor.registers (equivalent instr)
-    → Covers touch (meaning V5 (nine_side.base (nine_reach (tick_of s.nine.processor) s)) s.nine.processor.registers instr).accesses
-    → not (data_apart s (reads_data (equivalent instr)) (writes_data (equivalent instr)) touch)
+pub instr_observes_by : (s : MachineState) (instr : Instr) (reach : Reach) → IsFootprint s Nine instr reach
+    → not (data_apart s reach)
     ≡ any_observes (nine_reach (tick_of s.nine.processor) s) (data_accesses V5 (nine_side.base (nine_reach (tick_of s.nine.processor) s)) s.nine.processor.registers (Some instr))
-instr_observes_by s instr touch has covers =
+instr_observes_by s instr reach is =
     let r = nine_reach (tick_of s.nine.processor) s in
     let base = nine_side.base r in
     let m = meaning V5 base s.nine.processor.registers instr in
-    let low = meant_below s.nine.processor.registers base instr has in
-    let suits = meant_suits V5 base s.nine.processor.registers instr in
-    let rd = reads_data (equivalent instr) in
-    let wr = writes_data (equivalent instr) in
-    same_test (data_apart s rd wr touch) (any_observes r m.accesses)
-    (λ h. none_by r m.accesses low (data_passes apart_side r rd wr touch m.accesses suits covers h))
-    (λ h. data_passed apart_side r rd wr touch m.accesses suits covers (by_none r m.accesses low h))
+    let low = is.words base in
+    same_test (data_apart s reach) (any_observes r m.accesses)
+    (λ h. none_by r m.accesses low (data_passes apart_side r reach.reads reach.writes reach.touch m.accesses (is.told base) (is.covers base) h))
+    (λ h. data_passed apart_side r reach.reads reach.writes reach.touch m.accesses (is.told base) (is.covers base) (by_none r m.accesses low h))
 
 -- an actor that is due by its rank
 pub low_if_due : (s : MachineState) (rank : ℕ) → IsSome (due_at (dues_of s) rank) → rank < 24

@@ -1,4 +1,4 @@
-use Rattle.std.proofs.Common.{ℕ, suc, ◌≡◌, ◌<◌, ◌+◌, ◌-◌, ◌%◌, ◌^◌, ◌==◌, ◌↔◌, ◌⊎◌, inl, inr, if◌then◌else◌, Bool, true, false, true≢false, not, List, [], ◌∷◌, ◌++◌, length, map, Option, Some, Contains, refl, sym, ◌∙◌, ap, subst, arith}
+use Rattle.std.proofs.Common.{ℕ, suc, ◌≡◌, ◌<◌, ◌+◌, ◌-◌, ◌%◌, ◌^◌, ◌↔◌, inl, inr, if◌then◌else◌, Bool, true, false, true≢false, not, List, [], ◌∷◌, ◌++◌, length, Option, Some, Contains, refl, sym, ◌∙◌, ap, subst, arith}
 use Rattle.std.specs.Prelude.{◌&&◌, ◌||◌}
 use Rattle.std.specs.List.{list_all}
 use Rattle.std.proofs.lemmas.List.Elements.{All-contains, Contains-append_left, Contains-append_right, Contains-append_cases}
@@ -7,7 +7,7 @@ use Rattle.std.proofs.lemmas.Bool.{and_from, and_parts}
 use Rattle.ds_base.specs.Accesses.{Access, Fetch, MemoryMachine, Read, Write}
 use Rattle.ds_base.specs.Processors.{architecture_of}
 use Rattle.ds_base.specs.declared.memories.Width.{Width}
-use Rattle.ds_base.specs.declared.memories.Width.TheVariants.{Byte, Half, Word}
+use Rattle.ds_base.specs.declared.memories.Width.TheVariants.{Half, Word}
 use Rattle.ds_base.specs.declared.processors.Arch.{Arch}
 use Rattle.ds_base.specs.declared.processors.Arch.TheVariants.{V4, V5}
 use Rattle.ds_base.specs.declared.processors.Proc.{Proc}
@@ -15,22 +15,11 @@ use Rattle.ds_base.specs.declared.processors.Proc.TheVariants.{Nine, Seven}
 use Rattle.arm_words.specs.ArmTable.{decoded_arm}
 use Rattle.arm_words.specs.ThumbTable.{decoded_thumb}
 use Rattle.arm_words.specs.declared.instructions.Instr.{Instr}
-use Rattle.arm_words.specs.declared.instructions.Instr.TheVariants as instrs
-use Rattle.arm_words.specs.declared.operations.HalfOp.{HalfOp}
-use Rattle.arm_words.specs.declared.operations.HalfOp.TheVariants.{Strh, Ldrh, Ldrsb, Ldrsh}
-use Rattle.arm_core.specs.Addressing.{addressed, list_bytes, listed_registers, lowest, moved_base, offset_value, short_offset_value}
-use Rattle.arm_core.specs.Conditions.{holds}
-use Rattle.arm_core.specs.Doubles.{double_at}
-use Rattle.arm_core.specs.Footprints.{Covers, access_bytes, accessed_bytes, span, touched_bytes}
-use Rattle.arm_core.specs.Meanings.{act, act_processing, condition, meaning, skipped}
-use Rattle.arm_core.specs.Multiples as multiples
-use Rattle.arm_core.specs.Multiples.{multiple_meaning, reached_bank, stored_value, stores_new_base, transferred}
-use Rattle.arm_core.specs.Registers.{RegisterState, is_thumb, register}
+use Rattle.arm_core.specs.Footprints.{AreAsTold, AreOfData, AreReads, AreWrites, Covers, access_bytes, accessed_bytes, span, touched_bytes}
+use Rattle.arm_core.specs.Meanings.{meaning}
+use Rattle.arm_core.specs.Registers.{RegisterState, is_thumb}
 use Rattle.arm_core.specs.Steps.{fetched, fetched_half, fetched_word}
-use Rattle.arm_core.specs.Swaps.{swap_meaning}
-use Rattle.arm_core.specs.Thumb.{equivalent}
-use Rattle.arm_core.specs.Transfers.{half_or_signed_meaning, load_meaning, signed_byte, signed_half, signed_half_meaning, word_or_byte_meaning}
-use Rattle.arm_core.specs.declared.addresses.Addressed.{Addressed}
+use Rattle.arm_core.specs.declared.touches.Reach.{Reach}
 use Rattle.arm_core.specs.declared.touches.Touch.{Touch}
 use Rattle.ds_map.specs.Views.{nine_memory, seven_memory}
 use Rattle.ds_machine.specs.Inspections.{fetch_of}
@@ -38,7 +27,7 @@ use Rattle.ds_machine.specs.Private.{AllReachPrivate, ProcessorStaysPrivate, Rea
 use Rattle.ds_machine.specs.PrivateSides.{SideOf, nine_side, seven_side}
 use Rattle.ds_machine.specs.States.{MachineState}
 use Rattle.ds_machine.specs.Steps.{nine_reach, processor_of, seven_reach, tick_of}
-use Rattle.ds_machine.specs.Touching.{FetchStaysPrivate, InstrReaches, InstrStaysPrivate, IsFootprint, data_private, half_writes, instr_at, is_private_to, reads_data, writes_data}
+use Rattle.ds_machine.specs.Touching.{FetchStaysPrivate, InstrReaches, InstrStaysPrivate, IsFootprint, data_private, instr_at, is_private_to}
 
 -- What the code tells of private places is so.
 
@@ -66,94 +55,6 @@ span_ends p first i length lt h =
     let left : length - i ≡ suc (length - (i + 1)) = omega (arith, lt) in
     let rest = list_all p (span (first + i + 1) (length - (i + 1))) in
     ap (λ (n : ℕ). list_all p (span (first + i) n)) left ∙ ap (λ (b : Bool). b && rest) h
-
--- ---- which accesses an instruction makes
-
-abbrev pub AreReads : List Access → Type 0
-AreReads [] = Unit {0}
-AreReads (Fetch at width ∷ rest) = ⊥
-AreReads (Read at width ∷ rest) = AreReads rest
-AreReads (Write at width value ∷ rest) = ⊥
-
-abbrev pub AreWrites : List Access → Type 0
-AreWrites [] = Unit {0}
-AreWrites (Fetch at width ∷ rest) = ⊥
-AreWrites (Read at width ∷ rest) = ⊥
-AreWrites (Write at width value ∷ rest) = AreWrites rest
-
--- they are all reads, or all writes, or a read and a write of one place
-abbrev pub Suits : Bool → Bool → List Access → Type 0
-Suits true true accesses = (at : ℕ) × (width : Width) × (value : ℕ) × (accesses ≡ Read at width ∷ Write at width value ∷ [])
-Suits true false accesses = AreReads accesses
-Suits false true accesses = AreWrites accesses
-Suits false false accesses = accesses ≡ []
-
-reads_are : (at : ℕ) (rs : List ℕ) → AreReads (multiples.reads at rs)
-reads_are at [] = tt
-reads_are at (r ∷ rs) = reads_are ((at + 4) % 2 ^ 32) rs
-
-writes_are : (at : ℕ) (values : List ℕ) → AreWrites (multiples.writes at values)
-writes_are at [] = tt
-writes_are at (value ∷ values) = writes_are ((at + 4) % 2 ^ 32) values
-
-module _ (arch : Arch) (s : RegisterState) where
-  word_or_byte_suits : (load byte : Bool) (rn rd : ℕ) (to : Addressed) → Suits load (not load) (word_or_byte_meaning arch s load byte rn rd to).accesses
-  word_or_byte_suits true true rn rd to = tt
-  word_or_byte_suits true false rn rd to = tt
-  word_or_byte_suits false true rn rd to = tt
-  word_or_byte_suits false false rn rd to = tt
-
-  double_suits : (store : Bool) (rn rd : ℕ) (to : Addressed) → Suits (not store) store (double_at s store rn rd to).accesses
-  double_suits true rn rd to = tt
-  double_suits false rn rd to = tt
-
-  swap_suits : (byte : Bool) (rd rm rn : ℕ) → Suits true true (swap_meaning s byte rd rm rn).accesses
-  swap_suits true rd rm rn = (register s rn, Byte, _, refl)
-  swap_suits false rd rm rn = (register s rn, Word, _, refl)
-
-  multiple_suits : (pre up user write_back load : Bool) (rn list : ℕ) → Suits load (not load) (multiple_meaning arch s pre up user write_back load rn list).accesses
-  multiple_suits pre up user write_back true rn list = reads_are (lowest pre up (register s rn) (list_bytes list)) (listed_registers (transferred arch list))
-  multiple_suits pre up user write_back false rn list =
-      let value = stored_value s (reached_bank s user) rn (write_back && not (rn == 15) && stores_new_base arch rn list) (moved_base up (register s rn) (list_bytes list)) in
-      writes_are (lowest pre up (register s rn) (list_bytes list)) (map value (listed_registers (transferred arch list)))
-
-signed_half_suits : (arch : Arch) (s : RegisterState) (rn rd : ℕ) (to : Addressed) → AreReads (signed_half_meaning arch s rn rd to).accesses
-signed_half_suits V5 s rn rd to = tt
-signed_half_suits V4 s rn rd to = either (to.address % 2 == 0) where
-  either : (b : Bool) → AreReads (if b then load_meaning s rn rd to Half signed_half else load_meaning s rn rd to Byte signed_byte).accesses
-  either true = tt
-  either false = tt
-
-half_suits : (arch : Arch) (s : RegisterState) (op : HalfOp) (rn rd : ℕ) (to : Addressed)
-    → Suits (not (half_writes op)) (half_writes op) (half_or_signed_meaning arch s op rn rd to).accesses
-half_suits arch s Strh rn rd to = tt
-half_suits arch s Ldrh rn rd to = tt
-half_suits arch s Ldrsb rn rd to = tt
-half_suits arch s Ldrsh rn rd to = signed_half_suits arch s rn rd to
-
-pub plain_none : (arch : Arch) (base : ℕ) (s : RegisterState) (instr : Instr) → (act_processing arch base s instr).accesses ≡ []
-plain_none arch base s (instrs.Data cond op set_flags rn rd operand) = refl
-plain_none arch base s _ = refl
-
-act_suits : (arch : Arch) (base : ℕ) (s : RegisterState) (i : Instr) → Suits (reads_data i) (writes_data i) (act arch base s i).accesses
-act_suits arch base s (instrs.Transfer cond pre up byte write_back load rn rd offset) =
-    word_or_byte_suits arch s load byte rn rd (addressed s pre up write_back rn (offset_value s offset))
-act_suits arch base s (instrs.HalfTransfer cond op pre up write_back rn rd offset) =
-    half_suits arch s op rn rd (addressed s pre up write_back rn (short_offset_value s offset))
-act_suits arch base s (instrs.DoubleTransfer cond store pre up write_back rn rd offset) =
-    double_suits arch s store rn rd (addressed s pre up write_back rn (short_offset_value s offset))
-act_suits arch base s (instrs.Multiple cond pre up user write_back load rn list) = multiple_suits arch s pre up user write_back load rn list
-act_suits arch base s (instrs.Swap cond byte rd rm rn) = swap_suits arch s byte rd rm rn
-act_suits arch base s (instrs.ThumbLoadLiteral rd immed) = tt
-act_suits arch base s i = plain_none arch base s i
-
-pub meant_suits : (arch : Arch) (base : ℕ) (s : RegisterState) (i : Instr)
-    → Suits (reads_data (equivalent i)) (writes_data (equivalent i)) (meaning arch base s i).accesses ⊎ ((meaning arch base s i).accesses ≡ [])
-meant_suits arch base s i = by_condition (holds (condition i) s.cpsr) where
-  by_condition : (b : Bool) → Suits (reads_data (equivalent i)) (writes_data (equivalent i)) (if b then act arch base s (equivalent i) else skipped s).accesses
-      ⊎ ((if b then act arch base s (equivalent i) else skipped s).accesses ≡ [])
-  by_condition true = inl (act_suits arch base s (equivalent i))
-  by_condition false = inr refl
 
 -- ---- accesses by their bytes
 
@@ -208,7 +109,7 @@ module _ {S : Type 0} (side : SideOf S) (state : S) where
         | inr there ↦ elim (Contains-append_cases one [] byte there) [ inl here ↦ here | inr none ↦ (let lt = none.1 in absurd (omega (arith, lt))) ]
       ]
 
-  reach_by : (r w : Bool) (accesses : List Access) → Suits r w accesses → (r ≡ true → Passes (side.is_private state false false) (accessed_bytes accesses))
+  reach_by : (r w : Bool) (accesses : List Access) → AreAsTold r w accesses → (r ≡ true → Passes (side.is_private state false false) (accessed_bytes accesses))
       → (w ≡ true → Passes (side.is_private state true false) (accessed_bytes accesses)) → AllReachPrivate side state accesses
   reach_by true true accesses suits h k =
       let at = suits.0 in
@@ -223,7 +124,7 @@ module _ {S : Type 0} (side : SideOf S) (state : S) where
   reach_by false true accesses suits h k = writes_reach accesses suits (k refl)
   reach_by false false accesses suits h k = subst (AllReachPrivate side state) (sym suits) tt
 
-  reads_by : (r w : Bool) (accesses : List Access) → Suits r w accesses → AllReachPrivate side state accesses → r ≡ true → Passes (side.is_private state false false) (accessed_bytes accesses)
+  reads_by : (r w : Bool) (accesses : List Access) → AreAsTold r w accesses → AllReachPrivate side state accesses → r ≡ true → Passes (side.is_private state false false) (accessed_bytes accesses)
   reads_by true true accesses suits h e =
       let both_in = subst (AllReachPrivate side state) suits.3 h in
       subst (λ (l : List Access). Passes (side.is_private state false false) (accessed_bytes l)) (sym suits.3)
@@ -231,7 +132,7 @@ module _ {S : Type 0} (side : SideOf S) (state : S) where
   reads_by true false accesses suits h e = reads_reached accesses suits h
   reads_by false w accesses suits h e = absurd (true≢false (sym e))
 
-  writes_by : (r w : Bool) (accesses : List Access) → Suits r w accesses → AllReachPrivate side state accesses → w ≡ true → Passes (side.is_private state true false) (accessed_bytes accesses)
+  writes_by : (r w : Bool) (accesses : List Access) → AreAsTold r w accesses → AllReachPrivate side state accesses → w ≡ true → Passes (side.is_private state true false) (accessed_bytes accesses)
   writes_by true true accesses suits h e =
       let both_in = subst (AllReachPrivate side state) suits.3 h in
       subst (λ (l : List Access). Passes (side.is_private state true false) (accessed_bytes l)) (sym suits.3)
@@ -259,43 +160,33 @@ module _ {S : Type 0} (side : SideOf S) (state : S) where
   so_where true b h = h refl
   so_where false b h = refl
 
-  pub data_passes : (r w : Bool) (touch : Touch) (accesses : List Access) → Suits r w accesses ⊎ (accesses ≡ []) → Covers touch accesses → tested r w touch ≡ true → AllReachPrivate side state accesses
-  data_passes r w touch accesses (inl suits) covers h =
+  pub data_passes : (r w : Bool) (touch : Touch) (accesses : List Access) → AreAsTold r w accesses → Covers touch accesses → tested r w touch ≡ true → AllReachPrivate side state accesses
+  data_passes r w touch accesses suits covers h =
       let p = side.is_private state false false in
       let q = side.is_private state true false in
       let a = not r || list_all p (touched_bytes touch) in
       let b = not w || list_all q (touched_bytes touch) in
       reach_by r w accesses suits (λ e. over_touch p touch accesses covers (where_so r (list_all p (touched_bytes touch)) (and_parts a b h).0 e))
       (λ e. over_touch q touch accesses covers (where_so w (list_all q (touched_bytes touch)) (and_parts a b h).1 e))
-  data_passes r w touch accesses (inr none) covers h = subst (AllReachPrivate side state) (sym none) tt
 
-  pub data_passed : (r w : Bool) (touch : Touch) (accesses : List Access) → Suits r w accesses ⊎ (accesses ≡ []) → Covers touch accesses → AllReachPrivate side state accesses → tested r w touch ≡ true
-  data_passed r w touch accesses (inl suits) covers h =
+  pub data_passed : (r w : Bool) (touch : Touch) (accesses : List Access) → AreAsTold r w accesses → Covers touch accesses → AllReachPrivate side state accesses → tested r w touch ≡ true
+  data_passed r w touch accesses suits covers h =
       let p = side.is_private state false false in
       let q = side.is_private state true false in
       let a = not r || list_all p (touched_bytes touch) in
       let b = not w || list_all q (touched_bytes touch) in
       and_from a b (so_where r (list_all p (touched_bytes touch)) (λ e. touch_over p touch accesses covers (reads_by r w accesses suits h e)))
       (so_where w (list_all q (touched_bytes touch)) (λ e. touch_over q touch accesses covers (writes_by r w accesses suits h e)))
-  data_passed r w touch accesses (inr none) covers h =
-      let p = side.is_private state false false in
-      let q = side.is_private state true false in
-      let a = not r || list_all p (touched_bytes touch) in
-      let b = not w || list_all q (touched_bytes touch) in
-      let nothing = ap accessed_bytes none in
-      and_from a b (so_where r (list_all p (touched_bytes touch)) (λ e. touch_over p touch accesses covers (none_passes p (accessed_bytes accesses) nothing)))
-      (so_where w (list_all q (touched_bytes touch)) (λ e. touch_over q touch accesses covers (none_passes q (accessed_bytes accesses) nothing)))
 
-  instr_is : (s : RegisterState) (instr : Instr) (touch : Touch) → Covers touch (meaning side.arch (side.base state) s instr).accesses
-      → ((may_go_ahead side.arch (Some instr) && tested (reads_data (equivalent instr)) (writes_data (equivalent instr)) touch) ≡ true) ↔ InstrReaches side state s instr
-  instr_is s instr touch covers =
+  instr_is : (s : RegisterState) (instr : Instr) (reach : Reach) → Covers reach.touch (meaning side.arch (side.base state) s instr).accesses
+      → AreAsTold reach.reads reach.writes (meaning side.arch (side.base state) s instr).accesses
+      → ((may_go_ahead side.arch (Some instr) && tested reach.reads reach.writes reach.touch) ≡ true) ↔ InstrReaches side state s instr
+  instr_is s instr reach covers told =
       let m = meaning side.arch (side.base state) s instr in
-      let r = reads_data (equivalent instr) in
-      let w = writes_data (equivalent instr) in
-      let go = may_go_ahead side.arch (Some instr) in
-      let suits = meant_suits side.arch (side.base state) s instr in (
-        λ h. ((and_parts go (tested r w touch) h).0, data_passes r w touch m.accesses suits covers (and_parts go (tested r w touch) h).1),
-        λ k. and_from go (tested r w touch) k.0 (data_passed r w touch m.accesses suits covers k.1),
+      let test = tested reach.reads reach.writes reach.touch in
+      let go = may_go_ahead side.arch (Some instr) in (
+        λ h. ((and_parts go test h).0, data_passes reach.reads reach.writes reach.touch m.accesses told covers (and_parts go test h).1),
+        λ k. and_from go test k.0 (data_passed reach.reads reach.writes reach.touch m.accesses told covers k.1),
       )
 
   fetch_is : (s : RegisterState) (touch : Touch) (at : ℕ) (width : Width) → Fetch at width ≡ next_fetch s → touched_bytes touch ≡ access_bytes (Fetch at width)
@@ -322,14 +213,14 @@ module _ {S : Type 0} (side : SideOf S) (state : S) where
 
 -- ---- in the machine
 
-pub instr_stays : (s : MachineState) (proc : Proc) (instr : Instr) (touch : Touch) → IsFootprint s proc instr touch
-    → ((may_go_ahead (architecture_of proc) (Some instr) && data_private s proc (reads_data (equivalent instr)) (writes_data (equivalent instr)) touch) ≡ true) ↔ InstrStaysPrivate s proc instr
-instr_stays s Nine instr touch is =
+pub instr_stays : (s : MachineState) (proc : Proc) (instr : Instr) (reach : Reach) → IsFootprint s proc instr reach
+    → ((may_go_ahead (architecture_of proc) (Some instr) && data_private s proc reach) ≡ true) ↔ InstrStaysPrivate s proc instr
+instr_stays s Nine instr reach is =
     let r = nine_reach (tick_of s.nine.processor) s in
-    instr_is nine_side r s.nine.processor.registers instr touch (is (nine_side.base r))
-instr_stays s Seven instr touch is =
+    instr_is nine_side r s.nine.processor.registers instr reach (is.covers (nine_side.base r)) (is.told (nine_side.base r))
+instr_stays s Seven instr reach is =
     let r = seven_reach (tick_of s.seven.processor) s in
-    instr_is seven_side r s.seven.processor.registers instr touch (is (seven_side.base r))
+    instr_is seven_side r s.seven.processor.registers instr reach (is.covers (seven_side.base r)) (is.told (seven_side.base r))
 
 pub fetch_stays : (s : MachineState) (proc : Proc) (touch : Touch) (at : ℕ) (width : Width) → Fetch at width ≡ next_fetch (processor_of s proc).registers
     → touched_bytes touch ≡ access_bytes (Fetch at width) → (list_all (is_private_to s proc false true) (touched_bytes touch) ≡ true) ↔ FetchStaysPrivate s proc
@@ -372,8 +263,15 @@ word_is s proc r word instr same arm got is =
     ∙ word_at s proc (ap (λ (x : RegisterState). is_thumb x) (sym same) ∙ arm)
 
 -- a footprint by the core's registers and architecture
-pub footprint_as : (s : MachineState) (proc : Proc) (instr : Instr) (touch : Touch) (arch : Arch) (r : RegisterState) → arch ≡ architecture_of proc
-    → r ≡ (processor_of s proc).registers → ((base : ℕ) → Covers touch (meaning arch base r instr).accesses) → IsFootprint s proc instr touch
-footprint_as s proc instr touch arch r a e covers base =
-    subst (λ (x : RegisterState). Covers touch (meaning (architecture_of proc) base x instr).accesses) e
-    (subst (λ (x : Arch). Covers touch (meaning x base r instr).accesses) a (covers base))
+pub footprint_as : (s : MachineState) (proc : Proc) (instr : Instr) (reach : Reach) (arch : Arch) (r : RegisterState) → arch ≡ architecture_of proc
+    → r ≡ (processor_of s proc).registers → ((base : ℕ) → Covers reach.touch (meaning arch base r instr).accesses)
+    → ((base : ℕ) → AreAsTold reach.reads reach.writes (meaning arch base r instr).accesses) → ((base : ℕ) → AreOfData (meaning arch base r instr).accesses)
+    → IsFootprint s proc instr reach
+footprint_as s proc instr reach arch r a e covers told words = record {
+  covers = λ base. there (Covers reach.touch) base (covers base);
+  told = λ base. there (AreAsTold reach.reads reach.writes) base (told base);
+  words = λ base. there AreOfData base (words base);
+} where
+  there : (P : List Access → Type 0) (base : ℕ) → P (meaning arch base r instr).accesses → P (meaning (architecture_of proc) base (processor_of s proc).registers instr).accesses
+  there P base h =
+      subst (λ (x : RegisterState). P (meaning (architecture_of proc) base x instr).accesses) e (subst (λ (x : Arch). P (meaning x base r instr).accesses) a h)

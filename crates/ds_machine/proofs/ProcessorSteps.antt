@@ -28,6 +28,7 @@ use Rattle.ds_machine.proofs.Costs.{step_costs}
 use Rattle.ds_machine.proofs.DueTicks.{due_then, tick_is}
 use Rattle.ds_machine.proofs.Moves.{Moves, blocked_moves, moves_of, other_held, same_keys, then_io_dues}
 use Rattle.ds_machine.proofs.Others.{step_goes}
+use Rattle.ds_machine.proofs.Rooms.{reached_within}
 use Rattle.ds_machine.proofs.Wakes.{halt_blocked, halt_other, halt_steps, halted_blocks, halted_io_dues, halted_io, put_beside, put_counts, put_other, put_processor_io}
 use Rattle.video2d.specs.Scans.{scan_due}
 
@@ -228,7 +229,7 @@ module _ (proc : Proc) (tick : Tick) (s : MachineState) (r : Operation proc tick
 
   pub reached_sound : HasSoundParts (reached_by proc s)
   reached_sound = record {
-    io = goes_io proc tick s.io (reached_by proc s).io r.sound.io goes;
+    io = goes_io proc tick s.io (reached_by proc s).io (reached_within proc s r.sound.io.gx not_blocked) r.sound.io goes;
     keys = subst AreKeyLines (sym (reaches proc s).keys) r.sound.keys;
   }
 

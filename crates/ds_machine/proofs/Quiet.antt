@@ -6,6 +6,7 @@ use Rattle.ds_base.specs.declared.processors.Proc.{Proc}
 use Rattle.ds_base.specs.declared.processors.Proc.TheVariants.{Nine, Seven}
 use Rattle.ds_base.specs.declared.ticks.Tick.{Tick}
 use Rattle.ds_dma.specs.Channels.{ready_by}
+use Rattle.ds_dma.specs.declared.channels.LastUnit.{LastUnit}
 use Rattle.ds_dma.specs.States.{DmaState, AreReadyLater, any_runs, channel_at}
 use Rattle.ds_ports.specs.Dues.{io_due}
 use Rattle.ds_ports.specs.Happenings.{HasOnlyLaterEvents}
@@ -91,7 +92,7 @@ pub acting_timers_later : (s : MachineState) (tick : Tick) (rank : ℕ) → IsLe
 acting_timers_later s tick rank least late = timers_past s (acting_dues s) tick rank least late (low_acts s)
 
 -- a channel that doesn't run is never ready
-never_ready : (now : Tick) (last trigger : Option Tick) → is_some trigger ≡ false → IsLater now (ready_by last trigger)
+never_ready : (now : Tick) (last : Option LastUnit) (trigger : Option Tick) → is_some trigger ≡ false → IsLater now (ready_by last trigger)
 never_ready now last None h = tt
 never_ready now last (Some trigger) h = absurd (true≢false h)
 

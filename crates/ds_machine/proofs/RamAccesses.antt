@@ -15,8 +15,10 @@ use Rattle.ds_places.specs.declared.kinds.Place.{Place}
 use Rattle.ds_places.specs.declared.kinds.Place.TheVariants.{Cell, Banks, Port, Rom, Nothing}
 use Rattle.ds_places.proofs.Regions.{lies_or_not}
 use Rattle.ds_map.specs.Accesses.{after_read_at, map_read, map_refusal, map_written, written_at, refusal_at}
+use Rattle.ds_map.specs.Guards.{is_guarded, meets_guard}
 use Rattle.ds_map.specs.Maps.{MapState}
 use Rattle.ds_map.specs.Views.{NineReach, nine_memory, seven_memory, tcm_refusal, tcm_written}
+use Rattle.ds_ports.specs.Io.{IoState}
 
 -- RAM, 2000000h to 3FFFFFFh, are cells for both processors, or nothing is there: no access of them changes a unit.
 
@@ -145,3 +147,12 @@ nine_refuses_none r at width value ram = tcm_refuses_none (tcm_of r.cp15 at true
 
 pub seven_refuses_none : RefusesNoneInRam seven_memory
 seven_refuses_none r at width value ram = refuses_none Seven r.map at width value ram
+
+-- ---- a write of them is ignored by no bus
+
+cells_meet_none : (proc : Proc) (where_ : Place) (u : IoState) → is_cells where_ ≡ true → meets_guard proc where_ u ≡ false
+cells_meet_none proc (Port at) u h = absurd (true≢false (sym h))
+cells_meet_none proc _ u h = refl
+
+pub ram_unguarded : (proc : Proc) (m : MapState) (at : ℕ) → 0x02000000 ≤ at → at < 0x04000000 → is_guarded proc m at ≡ false
+ram_unguarded proc m at low high = cells_meet_none proc (place_of proc m.io.wramcnt at) m.io (ram_cells proc m.io.wramcnt at low high)

@@ -21,8 +21,10 @@ use Rattle.ds_ports.specs.declared.registers.Register.{Register}
 use Rattle.ds_ports.specs.declared.registers.Register.TheVariants.{GxWord, GxCommand, Dmasad, Dmadad, Dmacnt, TmcntL, TmcntH, Keycnt, Ime, Ie, If, Haltcnt}
 use Rattle.ds_ports.specs.declared.registers.Slot.{Slot}
 use Rattle.ds_ports.proofs.Grows.{write_grows}
-use Rattle.ds_ports.proofs.GxPorts.{port_waiting}
+use Rattle.ds_ports.proofs.GxPorts.{written_longer}
+use Rattle.gx_fifo.specs.Entries.{most_entries}
 use Rattle.gx_fifo.specs.GxStates.{AreWaiting, GxState, waiting_entries}
+use Rattle.gx_fifo.proofs.Laws.{written_waiting}
 use Rattle.vram_banks.specs.Cells.{vram_written}
 use Rattle.ds_map.specs.Accesses.{is_byte_of_nine, map_written, takes_no_bytes, written_at}
 use Rattle.ds_map.specs.Maps.{MapState}
@@ -110,24 +112,31 @@ module _ (proc : Proc) (now : Tick) (R : GxState → GxState → Type 0) (same :
   unfolding map_written
   map_makes m at width value = place_makes m (place_of proc m.io.wramcnt at) width value
 
--- ---- ARM9's: what waits is still as it can be, and four more wait at most
+-- ---- ARM9's: no entry leaves, what waits is still as it can be where there is room for it, and four more wait at most
 
 abbrev Waits : GxState → GxState → Type 0
-Waits old new = AreWaiting old → AreWaiting new
+Waits old new = (waiting_entries old ≤ waiting_entries new) × (waiting_entries new ≤ most_entries → AreWaiting old → AreWaiting new)
+
+waits_still : (g : GxState) → Waits g g
+waits_still g = (omega arith, λ room w. w)
+
+waits_on : (a b c : GxState) → Waits a b → Waits b c → Waits a c
+waits_on a b c h k =
+    let more = h.0 in let most = k.0 in (omega (arith, more, most), λ room w. k.1 room (h.1 (omega (arith, room, most)) w))
 
 set_waits : (now : Tick) (u : IoState) (number value : ℕ) → Waits u.gx (gx_set Nine now u number value).gx
-set_waits now u number value waiting = port_waiting u.gx number value now waiting
+set_waits now u number value = (written_longer u.gx number value now, written_waiting u.gx number value now)
 
 pub record GrowsByFour (old new : GxState) : Type 0 where
-  pub waiting : AreWaiting old → AreWaiting new
+  pub waiting : waiting_entries new ≤ most_entries → AreWaiting old → AreWaiting new
   pub entries : AreWaiting old → waiting_entries new ≤ waiting_entries old + 4
 
 pub no_growth : (g : GxState) → GrowsByFour g g
-no_growth g = record { waiting = λ w. w; entries = λ w. omega arith }
+no_growth g = record { waiting = λ room w. w; entries = λ w. omega arith }
 
 port_grows : (now : Tick) (u : IoState) (at : ℕ) (width : Width) (value : ℕ) → GrowsByFour u.gx (port_written Nine now u at width value).gx
 port_grows now u at width value = record {
-  waiting = port_makes Nine now Waits (λ g w. w) (λ a b c h k w. k (h w)) (set_waits now) u at width value;
+  waiting = (port_makes Nine now Waits waits_still waits_on (set_waits now) u at width value).1;
   entries = write_grows Nine now u at width value;
 }
 

@@ -39,6 +39,7 @@ use Rattle.ds_map.specs.Accesses.{map_value}
 use Rattle.ds_map.specs.Maps.{MapState}
 use Rattle.ds_map.specs.Moves.{map_after_unit, next_unit, unit_moved, unit_read, unit_refusal, unit_taken}
 use Rattle.ds_map.specs.Views.{NineReach, SevenReach, nine_memory, seven_memory, tcm_read, tcm_written}
+use Rattle.ds_map.proofs.Guards.{read_leaves, taken_leaves}
 use Rattle.ds_map.proofs.Later.{map_read_unchanged}
 use Rattle.ds_ports.specs.Dues.{held_due, io_due}
 use Rattle.ds_ports.specs.Io.{IoState, channel_moved, level_told, settled}
@@ -50,12 +51,12 @@ use Rattle.ds_runs.specs.declared.actors.Actor.TheVariants.{Dma, Processor}
 use Rattle.gx_fifo.specs.GxStates.{AreWaiting, GxState, gx_written, is_half_empty, is_stalled, waiting_entries}
 use Rattle.ds_machine.specs.Channels.{channel_step, moved_by}
 use Rattle.ds_machine.specs.Reference.{Shown, awake, due_by, processor_due, reference_step, step_by}
-use Rattle.ds_machine.specs.Rooms.{FindsRoom, HasRoom, InstructionsFindRoom, NineStepsFindRoom, NineUnitsFindRoom, SevenStepsLeaveGeometry, SevenUnitsLeaveGeometry, StepFindsRoom, StepsFindRoom, UnitFindsRoom, accesses_of, step_accesses}
+use Rattle.ds_machine.specs.Rooms.{FindsRoom, InstructionsFindRoom, NineStepsFindRoom, NineUnitsFindRoom, SevenStepsLeaveGeometry, SevenUnitsLeaveGeometry, StepFindsRoom, StepsFindRoom, UnitFindsRoom, accesses_of, step_accesses}
 use Rattle.ds_machine.specs.PrivateSides.{nine_side, seven_side, side_taken}
 use Rattle.ds_machine.specs.Sides.{nine_executed}
 use Rattle.ds_machine.specs.States.{MachineState}
 use Rattle.ds_machine.specs.Statuses.{left_by}
-use Rattle.ds_machine.specs.Steps.{StepOutcome, ended, goes_on, line_of, machine_concluded, machine_settled, map_of, nine_reach, outcome_of, processor_of, processor_step, seven_reach, tick_of, wakes, with_map, woken_one}
+use Rattle.ds_machine.specs.Steps.{StepOutcome, ended, goes_on, is_blocked, line_of, machine_concluded, machine_settled, map_of, nine_reach, outcome_of, processor_of, processor_step, seven_reach, tick_of, wakes, with_map, woken_one}
 use Rattle.ds_machine.proofs.FewAccesses.{instructions_are_short}
 use Rattle.ds_machine.proofs.Keeps.{Follows, taken_follows, word_follows}
 use Rattle.ds_machine.proofs.RoomWrites.{GrowsByFour, nine_grows, no_growth, seven_stays}
@@ -85,16 +86,6 @@ refused_within : (stop : Option Stop) (left : NineReach) (rest : Performed NineR
 refused_within None left rest h k = k
 refused_within (Some stop) left rest h k = h
 
-taken_by : (s : GxState) (at value : ℕ) (now : Tick) (over : Bool) → over ≡ false → (if over then s else gx_written s at value now) ≡ gx_written s at value now
-taken_by s at value now true h = absurd (true≢false h)
-taken_by s at value now false h = refl
-
-is_within : (n : ℕ) → n ≤ 320 → nat_lt 320 n ≡ false
-is_within n h = grind (arith, h)
-
-has_room : (m : MapState) → waiting_entries m.io.gx ≤ 320 → HasRoom m
-has_room m h = record { entries = h; taken = λ at value now. taken_by m.io.gx at value now (nat_lt 320 (waiting_entries m.io.gx)) (is_within (waiting_entries m.io.gx) h) }
-
 abbrev HaveRoom : List Access → NineReach → Type 0
 HaveRoom accesses r = FindsRoom accesses r × (waiting (perform nine_memory r accesses).state ≤ 324)
 
@@ -104,7 +95,7 @@ have_room (Fetch at width ∷ rest) r w h =
     let l : waiting r + 4 * length rest ≤ 324 = omega (arith, h) in
     let more : HaveRoom rest r = have_room rest r w l in
     let now : waiting r ≤ 320 = omega (arith, h) in
-    ((has_room r.map now, more.0), more.1)
+    ((now, more.0), more.1)
 have_room (Read at width ∷ rest) r w h =
     let next : NineReach = tcm_read (tcm_of r.cp15 at false false) r at width in
     let e : next.map.io.gx ≡ r.map.io.gx = tcm_reads (tcm_of r.cp15 at false false) r at width in
@@ -112,21 +103,21 @@ have_room (Read at width ∷ rest) r w h =
     let l : waiting next + 4 * length rest ≤ 324 = omega (arith, h, many) in
     let more : HaveRoom rest next = have_room rest next (subst AreWaiting (sym e) w) l in
     let now : waiting r ≤ 320 = omega (arith, h) in
-    ((has_room r.map now, more.0), more.1)
+    ((now, more.0), more.1)
 have_room (Write at width value ∷ rest) r w h =
     let next : NineReach = tcm_written (tcm_of r.cp15 at true false) r at width value in
     let g : GrowsByFour r.map.io.gx next.map.io.gx = tcm_writes (tcm_of r.cp15 at true false) r at width value in
     let many : waiting next ≤ waiting r + 4 = g.entries w in
     let l : waiting next + 4 * length rest ≤ 324 = omega (arith, h, many) in
-    let more : HaveRoom rest next = have_room rest next (g.waiting w) l in
     let now : waiting r ≤ 320 = omega (arith, h) in
     let left : waiting next ≤ 324 = omega (arith, now, many) in
-    ((has_room r.map now, more.0), refused_within (nine_memory.refusal r at width value) next (perform nine_memory next rest) left more.1)
+    let more : HaveRoom rest next = have_room rest next (g.waiting left w) l in
+    ((now, more.0), refused_within (nine_memory.refusal r at width value) next (perform nine_memory next rest) left more.1)
 
 not_over : (n : ℕ) → nat_lt 260 n ≡ false → n ≤ 260
 not_over n h = grind (arith, h)
 
-few_have_room : (accesses : List Access) (r : NineReach) → length accesses ≤ 16 → AreWaiting r.map.io.gx → is_stalled r.map.io.gx ≡ false → HaveRoom accesses r
+pub few_have_room : (accesses : List Access) (r : NineReach) → length accesses ≤ 16 → AreWaiting r.map.io.gx → is_stalled r.map.io.gx ≡ false → HaveRoom accesses r
 few_have_room accesses r few w free =
     let l : waiting r ≤ 260 = not_over (waiting r) free in
     let h : waiting r + 4 * length accesses ≤ 324 = omega (arith, l, few) in
@@ -302,19 +293,9 @@ nine_steps_find_room s w free =
 
 -- ---- ARM9's DMA
 
-due_unstalled : (stalled : Bool) (released : ℕ) (due : Option Tick) (now : Tick) → held_due stalled released due ≡ Some now → stalled ≡ false
+pub due_unstalled : (stalled : Bool) (released : ℕ) (due : Option Tick) (now : Tick) → held_due stalled released due ≡ Some now → stalled ≡ false
 due_unstalled true released due now h = absurd (none-some now h)
 due_unstalled false released due now h = refl
-
-read_leaves : (proc : Proc) (unit : DmaUnit) (m : MapState) → (unit_read proc unit m).io.gx ≡ m.io.gx
-read_leaves proc unit m = (map_read_unchanged proc m unit.from unit.width).gx
-
-moved_leaves : (proc : Proc) (now : Tick) (u : IoState) → (channel_moved proc now u).gx ≡ u.gx
-moved_leaves Nine now u = refl
-moved_leaves Seven now u = refl
-
-taken_leaves : (proc : Proc) (now : Tick) (unit : DmaUnit) (m : MapState) → (unit_taken proc now unit m).io.gx ≡ m.io.gx
-taken_leaves proc now unit m = moved_leaves proc now (unit_read proc unit m).io ∙ read_leaves proc unit m
 
 unit_grows : (stop : Option Stop) (now : Tick) (unit : DmaUnit) (m : MapState) → AreWaiting m.io.gx
     → waiting_entries (map_after_unit stop Nine now unit m).io.gx ≤ waiting_entries m.io.gx + 4
@@ -332,7 +313,7 @@ unit_finds_room now unit m w free =
     let many : waiting_entries (unit_taken Nine now unit m).io.gx ≡ waiting_entries m.io.gx = ap waiting_entries (taken_leaves Nine now unit m) in
     let more : waiting_entries (unit_moved Nine now unit m).io.gx ≤ waiting_entries m.io.gx + 4 = unit_grows (unit_refusal Nine now unit m) now unit m w in
     let before : waiting_entries (unit_taken Nine now unit m).io.gx ≤ 320 = omega (arith, l, many) in
-    record { read = has_room m (omega (arith, l)); write = has_room (unit_taken Nine now unit m) before; after = omega (arith, l, more) }
+    record { read = omega (arith, l); write = before; after = omega (arith, l, more) }
 
 abbrev channel_came : ℕ → Proc → Option Tick → MachineState → MachineStep MachineState Shown LeftOut
 channel_came rank proc due s = channel_step rank proc due s
@@ -399,3 +380,19 @@ pub seven_units_leave_geometry : SevenUnitsLeaveGeometry
 seven_units_leave_geometry rank channel s is =
     by_actor (λ (x : MachineState). x.io.gx ≡ s.io.gx) rank (Dma Seven channel) s is
     (awake_leaves (io_due (Dma Seven channel) s.io) (channel_came rank Seven (io_due (Dma Seven channel) s.io) s) ∙ seven_channel rank (io_due (Dma Seven channel) s.io) s)
+
+-- ---- so what waits after a step, or after a unit, is no more than there is room for
+
+pub reached_within : (proc : Proc) (s : MachineState) → AreWaiting s.io.gx → is_blocked s proc ≡ false → waiting_entries (outcome proc s).machine.io.gx ≤ 324
+reached_within Nine s w free = (nine_steps_find_room s w free).step.after
+reached_within Seven s w free =
+    subst (λ (g : GxState). waiting_entries g ≤ 324)
+    (sym (seven_taken (line_of s Seven) s.seven.processor.registers (seven_reach (tick_of s.seven.processor) s))) w.entries
+
+pub unit_within : (proc : Proc) (channel : ℕ) (now : Tick) (unit : DmaUnit) (s : MachineState) → AreWaiting s.io.gx → io_due (Dma proc channel) s.io ≡ Some now
+    → waiting_entries (map_after_unit None proc now unit (map_of proc s)).io.gx ≤ 324
+unit_within Nine channel now unit s w due =
+    let l : waiting_entries s.io.gx ≤ 260 =
+    not_over (waiting_entries s.io.gx) (due_unstalled (is_stalled s.io.gx) s.io.released (channel_due s.io.nine.dma channel) now due) in
+    omega (arith, l, unit_grows None now unit (map_of Nine s) w)
+unit_within Seven channel now unit s w due = subst (λ (g : GxState). waiting_entries g ≤ 324) (sym (seven_unit None now unit (map_of Seven s))) w.entries

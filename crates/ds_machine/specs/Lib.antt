@@ -22,6 +22,7 @@ pub mod Observing
 pub mod OwnSteps
 pub mod Processors
 pub mod Rooms
+pub mod GuardedSteps
 pub mod Statuses
 pub mod Stopping
 pub mod StepAnswers

@@ -1,10 +1,8 @@
-use Rattle.std.specs.Prelude.{ℕ, ◌<◌, ◌^◌, ◌||◌, ◌&&◌, not, Bool, true, false}
+use Rattle.std.specs.Prelude.{ℕ, ◌||◌, ◌&&◌, not, Bool, true, false}
 use Rattle.std.specs.List.{list_all}
 use Rattle.arm_core.specs.Footprints.{touched_bytes}
-use Rattle.arm_core.specs.Registers.{RegisterState, register}
+use Rattle.arm_core.specs.declared.touches.Reach.{Reach}
 use Rattle.arm_core.specs.declared.touches.Touch.{Touch}
-use Rattle.arm_words.specs.declared.instructions.Instr.{Instr}
-use Rattle.arm_words.specs.declared.instructions.Instr.TheVariants.{DoubleTransfer, HalfTransfer, Multiple, Swap, Transfer}
 use Rattle.cp15_tcm.specs.TightlyCoupled.{tcm_of}
 use Rattle.ds_machine.specs.Lagging.{is_observed_past}
 use Rattle.ds_machine.specs.States.{MachineState}
@@ -22,14 +20,5 @@ is_apart_at s writing at = not (is_observed_at s writing at)
 abbrev pub all_apart : MachineState → Bool → Touch → Bool
 all_apart s writing touch = list_all (is_apart_at s writing) (touched_bytes touch)
 
-abbrev pub data_apart : MachineState → (reads writes : Bool) → Touch → Bool
-data_apart s reads writes touch = (not reads || all_apart s false touch) && (not writes || all_apart s true touch)
-
--- the register from which the addresses of an instruction in its form of ARM code go is a word
-abbrev pub HasBase : RegisterState → Instr → Type 0
-HasBase s (Transfer cond pre up byte write_back load rn rd offset) = register s rn < 2 ^ 32
-HasBase s (HalfTransfer cond op pre up write_back rn rd offset) = register s rn < 2 ^ 32
-HasBase s (DoubleTransfer cond store pre up write_back rn rd offset) = register s rn < 2 ^ 32
-HasBase s (Multiple cond pre up user write_back load rn list) = register s rn < 2 ^ 32
-HasBase s (Swap cond byte rd rm rn) = register s rn < 2 ^ 32
-HasBase s _ = Unit {0}
+abbrev pub data_apart : MachineState → Reach → Bool
+data_apart s reach = (not reach.reads || all_apart s false reach.touch) && (not reach.writes || all_apart s true reach.touch)

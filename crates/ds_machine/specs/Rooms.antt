@@ -12,20 +12,18 @@ use Rattle.ds_map.specs.Maps.{MapState}
 use Rattle.ds_map.specs.Moves.{next_unit, unit_moved, unit_taken}
 use Rattle.ds_map.specs.Views.{NineReach, nine_memory}
 use Rattle.ds_ports.specs.Dues.{io_due}
-use Rattle.ds_ports.specs.Registers.{gx_port_written}
 use Rattle.ds_runs.specs.Actors.{actor_of}
 use Rattle.ds_runs.specs.declared.actors.Actor.TheVariants.{Dma, Processor}
 use Rattle.gx_fifo.specs.Entries.{most_entries}
-use Rattle.gx_fifo.specs.GxStates.{AreWaiting, gx_written, is_stalled, waiting_entries}
+use Rattle.gx_fifo.specs.GxStates.{AreWaiting, is_stalled, waiting_entries}
 use Rattle.ds_machine.specs.Reference.{reference_step}
 use Rattle.ds_machine.specs.PrivateSides.{SideOf, nine_side, side_taken}
 use Rattle.ds_machine.specs.States.{MachineState}
 use Rattle.ds_machine.specs.Statuses.{left_by}
 use Rattle.ds_machine.specs.Steps.{is_blocked, line_of, map_of, nine_reach, tick_of}
 
--- Whatever is written to geometry finds room. Its FIFO has room for 324 entries, and a word that is written adds four at most; so a write while more
--- than 320 wait would be ignored, and there is none: more than 260 hold ARM9 and its DMA (GBATEK, "GXFIFO"), and an instruction makes sixteen
--- accesses at most.
+-- Whatever is written to geometry finds room. A word that is written adds four entries at most to those that wait for it; more than 260 hold ARM9 and
+-- its DMA (GBATEK, "GXFIFO"), and an instruction makes sixteen accesses at most. So at most 320 wait before each access, and at most 324 after it.
 
 -- ---- instructions
 
@@ -45,10 +43,9 @@ step_accesses memory side line s state =
 
 -- ---- ARM9
 
--- there is room for what one more access adds, so that a write of geometry's registers isn't ignored
-pub record HasRoom (m : MapState) : Type 0 where
-  pub entries : waiting_entries m.io.gx ≤ 320
-  pub taken : (at value : ℕ) (now : Tick) → gx_port_written m.io.gx at value now ≡ gx_written m.io.gx at value now
+-- there is room for what one more access adds
+abbrev pub HasRoom : MapState → Type 0
+HasRoom m = waiting_entries m.io.gx ≤ 320
 
 -- each of some accesses of ARM9, made one after another, finds room; so would those after one that is refused, which aren't made
 abbrev pub FindsRoom : List Access → NineReach → Type 0

@@ -7,18 +7,15 @@ use Rattle.ds_base.specs.declared.processors.Arch.TheVariants.{V4, V5}
 use Rattle.ds_base.specs.declared.processors.Proc.{Proc}
 use Rattle.ds_base.specs.declared.processors.Proc.TheVariants.{Nine, Seven}
 use Rattle.arm_words.specs.declared.instructions.Instr.{Instr}
-use Rattle.arm_words.specs.declared.instructions.Instr.TheVariants.{DoubleTransfer, HalfTransfer, Multiple, Swap, ThumbLoadLiteral, Transfer}
-use Rattle.arm_words.specs.declared.operations.HalfOp.{HalfOp}
-use Rattle.arm_words.specs.declared.operations.HalfOp.TheVariants.{Strh}
-use Rattle.arm_core.specs.Footprints.{Covers, touched_bytes}
+use Rattle.arm_core.specs.Footprints.{AreAsTold, AreOfData, Covers, touched_bytes}
 use Rattle.arm_core.specs.Meanings.{meaning}
 use Rattle.arm_core.specs.Registers.{RegisterState}
 use Rattle.arm_core.specs.Steps.{fetched}
+use Rattle.arm_core.specs.declared.touches.Reach.{Reach}
 use Rattle.arm_core.specs.declared.touches.Touch.{Touch}
 use Rattle.arm_ops.specs.Meanings.{IsNear}
+use Rattle.arm_ops.specs.Operations.{loads}
 use Rattle.arm_ops.specs.declared.operations.DataAccess.{DataAccess}
-use Rattle.arm_ops.specs.declared.operations.TransferOp.{TransferOp}
-use Rattle.arm_ops.specs.declared.operations.TransferOp.TheVariants.{WordOrByte, HalfOrSigned}
 use Rattle.ds_base.specs.declared.ticks.Tick.{Tick}
 use Rattle.ds_map.specs.Views.{nine_memory, seven_memory}
 use Rattle.ds_timers.specs.Irqs.{IrqState}
@@ -40,39 +37,19 @@ abbrev pub instr_at : MachineState → Proc → Option Instr
 instr_at s Nine = (fetched nine_memory V5 s.nine.processor.registers (nine_reach (tick_of s.nine.processor) s)).instr
 instr_at s Seven = (fetched seven_memory V4 s.seven.processor.registers (seven_reach (tick_of s.seven.processor) s)).instr
 
--- which accesses of data an instruction in its form of ARM code makes, if it makes any
-abbrev pub half_writes : HalfOp → Bool
-half_writes Strh = true
-half_writes _ = false
-
-abbrev pub reads_data : Instr → Bool
-reads_data (Transfer cond pre up byte write_back load rn rd offset) = load
-reads_data (HalfTransfer cond op pre up write_back rn rd offset) = not (half_writes op)
-reads_data (DoubleTransfer cond store pre up write_back rn rd offset) = not store
-reads_data (Multiple cond pre up user write_back load rn list) = load
-reads_data (Swap cond byte rd rm rn) = true
-reads_data (ThumbLoadLiteral rd immed) = true
-reads_data _ = false
-
-abbrev pub writes_data : Instr → Bool
-writes_data (Transfer cond pre up byte write_back load rn rd offset) = not load
-writes_data (HalfTransfer cond op pre up write_back rn rd offset) = half_writes op
-writes_data (DoubleTransfer cond store pre up write_back rn rd offset) = store
-writes_data (Multiple cond pre up user write_back load rn list) = not load
-writes_data (Swap cond byte rd rm rn) = true
-writes_data _ = false
-
--- a touch has exactly the bytes that an instruction of a processor's reaches
-abbrev pub IsFootprint : MachineState → Proc → Instr → Touch → Type 0
-IsFootprint s proc instr touch = (base : ℕ) → Covers touch (meaning (architecture_of proc) base (processor_of s proc).registers instr).accesses
+-- what is told of the accesses of an instruction of a processor's is so: exactly those bytes are reached, and so
+pub record IsFootprint (s : MachineState) (proc : Proc) (instr : Instr) (reach : Reach) : Type 0 where
+  pub covers : (base : ℕ) → Covers reach.touch (meaning (architecture_of proc) base (processor_of s proc).registers instr).accesses
+  pub told : (base : ℕ) → AreAsTold reach.reads reach.writes (meaning (architecture_of proc) base (processor_of s proc).registers instr).accesses
+  pub words : (base : ℕ) → AreOfData (meaning (architecture_of proc) base (processor_of s proc).registers instr).accesses
 
 -- all of a touch's bytes lie in private places, as reads or as writes reach them, where there are any
 abbrev pub all_private : MachineState → Proc → (writing fetching : Bool) → Touch → Bool
 all_private s proc writing fetching touch = list_all (is_private_to s proc writing fetching) (touched_bytes touch)
 
-abbrev pub data_private : MachineState → Proc → (reads_data writes_data : Bool) → Touch → Bool
-data_private s proc reads_data writes_data touch =
-    (not reads_data || all_private s proc false false touch) && (not writes_data || all_private s proc true false touch)
+abbrev pub data_private : MachineState → Proc → Reach → Bool
+data_private s proc reach =
+    (not reach.reads || all_private s proc false false reach.touch) && (not reach.writes || all_private s proc true false reach.touch)
 
 -- what is fetched at r15 lies in private places; and an instruction is of a kind that may be taken before its turn, and its accesses of data stay
 -- there
@@ -99,15 +76,10 @@ pub record GoesByWords {S : Type 0} (side : SideOf S) : Type 0 where
   pub same : (state : S) (writing fetching : Bool) (a b : ℕ) → a / 4 ≡ b / 4 → side.is_private state writing fetching a
       ≡ side.is_private state writing fetching b
 
--- an access writes
-abbrev pub stores : TransferOp → Bool
-stores (WordOrByte load byte) = not load
-stores (HalfOrSigned op) = half_writes op
-
 -- it is to a private place, if there is one
 abbrev pub access_stays : {S : Type 0} → SideOf S → S → Option DataAccess → Bool
 access_stays side state None = true
-access_stays side state (Some access) = side.is_private state (stores access.op) false access.to.address
+access_stays side state (Some access) = side.is_private state (not (loads access.op)) false access.to.address
 
 -- what is fetched is of a kind that may be taken before its turn, and its accesses of data stay in private places
 pub record DataStays {S : Type 0} (memory : MemoryMachine S) (side : SideOf S) (s : RegisterState) (state : S) : Type 0 where

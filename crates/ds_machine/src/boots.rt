@@ -1,6 +1,6 @@
 //! What boot copies.
 
-ghost use Rattle.std.specs.Prelude.{◌≡◌, ◌+◌, ◌≤◌, ◌^◌, length};
+ghost use Rattle.std.specs.Prelude.{◌≡◌, ◌+◌, ◌<◌, ◌≤◌, length};
 ghost use Rattle.ds_machine.specs.Boots.{copied, stored};
 ghost use Rattle.ds_machine.specs.Booted.{with_header, with_image};
 
@@ -14,18 +14,22 @@ const HEADER_BYTES: usize = 0x170;
 const HEADER_PLACE: u32 = 0x027F_FE00;
 
 impl Parts {
-    /// Stores a byte where a processor sees it, at tick 0.
+    /// Stores a byte in RAM where a processor sees it, at tick 0.
+    #[tactic(auto, using(crate::proofs::RamAccesses::ram_unguarded))]
     fn store(&mut self, proc: Proc, at: u32, byte: u8)
+        requires low { 0x02000000 ≤ at }
+        requires high { at < 0x04000000 }
         ensures { self.new ≡ stored proc self.old at byte }
     {
         let _ = self
             .map
-            .write(&mut self.io, proc, Tick(0), at, Width::Byte, byte as u32);
+            .put(&mut self.io, proc, Tick(0), at, Width::Byte, byte as u32);
     }
 
-    /// Copies bytes to where a processor sees them from an address on.
+    /// Copies bytes to where a processor sees them in RAM, from an address on.
     fn copy(&mut self, proc: Proc, at: u32, bytes: &[u8])
-        requires { at + length bytes.now ≤ 2 ^ 32 }
+        requires low { 0x02000000 ≤ at }
+        requires high { at + length bytes.now ≤ 0x04000000 }
         ensures { self.new ≡ copied proc self.old at bytes.now }
     {
         for (i, byte) in bytes.iter().enumerate() {

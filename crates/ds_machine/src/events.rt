@@ -1,10 +1,11 @@
 //! The events: the steps of all actors but the processors.
 
-ghost use Rattle.std.specs.Prelude.{◌≡◌, ◌<◌, ◌≤◌, ◌^◌, ◌&&◌, IsSome, Some};
+ghost use Rattle.std.specs.Prelude.{◌≡◌, ◌<◌, ◌≤◌, ◌^◌, ◌&&◌, false, IsSome, Some};
 ghost use Rattle.ds_base.specs.declared.processors.Proc.TheVariants.{Nine};
 ghost use Rattle.ds_dma.specs.States.{dma_due};
 ghost use Rattle.ds_map.specs.Moves.{unit_moved, unit_refusal};
 ghost use Rattle.ds_ports.specs.Dues.{io_due};
+ghost use Rattle.ds_ports.specs.Guards.{is_overfull};
 ghost use Rattle.ds_ports.specs.Io.{io_event, io_of, video_done};
 ghost use Rattle.ds_runs.specs.Actors.{IsNumbered};
 ghost use Rattle.ds_machine.specs.Channels.{delayed_past, moved_by, one_event};
@@ -68,9 +69,9 @@ impl Parts {
         ensures { self.new ≡ with_processor Nine (with_io self.old (io_event actors.Geometry self.old.io))
             (record self.old.nine.processor { due = past_stall self.old.io self.old.nine.processor.due }) }
     {
-        let stalled = self.io.is_stalled();
+        let stalled = self.io.gx().stalled();
         self.io.event(Actor::Geometry);
-        if stalled && !self.io.is_stalled() && !self.io.processor(Proc::Nine).is_halted() {
+        if stalled && !self.io.gx().stalled() && !self.io.processor(Proc::Nine).is_halted() {
             self.nine.processor.delay_past(false, tick);
         }
     }
@@ -172,6 +173,7 @@ impl Parts {
     fn move_unit(&mut self, proc: Proc, tick: Tick, unit: Unit) -> Option<Stop>
         requires due { IsSome (dma_due (io_of self.old.io proc).dma) }
         requires early { tick.0 ≤ 2 ^ 56 }
+        requires room { is_overfull proc self.old.io ≡ false }
         ensures stop { result ≡ unit_refusal proc tick unit (map_of proc self.old) }
         ensures map { self.new ≡ with_map proc self.old (unit_moved proc tick unit (map_of proc self.old)) }
     {
@@ -179,6 +181,7 @@ impl Parts {
     }
 
     /// A DMA channel's event.
+    #[tactic(auto, using(crate::proofs::GuardedSteps::channel_has_room))]
     pub fn step_channel(&mut self, rank: u8, proc: Proc, channel: u8, tick: Tick) -> Done
         requires number { channel < 4 }
         requires due { due_by (actors.Dma proc channel) self.old ≡ Some tick }

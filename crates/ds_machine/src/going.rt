@@ -36,6 +36,7 @@ impl Parts {
     /// and changes no unit: so no processor wakes, and what is kept stays. It observes nothing of geometry: it reaches RAM alone, or loads from a
     /// port that isn't observed.
     #[inline(always)]
+    #[tactic(auto, using(crate::proofs::GuardedSteps::free_for))]
     fn processor_fast(&mut self, next_event: NextEvent, proc: Proc, tick: Tick, ahead: bool) -> Gone
         requires next_event { IsNextEvent next_event self.old }
         requires sound { HasSoundParts self.old }

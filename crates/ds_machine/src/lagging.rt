@@ -9,18 +9,16 @@ ghost use Rattle.ds_base.specs.declared.processors.Proc.TheVariants.{Nine};
 ghost use Rattle.ds_dma.specs.States.{dma_due};
 ghost use Rattle.ds_machine.specs.Lagging as lagging;
 ghost use Rattle.ds_machine.specs.Lagging.{any_observes, channel_observes, nine_observes, observes_by};
-ghost use Rattle.ds_machine.specs.Observing.{all_apart, data_apart, is_apart_at, is_observed_at, HasBase};
+ghost use Rattle.ds_machine.specs.Observing.{all_apart, data_apart, is_apart_at, is_observed_at};
 ghost use Rattle.ds_machine.specs.Private.{data_accesses};
 ghost use Rattle.ds_machine.specs.Reference.{dues_of, due_by};
 ghost use Rattle.ds_machine.specs.PrivateSides.{nine_side};
 ghost use Rattle.ds_machine.specs.Steps.{nine_reach, tick_of};
-ghost use Rattle.ds_machine.specs.Touching as touching;
 ghost use Rattle.ds_runs.specs.Actors.{actor_of};
 ghost use Rattle.ds_runs.specs.Runs.{due_at};
 
 use crate::parts::Parts;
-use crate::touching::{reads, writes};
-use arm_core::{Registers, Touch, equivalent};
+use arm_core::{Reach, Touch};
 use arm_exec::enters;
 use arm_words::Instr;
 use cp15_tcm::Tcm;
@@ -48,32 +46,6 @@ fn is_observed_place(place: Place) -> bool
     match place {
         Place::Port(at) => is_observed_port(at),
         _ => false,
-    }
-}
-
-/// Does nothing; its contract states that the register from which the addresses of an instruction in its form of ARM code go is a word.
-#[inline(always)]
-fn base_laws(s: &Registers, instr: &Instr)
-    requires { HasFields instr.now }
-    ensures { HasBase s.now instr.now }
-{
-    match *instr {
-        Instr::Transfer { rn, .. } => {
-            let _base = s.get(rn);
-        }
-        Instr::HalfTransfer { rn, .. } => {
-            let _base = s.get(rn);
-        }
-        Instr::DoubleTransfer { rn, .. } => {
-            let _base = s.get(rn);
-        }
-        Instr::Multiple { rn, .. } => {
-            let _base = s.get(rn);
-        }
-        Instr::Swap { rn, .. } => {
-            let _base = s.get(rn);
-        }
-        _ => {}
     }
 }
 
@@ -111,12 +83,12 @@ impl Parts {
         }
     }
 
-    /// Whether none of the bytes that are reached as data is one, by what an instruction does with them.
-    fn is_data_apart(&self, instr: &Instr, touch: Touch) -> bool
-        ensures { result ≡ data_apart self.now (touching.reads_data instr.now) (touching.writes_data instr.now) touch }
+    /// Whether none of the bytes that are reached as data is one, as they are read and written.
+    fn is_data_apart(&self, reach: Reach) -> bool
+        ensures { result ≡ data_apart self.now reach }
     {
-        (!reads(instr) || self.is_touch_apart(touch, false))
-            && (!writes(instr) || self.is_touch_apart(touch, true))
+        (!reach.reads || self.is_touch_apart(reach.touch, false))
+            && (!reach.writes || self.is_touch_apart(reach.touch, true))
     }
 
     /// Whether an access of data of an instruction of ARM9's is of an observed port.
@@ -125,9 +97,7 @@ impl Parts {
         ensures { result ≡ (let r = nine_reach (tick_of self.now.nine.processor) self.now in any_observes r
             (data_accesses V5 (nine_side.base r) self.now.nine.processor.registers (Some instr.now))) }
     {
-        let form = equivalent(instr);
-        base_laws(&self.processor(Proc::Nine).core.registers, &form);
-        !self.is_data_apart(&form, self.footprint_of(Proc::Nine, instr))
+        !self.is_data_apart(self.footprint_of(Proc::Nine, instr))
     }
 
     /// Whether ARM9's next step observes geometry.

@@ -55,7 +55,7 @@
 //! - `status_laws`: CPSR and SPSR have no bits but those that are kept.
 //! - `frame_laws`: a frame or lists that a step puts out are the machine's last ones after it, and no other step changes them.
 //! - `room_laws`: an instruction makes sixteen accesses of data at most; where no stall holds ARM9 each access finds at most 320 entries
-//!   waiting for geometry, and at most 324 wait after it: no write is ignored for want of room.
+//!   waiting for geometry, and at most 324 wait after it: so the code's bus, which would ignore a write for want of room, is the reference's.
 //! - `stop_laws`: no step of any actor, in any state, stops for want of what isn't built yet.
 //! - `Machine::laws`: what holds of every machine; units and script are sound, neither FIFO holds more than 16 words, kept status bits,
 //!   geometry within its sizes.

@@ -295,7 +295,7 @@ impl Machine {
     pub fn lists(&self) -> &Lists
         ensures { result.now ≡ self.now.io.gx.geometry.last }
     {
-        self.parts.io.lists()
+        self.parts.io.gx().lists()
     }
 
     /// A processor's registers, in the order in which they are written out.

@@ -155,14 +155,14 @@ impl Parts {
     pub fn gx_laws(&self)
         ensures { IsGx self.now.io.gx }
     {
-        self.io.gx_laws();
+        self.io.gx().laws();
     }
 
     /// Does nothing; its contract states what holds of both sides of the IPC at every time.
     pub fn ipc_laws(&self)
         ensures { AreSides self.now.io.ipc }
     {
-        self.io.ipc_laws();
+        self.io.ipc().laws();
     }
 
     /// What a processor fetches at an address.

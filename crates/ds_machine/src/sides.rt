@@ -46,6 +46,9 @@ pub trait Side {
     /// The units behind the ports.
     ghost io: { State → IoState };
 
+    /// Where the accesses of a step find room, so that its bus ignores none of its writes.
+    ghost finds_room: { State → Type 0 };
+
     /// Which references it holds, which no call changes.
     ghost identity: { Self → List ℕ };
 
@@ -73,6 +76,7 @@ pub trait Side {
     fn execute(&mut self, s: &mut Registers, next: Fetched) -> Stepped
         requires low { next.number < 16 }
         requires fields { IfSome next.instr HasFields }
+        requires room { finds_room (state self.old) }
         ensures registers { s.new ≡ (side.executed s.old (state self.old) next.number next.instr).registers }
         ensures state { state self.new ≡ (side.executed s.old (state self.old) next.number next.instr).state }
         ensures stepped { result ≡ (side.executed s.old (state self.old) next.number next.instr).stepped }
@@ -89,6 +93,7 @@ pub trait Side {
         requires known { is_other operation.now.op ≡ false }
         requires access { access ≡ access_made s.old operation.now }
         requires reaches { IfSome access HasAccess }
+        requires room { finds_room (state self.old) }
         ensures registers { s.new ≡ (operation_outcome memory side s.old (state self.old) operation.now).registers }
         ensures state { state self.new ≡ (operation_outcome memory side s.old (state self.old) operation.now).state }
         ensures stepped { result ≡ (operation_outcome memory side s.old (state self.old) operation.now).stepped }
@@ -98,7 +103,8 @@ pub trait Side {
     /// Runs an operation, where it is frequent and reaches RAM alone, or loads from a port that changes no unit and isn't observed; so no unit
     /// changes. The result is its cost; 0 where it isn't run, and then nothing is changed.
     fn run_fast(&mut self, s: &mut Registers, operation: &Operation) -> u32
-        requires { HasOperation operation.now }
+        requires fields { HasOperation operation.now }
+        requires room { finds_room (state self.old) }
         ensures none { result ≡ 0 → (s.new ≡ s.old) × (state self.new ≡ state self.old) }
         ensures known { 0 < result → is_other operation.now.op ≡ false }
         ensures registers { 0 < result → s.new ≡ (operation_outcome memory side s.old (state self.old) operation.now).registers }
@@ -154,6 +160,7 @@ impl Side for NineView<'_> {
     ghost use Rattle.ds_base.specs.declared.processors.Proc.TheVariants.{Nine};
     ghost use Rattle.ds_map.specs.Maps.{map_seen, unreached};
     ghost use Rattle.ds_map.specs.Views.{NineReach, nine_memory};
+    ghost use Rattle.ds_machine.specs.GuardedSteps.{IsFree};
     ghost use Rattle.ds_machine.specs.PrivateSides.{nine_side};
 
     ghost State = { NineReach };
@@ -165,6 +172,8 @@ impl Side for NineView<'_> {
     ghost side = { nine_side };
 
     ghost io = { λ r. r.map.io };
+
+    ghost finds_room = { λ r. IsFree r.map.io.gx };
 
     ghost identity = { λ v. v.map.ghost_name ∷ v.io.ghost_name ∷ v.cp.ghost_name ∷ v.itcm.ghost_name ∷ v.dtcm.ghost_name ∷ unreached Nine v.map.now };
 
@@ -193,6 +202,7 @@ impl Side for NineView<'_> {
     fn place_laws(&self) {}
 
     #[inline(always)]
+    #[tactic(auto, using(crate::proofs::GuardedSteps::same_executed))]
     fn execute(&mut self, s: &mut Registers, next: Fetched) -> Stepped {
         if let Some(move_) = move_of(next.instr) {
             return move_if(s, self.cp, move_);
@@ -203,6 +213,7 @@ impl Side for NineView<'_> {
     }
 
     #[inline(always)]
+    #[tactic(auto, using(crate::proofs::GuardedSteps::same_operation))]
     fn run(
         &mut self,
         s: &mut Registers,
@@ -213,7 +224,7 @@ impl Side for NineView<'_> {
     }
 
     #[inline]
-    #[tactic(auto, using(crate::proofs::RamAccesses::nine_refuses_none))]
+    #[tactic(auto, using(crate::proofs::GuardedSteps::guarded_refuses_none, crate::proofs::GuardedSteps::same_operation))]
     fn run_fast(&mut self, s: &mut Registers, operation: &Operation) -> u32 {
         run::<Self, QuietPorts>(Arch::V5, s, self, operation)
     }
@@ -235,6 +246,8 @@ impl Side for SevenView<'_> {
     ghost side = { seven_side };
 
     ghost io = { λ r. r.map.io };
+
+    ghost finds_room = { λ r. Unit {0} };
 
     ghost identity = { λ v. v.map.ghost_name ∷ v.io.ghost_name ∷ unreached Seven v.map.now };
 

@@ -9,13 +9,12 @@ ghost use Rattle.arm_words.specs.Fields.{HasFields};
 ghost use Rattle.arm_words.specs.ThumbTable.{decoded_thumb};
 ghost use Rattle.arm_ops.specs.Meanings.{access_made};
 ghost use Rattle.ds_machine.specs.PrivateSides.{side_taken};
-ghost use Rattle.ds_machine.specs.Touching.{access_stays, stores, DataIsNear, DataStays, GoesByWords};
+ghost use Rattle.ds_machine.specs.Touching.{access_stays, DataIsNear, DataStays, GoesByWords};
 
 use crate::sides::Side;
 use arm_core::{Registers, Stepped};
 use arm_exec::{Fetched, decoded_half, decoded_word, enters, interrupt};
-use arm_ops::{Operation, TransferOp, access_made, is_other};
-use arm_words::HalfOp;
+use arm_ops::{Operation, access_made, is_other, loads};
 use decode_cache::Decoder;
 use ds_base::Width;
 
@@ -68,7 +67,8 @@ fn next_decoded<V: Side>(s: &Registers, view: &V) -> Fetched
 /// The step of an instruction that isn't decoded, where no interrupt is entered.
 #[inline(never)]
 fn take_other<V: Side>(s: &mut Registers, view: &mut V, line: bool) -> Stepped
-    requires { enters line s.old ≡ false }
+    requires none { enters line s.old ≡ false }
+    requires room { V.finds_room (V.state view.old) }
     ensures registers { s.new ≡ (side_taken V.memory V.side line s.old (V.state view.old)).registers }
     ensures state { V.state view.new ≡ (side_taken V.memory V.side line s.old (V.state view.old)).state }
     ensures stepped { result ≡ (side_taken V.memory V.side line s.old (V.state view.old)).stepped }
@@ -86,6 +86,7 @@ fn take_operation<V: Side>(s: &mut Registers, view: &mut V, line: bool, next: &O
     requires operation { next.now ≡ operation_of (fetched V.memory V.side.arch s.old (V.state view.old)).instr }
     requires fields { HasOperation next.now }
     requires known { is_other next.now.op ≡ false }
+    requires room { V.finds_room (V.state view.old) }
     ensures registers { s.new ≡ (side_taken V.memory V.side line s.old (V.state view.old)).registers }
     ensures state { V.state view.new ≡ (side_taken V.memory V.side line s.old (V.state view.old)).state }
     ensures stepped { result ≡ (side_taken V.memory V.side line s.old (V.state view.old)).stepped }
@@ -106,6 +107,7 @@ pub fn take<V: Side, const VERSION: u32>(
     line: bool,
 ) -> Stepped
     requires version { arch_of VERSION ≡ V.side.arch }
+    requires room { V.finds_room (V.state view.old) }
     ensures registers { s.new ≡ (side_taken V.memory V.side line s.old (V.state view.old)).registers }
     ensures state { V.state view.new ≡ (side_taken V.memory V.side line s.old (V.state view.old)).state }
     ensures stepped { result ≡ (side_taken V.memory V.side line s.old (V.state view.old)).stepped }
@@ -132,17 +134,6 @@ pub struct Fast {
     pub leaves: bool,
 }
 
-/// Whether a kind of access writes.
-#[inline(always)]
-fn stores(op: TransferOp) -> bool
-    ensures { result ≡ stores op }
-{
-    match op {
-        TransferOp::WordOrByte { load, .. } => !load,
-        TransferOp::HalfOrSigned { op } => matches!(op, HalfOp::Strh),
-    }
-}
-
 /// Whether an operation's access of data is to a private place, if it makes one. Of what isn't decoded it tells nothing: true, since `run_fast`
 /// doesn't run that.
 #[inline(always)]
@@ -155,7 +146,7 @@ fn access_stays<V: Side>(s: &Registers, view: &V, next: &Operation) -> bool
 {
     view.place_laws();
     match access_made(s, next) {
-        Some(it) => view.is_private(it.to.address, stores(it.op), false),
+        Some(it) => view.is_private(it.to.address, !loads(it.op), false),
         None => true,
     }
 }
@@ -171,6 +162,7 @@ pub fn take_fast<V: Side, const VERSION: u32>(
     ahead: bool,
 ) -> Fast
     requires version { arch_of VERSION ≡ V.side.arch }
+    requires room { V.finds_room (V.state view.old) }
     ensures none { result.clocks ≡ 0 → (s.new ≡ s.old) × (V.state view.new ≡ V.state view.old) }
     ensures registers { 0 < result.clocks → s.new ≡ (side_taken V.memory V.side line s.old (V.state view.old)).registers }
     ensures state { 0 < result.clocks → V.state view.new ≡ (side_taken V.memory V.side line s.old (V.state view.old)).state }

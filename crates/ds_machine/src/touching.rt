@@ -9,15 +9,14 @@ ghost use Rattle.ds_machine.specs.declared.answers.Private.TheVariants.{Yes};
 ghost use Rattle.ds_machine.specs.Private as private;
 ghost use Rattle.ds_machine.specs.Private.{is_deaf, next_fetch, IsPrivate, ProcessorStaysPrivate};
 ghost use Rattle.ds_ports.specs.Io.{io_of};
-ghost use Rattle.ds_machine.specs.Touching as touching;
 ghost use Rattle.ds_machine.specs.Touching.{all_private, data_private, instr_at, is_private_to, is_told_nothing, FetchStaysPrivate, InstrStaysPrivate, IsFootprint};
 
 use crate::answers::Private;
 use crate::parts::Parts;
 use crate::sides::{is_private_to_nine, is_private_to_seven};
-use arm_core::{Registers, Touch, access_touch, equivalent, footprint};
+use arm_core::{Reach, Registers, Touch, access_touch, footprint};
 use arm_exec::{decoded_half, decoded_word, has_coprocessor};
-use arm_words::{HalfOp, Instr};
+use arm_words::Instr;
 use ds_base::{Arch, Proc, Width};
 
 /// Whether an instruction is of a kind that may be taken before its turn: it isn't undefined, enters no exception and doesn't change CP15.
@@ -29,34 +28,6 @@ fn may_go_ahead(arch: Arch, instr: &Instr) -> bool
             { false }
         Instr::Coprocessor { load, cp, .. } => load && has_coprocessor(arch, cp),
         _ => true,
-    }
-}
-
-/// Whether the data accesses of an instruction in its form of ARM code are reads, or a read and a write.
-pub fn reads(instr: &Instr) -> bool
-    ensures { result ≡ touching.reads_data instr.now }
-{
-    match *instr {
-        Instr::Transfer { load, .. } => load,
-        Instr::HalfTransfer { op, .. } => !matches!(op, HalfOp::Strh),
-        Instr::DoubleTransfer { store, .. } => !store,
-        Instr::Multiple { load, .. } => load,
-        Instr::Swap { .. } | Instr::ThumbLoadLiteral { .. } => true,
-        _ => false,
-    }
-}
-
-/// Whether they are writes, or a read and a write.
-pub fn writes(instr: &Instr) -> bool
-    ensures { result ≡ touching.writes_data instr.now }
-{
-    match *instr {
-        Instr::Transfer { load, .. } => !load,
-        Instr::HalfTransfer { op, .. } => matches!(op, HalfOp::Strh),
-        Instr::DoubleTransfer { store, .. } => store,
-        Instr::Multiple { load, .. } => !load,
-        Instr::Swap { .. } => true,
-        _ => false,
     }
 }
 
@@ -128,8 +99,8 @@ impl Parts {
         decoded_word(arch, self.fetch_of(proc, at, Width::Word)).instr
     }
 
-    /// The bytes that an instruction of a processor's reaches as data.
-    pub fn footprint_of(&self, proc: Proc, instr: &Instr) -> Touch
+    /// What an instruction of a processor's reaches as data.
+    pub fn footprint_of(&self, proc: Proc, instr: &Instr) -> Reach
         requires { HasFields instr.now }
         ensures { IsFootprint self.now proc instr.now result }
     {
@@ -139,12 +110,12 @@ impl Parts {
         }
     }
 
-    /// Whether all bytes that are reached as data lie in private places, by what an instruction does with them.
-    fn is_data_private(&self, proc: Proc, instr: &Instr, touch: Touch) -> bool
-        ensures { result ≡ data_private self.now proc (touching.reads_data instr.now) (touching.writes_data instr.now) touch }
+    /// Whether all bytes that are reached as data lie in private places, as they are read and written.
+    fn is_data_private(&self, proc: Proc, reach: Reach) -> bool
+        ensures { result ≡ data_private self.now proc reach }
     {
-        (!reads(instr) || self.is_touch_private(proc, touch, false, false))
-            && (!writes(instr) || self.is_touch_private(proc, touch, true, false))
+        (!reach.reads || self.is_touch_private(proc, reach.touch, false, false))
+            && (!reach.writes || self.is_touch_private(proc, reach.touch, true, false))
     }
 
     /// Whether an instruction of a processor's is of a kind that may be taken before its turn, and its accesses of data stay in private places.
@@ -153,7 +124,7 @@ impl Parts {
         ensures { (result ≡ true) ↔ InstrStaysPrivate self.now proc instr.now }
     {
         may_go_ahead(proc.architecture(), instr)
-            && self.is_data_private(proc, &equivalent(instr), self.footprint_of(proc, instr))
+            && self.is_data_private(proc, self.footprint_of(proc, instr))
     }
 
     /// Whether what a processor fetches at r15 lies in private places.

@@ -6,6 +6,7 @@ ghost use Rattle.ds_base.specs.declared.processors.Proc.{Proc};
 ghost use Rattle.ds_runs.specs.Actors.{IsNumbered};
 ghost use Rattle.ds_runs.specs.declared.actors.Actor.TheVariants.{Geometry, Processor};
 ghost use Rattle.ds_machine.specs.TurnSteps.{MayStep};
+ghost use Rattle.ds_machine.specs.GuardedSteps.{IsFreeFor};
 ghost use Rattle.ds_machine.specs.Processors.{stop_in};
 ghost use Rattle.ds_machine.specs.Reference.{awake, due_by, step_by};
 ghost use Rattle.ds_machine.specs.StepAnswers.{stepped_of, Steps};
@@ -63,12 +64,14 @@ impl Parts {
 
     /// A processor's step.
     #[inline(always)]
+    #[tactic(auto, using(crate::proofs::GuardedSteps::free_then))]
     fn step_processor(&mut self, rank: u8, proc: Proc, tick: Tick) -> Done
         requires due { due_by (Actor.Processor proc) self.old ≡ Some tick }
         requires early { tick.0 ≤ 2 ^ 56 }
         requires counted { (processor_of self.old proc).steps ≤ 2 ^ 61 }
         ensures { awake (Some tick) (step_by rank (Actor.Processor proc) self.old) ≡ stepped_of self.old result self.new }
     {
+        self.laws();
         let line = self.line(proc);
         let stepped = self.take(proc, tick, line);
         self.conclude(rank, proc, tick, stepped)
@@ -79,6 +82,7 @@ impl Parts {
     fn take(&mut self, proc: Proc, now: Tick, line: bool) -> Stepped
         requires early { now.0 ≤ 2 ^ 56 }
         requires line { line ≡ line_of self.old proc }
+        requires room { IsFreeFor proc self.old }
         ensures machine { self.new ≡ (outcome_of proc now self.old).machine }
         ensures stepped { result ≡ (outcome_of proc now self.old).stepped }
     {
@@ -121,6 +125,7 @@ impl Parts {
     pub fn take_fast(&mut self, proc: Proc, now: Tick, line: bool, ahead: bool) -> Fast
         requires early { now.0 ≤ 2 ^ 56 }
         requires line { line ≡ line_of self.old proc }
+        requires room { IsFreeFor proc self.old }
         ensures none { result.clocks ≡ 0 → self.new ≡ self.old }
         ensures machine { 0 < result.clocks → self.new ≡ (outcome_of proc now self.old).machine }
         ensures stepped { 0 < result.clocks → (outcome_of proc now self.old).stepped ≡ Cost result.clocks }

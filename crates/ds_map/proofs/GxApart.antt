@@ -159,10 +159,10 @@ module _ (g : GxState) (proc : Proc) (m : MapState) where
 
     pub unit_refuses : unit_refusal proc now unit (gx_in_map g m) ≡ unit_refusal proc now unit m
     unit_refuses =
-        passed.unit_refuses same_bytes (with_gx g) proc m now unit refl (passes unit.width (place_of proc m.io.wramcnt unit.from) from) (moved_apart g proc now) refl to_passes
+        passed.unit_refuses same_bytes (with_gx g) proc m now unit refl (passes unit.width (place_of proc m.io.wramcnt unit.from) from) (moved_apart g proc now 0) refl to_passes
 
     pub unit_moves : unit_moved proc now unit (gx_in_map g m) ≡ gx_in_map g (unit_moved proc now unit m)
-    unit_moves = passed.unit_moves same_bytes (with_gx g) proc m now unit refl (passes unit.width (place_of proc m.io.wramcnt unit.from) from) (moved_apart g proc now) refl to_passes
+    unit_moves = passed.unit_moves same_bytes (with_gx g) proc m now unit refl (passes unit.width (place_of proc m.io.wramcnt unit.from) from) (moved_apart g proc now 0) refl to_passes
 
 -- ---- ARM9's channels
 
@@ -206,8 +206,8 @@ unfolding map_written
 map_written_keeps proc now m at width number h = written_keeps_there proc now (place_of proc m.io.wramcnt at) m width number h
 
 -- a channel of ARM9's that took a unit may be disabled
-moved_arms : (proc : Proc) (now : Tick) (u : IoState) → ArmsNoMore u.nine.dma (channel_moved proc now u).nine.dma
-moved_arms Nine now u = finished_arms u.nine.dma now
+moved_arms : (proc : Proc) (now : Tick) (u : IoState) → ArmsNoMore u.nine.dma (channel_moved proc now 0 u).nine.dma
+moved_arms Nine now u = finished_arms u.nine.dma now 0
 moved_arms Seven now u = arms_by u.nine.dma u.nine.dma refl
 
 module _ (proc : Proc) (m : MapState) (now : Tick) (unit : DmaUnit) (to : IsApartPlace proc (place_of proc m.io.wramcnt unit.to)) where

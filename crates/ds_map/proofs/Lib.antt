@@ -2,6 +2,7 @@ pub mod Mains
 pub mod NineShares
 pub mod Reached
 pub mod Later
+pub mod Guards
 pub mod TakenBack
 pub mod Passed
 pub mod SevenShares

@@ -155,7 +155,7 @@ module _ (shared : List ℕ → List ℕ) (io : IoState → IoState) where
   -- ---- the DMA unit
 
   module _ (proc : Proc) (m : MapState) (now : Tick) (unit : DmaUnit) (same : (io m.io).wramcnt ≡ m.io.wramcnt) (from : PlacePasses proc m unit.width (place_of proc m.io.wramcnt unit.from))
-      (moved : (u : IoState) → channel_moved proc now (io u) ≡ io (channel_moved proc now u)) where
+      (moved : (u : IoState) → channel_moved proc now 0 (io u) ≡ io (channel_moved proc now 0 u)) where
     abbrev taken : MapState
     taken = unit_taken proc now unit m
 
@@ -165,7 +165,7 @@ module _ (shared : List ℕ → List ℕ) (io : IoState → IoState) where
     taken_so : unit_taken proc now unit (changed m) ≡ changed taken
     taken_so =
         let left = unit_read proc unit m in
-        ap (λ (x : MapState). (let next : MapState = record x { io = channel_moved proc now x.io } in next)) (read proc m same unit.from unit.width from)
+        ap (λ (x : MapState). (let next : MapState = record x { io = channel_moved proc now 0 x.io } in next)) (read proc m same unit.from unit.width from)
         ∙ ap (λ (u : IoState). (let next : MapState = record (changed left) { io = u } in next)) (moved left.io)
 
     module _ (still : (io taken.io).wramcnt ≡ taken.io.wramcnt) (to : PlacePasses proc taken unit.width (place_of proc taken.io.wramcnt unit.to)) where

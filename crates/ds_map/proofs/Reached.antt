@@ -1,4 +1,5 @@
 use Rattle.std.proofs.Common.{ℕ, ◌≡◌, ◌-◌, Bool, true, false, true≢false, ◌&&◌, nat_le, ◌==◌, if◌then◌else◌, List, [], ◌∷◌, ◌++◌, ◌∙◌, length, refl, sym, ap}
+use Rattle.ds_base.proofs.Choices.{both}
 use Rattle.ds_base.specs.Memories.{memory_size}
 use Rattle.ds_base.specs.declared.memories.Memory.{Memory}
 use Rattle.ds_base.specs.declared.memories.Memory.TheVariants.{Shared, Own7, Palette, Oam}
@@ -19,10 +20,6 @@ content_reached proc content = true
 abbrev all_reached : Proc → List Region → Bool
 all_reached proc [] = true
 all_reached proc (r ∷ rs) = content_reached proc r.content && all_reached proc rs
-
-both : (a b : Bool) → (a && b) ≡ true → (a ≡ true) × (b ≡ true)
-both true b h = (refl, h)
-both false b h = absurd (true≢false (sym h))
 
 at_reached : (proc : Proc) (content : Content) (offset : ℕ) → content_reached proc content ≡ true → is_reached proc (place_at content offset) ≡ true
 at_reached proc (Cells memory from bytes) offset h = h

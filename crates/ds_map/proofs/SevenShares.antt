@@ -254,7 +254,7 @@ module _ (own : SharedPart) (m : MapState) (so : IsSharedSo own m.memories.share
       let left = unit_read Seven unit m in
       so_alike own left.memories.shared left.io taken.io (record { vram = refl; wramcnt = refl }) (read_stays own m so unit.from unit.width)
 
-  moved : (u : IoState) → channel_moved Seven now (shares_put own u) ≡ shares_put own (channel_moved Seven now u)
+  moved : (u : IoState) → channel_moved Seven now 0 (shares_put own u) ≡ shares_put own (channel_moved Seven now 0 u)
   moved u = refl
 
   pub unit_refuses : unit_refusal Seven now unit (map_put own m) ≡ unit_refusal Seven now unit m

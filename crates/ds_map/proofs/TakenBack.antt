@@ -44,7 +44,7 @@ unfolding map_refusal map_written
 refused_leaves proc now m at width value h = place_refuses proc now (place_of proc m.io.wramcnt at) m width value h
 
 -- where a move is taken back, the units are again as they were
-taken_back : (proc : Proc) (now : Tick) (u : IoState) → channel_put_back proc (before_move (io_of u proc)) (channel_moved proc now u) ≡ u
+taken_back : (proc : Proc) (now : Tick) (u : IoState) → channel_put_back proc (before_move (io_of u proc)) (channel_moved proc now 0 u) ≡ u
 taken_back Nine now u = refl
 taken_back Seven now u = refl
 

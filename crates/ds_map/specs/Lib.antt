@@ -1,5 +1,6 @@
 pub mod Maps
 pub mod Accesses
 pub mod Views
+pub mod Guards
 pub mod Moves
 pub mod Shares

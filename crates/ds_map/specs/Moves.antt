@@ -10,7 +10,8 @@ use Rattle.ds_map.specs.Maps.{MapState}
 use Rattle.ds_ports.specs.Io.{IoState, channel_moved, io_of}
 
 -- How a DMA channel moves a unit (GBATEK, "DS DMA Transfers"; the order is our choice): it reads it, takes it from its plan with all that taking the
--- last one brings, and then writes it. Where the write is refused all is as it was after the read: the unit is still in the plan.
+-- last one brings, and then writes it. Where the write is refused all is as it was after the read: the unit is still in the plan. The accesses don't
+-- wait yet (our choice: the machine adds no waits by region).
 
 -- the unit that the channel of a processor that is due moves
 abbrev pub next_unit : IoState → Proc → DmaUnit
@@ -21,7 +22,7 @@ abbrev pub unit_read : Proc → DmaUnit → MapState → MapState
 unit_read proc unit m = map_read proc m unit.from unit.width
 
 abbrev pub unit_taken : Proc → Tick → DmaUnit → MapState → MapState
-unit_taken proc now unit m = let read = unit_read proc unit m in record read { io = channel_moved proc now read.io }
+unit_taken proc now unit m = let read = unit_read proc unit m in record read { io = channel_moved proc now 0 read.io }
 
 -- why its write is refused, and the map after all
 abbrev pub unit_refusal : Proc → Tick → DmaUnit → MapState → Option Stop

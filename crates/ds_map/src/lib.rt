@@ -9,8 +9,10 @@
 //! down, what a read leaves, the stop for which a write is refused, and that all else stays; bytes that ARM9 doesn't write are dropped.
 //! Each is by what the processor reaches (`map_seen`), and leaves what it doesn't (clause `apart`). `SevenView` and `NineView` are buses:
 //! each access is that of the processor's memory machine (`seven_memory`, `nine_memory`) on what they borrow. ARM9's places each access by
-//! CP15's numbers: ITCM, then DTCM, which fetches don't see, then the map. `move_unit` moves a channel's unit, which reaches the map alone:
-//! read, taken, written, or refused and still in the plan (`unit_moved`, `unit_refusal`). Memory is taken in `Map::new` alone.
+//! CP15's numbers: ITCM, then DTCM, which fetches don't see, then the map. A bus answers in every state, and the list of what waits for
+//! geometry has a fixed size: so `write` and ARM9's bus ignore a write of a port for want of room (`map_guarded`, `guarded_memory`), and `put`
+//! is told that there is some. `move_unit` moves a channel's unit, which reaches the map alone, where there is room: read, taken, written, or
+//! refused and still in the plan (`unit_moved`, `unit_refusal`). Memory is taken in `Map::new` alone.
 #![tactic(auto)]
 
 mod blocks;

@@ -1,6 +1,6 @@
 //! The map.
 
-ghost use Rattle.std.specs.Prelude.{◌≡◌, ◌<◌, ◌≤◌, ◌^◌, slice_index, length, true, ℕ, IfOk, IfSome, Some};
+ghost use Rattle.std.specs.Prelude.{◌≡◌, ◌<◌, ◌≤◌, ◌^◌, slice_index, length, false, true, ℕ, IfOk, IfSome, Some};
 ghost use Rattle.ds_base.specs.Memories.{memory_size};
 ghost use Rattle.ds_base.specs.Numbers.{aligned_down, number_at, with_number};
 ghost use Rattle.ds_base.specs.declared.memories.Memory.TheVariants.{Main, Own7};
@@ -13,7 +13,8 @@ ghost use Rattle.ds_base.specs.Schedules.{IsEarly};
 ghost use Rattle.ds_ports.specs.Io.{video_done};
 ghost use Rattle.video2d.specs.Scans.{scan_due};
 ghost use Rattle.video2d.specs.Videos.{video_answer};
-ghost use Rattle.ds_map.specs.Accesses.{cell_put, fetched_at, is_byte_of_nine, after_read_at, map_fetched, map_read, map_refusal, map_value, map_written, written_at, refusal_at, rom_value, takes_no_bytes, value_at};
+ghost use Rattle.ds_map.specs.Accesses.{cell_put, fetched_at, is_byte_of_nine, after_read_at, map_fetched, map_read, map_refusal, map_value, map_written, rom_value, takes_no_bytes, value_at};
+ghost use Rattle.ds_map.specs.Guards.{guarded_at, guarded_refusal_at, is_guarded, map_guarded, map_guarded_refusal};
 
 use crate::blocks::Block;
 use ds_base::{
@@ -141,7 +142,7 @@ impl Map {
         }
     }
 
-    /// Writes a value at a place, for a processor at a tick, unless it is refused.
+    /// Writes a value at a place, for a processor at a tick, unless it is refused, or ignored for want of room.
     #[inline(always)]
     fn write_at(
         &mut self,
@@ -155,8 +156,8 @@ impl Map {
         requires inside { IsInside place }
         requires reached { is_reached proc place ≡ true }
         requires early { IsEarly (Some now) }
-        ensures refusal { result ≡ refusal_at proc place (map_seen proc self.old io.old) width value }
-        ensures next { map_seen proc self.new io.new ≡ written_at proc now place (map_seen proc self.old io.old) width value }
+        ensures refusal { result ≡ guarded_refusal_at proc place (map_seen proc self.old io.old) width value }
+        ensures next { map_seen proc self.new io.new ≡ guarded_at proc now place (map_seen proc self.old io.old) width value }
         ensures wram { unreached_wram proc self.new ≡ unreached_wram proc self.old }
         ensures palette { unreached_palette proc self.new ≡ unreached_palette proc self.old }
         ensures oam { unreached_oam proc self.new ≡ unreached_oam proc self.old }
@@ -241,7 +242,7 @@ impl Map {
         self.fetch_any(io, proc, at, width)
     }
 
-    /// Writes a processor's value at an address at a tick, wherever it is, unless it is refused.
+    /// Writes a processor's value at an address at a tick, wherever it is, unless it is refused or ignored.
     #[inline(never)]
     #[tactic(auto, using(crate::proofs::Reached::place_reached), unfolding(crate::specs::Accesses::map_refusal, crate::specs::Accesses::map_written))]
     fn write_any(
@@ -254,8 +255,8 @@ impl Map {
         value: u32,
     ) -> Option<Stop>
         requires { IsEarly (Some now) }
-        ensures refusal { result ≡ map_refusal proc (map_seen proc self.old io.old) at width value }
-        ensures next { map_seen proc self.new io.new ≡ map_written proc now (map_seen proc self.old io.old) at width value }
+        ensures refusal { result ≡ map_guarded_refusal proc (map_seen proc self.old io.old) at width value }
+        ensures next { map_seen proc self.new io.new ≡ map_guarded proc now (map_seen proc self.old io.old) at width value }
         ensures wram { unreached_wram proc self.new ≡ unreached_wram proc self.old }
         ensures palette { unreached_palette proc self.new ≡ unreached_palette proc self.old }
         ensures oam { unreached_oam proc self.new ≡ unreached_oam proc self.old }
@@ -265,7 +266,8 @@ impl Map {
     }
 
     /// Writes a processor's value at an address at a tick, past the tightly coupled memories, unless it is refused: exactly where it is a write of
-    /// a port that refuses it. Then nothing is written. What the processor doesn't reach stays.
+    /// a port that refuses it. Then nothing is written. What the processor doesn't reach stays. A write of a port by ARM9 is ignored while more than
+    /// 320 entries wait for geometry.
     #[inline(always)]
     #[tactic(auto, unfolding(crate::specs::Accesses::map_refusal, crate::specs::Accesses::map_written))]
     pub fn write(
@@ -278,8 +280,8 @@ impl Map {
         value: u32,
     ) -> Option<Stop>
         requires { IsEarly (Some now) }
-        ensures refusal { result ≡ map_refusal proc (map_seen proc self.old io.old) at width value }
-        ensures next { map_seen proc self.new io.new ≡ map_written proc now (map_seen proc self.old io.old) at width value }
+        ensures refusal { result ≡ map_guarded_refusal proc (map_seen proc self.old io.old) at width value }
+        ensures next { map_seen proc self.new io.new ≡ map_guarded proc now (map_seen proc self.old io.old) at width value }
         ensures wram { unreached_wram proc self.new ≡ unreached_wram proc self.old }
         ensures palette { unreached_palette proc self.new ≡ unreached_palette proc self.old }
         ensures oam { unreached_oam proc self.new ≡ unreached_oam proc self.old }
@@ -293,6 +295,28 @@ impl Map {
             return None;
         }
         self.write_any(io, proc, now, at, width, value)
+    }
+
+    /// The same, where it isn't ignored.
+    #[inline(always)]
+    pub fn put(
+        &mut self,
+        io: &mut Io,
+        proc: Proc,
+        now: Tick,
+        at: u32,
+        width: Width,
+        value: u32,
+    ) -> Option<Stop>
+        requires early { IsEarly (Some now) }
+        requires room { is_guarded proc (map_seen proc self.old io.old) at ≡ false }
+        ensures refusal { result ≡ map_refusal proc (map_seen proc self.old io.old) at width value }
+        ensures next { map_seen proc self.new io.new ≡ map_written proc now (map_seen proc self.old io.old) at width value }
+        ensures wram { unreached_wram proc self.new ≡ unreached_wram proc self.old }
+        ensures palette { unreached_palette proc self.new ≡ unreached_palette proc self.old }
+        ensures oam { unreached_oam proc self.new ≡ unreached_oam proc self.old }
+    {
+        self.write(io, proc, now, at, width, value)
     }
 
     /// A memory's bytes, from where they lie, 4 MiB at most; none of a tightly coupled one, nor of video memory, which is among the units.

@@ -51,6 +51,7 @@ impl Bus for SevenView<'_> {
     }
 
     #[inline(always)]
+    #[tactic(auto, using(crate::proofs::Guards::seven_refusal, crate::proofs::Guards::seven_written))]
     fn write(&mut self, at: u32, width: Width, value: u32) -> Option<Stop> {
         self.map
             .write(self.io, Proc::Seven, self.now, at, width, value)
@@ -84,7 +85,8 @@ pub fn fetched_by_nine(
     }
 }
 
-/// What ARM9 reaches: CP15, its tightly coupled memories, where CP15 says, and behind them the map.
+/// What ARM9 reaches: CP15, its tightly coupled memories, where CP15 says, and behind them the map. As a bus it ignores a write of a port while more
+/// than 320 entries wait for geometry.
 #[derive(Drop)]
 pub struct NineView<'a> {
     /// The memories.
@@ -106,13 +108,14 @@ impl Bus for NineView<'_> {
     ghost use Rattle.std.specs.Prelude.{◌∷◌};
     ghost use Rattle.ds_base.specs.declared.processors.Proc.TheVariants.{Nine};
     ghost use Rattle.ds_map.specs.Maps.{map_seen, unreached};
-    ghost use Rattle.ds_map.specs.Views.{NineReach, nine_memory};
+    ghost use Rattle.ds_map.specs.Guards.{guarded_memory};
+    ghost use Rattle.ds_map.specs.Views.{NineReach};
 
     ghost State = { NineReach };
 
     ghost state = { λ v. record { map = map_seen Nine v.map.now v.io.now; cp15 = v.cp.now; itcm = v.itcm.now; dtcm = v.dtcm.now; now = v.now } };
 
-    ghost memory = { nine_memory };
+    ghost memory = { guarded_memory };
 
     ghost identity = { λ v. v.map.ghost_name ∷ v.io.ghost_name ∷ v.cp.ghost_name ∷ v.itcm.ghost_name ∷ v.dtcm.ghost_name ∷ unreached Nine v.map.now };
 

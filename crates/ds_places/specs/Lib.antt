@@ -1,2 +1,3 @@
 pub mod AddressTables
 pub mod BootRom
+pub mod Waits

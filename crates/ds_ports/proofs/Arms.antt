@@ -116,8 +116,8 @@ unit_arms proc which c h = by_kind (is_last_unit c) (is_last_of_burst c) (is_arm
   by_kind true burst true = h
   by_kind true burst false = ap (λ (b : Bool). b && waits_for Nine Geometry (disabled c.cnt)) (off c.cnt)
 
-pub finished_arms : (dma : DmaState) (now : Tick) → ArmsNoMore dma (dma_finished dma now)
-finished_arms dma now =
+pub finished_arms : (dma : DmaState) (now : Tick) (waits : ℕ) → ArmsNoMore dma (dma_finished dma now waits)
+finished_arms dma now waits =
     let which = least_running dma.channels in
     let c = after_unit dma.proc which (due_channel dma) in
     let Q : ChannelState → ChannelState → Type 0 = λ x y. is_armed x.cnt ≡ false → is_armed y.cnt ≡ false in

@@ -1,4 +1,4 @@
-use Rattle.std.proofs.Common.{ℕ, ◌≡◌, ◌<◌, inl, inr, Bool, true, false, true≢false, if◌then◌else◌, List, Option, Some, None, refl, sym, ◌∙◌, ap, subst, arith}
+use Rattle.std.proofs.Common.{ℕ, ◌≡◌, ◌<◌, ◌≤◌, inl, inr, Bool, true, false, true≢false, if◌then◌else◌, List, Option, Some, None, refl, sym, ◌∙◌, ap, subst, arith}
 use Rattle.std.specs.Prelude.{◌||◌, ◌&&◌, ◌==◌, IsSome}
 use Rattle.std.proofs.lemmas.Option.{none-some}
 use Rattle.ds_base.proofs.Choices.{either}
@@ -8,7 +8,7 @@ use Rattle.ds_base.specs.declared.processors.Proc.{Proc}
 use Rattle.ds_base.specs.declared.processors.Proc.TheVariants.{Nine, Seven}
 use Rattle.ds_base.specs.declared.ticks.Tick.{Tick}
 use Rattle.ds_dma.specs.Channels.{ready}
-use Rattle.ds_dma.specs.States.{AreReadyLater, DmaState, any_runs, channel_at, channel_due, dma_due, dma_finished, due_channel, due_with, least_running}
+use Rattle.ds_dma.specs.States.{AreReadyLater, DmaState, any_runs, channel_at, channel_due, dma_due, dma_finished, due_channel, due_with, least_running, most_waits}
 use Rattle.ds_dma.specs.declared.controls.Cause.{Cause}
 use Rattle.ds_dma.specs.declared.controls.Cause.TheVariants.{VBlank, HBlank}
 use Rattle.ds_dma.proofs.Turns.{all_later, event_schedules, finished_later}
@@ -314,13 +314,14 @@ pub record MovedGoes (proc : Proc) (now : Tick) (old new : IoState) : Type 0 whe
   pub gx : new.gx ≡ old.gx
   pub released : new.released ≡ old.released
 
-pub moved_goes : (proc : Proc) (now : Tick) (u : IoState) → IsIo u → IsSome (dma_due (io_of u proc).dma) → MovedGoes proc now u (channel_moved proc now u)
-moved_goes proc now u all due =
+pub moved_goes : (proc : Proc) (now : Tick) (waits : ℕ) (u : IoState) → waits ≤ most_waits → IsIo u → IsSome (dma_due (io_of u proc).dma)
+    → MovedGoes proc now u (channel_moved proc now waits u)
+moved_goes proc now waits u brief all due =
     let processor_io = io_of u proc in
     let is = processor_io_is u all proc in
-    let new : ProcessorIoState = processor_io_moved processor_io now in
-    let later = finished_later processor_io.dma now in record {
-      io = own_is proc u new all (record { timers = is.timers; dma = dma_finished_is processor_io.dma now is.dma due });
+    let new : ProcessorIoState = processor_io_moved processor_io now waits in
+    let later = finished_later processor_io.dma now waits in record {
+      io = own_is proc u new all (record { timers = is.timers; dma = dma_finished_is processor_io.dma now waits brief is.dma due });
       dues = processor_io_each proc now u new (moved now processor_io);
       later = subst (λ (x : ProcessorIoState). AreReadyLater now x.dma) (sym (processor_io_there proc u new)) later;
       timers = each_processor_io (λ p x. x.timers ≡ (io_of u p).timers) proc u new refl refl;
@@ -329,8 +330,9 @@ moved_goes proc now u all due =
       gx = gx_there proc u new;
       released = released_there proc u new;
     } where
-      moved : (tick : Tick) (processor_io : ProcessorIoState) → ProcessorIoReschedules tick processor_io (processor_io_moved processor_io tick)
-      moved tick processor_io (Dma of channel) l = all_later tick (dma_finished processor_io.dma tick) (channel_due processor_io.dma channel) (finished_later processor_io.dma tick) channel l
+      moved : (tick : Tick) (processor_io : ProcessorIoState) → ProcessorIoReschedules tick processor_io (processor_io_moved processor_io tick waits)
+      moved tick processor_io (Dma of channel) l =
+          all_later tick (dma_finished processor_io.dma tick waits) (channel_due processor_io.dma channel) (finished_later processor_io.dma tick waits) channel l
       moved tick processor_io _ l = inl refl
 
       released_there : (proc : Proc) (u : IoState) (processor_io : ProcessorIoState) → (with_io_of proc u processor_io).released ≡ u.released

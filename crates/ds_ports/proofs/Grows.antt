@@ -10,7 +10,9 @@ use Rattle.ds_base.specs.declared.ticks.Tick.{Tick}
 use Rattle.gx_fifo.specs.declared.ports.GxPort.{GxPort}
 use Rattle.gx_fifo.specs.declared.ports.GxPort.TheVariants.{Display, Fifo, Direct, Status, Lengths, Position, Vector, Clip, VectorMatrix, Unlisted}
 use Rattle.gx_fifo.specs.GxPorts.{gx_port}
-use Rattle.gx_fifo.specs.GxStates.{AreWaiting, GxState, gx_written, waiting_entries, write_port}
+use Rattle.gx_fifo.specs.GxStates.{AreWaiting, GxState, waiting_entries, write_port}
+use Rattle.gx_fifo.proofs.Laws.{written_grows}
+use Rattle.ds_ports.specs.Guards.{guarded_written, is_overfull}
 use Rattle.ds_ports.specs.Io.{IoState}
 use Rattle.ds_ports.specs.Ports.{byte_written, half_written, ignores, is_narrow, port_refusal, port_written, slot_joined, slot_written, unless_stopped, whole_if, whole_in, word_written, written_or}
 use Rattle.ds_ports.specs.RegisterMap.{PortRow, register_map, slot_of}
@@ -19,7 +21,6 @@ use Rattle.ds_ports.specs.Touches as touches
 use Rattle.ds_ports.specs.declared.registers.Register.{Register}
 use Rattle.ds_ports.specs.declared.registers.Register.TheVariants.{GxWord, GxCommand}
 use Rattle.ds_ports.specs.declared.registers.Slot.{Slot}
-use Rattle.ds_ports.proofs.GxPorts.{port_grows}
 use Rattle.ds_ports.proofs.Passed.{keeps_part, row_leaves}
 use Rattle.ds_ports.proofs.RegisterMaps.{each_place, of_place, slot_by_all}
 
@@ -72,14 +73,12 @@ port_keeps Unlisted value now s h = refl
 
 word_keeps : (proc : Proc) (now : Tick) (u : IoState) (number value : ℕ) → not (adds_entries (gx_port number)) ≡ true
     → waiting_entries (gx_set proc now u number value).gx ≡ waiting_entries u.gx
-word_keeps Nine now u number value h =
-    either (λ (s : GxState). waiting_entries s ≡ waiting_entries u.gx) (nat_lt 320 (waiting_entries u.gx)) u.gx (gx_written u.gx number value now) refl
-    (port_keeps (gx_port number) value now u.gx h)
+word_keeps Nine now u number value h = port_keeps (gx_port number) value now u.gx h
 word_keeps Seven now u number value h = refl
 
 set_grows : (proc : Proc) (now : Tick) (u : IoState) (number value : ℕ) → AreWaiting u.gx
     → waiting_entries (gx_set proc now u number value).gx ≤ waiting_entries u.gx + 4
-set_grows Nine now u number value waiting = port_grows u.gx number value now waiting
+set_grows Nine now u number value waiting = written_grows u.gx number value now waiting
 set_grows Seven now u number value waiting = omega arith
 
 abbrev is_gx : Register → Bool
@@ -135,6 +134,30 @@ half_as_many proc now u at value =
     (whole_keeps Half (slot_of proc at) (slot_keeps proc at))
     (byte_as_many proc now first (at + 1) (value / 2 ^ 8) ∙ byte_as_many proc now u at value)
 
+-- ---- so they leave room where there is some
+
+stays_overfull : (proc : Proc) (u v : IoState) → AreAsMany u v → is_overfull proc v ≡ is_overfull proc u
+stays_overfull Nine u v h = ap (nat_lt 320) h
+stays_overfull Seven u v h = refl
+
+pub byte_leaves_room : (proc : Proc) (now : Tick) (u : IoState) (at value : ℕ) → is_overfull proc (byte_written proc now u at value) ≡ is_overfull proc u
+byte_leaves_room proc now u at value = stays_overfull proc u (byte_written proc now u at value) (byte_as_many proc now u at value)
+
+-- of the register in which one lies whole
+pub byte_room : (proc : Proc) (now : Tick) (u new : IoState) (at value : ℕ) (slot : Slot) → slot_of proc at ≡ Some slot
+    → new ≡ slot_written proc now u Byte slot value → is_overfull proc u ≡ false → is_overfull proc new ≡ false
+byte_room proc now u new at value slot is e h =
+    ap (is_overfull proc) (e ∙ sym (ap (λ (o : Option Slot). written_or proc now u Byte o value u) is)) ∙ byte_leaves_room proc now u at value ∙ h
+
+pub half_leaves_room : (proc : Proc) (now : Tick) (u : IoState) (at value : ℕ) → is_overfull proc (half_written proc now u at value) ≡ is_overfull proc u
+half_leaves_room proc now u at value = stays_overfull proc u (half_written proc now u at value) (half_as_many proc now u at value)
+
+pub half_room : (proc : Proc) (now : Tick) (u new : IoState) (at value : ℕ) (slot : Slot) → whole_in Half (slot_of proc at) ≡ Some slot
+    → new ≡ slot_written proc now u Half slot value → is_overfull proc u ≡ false → is_overfull proc new ≡ false
+half_room proc now u new at value slot is e h =
+    let other = byte_written proc now (byte_written proc now u at value) (at + 1) (value / 2 ^ 8) in
+    ap (is_overfull proc) (e ∙ sym (ap (λ (o : Option Slot). written_or proc now u Half o value other) is)) ∙ half_leaves_room proc now u at value ∙ h
+
 -- ---- a write of a whole word
 
 abbrev AreFourMore : IoState → IoState → Type 0
@@ -173,9 +196,11 @@ unless_grows : (stop : Option Stop) (u v : IoState) → AreFourMore u v → AreF
 unless_grows None u v h = h
 unless_grows (Some stop) u v h = omega arith
 
-pub put_grows : (proc : Proc) (now : Tick) (old new : IoState) (at : ℕ) (width : Width) (value : ℕ)
-    → new ≡ unless_stopped (port_refusal proc old at width value) old (port_written proc now old at width value) → AreWaiting old.gx
-    → waiting_entries new.gx ≤ waiting_entries old.gx + 4
+pub put_grows : (proc : Proc) (now : Tick) (old new : IoState) (at : ℕ) (width : Width) (value : ℕ) → new ≡ guarded_written proc now old at width value
+    → AreWaiting old.gx → waiting_entries new.gx ≤ waiting_entries old.gx + 4
 put_grows proc now old new at width value is_new waiting =
     subst (AreFourMore old) (sym is_new)
-    (unless_grows (port_refusal proc old at width value) old (port_written proc now old at width value) (write_grows proc now old at width value waiting))
+    (either (AreFourMore old) (is_overfull proc old) old
+    (unless_stopped (port_refusal proc old at width value) old (port_written proc now old at width value)) (no_more old old refl)
+    (unless_grows (port_refusal proc old at width value) old (port_written proc now old at width value)
+    (write_grows proc now old at width value waiting)))

@@ -86,9 +86,10 @@ module _ (g : GxState) where
       ap (λ (x : IoState). unless_stop stop x (put u)) (shown_apart (video_shown u.video) now happened)
       ∙ passes_stop put stop (shown_to_others (video_shown u.video) now happened) u
 
-  pub moved_apart : (proc : Proc) (now : Tick) (u : IoState) → channel_moved proc now (with_gx g u) ≡ with_gx g (channel_moved proc now u)
-  moved_apart Nine now u = refl
-  moved_apart Seven now u = refl
+  pub moved_apart : (proc : Proc) (now : Tick) (waits : ℕ) (u : IoState)
+      → channel_moved proc now waits (with_gx g u) ≡ with_gx g (channel_moved proc now waits u)
+  moved_apart Nine now waits u = refl
+  moved_apart Seven now waits u = refl
 
   -- ARM9's channels are due by whether a stall holds them
   pub channel_due_apart : (channel : ℕ) (u : IoState) → is_stalled g ≡ is_stalled u.gx → io_due (Dma Nine channel) (with_gx g u) ≡ io_due (Dma Nine channel) u

@@ -1,7 +1,6 @@
-use Rattle.std.proofs.Common.{ℕ, ◌≡◌, ◌≤◌, ◌+◌, inl, nat_le, nat_lt, if◌then◌else◌, Bool, true, false, List, [], ◌∷◌, ◌++◌, length, map, take_while, Option, Some, None, refl, arith}
+use Rattle.std.proofs.Common.{ℕ, ◌≡◌, ◌≤◌, ◌+◌, nat_le, nat_lt, if◌then◌else◌, Bool, true, false, List, [], ◌∷◌, ◌++◌, length, map, take_while, Option, Some, None, refl, arith}
 use Rattle.std.proofs.lemmas.List.{length-append}
 use Rattle.ds_base.specs.Bits.{bit}
-use Rattle.ds_base.specs.Schedules.{Reschedules}
 use Rattle.ds_base.specs.declared.ticks.Tick.{Tick}
 use Rattle.gx_matrix.specs.CommandTable.{command_of, command_row}
 use Rattle.gx_matrix.specs.declared.commands.GeometryCommand.{GeometryCommand}
@@ -10,12 +9,10 @@ use Rattle.gx_fifo.specs.declared.entries.GxEntry.{GxEntry}
 use Rattle.gx_fifo.specs.declared.ports.GxPort.{GxPort}
 use Rattle.gx_fifo.specs.declared.ports.GxPort.TheVariants.{Display, Fifo, Direct, Status, Lengths, Position, Vector, Clip, VectorMatrix, Unlisted}
 use Rattle.gx_fifo.specs.GxPorts.{gx_port}
-use Rattle.gx_fifo.specs.GxStates.{AreWaiting, GxState, gx_written, is_stalled, waiting_entries, write_port}
+use Rattle.gx_fifo.specs.GxStates.{GxState, gx_written, is_stalled, waiting_entries, write_port}
 use Rattle.gx_fifo.specs.PackedWords.{FifoState, entry_added, packed_commands, parameter_taken, takes_none, unpacked, with_word, without_word}
-use Rattle.gx_fifo.proofs.Laws.{written_grows, written_run, written_schedules, written_waiting}
-use Rattle.ds_ports.specs.Registers.{gx_port_written}
 
--- What a write of one of geometry's registers leaves, where there is room and where there is none.
+-- What a write of one of geometry's registers leaves.
 
 -- ---- no entry leaves
 
@@ -60,8 +57,11 @@ port_longer Unlisted value now s = omega arith
 still_more : (m n : ℕ) → m ≤ n → nat_lt 260 m ≡ true → nat_lt 260 n ≡ true
 still_more m n l h = grind (arith, l, h)
 
-written_stalls : (s : GxState) (at value : ℕ) (now : Tick) → is_stalled s ≡ true → is_stalled (gx_written s at value now) ≡ true
-written_stalls s at value now h = still_more (waiting_entries s) (waiting_entries (gx_written s at value now)) (port_longer (gx_port at) value now s) h
+pub written_longer : (s : GxState) (at value : ℕ) (now : Tick) → waiting_entries s ≤ waiting_entries (gx_written s at value now)
+written_longer s at value now = port_longer (gx_port at) value now s
+
+pub written_stalls : (s : GxState) (at value : ℕ) (now : Tick) → is_stalled s ≡ true → is_stalled (gx_written s at value now) ≡ true
+written_stalls s at value now h = still_more (waiting_entries s) (waiting_entries (gx_written s at value now)) (written_longer s at value now) h
 
 -- ---- the lists of the last swap stay
 
@@ -82,37 +82,5 @@ last_by (Clip i) value now s = refl
 last_by (VectorMatrix i) value now s = refl
 last_by Unlisted value now s = refl
 
--- ---- where there is room, and where there is none
-
-module _ (s : GxState) (at value : ℕ) (now : Tick) where
-  guarded : (P : GxState → Type 0) → P s → P (gx_written s at value now) → P (gx_port_written s at value now)
-  guarded P h k = go (nat_lt 320 (waiting_entries s)) where
-    go : (b : Bool) → P (if b then s else gx_written s at value now)
-    go true = h
-    go false = k
-
-pub port_schedules : (now : Tick) (s : GxState) (at value : ℕ) → Reschedules now s.due (gx_port_written s at value now).due
-port_schedules now s at value = guarded s at value now (λ x. Reschedules now s.due x.due) (inl refl) (written_schedules s at value now)
-
-pub port_stalls : (s : GxState) (at value : ℕ) (now : Tick) → is_stalled s ≡ true → is_stalled (gx_port_written s at value now) ≡ true
-port_stalls s at value now = guarded s at value now (λ x. is_stalled s ≡ true → is_stalled x ≡ true) (λ h. h) (written_stalls s at value now)
-
-pub port_run : (s : GxState) (at value : ℕ) (now : Tick) → (gx_port_written s at value now).geometry.numbers.run ≡ s.geometry.numbers.run
-port_run s at value now = guarded s at value now (λ x. x.geometry.numbers.run ≡ s.geometry.numbers.run) refl (written_run s at value now)
-
-pub port_last : (s : GxState) (at value : ℕ) (now : Tick) → (gx_port_written s at value now).geometry.last ≡ s.geometry.last
-port_last s at value now = guarded s at value now (λ x. x.geometry.last ≡ s.geometry.last) refl (last_by (gx_port at) value now s)
-
--- at most four come
-pub port_grows : (s : GxState) (at value : ℕ) (now : Tick) → AreWaiting s → waiting_entries (gx_port_written s at value now) ≤ waiting_entries s + 4
-port_grows s at value now waiting =
-    guarded s at value now (λ x. waiting_entries x ≤ waiting_entries s + 4) (omega arith) (written_grows s at value now waiting)
-
-room : (n : ℕ) → nat_lt 320 n ≡ false → n ≤ 320
-room n h = grind (arith, h)
-
-pub port_waiting : (s : GxState) (at value : ℕ) (now : Tick) → AreWaiting s → AreWaiting (gx_port_written s at value now)
-port_waiting s at value now waiting = go (nat_lt 320 (waiting_entries s)) refl where
-  go : (b : Bool) → nat_lt 320 (waiting_entries s) ≡ b → AreWaiting (if b then s else gx_written s at value now)
-  go true e = waiting
-  go false e = written_waiting s at value now (room (waiting_entries s) e) waiting
+pub written_last : (s : GxState) (at value : ℕ) (now : Tick) → (gx_written s at value now).geometry.last ≡ s.geometry.last
+written_last s at value now = last_by (gx_port at) value now s

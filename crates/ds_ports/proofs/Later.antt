@@ -1,4 +1,4 @@
-use Rattle.std.proofs.Common.{ℕ, ◌≡◌, ◌<◌, ◌+◌, ◌%◌, ◌^◌, inl, inr, true, List, Option, Some, None, refl, sym, ◌∙◌, ap, subst, arith}
+use Rattle.std.proofs.Common.{ℕ, ◌≡◌, ◌<◌, ◌≤◌, ◌+◌, ◌%◌, ◌^◌, inl, inr, true, List, Option, Some, None, refl, sym, ◌∙◌, ap, subst, arith}
 use Rattle.std.specs.Prelude.{◌==◌}
 use Rattle.ds_base.proofs.Choices.{either}
 use Rattle.ds_base.specs.Bits.{bits}
@@ -24,20 +24,23 @@ use Rattle.ds_runs.specs.declared.actors.Actor.TheVariants.{Video, Timer, Divide
 use Rattle.ds_timers.specs.Timing.{TimerState, AreTimers, control_set, kept_control, reload_set, timer_at, timer_due}
 use Rattle.ds_timers.proofs.Changed.{control_schedules, control_set_is, reload_leaves, reload_set_is}
 use Rattle.ds_timers.proofs.Four.{one_reschedules}
-use Rattle.gx_fifo.specs.GxStates.{AreWaiting, GxState, is_stalled}
+use Rattle.gx_fifo.specs.Entries.{most_entries}
+use Rattle.gx_fifo.specs.GxStates.{AreWaiting, GxState, gx_written, is_stalled, waiting_entries}
+use Rattle.gx_fifo.proofs.Laws.{written_run, written_schedules, written_waiting}
 use Rattle.ds_ports.specs.Dues.{io_due}
+use Rattle.ds_ports.specs.Guards.{guarded_written, is_overfull}
 use Rattle.ds_ports.specs.Happenings.{IsIo, IsTold, Goes, LeavesGeometry, IsUnchanged, IsProcessorIo, HasOnlyLaterEvents, ReschedulesEach}
 use Rattle.ds_ports.specs.ProcessorIo.{ProcessorIoState, dma_written, haltcnt_written, kept_keycnt, keycnt_written, keys_hold, keys_told, processor_io_raised}
 use Rattle.ds_ports.specs.Ports.{port_read, port_refusal, port_written, unless_stopped}
 use Rattle.ds_ports.specs.RegisterMap.{IsSlot}
-use Rattle.ds_ports.specs.Registers.{after_write, gx_port_written, gx_set, meaning_of}
+use Rattle.ds_ports.specs.Registers.{after_write, gx_set, meaning_of}
 use Rattle.ds_ports.specs.Io.{IoState, both_raised, io_of, with_io_of}
 use Rattle.ds_ports.specs.declared.registers.Register.{Register}
 use Rattle.ds_ports.specs.declared.registers.Register.TheVariants.{DisplayHalf, DisplayWord, Dmasad, Dmadad, Dmacnt, TmcntL, TmcntH, Keycnt, Ipcsync, Ipcfifocnt, Ipcfifosend, Ipcfiforecv, Ime, Ie, If, Divcnt, DivNumer, DivDenom, Sqrtcnt, SqrtParam, GxWord, GxCommand, Haltcnt}
 use Rattle.ds_ports.proofs.Covered.{are_all, read_leaves, write_leaves}
 use Rattle.ds_ports.proofs.Passed.{any_covered, any_register}
 use Rattle.ds_ports.proofs.HeldDues.{held_reschedules, stall_begins}
-use Rattle.ds_ports.proofs.GxPorts.{port_last, port_run, port_schedules, port_stalls, port_waiting}
+use Rattle.ds_ports.proofs.GxPorts.{written_last, written_longer, written_stalls}
 use Rattle.ds_ports.proofs.DisplayPorts.{written_scan, written_whole}
 use Rattle.ds_ports.proofs.RegisterMaps.{some_slot}
 use Rattle.ds_ports.proofs.Told.{AreIpcAtBoth, control_ipc, raised_told, receive_ipc, send_ipc, sync_ipc, told_nothing, told_on}
@@ -170,7 +173,8 @@ root_each now u root r _ l = inl refl
 pub leaves_all : (proc : Proc) (old new : IoState) → new.gx ≡ old.gx → new.released ≡ old.released → LeavesGeometry proc old new
 leaves_all proc old new e f = record {
   released = f;
-  waiting = subst AreWaiting (sym e);
+  longer = (let many = ap waiting_entries e in omega (arith, many));
+  waiting = λ room. subst AreWaiting (sym e);
   run = ap (λ (g : GxState). g.geometry.numbers.run) e;
   last = ap (λ (g : GxState). g.geometry.last) e;
   stall = λ h. ap is_stalled e ∙ h;
@@ -180,7 +184,8 @@ leaves_all proc old new e f = record {
 leaves_on : (proc : Proc) (a b c : IoState) → LeavesGeometry proc a b → LeavesGeometry proc b c → LeavesGeometry proc a c
 leaves_on proc a b c g h = record {
   released = h.released ∙ g.released;
-  waiting = λ w. h.waiting (g.waiting w);
+  longer = (let more = g.longer in let most = h.longer in omega (arith, more, most));
+  waiting = λ room w. (let more = h.longer in h.waiting room (g.waiting (omega (arith, room, more)) w));
   run = h.run ∙ g.run;
   last = h.last ∙ g.last;
   stall = λ s. h.stall (g.stall s);
@@ -308,22 +313,23 @@ nine_or_seven h = grind (arith, h)
 -- one of geometry's, which ARM7 doesn't have
 module _ (now : Tick) (u : IoState) (number value : ℕ) where
   gx_each : ReschedulesEach now u (gx_set Nine now u number value)
-  gx_each Geometry l = port_schedules now u.gx number value
+  gx_each Geometry l = written_schedules u.gx number value now
   gx_each (Timer Nine which) l = inl refl
   gx_each (Timer Seven which) l = inl refl
   gx_each (Dma Nine channel) l =
-      stall_begins now (is_stalled u.gx) (is_stalled (gx_port_written u.gx number value now)) u.released (channel_due u.nine.dma channel)
-      (port_stalls u.gx number value now)
+      stall_begins now (is_stalled u.gx) (is_stalled (gx_written u.gx number value now)) u.released (channel_due u.nine.dma channel)
+      (written_stalls u.gx number value now)
   gx_each (Dma Seven channel) l = inl refl
   gx_each _ l = inl refl
 
   gx_leaves : LeavesGeometry Nine u (gx_set Nine now u number value)
   gx_leaves = record {
     released = refl;
-    waiting = port_waiting u.gx number value now;
-    run = port_run u.gx number value now;
-    last = port_last u.gx number value now;
-    stall = port_stalls u.gx number value now;
+    longer = written_longer u.gx number value now;
+    waiting = written_waiting u.gx number value now;
+    run = written_run u.gx number value now;
+    last = written_last u.gx number value now;
+    stall = written_stalls u.gx number value now;
     of_seven = λ h. absurd (nine_or_seven h);
   }
 
@@ -385,12 +391,14 @@ unless_goes : (proc : Proc) (now : Tick) (stop : Option Stop) (u v : IoState) �
 unless_goes proc now None u v is quiet goes = goes
 unless_goes proc now (Some stop) u v is quiet goes = goes_nowhere proc now u is quiet
 
-pub put_goes : (proc : Proc) (now : Tick) (old new : IoState) (at : ℕ) (width : Width) (value : ℕ)
-    → new ≡ unless_stopped (port_refusal proc old at width value) old (port_written proc now old at width value)
+pub put_goes : (proc : Proc) (now : Tick) (old new : IoState) (at : ℕ) (width : Width) (value : ℕ) → new ≡ guarded_written proc now old at width value
     → IsProcessorIo (io_of old proc) → HasOnlyLaterEvents now (io_of old proc) → Goes proc now old new
 put_goes proc now old new at width value is_new is quiet =
     subst (Goes proc now old) (sym is_new)
-    (unless_goes proc now (port_refusal proc old at width value) old (port_written proc now old at width value) is quiet (write_goes proc now old at width value is quiet))
+    (either (Goes proc now old) (is_overfull proc old) old
+    (unless_stopped (port_refusal proc old at width value) old (port_written proc now old at width value)) (goes_nowhere proc now old is quiet)
+    (unless_goes proc now (port_refusal proc old at width value) old (port_written proc now old at width value) is quiet
+    (write_goes proc now old at width value is quiet)))
 
 -- ---- reads: nothing is due otherwise than before
 
@@ -418,14 +426,14 @@ processor_io_is u h Nine = h.nine
 processor_io_is u h Seven = h.seven
 
 -- the units are the units still
-pub goes_io : (proc : Proc) (now : Tick) (old new : IoState) → IsIo old → Goes proc now old new → IsIo new
-goes_io proc now old new h g =
+pub goes_io : (proc : Proc) (now : Tick) (old new : IoState) → waiting_entries new.gx ≤ most_entries → IsIo old → Goes proc now old new → IsIo new
+goes_io proc now old new room h g =
     let other : IsProcessorIo (io_of new (other_proc proc)) = record {
       timers = subst AreTimers (sym g.other.timers) (processor_io_is old h (other_proc proc)).timers;
       dma = subst IsDma (sym g.other.dma) (processor_io_is old h (other_proc proc)).dma;
     } in
     let each = of_both (λ p. IsProcessorIo (io_of new p)) proc g.is other in
-    record { nine = each Nine; seven = each Seven; gx = g.geometry.waiting h.gx }
+    record { nine = each Nine; seven = each Seven; gx = g.geometry.waiting room h.gx }
 
 -- ---- one processor's own, changed
 

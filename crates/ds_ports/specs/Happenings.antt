@@ -1,4 +1,4 @@
-use Rattle.std.specs.Prelude.{ℕ, ◌≡◌, ◌<◌, ◌+◌, true, bit_or}
+use Rattle.std.specs.Prelude.{ℕ, ◌≡◌, ◌<◌, ◌≤◌, ◌+◌, true, bit_or}
 use Rattle.ds_base.specs.Interrupts.{interrupt_bit}
 use Rattle.ds_base.specs.Schedules.{IsLater, Reschedules}
 use Rattle.ds_base.specs.declared.interrupts.Interrupt.TheVariants.{IpcSync, SendFifoEmpty, ReceiveFifoNotEmpty}
@@ -14,7 +14,8 @@ use Rattle.ds_timers.specs.Timing.{AreTimers, timer_at, timer_due}
 use Rattle.ds_ports.specs.Dues.{io_due}
 use Rattle.ds_ports.specs.Io.{IoState, io_of}
 use Rattle.ds_ports.specs.ProcessorIo.{ProcessorIoState}
-use Rattle.gx_fifo.specs.GxStates.{AreWaiting, is_stalled}
+use Rattle.gx_fifo.specs.Entries.{most_entries}
+use Rattle.gx_fifo.specs.GxStates.{AreWaiting, is_stalled, waiting_entries}
 
 -- What holds of the units at every time, and what happens at a tick makes of them and of when they are due.
 
@@ -59,10 +60,12 @@ pub record IsTold (old new : IrqState) : Type 0 where
 abbrev pub ReschedulesEach : Tick → IoState → IoState → Type 0
 ReschedulesEach now old new = (a : actor.Actor) → IsNumbered a → Reschedules now (io_due a old) (io_due a new)
 
--- what accesses leave of geometry: no stall ends, its current run is as long as it was, and the lists of its last swap stay; ARM7's leave all of it
+-- what accesses leave of geometry: no entry leaves, and those that wait are as they can be, where there is room for them; no stall ends, its current
+-- run is as long as it was, and the lists of its last swap stay; ARM7's leave all of it
 pub record LeavesGeometry (proc : Proc) (old new : IoState) : Type 0 where
   pub released : new.released ≡ old.released
-  pub waiting : AreWaiting old.gx → AreWaiting new.gx
+  pub longer : waiting_entries old.gx ≤ waiting_entries new.gx
+  pub waiting : waiting_entries new.gx ≤ most_entries → AreWaiting old.gx → AreWaiting new.gx
   pub run : new.gx.geometry.numbers.run ≡ old.gx.geometry.numbers.run
   pub last : new.gx.geometry.last ≡ old.gx.geometry.last
   pub stall : is_stalled old.gx ≡ true → is_stalled new.gx ≡ true

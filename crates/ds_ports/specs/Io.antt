@@ -191,8 +191,8 @@ io_event (Dma proc channel) u = u
 io_event (Processor proc) u = u
 
 -- the DMA channel of a processor that is due moves its first unit, but for the access itself
-abbrev pub channel_moved : Proc → Tick → IoState → IoState
-channel_moved proc now u = with_io_of proc u (processor_io_moved (io_of u proc) now)
+abbrev pub channel_moved : Proc → Tick → ℕ → IoState → IoState
+channel_moved proc now waits u = with_io_of proc u (processor_io_moved (io_of u proc) now waits)
 
 -- and the move is taken back
 abbrev pub channel_put_back : Proc → BeforeMove → IoState → IoState

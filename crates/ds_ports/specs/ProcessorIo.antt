@@ -3,12 +3,11 @@ use Rattle.ds_base.specs.Bits.{bit, bits}
 use Rattle.ds_base.specs.Interrupts.{interrupt_bit}
 use Rattle.ds_base.specs.declared.interrupts.Interrupt.TheVariants.{Keys}
 use Rattle.ds_base.specs.declared.processors.Proc.{Proc}
-use Rattle.ds_base.specs.declared.processors.Proc.TheVariants.{Nine, Seven}
 use Rattle.ds_base.specs.declared.ticks.Tick.{Tick}
 use Rattle.ds_dma.specs.States.{DmaState, any_runs, channel_written, dma_at_boot, dma_finished, dma_triggered, finished_bits}
 use Rattle.ds_dma.specs.declared.controls.Cause.{Cause}
 use Rattle.ds_dma.specs.declared.controls.DmaPort.{DmaPort}
-use Rattle.ds_timers.specs.Irqs.{IrqState, irq_acked, irq_at_boot, irq_raised}
+use Rattle.ds_timers.specs.Irqs.{IrqState, interrupts_of, irq_acked, irq_at_boot, irq_raised}
 use Rattle.ds_timers.specs.Timing.{TimerState, control_set, reload_set, timers_at_boot}
 
 -- What each processor has of its own behind the ports: its interrupt words, its timers, KEYCNT, whether it is halted, and its DMA channels.
@@ -29,11 +28,6 @@ abbrev pub processor_io_raised : ProcessorIoState → ℕ → ProcessorIoState
 processor_io_raised processor_io raised = record processor_io { irq = irq_raised processor_io.irq raised }
 
 -- ---- interrupts (GBATEK, "DS Interrupts")
-
--- the interrupts that each processor has: IE keeps their bits
-abbrev pub interrupts_of : Proc → ℕ
-interrupts_of Nine = 0x2F1F7F
-interrupts_of Seven = 0x0F1F7F
 
 -- IME keeps bit 0, IE the bits of the interrupts that the processor has, and a 1 that is written to IF clears its bit
 abbrev pub ime_written : ProcessorIoState → ℕ → ProcessorIoState
@@ -96,10 +90,10 @@ dma_written processor_io now port which word = record processor_io { dma = chann
 abbrev pub processor_io_triggered : ProcessorIoState → Cause → Tick → ProcessorIoState
 processor_io_triggered processor_io cause now = record processor_io { dma = dma_triggered processor_io.dma cause now }
 
--- the channel that is due moves its first unit at a tick, and raises its interrupt at its end
-abbrev pub processor_io_moved : ProcessorIoState → Tick → ProcessorIoState
-processor_io_moved processor_io now =
-    processor_io_raised (record processor_io { dma = dma_finished processor_io.dma now }) (finished_bits processor_io.dma)
+-- the channel that is due moves its first unit at a tick, with so many ticks of waits, and raises its interrupt at its end
+abbrev pub processor_io_moved : ProcessorIoState → Tick → ℕ → ProcessorIoState
+processor_io_moved processor_io now waits =
+    processor_io_raised (record processor_io { dma = dma_finished processor_io.dma now waits }) (finished_bits processor_io.dma)
 
 -- what that changes, as it was before: the channels and the interrupt words
 pub record BeforeMove : Type 0 where

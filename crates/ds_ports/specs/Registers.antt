@@ -1,4 +1,4 @@
-use Rattle.std.specs.Prelude.{ℕ, ◌+◌, ◌*◌, ◌/◌, ◌%◌, ◌^◌, ◌==◌, ◌||◌, nat_lt, if◌then◌else◌, Bool, true, false, Option, Some, None, is_some, bit_and, slice_index_or, slice_set}
+use Rattle.std.specs.Prelude.{ℕ, ◌+◌, ◌*◌, ◌/◌, ◌%◌, ◌^◌, ◌==◌, ◌||◌, if◌then◌else◌, Bool, true, false, Option, Some, None, is_some, bit_and, slice_index_or, slice_set}
 use Rattle.ds_base.specs.Bits.{bit, bits, flag}
 use Rattle.ds_base.specs.Numbers.{value_by}
 use Rattle.ds_base.specs.declared.left_out.LeftKind.TheVariants.{CardTransfer, HaltMode}
@@ -21,7 +21,7 @@ use Rattle.ds_ports.specs.ProcessorIo.{ProcessorIoState, control_written, dma_wr
 use Rattle.ds_ports.specs.Io.{IoState, both_raised, io_of, with_io_of}
 use Rattle.ds_ports.specs.declared.registers.Register.{Register}
 use Rattle.ds_ports.specs.declared.registers.Register.TheVariants.{DisplayHalf, DisplayWord, GxWord, GxCommand, Dmasad, Dmadad, Dmacnt, Dmafill, TmcntL, TmcntH, Keyinput, Keycnt, Extkeyin, Ipcsync, Ipcfifocnt, Ipcfifosend, Ipcfiforecv, Romctrl, Ime, Ie, If, Vramcnt, Wramcnt, Vramstat, Wramstat, Divcnt, DivNumer, DivDenom, DivResult, DivremResult, Sqrtcnt, SqrtResult, SqrtParam, Postflg, Haltcnt}
-use Rattle.gx_fifo.specs.GxStates.{GxState, gx_kept, gx_word, gx_written, waiting_entries}
+use Rattle.gx_fifo.specs.GxStates.{gx_kept, gx_word, gx_written}
 use Rattle.video2d.specs.Kept.{kept_byte}
 use Rattle.video2d.specs.Videos.{video_byte, video_written}
 use Rattle.vram_banks.specs.BankMap.{kept_bank_control}
@@ -156,13 +156,9 @@ display_register width = record idle {
 }
 
 -- one of geometry's, of which the number is the offset of its first byte: what it reads, what it keeps, and what a write leaves, are told where
--- geometry is. ARM9 alone has them. More than 320 entries never wait where one is written, since a stall holds ARM9 and its DMA first: a write there
--- is ignored (our choice of form).
-abbrev pub gx_port_written : GxState → ℕ → ℕ → Tick → GxState
-gx_port_written s at value now = if nat_lt 320 (waiting_entries s) then s else gx_written s at value now
-
+-- geometry is. ARM9 alone has them.
 abbrev pub gx_set : Proc → Tick → IoState → ℕ → ℕ → IoState
-gx_set Nine now u n word = record u { gx = gx_port_written u.gx n word now }
+gx_set Nine now u n word = record u { gx = gx_written u.gx n word now }
 gx_set Seven now u n word = u
 
 abbrev pub gx_register : Bool → RegisterMeaning

@@ -1,36 +1,33 @@
 //! The units behind the ports, with the first of them that is due and acts.
 
-ghost use Rattle.std.specs.Prelude.{◌≡◌, ◌<◌, ◌≤◌, ◌^◌, true, IfOk, IsSome, Some, length};
+ghost use Rattle.std.specs.Prelude.{◌≡◌, ◌<◌, ◌≤◌, ◌^◌, false, true, IfOk, IsSome, Some, length};
 ghost use Rattle.ds_base.specs.Schedules.{IsEarly};
-ghost use Rattle.ds_dma.specs.States.{dma_due};
-ghost use Rattle.ds_ipc.specs.Ipcs.{AreSides};
+ghost use Rattle.ds_dma.specs.States.{dma_due, most_waits};
 ghost use Rattle.ds_runs.specs.Actors.{IsNumbered};
 ghost use Rattle.ds_runs.specs.declared.actors.Actor.TheVariants as actors;
 ghost use Rattle.ds_runs.specs.Order.{first_from};
-ghost use Rattle.gx_fifo.specs.GxStates.{AddsOneVertex, IsGx, gx_finished, is_stalled};
 ghost use Rattle.gx_geometry.specs.States.{AreListsSince};
 ghost use Rattle.vram_banks.specs.Cells.{vram_written};
-ghost use Rattle.ds_ports.specs.Acting.{acting_io_dues, is_quiet};
-ghost use Rattle.ds_ports.specs.Dues.{io_due, io_dues};
-ghost use Rattle.ds_ports.specs.Happenings.{IsIo};
+ghost use Rattle.ds_ports.specs.Acting.{acting_io_dues};
+ghost use Rattle.ds_ports.specs.Dues.{io_due};
+ghost use Rattle.ds_ports.specs.Guards.{is_overfull};
 ghost use Rattle.ds_ports.specs.Inside.{moves_dues};
 ghost use Rattle.ds_ports.specs.ProcessorIo.{before_move};
 ghost use Rattle.ds_ports.specs.Registers.{after_write, meaning_of};
-ghost use Rattle.ds_ports.specs.Io.{channel_moved, channel_put_back, geometry_swapped, io_at_boot, io_event, io_of, is_held, is_settled, keys_pressed, settled, video_done, with_halted};
+ghost use Rattle.ds_ports.specs.Io.{channel_moved, channel_put_back, geometry_swapped, io_at_boot, io_event, io_of, is_settled, keys_pressed, settled, video_done, with_halted};
 ghost use Rattle.video2d.specs.Videos.{video_answer};
 
-use crate::processor_io::{Before, ProcessorIo};
+use crate::processor_io::Before;
 use crate::registers::Register;
 use crate::units::Units;
 use ds_base::{Due, Proc, Space, Stop, Tick, Width};
 use ds_runs::Actor;
-use gx_geometry::Lists;
 use std::alloc::{AllocError, Global};
 use std::marker::Model;
-use video2d::{Shown, Video};
-use vram_banks::Vram;
+use std::ops::Deref;
+use video2d::Shown;
 
-/// The units behind the ports. What changes no due tick is asked of what is lent here.
+/// The units behind the ports, with what is kept of them. It lends them to be asked; they change by its calls alone, so that what is kept stays so.
 #[derive(Drop)]
 pub struct Io {
     units: Units,
@@ -48,6 +45,17 @@ impl Model for Io {
     ghost view = { λ u. u.units };
 
     ghost invariant = { λ u. (Some u.first ≡ first_acting_io_due u.units) × (u.settled ≡ true → is_settled u.units ≡ true) };
+}
+
+impl Deref for Io {
+    type Target = Units;
+
+    #[inline(always)]
+    fn deref(&self) -> &Units
+        ensures { result.now ≡ self.now }
+    {
+        &self.units
+    }
 }
 
 /// Whether a write of a register may change when something is due, or leave something to settle.
@@ -79,53 +87,12 @@ impl Io {
         ensures { IfOk result (λ io. io ≡ io_at_boot) }
     {
         let units = Units::new(alloc)?;
-        let first = units.first_acting();
+        let first = units.find_acting();
         Ok(Io {
             units,
             first,
             settled: false,
         })
-    }
-
-    /// All of them, but for what is kept of their due ticks.
-    #[inline(always)]
-    pub(crate) fn units(&self) -> &Units
-        ensures { result.now ≡ self.now }
-    {
-        &self.units
-    }
-
-    /// The display.
-    #[inline(always)]
-    pub fn video(&self) -> &Video
-        ensures { result.now ≡ self.now.video }
-    {
-        self.units.video()
-    }
-
-    /// What a processor has of its own.
-    #[inline(always)]
-    pub fn processor(&self, proc: Proc) -> &ProcessorIo
-        ensures { result.now ≡ io_of self.now proc }
-    {
-        self.units.processor_io(proc)
-    }
-
-    /// What WRAMCNT keeps.
-    #[inline(always)]
-    pub fn wramcnt(&self) -> u8
-        ensures value { result ≡ self.now.wramcnt }
-        ensures within { result < 4 }
-    {
-        self.units.wramcnt()
-    }
-
-    /// Video memory.
-    #[inline(always)]
-    pub fn vram(&self) -> &Vram
-        ensures { result.now ≡ self.now.vram }
-    {
-        self.units.vram()
     }
 
     /// A write of video memory, at an address of one of its spaces.
@@ -145,22 +112,6 @@ impl Io {
         self.units.set_halted(proc, halted);
     }
 
-    /// When an actor behind the ports is due, if it is; those that aren't behind them, or aren't built yet, never are.
-    pub fn io_due(&self, actor: Actor) -> Option<Tick>
-        requires { IsNumbered actor }
-        ensures { result ≡ io_due actor self.now }
-    {
-        self.units.io_due(actor)
-    }
-
-    /// The first actor behind the ports that is due, by tick and then by rank, quiet geometry among them. It is found at each call.
-    #[tactic(auto, unfolding(crate::specs::Dues::first_io_due))]
-    pub fn first_due(&self) -> Due
-        ensures { Some result ≡ first_from 1 (io_dues self.now) }
-    {
-        self.units.first_due()
-    }
-
     /// The first that acts of those that are due: all do but quiet geometry. It is kept, and found again only where one of them had its event, or a
     /// timer, a DMA channel, the divider, the square root unit or geometry changed.
     #[inline(always)]
@@ -169,14 +120,6 @@ impl Io {
         ensures { Some result ≡ first_from 1 (acting_io_dues self.now) }
     {
         self.first
-    }
-
-    /// Whether geometry is due and quiet: nobody hears of what it does, since GXSTAT's selector is 0, no channel of ARM9's is enabled with the start
-    /// of the geometry FIFO, whether or not it runs, and no stall holds ARM9.
-    pub fn is_quiet(&self) -> bool
-        ensures { result ≡ is_quiet self.now }
-    {
-        self.units.is_quiet()
     }
 
     /// The event of an actor behind the ports that is due: a timer overflows and its interrupts are raised, a division or a square root is done, or
@@ -191,7 +134,7 @@ impl Io {
     {
         self.settled = false;
         self.units.event(actor);
-        self.first = self.units.first_acting();
+        self.first = self.units.find_acting();
     }
 
     /// The display's event, with the memories of palettes and of objects: it goes on, and where a line is drawn it draws it; interrupts are raised by
@@ -206,21 +149,23 @@ impl Io {
     {
         self.settled = false;
         let shown = self.units.show(palette, oam);
-        self.first = self.units.first_acting();
+        self.first = self.units.find_acting();
         shown
     }
 
     /// A processor's DMA channel that is due moves its first unit at a tick, but for the access itself: the unit isn't its plan's any more,
-    /// and at its end its interrupt is raised where it is enabled. Gives what `put_back` takes this back by.
-    pub fn move_channel(&mut self, proc: Proc, now: Tick) -> Before
+    /// and at its end its interrupt is raised where it is enabled. The access waits so many ticks, which the next unit waits for. Gives what
+    /// `put_back` takes this back by.
+    pub fn move_channel(&mut self, proc: Proc, now: Tick, waits: u32) -> Before
         requires due { IsSome (dma_due (io_of self.old proc).dma) }
         requires early { IsEarly (Some now) }
-        ensures state { self.new ≡ channel_moved proc now self.old }
+        requires waits { waits ≤ most_waits }
+        ensures state { self.new ≡ channel_moved proc now waits self.old }
         ensures before { result ≡ before_move (io_of self.old proc) }
     {
         self.settled = false;
-        let before = self.units.move_channel(proc, now);
-        self.first = self.units.first_acting();
+        let before = self.units.move_channel(proc, now, waits);
+        self.first = self.units.find_acting();
         before
     }
 
@@ -230,7 +175,7 @@ impl Io {
     {
         self.settled = false;
         self.units.put_back(proc, before);
-        self.first = self.units.first_acting();
+        self.first = self.units.find_acting();
     }
 
     /// Line 192 begins at a tick: a swap of geometry's lists that waits is made. Gives whether one waited; nothing changes where none did.
@@ -243,46 +188,16 @@ impl Io {
     {
         self.settled = false;
         let waited = self.units.swap(now);
-        self.first = self.units.first_acting();
+        self.first = self.units.find_acting();
         waited
     }
 
-    /// The lists of geometry's last swap.
-    pub fn lists(&self) -> &Lists
-        ensures { result.now ≡ self.now.gx.geometry.last }
-    {
-        self.units.lists()
-    }
-
-    /// Whether a stall of geometry holds ARM9 and its DMA.
-    pub fn is_stalled(&self) -> bool
-        ensures { result ≡ is_stalled self.now.gx }
-    {
-        self.units.is_stalled()
-    }
-
-    /// How many vertices geometry's current run has.
-    pub fn run_length(&self) -> u64
-        ensures { result ≡ self.now.gx.geometry.numbers.run }
-    {
-        self.units.run_length()
-    }
-
-    /// Whether a processor isn't due: it is halted, a channel of it runs, or it is ARM9 and a stall of geometry holds it, which is where more
-    /// entries wait than geometry's FIFO holds.
-    #[inline(always)]
-    pub fn is_held(&self, proc: Proc) -> bool
-        ensures { result ≡ is_held self.now proc }
-    {
-        self.units.is_held(proc)
-    }
-
-    /// Whether `settle` would leave all as it is.
+    /// Whether `settle` would leave all as it is, which is kept where it is known.
     #[inline(always)]
     pub fn is_settled(&self) -> bool
         ensures { result ≡ is_settled self.now }
     {
-        self.settled || self.units.is_settled()
+        self.settled || self.units.find_settled()
     }
 
     /// What follows each step at a tick: bit 21 of ARM9's IF tells geometry's level as it is, ARM9's channels that wait for geometry are triggered
@@ -307,35 +222,11 @@ impl Io {
         ensures { self.new ≡ settled now self.old }
     {
         self.units.laws();
-        if !self.units.is_settled() {
+        if !self.units.find_settled() {
             self.units.settle(now);
-            self.first = self.units.first_acting();
+            self.first = self.units.find_acting();
         }
         self.settled = true;
-    }
-
-    /// Does nothing; its contract states what holds of the units at every time: what holds of each processor's timers and DMA channels, and of
-    /// what waits for geometry.
-    pub fn laws(&self)
-        ensures { IsIo self.now }
-    {
-        self.units.laws();
-    }
-
-    /// Does nothing; its contract states what holds of geometry at every time; `run`: its head command adds one vertex to the current run at most.
-    pub fn gx_laws(&self)
-        ensures is { IsGx self.now.gx }
-        ensures run { AddsOneVertex self.now.gx (gx_finished self.now.gx) }
-    {
-        self.units.gx_laws();
-    }
-
-    /// Does nothing; its contract states what holds of both sides of the IPC at every time: neither FIFO holds more than 16 words, and how many
-    /// bits their numbers have, those of the words that wait too.
-    pub fn ipc_laws(&self)
-        ensures { AreSides self.now.ipc }
-    {
-        self.units.ipc_laws();
     }
 
     /// From now on these keys are pressed, a bit for each of A, B, Select, Start, Right, Left, Up, Down, R, L, X and Y. Each processor is told
@@ -370,6 +261,7 @@ impl Io {
     )
         requires number { number < (meaning_of register).count }
         requires early { IsEarly (Some now) }
+        requires room { is_overfull proc self.old ≡ false }
         ensures { self.new ≡ after_write proc now self.old register number value }
     {
         if moves_dues(register) {
@@ -384,11 +276,12 @@ impl Io {
     fn write_moving(&mut self, proc: Proc, now: Tick, register: Register, number: u32, value: u32)
         requires number { number < (meaning_of register).count }
         requires early { IsEarly (Some now) }
+        requires room { is_overfull proc self.old ≡ false }
         ensures { self.new ≡ after_write proc now self.old register number value }
     {
         self.settled = false;
         self.units
             .write_register(proc, now, register, number, value);
-        self.first = self.units.first_acting();
+        self.first = self.units.find_acting();
     }
 }

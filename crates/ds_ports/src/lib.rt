@@ -8,9 +8,10 @@
 //! `read`, `take` and `put`: what an access of any width reads and leaves at a tick, register by register in ascending order, each by its
 //! own definition; a narrower write keeps what it doesn't cover, and all else stays. A write leaves each due tick as it was, or later than
 //! its tick (clause `schedule`), where no timer of the processor is due by then and no channel of it that runs is ready by then; it leaves
-//! of geometry what no access changes (`LeavesGeometry`), and adds four entries at most to those that wait for it (`grows`). Clause
-//! `refusal`: the stop for which a write is refused, which leaves all, exactly where it would write HALTCNT's modes 1 or 3, enable a DMA
-//! channel with a start that is left out, or start a transfer of the card.
+//! of geometry what no access changes (`LeavesGeometry`), and adds four entries at most to those that wait for it (`grows`). Where there is
+//! no room for them, one of ARM9's is ignored (`guarded_written`). Clause `refusal`: the stop for which a write is refused, which leaves
+//! all, exactly where it would write HALTCNT's modes 1 or 3, enable a DMA channel with a start that is left out, or start a transfer of the
+//! card.
 //!
 //! `register_laws`: each register of the maps stands at a multiple of its width (`rows`). An access at a multiple of its width that lies in
 //! no one register goes through the registers that begin in it, each whole, in ascending address: what it reads is theirs, 0 where none is,
@@ -23,8 +24,11 @@
 //! is the display's, with palettes and objects: its answer (`answer`), and what it leaves, with the interrupts that it raises at both
 //! processors and the channels that it triggers (`state`); where it stops, all stays. `swap` is line 192's, and clause `lists` says of
 //! which commands its lists are. `settle` is what follows a step (`settled`): the level of geometry's interrupt, the channels that wait for
-//! it, and that a stall's end is forgotten where it holds back no channel; `is_settled` is whether it would change anything. `laws`,
-//! `gx_laws` and `ipc_laws` tell what holds of timers, channels, geometry and both FIFOs always.
+//! it, and that a stall's end is forgotten where it holds back no channel; `is_settled` is whether it would change anything. `laws` tells
+//! what holds of timers, channels and what waits for geometry always.
+//!
+//! `Io` is the `Units` with two things that are kept of them: the first that acts, and whether they are settled. It lends them, so that what
+//! they tell is asked of it by the same name; only what changes them is a call of its own, which keeps both so.
 //!
 //! Only tested, in `ds_ports_tests`: each row's first and last byte and its neighbours; accesses across registers and of some bytes of one;
 //! each key, and KEYCNT with no key chosen; IF, IME and IPCSYNC by bytes; the FIFOs' directions, clears and interrupts; a DMA channel whose
@@ -43,3 +47,4 @@ pub use io::Io;
 pub use ports::{part, register_laws};
 pub use processor_io::{Before, ProcessorIo};
 pub use registers::{Register, Slot, slot_of};
+pub use units::Units;

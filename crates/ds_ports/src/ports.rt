@@ -1,6 +1,6 @@
 //! Accesses of ports.
 
-ghost use Rattle.std.specs.Prelude.{ℕ, ◌≡◌, ◌<◌, ◌≤◌, ◌+◌, ◌%◌, ◌^◌, IfSome, None, Some};
+ghost use Rattle.std.specs.Prelude.{ℕ, ◌≡◌, ◌<◌, ◌≤◌, ◌+◌, ◌%◌, ◌^◌, false, IfSome, None, Some};
 ghost use Rattle.ds_base.specs.Numbers.{width_bytes};
 ghost use Rattle.ds_base.specs.Schedules.{IsEarly};
 ghost use Rattle.ds_base.specs.declared.memories.Width.{Width};
@@ -8,6 +8,7 @@ ghost use Rattle.ds_base.specs.declared.processors.Proc.{Proc};
 ghost use Rattle.ds_base.specs.declared.ticks.Tick.{Tick};
 ghost use Rattle.ds_ports.specs.Ports.{GoesAscending, byte_refusal, byte_written, first_stop, half_refusal, half_written, ignores, with_bytes_from, part, port_byte, port_half, port_read, port_refusal, port_value, port_word, port_written, slot_joined, slot_refusal, slot_value, slot_written, unless_stopped, whole_in, word_refusal, word_written};
 ghost use Rattle.gx_fifo.specs.GxStates.{AreWaiting, waiting_entries};
+ghost use Rattle.ds_ports.specs.Guards.{guarded_refusal, guarded_written, is_overfull};
 ghost use Rattle.ds_ports.specs.Happenings.{Goes, IsProcessorIo, HasOnlyLaterEvents};
 ghost use Rattle.ds_ports.specs.RegisterMap.{IsSlot, StandsWhole, slot_of};
 ghost use Rattle.ds_ports.specs.Io.{IoState, io_of};
@@ -110,7 +111,7 @@ impl Io {
         part(
             width,
             slot.byte,
-            self.units().value_of(proc, now, slot.register, slot.number),
+            self.value_of(proc, now, slot.register, slot.number),
         )
     }
 
@@ -199,7 +200,7 @@ impl Io {
         ensures value { result ≡ port_value proc now self.old at width }
         ensures next { self.new ≡ port_read proc self.old at width }
     {
-        if let Some(value) = self.units().value_often(proc, at, width) {
+        if let Some(value) = self.value_often(proc, at, width) {
             return value;
         }
         self.take_by_map(proc, now, at, width)
@@ -211,7 +212,7 @@ impl Io {
         requires whole { slot.byte + width_bytes width ≤ 4 }
         ensures { result ≡ slot_joined proc self.now width slot value }
     {
-        let kept = self.units().kept_of(proc, slot.register, slot.number);
+        let kept = self.kept_of(proc, slot.register, slot.number);
         with_bytes_from(width, slot.byte, kept, value)
     }
 
@@ -225,8 +226,7 @@ impl Io {
             return None;
         }
         let value = self.slot_joined(proc, width, slot, value);
-        self.units()
-            .refusal_of(proc, slot.register, slot.number, value)
+        self.refusal_of(proc, slot.register, slot.number, value)
     }
 
     /// Writes some bytes of a register.
@@ -234,6 +234,7 @@ impl Io {
         requires slot { IsSlot slot }
         requires whole { slot.byte + width_bytes width ≤ 4 }
         requires early { IsEarly (Some now) }
+        requires room { is_overfull proc self.old ≡ false }
         ensures { self.new ≡ slot_written proc now self.old width slot value }
     {
         if !ignores(width, slot.register) {
@@ -255,6 +256,7 @@ impl Io {
         requires slot { IsSlot slot }
         requires whole { slot.byte + width_bytes width ≤ 4 }
         requires early { IsEarly (Some now) }
+        requires room { is_overfull proc self.old ≡ false }
         ensures refusal { result ≡ slot_refusal proc self.old width slot value }
         ensures next { self.new
             ≡ unless_stopped (slot_refusal proc self.old width slot value) self.old (slot_written proc now self.old width slot value) }
@@ -263,9 +265,7 @@ impl Io {
             return None;
         }
         let value = self.slot_joined(proc, width, slot, value);
-        let stop = self
-            .units()
-            .refusal_of(proc, slot.register, slot.number, value);
+        let stop = self.refusal_of(proc, slot.register, slot.number, value);
         if stop.is_none() {
             self.write_register(proc, now, slot.register, slot.number, value);
         }
@@ -294,21 +294,27 @@ impl Io {
         }
     }
 
-    /// Writes a byte.
+    /// Writes a byte. That adds no entry to those that wait for geometry.
+    #[tactic(auto, using(crate::proofs::Grows::byte_leaves_room))]
     fn write_byte(&mut self, proc: Proc, now: Tick, at: u32, value: u32)
-        requires { IsEarly (Some now) }
-        ensures { self.new ≡ byte_written proc now self.old at value }
+        requires early { IsEarly (Some now) }
+        requires room { is_overfull proc self.old ≡ false }
+        ensures next { self.new ≡ byte_written proc now self.old at value }
+        ensures room { is_overfull proc self.new ≡ false }
     {
         if let Some(slot) = slot_of(proc, at) {
             self.write_part(proc, now, Width::Byte, slot, value);
         }
     }
 
-    /// Writes a half.
+    /// Writes a half. That adds none either.
+    #[tactic(auto, using(crate::proofs::Grows::half_leaves_room))]
     fn write_half(&mut self, proc: Proc, now: Tick, at: u32, value: u32)
         requires at { at < 2 ^ 31 }
         requires early { IsEarly (Some now) }
-        ensures { self.new ≡ half_written proc now self.old at value }
+        requires room { is_overfull proc self.old ≡ false }
+        ensures next { self.new ≡ half_written proc now self.old at value }
+        ensures room { is_overfull proc self.new ≡ false }
     {
         match whole_in(Width::Half, slot_of(proc, at)) {
             Some(slot) => self.write_part(proc, now, Width::Half, slot, value),
@@ -321,7 +327,8 @@ impl Io {
 
     /// Writes a byte, unless this is refused.
     fn put_byte(&mut self, proc: Proc, now: Tick, at: u32, value: u32) -> Option<Stop>
-        requires { IsEarly (Some now) }
+        requires early { IsEarly (Some now) }
+        requires room { is_overfull proc self.old ≡ false }
         ensures refusal { result ≡ byte_refusal proc self.old at value }
         ensures next { self.new ≡ unless_stopped (byte_refusal proc self.old at value) self.old (byte_written proc now self.old at value) }
     {
@@ -333,6 +340,7 @@ impl Io {
     fn put_half(&mut self, proc: Proc, now: Tick, at: u32, value: u32) -> Option<Stop>
         requires at { at < 2 ^ 31 }
         requires early { IsEarly (Some now) }
+        requires room { is_overfull proc self.old ≡ false }
         ensures refusal { result ≡ half_refusal proc self.old at value }
         ensures next { self.new ≡ unless_stopped (half_refusal proc self.old at value) self.old (half_written proc now self.old at value) }
     {
@@ -354,6 +362,7 @@ impl Io {
     fn put_word(&mut self, proc: Proc, now: Tick, at: u32, value: u32) -> Option<Stop>
         requires at { at < 2 ^ 30 }
         requires early { IsEarly (Some now) }
+        requires room { is_overfull proc self.old ≡ false }
         ensures refusal { result ≡ word_refusal proc self.old at value }
         ensures next { self.new ≡ unless_stopped (word_refusal proc self.old at value) self.old (word_written proc now self.old at value) }
     {
@@ -384,6 +393,7 @@ impl Io {
     ) -> Option<Stop>
         requires at { at < 2 ^ 24 }
         requires early { IsEarly (Some now) }
+        requires room { is_overfull proc self.old ≡ false }
         ensures refusal { result ≡ port_refusal proc self.old at width value }
         ensures next { self.new
             ≡ unless_stopped (port_refusal proc self.old at width value) self.old (port_written proc now self.old at width value) }
@@ -395,16 +405,18 @@ impl Io {
         }
     }
 
-    /// A write of any width, unless it is refused. A register in which it lies whole is found once.
+    /// A write of any width, unless it is refused, or ignored for want of room. A register in which it lies whole is found once.
     #[inline(always)]
     #[tactic(auto, using(crate::proofs::Wholes::refusal_whole, crate::proofs::Wholes::written_whole))]
     fn put_any(&mut self, proc: Proc, now: Tick, at: u32, width: Width, value: u32) -> Option<Stop>
         requires at { at < 2 ^ 24 }
         requires early { IsEarly (Some now) }
-        ensures refusal { result ≡ port_refusal proc self.old at width value }
-        ensures next { self.new
-            ≡ unless_stopped (port_refusal proc self.old at width value) self.old (port_written proc now self.old at width value) }
+        ensures refusal { result ≡ guarded_refusal proc self.old at width value }
+        ensures next { self.new ≡ guarded_written proc now self.old at width value }
     {
+        if self.is_overfull(proc) {
+            return None;
+        }
         match whole_in(width, slot_at(proc, at)) {
             Some(slot) => self.put_part(proc, now, width, slot, value),
             None => self.put_apart(proc, now, at, width, value),
@@ -414,14 +426,14 @@ impl Io {
     /// A processor's write at an offset from 4000000h, at a tick. Where it is refused, it gives the stop and leaves all: exactly where it would write
     /// HALTCNT's modes 1 or 3, kind HaltMode with the byte written; ROMCTRL's bit 31, kind CardTransfer with the whole word; or a DMA control that is
     /// refused, kind DmaStart with the control as it would be kept. `schedule`: it leaves each due tick as it was, or later than its own, where the
-    /// processor's timers and its running channels come later than that. `grows`: it adds four entries at most to those that wait for geometry.
+    /// processor's timers and its running channels come later than that. `grows`: it adds four entries at most to those that wait for geometry. While
+    /// more than 320 wait there might be no room for them: then one of ARM9's is ignored.
     #[inline(always)]
     pub fn put(&mut self, proc: Proc, now: Tick, at: u32, width: Width, value: u32) -> Option<Stop>
         requires at { at < 2 ^ 24 }
         requires early { IsEarly (Some now) }
-        ensures refusal { result ≡ port_refusal proc self.old at width value }
-        ensures next { self.new
-            ≡ unless_stopped (port_refusal proc self.old at width value) self.old (port_written proc now self.old at width value) }
+        ensures refusal { result ≡ guarded_refusal proc self.old at width value }
+        ensures next { self.new ≡ guarded_written proc now self.old at width value }
         ensures schedule { IsProcessorIo (io_of self.old proc) → HasOnlyLaterEvents now (io_of self.old proc) → Goes proc now self.old self.new }
         ensures grows { AreWaiting self.old.gx → waiting_entries self.new.gx ≤ waiting_entries self.old.gx + 4 }
     {

@@ -1,10 +1,10 @@
 //! What each processor has of its own behind the ports.
 
-ghost use Rattle.std.specs.Prelude.{◌≡◌, ◌<◌, ◌+◌, ◌/◌, ◌%◌, ◌^◌, ◌==◌, ◌∷◌, [], IsSome, Some};
+ghost use Rattle.std.specs.Prelude.{◌≡◌, ◌<◌, ◌≤◌, ◌+◌, ◌/◌, ◌%◌, ◌^◌, ◌==◌, ◌∷◌, [], IsSome, Some};
 ghost use Rattle.ds_base.specs.Bits.{flag};
 ghost use Rattle.ds_base.specs.Schedules.{IsEarly};
 ghost use Rattle.ds_dma.specs.Channels.{channel_refusal, channel_word, unit_of};
-ghost use Rattle.ds_dma.specs.States.{channel_at, channel_due, dma_due, due_channel, awaits_geometry};
+ghost use Rattle.ds_dma.specs.States.{channel_at, channel_due, dma_due, due_channel, most_waits, awaits_geometry};
 ghost use Rattle.ds_dma.specs.declared.controls.DmaPort.TheVariants.{Control};
 ghost use Rattle.ds_runs.specs.Order.{first_from};
 ghost use Rattle.ds_timers.specs.Irqs.{irq_levelled, line_is_up, shares_bit};
@@ -13,7 +13,7 @@ ghost use Rattle.ds_ports.specs.Acting.{any_armed, is_armed};
 ghost use Rattle.ds_ports.specs.Happenings.{IsProcessorIo};
 ghost use Rattle.ds_ports.specs.Inside.{own_written};
 ghost use Rattle.ds_ports.specs.Io.{channel_comes_before};
-ghost use Rattle.ds_ports.specs.ProcessorIo.{before_move, control_written, dma_written, extkeyin_word, haltcnt_written, ie_written, if_written, ime_written, interrupts_of, blocks_processor, keycnt_written, keyinput_word, keys_hold, keys_told, processor_io_at_boot, processor_io_moved, processor_io_put_back, processor_io_raised, processor_io_triggered, reload_written};
+ghost use Rattle.ds_ports.specs.ProcessorIo.{before_move, control_written, dma_written, extkeyin_word, haltcnt_written, ie_written, if_written, ime_written, blocks_processor, keycnt_written, keyinput_word, keys_hold, keys_told, processor_io_at_boot, processor_io_moved, processor_io_put_back, processor_io_raised, processor_io_triggered, reload_written};
 ghost use Rattle.ds_ports.specs.Registers.{meaning_of};
 
 use crate::registers::Register;
@@ -22,12 +22,6 @@ use ds_dma::{Cause, Dma, DmaPort, Unit};
 use ds_runs::{earlier, entry};
 use ds_timers::{Irq, Timers};
 use std::marker::Model;
-
-/// The interrupts that ARM9 has. (GBATEK, "DS Interrupts".)
-const INTERRUPTS_OF_NINE: u32 = 0x2F_1F7F;
-
-/// The interrupts that ARM7 has. (The same chapter.)
-const INTERRUPTS_OF_SEVEN: u32 = 0x0F_1F7F;
 
 /// The bits that KEYCNT keeps. (GBATEK, "DS Keypad".)
 const KEPT_OF_KEYCNT: u16 = 0xC3FF;
@@ -70,16 +64,6 @@ impl Model for Before {
     ghost view = { λ b. record { dma = b.dma; irq = b.irq } };
 
     ghost inverse = { λ b. record { dma = b.dma; irq = b.irq } };
-}
-
-/// The interrupts that a processor has.
-fn interrupts_of(proc: Proc) -> u32
-    ensures { result ≡ interrupts_of proc }
-{
-    match proc {
-        Proc::Nine => INTERRUPTS_OF_NINE,
-        Proc::Seven => INTERRUPTS_OF_SEVEN,
-    }
 }
 
 /// KEYINPUT, by the keys that are pressed.
@@ -345,7 +329,7 @@ impl ProcessorIo {
     pub fn set_ie(&mut self, proc: Proc, value: u32)
         ensures { self.new ≡ ie_written proc self.old value }
     {
-        self.irq.set_enabled(value & interrupts_of(proc));
+        self.irq.set_enabled(value & Irq::kept(proc));
     }
 
     /// A write of IF.
@@ -444,18 +428,20 @@ impl ProcessorIo {
         self.dma.unit()
     }
 
-    /// The channel that is due moves its first unit, but for the access itself. Gives what this changes as it was before.
-    pub fn move_channel(&mut self, now: Tick) -> Before
+    /// The channel that is due moves its first unit, with so many ticks of waits, but for the access itself. Gives what this changes as it was
+    /// before.
+    pub fn move_channel(&mut self, now: Tick, waits: u32) -> Before
         requires due { IsSome (dma_due self.old.dma) }
         requires early { IsEarly (Some now) }
-        ensures state { self.new ≡ processor_io_moved self.old now }
+        requires waits { waits ≤ most_waits }
+        ensures state { self.new ≡ processor_io_moved self.old now waits }
         ensures before { result ≡ before_move self.old }
     {
         let before = Before {
             dma: self.dma,
             irq: self.irq,
         };
-        let bits = self.dma.finish(now);
+        let bits = self.dma.finish(now, waits);
         self.irq.raise(bits);
         self.running = self.dma.running();
         before

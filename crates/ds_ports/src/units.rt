@@ -5,8 +5,6 @@
 
 ghost use Rattle.std.specs.Prelude.{◌≡◌, ◌<◌, ◌^◌, true, IfOk, Some};
 ghost use Rattle.ds_base.specs.Schedules.{IsEarly};
-ghost use Rattle.ds_ipc.specs.Ipcs.{AreSides};
-ghost use Rattle.gx_fifo.specs.GxStates.{AddsOneVertex, IsGx, gx_finished, is_stalled};
 ghost use Rattle.gx_geometry.specs.States.{AreListsSince};
 ghost use Rattle.vram_banks.specs.Cells.{vram_written};
 ghost use Rattle.ds_ports.specs.Happenings.{IsIo};
@@ -23,7 +21,6 @@ use ds_base::{Proc, Raised, Space, Tick, Width};
 use ds_ipc::Ipc;
 use ds_math::{Divider, Root};
 use gx_fifo::Gx;
-use gx_geometry::Lists;
 use std::alloc::{AllocError, Global};
 use std::marker::Model;
 use video2d::Video;
@@ -32,7 +29,7 @@ use vram_banks::Vram;
 /// What WRAMCNT keeps at boot: ARM7 has all of the shared work RAM. (Our choice; GBATEK, "DS Memory Control - WRAM".)
 const WRAMCNT_AT_BOOT: u8 = 3;
 
-/// All units behind the ports.
+/// All units behind the ports. Those that are lent are asked for what they tell themselves.
 #[derive(Drop)]
 pub struct Units {
     video: Video,
@@ -126,6 +123,22 @@ impl Units {
         &self.vram
     }
 
+    /// Geometry.
+    #[inline(always)]
+    pub fn gx(&self) -> &Gx
+        ensures { result.now ≡ self.now.gx }
+    {
+        &self.gx
+    }
+
+    /// The FIFOs and the synchronisation between the processors.
+    #[inline(always)]
+    pub fn ipc(&self) -> &Ipc
+        ensures { result.now ≡ self.now.ipc }
+    {
+        &self.ipc
+    }
+
     /// A write of video memory, at an address of one of its spaces.
     pub fn write_vram(&mut self, space: Space, at: u32, width: Width, value: u32)
         ensures { self.new ≡ record self.old { vram = vram_written self.old.vram space at width value } }
@@ -135,7 +148,7 @@ impl Units {
 
     /// What a processor has of its own.
     #[inline(always)]
-    pub fn processor_io(&self, proc: Proc) -> &ProcessorIo
+    pub fn processor(&self, proc: Proc) -> &ProcessorIo
         ensures { result.now ≡ io_of self.now proc }
     {
         match proc {
@@ -166,28 +179,8 @@ impl Units {
         self.gx.swap(now)
     }
 
-    /// The lists of the last swap.
-    pub fn lists(&self) -> &Lists
-        ensures { result.now ≡ self.now.gx.geometry.last }
-    {
-        self.gx.lists()
-    }
-
-    /// Whether a stall of geometry holds ARM9 and its DMA.
-    pub fn is_stalled(&self) -> bool
-        ensures { result ≡ is_stalled self.now.gx }
-    {
-        self.gx.stalled()
-    }
-
-    /// How many vertices geometry's current run has.
-    pub fn run_length(&self) -> u64
-        ensures { result ≡ self.now.gx.geometry.numbers.run }
-    {
-        self.gx.run_length()
-    }
-
-    /// Whether a processor isn't due: it is halted, a channel of it runs, or a stall of geometry holds it.
+    /// Whether a processor isn't due: it is halted, a channel of it runs, or it is ARM9 and a stall of geometry holds it, which is where more
+    /// entries wait than geometry's FIFO holds.
     #[inline(always)]
     pub fn is_held(&self, proc: Proc) -> bool
         ensures { result ≡ is_held self.now proc }
@@ -198,28 +191,14 @@ impl Units {
         }
     }
 
-    /// Does nothing; its contract states what holds of the units at every time.
+    /// Does nothing; its contract states what holds of the units at every time: what holds of each processor's timers and DMA channels, and of
+    /// what waits for geometry.
     pub fn laws(&self)
         ensures { IsIo self.now }
     {
         self.nine.laws();
         self.seven.laws();
         self.gx.laws();
-    }
-
-    /// Does nothing; its contract states what holds of geometry at every time.
-    pub fn gx_laws(&self)
-        ensures is { IsGx self.now.gx }
-        ensures run { AddsOneVertex self.now.gx (gx_finished self.now.gx) }
-    {
-        self.gx.laws();
-    }
-
-    /// Does nothing; its contract states what holds of both sides of the IPC at every time.
-    pub fn ipc_laws(&self)
-        ensures { AreSides self.now.ipc }
-    {
-        self.ipc.laws();
     }
 
     /// From now on these keys are pressed, a bit for each.

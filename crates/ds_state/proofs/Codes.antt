@@ -1,7 +1,7 @@
 -- What a field's bytes spell, and how a value is spelled.
 use Rattle.std.proofs.Common.{rules, ℤ, FitsSigned, ◌≡◌, ℕ, zero, suc, ◌+◌, ◌*◌, ◌/◌, ◌%◌, ◌^◌, ◌<◌, ◌≤◌, List, [], ◌∷◌, ◌++◌, length, take, drop, slice_index, Option, Some, None, Bool, true, false, Ok, nat_lt, ◌==◌, if◌then◌else◌, subst, ap, sym, ◌∙◌, refl, arith}
 use Rattle.std.proofs.Math.Nat.{div-div-eq-div-mul, div-one, pow-succ'}
-use Rattle.std.specs.Int.{byte_at, bytes_low_first, w32, cast_signed, cast_unsigned}
+use Rattle.std.specs.Int.{byte_at, bytes_low_first, w16, w32, cast_signed, cast_unsigned}
 use Rattle.std.proofs.Math.Facts.{to_z-of_z, Fits-of_z}
 use Rattle.std.proofs.lemmas.Int.{of_z-to_z}
 use Rattle.byteorder.specs.Endian.{little_number, little_bytes}
@@ -9,7 +9,7 @@ use Rattle.byteorder.specs.Numbers.{little_from-cons, little_from-lt, little_num
 use Rattle.std.proofs.lemmas.List.{length-append, length-take-le}
 use Rattle.std.proofs.Math.Seq.{take-append_seam, drop-append_seam}
 use Rattle.std.proofs.lemmas.Bool.{ne_eqb, eqb-false}
-use Rattle.ds_state.specs.Formats.{Code, number_code, flag_code, tick, array, signed_word, code_width, no_tick, tick_number, Fits, code_bytes}
+use Rattle.ds_state.specs.Formats.{Code, number_code, flag_code, tick, array, signed_word, signed_half_code, code_width, no_tick, tick_number, Fits, code_bytes}
 use Rattle.ds_state.specs.Reading.{Left, value, flag_of, tick_read, read_code}
 
 -- bytes
@@ -51,6 +51,7 @@ length_spelled flag_code v h = refl
 length_spelled tick v h = refl
 length_spelled (array n) v h = h
 length_spelled signed_word v h = refl
+length_spelled signed_half_code v h = refl
 
 abbrev left : ℕ → List ℕ → Left
 left place bytes = record { place = place; bytes = bytes }
@@ -75,6 +76,12 @@ or_else : {V : Type 0} → V → Option V → V
 or_else d None = d
 or_else d (Some x) = x
 
+half_fits : (v : ℤ) → FitsSigned w16 v → cast_unsigned w16 v < 256 ^ 2
+half_fits v h = let f = Fits-of_z {w = w16} {z = v} h in search rules
+
+signed_half_fits : (n : ℕ) → n < 2 ^ 16 → FitsSigned w16 (cast_signed w16 n)
+signed_half_fits n lt = search rules
+
 cast_fits : (v : ℤ) → FitsSigned w32 v → cast_unsigned w32 v < 256 ^ 4
 cast_fits v h = let f = Fits-of_z {w = w32} {z = v} h in search rules
 
@@ -89,6 +96,7 @@ value_back flag_code false rest h = ap flag_of (little_number-reads_back 1 0 res
 value_back tick v rest h = ap (λ (x : Option ℕ). Some x) (ap tick_read (little_number-reads_back 8 (tick_number v) rest (tick_fits v h)) ∙ tick_back v h)
 value_back (array n) v rest h = ap (λ (x : List ℕ). Some x) (ap (λ (k : ℕ). take k (v ++ rest)) (sym h) ∙ take-append_seam v rest)
 value_back signed_word v rest h = ap (λ (x : ℤ). Some x) (ap (cast_signed w32) (little_number-reads_back 4 (cast_unsigned w32 v) rest (cast_fits v h)) ∙ to_z-of_z h)
+value_back signed_half_code v rest h = ap (λ (x : ℤ). Some x) (ap (cast_signed w16) (little_number-reads_back 2 (cast_unsigned w16 v) rest (half_fits v h)) ∙ to_z-of_z h)
 
 pub code_back : {V : Type 0} (c : Code V) (v : V) (place : ℕ) (rest : List ℕ) → Fits c v
     → read_code c (left place (code_bytes c v ++ rest)) ≡ Ok (v, left (place + length (code_bytes c v)) rest)
@@ -138,3 +146,8 @@ code_spells signed_word bytes v are le h =
     let lt : n < 2 ^ 32 = little_from-lt 0 4 bytes are in
     let e : cast_signed w32 n ≡ v = some_inj h in
     (ap (little_bytes 4) (ap (cast_unsigned w32) (sym e) ∙ of_z-to_z w32 n lt) ∙ bytes_again 4 bytes are le, subst (FitsSigned w32) e (signed_fits n lt))
+code_spells signed_half_code bytes v are le h =
+    let n = little_number 2 bytes in
+    let lt : n < 2 ^ 16 = little_from-lt 0 2 bytes are in
+    let e : cast_signed w16 n ≡ v = some_inj h in
+    (ap (little_bytes 2) (ap (cast_unsigned w16) (sym e) ∙ of_z-to_z w16 n lt) ∙ bytes_again 2 bytes are le, subst (FitsSigned w16) e (signed_half_fits n lt))

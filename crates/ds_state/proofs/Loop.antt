@@ -3,7 +3,7 @@ use Rattle.std.proofs.Common.{◌≡◌, ℕ, suc, ◌+◌, ◌-◌, ◌<◌, �
 use Rattle.std.proofs.lemmas.List.{append-nil}
 use Rattle.ds_state.specs.declared.unpacker.Unpacked.{Unpacked}
 use Rattle.ds_state.specs.declared.unpacker.Unpacked.TheVariants.{NoMemory, Bad}
-use Rattle.ds_state.specs.Reading.{Left, ReadAnswer, ◌>>=◌, read_list, FailsIn}
+use Rattle.ds_state.specs.Reading.{Left, ReadAnswer, ◌>>=◌, read_list, Fails, FailsIn}
 use Rattle.ds_state.specs.Loops.{with_front}
 
 front_more : {T : Type 0} (front : List T) (x : T) (r : ReadAnswer (List T)) → with_front front (r >>= (λ q. Ok (x ∷ q.0, q.1))) ≡ with_front (front ++ x ∷ []) r
@@ -26,6 +26,11 @@ ends (Bad o) reader front count i l total lt h so_far =
     let k : count - i ≡ suc (count - (i + 1)) = omega arith in
     let one : with_front front (read_list reader (count - i) l) ≡ Err o = rw (k, h) refl in
     sym so_far ∙ one
+
+-- a failure is one where memory may run out, too
+pub fails_in : {Y : Type 0} (e : Unpacked) (r : ReadAnswer Y) → Fails e r → FailsIn e r
+fails_in NoMemory r h = tt
+fails_in (Bad o) r h = h
 
 -- all are read
 pub is_done : {T : Type 0} (reader : Left → ReadAnswer T) (front : List T) (count i : ℕ) (l : Left) (total : ReadAnswer (List T)) → count ≤ i → with_front front (read_list reader (count - i) l) ≡ total → total ≡ Ok (front, l)

@@ -1,6 +1,6 @@
 -- Formats of bytes, and the bytes of a state by a format.
 use Rattle.std.specs.Prelude.{ℕ, ℤ, FitsSigned, ◌≡◌, ◌⊎◌, ◌<◌, ◌+◌, ◌-◌, ◌^◌, ◌==◌, ◌&&◌, Bool, true, List, [], ◌∷◌, ◌++◌, length, Option, Some, None, nat_le, bit_and, if◌then◌else◌}
-use Rattle.std.specs.Int.{w32, cast_unsigned}
+use Rattle.std.specs.Int.{w16, w32, cast_unsigned}
 use Rattle.byteorder.specs.Endian.{little_bytes}
 
 -- how one field stands in bytes: a number of so many bytes, a flag in one byte, a tick in eight with all bits 1 for none, or so many bytes
@@ -11,6 +11,7 @@ pub data Code : Type 0 → Type 1 where
   tick : Code (Option ℕ)
   array : ℕ → Code (List ℕ)
   signed_word : Code ℤ
+  signed_half_code : Code ℤ
 
 abbrev pub code_width : {V : Type 0} → Code V → ℕ
 code_width (number_code n) = n
@@ -18,6 +19,7 @@ code_width flag_code = 1
 code_width tick = 8
 code_width (array n) = n
 code_width signed_word = 4
+code_width signed_half_code = 2
 
 -- how many bytes a number may have
 abbrev pub IsCodeWidth : ℕ → Type 0
@@ -36,6 +38,7 @@ code_bytes flag_code v = little_bytes 1 (if v then 1 else 0)
 code_bytes tick v = little_bytes 8 (tick_number v)
 code_bytes (array n) v = v
 code_bytes signed_word v = little_bytes 4 (cast_unsigned w32 v)
+code_bytes signed_half_code v = little_bytes 2 (cast_unsigned w16 v)
 
 -- the values that have a spelling
 abbrev pub Fits : {V : Type 0} → Code V → V → Type 0
@@ -45,6 +48,7 @@ Fits tick None = Unit {0}
 Fits tick (Some t) = t < no_tick
 Fits (array n) v = length v ≡ n
 Fits signed_word v = FitsSigned w32 v
+Fits signed_half_code v = FitsSigned w16 v
 
 -- A format of states S, which reads an A: one field after another. A field has its code, what it says of the state, its rule, and what
 -- comes after its value. The rule looks at the tick, too. A part is a format of its own, and a list so many of them.
@@ -108,6 +112,25 @@ abbrev pub soon : ℕ → Option ℕ → Bool
 soon at None = true
 soon at (Some due) = nat_le at due && nat_le due (at + 2 ^ 32)
 
--- a word as a part of its own
+-- the tick of an earlier step, 0 where there was none
+abbrev pub tick_or_0 : Option ℕ → ℕ
+tick_or_0 None = 0
+tick_or_0 (Some t) = t
+
+abbrev pub tick_where : Bool → ℕ → Option ℕ
+tick_where there n = if there then Some n else None
+
+-- it is at most the tick of the state, and 0 where there was none
+abbrev pub earlier_tick : Bool → ℕ → ℕ → Bool
+earlier_tick there at n = if there then nat_le n at else n == 0
+
+-- a number that is 0 where it isn't used
+abbrev pub used_where : Bool → ℕ → ℕ → Bool
+used_where used at n = if used then true else n == 0
+
+-- a word, and a signed one, as a part of its own
 abbrev pub word_format : Format ℕ ℕ
 word_format = one_field (number_code 4) (λ w. w) any
+
+abbrev pub signed_format : Format ℤ ℤ
+signed_format = one_field signed_word (λ w. w) any

@@ -1,8 +1,8 @@
 -- What is read by a format: the state that bytes stand for, or the place of the first field that isn't whole or breaks its rule.
 use Rattle.std.specs.Prelude.{ℕ, zero, suc, ◌≡◌, ◌+◌, ◌==◌, Bool, true, false, List, [], ◌∷◌, length, take, drop, Option, Some, None, Result, Ok, Err, nat_lt, if◌then◌else◌}
-use Rattle.std.specs.Int.{w32, cast_signed}
+use Rattle.std.specs.Int.{w16, w32, cast_signed}
 use Rattle.byteorder.specs.Endian.{little_number}
-use Rattle.ds_state.specs.Formats.{Code, number_code, flag_code, tick, array, signed_word, code_width, no_tick, Format, done, then_field, then_part, list}
+use Rattle.ds_state.specs.Formats.{Code, number_code, flag_code, tick, array, signed_word, signed_half_code, code_width, no_tick, Format, done, then_field, then_part, list}
 use Rattle.ds_state.specs.declared.unpacker.Unpacked.{Unpacked}
 use Rattle.ds_state.specs.declared.unpacker.Unpacked.TheVariants.{NoMemory, Bad}
 
@@ -21,6 +21,7 @@ value flag_code bytes = flag_of (little_number 1 bytes)
 value tick bytes = Some (tick_read (little_number 8 bytes))
 value (array n) bytes = Some (take n bytes)
 value signed_word bytes = Some (cast_signed w32 (little_number 4 bytes))
+value signed_half_code bytes = Some (cast_signed w16 (little_number 2 bytes))
 
 -- what is left to be read, and where it begins
 pub record Left : Type 0 where

@@ -5,7 +5,8 @@
 //! The two laws of all formats are proved once, in `proofs/Exact` (a clause can't speak of all types of states, so each unit says them of its
 //! own): the bytes of a state that keeps the rules are read as that state, whatever is behind them; and bytes that are read are those of the
 //! state that is read. `Packer` puts fields, and `Unpacker` takes them, each call exactly by its code and
-//! rule; `put_list` and `take_list` do lists of parts. No state is saved yet.
+//! rule; `put_list`, `take_list` and `take_each` do
+//! lists of parts. No state is saved yet.
 #![tactic(auto)]
 
 mod packer;
@@ -14,5 +15,5 @@ mod unpacker;
 mod words;
 
 pub use packer::Packer;
-pub use parts::{Part, put_list, take_list};
+pub use parts::{Part, put_list, take_each, take_list};
 pub use unpacker::{Unpacked, Unpacker, holds};

@@ -1,6 +1,7 @@
 //! Bytes that are put one field after another.
 
 ghost use Rattle.std.specs.Prelude.{◌≡◌, ◌≤◌, ◌<◌, ◌^◌, ◌++◌, if◌then◌else◌, OnOk, OnErr, []};
+ghost use Rattle.std.specs.Int.{w16, w32, cast_unsigned};
 ghost use Rattle.byteorder.specs.Endian.{little_bytes};
 ghost use Rattle.ds_state.specs.Formats.{IsCodeWidth, tick_number};
 
@@ -92,6 +93,22 @@ impl Packer {
         ensures err { OnErr result (self.new ≡ self.old) }
     {
         self.put_bytes(&value.to_le_bytes())
+    }
+
+    /// Puts a signed number in two bytes.
+    pub fn put_i16(&mut self, value: i16) -> Result<(), AllocError>
+        ensures ok { OnOk result (self.new ≡ self.old ++ little_bytes 2 (cast_unsigned w16 value)) }
+        ensures err { OnErr result (self.new ≡ self.old) }
+    {
+        self.put_u16(value.cast_unsigned())
+    }
+
+    /// Puts a signed number in four bytes.
+    pub fn put_i32(&mut self, value: i32) -> Result<(), AllocError>
+        ensures ok { OnOk result (self.new ≡ self.old ++ little_bytes 4 (cast_unsigned w32 value)) }
+        ensures err { OnErr result (self.new ≡ self.old) }
+    {
+        self.put_u32(value.cast_unsigned())
     }
 
     /// Puts a tick in eight bytes, all bits 1 for none.

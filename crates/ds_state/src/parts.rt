@@ -2,13 +2,13 @@
 
 ghost use Rattle.std.specs.Prelude.{◌≡◌, ℕ, List, length, map, IfOk, OnOk};
 ghost use Rattle.ds_state.specs.Formats.{written_each};
-ghost use Rattle.ds_state.specs.Reading.{Left, ReadAnswer, GivesIn, read_list};
+ghost use Rattle.ds_state.specs.Reading.{Left, ReadAnswer, GivesIn, GivesRead, read_list};
 
 use crate::packer::Packer;
 use crate::unpacker::{Unpacked, Unpacker};
 use std::alloc::{AllocError, Global};
 
-/// A value that stands in bytes by a format.
+/// A value that stands in bytes by a format, and needs no memory of its own.
 pub trait Part: Sized + Drop {
     ghost State: { Type 0 };
 
@@ -21,8 +21,8 @@ pub trait Part: Sized + Drop {
     fn put(&self, into: &mut Packer) -> Result<(), AllocError>
         ensures { OnOk result (into.new ≡ writer into.old (state self.now)) };
 
-    fn take(alloc: Global, from: &mut Unpacker, at: u64) -> Result<Self, Unpacked>
-        ensures { GivesIn state result from.new (reader at from.old) };
+    fn take(from: &mut Unpacker, at: u64) -> Result<Self, Unpacked>
+        ensures { GivesRead state result from.new (reader at from.old) };
 }
 
 /// So many parts.
@@ -37,10 +37,25 @@ pub fn take_list<T: Part>(
 {
     let mut parts = Vec::new(alloc);
     for _ in 0..count {
-        let part = T::take(alloc, from, at)?;
+        let part = T::take(from, at)?;
         parts.push(part)?;
     }
     Ok(parts)
+}
+
+/// As many parts as there is room for.
+pub fn take_each<T: Part + Copy>(
+    from: &mut Unpacker,
+    into: &mut [T],
+    at: u64,
+) -> Result<(), Unpacked>
+    ensures reads { GivesRead (λ _. map T.state into.new) result from.new (read_list (T.reader at) (length into.old) from.old) }
+    ensures long { length into.new ≡ length into.old }
+{
+    for i in 0..into.len() {
+        into[i] = T::take(from, at)?;
+    }
+    Ok(())
 }
 
 /// The parts one after another.

@@ -2,7 +2,7 @@
 
 ghost use Rattle.std.specs.Prelude.{◌≡◌, ◌≤◌, ◌<◌, ◌^◌, length, IfOk, false, if◌then◌else◌, Ok, Err};
 ghost use Rattle.ds_state.specs.declared.unpacker.Unpacked.TheVariants.{NoMemory, Bad};
-ghost use Rattle.ds_state.specs.Formats.{IsCodeWidth, number_code, flag_code, tick, array, signed_word, any, keeps_mask, at_most, soon};
+ghost use Rattle.ds_state.specs.Formats.{IsCodeWidth, number_code, flag_code, tick, array, signed_word, signed_half_code, any, keeps_mask, at_most, earlier_tick, soon, used_where};
 ghost use Rattle.ds_state.specs.Reading.{GivesRead, GivesIn, GivesSome, GivesTrue, read_code, ruled};
 
 use byteorder::{ByteOrder, LittleEndian};
@@ -107,6 +107,14 @@ impl<'a> Unpacker<'a> {
         ensures { GivesRead (λ x. x) result self.new (read_code signed_word self.old) }
     {
         Ok(self.take_u32()?.cast_signed())
+    }
+
+    /// Takes a signed number of two bytes.
+    #[tactic(auto, unfolding(crate::specs::Reading::read_code))]
+    pub fn take_i16(&mut self) -> Result<i16, Unpacked>
+        ensures { GivesRead (λ x. x) result self.new (read_code signed_half_code self.old) }
+    {
+        Ok(self.take_u16()?.cast_signed())
     }
 
     /// Where the next field begins, in bytes from the first.
@@ -244,12 +252,66 @@ impl<'a> Unpacker<'a> {
         Ok(value)
     }
 
+    /// Takes a half that is no more than a number.
+    pub fn take_half_at_most(&mut self, most: u16) -> Result<u16, Unpacked>
+        ensures reads { GivesRead (λ x. x) result self.new (ruled (at_most most 0) self.old (read_code (number_code 2) self.old)) }
+        ensures most { IfOk result (λ x. x ≤ most) }
+    {
+        let offset = self.place;
+        let value = self.take_u16()?;
+        holds(value <= most, offset)?;
+        Ok(value)
+    }
+
+    /// Takes a word that is no more than a number.
+    pub fn take_word_at_most(&mut self, most: u32) -> Result<u32, Unpacked>
+        ensures reads { GivesRead (λ x. x) result self.new (ruled (at_most most 0) self.old (read_code (number_code 4) self.old)) }
+        ensures most { IfOk result (λ x. x ≤ most) }
+    {
+        let offset = self.place;
+        let value = self.take_u32()?;
+        holds(value <= most, offset)?;
+        Ok(value)
+    }
+
     /// Takes a half that has no bits but these.
     pub fn take_kept_half(&mut self, mask: u16) -> Result<u16, Unpacked>
         ensures { GivesRead (λ x. x) result self.new (ruled (keeps_mask mask 0) self.old (read_code (number_code 2) self.old)) }
     {
         let offset = self.place;
         let value = self.take_u16()?;
+        holds(value & mask == value, offset)?;
+        Ok(value)
+    }
+
+    /// Takes the tick of an earlier step than the state's: at most the state's tick, and 0 where there was none.
+    pub fn take_earlier(&mut self, there: bool, at: u64) -> Result<u64, Unpacked>
+        ensures reads { GivesRead (λ x. x) result self.new (ruled (earlier_tick there at) self.old (read_code (number_code 8) self.old)) }
+        ensures most { IfOk result (λ x. x ≤ at) }
+    {
+        let offset = self.place;
+        let tick = self.take_u64()?;
+        holds(if there { tick <= at } else { tick == 0 }, offset)?;
+        Ok(tick)
+    }
+
+    /// Takes a word that is 0 where it isn't used.
+    pub fn take_used_word(&mut self, used: bool) -> Result<u32, Unpacked>
+        ensures reads { GivesRead (λ x. x) result self.new (ruled (used_where used 0) self.old (read_code (number_code 4) self.old)) }
+        ensures none { used ≡ false → IfOk result (λ x. x ≡ 0) }
+    {
+        let offset = self.place;
+        let value = self.take_u32()?;
+        holds(used || value == 0, offset)?;
+        Ok(value)
+    }
+
+    /// Takes a word that has no bits but these.
+    pub fn take_kept_word(&mut self, mask: u32) -> Result<u32, Unpacked>
+        ensures { GivesRead (λ x. x) result self.new (ruled (keeps_mask mask 0) self.old (read_code (number_code 4) self.old)) }
+    {
+        let offset = self.place;
+        let value = self.take_u32()?;
         holds(value & mask == value, offset)?;
         Ok(value)
     }

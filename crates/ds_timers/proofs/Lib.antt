@@ -1,3 +1,4 @@
 pub mod Four
 pub mod Changed
 pub mod Overflowed
+pub mod SavedLaws

@@ -2,6 +2,8 @@ use Rattle.std.specs.Prelude.{ℕ, ◌<◌, ◌^◌, ◌==◌, ◌&&◌, not, if
 use Rattle.std.specs.Int.{bit_not, w32}
 use Rattle.ds_base.specs.Interrupts.{interrupt_bit}
 use Rattle.ds_base.specs.declared.interrupts.Interrupt.TheVariants.{GeometryFifo}
+use Rattle.ds_base.specs.declared.processors.Proc.{Proc}
+use Rattle.ds_base.specs.declared.processors.Proc.TheVariants.{Nine, Seven}
 
 -- a processor's interrupt words (GBATEK, "DS Interrupts"): IME bit 0, IE and IF
 pub record IrqState : Type 0 where
@@ -13,6 +15,11 @@ pub record IrqState : Type 0 where
 pub record IsIrq (s : IrqState) : Type 0 where
   pub ie : s.ie < 2 ^ 32
   pub if_ : s.if_ < 2 ^ 32
+
+-- the interrupts that each processor has, whose bits IE keeps (GBATEK, "DS Interrupts")
+abbrev pub interrupts_of : Proc → ℕ
+interrupts_of Nine = 0x2F1F7F
+interrupts_of Seven = 0x0F1F7F
 
 -- all is 0 at boot (our choice)
 abbrev pub irq_at_boot : IrqState

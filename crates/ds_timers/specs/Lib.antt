@@ -1,3 +1,4 @@
 pub mod Irqs
 pub mod TimersKept
+pub mod Saved
 pub mod Timing

@@ -1,9 +1,11 @@
 //! The interrupt words of one processor.
 
 ghost use Rattle.std.specs.Prelude.{◌≡◌};
-ghost use Rattle.ds_timers.specs.Irqs.{IsIrq, irq_at_boot, level, shares_bit, line_is_up, events, irq_raised, irq_acked, irq_levelled};
+ghost use Rattle.ds_timers.specs.Irqs.{IsIrq, irq_at_boot, level, shares_bit, line_is_up, events, interrupts_of, irq_raised, irq_acked, irq_levelled};
 
-use ds_base::Interrupt;
+mod saved;
+
+use ds_base::{Interrupt, Proc};
 use std::marker::Model;
 
 /// IME, IE and IF of one processor. Contracts see the three.
@@ -46,6 +48,16 @@ impl Irq {
             ime: false,
             ie: 0,
             if_: 0,
+        }
+    }
+
+    /// The bits that a processor's IE keeps: those of the interrupts that it has.
+    pub const fn kept(proc: Proc) -> u32
+        ensures { result ≡ interrupts_of proc }
+    {
+        match proc {
+            Proc::Nine => 0x2F_1F7F,
+            Proc::Seven => 0x0F_1F7F,
         }
     }
 
@@ -122,6 +134,7 @@ impl Irq {
             events(self.if_)
         };
     }
+
     /// Does nothing; its contract states what holds of the words at every time: IE and IF have 32 bits.
     pub fn laws(&self)
         ensures { IsIrq self.now }

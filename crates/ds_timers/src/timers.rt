@@ -8,6 +8,8 @@ ghost use Rattle.ds_base.specs.declared.ticks.Tick.{Tick};
 ghost use Rattle.ds_timers.specs.TimersKept.{timer_seen};
 ghost use Rattle.ds_timers.specs.Timing.{AreTimers, ChangesControl, CountsFrom, IsTimer, SchedulesOne, timers_at_boot, timer_at, kept_control, pace, runs, raises, counts_up, runs_free, counter_of, timer_due, timer_interrupt, is_start, controlled, reload_set, control_set, carries, overflows, after_overflow, overflow_bit, overflow_of};
 
+mod saved;
+
 use ds_base::{Interrupt, Tick};
 use std::marker::Model;
 

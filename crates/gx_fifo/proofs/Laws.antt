@@ -55,10 +55,10 @@ pub written_schedules : (s : GxState) (at value : ℕ) (now : Tick) → Reschedu
 written_schedules s at value now = port_schedules (gx_port at) value now s
 
 -- entries come
-came_waiting : (most : ℕ) (now : Tick) (fifo : FifoState) (s : GxState) → length s.fifo.entries + most ≤ most_entries → Grows most s.fifo fifo → AreWaiting s →
+came_waiting : (most : ℕ) (now : Tick) (fifo : FifoState) (s : GxState) → length fifo.entries ≤ most_entries → Grows most s.fifo fifo → AreWaiting s →
     AreWaiting (entries_came now fifo s)
 came_waiting most now fifo s room grows waiting = record {
-  entries = omega (arith, room, grows_by most s.fifo fifo grows);
+  entries = room;
   left = grows.left;
   given = grows.given;
   due = due_kept most s.fifo fifo s.due now s.swap_waits grows waiting.due;
@@ -72,12 +72,13 @@ same_waiting s t fifo due swap waiting = record {
   due = rw (fifo, due, swap) waiting.due;
 }
 
-port_waiting : (port : GxPort) (value : ℕ) (now : Tick) (s : GxState) → length s.fifo.entries ≤ 320 → AreWaiting s → AreWaiting (write_port port value now s)
+port_waiting : (port : GxPort) (value : ℕ) (now : Tick) (s : GxState) → length (write_port port value now s).fifo.entries ≤ most_entries → AreWaiting s →
+    AreWaiting (write_port port value now s)
 unfolding write_port
 port_waiting Display value now s room waiting = same_waiting s _ refl refl refl waiting
-port_waiting Fifo value now s room waiting = came_waiting 4 now _ s (omega (arith, room)) (word_grows value s.fifo waiting.left) waiting
+port_waiting Fifo value now s room waiting = came_waiting 4 now _ s room (word_grows value s.fifo waiting.left) waiting
 port_waiting (Direct code) value now s room waiting =
-    came_waiting 4 now _ s (omega (arith, room)) (entry_grows (command_of code) value s.fifo waiting.left waiting.given) waiting
+    came_waiting 4 now _ s room (entry_grows (command_of code) value s.fifo waiting.left waiting.given) waiting
 port_waiting Status value now s room waiting = same_waiting s _ refl refl refl waiting
 port_waiting Lengths value now s room waiting = waiting
 port_waiting (Position i) value now s room waiting = waiting
@@ -86,7 +87,9 @@ port_waiting (Clip i) value now s room waiting = waiting
 port_waiting (VectorMatrix i) value now s room waiting = waiting
 port_waiting Unlisted value now s room waiting = waiting
 
-pub written_waiting : (s : GxState) (at value : ℕ) (now : Tick) → length s.fifo.entries ≤ 320 → AreWaiting s → AreWaiting (gx_written s at value now)
+-- where no more wait after a write than there is room for
+pub written_waiting : (s : GxState) (at value : ℕ) (now : Tick) → length (gx_written s at value now).fifo.entries ≤ most_entries → AreWaiting s →
+    AreWaiting (gx_written s at value now)
 written_waiting s at value now room waiting = port_waiting (gx_port at) value now s room waiting
 
 port_grows : (port : GxPort) (value : ℕ) (now : Tick) (s : GxState) → AreWaiting s →

@@ -3,14 +3,14 @@ use Rattle.std.specs.Prelude.{if◌then◌else◌, option_to_list}
 use Rattle.std.proofs.lemmas.List.{take-append-le, take_all, length-take-le}
 use Rattle.ds_base.proofs.Choices.{low_or_high}
 use Rattle.gx_matrix.specs.declared.commands.GeometryCommand.{GeometryCommand}
-use Rattle.gx_matrix.specs.declared.commands.GeometryCommand.TheVariants.{BoxTest, PosTest, VecTest}
+use Rattle.gx_matrix.specs.declared.commands.GeometryCommand.TheVariants.{BeginVtxs, BoxTest, PosTest, VecTest}
 use Rattle.gx_geometry.specs.declared.polygons.Vertex.{Vertex}
 use Rattle.gx_geometry.specs.declared.polygons.Polygon.{Polygon}
 use Rattle.gx_geometry.specs.Records.{NumbersState}
 use Rattle.gx_geometry.specs.Changes.{numbers_after, gives_vertex}
 use Rattle.gx_geometry.specs.Polygons.{Arrival, arrival_of, polygon_of, polygon_by, completed, has_corners, most_vertices, most_polygons}
 use Rattle.gx_geometry.specs.Lists.{GeometryAct, Command, ClearError, ClearOverflow, arrivals, polygons_of, vertices_of}
-use Rattle.gx_geometry.specs.States.{OutcomeState, GeometryState, IsFresh, AreListsSince, overflown, polygon_added, vertex_added, arrived, tested, geometry_after, geometry_error_cleared, overflow_cleared, after_all}
+use Rattle.gx_geometry.specs.States.{OutcomeState, GeometryState, IsFresh, AreListsSince, vertex_dropped, polygon_added, vertex_added, arrived, tested, geometry_after, geometry_error_cleared, overflow_cleared, after_all}
 
 -- The open lists, which grow command by command, are the lists of all commands since the swap.
 
@@ -55,7 +55,7 @@ pub arrived_room : (a : Arrival) (o : OutcomeState) → length o.vertices < most
 unfolding arrived
 arrived_room a o h = grind arith
 
-pub arrived_full : (a : Arrival) (o : OutcomeState) → most_vertices ≤ length o.vertices → arrived a o ≡ overflown o
+pub arrived_full : (a : Arrival) (o : OutcomeState) → most_vertices ≤ length o.vertices → arrived a o ≡ vertex_dropped o
 unfolding arrived
 arrived_full a o h = grind arith
 
@@ -120,6 +120,7 @@ unfolding tested
 tested_holds BoxTest params s o came made held = record { vertices_are = held.vertices_are; polygons_are = held.polygons_are }
 tested_holds PosTest params s o came made held = record { vertices_are = held.vertices_are; polygons_are = held.polygons_are }
 tested_holds VecTest params s o came made held = record { vertices_are = held.vertices_are; polygons_are = held.polygons_are }
+tested_holds BeginVtxs params s o came made held = record { vertices_are = held.vertices_are; polygons_are = held.polygons_are }
 tested_holds _ params s o came made held = held
 
 -- a list of acts

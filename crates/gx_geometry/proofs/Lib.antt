@@ -6,3 +6,6 @@ pub mod Growing
 pub mod Overflows
 pub mod Halves
 pub mod Sides
+pub mod Recent
+pub mod Lit
+pub mod SavedLaws

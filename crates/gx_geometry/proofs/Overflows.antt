@@ -3,7 +3,7 @@ use Rattle.std.specs.Prelude.{◌||◌, nat_lt, if◌then◌else◌, option_to_l
 use Rattle.std.proofs.lemmas.List.{take_all, length-take-le}
 use Rattle.ds_base.proofs.Choices.{low_or_high}
 use Rattle.gx_matrix.specs.declared.commands.GeometryCommand.{GeometryCommand}
-use Rattle.gx_matrix.specs.declared.commands.GeometryCommand.TheVariants.{BoxTest, PosTest, VecTest}
+use Rattle.gx_matrix.specs.declared.commands.GeometryCommand.TheVariants.{BeginVtxs, BoxTest, PosTest, VecTest}
 use Rattle.gx_geometry.specs.Records.{NumbersState}
 use Rattle.gx_geometry.specs.declared.polygons.Vertex.{Vertex}
 use Rattle.gx_geometry.specs.declared.polygons.Polygon.{Polygon}
@@ -111,6 +111,7 @@ unfolding tested
 tested_flag BoxTest params s o = refl
 tested_flag PosTest params s o = refl
 tested_flag VecTest params s o = refl
+tested_flag BeginVtxs params s o = refl
 tested_flag _ params s o = refl
 
 -- a list of acts of which none clears it

@@ -1,10 +1,10 @@
-use Rattle.std.specs.Prelude.{ℕ, ◌<◌, ◌≤◌, ◌^◌, [], List, length, slice_index_or}
+use Rattle.std.specs.Prelude.{ℕ, ◌≡◌, ◌<◌, ◌≤◌, ◌^◌, ◌==◌, ◌||◌, nat_le, nat_lt, Bool, true, [], List, length, slice_index, slice_index_or}
 use Rattle.gx_geometry.specs.Records.{NumbersState}
 use Rattle.gx_geometry.specs.declared.polygons.Vertex.{Vertex}
 use Rattle.gx_geometry.specs.declared.polygons.Polygon.{Polygon}
 use Rattle.gx_geometry.specs.Lights.{light_at}
 use Rattle.gx_geometry.specs.Polygons.{most_vertices, most_polygons, no_vertex}
-use Rattle.gx_geometry.specs.States.{GeometryState}
+use Rattle.gx_geometry.specs.States.{GeometryState, no_place}
 
 -- What holds of the engine at every time, by which those who hold it know the sizes of what it gives out.
 
@@ -34,7 +34,28 @@ pub record AreLimited (vertices : List Vertex) (polygons : List Polygon) : Type 
   pub colours : HaveColours vertices
   pub palettes : HavePalettes polygons
 
+-- a run's vertices stand in the open list or nowhere
+abbrev pub is_place : ℕ → ℕ → Bool
+is_place long place = place == no_place || nat_lt place long
+
+pub record ArePlaces (long : ℕ) (recent : List ℕ) : Type 0 where
+  pub three : length recent ≡ 3
+  pub first : is_place long (slice_index recent 0) ≡ true
+  pub second : is_place long (slice_index recent 1) ≡ true
+  pub third : is_place long (slice_index recent 2) ≡ true
+
+-- and those that the run doesn't have nowhere: the last but so many is there where it has as many
+abbrev pub is_told : ℕ → ℕ → ℕ → Bool
+is_told run back place = place == no_place || nat_le back run
+
+pub record AreTold (run : ℕ) (recent : List ℕ) : Type 0 where
+  pub first : is_told run 3 (slice_index recent 0) ≡ true
+  pub second : is_told run 2 (slice_index recent 1) ≡ true
+  pub third : is_told run 1 (slice_index recent 2) ≡ true
+
 pub record IsGeometry (g : GeometryState) : Type 0 where
   pub numbers : AreSmall g.numbers
   pub now : AreLimited g.outcome.vertices g.outcome.polygons
   pub last : AreLimited g.last.vertices g.last.polygons
+  pub places : ArePlaces (length g.outcome.vertices) g.outcome.recent
+  pub told : AreTold g.numbers.run g.outcome.recent

@@ -10,3 +10,5 @@ pub mod Backs
 pub mod Lists
 pub mod States
 pub mod Bounds
+pub mod Saved
+pub mod SavedKept

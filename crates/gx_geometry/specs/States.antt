@@ -2,7 +2,7 @@ use Rattle.std.specs.Prelude.{ℕ, ◌≡◌, nat_lt, if◌then◌else◌, Bool,
 use Rattle.ds_base.specs.declared.ticks.Tick.{Tick}
 use Rattle.gx_matrix.specs.Commands.{clip_of}
 use Rattle.gx_matrix.specs.declared.commands.GeometryCommand.{GeometryCommand}
-use Rattle.gx_matrix.specs.declared.commands.GeometryCommand.TheVariants.{BoxTest, PosTest, VecTest}
+use Rattle.gx_matrix.specs.declared.commands.GeometryCommand.TheVariants.{BeginVtxs, BoxTest, PosTest, VecTest}
 use Rattle.gx_geometry.specs.declared.boxes.Clipped.{Clipped}
 use Rattle.gx_geometry.specs.Records.{NumbersState}
 use Rattle.gx_geometry.specs.declared.polygons.Vertex.{Vertex}
@@ -37,11 +37,24 @@ pub record OutcomeState : Type 0 where
   pub polygons : List Polygon
   -- GBATEK, DISP3DCNT bit 13
   pub overflow : Bool
+  -- where the run's last three vertices stand in the open list, the oldest first
+  pub recent : List ℕ
 
 pub record GeometryState : Type 0 where
   pub numbers : NumbersState
   pub outcome : OutcomeState
   pub last : Swapped
+
+-- a place in the open list that a vertex doesn't have: it was dropped, it came before the last swap, or there is none
+abbrev pub no_place : ℕ
+no_place = 0xFFFF
+
+abbrev pub none_recent : List ℕ
+none_recent = no_place ∷ no_place ∷ no_place ∷ []
+
+-- a run's next vertex comes
+abbrev pub then_recent : ℕ → List ℕ → List ℕ
+then_recent place recent = slice_index recent 1 ∷ slice_index recent 2 ∷ place ∷ []
 
 -- nothing was tested, no vertex came and nothing was swapped at boot (our choice)
 abbrev pub no_swap : Swapped
@@ -55,6 +68,7 @@ no_outcome = record {
   vertices = [];
   polygons = [];
   overflow = false;
+  recent = none_recent;
 }
 
 abbrev pub geometry_at_boot : GeometryState
@@ -71,7 +85,8 @@ results_of o = record {
   overflow = o.overflow;
 }
 
--- after a command that tests: the box, the position or the vector test (GBATEK, BOX_TEST, POS_TEST, VEC_TEST)
+-- after a command that tests: the box, the position or the vector test (GBATEK, BOX_TEST, POS_TEST, VEC_TEST); one that begins a run forgets the
+-- vertices of the run before
 abbrev pub clip_words : Clipped → List ℤ
 clip_words c = c.x ∷ c.y ∷ c.z ∷ c.w ∷ []
 
@@ -79,6 +94,7 @@ unfoldable pub tested : GeometryCommand → List ℕ → NumbersState → Outcom
 tested BoxTest params s o = record o { inside = box_test params (clip_of s.stacks) }
 tested PosTest params s o = record o { position = clip_words (through (point_by_halves params) (clip_of s.stacks)) }
 tested VecTest params s o = record o { vector = vector_test (slice_index params 0) s.stacks.pose.vector }
+tested BeginVtxs params s o = record o { recent = none_recent }
 tested _ params s o = o
 
 -- A vertex comes: it is added to the open list, and with it the polygon that it completes; what comes past a limit is dropped and sets the overflow
@@ -92,13 +108,16 @@ polygon_added (Some p) o =
     if nat_lt (length o.polygons) most_polygons then record o { polygons = o.polygons ++ p ∷ [] } else overflown o
 
 abbrev pub vertex_added : Vertex → OutcomeState → OutcomeState
-vertex_added v o = record o { vertices = o.vertices ++ v ∷ [] }
+vertex_added v o = record o { vertices = o.vertices ++ v ∷ []; recent = then_recent (length o.vertices) o.recent }
+
+abbrev pub vertex_dropped : OutcomeState → OutcomeState
+vertex_dropped o = record (overflown o) { recent = then_recent no_place o.recent }
 
 unfoldable pub arrived : Arrival → OutcomeState → OutcomeState
 arrived a o =
     if nat_lt (length o.vertices) most_vertices
     then polygon_added (polygon_of (o.vertices ++ a.vertex ∷ []) a) (vertex_added a.vertex o)
-    else overflown o
+    else vertex_dropped o
 
 -- after a command: its test, by the numbers before it, and its vertex, by those after it
 abbrev pub outcome_after : GeometryCommand → List ℕ → NumbersState → OutcomeState → OutcomeState
@@ -130,9 +149,10 @@ unfoldable pub after_all : List GeometryAct → GeometryState → GeometryState
 after_all [] g = g
 after_all (act ∷ acts) g = after_all acts (after_act act g)
 
--- a swap at a tick gives out both lists and empties them; all else stays but the parameter, which is used up
+-- a swap at a tick gives out both lists and empties them, and the run's vertices so far stand in the open one no more; all else stays but the
+-- parameter, which is used up
 abbrev pub lists_emptied : OutcomeState → OutcomeState
-lists_emptied o = record o { vertices = []; polygons = [] }
+lists_emptied o = record o { vertices = []; polygons = []; recent = none_recent }
 
 unfoldable pub swapped : Tick → GeometryState → GeometryState
 swapped now g = record {

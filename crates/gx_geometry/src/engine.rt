@@ -7,6 +7,8 @@ ghost use Rattle.gx_geometry.specs.States.{GeometryState, geometry_at_boot, geom
 ghost use Rattle.gx_geometry.specs.Bounds.{AreSmall, AreLimited, IsGeometry};
 ghost use Rattle.gx_geometry.specs.RecordsKept.{numbers_seen};
 
+mod saved;
+
 use crate::changes::gives_vertex;
 use crate::lists::Lists;
 use crate::numbers::{Coordinates, Kind, Light, Material, Numbers, Point};
@@ -14,6 +16,7 @@ use crate::outcomes::Outcome;
 use crate::results::Results;
 use ds_base::Tick;
 use gx_matrix::{GeometryCommand, Stacks};
+pub use saved::saved_laws;
 use std::alloc::{AllocError, Global};
 use std::marker::Model;
 
@@ -26,7 +29,7 @@ pub struct Geometry {
 }
 
 impl Model for Geometry {
-    ghost use Rattle.gx_geometry.specs.Bounds.{AreSmall, AreLimited};
+    ghost use Rattle.gx_geometry.specs.Bounds.{AreSmall, AreLimited, AreTold};
     ghost use Rattle.gx_geometry.specs.RecordsKept.{numbers_seen};
     ghost use Rattle.gx_geometry.specs.States.{GeometryState};
 
@@ -34,7 +37,8 @@ impl Model for Geometry {
 
     ghost view = { λ g. record { numbers = numbers_seen g.numbers; outcome = g.outcome; last = g.last } };
 
-    ghost invariant = { λ g. AreSmall (numbers_seen g.numbers) × AreLimited g.last.vertices g.last.polygons };
+    ghost invariant = { λ g. AreSmall (numbers_seen g.numbers) × AreLimited g.last.vertices g.last.polygons
+        × AreTold g.numbers.run g.outcome.recent };
 }
 
 #[tactic(auto, unfolding(crate::specs::Numbers::numbers_at_boot, crate::specs::Numbers::no_table))]
@@ -76,7 +80,7 @@ fn numbers_at_boot() -> Numbers
 
 impl Geometry {
     /// The engine at boot. This alone takes memory, all that its commands need.
-    #[tactic(auto, using(crate::proofs::Bounds::boot_small, crate::proofs::Bounds::none_limited))]
+    #[tactic(auto, using(crate::proofs::Bounds::boot_small, crate::proofs::Bounds::none_limited, crate::proofs::Recent::none_told))]
     pub fn new(alloc: Global) -> Result<Geometry, AllocError>
         ensures { IfOk result (λ g. g ≡ geometry_at_boot) }
     {
@@ -97,7 +101,7 @@ impl Geometry {
     }
 
     /// A command by its name, with as many parameters as it has (GBATEK, "DS 3D Geometry Commands"). It takes no memory.
-    #[tactic(auto, unfolding(crate::specs::States::geometry_after))]
+    #[tactic(auto, using(crate::proofs::Recent::told_after), unfolding(crate::specs::States::geometry_after))]
     pub fn take_command(&mut self, command: GeometryCommand, params: &[u32])
         requires parameters { HasParameters command params.now }
         requires run { self.old.numbers.run ≤ 2 ^ 56 }
@@ -143,7 +147,7 @@ impl Geometry {
     }
 
     /// A swap at a tick: the open lists become the last ones, and are empty.
-    #[tactic(auto, unfolding(crate::specs::States::swapped))]
+    #[tactic(auto, using(crate::proofs::Recent::none_told), unfolding(crate::specs::States::swapped))]
     pub fn swap(&mut self, now: Tick)
         ensures state { self.new ≡ swapped now self.old }
         ensures lists { AreListsSince self.old self.new.last.vertices self.new.last.polygons }

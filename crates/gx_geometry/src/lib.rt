@@ -15,7 +15,9 @@
 //! vertex, kept by the determinant's sign, cut at 2,048; that the lists grow command by command is proved to be the same.
 //! `Geometry::results`: the results of tests, the lengths of the open lists and their overflow, which is set exactly where something was
 //! dropped since it was cleared last (clause `overflow`). `laws`: at most 6,144 vertices and 2,048 polygons, colours of fifteen bits,
-//! palettes' bases of thirteen, at most one vertex a command.
+//! palettes' bases of thirteen, at most one vertex a command. `pack` and `unpack`: the engine's bytes and what is read of bytes, by one format
+//! (`specs/Saved`); `saved_laws`: the bytes of an engine whose numbers have their bounds (`IsSavedGeometry`) are read as that engine, and
+//! bytes that are read as an engine are its bytes. That each engine's numbers have those bounds is no clause yet.
 //!
 //! Only tested, in `gx_tests`: each command, each lighting term, the texture modes, strips, culling and both limits on values worked by
 //! hand, and that `Geometry::new` succeeds with ample memory.
@@ -34,7 +36,7 @@ mod outcomes;
 mod polygons;
 mod results;
 
-pub use engine::Geometry;
+pub use engine::{Geometry, saved_laws};
 pub use lists::Lists;
 pub use numbers::Kind;
 pub use polygons::{Polygon, Vertex};

@@ -3,9 +3,12 @@
 ghost use Rattle.std.specs.Prelude.{◌≡◌, [], IfOk};
 ghost use Rattle.gx_geometry.specs.States.{Swapped, no_swap};
 
+mod saved;
+
 use crate::capped::Capped;
 use crate::polygons::{Polygon, Vertex};
 use ds_base::Tick;
+pub use saved::{put_polygons, put_vertices, take_polygons, take_vertices};
 use std::alloc::{AllocError, Global};
 use std::marker::Model;
 use std::mem::swap;

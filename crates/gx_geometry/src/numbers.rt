@@ -7,8 +7,13 @@ ghost use Rattle.gx_geometry.specs.Lights.{light_at};
 ghost use Rattle.gx_geometry.specs.RecordsKept.{light_seen, numbers_seen, point_seen};
 ghost use Rattle.gx_geometry.specs.Numbers.{low_half, high_half, kind_of, point_by_halves, point_by_tens, point_moved, point_by_word, point_after};
 
+mod saved;
+
 use crate::exact::wrapped_sum;
 use gx_matrix::{GeometryCommand, Stacks};
+pub use saved::{
+    Current, Lighting, put_current, put_lighting, run_kind_number, take_current, take_lighting,
+};
 
 /// The kind of the polygons that a run of vertices makes (GBATEK, BEGIN_VTXS).
 #[derive(Clone, Copy)]

@@ -3,9 +3,11 @@
 ghost use Rattle.std.specs.Prelude.{◌≡◌, ◌<◌, ◌≤◌, ◌^◌, length, IfOk, IfSome};
 ghost use Rattle.gx_matrix.specs.CommandTable.{HasParameters};
 ghost use Rattle.gx_geometry.specs.Polygons.{arrival_of, polygon_of, most_vertices};
-ghost use Rattle.gx_geometry.specs.States.{no_outcome, results_of, tested, polygon_added, vertex_added, arrived, flag_cleared, lists_emptied};
-ghost use Rattle.gx_geometry.specs.Bounds.{AreSmall, AreLimited};
+ghost use Rattle.gx_geometry.specs.States.{no_outcome, then_recent, results_of, tested, polygon_added, vertex_added, arrived, flag_cleared, lists_emptied};
+ghost use Rattle.gx_geometry.specs.Bounds.{AreSmall, AreLimited, ArePlaces};
 ghost use Rattle.gx_geometry.specs.RecordsKept.{numbers_seen};
+
+mod saved;
 
 use crate::boxes::{box_test, through};
 use crate::capped::Capped;
@@ -16,6 +18,7 @@ use crate::polygons::{Polygon, Vertex, polygon_of, vertex_of};
 use crate::results::Results;
 use ds_base::Tick;
 use gx_matrix::GeometryCommand;
+pub use saved::{put_results, take_length, take_place, take_results};
 use std::alloc::{AllocError, Global};
 use std::marker::Model;
 
@@ -25,12 +28,17 @@ pub struct Outcome {
     results: Results,
     vertices: Capped<Vertex, VERTICES>,
     polygons: Capped<Polygon, POLYGONS>,
+    /// Where the run's last three vertices stand among them, the oldest first.
+    recent: [u16; 3],
 }
+
+/// A place in the list that a vertex doesn't have.
+const NOWHERE: u16 = 0xFFFF;
 
 impl Model for Outcome {
     ghost use Rattle.std.specs.Prelude.{◌≡◌, ◌≤◌, length};
     ghost use Rattle.gx_geometry.specs.Polygons.{most_vertices, most_polygons};
-    ghost use Rattle.gx_geometry.specs.Bounds.{HaveColours, HavePalettes};
+    ghost use Rattle.gx_geometry.specs.Bounds.{ArePlaces, HaveColours, HavePalettes};
     ghost use Rattle.gx_geometry.specs.States.{OutcomeState};
 
     ghost Value = { OutcomeState };
@@ -42,15 +50,24 @@ impl Model for Outcome {
       vertices = o.vertices;
       polygons = o.polygons;
       overflow = o.results.overflow;
+      recent = o.recent;
     } };
 
     ghost invariant = { λ o. (o.results.vertices ≡ length o.vertices) × (o.results.polygons ≡ length o.polygons) × (length o.vertices ≤ most_vertices)
-        × (length o.polygons ≤ most_polygons) × HaveColours o.vertices × HavePalettes o.polygons };
+        × (length o.polygons ≤ most_polygons) × HaveColours o.vertices × HavePalettes o.polygons
+        × ArePlaces (length o.vertices) o.recent };
+}
+
+/// The places of a run's last three vertices when the next one comes.
+fn then_recent(place: u16, recent: [u16; 3]) -> [u16; 3]
+    ensures { result ≡ then_recent place recent }
+{
+    [recent[1], recent[2], place]
 }
 
 impl Outcome {
     /// Nothing was tested, and both lists are empty; this takes their memory.
-    #[tactic(auto, using(crate::proofs::Bounds::no_colours, crate::proofs::Bounds::no_palettes))]
+    #[tactic(auto, using(crate::proofs::Bounds::no_colours, crate::proofs::Bounds::no_palettes, crate::proofs::Recent::no_places))]
     pub fn new(alloc: Global) -> Result<Outcome, AllocError>
         ensures { IfOk result (λ o. o ≡ no_outcome) }
     {
@@ -67,6 +84,7 @@ impl Outcome {
             },
             vertices,
             polygons,
+            recent: [NOWHERE; 3],
         })
     }
 
@@ -85,12 +103,13 @@ impl Outcome {
         }
     }
 
-    #[tactic(auto, using(crate::proofs::Bounds::colour_added))]
+    #[tactic(auto, using(crate::proofs::Bounds::colour_added, crate::proofs::Recent::places_added))]
     fn add_vertex(&mut self, vertex: Vertex)
         requires room { length self.old.vertices < most_vertices }
         requires colour { vertex.colour < 2 ^ 15 }
         ensures { self.new ≡ vertex_added vertex self.old }
     {
+        self.recent = then_recent(self.results.vertices, self.recent);
         self.vertices.push(vertex);
         self.results.vertices += 1;
     }
@@ -106,7 +125,7 @@ impl Outcome {
     }
 
     /// A vertex comes, and with it the polygon that it completes.
-    #[tactic(auto, unfolding(crate::specs::States::arrived))]
+    #[tactic(auto, using(crate::proofs::Recent::places_dropped), unfolding(crate::specs::States::arrived))]
     pub fn arrive(&mut self, s: &Numbers)
         requires run { 1 ≤ s.now.run }
         requires small { AreSmall (numbers_seen s.now) }
@@ -117,12 +136,13 @@ impl Outcome {
             let polygon = self.completed(s);
             self.add_polygon(polygon);
         } else {
+            self.recent = then_recent(NOWHERE, self.recent);
             self.results.overflow = true;
         }
     }
 
-    /// What the tests among the commands give.
-    #[tactic(auto, using(gx_matrix::proofs::Sums::casts), unfolding(crate::specs::States::tested))]
+    /// What the tests among the commands give; and a new run has no vertex yet.
+    #[tactic(auto, using(gx_matrix::proofs::Sums::casts, crate::proofs::Recent::no_places), unfolding(crate::specs::States::tested))]
     pub fn test(&mut self, command: GeometryCommand, params: &[u32], s: &Numbers)
         requires { HasParameters command params.now }
         ensures { self.new ≡ tested command params.now (numbers_seen s.now) self.old }
@@ -136,11 +156,13 @@ impl Outcome {
             GeometryCommand::VecTest => {
                 self.results.vector = vector_test(params[0], &s.stacks.vector())
             }
+            GeometryCommand::BeginVtxs => self.recent = [NOWHERE; 3],
             _ => (),
         }
     }
 
     /// A swap takes both lists, which are empty then.
+    #[tactic(auto, using(crate::proofs::Recent::no_places))]
     pub fn swap(&mut self, now: Tick, parameter: u32, last: &mut Lists)
         ensures emptied { self.new ≡ lists_emptied self.old }
         ensures taken { last.new ≡ record { tick = now; parameter = parameter; vertices = self.old.vertices; polygons = self.old.polygons } }
@@ -149,6 +171,7 @@ impl Outcome {
         last.take(now, parameter, &mut self.vertices, &mut self.polygons);
         self.results.vertices = 0;
         self.results.polygons = 0;
+        self.recent = [NOWHERE; 3];
     }
 
     /// The lists' overflow is cleared.
@@ -162,6 +185,7 @@ impl Outcome {
     pub fn results(&self) -> &Results
         ensures value { result.now ≡ results_of self.now }
         ensures limited { AreLimited self.now.vertices self.now.polygons }
+        ensures places { ArePlaces (length self.now.vertices) self.now.recent }
     {
         &self.results
     }

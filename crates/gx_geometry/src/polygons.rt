@@ -6,9 +6,12 @@ ghost use Rattle.gx_geometry.specs.Polygons.{vertex_of, arrival_of, most_vertice
 ghost use Rattle.gx_geometry.specs.RecordsKept.{numbers_seen};
 ghost use Rattle.gx_geometry.specs.Backs.{shape_of, corners_back, vertex_back, seen_back, indices_back, polygon_back, polygon_by_shape};
 
+mod saved;
+
 use crate::boxes::through;
 use crate::exact::product;
 use crate::numbers::{Kind, Numbers};
+pub use saved::{put_polygon, put_vertex, take_polygon, take_vertex};
 
 /// A vertex in clip space: x, y, z and w are signed words with 12 fractional bits (GBATEK, "DS 3D Polygon Definitions by Vertices").
 #[derive(Clone, Copy)]

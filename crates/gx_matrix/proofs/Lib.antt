@@ -1,2 +1,4 @@
 pub mod Clips
 pub mod Sums
+pub mod Poses
+pub mod SavedLaws

@@ -1,3 +1,4 @@
 pub mod Algebra
 pub mod CommandTable
 pub mod Commands
+pub mod Saved

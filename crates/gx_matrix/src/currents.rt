@@ -4,6 +4,8 @@ ghost use Rattle.std.specs.Prelude.{◌≡◌, ◌<◌, ◌≤◌, pos, negsuc, 
 ghost use Rattle.gx_matrix.specs.Commands.{StacksState, stacks_at_boot, mode_of, matrix_loaded, multiplied, scaled_mode, pose_place, pose_pushed, pushed, popped_place, pose_popped, popped, signed_bits, named_place, pose_stored, matrix_stored, pose_restored, matrix_restored, current_changed, commanded, clip_of, levels_of, error_cleared};
 ghost use Rattle.gx_matrix.specs.CommandTable.{HasParameters};
 
+mod saved;
+
 use crate::algebra::{given, identity, product, scaling, translation};
 use crate::commands::GeometryCommand;
 use line_lanes::Matrix;

@@ -12,7 +12,9 @@
 //! for every command with its number of parameters: the current matrices, the places of all stacks, the levels and the error, and that all
 //! else stays; what can't be done sets the error and changes nothing else. `Stacks::clip` is position times projection: it is kept, and
 //! made anew by the commands that may change it; that it is the product at every time is an invariant. The level is 31 at most (clause
-//! `level`). `clear_error` clears the error and makes the projection and texture levels 0.
+//! `level`). `clear_error` clears the error and makes the projection and texture levels 0. `pack` and `unpack`: the bytes of all of them and
+//! what is read of bytes, by one format (`specs/Saved`); `laws`: sixteen cells a matrix, each a signed word, and 31 places; `saved_laws`: their
+//! bytes are read as they were, and bytes that are read are theirs.
 //!
 //! Only tested, in `gx_tests`: matrices and products worked by hand, and both ends of each stack.
 #![tactic(auto)]
@@ -26,4 +28,4 @@ pub use algebra::{given, identity, product, scaling, translation};
 pub use commands::GeometryCommand;
 pub use currents::{Mode, Pose, Single};
 pub use line_lanes::Matrix;
-pub use stacks::Stacks;
+pub use stacks::{Stacks, saved_laws};

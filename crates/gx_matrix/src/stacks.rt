@@ -4,9 +4,12 @@ ghost use Rattle.std.specs.Prelude.{◌≡◌, ◌≤◌};
 ghost use Rattle.gx_matrix.specs.Commands.{stacks_at_boot, commanded, clip_of, levels_of, error_cleared};
 ghost use Rattle.gx_matrix.specs.CommandTable.{command_of, HasParameters, IsCommand, command_taken};
 
+mod saved;
+
 use crate::commands::GeometryCommand;
 use crate::currents::Currents;
 use line_lanes::Matrix;
+pub use saved::saved_laws;
 use std::marker::Model;
 
 /// The current matrices and their stacks (GBATEK, "DS 3D Matrix Stack"). Contracts see all of them.

@@ -12,6 +12,7 @@ mod lists;
 mod matrices;
 mod ports;
 mod rig;
+mod saved;
 mod stacks;
 mod swaps;
 mod vertices;

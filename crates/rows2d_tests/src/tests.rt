@@ -12,6 +12,7 @@ mod extended;
 mod fields;
 mod lanes;
 mod layers;
+mod saved;
 mod stage;
 mod texts;
 

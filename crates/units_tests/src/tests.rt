@@ -14,3 +14,4 @@ mod places;
 mod runs;
 mod states;
 mod timers;
+mod waits;

@@ -1,4 +1,5 @@
-use Rattle.std.specs.Prelude.{ℕ, ◌≡◌, ◌≤◌, ◌+◌, ◌-◌, ◌*◌, ◌/◌, ◌%◌, ◌^◌, nat_le, nat_lt, ◌&&◌, Bool, true, false, if◌then◌else◌, List, [], ◌∷◌, ◌++◌, Option, Some, None}
+use Rattle.std.specs.Prelude.{ℕ, ◌≡◌, ◌≤◌, ◌+◌, ◌-◌, ◌*◌, ◌/◌, ◌%◌, ◌^◌, Bool, true, false, if◌then◌else◌, List, [], ◌∷◌, ◌++◌, Option, Some, None}
+use Rattle.ds_base.specs.Numbers.{is_within}
 use Rattle.video2d.specs.declared.display_registers.DisplayRegister.{DisplayRegister}
 use Rattle.video2d.specs.declared.display_registers.DisplayRegister.TheVariants.{Dispstat, Vcount, Powcnt1, Dispcnt, Bg0cnt, Bg0hofs, Bg2pa, Bg2x, Bg3pa, Bg3x, Win0h, Win0v, Winin, Winout, Mosaic, Bldcnt, Bldalpha, Bldy, MasterBright, Dispcapcnt}
 use Rattle.video2d.specs.declared.display_registers.DisplayRow.{DisplayRow}
@@ -77,10 +78,6 @@ engine_bytes = 0x70
 
 abbrev pub display_offset : DisplayRegister → ℕ
 display_offset register = (display_row register).first
-
--- one of so many bytes from an offset on
-abbrev pub is_within : ℕ → ℕ → ℕ → Bool
-is_within first bytes at = nat_le first at && nat_lt at (first + bytes)
 
 -- a register of the row has the byte at an offset
 abbrev pub has_byte : DisplayRow → ℕ → Bool

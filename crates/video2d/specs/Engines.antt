@@ -1,11 +1,11 @@
 use Rattle.std.specs.Prelude.{ℕ, ◌+◌, ◌-◌, ◌*◌, ◌%◌, ◌^◌, ◌==◌, nat_lt, if◌then◌else◌, List, Option, Some, None, bit_and, slice_index, slice_set}
 use Rattle.std.specs.Int.{cast_signed, w16, w32}
-use Rattle.ds_base.specs.Numbers.{number_at, zeroes}
+use Rattle.ds_base.specs.Numbers.{is_within, number_at, zeroes}
 use Rattle.ds_base.specs.declared.memories.Width.TheVariants.{Half, Word}
 use Rattle.bg2d.specs.declared.layers.AffineLayer.{AffineLayer}
 use Rattle.bg2d.specs.declared.layers.TextLayer.{TextLayer}
 use Rattle.bg_ext.specs.declared.layers.ExtLayer.{ExtLayer}
-use Rattle.video2d.specs.DisplayRegisters.{engine_row_at, display_offset, is_within, kept_at, read_of}
+use Rattle.video2d.specs.DisplayRegisters.{engine_row_at, display_offset, kept_at, read_of}
 use Rattle.video2d.specs.declared.display_registers.DisplayRegister.TheVariants.{Bg0cnt, Bg0hofs, Bldalpha, Bldcnt, Bldy, Dispcapcnt, Dispcnt, MasterBright, Mosaic}
 use Rattle.video2d.specs.declared.display_registers.DisplayRow.{DisplayRow}
 use Rattle.video2d.specs.declared.engines.Engine.{Engine}

@@ -1,7 +1,8 @@
 use Rattle.std.specs.Prelude.{ℕ, ◌<◌, ◌-◌, if◌then◌else◌}
+use Rattle.ds_base.specs.Numbers.{is_within}
 use Rattle.ds_base.specs.declared.processors.Proc.{Proc}
 use Rattle.ds_base.specs.declared.processors.Proc.TheVariants.{Nine, Seven}
-use Rattle.video2d.specs.DisplayRegisters.{engine_base, engine_bytes, display_offset, has_byte, is_within, display_row}
+use Rattle.video2d.specs.DisplayRegisters.{engine_base, engine_bytes, display_offset, has_byte, display_row}
 use Rattle.video2d.specs.declared.display_registers.DisplayRegister.TheVariants.{Dispstat, Powcnt1, Vcount}
 use Rattle.video2d.specs.declared.engines.Engine.TheVariants.{A, B}
 use Rattle.video2d.specs.declared.ports.VideoPort.{VideoPort}

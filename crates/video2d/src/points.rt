@@ -1,9 +1,8 @@
 //! The running points of affine backgrounds.
 
 ghost use Rattle.std.specs.Prelude.{◌≡◌, ◌<◌, ◌≤◌, ◌+◌, ◌*◌};
-ghost use Rattle.ds_base.specs.Numbers.{number_at};
+ghost use Rattle.ds_base.specs.Numbers.{is_within, number_at};
 ghost use Rattle.ds_base.specs.declared.memories.Width.TheVariants.{Half, Word};
-ghost use Rattle.video2d.specs.DisplayRegisters.{is_within};
 ghost use Rattle.video2d.specs.Engines.{word_of_half, word_of_28, coordinate_at, point_at_boot, point_started, point_written, coordinate_stepped, point_stepped};
 
 use std::marker::Model;

@@ -2,6 +2,7 @@ use Rattle.std.proofs.Common.{ℕ, zero, suc, ◌≡◌, ◌≢◌, ◌<◌, ◌
 use lib.Bits.{or_zero_r, or_zero_l}
 use Rattle.std.specs.List.{slice_range}
 use Rattle.std.proofs.lemmas.List.{get_or-take, get_or-drop}
+use Rattle.ds_base.proofs.Choices.{same_or_not}
 use Rattle.ds_base.specs.declared.memories.Width.{Width}
 use Rattle.ds_base.specs.declared.memories.Width.TheVariants.{Byte, Half, Word}
 use Rattle.vram_banks.specs.declared.maps.Page.TheVariants.{Empty, One}
@@ -9,7 +10,6 @@ use Rattle.ds_base.specs.Numbers.{width_bytes, value_by, put_by}
 use Rattle.vram_banks.specs.paging.Flat.{cell_of, or_at, put_in_cells}
 use Rattle.vram_banks.specs.paging.Pages.{NoneBelow, OneBelow, IsFound}
 use Rattle.vram_banks.specs.Cells.{Banks, byte_or_0, or_below, put_there, put_below}
-use Rattle.vram_banks.proofs.Cases.{same_or_not}
 
 pub or_none : (f : ℕ → ℕ) → or_below 0 f ≡ 0
 unfolding or_below

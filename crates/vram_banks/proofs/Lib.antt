@@ -1,5 +1,4 @@
 pub mod Allotted
-pub mod Cases
 pub mod CellLemmas
 pub mod MapLaws
 pub mod Mixes
@@ -9,3 +8,4 @@ pub mod SetLaws
 pub mod NibbleLemmas
 pub mod FormLemmas
 pub mod PaletteLemmas
+pub mod SavedLaws

@@ -1,6 +1,7 @@
 use Rattle.std.proofs.Common.{ℕ, ◌≡◌, ◌≢◌, ◌<◌, ◌≤◌, ◌+◌, ◌-◌, ◌*◌, ◌/◌, ◌%◌, ◌^◌, ◌⊎◌, inl, inr, Bool, true, false, not, ◌||◌, ◌&&◌, ◌==◌, nat_lt, nat_le, List, [], ◌∷◌, get_or, Option, Some, None, refl, ap, sym, ◌∙◌, subst, arith}
 use Rattle.std.specs.Prelude.{if◌then◌else◌}
 use Rattle.std.proofs.lemmas.Option.{same_Some, none-some}
+use Rattle.ds_base.proofs.Choices.{low_or_high, same_or_not}
 use Rattle.ds_base.specs.Bits.{bits}
 use Rattle.ds_base.specs.Memories.{space_size}
 use Rattle.ds_base.specs.declared.memories.Space.{Space}
@@ -9,7 +10,6 @@ use Rattle.vram_banks.specs.declared.windows.Window.{Window}
 use Rattle.vram_banks.specs.BankMap.{BankRow, rows_of, row_by, chosen_row, row_start, same_space, space_number, first_cell, Stands, StandsIn}
 use Rattle.vram_banks.specs.Cells.{allotted_bit, cell_by, cell_there}
 use Rattle.vram_banks.specs.paging.Flat.{origin_of, no_window, window_by, window_of, cell_in, cell_of}
-use Rattle.vram_banks.proofs.Cases.{same_or_not}
 
 -- every row of a table lies in its space, and its bytes in its bank, which has n
 abbrev pub all_fit : ℕ → List BankRow → Bool
@@ -254,9 +254,6 @@ space_of_its_number BObjPalette = refl
 pub same_numbers : (a b : Space) → space_number a ≡ space_number b → a ≡ b
 same_numbers a b e = sym (space_of_its_number a) ∙ ap space_of_number e ∙ space_of_its_number b
 
-before_or_not : (x y : ℕ) → (x < y) ⊎ (y ≤ x)
-before_or_not x y = grind arith
-
 -- in its own space a row's cells are those of its window
 cell_here : (r : BankRow) (control first origin at : ℕ) (space : Space) → space_number r.space ≡ space_number space → origin_of r.space ≡ origin →
     cell_by (Some r) first control space at ≡ cell_in (window_by (Some r) control) first (origin + at)
@@ -269,9 +266,9 @@ not_in_space r control first at space e =
     rw t refl
 
 outside : (start size first x : ℕ) → (start ≤ x → x < start + size → ⊥) → (s : ℕ) → start ≡ s → cell_in (record { first = s; size = size }) first x ≡ None
-outside start size first x none s e = elim (before_or_not x start) [
+outside start size first x none s e = elim (low_or_high x start) [
   | inl before ↦ grind (arith, before, e)
-  | inr low ↦ elim (before_or_not x (start + size)) [
+  | inr low ↦ elim (low_or_high x (start + size)) [
     | inl high ↦ absurd (none low high)
     | inr past ↦ grind (arith, past, e)
   ]

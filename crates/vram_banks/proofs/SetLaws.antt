@@ -4,6 +4,7 @@ use Rattle.std.proofs.lemmas.Nat.Bits.{bit_at_or, bit_at-zero, bit_at-lt}
 use Rattle.std.proofs.lemmas.Nat.{mod_below, or_lt, mod-mul-add, mul-mod, div-add-mod'}
 use Rattle.std.proofs.lemmas.Option.{same_Some, none-some}
 use Rattle.std.proofs.lemmas.List.{get_or-set_same, get_or-set_other, length-set}
+use Rattle.ds_base.proofs.Choices.{same_or_not}
 use Rattle.ds_base.specs.Memories.{space_size}
 use Rattle.ds_base.specs.Numbers.{width_bytes, aligned_down, value_by, put_by}
 use Rattle.ds_base.specs.declared.memories.Space.{Space}
@@ -14,7 +15,6 @@ use Rattle.vram_banks.specs.BankMap.{BankRow, chosen_row, row_start, first_cell,
 use Rattle.vram_banks.specs.paging.Flat.{origin_of, window_of, cell_of, or_at, put_in_cells}
 use Rattle.vram_banks.specs.Cells.{Banks, byte_or_0, or_below, put_there, put_below, cell_there, vram_byte, with_vram_byte, vram_value, vram_written, IsOr, IsCellAt, IsRead, IsWritten}
 use Rattle.vram_banks.proofs.MapLaws.{stands_cell, cell_stands, there_flat, Found, found_window, one_cell, fits_of, first_cell-inside}
-use Rattle.vram_banks.proofs.Cases.{same_or_not}
 
 -- some bank's cell stands at a flat address
 pub record Hit (controls : List ℕ) (x cell : ℕ) : Type 0 where

@@ -5,4 +5,5 @@ pub mod paging
 pub mod Bases
 pub mod Colours
 pub mod Points
+pub mod Saved
 pub mod Tiles

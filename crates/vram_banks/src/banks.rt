@@ -8,6 +8,8 @@ ghost use Rattle.vram_banks.specs.BankMap.{kept_bank_control, StandsIn};
 ghost use Rattle.vram_banks.specs.Cells.{Banks, AreBanks, blank_banks, byte_or_0, put_there, vram_byte, vram_value, vram_written, allotted_bit, allotted_of, is_allotted, IsCellAt, IsOr, IsRead, IsWritten};
 ghost use Rattle.vram_banks.specs.paging.Flat.{or_at, put_in_cells};
 
+mod saved;
+
 use crate::cells::Cells;
 use crate::maps::{BankMap, PAGE, Page};
 use crate::windows::{LARGEST, flat};

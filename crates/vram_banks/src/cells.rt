@@ -3,8 +3,12 @@
 ghost use Rattle.std.specs.Prelude.{◌≡◌, ◌<◌, ◌≤◌, ◌+◌, ℕ, IfOk, slice_index, slice_range, slice_set, length};
 ghost use Rattle.ds_base.specs.declared.memories.Width.TheVariants.{Half, Word};
 ghost use Rattle.ds_base.specs.Numbers.{zeroes, value_by, put_by, with_number};
+ghost use Rattle.ds_state.specs.Formats.{array};
+ghost use Rattle.ds_state.specs.Reading.{GivesIn, read_code};
+ghost use Rattle.vram_banks.specs.Saved.{banks_size};
 
 use ds_base::VRAM_BYTES;
+use ds_state::{Unpacked, Unpacker};
 use std::alloc::{AllocError, Global};
 use std::marker::Model;
 
@@ -65,6 +69,15 @@ impl Cells {
         ensures { IfOk result (λ c. c ≡ zeroes 0xA4000) }
     {
         let bytes = zeroed(alloc, VRAM_BYTES)?;
+        Ok(Cells { bytes })
+    }
+
+    /// Takes all bytes as they are.
+    #[tactic(auto, unfolding(crate::specs::Saved::banks_size))]
+    pub fn unpack(alloc: Global, from: &mut Unpacker) -> Result<Cells, Unpacked>
+        ensures { GivesIn (λ c. c) result from.new (read_code (array banks_size) from.old) }
+    {
+        let bytes = from.take_bytes(alloc, VRAM_BYTES)?;
         Ok(Cells { bytes })
     }
 

@@ -18,7 +18,9 @@
 //! are as before (`changed`). `row`: place i has the byte at the exact sum `at` + i. `set_control`: the control keeps MST, OFS and bit 7 of
 //! what is written. `bank_laws`: 671,744 bytes and nine controls, each with no bits but those that its bank keeps; a cell that stands at an
 //! address of a space lies in a bank that is allotted to ARM7 exactly where the space is ARM7's (`allotted`). `allotted7`, `c`, `d`: bit 0
-//! is 1 exactly where C stands somewhere in ARM7's space, bit 1 where D does. `Vram::new` alone takes memory.
+//! is 1 exactly where C stands somewhere in ARM7's space, bit 1 where D does. `pack` and `unpack`: the bytes of all banks and controls, and
+//! what is read of bytes, by one format (`specs/Saved`); `saved_laws`: its bytes are read as it was, and bytes that are read are its bytes.
+//! `Vram::new`, `pack` and `unpack` alone take memory.
 //!
 //! Only tested: that the table is the console's (for every MST and OFS both ends of each page of the space, with one byte before it and one
 //! past it; textures' MSTs seen nowhere; each space's size), and that `new` succeeds with ample memory.
@@ -31,6 +33,7 @@ mod colours;
 mod maps;
 mod points;
 mod rows;
+mod saved;
 mod tiles;
 mod windows;
 
@@ -42,4 +45,5 @@ pub use colours::{
 };
 pub use points::{affine_coordinate, place_within};
 pub use rows::Row;
+pub use saved::saved_laws;
 pub use tiles::{copy_eight, copy_four, flipped, unpack};

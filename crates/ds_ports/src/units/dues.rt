@@ -6,7 +6,7 @@ ghost use Rattle.ds_runs.specs.Actors.{IsNumbered};
 ghost use Rattle.ds_runs.specs.declared.actors.Actor.TheVariants.{Geometry};
 ghost use Rattle.ds_runs.specs.Order.{first_from};
 ghost use Rattle.ds_ports.specs.Acting.{acting_io_due, first_acting_io_due, is_quiet};
-ghost use Rattle.ds_ports.specs.Dues.{dma_due_in, io_due, first_io_due, released_at};
+ghost use Rattle.ds_ports.specs.Dues.{dma_due_in, io_due, io_dues, released_at};
 ghost use Rattle.ds_ports.specs.Inside.{first_with};
 
 use crate::units::Units;
@@ -27,13 +27,13 @@ fn released_at(released: u64, due: Option<Tick>) -> Option<Tick>
 }
 
 impl Units {
-    /// When an actor behind the ports is due, if it is.
+    /// When an actor behind the ports is due, if it is; those that aren't behind them, or aren't built yet, never are.
     pub fn io_due(&self, actor: Actor) -> Option<Tick>
         requires { IsNumbered actor }
         ensures { result ≡ io_due actor self.now }
     {
         match actor {
-            Actor::Timer { proc, number } => self.processor_io(proc).timer_due(number),
+            Actor::Timer { proc, number } => self.processor(proc).timer_due(number),
             Actor::Divider => self.divider.due(),
             Actor::SquareRoot => self.root.due(),
             Actor::Geometry => self.gx.due(),
@@ -83,7 +83,8 @@ impl Units {
         self.gx.port_kept(GXSTAT) == 0
     }
 
-    /// Whether geometry is due, and nobody hears of what it does.
+    /// Whether geometry is due and quiet: nobody hears of what it does, since GXSTAT's selector is 0, no channel of ARM9's is enabled with the start
+    /// of the geometry FIFO, whether or not it runs, and no stall holds ARM9.
     pub fn is_quiet(&self) -> bool
         ensures { result ≡ is_quiet self.now }
     {
@@ -103,17 +104,17 @@ impl Units {
         self.gx.due()
     }
 
-    /// The first actor behind the ports that is due.
-    #[tactic(auto, using(crate::proofs::Acting::all_due))]
+    /// The first actor behind the ports that is due, by tick and then by rank, quiet geometry among them. It is found at each call.
+    #[tactic(auto, using(crate::proofs::Acting::all_due), unfolding(crate::specs::Dues::first_io_due))]
     pub fn first_due(&self) -> Due
-        ensures { Some result ≡ first_io_due self.now }
+        ensures { Some result ≡ first_from 1 (io_dues self.now) }
     {
         self.first_with(self.gx.due())
     }
 
     /// The first actor behind the ports that is due and acts: all that are due do, but quiet geometry.
     #[tactic(auto, using(crate::proofs::Acting::all_acting))]
-    pub fn first_acting(&self) -> Due
+    pub(crate) fn find_acting(&self) -> Due
         ensures { Some result ≡ first_acting_io_due self.now }
     {
         self.first_with(self.geometry_acting())

@@ -2,7 +2,7 @@
 
 ghost use Rattle.std.specs.Prelude.{◌≡◌, ◌<◌, ◌≤◌, ◌^◌, IsSome, Some, length};
 ghost use Rattle.ds_base.specs.Schedules.{IsEarly};
-ghost use Rattle.ds_dma.specs.States.{dma_due};
+ghost use Rattle.ds_dma.specs.States.{dma_due, most_waits};
 ghost use Rattle.ds_runs.specs.Actors.{IsNumbered};
 ghost use Rattle.ds_timers.specs.Timing.{timer_at, timer_due};
 ghost use Rattle.ds_ports.specs.Dues.{io_due};
@@ -69,7 +69,7 @@ impl Units {
     }
 
     /// Whether `settle` would leave all as it is.
-    pub fn is_settled(&self) -> bool
+    pub(crate) fn find_settled(&self) -> bool
         ensures { result ≡ is_settled self.now }
     {
         self.nine.is_levelled(self.gx.level())
@@ -146,16 +146,17 @@ impl Units {
         self.seven.trigger(cause, now);
     }
 
-    /// A processor's channel that is due moves its first unit, but for the access itself.
-    pub fn move_channel(&mut self, proc: Proc, now: Tick) -> Before
+    /// A processor's channel that is due moves its first unit, with so many ticks of waits, but for the access itself.
+    pub fn move_channel(&mut self, proc: Proc, now: Tick, waits: u32) -> Before
         requires due { IsSome (dma_due (io_of self.old proc).dma) }
         requires early { IsEarly (Some now) }
-        ensures state { self.new ≡ channel_moved proc now self.old }
+        requires waits { waits ≤ most_waits }
+        ensures state { self.new ≡ channel_moved proc now waits self.old }
         ensures before { result ≡ before_move (io_of self.old proc) }
     {
         match proc {
-            Proc::Nine => self.nine.move_channel(now),
-            Proc::Seven => self.seven.move_channel(now),
+            Proc::Nine => self.nine.move_channel(now, waits),
+            Proc::Seven => self.seven.move_channel(now, waits),
         }
     }
 

@@ -22,7 +22,7 @@ impl Units {
             0x130 => Some(keyinput(self.pressed)), // KEYINPUT
             0x180 => Some(self.ipc.sync_read(proc) as u32), // IPCSYNC
             0x184 => Some(self.ipc.control_read(proc) as u32), // IPCFIFOCNT
-            0x208 => Some(self.processor_io(proc).ime()), // IME
+            0x208 => Some(self.processor(proc).ime()), // IME
             _ => None,
         }
     }
@@ -35,9 +35,9 @@ impl Units {
         ensures left { IfSome result (λ value. port_read proc self.now at Word ≡ self.now) }
     {
         match at {
-            0x208 => Some(self.processor_io(proc).ime()), // IME
-            0x210 => Some(self.processor_io(proc).ie()), // IE
-            0x214 => Some(self.processor_io(proc).flags()), // IF
+            0x208 => Some(self.processor(proc).ime()), // IME
+            0x210 => Some(self.processor(proc).ie()), // IE
+            0x214 => Some(self.processor(proc).flags()), // IF
             _ => None,
         }
     }
@@ -45,7 +45,7 @@ impl Units {
     /// What an access reads at an offset from 4000000h, where it is of one of these, at whatever tick; it changes nothing.
     #[inline(always)]
     #[tactic(auto, using(crate::proofs::Wholes::read_narrow))]
-    pub fn value_often(&self, proc: Proc, at: u32, width: Width) -> Option<u32>
+    pub(crate) fn value_often(&self, proc: Proc, at: u32, width: Width) -> Option<u32>
         ensures value { IfSome result (λ value. (now : Tick) → value ≡ port_value proc now self.now at width) }
         ensures left { IfSome result (λ value. port_read proc self.now at width ≡ self.now) }
     {

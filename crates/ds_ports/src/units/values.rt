@@ -51,27 +51,27 @@ fn sqrtcnt(root: &Root) -> u32
 
 impl Units {
     /// What a register reads, for a processor at a tick.
-    pub fn value_of(&self, proc: Proc, now: Tick, register: Register, number: u32) -> u32
+    pub(crate) fn value_of(&self, proc: Proc, now: Tick, register: Register, number: u32) -> u32
         requires { number < (meaning_of register).count }
         ensures { result ≡ (meaning_of register).value proc now self.now number }
     {
         match register {
-            Register::Dmasad => self.processor_io(proc).channel(DmaPort::Source, number),
-            Register::Dmadad => self.processor_io(proc).channel(DmaPort::Target, number),
-            Register::Dmacnt => self.processor_io(proc).channel(DmaPort::Control, number),
+            Register::Dmasad => self.processor(proc).channel(DmaPort::Source, number),
+            Register::Dmadad => self.processor(proc).channel(DmaPort::Target, number),
+            Register::Dmacnt => self.processor(proc).channel(DmaPort::Control, number),
             Register::Dmafill => self.fill[number as usize],
-            Register::TmcntL => self.processor_io(proc).counter(number, now),
-            Register::TmcntH => self.processor_io(proc).control(number),
+            Register::TmcntL => self.processor(proc).counter(number, now),
+            Register::TmcntH => self.processor(proc).control(number),
             Register::Keyinput => keyinput(self.pressed),
-            Register::Keycnt => self.processor_io(proc).keycnt(),
+            Register::Keycnt => self.processor(proc).keycnt(),
             Register::Extkeyin => extkeyin(self.pressed),
             Register::Ipcsync => self.ipc.sync_read(proc) as u32,
             Register::Ipcfifocnt => self.ipc.control_read(proc) as u32,
             Register::Ipcfiforecv => self.ipc.look(proc),
             Register::Romctrl => self.romctrl,
-            Register::Ime => self.processor_io(proc).ime(),
-            Register::Ie => self.processor_io(proc).ie(),
-            Register::If => self.processor_io(proc).flags(),
+            Register::Ime => self.processor(proc).ime(),
+            Register::Ie => self.processor(proc).ie(),
+            Register::If => self.processor(proc).flags(),
             Register::Wramcnt | Register::Wramstat => self.wramcnt as u32,
             Register::Postflg => 1,
             Register::Ipcfifosend | Register::Haltcnt => 0,
@@ -121,23 +121,23 @@ impl Units {
     }
 
     /// The bits that a write of some of a register's bytes leaves as they are in the others.
-    pub fn kept_of(&self, proc: Proc, register: Register, number: u32) -> u32
+    pub(crate) fn kept_of(&self, proc: Proc, register: Register, number: u32) -> u32
         requires { number < (meaning_of register).count }
         ensures { result ≡ (meaning_of register).kept proc self.now number }
     {
         match register {
-            Register::Dmasad => self.processor_io(proc).channel(DmaPort::Source, number),
-            Register::Dmadad => self.processor_io(proc).channel(DmaPort::Target, number),
-            Register::Dmacnt => self.processor_io(proc).channel(DmaPort::Control, number),
+            Register::Dmasad => self.processor(proc).channel(DmaPort::Source, number),
+            Register::Dmadad => self.processor(proc).channel(DmaPort::Target, number),
+            Register::Dmacnt => self.processor(proc).channel(DmaPort::Control, number),
             Register::Dmafill => self.fill[number as usize],
-            Register::TmcntL => self.processor_io(proc).reload(number),
-            Register::TmcntH => self.processor_io(proc).control(number),
-            Register::Keycnt => self.processor_io(proc).keycnt(),
+            Register::TmcntL => self.processor(proc).reload(number),
+            Register::TmcntH => self.processor(proc).control(number),
+            Register::Keycnt => self.processor(proc).keycnt(),
             Register::Ipcsync => self.ipc.sync_kept(proc) as u32,
             Register::Ipcfifocnt => self.ipc.control_kept(proc) as u32,
             Register::Romctrl => self.romctrl,
-            Register::Ime => self.processor_io(proc).ime(),
-            Register::Ie => self.processor_io(proc).ie(),
+            Register::Ime => self.processor(proc).ime(),
+            Register::Ie => self.processor(proc).ie(),
             Register::Wramcnt => self.wramcnt as u32,
             Register::Ipcfifosend | Register::If | Register::Haltcnt => 0,
             Register::Keyinput | Register::Extkeyin | Register::Ipcfiforecv => 0,

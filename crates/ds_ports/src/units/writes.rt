@@ -1,8 +1,9 @@
 //! What a write of each register does.
 
-ghost use Rattle.std.specs.Prelude.{◌≡◌, ◌<◌, ◌%◌, ◌^◌, true, Some};
+ghost use Rattle.std.specs.Prelude.{◌≡◌, ◌<◌, ◌%◌, ◌^◌, false, true, Some};
 ghost use Rattle.ds_base.specs.Bits.{bit};
 ghost use Rattle.ds_base.specs.Schedules.{IsEarly};
+ghost use Rattle.ds_ports.specs.Guards.{is_overfull};
 ghost use Rattle.ds_ports.specs.Inside.{is_of_unit, is_own};
 ghost use Rattle.ds_ports.specs.Registers.{bank_set, card_refusal, division_set, fifo_control_set, gx_set, halt_refusal, after_write, meaning_of, root_set, sync_set, with_word_of_two, word_sent};
 
@@ -138,12 +139,21 @@ impl Units {
         self.root.start(seen.wide, value, now);
     }
 
-    /// A write of one of geometry's, which ARM9 alone has, where there is room for what it may add.
+    /// Whether more entries wait for geometry than leave room for what a write of a processor's may add. ARM7's adds none.
+    #[inline(always)]
+    pub fn is_overfull(&self, proc: Proc) -> bool
+        ensures { result ≡ is_overfull proc self.now }
+    {
+        proc == Proc::Nine && self.gx.waiting() > 320
+    }
+
+    /// A write of one of geometry's, which ARM9 alone has.
     fn set_gx(&mut self, proc: Proc, now: Tick, number: u32, value: u32)
-        requires { IsEarly (Some now) }
+        requires early { IsEarly (Some now) }
+        requires room { is_overfull proc self.old ≡ false }
         ensures { self.new ≡ gx_set proc now self.old number value }
     {
-        if proc == Proc::Nine && self.gx.waiting() <= 320 {
+        if proc == Proc::Nine {
             self.gx.port_write(number, value, now);
         }
     }
@@ -183,6 +193,7 @@ impl Units {
     )
         requires number { number < (meaning_of register).count }
         requires early { IsEarly (Some now) }
+        requires room { is_overfull proc self.old ≡ false }
         ensures { self.new ≡ after_write proc now self.old register number value }
     {
         match register {
@@ -214,6 +225,7 @@ impl Units {
         requires number { number < (meaning_of register).count }
         requires of_unit { is_of_unit register ≡ true }
         requires early { IsEarly (Some now) }
+        requires room { is_overfull proc self.old ≡ false }
         ensures { self.new ≡ after_write proc now self.old register number value }
     {
         match register {
@@ -243,7 +255,7 @@ impl Units {
         ensures { result ≡ (meaning_of register).refusal proc self.now number value }
     {
         match register {
-            Register::Dmacnt => self.processor_io(proc).control_refusal(number, value),
+            Register::Dmacnt => self.processor(proc).control_refusal(number, value),
             Register::Romctrl => card_refusal(value),
             Register::Haltcnt => halt_refusal(value % 0x100),
             _ => None,

@@ -203,7 +203,7 @@ impl Bench {
         requires { IsNumbered actor }
     {
         match self.io.io_due(actor) {
-            Some(due) if due.0 <= 1 << 56 && self.io.run_length() <= 1 << 56 => {
+            Some(due) if due.0 <= 1 << 56 && self.io.gx().run_length() <= 1 << 56 => {
                 self.io.event(actor);
                 DONE
             }
@@ -231,7 +231,7 @@ impl Bench {
     /// A swap, where one waits: whether one did, and how long the lists of the last one are.
     fn swap(&mut self) -> Seen {
         let waited = self.io.swap(Tick(self.now.into()));
-        let lists = self.io.lists();
+        let lists = self.io.gx().lists();
         (
             waited.into(),
             lists.vertices().len() as u64,
@@ -286,7 +286,7 @@ impl Bench {
         match channel_due(&self.io, proc, channel) {
             Some(due) if due.0 <= 1 << 56 => {
                 let unit = self.io.processor(proc).unit();
-                self.before = Some(self.io.move_channel(proc, due));
+                self.before = Some(self.io.move_channel(proc, due, 0));
                 (unit.from.into(), unit.to.into(), unit.width.bytes().into())
             }
             _ => NOTHING,

@@ -1,7 +1,8 @@
 //! A processor's DMA channels, by GBATEK's "DS DMA Transfers" and by the choices of this console.
 
 use crate::tests::dma_lines::Line::{
-    Boot, Due, Enable, Event, Idle, Last, Moves, MovesAll, NoLast, Reads, Refused, Unit, Write,
+    Boot, Due, Enable, Event, Idle, Last, LastIn, Moves, MovesAll, MovesIn, NoLast, Reads, Refused,
+    Unit, Write,
 };
 use crate::tests::dma_lines::try_lines;
 use Cause::{Card, Geometry, HBlank, VBlank};
@@ -321,6 +322,39 @@ fn a_channel_that_starts_at_once_or_does_not_repeat_ends_disabled(rt: HostRuntim
             Reads(0, Control, 0x0C00_0001),
             Event(VBlank, 40),
             Idle,
+        ],
+    );
+}
+
+#[test]
+fn the_next_unit_waits_for_the_waits_of_the_last_one(rt: HostRuntime) {
+    try_lines(
+        &rt,
+        Nine,
+        &[
+            Enable(0, FROM, TO, 0xC400_0002, 100),
+            Due(0, 104),
+            MovesIn(8, FROM, TO),
+            LastIn(104, 8),
+            Due(0, 116),
+            Moves(FROM + 4, TO + 4, 0x100),
+            LastIn(116, 0),
+            Boot,
+            // so does a channel of another number, and one that is triggered while they last
+            Enable(0, FROM, TO, 0x8400_0001, 100),
+            Enable(3, FROM, TO, 0x8400_0001, 100),
+            MovesIn(16, FROM, TO),
+            Due(3, 124),
+            Enable(1, FROM, TO, 0x8400_0001, 119),
+            Due(1, 124),
+            Boot,
+            // one that is triggered when they are over waits for its own 4 ticks alone
+            Enable(0, FROM, TO, 0x8400_0001, 100),
+            MovesIn(8, FROM, TO),
+            Enable(1, FROM, TO, 0x8400_0001, 112),
+            Due(1, 116),
+            Enable(0, FROM, TO, 0x8400_0001, 113),
+            Due(0, 117),
         ],
     );
 }

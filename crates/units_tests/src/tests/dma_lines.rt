@@ -28,19 +28,23 @@ pub enum Line {
     Unit(Width),
     /// The unit that is due is moved at its tick: where it is read, where it is written, and the bits of IF that it raises.
     Moves(u32, u32, u32),
+    /// The unit that is due is moved at its tick, with so many ticks of waits: where it is read, and where it is written.
+    MovesIn(u32, u32, u32),
     /// So many units are moved until none is due, which raise these bits of IF between them.
     MovesAll(u64, u32),
     /// Whether a channel waits for the geometry FIFO.
     Awaits(bool),
     /// The last unit was moved at this tick.
     Last(u64),
+    /// The last unit was moved at this tick, with so many ticks of waits.
+    LastIn(u64, u32),
     /// None was moved yet.
     NoLast,
 }
 
 use Line::{
-    Awaits, Boot, Due, Enable, Event, Idle, Last, Moves, MovesAll, NoLast, Reads, Refused, Unit,
-    Write,
+    Awaits, Boot, Due, Enable, Event, Idle, Last, LastIn, Moves, MovesAll, MovesIn, NoLast, Reads,
+    Refused, Unit, Write,
 };
 
 /// What a line shows: three numbers, as its kind has them.
@@ -97,12 +101,12 @@ fn bytes(dma: &Dma) -> Seen {
     }
 }
 
-/// Moves the unit that is due at its tick: where it is read and written, and the bits that it raises.
-fn moved(dma: &mut Dma) -> Seen {
+/// Moves the unit that is due at its tick, with so many ticks of waits, up to 16: where it is read and written, and the bits that it raises.
+fn moved(dma: &mut Dma, waits: u32) -> Seen {
     match dma.due() {
         Some(due) if due.tick.0 <= 1 << 56 => {
             let unit = dma.unit();
-            let raised = dma.finish(due.tick);
+            let raised = dma.finish(due.tick, waits.min(16));
             (unit.from.into(), unit.to.into(), raised.into())
         }
         _ => NOTHING,
@@ -113,7 +117,7 @@ fn moved(dma: &mut Dma) -> Seen {
 fn moves(dma: &mut Dma) -> Seen {
     let mut raised = 0;
     for done in 0..0x20_0001u32 {
-        let unit = moved(dma);
+        let unit = moved(dma, 0);
         if unit == NOTHING {
             return (done.into(), raised, 0);
         }
@@ -122,10 +126,10 @@ fn moves(dma: &mut Dma) -> Seen {
     (0x20_0001, raised, 0)
 }
 
-/// When the last unit was moved.
+/// When the last unit was moved, and how long it waited.
 fn last(dma: &Dma) -> Seen {
     match dma.last_unit() {
-        Some(tick) => (tick.0, 0, 0),
+        Some(last) => (last.tick.0, last.waits.into(), 0),
         None => NOTHING,
     }
 }
@@ -157,10 +161,12 @@ fn seen(dma: &mut Dma, proc: Proc, line: Line) -> (Seen, Seen) {
         Due(channel, tick) => (due(dma), (channel.into(), tick, 1)),
         Idle => (due(dma), (0, u64::MAX, 0)),
         Unit(width) => (bytes(dma), (width.bytes().into(), 0, 0)),
-        Moves(from, to, raised) => (moved(dma), (from.into(), to.into(), raised.into())),
+        Moves(from, to, raised) => (moved(dma, 0), (from.into(), to.into(), raised.into())),
+        MovesIn(waits, from, to) => (moved(dma, waits), (from.into(), to.into(), 0)),
         MovesAll(units, raised) => (moves(dma), (units, raised.into(), 0)),
         Awaits(wanted) => ((dma.awaits_geometry().into(), 0, 0), (wanted.into(), 0, 0)),
         Last(tick) => (last(dma), (tick, 0, 0)),
+        LastIn(tick, waits) => (last(dma), (tick, waits.into(), 0)),
         NoLast => (last(dma), NOTHING),
     }
 }

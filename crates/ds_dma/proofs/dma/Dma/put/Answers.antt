@@ -15,7 +15,7 @@ invariant_of-self c =
     let seen : DmaState = record { proc = old.proc; channels = map channel_seen old.channels; last = old.last } in
     let is = sym (map-set channel_seen old.channels which c.args.channel) in (
       subst (λ xs. IsDma (record { proc = old.proc; channels = xs; last = c.args.last })) is
-          (are_set seen which new c.args.last c.self.invariant.0 c.requires.which (subst (λ (s : DmaState). IsChannel s.proc which new) (sym c.self.view_is) c.requires.is)),
+          (are_set seen which new c.args.last c.self.invariant.0 c.requires.which (subst (λ (s : DmaState). IsChannel s.proc which new) (sym c.self.view_is) c.requires.is) c.requires.waits),
       subst (λ xs. HasEarlyTicks (record { proc = old.proc; channels = xs; last = c.args.last })) is
           (early_set seen which new c.args.last c.self.invariant.0.four c.self.invariant.1 c.requires.which c.requires.trigger c.requires.last),
     )

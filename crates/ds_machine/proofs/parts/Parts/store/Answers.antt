@@ -8,6 +8,6 @@ use Rattle.ds_machine.proofs.parts.Parts.store.Goals as goal
 
 pub returns : goal.returns
 returns c =
-    left_map c.args.proc (the_view c.self.inside) c.write.new.self c.write.new.io _
-    (unreached_by c.args.proc c.write.new.self c.self.inside.map c.write.ensures.wram c.write.ensures.palette c.write.ensures.oam) c.write.ensures.next
+    left_map c.args.proc (the_view c.self.inside) c.put.new.self c.put.new.io _
+    (unreached_by c.args.proc c.put.new.self c.self.inside.map c.put.ensures.wram c.put.ensures.palette c.put.ensures.oam) c.put.ensures.next
     ∙ ap (λ (s : MachineState). stored c.args.proc s c.args.at c.args.byte) c.self.view_is

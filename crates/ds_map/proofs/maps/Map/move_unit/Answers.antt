@@ -1,9 +1,11 @@
-use Rattle.std.proofs.Common.{ℕ, ◌≡◌, Option, IsSome, sym, ◌∙◌, ap, subst}
+use Rattle.std.proofs.Common.{ℕ, ◌≡◌, false, Option, IsSome, sym, ◌∙◌, ap, subst}
 use Rattle.ds_base.specs.declared.left_out.Stop.{Stop}
 use Rattle.ds_dma.specs.States.{dma_due}
 use Rattle.ds_map.specs.Accesses.{map_refusal, map_written}
+use Rattle.ds_map.specs.Guards.{is_guarded}
 use Rattle.ds_map.specs.Maps.{MapState, map_seen}
 use Rattle.ds_map.specs.Moves.{unit_refusal, unit_taken}
+use Rattle.ds_map.proofs.Guards.{unit_has_room}
 use Rattle.ds_map.proofs.TakenBack.{put_back_is, still_due}
 use Rattle.ds_ports.specs.Io.{IoState, channel_moved, channel_put_back, io_of}
 use Rattle.ds_ports.specs.ProcessorIo.{BeforeMove, before_move}
@@ -16,6 +18,17 @@ move_channel-before-requires-clause-due c =
     subst (λ (x : MapState). IsSome (dma_due (io_of x.io c.args.proc).dma)) (sym c.read-value.ensures.next)
     (still_due c.args.proc m c.args.unit.from c.args.unit.width c.requires.due)
 
+-- there is still room for its write
+pub put-stop-requires-clause-room : goal.put-stop-requires-clause-room
+put-stop-requires-clause-room c =
+    let proc = c.args.proc in
+    let m = map_seen proc c.args.self.now c.args.io.now in
+    let taken : map_seen proc c.args.self.now c.move_channel-before.new.self ≡ unit_taken proc c.args.now c.args.unit m =
+    ap (λ (u : IoState). map_seen proc c.args.self.now u) c.move_channel-before.ensures.state
+    ∙ ap (λ (x : MapState). (let moved : MapState = record x { io = channel_moved proc c.args.now 0 x.io } in moved)) c.read-value.ensures.next in
+    subst (λ (x : MapState). is_guarded proc x c.args.unit.to ≡ false) (sym taken)
+    (unit_has_room proc c.args.now c.args.unit m c.args.unit.to c.requires.room)
+
 -- where the write is refused all is as it was after the read
 pub returns-then-is_some-clause-map : goal.returns-then-is_some-clause-map
 returns-then-is_some-clause-map c =
@@ -24,17 +37,17 @@ returns-then-is_some-clause-map c =
     let m = map_seen proc c.args.self.now c.args.io.now in
     let all = unit_taken proc c.args.now unit m in
     let value = c.read-value.result in
-    let left = c.write-stop.new.io in
-    let memories = c.write-stop.new.self in
+    let left = c.put-stop.new.io in
+    let memories = c.put-stop.new.self in
     let taken : map_seen proc c.args.self.now c.move_channel-before.new.self ≡ all =
     ap (λ (u : IoState). map_seen proc c.args.self.now u) c.move_channel-before.ensures.state
-    ∙ ap (λ (x : MapState). (let moved : MapState = record x { io = channel_moved proc c.args.now x.io } in moved)) c.read-value.ensures.next in
-    let refused : c.write-stop.result ≡ unit_refusal proc c.args.now unit m =
-    c.write-stop.ensures.refusal
+    ∙ ap (λ (x : MapState). (let moved : MapState = record x { io = channel_moved proc c.args.now 0 x.io } in moved)) c.read-value.ensures.next in
+    let refused : c.put-stop.result ≡ unit_refusal proc c.args.now unit m =
+    c.put-stop.ensures.refusal
     ∙ ap (λ (x : MapState). map_refusal proc x unit.to unit.width value) taken
     ∙ ap (λ (n : ℕ). map_refusal proc all unit.to unit.width n) c.read-value.ensures.value in
     let written =
-    c.write-stop.ensures.next
+    c.put-stop.ensures.next
     ∙ ap (λ (x : MapState). map_written proc c.args.now x unit.to unit.width value) taken
     ∙ ap (λ (n : ℕ). map_written proc c.args.now all unit.to unit.width n) c.read-value.ensures.value in
     let some = subst (λ (stop : Option Stop). IsSome stop) refused (sym c.is_some.ensures ∙ c.if-is_some.true) in

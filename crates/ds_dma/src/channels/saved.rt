@@ -1,0 +1,90 @@
+//! One channel in bytes.
+
+ghost use Rattle.std.specs.Prelude.{◌≡◌, ◌<◌, ◌≤◌, Some, IfOk, OnOk};
+ghost use Rattle.ds_base.specs.Schedules.{IsEarly};
+ghost use Rattle.ds_dma.specs.Channels.{IsChannel, is_running};
+ghost use Rattle.ds_dma.specs.ChannelsKept.{channel_seen};
+ghost use Rattle.ds_dma.specs.Saved.{burst_left, channel_format, runs_by, units_left};
+ghost use Rattle.ds_state.specs.Formats.{bytes_written};
+ghost use Rattle.ds_state.specs.Reading.{GivesRead, read_format};
+
+use crate::channels::{ADDRESS, Channel, runs};
+use crate::controls;
+use ds_base::{Proc, Tick};
+use ds_state::{Packer, Unpacked, Unpacker, holds};
+use std::alloc::AllocError;
+
+/// Puts a channel.
+#[tactic(auto, unfolding(crate::specs::Saved::channel_format))]
+pub fn put(into: &mut Packer, proc: Proc, which: u8, channel: Channel) -> Result<(), AllocError>
+    ensures { OnOk result (into.new ≡ bytes_written (channel_format proc which) into.old (channel_seen channel)) }
+{
+    into.put_u32(channel.sad)?;
+    into.put_u32(channel.dad)?;
+    into.put_u32(channel.cnt)?;
+    into.put_u32(channel.from)?;
+    into.put_u32(channel.to)?;
+    into.put_u32(channel.remaining)?;
+    into.put_u32(channel.burst)?;
+    into.put_flag(runs(channel))?;
+    let trigger = match channel.trigger {
+        Some(trigger) => trigger.0,
+        None => 0,
+    };
+    into.put_u64(trigger)?;
+    Ok(())
+}
+
+/// Takes a channel.
+#[tactic(auto, unfolding(crate::specs::Saved::channel_format))]
+pub fn take(from: &mut Unpacker, at: Tick, proc: Proc, which: u8) -> Result<Channel, Unpacked>
+    requires { IsEarly (Some at) }
+    ensures reads { GivesRead channel_seen result from.new (read_format (channel_format proc which) at.0 from.old) }
+    ensures is { IfOk result (λ channel. IsChannel proc which (channel_seen channel)) }
+    ensures early { IfOk result (λ channel. IsEarly channel.trigger) }
+{
+    let sad = from.take_kept_word(ADDRESS)?;
+    let dad = from.take_kept_word(ADDRESS)?;
+    let cnt = from.take_kept_word(controls::mask(proc, which))?;
+    let enabled = controls::enabled(cnt);
+    let source = from.take_used_word(enabled)?;
+    let target = from.take_used_word(enabled)?;
+    let offset = from.place();
+    let remaining = from.take_u32()?;
+    holds(has_units(proc, which, enabled, remaining), offset)?;
+    let offset = from.place();
+    let burst = from.take_u32()?;
+    holds(has_burst(enabled, remaining, burst), offset)?;
+    let offset = from.place();
+    let running = from.take_flag()?;
+    holds(if running { enabled } else { burst == 0 }, offset)?;
+    let trigger = from.take_earlier(running, at.0)?;
+    Ok(Channel {
+        sad,
+        dad,
+        cnt,
+        from: source,
+        to: target,
+        remaining,
+        trigger: if running { Some(Tick(trigger)) } else { None },
+        burst,
+    })
+}
+
+/// Whether a channel may have so many units left.
+fn has_units(proc: Proc, which: u8, enabled: bool, units: u32) -> bool
+    ensures { result ≡ units_left proc which enabled 0 units }
+{
+    if enabled {
+        1 <= units && units <= controls::greatest(proc, which) + 1
+    } else {
+        units == 0
+    }
+}
+
+/// Whether it may have so many left in a burst.
+fn has_burst(enabled: bool, units: u32, burst: u32) -> bool
+    ensures { result ≡ burst_left enabled units 0 burst }
+{
+    !enabled || (burst <= units && burst <= 112)
+}

@@ -1,0 +1,129 @@
+use Rattle.std.proofs.Common.{ℕ, ◌≡◌, ◌≤◌, nat_lt, if◌then◌else◌, Bool, true, false, List, [], ◌∷◌, Option, Some, None, refl, ◌∙◌, ap, arith}
+use Rattle.std.proofs.lemmas.Bool.{or_parts}
+use Rattle.ds_base.specs.Accesses.{Access, Fetch, Performed, Read, Write, perform, refused_or, with_value}
+use Rattle.ds_base.specs.declared.left_out.Stop.{Stop}
+use Rattle.ds_base.specs.declared.memories.Width.{Width}
+use Rattle.ds_base.specs.declared.processors.Arch.TheVariants.{V5}
+use Rattle.ds_base.specs.declared.processors.Proc.{Proc}
+use Rattle.ds_base.specs.declared.processors.Proc.TheVariants.{Nine, Seven}
+use Rattle.ds_base.specs.declared.ticks.Tick.{Tick}
+use Rattle.arm_words.specs.Parts.{condition_of}
+use Rattle.arm_words.specs.declared.instructions.Instr.{Instr}
+use Rattle.arm_core.specs.Conditions.{holds}
+use Rattle.arm_core.specs.Effects.{Meaning, carried_out, concluded}
+use Rattle.arm_core.specs.Exceptions.{undefined_meaning}
+use Rattle.arm_core.specs.Meanings.{meaning, skipped}
+use Rattle.arm_core.specs.Registers.{RegisterState}
+use Rattle.arm_core.specs.Steps.{executed_unless, executed_word, stop_of}
+use Rattle.arm_ops.specs.Meanings.{RefusesNoneInRam, operation_meaning}
+use Rattle.arm_ops.specs.declared.operations.Operation.{Operation}
+use Rattle.arm9_exec.specs.Arm9.{arm9}
+use Rattle.cp15_tcm.specs.TightlyCoupled.{tcm_of}
+use Rattle.cp15_tcm.specs.declared.answers.Tcm.{Tcm}
+use Rattle.cp15_tcm.specs.declared.answers.Tcm.TheVariants.{Itcm, Dtcm, Past}
+use Rattle.ds_dma.specs.States.{channel_due}
+use Rattle.ds_map.specs.Accesses.{map_refusal}
+use Rattle.ds_map.specs.Guards.{guarded_memory, is_guarded, tcm_guarded_refusal}
+use Rattle.ds_map.specs.Maps.{MapState}
+use Rattle.ds_map.specs.Views.{NineReach, nine_memory, tcm_refusal}
+use Rattle.ds_map.proofs.Guards.{nine_refusal, nine_written, room_meets_none}
+use Rattle.ds_ports.specs.Dues.{io_due}
+use Rattle.ds_ports.specs.Guards.{is_overfull}
+use Rattle.ds_ports.specs.Io.{IoState}
+use Rattle.ds_ports.specs.ProcessorIo.{blocks_processor}
+use Rattle.ds_runs.specs.declared.actors.Actor.TheVariants.{Dma, Processor}
+use Rattle.gx_fifo.specs.GxStates.{is_stalled, waiting_entries}
+use Rattle.ds_machine.specs.GuardedSteps.{IsFree, IsFreeFor}
+use Rattle.ds_machine.specs.Reference.{due_by}
+use Rattle.ds_machine.specs.Rooms.{FindsRoom, HasRoom}
+use Rattle.ds_machine.specs.Sound.{HasSoundParts}
+use Rattle.ds_machine.specs.States.{MachineState}
+use Rattle.ds_machine.specs.Steps.{is_blocked, processor_of}
+use Rattle.ds_machine.proofs.DueTicks.{due_then}
+use Rattle.ds_machine.proofs.FewAccesses.{operations_are_short}
+use Rattle.ds_machine.proofs.RamAccesses.{nine_refuses_none}
+use Rattle.ds_machine.proofs.Rooms.{due_unstalled, few_have_room, instructions_find_room}
+
+-- ARM9's bus, which ignores a write for want of room, is as the reference has it wherever accesses find room: and so they do in the machine.
+
+-- ---- accesses
+
+is_within : (n : ℕ) → n ≤ 320 → nat_lt 320 n ≡ false
+is_within n h = grind (arith, h)
+
+open_at : (m : MapState) (at : ℕ) → HasRoom m → is_guarded Nine m at ≡ false
+open_at m at h = room_meets_none Nine m at (is_within (waiting_entries m.io.gx) h)
+
+same_performed : (accesses : List Access) (r : NineReach) → FindsRoom accesses r → perform guarded_memory r accesses ≡ perform nine_memory r accesses
+same_performed [] r h = refl
+same_performed (Fetch at width ∷ rest) r h = ap (with_value (nine_memory.fetch_value r at width)) (same_performed rest r h.1)
+same_performed (Read at width ∷ rest) r h =
+    ap (with_value (nine_memory.read_value r at width)) (same_performed rest (nine_memory.read_next r at width) h.1)
+same_performed (Write at width value ∷ rest) r h =
+    let next : NineReach = nine_memory.write_next r at width value in
+    let open : is_guarded Nine r.map at ≡ false = open_at r.map at h.0 in
+    let left : NineReach → Performed NineReach = λ x. refused_or (guarded_memory.refusal r at width value) x (perform guarded_memory x rest) in
+    ap left (nine_written r at width value open)
+    ∙ ap (λ (stop : Option Stop). refused_or stop next (perform guarded_memory next rest)) (nine_refusal r at width value open)
+    ∙ ap (refused_or (nine_memory.refusal r at width value) next) (same_performed rest next h.1)
+
+-- ---- what is executed
+
+module _ (s : RegisterState) (r : NineReach) where
+  same_carried : (m : Meaning) → FindsRoom m.accesses r → carried_out guarded_memory V5 s r m ≡ carried_out nine_memory V5 s r m
+  same_carried m h = ap (λ (done : Performed NineReach). concluded V5 s m done done.stop) (same_performed m.accesses r h)
+
+  same_skipped : (base : ℕ) (b : Bool)
+      → carried_out guarded_memory V5 s r (if b then undefined_meaning base s else skipped s)
+      ≡ carried_out nine_memory V5 s r (if b then undefined_meaning base s else skipped s)
+  same_skipped base true = refl
+  same_skipped base false = refl
+
+  same_unless : (instr : Instr) (stop : Option Stop) → IsFree r.map.io.gx
+      → executed_unless guarded_memory (arm9 r.cp15) s r instr stop ≡ executed_unless nine_memory (arm9 r.cp15) s r instr stop
+  same_unless instr None free =
+      let base = (arm9 r.cp15).base in
+      same_carried (meaning V5 base s instr) (instructions_find_room V5 base s instr r free.waiting free.unstalled)
+  same_unless instr (Some stop) free = refl
+
+  pub same_executed : (number : ℕ) (instr : Option Instr) → IsFree r.map.io.gx
+      → executed_word guarded_memory (arm9 r.cp15) s r number instr ≡ executed_word nine_memory (arm9 r.cp15) s r number instr
+  same_executed number None free = same_skipped (arm9 r.cp15).base (holds (condition_of number) s.cpsr)
+  same_executed number (Some instr) free = same_unless instr (stop_of (arm9 r.cp15) s instr) free
+
+  pub same_operation : (operation : Operation) → IsFree r.map.io.gx
+      → carried_out guarded_memory V5 s r (operation_meaning V5 s operation) ≡ carried_out nine_memory V5 s r (operation_meaning V5 s operation)
+  same_operation operation free =
+      let m = operation_meaning V5 s operation in
+      same_carried m (few_have_room m.accesses r (operations_are_short V5 s operation) free.waiting free.unstalled).0
+
+-- it refuses no write of RAM either
+either_none : (b : Bool) (stop : Option Stop) → stop ≡ None → (let none : Option Stop = None in if b then none else stop) ≡ None
+either_none true stop h = refl
+either_none false stop h = h
+
+guarded_refuses : (t : Tcm) (r : NineReach) (at : ℕ) (width : Width) (value : ℕ) → tcm_refusal t r at width value ≡ None → tcm_guarded_refusal t r at width value ≡ None
+guarded_refuses (Itcm place) r at width value h = h
+guarded_refuses (Dtcm place) r at width value h = h
+guarded_refuses Past r at width value h = either_none (is_guarded Nine r.map at) (map_refusal Nine r.map at width value) h
+
+pub guarded_refuses_none : RefusesNoneInRam guarded_memory
+guarded_refuses_none r at width value ram = guarded_refuses (tcm_of r.cp15 at true false) r at width value (nine_refuses_none r at width value ram)
+
+-- ---- in the machine: ARM9 isn't blocked at its step, and what waits is as it can be
+
+pub free_for : (proc : Proc) (s : MachineState) → HasSoundParts s → is_blocked s proc ≡ false → IsFreeFor proc s
+free_for Nine s sound free = record { waiting = sound.io.gx; unstalled = (or_parts (blocks_processor s.io.nine) (is_stalled s.io.gx) free).1 }
+free_for Seven s sound free = tt
+
+pub free_then : (proc : Proc) (tick : Tick) (s : MachineState) → HasSoundParts s → due_by (Processor proc) s ≡ Some tick → IsFreeFor proc s
+free_then proc tick s sound due = free_for proc s sound (due_then (is_blocked s proc) (processor_of s proc) tick due).0
+
+-- nor does a stall hold a channel that is due
+is_less : (n : ℕ) → nat_lt 260 n ≡ false → nat_lt 320 n ≡ false
+is_less n h = grind (arith, h)
+
+pub channel_has_room : (proc : Proc) (channel : ℕ) (now : Tick) (u : IoState) → io_due (Dma proc channel) u ≡ Some now → is_overfull proc u ≡ false
+channel_has_room Nine channel now u due =
+    is_less (waiting_entries u.gx) (due_unstalled (is_stalled u.gx) u.released (channel_due u.nine.dma channel) now due)
+channel_has_room Seven channel now u due = refl

@@ -1,0 +1,10 @@
+use Rattle.std.proofs.Common.{sym, ◌∙◌, ap}
+use Rattle.ds_base.specs.declared.memories.Width.TheVariants.{Half}
+use Rattle.ds_ports.specs.Ports.{whole_in}
+use Rattle.ds_ports.proofs.Grows.{half_room}
+use Rattle.ds_ports.proofs.io.Io.write_half.Goals as goal
+
+pub returns-in-Some-clause-room : goal.returns-in-Some-clause-room
+returns-in-Some-clause-room c =
+    half_room c.args.proc c.args.now c.args.self.now c.write_part.new.self c.args.at c.args.value c.in-Some.slot
+    (ap (whole_in Half) (sym c.slot_of.ensures.value) ∙ sym c.in-Some.ensures.value) c.write_part.ensures c.requires.room

@@ -1,0 +1,267 @@
+use Rattle.std.proofs.Common.{rules, ℕ, ℤ, FitsSigned, zero, suc, ◌≡◌, ◌<◌, ◌≤◌, ◌^◌, true, nat_le, List, [], ◌∷◌, length, slice_index, slice_index_or, refl, arith}
+use Rattle.std.specs.Int.{w32}
+use Rattle.std.specs.List.{AllByRecursion}
+use Rattle.ds_state.specs.Formats.{signed_format, word_format}
+use Rattle.ds_state.specs.Laws.{IsExact, StandsFor}
+use Rattle.ds_state.proofs.Exact.{one_spelling, round_trips}
+use Rattle.gx_matrix.proofs.SavedLaws.{stacks_exact, stacks_stand}
+use Rattle.gx_geometry.specs.Numbers.{kind_of, no_light}
+use Rattle.gx_geometry.specs.declared.numbers.Kind.{Kind}
+use Rattle.gx_geometry.specs.declared.numbers.Kind.TheVariants.{Triangles, Quads, TriangleStrip, QuadStrip}
+use Rattle.gx_geometry.specs.declared.polygons.Vertex.{Vertex}
+use Rattle.gx_geometry.specs.declared.polygons.Polygon.{Polygon}
+use Rattle.gx_geometry.specs.Bounds.{is_place}
+use Rattle.gx_geometry.specs.Polygons.{most_vertices}
+use Rattle.gx_geometry.specs.Records.{LightState}
+use Rattle.gx_geometry.specs.States.{GeometryState, Swapped}
+use Rattle.gx_geometry.specs.Saved.{GeometryIsSaved, IsSavedGeometry, AreCurrent, AreLighting, AreTestResults, AreSavedLists, IsLight, IsPolygon, IsVertex, CurrentNumbers, LightingNumbers, TestResults, signed_at, holds_recent, vertex_format, polygon_format, current_format, light_format, lighting_format, results_format, lists_format, geometry_format, run_kind_number}
+
+-- What the geometry engine owes of its format.
+
+vertex_exact : (at : ℕ) → IsExact vertex_format at
+unfolding vertex_format
+vertex_exact at = λ x _ _ y _ _ z _ _ w _ _ colour _ _ s _ _ t _ _. search rules
+
+polygon_exact : (at : ℕ) → IsExact polygon_format at
+unfolding polygon_format
+polygon_exact at = λ attributes _ _ texture _ _ palette _ _ viewport _ _ corners _ _ first _ _ second _ _ third _ _ fourth _ _. search rules
+
+current_exact : (at : ℕ) → IsExact current_format at
+unfolding current_format
+current_exact at = λ colour _ _ x _ _ y _ _ z _ _ raw_s _ _ raw_t _ _ s _ _ t _ _ set _ _ attributes _ _ texture _ _ palette _ _ viewport _ _. search rules
+
+light_exact : (at : ℕ) → IsExact light_format at
+unfolding light_format
+light_exact at = λ x _ _ y _ _ z _ _ colour _ _. search rules
+
+signed_exact : (at : ℕ) → IsExact signed_format at
+signed_exact at = λ w _ _. (refl, tt)
+
+word_exact : (at : ℕ) → IsExact word_format at
+word_exact at = λ w _ _. (refl, tt)
+
+lighting_exact : (at : ℕ) → IsExact lighting_format at
+unfolding lighting_format
+lighting_exact at = λ diffuse _ _ ambient _ _ specular _ _ emission _ _ by_table _ _. (
+  word_exact at,
+  λ table long _. (
+    light_exact at,
+    λ first _. (
+      light_exact at,
+      λ second _. (
+        light_exact at,
+        λ third _. (
+          light_exact at,
+          λ fourth _.
+              search rules,
+        ),
+      ),
+    ),
+  ),
+)
+
+results_exact : (at : ℕ) → IsExact results_format at
+unfolding results_format
+results_exact at = (signed_exact at, λ position long _ a _ _ b _ _ c _ _ inside _ _. search rules)
+
+lists_exact : (at : ℕ) → IsExact lists_format at
+unfolding lists_format
+lists_exact at = λ tick _ _ parameter _ _ vertex_count _ _ polygon_count _ _.
+    (vertex_exact at, λ vertices long _. (polygon_exact at, λ polygons as_long _. search rules))
+
+number_of_kind : (n : ℕ) → n < 4 → run_kind_number (kind_of n) ≡ n
+number_of_kind zero h = refl
+number_of_kind (suc zero) h = refl
+number_of_kind (suc (suc zero)) h = refl
+number_of_kind (suc (suc (suc zero))) h = refl
+number_of_kind (suc (suc (suc (suc n)))) h = absurd (omega (arith, h))
+
+geometry_exact : (at : ℕ) → IsExact geometry_format at
+unfolding geometry_format
+geometry_exact at = (
+  stacks_exact at,
+  λ stacks _ overflow _ _ parameter _ _. (
+    current_exact at,
+    λ current _. (
+      lighting_exact at,
+      λ lighting _
+          kind _ small run _ _ first _ _ second _ _ third _ _. (
+            results_exact at,
+            λ results _ vertex_count _ _ polygon_count _ _. (
+              vertex_exact at,
+              λ vertices long _. (
+                polygon_exact at,
+                λ polygons as_long _. (
+                  lists_exact at,
+                  λ last _.
+                      let few : kind < 4 = grind (arith, small) in
+                      let number = number_of_kind kind few in
+                      search rules,
+                ),
+              ),
+            ),
+          ),
+    ),
+  ),
+)
+
+-- numbers that have their bounds stand for themselves
+
+vertex_stands : (at : ℕ) (v : Vertex) → IsVertex v → StandsFor vertex_format at v
+unfolding vertex_format
+vertex_stands at v is =
+    let x = is.x in let y = is.y in let z = is.z in let w = is.w in let colour = is.colour in let s = is.s in let t = is.t in
+    (search rules, refl)
+
+four_again : (xs : List ℕ) → length xs ≡ 4 → slice_index xs 0 ∷ slice_index xs 1 ∷ slice_index xs 2 ∷ slice_index xs 3 ∷ [] ≡ xs
+four_again [] h = absurd (omega (arith, h))
+four_again (a ∷ []) h = absurd (omega (arith, h))
+four_again (a ∷ b ∷ []) h = absurd (omega (arith, h))
+four_again (a ∷ b ∷ c ∷ []) h = absurd (omega (arith, h))
+four_again (a ∷ b ∷ c ∷ d ∷ []) h = refl
+four_again (a ∷ b ∷ c ∷ d ∷ e ∷ rest) h = absurd (omega (arith, h))
+
+three_again : (xs : List ℕ) → length xs ≡ 3 → slice_index xs 0 ∷ slice_index xs 1 ∷ slice_index xs 2 ∷ [] ≡ xs
+three_again [] h = absurd (omega (arith, h))
+three_again (a ∷ []) h = absurd (omega (arith, h))
+three_again (a ∷ b ∷ []) h = absurd (omega (arith, h))
+three_again (a ∷ b ∷ c ∷ []) h = refl
+three_again (a ∷ b ∷ c ∷ d ∷ rest) h = absurd (omega (arith, h))
+
+halves_again : (xs : List ℤ) → length xs ≡ 3 → signed_at xs 0 ∷ signed_at xs 1 ∷ signed_at xs 2 ∷ [] ≡ xs
+halves_again [] h = absurd (omega (arith, h))
+halves_again (a ∷ []) h = absurd (omega (arith, h))
+halves_again (a ∷ b ∷ []) h = absurd (omega (arith, h))
+halves_again (a ∷ b ∷ c ∷ []) h = refl
+halves_again (a ∷ b ∷ c ∷ d ∷ rest) h = absurd (omega (arith, h))
+
+lights_again : (xs : List LightState) → length xs ≡ 4 →
+    slice_index_or xs 0 no_light ∷ slice_index_or xs 1 no_light ∷ slice_index_or xs 2 no_light ∷ slice_index_or xs 3 no_light ∷ [] ≡ xs
+lights_again [] h = absurd (omega (arith, h))
+lights_again (a ∷ []) h = absurd (omega (arith, h))
+lights_again (a ∷ b ∷ []) h = absurd (omega (arith, h))
+lights_again (a ∷ b ∷ c ∷ []) h = absurd (omega (arith, h))
+lights_again (a ∷ b ∷ c ∷ d ∷ []) h = refl
+lights_again (a ∷ b ∷ c ∷ d ∷ e ∷ rest) h = absurd (omega (arith, h))
+
+polygon_stands : (at : ℕ) (p : Polygon) → IsPolygon p → StandsFor polygon_format at p
+unfolding polygon_format
+polygon_stands at p is =
+    let attributes = is.attributes in let texture = is.texture in let palette = is.palette in let viewport = is.viewport in
+    let corners = is.corners in let unused = is.unused in
+    let first = is.first in let second = is.second in let third = is.third in let fourth = is.fourth in
+    let few : p.corners < 256 = grind (arith, corners) in
+    let again = four_again p.indices is.four in
+    (search rules, rw again refl)
+
+vertices_stand : (at : ℕ) (vs : List Vertex) → AllByRecursion IsVertex vs → AllByRecursion (StandsFor vertex_format at) vs
+vertices_stand at [] h = tt
+vertices_stand at (v ∷ vs) h = (vertex_stands at v h.0, vertices_stand at vs h.1)
+
+polygons_stand : (at : ℕ) (ps : List Polygon) → AllByRecursion IsPolygon ps → AllByRecursion (StandsFor polygon_format at) ps
+polygons_stand at [] h = tt
+polygons_stand at (p ∷ ps) h = (polygon_stands at p h.0, polygons_stand at ps h.1)
+
+signed_stand : (at : ℕ) (ws : List ℤ) → AllByRecursion (λ x. FitsSigned w32 x) ws → AllByRecursion (StandsFor signed_format at) ws
+signed_stand at [] h = tt
+signed_stand at (w ∷ ws) h = (((h.0, refl, tt), refl), signed_stand at ws h.1)
+
+words_stand : (at : ℕ) (ws : List ℕ) → AllByRecursion (λ w. w < 2 ^ 32) ws → AllByRecursion (StandsFor word_format at) ws
+words_stand at [] h = tt
+words_stand at (w ∷ ws) h = (((h.0, refl, tt), refl), words_stand at ws h.1)
+
+current_stands : (at : ℕ) (n : CurrentNumbers) → AreCurrent n → StandsFor current_format at n
+unfolding current_format
+current_stands at n are =
+    let colour = are.colour in let x = are.x in let y = are.y in let z = are.z in let raw_s = are.raw_s in let raw_t = are.raw_t in
+    let s = are.s in let t = are.t in let set = are.set in let attributes = are.attributes in let texture = are.texture in
+    let palette = are.palette in let viewport = are.viewport in
+    (search rules, refl)
+
+light_stands : (at : ℕ) (l : LightState) → IsLight l → StandsFor light_format at l
+unfolding light_format
+light_stands at l is = let x = is.x in let y = is.y in let z = is.z in let colour = is.colour in (search rules, refl)
+
+lighting_stands : (at : ℕ) (n : LightingNumbers) → AreLighting n → StandsFor lighting_format at n
+unfolding lighting_format
+lighting_stands at n are =
+    let diffuse = are.diffuse in let ambient = are.ambient in let specular = are.specular in let emission = are.emission in
+    let words = are.words in
+    let table = words_stand at n.table are.table in
+    let first = light_stands at _ (are.lights 0 (omega arith)) in
+    let second = light_stands at _ (are.lights 1 (omega arith)) in
+    let third = light_stands at _ (are.lights 2 (omega arith)) in
+    let fourth = light_stands at _ (are.lights 3 (omega arith)) in
+    let again = lights_again n.lights are.four in
+    (search rules, rw again refl)
+
+results_stand : (at : ℕ) (r : TestResults) → AreTestResults r → StandsFor results_format at r
+unfolding results_format
+results_stand at r are =
+    let four = are.four in
+    let position = signed_stand at r.position are.position in
+    let a = are.a in let b = are.b in let c = are.c in
+    let again = halves_again r.vector are.three in
+    (search rules, rw again refl)
+
+lists_stand : (at : ℕ) (l : Swapped) → at ≤ 2 ^ 56 → AreSavedLists at l → StandsFor lists_format at l
+unfolding lists_format
+lists_stand at l early are =
+    let tick = are.tick in let parameter = are.parameter in let none = are.none in
+    let vertex_count = are.vertex_count in let polygon_count = are.polygon_count in
+    let few : length l.vertices < 2 ^ 32 = grind (arith, vertex_count) in
+    let as_few : length l.polygons < 2 ^ 32 = grind (arith, polygon_count) in
+    let vertices = vertices_stand at l.vertices are.vertices in
+    let polygons = polygons_stand at l.polygons are.polygons in
+    (search rules, refl)
+
+kind_again : (kind : Kind) → kind_of (run_kind_number kind) ≡ kind
+kind_again Triangles = refl
+kind_again Quads = refl
+kind_again TriangleStrip = refl
+kind_again QuadStrip = refl
+
+few_kinds : (kind : Kind) → run_kind_number kind < 4
+few_kinds Triangles = omega arith
+few_kinds Quads = omega arith
+few_kinds TriangleStrip = omega arith
+few_kinds QuadStrip = omega arith
+
+-- a place of the list, or none, is a half
+place_small : (long place : ℕ) → long ≤ most_vertices → is_place long place ≡ true → place < 2 ^ 16
+place_small long place few h = grind (arith, few, h)
+
+holds_all : (first second third at long : ℕ) → long ≤ most_vertices → is_place long first ≡ true → is_place long second ≡ true → is_place long third ≡ true
+    → holds_recent first second third at long ≡ true
+holds_all first second third at long few a b c =
+    let le : nat_le long most_vertices ≡ true = grind (arith, few) in rw (le, a, b, c) refl
+
+geometry_stands : (at : ℕ) (g : GeometryState) → at ≤ 2 ^ 56 → IsSavedGeometry at g → StandsFor geometry_format at g
+unfolding geometry_format
+geometry_stands at g early is =
+    let stacks = stacks_stand at g.numbers.stacks is.stacks in
+    let parameter = is.parameter in
+    let current = current_stands at _ is.current in
+    let lighting = lighting_stands at _ is.lighting in
+    let kinds = few_kinds g.numbers.kind in
+    let run = is.run in
+    let few = is.vertex_count in
+    let as_few = is.polygon_count in
+    let first = place_small _ _ few is.places.first in
+    let second = place_small _ _ few is.places.second in
+    let third = place_small _ _ few is.places.third in
+    let told_first = is.told.first in let told_second = is.told.second in let told_third = is.told.third in
+    let results = results_stand at _ is.results in
+    let holds = holds_all _ _ _ 0 _ few is.places.first is.places.second is.places.third in
+    let vertices = vertices_stand at g.outcome.vertices is.vertices in
+    let polygons = polygons_stand at g.outcome.polygons is.polygons in
+    let last = lists_stand at g.last early is.last in
+    let kind = kind_again g.numbers.kind in
+    let again = three_again g.outcome.recent is.places.three in
+    (search rules, rw (kind, again) refl)
+
+pub geometry_saved : GeometryIsSaved
+geometry_saved = record {
+  back = λ at g early is. round_trips geometry_format at g (geometry_stands at g early is);
+  spelling = λ at. one_spelling geometry_format at (geometry_exact at);
+}

@@ -1,0 +1,8 @@
+use Rattle.std.proofs.Common.{◌≡◌, drop}
+use Rattle.ds_state.specs.Formats.{bytes_written, written_each}
+use Rattle.gx_geometry.specs.Saved.{polygon_format}
+use Rattle.gx_geometry.proofs.lists.saved.put_polygons.Given as goal
+
+abbrev pub invariant-loop-polygon : goal.invariant-loop-polygon
+invariant-loop-polygon l =
+    written_each (bytes_written polygon_format) l.into (drop l.polygon-index l.polygons) ≡ written_each (bytes_written polygon_format) l.fn.into l.fn.polygons

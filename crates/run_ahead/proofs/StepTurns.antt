@@ -186,13 +186,13 @@ stops_now until limit turns m next stopped stop left same was is meets = (
 
 -- ---- a turn that is taken at once, whichever processor's it is: what the loop over its steps leaves of the console's fields
 
-pub record CameAtOnce (until : ℕ) (proc : Proc) (s : MachineState) (limit open turns : ℕ) (next : MachineState) (stop : Option LeftOut) (stopped : Bool)
+pub record CameAtOnce (until : ℕ) (proc : Proc) (s : MachineState) (limit open_now turns : ℕ) (next : MachineState) (stop : Option LeftOut) (stopped : Bool)
     (limit_after open_after turns_after : ℕ) : Type 0 where
   pub took : TookStretch until proc s stop next
   pub goes : stopped ≡ false → stop ≡ None
   pub stops : stopped ≡ true → (left : LeftOut) × (stop ≡ Some left)
   pub limit_same : limit_after ≡ limit
-  pub open_same : open_after ≡ open
+  pub open_same : open_after ≡ open_now
   pub turns_same : turns_after ≡ turns
 
 -- it is known at once, where the turn's limit isn't above the one that is kept

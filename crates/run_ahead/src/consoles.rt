@@ -148,8 +148,8 @@ impl Console {
         requires { until.0 ≤ 2 ^ 56 }
         ensures { IfSome result (IsAtOnce until.0 self.now) }
     {
-        let open = self.open_until;
-        if until.0 > open {
+        let most = self.open_until;
+        if until.0 > most {
             return None;
         }
         let Some(first) = self.machine.first(until) else {

@@ -43,55 +43,55 @@ take_stretch-stopped-in-Seven-requires-clause-limit c =
 pub overflow_add-self : goal.overflow_add-self
 overflow_add-self c =
     let came : CameAtOnce c.args.until.0 c.args.first.proc c.self.inside.machine c.self.inside.limit c.self.inside.open_until c.self.inside.turns
-        c.match-proc.self-inside.machine c.match-proc.self-inside.stopped c.match-proc.stopped
-        c.match-proc.self-inside.limit c.match-proc.self-inside.open_until c.match-proc.self-inside.turns =
-        elim c.match-proc.branch [
-          | in-Nine w ↦
-              rw (w.in-Nine.is, w.stopped-is, w.self-inside-is) (record {
-                took = w.take_stretch-stopped.ensures.took;
-                goes = w.take_stretch-stopped.ensures.goes;
-                stops = w.take_stretch-stopped.ensures.stops;
-                limit_same = refl;
-                open_same = refl;
-                turns_same = refl;
-              })
-          | in-Seven w ↦
-              rw (w.in-Seven.is, w.stopped-is, w.self-inside-is) (record {
-                took = w.take_stretch-stopped-in-Seven.ensures.took;
-                goes = w.take_stretch-stopped-in-Seven.ensures.goes;
-                stops = w.take_stretch-stopped-in-Seven.ensures.stops;
-                limit_same = refl;
-                open_same = refl;
-                turns_same = refl;
-              })
-        ] in
+    c.match-proc.self-inside.machine c.match-proc.self-inside.stopped c.match-proc.stopped
+    c.match-proc.self-inside.limit c.match-proc.self-inside.open_until c.match-proc.self-inside.turns =
+    elim c.match-proc.branch [
+      | in-Nine w ↦
+          rw (w.in-Nine.is, w.stopped-is, w.self-inside-is) (record {
+            took = w.take_stretch-stopped.ensures.took;
+            goes = w.take_stretch-stopped.ensures.goes;
+            stops = w.take_stretch-stopped.ensures.stops;
+            limit_same = refl;
+            open_same = refl;
+            turns_same = refl;
+          })
+      | in-Seven w ↦
+          rw (w.in-Seven.is, w.stopped-is, w.self-inside-is) (record {
+            took = w.take_stretch-stopped-in-Seven.ensures.took;
+            goes = w.take_stretch-stopped-in-Seven.ensures.goes;
+            stops = w.take_stretch-stopped-in-Seven.ensures.stops;
+            limit_same = refl;
+            open_same = refl;
+            turns_same = refl;
+          })
+    ] in
     rw came.turns_same (one_fits c.self.inside.turns c.self.inside.limit c.self.inside.machine c.self.invariant.0 c.self.invariant.1 c.self.invariant.4)
 
 pub invariant_of-self : goal.invariant_of-self
 invariant_of-self c =
     let came : CameAtOnce c.args.until.0 c.args.first.proc c.self.inside.machine c.self.inside.limit c.self.inside.open_until c.self.inside.turns
-        c.match-proc.self-inside.machine c.match-proc.self-inside.stopped c.match-proc.stopped
-        c.match-proc.self-inside.limit c.match-proc.self-inside.open_until c.match-proc.self-inside.turns =
-        elim c.match-proc.branch [
-          | in-Nine w ↦
-              rw (w.in-Nine.is, w.stopped-is, w.self-inside-is) (record {
-                took = w.take_stretch-stopped.ensures.took;
-                goes = w.take_stretch-stopped.ensures.goes;
-                stops = w.take_stretch-stopped.ensures.stops;
-                limit_same = refl;
-                open_same = refl;
-                turns_same = refl;
-              })
-          | in-Seven w ↦
-              rw (w.in-Seven.is, w.stopped-is, w.self-inside-is) (record {
-                took = w.take_stretch-stopped-in-Seven.ensures.took;
-                goes = w.take_stretch-stopped-in-Seven.ensures.goes;
-                stops = w.take_stretch-stopped-in-Seven.ensures.stops;
-                limit_same = refl;
-                open_same = refl;
-                turns_same = refl;
-              })
-        ] in
+    c.match-proc.self-inside.machine c.match-proc.self-inside.stopped c.match-proc.stopped
+    c.match-proc.self-inside.limit c.match-proc.self-inside.open_until c.match-proc.self-inside.turns =
+    elim c.match-proc.branch [
+      | in-Nine w ↦
+          rw (w.in-Nine.is, w.stopped-is, w.self-inside-is) (record {
+            took = w.take_stretch-stopped.ensures.took;
+            goes = w.take_stretch-stopped.ensures.goes;
+            stops = w.take_stretch-stopped.ensures.stops;
+            limit_same = refl;
+            open_same = refl;
+            turns_same = refl;
+          })
+      | in-Seven w ↦
+          rw (w.in-Seven.is, w.stopped-is, w.self-inside-is) (record {
+            took = w.take_stretch-stopped-in-Seven.ensures.took;
+            goes = w.take_stretch-stopped-in-Seven.ensures.goes;
+            stops = w.take_stretch-stopped-in-Seven.ensures.stops;
+            limit_same = refl;
+            open_same = refl;
+            turns_same = refl;
+          })
+    ] in
     let m = c.self.inside.machine in
     let next = c.match-proc.self-inside.machine in
     let until = c.args.until.0 in
@@ -119,28 +119,28 @@ invariant_of-self c =
 pub invariant_of-self-2 : goal.invariant_of-self-2
 invariant_of-self-2 c =
     let came : CameAtOnce c.args.until.0 c.args.first.proc c.self.inside.machine c.self.inside.limit c.self.inside.open_until c.self.inside.turns
-        c.match-proc.self-inside.machine c.match-proc.self-inside.stopped c.match-proc.stopped
-        c.match-proc.self-inside.limit c.match-proc.self-inside.open_until c.match-proc.self-inside.turns =
-        elim c.match-proc.branch [
-          | in-Nine w ↦
-              rw (w.in-Nine.is, w.stopped-is, w.self-inside-is) (record {
-                took = w.take_stretch-stopped.ensures.took;
-                goes = w.take_stretch-stopped.ensures.goes;
-                stops = w.take_stretch-stopped.ensures.stops;
-                limit_same = refl;
-                open_same = refl;
-                turns_same = refl;
-              })
-          | in-Seven w ↦
-              rw (w.in-Seven.is, w.stopped-is, w.self-inside-is) (record {
-                took = w.take_stretch-stopped-in-Seven.ensures.took;
-                goes = w.take_stretch-stopped-in-Seven.ensures.goes;
-                stops = w.take_stretch-stopped-in-Seven.ensures.stops;
-                limit_same = refl;
-                open_same = refl;
-                turns_same = refl;
-              })
-        ] in
+    c.match-proc.self-inside.machine c.match-proc.self-inside.stopped c.match-proc.stopped
+    c.match-proc.self-inside.limit c.match-proc.self-inside.open_until c.match-proc.self-inside.turns =
+    elim c.match-proc.branch [
+      | in-Nine w ↦
+          rw (w.in-Nine.is, w.stopped-is, w.self-inside-is) (record {
+            took = w.take_stretch-stopped.ensures.took;
+            goes = w.take_stretch-stopped.ensures.goes;
+            stops = w.take_stretch-stopped.ensures.stops;
+            limit_same = refl;
+            open_same = refl;
+            turns_same = refl;
+          })
+      | in-Seven w ↦
+          rw (w.in-Seven.is, w.stopped-is, w.self-inside-is) (record {
+            took = w.take_stretch-stopped-in-Seven.ensures.took;
+            goes = w.take_stretch-stopped-in-Seven.ensures.goes;
+            stops = w.take_stretch-stopped-in-Seven.ensures.stops;
+            limit_same = refl;
+            open_same = refl;
+            turns_same = refl;
+          })
+    ] in
     let m = c.self.inside.machine in
     let next = c.match-proc.self-inside.machine in
     let until = c.args.until.0 in
@@ -170,28 +170,28 @@ invariant_of-self-2 c =
 pub returns-then-stopped-clause-stopped : goal.returns-then-stopped-clause-stopped
 returns-then-stopped-clause-stopped c = λ is.
     (let came : CameAtOnce c.args.until.0 c.args.first.proc c.self.inside.machine c.self.inside.limit c.self.inside.open_until c.self.inside.turns
-        c.match-proc.self-inside.machine c.match-proc.self-inside.stopped c.match-proc.stopped
-        c.match-proc.self-inside.limit c.match-proc.self-inside.open_until c.match-proc.self-inside.turns =
-        elim c.match-proc.branch [
-          | in-Nine w ↦
-              rw (w.in-Nine.is, w.stopped-is, w.self-inside-is) (record {
-                took = w.take_stretch-stopped.ensures.took;
-                goes = w.take_stretch-stopped.ensures.goes;
-                stops = w.take_stretch-stopped.ensures.stops;
-                limit_same = refl;
-                open_same = refl;
-                turns_same = refl;
-              })
-          | in-Seven w ↦
-              rw (w.in-Seven.is, w.stopped-is, w.self-inside-is) (record {
-                took = w.take_stretch-stopped-in-Seven.ensures.took;
-                goes = w.take_stretch-stopped-in-Seven.ensures.goes;
-                stops = w.take_stretch-stopped-in-Seven.ensures.stops;
-                limit_same = refl;
-                open_same = refl;
-                turns_same = refl;
-              })
-        ] in
+    c.match-proc.self-inside.machine c.match-proc.self-inside.stopped c.match-proc.stopped
+    c.match-proc.self-inside.limit c.match-proc.self-inside.open_until c.match-proc.self-inside.turns =
+    elim c.match-proc.branch [
+      | in-Nine w ↦
+          rw (w.in-Nine.is, w.stopped-is, w.self-inside-is) (record {
+            took = w.take_stretch-stopped.ensures.took;
+            goes = w.take_stretch-stopped.ensures.goes;
+            stops = w.take_stretch-stopped.ensures.stops;
+            limit_same = refl;
+            open_same = refl;
+            turns_same = refl;
+          })
+      | in-Seven w ↦
+          rw (w.in-Seven.is, w.stopped-is, w.self-inside-is) (record {
+            took = w.take_stretch-stopped-in-Seven.ensures.took;
+            goes = w.take_stretch-stopped-in-Seven.ensures.goes;
+            stops = w.take_stretch-stopped-in-Seven.ensures.stops;
+            limit_same = refl;
+            open_same = refl;
+            turns_same = refl;
+          })
+    ] in
     let m = c.self.inside.machine in
     let next = c.match-proc.self-inside.machine in
     let until = c.args.until.0 in
@@ -204,8 +204,7 @@ returns-then-stopped-clause-stopped c = λ is.
     let turns = came.turns_same in
     let stop = came.stops c.if-stopped.true in
     let took = subst (λ (o : Option LeftOut). TookStretch until proc m o next) stop.1 came.took in
-    let turn = is_stop until proc m next stop.0 first took in
-    (
+    let turn = is_stop until proc m next stop.0 first took in (
       stop.0,
       stop.1,
       subst (λ (x : ConsoleState). StopsNow until stop.0 x (record {
@@ -221,28 +220,28 @@ returns-then-stopped-clause-stopped c = λ is.
 pub returns-clause-ran : goal.returns-clause-ran
 returns-clause-ran c = λ ran.
     (let came : CameAtOnce c.args.until.0 c.args.first.proc c.self.inside.machine c.self.inside.limit c.self.inside.open_until c.self.inside.turns
-        c.match-proc.self-inside.machine c.match-proc.self-inside.stopped c.match-proc.stopped
-        c.match-proc.self-inside.limit c.match-proc.self-inside.open_until c.match-proc.self-inside.turns =
-        elim c.match-proc.branch [
-          | in-Nine w ↦
-              rw (w.in-Nine.is, w.stopped-is, w.self-inside-is) (record {
-                took = w.take_stretch-stopped.ensures.took;
-                goes = w.take_stretch-stopped.ensures.goes;
-                stops = w.take_stretch-stopped.ensures.stops;
-                limit_same = refl;
-                open_same = refl;
-                turns_same = refl;
-              })
-          | in-Seven w ↦
-              rw (w.in-Seven.is, w.stopped-is, w.self-inside-is) (record {
-                took = w.take_stretch-stopped-in-Seven.ensures.took;
-                goes = w.take_stretch-stopped-in-Seven.ensures.goes;
-                stops = w.take_stretch-stopped-in-Seven.ensures.stops;
-                limit_same = refl;
-                open_same = refl;
-                turns_same = refl;
-              })
-        ] in
+    c.match-proc.self-inside.machine c.match-proc.self-inside.stopped c.match-proc.stopped
+    c.match-proc.self-inside.limit c.match-proc.self-inside.open_until c.match-proc.self-inside.turns =
+    elim c.match-proc.branch [
+      | in-Nine w ↦
+          rw (w.in-Nine.is, w.stopped-is, w.self-inside-is) (record {
+            took = w.take_stretch-stopped.ensures.took;
+            goes = w.take_stretch-stopped.ensures.goes;
+            stops = w.take_stretch-stopped.ensures.stops;
+            limit_same = refl;
+            open_same = refl;
+            turns_same = refl;
+          })
+      | in-Seven w ↦
+          rw (w.in-Seven.is, w.stopped-is, w.self-inside-is) (record {
+            took = w.take_stretch-stopped-in-Seven.ensures.took;
+            goes = w.take_stretch-stopped-in-Seven.ensures.goes;
+            stops = w.take_stretch-stopped-in-Seven.ensures.stops;
+            limit_same = refl;
+            open_same = refl;
+            turns_same = refl;
+          })
+    ] in
     let m = c.self.inside.machine in
     let next = c.match-proc.self-inside.machine in
     let until = c.args.until.0 in

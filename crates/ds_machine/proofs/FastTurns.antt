@@ -41,10 +41,10 @@ module _ (next_event : NextEvent) (s : MachineState) (proc : Proc) (until limit 
 
   -- from it on no step belongs to the turn but one that may be taken before its turn
   pub over_past : limit ≤ n → (n < until → IsAhead s proc → ⊥) → BelongsToTurn until s proc → ⊥
-  over_past le no b =
+  over_past le behind b =
       let lt = below_when next_event s proc until n goes.kept waits b in
       leaves_when next_event s proc n until goes.kept goes.some waits (omega (arith, lt, early))
-      (past_limit next_event s proc until n limit waits goes.least le lt early) (no lt) b
+      (past_limit next_event s proc until n limit waits goes.least le lt early) (behind lt) b
 
   pub over_at_end : until ≤ n → BelongsToTurn until s proc → ⊥
   over_at_end le b = over_when next_event s proc until n goes.kept waits le b
@@ -66,10 +66,10 @@ module _ (next_event : NextEvent) (s : MachineState) (proc : Proc) (until limit 
       let kept = reach_keeps next_event s m proc tick goes.kept machine io in
       let sound = subst IsIo (sym io) goes.running.sound.parts.io in
       let made = made_fast next_event s m next (rank_of proc) proc tick clocks sound kept goes.some (free_stays proc s m io d.free) d.own machine
-          (sym stepped) e in
+      (sym stepped) e in
       let units : next.io ≡ s.io = ap (λ (x : MachineState). x.io) e ∙ (put_beside proc m (went_on proc clocks false (processor_of m proc))).io ∙ io in
       let took = took_when next_event s next proc n until goes.running d lt early goes_now (near_apart s proc tick d.own near) made units
-          (other_stays proc tick s m next (went_on proc clocks false (processor_of m proc)) machine e) in
+      (other_stays proc tick s m next (went_on proc clocks false (processor_of m proc)) machine e) in
       (took, goes_after next took (cost_keeps next_event m next proc (went_on proc clocks false (processor_of m proc)) kept e))
 
 -- ---- a loop over them: the steps so far were of the turn, and the next goes by the same

@@ -160,5 +160,4 @@ impl Parts {
             Proc::Seven => self.map.fetch(&self.io, Proc::Seven, at, width),
         }
     }
-
 }

@@ -166,9 +166,6 @@ impl Parts {
     pub fn is_step_private(&self, proc: Proc) -> bool
         ensures { (result ≡ true) ↔ IsPrivate self.now proc }
     {
-        !self.is_blocked(proc)
-            && !self.line(proc)
-            && self.is_deaf(proc)
-            && self.stays_private(proc)
+        !self.is_blocked(proc) && !self.line(proc) && self.is_deaf(proc) && self.stays_private(proc)
     }
 }

@@ -9,11 +9,10 @@ use Rattle.ds_machine.proofs.GoingSteps.{statuses_taken}
 use Rattle.ds_machine.proofs.machines.Machine.go_fast.Goals as goal
 
 pub returns-then-next_event-eq0-clause-steps : goal.returns-then-next_event-eq0-clause-steps
-returns-then-next_event-eq0-clause-steps c = subst (TakesSteps c.args.until.0 c.args.proc c.args.self.now) (sym c.self.view_is) (no_steps c.args.self.now)
+returns-then-next_event-eq0-clause-steps c = no_steps c.args.self.now
 
 pub returns-then-next_event-eq0-clause-limit : goal.returns-then-next_event-eq0-clause-limit
-returns-then-next_event-eq0-clause-limit c =
-    subst (λ (m : MachineState). HasLimit c.args.until.0 m c.args.proc c.args.limit) (sym c.self.view_is) c.requires.limit
+returns-then-next_event-eq0-clause-limit c = c.requires.limit
 
 pub steps-init : goal.steps-init
 steps-init c =

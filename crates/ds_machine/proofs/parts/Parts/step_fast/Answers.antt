@@ -46,24 +46,24 @@ take_fast-fast-requires-clause-early c =
 pub take_fast-fast-requires-clause-line : goal.take_fast-fast-requires-clause-line
 take_fast-fast-requires-clause-line c = c.line.ensures ∙ line_is c.args.next_event c.args.self.now c.requires.goes.kept c.args.proc
 
-pub returns-then-fast-leaves : goal.returns-then-fast-leaves
-returns-then-fast-leaves c = (
+pub returns-then-fast : goal.returns-then-fast
+returns-then-fast c = (
   λ b.
       (let s = c.args.self.now in
       let proc = c.args.proc in
       let until = c.args.until.0 in
       let n = c.processor.result.now.due in
       let due = ap (λ (p : ProcessorState). p.due) c.processor.ensures in
-      let left = c.take_fast-fast.ensures.left c.if-fast-leaves.true in
+      let left = c.take_fast-fast.ensures.left c.if-fast.true in
       elim c.else-ahead.branch [
         | else-ahead-via-then-ahead+else-not-may_go_on x ↦
             (let past = x.if-ahead.true in
             over_past c.args.next_event s proc until c.args.limit n c.requires.goes due c.requires.early (omega (arith, past))
-            (λ lt ahead. c.take_fast-fast.ensures.leaves c.if-fast-leaves.true
+            (λ lt ahead. c.take_fast-fast.ensures.leaves c.if-fast.true
             (ahead_data s proc n (is_due c.args.next_event s proc until c.args.limit n c.requires.goes due c.requires.early lt) ahead)) b)
         | else-ahead-via-else-ahead x ↦ (let lt = x.if-ahead.false in let e = left.1 in absurd (grind (arith, lt, e)))
       ]),
-  c.take_fast-fast.ensures.none (c.take_fast-fast.ensures.left c.if-fast-leaves.true).0,
+  c.take_fast-fast.ensures.none (c.take_fast-fast.ensures.left c.if-fast.true).0,
 )
 
 pub go_on-requires-clause-early : goal.go_on-requires-clause-early
@@ -73,13 +73,13 @@ go_on-requires-clause-early c =
     let due = ap (λ (p : ProcessorState). p.due) c.processor.ensures in
     let some : 0 < c.take_fast-fast.result.clocks = (let more = c.if-fast-eq0.false in omega (arith, more)) in
     let low : n ≤ 2 ^ 56 =
-        elim c.else-ahead.branch [
-          | else-ahead-via-then-ahead+else-not-may_go_on x ↦ (let lt = (x.may_go_on.ensures.yes x.if-not-may_go_on.false).0 in omega (arith, lt, early))
-          | else-ahead-via-else-ahead x ↦
-              (let less = x.if-ahead.false in
-              let lt = below_turn c.args.next_event c.args.self.now c.args.proc c.args.until.0 c.args.limit n c.requires.goes due early (omega (arith, less)) in
-              omega (arith, lt, early))
-        ] in
+    elim c.else-ahead.branch [
+      | else-ahead-via-then-ahead+else-not-may_go_on x ↦ (let lt = (x.may_go_on.ensures.yes x.if-not-may_go_on.false).0 in omega (arith, lt, early))
+      | else-ahead-via-else-ahead x ↦
+          (let less = x.if-ahead.false in
+          let lt = below_turn c.args.next_event c.args.self.now c.args.proc c.args.until.0 c.args.limit n c.requires.goes due early (omega (arith, less)) in
+          omega (arith, lt, early))
+    ] in
     reached_early c.args.proc (record { 0 = n }) c.args.self.now c.take_fast-fast.new.self (c.take_fast-fast.ensures.machine some) (ap tick_of c.processor.ensures) low
 
 pub go_on-requires-clause-counted : goal.go_on-requires-clause-counted

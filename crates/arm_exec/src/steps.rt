@@ -14,7 +14,7 @@ ghost use Rattle.arm_core.specs.Steps.{enters, executed, executed_word, fetched,
 use crate::acts::{act, skip};
 use crate::exceptions::{interrupt, undefined};
 use arm_core::{Bus, Registers, Stepped, condition, equivalent, holds};
-use arm_words::{Instr, condition_of, decode_arm, decode_thumb};
+use arm_words::{Condition, Instr, condition_of, decode_arm, decode_thumb};
 use ds_base::{Arch, LeftKind, Stop, Width};
 
 /// The stop that a call of the boot ROM's function of a number needs, where it has none (GBATEK, "BIOS Functions"; our choice of those

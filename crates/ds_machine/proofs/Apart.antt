@@ -1,116 +1,105 @@
-use Rattle.std.proofs.Common.{ℕ, ◌≡◌, List, [], ◌∷◌, Option, Some, None, Result, Ok, Err, refl, ap}
-use Rattle.ds_base.specs.declared.keys.KeyLine.{KeyLine}
-use Rattle.ds_base.specs.declared.left_out.LeftOut.{LeftOut}
-use Rattle.ds_base.specs.declared.left_out.Stop.{Stop}
+use Rattle.std.proofs.Common.{ℕ, ◌≡◌, ◌≢◌, Bool, true, false, true≢false, List, [], ◌∷◌, refl, sym, ◌∙◌, ap}
+use Rattle.ds_base.specs.Deeds.{pick}
 use Rattle.ds_base.specs.declared.processors.Proc.TheVariants.{Nine, Seven}
-use Rattle.ds_base.specs.declared.ticks.Tick.{Tick}
-use Rattle.arm_core.specs.declared.outcomes.Stepped as arm
-use Rattle.arm_core.specs.declared.outcomes.Stepped.TheVariants.{Cost, Halted, Left}
-use Rattle.ds_map.specs.Moves.{next_unit, unit_moved, unit_refusal}
-use Rattle.ds_ports.specs.Dues.{io_due}
-use Rattle.ds_runs.specs.Runs.{MachineStep, Makes}
-use Rattle.ds_runs.specs.declared.actors.Actor.TheVariants.{KeyScript, Video, Geometry, Dma, Processor}
-use Rattle.ds_machine.specs.Apart.{DisplayLeavesNine, GeometryLeavesNine, LeaveNine, LeaveSeven, NinePart, step_with, with_nine_part, with_seven_part}
-use Rattle.ds_machine.specs.Channels.{channel_step, moved_by}
-use Rattle.ds_machine.specs.Reference.{Shown, after_line, video_step}
+use Rattle.ds_runs.specs.declared.actors.Actor as actor
+use Rattle.ds_runs.specs.declared.actors.Actor.TheVariants.{Video, Geometry, Dma, Processor}
+use Rattle.ds_machine.specs.Apart.{NinePart, with_nine_part, with_seven_part}
+use Rattle.ds_machine.specs.Hearing.{Fences}
+use Rattle.ds_machine.specs.Reference.{past_stall, step_by}
 use Rattle.ds_machine.specs.States.{MachineState, NineState, SevenState}
-use Rattle.video2d.specs.Videos.{video_answer}
-use Rattle.video2d.specs.declared.videos.Shown as display
 use Rattle.ds_machine.specs.Statuses.{left_by}
-use Rattle.ds_machine.specs.Steps.{machine_concluded, map_of, outcome_of, tick_of, with_map}
+use Rattle.ds_machine.specs.Touched.{Cp15, Dtcm, DueNine, DueSeven, Itcm, MachinePart, OamRam, OwnRam, PaletteRam, PartSet, RegistersNine, RegistersSeven, StepsNine, StepsSeven, machine_graft, step_with, untouched_by, with_nine_due}
+use Rattle.ds_machine.proofs.Touched.{comes_to_same, each_touches, geometry_delays}
 
--- An actor's step leaves the own part of a processor alone that it doesn't reach: by computing, once it is known which step it is.
+-- What follows from the table of a processor's own part: an actor whose rows have none of it neither changes it nor depends on it.
 
--- ---- ARM9's
+abbrev pub AreIn : PartSet → List MachinePart → Type 0
+AreIn P [] = Unit {0}
+AreIn P (part ∷ rest) = (P.rest part ≡ true) × AreIn P rest
 
-nine_line : (own : NinePart) (s : MachineState) (lines : List KeyLine) → after_line lines (with_nine_part own s) ≡ with_nine_part own (after_line lines s)
-nine_line own s [] = refl
-nine_line own s (line ∷ lines) = refl
+picked : {A : Type 0} (b : Bool) (x y : A) → b ≡ true → pick b x y ≡ x
+picked true x y h = refl
+picked false x y h = absurd (true≢false (sym h))
 
-nine_concluded : (rank : ℕ) (own : NinePart) (s : MachineState) (came : arm.Stepped)
-    → (let step : MachineStep MachineState Shown LeftOut = machine_concluded rank Seven (with_nine_part own s) came in step) ≡ step_with (with_nine_part own) (machine_concluded rank Seven s came)
-nine_concluded rank own s (Cost clocks) = refl
-nine_concluded rank own s (Halted clocks) = refl
-nine_concluded rank own s (Left stop) = refl
+abbrev pub parts_of_seven : List MachinePart
+parts_of_seven = RegistersSeven ∷ DueSeven ∷ StepsSeven ∷ OwnRam ∷ []
 
-nine_moved : (rank : ℕ) (now : Tick) (refused : Option Stop) (own : NinePart) (s : MachineState)
-    → (let step : MachineStep MachineState Shown LeftOut = moved_by rank Seven now refused (with_nine_part own s) in step) ≡ step_with (with_nine_part own) (moved_by rank Seven now refused s)
-nine_moved rank now None own s = refl
-nine_moved rank now (Some stop) own s = refl
+abbrev pub parts_of_nine : List MachinePart
+parts_of_nine = RegistersNine ∷ DueNine ∷ StepsNine ∷ Cp15 ∷ Itcm ∷ Dtcm ∷ []
 
-nine_channel : (rank : ℕ) (due : Option Tick) (own : NinePart) (s : MachineState)
-    → (let step : MachineStep MachineState Shown LeftOut = channel_step rank Seven due (with_nine_part own s) in step) ≡ step_with (with_nine_part own) (channel_step rank Seven due s)
-nine_channel rank None own s = refl
-nine_channel rank (Some now) own s =
-    let unit = next_unit s.io Seven in nine_moved rank now (unit_refusal Seven now unit (map_of Seven s)) own (with_map Seven s (unit_moved Seven now unit (map_of Seven s)))
+abbrev pub with_nine_state : NineState → MachineState → MachineState
+with_nine_state own m = record m { nine = own }
 
-pub leave_nine : LeaveNine
-leave_nine rank Video own s apart = absurd (apart refl)
-leave_nine rank Geometry own s apart = absurd (apart refl)
-leave_nine rank KeyScript own s apart = ap (λ (m : MachineState). (let step : MachineStep MachineState Shown LeftOut = Makes m [] in step)) (nine_line own s s.keys)
-leave_nine rank (Dma Nine channel) own s apart = absurd (apart refl)
-leave_nine rank (Dma Seven channel) own s apart = nine_channel rank (io_due (Dma Seven channel) s.io) own s
-leave_nine rank (Processor Nine) own s apart = absurd (apart refl)
-leave_nine rank (Processor Seven) own s apart =
-    let o = outcome_of Seven (tick_of s.seven.processor) s in nine_concluded rank own o.machine o.stepped
-leave_nine rank a own s apart = refl
+module _ (rank : ℕ) (a : actor.Actor) (s : MachineState) where
+  abbrev P : PartSet
+  P = untouched_by a s
 
--- ---- ARM7's
+  -- ARM7's
+  pub leave_seven : (own : SevenState) → AreIn P parts_of_seven → step_by rank a (with_seven_part own s) ≡ step_with (with_seven_part own) (step_by rank a s)
+  leave_seven own h = comes_to_same rank a s (with_seven_part own) (record { shared = refl; vram = refl }) goes where
+    goes : (left : MachineState) → machine_graft P (with_seven_part own s) left ≡ with_seven_part own (machine_graft P s left)
+    goes left = λ i. record (machine_graft P (with_seven_part own s) left) {
+      seven = record {
+        processor = record {
+          registers = picked (P.rest RegistersSeven) own.processor.registers left.seven.processor.registers h.0 i;
+          due = picked (P.rest DueSeven) own.processor.due left.seven.processor.due h.1.0 i;
+          steps = picked (P.rest StepsSeven) own.processor.steps left.seven.processor.steps h.1.1.0 i;
+        };
+        wram = picked (P.rest OwnRam) own.wram left.seven.wram h.1.1.1.0 i;
+      };
+    }
 
-seven_line : (own : SevenState) (s : MachineState) (lines : List KeyLine) → after_line lines (with_seven_part own s) ≡ with_seven_part own (after_line lines s)
-seven_line own s [] = refl
-seven_line own s (line ∷ lines) = refl
+  -- ARM9's, without palettes and OAM, which the display uses
+  nine_goes : (own left : MachineState) → AreIn P parts_of_nine → (machine_graft P own left).nine ≡ own.nine
+  nine_goes own left h = λ i. record {
+    processor = record {
+      registers = picked (P.rest RegistersNine) own.nine.processor.registers left.nine.processor.registers h.0 i;
+      due = picked (P.rest DueNine) own.nine.processor.due left.nine.processor.due h.1.0 i;
+      steps = picked (P.rest StepsNine) own.nine.processor.steps left.nine.processor.steps h.1.1.0 i;
+    };
+    cp15 = picked (P.rest Cp15) own.nine.cp15 left.nine.cp15 h.1.1.1.0 i;
+    itcm = picked (P.rest Itcm) own.nine.itcm left.nine.itcm h.1.1.1.1.0 i;
+    dtcm = picked (P.rest Dtcm) own.nine.dtcm left.nine.dtcm h.1.1.1.1.1.0 i;
+  }
 
-seven_concluded : (rank : ℕ) (own : SevenState) (s : MachineState) (came : arm.Stepped)
-    → (let step : MachineStep MachineState Shown LeftOut = machine_concluded rank Nine (with_seven_part own s) came in step) ≡ step_with (with_seven_part own) (machine_concluded rank Nine s came)
-seven_concluded rank own s (Cost clocks) = refl
-seven_concluded rank own s (Halted clocks) = refl
-seven_concluded rank own s (Left stop) = refl
+  pub leave_nine_state : (own : NineState) → AreIn P parts_of_nine → step_by rank a (with_nine_state own s) ≡ step_with (with_nine_state own) (step_by rank a s)
+  leave_nine_state own h =
+      comes_to_same rank a s (with_nine_state own) (record { shared = refl; vram = refl }) (λ left. (let there = with_nine_state own s in
+      λ i. record (machine_graft P there left) { nine = nine_goes there left h i }))
 
-seven_moved : (rank : ℕ) (now : Tick) (refused : Option Stop) (own : SevenState) (s : MachineState)
-    → (let step : MachineStep MachineState Shown LeftOut = moved_by rank Nine now refused (with_seven_part own s) in step) ≡ step_with (with_seven_part own) (moved_by rank Nine now refused s)
-seven_moved rank now None own s = refl
-seven_moved rank now (Some stop) own s = refl
+  -- and with them
+  pub leave_nine : (own : NinePart) → AreIn P parts_of_nine → AreIn P (PaletteRam ∷ OamRam ∷ []) → step_by rank a (with_nine_part own s) ≡ step_with (with_nine_part own) (step_by rank a s)
+  leave_nine own h k =
+      comes_to_same rank a s (with_nine_part own) (record { shared = refl; vram = refl }) (λ left. (let there = with_nine_part own s in
+      λ i. record (machine_graft P there left) {
+        nine = nine_goes there left h i;
+        palette = picked (P.rest PaletteRam) own.palette left.palette k.0 i;
+        oam = picked (P.rest OamRam) own.oam left.oam k.1.0 i;
+      }))
 
-seven_channel : (rank : ℕ) (due : Option Tick) (own : SevenState) (s : MachineState)
-    → (let step : MachineStep MachineState Shown LeftOut = channel_step rank Nine due (with_seven_part own s) in step) ≡ step_with (with_seven_part own) (channel_step rank Nine due s)
-seven_channel rank None own s = refl
-seven_channel rank (Some now) own s =
-    let unit = next_unit s.io Nine in seven_moved rank now (unit_refusal Nine now unit (map_of Nine s)) own (with_map Nine s (unit_moved Nine now unit (map_of Nine s)))
+-- whoever is neither ARM7 nor in its fence has none of its part in its rows
+pub none_of_seven : (a : actor.Actor) (s : MachineState) → a ≢ Processor Seven → (Fences a Seven → ⊥) → AreIn (untouched_by a s) parts_of_seven
+none_of_seven (Dma Seven channel) s other apart = absurd (apart refl)
+none_of_seven (Processor Seven) s other apart = absurd (other refl)
+none_of_seven (Dma Nine channel) s other apart = (refl, (refl, (refl, (refl, tt))))
+none_of_seven (Processor Nine) s other apart = (refl, (refl, (refl, (refl, tt))))
+none_of_seven _ s other apart = (refl, (refl, (refl, (refl, tt))))
 
-seven_video : (rank : ℕ) (answer : Result display.Shown Stop) (own : SevenState) (s : MachineState)
-    → video_step rank answer (with_seven_part own s) ≡ step_with (with_seven_part own) (video_step rank answer s)
-seven_video rank (Ok shown) own s = refl
-seven_video rank (Err stop) own s = refl
+-- the display depends on no other part of ARM9's than palettes and OAM, and leaves all of it
+pub display_same : (rank : ℕ) (own : NineState) (s : MachineState) → step_by rank Video (with_nine_state own s) ≡ step_with (with_nine_state own) (step_by rank Video s)
+display_same rank own s = leave_nine_state rank Video s own (refl, (refl, (refl, (refl, (refl, (refl, tt))))))
 
-pub leave_seven : LeaveSeven
-leave_seven rank Video own s apart = seven_video rank (video_answer s.oam s.io.video) own s
-leave_seven rank KeyScript own s apart = ap (λ (m : MachineState). (let step : MachineStep MachineState Shown LeftOut = Makes m [] in step)) (seven_line own s s.keys)
-leave_seven rank (Dma Seven channel) own s apart = absurd (apart refl)
-leave_seven rank (Dma Nine channel) own s apart = seven_channel rank (io_due (Dma Nine channel) s.io) own s
-leave_seven rank (Processor Seven) own s apart = absurd (apart refl)
-leave_seven rank (Processor Nine) own s apart =
-    let o = outcome_of Nine (tick_of s.nine.processor) s in seven_concluded rank own o.machine o.stepped
-leave_seven rank a own s apart = refl
+pub display_leaves : (rank : ℕ) (s : MachineState)
+    → (let left = left_by (step_by rank Video s) in (left.nine ≡ s.nine) × (left.palette ≡ s.palette) × (left.oam ≡ s.oam))
+display_leaves rank s =
+    let e = sym (each_touches rank Video s).leaves in
+    (ap (λ (m : MachineState). m.nine) e, ap (λ (m : MachineState). m.palette) e, ap (λ (m : MachineState). m.oam) e)
 
--- ---- the display
-
-show_same : (rank : ℕ) (answer : Result display.Shown Stop) (own : NineState) (s : MachineState)
-    → video_step rank answer (record s { nine = own }) ≡ step_with (λ m. record m { nine = own }) (video_step rank answer s)
-show_same rank (Ok shown) own s = refl
-show_same rank (Err stop) own s = refl
-
-show_nine : (rank : ℕ) (answer : Result display.Shown Stop) (s : MachineState)
-    → (let left = left_by (video_step rank answer s) in (left.nine ≡ s.nine) × (left.palette ≡ s.palette) × (left.oam ≡ s.oam))
-show_nine rank (Ok shown) s = (refl, refl, refl)
-show_nine rank (Err stop) s = (refl, refl, refl)
-
-pub display_leaves_nine : DisplayLeavesNine
-display_leaves_nine rank own s =
-    let k = show_nine rank (video_answer s.oam s.io.video) s in
-    record { same = show_same rank (video_answer s.oam s.io.video) own s; nine = k.0; palette = k.1; oam = k.2 }
-
--- ---- geometry
-
-pub geometry_leaves_nine : GeometryLeavesNine
-geometry_leaves_nine rank own s = refl
+-- geometry changes the tick at which ARM9 is due, and no more of it
+pub geometry_leaves_nine : (rank : ℕ) (own : NinePart) (s : MachineState) → (
+    let later : NinePart = record own { nine = record own.nine { processor = record own.nine.processor { due = past_stall s.io own.nine.processor.due } } } in
+    step_by rank Geometry (with_nine_part own s) ≡ step_with (with_nine_part later) (step_by rank Geometry s))
+geometry_leaves_nine rank own s =
+    let due = own.nine.processor.due in
+    let put : MachineState → MachineState = λ m. with_nine_due m.nine.processor.due (with_nine_part own m) in
+    geometry_delays rank due (put s) ∙ ap (step_with (with_nine_due (past_stall s.io due))) (comes_to_same rank Geometry s put (record { shared = refl; vram = refl }) (λ left. refl))

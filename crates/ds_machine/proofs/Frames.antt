@@ -17,20 +17,23 @@ use Rattle.gx_fifo.specs.Entries.{begun, complete_command}
 use Rattle.gx_fifo.specs.GxStates.{GxState, done_by, gx_swapped}
 use Rattle.gx_geometry.specs.States.{Swapped, geometry_after, swapped}
 use Rattle.gx_matrix.specs.declared.commands.GeometryCommand.{GeometryCommand}
-use Rattle.ds_ports.proofs.Events.{done_video, happened_scan, happened_whole, timer_leaves}
+use Rattle.ds_ports.proofs.Events.{done_video, happened_scan, happened_whole}
 use Rattle.ds_runs.specs.Actors.{actor_of}
 use Rattle.ds_runs.specs.Runs.{MachineStep, Makes, Stops}
 use Rattle.ds_runs.specs.declared.actors.Actor as actor
-use Rattle.ds_runs.specs.declared.actors.Actor.TheVariants.{KeyScript, Video, Timer, Divider, SquareRoot, Geometry, Card, Dma, Processor}
+use Rattle.ds_runs.specs.declared.actors.Actor.TheVariants.{KeyScript, Video, Timer, Geometry, Dma, Processor}
 use Rattle.ds_runs.proofs.RunLaws.{same_makes, not_both}
 use Rattle.ds_machine.specs.Channels.{channel_step, moved_by}
 use Rattle.ds_machine.specs.Frames.{FollowFrames, FollowLists, StepsFollowFrames, StepsFollowLists, StopsLeaveFrames, StopsLeaveLists, WholeFrame, frames_shown, framed_of, last_frame, last_lists, lists_shown}
 use Rattle.ds_machine.specs.Reference.{Shown, after_event, after_geometry, after_line, after_video, due_by, reference_step, shown_at, step_by, swapped_if, video_step}
 use Rattle.ds_machine.specs.States.{MachineState}
+use Rattle.ds_machine.specs.Statuses.{left_by}
 use Rattle.ds_machine.specs.Steps.{ended, gone_by, machine_concluded, map_of, with_map}
 use Rattle.ds_machine.proofs.ChannelEvents.{channel_made, channel_unchanged, read_unchanged, unit_lists, unit_video, unit_whole}
 use Rattle.ds_machine.proofs.MachineSchedule.{Steps, awake_stops, channel_timers, operation, step_made_as, steps_here}
 use Rattle.ds_machine.proofs.ProcessorSteps.{Took, came_by, concluded_stops, concludes, costs_some, goes, reached_by, step_is}
+use Rattle.ds_machine.specs.Touched.{machine_graft, unchanged_by}
+use Rattle.ds_machine.proofs.Touched.{each_touches}
 use Rattle.ds_machine.proofs.VideoEvents.{display_video, done_gx, ended_leaves, video_makes, video_stops}
 use Rattle.video2d.specs.Scans.{ScanState, framed_by, scan_after, scan_due, scan_due_tick, starts_vblank}
 use Rattle.video2d.specs.Videos.{VideoState, answer_unless, video_happened, video_shown, video_stop}
@@ -101,10 +104,6 @@ quiet_follows s made outs k none = (
   kept_lists s made k ∙ ap (λ (o : List Shown). last_or (last_lists s) (lists_shown o)) (sym none),
 )
 
-line_keeps : (lines : List KeyLine) (s : MachineState) → KeepFrames s.io (after_line lines s).io
-line_keeps [] s = same_video s.io s.io refl refl
-line_keeps (line ∷ lines) s = same_video s.io (after_line (line ∷ lines) s).io refl refl
-
 gone_video : (proc : Proc) (m : MachineState) (came : arm.Stepped) → Took came → (gone_by proc came m).io.video ≡ m.io.video
 gone_video Nine m (Cost clocks) took = refl
 gone_video Seven m (Cost clocks) took = refl
@@ -118,10 +117,6 @@ gone_lists Seven m (Cost clocks) took = refl
 gone_lists Nine m (Halted clocks) took = refl
 gone_lists Seven m (Halted clocks) took = refl
 gone_lists proc m (Left stop) took = absurd took
-
-timer_lists : (proc : Proc) (number : ℕ) (u : IoState) → (io_event (Timer proc number) u).gx.geometry.last ≡ u.gx.geometry.last
-timer_lists Nine number u = refl
-timer_lists Seven number u = refl
 
 -- a command leaves the lists of the last swap
 geometry_lists : (u : IoState) → (geometry_done u).gx.geometry.last ≡ u.gx.geometry.last
@@ -208,31 +203,24 @@ module _ (s : MachineState) (none : video_stop s.oam s.io.video ≡ None) where
   video_follows : (whole : Bool) → starts_vblank s.io.video.scan ≡ whole → Follows s (after_video s) (frame_outs s whole)
   video_follows whole h = (frame_follows whole h, lists_follow whole h)
 
-event_follows : (a : actor.Actor) (s made : MachineState) (outs : List Shown) → (let step : MachineStep MachineState Shown LeftOut = Makes (after_event a s) [] in step ≡ Makes made outs)
-    → KeepFrames s.io (after_event a s).io → Follows s made outs
-event_follows a s made outs h kept =
-    let e = same_makes (after_event a s) made [] outs h in
-    quiet_follows s made outs (subst (λ (m : MachineState). KeepFrames s.io m.io) e.0 kept) (sym e.1)
+-- who changes neither the display nor geometry, by the table
+by_table : (a : actor.Actor) (rank : ℕ) (s made : MachineState) (outs : List Shown) → step_by rank a s ≡ Makes made outs → outs_of (step_by rank a s) ≡ []
+    → KeepFrames s.io (machine_graft (unchanged_by a s) s (left_by (step_by rank a s))).io → Follows s made outs
+by_table a rank s made outs h none kept =
+    quiet_follows s made outs (subst (λ (m : MachineState). KeepFrames s.io m.io) ((each_touches rank a s).leaves ∙ ap (λ (x : MachineStep MachineState Shown LeftOut). left_by x) h) kept)
+    (sym (ap outs_of h) ∙ none)
 
 follows_by : (a : actor.Actor) (rank : ℕ) (tick : Tick) (s made : MachineState) (outs : List Shown) → Steps a rank tick s → step_by rank a s ≡ Makes made outs → Follows s made outs
-follows_by KeyScript rank tick s made outs st h =
-    let e = same_makes (after_line s.keys s) made [] outs h in
-    quiet_follows s made outs (subst (λ (m : MachineState). KeepFrames s.io m.io) e.0 (line_keeps s.keys s)) (sym e.1)
 follows_by Video rank tick s made outs st h =
     let k = video_makes rank s made outs h in
     let e = sym (ap outs_of h) ∙ video_outs rank s (video_stop s.oam s.io.video) k.1 in
     subst (λ (m : MachineState). Follows s m outs) k.0
     (subst (λ (o : List Shown). Follows s (after_video s) o) (sym e) (video_follows s k.1 (starts_vblank s.io.video.scan) refl))
-follows_by (Timer proc number) rank tick s made outs st h =
-    let a : actor.Actor = Timer proc number in
-    event_follows a s made outs h (same_video s.io (after_event a s).io (timer_leaves proc number s.io).1 (timer_lists proc number s.io))
-follows_by Divider rank tick s made outs st h = event_follows Divider s made outs h (same_video s.io (after_event Divider s).io refl refl)
-follows_by SquareRoot rank tick s made outs st h =
-    event_follows SquareRoot s made outs h (same_video s.io (after_event SquareRoot s).io refl refl)
 follows_by Geometry rank tick s made outs st h =
     let e = same_makes (after_geometry s) made [] outs h in
     quiet_follows s made outs (subst (λ (m : MachineState). KeepFrames s.io m.io) e.0 (same_video s.io (after_geometry s).io refl (geometry_lists s.io))) (sym e.1)
-follows_by Card rank tick s made outs st h = event_follows Card s made outs h (same_video s.io (after_event Card s).io refl refl)
+follows_by (Timer Nine number) rank tick s made outs st h = by_table (Timer Nine number) rank s made outs h refl (same_video s.io _ refl refl)
+follows_by (Timer Seven number) rank tick s made outs st h = by_table (Timer Seven number) rank s made outs h refl (same_video s.io _ refl refl)
 follows_by (Dma proc channel) rank tick s made outs st h =
     let P : Option Tick → Type 0 = λ o. channel_step rank proc o s ≡ Makes made outs in
     let e = channel_made rank proc tick s made outs (subst P st.due h) in
@@ -252,6 +240,7 @@ follows_by (Processor proc) rank tick s made outs st h =
     let gone = same_video m.io made.io (ap (λ (x : MachineState). x.io.video) (sym k.1) ∙ gone_video proc m came k.0)
     (ap (λ (x : MachineState). x.io.gx.geometry.last) (sym k.1) ∙ gone_lists proc m came k.0) in
     quiet_follows s made outs (keep_twice s.io m.io made.io kept gone) (sym (ap outs_of is) ∙ processor_outs rank proc m came)
+follows_by a rank tick s made outs st h = by_table a rank s made outs h refl (same_video s.io _ refl refl)
 
 -- ---- the whole step
 

@@ -51,8 +51,8 @@ use Rattle.ds_machine.proofs.Rooms.{due_unstalled, few_have_room, instructions_f
 is_within : (n : ℕ) → n ≤ 320 → nat_lt 320 n ≡ false
 is_within n h = grind (arith, h)
 
-open_at : (m : MapState) (at : ℕ) → HasRoom m → is_guarded Nine m at ≡ false
-open_at m at h = room_meets_none Nine m at (is_within (waiting_entries m.io.gx) h)
+unguarded : (m : MapState) (at : ℕ) → HasRoom m → is_guarded Nine m at ≡ false
+unguarded m at h = room_meets_none Nine m at (is_within (waiting_entries m.io.gx) h)
 
 same_performed : (accesses : List Access) (r : NineReach) → FindsRoom accesses r → perform guarded_memory r accesses ≡ perform nine_memory r accesses
 same_performed [] r h = refl
@@ -61,10 +61,10 @@ same_performed (Read at width ∷ rest) r h =
     ap (with_value (nine_memory.read_value r at width)) (same_performed rest (nine_memory.read_next r at width) h.1)
 same_performed (Write at width value ∷ rest) r h =
     let next : NineReach = nine_memory.write_next r at width value in
-    let open : is_guarded Nine r.map at ≡ false = open_at r.map at h.0 in
+    let free : is_guarded Nine r.map at ≡ false = unguarded r.map at h.0 in
     let left : NineReach → Performed NineReach = λ x. refused_or (guarded_memory.refusal r at width value) x (perform guarded_memory x rest) in
-    ap left (nine_written r at width value open)
-    ∙ ap (λ (stop : Option Stop). refused_or stop next (perform guarded_memory next rest)) (nine_refusal r at width value open)
+    ap left (nine_written r at width value free)
+    ∙ ap (λ (stop : Option Stop). refused_or stop next (perform guarded_memory next rest)) (nine_refusal r at width value free)
     ∙ ap (refused_or (nine_memory.refusal r at width value) next) (same_performed rest next h.1)
 
 -- ---- what is executed

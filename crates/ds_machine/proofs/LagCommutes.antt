@@ -17,7 +17,6 @@ use Rattle.arm_core.specs.Registers.{RegisterState}
 use Rattle.arm_core.specs.Steps.{FetchOutcome, enters, fetched}
 use Rattle.arm_core.specs.declared.outcomes.Stepped as arm
 use Rattle.arm_core.specs.declared.outcomes.Stepped.TheVariants.{Cost, Halted, Left}
-use Rattle.arm7_exec.specs.Arm7.{arm7}
 use Rattle.arm9_exec.specs.Arm9.{arm9}
 use Rattle.arm9_exec.specs.Coprocessors.{move_of}
 use Rattle.arm9_exec.specs.declared.coprocessors.Moved.{Moved}
@@ -33,7 +32,7 @@ use Rattle.ds_dma.specs.declared.controls.Cause.TheVariants as causes
 use Rattle.ds_dma.proofs.Wholes.{awaits_none}
 use Rattle.ds_map.specs.Maps.{MapState}
 use Rattle.ds_map.specs.Moves.{next_unit, unit_moved, unit_refusal}
-use Rattle.ds_map.specs.Views.{NineReach, SevenReach, nine_memory, seven_memory, tcm_fetched, tcm_read, tcm_refusal, tcm_value, tcm_written}
+use Rattle.ds_map.specs.Views.{NineReach, nine_memory, tcm_fetched, tcm_read, tcm_refusal, tcm_value, tcm_written}
 use Rattle.ds_map.proofs.GxApart as gx_map
 use Rattle.ds_map.proofs.GxApart.{IsApartPlace, gx_in_map}
 use Rattle.ds_places.specs.AddressTables.{place_of}
@@ -42,29 +41,30 @@ use Rattle.ds_places.specs.declared.kinds.Place.TheVariants.{Banks, Cell, Nothin
 use Rattle.ds_ports.specs.Dues.{io_due}
 use Rattle.ds_ports.specs.Io.{IoState, both_raised, channels_triggered, io_event, keys_pressed, level_told, release_kept, settled, shown_to_others, video_done, with_gx}
 use Rattle.ds_ports.specs.ProcessorIo.{processor_io_triggered}
-use Rattle.ds_ports.proofs.Arms.{ArmsNoMore, KeepsControls, armed, arms_by, arms_kept, arms_same, arms_then, keeps_same, told_dma, triggered_keeps}
+use Rattle.ds_ports.proofs.Arms.{ArmsNoMore, KeepsControls, armed, arms_by, arms_kept, arms_same, arms_then, keeps_same, triggered_keeps}
 use Rattle.ds_ports.proofs.GxApart.{channel_due_apart, event_apart, video_apart}
 use Rattle.ds_runs.specs.Runs.{MachineStep, Makes}
 use Rattle.ds_runs.specs.declared.actors.Actor as actor
-use Rattle.ds_runs.specs.declared.actors.Actor.TheVariants.{KeyScript, Video, Timer, Divider, SquareRoot, Geometry, Card, Dma, Processor}
+use Rattle.ds_runs.specs.declared.actors.Actor.TheVariants.{KeyScript, Video, Timer, Geometry, Dma, Processor}
 use Rattle.ds_runs.proofs.RunLaws.{same_makes}
 use Rattle.ds_timers.specs.Irqs.{irq_levelled}
 use Rattle.gx_fifo.specs.GxStates.{GxState, gx_level, is_half_empty, is_stalled, shown_count}
 use Rattle.video2d.specs.Scans.{scan_due, scan_due_tick, starts_vblank}
 use Rattle.video2d.specs.Videos.{answer_unless, unless_stop, video_after_event, video_shown, video_stop}
-use Rattle.ds_machine.specs.Apart.{step_with}
+use Rattle.ds_machine.specs.Touched.{machine_graft, step_with, unchanged_by}
 use Rattle.ds_machine.specs.Channels.{channel_step, delayed_past, moved_by, one_event}
 use Rattle.ds_machine.specs.Lagging.{access_observes, any_observes, channel_observes, is_observed_past, is_observed_place, nine_observes, observes_by}
 use Rattle.ds_ports.specs.Acting.{any_armed, is_armed}
 use Rattle.ds_machine.specs.Private.{data_accesses}
 use Rattle.ds_machine.specs.Reference.{Shown, after_event, after_line, after_video, shown_at, step_by, swapped_if, video_step}
-use Rattle.ds_machine.specs.PrivateSides.{nine_side, seven_side, side_taken}
+use Rattle.ds_machine.specs.PrivateSides.{nine_side, side_taken}
 use Rattle.ds_machine.specs.Sides.{nine_executed}
 use Rattle.ds_machine.specs.States.{MachineState}
 use Rattle.ds_machine.specs.Statuses.{left_by}
-use Rattle.ds_machine.specs.Steps.{ended, goes_on, line_of, machine_concluded, machine_settled, map_of, nine_reach, seven_reach, tick_of, wakes, with_io, with_map, with_nine, with_seven, woken, woken_one}
+use Rattle.ds_machine.specs.Steps.{ended, goes_on, line_of, machine_concluded, machine_settled, map_of, nine_reach, tick_of, wakes, with_io, with_map, with_nine, woken, woken_one}
 use Rattle.ds_machine.proofs.Commutes.{Commutes, outcome_so, taken_commutes, word_commutes}
 use Rattle.ds_machine.proofs.Keeps.{FollowsEach, taken_leads, word_leads}
+use Rattle.ds_machine.proofs.Touched.{comes_to_same, each_touches}
 
 -- A step that doesn't observe geometry comes to the same with another geometry engine, and leaves that as it was.
 
@@ -247,39 +247,6 @@ module _ (old : RegisterState) (r : NineReach) where
       taken_leads nine_memory NoneObserve NineArms nine_follows nine_side line old r refl (λ e.
       executed_arms next_word.number next_word.instr (move_of next_word.instr) (past_entry (enters line old) (any_observes r (data_accesses V5 (vectors_of r.cp15) old next_word.instr)) h e))
 
--- ---- ARM7's step: none of its accesses sees geometry, or changes it or ARM9's channels
-
-abbrev seven_put : GxState → SevenReach → SevenReach
-seven_put g r = record r { map = gx_in_map g r.map }
-
-abbrev Every : SevenReach → List Access → Type 0
-Every r accesses = Unit {0}
-
-seven_commutes : (g : GxState) → Commutes seven_memory Every (seven_put g)
-seven_commutes g = record {
-  fetched = λ r at width rest i. gx_map.fetched g Seven r.map at width;
-  read = λ r at width rest i. gx_map.value g Seven r.map r.now at width tt;
-  refuses = λ r at width value rest i. gx_map.refusal g Seven r.map at width value tt;
-  fetches = λ r at width rest i. refl;
-  reads = λ r at width rest i. ap (λ (m : MapState). (let left : SevenReach = record r { map = m } in left)) (gx_map.read g Seven r.map at width tt);
-  writes = λ r at width value rest i. ap (λ (m : MapState). (let left : SevenReach = record r { map = m } in left)) (gx_map.written g Seven r.map r.now at width value tt);
-  fetch_stays = λ r at width rest i. tt;
-  read_stays = λ r at width rest i. tt;
-  write_stays = λ r at width value rest i. tt;
-}
-
-abbrev SevenGoes : SevenReach → SevenReach → Type 0
-SevenGoes r left = ArmsNoMore r.map.io.nine.dma left.map.io.nine.dma
-
-seven_follows : FollowsEach seven_memory Every SevenGoes
-seven_follows = record {
-  stays = λ r i. arms_same r.map.io.nine.dma;
-  joins = λ r t u a b. arms_then r.map.io.nine.dma t.map.io.nine.dma u.map.io.nine.dma a b;
-  fetches = λ r at width rest i. (arms_same r.map.io.nine.dma, tt);
-  reads = λ r at width rest i. (arms_by r.map.io.nine.dma _ (gx_map.map_read_dma Seven r.map at width), tt);
-  writes = λ r at width value rest i. (arms_kept r.map.io.nine.dma _ (gx_map.map_written_keeps Seven r.now r.map at width value tt), tt);
-}
-
 -- ---- processors in the machine
 
 abbrev Step : Type 0
@@ -293,23 +260,16 @@ module _ (count : ℕ → ℕ) (on : (n : ℕ) → count (n + 1) ≡ count n + 1
   counts : (s : MachineState) → one_event (put s) ≡ put (one_event s)
   counts s = ap (λ (n : ℕ). (let m : MachineState = record s { io = with_gx g s.io; events = n } in m)) (sym (on s.events))
 
-  concluded_gx : (rank : ℕ) (proc : Proc) (s : MachineState) (came : arm.Stepped)
-      → (let step : Step = machine_concluded rank proc (put s) came in step) ≡ step_with put (machine_concluded rank proc s came)
-  concluded_gx rank Nine s (Cost clocks) = refl
-  concluded_gx rank Nine s (Halted clocks) = refl
-  concluded_gx rank Nine s (Left stop) = refl
-  concluded_gx rank Seven s (Cost clocks) = refl
-  concluded_gx rank Seven s (Halted clocks) = refl
-  concluded_gx rank Seven s (Left stop) = refl
+  concluded_gx : (rank : ℕ) (s : MachineState) (came : arm.Stepped)
+      → (let step : Step = machine_concluded rank Nine (put s) came in step) ≡ step_with put (machine_concluded rank Nine s came)
+  concluded_gx rank s (Cost clocks) = refl
+  concluded_gx rank s (Halted clocks) = refl
+  concluded_gx rank s (Left stop) = refl
 
-  concluded_dma : (rank : ℕ) (proc : Proc) (s : MachineState) (came : arm.Stepped)
-      → (left_by (let step : Step = machine_concluded rank proc s came in step)).io.nine.dma ≡ s.io.nine.dma
-  concluded_dma rank Nine s (Cost clocks) = refl
-  concluded_dma rank Nine s (Halted clocks) = refl
-  concluded_dma rank Nine s (Left stop) = refl
-  concluded_dma rank Seven s (Cost clocks) = refl
-  concluded_dma rank Seven s (Halted clocks) = refl
-  concluded_dma rank Seven s (Left stop) = refl
+  concluded_dma : (rank : ℕ) (s : MachineState) (came : arm.Stepped) → (left_by (let step : Step = machine_concluded rank Nine s came in step)).io.nine.dma ≡ s.io.nine.dma
+  concluded_dma rank s (Cost clocks) = refl
+  concluded_dma rank s (Halted clocks) = refl
+  concluded_dma rank s (Left stop) = refl
 
   -- a step with another geometry engine, and what it leaves of ARM9's channels
   record Lets (s : MachineState) (with_it came : Step) : Type 0 where
@@ -323,26 +283,18 @@ module _ (count : ℕ → ℕ) (on : (n : ℕ) → count (n + 1) ≡ count n + 1
       let o = side_taken nine_memory nine_side (line_of s Nine) old r in
       record {
         same = ap (λ (x : Outcome NineReach). (let step : Step = machine_concluded rank Nine (with_nine (put s) x) x.stepped in step)) (taken_same old r g (line_of s Nine) h)
-            ∙ concluded_gx rank Nine (with_nine s o) o.stepped;
+            ∙ concluded_gx rank (with_nine s o) o.stepped;
         arms = arms_then s.io.nine.dma o.state.map.io.nine.dma _ (taken_arms old r (line_of s Nine) h)
-            (arms_by o.state.map.io.nine.dma _ (concluded_dma rank Nine (with_nine s o) o.stepped));
+            (arms_by o.state.map.io.nine.dma _ (concluded_dma rank (with_nine s o) o.stepped));
       }
 
+  -- what the table says of ARM9's channels
+  table_arms : (rank : ℕ) (a : actor.Actor) (s : MachineState) → (machine_graft (unchanged_by a s) s (left_by (step_by rank a s))).io.nine.dma ≡ s.io.nine.dma
+      → ArmsNoMore s.io.nine.dma (left_by (step_by rank a s)).io.nine.dma
+  table_arms rank a s same = arms_by s.io.nine.dma _ (ap (λ (m : MachineState). m.io.nine.dma) (sym (each_touches rank a s).leaves) ∙ same)
+
   seven_lets : (rank : ℕ) (s : MachineState) → Lets s (step_by rank (Processor Seven) (put s)) (step_by rank (Processor Seven) s)
-  seven_lets rank s =
-      let r = seven_reach (tick_of s.seven.processor) s in
-      let old = s.seven.processor.registers in
-      let o = side_taken seven_memory seven_side (line_of s Seven) old r in
-      let f = fetched seven_memory seven_side.arch old r in
-      let k : SevenGoes r o.state = taken_leads seven_memory Every SevenGoes seven_follows seven_side (line_of s Seven) old r tt (λ e.
-      word_leads seven_memory Every SevenGoes seven_follows arm7 old r f.number f.instr tt tt) in
-      record {
-        same = ap (λ (x : Outcome SevenReach). (let step : Step = machine_concluded rank Seven (with_seven (put s) x) x.stepped in step))
-            (taken_commutes seven_memory Every (seven_put g) (seven_commutes g) seven_side (line_of s Seven) old r tt (λ width. tt) refl (λ e.
-            word_commutes seven_memory Every (seven_put g) (seven_commutes g) arm7 old r f.number f.instr tt tt))
-            ∙ concluded_gx rank Seven (with_seven s o) o.stepped;
-        arms = arms_then s.io.nine.dma o.state.map.io.nine.dma _ k (arms_by o.state.map.io.nine.dma _ (concluded_dma rank Seven (with_seven s o) o.stepped));
-      }
+  seven_lets rank s = record { same = comes_to_same rank (Processor Seven) s put (record { shared = refl; vram = refl }) (λ left. refl); arms = table_arms rank (Processor Seven) s refl }
 
   -- ---- a channel's unit
 
@@ -435,10 +387,6 @@ module _ (count : ℕ → ℕ) (on : (n : ℕ) → count (n + 1) ≡ count n + 1
   line_so s [] = refl
   line_so s (line ∷ lines) = counts (record (with_io s (keys_pressed s.io line.pressed)) { keys = lines })
 
-  line_dma : (s : MachineState) (lines : List KeyLine) → (after_line lines s).io.nine.dma ≡ s.io.nine.dma
-  line_dma s [] = refl
-  line_dma s (line ∷ lines) = told_dma s.io.nine line.pressed
-
   -- ---- each actor
 
   event_lets : (rank : ℕ) (a : actor.Actor) (s : MachineState) → (io_event a s.io).nine.dma ≡ s.io.nine.dma → a ≢ Geometry
@@ -453,15 +401,12 @@ module _ (count : ℕ → ℕ) (on : (n : ℕ) → count (n + 1) ≡ count n + 1
       → Lets s (step_by rank a (put s)) (step_by rank a s)
   lets rank KeyScript s other h same = record {
     same = ap (λ (m : MachineState). (let step : Step = Makes m [] in step)) (line_so s s.keys);
-    arms = arms_by s.io.nine.dma _ (line_dma s s.keys);
+    arms = table_arms rank KeyScript s refl;
   }
   lets rank Video s other h same = video_lets rank (video_stop s.oam s.io.video) s h
   lets rank (Timer Nine number) s other h same = event_lets rank (Timer Nine number) s refl other
   lets rank (Timer Seven number) s other h same = event_lets rank (Timer Seven number) s refl other
-  lets rank Divider s other h same = event_lets rank Divider s refl other
-  lets rank SquareRoot s other h same = event_lets rank SquareRoot s refl other
   lets rank Geometry s other h same = absurd (other refl)
-  lets rank Card s other h same = event_lets rank Card s refl other
   lets rank (Dma Nine channel) s other h same =
       let due = io_due (Dma Nine channel) s.io in
       let k = nine_channel rank due s h in
@@ -472,6 +417,7 @@ module _ (count : ℕ → ℕ) (on : (n : ℕ) → count (n + 1) ≡ count n + 1
   lets rank (Dma Seven channel) s other h same = seven_channel rank (io_due (Dma Seven channel) s.io) s
   lets rank (Processor Nine) s other h same = nine_lets rank s h
   lets rank (Processor Seven) s other h same = seven_lets rank s
+  lets rank a s other h same = event_lets rank a s refl other
 
 pub gx_commutes : (rank : ℕ) (a : actor.Actor) (g : GxState) (s : MachineState) → a ≢ Geometry → observes_by a s ≡ false → is_stalled g ≡ is_stalled s.io.gx
     → step_by rank a (gx_put g s) ≡ step_with (gx_put g) (step_by rank a s)

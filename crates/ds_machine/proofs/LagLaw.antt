@@ -13,7 +13,7 @@ use Rattle.ds_runs.proofs.Lags as lags
 use Rattle.ds_runs.proofs.Lists.{at_rank, is_later, least_unique}
 use Rattle.ds_runs.proofs.RunLaws.{same_makes}
 use Rattle.gx_fifo.specs.GxStates.{AreWaiting, GxState, gx_finished, is_stalled}
-use Rattle.ds_machine.specs.Apart.{step_with}
+use Rattle.ds_machine.specs.Touched.{step_with}
 use Rattle.ds_machine.specs.Lagging.{LagRuns, LagStops, StepsBeforeGeometry}
 use Rattle.ds_ports.specs.Acting.{any_armed, is_quiet}
 use Rattle.ds_machine.specs.Acting.{acting_due, acting_dues}

@@ -1,4 +1,5 @@
 pub mod Apart
+pub mod Touched
 pub mod FastSteps
 pub mod Booting
 pub mod ChannelEvents

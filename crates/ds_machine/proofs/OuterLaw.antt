@@ -29,7 +29,8 @@ use Rattle.ds_timers.specs.Timing.{timer_at, timer_due}
 use Rattle.gx_fifo.specs.GxStates.{GxState, gx_finished, gx_level, is_half_empty, is_stalled}
 use Rattle.video2d.specs.Scans.{scan_due_tick}
 use Rattle.ds_machine.specs.Acting.{acting_due, acting_dues}
-use Rattle.ds_machine.specs.Apart.{NineOwn, nine_own_of, step_with, with_nine_own, with_seven_part}
+use Rattle.ds_machine.specs.Apart.{NineOwn, nine_own_of, with_nine_own, with_seven_part}
+use Rattle.ds_machine.specs.Touched.{step_with}
 use Rattle.arm_core.specs.Steps.{enters}
 use Rattle.ds_machine.specs.Private.{IsBelowFence, IsHarmless, RunsAhead, hears_nobody, rank_of}
 use Rattle.ds_machine.specs.Hearing.{Fences}
@@ -40,11 +41,11 @@ use Rattle.ds_machine.specs.Steps.{ended, goes_on, is_blocked, is_halted, line_o
 use Rattle.ds_machine.proofs.ActingDues.{acting_low, acting_of_rank, acts_then, loud_same}
 use Rattle.ds_machine.proofs.DueTicks.{due_of_least, due_of_rank, low_rank}
 use Rattle.ds_machine.proofs.InnerLaw.{HasOwnOf, IsCalm, MovesAlone, after_nine, after_seven, calm, harmless_by_part, inner_nine, inner_seven, nine_fits, nine_moves, seven_moves}
-use Rattle.ds_machine.proofs.Apart.{leave_seven}
+use Rattle.ds_machine.proofs.Apart.{leave_seven, none_of_seven}
 use Rattle.ds_machine.proofs.LagCommutes.{late_put}
 use Rattle.ds_machine.proofs.LagSteps.{acting_same, quiet_leaves, quiet_parts, quiet_step, sound_late}
 use Rattle.ds_machine.proofs.MachineSchedule.{asleep_made, awake_stops, owes_by, reference_schedules, settled_made, step_made, steps_here}
-use Rattle.ds_machine.proofs.OuterLeaves.{LeavesApart, leaves_apart, not_reached}
+use Rattle.ds_machine.proofs.OuterLeaves.{LeavesApart, leaves_apart}
 use Rattle.ds_machine.proofs.OuterSteps.{not_woken, seven_ended, settled_halted, woken_halted}
 use Rattle.ds_machine.proofs.OwnShares.{ends_nine_own, leave_nine_own, own_ends}
 use Rattle.ds_machine.proofs.Quiet.{not_halted}
@@ -467,5 +468,5 @@ may_run_ahead beside Seven =
     let rest = seven_reach (tick_of beside.seven.processor) beside in
     ahead_from_own reference 23 with_seven_part (λ s. after_seven rest s.seven) (RunsAhead Seven)
     (own_part Seven with_seven_part (λ s. after_seven rest s.seven) (λ own s. Unit {0})
-    (λ rank a own s other apart fits. leave_seven rank a own s (not_reached a Seven other apart)) seven_ended (inner_seven rest) (seven_moves rest) (λ s h. tt)
+    (λ rank a own s other apart fits. leave_seven rank a s own (none_of_seven a s other apart)) seven_ended (inner_seven rest) (seven_moves rest) (λ s h. tt)
     (λ s next l. ap (after_seven rest) l.own) (seven_passes rest))

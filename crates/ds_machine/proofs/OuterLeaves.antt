@@ -8,26 +8,28 @@ use Rattle.arm_core.specs.declared.outcomes.Stepped.TheVariants.{Cost, Halted, L
 use Rattle.ds_ipc.specs.Ipcs.{other_proc}
 use Rattle.ds_map.specs.Moves.{next_unit}
 use Rattle.ds_ports.specs.Happenings.{IsTold}
-use Rattle.ds_ports.specs.Io.{IoState, io_event, io_of}
+use Rattle.ds_ports.specs.Io.{IoState, io_of}
 use Rattle.ds_ports.specs.ProcessorIo.{ProcessorIoState}
 use Rattle.ds_ports.proofs.Later.{unchanged_same}
 use Rattle.ds_runs.specs.Runs.{MachineStep, Makes}
 use Rattle.ds_runs.specs.declared.actors.Actor as actor
-use Rattle.ds_runs.specs.declared.actors.Actor.TheVariants.{KeyScript, Video, Timer, Divider, SquareRoot, Geometry, Card, Dma, Processor}
+use Rattle.ds_runs.specs.declared.actors.Actor.TheVariants.{KeyScript, Video, Timer, Geometry, Card, Dma, Processor}
 use Rattle.ds_runs.proofs.RunLaws.{same_makes}
 use Rattle.ds_timers.specs.Irqs.{IrqState}
-use Rattle.ds_machine.specs.Apart.{ReachesOwn, nine_own_of, step_with, with_seven_part}
+use Rattle.ds_machine.specs.Apart.{nine_own_of, with_seven_part}
+use Rattle.ds_machine.specs.Touched.{machine_graft, step_with, unchanged_by}
 use Rattle.ds_machine.specs.Channels.{channel_step}
 use Rattle.ds_machine.specs.Hearing.{Fences}
-use Rattle.ds_machine.specs.Reference.{Shown, after_event, after_geometry, step_by}
+use Rattle.ds_machine.specs.Reference.{Shown, step_by}
 use Rattle.ds_machine.specs.States.{MachineState}
 use Rattle.ds_machine.specs.Statuses.{left_by}
 use Rattle.ds_machine.specs.Steps.{gone_by}
-use Rattle.ds_machine.proofs.Apart.{leave_seven}
+use Rattle.ds_machine.proofs.Apart.{leave_seven, none_of_seven}
 use Rattle.ds_machine.proofs.ChannelEvents.{channel_made, machine_after_unit, unit_gx, unit_released, unit_video}
 use Rattle.ds_machine.proofs.MachineSchedule.{Steps, channel_timers, operation}
 use Rattle.ds_machine.proofs.OwnShares.{own_stays}
 use Rattle.ds_machine.proofs.ProcessorSteps.{came_by, concludes, costs_some, goes, reached_by, reaches, step_is}
+use Rattle.ds_machine.proofs.Touched.{each_touches}
 use Rattle.ds_machine.proofs.Told.{IsOnlyTold, channel_tells, step_tells}
 
 -- What a step leaves of a processor that is taken by an actor which is neither that processor nor in its fence.
@@ -47,24 +49,13 @@ pub record LeavesApart (proc : Proc) (s made : MachineState) : Type 0 where
 
 -- ---- the own part
 
-pub not_reached : (a : actor.Actor) (proc : Proc) → a ≢ Processor proc → (Fences a proc → ⊥) → ReachesOwn a proc → ⊥
-not_reached KeyScript proc other apart own = absurd own
-not_reached Video proc other apart own = apart tt
-not_reached (Timer each number) proc other apart own = absurd own
-not_reached Divider proc other apart own = absurd own
-not_reached SquareRoot proc other apart own = absurd own
-not_reached Geometry proc other apart own = apart own
-not_reached Card proc other apart own = absurd own
-not_reached (Dma each channel) proc other apart own = apart own
-not_reached (Processor each) proc other apart own = other (ap Processor own)
-
 own_left : (proc : Proc) (a : actor.Actor) (rank : ℕ) (s made : MachineState) (outs : List Shown) → a ≢ Processor proc → (Fences a proc → ⊥) → step_by rank a s ≡ Makes made outs
     → HasPartOf proc made s
 own_left Nine a rank s made outs other apart h = own_stays rank a s made outs (other, apart) h
 own_left Seven a rank s made outs other apart h =
     let put = with_seven_part s.seven in
     let both : (let step : MachineStep MachineState Shown LeftOut = Makes made outs in step) ≡ Makes (put made) outs =
-    sym h ∙ leave_seven rank a s.seven s (not_reached a Seven other apart) ∙ ap (step_with put) h in
+    sym h ∙ leave_seven rank a s s.seven (none_of_seven a s other apart) ∙ ap (step_with put) h in
     ap (λ (m : MachineState). m.seven) (same_makes made (put made) outs outs both).0
 
 -- ---- what stands behind the ports
@@ -87,23 +78,6 @@ pub record LeavesIo (proc : Proc) (old new : IoState) : Type 0 where
   pub scan : new.video.scan ≡ old.video.scan
   pub geometry : proc ≡ Nine → (new.gx ≡ old.gx) × (new.released ≡ old.released)
 
--- another unit's event
-event_leaves : (proc : Proc) (a : actor.Actor) (u : IoState) → a ≢ Processor proc → (Fences a proc → ⊥) → LeavesIo proc u (io_event a u)
-event_leaves proc KeyScript u other apart = absurd (apart tt)
-event_leaves proc Video u other apart = absurd (apart tt)
-event_leaves Nine (Timer Nine number) u other apart = absurd (apart refl)
-event_leaves Nine (Timer Seven number) u other apart = record { told = not_told u.nine; scan = refl; geometry = λ e. (refl, refl) }
-event_leaves Seven (Timer Nine number) u other apart = record { told = not_told u.seven; scan = refl; geometry = λ e. (refl, refl) }
-event_leaves Seven (Timer Seven number) u other apart = absurd (apart refl)
-event_leaves Nine Divider u other apart = record { told = not_told u.nine; scan = refl; geometry = λ e. (refl, refl) }
-event_leaves Seven Divider u other apart = record { told = not_told u.seven; scan = refl; geometry = λ e. (refl, refl) }
-event_leaves Nine SquareRoot u other apart = record { told = not_told u.nine; scan = refl; geometry = λ e. (refl, refl) }
-event_leaves Seven SquareRoot u other apart = record { told = not_told u.seven; scan = refl; geometry = λ e. (refl, refl) }
-event_leaves Nine Geometry u other apart = absurd (apart refl)
-event_leaves Seven Geometry u other apart = record { told = not_told u.seven; scan = refl; geometry = λ e. absurd (nine_is_not_seven e) }
-event_leaves proc Card u other apart = absurd (apart tt)
-event_leaves proc a u other apart = record { told = not_told (io_of u proc); scan = refl; geometry = λ e. (refl, refl) }
-
 -- the other processor's step
 gone_leaves : (proc : Proc) (came : arm.Stepped) (m : MachineState) → ((gone_by proc came m).keys ≡ m.keys) × ((gone_by proc came m).io.video ≡ m.io.video)
     × ((gone_by proc came m).io.gx ≡ m.io.gx) × ((gone_by proc came m).io.released ≡ m.io.released)
@@ -119,10 +93,11 @@ pub record LeavesRest (proc : Proc) (s made : MachineState) : Type 0 where
   pub keys : made.keys ≡ s.keys
   pub io : LeavesIo proc s.io made.io
 
-event_rest : (proc : Proc) (a : actor.Actor) (s made : MachineState) (outs : List Shown) → a ≢ Processor proc → (Fences a proc → ⊥)
-    → (let step : MachineStep MachineState Shown LeftOut = Makes (after_event a s) [] in step) ≡ Makes made outs → LeavesRest proc s made
-event_rest proc a s made outs other apart h =
-    subst (LeavesRest proc s) (same_makes (after_event a s) made [] outs h).0 (record { keys = refl; io = event_leaves proc a s.io other apart })
+-- another unit's event, by the table
+unit_rest : (proc : Proc) (a : actor.Actor) (rank : ℕ) (s made : MachineState) (outs : List Shown) → step_by rank a s ≡ Makes made outs
+    → LeavesRest proc s (machine_graft (unchanged_by a s) s (left_by (step_by rank a s))) → LeavesRest proc s made
+unit_rest proc a rank s made outs h rest =
+    subst (LeavesRest proc s) ((each_touches rank a s).leaves ∙ ap (λ (x : MachineStep MachineState Shown LeftOut). left_by x) h) rest
 
 processor_rest : (proc : Proc) (rank : ℕ) (tick : Tick) (s made : MachineState) (outs : List Shown) → Steps (Processor (other_proc proc)) rank tick s
     → step_by rank (Processor (other_proc proc)) s ≡ Makes made outs → (other_proc (other_proc proc) ≡ proc) → (proc ≡ Nine → other_proc proc ≡ Seven) → LeavesRest proc s made
@@ -183,7 +158,12 @@ rest_left proc KeyScript rank tick s made outs st other apart h = absurd (apart 
 rest_left proc Video rank tick s made outs st other apart h = absurd (apart tt)
 rest_left Nine Geometry rank tick s made outs st other apart h = absurd (apart refl)
 rest_left Seven Geometry rank tick s made outs st other apart h =
-    subst (LeavesRest Seven s) (same_makes (after_geometry s) made [] outs h).0 (record { keys = refl; io = event_leaves Seven Geometry s.io other apart })
+    unit_rest Seven Geometry rank s made outs h (record { keys = refl; io = record { told = not_told s.io.seven; scan = refl; geometry = λ e. absurd (nine_is_not_seven e) } })
+rest_left proc Card rank tick s made outs st other apart h = absurd (apart tt)
+rest_left Nine (Timer Nine number) rank tick s made outs st other apart h = absurd (apart refl)
+rest_left Nine (Timer Seven number) rank tick s made outs st other apart h = unit_rest Nine (Timer Seven number) rank s made outs h (record { keys = refl; io = record { told = not_told s.io.nine; scan = refl; geometry = λ e. (refl, refl) } })
+rest_left Seven (Timer Nine number) rank tick s made outs st other apart h = unit_rest Seven (Timer Nine number) rank s made outs h (record { keys = refl; io = record { told = not_told s.io.seven; scan = refl; geometry = λ e. (refl, refl) } })
+rest_left Seven (Timer Seven number) rank tick s made outs st other apart h = absurd (apart refl)
 rest_left Nine (Dma Nine channel) rank tick s made outs st other apart h = absurd (apart refl)
 rest_left Nine (Dma Seven channel) rank tick s made outs st other apart h = channel_rest Nine channel rank tick s made outs st h refl (λ e. refl)
 rest_left Seven (Dma Nine channel) rank tick s made outs st other apart h = channel_rest Seven channel rank tick s made outs st h refl seven_nine
@@ -192,7 +172,8 @@ rest_left Nine (Processor Nine) rank tick s made outs st other apart h = absurd 
 rest_left Nine (Processor Seven) rank tick s made outs st other apart h = processor_rest Nine rank tick s made outs st h refl (λ e. refl)
 rest_left Seven (Processor Nine) rank tick s made outs st other apart h = processor_rest Seven rank tick s made outs st h refl seven_nine
 rest_left Seven (Processor Seven) rank tick s made outs st other apart h = absurd (other refl)
-rest_left proc a rank tick s made outs st other apart h = event_rest proc a s made outs other apart h
+rest_left Nine a rank tick s made outs st other apart h = unit_rest Nine a rank s made outs h (record { keys = refl; io = record { told = not_told s.io.nine; scan = refl; geometry = λ e. (refl, refl) } })
+rest_left Seven a rank tick s made outs st other apart h = unit_rest Seven a rank s made outs h (record { keys = refl; io = record { told = not_told s.io.seven; scan = refl; geometry = λ e. (refl, refl) } })
 
 pub leaves_apart : (proc : Proc) (a : actor.Actor) (rank : ℕ) (tick : Tick) (s made : MachineState) (outs : List Shown) → Steps a rank tick s → a ≢ Processor proc → (Fences a proc → ⊥)
     → step_by rank a s ≡ Makes made outs → LeavesApart proc s made

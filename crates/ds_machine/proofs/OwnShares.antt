@@ -20,16 +20,17 @@ use Rattle.ds_ports.specs.Io.{IoState, level_told, release_kept, settled}
 use Rattle.ds_ports.specs.ProcessorIo.{processor_io_triggered}
 use Rattle.ds_runs.specs.Runs.{MachineStep, Makes}
 use Rattle.ds_runs.specs.declared.actors.Actor as actor
-use Rattle.ds_runs.specs.declared.actors.Actor.TheVariants.{KeyScript, Video, Timer, Divider, SquareRoot, Geometry, Card, Dma, Processor}
+use Rattle.ds_runs.specs.declared.actors.Actor.TheVariants.{KeyScript, Video, Timer, Geometry, Card, Dma, Processor}
 use Rattle.ds_runs.proofs.RunLaws.{same_makes}
 use Rattle.gx_fifo.specs.GxStates.{is_half_empty}
 use Rattle.vram_banks.proofs.Mixes.{mixed_length, mixed_same, mixed_twice}
 use Rattle.vram_banks.specs.Mixes.{mixed}
-use Rattle.ds_machine.specs.Apart.{IsOutside, LeaveNineOwn, NineOwn, nine_own_of, step_with, with_nine_own}
+use Rattle.ds_machine.specs.Apart.{IsOutside, NineOwn, nine_own_of, with_nine_own}
 use Rattle.ds_machine.specs.Channels.{channel_step, moved_by}
 use Rattle.ds_machine.specs.Reference.{Shown, step_by}
 use Rattle.ds_machine.specs.PrivateSides.{seven_side, side_taken}
 use Rattle.ds_machine.specs.States.{MachineState}
+use Rattle.ds_machine.specs.Touched.{step_with}
 use Rattle.ds_machine.specs.Steps.{ended, goes_on, is_halted, line_of, machine_concluded, machine_settled, map_of, seven_reach, tick_of, wakes, with_map, with_seven, woken, woken_one}
 use Rattle.ds_machine.proofs.Commutes.{Commutes, taken_commutes, word_commutes}
 use Rattle.ds_machine.proofs.OuterSteps.{not_woken, settled_halted}
@@ -104,7 +105,7 @@ seven_concluded rank own s (Cost clocks) = refl
 seven_concluded rank own s (Halted clocks) = refl
 seven_concluded rank own s (Left stop) = refl
 
-seven_steps : (rank : ℕ) (own : NineOwn) (s : MachineState) → IsSharedSo own.share s.shared s.io
+pub seven_steps : (rank : ℕ) (own : NineOwn) (s : MachineState) → IsSharedSo own.share s.shared s.io
     → step_by rank (Processor Seven) (with_nine_own own s) ≡ step_with (with_nine_own own) (step_by rank (Processor Seven) s)
 seven_steps rank own s shared =
     let old = s.seven.processor.registers in
@@ -124,7 +125,7 @@ seven_moved : (rank : ℕ) (now : Tick) (refused : Option Stop) (own : NineOwn) 
 seven_moved rank now None own s = refl
 seven_moved rank now (Some stop) own s = refl
 
-seven_channel : (rank : ℕ) (due : Option Tick) (own : NineOwn) (s : MachineState) → IsSharedSo own.share s.shared s.io
+pub seven_channel : (rank : ℕ) (due : Option Tick) (own : NineOwn) (s : MachineState) → IsSharedSo own.share s.shared s.io
     → (let step : MachineStep MachineState Shown LeftOut = channel_step rank Seven due (with_nine_own own s) in step)
     ≡ step_with (with_nine_own own) (channel_step rank Seven due s)
 seven_channel rank None own s shared = refl
@@ -141,19 +142,19 @@ seven_channel rank (Some now) own s shared =
 
 -- ---- each actor
 
-pub leave_nine_own : LeaveNineOwn
+pub leave_nine_own : (rank : ℕ) (a : actor.Actor) (own : NineOwn) (s : MachineState) → IsOutside a → IsSharedSo own.share s.shared s.io
+    → step_by rank a (with_nine_own own s) ≡ step_with (with_nine_own own) (step_by rank a s)
 leave_nine_own rank KeyScript own s outside shared = absurd (outside.1 tt)
 leave_nine_own rank Video own s outside shared = absurd (outside.1 tt)
 leave_nine_own rank (Timer Nine number) own s outside shared = absurd (outside.1 refl)
-leave_nine_own rank (Timer Seven number) own s outside shared = refl
-leave_nine_own rank Divider own s outside shared = refl
-leave_nine_own rank SquareRoot own s outside shared = refl
 leave_nine_own rank Geometry own s outside shared = absurd (outside.1 refl)
 leave_nine_own rank Card own s outside shared = absurd (outside.1 tt)
 leave_nine_own rank (Dma Nine channel) own s outside shared = absurd (outside.1 refl)
 leave_nine_own rank (Dma Seven channel) own s outside shared = seven_channel rank (io_due (Dma Seven channel) s.io) own s shared
 leave_nine_own rank (Processor Nine) own s outside shared = absurd (outside.0 refl)
 leave_nine_own rank (Processor Seven) own s outside shared = seven_steps rank own s shared
+leave_nine_own rank (Timer Seven number) own s outside shared = refl
+leave_nine_own rank a own s outside shared = refl
 
 -- so such an actor leaves all that ARM9 alone reaches
 pub own_stays : (rank : ℕ) (a : actor.Actor) (s made : MachineState) (outs : List Shown) → IsOutside a → step_by rank a s ≡ Makes made outs

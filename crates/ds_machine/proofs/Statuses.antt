@@ -1,9 +1,8 @@
-use Rattle.std.proofs.Common.{ℕ, ◌≡◌, ◌+◌, Bool, List, [], ◌∷◌, take, All, Option, Some, None, Result, Ok, Err, refl, sym, subst, arith}
+use Rattle.std.proofs.Common.{ℕ, ◌≡◌, ◌+◌, Bool, List, [], ◌∷◌, take, All, Option, Some, None, refl, sym, subst, arith}
 use Rattle.std.proofs.lemmas.List.Elements.{All-cons, All-nil}
 use Rattle.ds_base.proofs.Choices.{either}
 use Rattle.ds_base.specs.declared.keys.KeyLine.{KeyLine}
 use Rattle.ds_base.specs.declared.left_out.LeftOut.{LeftOut}
-use Rattle.ds_base.specs.declared.left_out.Stop.{Stop}
 use Rattle.ds_base.specs.declared.processors.Arch.{Arch}
 use Rattle.ds_base.specs.declared.processors.Arch.TheVariants.{V4, V5}
 use Rattle.ds_base.specs.declared.processors.Proc.{Proc}
@@ -21,28 +20,25 @@ use Rattle.arm7_exec.specs.Arm7.{arm7}
 use Rattle.arm9_exec.specs.Statuses.{HasNineStatuses}
 use Rattle.arm9_exec.proofs.Statuses.{step9_has}
 use Rattle.ds_header.specs.Fields.{image_entry, image_of, image_place}
-use Rattle.ds_map.specs.Moves.{next_unit, unit_moved, unit_refusal}
 use Rattle.ds_map.specs.Views.{NineReach, SevenReach, nine_memory, seven_memory}
-use Rattle.ds_ports.specs.Dues.{io_due}
 use Rattle.ds_runs.specs.Actors.{actor_of}
 use Rattle.ds_runs.specs.Runs as runs
 use Rattle.ds_runs.specs.Runs.{Ending, At, MachineStep, Makes, Stops, Runs, over, stops, more}
 use Rattle.ds_runs.specs.declared.actors.Actor as actor
-use Rattle.ds_runs.specs.declared.actors.Actor.TheVariants.{KeyScript, Video, Timer, Divider, SquareRoot, Geometry, Card, Dma, Processor}
-use Rattle.video2d.specs.Videos.{video_answer}
-use Rattle.video2d.specs.declared.videos.Shown as display
+use Rattle.ds_runs.specs.declared.actors.Actor.TheVariants.{Dma, Processor}
 use Rattle.ds_machine.specs.Booted.{header_bytes, header_place, machine_blank, stacks_of, with_image}
 use Rattle.ds_machine.specs.Boots.{copied, stored}
-use Rattle.ds_machine.specs.Channels.{channel_step, delayed_past, moved_by}
-use Rattle.ds_machine.specs.Reference.{Shown, after_line, awake, due_by, reference, reference_step, step_by, video_step}
+use Rattle.ds_machine.specs.Reference.{Shown, awake, due_by, reference, reference_step, step_by}
 use Rattle.ds_machine.specs.StepAnswers.{stepped_of}
 use Rattle.ds_machine.specs.PrivateSides.{nine_side, seven_side, side_taken}
 use Rattle.ds_machine.specs.States.{MachineState}
 use Rattle.ds_machine.specs.declared.answers.Done as answer
 use Rattle.ds_machine.specs.declared.answers.Done.TheVariants as answers
 use Rattle.ds_machine.specs.Statuses.{HasBothStatuses, BootsWithStatuses, RunsKeepStatuses, StepsKeepStatuses, left_by}
-use Rattle.ds_machine.specs.Steps.{ended, goes_on, gone_by, line_of, machine_concluded, machine_settled, map_of, nine_reach, outcome_of, processor_of, processor_step, seven_reach, tick_of, wakes, with_map, woken_one}
+use Rattle.ds_machine.specs.Steps.{ended, goes_on, gone_by, line_of, machine_concluded, machine_settled, nine_reach, outcome_of, processor_of, processor_step, seven_reach, tick_of, wakes, woken_one}
+use Rattle.ds_machine.specs.Touched.{machine_graft, unchanged_by}
 use Rattle.ds_machine.proofs.OwnSteps.{is_step7, is_step9}
+use Rattle.ds_machine.proofs.Touched.{each_touches}
 
 -- CPSR and each SPSR have no bits but those that are kept, whatever steps.
 
@@ -88,42 +84,17 @@ processor_has rank proc s h =
     let o = outcome_of proc (tick_of (processor_of s proc)) s in
     concluded_has rank proc o.machine o.stepped (outcome_has proc (tick_of (processor_of s proc)) s h)
 
--- ---- the other actors
+-- ---- each actor: who isn't a processor changes none of it, by the table
 
-line_has : (lines : List KeyLine) (s : MachineState) → HasBothStatuses s → HasBothStatuses (after_line lines s)
-line_has [] s h = h
-line_has (line ∷ lines) s h = record { nine = h.nine; seven = h.seven }
-
-delayed_has : (proc : Proc) (now : Tick) (s : MachineState) → HasBothStatuses s → HasBothStatuses (delayed_past proc now s)
-delayed_has Nine now s h = record { nine = h.nine; seven = h.seven }
-delayed_has Seven now s h = record { nine = h.nine; seven = h.seven }
-
-moved_has : (rank : ℕ) (proc : Proc) (now : Tick) (refusal : Option Stop) (s : MachineState) → HasBothStatuses s
-    → (let step : MachineStep MachineState Shown LeftOut = moved_by rank proc now refusal s in HasBothStatuses (left_by step))
-moved_has rank proc now None s h = let k = delayed_has proc now s h in record { nine = k.nine; seven = k.seven }
-moved_has rank proc now (Some stop) s h = h
-
-channel_has : (rank : ℕ) (proc : Proc) (due : Option Tick) (s : MachineState) → HasBothStatuses s
-    → (let step : MachineStep MachineState Shown LeftOut = channel_step rank proc due s in HasBothStatuses (left_by step))
-channel_has rank proc None s h = h
-channel_has rank proc (Some now) s h =
-    let unit = next_unit s.io proc in
-    moved_has rank proc now (unit_refusal proc now unit (map_of proc s)) (with_map proc s (unit_moved proc now unit (map_of proc s))) (record { nine = h.nine; seven = h.seven })
-
-video_has : (rank : ℕ) (answer : Result display.Shown Stop) (s : MachineState) → HasBothStatuses s → HasBothStatuses (left_by (video_step rank answer s))
-video_has rank (Ok shown) s h = record { nine = h.nine; seven = h.seven }
-video_has rank (Err stop) s h = h
+untouched_has : (rank : ℕ) (a : actor.Actor) (s : MachineState) → HasBothStatuses (machine_graft (unchanged_by a s) s (left_by (step_by rank a s)))
+    → HasBothStatuses (left_by (step_by rank a s))
+untouched_has rank a s h = subst HasBothStatuses (each_touches rank a s).leaves h
 
 step_has_by : (rank : ℕ) (a : actor.Actor) (s : MachineState) → HasBothStatuses s → HasBothStatuses (left_by (step_by rank a s))
-step_has_by rank KeyScript s h = line_has s.keys s h
-step_has_by rank Video s h = video_has rank (video_answer s.oam s.io.video) s h
-step_has_by rank (Timer proc number) s h = record { nine = h.nine; seven = h.seven }
-step_has_by rank Divider s h = record { nine = h.nine; seven = h.seven }
-step_has_by rank SquareRoot s h = record { nine = h.nine; seven = h.seven }
-step_has_by rank Geometry s h = record { nine = h.nine; seven = h.seven }
-step_has_by rank Card s h = record { nine = h.nine; seven = h.seven }
-step_has_by rank (Dma proc channel) s h = channel_has rank proc (io_due (Dma proc channel) s.io) s h
 step_has_by rank (Processor proc) s h = processor_has rank proc s h
+step_has_by rank (Dma Nine channel) s h = untouched_has rank (Dma Nine channel) s (record { nine = h.nine; seven = h.seven })
+step_has_by rank (Dma Seven channel) s h = untouched_has rank (Dma Seven channel) s (record { nine = h.nine; seven = h.seven })
+step_has_by rank a s h = untouched_has rank a s (record { nine = h.nine; seven = h.seven })
 
 -- ---- waking
 

@@ -1,26 +1,29 @@
 use Rattle.std.proofs.Common.{ℕ, ◌≡◌, ◌≤◌, ◌+◌, Bool, true, false, List, ◌∷◌, Option, refl, sym, ◌∙◌, ap, subst, arith, []}
-use Rattle.ds_base.specs.declared.keys.KeyLine.{KeyLine}
+use Rattle.ds_base.specs.declared.left_out.LeftOut.{LeftOut}
 use Rattle.ds_base.specs.declared.processors.Proc.{Proc}
 use Rattle.ds_base.specs.declared.processors.Proc.TheVariants.{Nine, Seven}
 use Rattle.ds_base.specs.declared.ticks.Tick.{Tick}
 use Rattle.arm_core.specs.declared.outcomes.Stepped as arm
 use Rattle.arm_core.specs.declared.outcomes.Stepped.TheVariants.{Cost, Halted, Left}
 use Rattle.ds_map.specs.Moves.{next_unit}
-use Rattle.ds_ports.specs.Io.{IoState, io_event, video_done}
-use Rattle.ds_runs.specs.Runs.{Makes}
+use Rattle.ds_ports.specs.Io.{IoState, video_done}
+use Rattle.ds_runs.specs.Runs.{MachineStep, Makes}
 use Rattle.ds_runs.specs.declared.actors.Actor as actor
-use Rattle.ds_runs.specs.declared.actors.Actor.TheVariants.{KeyScript, Video, Timer, Divider, SquareRoot, Geometry, Card, Dma, Processor}
+use Rattle.ds_runs.specs.declared.actors.Actor.TheVariants.{Video, Timer, Geometry, Dma, Processor}
 use Rattle.ds_runs.proofs.RunLaws.{same_makes}
 use Rattle.gx_fifo.specs.GxStates.{GxState}
 use Rattle.gx_fifo.proofs.Laws.{finished_run, swapped_run}
 use Rattle.ds_machine.specs.Channels.{channel_step}
 use Rattle.ds_machine.specs.Counting.{run_of}
-use Rattle.ds_machine.specs.Reference.{Shown, after_event, after_geometry, after_line, after_video, step_by, swapped_if}
+use Rattle.ds_machine.specs.Reference.{Shown, after_geometry, after_video, step_by, swapped_if}
 use Rattle.ds_machine.specs.States.{MachineState}
+use Rattle.ds_machine.specs.Statuses.{left_by}
 use Rattle.ds_machine.specs.Steps.{gone_by}
+use Rattle.ds_machine.specs.Touched.{machine_graft, unchanged_by}
 use Rattle.ds_machine.proofs.ChannelEvents.{channel_made, unit_run}
 use Rattle.ds_machine.proofs.MachineSchedule.{Steps, channel_timers, operation}
 use Rattle.ds_machine.proofs.ProcessorSteps.{came_by, concludes, costs_some, goes, reached_by, step_is}
+use Rattle.ds_machine.proofs.Touched.{each_touches}
 use Rattle.ds_machine.proofs.VideoEvents.{done_gx, video_makes}
 use Rattle.video2d.specs.Scans.{scan_due_tick, starts_vblank}
 
@@ -38,10 +41,6 @@ gone_run Nine m (Halted clocks) = refl
 gone_run Seven m (Halted clocks) = refl
 gone_run proc m (Left stop) = refl
 
-line_run : (lines : List KeyLine) (s : MachineState) → run_of (after_line lines s) ≡ run_of s
-line_run [] s = refl
-line_run (line ∷ lines) s = refl
-
 swap_run : (whole : Bool) (now : Tick) (u : IoState) → (swapped_if whole now u).gx.geometry.numbers.run ≡ u.gx.geometry.numbers.run
 swap_run true now u = swapped_run now u.gx
 swap_run false now u = refl
@@ -51,22 +50,20 @@ video_run s =
     swap_run (starts_vblank s.io.video.scan) (scan_due_tick s.io.video.scan) (video_done s.palette s.oam s.io)
     ∙ ap (λ (g : GxState). g.geometry.numbers.run) (done_gx s.palette s.oam s.io)
 
-timer_run : (proc : Proc) (number : ℕ) (u : IoState) → (io_event (Timer proc number) u).gx.geometry.numbers.run ≡ u.gx.geometry.numbers.run
-timer_run Nine number u = refl
-timer_run Seven number u = refl
-
 as_long : (made s : MachineState) → run_of made ≡ run_of s → run_of made ≤ run_of s + 0
 as_long made s e = omega (arith, e)
 
+-- who doesn't change geometry, by the table
+by_table : (a : actor.Actor) (rank : ℕ) (s made : MachineState) (outs : List Shown) → step_by rank a s ≡ Makes made outs
+    → run_of (machine_graft (unchanged_by a s) s (left_by (step_by rank a s))) ≡ run_of s → run_of made ≤ run_of s + 0
+by_table a rank s made outs h same =
+    as_long made s (ap run_of (sym ((each_touches rank a s).leaves ∙ ap (λ (x : MachineStep MachineState Shown LeftOut). left_by x) h)) ∙ same)
+
 pub made_run : (a : actor.Actor) (rank : ℕ) (tick : Tick) (s made : MachineState) (outs : List Shown) → Steps a rank tick s → step_by rank a s ≡ Makes made outs
     → run_of made ≤ run_of s + runs_in a
-made_run KeyScript rank tick s made outs st h = as_long made s (ap run_of (sym (same_makes (after_line s.keys s) made [] outs h).0) ∙ line_run s.keys s)
 made_run Video rank tick s made outs st h = as_long made s (ap run_of (sym (video_makes rank s made outs h).0) ∙ video_run s)
-made_run (Timer proc number) rank tick s made outs st h =
-    as_long made s (ap run_of (sym (same_makes (after_event (Timer proc number) s) made [] outs h).0) ∙ timer_run proc number s.io)
-made_run Divider rank tick s made outs st h = as_long made s (ap run_of (sym (same_makes (after_event Divider s) made [] outs h).0))
-made_run SquareRoot rank tick s made outs st h = as_long made s (ap run_of (sym (same_makes (after_event SquareRoot s) made [] outs h).0))
-made_run Card rank tick s made outs st h = as_long made s (ap run_of (sym (same_makes (after_event Card s) made [] outs h).0))
+made_run (Timer Nine number) rank tick s made outs st h = by_table (Timer Nine number) rank s made outs h refl
+made_run (Timer Seven number) rank tick s made outs st h = by_table (Timer Seven number) rank s made outs h refl
 made_run Geometry rank tick s made outs st h =
     subst (λ (m : MachineState). run_of m ≤ run_of s + 1) (same_makes (after_geometry s) made [] outs h).0 (finished_run s.io.gx)
 made_run (Dma proc channel) rank tick s made outs st h =
@@ -77,3 +74,4 @@ made_run (Processor proc) rank tick s made outs st h =
     let m = reached_by proc s in
     let k = concludes rank proc m made outs (came_by proc s) (costs_some proc s) (sym (step_is rank proc s) ∙ h) in
     as_long made s (ap run_of (sym k.1) ∙ gone_run proc m (came_by proc s) ∙ (goes proc tick s (operation proc rank tick s st)).geometry.run)
+made_run a rank tick s made outs st h = by_table a rank s made outs h refl

@@ -15,6 +15,7 @@ pub mod FenceTicks
 pub mod Private
 pub mod Touching
 pub mod Apart
+pub mod Touched
 pub mod Lagging
 pub mod TurnSteps
 pub mod Observing

@@ -1,13 +1,13 @@
 //! The laws of the reference run.
 
 ghost use Rattle.ds_runs.specs.Laws.{RunsJoin, RunsAreOne, RunsExist, RunsEnd};
-ghost use Rattle.ds_machine.specs.Apart.{DisplayLeavesNine, GeometryLeavesNine, LeaveNine, LeaveNineOwn, LeaveSeven};
 ghost use Rattle.ds_machine.specs.Frames.{FramesAreFew, StepsFollowFrames, StepsFollowLists, StopsLeaveFrames, StopsLeaveLists};
 ghost use Rattle.ds_machine.specs.Halting.{BootsKeepNoMore, RunsKeepNoMore};
 ghost use Rattle.ds_machine.specs.Lagging.{CatchingUpRuns, LagRuns, LagStops};
 ghost use Rattle.ds_machine.specs.OwnSteps.{IsStep7, IsStep9};
 ghost use Rattle.ds_machine.specs.Private.{AheadRuns, AheadSteps};
 ghost use Rattle.ds_machine.specs.TurnSteps.{ActingMayStep, ActingRuns, ActingStops, TurnStepsFall};
+ghost use Rattle.ds_machine.specs.Touched.{EachTouches, GeometryDelays};
 ghost use Rattle.ds_machine.specs.Reference.{reference};
 ghost use Rattle.ds_machine.specs.Sound.{HasSoundParts};
 ghost use Rattle.ds_machine.specs.Counting.{CountsAddUp, LimitsRise, StartsRunning, StepsCount, StepsKeepRunning, StopsCountNone};
@@ -23,18 +23,15 @@ pub fn reference_laws()
     ensures end { RunsEnd reference 24 HasSoundParts }
 {}
 
-/// Does nothing; its contract states that a step neither changes a processor's own part nor depends on it, but for that processor's steps and those
-/// of its DMA channels. The display reads palettes and OAM, which stand with ARM9's part; `display` says that it changes none of that part, and
-/// depends on nothing else of it; `geometry` says that geometry's step changes the tick at which ARM9 is due and nothing else of that part, and
-/// depends on nothing else of it. `shares` says it of all that ARM9 alone reaches by the present map, also its bytes of shared work RAM and of video
-/// memory, and how those are shared out: the actors outside its fence neither change it nor depend on those bytes.
-#[tactic(auto, using(crate::proofs::Apart::leave_nine, crate::proofs::Apart::leave_seven))]
-pub fn own_part_laws()
-    ensures nine { LeaveNine }
-    ensures seven { LeaveSeven }
-    ensures shares { LeaveNineOwn }
-    ensures display { DisplayLeavesNine }
-    ensures geometry { GeometryLeavesNine }
+/// Does nothing; its contract states what each actor's step touches, by the rows of one table: with all the other parts of the machine from another
+/// one it comes to the same and leaves what it left, with those; and it leaves all parts but those that its row of changes has. So no step changes a
+/// processor's own part or depends on it but that processor's and those of its DMA channels, the display reads palettes and OAM alone of ARM9's, and
+/// ARM7 and its channels never change the bytes of shared work RAM and of video memory that ARM9 alone reaches, or how those are shared out.
+/// `geometry` says what geometry makes of the tick at which ARM9 is due, whatever it was.
+#[tactic(auto, using(crate::proofs::Touched::geometry_delays))]
+pub fn touch_laws()
+    ensures actors { EachTouches }
+    ensures geometry { GeometryDelays }
 {}
 
 /// Does nothing; its contract states that a processor's step is that of the processor's own crate: ARM9's that of `step9`, with CP15 in what it

@@ -42,9 +42,9 @@
 //! - `running_laws`: a machine goes on at boot, after each step that may be taken, with each later limit, and from any state that was kept
 //!   in which nobody is due below the limit and steps add up to at most 24 times the limit; each step that is taken is one more.
 //! - `own_step_laws`: a processor's step is that of `step9` or `step7`.
-//! - `own_part_laws`: no step but a processor's own and its channels' changes its own part or depends on it, but that the display reads
-//!   palettes and OAM and geometry moves the tick at which ARM9 is due past the end of a stall; clause `shares` says the same of what ARM9
-//!   alone reaches by the present map, with WRAMCNT and the banks' controls.
+//! - `touch_laws`: what each actor's step touches, as the table of actors says (`specs/Touched.antt`): with all other parts of the machine
+//!   from another one it comes to the same, and it leaves all parts but those that its row of changes has. Geometry moves the tick at which
+//!   ARM9 is due past the end of a stall.
 //! - `ahead_laws`: a private step before its turn is always taken, puts out nothing, and changes neither endings nor outputs of runs past
 //!   its tick.
 //! - `lag_laws`: nor does a step that doesn't observe geometry, taken before quiet geometry's steps that are due before it; where it stops
@@ -91,8 +91,8 @@ pub use answers::{Done, Private, Seen};
 pub use fences::rank_of;
 pub use geometry_laws::room_laws;
 pub use laws::{
-    acting_laws, ahead_laws, frame_laws, kept_laws, lag_laws, own_part_laws, own_step_laws,
-    own_turn_laws, reference_laws, running_laws, status_laws,
+    acting_laws, ahead_laws, frame_laws, kept_laws, lag_laws, own_step_laws, own_turn_laws,
+    reference_laws, running_laws, status_laws, touch_laws,
 };
 pub use machines::Machine;
 pub use next_events::First;

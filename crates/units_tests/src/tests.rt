@@ -12,6 +12,7 @@ mod irqs;
 mod maths;
 mod places;
 mod runs;
+mod saved_units;
 mod states;
 mod timers;
 mod waits;

@@ -40,7 +40,7 @@ fn may_wait(tick: u64, waits: u32) -> bool
 }
 
 impl Dma {
-    /// Puts the four channels, and the last unit's tick and waits, 168 bytes. The error is want of memory.
+    /// Puts the four channels, and the last unit's tick and waits, 160 bytes. The error is want of memory.
     #[tactic(auto, unfolding(crate::specs::Saved::dma_format))]
     pub fn pack(&self, into: &mut Packer) -> Result<(), AllocError>
         ensures { OnOk result (into.new ≡ bytes_written (dma_format self.now.proc) into.old self.now) }

@@ -1,0 +1,5 @@
+use Rattle.ds_machine.proofs.Touched.{each_touches}
+use Rattle.ds_machine.proofs.laws.touch_laws.Goals as goal
+
+pub returns-clause-actors : goal.returns-clause-actors
+returns-clause-actors c = each_touches

@@ -193,7 +193,7 @@ below_events next_event s proc tick is lt rank at there f = elim (sort_rank rank
   | inr rest ↦ elim rest [ inl e ↦ absurd (no_fence proc Nine rank e f) | inr e ↦ absurd (no_fence proc Seven rank e f) ]
 ]
 
-line_is : (next_event : NextEvent) (s : MachineState) → IsNextEvent next_event s → (proc : Proc) → line_kept next_event proc ≡ line_of s proc
+pub line_is : (next_event : NextEvent) (s : MachineState) → IsNextEvent next_event s → (proc : Proc) → line_kept next_event proc ≡ line_of s proc
 line_is next_event s is Nine = is.nine_line
 line_is next_event s is Seven = is.seven_line
 
@@ -391,6 +391,10 @@ limit_so next_event s proc until limit is some early free same =
     subst (HasLimit until s proc) (sym same)
     (limit_kept next_event s proc until is some early (free_by (is_blocked s proc) (sym (kept_is next_event s is proc) ∙ free)))
 
+-- one that waits for no tick but its own isn't blocked
+pub free_now : (next_event : NextEvent) (s : MachineState) (proc : Proc) → IsNextEvent next_event s → least_kept next_event proc ≡ 0 → is_blocked s proc ≡ false
+free_now next_event s proc is free = free_by (is_blocked s proc) (sym (kept_is next_event s is proc) ∙ free)
+
 -- one that is due early isn't blocked
 pub free_when : (next_event : NextEvent) (s : MachineState) (proc : Proc) (n : ℕ) → IsNextEvent next_event s → n ≡ waits_until next_event s proc → n < 2 ^ 56 → least_kept next_event proc ≡ 0
 free_when next_event s proc n is e lt = kept_is next_event s is proc ∙ ap least_of (due_when next_event s proc n is e lt).free
@@ -418,7 +422,7 @@ belongs_below until limit s proc has lt =
 apart_rank : (s : MachineState) (proc : Proc) → observes_by (Processor proc) s ≡ false → observes_by (actor_of (rank_of proc)) s ≡ false
 apart_rank s proc apart = ap (λ (a : actor.Actor). observes_by a s) (actor_is proc) ∙ apart
 
-needs_none : (s : MachineState) (proc : Proc) → observes_by (Processor proc) s ≡ false → CatchesUpFor (processor_of s proc).due (rank_of proc) s s
+pub needs_none : (s : MachineState) (proc : Proc) → observes_by (Processor proc) s ≡ false → CatchesUpFor (processor_of s proc).due (rank_of proc) s s
 needs_none s proc apart = subst (λ (b : Bool). CatchesUpIf b (processor_of s proc).due (rank_of proc) s s) (sym (apart_rank s proc apart)) refl
 
 abbrev apart_may : (s : MachineState) (proc : Proc) (n : ℕ) → IsDueAt s proc n → n ≤ 2 ^ 56 → IsLeast (acting_dues s) (record { 0 = n }) (rank_of proc) ⊎ IsAhead s proc
@@ -448,27 +452,6 @@ took_when next_event s next proc n until running d lt early goes apart made io o
       fewer = turn_steps_fall until s s next proc [] running.sound b (needs_none s proc apart) step;
       io = io;
       other = other;
-    }
-
--- ---- a loop over them: the steps so far were of the turn, and what is needed of the machine stayed so
-
-pub record Goes (until : ℕ) (proc : Proc) (next_event : NextEvent) (limit : ℕ) (start now : MachineState) : Type 0 where
-  pub steps : TakesSteps until proc start now
-  pub kept : IsNextEvent next_event now
-  pub running : IsRunning last_limit now
-  pub io : now.io ≡ start.io
-  pub least : limit ≡ limit_by next_event now proc until
-
-pub goes_on : (until : ℕ) (proc : Proc) (next_event : NextEvent) (limit : ℕ) (start before now : MachineState) → Goes until proc next_event limit start before
-    → TookStep until proc before now → IsNextEvent next_event now → Goes until proc next_event limit start now
-goes_on until proc next_event limit start before now g took is =
-    let across = least_kept next_event (other_proc proc) in
-    record {
-      steps = more_steps start before before now g.steps took.belongs (needs_none before proc took.apart) took.made;
-      kept = is;
-      running = took.running;
-      io = took.io ∙ g.io;
-      least = g.least ∙ ap (λ (due : ℕ). min (min next_event.events_until.0 until) (past_other proc (due_at_least across due))) (sym took.other);
     }
 
 -- ---- what some of them leave

@@ -48,6 +48,7 @@ pub mod ActingPlaces
 pub mod Running
 pub mod TurnSteps
 pub mod GoingSteps
+pub mod FastTurns
 pub mod VertexRuns
 pub mod VideoEvents
 pub mod Wakes

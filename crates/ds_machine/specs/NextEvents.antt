@@ -16,6 +16,8 @@ use Rattle.ds_machine.specs.Sound.{AreAsleep}
 use Rattle.ds_machine.specs.States.{MachineState}
 use Rattle.ds_machine.specs.Steps.{is_blocked, line_of, processor_of}
 use Rattle.ds_machine.specs.TurnSteps.{BelongsToTurn, own_remaining}
+use Rattle.ds_machine.specs.declared.going.Gone.{Gone}
+use Rattle.ds_machine.specs.declared.going.Gone.TheVariants as gone
 use Rattle.ds_machine.specs.declared.next_events.NextEvent.{NextEvent}
 
 -- What is kept between steps of the fast path. No public clause speaks of it.
@@ -88,3 +90,19 @@ pub record TookStep (until : ℕ) (proc : Proc) (s next : MachineState) : Type 0
   pub fewer : own_remaining until next proc < own_remaining until s proc
   pub io : next.io ≡ s.io
   pub other : (processor_of next (other_proc proc)).due ≡ (processor_of s (other_proc proc)).due
+
+-- what the fast steps of a processor go by: what is kept is so of the machine, which goes on, and its tick is known; the processor isn't blocked; and
+-- this is the first tick at which it isn't the least acting actor, or isn't due below a limit, any more
+pub record GoesFast (until : ℕ) (proc : Proc) (next_event : NextEvent) (limit : ℕ) (s : MachineState) : Type 0 where
+  pub kept : IsNextEvent next_event s
+  pub some : 0 < next_event.events_until.0
+  pub free : least_kept next_event proc ≡ 0
+  pub least : limit ≡ limit_by next_event s proc until
+  pub running : IsRunning last_limit s
+
+-- what trying one gives: it was taken, and the next goes by the same; or no step belongs to the turn any more; or it isn't a fast one. Where it wasn't
+-- taken the machine is as it was
+abbrev pub WentFast : ℕ → Proc → NextEvent → ℕ → MachineState → Gone → MachineState → Type 0
+WentFast until proc next_event limit old gone.Took new = TookStep until proc old new × GoesFast until proc next_event limit new
+WentFast until proc next_event limit old gone.Over new = (¬ BelongsToTurn until old proc) × (new ≡ old)
+WentFast until proc next_event limit old gone.Unknown new = new ≡ old

@@ -32,19 +32,12 @@ fn is_due_before(due: Option<Tick>, tick: Tick, rank: u8) -> bool
 }
 
 impl Parts {
-    /// Whether geometry is due and quiet.
-    pub fn is_quiet(&self) -> bool
-        ensures { result ≡ is_quiet self.now.io }
-    {
-        self.io.is_quiet()
-    }
-
     /// Whether quiet geometry is due before the place of a rank at a tick.
     #[inline(always)]
     pub fn is_behind(&self, tick: Tick, rank: u8) -> bool
         ensures { result ≡ is_behind tick.0 rank self.now }
     {
-        self.is_quiet() && is_due_before(self.io.io_due(Actor::Geometry), tick, rank)
+        self.io.is_quiet() && is_due_before(self.io.io_due(Actor::Geometry), tick, rank)
     }
 
     /// The step of quiet geometry. Nobody hears of it: on a sound machine nothing is to settle after it, and nobody is to wake.

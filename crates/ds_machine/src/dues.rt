@@ -1,28 +1,23 @@
 //! When the machine's actors are due, and when they act.
 
-ghost use Rattle.std.specs.Prelude.{◌≡◌, ◌<◌, Some};
+ghost use Rattle.std.specs.Prelude.{◌≡◌, Some};
 ghost use Rattle.ds_base.specs.declared.processors.Proc.TheVariants.{Nine, Seven};
 ghost use Rattle.ds_ports.specs.Acting.{acting_io_due};
 ghost use Rattle.ds_runs.specs.Actors.{IsNumbered};
 ghost use Rattle.ds_runs.specs.Order as order;
 ghost use Rattle.ds_runs.specs.Order.{due_with_rank, first_from};
-ghost use Rattle.ds_runs.specs.Runs.{due_at};
 ghost use Rattle.ds_runs.specs.declared.actors.Actor.TheVariants.{Geometry};
 ghost use Rattle.ds_machine.specs.Acting.{IsActing};
 ghost use Rattle.ds_machine.specs.NextEvents.{acting_events_of, events_of};
-ghost use Rattle.ds_machine.specs.Reference.{dues_of, due_by, keys_due, processor_due};
-ghost use Rattle.ds_machine.specs.StepAnswers.{IsDue};
+ghost use Rattle.ds_machine.specs.Reference.{due_by, processor_due};
 
+use crate::fences::rank_of;
 use crate::parts::Parts;
 use ds_base::{Due, Proc, Tick};
 use ds_runs::{Actor, earlier, earlier_than, entry, later_than};
 
 /// The rank of the key script.
 const SCRIPT: u8 = 0;
-/// The rank of ARM9's steps.
-const NINE: u8 = 22;
-/// The rank of ARM7's steps.
-const SEVEN: u8 = 23;
 
 impl Parts {
     /// When a processor is due, if it is.
@@ -36,14 +31,6 @@ impl Parts {
         Some(Tick(self.processor(proc).due))
     }
 
-    /// When the key script is due, if it is.
-    #[inline(always)]
-    fn script_due(&self) -> Option<Tick>
-        ensures { result ≡ keys_due self.now.keys }
-    {
-        self.script.due()
-    }
-
     /// When geometry is due, if it is and acts: quiet geometry doesn't.
     pub fn geometry_due(&self) -> Option<Tick>
         ensures { result ≡ acting_io_due Geometry self.now.io }
@@ -55,10 +42,10 @@ impl Parts {
     }
 
     /// The first actor that is due, but for the processors.
-    fn first_event(&self) -> Due
+    pub fn first_event(&self) -> Due
         ensures { Some result ≡ first_from 0 (events_of self.now) }
     {
-        later_than(entry(SCRIPT, self.script_due()), self.io.first_due())
+        later_than(entry(SCRIPT, self.script.due()), self.io.first_due())
     }
 
     /// The first of them that acts.
@@ -66,25 +53,18 @@ impl Parts {
     pub fn acting_event(&self) -> Due
         ensures { Some result ≡ first_from 0 (acting_events_of self.now) }
     {
-        later_than(entry(SCRIPT, self.script_due()), self.io.first_acting())
+        later_than(entry(SCRIPT, self.script.due()), self.io.first_acting())
     }
 
     /// The first of the processors that is due, if one is.
     #[inline(always)]
-    fn first_processor(&self) -> Option<Due>
+    pub fn first_processor(&self) -> Option<Due>
         ensures { result ≡ order.earlier (due_with_rank 22 (processor_due self.now Nine)) (due_with_rank 23 (processor_due self.now Seven)) }
     {
         earlier(
-            entry(NINE, self.processor_due(Proc::Nine)),
-            entry(SEVEN, self.processor_due(Proc::Seven)),
+            entry(rank_of(Proc::Nine), self.processor_due(Proc::Nine)),
+            entry(rank_of(Proc::Seven), self.processor_due(Proc::Seven)),
         )
-    }
-
-    /// The actor that is due first.
-    pub fn due(&self) -> Due
-        ensures { IsDue self.now result }
-    {
-        earlier_than(self.first_event(), self.first_processor())
     }
 
     /// The actor that acts next: the least that is due, but for quiet geometry.
@@ -95,14 +75,6 @@ impl Parts {
         earlier_than(self.acting_event(), self.first_processor())
     }
 
-    /// When the actor of a rank is due, if it is.
-    pub fn due_of(&self, rank: u8) -> Option<Tick>
-        requires { rank < 24 }
-        ensures { result ≡ due_at (dues_of self.now) rank }
-    {
-        self.due_by(Actor::of(rank))
-    }
-
     /// When an actor is due. One that isn't built yet is never due.
     #[inline(always)]
     pub fn due_by(&self, actor: Actor) -> Option<Tick>
@@ -110,7 +82,7 @@ impl Parts {
         ensures { result ≡ due_by actor self.now }
     {
         match actor {
-            Actor::KeyScript => self.script_due(),
+            Actor::KeyScript => self.script.due(),
             Actor::Processor(proc) => self.processor_due(proc),
             _ => self.io.io_due(actor),
         }

@@ -15,14 +15,13 @@ ghost use Rattle.ds_runs.specs.Order.{due_with_rank, first_from};
 ghost use Rattle.ds_runs.specs.Runs.{IsLeast};
 ghost use Rattle.video2d.specs.Scans.{scan_due_tick};
 
-use crate::answers::Private;
 use crate::parts::Parts;
 use ds_base::{Due, Proc, Tick};
 use ds_runs::{Actor, earlier, earlier_than, entry, later_than};
 
-/// A processor's rank.
+/// A processor's rank among the actors.
 #[inline(always)]
-fn rank_of(proc: Proc) -> u8
+pub fn rank_of(proc: Proc) -> u8
     ensures { result ≡ private.rank_of proc }
 {
     match proc {
@@ -109,7 +108,7 @@ impl Parts {
         requires { processor_due self.now proc ≡ Some tick }
         ensures { (result ≡ true) ↔ IsAhead self.now proc }
     {
-        tick.0 < self.fence(proc).0 && matches!(self.touches(proc), Private::Yes)
+        tick.0 < self.fence(proc).0 && self.is_step_private(proc)
     }
 
     /// Whether a processor's next step belongs to its turn with a limit: it is due below the limit, and is the least acting step, or may be taken

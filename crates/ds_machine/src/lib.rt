@@ -29,7 +29,7 @@
 //!   places are its boot ROM, the bytes of shared work RAM that WRAMCNT shows to it, palettes, OAM, and addresses of video memory that meet
 //!   no bank that is allotted to ARM7; ARM7's are its own work RAM from 3800000h on and its boot ROM.
 //! - `fence` is the least tick at which one acts of those that may halt it, wake it or make it wait (`IsFence`; quiet geometry doesn't
-//!   act), and `belongs` is exactly whether its next step belongs to its turn with a limit (`BelongsToTurn`).
+//!   act), and `belongs_by` is exactly whether its next step belongs to its turn with a limit (`BelongsToTurn`).
 //! - `go_fast` takes steps of its turn, as many as it knows of, and answers whether the turn is over; `first` tells a processor that is the
 //!   least acting actor, and the first tick at which it wouldn't be any more, or not be due below the turn's limit (`HasLimit`), by which
 //!   `go_fast` goes.
@@ -88,6 +88,7 @@ mod touching;
 mod turns;
 
 pub use answers::{Done, Private, Seen};
+pub use fences::rank_of;
 pub use geometry_laws::room_laws;
 pub use laws::{
     acting_laws, ahead_laws, frame_laws, kept_laws, lag_laws, own_step_laws, own_turn_laws,

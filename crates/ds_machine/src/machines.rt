@@ -24,10 +24,13 @@ ghost use Rattle.ds_machine.specs.Statuses.{HasBothStatuses};
 ghost use Rattle.ds_machine.specs.Steps.{processor_of, tick_of};
 
 use crate::answers::{Done, Private, Seen};
+use crate::going::Gone;
 use crate::next_events::{First, NextEvent};
 use crate::parts::Parts;
-use ds_base::{Due, Keys, Memory, Proc, Tick};
+use arm_exec::enters;
+use ds_base::{Due, Keys, Memory, Proc, Tick, Width};
 use ds_header::Cart;
+use ds_runs::{Actor, earlier_than};
 use gx_geometry::Lists;
 use std::alloc::{AllocError, Global};
 use std::marker::Model;
@@ -72,7 +75,7 @@ impl Machine {
     pub fn due(&self) -> Due
         ensures { IsDue self.now result }
     {
-        self.parts.due()
+        earlier_than(self.parts.first_event(), self.parts.first_processor())
     }
 
     /// The actor that acts next: the least of all that are due but quiet geometry, of whose steps nobody hears.
@@ -88,7 +91,7 @@ impl Machine {
         requires { rank < 24 }
         ensures { result ≡ due_at (dues_of self.now) rank }
     {
-        self.parts.due_of(rank)
+        self.parts.due_by(Actor::of(rank))
     }
 
     /// The step of the actor that is due first; or of the first that acts, where its step doesn't observe geometry, though quiet geometry may be due
@@ -103,7 +106,7 @@ impl Machine {
         ensures step { Steps rank self.old result self.new }
         ensures running { RunsAfter result self.new }
     {
-        let done = self.parts.step(rank);
+        let done = self.parts.step_actor(rank);
         let next_event = self.parts.next_event();
         self.next_event = next_event;
         done
@@ -116,12 +119,16 @@ impl Machine {
         requires { until.0 ≤ 2 ^ 56 }
         ensures { IfSome result (λ first. IsFirst until.0 self.now first) }
     {
-        self.parts.first_by(self.next_event, until)
+        if let Some(first) = self.parts.first_below(self.next_event, Proc::Nine, until) {
+            return Some(first);
+        }
+        self.parts.first_below(self.next_event, Proc::Seven, until)
     }
 
     /// A processor takes steps of its turn with a limit, while they are of the fast path; by the first tick at which it isn't the least acting one
-    /// any more. The answer is whether its turn is over; where it isn't known to be, `belongs` tells it, and the next step, where it belongs to the
-    /// turn, is to be taken by `step`. No unit behind the ports changes: so no frame becomes whole, and no lists are swapped.
+    /// any more. The answer is whether its turn is over; where it isn't known to be, `belongs_by` tells it, and the next step, where it belongs to the
+    /// turn, is to be taken by `step`. No unit behind the ports changes: so no frame becomes whole, and no lists are swapped. What is kept stays as it
+    /// is, and is handed to each step, so that it isn't loaded again after a store.
     #[inline(always)]
     pub fn go_fast(&mut self, proc: Proc, until: Tick, limit: u64) -> bool
         requires running { IsRunning last_limit self.old }
@@ -132,7 +139,17 @@ impl Machine {
         ensures io { self.new.io ≡ self.old.io }
         ensures limit { HasLimit until.0 self.new proc limit }
     {
-        self.parts.go_fast(self.next_event, proc, until, limit)
+        let next_event = self.next_event;
+        if next_event.events_until.0 == 0 {
+            return false;
+        }
+        'steps: loop {
+            match self.parts.step_fast(next_event, proc, until, limit) {
+                Gone::Took => {}
+                Gone::Over => return true,
+                Gone::Unknown => return false,
+            }
+        }
     }
 
     /// The first tick at which a processor that isn't blocked isn't the least acting actor, or isn't due below a limit, any more, while it alone
@@ -141,7 +158,11 @@ impl Machine {
         requires { until.0 ≤ 2 ^ 56 }
         ensures { IfSome result (λ limit. HasLimit until.0 self.now proc limit) }
     {
-        self.parts.limit_of(self.next_event, proc, until)
+        let next_event = self.next_event;
+        if next_event.events_until.0 == 0 || next_event.least(proc) != 0 {
+            return None;
+        }
+        Some(self.parts.limit_by(next_event, proc, until))
     }
 
     /// Whether a processor's next step may be taken before its turn, but for when it is due: it is due, its interrupt line is down, nothing that
@@ -149,7 +170,10 @@ impl Machine {
     pub fn touches(&self, proc: Proc) -> Private
         ensures { (result ≡ Yes) ↔ IsPrivate self.now proc }
     {
-        self.parts.touches(proc)
+        if self.parts.is_step_private(proc) {
+            return Private::Yes;
+        }
+        Private::No
     }
 
     /// The least tick at which one acts of those that may halt a processor, wake it or make it wait: the key script, the display, its timers, its DMA
@@ -161,14 +185,7 @@ impl Machine {
     }
 
     /// Whether a processor's next step belongs to its turn with a limit: it is due below the limit, and is the least acting step, or may be taken
-    /// before its turn.
-    pub fn belongs(&self, proc: Proc, until: Tick) -> bool
-        ensures { (result ≡ true) ↔ BelongsToTurn until.0 self.now proc }
-    {
-        self.parts.belongs(proc, until)
-    }
-
-    /// The same, by a tick before which the processor is known to be the least acting actor, if one is known; 0 where none is.
+    /// before its turn. It is told a tick before which the processor is known to be the least acting actor, or 0 where none is known.
     #[inline(always)]
     pub fn belongs_by(&self, proc: Proc, until: Tick, limit: u64) -> bool
         requires early { until.0 ≤ 2 ^ 56 }
@@ -193,7 +210,7 @@ impl Machine {
     pub fn quiet(&self) -> bool
         ensures { result ≡ is_quiet self.now.io }
     {
-        self.parts.is_quiet()
+        self.parts.io.is_quiet()
     }
 
     /// Whether quiet geometry is due before the place of a rank at a tick: earlier, or at that tick, where its own rank is lower.
@@ -247,8 +264,8 @@ impl Machine {
         ensures geometry { IsGx self.now.io.gx }
     {
         self.parts.laws();
-        self.parts.ipc_laws();
-        self.parts.gx_laws();
+        self.parts.io.ipc().laws();
+        self.parts.io.gx().laws();
     }
 
     /// What a processor does next: the entry of an interrupt, or a word of ARM code or a half of Thumb code; nothing while it isn't due: it is
@@ -256,7 +273,22 @@ impl Machine {
     pub fn seen(&self, proc: Proc) -> Seen
         ensures { result ≡ seen_of self.now proc }
     {
-        self.parts.seen(proc)
+        if self.parts.is_blocked(proc) {
+            return Seen::Idle;
+        }
+        let registers = &self.parts.processor(proc).core.registers;
+        let at = registers.pc();
+        if enters(registers, self.parts.line(proc)) {
+            return Seen::Irq(at);
+        }
+        if registers.is_thumb() {
+            let half = (self.parts.fetch_of(proc, at, Width::Half) % 0x1_0000) as u16;
+            return Seen::Half { at, half };
+        }
+        Seen::Word {
+            at,
+            word: self.parts.fetch_of(proc, at, Width::Word),
+        }
     }
 
     /// A memory's bytes, from where they lie: 4 MiB at most.
@@ -264,7 +296,18 @@ impl Machine {
         ensures value { result.now ≡ memory_of self.now memory }
         ensures most { length result.now ≤ 0x400000 }
     {
-        self.parts.bytes(memory)
+        match memory {
+            Memory::Itcm => self.parts.nine.itcm.bytes(),
+            Memory::Dtcm => self.parts.nine.dtcm.bytes(),
+            Memory::Main | Memory::Shared | Memory::Own7 | Memory::Palette | Memory::Oam => self
+                .parts
+                .map
+                .bytes(memory),
+            Memory::Vram => {
+                self.parts.io.vram().bank_laws();
+                self.parts.io.vram().bytes()
+            }
+        }
     }
 
     /// The byte of a memory at a place.
@@ -272,7 +315,15 @@ impl Machine {
         requires { at < memory_size memory }
         ensures { result ≡ slice_index (memory_of self.now memory) at }
     {
-        self.parts.byte_of(memory, at)
+        match memory {
+            Memory::Itcm => self.parts.nine.itcm.byte(at as usize),
+            Memory::Dtcm => self.parts.nine.dtcm.byte(at as usize),
+            Memory::Main | Memory::Shared | Memory::Own7 | Memory::Palette | Memory::Oam => self
+                .parts
+                .map
+                .byte_of(memory, at),
+            Memory::Vram => self.parts.io.vram().byte_of(at),
+        }
     }
 
     /// The last whole frame: 98,304 pixels, line by line, the upper screen's first; all 0 before the first one. Red, green and blue stand in bits
@@ -281,7 +332,7 @@ impl Machine {
         ensures value { result.now ≡ self.now.io.video.whole }
         ensures long { length result.now ≡ 98304 }
     {
-        self.parts.frame()
+        self.parts.io.video().frame()
     }
 
     /// When the last whole frame became so: at the start of its line 192. None exactly where none is whole yet.

@@ -1,23 +1,18 @@
 //! The machine's parts, and what is told of them.
 
-ghost use Rattle.std.specs.Prelude.{◌≡◌, ◌<◌, ◌≤◌, slice_index, length, IfOk};
-ghost use Rattle.ds_base.specs.Memories.{memory_size};
-ghost use Rattle.ds_ipc.specs.Ipcs.{AreSides};
+ghost use Rattle.std.specs.Prelude.{◌≡◌, IfOk};
 ghost use Rattle.ds_ports.specs.Io.{io_at_boot};
-ghost use Rattle.gx_fifo.specs.GxStates.{IsGx};
 ghost use Rattle.ds_machine.specs.Booted.{machine_blank, machine_booted};
-ghost use Rattle.ds_machine.specs.Inspections.{fetch_of, memory_of, seen_of};
+ghost use Rattle.ds_machine.specs.Inspections.{fetch_of};
 ghost use Rattle.ds_machine.specs.Processors.{state_of};
 ghost use Rattle.ds_machine.specs.Sound.{HasSoundParts};
 ghost use Rattle.ds_machine.specs.Steps.{is_blocked, line_of, processor_of};
 
-use crate::answers::Seen;
 use crate::processors::Processor;
 use crate::scripts::Script;
-use arm_exec::enters;
 use cp15_tcm::Cp15;
 use decode_cache::Decoder;
-use ds_base::{DTCM_BYTES, ITCM_BYTES, Keys, Memory, Proc, Width};
+use ds_base::{DTCM_BYTES, ITCM_BYTES, Keys, Proc, Width};
 use ds_header::Cart;
 use ds_map::{Block, Map, fetched_by_nine};
 use ds_ports::Io;
@@ -151,20 +146,6 @@ impl Parts {
         self.script.laws();
     }
 
-    /// Does nothing; its contract states what holds of the geometry engine and its FIFO at every time.
-    pub fn gx_laws(&self)
-        ensures { IsGx self.now.io.gx }
-    {
-        self.io.gx().laws();
-    }
-
-    /// Does nothing; its contract states what holds of both sides of the IPC at every time.
-    pub fn ipc_laws(&self)
-        ensures { AreSides self.now.io.ipc }
-    {
-        self.io.ipc().laws();
-    }
-
     /// What a processor fetches at an address.
     pub fn fetch_of(&self, proc: Proc, at: u32, width: Width) -> u32
         ensures { result ≡ fetch_of self.now proc at width }
@@ -177,69 +158,6 @@ impl Parts {
                 )
             }
             Proc::Seven => self.map.fetch(&self.io, Proc::Seven, at, width),
-        }
-    }
-
-    /// What a processor does next.
-    pub fn seen(&self, proc: Proc) -> Seen
-        ensures { result ≡ seen_of self.now proc }
-    {
-        if self.is_blocked(proc) {
-            return Seen::Idle;
-        }
-        let registers = &self.processor(proc).core.registers;
-        let at = registers.pc();
-        if enters(registers, self.line(proc)) {
-            return Seen::Irq(at);
-        }
-        if registers.is_thumb() {
-            let half = (self.fetch_of(proc, at, Width::Half) % 0x1_0000) as u16;
-            return Seen::Half { at, half };
-        }
-        Seen::Word {
-            at,
-            word: self.fetch_of(proc, at, Width::Word),
-        }
-    }
-
-    /// The last whole frame.
-    pub fn frame(&self) -> &[u16]
-        ensures value { result.now ≡ self.now.io.video.whole }
-        ensures long { length result.now ≡ 98304 }
-    {
-        self.io.video().frame()
-    }
-
-    /// A memory's bytes, from where they lie: 4 MiB at most.
-    pub fn bytes(&self, memory: Memory) -> &[u8]
-        ensures value { result.now ≡ memory_of self.now memory }
-        ensures most { length result.now ≤ 0x400000 }
-    {
-        match memory {
-            Memory::Itcm => self.nine.itcm.bytes(),
-            Memory::Dtcm => self.nine.dtcm.bytes(),
-            Memory::Main | Memory::Shared | Memory::Own7 | Memory::Palette | Memory::Oam => self
-                .map
-                .bytes(memory),
-            Memory::Vram => {
-                self.io.vram().bank_laws();
-                self.io.vram().bytes()
-            }
-        }
-    }
-
-    /// The byte of a memory at a place.
-    pub fn byte_of(&self, memory: Memory, at: u32) -> u8
-        requires { at < memory_size memory }
-        ensures { result ≡ slice_index (memory_of self.now memory) at }
-    {
-        match memory {
-            Memory::Itcm => self.nine.itcm.byte(at as usize),
-            Memory::Dtcm => self.nine.dtcm.byte(at as usize),
-            Memory::Main | Memory::Shared | Memory::Own7 | Memory::Palette | Memory::Oam => self
-                .map
-                .byte_of(memory, at),
-            Memory::Vram => self.io.vram().byte_of(at),
         }
     }
 }

@@ -100,7 +100,7 @@ fn take_operation<V: Side>(s: &mut Registers, view: &mut V, line: bool, next: &O
 /// The step.
 #[inline(always)]
 #[tactic(auto, using(crate::proofs::Taken::taken_entered))]
-pub fn take<V: Side, const VERSION: u32>(
+pub fn take_in_view<V: Side, const VERSION: u32>(
     s: &mut Registers,
     decoder: &mut Decoder<VERSION>,
     view: &mut V,
@@ -154,7 +154,7 @@ fn access_stays<V: Side>(s: &Registers, view: &V, next: &Operation) -> bool
 /// The step, where it is fast: a frequent instruction, which reaches RAM alone, or loads from a port that changes no unit and isn't observed; where
 /// it is ahead of its turn, it also has to reach private places alone. Where it isn't taken nothing is changed. No unit changes.
 #[inline]
-pub fn take_fast<V: Side, const VERSION: u32>(
+pub fn take_fast_in_view<V: Side, const VERSION: u32>(
     s: &mut Registers,
     decoder: &mut Decoder<VERSION>,
     view: &mut V,

@@ -5,13 +5,11 @@ ghost use Rattle.std.specs.List.{list_all};
 ghost use Rattle.arm_core.specs.Footprints.{span};
 ghost use Rattle.arm_words.specs.Fields.{HasFields};
 ghost use Rattle.ds_base.specs.Accesses.{Fetch};
-ghost use Rattle.ds_machine.specs.declared.answers.Private.TheVariants.{Yes};
 ghost use Rattle.ds_machine.specs.Private as private;
 ghost use Rattle.ds_machine.specs.Private.{is_deaf, next_fetch, IsPrivate, ProcessorStaysPrivate};
 ghost use Rattle.ds_ports.specs.Io.{io_of};
 ghost use Rattle.ds_machine.specs.Touching.{all_private, data_private, instr_at, is_private_to, is_told_nothing, FetchStaysPrivate, InstrStaysPrivate, IsFootprint};
 
-use crate::answers::Private;
 use crate::parts::Parts;
 use crate::sides::{is_private_to_nine, is_private_to_seven};
 use arm_core::{Reach, Registers, Touch, access_touch, footprint};
@@ -165,16 +163,9 @@ impl Parts {
     }
 
     /// Whether a processor's next step may be taken before its turn, but for when it is due.
-    pub fn touches(&self, proc: Proc) -> Private
-        ensures { (result ≡ Yes) ↔ IsPrivate self.now proc }
+    pub fn is_step_private(&self, proc: Proc) -> bool
+        ensures { (result ≡ true) ↔ IsPrivate self.now proc }
     {
-        if !self.is_blocked(proc)
-            && !self.line(proc)
-            && self.is_deaf(proc)
-            && self.stays_private(proc)
-        {
-            return Private::Yes;
-        }
-        Private::No
+        !self.is_blocked(proc) && !self.line(proc) && self.is_deaf(proc) && self.stays_private(proc)
     }
 }

@@ -16,7 +16,7 @@ ghost use Rattle.ds_machine.specs.Steps.{machine_concluded, goes_on, gone_by, is
 
 use crate::answers::Done;
 use crate::parts::Parts;
-use crate::steps::{Fast, take, take_fast};
+use crate::steps::{Fast, take_fast_in_view, take_in_view};
 use arm_core::Stepped;
 use ds_base::{LeftOut, Proc, Stop, Tick};
 use ds_map::{NineView, SevenView};
@@ -26,7 +26,7 @@ impl Parts {
     /// The step of the least actor, or of the least acting one, where its step doesn't observe geometry, or of a processor that may step before its
     /// turn, on a machine that goes on.
     #[inline(always)]
-    pub fn step(&mut self, rank: u8) -> Done
+    pub fn step_actor(&mut self, rank: u8) -> Done
         requires may { MayStep self.old rank }
         requires running { IsRunning last_limit self.old }
         ensures { Steps rank self.old result self.new }
@@ -96,7 +96,7 @@ impl Parts {
                     cp: &mut self.nine.cp15,
                     now,
                 };
-                take(
+                take_in_view(
                     &mut self.nine.processor.core.registers,
                     &mut self.nine.decoder,
                     &mut view,
@@ -109,7 +109,7 @@ impl Parts {
                     io: &mut self.io,
                     now,
                 };
-                take(
+                take_in_view(
                     &mut self.seven.processor.core.registers,
                     &mut self.seven.decoder,
                     &mut view,
@@ -145,7 +145,7 @@ impl Parts {
                     cp: &mut self.nine.cp15,
                     now,
                 };
-                take_fast(
+                take_fast_in_view(
                     &mut self.nine.processor.core.registers,
                     &mut self.nine.decoder,
                     &mut view,
@@ -159,7 +159,7 @@ impl Parts {
                     io: &mut self.io,
                     now,
                 };
-                take_fast(
+                take_fast_in_view(
                     &mut self.seven.processor.core.registers,
                     &mut self.seven.decoder,
                     &mut view,

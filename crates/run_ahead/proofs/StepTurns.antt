@@ -23,9 +23,9 @@ use Rattle.ds_machine.proofs.CatchingUp.{caught_more, caught_so}
 use Rattle.ds_machine.proofs.DueTicks.{due_of_rank}
 use Rattle.ds_machine.proofs.Running.{few_where_stops, running_acted, running_taken}
 use Rattle.ds_machine.proofs.TurnSteps.{running_along}
-use Rattle.run_ahead.specs.Consoles.{ConsoleState}
+use Rattle.run_ahead.specs.Consoles.{ConsoleState, open_of}
 use Rattle.run_ahead.specs.Inside.{TookStretch, TookTurn}
-use Rattle.run_ahead.specs.Turns.{EventStops, MeetsStop, TakesEvent, TakesQuiet, Turns, one_more_turn, run_to}
+use Rattle.run_ahead.specs.Turns.{MeetsStop, StopsActing, TakesActing, TakesQuiet, Turns, one_more_turn, run_to}
 use Rattle.run_ahead.specs.declared.turns.Turned.TheVariants as turned
 use Rattle.run_ahead.proofs.Stretches.{stop_few, stop_takes_none_back, stretch_took}
 
@@ -52,16 +52,16 @@ is_stop until proc s next left first t =
     })
 
 -- an event is a step of the least of those who act
-pub event_acted : (until : ℕ) (s next : MachineState) (outs : List Shown) (t : TakesEvent until s outs next) → Acted s next t.tick t.rank outs
+pub event_acted : (until : ℕ) (s next : MachineState) (outs : List Shown) (t : TakesActing until s outs next) → Acted s next t.tick t.rank outs
 event_acted until s next outs t = record { caught = t.caught; may = record { due = t.least.there; may = inl t.least }; catches = t.catches; makes = t.step }
 
-pub event_keeps : (until : ℕ) (s next : MachineState) (outs : List Shown) → IsSound s → (t : TakesEvent until s outs next) → ActedKeeps s next t.tick outs
+pub event_keeps : (until : ℕ) (s next : MachineState) (outs : List Shown) → IsSound s → (t : TakesActing until s outs next) → ActedKeeps s next t.tick outs
 event_keeps until s next outs sound t = acted_keeps s next t.tick t.rank outs sound (event_acted until s next outs t)
 
-event_stops : (until : ℕ) (s next : MachineState) (left : LeftOut) (t : EventStops until s left next) → ActedStops s next t.tick t.rank left
+event_stops : (until : ℕ) (s next : MachineState) (left : LeftOut) (t : StopsActing until s left next) → ActedStops s next t.tick t.rank left
 event_stops until s next left t = record { caught = t.caught; may = record { due = t.least.there; may = inl t.least }; catches = t.catches; stops = t.step }
 
-pub event_leaves : (until : ℕ) (s next : MachineState) (left : LeftOut) → IsSound s → (t : EventStops until s left next) → ActedLeaves s next t.tick
+pub event_leaves : (until : ℕ) (s next : MachineState) (left : LeftOut) → IsSound s → (t : StopsActing until s left next) → ActedLeaves s next t.tick
 event_leaves until s next left sound t = acted_stops s next t.tick t.rank left sound (event_stops until s next left t)
 
 -- whether geometry caught up or not, the display is where it was
@@ -76,14 +76,14 @@ shown_same s caught next swapped same = rw same refl
 pub event_took : (until : ℕ) (s caught next : MachineState) (tick : Tick) (rank : ℕ) (done : answer.Done) → IsSound s → IsLeast (acting_dues s) tick rank → rank < 22 → tick.0 < until
     → CatchesUpFor tick.0 rank s caught → Steps rank caught done next → TookTurn until s done next
 event_took until s caught next tick rank answers.Made sound least event below catches h =
-    inl (record { tick = tick; rank = rank; least = least; event = event; below = below; caught = caught; catches = catches; step = h })
+    inl (record { tick = tick; rank = rank; least = least; below = below; caught = caught; catches = catches; step = h }, event)
 event_took until s caught next tick rank (answers.Frame swapped) sound least event below catches h =
     let same = scan_if (observes_by (actor_of rank) s) tick.0 rank s caught sound catches in
     let step : reference_step rank caught ≡ Makes next (next_shown s next swapped ∷ []) =
     h ∙ ap (λ (shown : Shown). (let made : MachineStep MachineState Shown LeftOut = Makes next (shown ∷ []) in made)) (shown_same s caught next swapped same) in
-    record { tick = tick; rank = rank; least = least; event = event; below = below; caught = caught; catches = catches; step = step }
+    (record { tick = tick; rank = rank; least = least; below = below; caught = caught; catches = catches; step = step }, event)
 event_took until s caught next tick rank (answers.Stopped left) sound least event below catches h =
-    inl (record { tick = tick; rank = rank; least = least; event = event; below = below; caught = caught; catches = catches; step = h })
+    inl (record { tick = tick; rank = rank; least = least; below = below; caught = caught; catches = catches; step = h }, event)
 
 -- where nobody acts below a limit, nobody acts before it
 from_limit : (until at other : ℕ) → until ≤ at → (until < at) ⊎ ((until ≡ at) × (0 ≤ other))
@@ -117,7 +117,7 @@ pub record IsTaken (limit : ℕ) (s next : MachineState) : Type 0 where
   pub running : IsRunning limit next
   pub more : counts_of s < counts_of next
 
-event_taken : (until limit : ℕ) (s next : MachineState) (outs : List Shown) → until ≤ limit → IsRunning limit s → TakesEvent until s outs next → IsTaken limit s next
+event_taken : (until limit : ℕ) (s next : MachineState) (outs : List Shown) → until ≤ limit → IsRunning limit s → TakesActing until s outs next → IsTaken limit s next
 event_taken until limit s next outs le running t =
     let k = event_keeps until s next outs running.sound t in
     let below = t.below in
@@ -131,7 +131,7 @@ quiet_taken until limit s next le running t = record {
 
 pub made_taken : (until limit : ℕ) (s next : MachineState) → until ≤ limit → IsRunning limit s → TookTurn until s answers.Made next → IsTaken limit s next
 made_taken until limit s next le running t = elim t [
-  | inl event ↦ event_taken until limit s next [] le running event
+  | inl event ↦ event_taken until limit s next [] le running event.0
   | inr other ↦ elim other [
     | inl stretch ↦ record { running = running_along until limit stretch.proc s next le stretch.steps running; more = stretch_took until s next running.sound stretch }
     | inr quiet ↦ quiet_taken until limit s next le running quiet
@@ -139,19 +139,19 @@ made_taken until limit s next le running t = elim t [
 ]
 
 pub frame_taken : (until limit : ℕ) (s next : MachineState) (swapped : Bool) → until ≤ limit → IsRunning limit s → TookTurn until s (answers.Frame swapped) next → IsTaken limit s next
-frame_taken until limit s next swapped le running t = event_taken until limit s next (next_shown s next swapped ∷ []) le running t
+frame_taken until limit s next swapped le running t = event_taken until limit s next (next_shown s next swapped ∷ []) le running t.0
 
 -- where one stopped there were as few steps
 pub stopped_few : (until limit : ℕ) (s next : MachineState) (left : LeftOut) → until ≤ limit → IsRunning limit s → TookTurn until s (answers.Stopped left) next → counts_of next ≤ 24 * limit
 stopped_few until limit s next left le running t = elim t [
-  | inl event ↦ (let below = event.below in few_where_stops limit s next event.tick event.rank left (event_stops until s next left event) (omega (arith, below, le)) running)
+  | inl event ↦ (let acting = event.0 in let below = acting.below in few_where_stops limit s next acting.tick acting.rank left (event_stops until s next left acting) (omega (arith, below, le)) running)
   | inr stretch ↦ stop_few until s next left running.sound stretch limit le running
 ]
 
 -- and no step is taken back by one that stopped
 pub stopped_counts : (until : ℕ) (s next : MachineState) (left : LeftOut) → IsSound s → TookTurn until s (answers.Stopped left) next → counts_of s ≤ counts_of next
 stopped_counts until s next left sound t = elim t [
-  | inl event ↦ (event_leaves until s next left sound event).more
+  | inl event ↦ (event_leaves until s next left sound event.0).more
   | inr stretch ↦ stop_takes_none_back until s next left sound stretch
 ]
 
@@ -183,3 +183,20 @@ stops_now until limit turns m next stopped stop left same was is meets = (
   ),
   λ some. absurd (true≢false (sym (subst (λ (o : Option LeftOut). IsSome o) was some))),
 )
+
+-- ---- a turn that is taken at once, whichever processor's it is: what the loop over its steps leaves of the console's fields
+
+pub record CameAtOnce (until : ℕ) (proc : Proc) (s : MachineState) (limit open_now turns : ℕ) (next : MachineState) (stop : Option LeftOut) (stopped : Bool)
+    (limit_after open_after turns_after : ℕ) : Type 0 where
+  pub took : TookStretch until proc s stop next
+  pub goes : stopped ≡ false → stop ≡ None
+  pub stops : stopped ≡ true → (left : LeftOut) × (stop ≡ Some left)
+  pub limit_same : limit_after ≡ limit
+  pub open_same : open_after ≡ open_now
+  pub turns_same : turns_after ≡ turns
+
+-- it is known at once, where the turn's limit isn't above the one that is kept
+pub at_once : (until limit : ℕ) (stopped : Option LeftOut) (tick : Tick) → until ≤ open_of limit stopped → tick.0 < until
+    → (max limit until ≡ limit) × (stopped ≡ None)
+at_once until limit None tick le lt = (omega (arith, le), refl)
+at_once until limit (Some left) tick le lt = absurd (omega (arith, le, lt))

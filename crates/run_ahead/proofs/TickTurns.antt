@@ -14,8 +14,8 @@ use Rattle.ds_machine.specs.TurnSteps.{BelongsToTurn, TakesSteps, no_steps, more
 use Rattle.ds_machine.proofs.ActingDues.{acting_processor, due_where_acts}
 use Rattle.ds_machine.proofs.DueTicks.{own_tick}
 use Rattle.ds_machine.proofs.OwnRemaining.{turn_steps_fall}
-use Rattle.run_ahead.specs.TickTurns.{IsTickBefore, StopsActing, TakesActing, TurnsOfOneTick}
-use Rattle.run_ahead.specs.Turns.{MeetsStop, StretchStops, TakesEvent, TakesStretch}
+use Rattle.run_ahead.specs.TickTurns.{IsTickBefore, TurnsOfOneTick}
+use Rattle.run_ahead.specs.Turns.{MeetsStop, StopsActing, StretchStops, TakesActing, TakesStretch}
 use Rattle.run_ahead.specs.declared.turns.Turned.TheVariants as answers
 
 -- Turns of one tick.
@@ -74,17 +74,13 @@ module _ (until : ℕ) (tick : Tick) (proc : Proc) (s : MachineState) (sound : I
     | inr once ↦ absurd (none_after before once belongs)
   ]
 
-event_taken : (until : ℕ) (old new : MachineState) (outs : List Shown) → TakesEvent until old outs new → TakesActing until old outs new
-event_taken until old new outs t = record { tick = t.tick; rank = t.rank; least = t.least; below = t.below; caught = t.caught; catches = t.catches; step = t.step }
-
 stretch_taken : (until : ℕ) (old new : MachineState) → IsSound old → IsTickBefore until old → TakesStretch until old new → TakesActing until old [] new
 stretch_taken until old new sound before t =
     one_taken until t.tick t.proc old sound t.least t.below (acts_at_it until old t.tick (rank_of t.proc) before t.least t.below) new t.steps t.longest
 
 stop_met : (until : ℕ) (old new : MachineState) (left : LeftOut) → IsSound old → IsTickBefore until old → MeetsStop until old left new → StopsActing until old left new
 stop_met until old new left sound before t = elim t [
-  | inl event ↦
-      record { tick = event.tick; rank = event.rank; least = event.least; below = event.below; caught = event.caught; catches = event.catches; step = event.step }
+  | inl event ↦ event.0
   | inr stretch ↦ stretch_stopped stretch
 ] where
   stretch_stopped : StretchStops until old left new → StopsActing until old left new
@@ -93,14 +89,13 @@ stop_met until old new left sound before t = elim t [
 
 pub turns_of_one_tick : TurnsOfOneTick
 turns_of_one_tick until old answers.Ran new sound open_ before t = elim t.1 [
-  | inl event ↦ inl (event_taken until old.machine new.machine [] event)
+  | inl event ↦ inl event.0
   | inr other ↦ elim other [
     | inl stretch ↦ inl (stretch_taken until old.machine new.machine sound before stretch)
     | inr quiet ↦ inr quiet
   ]
 ]
-turns_of_one_tick until old (answers.Frame swapped) new sound open_ before t =
-    event_taken until old.machine new.machine (next_shown old.machine new.machine swapped ∷ []) t.1
+turns_of_one_tick until old (answers.Frame swapped) new sound open_ before t = t.1.0
 turns_of_one_tick until old answers.AtEnd new sound open_ before t =
     let le = t.1 before.rank before.tick before.least.there in let last = before.last in omega (arith, le, last)
 turns_of_one_tick until old (answers.Stopped left) new sound open_ before t = stop_met until old.machine new.machine left sound before (t.0 open_).0

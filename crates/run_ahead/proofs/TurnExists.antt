@@ -186,7 +186,7 @@ pub record GoesFurther (c : ConsoleState) : Type 0 where
 
 made_sound : (until : ℕ) (s next : MachineState) → IsSound s → TookTurn until s answers.Made next → IsSound next
 made_sound until s next sound t = elim t [
-  | inl event ↦ (event_keeps until s next [] sound event).sound
+  | inl event ↦ (event_keeps until s next [] sound event.0).sound
   | inr other ↦ elim other [
     | inl stretch ↦ sound_along until stretch.proc s next sound stretch.steps
     | inr quiet ↦ (caught_so until 0 s next sound quiet.catches.steps).sound
@@ -197,7 +197,7 @@ pub further : (until : ℕ) (c new : ConsoleState) (a : turned.Turned) → IsSou
 further until c new turns.Ran sound t one =
     record { still_open = ap (λ (x : ConsoleState). x.stopped) t.2 ∙ t.0; sound = made_sound until c.machine new.machine sound t.1 }
 further until c new (turns.Frame swapped) sound t one =
-    record { still_open = ap (λ (x : ConsoleState). x.stopped) t.2 ∙ t.0; sound = (event_keeps until c.machine new.machine (next_shown c.machine new.machine swapped ∷ []) sound t.1).sound }
+    record { still_open = ap (λ (x : ConsoleState). x.stopped) t.2 ∙ t.0; sound = (event_keeps until c.machine new.machine (next_shown c.machine new.machine swapped ∷ []) sound t.1.0).sound }
 further until c new turns.AtEnd sound t one = absurd (omega (arith, one))
 further until c new (turns.Stopped left) sound t one = absurd (omega (arith, one))
 

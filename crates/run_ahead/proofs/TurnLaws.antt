@@ -15,7 +15,7 @@ use Rattle.ds_machine.proofs.CatchingUp.{caught_so, catching_up_runs}
 use Rattle.ds_machine.proofs.MachineSchedule.{reference_schedules}
 use Rattle.ds_machine.proofs.TurnSteps.{takes_along}
 use Rattle.run_ahead.specs.Consoles.{ConsoleState}
-use Rattle.run_ahead.specs.Turns.{TakesEvent, TakesQuiet, MeetsStop, Turns, RunsOn, GoesOn, HasRuns, turns_remaining, one_if, counted_of, shown_in, turns_in, HasTurned, no_turn, one_turn, TurnsAddUp}
+use Rattle.run_ahead.specs.Turns.{TakesActing, TakesQuiet, MeetsStop, Turns, RunsOn, GoesOn, HasRuns, turns_remaining, one_if, counted_of, shown_in, turns_in, HasTurned, no_turn, one_turn, TurnsAddUp}
 use Rattle.run_ahead.specs.declared.turns.Turned as turned
 use Rattle.run_ahead.specs.declared.turns.Turned.TheVariants as answers
 use Rattle.run_ahead.proofs.StepTurns.{before_all, event_acted, event_keeps, event_leaves}
@@ -32,7 +32,7 @@ pub has_runs : (s : MachineState) → HasSoundParts s → HasRuns s
 has_runs s sound = λ limit. run_exists reference 24 HasSoundParts reference_schedules limit s sound
 
 -- the reference run from before an event goes through it
-event_goes_on : (until : ℕ) (old new : MachineState) (front : List Shown) → IsSound old → TakesEvent until old front new → GoesOn until old new front
+event_goes_on : (until : ℕ) (old new : MachineState) (front : List Shown) → IsSound old → TakesActing until old front new → GoesOn until old new front
 event_goes_on until old new front sound t = λ limit le end outs run.
     (let below = t.below in
     let a = event_acted until old new front t in
@@ -53,7 +53,7 @@ one_at_most false = omega arith
 fewer_turns : (until : ℕ) (old new : MachineState) → places_left until new < places_left until old → turns_remaining until new < turns_remaining until old
 fewer_turns until old new fewer = (let one = one_at_most (is_behind until 0 new) in omega (arith, fewer, one))
 
-event_fewer : (until : ℕ) (old new : MachineState) (front : List Shown) → IsSound old → TakesEvent until old front new → turns_remaining until new < turns_remaining until old
+event_fewer : (until : ℕ) (old new : MachineState) (front : List Shown) → IsSound old → TakesActing until old front new → turns_remaining until new < turns_remaining until old
 event_fewer until old new front sound t =
     fewer_turns until old new (acted_fewer old new t.tick t.rank front until sound t.least t.below (event_acted until old new front t))
 
@@ -70,16 +70,19 @@ quiet_fewer until old new sound t =
 pub runs_on : (until : ℕ) (old : ConsoleState) (answer : turned.Turned) (new : ConsoleState) → IsSoundUnlessStopped old → Turns until old answer new → old.stopped ≡ None
     → RunsOn until old.machine answer new.machine
 runs_on until old answers.Ran new sound t open_ = elim t.1 [
-  | inl event ↦ event_goes_on until old.machine new.machine [] (sound open_) event
+  | inl event ↦ event_goes_on until old.machine new.machine [] (sound open_) event.0
   | inr other ↦ elim other [
     | inl stretch ↦ goes_along until stretch.proc old.machine new.machine (sound open_) stretch.steps
     | inr quiet ↦ quiet_goes_on until old.machine new.machine (sound open_) quiet
   ]
 ]
-runs_on until old (answers.Frame swapped) new sound t open_ = event_goes_on until old.machine new.machine (next_shown old.machine new.machine swapped ∷ []) (sound open_) t.1
+runs_on until old (answers.Frame swapped) new sound t open_ = event_goes_on until old.machine new.machine (next_shown old.machine new.machine swapped ∷ []) (sound open_) t.1.0
 runs_on until old answers.AtEnd new sound t open_ = over old.machine t.1
 runs_on until old (answers.Stopped left) new sound t open_ = elim (t.0 open_).0 [
-  | inl event ↦ acting_stops old.machine event.caught new.machine event.tick event.rank until left (sound open_) (record { due = event.least.there; may = inl event.least }) event.catches event.below event.step
+  | inl event ↦
+      (let acting = event.0 in
+      acting_stops old.machine acting.caught new.machine acting.tick acting.rank until left (sound open_)
+      (record { due = acting.least.there; may = inl acting.least }) acting.catches acting.below acting.step)
   | inr stretch ↦ stretch_stops until old.machine new.machine left (sound open_) stretch
 ]
 
@@ -87,14 +90,14 @@ runs_on until old (answers.Stopped left) new sound t open_ = elim (t.0 open_).0 
 pub turn_falls : (until : ℕ) (old : ConsoleState) (answer : turned.Turned) (new : ConsoleState) → IsSoundUnlessStopped old → Turns until old answer new → counted_of answer ≡ 1
     → turns_remaining until new.machine < turns_remaining until old.machine
 turn_falls until old answers.Ran new sound t counts = elim t.1 [
-  | inl event ↦ event_fewer until old.machine new.machine [] (sound t.0) event
+  | inl event ↦ event_fewer until old.machine new.machine [] (sound t.0) event.0
   | inr other ↦ elim other [
     | inl stretch ↦ fewer_turns until old.machine new.machine (stretch_fewer until old.machine new.machine (sound t.0) stretch)
     | inr quiet ↦ quiet_fewer until old.machine new.machine (sound t.0) quiet
   ]
 ]
 turn_falls until old (answers.Frame swapped) new sound t counts =
-    event_fewer until old.machine new.machine (next_shown old.machine new.machine swapped ∷ []) (sound t.0) t.1
+    event_fewer until old.machine new.machine (next_shown old.machine new.machine swapped ∷ []) (sound t.0) t.1.0
 turn_falls until old answers.AtEnd new sound t counts = absurd (omega (arith, counts))
 turn_falls until old (answers.Stopped left) new sound t counts = absurd (omega (arith, counts))
 
@@ -125,7 +128,7 @@ turns_add_up until start now t = add t where
 
 stop_frames : (until : ℕ) (old new : MachineState) (left : LeftOut) → IsSound old → MeetsStop until old left new → last_frame new ≡ last_frame old
 stop_frames until old new left sound t = elim t [
-  | inl event ↦ (event_leaves until old new left sound event).frame
+  | inl event ↦ (event_leaves until old new left sound event.0).frame
   | inr stretch ↦ stop_frame until old new left sound stretch
 ]
 
@@ -137,20 +140,20 @@ stopped_frames until old new (Some l) e left sound t = ap (λ (x : ConsoleState)
 pub turn_frames : (until : ℕ) (old : ConsoleState) (answer : turned.Turned) (new : ConsoleState) → IsSoundUnlessStopped old → Turns until old answer new
     → FollowFrames old.machine new.machine (shown_in answer old.machine new.machine)
 turn_frames until old answers.Ran new sound t = elim t.1 [
-  | inl event ↦ (event_keeps until old.machine new.machine [] (sound t.0) event).frames
+  | inl event ↦ (event_keeps until old.machine new.machine [] (sound t.0) event.0).frames
   | inr other ↦ elim other [
     | inl stretch ↦ (takes_along until stretch.proc old.machine new.machine (sound t.0) stretch.steps).frame
     | inr quiet ↦ (caught_so until 0 old.machine new.machine (sound t.0) quiet.catches.steps).frame
   ]
 ]
-turn_frames until old (answers.Frame swapped) new sound t = (event_keeps until old.machine new.machine (next_shown old.machine new.machine swapped ∷ []) (sound t.0) t.1).frames
+turn_frames until old (answers.Frame swapped) new sound t = (event_keeps until old.machine new.machine (next_shown old.machine new.machine swapped ∷ []) (sound t.0) t.1.0).frames
 turn_frames until old answers.AtEnd new sound t = ap (λ (x : ConsoleState). last_frame x.machine) t.2
 turn_frames until old (answers.Stopped left) new sound t = stopped_frames until old new old.stopped refl left sound t
 
 -- and so with the lists of a swap
 stop_keeps_lists : (until : ℕ) (old new : MachineState) (left : LeftOut) → IsSound old → MeetsStop until old left new → last_lists new ≡ last_lists old
 stop_keeps_lists until old new left sound t = elim t [
-  | inl event ↦ (event_leaves until old new left sound event).lists
+  | inl event ↦ (event_leaves until old new left sound event.0).lists
   | inr stretch ↦ stop_lists until old new left sound stretch
 ]
 
@@ -162,12 +165,12 @@ stopped_lists until old new (Some l) e left sound t = ap (λ (x : ConsoleState).
 pub turn_lists : (until : ℕ) (old : ConsoleState) (answer : turned.Turned) (new : ConsoleState) → IsSoundUnlessStopped old → Turns until old answer new
     → FollowLists old.machine new.machine (shown_in answer old.machine new.machine)
 turn_lists until old answers.Ran new sound t = elim t.1 [
-  | inl event ↦ (event_keeps until old.machine new.machine [] (sound t.0) event).lists
+  | inl event ↦ (event_keeps until old.machine new.machine [] (sound t.0) event.0).lists
   | inr other ↦ elim other [
     | inl stretch ↦ (takes_along until stretch.proc old.machine new.machine (sound t.0) stretch.steps).lists
     | inr quiet ↦ (caught_so until 0 old.machine new.machine (sound t.0) quiet.catches.steps).lists
   ]
 ]
-turn_lists until old (answers.Frame swapped) new sound t = (event_keeps until old.machine new.machine (next_shown old.machine new.machine swapped ∷ []) (sound t.0) t.1).lists
+turn_lists until old (answers.Frame swapped) new sound t = (event_keeps until old.machine new.machine (next_shown old.machine new.machine swapped ∷ []) (sound t.0) t.1.0).lists
 turn_lists until old answers.AtEnd new sound t = ap (λ (x : ConsoleState). last_lists x.machine) t.2
 turn_lists until old (answers.Stopped left) new sound t = stopped_lists until old new old.stopped refl left sound t

@@ -239,7 +239,15 @@ none_comes until s came over comes = elim comes [
 
 event_comes : (until : ℕ) (old new : MachineState) (outs : List Shown) → TakesEvent until old outs new → TurnComes until old (Makes new outs)
 event_comes until old new outs t =
-    inl (record { tick = t.tick; rank = t.rank; least = t.least; event = t.event; below = t.below; comes = (t.caught, t.catches, t.step) })
+    (let acting = t.0 in
+    inl (record {
+      tick = acting.tick;
+      rank = acting.rank;
+      least = acting.least;
+      event = t.1;
+      below = acting.below;
+      comes = (acting.caught, acting.catches, acting.step);
+    }))
 
 stretch_comes : (until : ℕ) (old new : MachineState) → TakesStretch until old new → TurnComes until old (Makes new [])
 stretch_comes until old new t =
@@ -250,7 +258,16 @@ quiet_comes until old new t = inr (inr (record { next = new; is = refl; takes = 
 
 stop_comes : (until : ℕ) (old new : MachineState) (left : LeftOut) → MeetsStop until old left new → TurnComes until old (Stops left new)
 stop_comes until old new left t = elim t [
-  | inl e ↦ inl (record { tick = e.tick; rank = e.rank; least = e.least; event = e.event; below = e.below; comes = (e.caught, e.catches, e.step) })
+  | inl e ↦
+      (let acting = e.0 in
+      inl (record {
+        tick = acting.tick;
+        rank = acting.rank;
+        least = acting.least;
+        event = e.1;
+        below = acting.below;
+        comes = (acting.caught, acting.catches, acting.step);
+      }))
   | inr k ↦ inr (inl (record { proc = k.proc; tick = k.tick; least = k.least; below = k.below; before = k.before; steps = k.steps; last = (k.belongs, (k.caught, k.catches, k.step)) }))
 ]
 

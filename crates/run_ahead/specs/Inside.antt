@@ -1,15 +1,17 @@
-use Rattle.std.specs.Prelude.{ℕ, ◌≡◌, ◌<◌, ◌⊎◌, [], ◌∷◌, Option, Some, None}
+use Rattle.std.specs.Prelude.{ℕ, ◌≡◌, ◌<◌, ◌⊎◌, [], ◌∷◌, Option, Some, None, max}
 use Rattle.ds_base.specs.declared.left_out.LeftOut.{LeftOut}
 use Rattle.ds_base.specs.declared.processors.Proc.{Proc}
 use Rattle.ds_runs.specs.Runs.{Makes, Stops}
 use Rattle.ds_machine.specs.Lagging.{CatchesUpFor}
 use Rattle.ds_machine.specs.Private.{rank_of}
-use Rattle.ds_machine.specs.TurnSteps.{BelongsToTurn, TakesSteps}
+use Rattle.ds_machine.specs.TurnSteps.{BelongsToTurn, IsFirst, TakesSteps}
 use Rattle.ds_machine.specs.Reference.{next_shown, reference_step}
 use Rattle.ds_machine.specs.States.{MachineState}
 use Rattle.ds_machine.specs.Steps.{processor_of}
 use Rattle.ds_machine.specs.declared.answers.Done.{Done}
 use Rattle.ds_machine.specs.declared.answers.Done.TheVariants as answers
+use Rattle.ds_machine.specs.declared.next_events.First.{First}
+use Rattle.run_ahead.specs.Consoles.{ConsoleState}
 use Rattle.run_ahead.specs.declared.machine_turns.Slow.{Slow}
 use Rattle.run_ahead.specs.declared.machine_turns.Slow.TheVariants as slow
 use Rattle.run_ahead.specs.Turns.{MeetsStop, TakesEvent, TakesQuiet, TakesStretch}
@@ -45,3 +47,9 @@ abbrev pub TookTurn : ℕ → MachineState → Done → MachineState → Type 0
 TookTurn until old answers.Made new = TakesEvent until old [] new ⊎ (TakesStretch until old new ⊎ TakesQuiet until old new)
 TookTurn until old (answers.Frame swapped) new = TakesEvent until old (next_shown old new swapped ∷ []) new
 TookTurn until old (answers.Stopped left) new = MeetsStop until old left new
+
+-- a processor is known to be the least acting actor of a console that hasn't stopped, up to a tick, and its turn raises no limit: it can be taken at once
+pub record IsAtOnce (until : ℕ) (c : ConsoleState) (first : First) : Type 0 where
+  pub known : IsFirst until c.machine first
+  pub same : max c.limit until ≡ c.limit
+  pub still_open : c.stopped ≡ None

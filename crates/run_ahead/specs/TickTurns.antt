@@ -1,40 +1,17 @@
-use Rattle.std.specs.Prelude.{ℕ, ◌≡◌, ◌<◌, ◌+◌, ◌⊎◌, List, [], ◌∷◌, None}
-use Rattle.ds_base.specs.declared.left_out.LeftOut.{LeftOut}
+use Rattle.std.specs.Prelude.{ℕ, ◌≡◌, ◌+◌, ◌⊎◌, [], ◌∷◌, None}
 use Rattle.ds_base.specs.declared.ticks.Tick.{Tick}
-use Rattle.ds_runs.specs.Runs.{IsLeast, Makes, Stops}
-use Rattle.ds_machine.specs.Acting.{acting_dues}
-use Rattle.ds_machine.specs.Lagging.{CatchesUpFor}
-use Rattle.ds_machine.specs.Reference.{Shown, next_shown, dues_of, reference_step}
+use Rattle.ds_runs.specs.Runs.{IsLeast}
+use Rattle.ds_machine.specs.Reference.{dues_of, next_shown}
 use Rattle.ds_machine.specs.Sound.{IsSound}
 use Rattle.ds_machine.specs.States.{MachineState}
 use Rattle.run_ahead.specs.Consoles.{ConsoleState}
-use Rattle.run_ahead.specs.Turns.{TakesQuiet, Turns}
+use Rattle.run_ahead.specs.Turns.{StopsActing, TakesActing, TakesQuiet, Turns}
 use Rattle.run_ahead.specs.declared.turns.Turned.{Turned}
 use Rattle.run_ahead.specs.declared.turns.Turned.TheVariants.{Ran, Frame, AtEnd, Stopped}
 
 -- Turns of one tick: those whose limit is the tick after the one at which the least of all actors is due.
 
--- the step of the least acting actor, which is due below a limit; where it observes geometry, geometry catches up before it
-pub record TakesActing (until : ℕ) (old : MachineState) (outs : List Shown) (new : MachineState) : Type 0 where
-  pub tick : Tick
-  pub rank : ℕ
-  pub least : IsLeast (acting_dues old) tick rank
-  pub below : tick.0 < until
-  pub caught : MachineState
-  pub catches : CatchesUpFor tick.0 rank old caught
-  pub step : reference_step rank caught ≡ Makes new outs
-
--- that step stops the machine, and leaves this state
-pub record StopsActing (until : ℕ) (old : MachineState) (left : LeftOut) (new : MachineState) : Type 0 where
-  pub tick : Tick
-  pub rank : ℕ
-  pub least : IsLeast (acting_dues old) tick rank
-  pub below : tick.0 < until
-  pub caught : MachineState
-  pub catches : CatchesUpFor tick.0 rank old caught
-  pub step : reference_step rank caught ≡ Stops left new
-
--- by a turn's answer, it took that step alone, or what quiet geometry does below the limit, or the step stopped
+-- by a turn's answer, it took the step of the least acting actor alone, or what quiet geometry does below the limit, or the step stopped
 abbrev pub IsTickTurn : ℕ → MachineState → Turned → MachineState → Type 0
 IsTickTurn until old Ran new = TakesActing until old [] new ⊎ TakesQuiet until old new
 IsTickTurn until old (Frame swapped) new = TakesActing until old (next_shown old new swapped ∷ []) new

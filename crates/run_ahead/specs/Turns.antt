@@ -19,17 +19,19 @@ use Rattle.run_ahead.specs.declared.turns.Turned.TheVariants.{Ran, Frame, AtEnd,
 
 -- A turn: what it does, and what that says of the reference run.
 
--- the least acting actor of a machine is due below the limit, and isn't a processor: its event is the turn; where it observes geometry, geometry
--- catches up before it
-pub record TakesEvent (until : ℕ) (old : MachineState) (outs : List Shown) (new : MachineState) : Type 0 where
+-- the step of the least acting actor, which is due below a limit; where it observes geometry, geometry catches up before it
+pub record TakesActing (until : ℕ) (old : MachineState) (outs : List Shown) (new : MachineState) : Type 0 where
   pub tick : Tick
   pub rank : ℕ
   pub least : IsLeast (acting_dues old) tick rank
-  pub event : rank < 22
   pub below : tick.0 < until
   pub caught : MachineState
   pub catches : CatchesUpFor tick.0 rank old caught
   pub step : reference_step rank caught ≡ Makes new outs
+
+-- that actor isn't a processor: its event is the turn
+abbrev pub TakesEvent : ℕ → MachineState → List Shown → MachineState → Type 0
+TakesEvent until old outs new = (acting : TakesActing until old outs new) × (acting.rank < 22)
 
 -- it is a processor: the turn is its step and then the longest run of its further steps that belong to the turn
 pub record TakesStretch (until : ℕ) (old new : MachineState) : Type 0 where
@@ -46,18 +48,21 @@ pub record TakesQuiet (until : ℕ) (old new : MachineState) : Type 0 where
   pub some : is_behind until 0 old ≡ true
   pub catches : CatchesUp until 0 old new
 
--- the event stops the machine, and leaves this state
-pub record EventStops (until : ℕ) (old : MachineState) (left : LeftOut) (new : MachineState) : Type 0 where
+-- the step of the least acting actor stops the machine, and leaves this state
+pub record StopsActing (until : ℕ) (old : MachineState) (left : LeftOut) (new : MachineState) : Type 0 where
   pub tick : Tick
   pub rank : ℕ
   pub least : IsLeast (acting_dues old) tick rank
-  pub event : rank < 22
   pub below : tick.0 < until
   pub caught : MachineState
   pub catches : CatchesUpFor tick.0 rank old caught
   pub step : reference_step rank caught ≡ Stops left new
 
--- so does a step of the processor that belongs to its turn, after the steps before it
+-- it is an event that does
+abbrev pub EventStops : ℕ → MachineState → LeftOut → MachineState → Type 0
+EventStops until old left new = (acting : StopsActing until old left new) × (acting.rank < 22)
+
+-- or a step of the processor that belongs to its turn, after the steps before it
 pub record StretchStops (until : ℕ) (old : MachineState) (left : LeftOut) (new : MachineState) : Type 0 where
   pub proc : Proc
   pub tick : Tick

@@ -7,18 +7,16 @@ ghost use Rattle.ds_machine.specs.Booted.{machine_booted};
 ghost use Rattle.ds_machine.specs.Frames.{framed_of, FollowFrames, FollowLists};
 ghost use Rattle.ds_machine.specs.Inspections.{memory_of, registers_of, seen_of};
 ghost use Rattle.ds_ipc.specs.Ipcs.{AreSides};
-ghost use Rattle.ds_machine.specs.TurnSteps.{HasLimit};
-ghost use Rattle.ds_machine.specs.TurnSteps.{IsLeastBelow};
 ghost use Rattle.ds_machine.specs.Sound.{HasSoundParts, IsSound};
 ghost use Rattle.ds_machine.specs.StepAnswers.{IsDue};
 ghost use Rattle.ds_machine.specs.Statuses.{HasBothStatuses};
 ghost use Rattle.run_ahead.specs.Consoles.{AreWithin};
+ghost use Rattle.run_ahead.specs.Inside.{IsAtOnce};
 ghost use Rattle.run_ahead.specs.Turns.{Turns, TurnsUpTo, RunsOn, HasRuns, turns_remaining, counted_of, shown_in};
 ghost use Rattle.ds_base.specs.declared.left_out.LeftOut.{LeftOut};
-ghost use Rattle.run_ahead.specs.declared.consoles.AtOnce.TheVariants as once;
 ghost use Rattle.run_ahead.specs.declared.turns.Turned.TheVariants.{Ran, Stopped};
 
-use crate::machine_turns::{take_first, take_turn};
+use crate::machine_turns::{take_stretch, take_turn};
 use crate::turns::Turned;
 use ds_base::{Due, Keys, LeftOut, Memory, Proc, Tick};
 use ds_header::Cart;
@@ -38,17 +36,6 @@ pub struct Counts {
     pub events: u64,
     /// Turns that took a step and didn't stop.
     pub turns: u64,
-}
-
-/// What came of trying to take a turn at once.
-#[derive(Clone, Copy)]
-pub enum AtOnce {
-    /// It was taken.
-    Ran,
-    /// It was taken, and stopped.
-    Stopped,
-    /// It isn't one that can be.
-    NotTaken,
 }
 
 /// A console. No call but `turn` and `run_on`, which is turns alone, changes it.
@@ -124,10 +111,11 @@ impl Console {
     {
         'run: loop {
             self.laws();
-            match self.at_once(until) {
-                AtOnce::Ran => continue 'run,
-                AtOnce::Stopped => return self.stop_answer(),
-                AtOnce::NotTaken => {}
+            if let Some(first) = self.first_at_once(until) {
+                if self.take_at_once(first, until) {
+                    return self.stop_answer();
+                }
+                continue 'run;
             }
             match self.turn(until) {
                 Turned::Ran => {}
@@ -154,38 +142,50 @@ impl Console {
         self.machine.laws();
     }
 
-    /// A turn, where it raises no limit and the least acting actor is known to be a processor: the fast path stands here, and has one caller. Where
-    /// it isn't taken nothing is changed. The answer has no stop in it, which would be moved at each turn.
+    /// The processor whose turn can be taken at once: it is known to be the least acting actor, and its turn raises no limit.
     #[inline(always)]
-    fn at_once(&mut self, until: Tick) -> AtOnce
+    fn first_at_once(&self, until: Tick) -> Option<First>
         requires { until.0 ≤ 2 ^ 56 }
-        ensures ran { result ≡ once.Ran → Turns until.0 self.old Ran self.new }
-        ensures stopped { result ≡ once.Stopped → (left : LeftOut) × (self.new.stopped ≡ Some left) × Turns until.0 self.old (Stopped left) self.new }
-        ensures none { result ≡ once.NotTaken → self.new ≡ self.old }
+        ensures { IfSome result (IsAtOnce until.0 self.now) }
     {
-        if until.0 <= self.open_until
-            && let Some(first) = self.machine.first(until)
-        {
-            if self.go(first, until) {
-                return AtOnce::Stopped;
-            }
-            return AtOnce::Ran;
+        let most = self.open_until;
+        if until.0 > most {
+            return None;
         }
-        AtOnce::NotTaken
+        let Some(first) = self.machine.first(until) else {
+            return None;
+        };
+        Some(first)
     }
 
-    /// The turn of a processor that is the least acting actor, which raises no limit. The answer is whether it stopped.
+    /// The turn of such a processor, on the fast path, which has one caller. The answer is whether it stopped: the stop itself would be moved at each
+    /// turn. There are two copies of the loop over its steps, one for each processor.
     #[inline(always)]
-    fn go(&mut self, first: First, until: Tick) -> bool
+    fn take_at_once(&mut self, first: First, until: Tick) -> bool
         requires early { until.0 ≤ 2 ^ 56 }
-        requires least { IsLeastBelow until.0 self.old.machine first.proc }
-        requires limit { HasLimit until.0 self.old.machine first.proc first.limit }
-        requires same { max self.old.limit until.0 ≡ self.old.limit }
-        requires still_open { self.old.stopped ≡ None }
+        requires first { IsAtOnce until.0 self.old first }
         ensures ran { result ≡ false → Turns until.0 self.old Ran self.new }
         ensures stopped { result ≡ true → (left : LeftOut) × (self.new.stopped ≡ Some left) × Turns until.0 self.old (Stopped left) self.new }
     {
-        if take_first(&mut self.machine, &mut self.stopped, first, until) {
+        let proc = first.proc;
+        let limit = first.limit;
+        let stopped = match proc {
+            Proc::Nine => take_stretch(
+                &mut self.machine,
+                &mut self.stopped,
+                Proc::Nine,
+                until,
+                limit,
+            ),
+            Proc::Seven => take_stretch(
+                &mut self.machine,
+                &mut self.stopped,
+                Proc::Seven,
+                until,
+                limit,
+            ),
+        };
+        if stopped {
             self.open_until = 0;
             return true;
         }

@@ -5,23 +5,12 @@ ghost use Rattle.ds_base.specs.declared.left_out.LeftOut.{LeftOut};
 ghost use Rattle.ds_machine.specs.TurnSteps.{HasLimit};
 ghost use Rattle.ds_machine.specs.Steps.{processor_of};
 ghost use Rattle.ds_machine.specs.Acting.{IsActing, is_behind};
-ghost use Rattle.ds_machine.specs.Private as private;
 ghost use Rattle.ds_machine.specs.Counting.{last_limit, IsRunning};
 ghost use Rattle.ds_machine.specs.TurnSteps.{BelongsToTurn, TakesSteps};
 ghost use Rattle.run_ahead.specs.Inside.{HasProcessor, TookSlowly, TookStretch, TookTurn};
 
 use ds_base::{Due, LeftOut, Proc, Tick};
-use ds_machine::{Done, First, Machine};
-
-/// A processor's rank.
-fn rank_of(proc: Proc) -> u8
-    ensures { result ≡ private.rank_of proc }
-{
-    match proc {
-        Proc::Nine => 22,
-        Proc::Seven => 23,
-    }
-}
+use ds_machine::{Done, Machine, rank_of};
 
 /// The processor of a rank, where it is one's.
 fn processor_of(rank: u8) -> Option<Proc>
@@ -77,33 +66,11 @@ fn step_slowly(
     }
 }
 
-/// Takes the steps of a turn whose processor is the first. There are two copies of the loop over them, one for each processor.
-#[inline(always)]
-pub fn take_first(
-    machine: &mut Machine,
-    stop: &mut Option<LeftOut>,
-    first: First,
-    until: Tick,
-) -> bool
-    requires early { until.0 ≤ 2 ^ 56 }
-    requires going { IsRunning last_limit machine.old }
-    requires running { stop.old ≡ None }
-    requires limit { HasLimit until.0 machine.old first.proc first.limit }
-    ensures took { TookStretch until.0 first.proc machine.old stop.new machine.new }
-    ensures goes { result ≡ false → stop.new ≡ None }
-    ensures stops { result ≡ true → (left : LeftOut) × (stop.new ≡ Some left) }
-{
-    match first.proc {
-        Proc::Nine => take_stretch(machine, stop, Proc::Nine, until, first.limit),
-        Proc::Seven => take_stretch(machine, stop, Proc::Seven, until, first.limit),
-    }
-}
-
 /// Takes a processor's steps that belong to its turn with a limit, one after another, up to the first that doesn't, or to one that stops the machine,
 /// whose stop is put where stops are kept. The answer is whether there is one. It begins with the first tick at which the processor isn't the least
 /// acting one any more.
 #[inline(always)]
-fn take_stretch(
+pub fn take_stretch(
     machine: &mut Machine,
     stop: &mut Option<LeftOut>,
     proc: Proc,

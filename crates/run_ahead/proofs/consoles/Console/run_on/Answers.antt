@@ -1,6 +1,5 @@
 use Rattle.std.proofs.Common.{◌≤◌, refl, sym, subst, arith}
-use Rattle.run_ahead.specs.Consoles.{ConsoleState}
-use Rattle.run_ahead.specs.Turns.{RanOn, TurnsUpTo, turns_remaining}
+use Rattle.run_ahead.specs.Turns.{TurnsUpTo}
 use Rattle.run_ahead.specs.declared.turns.Turned as turned
 use Rattle.run_ahead.specs.declared.turns.Turned.TheVariants as answers
 use Rattle.run_ahead.proofs.RunningOn.{ran_first, ran_more, up_to_counts}
@@ -10,60 +9,58 @@ use Rattle.run_ahead.proofs.consoles.Console.run_on.Goals as goal
 pub run-init : goal.run-init
 run-init c = record { ran = ran_first c.args.until.0 c.args.self.now; left = omega arith }
 
-pub run-preserved-in-Ran : goal.run-preserved-in-Ran
-run-preserved-in-Ran c =
+pub run-preserved-in-Some : goal.run-preserved-in-Some
+run-preserved-in-Some c =
     let until = c.args.until.0 in
     let left = c.run.invariant.left in
     let sound = c.laws.ensures.sound in
-    let t = c.in-Ran.ensures.ran refl in
-    let falls = turn_falls until c.run.self answers.Ran c.at_once.new.self sound t refl in
+    let new = c.take_at_once.new.self in
+    let t = c.take_at_once.ensures.ran c.if-take_at_once.false in
+    let falls = turn_falls until c.run.self answers.Ran new sound t refl in
     record {
-      ran = ran_more until c.args.self.now c.run.self c.at_once.new.self c.run.invariant.ran t (runs_on until c.run.self answers.Ran c.at_once.new.self sound t t.0)
-          (turn_frames until c.run.self answers.Ran c.at_once.new.self sound t) (turn_lists until c.run.self answers.Ran c.at_once.new.self sound t);
+      ran = ran_more until c.args.self.now c.run.self new c.run.invariant.ran t (runs_on until c.run.self answers.Ran new sound t t.0)
+          (turn_frames until c.run.self answers.Ran new sound t) (turn_lists until c.run.self answers.Ran new sound t);
       left = omega (arith, left, falls);
     }
 
-pub run-smaller-in-Ran : goal.run-smaller-in-Ran
-run-smaller-in-Ran c = turn_falls c.args.until.0 c.run.self answers.Ran c.at_once.new.self c.laws.ensures.sound (c.in-Ran.ensures.ran refl) refl
+pub run-smaller-in-Some : goal.run-smaller-in-Some
+run-smaller-in-Some c =
+    turn_falls c.args.until.0 c.run.self answers.Ran c.take_at_once.new.self c.laws.ensures.sound (c.take_at_once.ensures.ran c.if-take_at_once.false) refl
 
 pub run-preserved : goal.run-preserved
 run-preserved c =
-    let same = sym (c.in-NotTaken.ensures.none refl) in
-    let ran = subst (λ (x : ConsoleState). RanOn c.args.until.0 c.args.self.now x) same c.run.invariant.ran in
-    let left = subst (λ (x : ConsoleState). turns_remaining c.args.until.0 x.machine ≤ turns_remaining c.args.until.0 c.args.self.now.machine) same c.run.invariant.left in
-    let falls = c.in-Ran-turn.ensures.falls refl in
-    let t = c.in-Ran-turn.ensures.turn in
+    let left = c.run.invariant.left in
+    let falls = c.in-Ran.ensures.falls refl in
+    let t = c.in-Ran.ensures.turn in
     record {
-      ran = ran_more c.args.until.0 c.args.self.now c.at_once.new.self c.turn.new.self ran t (c.in-Ran-turn.ensures.runs t.0) c.in-Ran-turn.ensures.frames c.in-Ran-turn.ensures.lists;
+      ran = ran_more c.args.until.0 c.args.self.now c.run.self c.turn.new.self c.run.invariant.ran t (c.in-Ran.ensures.runs t.0) c.in-Ran.ensures.frames c.in-Ran.ensures.lists;
       left = omega (arith, left, falls);
     }
 
 pub returns-in_default : goal.returns-in_default
 returns-in_default c =
-    let same = sym (c.in-NotTaken.ensures.none refl) in
-    let ran = subst (λ (x : ConsoleState). RanOn c.args.until.0 c.args.self.now x) same c.run.invariant.ran in
-    let left = subst (λ (x : ConsoleState). turns_remaining c.args.until.0 x.machine ≤ turns_remaining c.args.until.0 c.args.self.now.machine) same c.run.invariant.left in
+    let left = c.run.invariant.left in
     record {
       turns = record {
-        before = c.at_once.new.self;
-        ran = ran;
+        before = c.run.self;
+        ran = c.run.invariant.ran;
         last = c.turn.ensures.turn;
         runs = c.turn.ensures.runs;
         frames = c.turn.ensures.frames;
         lists = c.turn.ensures.lists;
-        counted = up_to_counts c.args.until.0 c.args.self.now c.at_once.new.self c.turn.new.self c.turn.result ran c.turn.ensures.turn;
+        counted = up_to_counts c.args.until.0 c.args.self.now c.run.self c.turn.new.self c.turn.result c.run.invariant.ran c.turn.ensures.turn;
       };
       other = c.in_default.not-Ran;
       falls = λ counts. (let falls = c.turn.ensures.falls counts in omega (arith, left, falls));
     }
 
-pub returns-in-Stopped-clause-turns : goal.returns-in-Stopped-clause-turns
-returns-in-Stopped-clause-turns c =
+pub returns-then-take_at_once-clause-turns : goal.returns-then-take_at_once-clause-turns
+returns-then-take_at_once-clause-turns c =
     let until = c.args.until.0 in
     let sound = c.laws.ensures.sound in
-    let stop = c.in-Stopped.ensures.stopped refl in
+    let stop = c.take_at_once.ensures.stopped c.if-take_at_once.true in
     let answer = answers.Stopped stop.0 in
-    let new = c.at_once.new.self in
+    let new = c.take_at_once.new.self in
     subst (λ (a : turned.Turned). TurnsUpTo until c.args.self.now a new) (sym (c.stop_answer.ensures stop.0 stop.1)) (record {
       before = c.run.self;
       ran = c.run.invariant.ran;

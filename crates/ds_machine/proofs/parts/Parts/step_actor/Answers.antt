@@ -2,7 +2,7 @@ use Rattle.std.proofs.Common.{Some, sym}
 use Rattle.ds_machine.specs.StepAnswers.{stepped_of}
 use Rattle.ds_machine.proofs.DueTicks.{low_rank, may_due, may_early, steps_as}
 use Rattle.ds_machine.proofs.Running.{few_events, few_steps, may_fit_run}
-use Rattle.ds_machine.proofs.parts.Parts.step.Goals as goal
+use Rattle.ds_machine.proofs.parts.Parts.step_actor.Goals as goal
 
 pub of-actor-requires : goal.of-actor-requires
 of-actor-requires c = low_rank c.args.self.now c.args.rank c.requires.may.tick c.requires.may.due

@@ -6,8 +6,8 @@ use Rattle.ds_machine.specs.Touching.{DataStays}
 use Rattle.ds_machine.proofs.DecodedStays.{leaves_known, stays_known}
 use Rattle.ds_machine.proofs.NearApart.{near_known}
 use Rattle.ds_machine.proofs.Taken.{taken_operation}
-use Rattle.ds_machine.proofs.steps.take_fast.Goals.{else-ahead-via-then-ahead+else-not-access_stays, else-ahead-via-else-ahead}
-use Rattle.ds_machine.proofs.steps.take_fast.Goals as goal
+use Rattle.ds_machine.proofs.steps.take_fast_in_view.Goals.{else-ahead-via-then-ahead+else-not-access_stays, else-ahead-via-else-ahead}
+use Rattle.ds_machine.proofs.steps.take_fast_in_view.Goals as goal
 
 pub returns-clause-registers : goal.returns-clause-registers
 returns-clause-registers g c = λ some.

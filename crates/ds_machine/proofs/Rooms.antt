@@ -42,13 +42,13 @@ use Rattle.ds_map.specs.Views.{NineReach, SevenReach, nine_memory, seven_memory,
 use Rattle.ds_map.proofs.Guards.{read_leaves, taken_leaves}
 use Rattle.ds_map.proofs.Later.{map_read_unchanged}
 use Rattle.ds_ports.specs.Dues.{held_due, io_due}
-use Rattle.ds_ports.specs.Io.{IoState, channel_moved, level_told, settled}
+use Rattle.ds_ports.specs.Io.{IoState, level_told, settled}
 use Rattle.ds_ports.specs.ProcessorIo.{blocks_processor, processor_io_triggered}
 use Rattle.ds_runs.specs.Actors.{actor_of}
 use Rattle.ds_runs.specs.Runs.{MachineStep, Makes, Stops}
 use Rattle.ds_runs.specs.declared.actors.Actor as actor
 use Rattle.ds_runs.specs.declared.actors.Actor.TheVariants.{Dma, Processor}
-use Rattle.gx_fifo.specs.GxStates.{AreWaiting, GxState, gx_written, is_half_empty, is_stalled, waiting_entries}
+use Rattle.gx_fifo.specs.GxStates.{AreWaiting, GxState, is_half_empty, is_stalled, waiting_entries}
 use Rattle.ds_machine.specs.Channels.{channel_step, moved_by}
 use Rattle.ds_machine.specs.Reference.{Shown, awake, due_by, processor_due, reference_step, step_by}
 use Rattle.ds_machine.specs.Rooms.{FindsRoom, InstructionsFindRoom, NineStepsFindRoom, NineUnitsFindRoom, SevenStepsLeaveGeometry, SevenUnitsLeaveGeometry, StepFindsRoom, StepsFindRoom, UnitFindsRoom, accesses_of, step_accesses}

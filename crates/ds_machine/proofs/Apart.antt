@@ -85,6 +85,17 @@ none_of_seven (Dma Nine channel) s other apart = (refl, (refl, (refl, (refl, tt)
 none_of_seven (Processor Nine) s other apart = (refl, (refl, (refl, (refl, tt))))
 none_of_seven _ s other apart = (refl, (refl, (refl, (refl, tt))))
 
+-- and whoever is neither ARM9, a channel of it, the display nor geometry, none of ARM9's
+pub none_of_nine : (a : actor.Actor) (s : MachineState) → a ≢ Processor Nine → ((channel : ℕ) → a ≢ Dma Nine channel) → a ≢ Video → a ≢ Geometry
+    → AreIn (untouched_by a s) parts_of_nine × AreIn (untouched_by a s) (PaletteRam ∷ OamRam ∷ [])
+none_of_nine (Processor Nine) s other apart display geometry = absurd (other refl)
+none_of_nine (Dma Nine channel) s other apart display geometry = absurd (apart channel refl)
+none_of_nine Video s other apart display geometry = absurd (display refl)
+none_of_nine Geometry s other apart display geometry = absurd (geometry refl)
+none_of_nine (Processor Seven) s other apart display geometry = ((refl, (refl, (refl, (refl, (refl, (refl, tt)))))), (refl, (refl, tt)))
+none_of_nine (Dma Seven channel) s other apart display geometry = ((refl, (refl, (refl, (refl, (refl, (refl, tt)))))), (refl, (refl, tt)))
+none_of_nine _ s other apart display geometry = ((refl, (refl, (refl, (refl, (refl, (refl, tt)))))), (refl, (refl, tt)))
+
 -- the display depends on no other part of ARM9's than palettes and OAM, and leaves all of it
 pub display_same : (rank : ℕ) (own : NineState) (s : MachineState) → step_by rank Video (with_nine_state own s) ≡ step_with (with_nine_state own) (step_by rank Video s)
 display_same rank own s = leave_nine_state rank Video s own (refl, (refl, (refl, (refl, (refl, (refl, tt))))))

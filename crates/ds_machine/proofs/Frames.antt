@@ -1,7 +1,6 @@
 use Rattle.std.specs.Prelude.{◌==◌}
 use Rattle.std.proofs.Common.{ℕ, ◌≡◌, ◌<◌, Bool, true, false, true≢false, if◌then◌else◌, List, [], ◌∷◌, Option, Some, None, option_map, refl, sym, ◌∙◌, ap, subst, arith}
 use Rattle.std.specs.List.{last_or}
-use Rattle.ds_base.specs.declared.keys.KeyLine.{KeyLine}
 use Rattle.ds_base.specs.declared.left_out.LeftOut.{LeftOut}
 use Rattle.ds_base.specs.declared.left_out.Stop.{Stop}
 use Rattle.ds_base.specs.declared.processors.Proc.{Proc}
@@ -12,7 +11,7 @@ use Rattle.arm_core.specs.declared.outcomes.Stepped.TheVariants.{Cost, Halted, L
 use Rattle.ds_map.specs.Moves.{next_unit, unit_refusal, unit_moved}
 use Rattle.ds_ports.specs.Dues.{io_due}
 use Rattle.ds_ports.specs.Happenings.{Goes}
-use Rattle.ds_ports.specs.Io.{IoState, geometry_done, io_event, video_done}
+use Rattle.ds_ports.specs.Io.{IoState, geometry_done, video_done}
 use Rattle.gx_fifo.specs.Entries.{begun, complete_command}
 use Rattle.gx_fifo.specs.GxStates.{GxState, done_by, gx_swapped}
 use Rattle.gx_geometry.specs.States.{Swapped, geometry_after, swapped}

@@ -8,8 +8,9 @@ use Rattle.gx_fifo.specs.GxStates.{waiting_entries}
 use Rattle.ds_ports.specs.Io.{IoState}
 use Rattle.ds_ports.specs.Ports.{port_refusal, port_written, unless_stopped}
 
--- The code's form of a write of a port (our choice of form): what waits for geometry has a fixed size, `most_entries`, and a write of ARM9's adds four
--- entries at most, so one is ignored that comes while more than 320 wait. The machine makes none then: no public clause of it speaks of this.
+-- The code's form of a write of a port (our choice of form): what waits for geometry has a fixed size, `most_entries`, and a write of ARM9's adds
+-- four entries at most, so one is ignored that comes while more than 320 wait. The machine makes none then: no public clause of it speaks of
+-- this.
 
 abbrev pub is_overfull : Proc → IoState → Bool
 is_overfull Nine u = nat_lt 320 (waiting_entries u.gx)

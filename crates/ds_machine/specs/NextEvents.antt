@@ -100,8 +100,8 @@ pub record GoesFast (until : ℕ) (proc : Proc) (next_event : NextEvent) (limit 
   pub least : limit ≡ limit_by next_event s proc until
   pub running : IsRunning last_limit s
 
--- what trying one gives: it was taken, and the next goes by the same; or no step belongs to the turn any more; or it isn't a fast one. Where it wasn't
--- taken the machine is as it was
+-- what trying one gives: it was taken, and the next goes by the same; or no step belongs to the turn any more; or it isn't a fast one. Where it
+-- wasn't taken the machine is as it was
 abbrev pub WentFast : ℕ → Proc → NextEvent → ℕ → MachineState → Gone → MachineState → Type 0
 WentFast until proc next_event limit old gone.Took new = TookStep until proc old new × GoesFast until proc next_event limit new
 WentFast until proc next_event limit old gone.Over new = (¬ BelongsToTurn until old proc) × (new ≡ old)

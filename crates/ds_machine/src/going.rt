@@ -62,9 +62,9 @@ impl Parts {
         self.may_be_ahead(next_event, proc, tick) && tick.0 < until.0
     }
 
-    /// One step of a processor's turn, where it is one of the fast path; by the first tick at which the processor isn't the least acting one any more.
-    /// Where it is ahead of its turn it reaches private places alone. It costs, and changes no unit: so no processor wakes, and what is kept stays. It
-    /// observes nothing of geometry: it reaches RAM alone, or loads from a port that isn't observed.
+    /// One step of a processor's turn, where it is one of the fast path; by the first tick at which the processor isn't the least acting one any
+    /// more. Where it is ahead of its turn it reaches private places alone. It costs, and changes no unit: so no processor wakes, and what is kept
+    /// stays. It observes nothing of geometry: it reaches RAM alone, or loads from a port that isn't observed.
     #[inline(always)]
     pub fn step_fast(&mut self, next_event: NextEvent, proc: Proc, until: Tick, limit: u64) -> Gone
         requires early { until.0 ≤ 2 ^ 56 }

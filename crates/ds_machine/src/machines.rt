@@ -126,9 +126,9 @@ impl Machine {
     }
 
     /// A processor takes steps of its turn with a limit, while they are of the fast path; by the first tick at which it isn't the least acting one
-    /// any more. The answer is whether its turn is over; where it isn't known to be, `belongs_by` tells it, and the next step, where it belongs to the
-    /// turn, is to be taken by `step`. No unit behind the ports changes: so no frame becomes whole, and no lists are swapped. What is kept stays as it
-    /// is, and is handed to each step, so that it isn't loaded again after a store.
+    /// any more. The answer is whether its turn is over; where it isn't known to be, `belongs_by` tells it, and the next step, where it belongs to
+    /// the turn, is to be taken by `step`. No unit behind the ports changes: so no frame becomes whole, and no lists are swapped. What is kept stays
+    /// as it is, and is handed to each step, so that it isn't loaded again after a store.
     #[inline(always)]
     pub fn go_fast(&mut self, proc: Proc, until: Tick, limit: u64) -> bool
         requires running { IsRunning last_limit self.old }

@@ -48,7 +48,8 @@ TookTurn until old answers.Made new = TakesEvent until old [] new ⊎ (TakesStre
 TookTurn until old (answers.Frame swapped) new = TakesEvent until old (next_shown old new swapped ∷ []) new
 TookTurn until old (answers.Stopped left) new = MeetsStop until old left new
 
--- a processor is known to be the least acting actor of a console that hasn't stopped, up to a tick, and its turn raises no limit: it can be taken at once
+-- a processor is known to be the least acting actor of a console that hasn't stopped, up to a tick, and its turn raises no limit: so it can be
+-- taken at once
 pub record IsAtOnce (until : ℕ) (c : ConsoleState) (first : First) : Type 0 where
   pub known : IsFirst until c.machine first
   pub same : max c.limit until ≡ c.limit

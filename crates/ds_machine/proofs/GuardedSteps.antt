@@ -14,10 +14,12 @@ use Rattle.arm_core.specs.Effects.{Meaning, carried_out, concluded}
 use Rattle.arm_core.specs.Exceptions.{undefined_meaning}
 use Rattle.arm_core.specs.Meanings.{meaning, skipped}
 use Rattle.arm_core.specs.Registers.{RegisterState}
-use Rattle.arm_core.specs.Steps.{executed_unless, executed_word, stop_of}
+use Rattle.arm_core.specs.Steps.{Setting, executed_unless, executed_word, stop_of}
 use Rattle.arm_ops.specs.Meanings.{RefusesNoneInRam, operation_meaning}
 use Rattle.arm_ops.specs.declared.operations.Operation.{Operation}
 use Rattle.arm9_exec.specs.Arm9.{arm9}
+use Rattle.arm9_exec.specs.Coprocessors.{move_of}
+use Rattle.cp15_tcm.specs.Registers.{vectors_of}
 use Rattle.cp15_tcm.specs.TightlyCoupled.{tcm_of}
 use Rattle.cp15_tcm.specs.declared.answers.Tcm.{Tcm}
 use Rattle.cp15_tcm.specs.declared.answers.Tcm.TheVariants.{Itcm, Dtcm, Past}
@@ -36,6 +38,7 @@ use Rattle.gx_fifo.specs.GxStates.{is_stalled, waiting_entries}
 use Rattle.ds_machine.specs.GuardedSteps.{IsFree, IsFreeFor}
 use Rattle.ds_machine.specs.Reference.{due_by}
 use Rattle.ds_machine.specs.Rooms.{FindsRoom, HasRoom}
+use Rattle.ds_machine.specs.Sides.{nine_executed}
 use Rattle.ds_machine.specs.Sound.{HasSoundParts}
 use Rattle.ds_machine.specs.States.{MachineState}
 use Rattle.ds_machine.specs.Steps.{is_blocked, processor_of}
@@ -90,6 +93,13 @@ module _ (s : RegisterState) (r : NineReach) where
       → executed_word guarded_memory (arm9 r.cp15) s r number instr ≡ executed_word nine_memory (arm9 r.cp15) s r number instr
   same_executed number None free = same_skipped (arm9 r.cp15).base (holds (condition_of number) s.cpsr)
   same_executed number (Some instr) free = same_unless instr (stop_of (arm9 r.cp15) s instr) free
+
+  -- as the code executes it that is no move to or from CP15
+  pub same_word : (number : ℕ) (instr : Option Instr) (base : ℕ) (rom : Bool) → IsFree r.map.io.gx → move_of instr ≡ None → base ≡ vectors_of r.cp15
+      → rom ≡ (arm9 r.cp15).in_rom
+      → (let setting : Setting = record { arch = V5; base = base; in_rom = rom } in executed_word guarded_memory setting s r number instr)
+      ≡ nine_executed s r number instr (move_of instr)
+  same_word number instr base rom free none b i = rw (none, b, i) (same_executed number instr free)
 
   pub same_operation : (operation : Operation) → IsFree r.map.io.gx
       → carried_out guarded_memory V5 s r (operation_meaning V5 s operation) ≡ carried_out nine_memory V5 s r (operation_meaning V5 s operation)

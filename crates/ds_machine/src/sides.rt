@@ -202,7 +202,6 @@ impl Side for NineView<'_> {
     fn place_laws(&self) {}
 
     #[inline(always)]
-    #[tactic(auto, using(crate::proofs::GuardedSteps::same_executed))]
     fn execute(&mut self, s: &mut Registers, next: Fetched) -> Stepped {
         if let Some(move_) = move_of(next.instr) {
             return move_if(s, self.cp, move_);

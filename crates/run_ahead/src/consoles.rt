@@ -1,6 +1,6 @@
 //! The console.
 
-ghost use Rattle.std.specs.Prelude.{max, ◌≡◌, ◌≢◌, ◌≤◌, ◌<◌, ◌+◌, ◌*◌, ◌^◌, false, true, None, Some, slice_index, IfOk, IsSome, length};
+ghost use Rattle.std.specs.Prelude.{max, ◌≡◌, ◌≢◌, ◌≤◌, ◌<◌, ◌+◌, ◌*◌, ◌^◌, false, true, None, Some, slice_index, IfOk, IfSome, IsSome, length};
 ghost use Rattle.ds_base.specs.Memories.{memory_size};
 ghost use Rattle.ds_machine.specs.Acting.{IsActing};
 ghost use Rattle.ds_machine.specs.Booted.{machine_booted};

@@ -37,8 +37,8 @@ run-preserved c =
       left = omega (arith, left, falls);
     }
 
-pub returns-in_default : goal.returns-in_default
-returns-in_default c =
+pub returns-in_default-turn : goal.returns-in_default-turn
+returns-in_default-turn c =
     let left = c.run.invariant.left in
     record {
       turns = record {
@@ -50,7 +50,7 @@ returns-in_default c =
         lists = c.turn.ensures.lists;
         counted = up_to_counts c.args.until.0 c.args.self.now c.run.self c.turn.new.self c.turn.result c.run.invariant.ran c.turn.ensures.turn;
       };
-      other = c.in_default.not-Ran;
+      other = c.in_default-turn.not-Ran;
       falls = λ counts. (let falls = c.turn.ensures.falls counts in omega (arith, left, falls));
     }
 

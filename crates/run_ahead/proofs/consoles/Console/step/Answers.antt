@@ -1,11 +1,11 @@
-use Rattle.std.proofs.Common.{ℕ, ◌≡◌, None, refl, sym, ◌∙◌, ap, subst, arith}
+use Rattle.std.proofs.Common.{ℕ, ◌≡◌, ◌+◌, ◌⊎◌, [], ◌∷◌, Some, None, IsSome, is_some, true≢false, refl, sym, ◌∙◌, ap, subst, arith}
 use Rattle.std.proofs.lemmas.Option.{none-some}
 use Rattle.ds_runs.specs.Runs.{IsOver}
 use Rattle.ds_machine.specs.Counting.{last_limit}
-use Rattle.ds_machine.specs.Reference.{dues_of}
+use Rattle.ds_machine.specs.Reference.{dues_of, next_shown}
 use Rattle.ds_machine.proofs.Running.{counts_add_up, limits_rise}
 use Rattle.run_ahead.specs.Consoles.{ConsoleState, open_of}
-use Rattle.run_ahead.specs.Turns.{run_to}
+use Rattle.run_ahead.specs.Turns.{MeetsStop, TakesEvent, TakesQuiet, TakesStretch, one_more_turn, run_to}
 use Rattle.run_ahead.proofs.StepTurns.{frame_taken, made_taken, one_fits, over_all, over_from, stopped_counts, stopped_few}
 use Rattle.run_ahead.proofs.consoles.Console.step.Goals as goal
 use Rattle.run_ahead.proofs.consoles.Console.step.Goals.{else-until-acting-via-then-until-acting+else-not-is_behind, else-until-acting-via-else-until-acting}
@@ -97,3 +97,39 @@ returns-then-not-is_behind c =
     subst (λ (x : ConsoleState). (x.stopped ≡ None) × IsOver (dues_of x.machine) until
     × ((let new : ConsoleState = record { machine = m; limit = c.max-self-inside.result; stopped = c.self.inside.stopped; turns = c.self.inside.turns } in new) ≡ run_to x until x.machine)) c.self.view_is
     (c.in_default.is, over, ap (λ (l : ℕ). (let new : ConsoleState = record { machine = m; limit = l; stopped = c.self.inside.stopped; turns = c.self.inside.turns } in new)) c.max-self-inside.ensures)
+
+pub returns-in-Made : goal.returns-in-Made
+returns-in-Made c =
+    let until = c.args.until.0 in
+    let next = c.take_turn.new.machine in
+    subst (λ (x : ConsoleState). (x.stopped ≡ None) × (TakesEvent until x.machine [] next ⊎ (TakesStretch until x.machine next ⊎ TakesQuiet until x.machine next))
+    × ((let new : ConsoleState = record {
+      machine = next;
+      limit = c.max-self-inside.result;
+      stopped = c.self.inside.stopped;
+      turns = c.self.inside.turns + 1;
+    } in new) ≡ one_more_turn (run_to x until next))) c.self.view_is
+    (c.in_default.is, c.in-Made.ensures, rw c.max-self-inside.ensures refl)
+
+pub returns-in-Frame : goal.returns-in-Frame
+returns-in-Frame c =
+    let until = c.args.until.0 in
+    let next = c.take_turn.new.machine in
+    subst (λ (x : ConsoleState). (x.stopped ≡ None) × TakesEvent until x.machine (next_shown x.machine next c.in-Frame.swapped ∷ []) next
+    × ((let new : ConsoleState = record {
+      machine = next;
+      limit = c.max-self-inside.result;
+      stopped = c.self.inside.stopped;
+      turns = c.self.inside.turns + 1;
+    } in new) ≡ one_more_turn (run_to x until next))) c.self.view_is
+    (c.in_default.is, c.in-Frame.ensures, rw c.max-self-inside.ensures refl)
+
+pub returns-in-Stopped : goal.returns-in-Stopped
+returns-in-Stopped c =
+    let until = c.args.until.0 in
+    let next = c.take_turn.new.machine in
+    let left = c.in-Stopped.left in
+    let came : ConsoleState = record { machine = next; limit = c.max-self-inside.result; stopped = Some left; turns = c.self.inside.turns } in
+    subst (λ (x : ConsoleState). (x.stopped ≡ None → MeetsStop until x.machine left next × (came ≡ record (run_to x until next) { stopped = Some left }))
+    × (IsSome x.stopped → (x.stopped ≡ Some left) × (came ≡ x))) c.self.view_is
+    (λ none. (c.in-Stopped.ensures, rw c.max-self-inside.ensures refl), λ some. absurd (true≢false (sym some ∙ ap is_some c.in_default.is)))

@@ -26,17 +26,17 @@ take_stretch-stopped-requires-clause-limit c =
     subst (λ (p : Proc). HasLimit c.args.until.0 c.self.inside.machine p c.args.first.limit) c.in-Nine.is
     (subst (λ (x : ConsoleState). HasLimit c.args.until.0 x.machine c.args.first.proc c.args.first.limit) (sym c.self.view_is) c.requires.first.known.limit)
 
-pub take_stretch-stopped-in-Seven-requires-clause-going : goal.take_stretch-stopped-in-Seven-requires-clause-going
-take_stretch-stopped-in-Seven-requires-clause-going c =
+pub take_stretch-stopped-requires-in-Seven-clause-going : goal.take_stretch-stopped-requires-in-Seven-clause-going
+take_stretch-stopped-requires-in-Seven-clause-going c =
     let most = c.self.invariant.1 in
     limits_rise c.self.inside.limit last_limit c.self.inside.machine (omega (arith, most))
     (c.self.invariant.3 (ap (λ (x : ConsoleState). x.stopped) c.self.view_is ∙ c.requires.first.still_open))
 
-pub take_stretch-stopped-in-Seven-requires-clause-running : goal.take_stretch-stopped-in-Seven-requires-clause-running
-take_stretch-stopped-in-Seven-requires-clause-running c = ap (λ (x : ConsoleState). x.stopped) c.self.view_is ∙ c.requires.first.still_open
+pub take_stretch-stopped-requires-in-Seven-clause-running : goal.take_stretch-stopped-requires-in-Seven-clause-running
+take_stretch-stopped-requires-in-Seven-clause-running c = ap (λ (x : ConsoleState). x.stopped) c.self.view_is ∙ c.requires.first.still_open
 
-pub take_stretch-stopped-in-Seven-requires-clause-limit : goal.take_stretch-stopped-in-Seven-requires-clause-limit
-take_stretch-stopped-in-Seven-requires-clause-limit c =
+pub take_stretch-stopped-requires-in-Seven-clause-limit : goal.take_stretch-stopped-requires-in-Seven-clause-limit
+take_stretch-stopped-requires-in-Seven-clause-limit c =
     subst (λ (p : Proc). HasLimit c.args.until.0 c.self.inside.machine p c.args.first.limit) c.in-Seven.is
     (subst (λ (x : ConsoleState). HasLimit c.args.until.0 x.machine c.args.first.proc c.args.first.limit) (sym c.self.view_is) c.requires.first.known.limit)
 

@@ -8,3 +8,4 @@ pub mod Powers
 pub mod Signs
 pub mod ThumbKinds
 pub mod Footprints
+pub mod SavedLaws

@@ -19,6 +19,8 @@ pub mod Registers
 pub mod Saturating
 pub mod Shifter
 pub mod StatusRegisters
+pub mod Statuses
+pub mod Saved
 pub mod Steps
 pub mod Swaps
 pub mod Thumb

@@ -8,6 +8,10 @@ ghost use Rattle.arm_core.specs.Cores.{booted};
 use crate::registers::Registers;
 use ds_base::Arch;
 
+mod saved;
+
+pub use saved::saved_laws;
+
 /// A processor's core: its registers, and the architecture that it was made for.
 #[derive(Drop)]
 pub struct Core {

@@ -8,7 +8,8 @@
 //! (`Class::clocks`, `Class::cost`); `equivalent`, the ARM instruction that does what a Thumb instruction does. `FlatBus` is a bus of one
 //! list of bytes, which refuses no write. `footprint` tells exactly the bytes that an instruction's accesses of data reach, before it is
 //! executed (clause `covers`), in the order in which they are first reached (`order`); `reach_of` tells besides whether they are read or
-//! written (`told`), and that all addresses are words and nothing is fetched (`words`).
+//! written (`told`), and that all addresses are words and nothing is fetched (`words`). `Core::pack`, `Core::unpack`, `saved_laws`: a core in
+//! bytes.
 //!
 //! `Bus` is a contract for others to meet: an abstract state, and a memory machine on it. What an access answers and the state after it are
 //! functions of the state before it, a write is refused exactly where the machine says so, and no call changes which references it holds
@@ -44,7 +45,7 @@ pub use banks::Bank;
 pub use buses::Bus;
 pub use classes::Class;
 pub use conditions::{condition, holds};
-pub use cores::Core;
+pub use cores::{Core, saved_laws};
 pub use exceptions::Exception;
 pub use flats::FlatBus;
 pub use lists::{has, keeps_base, list_bytes, lowest, stores_new_base, transferred};
@@ -55,6 +56,6 @@ pub use saturating::{Saturated, saturating_result};
 pub use shifter::{
     Shifted32, first_operand, rotated_immediate, shift_by, shift_by_number, shifter_operand,
 };
-pub use statuses::replaced;
+pub use statuses::{kept_status_bits, replaced};
 pub use thumb::equivalent;
 pub use touches::{Reach, Touch, access_touch, footprint, half_touch, reach_of, width_by};

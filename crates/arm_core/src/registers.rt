@@ -1,8 +1,9 @@
 //! The registers.
 
-ghost use Rattle.std.specs.Prelude.{◌≡◌, ◌<◌, ℕ, Some, None, Option, IfSome, if◌then◌else◌, slice_index};
+ghost use Rattle.std.specs.Prelude.{◌≡◌, ◌<◌, ◌^◌, ℕ, length, Some, None, Option, IfSome, if◌then◌else◌, slice_index};
 ghost use Rattle.arm_core.specs.Registers.{bank, bank_of, general_of, is_thumb, jumped, late_r15, late_register, next, place, put, put_in, r15, register, register_in, saved_place, words_of};
 ghost use Rattle.arm_core.specs.Cores.{booted};
+ghost use Rattle.arm_core.specs.Saved.{AreRegisters};
 
 use crate::banks::Bank;
 use std::marker::Model;
@@ -118,6 +119,19 @@ fn bring(bank: Bank, store: &[u32; 30], present: &mut [u32; 16])
     }
 }
 
+fn is_word(word: u32)
+    ensures { word < 2 ^ 32 }
+{}
+
+/// Does nothing; its contract states that these are words.
+fn are_words(words: &[u32])
+    ensures { (i : ℕ) → i < length words.now → slice_index words.now i < 2 ^ 32 }
+{
+    for word in words {
+        is_word(*word);
+    }
+}
+
 impl Registers {
     /// The registers at boot, from the entry and the stacks of System, IRQ and Supervisor mode: System mode with interrupts masked, in
     /// ARM state; r12, r14 and r15 are the entry, and what isn't named is 0.
@@ -144,19 +158,55 @@ impl Registers {
         }
     }
 
+    /// Those of these words: the general ones, r15, CPSR, and each SPSR, in the order of `words`.
+    #[tactic(auto, using(crate::proofs::Presents::brought))]
+    pub fn of(general: [u32; 30], pc: u32, cpsr: u32, saved: [u32; 5]) -> Registers
+        ensures { result ≡ record { general = general; pc = pc; cpsr = cpsr; saved = saved } }
+    {
+        let bank = bank_by(cpsr & 31);
+        let mut present = [0; 16];
+        bring(bank, &general, &mut present);
+        Registers {
+            present,
+            store: general,
+            pc,
+            cpsr,
+            saved,
+            bank,
+            size: size_by((cpsr >> 5) & 1 == 1),
+        }
+    }
+
+    /// Those before r15, in the order of `words`.
+    pub fn general(&self) -> [u32; 30]
+        ensures { result ≡ self.now.general }
+    {
+        let mut general = self.store;
+        put_back(self.bank, &self.present, &mut general);
+        general
+    }
+
     /// All 37 in order: r0 to r12; r8 to r12 of FIQ; r13 and r14 of System, FIQ, Supervisor, Abort, IRQ, Undefined; r15; CPSR; SPSR of
     /// FIQ, Supervisor, Abort, IRQ, Undefined.
     pub fn words(&self) -> [u32; 37]
         ensures { result ≡ words_of self.now }
     {
-        let mut general = self.store;
-        put_back(self.bank, &self.present, &mut general);
+        let general = self.general();
         let mut words = [0; 37];
         words[..30].copy_from_slice(&general);
         words[30] = self.pc;
         words[31] = self.cpsr;
         words[32..].copy_from_slice(&self.saved);
         words
+    }
+
+    /// Does nothing; its contract states what holds at every time: there are 37, and each is a word.
+    pub fn laws(&self)
+        ensures { AreRegisters self.now }
+    {
+        are_words(&self.general());
+        are_words(&self.saved);
+        is_word(self.pc);
     }
 
     /// The address of the instruction that is executed next.

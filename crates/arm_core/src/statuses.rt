@@ -3,10 +3,22 @@
 ghost use Rattle.std.specs.Prelude.{◌≡◌};
 ghost use Rattle.arm_core.specs.Registers.{bank, saved_place};
 ghost use Rattle.arm_core.specs.DataProcessing.{restored, with_flags};
-ghost use Rattle.arm_core.specs.StatusRegisters.{replaced, saved_value, with_saved};
+ghost use Rattle.arm_core.specs.StatusRegisters.{kept_status_bits, replaced, saved_value, with_saved};
 
 use crate::registers::Registers;
 use crate::results::Computed;
+use ds_base::Arch;
+
+/// The bits that a status register keeps.
+#[inline(always)]
+pub fn kept_status_bits(arch: Arch) -> u32
+    ensures { result ≡ kept_status_bits arch }
+{
+    match arch {
+        Arch::V4 => 0xF000_00FF,
+        Arch::V5 => 0xF800_00FF,
+    }
+}
 
 /// A status register's value, with the operand's bits under a mask.
 #[inline(always)]

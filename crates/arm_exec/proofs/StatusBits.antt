@@ -7,7 +7,7 @@ use Rattle.ds_base.specs.declared.processors.Arch.{Arch}
 use Rattle.ds_base.specs.declared.processors.Arch.TheVariants.{V4, V5}
 use Rattle.arm_words.proofs.Masks.{masked, part}
 use Rattle.arm_core.specs.StatusRegisters.{kept_status_bits}
-use Rattle.arm_exec.specs.Statuses.{IsStatus}
+use Rattle.arm_core.specs.Statuses.{IsStatus}
 
 -- What makes a number of a status register from others.
 

@@ -38,7 +38,7 @@ use Rattle.arm_core.specs.Shifter.{first_operand, shifter_operand}
 use Rattle.arm_core.specs.StatusRegisters.{mrs_meaning, msr_meaning, saved_value}
 use Rattle.arm_core.specs.Swaps.{swap_meaning}
 use Rattle.arm_core.specs.Transfers.{half_or_signed_meaning, half_transfer_meaning, literal_meaning, load_meaning, load_word_meaning, rotated_half, rotated_word, signed_byte, signed_half, signed_half_meaning, store_meaning, transfer_meaning, word_or_byte_meaning}
-use Rattle.arm_exec.specs.Statuses.{HasStatuses}
+use Rattle.arm_core.specs.Statuses.{HasStatuses}
 use Rattle.arm_exec.proofs.StatusMoves.{HasQ, base_has, entered_has, exchanged_has, finished_has, flags_has, jumped_has, linked_has, loaded_has, long_has, lost_has, next_has, one_of, put_has, r15_has, sign_has, thumb_has, word_has, written_has}
 
 -- What each class of instructions leaves are numbers that status registers can have.

@@ -22,7 +22,7 @@ use Rattle.arm_core.specs.Registers.{RegisterState, bank, is_thumb, jumped, next
 use Rattle.arm_core.specs.Saturating.{with_lost}
 use Rattle.arm_core.specs.StatusRegisters.{field_bits, kept_status_bits, replaced, status_register_written, with_saved, writable}
 use Rattle.arm_core.specs.Transfers.{put_word}
-use Rattle.arm_exec.specs.Statuses.{IsStatus, HasStatuses}
+use Rattle.arm_core.specs.Statuses.{IsStatus, HasStatuses}
 use Rattle.arm_exec.proofs.StatusBits.{and_status, under_status, kept_status as kept_of, or_status, no_status, thumb_status, four_flags, two_flags, entered_of}
 
 -- What is done with the registers leaves numbers that status registers can have.

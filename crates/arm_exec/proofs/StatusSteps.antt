@@ -18,7 +18,7 @@ use Rattle.arm_core.specs.Shifter.{rotated_immediate}
 use Rattle.arm_core.specs.Steps.{FetchOutcome, Setting, enters, executed_unless, executed_word, fetched, fetched_half, fetched_word, step_of, stop_of}
 use Rattle.arm_core.specs.Thumb.{equivalent}
 use Rattle.arm_core.specs.Undefined.{has_coprocessor}
-use Rattle.arm_exec.specs.Statuses.{HasStatuses}
+use Rattle.arm_core.specs.Statuses.{HasStatuses}
 use Rattle.arm_exec.proofs.StatusKinds.{Allows, AllowsSome, arm_allows, equivalent_allows, thumb_allows}
 use Rattle.arm_exec.proofs.StatusMeanings.{Keeps, accumulated_keeps, address_keeps, branch_keeps, breakpoint_keeps, clz_keeps, compare_keeps, coprocessor_keeps, data_keeps, double_keeps, either, exchange_keeps, half_long_keeps, half_transfer_keeps, interrupt_keeps, link_exchange_keeps, link_suffix_keeps, link_target_keeps, literal_keeps, long_multiply_keeps, move_keeps, mrs_keeps, msr_keeps, multiple_keeps, multiply_keeps, prefix_keeps, product_keeps, saturating_keeps, skipped_keeps, software_keeps, suffix_keeps, swap_keeps, transfer_keeps, undefined_keeps}
 

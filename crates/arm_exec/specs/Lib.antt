@@ -1,4 +1,3 @@
 pub mod Stopped
 pub mod Costs
-pub mod Statuses
 pub mod Undefined

@@ -3,22 +3,11 @@
 ghost use Rattle.std.specs.Prelude.{◌≡◌, ◌<◌, [], if◌then◌else◌};
 ghost use Rattle.arm_core.specs.Effects.{cost_of};
 ghost use Rattle.arm_core.specs.Registers.{bank, saved_place};
-ghost use Rattle.arm_core.specs.StatusRegisters.{field, field_bits, kept_status_bits, mrs_meaning, msr_meaning, saved_value, status_register_written, writable};
+ghost use Rattle.arm_core.specs.StatusRegisters.{field, field_bits, mrs_meaning, msr_meaning, saved_value, status_register_written, writable};
 
-use arm_core::{Class, Registers, replaced};
+use arm_core::{Class, Registers, kept_status_bits, replaced};
 use arm_words::FieldMask;
 use ds_base::Arch;
-
-/// The bits that a status register keeps.
-#[inline(always)]
-fn kept_bits(arch: Arch) -> u32
-    ensures { result ≡ kept_status_bits arch }
-{
-    match arch {
-        Arch::V4 => 0xF000_00FF,
-        Arch::V5 => 0xF800_00FF,
-    }
-}
 
 /// The bits of a field of a status register, if it is written.
 #[inline(always)]
@@ -56,7 +45,7 @@ fn writable(s: &Registers) -> u32
 fn write_status(arch: Arch, s: &mut Registers, spsr: bool, fields: FieldMask, operand: u32)
     ensures { s.new ≡ status_register_written arch spsr fields operand s.old }
 {
-    let mask = field_bits(fields) & kept_bits(arch);
+    let mask = field_bits(fields) & kept_status_bits(arch);
     if spsr {
         s.write_spsr(mask, operand);
     } else {

@@ -13,6 +13,7 @@ mod lists;
 mod multiplies;
 mod near;
 mod operations;
+mod saved;
 mod statuses;
 mod thumb;
 mod transfers;

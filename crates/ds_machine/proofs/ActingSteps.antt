@@ -4,7 +4,7 @@ use Rattle.std.specs.List.{last_or}
 use Rattle.std.proofs.lemmas.Option.{none-some}
 use Rattle.ds_base.proofs.Choices.{same_or_not, true_or_false}
 use Rattle.arm9_exec.specs.Statuses.{HasNineStatuses}
-use Rattle.arm_exec.specs.Statuses.{HasStatuses}
+use Rattle.arm_core.specs.Statuses.{HasStatuses}
 use Rattle.ds_base.specs.declared.left_out.LeftOut.{LeftOut}
 use Rattle.ds_base.specs.declared.processors.Arch.TheVariants.{V4}
 use Rattle.ds_base.specs.declared.processors.Proc.{Proc}

@@ -7,7 +7,7 @@ use Rattle.ds_base.specs.Schedules.{IsEarly, IsLater}
 use Rattle.ds_base.specs.declared.left_out.LeftOut.{LeftOut}
 use Rattle.ds_base.specs.declared.processors.Arch.TheVariants.{V4}
 use Rattle.ds_base.specs.declared.ticks.Tick.{Tick}
-use Rattle.arm_exec.specs.Statuses.{HasStatuses}
+use Rattle.arm_core.specs.Statuses.{HasStatuses}
 use Rattle.arm9_exec.specs.Statuses.{HasNineStatuses}
 use Rattle.ds_ports.specs.Acting.{is_quiet}
 use Rattle.ds_ports.specs.Io.{IoState, io_event, tick_after, with_gx}

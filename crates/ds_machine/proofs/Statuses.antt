@@ -13,7 +13,7 @@ use Rattle.arm_core.specs.Effects.{Outcome}
 use Rattle.arm_core.specs.Registers.{RegisterState}
 use Rattle.arm_core.specs.declared.outcomes.Stepped as arm
 use Rattle.arm_core.specs.declared.outcomes.Stepped.TheVariants.{Cost, Halted, Left}
-use Rattle.arm_exec.specs.Statuses.{IsStatus, HasStatuses}
+use Rattle.arm_core.specs.Statuses.{IsStatus, HasStatuses}
 use Rattle.arm_exec.proofs.StatusBits.{no_status}
 use Rattle.arm_exec.proofs.StatusSteps.{step_has}
 use Rattle.arm7_exec.specs.Arm7.{arm7}

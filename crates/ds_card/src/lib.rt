@@ -7,6 +7,7 @@
 mod cards;
 mod orders;
 mod ports;
+mod serials;
 
-pub use cards::{Card, CardDone, CardRead, NextWord, Transfer};
+pub use cards::{Card, CardDone, CardRead, NextWord, Transfer, saved_laws};
 pub use orders::transfer_laws;

@@ -7,7 +7,8 @@
 //! conditions, operands with their carry, addresses and lists of registers; result, carry and overflow; the table of costs
 //! (`Class::clocks`, `Class::cost`); `equivalent`, the ARM instruction that does what a Thumb instruction does. `FlatBus` is a bus of one
 //! list of bytes, which refuses no write. `footprint` tells exactly the bytes that an instruction's accesses of data reach, before it is
-//! executed (clause `covers`), in the order in which they are first reached (`order`).
+//! executed (clause `covers`), in the order in which they are first reached (`order`); `reach_of` tells besides whether they are read or
+//! written (`told`), and that all addresses are words and nothing is fetched (`words`).
 //!
 //! `Bus` is a contract for others to meet: an abstract state, and a memory machine on it. What an access answers and the state after it are
 //! functions of the state before it, a write is refused exactly where the machine says so, and no call changes which references it holds
@@ -56,4 +57,4 @@ pub use shifter::{
 };
 pub use statuses::replaced;
 pub use thumb::equivalent;
-pub use touches::{Reach, Touch, access_touch, footprint, half_touch, width_by};
+pub use touches::{Reach, Touch, access_touch, footprint, half_touch, reach_of, width_by};

@@ -284,7 +284,7 @@ fn touched(arch: Arch, s: &Registers, instr: &Instr) -> Reach
 /// first reached, and whether they are read, written, or both. The touch is `Nothing` exactly where there is no access of data, as where
 /// the instruction's condition fails. All addresses are words, and nothing is fetched.
 #[inline]
-pub fn footprint(core: &Core, instr: &Instr) -> Reach
+pub fn reach_of(core: &Core, instr: &Instr) -> Reach
     requires fields { HasFields instr.now }
     ensures covers { (base : ℕ) → Covers result.touch (meaning core.now.arch base core.now.registers instr.now).accesses }
     ensures order { (base : ℕ) → (is_there : ℕ → Bool) → first_without is_there (touched_bytes result.touch)
@@ -294,4 +294,17 @@ pub fn footprint(core: &Core, instr: &Instr) -> Reach
     ensures words { (base : ℕ) → AreOfData (meaning core.now.arch base core.now.registers instr.now).accesses }
 {
     touched(core.arch, &core.registers, instr)
+}
+
+/// The bytes that an instruction's accesses of data reach, told before it is executed: exactly those, in the order in which they are first
+/// reached, and `Nothing` exactly where there is no access of data, as where the instruction's condition fails.
+#[inline]
+pub fn footprint(core: &Core, instr: &Instr) -> Touch
+    requires fields { HasFields instr.now }
+    ensures covers { (base : ℕ) → Covers result (meaning core.now.arch base core.now.registers instr.now).accesses }
+    ensures order { (base : ℕ) → (is_there : ℕ → Bool) → first_without is_there (touched_bytes result)
+        ≡ first_without is_there (accessed_bytes (meaning core.now.arch base core.now.registers instr.now).accesses) }
+    ensures nothing { (base : ℕ) → TellsNothing result (meaning core.now.arch base core.now.registers instr.now).accesses }
+{
+    reach_of(core, instr).touch
 }

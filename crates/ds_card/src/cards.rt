@@ -4,11 +4,15 @@ ghost use Rattle.std.specs.Prelude.{◌≡◌, ◌≤◌, ◌+◌, ◌^◌, IsSo
 ghost use Rattle.ds_base.specs.Processors.{raised_at};
 ghost use Rattle.ds_base.specs.Schedules.{IsEarly, Reschedules};
 ghost use Rattle.ds_base.specs.Numbers.{value_by, width_bytes};
-ghost use Rattle.ds_card.specs.CardPorts.{auxspicnt_at, kept_auxspicnt, overwritten};
 ghost use Rattle.ds_card.specs.Cards.{IsCard, IsTaking, card_at_boot, start_refusal, card_written, card_value, card_after_read, card_byte, card_word, read_raised, card_due, card_starter, card_after_event, next_word_after, end_interrupt, event_readies, event_raised, is_known, is_ready, last_raised, none_raised, ports_written, taken_by};
+ghost use Rattle.ds_card.specs.Saved.{KeepsAuxspicnt};
+
+mod saved;
 
 use crate::ports;
+use crate::serials::Serial;
 use ds_base::{Interrupt, LeftKind, Proc, Raised, Stop, Tick, Width};
+pub use saved::saved_laws;
 use std::marker::Model;
 
 /// The next word of a transfer.
@@ -52,8 +56,8 @@ pub struct CardDone {
 /// The card's port. Contracts see its registers' bytes as they are kept, and the transfer while one is busy.
 #[derive(Drop)]
 pub struct Card {
-    nine: [u8; 2],
-    seven: [u8; 2],
+    nine: Serial,
+    seven: Serial,
     romctrl: [u8; 4],
     command: [u8; 8],
     transfer: Option<Transfer>,
@@ -75,8 +79,8 @@ impl Card {
         ensures { result ≡ card_at_boot }
     {
         Card {
-            nine: [0; 2],
-            seven: [0; 2],
+            nine: Serial::new(),
+            seven: Serial::new(),
             romctrl: [0; 4],
             command: [0; 8],
             transfer: None,
@@ -212,13 +216,22 @@ impl Card {
         let _kept = &self.romctrl;
     }
 
+    /// Does nothing; its contract states that each processor's AUXSPICNT has the kept bits alone at every time.
+    pub fn kept_laws(&self)
+        ensures nine { KeepsAuxspicnt self.now.nine }
+        ensures seven { KeepsAuxspicnt self.now.seven }
+    {
+        self.nine.laws();
+        self.seven.laws();
+    }
+
     fn write_ports(&mut self, proc: Proc, at: u32, width: Width, value: u32)
         requires { at + width_bytes width ≤ 2 ^ 32 }
         ensures { self.new ≡ ports_written self.old proc at width value }
     {
         match proc {
-            Proc::Nine => write_auxspicnt(&mut self.nine, width, at, value),
-            Proc::Seven => write_auxspicnt(&mut self.seven, width, at, value),
+            Proc::Nine => self.nine.write(width, at, value),
+            Proc::Seven => self.seven.write(width, at, value),
         }
         if self.transfer.is_none() {
             ports::overwrite(&mut self.romctrl, ports::ROMCTRL, width, at, value);
@@ -231,8 +244,8 @@ impl Card {
         ensures { result ≡ raised_at starter (end_interrupt self.now starter) }
     {
         let port = match starter {
-            Proc::Nine => &self.nine,
-            Proc::Seven => &self.seven,
+            Proc::Nine => self.nine.bytes(),
+            Proc::Seven => self.seven.bytes(),
         };
         let bits = if port[1] / 64 % 2 == 1 {
             Interrupt::CardTransfer.bit()
@@ -282,8 +295,8 @@ impl Card {
         ensures { result ≡ card_byte self.now proc place }
     {
         let own = match proc {
-            Proc::Nine => &self.nine,
-            Proc::Seven => &self.seven,
+            Proc::Nine => self.nine.bytes(),
+            Proc::Seven => self.seven.bytes(),
         };
         if ports::AUXSPICNT <= place && place < ports::AUXSPICNT + 2 {
             own[(place - ports::AUXSPICNT) as usize]
@@ -314,14 +327,6 @@ impl Card {
             _ => false,
         }
     }
-}
-
-fn write_auxspicnt(port: &mut [u8; 2], width: Width, at: u32, value: u32)
-    requires { at + width_bytes width ≤ 2 ^ 32 }
-    ensures { port.new ≡ kept_auxspicnt (overwritten auxspicnt_at port.old width at value) }
-{
-    ports::overwrite(port, ports::AUXSPICNT, width, at, value);
-    ports::keep_auxspicnt(port);
 }
 
 fn is_known(first: u8) -> bool

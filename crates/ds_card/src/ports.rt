@@ -1,9 +1,10 @@
 //! The bytes of the card's ports, by their offsets above 4000000h.
 
-ghost use Rattle.std.specs.Prelude.{◌≡◌, ◌≤◌, ◌+◌, ◌<◌, ◌^◌, slice_index_or};
+ghost use Rattle.std.specs.Prelude.{◌≡◌, ◌≤◌, ◌+◌, ◌<◌, ◌^◌, slice_index_or, true};
 ghost use Rattle.ds_base.specs.Numbers.{aligned_down, number_at, width_bytes};
 ghost use Rattle.ds_base.specs.declared.memories.Width.TheVariants.{Half, Word};
 ghost use Rattle.ds_card.specs.CardPorts.{with_byte, overwritten, kept_auxspicnt, kept_romctrl, shown_romctrl, starts_at, words_of_size, block_words};
+ghost use Rattle.ds_card.specs.Saved.{keeps_auxspicnt};
 
 use ds_base::Width;
 
@@ -81,8 +82,10 @@ pub fn block_words(port: &[u8; 4]) -> u32
 }
 
 /// Bits that AUXSPICNT doesn't keep become 0.
+#[tactic(auto, using(crate::proofs::KeptBits::auxspicnt_kept))]
 pub fn keep_auxspicnt(port: &mut [u8; 2])
-    ensures { port.new ≡ kept_auxspicnt port.old }
+    ensures value { port.new ≡ kept_auxspicnt port.old }
+    ensures kept { keeps_auxspicnt 0 port.new ≡ true }
 {
     port[0] = 0;
     port[1] = port[1] / 32 * 32;

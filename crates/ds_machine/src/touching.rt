@@ -12,7 +12,7 @@ ghost use Rattle.ds_machine.specs.Touching.{all_private, data_private, instr_at,
 
 use crate::parts::Parts;
 use crate::sides::{is_private_to_nine, is_private_to_seven};
-use arm_core::{Reach, Registers, Touch, access_touch, footprint};
+use arm_core::{Reach, Registers, Touch, access_touch, reach_of};
 use arm_exec::{decoded_half, decoded_word, has_coprocessor};
 use arm_words::Instr;
 use ds_base::{Arch, Proc, Width};
@@ -103,8 +103,8 @@ impl Parts {
         ensures { IsFootprint self.now proc instr.now result }
     {
         match proc {
-            Proc::Nine => footprint(&self.nine.processor.core, instr),
-            Proc::Seven => footprint(&self.seven.processor.core, instr),
+            Proc::Nine => reach_of(&self.nine.processor.core, instr),
+            Proc::Seven => reach_of(&self.seven.processor.core, instr),
         }
     }
 

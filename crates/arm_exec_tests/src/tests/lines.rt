@@ -272,7 +272,7 @@ fn reached(core: &Core, way: Way, instr: Option<Instr>) -> Option<Touch>
 {
     let instr = instr?;
     if way == Way::Step {
-        return Some(footprint(core, &instr).touch);
+        return Some(footprint(core, &instr));
     }
     let made = operation(Some(instr));
     if is_other(&made) {

@@ -1,10 +1,11 @@
 //! The card's port, by GBATEK's "DS Cartridge I/O Ports" and "DS Cartridge Protocol", and by our choices of ticks and identity.
 
-use Line::{Block, Boot, Due, Event, Left, Read, Set, Taken, Write};
+use Line::{Block, Boot, Due, Event, Left, Read, Saved, Set, Taken, Write};
 use Proc::{Nine, Seven};
 use Width::{Byte, Half, Word};
 use ds_base::{LeftKind, Proc, Raised, Tick, Width};
 use ds_card::Card;
+use ds_state::{Packer, Unpacker};
 use std::alloc::{AllocError, Global};
 
 const AUXSPICNT: u32 = 0x1A0;
@@ -38,6 +39,8 @@ enum Line {
     Due(u32),
     /// Its event: whether a word is ready, and what is raised on ARM9 and ARM7.
     Event(bool, u32, u32),
+    /// It is put in bytes and taken from them at a tick, and goes on so.
+    Saved(u32),
     /// From a place on so many words are taken, each after its event; whether the transfer is busy before each, and after the last.
     Block(Proc, u32, u32, bool),
 }
@@ -119,8 +122,24 @@ fn block(card: &mut Card, file: &[u8], proc: Proc, first: u32, words: u32) -> Se
     (wrong, card.starter().is_some() as u32, 0)
 }
 
+/// Puts the card in bytes, and takes it from them: how many they are, and whether they are read.
+fn again(alloc: Global, card: &mut Card, file: &[u8], at: u32) -> Seen {
+    let mut into = Packer::new(alloc);
+    if card.pack(&mut into).is_err() {
+        return (0, 2, 0);
+    }
+    let bytes = into.finish();
+    let (some, _) = bytes.as_slice().split_at(bytes.len().min(400));
+    let mut from = Unpacker::new(some);
+    match Card::unpack(&mut from, Tick(at.into()), file) {
+        Ok(it) => *card = it,
+        Err(_) => return (from.place(), 1, 0),
+    }
+    (from.place(), 0, 0)
+}
+
 /// Does what a line says: what was seen, and what is wanted.
-fn seen(card: &mut Card, file: &[u8], line: Line) -> (Seen, Seen) {
+fn seen(alloc: Global, card: &mut Card, file: &[u8], line: Line) -> (Seen, Seen) {
     match line {
         Boot => {
             *card = Card::new();
@@ -139,6 +158,7 @@ fn seen(card: &mut Card, file: &[u8], line: Line) -> (Seen, Seen) {
         ),
         Due(tick) => ((due(card), 0, 0), (tick, 0, 0)),
         Event(ready, nine, seven) => (event(card, file), (ready as u32, nine, seven)),
+        Saved(at) => (again(alloc, card, file, at), (29, 0, 0)),
         Block(proc, first, words, busy) => (
             block(card, file, proc, first, words),
             (0, busy as u32, 0),
@@ -146,7 +166,7 @@ fn seen(card: &mut Card, file: &[u8], line: Line) -> (Seen, Seen) {
     }
 }
 
-const LINES: [Line; 131] = [
+const LINES: [Line; 142] = [
     // registers: which bits stay, one register for each processor or for both, by words, halves and bytes
     Boot,
     Read(Nine, AUXSPICNT, Word, 0),
@@ -155,6 +175,7 @@ const LINES: [Line; 131] = [
     Read(Nine, PARAMETERS, Word, 0),
     Read(Nine, DATA, Word, 0),
     Due(0),
+    Saved(0),
     Write(Nine, AUXSPICNT, Half, 0xFFFF, 0),
     Read(Nine, AUXSPICNT, Word, 0xE000),
     Read(Seven, AUXSPICNT, Half, 0),
@@ -175,6 +196,11 @@ const LINES: [Line; 131] = [
     Read(Seven, PARAMETERS, Word, 0x88AA_6655),
     Read(Nine, COMMAND + 2, Half, 0x4433),
     Read(Nine, COMMAND + 7, Byte, 0x88),
+    Saved(1_000),
+    Read(Nine, AUXSPICNT, Half, 0xE000),
+    Read(Seven, AUXSPICNT, Half, 0x4000),
+    Read(Nine, ROMCTRL, Word, 0x7F00_1234),
+    Read(Seven, PARAMETERS, Word, 0x88AA_6655),
     // an offset is aligned down, and other offsets have nothing
     Read(Nine, COMMAND + 3, Word, 0x4433_2211),
     Read(Nine, 0x1A2, Half, 0),
@@ -191,11 +217,13 @@ const LINES: [Line; 131] = [
     Set(Nine, COMMAND, 0x8000_00B7),
     Set(Nine, PARAMETERS, 0x10),
     Write(Nine, ROMCTRL, Word, 0x8700_0000, 100),
+    Saved(140),
     Due(140),
     Read(Nine, ROMCTRL, Word, 0x8700_0000),
     Read(Nine, DATA, Word, 0),
     Event(true, 0, 0),
     Due(0),
+    Saved(149),
     Read(Seven, ROMCTRL, Word, 0x8780_0000),
     Read(Seven, DATA, Word, 0),
     Read(Nine, DATA, Half, 0),
@@ -235,8 +263,10 @@ const LINES: [Line; 131] = [
     Read(Nine, AUXSPICNT, Word, 0x2000),
     Read(Nine, DATA, Word, 0),
     Taken(Seven, 60, 0x8FFC, 0, 0),
+    Saved(61),
     Due(100),
     Event(true, 0, 0),
+    Saved(101),
     // past the file's end there are zeros
     Read(Seven, ROMCTRL, Word, 0x8180_0000),
     Taken(Seven, 200, 0x9000, 0, 0),
@@ -254,6 +284,7 @@ const LINES: [Line; 131] = [
     Set(Nine, AUXSPICNT, 0x4000),
     Set(Nine, COMMAND, 0xB7),
     Write(Nine, ROMCTRL, Word, 0x8000_0000, 5),
+    Saved(6),
     Due(45),
     Read(Nine, ROMCTRL, Word, 0x8000_0000),
     Event(false, ENDED, 0),
@@ -297,7 +328,7 @@ fn words_are_taken_in_order_by_their_starter(rt: HostRuntime) -> Result<(), Allo
     let bytes = file(rt.alloc())?;
     let mut card = Card::new();
     for (number, line) in LINES.iter().enumerate() {
-        let (got, wanted) = seen(&mut card, &bytes, *line);
+        let (got, wanted) = seen(rt.alloc(), &mut card, &bytes, *line);
         card.laws();
         assert!(rt;
             got == wanted,

@@ -1,10 +1,11 @@
 //! Units in bytes: which bytes are read, that those of what is read are the same again, and where those that aren't read fail.
 
 use Comes::{Differs, Fails, Full, Takes};
-use Kind::{Channels, Cp, FourTimers, Sides, Words};
+use Kind::{Channels, Cp, FourTimers, Port, Sides, Words};
 use Proc::{Nine, Seven};
 use cp15_tcm::Cp15;
 use ds_base::{Proc, Tick};
+use ds_card::Card;
 use ds_dma::Dma;
 use ds_ipc::Ipc;
 use ds_state::{Packer, Unpacked, Unpacker};
@@ -25,6 +26,8 @@ enum Kind {
     Cp,
     /// The DMA channels of a processor.
     Channels(Proc),
+    /// The card's port, with a file of four bytes.
+    Port,
 }
 
 /// What comes of bytes.
@@ -58,6 +61,7 @@ fn put_again(
         Sides => Ipc::unpack(alloc, from, at)?.pack(into)?,
         Cp => Cp15::unpack(from, at)?.pack(into)?,
         Channels(proc) => Dma::unpack(from, at, proc)?.pack(into)?,
+        Port => Card::unpack(from, at, &[1, 2, 3, 4])?.pack(into)?,
     }
     Ok(())
 }
@@ -266,6 +270,105 @@ const DMA_LINES_OF_SEVEN: [Line; 2] = [
     (11, 0xB4, 160, 100, Fails(45)),
 ];
 
+/// A transfer of ARM9's of 128 words, of which 127 were taken; the last one is due at tick 140.
+const CARD_BYTES: [u8; 29] = [
+    0, 0xC0, 0, 0x60, 0x34, 0x12, 5, 1, 0xB7, 0, 0, 0x80, 0x10, 0, 0, 0, 1, 0x7F, 0, 0, 0, 0x8C, 0,
+    0, 0, 0, 0, 0, 0,
+];
+
+/// Which bits stay; which starters, commands, words and due ticks there are.
+const CARD_LINES: [Line; 39] = [
+    (0, 0, 29, 100, Takes(29)),
+    (0, 1, 29, 100, Fails(0)),
+    (1, 0xE0, 29, 100, Takes(29)),
+    (1, 0xD0, 29, 100, Fails(0)),
+    (2, 0x80, 29, 100, Fails(2)),
+    (3, 0x20, 29, 100, Takes(29)),
+    (3, 0x61, 29, 100, Fails(2)),
+    (6, 0x7F, 29, 100, Takes(29)),
+    (6, 0x80, 29, 100, Fails(4)),
+    (7, 0x79, 29, 100, Takes(29)),
+    (7, 0x81, 29, 100, Fails(4)),
+    (8, 0xB8, 29, 100, Takes(29)),
+    (8, 0xB6, 29, 100, Fails(16)),
+    (8, 0xB9, 29, 100, Fails(16)),
+    (15, 0xFF, 29, 100, Takes(29)),
+    (16, 2, 29, 100, Takes(29)),
+    (16, 3, 29, 100, Fails(16)),
+    (16, 0, 29, 100, Fails(17)),
+    (17, 0, 29, 100, Takes(29)),
+    (17, 0x80, 29, 100, Fails(17)),
+    (18, 1, 29, 100, Fails(17)),
+    (20, 1, 29, 100, Fails(17)),
+    (7, 2, 29, 100, Takes(29)),
+    (7, 7, 29, 100, Fails(17)),
+    (7, 0, 29, 100, Fails(21)),
+    (21, 0x64, 29, 100, Takes(29)),
+    (21, 0x63, 29, 100, Fails(21)),
+    (21, 0x8C, 29, 140, Takes(29)),
+    (21, 0x8C, 29, 141, Fails(21)),
+    (25, 1, 29, 140, Takes(29)),
+    (25, 1, 29, 139, Fails(21)),
+    (28, 1, 29, 140, Fails(21)),
+    (0, 0, 28, 100, Fails(21)),
+    (0, 0, 20, 100, Fails(17)),
+    (0, 0, 16, 100, Fails(16)),
+    (0, 0, 15, 100, Fails(8)),
+    (0, 0, 7, 100, Fails(4)),
+    (0, 0, 3, 100, Fails(2)),
+    (0, 0, 1, 100, Fails(0)),
+];
+
+/// The same with the last word ready.
+const CARD_BYTES_READY: [u8; 29] = [
+    0, 0xC0, 0, 0x60, 0x34, 0x12, 5, 1, 0xB7, 0, 0, 0x80, 0x10, 0, 0, 0, 1, 0x7F, 0, 0, 0, 0xFF,
+    0xFF, 0xFF, 0xFF, 0xFF, 0xFF, 0xFF, 0xFF,
+];
+
+/// A block without words has none ready.
+const CARD_LINES_READY: [Line; 4] = [
+    (0, 0, 29, 100000, Takes(29)),
+    (21, 0xFE, 29, 100000, Fails(21)),
+    (17, 0x80, 29, 100000, Fails(17)),
+    (7, 0, 29, 100000, Fails(21)),
+];
+
+/// A transfer of ARM7's without words, due at tick 0.
+const CARD_BYTES_EMPTY: [u8; 29] = [
+    0, 0, 0, 0, 0, 0, 0, 0, 0xB8, 0, 0, 0, 0, 0, 0, 0, 2, 0, 0, 0, 0, 0, 0, 0, 0, 0, 0, 0, 0,
+];
+
+/// None was taken of it.
+const CARD_LINES_EMPTY: [Line; 4] = [
+    (0, 0, 29, 0, Takes(29)),
+    (17, 1, 29, 0, Fails(21)),
+    (7, 7, 29, 0, Takes(29)),
+    (8, 0, 29, 0, Fails(16)),
+];
+
+/// No transfer.
+const CARD_BYTES_IDLE: [u8; 29] = [
+    0, 0, 0, 0, 0, 0, 0, 0, 0xB7, 0, 0, 0, 0, 0, 0, 0, 0, 0, 0, 0, 0, 0xFF, 0xFF, 0xFF, 0xFF, 0xFF,
+    0xFF, 0xFF, 0xFF,
+];
+
+/// No words are taken without one.
+const CARD_LINES_IDLE: [Line; 5] = [
+    (0, 0, 29, 7, Takes(29)),
+    (17, 1, 29, 7, Fails(17)),
+    (20, 1, 29, 7, Fails(17)),
+    (16, 1, 29, 7, Fails(21)),
+    (16, 4, 29, 7, Fails(16)),
+];
+
+/// No transfer, and yet a due tick.
+const CARD_BYTES_STILL: [u8; 29] = [
+    0, 0, 0, 0, 0, 0, 0, 0, 0, 0, 0, 0, 0, 0, 0, 0, 0, 0, 0, 0, 0, 0, 0, 0, 0, 0, 0, 0, 0,
+];
+
+/// There is none without a transfer.
+const CARD_LINES_STILL: [Line; 2] = [(0, 0, 29, 0, Fails(21)), (16, 1, 29, 0, Fails(16))];
+
 #[test]
 fn units_are_taken_and_put_by_their_rules(rt: HostRuntime) -> Result<(), AllocError> {
     let alloc = rt.alloc();
@@ -281,6 +384,16 @@ fn channels_are_taken_and_put_by_their_rules(rt: HostRuntime) -> Result<(), Allo
     let alloc = rt.alloc();
     try_lines(&rt, alloc, Channels(Nine), &DMA_BYTES, &DMA_LINES)?;
     try_lines(&rt, alloc, Channels(Seven), &DMA_BYTES, &DMA_LINES_OF_SEVEN)
+}
+
+#[test]
+fn the_card_is_taken_and_put_by_its_rules(rt: HostRuntime) -> Result<(), AllocError> {
+    let alloc = rt.alloc();
+    try_lines(&rt, alloc, Port, &CARD_BYTES, &CARD_LINES)?;
+    try_lines(&rt, alloc, Port, &CARD_BYTES_READY, &CARD_LINES_READY)?;
+    try_lines(&rt, alloc, Port, &CARD_BYTES_EMPTY, &CARD_LINES_EMPTY)?;
+    try_lines(&rt, alloc, Port, &CARD_BYTES_IDLE, &CARD_LINES_IDLE)?;
+    try_lines(&rt, alloc, Port, &CARD_BYTES_STILL, &CARD_LINES_STILL)
 }
 
 #[test]

@@ -1,6 +1,6 @@
 use Rattle.arm_core.specs.Meanings.{meaning}
 use Rattle.arm_core.proofs.Footprints.{covers_over, nothing_over, order_over}
-use Rattle.arm_core.proofs.touches.footprint.Goals as goal
+use Rattle.arm_core.proofs.touches.reach_of.Goals as goal
 
 pub returns-clause-covers : goal.returns-clause-covers
 returns-clause-covers c = λ base.

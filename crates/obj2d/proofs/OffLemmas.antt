@@ -1,4 +1,4 @@
-use Rattle.std.proofs.Common.{ℕ, zero, suc, Bool, false, ◌≡◌, ◌<◌, ◌==◌, ◌&&◌, not, nat_lt, List, refl, sym, ◌∙◌, ap, arith}
+use Rattle.std.proofs.Common.{ℕ, zero, suc, Bool, false, ◌≡◌, ◌<◌, ◌==◌, ◌&&◌, not, nat_lt, List, refl, ◌∙◌, ap, arith}
 use Rattle.ds_base.specs.Bits.{bit}
 use Rattle.ds_base.proofs.Choices.{and_false}
 use Rattle.vram_banks.specs.Cells.{Banks}
@@ -8,8 +8,9 @@ use Rattle.obj2d.specs.declared.layers.ObjectPixel.{ObjectPixel}
 use Rattle.obj2d.specs.Attributes.{box_height, is_off, mode, object_at}
 use Rattle.obj2d.specs.Places.{down, is_drawn}
 use Rattle.obj2d.specs.ObjectLayer.{SeenObject, blank_pixel, object_pixel, pixel_below, seen_at, with_object}
+use Rattle.obj2d.specs.rows.Strips.{AreNotDrawn}
 use Rattle.obj2d.proofs.FormLemmas.{seen_small}
-use Rattle.obj2d.proofs.StripLemmas.{not_drawn}
+use Rattle.obj2d.proofs.StripLemmas.{nothing_seen}
 
 -- Where the engine shows no objects, no pixel has any.
 
@@ -18,16 +19,21 @@ none_drawn control o line h =
     ap (λ (b : Bool). not (mode o == 3) && (b && (not (is_off o) && nat_lt (down o line) (box_height o)))) h
     ∙ and_false (not (mode o == 3))
 
-none_below : (seen : ℕ → SeenObject) (n : ℕ) → ((k : ℕ) (p : ObjectPixel) → with_object (seen k) p ≡ p) → pixel_below seen n ≡ blank_pixel
+none_below : (seen : ℕ → SeenObject) (n : ℕ) → ((k : ℕ) → k < n → (p : ObjectPixel) → with_object (seen k) p ≡ p) → pixel_below seen n ≡ blank_pixel
 unfolding pixel_below
 none_below seen zero h = refl
-none_below seen (suc n) h = h n (pixel_below seen n) ∙ none_below seen n h
+none_below seen (suc n) h = h n (omega arith) (pixel_below seen n) ∙ none_below seen n (λ k lt. h k (omega (arith, lt)))
+
+-- nor below a number where none before it is drawn
+pub none_before : (v : Banks) (palette oam : List ℕ) (display : Display) (line x n : ℕ) → AreNotDrawn oam display.control line n →
+    pixel_below (seen_at v palette oam display line x) n ≡ blank_pixel
+none_before v palette oam display line x n h =
+    none_below (seen_at v palette oam display line x) n (λ k lt p. nothing_seen v palette oam display line k x p (h k lt))
 
 pub no_object : (v : Banks) (palette oam : List ℕ) (display : Display) (line x : ℕ) → x < 256 → bit 12 display.control ≡ false →
     object_pixel v palette oam display line x ≡ blank_pixel
 no_object v palette oam display line x small h =
-    none_below (seen_at v palette oam display line x) 128
-    (λ n p. sym (not_drawn v palette oam display line n (object_at oam n) (λ (_ : ℕ). p) refl (none_drawn display.control (object_at oam n) line h) x small))
+    none_before v palette oam display line x 128 (λ n _. none_drawn display.control (object_at oam n) line h)
 
 -- a pixel's priority is that of an object, or 0
 

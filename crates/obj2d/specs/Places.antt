@@ -1,9 +1,9 @@
-use Rattle.std.specs.Prelude.{ℕ, Bool, ◌+◌, ◌-◌, ◌/◌, ◌%◌, ◌==◌, ◌&&◌, not, nat_lt, if◌then◌else◌, ℤ, pos, negsuc, ◌+ℤ◌, ◌-ℤ◌, ◌*ℤ◌, Option, Some, None}
+use Rattle.std.specs.Prelude.{ℕ, Bool, ◌+◌, ◌-◌, ◌/◌, ◌%◌, ◌==◌, ◌&&◌, ◌≡◌, ◌<◌, true, not, nat_lt, if◌then◌else◌, List, ℤ, pos, negsuc, ◌+ℤ◌, ◌-ℤ◌, ◌*ℤ◌, Option, Some, None}
 use Rattle.std.specs.Int.{int_shr}
 use Rattle.ds_base.specs.Bits.{bit}
 use Rattle.obj2d.specs.declared.objects.Object.{Object}
 use Rattle.obj2d.specs.declared.objects.Turn.{Turn}
-use Rattle.obj2d.specs.Attributes.{top_edge, left_edge, is_off, mode, width, height, box_width, box_height}
+use Rattle.obj2d.specs.Attributes.{object_at, top_edge, left_edge, is_off, mode, width, height, box_width, box_height}
 
 -- Which places of the screen an object's box covers, and which point of the object is shown at a place of its box (GBATEK, "LCD OBJ - OAM
 -- Attributes", "LCD OBJ - OAM Rotation/Scaling Parameters").
@@ -24,6 +24,10 @@ covers control o line = bit 12 control && (not (is_off o) && nat_lt (down o line
 -- an object of mode 3, a bitmap, isn't drawn on the lines that it covers (our choice)
 abbrev pub is_drawn : ℕ → Object → ℕ → Bool
 is_drawn control o line = not (mode o == 3) && covers control o line
+
+-- some object of the 128 is drawn on a line
+abbrev pub IsSomeDrawn : List ℕ → ℕ → ℕ → Type 0
+IsSomeDrawn oam control line = (n : ℕ) × (n < 128) × (is_drawn control (object_at oam n) line ≡ true)
 
 -- a place in a row or column of so many pixels, flipped or not
 abbrev pub mirrored : Bool → ℕ → ℕ → ℕ

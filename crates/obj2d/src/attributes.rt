@@ -10,7 +10,8 @@ ghost use Rattle.obj2d.specs.Attributes.{object_at, turn_at, group, group_number
 use crate::objects::{Object, Turn};
 
 /// A half of OAM.
-fn half_at(oam: &[u8], at: usize) -> u16
+#[inline(always)]
+pub fn half_at(oam: &[u8], at: usize) -> u16
     requires { at + 1 < length oam.now }
     ensures { result ≡ number_at Half oam.now at }
 {

@@ -1,15 +1,16 @@
 //! Objects laid over one another.
 
-ghost use Rattle.std.specs.Prelude.{◌≡◌, ◌≢◌, ◌<◌, ℕ, length};
+ghost use Rattle.std.specs.Prelude.{◌≡◌, ◌≢◌, ◌<◌, ◌≤◌, ℕ, IsTrue, IsFalse, length};
 ghost use Rattle.obj2d.specs.Attributes.{object_at, box_width, priority, mode, object_has_mosaic};
-ghost use Rattle.obj2d.specs.Places.{covers};
+ghost use Rattle.obj2d.specs.Places.{covers, IsSomeDrawn};
 ghost use Rattle.obj2d.specs.ObjectLayer.{IsLayerPixel, IsPixel, pixel_at, blank_pixel, plainly, shown_pixel, with_object, seen_at, object_pixel};
 ghost use Rattle.obj2d.specs.rows.Words.{row_pixel};
-ghost use Rattle.obj2d.specs.rows.Strips.{IsLaid};
+ghost use Rattle.obj2d.specs.rows.Strips.{AreNotDrawn, IsLaid};
 
 use crate::attributes::{box_width, mode, object_at, object_has_mosaic, priority};
+use crate::lines::{first_drawn, is_drawn_at};
 use crate::objects::{Display, Object};
-use crate::places::{covers, down, is_drawn, left_edge};
+use crate::places::{covers, down, left_edge};
 use crate::strips::strip;
 use crate::words::{WordRow, clear, on_screen, put_shown, put_window, row_pixel, seen_pixel};
 use vram_banks::Vram;
@@ -94,8 +95,8 @@ fn draw(
     ensures { (x : ℕ) → x < 256 → row_pixel into.new x
         ≡ with_object (seen_at vram.now palette.now oam.now display.now line x number) (row_pixel into.old x) }
 {
-    let object = object_at(oam, number);
-    if is_drawn(display.control, &object, line) {
+    if is_drawn_at(oam, display.control, line, number) {
+        let object = object_at(oam, number);
         let mut pixels = [0; 128];
         let y = down(&object, line);
         strip(vram, palette, oam, display, &object, y, &mut pixels);
@@ -132,33 +133,46 @@ pub fn is_mosaic_object(oam: &[u8], number: usize) -> bool
     object_has_mosaic(&object_at(oam, number))
 }
 
-/// Draws all objects over a row where none is.
-fn lay_all(vram: &Vram, palette: &[u8], oam: &[u8], display: &Display, line: u8, into: &mut WordRow)
+/// Draws all objects over a row where none is, of which those before `first` aren't drawn on the line.
+fn lay_all(
+    vram: &Vram,
+    palette: &[u8],
+    oam: &[u8],
+    display: &Display,
+    line: u8,
+    first: usize,
+    into: &mut WordRow,
+)
     requires colours { length palette.now ≡ 512 }
     requires oam { length oam.now ≡ 1024 }
+    requires small { first ≤ 128 }
+    requires before { AreNotDrawn oam.now display.now.control line first }
     requires blank { (x : ℕ) → x < 256 → row_pixel into.old x ≡ blank_pixel }
     ensures { (x : ℕ) → x < 256 → row_pixel into.new x ≡ object_pixel vram.now palette.now oam.now display.now line x }
 {
-    for number in 0..128usize {
+    for number in first..128 {
         draw(vram, palette, oam, display, line, number, into);
     }
 }
 
-/// Draws the row of all objects.
+/// Draws the row of all objects, of which those before `first` aren't drawn on the line.
 fn draw_words(
     vram: &Vram,
     palette: &[u8],
     oam: &[u8],
     display: &Display,
     line: u8,
+    first: usize,
     into: &mut WordRow,
 )
     requires colours { length palette.now ≡ 512 }
     requires oam { length oam.now ≡ 1024 }
+    requires small { first ≤ 128 }
+    requires before { AreNotDrawn oam.now display.now.control line first }
     ensures { (x : ℕ) → x < 256 → row_pixel into.new x ≡ object_pixel vram.now palette.now oam.now display.now line x }
 {
     clear(into);
-    lay_all(vram, palette, oam, display, line, into);
+    lay_all(vram, palette, oam, display, line, first, into);
 }
 
 /// Hands the row out as pixels.
@@ -206,15 +220,17 @@ pub fn object_row(
     ensures form { (x : ℕ) → x < 256 → IsPixel (pixel_at into.new.pixels x) }
 {
     let display = Display { engine, control };
+    let first = first_drawn(oam, control, line);
     let mut row = WordRow {
         words: [0; 256],
         windows: [false; 256],
     };
-    draw_words(vram, palette, oam, &display, line, &mut row);
+    draw_words(vram, palette, oam, &display, line, first, &mut row);
     hand_out(&row, into);
 }
 
-/// Draws the same, of which the colours and the priorities alone are handed out.
+/// Draws the same, of which the colours and the priorities alone are handed out, where some object is drawn on the line, and tells whether one
+/// is. Where none is, no pixel is of an object, and `into` stays.
 pub fn shown_row(
     vram: &Vram,
     palette: &[u8],
@@ -223,17 +239,26 @@ pub fn shown_row(
     engine: u8,
     line: u8,
     into: &mut ShownRow,
-)
+) -> bool
     requires colours { length palette.now ≡ 512 }
     requires oam { length oam.now ≡ 1024 }
-    ensures { (x : ℕ) → x < 256 → shown_pixel into.new x
+    ensures some { IsTrue result → IsSomeDrawn oam.now control line }
+    ensures row { IsTrue result → (x : ℕ) → x < 256 → shown_pixel into.new x
         ≡ plainly (object_pixel vram.now palette.now oam.now (record { engine = engine; control = control }) line x) }
+    ensures none { IsFalse result → (x : ℕ) → x < 256
+        → object_pixel vram.now palette.now oam.now (record { engine = engine; control = control }) line x ≡ blank_pixel }
+    ensures stays { IsFalse result → into.new ≡ into.old }
 {
     let display = Display { engine, control };
+    let first = first_drawn(oam, control, line);
+    if first == 128 {
+        return false;
+    }
     let mut row = WordRow {
         words: [0; 256],
         windows: [false; 256],
     };
-    draw_words(vram, palette, oam, &display, line, &mut row);
+    draw_words(vram, palette, oam, &display, line, first, &mut row);
     show(&row, into);
+    true
 }

@@ -17,6 +17,7 @@
 
 mod attributes;
 mod layers;
+mod lines;
 mod objects;
 mod pixels;
 mod places;

@@ -15,7 +15,7 @@ use Rattle.video2d.specs.Layers.{SeenLayer, at_priority, backdrop_of, from_prior
 use Rattle.video2d.specs.Pictures.{composed_pixel, display_of, layered_pixel, pixels_at}
 use Rattle.video2d.specs.Windows.{shown_by_windows}
 use Rattle.video2d.specs.declared.layers.LayerPixels.{LayerPixels}
-use Rattle.video2d.specs.rows.Plain.{calm_over, calm_pixel, is_calm, is_plain_engine, laid_at, laid_over, over_at, plain_pixel}
+use Rattle.video2d.specs.rows.Plain.{background_seen, backgrounds_seen, calm_over, calm_pixel, has_no_backgrounds, is_calm, is_plain_engine, laid_at, laid_over, over_at, plain_pixel}
 use Rattle.video2d.proofs.FrontLemmas.{hidden, other, still_hidden, taken}
 
 -- Where no window, no object and no effect can act, what is seen is the layer in front.
@@ -227,7 +227,52 @@ off_clear v colours which e line n x h = rw h refl
 pub over_clear : (p : ℕ) (s : SeenLayer) (behind : ℕ) → s.pixel ≡ 0 → over_at p s behind ≡ behind
 over_clear p s behind h = grind (arith, h)
 
+-- ---- where no background is on, the backdrop is left
+
+all_off : (word : ℕ) → (bits 8 4 word == 0) ≡ true → (bit 8 word ≡ false) × (bit 9 word ≡ false) × (bit 10 word ≡ false) × (bit 11 word ≡ false)
+all_off word h = (grind (arith, h), grind (arith, h), grind (arith, h), grind (arith, h))
+
+four_clear : (p : ℕ) (s0 s1 s2 s3 : SeenLayer) (b : ℕ) → s0.pixel ≡ 0 → s1.pixel ≡ 0 → s2.pixel ≡ 0 → s3.pixel ≡ 0 →
+    laid_at p (s0 ∷ s1 ∷ s2 ∷ s3 ∷ []) b ≡ b
+four_clear p s0 s1 s2 s3 b h0 h1 h2 h3 =
+    laid_clear p s0 (s1 ∷ s2 ∷ s3 ∷ []) b h0 ∙ laid_clear p s1 (s2 ∷ s3 ∷ []) b h1 ∙ laid_clear p s2 (s3 ∷ []) b h2 ∙ laid_clear p s3 [] b h3
+
+pub backdrop_alone : (v : Banks) (colours : List ℕ) (which : Engine) (e : EngineState) (line x : ℕ) → has_no_backgrounds e ≡ true →
+    palette_colour colours 0 % 2 ^ 15 ≡ plain_pixel v colours which e line x
+backdrop_alone v colours which e line x h =
+    let off = all_off (dispcnt e) h in
+    let s0 : SeenLayer = background_seen v colours which e line 0 x in
+    let s1 : SeenLayer = background_seen v colours which e line 1 x in
+    let s2 : SeenLayer = background_seen v colours which e line 2 x in
+    let s3 : SeenLayer = background_seen v colours which e line 3 x in
+    let clear : (p b : ℕ) → laid_at p (s0 ∷ s1 ∷ s2 ∷ s3 ∷ []) b ≡ b =
+    λ p b. four_clear p s0 s1 s2 s3 b
+    (off_clear v colours which e line 0 x off.0) (off_clear v colours which e line 1 x off.1)
+    (off_clear v colours which e line 2 x off.2) (off_clear v colours which e line 3 x off.3) in
+    let b : ℕ = palette_colour colours 0 % 2 ^ 15 in
+    let layers : List SeenLayer = s0 ∷ s1 ∷ s2 ∷ s3 ∷ [] in
+    sym (clear 0 (laid_at 1 layers (laid_at 2 layers (laid_at 3 layers b)))
+    ∙ clear 1 (laid_at 2 layers (laid_at 3 layers b))
+    ∙ clear 2 (laid_at 3 layers b)
+    ∙ clear 3 b)
+
 -- ---- and one where only objects are added, and no layer is a second target
+
+-- where no object is, the backgrounds are left
+pub calm_blank : (v : Banks) (colours : List ℕ) (which : Engine) (e : EngineState) (line x : ℕ) →
+    plain_pixel v colours which e line x ≡ calm_over v colours which e line x blank_pixel
+unfolding calm_over
+calm_blank v colours which e line x =
+    let o : SeenLayer = seen_objects blank_pixel in
+    let ss : List SeenLayer = backgrounds_seen v colours which e line x in
+    let b : ℕ = palette_colour colours 0 % 2 ^ 15 in
+    let all : List SeenLayer = o ∷ ss in
+    sym (laid_clear 0 o ss (laid_at 1 all (laid_at 2 all (laid_at 3 all b))) refl
+    ∙ ap (laid_at 0 ss)
+    (laid_clear 1 o ss (laid_at 2 all (laid_at 3 all b)) refl
+    ∙ ap (laid_at 1 ss)
+    (laid_clear 2 o ss (laid_at 3 all b) refl
+    ∙ ap (laid_at 2 ss) (laid_clear 3 o ss b refl))))
 
 -- of the objects their colours and priorities alone count
 pub calm_plainly : (v : Banks) (colours : List ℕ) (which : Engine) (e : EngineState) (line x : ℕ) (p : ObjectPixel) →

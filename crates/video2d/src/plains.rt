@@ -3,7 +3,7 @@
 ghost use Rattle.std.specs.Prelude.{◌≡◌, ◌<◌, ◌==◌, if◌then◌else◌, ℕ, length, slice_index};
 ghost use Rattle.obj2d.specs.ObjectLayer.{shown_pixel};
 ghost use Rattle.video2d.specs.Layers.{seen_objects};
-ghost use Rattle.video2d.specs.rows.Plain.{background_seen, backgrounds_seen, calm_layers, calm_over, calm_pixel, is_calm, is_plain_engine, laid_at, laid_over, over_at, plain_pixel};
+ghost use Rattle.video2d.specs.rows.Plain.{background_seen, backgrounds_seen, calm_layers, calm_over, calm_pixel, has_no_backgrounds, is_calm, is_plain_engine, laid_at, laid_over, over_at, plain_pixel};
 
 use crate::backgrounds::{background_row, is_background_on};
 use crate::engines::{Engine, EngineRegisters};
@@ -90,6 +90,13 @@ fn lay_priority(
     lay_background(vram, colours, which, engine, line, 0, turn, into);
 }
 
+/// Whether all backgrounds are off.
+fn has_no_backgrounds(engine: &EngineRegisters) -> bool
+    ensures { result ≡ has_no_backgrounds engine.now }
+{
+    (engine.dispcnt() >> 8) % 16 == 0
+}
+
 /// Draws the line of an engine's backgrounds over the backdrop. `colours` has the 512 bytes of its palette for backgrounds.
 pub fn plain_layers(
     vram: &Vram,
@@ -103,6 +110,9 @@ pub fn plain_layers(
     ensures { (x : ℕ) → x < 256 → slice_index into.new x ≡ plain_pixel vram.now colours.now which engine.now line x }
 {
     plain_line(palette_colour(colours, 0) % 0x8000, into);
+    if has_no_backgrounds(engine) {
+        return;
+    }
     lay_priority(vram, colours, which, engine, line, 3, into);
     lay_priority(vram, colours, which, engine, line, 2, into);
     lay_priority(vram, colours, which, engine, line, 1, into);
@@ -184,8 +194,8 @@ fn lay_turns(
     lay_turn(vram, colours, which, engine, line, objects, 0, into);
 }
 
-/// Draws the line of an engine's backgrounds and objects over the backdrop. `colours` and `object_colours` have the 512 bytes of its palettes for
-/// backgrounds and for objects, `oam` its 1,024 bytes of objects.
+/// Draws the line of an engine's backgrounds and objects over the backdrop; where no object is drawn on the line, as if objects were off.
+/// `colours` and `object_colours` have the 512 bytes of its palettes for backgrounds and for objects, `oam` its 1,024 bytes of objects.
 pub fn calm_line(
     vram: &Vram,
     colours: &[u8],
@@ -206,7 +216,7 @@ pub fn calm_line(
         priorities: [0; 256],
     };
     let control = engine.dispcnt();
-    shown_row(
+    let has_objects = shown_row(
         vram,
         object_colours,
         oam,
@@ -215,5 +225,9 @@ pub fn calm_line(
         line,
         &mut objects,
     );
-    lay_turns(vram, colours, which, engine, line, &objects, into);
+    if has_objects {
+        lay_turns(vram, colours, which, engine, line, &objects, into);
+    } else {
+        plain_layers(vram, colours, which, engine, line, into);
+    }
 }

@@ -1,8 +1,12 @@
 //! What a line can't be drawn with.
 
-ghost use Rattle.std.specs.Prelude.{◌≡◌, ◌<◌, ◌∷◌, [], length};
+ghost use Rattle.std.specs.Prelude.{◌≡◌, ◌<◌, ◌∷◌, [], IsFalse, length};
+ghost use Rattle.ds_base.specs.Bits.{bit};
+ghost use Rattle.obj2d.specs.Attributes.{object_at};
+ghost use Rattle.video2d.specs.Engines.{dispcnt};
 ghost use Rattle.video2d.specs.Pictures.{object_memory};
 ghost use Rattle.video2d.specs.Stops.{needed_if, first_need, value_of_engine, needs_display_mode, needs_mode, needs_capture, needs_of_background, needs_of_object, needs_of_objects, needs_of_objects_shown, needs_of_engine, needs_of_line};
+ghost use Rattle.video2d.specs.rows.Needs.{AreAmong, IsAmong, NeedNothing};
 
 use crate::backgrounds::{background_mode, is_background_on};
 use crate::engines::{Engine, EngineRegisters};
@@ -119,11 +123,63 @@ fn needs_of_object(
     )
 }
 
+/// The eight bytes of an object, as one number.
+fn entry_at(oam: &[u8], n: usize) -> u64
+    requires long { length oam.now ≡ 1024 }
+    requires known { n < 128 }
+    ensures { IsAmong (object_at oam.now n).attribute0 result }
+{
+    u64::from_le_bytes([
+        oam[8 * n],
+        oam[8 * n + 1],
+        oam[8 * n + 2],
+        oam[8 * n + 3],
+        oam[8 * n + 4],
+        oam[8 * n + 5],
+        oam[8 * n + 6],
+        oam[8 * n + 7],
+    ])
+}
+
+/// The bits of all objects together. Whole entries are taken, so that several are at once.
+fn bits_of_all(oam: &[u8]) -> u64
+    requires { length oam.now ≡ 1024 }
+    ensures { AreAmong oam.now 128 result }
+{
+    let mut all = 0u64;
+    for n in 0..128usize {
+        all = all | entry_at(oam, n);
+    }
+    all
+}
+
+/// Whether an object may be a bitmap or have mosaic: false where none is and none has.
+fn may_need(oam: &[u8]) -> bool
+    requires { length oam.now ≡ 1024 }
+    ensures { IsFalse result → NeedNothing oam.now }
+{
+    let all = bits_of_all(oam);
+    ((all >> 10) % 4 == 3) | ((all >> 12) % 2 == 1)
+}
+
+/// Whether the engine's objects are on.
+fn has_objects(engine: &EngineRegisters) -> bool
+    ensures { result ≡ bit 12 (dispcnt engine.now) }
+{
+    (engine.dispcnt() >> 12) % 2 == 1
+}
+
 /// What the first object needs that needs anything.
 fn needs_of_objects(which: Engine, engine: &EngineRegisters, oam: &[u8], line: u8) -> Option<Stop>
     requires { length oam.now ≡ 1024 }
     ensures { result ≡ needs_of_objects which engine.now oam.now line }
 {
+    if !has_objects(engine) {
+        return None;
+    }
+    if !may_need(oam) {
+        return None;
+    }
     for n in 0..128usize {
         if let Some(stop) = needs_of_object(which, engine, oam, line, n) {
             return Some(stop);

@@ -1,12 +1,12 @@
-use Rattle.std.specs.Prelude.{ℕ, ◌≡◌, ◌<◌, ◌+◌, ◌-◌, ◌*◌, ◌/◌, ◌%◌, nat_lt, Bool, if◌then◌else◌, List, slice_index}
+use Rattle.std.specs.Prelude.{ℕ, ◌≡◌, ◌<◌, ◌+◌, ◌-◌, ◌*◌, ◌/◌, ◌%◌, nat_lt, Bool, false, if◌then◌else◌, List, slice_index}
 use Rattle.vram_banks.specs.Cells.{Banks, vram_byte}
 use Rattle.vram_banks.specs.Colours.{indexed_pixel}
 use Rattle.vram_banks.specs.Tiles.{flipped}
 use Rattle.obj2d.specs.declared.layers.ObjectPixel.{ObjectPixel}
 use Rattle.obj2d.specs.declared.objects.Display.{Display}
 use Rattle.obj2d.specs.declared.objects.Object.{Object}
-use Rattle.obj2d.specs.Attributes.{object_has_256, width, box_width, priority, mode, flips_across}
-use Rattle.obj2d.specs.Places.{across}
+use Rattle.obj2d.specs.Attributes.{object_at, object_has_256, width, box_width, priority, mode, flips_across}
+use Rattle.obj2d.specs.Places.{across, is_drawn}
 use Rattle.obj2d.specs.ObjectLayer.{SeenObject, with_object}
 use Rattle.obj2d.specs.ObjectPixels.{object_space, object_index, object_colour, tile_address, box_pixel}
 
@@ -49,3 +49,7 @@ strip_seen o pixels n x =
 -- a row with the first n pixels of a strip laid over it
 abbrev pub IsLaid : Object → List ℕ → ℕ → (ℕ → ObjectPixel) → (ℕ → ObjectPixel) → Type 0
 IsLaid o pixels n before after = (x : ℕ) → x < 256 → after x ≡ with_object (strip_seen o pixels n x) (before x)
+
+-- none of the first n objects is drawn on a line
+abbrev pub AreNotDrawn : List ℕ → ℕ → ℕ → ℕ → Type 0
+AreNotDrawn oam control line n = (m : ℕ) → m < n → is_drawn control (object_at oam m) line ≡ false

@@ -18,6 +18,10 @@ use Rattle.video2d.specs.declared.engines.Engine.{Engine}
 abbrev pub is_plain_engine : EngineState → Bool
 is_plain_engine e = (bits 12 4 (dispcnt e) == 0) && (effect e == 0)
 
+-- all backgrounds are off (DISPCNT bits 8 to 11)
+abbrev pub has_no_backgrounds : EngineState → Bool
+has_no_backgrounds e = bits 8 4 (dispcnt e) == 0
+
 -- a pixel over what is behind it
 abbrev pub laid_over : ℕ → ℕ → ℕ
 laid_over pixel behind = if pixel == 0 then behind else pixel % 2 ^ 15

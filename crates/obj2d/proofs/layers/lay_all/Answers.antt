@@ -2,11 +2,14 @@ use Rattle.std.proofs.Common.{ℕ, ◌≡◌, sym, ◌∙◌, ap, subst, arith}
 use Rattle.obj2d.specs.ObjectLayer.{SeenObject, pixel_below, with_object, seen_at}
 use Rattle.obj2d.specs.rows.Words.{row_pixel}
 use Rattle.obj2d.proofs.LayerLemmas.{pixel_below_more}
+use Rattle.obj2d.proofs.OffLemmas.{none_before}
 use Rattle.obj2d.proofs.layers.lay_all.Goals as goal
 
 pub loop-number-init : goal.loop-number-init
-unfolding pixel_below
-loop-number-init c = λ x small. c.requires.blank x small
+loop-number-init c = λ x small.
+    let a = c.args in
+    c.requires.blank x small
+    ∙ sym (none_before a.vram.now a.palette.now a.oam.now a.display.now a.line x a.first c.requires.before)
 
 pub loop-number-preserved : goal.loop-number-preserved
 loop-number-preserved c = λ x small.

@@ -1,7 +1,17 @@
 use Rattle.std.proofs.Common.{refl, sym, ◌∙◌, arith}
 use Rattle.video2d.specs.Stops.{needs_of_object, needs_of_objects}
-use Rattle.video2d.proofs.StopLemmas.{needs_here, needs_later, needs_none}
+use Rattle.video2d.proofs.StopLemmas.{needs_here, needs_later, needs_none, nothing_needed, nothing_needed_off}
 use Rattle.video2d.proofs.stops.needs_of_objects.Goals as goal
+
+pub returns-then-not-has_objects : goal.returns-then-not-has_objects
+returns-then-not-has_objects c =
+    let a = c.args in
+    sym (nothing_needed_off a.which a.engine.now a.oam.now a.line (sym c.has_objects.ensures ∙ c.if-not-has_objects.true))
+
+pub returns-then-not-may_need : goal.returns-then-not-may_need
+returns-then-not-may_need c =
+    let a = c.args in
+    sym (nothing_needed a.which a.engine.now a.oam.now a.line (c.may_need.ensures c.if-not-may_need.true))
 
 pub loop-n-init : goal.loop-n-init
 unfolding needs_of_objects

@@ -1,11 +1,14 @@
 -- When a cartridge is accepted: the rules of its header, in their order (our choice of rules and order; the fields are those
 -- of GBATEK, "DS Cartridge Header").
-use Rattle.std.specs.Prelude.{ℕ, ◌≡◌, ◌≤◌, ◌<◌, ◌+◌, ◌%◌, ◌^◌, ◌==◌, ◌&&◌, ◌||◌, ◌⊎◌, Bool, List, [], ◌∷◌, Option, Some, None, length, nat_le, nat_lt, if◌then◌else◌}
+use Rattle.std.specs.Prelude.{ℕ, ◌≡◌, ◌≤◌, ◌<◌, ◌+◌, ◌-◌, ◌%◌, ◌^◌, ◌==◌, ◌&&◌, ◌||◌, ◌⊎◌, Bool, List, [], ◌∷◌, Option, Some, None, length, nat_le, nat_lt, if◌then◌else◌}
+use Rattle.ds_base.specs.Memories.{memory_size}
+use Rattle.ds_base.specs.declared.memories.Memory.TheVariants.{Own7, Shared}
 use Rattle.ds_base.specs.declared.processors.Proc.{Proc}
 use Rattle.ds_base.specs.declared.processors.Proc.TheVariants.{Nine, Seven}
 use Rattle.ds_header.specs.declared.faults.HeaderFault.{HeaderFault}
 use Rattle.ds_header.specs.declared.faults.HeaderField.{HeaderField}
 use Rattle.ds_header.specs.declared.faults.HeaderField.TheVariants.{Short, UnitCode, Arm9Rom, Arm9Place, Arm9Entry, Arm7Rom, Arm7Place, Arm7Entry}
+use Rattle.ds_places.specs.AddressTables.{main_region, own_region}
 use Rattle.ds_header.specs.Fields.{unit_code_of, image_offset, image_entry, image_place, image_length}
 
 -- a range of addresses, the last not in it
@@ -15,10 +18,10 @@ pub record Range : Type 0 where
 
 -- main memory with its mirrors, and ARM7's work RAM: the shared one's last mirror and its own (GBATEK, "DS Memory Map")
 abbrev pub main_range : Range
-main_range = record { first = 0x2000000; past = 0x3000000 }
+main_range = record { first = main_region.first; past = main_region.last + 1 }
 
 abbrev pub work_range : Range
-work_range = record { first = 0x37F8000; past = 0x3810000 }
+work_range = record { first = own_region.first - memory_size Shared; past = own_region.first + memory_size Own7 }
 
 -- so many bytes from an address on lie in a range; none do where the address does
 abbrev pub lies_within : Range → ℕ → ℕ → Bool

@@ -9,10 +9,16 @@ use crate::faults::HeaderField::{
 };
 use crate::faults::{HeaderFault, HeaderField};
 use crate::fields::{HEADER, image_fields, unit_code};
-use ds_base::Proc;
+use ds_base::{OWN7_BYTES, Proc, SHARED_BYTES};
+use ds_places::{MAIN_FIRST, MAIN_LAST, OWN7_FIRST};
 
 /// How many bytes an image has at most.
 const LONGEST: u32 = 0x0040_0000;
+
+/// How many bytes the shared work RAM has, and ARM7's own.
+const SHARED: u32 = SHARED_BYTES as u32;
+
+const OWN7: u32 = OWN7_BYTES as u32;
 
 /// Whether so many bytes from an address on lie in a range.
 fn lies_within(first: u32, past: u32, at: u32, count: u32) -> bool
@@ -26,10 +32,10 @@ fn lies_within(first: u32, past: u32, at: u32, count: u32) -> bool
 fn lies_in(proc: Proc, at: u32, count: u32) -> bool
     ensures { result ≡ lies_in proc at count }
 {
-    let main = lies_within(0x0200_0000, 0x0300_0000, at, count);
+    let main = lies_within(MAIN_FIRST, MAIN_LAST + 1, at, count);
     match proc {
         Proc::Nine => main,
-        Proc::Seven => main || lies_within(0x037F_8000, 0x0381_0000, at, count),
+        Proc::Seven => main || lies_within(OWN7_FIRST - SHARED, OWN7_FIRST + OWN7, at, count),
     }
 }
 

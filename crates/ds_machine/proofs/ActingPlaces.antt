@@ -13,7 +13,7 @@ use Rattle.ds_runs.proofs.AllActors.{actors_differ, is_numbered}
 use Rattle.ds_runs.proofs.Lists.{is_later}
 use Rattle.ds_runs.proofs.Places.{remaining_at, remaining_below}
 use Rattle.ds_machine.specs.Acting.{acting_due, acting_dues}
-use Rattle.ds_machine.specs.Lagging.{ActsApart}
+use Rattle.ds_machine.specs.Lagging.{ActsUnobserving}
 use Rattle.ds_machine.specs.Private.{IsAhead, rank_of}
 use Rattle.ds_machine.specs.Reference.{Shown, due_by, reference_step}
 use Rattle.ds_machine.specs.Sound.{IsSound}
@@ -78,7 +78,7 @@ module _ (s next : MachineState) (tick : Tick) (rank : ℕ) (outs : List Shown) 
     ]
     | inr other ↦ absurd (none-some u (sym (quiet_acts_never next (still other)) ∙ acts))
   ] where
-    still : ActsApart caught rank tick ⊎ ((proc : Proc) × (rank ≡ rank_of proc) × IsAhead caught proc) → is_quiet next.io ≡ true
+    still : ActsUnobserving caught rank tick ⊎ ((proc : Proc) × (rank ≡ rank_of proc) × IsAhead caught proc) → is_quiet next.io ≡ true
     still (inl apart) = quiet_next caught rank tick since_caught.so.sound.parts apart quiet next outs acted.makes
     still (inr k) = ahead_quiet caught next k.0 rank outs since_caught.so.sound k.2 k.1 acted.makes ∙ quiet
 

@@ -19,7 +19,7 @@ use Rattle.ds_runs.proofs.RunLaws.{same_makes, not_both}
 use Rattle.ds_ports.specs.Acting.{is_quiet}
 use Rattle.ds_machine.specs.Acting.{acting_dues}
 use Rattle.ds_machine.specs.Frames.{FollowFrames, FollowLists, WholeFrame, frames_shown, last_frame, last_lists, lists_shown}
-use Rattle.ds_machine.specs.Lagging.{ActsApart, CatchesUpFor, CatchesUpIf, ComesBeforeAll, StepsBeforeGeometry, TakesGeometry, no_geometry, observes_by}
+use Rattle.ds_machine.specs.Lagging.{ActsUnobserving, CatchesUpFor, CatchesUpIf, ComesBeforeAll, StepsBeforeGeometry, TakesGeometry, no_geometry, observes_by}
 use Rattle.ds_machine.specs.Private.{IsAhead, rank_of}
 use Rattle.ds_machine.specs.Reference.{Shown, dues_of, processor_due, reference, reference_step}
 use Rattle.ds_machine.specs.Sound.{IsSound}
@@ -37,7 +37,7 @@ use Rattle.ds_machine.proofs.Frames.{follows_as, stop_keeps_as}
 use Rattle.ds_machine.proofs.LagLaw.{lag_runs, lag_stops}
 use Rattle.ds_machine.proofs.LagSteps.{quiet_acts_never}
 use Rattle.ds_machine.proofs.MachineSchedule.{Steps, sound_as}
-use Rattle.ds_machine.proofs.PrivateApart.{rank_apart}
+use Rattle.ds_machine.proofs.PrivateUnobserved.{rank_unobserved}
 use Rattle.ds_machine.proofs.Statuses.{steps_keep_statuses}
 use Rattle.ds_machine.proofs.StepsMay.{MayThen, steps_then}
 
@@ -90,13 +90,13 @@ module _ (s : MachineState) (tick : Tick) (rank : ℕ) (sound : IsSound s) where
         came = inr (comes_first tick rank s least, catches.steps);
         runs = λ limit lt end outs. catching_up_runs s caught tick.0 rank limit sound (comes_first tick rank s least) catches (omega (arith, low, lt)) end outs;
       }
-  least_caught caught least false e same = stays_so caught same least.there (inr (inl (record { least = least; apart = e })))
+  least_caught caught least false e same = stays_so caught same least.there (inr (inl (record { least = least; unobserving = e })))
 
   -- and before its turn
   ahead_caught : (caught : MachineState) (proc : Proc) → rank ≡ rank_of proc → IsAhead s proc → due_at (acting_dues s) rank ≡ Some tick
       → (b : Bool) → observes_by (actor_of rank) s ≡ b → CatchesUpIf b tick.0 rank s caught → CaughtUp s caught tick rank
   ahead_caught caught proc is ahead acts true e catches =
-      absurd (true≢false (sym e ∙ ap (λ (r : ℕ). observes_by (actor_of r) s) is ∙ rank_apart s proc ahead.private))
+      absurd (true≢false (sym e ∙ ap (λ (r : ℕ). observes_by (actor_of r) s) is ∙ rank_unobserved s proc ahead.private))
   ahead_caught caught proc is ahead acts false e same = stays_so caught same acts (inr (inr (proc, is, ahead)))
 
   pub caught_up : (caught : MachineState) → MayAct s tick rank → CatchesUpFor tick.0 rank s caught → CaughtUp s caught tick rank
@@ -149,7 +149,7 @@ module _ (s : MachineState) (proc : Proc) (sound : IsSound s) (ahead : IsAhead s
       not_both g.next left [] stop (sym g.makes ∙ subst (λ (r : ℕ). reference_step r s ≡ Stops stop left) is h)
 
 -- that of the least that acts, which is the least of all where it is geometry
-pub apart_goes : (s : MachineState) (tick : Tick) (rank : ℕ) → IsSound s → ActsApart s rank tick → IsLeast (dues_of s) tick rank ⊎ StepsBeforeGeometry s rank tick
+pub apart_goes : (s : MachineState) (tick : Tick) (rank : ℕ) → IsSound s → ActsUnobserving s rank tick → IsLeast (dues_of s) tick rank ⊎ StepsBeforeGeometry s rank tick
 apart_goes s tick rank sound acts = elim (same_or_not rank 12) [
   | inl same ↦
       (let loud = acts_loudly s tick (subst (λ (r : ℕ). due_at (acting_dues s) r ≡ Some tick) same acts.least.there) in

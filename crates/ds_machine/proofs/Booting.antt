@@ -66,9 +66,9 @@ copied_io proc s at (byte ∷ rest) low high =
 
 -- where an accepted image lies
 pub image_lies : (proc : Proc) (at count : ℕ) → ImageLies proc at count → (0x02000000 ≤ at) × (at + count ≤ 0x04000000)
-image_lies Nine at count is = let low = is.first in let high = is.whole in (omega (arith, low), omega (arith, high))
-image_lies Seven at count (inl is) = let low = is.first in let high = is.whole in (omega (arith, low), omega (arith, high))
-image_lies Seven at count (inr is) = let low = is.first in let high = is.whole in (omega (arith, low), omega (arith, high))
+image_lies Nine at count is = let low : 0x02000000 ≤ at = is.first in let high : at + count ≤ 0x03000000 = is.whole in (low, omega (arith, high))
+image_lies Seven at count (inl is) = let low : 0x02000000 ≤ at = is.first in let high : at + count ≤ 0x03000000 = is.whole in (low, omega (arith, high))
+image_lies Seven at count (inr is) = let low : 0x037F8000 ≤ at = is.first in let high : at + count ≤ 0x03810000 = is.whole in (omega (arith, low), omega (arith, high))
 
 -- ---- no step was taken
 

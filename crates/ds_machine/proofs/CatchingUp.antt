@@ -34,7 +34,7 @@ use Rattle.ds_machine.proofs.ActingDues.{due_where_acts, loud_same}
 use Rattle.ds_machine.proofs.GeometryFirst.{ComesFirst, least_acting, least_geometry}
 use Rattle.ds_machine.proofs.LagCommutes.{late_put}
 use Rattle.ds_machine.proofs.LagSteps.{acting_same, no_stall_ends, observes_same, quiet_leaves, quiet_parts, quiet_step, sound_late}
-use Rattle.ds_machine.proofs.PrivateApart.{rank_apart}
+use Rattle.ds_machine.proofs.PrivateUnobserved.{rank_unobserved}
 
 -- Quiet geometry's steps that are due before a place, where nobody acts before it: each is the least of all, and they change geometry alone, and the count of events.
 
@@ -274,7 +274,7 @@ pub observed_before : (s : MachineState) (tick : Tick) (rank : ℕ) → MayAct s
 observed_before s tick rank may observes = elim may.may [
   | inl least ↦ comes_first tick rank s least
   | inr ahead ↦ (let e : observes_by (actor_of (rank_of ahead.0)) s ≡ true = subst (λ (r : ℕ). observes_by (actor_of r) s ≡ true) ahead.1 observes in
-      absurd (true≢false (sym e ∙ rank_apart s ahead.0 ahead.2.private)))
+      absurd (true≢false (sym e ∙ rank_unobserved s ahead.0 ahead.2.private)))
 ]
 
 -- where geometry isn't behind, it caught up

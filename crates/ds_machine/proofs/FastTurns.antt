@@ -16,7 +16,7 @@ use Rattle.ds_machine.specs.TurnSteps.{BelongsToTurn, HasLimit, TakesSteps, more
 use Rattle.ds_machine.specs.declared.next_events.NextEvent.{NextEvent}
 use Rattle.ds_machine.proofs.FastSteps.{cost_keeps, free_stays, made_fast, reach_keeps}
 use Rattle.ds_machine.proofs.GoingSteps.{IsDueAt, below_limit, below_when, due_when, free_here, least_when, leaves_when, limit_here, limit_so, needs_none, other_stays, over_when, past_limit, took_when, waits_for}
-use Rattle.ds_machine.proofs.NearApart.{near_apart}
+use Rattle.ds_machine.proofs.NearUnobserved.{near_unobserved}
 use Rattle.ds_machine.proofs.Wakes.{put_beside}
 
 -- One step of the fast path and a loop over them, by what they go by.
@@ -68,7 +68,7 @@ module _ (next_event : NextEvent) (s : MachineState) (proc : Proc) (until limit 
       let made = made_fast next_event s m next (rank_of proc) proc tick clocks sound kept goes.some (free_stays proc s m io d.free) d.own machine
       (sym stepped) e in
       let units : next.io ≡ s.io = ap (λ (x : MachineState). x.io) e ∙ (put_beside proc m (went_on proc clocks false (processor_of m proc))).io ∙ io in
-      let took = took_when next_event s next proc n until goes.running d lt early goes_now (near_apart s proc tick d.own near) made units
+      let took = took_when next_event s next proc n until goes.running d lt early goes_now (near_unobserved s proc tick d.own near) made units
       (other_stays proc tick s m next (went_on proc clocks false (processor_of m proc)) machine e) in
       (took, goes_after next took (cost_keeps next_event m next proc (went_on proc clocks false (processor_of m proc)) kept e))
 
@@ -98,7 +98,7 @@ pub goes_on : (until : ℕ) (proc : Proc) (next_event : NextEvent) (limit : ℕ)
 goes_on until proc next_event limit start before now g k =
     let took = k.0 in
     record {
-      steps = more_steps start before before now g.steps took.belongs (needs_none before proc took.apart) took.made;
+      steps = more_steps start before before now g.steps took.belongs (needs_none before proc took.unobserving) took.made;
       goes = k.1;
       io = took.io ∙ g.io;
     }

@@ -1,7 +1,7 @@
-use Rattle.std.proofs.Common.{ℕ, ◌≡◌, ◌≢◌, ◌<◌, ◌≤◌, ◌-◌, ◌^◌, ◌⊎◌, inl, inr, if◌then◌else◌, min, nat_le, nat_lt, Bool, true, false, true≢false, List, ◌∷◌, Option, Some, refl, sym, ◌∙◌, ap, subst, arith, []}
+use Rattle.std.proofs.Common.{ℕ, ◌≡◌, ◌≢◌, ◌<◌, ◌≤◌, ◌-◌, ◌^◌, ◌⊎◌, inl, inr, if◌then◌else◌, min, nat_lt, Bool, true, false, List, ◌∷◌, Option, Some, refl, sym, ◌∙◌, ap, subst, arith, []}
 use Rattle.std.proofs.lemmas.Option.{same_Some}
 use Rattle.std.proofs.lemmas.Bool.{and_cases, and_from, and_left, and_parts, and_right}
-use Rattle.ds_base.proofs.Choices.{le_of, lt_of, lt_or_same, same_or_not}
+use Rattle.ds_base.proofs.Choices.{is_le, is_lt, isnt_le, isnt_lt, le_of, lt_cases, lt_of, lt_or_same, not_le, not_lt, same_or_not}
 use Rattle.ds_base.specs.declared.processors.Proc.{Proc}
 use Rattle.ds_base.specs.declared.processors.Proc.TheVariants.{Nine, Seven}
 use Rattle.ds_base.specs.declared.ticks.Tick.{Tick}
@@ -17,7 +17,7 @@ use Rattle.ds_runs.proofs.Lists.{within}
 use Rattle.ds_machine.specs.Acting.{acting_dues}
 use Rattle.ds_machine.specs.Lagging as geometry
 use Rattle.ds_machine.specs.Lagging.{CatchesUpFor, CatchesUpIf, TakesGeometry, observes_by}
-use Rattle.ds_machine.specs.NextEvents.{IsNextEvent, TookStep, acting_events_of, comes_before, due_at_least, is_least_by, least_kept, least_of, limit_by, line_kept, past_other, waits_until}
+use Rattle.ds_machine.specs.NextEvents.{IsNextEvent, TookStep, acting_events_of, comes_before, is_least_by, least_kept, least_of, limit_by, line_kept, past_other, waits_until}
 use Rattle.ds_machine.specs.Private.{IsAhead, IsBelowFence, ProcessorStaysPrivate, rank_of}
 use Rattle.ds_machine.specs.TurnSteps.{BelongsToTurn, ComesFirst, HasLimit, MayStep, TakesSteps, more_steps, no_steps}
 use Rattle.ds_machine.specs.Hearing.{Fences, geometry_rank}
@@ -36,21 +36,13 @@ use Rattle.ds_machine.proofs.DueTicks.{own_tick, rank_there, sort_rank, steps_as
 use Rattle.ds_machine.proofs.DecodedStays.{fetch_by_words}
 use Rattle.ds_machine.proofs.FastSteps.{ComesBefore, due_there, event_there, in_front, kept_is, processor_least, wait_ends, wait_is}
 use Rattle.ds_machine.proofs.OwnRemaining.{turn_steps_fall}
-use Rattle.ds_machine.proofs.PlacesByWords.{le_cases, lt_cases, nine_by_words, seven_by_words}
+use Rattle.ds_machine.proofs.PlacesByWords.{nine_by_words, seven_by_words}
 use Rattle.ds_machine.proofs.PrivatePlaces.{private_itself}
 use Rattle.ds_machine.proofs.PrivateTests.{fetch_of_stays}
 use Rattle.ds_machine.proofs.Running.{steps_keep_running}
 use Rattle.ds_machine.proofs.Statuses.{statuses_done}
 
 -- The steps of a processor's turn, by what is kept.
-
--- ---- tests of numbers
-
-not_lt : (x y : ℕ) → nat_lt x y ≡ false → y ≤ x
-not_lt x y h = elim (lt_cases x y) [ inl k ↦ absurd (true≢false (sym k.1 ∙ h)) | inr k ↦ k.0 ]
-
-not_le : (x y : ℕ) → nat_le x y ≡ false → y < x
-not_le x y h = elim (le_cases x y) [ inl k ↦ absurd (true≢false (sym k.1 ∙ h)) | inr k ↦ k.0 ]
 
 comes_so : (proc : Proc) (n other : ℕ) → comes_before proc n other ≡ true → ComesBefore proc n other
 comes_so Nine n other h = le_of n other h
@@ -238,18 +230,6 @@ leaves_when next_event s proc n until is some e lt h behind b = elim b.goes [
 pub waits_for : (next_event : NextEvent) (s : MachineState) (proc : Proc) (n : ℕ) → least_kept next_event proc ≡ 0 → n ≡ (processor_of s proc).due → n ≡ waits_until next_event s proc
 waits_for next_event s proc n free e = omega (arith, free, e)
 
-is_lt : (x y : ℕ) → x < y → nat_lt x y ≡ true
-is_lt x y lt = elim (lt_cases x y) [ inl k ↦ k.1 | inr k ↦ (let le = k.0 in absurd (omega (arith, le, lt))) ]
-
-is_le : (x y : ℕ) → x ≤ y → nat_le x y ≡ true
-is_le x y le = elim (le_cases x y) [ inl k ↦ k.1 | inr k ↦ (let lt = k.0 in absurd (omega (arith, le, lt))) ]
-
-isnt_lt : (x y : ℕ) → y ≤ x → nat_lt x y ≡ false
-isnt_lt x y le = elim (lt_cases x y) [ inl k ↦ (let lt = k.0 in absurd (omega (arith, le, lt))) | inr k ↦ k.1 ]
-
-isnt_le : (x y : ℕ) → y < x → nat_le x y ≡ false
-isnt_le x y lt = elim (le_cases x y) [ inl k ↦ (let le = k.0 in absurd (omega (arith, le, lt))) | inr k ↦ k.1 ]
-
 before_other : (proc : Proc) (n other : ℕ) → n < past_other proc other → comes_before proc n other ≡ true
 before_other Nine n other lt = is_le n other (omega (arith, lt))
 before_other Seven n other lt = is_lt n other lt
@@ -432,7 +412,7 @@ apart_may s proc n d early goes apart = record {
   due = rank_there s proc ∙ d.there;
   early = early;
   may = elim goes [
-    | inl least ↦ inr (inl (record { least = least; apart = apart_rank s proc apart }))
+    | inl least ↦ inr (inl (record { least = least; unobserving = apart_rank s proc apart }))
     | inr ahead ↦ inr (inr (proc, refl, ahead))
   ];
 }
@@ -446,7 +426,7 @@ took_when next_event s next proc n until running d lt early goes apart made io o
     let step = steps_as s (rank_of proc) (Processor proc) (Some (record { 0 = n })) (Makes next []) (actor_is proc) d.there made in
     record {
       belongs = b;
-      apart = apart;
+      unobserving = apart;
       made = step;
       running = steps_keep_running last_limit (rank_of proc) s next [] running (apart_may s proc n d (omega (arith, lt, early)) goes apart) (omega (arith, lt, early)) step;
       fewer = turn_steps_fall until s s next proc [] running.sound b (needs_none s proc apart) step;

@@ -89,7 +89,7 @@ module _ (s : MachineState) (r : ℕ) (t u : Tick) (b : StepsBeforeGeometry s r 
     sound = sound_late s b.sound is_quiet_then;
     acts = record {
       least = subst (λ (dues : List (Option Tick)). IsLeast dues t r) (sym (acting_same s b.sound is_quiet_then)) b.acts.least;
-      apart = observes_same (actor_of r) finished s ∙ b.acts.apart;
+      unobserving = observes_same (actor_of r) finished s ∙ b.acts.unobserving;
     };
     other = b.other;
   }
@@ -139,13 +139,13 @@ record Steps (s next : MachineState) (r : ℕ) (t : Tick) (outs : List Shown) : 
 module _ (s made : MachineState) (r : ℕ) (t : Tick) (outs : List Shown) (b : StepsBeforeGeometry s r t) (quiet : is_quiet s.io ≡ true)
     (took : step_by r (actor_of r) s ≡ Makes made outs) where
   gx_stays : made.io.gx ≡ s.io.gx
-  gx_stays = gx_left r (actor_of r) s made outs b.other b.acts.apart took
+  gx_stays = gx_left r (actor_of r) s made outs b.other b.acts.unobserving took
 
   arms_stay : any_armed made.io.nine.dma ≡ false
-  arms_stay = arms_left r (actor_of r) s made outs b.other b.acts.apart took (quiet_parts s.io quiet).disarmed
+  arms_stay = arms_left r (actor_of r) s made outs b.other b.acts.unobserving took (quiet_parts s.io quiet).disarmed
 
   hidden_step : step_by r (actor_of r) (gx_put (hidden s.io.gx) s) ≡ Makes (gx_put (hidden s.io.gx) made) outs
-  hidden_step = gx_commutes r (actor_of r) (hidden s.io.gx) s b.other b.acts.apart refl ∙ ap (step_with (gx_put (hidden s.io.gx))) took
+  hidden_step = gx_commutes r (actor_of r) (hidden s.io.gx) s b.other b.acts.unobserving refl ∙ ap (step_with (gx_put (hidden s.io.gx))) took
 
   hidden_owes : Owes (actor_of r) t (gx_put (hidden s.io.gx) s) (gx_put (hidden s.io.gx) made)
   hidden_owes =
@@ -207,7 +207,7 @@ module _ (s late : MachineState) (r : ℕ) (t u : Tick) (b : StepsBeforeGeometry
       let a = actor_of r in
       let free = (quiet_parts s.io quiet).free in
       let due = others_due a g s b.other (leaves.free ∙ sym free) ∙ own_due s r t b in
-      let step = apart_commutes r a g s b.other b.acts.apart leaves.free free ∙ ap (step_with (late_put g)) took in
+      let step = apart_commutes r a g s b.other b.acts.unobserving leaves.free free ∙ ap (step_with (late_put g)) took in
       subst (λ (m : MachineState). reference_step r m ≡ awake (Some t) (step_with (late_put g) came)) late_is
       (steps_as (late_put g s) r a (Some t) (awake (Some t) (step_with (late_put g) came)) refl due (ap (awake (Some t)) step))
 

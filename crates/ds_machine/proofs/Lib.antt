@@ -17,15 +17,15 @@ pub mod MachineSchedule
 pub mod Moves
 pub mod RamAccesses
 pub mod NearAccesses
-pub mod NearApart
+pub mod NearUnobserved
 pub mod Others
 pub mod PortReads
-pub mod QuietPorts
+pub mod SteadyPorts
 pub mod OwnRemaining
 pub mod OwnSteps
 pub mod InnerLaw
 pub mod PrivateAccesses
-pub mod PrivateApart
+pub mod PrivateUnobserved
 pub mod PrivatePlaces
 pub mod PrivateSides
 pub mod PrivateSteps
@@ -41,6 +41,7 @@ pub mod DecodedStays
 pub mod Taken
 pub mod Told
 pub mod PlacesByWords
+pub mod Ranks
 pub mod PrivateTests
 pub mod StepsMay
 pub mod ActingSteps

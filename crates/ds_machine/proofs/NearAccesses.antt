@@ -17,9 +17,9 @@ use Rattle.cp15_tcm.specs.declared.answers.Tcm.TheVariants.{Itcm, Dtcm, Past}
 use Rattle.ds_map.specs.Accesses.{map_read}
 use Rattle.ds_map.specs.Maps.{MapState}
 use Rattle.ds_map.specs.Views.{NineReach, SevenReach, nine_memory, seven_memory, tcm_read}
-use Rattle.ds_machine.specs.QuietPorts.{is_steady_port}
+use Rattle.ds_machine.specs.SteadyPorts.{is_steady_port}
 use Rattle.ds_machine.proofs.PortReads.{read_io}
-use Rattle.ds_machine.proofs.QuietPorts.{quiet_at}
+use Rattle.ds_machine.proofs.SteadyPorts.{steady_at}
 use Rattle.ds_machine.proofs.RamAccesses.{ram_read_io, ram_tcm_writes, write_io}
 
 -- No access of RAM changes a unit, nor does a load from a port of which a read changes none.
@@ -32,7 +32,7 @@ is_near_at at = is_ram at || is_steady_port at
 near_read : (proc : Proc) (m : MapState) (at : ℕ) (width : Width) → is_near_at at ≡ true → (map_read proc m at width).io ≡ m.io
 near_read proc m at width near = elim (or_cases (is_ram at) (is_steady_port at) near) [
   | inl ram ↦ ram_read_io proc m at width ram
-  | inr quiet ↦ (let q = quiet_at at quiet in read_io proc m at width q.low q.high)
+  | inr steady ↦ (let q = steady_at at steady in read_io proc m at width q.low q.high)
 ]
 
 -- also where a tightly coupled memory answers

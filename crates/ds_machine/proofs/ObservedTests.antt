@@ -1,5 +1,5 @@
-use Rattle.std.proofs.Common.{ℕ, ◌≡◌, ◌<◌, ◌-◌, ◌/◌, ◌==◌, nat_le, not, if◌then◌else◌, Bool, true, false, true≢false, List, [], ◌∷◌, map, Option, Some, None, refl, sym, ◌∙◌, ap, subst, arith}
-use Rattle.std.specs.Prelude.{◌&&◌, ◌||◌, IsSome}
+use Rattle.std.proofs.Common.{ℕ, ◌≡◌, ◌<◌, ◌-◌, ◌/◌, nat_le, not, if◌then◌else◌, Bool, true, false, true≢false, List, [], ◌∷◌, map, Option, Some, None, refl, sym, ◌∙◌, ap, subst, arith}
+use Rattle.std.specs.Prelude.{◌&&◌, IsSome}
 use Rattle.std.proofs.lemmas.Bool.{not-true, or_from, or_parts}
 use Rattle.ds_base.specs.Accesses.{Access, Fetch, Read, Write}
 use Rattle.ds_base.specs.declared.processors.Arch.TheVariants.{V5}
@@ -15,11 +15,13 @@ use Rattle.cp15_tcm.specs.declared.answers.Tcm.TheVariants.{Itcm, Dtcm, Past}
 use Rattle.ds_map.specs.Views.{NineReach}
 use Rattle.ds_places.specs.AddressTables.{BootRom, Cells, Content, Empty, Ports, Region, Video, place_at, place_by, place_of, regions_of_nine}
 use Rattle.ds_places.specs.declared.kinds.Place.{Place}
+use Rattle.ds_places.proofs.Rows.{from_same, upto_same}
+use Rattle.ds_map.proofs.ObservedPorts.{observed_same}
 use Rattle.ds_runs.specs.Actors.{actor_of}
 use Rattle.ds_runs.specs.Runs.{due_at}
 use Rattle.ds_runs.specs.declared.actors.Actor as actor
 use Rattle.ds_machine.specs.Lagging.{any_observes, is_observed_past, is_observed_place}
-use Rattle.ds_machine.specs.Observing.{data_apart}
+use Rattle.ds_machine.specs.Observing.{data_unobserved}
 use Rattle.ds_machine.specs.Private.{AllReachPrivate, data_accesses}
 use Rattle.ds_machine.specs.Reference.{due_by, dues_of}
 use Rattle.ds_machine.specs.PrivateSides.{SideOf, nine_side}
@@ -28,7 +30,7 @@ use Rattle.ds_machine.specs.Steps.{nine_reach, tick_of}
 use Rattle.ds_machine.specs.Touching.{GoesByWords, IsFootprint}
 use Rattle.ds_machine.proofs.DecodedStays.{same_word}
 use Rattle.ds_machine.proofs.DueTicks.{due_of_rank, low_rank}
-use Rattle.ds_machine.proofs.PlacesByWords.{are_rows, dtcm_same, from_same, itcm_same, row_facts, rows_of_nine, upto_same}
+use Rattle.ds_machine.proofs.PlacesByWords.{are_rows, dtcm_same, itcm_same, row_facts, rows_of_nine}
 use Rattle.ds_machine.proofs.PrivatePlaces.{private_itself}
 use Rattle.ds_machine.proofs.PrivateTests.{data_passed, data_passes}
 
@@ -39,8 +41,7 @@ use Rattle.ds_machine.proofs.PrivateTests.{data_passed, data_passes}
 content_same : (content : Content) (a b : ℕ) → a / 4 ≡ b / 4 → is_observed_place (place_at content a) ≡ is_observed_place (place_at content b)
 content_same (Cells memory from bytes) a b e = refl
 content_same (Video space) a b e = refl
-content_same Ports a b e =
-    ap (λ (word : ℕ). (word == 0x18) || ((nat_le 0x100 word && nat_le word 0x1BF) || ((word == 0x2E) || ((word == 0x31) || ((word == 0x34) || (word == 0x37)))))) e
+content_same Ports a b e = observed_same a b e
 content_same BootRom a b e = refl
 content_same Empty a b e = refl
 
@@ -79,11 +80,11 @@ past_same s wramcnt writing fetching a b e =
     ∙ sym (tcm_tests (in_itcm s b writing) (not fetching && in_dtcm s b writing) wramcnt b _ _)
 
 -- ARM9's side, with the places that aren't observed in place of those that it alone reaches
-abbrev apart_side : SideOf NineReach
-apart_side = record nine_side { is_private = λ r writing fetching at. not (is_observed_past (tcm_of r.cp15 at writing fetching) r.map.io.wramcnt at) }
+abbrev unobserved_side : SideOf NineReach
+unobserved_side = record nine_side { is_private = λ r writing fetching at. not (is_observed_past (tcm_of r.cp15 at writing fetching) r.map.io.wramcnt at) }
 
-apart_by_words : GoesByWords apart_side
-apart_by_words = record { same = λ r writing fetching a b e. ap not (past_same r.cp15 r.map.io.wramcnt writing fetching a b e) }
+unobserved_by_words : GoesByWords unobserved_side
+unobserved_by_words = record { same = λ r writing fetching a b e. ap not (past_same r.cp15 r.map.io.wramcnt writing fetching a b e) }
 
 -- ---- accesses by their addresses
 
@@ -94,23 +95,23 @@ module _ (r : NineReach) where
   abbrev at_write : ℕ → Bool
   at_write at = is_observed_past (tcm_of r.cp15 at true false) r.map.io.wramcnt at
 
-  none_by : (accesses : List Access) → AreOfData accesses → AllReachPrivate apart_side r accesses → any_observes r accesses ≡ false
+  none_by : (accesses : List Access) → AreOfData accesses → AllReachPrivate unobserved_side r accesses → any_observes r accesses ≡ false
   none_by [] low h = refl
   none_by (Fetch at width ∷ rest) low h = absurd low
   none_by (Read at width ∷ rest) low h =
-      or_from (at_read at) (any_observes r rest) (not-true (at_read at) (private_itself (apart_side.is_private r false false) width at low.0 h.0)) (none_by rest low.1 h.1)
+      or_from (at_read at) (any_observes r rest) (not-true (at_read at) (private_itself (unobserved_side.is_private r false false) width at low.0 h.0)) (none_by rest low.1 h.1)
   none_by (Write at width value ∷ rest) low h =
-      or_from (at_write at) (any_observes r rest) (not-true (at_write at) (private_itself (apart_side.is_private r true false) width at low.0 h.0)) (none_by rest low.1 h.1)
+      or_from (at_write at) (any_observes r rest) (not-true (at_write at) (private_itself (unobserved_side.is_private r true false) width at low.0 h.0)) (none_by rest low.1 h.1)
 
-  by_none : (accesses : List Access) → AreOfData accesses → any_observes r accesses ≡ false → AllReachPrivate apart_side r accesses
+  by_none : (accesses : List Access) → AreOfData accesses → any_observes r accesses ≡ false → AllReachPrivate unobserved_side r accesses
   by_none [] low h = tt
   by_none (Fetch at width ∷ rest) low h = absurd low
   by_none (Read at width ∷ rest) low h = (
-    λ byte c. apart_by_words.same r false false byte at (same_word width at byte low.0 c) ∙ ap not (or_parts (at_read at) (any_observes r rest) h).0,
+    λ byte c. unobserved_by_words.same r false false byte at (same_word width at byte low.0 c) ∙ ap not (or_parts (at_read at) (any_observes r rest) h).0,
     by_none rest low.1 (or_parts (at_read at) (any_observes r rest) h).1,
   )
   by_none (Write at width value ∷ rest) low h = (
-    λ byte c. apart_by_words.same r true false byte at (same_word width at byte low.0 c) ∙ ap not (or_parts (at_write at) (any_observes r rest) h).0,
+    λ byte c. unobserved_by_words.same r true false byte at (same_word width at byte low.0 c) ∙ ap not (or_parts (at_write at) (any_observes r rest) h).0,
     by_none rest low.1 (or_parts (at_write at) (any_observes r rest) h).1,
   )
 
@@ -122,16 +123,16 @@ same_test false true h k = refl
 same_test false false h k = absurd (true≢false (sym (k refl)))
 
 pub instr_observes_by : (s : MachineState) (instr : Instr) (reach : Reach) → IsFootprint s Nine instr reach
-    → not (data_apart s reach)
+    → not (data_unobserved s reach)
     ≡ any_observes (nine_reach (tick_of s.nine.processor) s) (data_accesses V5 (nine_side.base (nine_reach (tick_of s.nine.processor) s)) s.nine.processor.registers (Some instr))
 instr_observes_by s instr reach is =
     let r = nine_reach (tick_of s.nine.processor) s in
     let base = nine_side.base r in
     let m = meaning V5 base s.nine.processor.registers instr in
     let low = is.words base in
-    same_test (data_apart s reach) (any_observes r m.accesses)
-    (λ h. none_by r m.accesses low (data_passes apart_side r reach.reads reach.writes reach.touch m.accesses (is.told base) (is.covers base) h))
-    (λ h. data_passed apart_side r reach.reads reach.writes reach.touch m.accesses (is.told base) (is.covers base) (by_none r m.accesses low h))
+    same_test (data_unobserved s reach) (any_observes r m.accesses)
+    (λ h. none_by r m.accesses low (data_passes unobserved_side r reach.reads reach.writes reach.touch m.accesses (is.told base) (is.covers base) h))
+    (λ h. data_passed unobserved_side r reach.reads reach.writes reach.touch m.accesses (is.told base) (is.covers base) (by_none r m.accesses low h))
 
 -- an actor that is due by its rank
 pub low_if_due : (s : MachineState) (rank : ℕ) → IsSome (due_at (dues_of s) rank) → rank < 24

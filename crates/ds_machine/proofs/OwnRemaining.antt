@@ -25,7 +25,7 @@ use Rattle.ds_machine.proofs.CatchingUp.{caught_so}
 use Rattle.ds_machine.proofs.DueTicks.{own_tick}
 use Rattle.ds_machine.proofs.MachineSchedule.{awake_makes}
 use Rattle.ds_machine.proofs.ProcessorSteps.{Operation, came_by, concludes, costs_some, gone_sound, processor_io_later, reached_by}
-use Rattle.ds_machine.proofs.PrivateApart.{rank_apart}
+use Rattle.ds_machine.proofs.PrivateUnobserved.{rank_unobserved}
 use Rattle.ds_machine.proofs.Quiet.{quiet_acting, quiet_ahead}
 use Rattle.ds_machine.proofs.Wakes.{ends}
 
@@ -99,5 +99,5 @@ turn_steps_fall until s caught next proc outs sound b catches h = by_test (obser
     | inl least ↦ (let k = caught_so (processor_of s proc).due (rank_of proc) s caught sound up.steps in
         subst (λ (o : Option Tick). own_remaining until next proc < ticks_left until o) (still_due s caught proc k.dues)
         (step_falls until caught next proc outs k.sound.parts (still_belongs until s caught proc b k.dues least) h))
-    | inr ahead ↦ absurd (true≢false (sym e ∙ rank_apart s proc ahead.private))
+    | inr ahead ↦ absurd (true≢false (sym e ∙ rank_unobserved s proc ahead.private))
   ]

@@ -1,6 +1,7 @@
-use Rattle.std.proofs.Common.{ℕ, ◌≡◌, ◌<◌, ◌≤◌, ◌+◌, ◌-◌, ◌*◌, ◌/◌, ◌%◌, ◌^◌, ◌==◌, ◌⊎◌, inl, inr, min, nat_le, nat_lt, not, if◌then◌else◌, Bool, true, false, List, [], ◌∷◌, refl, sym, ◌∙◌, ap, arith}
+use Rattle.std.proofs.Common.{ℕ, ◌≡◌, ◌≤◌, ◌+◌, ◌-◌, ◌*◌, ◌/◌, ◌%◌, ◌^◌, ◌==◌, ◌⊎◌, inl, inr, min, nat_le, nat_lt, not, if◌then◌else◌, Bool, true, false, List, [], ◌∷◌, refl, sym, ◌∙◌, ap, arith}
 use Rattle.std.specs.Prelude.{◌&&◌, ◌||◌}
 use Rattle.std.proofs.lemmas.Bool.{not-true}
+use Rattle.ds_base.proofs.Choices.{lt_cases}
 use Rattle.ds_base.specs.Bits.{bit, bits}
 use Rattle.ds_base.specs.Memories.{memory_size, space_size}
 use Rattle.ds_base.specs.declared.memories.Memory.TheVariants.{Shared, Palette, Oam}
@@ -11,6 +12,7 @@ use Rattle.cp15_tcm.specs.TightlyCoupled.{answers, covered, dtcm_base, in_dtcm, 
 use Rattle.cp15_tcm.specs.declared.answers.Tcm.TheVariants.{Itcm, Dtcm, Past}
 use Rattle.ds_places.specs.AddressTables.{BootRom, Cells, Content, Empty, Ports, Region, Video, place_at, place_by, place_of, regions_of_nine, shared_for_nine}
 use Rattle.ds_places.specs.declared.kinds.Place.{Place}
+use Rattle.ds_places.proofs.Rows.{from_same, past_row, upto_same}
 use Rattle.ds_map.specs.Maps.{MapState}
 use Rattle.ds_map.specs.Shares.{is_private_place}
 use Rattle.ds_map.specs.Views.{NineReach, SevenReach}
@@ -23,28 +25,10 @@ use Rattle.ds_machine.specs.Touching.{GoesByWords}
 
 -- ---- tests against a multiple of 4
 
-pub lt_cases : (x y : ℕ) → ((x < y) × (nat_lt x y ≡ true)) ⊎ ((y ≤ x) × (nat_lt x y ≡ false))
-lt_cases x y = grind arith
-
-pub le_cases : (x y : ℕ) → ((x ≤ y) × (nat_le x y ≡ true)) ⊎ ((y < x) × (nat_le x y ≡ false))
-le_cases x y = grind arith
-
 below_same : (a b k : ℕ) → a / 4 ≡ b / 4 → nat_lt a (4 * k) ≡ nat_lt b (4 * k)
 below_same a b k e = elim (lt_cases a (4 * k)) [
   | inl x ↦ elim (lt_cases b (4 * k)) [ inl y ↦ x.1 ∙ sym y.1 | inr y ↦ (let p = x.0 in let q = y.0 in absurd (omega (arith, e, p, q))) ]
   | inr x ↦ elim (lt_cases b (4 * k)) [ inl y ↦ (let p = x.0 in let q = y.0 in absurd (omega (arith, e, p, q))) | inr y ↦ x.1 ∙ sym y.1 ]
-]
-
-pub from_same : (a b first : ℕ) → first % 4 ≡ 0 → a / 4 ≡ b / 4 → nat_le first a ≡ nat_le first b
-from_same a b first h e = elim (le_cases first a) [
-  | inl x ↦ elim (le_cases first b) [ inl y ↦ x.1 ∙ sym y.1 | inr y ↦ (let p = x.0 in let q = y.0 in absurd (omega (arith, h, e, p, q))) ]
-  | inr x ↦ elim (le_cases first b) [ inl y ↦ (let p = x.0 in let q = y.0 in absurd (omega (arith, h, e, p, q))) | inr y ↦ x.1 ∙ sym y.1 ]
-]
-
-pub upto_same : (a b last : ℕ) → last % 4 ≡ 3 → a / 4 ≡ b / 4 → nat_le a last ≡ nat_le b last
-upto_same a b last h e = elim (le_cases a last) [
-  | inl x ↦ elim (le_cases b last) [ inl y ↦ x.1 ∙ sym y.1 | inr y ↦ (let p = x.0 in let q = y.0 in absurd (omega (arith, h, e, p, q))) ]
-  | inr x ↦ elim (le_cases b last) [ inl y ↦ (let p = x.0 in let q = y.0 in absurd (omega (arith, h, e, p, q))) | inr y ↦ x.1 ∙ sym y.1 ]
 ]
 
 -- ---- past the tightly coupled memories: by the rows of ARM9's address table
@@ -114,12 +98,6 @@ pub private_by_rows : (controls : List ℕ) (wramcnt at : ℕ) → is_private_pl
 private_by_rows controls wramcnt at = rows_private controls (regions_of_nine wramcnt) at (rows_of_nine wramcnt)
 
 -- so are palettes, video memory and OAM
-pub in_row : (first last at : ℕ) → first ≤ at → at ≤ last → (nat_le first at && nat_le at last) ≡ true
-in_row first last at low high = grind (arith, low, high)
-
-pub past_row : (first last at : ℕ) → last < at → (nat_le first at && nat_le at last) ≡ false
-past_row first last at h = grind arith
-
 palettes_private : (w at : ℕ) → at / 2 ^ 24 ≡ 5 → is_private_in (regions_of_nine w) at ≡ true
 palettes_private w at h = grind (arith, h)
 
@@ -220,6 +198,8 @@ pub seven_by_words : GoesByWords seven_side
 seven_by_words = record { same = same } where
   same : (r : SevenReach) (writing fetching : Bool) (a b : ℕ) → a / 4 ≡ b / 4 → is_private_to_seven a ≡ is_private_to_seven b
   same r writing fetching a b e =
-      ap (λ (t : Bool). t || (nat_le 0x03800000 a && nat_le a 0x03FFFFFF)) (upto_same a b 0x3FFF refl e)
-      ∙ ap (λ (t : Bool). nat_le b 0x3FFF || (t && nat_le a 0x03FFFFFF)) (from_same a b 0x03800000 refl e)
-      ∙ ap (λ (t : Bool). nat_le b 0x3FFF || (nat_le 0x03800000 b && t)) (upto_same a b 0x03FFFFFF refl e)
+      let rom : ℕ → Bool = λ at. nat_le 0 at && nat_le at 0x3FFF in
+      let own : ℕ → Bool = λ at. nat_le 0x03800000 at && nat_le at 0x03FFFFFF in
+      ap (λ (t : Bool). (t && nat_le a 0x3FFF) || own a) (from_same a b 0 refl e) ∙ ap (λ (t : Bool). (nat_le 0 b && t) || own a) (upto_same a b 0x3FFF refl e)
+      ∙ ap (λ (t : Bool). rom b || (t && nat_le a 0x03FFFFFF)) (from_same a b 0x03800000 refl e)
+      ∙ ap (λ (t : Bool). rom b || (nat_le 0x03800000 b && t)) (upto_same a b 0x03FFFFFF refl e)

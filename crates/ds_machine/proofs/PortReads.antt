@@ -4,8 +4,7 @@ use Rattle.ds_base.specs.declared.memories.Width.{Width}
 use Rattle.ds_base.specs.declared.memories.Width.TheVariants.{Byte, Half, Word}
 use Rattle.ds_base.specs.declared.processors.Proc.{Proc}
 use Rattle.ds_base.specs.declared.processors.Proc.TheVariants.{Nine, Seven}
-use Rattle.ds_places.specs.AddressTables.{place_of}
-use Rattle.ds_places.specs.declared.kinds.Place.TheVariants.{Port}
+use Rattle.ds_places.proofs.Rows.{port_place}
 use Rattle.ds_map.specs.Accesses.{map_read}
 use Rattle.ds_map.specs.Maps.{MapState}
 use Rattle.ds_ports.specs.Io.{IoState}
@@ -16,7 +15,6 @@ use Rattle.ds_ports.specs.declared.registers.Register.{Register}
 use Rattle.ds_ports.specs.declared.registers.Register.TheVariants.{Ipcfiforecv}
 use Rattle.ds_ports.specs.declared.registers.Slot.{Slot}
 use Rattle.ds_ports.proofs.Covered.{OfKind, slot_is}
-use Rattle.ds_machine.proofs.PlacesByWords.{in_row, past_row}
 
 -- A read of a port from 4000000h to 40FFFFFh leaves all units as they are: IPCFIFORECV, of which a read takes a word, doesn't stand there.
 
@@ -59,20 +57,6 @@ read_leaves proc u at Word lt = slot_leaves proc u (slot_of proc at) (other_at p
 
 -- ---- by addresses
 
-pub port_place : (proc : Proc) (w at : ℕ) → 0x04000000 ≤ at → at < 0x04100000 → place_of proc w at ≡ Port (at - 0x04000000)
-port_place Nine w at low high = rw (
-  past_row 0x02000000 0x02FFFFFF at (omega (arith, low)),
-  past_row 0x03000000 0x03FFFFFF at (omega (arith, low)),
-  in_row 0x04000000 0x04FFFFFF at low (omega (arith, high)),
-) refl
-port_place Seven w at low high = rw (
-  past_row 0x00000000 0x00003FFF at (omega (arith, low)),
-  past_row 0x02000000 0x02FFFFFF at (omega (arith, low)),
-  past_row 0x03000000 0x037FFFFF at (omega (arith, low)),
-  past_row 0x03800000 0x03FFFFFF at (omega (arith, low)),
-  in_row 0x04000000 0x04FFFFFF at low (omega (arith, high)),
-) refl
-
 aligned_below : (width : Width) (at : ℕ) → at < 0x100000 → aligned_down width at < 0x100000
 aligned_below Byte at lt = omega (arith, lt)
 aligned_below Half at lt = omega (arith, lt)
@@ -81,5 +65,5 @@ aligned_below Word at lt = omega (arith, lt)
 pub read_io : (proc : Proc) (m : MapState) (at : ℕ) (width : Width) → 0x04000000 ≤ at → at < 0x04100000 → (map_read proc m at width).io ≡ m.io
 unfolding map_read
 read_io proc m at width low high =
-    rw (port_place proc m.io.wramcnt at low high) (
+    rw (port_place proc m.io.wramcnt at low (omega (arith, high))) (
     read_leaves proc m.io (aligned_down width (at - 0x04000000)) width (aligned_below width (at - 0x04000000) (omega (arith, low, high))))

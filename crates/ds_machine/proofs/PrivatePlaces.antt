@@ -11,10 +11,10 @@ use Rattle.arm_core.specs.Footprints.{span}
 use Rattle.ds_places.specs.AddressTables.{place_of}
 use Rattle.ds_places.specs.declared.kinds.Place.{Place}
 use Rattle.ds_places.specs.declared.kinds.Place.TheVariants.{Cell, Rom, Nothing}
+use Rattle.ds_places.proofs.Rows.{in_row, past_row}
 use Rattle.ds_map.specs.Accesses.{after_read_at, fetched_at, map_fetched, map_read, map_refusal, map_value, map_written, refusal_at, value_at, written_at}
 use Rattle.ds_map.specs.Maps.{MapState}
 use Rattle.ds_machine.specs.PrivateSides.{is_private_to_seven}
-use Rattle.ds_machine.proofs.PlacesByWords.{in_row, past_row}
 
 -- An access's own address is private where all of its bytes are. ARM7's private places: the same stands there whatever WRAMCNT says, and an access of it reaches its own work RAM alone.
 

@@ -10,7 +10,7 @@ use Rattle.ds_runs.specs.declared.actors.Actor as actor
 use Rattle.ds_runs.specs.declared.actors.Actor.TheVariants.{Geometry}
 use Rattle.gx_fifo.specs.GxStates.{GxState, is_stalled}
 use Rattle.ds_machine.specs.Acting.{acting_due}
-use Rattle.ds_machine.specs.Lagging.{ActsApart}
+use Rattle.ds_machine.specs.Lagging.{ActsUnobserving}
 use Rattle.ds_machine.specs.Reference.{Shown, reference_step}
 use Rattle.ds_machine.specs.Sound.{HasSoundParts}
 use Rattle.ds_machine.specs.States.{MachineState}
@@ -29,7 +29,7 @@ still_quiet u v quiet gx disarmed =
     quiet_where_due v (ap (λ (g : GxState). g.selector) gx ∙ q.selector) disarmed (ap (λ (g : GxState). is_stalled g) gx ∙ q.free)
     ∙ ap (λ (g : GxState). is_some g.due) gx ∙ ap is_some q.due
 
-module _ (s : MachineState) (rank : ℕ) (tick : Tick) (parts : HasSoundParts s) (b : ActsApart s rank tick) (quiet : is_quiet s.io ≡ true) where
+module _ (s : MachineState) (rank : ℕ) (tick : Tick) (parts : HasSoundParts s) (b : ActsUnobserving s rank tick) (quiet : is_quiet s.io ≡ true) where
   -- quiet geometry doesn't act, so that it is another
   pub other_steps : actor_of rank ≢ Geometry
   other_steps same =
@@ -42,7 +42,7 @@ module _ (s : MachineState) (rank : ℕ) (tick : Tick) (parts : HasSoundParts s)
       let k = step_made_as s next tick rank outs st h in
       let made = k.0 in
       let four = (owes_by a rank tick s made outs st k.1).sound.io.nine.dma.four in
-      let gx = gx_left rank a s made outs other_steps b.apart k.1 in
-      let arms = arms_left rank a s made outs other_steps b.apart k.1 (quiet_parts s.io quiet).disarmed in
+      let gx = gx_left rank a s made outs other_steps b.unobserving k.1 in
+      let arms = arms_left rank a s made outs other_steps b.unobserving k.1 (quiet_parts s.io quiet).disarmed in
       subst (λ (m : MachineState). is_quiet m.io ≡ true) k.2
       (still_quiet s.io (ended tick made).io quiet (ended_gx_left tick made four arms ∙ gx) (ended_disarmed tick made four arms))

@@ -13,7 +13,7 @@ use Rattle.cp15_tcm.specs.declared.answers.Tcm.TheVariants as tcm
 use Rattle.ds_places.specs.AddressTables.{Cells, Empty, place_at, place_of, shared_for_nine, shared_for_seven}
 use Rattle.ds_places.specs.declared.kinds.Place.{Place}
 use Rattle.ds_places.specs.declared.kinds.Place.TheVariants.{Cell, Banks, Port, Rom, Nothing}
-use Rattle.ds_places.proofs.Regions.{lies_or_not}
+use Rattle.ds_places.proofs.Rows.{in_row, past_row}
 use Rattle.ds_map.specs.Accesses.{after_read_at, map_read, map_refusal, map_written, written_at, refusal_at}
 use Rattle.ds_map.specs.Guards.{is_guarded, meets_guard}
 use Rattle.ds_map.specs.Maps.{MapState}
@@ -53,35 +53,18 @@ shared_seven w offset = by_tests (w == 0) (w == 1) (w == 2) where
   by_tests false false false = refl
 
 pub ram_cells : (proc : Proc) (w at : ℕ) → 0x02000000 ≤ at → at < 0x04000000 → is_cells (place_of proc w at) ≡ true
-ram_cells Nine w at low high = elim (lies_or_not 0x02000000 0x02FFFFFF at) [
-  | inl in_main ↦ rw in_main.2 refl
-  | inr past_main ↦ rw past_main.1 (elim (lies_or_not 0x03000000 0x03FFFFFF at) [
-    | inl in_shared ↦ rw in_shared.2 (shared_nine w (at - 0x03000000))
-    | inr past ↦ elim (low_or_high at 0x03000000) [
-      | inl below ↦ absurd (past_main.0 (low, omega (arith, below)))
-      | inr above ↦ absurd (past.0 (above, omega (arith, high)))
-    ]
-  ])
+ram_cells Nine w at low high = elim (low_or_high at 0x03000000) [
+  | inl below ↦ rw (in_row 0x02000000 0x02FFFFFF at low (omega (arith, below))) refl
+  | inr above ↦
+      rw (past_row 0x02000000 0x02FFFFFF at (omega (arith, above)), in_row 0x03000000 0x03FFFFFF at above (omega (arith, high))) (shared_nine w (at - 0x03000000))
 ]
-ram_cells Seven w at low high = elim (lies_or_not 0x00000000 0x00003FFF at) [
-  | inl in_rom ↦ absurd (omega (arith, low, in_rom))
-  | inr past_rom ↦ rw past_rom.1 (elim (lies_or_not 0x02000000 0x02FFFFFF at) [
-    | inl in_main ↦ rw in_main.2 refl
-    | inr past_main ↦ rw past_main.1 (elim (lies_or_not 0x03000000 0x037FFFFF at) [
-      | inl in_shared ↦ rw in_shared.2 (shared_seven w (at - 0x03000000))
-      | inr past_shared ↦ rw past_shared.1 (elim (lies_or_not 0x03800000 0x03FFFFFF at) [
-        | inl in_own ↦ rw in_own.2 refl
-        | inr past ↦ elim (low_or_high at 0x03000000) [
-          | inl below ↦ absurd (past_main.0 (low, omega (arith, below)))
-          | inr above ↦ elim (low_or_high at 0x03800000) [
-            | inl below ↦ absurd (past_shared.0 (above, omega (arith, below)))
-            | inr higher ↦ absurd (past.0 (higher, omega (arith, high)))
-          ]
-        ]
-      ])
-    ])
+ram_cells Seven w at low high = rw (past_row 0x00000000 0x00003FFF at (omega (arith, low))) (elim (low_or_high at 0x03000000) [
+  | inl below ↦ rw (in_row 0x02000000 0x02FFFFFF at low (omega (arith, below))) refl
+  | inr above ↦ rw (past_row 0x02000000 0x02FFFFFF at (omega (arith, above))) (elim (low_or_high at 0x03800000) [
+    | inl shared ↦ rw (in_row 0x03000000 0x037FFFFF at above (omega (arith, shared))) (shared_seven w (at - 0x03000000))
+    | inr own ↦ rw (past_row 0x03000000 0x037FFFFF at (omega (arith, own)), in_row 0x03800000 0x03FFFFFF at own (omega (arith, high))) refl
   ])
-]
+])
 
 -- an address of them
 pub ram_bounds : (at : ℕ) → is_ram at ≡ true → (0x02000000 ≤ at) × (at < 0x04000000)

@@ -60,7 +60,7 @@ module _ (s : MachineState) (tick due : Tick) (first rank : ℕ) (sound : IsSoun
       none-some tick (sym (quiet_acts_never s quiet) ∙ sym (acting_of_rank s 12 (omega arith)) ∙ subst (λ (r : ℕ). due_at (acting_dues s) r ≡ Some tick) is least.there)
 
   before : is_quiet s.io ≡ true → StepsBeforeGeometry s rank tick
-  before quiet = record { sound = sound; acts = record { least = least; apart = apart }; other = actors_differ 12 rank (omega arith) (acting_low s rank tick least.there) (not_geometry quiet) }
+  before quiet = record { sound = sound; acts = record { least = least; unobserving = apart }; other = actors_differ 12 rank (omega arith) (acting_low s rank tick least.there) (not_geometry quiet) }
 
   module _ (quiet : is_quiet s.io ≡ true) (u : Tick) (geometry : IsLeast (dues_of s) u 12) where
     steps : StepsBefore reference 12 rank StepsBeforeGeometry s tick u

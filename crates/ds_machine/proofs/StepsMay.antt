@@ -19,7 +19,7 @@ use Rattle.video2d.specs.Videos.{VideoState, video_answer}
 use Rattle.video2d.specs.declared.videos.Shown as display
 use Rattle.ds_machine.specs.Acting.{acting_dues}
 use Rattle.ds_machine.specs.Channels.{stopped_at}
-use Rattle.ds_machine.specs.Lagging.{ActsApart}
+use Rattle.ds_machine.specs.Lagging.{ActsUnobserving}
 use Rattle.ds_machine.specs.Private.{IsAhead, rank_of}
 use Rattle.ds_machine.specs.Reference.{Shown, after_event, after_geometry, after_line, after_video, dues_of, reference_step, shown_at, step_by, video_step}
 use Rattle.ds_machine.specs.Sound.{HasSoundParts}
@@ -79,7 +79,7 @@ steps_alone s proc tick sound ahead there =
 -- ---- any of these, at its tick
 
 abbrev pub MayThen : MachineState → ℕ → Tick → Type 0
-MayThen s rank tick = IsLeast (dues_of s) tick rank ⊎ (ActsApart s rank tick ⊎ ((proc : Proc) × (rank ≡ rank_of proc) × IsAhead s proc))
+MayThen s rank tick = IsLeast (dues_of s) tick rank ⊎ (ActsUnobserving s rank tick ⊎ ((proc : Proc) × (rank ≡ rank_of proc) × IsAhead s proc))
 
 pub steps_then : (s : MachineState) (rank : ℕ) (tick : Tick) → HasSoundParts s → due_at (dues_of s) rank ≡ Some tick → MayThen s rank tick → Steps (actor_of rank) rank tick s
 steps_then s rank tick sound there may = elim may [

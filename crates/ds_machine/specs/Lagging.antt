@@ -1,4 +1,4 @@
-use Rattle.std.specs.Prelude.{ℕ, ◌/◌, ◌+◌, ◌*◌, ◌==◌, ◌≡◌, ◌≢◌, ◌<◌, ◌≤◌, ◌⊎◌, ◌↔◌, ◌&&◌, ◌||◌, not, nat_le, Bool, true, false, List, [], ◌∷◌, ◌++◌, Some}
+use Rattle.std.specs.Prelude.{ℕ, ◌+◌, ◌*◌, ◌≡◌, ◌≢◌, ◌<◌, ◌≤◌, ◌⊎◌, ◌↔◌, ◌&&◌, ◌||◌, not, Bool, true, false, List, [], ◌∷◌, ◌++◌, Some}
 use Rattle.ds_base.specs.Accesses.{Access, Fetch, Read, Write}
 use Rattle.ds_base.specs.declared.left_out.LeftOut.{LeftOut}
 use Rattle.ds_base.specs.declared.processors.Proc.TheVariants.{Nine}
@@ -8,6 +8,7 @@ use Rattle.cp15_tcm.specs.TightlyCoupled.{tcm_of}
 use Rattle.cp15_tcm.specs.declared.answers.Tcm.{Tcm}
 use Rattle.cp15_tcm.specs.declared.answers.Tcm.TheVariants.{Past}
 use Rattle.ds_map.specs.Moves.{next_unit}
+use Rattle.ds_map.specs.ObservedPorts.{is_observed_port}
 use Rattle.ds_map.specs.Views.{NineReach, nine_memory}
 use Rattle.ds_places.specs.AddressTables.{place_of}
 use Rattle.ds_places.specs.declared.kinds.Place.{Place}
@@ -32,13 +33,7 @@ use Rattle.ds_machine.specs.Steps.{line_of, nine_reach, tick_of}
 
 -- ---- steps that observe geometry
 
--- a port that shows how far geometry is, gives it something to do, or makes it heard: DISP3DCNT at 60h; what stands from 400h to 6FFh; and DMA0CNT to
--- DMA3CNT at B8h, C4h, D0h and DCh
-abbrev pub is_observed_port : ℕ → Bool
-is_observed_port at =
-    let word = at / 4 in
-    (word == 0x18) || ((nat_le 0x100 word && nat_le word 0x1BF) || ((word == 0x2E) || ((word == 0x31) || ((word == 0x34) || (word == 0x37)))))
-
+-- a place is an observed port
 abbrev pub is_observed_place : Place → Bool
 is_observed_place (Port at) = is_observed_port at
 is_observed_place place = false
@@ -113,14 +108,14 @@ CatchingUpRuns = (s caught : MachineState) (tick rank limit : ℕ) → IsSound s
 -- ---- what lagging comes to
 
 -- the least acting actor, whose step doesn't observe geometry
-pub record ActsApart (s : MachineState) (rank : ℕ) (tick : Tick) : Type 0 where
+pub record ActsUnobserving (s : MachineState) (rank : ℕ) (tick : Tick) : Type 0 where
   pub least : IsLeast (acting_dues s) tick rank
-  pub apart : observes_by (actor_of rank) s ≡ false
+  pub unobserving : observes_by (actor_of rank) s ≡ false
 
 -- on a sound machine, and it isn't geometry itself
 pub record StepsBeforeGeometry (s : MachineState) (rank : ℕ) (tick : Tick) : Type 0 where
   pub sound : IsSound s
-  pub acts : ActsApart s rank tick
+  pub acts : ActsUnobserving s rank tick
   pub other : actor_of rank ≢ Geometry
 
 -- taken before quiet geometry's steps that are due before it, it changes neither where a run to a later tick ends nor what that run puts out

@@ -9,7 +9,7 @@ pub mod Acting
 pub mod Counting
 pub mod Frames
 pub mod NextEvents
-pub mod QuietPorts
+pub mod SteadyPorts
 pub mod Inspections
 pub mod FenceTicks
 pub mod Private

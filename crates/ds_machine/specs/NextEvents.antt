@@ -84,7 +84,7 @@ pub record IsNextEvent (next_event : NextEvent) (s : MachineState) : Type 0 wher
 -- a processor took a step of its turn that doesn't observe geometry, and what is needed of machines stayed so
 pub record TookStep (until : ℕ) (proc : Proc) (s next : MachineState) : Type 0 where
   pub belongs : BelongsToTurn until s proc
-  pub apart : observes_by (Processor proc) s ≡ false
+  pub unobserving : observes_by (Processor proc) s ≡ false
   pub made : reference_step (rank_of proc) s ≡ Makes next []
   pub running : IsRunning last_limit next
   pub fewer : own_remaining until next proc < own_remaining until s proc

@@ -13,12 +13,12 @@ use Rattle.ds_machine.specs.States.{MachineState}
 abbrev pub is_observed_at : MachineState → Bool → ℕ → Bool
 is_observed_at s writing at = is_observed_past (tcm_of s.nine.cp15 at writing false) s.io.wramcnt at
 
-abbrev pub is_apart_at : MachineState → Bool → ℕ → Bool
-is_apart_at s writing at = not (is_observed_at s writing at)
+abbrev pub is_unobserved_at : MachineState → Bool → ℕ → Bool
+is_unobserved_at s writing at = not (is_observed_at s writing at)
 
 -- none of a touch's bytes is one, as reads or as writes reach them, where there are any
-abbrev pub all_apart : MachineState → Bool → Touch → Bool
-all_apart s writing touch = list_all (is_apart_at s writing) (touched_bytes touch)
+abbrev pub all_unobserved : MachineState → Bool → Touch → Bool
+all_unobserved s writing touch = list_all (is_unobserved_at s writing) (touched_bytes touch)
 
-abbrev pub data_apart : MachineState → Reach → Bool
-data_apart s reach = (not reach.reads || all_apart s false reach.touch) && (not reach.writes || all_apart s true reach.touch)
+abbrev pub data_unobserved : MachineState → Reach → Bool
+data_unobserved s reach = (not reach.reads || all_unobserved s false reach.touch) && (not reach.writes || all_unobserved s true reach.touch)

@@ -1,4 +1,4 @@
-use Rattle.std.specs.Prelude.{ℕ, nat_le, ◌&&◌, ◌||◌, Bool, true, Option}
+use Rattle.std.specs.Prelude.{ℕ, ◌||◌, Bool, true, Option}
 use Rattle.ds_base.specs.Accesses.{MemoryMachine}
 use Rattle.ds_base.specs.declared.processors.Arch.{Arch}
 use Rattle.ds_base.specs.declared.processors.Proc.TheVariants.{Nine}
@@ -8,7 +8,7 @@ use Rattle.arm_core.specs.Registers.{RegisterState}
 use Rattle.cp15_tcm.specs.TightlyCoupled.{tcm_of}
 use Rattle.cp15_tcm.specs.declared.answers.Tcm.{Tcm}
 use Rattle.cp15_tcm.specs.declared.answers.Tcm.TheVariants.{Itcm, Dtcm, Past}
-use Rattle.ds_places.specs.AddressTables.{place_of}
+use Rattle.ds_places.specs.AddressTables.{is_of_region, own_region, place_of, seven_rom_region}
 use Rattle.ds_map.specs.Maps.{MapState}
 use Rattle.ds_map.specs.Shares.{is_private_place}
 use Rattle.ds_map.specs.Views.{NineReach, SevenReach}
@@ -41,7 +41,7 @@ is_private_tcm Past m at = is_private_place m.io.vram.controls (place_of Nine m.
 
 -- ARM7's are its own work RAM from 3800000h to 3FFFFFFh and its boot ROM; what WRAMCNT shows to it below 3800000h isn't
 abbrev pub is_private_to_seven : ℕ → Bool
-is_private_to_seven at = nat_le at 0x3FFF || (nat_le 0x03800000 at && nat_le at 0x03FFFFFF)
+is_private_to_seven at = is_of_region seven_rom_region at || is_of_region own_region at
 
 -- ---- the two processors
 

@@ -20,7 +20,7 @@ use Rattle.ds_base.specs.declared.ticks.Tick.{Tick}
 use Rattle.ds_map.specs.Views.{nine_memory, seven_memory}
 use Rattle.ds_timers.specs.Irqs.{IrqState}
 use Rattle.ds_machine.specs.Private.{AllReachPrivate, IsBelowFence, ReachesPrivate, data_accesses, is_deaf, may_go_ahead, next_fetch}
-use Rattle.ds_machine.specs.QuietPorts.{is_steady_port}
+use Rattle.ds_machine.specs.SteadyPorts.{is_steady_port}
 use Rattle.ds_machine.specs.PrivateSides.{SideOf, is_private_to_seven, nine_side, seven_side}
 use Rattle.ds_machine.specs.States.{MachineState}
 use Rattle.ds_machine.specs.Steps.{line_of, nine_reach, processor_of, seven_reach, tick_of}

@@ -4,7 +4,7 @@ use Rattle.ds_base.specs.declared.processors.Proc.{Proc}
 use Rattle.ds_base.specs.declared.ticks.Tick.{Tick}
 use Rattle.ds_runs.specs.Runs.{Ending, IsLeast, Makes, Runs, Stopped, Stops, due_at}
 use Rattle.ds_machine.specs.Acting.{acting_dues}
-use Rattle.ds_machine.specs.Lagging.{ActsApart, CatchesUpFor}
+use Rattle.ds_machine.specs.Lagging.{ActsUnobserving, CatchesUpFor}
 use Rattle.ds_machine.specs.Private.{IsAhead, rank_of}
 use Rattle.ds_machine.specs.Reference.{Shown, dues_of, processor_due, reference, reference_step}
 use Rattle.ds_machine.specs.Sound.{IsSound}
@@ -55,7 +55,7 @@ pub record MayStep (s : MachineState) (rank : ℕ) : Type 0 where
   pub tick : Tick
   pub due : due_at (dues_of s) rank ≡ Some tick
   pub early : tick.0 ≤ 2 ^ 56
-  pub may : IsLeast (dues_of s) tick rank ⊎ (ActsApart s rank tick ⊎ ((proc : Proc) × (rank ≡ rank_of proc) × IsAhead s proc))
+  pub may : IsLeast (dues_of s) tick rank ⊎ (ActsUnobserving s rank tick ⊎ ((proc : Proc) × (rank ≡ rank_of proc) × IsAhead s proc))
 
 -- ---- a step of a turn: that of the least acting actor, or of a processor that may step before its turn
 

@@ -1,6 +1,7 @@
 //! What boot copies.
 
 ghost use Rattle.std.specs.Prelude.{◌≡◌, ◌+◌, ◌<◌, ◌≤◌, length};
+ghost use Rattle.ds_places.specs.AddressTables.{main_region, ports_region};
 ghost use Rattle.ds_machine.specs.Boots.{copied, stored};
 ghost use Rattle.ds_machine.specs.Booted.{with_header, with_image};
 
@@ -17,8 +18,8 @@ impl Parts {
     /// Stores a byte in RAM where a processor sees it, at tick 0.
     #[tactic(auto, using(crate::proofs::RamAccesses::ram_unguarded))]
     fn store(&mut self, proc: Proc, at: u32, byte: u8)
-        requires low { 0x02000000 ≤ at }
-        requires high { at < 0x04000000 }
+        requires low { main_region.first ≤ at }
+        requires high { at < ports_region.first }
         ensures { self.new ≡ stored proc self.old at byte }
     {
         let _ = self
@@ -28,8 +29,8 @@ impl Parts {
 
     /// Copies bytes to where a processor sees them in RAM, from an address on.
     fn copy(&mut self, proc: Proc, at: u32, bytes: &[u8])
-        requires low { 0x02000000 ≤ at }
-        requires high { at + length bytes.now ≤ 0x04000000 }
+        requires low { main_region.first ≤ at }
+        requires high { at + length bytes.now ≤ ports_region.first }
         ensures { self.new ≡ copied proc self.old at bytes.now }
     {
         for (i, byte) in bytes.iter().enumerate() {

@@ -8,6 +8,7 @@ ghost use Rattle.ds_machine.specs.Acting as acting;
 ghost use Rattle.ds_machine.specs.Acting.{is_behind};
 ghost use Rattle.ds_machine.specs.Counting.{last_limit, IsRunning};
 ghost use Rattle.ds_machine.specs.Lagging.{CatchesUp, CatchesUpFor, ComesBeforeAll};
+ghost use Rattle.ds_machine.specs.Hearing as hearing;
 ghost use Rattle.ds_machine.specs.Hearing.{geometry_rank};
 ghost use Rattle.ds_machine.specs.Reference.{reference_step};
 ghost use Rattle.ds_machine.specs.Sound.{IsSound};
@@ -17,8 +18,13 @@ use crate::parts::Parts;
 use ds_base::Tick;
 use ds_runs::Actor;
 
-/// Geometry's rank.
-const GEOMETRY: u8 = 12;
+/// Geometry's rank among the actors.
+#[inline(always)]
+fn geometry_rank() -> u8
+    ensures { result ≡ hearing.geometry_rank }
+{
+    Actor::Geometry.rank()
+}
 
 /// Whether a due tick, if there is one, is geometry's before the place of a rank at a tick.
 #[inline(always)]
@@ -26,7 +32,7 @@ fn is_due_before(due: Option<Tick>, tick: Tick, rank: u8) -> bool
     ensures { result ≡ acting.is_due_before due tick.0 rank }
 {
     match due {
-        Some(due) => due.0 < tick.0 || (due.0 == tick.0 && GEOMETRY < rank),
+        Some(due) => due.0 < tick.0 || (due.0 == tick.0 && geometry_rank() < rank),
         None => false,
     }
 }

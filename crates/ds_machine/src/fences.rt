@@ -24,10 +24,7 @@ use ds_runs::{Actor, earlier, earlier_than, entry, later_than};
 pub fn rank_of(proc: Proc) -> u8
     ensures { result ≡ private.rank_of proc }
 {
-    match proc {
-        Proc::Nine => 22,
-        Proc::Seven => 23,
-    }
+    Actor::Processor(proc).rank()
 }
 
 impl Parts {

@@ -7,9 +7,10 @@ ghost use Rattle.arm_words.specs.Fields.{HasFields};
 ghost use Rattle.ds_base.specs.declared.processors.Arch.TheVariants.{V5};
 ghost use Rattle.ds_base.specs.declared.processors.Proc.TheVariants.{Nine};
 ghost use Rattle.ds_dma.specs.States.{dma_due};
+ghost use Rattle.ds_map.specs.ObservedPorts as ports;
 ghost use Rattle.ds_machine.specs.Lagging as lagging;
 ghost use Rattle.ds_machine.specs.Lagging.{any_observes, channel_observes, nine_observes, observes_by};
-ghost use Rattle.ds_machine.specs.Observing.{all_apart, data_apart, is_apart_at, is_observed_at};
+ghost use Rattle.ds_machine.specs.Observing.{all_unobserved, data_unobserved, is_unobserved_at, is_observed_at};
 ghost use Rattle.ds_machine.specs.Private.{data_accesses};
 ghost use Rattle.ds_machine.specs.Reference.{dues_of, due_by};
 ghost use Rattle.ds_machine.specs.PrivateSides.{nine_side};
@@ -29,13 +30,18 @@ use ds_runs::Actor;
 /// Whether a port shows how far geometry is, gives it something to do, or makes it heard, by its offset from 4000000h.
 #[inline(always)]
 pub fn is_observed_port(at: u32) -> bool
-    ensures { result ≡ lagging.is_observed_port at }
+    ensures { result ≡ ports.is_observed_port at }
 {
     // those that are read most are below all of these, or between them
     if at < 0x60 || (at >= 0xE0 && at < 0x400) {
         return false;
     }
-    matches!(at / 4, 0x18 | 0x100..=0x1BF | 0x2E | 0x31 | 0x34 | 0x37)
+    matches!(
+        at,
+        0x060..=0x063 // DISP3DCNT
+        | 0x400..=0x6FF // geometry's ports
+        | 0x0B8..=0x0BB | 0x0C4..=0x0C7 | 0x0D0..=0x0D3 | 0x0DC..=0x0DF // DMA0CNT to DMA3CNT
+    )
 }
 
 /// Whether a place is such a port.
@@ -62,8 +68,8 @@ impl Parts {
     }
 
     /// Whether none of so many bytes from an address up is one.
-    fn is_span_apart(&self, first: u32, length: u32, writing: bool) -> bool
-        ensures { result ≡ list_all (is_apart_at self.now writing) (span first length) }
+    fn is_span_unobserved(&self, first: u32, length: u32, writing: bool) -> bool
+        ensures { result ≡ list_all (is_unobserved_at self.now writing) (span first length) }
     {
         for i in 0..length {
             if self.is_observed(first.wrapping_add(i), writing) {
@@ -74,21 +80,21 @@ impl Parts {
     }
 
     /// Whether none of some bytes is one.
-    fn is_touch_apart(&self, touch: Touch, writing: bool) -> bool
-        ensures { result ≡ all_apart self.now writing touch }
+    fn is_touch_unobserved(&self, touch: Touch, writing: bool) -> bool
+        ensures { result ≡ all_unobserved self.now writing touch }
     {
         match touch {
             Touch::Nothing => true,
-            Touch::Span { first, length } => self.is_span_apart(first, length, writing),
+            Touch::Span { first, length } => self.is_span_unobserved(first, length, writing),
         }
     }
 
     /// Whether none of the bytes that are reached as data is one, as they are read and written.
-    fn is_data_apart(&self, reach: Reach) -> bool
-        ensures { result ≡ data_apart self.now reach }
+    fn is_data_unobserved(&self, reach: Reach) -> bool
+        ensures { result ≡ data_unobserved self.now reach }
     {
-        (!reach.reads || self.is_touch_apart(reach.touch, false))
-            && (!reach.writes || self.is_touch_apart(reach.touch, true))
+        (!reach.reads || self.is_touch_unobserved(reach.touch, false))
+            && (!reach.writes || self.is_touch_unobserved(reach.touch, true))
     }
 
     /// Whether an access of data of an instruction of ARM9's is of an observed port.
@@ -97,7 +103,7 @@ impl Parts {
         ensures { result ≡ (let r = nine_reach (tick_of self.now.nine.processor) self.now in any_observes r
             (data_accesses V5 (nine_side.base r) self.now.nine.processor.registers (Some instr.now))) }
     {
-        !self.is_data_apart(self.footprint_of(Proc::Nine, instr))
+        !self.is_data_unobserved(self.footprint_of(Proc::Nine, instr))
     }
 
     /// Whether ARM9's next step observes geometry.

@@ -12,13 +12,13 @@ ghost use Rattle.ds_base.specs.declared.processors.Proc.TheVariants.{Nine};
 ghost use Rattle.ds_places.specs.AddressTables.{place_of};
 ghost use Rattle.ds_map.specs.Maps.{MemoriesState};
 ghost use Rattle.ds_map.specs.Shares.{is_private_place};
-ghost use Rattle.ds_machine.specs.QuietPorts.{is_steady_port};
+ghost use Rattle.ds_machine.specs.SteadyPorts.{is_steady_port};
 ghost use Rattle.ds_machine.specs.PrivateSides as sides;
 ghost use Rattle.ds_machine.specs.DecodedSteps.{operation_outcome, RunsAs};
 ghost use Rattle.ds_machine.specs.PrivateSides.{is_private_tcm, SideOf};
 ghost use Rattle.ds_machine.specs.Touching.{GoesByWords};
 
-use crate::quiet_ports::QuietPorts;
+use crate::steady_ports::SteadyPorts;
 use arm_core::{Registers, Stepped};
 use arm_exec::{Fetched, execute_word};
 use arm_ops::{DataAccess, Operation, run, run_made};
@@ -27,6 +27,7 @@ use arm9_exec::{in_rom, move_if, move_of};
 use cp15_tcm::{Cp15, Tcm};
 use ds_base::{Arch, Proc, Width};
 use ds_map::{NineView, SevenView, fetched_by_nine};
+use ds_places::{is_own, is_seven_rom};
 use ds_ports::Io;
 
 /// What a processor reaches at its step: a memory machine, with what parts it from what the other reaches.
@@ -152,7 +153,7 @@ pub fn is_private_to_nine(cp: &Cp15, io: &Io, at: u32, writing: bool, fetching: 
 pub fn is_private_to_seven(at: u32) -> bool
     ensures { result ≡ sides.is_private_to_seven at }
 {
-    at <= 0x3FFF || (at >= 0x0380_0000 && at <= 0x03FF_FFFF)
+    is_seven_rom(at) || is_own(at)
 }
 
 impl Side for NineView<'_> {
@@ -225,7 +226,7 @@ impl Side for NineView<'_> {
     #[inline]
     #[tactic(auto, using(crate::proofs::GuardedSteps::guarded_refuses_none, crate::proofs::GuardedSteps::same_operation))]
     fn run_fast(&mut self, s: &mut Registers, operation: &Operation) -> u32 {
-        run::<Self, QuietPorts>(Arch::V5, s, self, operation)
+        run::<Self, SteadyPorts>(Arch::V5, s, self, operation)
     }
 }
 
@@ -292,6 +293,6 @@ impl Side for SevenView<'_> {
     #[inline]
     #[tactic(auto, using(crate::proofs::RamAccesses::seven_refuses_none))]
     fn run_fast(&mut self, s: &mut Registers, operation: &Operation) -> u32 {
-        run::<Self, QuietPorts>(Arch::V4, s, self, operation)
+        run::<Self, SteadyPorts>(Arch::V4, s, self, operation)
     }
 }

@@ -1,6 +1,5 @@
-use Rattle.std.specs.Prelude.{◌||◌}
-use Rattle.std.proofs.Common.{ℕ, ◌≡◌, ◌<◌, ◌+◌, ◌-◌, ◌/◌, ◌==◌, ◌&&◌, nat_le, Bool, true, false, if◌then◌else◌, [], ◌∷◌, Option, Some, None, refl, ◌∙◌, ap, arith, List}
-use Rattle.ds_base.proofs.Choices.{either, neither}
+use Rattle.std.proofs.Common.{ℕ, ◌≡◌, ◌<◌, ◌+◌, ◌-◌, ◌/◌, ◌==◌, ◌&&◌, nat_le, Bool, true, false, if◌then◌else◌, [], ◌∷◌, Option, Some, None, refl, ◌∙◌, arith, List}
+use Rattle.ds_base.proofs.Choices.{either}
 use Rattle.ds_base.specs.Memories.{memory_size}
 use Rattle.ds_base.specs.Numbers.{aligned_down, width_bytes}
 use Rattle.ds_base.specs.declared.left_out.Stop.{Stop}
@@ -24,6 +23,8 @@ use Rattle.vram_banks.specs.Cells.{vram_written}
 use Rattle.ds_map.specs.Accesses.{after_read_at, is_byte_of_nine, map_fetched, map_read, map_refusal, map_value, map_written, takes_no_bytes, written_at}
 use Rattle.ds_map.specs.Maps.{MapState}
 use Rattle.ds_map.specs.Moves.{map_after_unit, unit_moved, unit_read, unit_refusal, unit_taken}
+use Rattle.ds_map.specs.ObservedPorts.{is_observed_port}
+use Rattle.ds_map.proofs.ObservedPorts.{no_control, no_geometry, observed_same}
 use Rattle.ds_map.proofs.Passed as passed
 use Rattle.ds_map.proofs.Passed.{IsPast, OfOthers, PlacePasses, fetch_passes, place_passes}
 
@@ -31,15 +32,9 @@ use Rattle.ds_map.proofs.Passed.{IsPast, OfOthers, PlacePasses, fetch_passes, pl
 
 -- ---- the ports
 
--- DISP3DCNT; what stands from 400h to 6FFh; and DMA0CNT to DMA3CNT (GBATEK, "DS I/O Maps")
-abbrev pub is_seen_port : ℕ → Bool
-is_seen_port at =
-    let word = at / 4 in
-    (word == 0x18) || ((nat_le 0x100 word && nat_le word 0x1BF) || ((word == 0x2E) || ((word == 0x31) || ((word == 0x34) || (word == 0x37)))))
-
 -- a place is none of them, or ARM7's
 abbrev pub IsApartPlace : Proc → Place → Type 0
-IsApartPlace Nine (Port at) = is_seen_port at ≡ false
+IsApartPlace Nine (Port at) = is_observed_port at ≡ false
 IsApartPlace proc place = Unit {0}
 
 -- each byte of an access stands in the same word
@@ -48,26 +43,18 @@ same_word Byte at k l = omega (arith, l)
 same_word Half at k l = omega (arith, l)
 same_word Word at k l = omega (arith, l)
 
-elsewhere : (at word : ℕ) → at / 4 ≡ word → (word == 0x18) ≡ false → (nat_le 0x100 word && nat_le word 0x1BF) ≡ false → is_geometry_offset at ≡ false
-elsewhere at word e h k = grind (arith, e, h, k)
+module _ (width : Width) (at k : ℕ) (l : k < width_bytes width) (h : is_observed_port at ≡ false) where
+  unseen : is_observed_port (aligned_down width at + k) ≡ false
+  unseen = observed_same (aligned_down width at + k) at (same_word width at k l) ∙ h
 
-module _ (width : Width) (at k : ℕ) (l : k < width_bytes width) (h : is_seen_port at ≡ false) where
-  no_geometry : is_geometry_offset (aligned_down width at + k) ≡ false
-  no_geometry =
-      let word = at / 4 in
-      let a = neither (word == 0x18) ((nat_le 0x100 word && nat_le word 0x1BF) || is_control_word word) h in
-      let b = neither (nat_le 0x100 word && nat_le word 0x1BF) (is_control_word word) a.1 in
-      elsewhere (aligned_down width at + k) word (same_word width at k l) a.0 b.0
+  apart_from_geometry : is_geometry_offset (aligned_down width at + k) ≡ false
+  apart_from_geometry = no_geometry (aligned_down width at + k) unseen
 
-  no_control : is_control_word ((aligned_down width at + k) / 4) ≡ false
-  no_control =
-      let word = at / 4 in
-      let a = neither (word == 0x18) ((nat_le 0x100 word && nat_le word 0x1BF) || is_control_word word) h in
-      let b = neither (nat_le 0x100 word && nat_le word 0x1BF) (is_control_word word) a.1 in
-      ap is_control_word (same_word width at k l) ∙ b.1
+  apart_from_controls : is_control_word ((aligned_down width at + k) / 4) ≡ false
+  apart_from_controls = no_control (aligned_down width at + k) unseen
 
 port_apart : (proc : Proc) (width : Width) (at : ℕ) → IsApartPlace proc (Port at) → IsApartFromGeometry proc (aligned_down width at) width
-port_apart Nine width at h = λ k l. no_geometry width at k l h
+port_apart Nine width at h = λ k l. apart_from_geometry width at k l h
 port_apart Seven width at h = tt
 
 -- ---- they stand at the same addresses whatever WRAMCNT is
@@ -181,7 +168,7 @@ map_read_dma proc m at width = read_dma_there proc (place_of proc m.io.wramcnt a
 -- a write leaves their controls
 port_keeps : (proc : Proc) (now : Tick) (u : IoState) (at : ℕ) (width : Width) (number : ℕ) → IsApartPlace proc (Port at)
     → KeepsControls u.nine.dma (port_written proc now u (aligned_down width at) width number).nine.dma
-port_keeps Nine now u at width number h = write_keeps now u (aligned_down width at) width number (λ k l. no_control width at k l h)
+port_keeps Nine now u at width number h = write_keeps now u (aligned_down width at) width number (λ k l. apart_from_controls width at k l h)
 port_keeps Seven now u at width number h = keeps_by u.nine.dma _ (seven_write_dma now u (aligned_down width at) width number)
 
 unless_keeps : (refused : Option Stop) (u v : IoState) → KeepsControls u.nine.dma v.nine.dma → KeepsControls u.nine.dma (unless_stopped refused u v).nine.dma

@@ -1,4 +1,3 @@
-pub mod Mains
 pub mod NineShares
 pub mod Reached
 pub mod Later
@@ -6,4 +5,5 @@ pub mod Guards
 pub mod TakenBack
 pub mod Passed
 pub mod SevenShares
+pub mod ObservedPorts
 pub mod GxApart

@@ -4,3 +4,4 @@ pub mod Views
 pub mod Guards
 pub mod Moves
 pub mod Shares
+pub mod ObservedPorts

@@ -3,11 +3,7 @@
 ghost use Rattle.std.specs.Prelude.{◌≡◌, ◌<◌, ◌≤◌, ◌^◌, slice_index, length, false, true, ℕ, IfOk, IfSome, Some};
 ghost use Rattle.ds_base.specs.Memories.{memory_size};
 ghost use Rattle.ds_base.specs.Numbers.{aligned_down, number_at, with_number};
-ghost use Rattle.ds_base.specs.declared.memories.Memory.TheVariants.{Main, Own7};
-ghost use Rattle.ds_base.specs.declared.processors.Proc.{Proc};
-ghost use Rattle.ds_base.specs.declared.processors.Proc.TheVariants.{Seven};
-ghost use Rattle.ds_places.specs.AddressTables.{IsInside, place_of};
-ghost use Rattle.ds_places.specs.declared.kinds.Place.TheVariants.{Cell, Port};
+ghost use Rattle.ds_places.specs.AddressTables.{IsInside};
 ghost use Rattle.ds_map.specs.Maps.{blank_memories, cells_of, is_reached, map_seen, reached, reaches, unreached_oam, unreached_palette, unreached_wram, with_cells};
 ghost use Rattle.ds_base.specs.Schedules.{IsEarly};
 ghost use Rattle.ds_ports.specs.Io.{video_done};
@@ -20,7 +16,7 @@ use crate::blocks::Block;
 use ds_base::{
     MAIN_BYTES, Memory, OAM_BYTES, OWN7_BYTES, PALETTE_BYTES, Proc, SHARED_BYTES, Stop, Tick, Width,
 };
-use ds_places::{Place, place, rom_word};
+use ds_places::{Place, main_cell, own_cell, place, port_at, rom_word};
 use ds_ports::{Io, part};
 use std::alloc::{AllocError, Global};
 use std::marker::Model;
@@ -358,46 +354,6 @@ impl Map {
             Memory::Itcm | Memory::Dtcm | Memory::Vram => 0,
         }
     }
-}
-
-/// The cell of main memory at an address, where it is there. It is asked first, since most accesses are of main memory.
-#[inline(always)]
-#[tactic(auto, using(crate::proofs::Mains::main_place))]
-fn main_cell(at: u32) -> Option<u32>
-    ensures place { IfSome result (λ cell. (proc : Proc) → (wramcnt : ℕ) → place_of proc wramcnt at ≡ Cell Main cell) }
-    ensures inside { IfSome result (λ cell. cell < memory_size Main) }
-{
-    if at >= 0x0200_0000 && at < 0x0300_0000 {
-        return Some((at - 0x0200_0000) % MAIN_BYTES as u32);
-    }
-    None
-}
-
-/// The cell of ARM7's own work RAM at an address, where it is there. It is asked second.
-#[inline(always)]
-#[tactic(auto, using(crate::proofs::Mains::own_place))]
-fn own_cell(proc: Proc, at: u32) -> Option<u32>
-    ensures seven { IfSome result (λ cell. proc ≡ Seven) }
-    ensures place { IfSome result (λ cell. (wramcnt : ℕ) → place_of proc wramcnt at ≡ Cell Own7 cell) }
-    ensures inside { IfSome result (λ cell. cell < memory_size Own7) }
-{
-    if proc == Proc::Seven && at >= 0x0380_0000 && at < 0x0400_0000 {
-        return Some((at - 0x0380_0000) % OWN7_BYTES as u32);
-    }
-    None
-}
-
-/// The offset of a port at an address, where one is there. A read asks it third.
-#[inline(always)]
-#[tactic(auto, using(crate::proofs::Mains::port_place))]
-fn port_at(at: u32) -> Option<u32>
-    ensures place { IfSome result (λ port. (proc : Proc) → (wramcnt : ℕ) → place_of proc wramcnt at ≡ Port port) }
-    ensures inside { IfSome result (λ port. port < 2 ^ 24) }
-{
-    if at >= 0x0400_0000 && at < 0x0500_0000 {
-        return Some(at - 0x0400_0000);
-    }
-    None
 }
 
 /// Whether an access is of a byte by ARM9.

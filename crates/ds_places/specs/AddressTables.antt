@@ -1,4 +1,4 @@
-use Rattle.std.specs.Prelude.{ℕ, ◌≡◌, ◌<◌, ◌≤◌, ◌+◌, ◌-◌, ◌%◌, ◌==◌, nat_le, ◌&&◌, if◌then◌else◌, List, [], ◌∷◌, All}
+use Rattle.std.specs.Prelude.{ℕ, ◌≡◌, ◌<◌, ◌≤◌, ◌+◌, ◌-◌, ◌%◌, ◌==◌, nat_le, Bool, ◌&&◌, if◌then◌else◌, List, [], ◌∷◌, All}
 use Rattle.ds_base.specs.declared.processors.Proc.{Proc}
 use Rattle.ds_base.specs.declared.processors.Proc.TheVariants.{Nine, Seven}
 use Rattle.ds_base.specs.Memories.{memory_size, space_size}
@@ -27,6 +27,24 @@ pub record Region : Type 0 where
 abbrev pub region : ℕ → ℕ → Content → Region
 region first last content = record { first = first; last = last; content = content }
 
+-- regions that are asked for by themselves too: main memory and the ports, for both processors; ARM7's own work RAM, and its boot ROM (GBATEK,
+-- "DS Memory Map")
+abbrev pub main_region : Region
+main_region = region 0x02000000 0x02FFFFFF (Cells Main 0 (memory_size Main))
+
+abbrev pub own_region : Region
+own_region = region 0x03800000 0x03FFFFFF (Cells Own7 0 (memory_size Own7))
+
+abbrev pub ports_region : Region
+ports_region = region 0x04000000 0x04FFFFFF Ports
+
+abbrev pub seven_rom_region : Region
+seven_rom_region = region 0x00000000 0x00003FFF BootRom
+
+-- an address lies in a region, as a test
+abbrev pub is_of_region : Region → ℕ → Bool
+is_of_region r at = nat_le r.first at && nat_le at r.last
+
 -- shared work RAM as ARM9 sees it, by WRAMCNT (GBATEK, "DS Memory Control - WRAM")
 abbrev pub shared_for_nine : ℕ → Content
 shared_for_nine wramcnt =
@@ -44,9 +62,9 @@ shared_for_seven wramcnt =
 -- ARM9's addresses past its TCMs (GBATEK, "DS Memory Map"; that all repeats by remainder is our choice)
 abbrev pub regions_of_nine : ℕ → List Region
 regions_of_nine wramcnt =
-    region 0x02000000 0x02FFFFFF (Cells Main 0 (memory_size Main))
+    main_region
     ∷ region 0x03000000 0x03FFFFFF (shared_for_nine wramcnt)
-    ∷ region 0x04000000 0x04FFFFFF Ports
+    ∷ ports_region
     ∷ region 0x05000000 0x05FFFFFF (Cells Palette 0 (memory_size Palette))
     ∷ region 0x06000000 0x061FFFFF (Video ABg)
     ∷ region 0x06200000 0x063FFFFF (Video BBg)
@@ -60,11 +78,11 @@ regions_of_nine wramcnt =
 -- ARM7's addresses (the same chapter)
 abbrev pub regions_of_seven : ℕ → List Region
 regions_of_seven wramcnt =
-    region 0x00000000 0x00003FFF BootRom
-    ∷ region 0x02000000 0x02FFFFFF (Cells Main 0 (memory_size Main))
+    seven_rom_region
+    ∷ main_region
     ∷ region 0x03000000 0x037FFFFF (shared_for_seven wramcnt)
-    ∷ region 0x03800000 0x03FFFFFF (Cells Own7 0 (memory_size Own7))
-    ∷ region 0x04000000 0x04FFFFFF Ports
+    ∷ own_region
+    ∷ ports_region
     ∷ region 0x06000000 0x06FFFFFF (Video Arm7)
     ∷ []
 

@@ -17,11 +17,16 @@
 #![tactic(auto)]
 
 mod boot_roms;
+mod bounds;
 mod kinds;
 mod tables;
 mod waits;
 
 pub use boot_roms::rom_word;
+pub use bounds::{
+    MAIN_FIRST, MAIN_LAST, OWN7_FIRST, PORTS_FIRST, PORTS_LAST, is_main, is_own, is_port,
+    is_seven_rom, main_cell, own_cell, port_at,
+};
 pub use kinds::Place;
 pub use tables::place;
 pub use waits::wait;

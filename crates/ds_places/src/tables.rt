@@ -3,6 +3,7 @@
 ghost use Rattle.std.specs.Prelude.{◌≡◌, ◌<◌, ◌≤◌, ◌+◌, ◌-◌, ◌/◌, ◌^◌};
 ghost use Rattle.ds_places.specs.AddressTables.{place_of, place_at, place_by, regions_of, regions_of_nine, regions_of_seven, shared_for_nine, shared_for_seven, HasPlace, IsInside};
 
+use crate::bounds::OWN7_FIRST;
 use crate::kinds::Place;
 use ds_base::{Memory, Proc, Space};
 
@@ -88,7 +89,7 @@ fn place_for_seven(wramcnt: u8, at: u32) -> Place
     match at >> 24 {
         0 if at < 0x4000 => Place::Rom(at),
         2 => cell(Memory::Main, at % 0x400000),
-        3 if at < 0x380_0000 => shared_for_seven(wramcnt, at),
+        3 if at < OWN7_FIRST => shared_for_seven(wramcnt, at),
         3 => cell(Memory::Own7, at % 0x10000),
         4 => Place::Port(at % 0x1000000),
         6 => banks(Space::Arm7, at % 0x40000),

@@ -4,7 +4,7 @@ use Rattle.arm_core.specs.Steps.{enters}
 use Rattle.arm_ops.specs.Operations.{is_other}
 use Rattle.ds_machine.specs.Touching.{DataStays}
 use Rattle.ds_machine.proofs.DecodedStays.{leaves_known, stays_known}
-use Rattle.ds_machine.proofs.NearApart.{near_known}
+use Rattle.ds_machine.proofs.NearUnobserved.{near_known}
 use Rattle.ds_machine.proofs.Taken.{taken_operation}
 use Rattle.ds_machine.proofs.steps.take_fast_in_view.Goals.{else-ahead-via-then-ahead+else-not-access_stays, else-ahead-via-else-ahead}
 use Rattle.ds_machine.proofs.steps.take_fast_in_view.Goals as goal

@@ -73,15 +73,15 @@ module _ (r : NineReach) where
 -- ---- the step
 
 -- a step in private places doesn't observe geometry
-pub private_apart : (s : MachineState) (proc : Proc) → IsPrivate s proc → observes_by (Processor proc) s ≡ false
-private_apart s Nine is =
+pub private_unobserved : (s : MachineState) (proc : Proc) → IsPrivate s proc → observes_by (Processor proc) s ≡ false
+private_unobserved s Nine is =
     let r = nine_reach (tick_of s.nine.processor) s in
     let registers = s.nine.processor.registers in
     let accesses = data_accesses nine_side.arch (nine_side.base r) registers (fetched nine_memory nine_side.arch registers r).instr in
     and_right (not (enters (line_of s Nine) registers)) (any_observes r accesses) (all_unseen r accesses is.own.accesses)
-private_apart s Seven is = refl
+private_unobserved s Seven is = refl
 
 -- by its rank
-pub rank_apart : (s : MachineState) (proc : Proc) → IsPrivate s proc → observes_by (actor_of (rank_of proc)) s ≡ false
-rank_apart s Nine private = private_apart s Nine private
-rank_apart s Seven private = private_apart s Seven private
+pub rank_unobserved : (s : MachineState) (proc : Proc) → IsPrivate s proc → observes_by (actor_of (rank_of proc)) s ≡ false
+rank_unobserved s Nine private = private_unobserved s Nine private
+rank_unobserved s Seven private = private_unobserved s Seven private

@@ -20,52 +20,52 @@ use Rattle.ds_map.specs.Views.{NineReach, nine_memory}
 use Rattle.ds_places.specs.AddressTables.{place_of}
 use Rattle.ds_places.specs.declared.kinds.Place.{Place}
 use Rattle.ds_places.specs.declared.kinds.Place.TheVariants.{Cell, Banks, Port, Rom, Nothing}
+use Rattle.ds_places.proofs.Rows.{port_place}
 use Rattle.ds_runs.specs.declared.actors.Actor.TheVariants.{Processor}
 use Rattle.ds_machine.specs.Lagging.{any_observes, is_observed_past, is_observed_place, observes_by}
 use Rattle.ds_machine.specs.Private.{data_accesses}
-use Rattle.ds_machine.specs.QuietPorts.{is_steady_port}
+use Rattle.ds_machine.specs.SteadyPorts.{is_steady_port}
 use Rattle.ds_machine.specs.PrivateSides.{SideOf, nine_side}
 use Rattle.ds_machine.specs.States.{MachineState}
 use Rattle.ds_machine.specs.Steps.{line_of, nine_reach, processor_of, tick_of}
 use Rattle.ds_machine.specs.Touching.{DataIsNear, DataStaysNear}
 use Rattle.ds_machine.proofs.NearAccesses.{is_near_at}
-use Rattle.ds_machine.proofs.PortReads.{port_place}
-use Rattle.ds_machine.proofs.QuietPorts.{IsQuietAt, quiet_at}
+use Rattle.ds_machine.proofs.SteadyPorts.{IsSteadyAt, steady_at}
 use Rattle.ds_machine.proofs.RamAccesses.{is_cells, ram_bounds, ram_cells}
 
 -- A step that reaches RAM alone, where no port stands, or loads from a port that isn't observed, observes nothing of geometry.
 
-cells_apart : (place : Place) → is_cells place ≡ true → is_observed_place place ≡ false
-cells_apart (Cell memory at) h = refl
-cells_apart (Banks space at) h = refl
-cells_apart (Port at) h = absurd (true≢false (sym h))
-cells_apart (Rom at) h = refl
-cells_apart Nothing h = refl
+cells_unobserved : (place : Place) → is_cells place ≡ true → is_observed_place place ≡ false
+cells_unobserved (Cell memory at) h = refl
+cells_unobserved (Banks space at) h = refl
+cells_unobserved (Port at) h = absurd (true≢false (sym h))
+cells_unobserved (Rom at) h = refl
+cells_unobserved Nothing h = refl
 
-past_apart : (t : Tcm) (wramcnt at : ℕ) → is_ram at ≡ true → is_observed_past t wramcnt at ≡ false
-past_apart (Itcm place) wramcnt at ram = refl
-past_apart (Dtcm place) wramcnt at ram = refl
-past_apart Past wramcnt at ram = let b = ram_bounds at ram in cells_apart (place_of Nine wramcnt at) (ram_cells Nine wramcnt at b.0 b.1)
+past_unobserved : (t : Tcm) (wramcnt at : ℕ) → is_ram at ≡ true → is_observed_past t wramcnt at ≡ false
+past_unobserved (Itcm place) wramcnt at ram = refl
+past_unobserved (Dtcm place) wramcnt at ram = refl
+past_unobserved Past wramcnt at ram = let b = ram_bounds at ram in cells_unobserved (place_of Nine wramcnt at) (ram_cells Nine wramcnt at b.0 b.1)
 
-quiet_apart : (t : Tcm) (wramcnt at : ℕ) → IsQuietAt at → is_observed_past t wramcnt at ≡ false
-quiet_apart (Itcm place) wramcnt at q = refl
-quiet_apart (Dtcm place) wramcnt at q = refl
-quiet_apart Past wramcnt at q = ap is_observed_place (port_place Nine wramcnt at q.low q.high) ∙ q.apart
+steady_unobserved : (t : Tcm) (wramcnt at : ℕ) → IsSteadyAt at → is_observed_past t wramcnt at ≡ false
+steady_unobserved (Itcm place) wramcnt at q = refl
+steady_unobserved (Dtcm place) wramcnt at q = refl
+steady_unobserved Past wramcnt at q = (let high = q.high in ap is_observed_place (port_place Nine wramcnt at q.low (omega (arith, high))) ∙ q.unobserved)
 
-load_apart : (t : Tcm) (wramcnt at : ℕ) → is_near_at at ≡ true → is_observed_past t wramcnt at ≡ false
-load_apart t wramcnt at near = elim (or_cases (is_ram at) (is_steady_port at) near) [
-  | inl ram ↦ past_apart t wramcnt at ram
-  | inr quiet ↦ quiet_apart t wramcnt at (quiet_at at quiet)
+load_unobserved : (t : Tcm) (wramcnt at : ℕ) → is_near_at at ≡ true → is_observed_past t wramcnt at ≡ false
+load_unobserved t wramcnt at near = elim (or_cases (is_ram at) (is_steady_port at) near) [
+  | inl ram ↦ past_unobserved t wramcnt at ram
+  | inr steady ↦ steady_unobserved t wramcnt at (steady_at at steady)
 ]
 
-all_apart : (r : NineReach) (accesses : List Access) → IsNear is_steady_port accesses → any_observes r accesses ≡ false
-all_apart r [] near = refl
-all_apart r (Fetch at width ∷ []) near = refl
-all_apart r (Read at width ∷ []) near =
-    let t = tcm_of r.cp15 at false false in or_from (is_observed_past t r.map.io.wramcnt at) false (load_apart t r.map.io.wramcnt at near) refl
-all_apart r (Write at width value ∷ []) ram =
-    let t = tcm_of r.cp15 at true false in or_from (is_observed_past t r.map.io.wramcnt at) false (past_apart t r.map.io.wramcnt at ram) refl
-all_apart r (access ∷ other ∷ rest) near = absurd near
+all_unobserved : (r : NineReach) (accesses : List Access) → IsNear is_steady_port accesses → any_observes r accesses ≡ false
+all_unobserved r [] near = refl
+all_unobserved r (Fetch at width ∷ []) near = refl
+all_unobserved r (Read at width ∷ []) near =
+    let t = tcm_of r.cp15 at false false in or_from (is_observed_past t r.map.io.wramcnt at) false (load_unobserved t r.map.io.wramcnt at near) refl
+all_unobserved r (Write at width value ∷ []) ram =
+    let t = tcm_of r.cp15 at true false in or_from (is_observed_past t r.map.io.wramcnt at) false (past_unobserved t r.map.io.wramcnt at ram) refl
+all_unobserved r (access ∷ other ∷ rest) near = absurd near
 
 -- ---- of a decoded operation
 
@@ -82,12 +82,12 @@ near_known memory side state s op e known near =
 
 -- ---- in the machine
 
-pub near_apart : (s : MachineState) (proc : Proc) (tick : Tick) → tick ≡ tick_of (processor_of s proc) → DataStaysNear tick s proc → observes_by (Processor proc) s ≡ false
-near_apart s Nine tick e near =
+pub near_unobserved : (s : MachineState) (proc : Proc) (tick : Tick) → tick ≡ tick_of (processor_of s proc) → DataStaysNear tick s proc → observes_by (Processor proc) s ≡ false
+near_unobserved s Nine tick e near =
     let now = tick_of s.nine.processor in
     let registers = s.nine.processor.registers in
     let r = nine_reach now s in
     let accesses = data_accesses nine_side.arch (nine_side.base r) registers (fetched nine_memory nine_side.arch registers r).instr in
     let there : DataStaysNear now s Nine = subst (λ (t : Tick). DataStaysNear t s Nine) e near in
-    and_right (not (enters (line_of s Nine) registers)) (any_observes r accesses) (all_apart r accesses there)
-near_apart s Seven tick e near = refl
+    and_right (not (enters (line_of s Nine) registers)) (any_observes r accesses) (all_unobserved r accesses there)
+near_unobserved s Seven tick e near = refl

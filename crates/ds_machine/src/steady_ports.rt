@@ -2,27 +2,28 @@
 //! something make them again and again.
 
 ghost use Rattle.std.specs.Prelude.{◌≡◌};
-ghost use Rattle.ds_machine.specs.QuietPorts as ports;
+ghost use Rattle.ds_machine.specs.SteadyPorts as ports;
 
 use crate::lagging::is_observed_port;
 use arm_ops::Near;
+use ds_places::PORTS_FIRST;
 
 /// Whether an address names ports of which a read changes nothing, and isn't observed: from 4000000h to 40FFFFFh all but those that are observed.
 #[inline(always)]
-fn is_quiet_port(at: u32) -> bool
+fn is_steady_port(at: u32) -> bool
     ensures { result ≡ ports.is_steady_port at }
 {
-    at >> 20 == 0x40 && !is_observed_port(at - 0x0400_0000)
+    at >= PORTS_FIRST && at < PORTS_FIRST + 0x10_0000 && !is_observed_port(at - PORTS_FIRST)
 }
 
 /// Loads from them are near.
-pub enum QuietPorts {}
+pub enum SteadyPorts {}
 
-impl Near for QuietPorts {
+impl Near for SteadyPorts {
     ghost near = { ports.is_steady_port };
 
     #[inline(always)]
     fn is_near(at: u32) -> bool {
-        is_quiet_port(at)
+        is_steady_port(at)
     }
 }

@@ -11,6 +11,7 @@ use Rattle.ds_machine.specs.Acting.{acting_dues}
 use Rattle.ds_machine.specs.Lagging.{CatchesUp, CatchesUpIf, ComesBeforeAll, TakesGeometry, observes_by}
 use Rattle.ds_machine.specs.Lagging as lagging
 use Rattle.ds_machine.specs.Inspections.{seen_of}
+use Rattle.ds_machine.specs.Private.{rank_of}
 use Rattle.ds_machine.specs.Reference.{Shown, dues_of, processor_due, reference, reference_step}
 use Rattle.ds_machine.specs.Sound.{IsSound}
 use Rattle.ds_machine.specs.States.{MachineState}
@@ -23,14 +24,14 @@ use Rattle.ds_machine.proofs.SameTick.{CrossesGeometry, StopsAfterGeometry, Wait
 use Rattle.run_ahead.proofs.StepTurns.{before_all}
 use Rattle.run_ahead.proofs.TickTurns.{acts_at_it}
 use Rattle.nds_plays.specs.TraceParts.{IsLineDue, TakesTick}
-use Rattle.nds_plays.specs.Watches.{step_lines, run_lines, processor_rank, seen_line}
+use Rattle.nds_plays.specs.Watches.{step_lines, run_lines, seen_line}
 use Rattle.ds_machine.proofs.SeenSame.{seen_same}
 
 -- What a turn of one tick says of the lines of a run: a run from after it goes on from before it, with the line of the turn's step first.
 
 -- ---- lines
 
-no_match : (proc : Proc) (rank : ℕ) → rank < 22 → nat_eq rank (processor_rank proc) ≡ false
+no_match : (proc : Proc) (rank : ℕ) → rank < 22 → nat_eq rank (rank_of proc) ≡ false
 no_match Nine rank lt = grind (arith, lt)
 no_match Seven rank lt = grind (arith, lt)
 
@@ -41,14 +42,14 @@ no_line proc rank tick s lt = ap (λ (b : Bool). if b then seen_line proc tick.0
 same_rank : (rank other : ℕ) → nat_eq rank other ≡ true → rank ≡ other
 same_rank rank other h = grind (arith, h)
 
-due_by_rank : (s : MachineState) (proc : Proc) (rank : ℕ) (tick : Tick) → due_at (acting_dues s) rank ≡ Some tick → nat_eq rank (processor_rank proc) ≡ true → processor_due s proc ≡ Some tick
+due_by_rank : (s : MachineState) (proc : Proc) (rank : ℕ) (tick : Tick) → due_at (acting_dues s) rank ≡ Some tick → nat_eq rank (rank_of proc) ≡ true → processor_due s proc ≡ Some tick
 due_by_rank s Nine rank tick acts is = sym (acting_processor s Nine) ∙ ap (due_at (acting_dues s)) (sym (same_rank rank 22 is)) ∙ acts
 due_by_rank s Seven rank tick acts is = sym (acting_processor s Seven) ∙ ap (due_at (acting_dues s)) (sym (same_rank rank 23 is)) ∙ acts
 
 -- an actor's line is the same after steps of quiet geometry
 line_same : (proc : Proc) (rank : ℕ) (tick : Tick) (s now : MachineState) → CaughtSo s now → due_at (acting_dues s) rank ≡ Some tick → step_lines proc rank tick now ≡ step_lines proc rank tick s
-line_same proc rank tick s now so acts = by_match (nat_eq rank (processor_rank proc)) refl where
-  by_match : (b : Bool) → nat_eq rank (processor_rank proc) ≡ b
+line_same proc rank tick s now so acts = by_match (nat_eq rank (rank_of proc)) refl where
+  by_match : (b : Bool) → nat_eq rank (rank_of proc) ≡ b
       → (if b then seen_line proc tick.0 (seen_of now proc) ∷ [] else []) ≡ (if b then seen_line proc tick.0 (seen_of s proc) ∷ [] else [])
   by_match true is = ap (λ (seen : Seen). (let lines : List (List ℕ) = seen_line proc tick.0 seen ∷ [] in lines)) (seen_same s now proc tick so (due_by_rank s proc rank tick acts is))
   by_match false is = refl

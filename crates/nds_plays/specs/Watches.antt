@@ -6,12 +6,12 @@ use Rattle.ds_base.specs.Processors.{architecture_of}
 use Rattle.ds_base.specs.declared.left_out.LeftOut.{LeftOut}
 use Rattle.ds_base.specs.declared.memories.Memory.{Memory}
 use Rattle.ds_base.specs.declared.processors.Proc.{Proc}
-use Rattle.ds_base.specs.declared.processors.Proc.TheVariants.{Nine, Seven}
 use Rattle.ds_base.specs.declared.ticks.Tick.{Tick}
 use Rattle.ds_io.specs.Faults.{Rose}
 use Rattle.ds_io.specs.Sinks.{Appended, AppendedFront}
 use Rattle.ds_runs.specs.Runs.{TickMachine, Ending, At, Stopped, Runs, over, stops, more}
 use Rattle.ds_machine.specs.Inspections.{memory_of, seen_of}
+use Rattle.ds_machine.specs.Private.{rank_of}
 use Rattle.ds_machine.specs.Reference.{Shown, reference}
 use Rattle.ds_machine.specs.States.{MachineState}
 use Rattle.ds_machine.specs.declared.answers.Seen.{Seen}
@@ -38,11 +38,6 @@ told_of tell (over s none) = []
 told_of tell (stops s after tick rank stop least below halts) = []
 told_of tell (more end s next tick rank outs rest least below goes run) = tell rank tick s ++ told_of tell run
 
--- a processor's rank
-abbrev pub processor_rank : Proc → ℕ
-processor_rank Nine = 22
-processor_rank Seven = 23
-
 -- the line of what a processor does at a tick. At its own step a processor is never idle
 abbrev pub seen_line : Proc → ℕ → Seen → List ℕ
 seen_line proc tick (Irq at) = entry_line tick at
@@ -52,7 +47,7 @@ seen_line proc tick Idle = []
 
 -- the line of a step, where it is the processor's: by what it does next, in the state before
 abbrev pub step_lines : Proc → ℕ → Tick → MachineState → List (List ℕ)
-step_lines proc rank tick s = if nat_eq rank (processor_rank proc) then seen_line proc tick.0 (seen_of s proc) ∷ [] else []
+step_lines proc rank tick s = if nat_eq rank (rank_of proc) then seen_line proc tick.0 (seen_of s proc) ∷ [] else []
 
 -- the lines of a processor's steps in a run
 abbrev pub run_lines : {limit : ℕ} {end : Ending MachineState LeftOut} {s : MachineState} {outs : List Shown} → Proc → Runs reference limit end s outs

@@ -7,12 +7,13 @@ ghost use Rattle.ds_machine.specs.Sound.{IsSound};
 ghost use Rattle.ds_io.specs.Puts.{Puts};
 ghost use Rattle.run_ahead.specs.TickTurns.{IsTickBefore};
 ghost use Rattle.nds_plays.specs.TraceParts.{IsLineDue, Took};
-ghost use Rattle.nds_plays.specs.Watches.{Traces, processor_rank, seen_line};
+ghost use Rattle.nds_plays.specs.Watches.{Traces, seen_line};
 
 use crate::plays::Played;
 use asm_text::Set;
 use ds_base::{LeftOut, Proc, Tick};
 use ds_io::{Failed, Sink, put_all};
+use ds_machine::rank_of;
 use nds_records::{OutLine, entry_line, step_line};
 use run_ahead::{Console, Seen, Turned, tick_turn_laws};
 
@@ -23,16 +24,6 @@ pub(crate) enum Taken {
     Step,
     /// It met a stop.
     Stop(LeftOut),
-}
-
-/// A processor's rank.
-fn rank_of(proc: Proc) -> u8
-    ensures { result ≡ processor_rank proc }
-{
-    match proc {
-        Proc::Nine => 22,
-        Proc::Seven => 23,
-    }
 }
 
 /// The line of what a processor does at a tick.

@@ -184,16 +184,7 @@ stops_now until limit turns m next stopped stop left same was is meets = (
   λ some. absurd (true≢false (sym (subst (λ (o : Option LeftOut). IsSome o) was some))),
 )
 
--- ---- a turn that is taken at once, whichever processor's it is: what the loop over its steps leaves of the console's fields
-
-pub record CameAtOnce (until : ℕ) (proc : Proc) (s : MachineState) (limit open_now turns : ℕ) (next : MachineState) (stop : Option LeftOut) (stopped : Bool)
-    (limit_after open_after turns_after : ℕ) : Type 0 where
-  pub took : TookStretch until proc s stop next
-  pub goes : stopped ≡ false → stop ≡ None
-  pub stops : stopped ≡ true → (left : LeftOut) × (stop ≡ Some left)
-  pub limit_same : limit_after ≡ limit
-  pub open_same : open_after ≡ open_now
-  pub turns_same : turns_after ≡ turns
+-- ---- a turn that is taken at once
 
 -- it is known at once, where the turn's limit isn't above the one that is kept
 pub at_once : (until limit : ℕ) (stopped : Option LeftOut) (tick : Tick) → until ≤ open_of limit stopped → tick.0 < until

@@ -16,7 +16,7 @@ ghost use Rattle.run_ahead.specs.Turns.{Turns, TurnsUpTo, RunsOn, HasRuns, turns
 ghost use Rattle.ds_base.specs.declared.left_out.LeftOut.{LeftOut};
 ghost use Rattle.run_ahead.specs.declared.turns.Turned.TheVariants.{Ran, Stopped};
 
-use crate::machine_turns::{take_stretch, take_turn};
+use crate::machine_turns::{take_stretch_of, take_turn};
 use crate::turns::Turned;
 use ds_base::{Due, Keys, LeftOut, Memory, Proc, Tick};
 use ds_header::Cart;
@@ -159,7 +159,7 @@ impl Console {
     }
 
     /// The turn of such a processor, on the fast path, which has one caller. The answer is whether it stopped: the stop itself would be moved at each
-    /// turn. There are two copies of the loop over its steps, one for each processor.
+    /// turn.
     #[inline(always)]
     fn take_at_once(&mut self, first: First, until: Tick) -> bool
         requires early { until.0 ≤ 2 ^ 56 }
@@ -167,25 +167,7 @@ impl Console {
         ensures ran { result ≡ false → Turns until.0 self.old Ran self.new }
         ensures stopped { result ≡ true → (left : LeftOut) × (self.new.stopped ≡ Some left) × Turns until.0 self.old (Stopped left) self.new }
     {
-        let proc = first.proc;
-        let limit = first.limit;
-        let stopped = match proc {
-            Proc::Nine => take_stretch(
-                &mut self.machine,
-                &mut self.stopped,
-                Proc::Nine,
-                until,
-                limit,
-            ),
-            Proc::Seven => take_stretch(
-                &mut self.machine,
-                &mut self.stopped,
-                Proc::Seven,
-                until,
-                limit,
-            ),
-        };
-        if stopped {
+        if take_stretch_of(&mut self.machine, &mut self.stopped, first, until) {
             self.open_until = 0;
             return true;
         }

@@ -10,17 +10,18 @@ ghost use Rattle.ds_machine.specs.TurnSteps.{BelongsToTurn, TakesSteps};
 ghost use Rattle.run_ahead.specs.Inside.{HasProcessor, TookSlowly, TookStretch, TookTurn};
 
 use ds_base::{Due, LeftOut, Proc, Tick};
-use ds_machine::{Done, Machine, rank_of};
+use ds_machine::{Done, First, Machine, rank_of};
+use ds_runs::Actor;
 
 /// The processor of a rank, where it is one's.
 fn processor_of(rank: u8) -> Option<Proc>
     requires { rank < 24 }
     ensures { HasProcessor rank result }
 {
-    if rank < 22 {
-        return None;
+    match Actor::of(rank) {
+        Actor::Processor(proc) => Some(proc),
+        _ => None,
     }
-    Some(if rank == 22 { Proc::Nine } else { Proc::Seven })
 }
 
 /// What came of a step of a processor's turn that isn't known to be of the fast path.
@@ -99,6 +100,29 @@ pub fn take_stretch(
             Some(next) => limit = next,
             None => return end_slowly(machine, stop, proc, until),
         }
+    }
+}
+
+/// Takes the steps of a turn whose first tick past it is known: two copies of the loop over steps, one for each processor.
+#[inline(always)]
+pub fn take_stretch_of(
+    machine: &mut Machine,
+    stop: &mut Option<LeftOut>,
+    first: First,
+    until: Tick,
+) -> bool
+    requires early { until.0 ≤ 2 ^ 56 }
+    requires going { IsRunning last_limit machine.old }
+    requires limit { HasLimit until.0 machine.old first.proc first.limit }
+    requires running { stop.old ≡ None }
+    ensures took { TookStretch until.0 first.proc machine.old stop.new machine.new }
+    ensures goes { result ≡ false → stop.new ≡ None }
+    ensures stops { result ≡ true → (left : LeftOut) × (stop.new ≡ Some left) }
+{
+    let limit = first.limit;
+    match first.proc {
+        Proc::Nine => take_stretch(machine, stop, Proc::Nine, until, limit),
+        Proc::Seven => take_stretch(machine, stop, Proc::Seven, until, limit),
     }
 }
 

@@ -1,0 +1,18 @@
+use Rattle.std.proofs.Common.{◌≡◌, inl, inr, sym, ◌∙◌, ap}
+use Rattle.ds_base.specs.declared.processors.Proc.TheVariants.{Nine, Seven}
+use Rattle.ds_runs.specs.Actors.{actor_of}
+use Rattle.ds_machine.proofs.DueTicks.{sort_rank}
+use Rattle.ds_machine.proofs.Ranks.{processor_ranked}
+use Rattle.run_ahead.proofs.machine_turns.processor_of.Goals as goal
+
+pub returns-in-Processor : goal.returns-in-Processor
+returns-in-Processor c = processor_ranked c.in-Processor.proc c.args.rank c.requires (sym c.in-Processor.ensures.actor)
+
+pub returns-in_default : goal.returns-in_default
+returns-in_default c = elim (sort_rank c.args.rank c.requires) [
+  | inl event ↦ event
+  | inr last ↦ elim last [
+    | inl is ↦ absurd (c.in_default.not-Processor Nine (c.of.ensures.actor ∙ ap actor_of is))
+    | inr is ↦ absurd (c.in_default.not-Processor Seven (c.of.ensures.actor ∙ ap actor_of is))
+  ]
+]

@@ -17,7 +17,7 @@ abbrev pub AreIn : PartSet → List MachinePart → Type 0
 AreIn P [] = Unit {0}
 AreIn P (part ∷ rest) = (P.rest part ≡ true) × AreIn P rest
 
-picked : {A : Type 0} (b : Bool) (x y : A) → b ≡ true → pick b x y ≡ x
+pub picked : {A : Type 0} (b : Bool) (x y : A) → b ≡ true → pick b x y ≡ x
 picked true x y h = refl
 picked false x y h = absurd (true≢false (sym h))
 

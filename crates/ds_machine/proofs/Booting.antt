@@ -1,4 +1,4 @@
-use Rattle.std.proofs.Common.{ℕ, ◌≡◌, ◌≤◌, ◌+◌, inl, inr, false, true, List, ◌∷◌, length, take, refl, ◌∙◌, ap, arith, []}
+use Rattle.std.proofs.Common.{ℕ, ◌≡◌, ◌≤◌, ◌+◌, inl, inr, false, true, List, ◌∷◌, length, take, refl, sym, ◌∙◌, ap, arith, []}
 use Rattle.std.specs.Prelude.{◌&&◌}
 use Rattle.ds_base.specs.declared.keys.KeyLine.{KeyLine}
 use Rattle.ds_base.specs.declared.memories.Width.TheVariants.{Byte}
@@ -11,11 +11,11 @@ use Rattle.ds_base.specs.declared.ticks.Tick.{Tick}
 use Rattle.ds_ports.specs.Io.{IoState, io_at_boot, io_of, is_settled}
 use Rattle.ds_timers.specs.Irqs.{shares_bit}
 use Rattle.gx_geometry.specs.Numbers.{numbers_at_boot}
-use Rattle.ds_machine.specs.Booted.{header_bytes, header_place, machine_blank, machine_booted, with_image}
+use Rattle.ds_machine.specs.Booted.{header_bytes, header_place, machine_blank, machine_booted, with_header, with_image}
 use Rattle.ds_machine.specs.Boots.{copied, stored}
 use Rattle.ds_machine.specs.Sound.{AreAsleep, HasSoundParts, IsSound}
 use Rattle.ds_machine.specs.Counting.{IsRunning, run_of}
-use Rattle.ds_machine.specs.States.{MachineState, ProcessorState, counts_of}
+use Rattle.ds_machine.specs.States.{MachineState, ProcessorState, counts_of, with_file}
 use Rattle.ds_machine.specs.Steps.{map_of, processor_of}
 use Rattle.ds_machine.proofs.RamAccesses.{ram_write_io}
 use Rattle.ds_machine.proofs.Running.{starts_running}
@@ -25,10 +25,11 @@ use Rattle.ds_machine.proofs.Running.{starts_running}
 abbrev start : Tick
 start = record { 0 = 0 }
 
--- the key script, the processors' numbers and the count of events stay
+-- the key script, the processors' numbers, the count of events and the file stay
 record Stays (s next : MachineState) : Type 0 where
   keys : next.keys ≡ s.keys
   events : next.events ≡ s.events
+  file : next.file ≡ s.file
   nine : next.nine.processor ≡ s.nine.processor
   seven : next.seven.processor ≡ s.seven.processor
 
@@ -36,15 +37,30 @@ then_stays : (a b c : MachineState) → Stays a b → Stays b c → Stays a c
 then_stays a b c one two = record {
   keys = two.keys ∙ one.keys;
   events = two.events ∙ one.events;
+  file = two.file ∙ one.file;
   nine = two.nine ∙ one.nine;
   seven = two.seven ∙ one.seven;
 }
 
 copied_stays : (proc : Proc) (s : MachineState) (at : ℕ) (bytes : List ℕ) → Stays s (copied proc s at bytes)
-copied_stays proc s at [] = record { keys = refl; events = refl; nine = refl; seven = refl }
+copied_stays proc s at [] = record { keys = refl; events = refl; file = refl; nine = refl; seven = refl }
 copied_stays proc s at (byte ∷ rest) =
     let next = stored proc s at byte in
-    then_stays s next (copied proc next (at + 1) rest) (record { keys = refl; events = refl; nine = refl; seven = refl }) (copied_stays proc next (at + 1) rest)
+    then_stays s next (copied proc next (at + 1) rest) (record { keys = refl; events = refl; file = refl; nine = refl; seven = refl }) (copied_stays proc next (at + 1) rest)
+
+-- the file stands beside what is copied
+copied_put : (file : List ℕ) (proc : Proc) (s : MachineState) (at : ℕ) (bytes : List ℕ) → copied proc (with_file file s) at bytes ≡ with_file file (copied proc s at bytes)
+copied_put file proc s at [] = refl
+copied_put file proc s at (byte ∷ rest) = copied_put file proc (stored proc s at byte) (at + 1) rest
+
+pub booted_put : (file : List ℕ) (keys : List KeyLine) (s : MachineState) → with_file file s ≡ machine_blank file keys
+    → with_file file (with_header (with_image Seven (with_image Nine s file) file) file) ≡ machine_booted file keys
+booted_put file keys s blank =
+    let nine = with_image Nine s file in
+    sym (copied_put file Nine (with_image Seven nine file) header_place (take header_bytes file))
+    ∙ ap (λ (m : MachineState). with_header m file) (sym (copied_put file Seven nine (image_place file Seven) (image_of file Seven))
+    ∙ ap (λ (m : MachineState). with_image Seven m file) (sym (copied_put file Nine s (image_place file Nine) (image_of file Nine))
+    ∙ ap (λ (m : MachineState). with_image Nine m file) blank))
 
 booted_stays : (file : List ℕ) (keys : List KeyLine) → Stays (machine_blank file keys) (machine_booted file keys)
 booted_stays file keys =

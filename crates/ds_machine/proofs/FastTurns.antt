@@ -6,7 +6,7 @@ use Rattle.ds_ipc.specs.Ipcs.{other_proc}
 use Rattle.ds_ports.specs.Happenings.{IsIo}
 use Rattle.ds_runs.specs.Runs.{IsLeast}
 use Rattle.ds_machine.specs.Acting.{acting_dues}
-use Rattle.ds_machine.specs.Counting.{IsRunning, last_limit}
+use Rattle.ds_machine.specs.Counting.{RunsWithSome}
 use Rattle.ds_machine.specs.NextEvents.{GoesFast, IsNextEvent, TookStep, due_at_least, least_kept, past_other, waits_until}
 use Rattle.ds_machine.specs.Private.{IsAhead, rank_of}
 use Rattle.ds_machine.specs.States.{MachineState}
@@ -15,6 +15,7 @@ use Rattle.ds_machine.specs.Touching.{DataStaysNear}
 use Rattle.ds_machine.specs.TurnSteps.{BelongsToTurn, HasLimit, TakesSteps, more_steps, no_steps}
 use Rattle.ds_machine.specs.declared.next_events.NextEvent.{NextEvent}
 use Rattle.ds_machine.proofs.FastSteps.{cost_keeps, free_stays, made_fast, reach_keeps}
+use Rattle.ds_machine.proofs.Files.{some_sound}
 use Rattle.ds_machine.proofs.GoingSteps.{IsDueAt, below_limit, below_when, due_when, free_here, least_when, leaves_when, limit_here, limit_so, needs_none, other_stays, over_when, past_limit, took_when, waits_for}
 use Rattle.ds_machine.proofs.NearUnobserved.{near_unobserved}
 use Rattle.ds_machine.proofs.Wakes.{put_beside}
@@ -64,7 +65,7 @@ module _ (next_event : NextEvent) (s : MachineState) (proc : Proc) (until limit 
       let tick : Tick = record { 0 = n } in
       let d = is_due lt in
       let kept = reach_keeps next_event s m proc tick goes.kept machine io in
-      let sound = subst IsIo (sym io) goes.running.sound.parts.io in
+      let sound = subst IsIo (sym io) (some_sound s goes.running).parts.io in
       let made = made_fast next_event s m next (rank_of proc) proc tick clocks sound kept goes.some (free_stays proc s m io d.free) d.own machine
       (sym stepped) e in
       let units : next.io ≡ s.io = ap (λ (x : MachineState). x.io) e ∙ (put_beside proc m (went_on proc clocks false (processor_of m proc))).io ∙ io in
@@ -80,7 +81,7 @@ pub record Goes (until : ℕ) (proc : Proc) (next_event : NextEvent) (limit : �
   pub io : now.io ≡ start.io
 
 pub goes_first : (until : ℕ) (proc : Proc) (next_event : NextEvent) (limit : ℕ) (s : MachineState) → IsNextEvent next_event s → 0 < next_event.events_until.0
-    → until ≤ 2 ^ 56 → IsRunning last_limit s → HasLimit until s proc limit → Goes until proc next_event limit s s
+    → until ≤ 2 ^ 56 → RunsWithSome s → HasLimit until s proc limit → Goes until proc next_event limit s s
 goes_first until proc next_event limit s kept some early running has = record {
   steps = no_steps s;
   goes = record {

@@ -23,7 +23,7 @@ use Rattle.ds_machine.specs.TurnSteps.{BelongsToTurn, ComesFirst, HasLimit, MayS
 use Rattle.ds_machine.specs.Hearing.{Fences, geometry_rank}
 use Rattle.ds_machine.specs.Reference.{awake, due_unless, processor_due, step_by}
 use Rattle.ds_machine.specs.StepAnswers.{stepped_of}
-use Rattle.ds_machine.specs.Counting.{IsRunning, last_limit}
+use Rattle.ds_machine.specs.Counting.{RunsWithSome}
 use Rattle.ds_machine.specs.States.{MachineState, ProcessorState}
 use Rattle.ds_machine.specs.Statuses.{HasBothStatuses}
 use Rattle.ds_machine.specs.PrivateSides.{nine_side, seven_side}
@@ -35,11 +35,11 @@ use Rattle.ds_machine.proofs.ActingDues.{acting_low, acting_processor, acting_sp
 use Rattle.ds_machine.proofs.DueTicks.{own_tick, rank_there, sort_rank, steps_as}
 use Rattle.ds_machine.proofs.DecodedStays.{fetch_by_words}
 use Rattle.ds_machine.proofs.FastSteps.{ComesBefore, due_there, event_there, in_front, kept_is, processor_least, wait_ends, wait_is}
+use Rattle.ds_machine.proofs.Files.{some_after, some_sound}
 use Rattle.ds_machine.proofs.OwnRemaining.{turn_steps_fall}
 use Rattle.ds_machine.proofs.PlacesByWords.{nine_by_words, seven_by_words}
 use Rattle.ds_machine.proofs.PrivatePlaces.{private_itself}
 use Rattle.ds_machine.proofs.PrivateTests.{fetch_of_stays}
-use Rattle.ds_machine.proofs.Running.{steps_keep_running}
 use Rattle.ds_machine.proofs.Statuses.{statuses_done}
 
 -- The steps of a processor's turn, by what is kept.
@@ -417,7 +417,7 @@ apart_may s proc n d early goes apart = record {
   ];
 }
 
-pub took_when : (next_event : NextEvent) (s next : MachineState) (proc : Proc) (n until : ℕ) → IsRunning last_limit s → IsDueAt s proc n → n < until → until ≤ 2 ^ 56
+pub took_when : (next_event : NextEvent) (s next : MachineState) (proc : Proc) (n until : ℕ) → RunsWithSome s → IsDueAt s proc n → n < until → until ≤ 2 ^ 56
     → IsLeast (acting_dues s) (record { 0 = n }) (rank_of proc) ⊎ IsAhead s proc → observes_by (Processor proc) s ≡ false
     → awake (Some (record { 0 = n })) (step_by (rank_of proc) (Processor proc) s) ≡ stepped_of s answers.Made next → next.io ≡ s.io
     → (processor_of next (other_proc proc)).due ≡ (processor_of s (other_proc proc)).due → TookStep until proc s next
@@ -428,8 +428,8 @@ took_when next_event s next proc n until running d lt early goes apart made io o
       belongs = b;
       unobserving = apart;
       made = step;
-      running = steps_keep_running last_limit (rank_of proc) s next [] running (apart_may s proc n d (omega (arith, lt, early)) goes apart) (omega (arith, lt, early)) step;
-      fewer = turn_steps_fall until s s next proc [] running.sound b (needs_none s proc apart) step;
+      running = some_after (rank_of proc) s next [] running (apart_may s proc n d (omega (arith, lt, early)) goes apart) step;
+      fewer = turn_steps_fall until s s next proc [] (some_sound s running) b (needs_none s proc apart) step;
       io = io;
       other = other;
     }

@@ -11,6 +11,7 @@ pub mod DueTicks
 pub mod ActingDues
 pub mod Frames
 pub mod FewFrames
+pub mod Files
 pub mod Keeps
 pub mod Commutes
 pub mod MachineSchedule

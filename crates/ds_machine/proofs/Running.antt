@@ -16,14 +16,14 @@ use Rattle.ds_runs.proofs.Lasts.{last_after, last_ahead, last_lags}
 use Rattle.ds_runs.proofs.Lists.{at_rank, is_later, least_unique}
 use Rattle.ds_runs.proofs.RunExists.{least_is, place_rises, run_exists}
 use Rattle.ds_runs.proofs.RunLaws.{same_makes}
-use Rattle.ds_machine.specs.Counting.{CountsAddUp, EndsWithin, HasShortRun, IsRunning, LimitsRise, RunsAfter, StartsRunning, StepsCount, StepsKeepRunning, StopsCountNone, last_limit, run_of}
+use Rattle.ds_machine.specs.Counting.{CountsAddUp, EndsWithin, HasShortRun, IsRunning, LimitsRise, RunsAfter, RunsWithSome, StartsRunning, StepsCount, StepsKeepRunning, StopsCountNone, last_limit, run_of}
 use Rattle.ds_machine.specs.Lagging.{CatchesUpFor, ComesBeforeAll, StepsBeforeGeometry, TakesGeometry}
 use Rattle.ds_machine.specs.Lagging as lagging
 use Rattle.ds_machine.specs.Private.{IsAhead, RunsAhead, rank_of}
 use Rattle.ds_machine.specs.Reference.{Shown, dues_of, next_shown, processor_due, reference, reference_step}
 use Rattle.ds_machine.specs.Sound.{HasSoundParts, IsSound}
 use Rattle.ds_machine.specs.StepAnswers.{stepped_of}
-use Rattle.ds_machine.specs.States.{MachineState, counts_of}
+use Rattle.ds_machine.specs.States.{MachineState, counts_of, with_file}
 use Rattle.ds_machine.specs.Steps.{processor_of, tick_of}
 use Rattle.ds_machine.specs.TurnSteps.{MayAct, MayStep, own_remaining, ticks_left}
 use Rattle.ds_machine.specs.declared.answers.Done as answer
@@ -63,14 +63,14 @@ counts_add_up limit s running =
     omega (arith, grow, few)
 
 -- before a step they fit the code
-pub few_counts : (s : MachineState) → IsRunning last_limit s → counts_of s ≤ 2 ^ 61
-few_counts s running = (let few = counts_add_up last_limit s running in omega (arith, few))
+pub few_counts : (s : MachineState) → RunsWithSome s → counts_of s ≤ 2 ^ 61
+few_counts s running = (let few : counts_of s ≤ 24 * last_limit = counts_add_up last_limit (with_file running.0 s) running.1 in omega (arith, few))
 
-pub few_steps : (proc : Proc) (s : MachineState) → IsRunning last_limit s → (processor_of s proc).steps ≤ 2 ^ 61
+pub few_steps : (proc : Proc) (s : MachineState) → RunsWithSome s → (processor_of s proc).steps ≤ 2 ^ 61
 few_steps Nine s running = (let few = few_counts s running in omega (arith, few))
 few_steps Seven s running = (let few = few_counts s running in omega (arith, few))
 
-pub few_events : (s : MachineState) → IsRunning last_limit s → s.events ≤ 2 ^ 61
+pub few_events : (s : MachineState) → RunsWithSome s → s.events ≤ 2 ^ 61
 few_events s running = (let few = few_counts s running in omega (arith, few))
 
 pub limits_rise : LimitsRise
@@ -267,9 +267,9 @@ runs_after s next rank (answers.Frame swapped) running may h =
 runs_after s next rank (answers.Stopped left) running may h = tt
 
 -- where geometry steps the current run has room in the code
-pub may_fit_run : (s : MachineState) (rank : ℕ) (a : actor.Actor) → MayStep s rank → IsRunning last_limit s → actor_of rank ≡ a → a ≡ Geometry → run_of s ≤ 2 ^ 56
+pub may_fit_run : (s : MachineState) (rank : ℕ) (a : actor.Actor) → MayStep s rank → RunsWithSome s → actor_of rank ≡ a → a ≡ Geometry → run_of s ≤ 2 ^ 56
 may_fit_run s rank a may running is e =
-    let few = running.run.own may.tick (due_of_may s rank Geometry may (is ∙ e)) in
+    let few : run_of s ≤ may.tick.0 = running.1.run.own may.tick (due_of_may s rank Geometry may (is ∙ e)) in
     let early = may.early in
     omega (arith, few, early)
 

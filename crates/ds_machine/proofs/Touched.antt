@@ -46,7 +46,7 @@ use Rattle.ds_machine.specs.Reference.{Shown, after_line, shown_at, step_by, swa
 use Rattle.ds_machine.specs.States.{MachineState}
 use Rattle.ds_machine.specs.Statuses.{left_by}
 use Rattle.ds_machine.specs.Steps.{line_of, machine_concluded, map_of, outcome_of, seven_reach, tick_of, with_io, with_map, with_seven}
-use Rattle.ds_machine.specs.Touched.{ByteSet, EachTouches, EveryByte, GeometryDelays, IsAsLong, NoByte, PartSet, RegistersNine, DueNine, StepsNine, RegistersSeven, DueSeven, StepsSeven, Cp15, Itcm, Dtcm, OwnRam, MainRam, PaletteRam, OamRam, KeyLines, Events, BytesWhere, bytes_from, machine_graft, seven_changes, seven_shows, step_with, unchanged_by, untouched_by}
+use Rattle.ds_machine.specs.Touched.{ByteSet, EachTouches, EveryByte, GeometryDelays, IsAsLong, NoByte, PartSet, RegistersNine, DueNine, StepsNine, RegistersSeven, DueSeven, StepsSeven, Cp15, Itcm, Dtcm, OwnRam, MainRam, PaletteRam, OamRam, KeyLines, Events, CartFile, BytesWhere, bytes_from, machine_graft, seven_changes, seven_shows, step_with, unchanged_by, untouched_by}
 use Rattle.ds_machine.proofs.Commutes.{Commutes, taken_commutes, word_commutes}
 use Rattle.ds_machine.proofs.OwnShares.{is_shared_so, put_own_of, seven_channel, seven_steps}
 
@@ -90,6 +90,7 @@ graft_same P s = λ i. record {
   io = (let u : IoState = same units P.units s.io i in record u { vram = record u.vram { bytes = bytes_same P.vram s.io.vram.bytes i } });
   keys = pick_same (P.rest KeyLines) s.keys i;
   events = pick_same (P.rest Events) s.events i;
+  file = pick_same (P.rest CartFile) s.file i;
 }
 
 step_ext : (f g : MachineState → MachineState) (came : Step) → f (left_by came) ≡ g (left_by came) → step_with f came ≡ step_with g came
@@ -281,7 +282,7 @@ module _ (t : MachineState) where
 
   -- ARM7's step
   abbrev beside : MachineState → MachineState
-  beside m = record m { io = other_units m.io; keys = t.keys; events = t.events }
+  beside m = record m { io = other_units m.io; keys = t.keys; events = t.events; file = t.file }
 
   beside_concluded : (rank : ℕ) (m : MachineState) (came : arm.Stepped)
       → (let step : Step = machine_concluded rank Seven (beside m) came in step) ≡ step_with beside (machine_concluded rank Seven m came)
@@ -306,6 +307,7 @@ module _ (t : MachineState) where
     seven = record m.seven { processor = record m.seven.processor { registers = t.seven.processor.registers; steps = t.seven.processor.steps } };
     io = other_units m.io;
     keys = t.keys;
+    file = t.file;
   }
 
   beside_moved : (rank : ℕ) (now : Tick) (refused : Option Stop) (m : MachineState)

@@ -50,6 +50,7 @@ machine_blank file keys = record {
   io = io_at_boot;
   keys = keys;
   events = 0;
+  file = file;
 }
 
 -- the boot state: ARM9's image is copied first, then ARM7's, then the header

@@ -27,8 +27,8 @@ pub record SevenState : Type 0 where
   pub wram : List ℕ
 
 -- the whole machine; main memory and shared work RAM, which both processors reach; palettes and OAM, which ARM9 and its DMA channels alone reach; the
--- units behind the ports, among them video memory, the display and the geometry engine; `keys` are the lines of the key script that are to come, and
--- `events` counts the steps of all actors but the processors
+-- units behind the ports, among them video memory, the display and the geometry engine; `keys` are the lines of the key script that are to come,
+-- `events` counts the steps of all actors but the processors, and `file` is the cartridge's, of which no step changes a byte
 pub record MachineState : Type 0 where
   pub nine : NineState
   pub seven : SevenState
@@ -39,6 +39,12 @@ pub record MachineState : Type 0 where
   pub io : IoState
   pub keys : List KeyLine
   pub events : ℕ
+  pub file : List ℕ
+
+-- The machine with a cartridge's file. A machine holds none by itself, and who lets it step hands in the cartridge: its state is read together with
+-- that file
+abbrev pub with_file : List ℕ → MachineState → MachineState
+with_file file s = record s { file = file }
 
 -- all steps that the machine took
 abbrev pub counts_of : MachineState → ℕ

@@ -10,7 +10,7 @@ use Rattle.ds_ports.specs.Io.{IoState}
 use Rattle.ds_ports.specs.Touches as parts
 use Rattle.ds_ports.specs.Touches.{UnitPart, Display, VideoMemory, BankControls, WramControl, IpcNine, IpcSeven, Pressed, Fill, Division, Released, IrqNine, IrqSeven, TimersNine, TimersSeven, KeycntNine, KeycntSeven, HaltNine, HaltSeven, DmaNine, DmaSeven, beyond, io_graft, irq_of, timers_of}
 use Rattle.vram_banks.specs.Mixes.{mixed}
-use Rattle.ds_machine.specs.Reference.{Shown, past_stall, step_by}
+use Rattle.ds_machine.specs.Reference.{Shown, past_stall, reference_step, step_by}
 use Rattle.ds_machine.specs.States.{MachineState}
 use Rattle.ds_machine.specs.Statuses.{left_by}
 
@@ -36,9 +36,10 @@ pub data MachinePart : Type 0 where
   MainRam : MachinePart
   PaletteRam : MachinePart
   OamRam : MachinePart
-  -- the lines of the key script that are to come; the count of events
+  -- the lines of the key script that are to come; the count of events; the cartridge's file
   KeyLines : MachinePart
   Events : MachinePart
+  CartFile : MachinePart
 
 -- one part is another
 abbrev pub is_machine_part : MachinePart → MachinePart → Bool
@@ -57,6 +58,7 @@ is_machine_part PaletteRam PaletteRam = true
 is_machine_part OamRam OamRam = true
 is_machine_part KeyLines KeyLines = true
 is_machine_part Events Events = true
+is_machine_part CartFile CartFile = true
 is_machine_part _ _ = false
 
 -- in none of a list
@@ -199,6 +201,7 @@ machine_graft P t s = record {
   io = with_video_bytes (bytes_from P.vram t.io.vram.bytes s.io.vram.bytes) (io_graft P.units t.io s.io);
   keys = pick (P.rest KeyLines) t.keys s.keys;
   events = pick (P.rest Events) t.events s.events;
+  file = pick (P.rest CartFile) t.file s.file;
 }
 
 -- what a step comes to, on machines that are changed so
@@ -222,6 +225,10 @@ pub record TouchesAsTold (rank : ℕ) (a : actor.Actor) (s : MachineState) : Typ
 
 abbrev pub EachTouches : Type 0
 EachTouches = (rank : ℕ) (a : actor.Actor) (s : MachineState) → TouchesAsTold rank a s
+
+-- the cartridge's file is the same after every step, settling and waking among it
+abbrev pub StepsKeepFile : Type 0
+StepsKeepFile = (rank : ℕ) (s : MachineState) → (left_by (reference_step rank s)).file ≡ s.file
 
 -- geometry changes the tick at which ARM9 is due: it is past the end of a stall, whatever it was, and all else comes to the same
 abbrev pub with_nine_due : ℕ → MachineState → MachineState

@@ -7,7 +7,7 @@ ghost use Rattle.ds_machine.specs.Lagging.{CatchingUpRuns, LagRuns, LagStops};
 ghost use Rattle.ds_machine.specs.OwnSteps.{IsStep7, IsStep9};
 ghost use Rattle.ds_machine.specs.Private.{AheadRuns, AheadSteps};
 ghost use Rattle.ds_machine.specs.TurnSteps.{ActingMayStep, ActingRuns, ActingStops, TurnStepsFall};
-ghost use Rattle.ds_machine.specs.Touched.{EachTouches, GeometryDelays};
+ghost use Rattle.ds_machine.specs.Touched.{EachTouches, GeometryDelays, StepsKeepFile};
 ghost use Rattle.ds_machine.specs.Reference.{reference};
 ghost use Rattle.ds_machine.specs.Sound.{HasSoundParts};
 ghost use Rattle.ds_machine.specs.Counting.{CountsAddUp, LimitsRise, StartsRunning, StepsCount, StepsKeepRunning, StopsCountNone};
@@ -27,11 +27,13 @@ pub fn reference_laws()
 /// one it comes to the same and leaves what it left, with those; and it leaves all parts but those that its row of changes has. So no step changes a
 /// processor's own part or depends on it but that processor's and those of its DMA channels, the display reads palettes and OAM alone of ARM9's, and
 /// ARM7 and its channels never change the bytes of shared work RAM and of video memory that ARM9 alone reaches, or how those are shared out.
-/// `geometry` says what geometry makes of the tick at which ARM9 is due, whatever it was.
+/// `geometry` says what geometry makes of the tick at which ARM9 is due, whatever it was. `file` says that no step changes the cartridge's file, so
+/// that a run is of one cartridge.
 #[tactic(auto, using(crate::proofs::Touched::geometry_delays))]
 pub fn touch_laws()
     ensures actors { EachTouches }
     ensures geometry { GeometryDelays }
+    ensures file { StepsKeepFile }
 {}
 
 /// Does nothing; its contract states that a processor's step is that of the processor's own crate: ARM9's that of `step9`, with CP15 in what it

@@ -20,7 +20,8 @@
 //!   cost in ticks. Geometry's step is its head command; where that ends a stall ARM9, unless it is halted, is due after its tick at the
 //!   earliest (`after_geometry`). While a processor is halted the tick of its next step is 0 (`went_on`, `past_tick`). The display's step
 //!   is its event with palettes and OAM (`video_step`): where it makes a frame whole it swaps geometry lists that wait, and puts out the
-//!   frame, whether a swap waited, and the lists of the last swap.
+//!   frame, whether a swap waited, and the lists of the last swap. The state is read with the file of the cartridge that is handed in
+//!   (`with_file`), before the step and after it, and no step changes that file (`touch_laws`, clause `file`).
 //!
 //! Proved of turns:
 //! - `touches` is Yes exactly where a processor's next step may be taken before its turn, but for when it is due (`IsPrivate`): it is due,

@@ -19,7 +19,8 @@ ghost use Rattle.ds_machine.specs.declared.answers.Private.TheVariants.{Yes};
 ghost use Rattle.ds_machine.specs.Reference.{dues_of};
 ghost use Rattle.ds_machine.specs.Sound.{HasSoundParts};
 ghost use Rattle.ds_machine.specs.StepAnswers.{IsDue, Steps};
-ghost use Rattle.ds_machine.specs.Counting.{last_limit, IsRunning, RunsAfter};
+ghost use Rattle.ds_machine.specs.Counting.{last_limit, IsRunning, RunsAfter, RunsOnWithEach, RunsWithSome};
+ghost use Rattle.ds_machine.specs.States.{with_file};
 ghost use Rattle.ds_machine.specs.Statuses.{HasBothStatuses};
 ghost use Rattle.ds_machine.specs.Steps.{processor_of, tick_of};
 
@@ -35,7 +36,8 @@ use gx_geometry::Lists;
 use std::alloc::{AllocError, Global};
 use std::marker::Model;
 
-/// The whole console but for its outside: memories, processors, units.
+/// The whole console but for its outside: memories, processors, units. The cartridge isn't of it: `step` is handed it, and the state that contracts
+/// see has an empty file.
 #[derive(Drop)]
 pub struct Machine {
     parts: Parts,
@@ -60,9 +62,9 @@ impl Machine {
     /// both processors are due at once. The images go to RAM, and leave the units behind the ports as they are at boot. No step was taken, so that
     /// none stopped it. All memory of a run is taken here.
     pub fn new(alloc: Global, cart: &Cart, keys: Keys) -> Result<Machine, AllocError>
-        ensures booted { IfOk result (λ machine. machine ≡ machine_booted cart.now keys) }
+        ensures booted { IfOk result (λ machine. with_file cart.now machine ≡ machine_booted cart.now keys) }
         ensures units { IfOk result (λ machine. machine.io ≡ io_at_boot) }
-        ensures running { IfOk result (IsRunning 0) }
+        ensures running { IfOk result (λ machine. IsRunning 0 (with_file cart.now machine)) }
     {
         let parts = Parts::new(alloc, cart, keys)?;
         parts.laws();
@@ -98,14 +100,16 @@ impl Machine {
     /// before it; or of a processor that may step before its turn. Then the geometry FIFO's interrupt is told as it is and DMA is triggered that
     /// waits for it, and halted processors wake whose IE and IF share a bit. A step that needs what is left out stops; the accesses before the
     /// refused one stand, and registers and due ticks are as they were. After such a step no other may be taken: `running` says that the last one
-    /// didn't stop. It is so at boot, and after each step that is taken.
+    /// didn't stop. It is so at boot, and after each step that is taken. The machine is read together with the cartridge's file, before the step and
+    /// after it; a machine's own state holds none.
     #[inline(always)]
-    pub fn step(&mut self, rank: u8) -> Done
-        requires running { IsRunning last_limit self.old }
+    pub fn step(&mut self, cart: &Cart, rank: u8) -> Done
+        requires running { IsRunning last_limit (with_file cart.now self.old) }
         requires may { MayStep self.old rank }
-        ensures step { Steps rank self.old result self.new }
-        ensures running { RunsAfter result self.new }
+        ensures step { Steps rank (with_file cart.now self.old) result (with_file cart.now self.new) }
+        ensures running { RunsAfter result (with_file cart.now self.new) }
     {
+        let _ = cart;
         let done = self.parts.step_actor(rank);
         let next_event = self.parts.next_event();
         self.next_event = next_event;
@@ -131,7 +135,7 @@ impl Machine {
     /// as it is, and is handed to each step, so that it isn't loaded again after a store.
     #[inline(always)]
     pub fn go_fast(&mut self, proc: Proc, until: Tick, limit: u64) -> bool
-        requires running { IsRunning last_limit self.old }
+        requires running { RunsWithSome self.old }
         requires early { until.0 ≤ 2 ^ 56 }
         requires limit { HasLimit until.0 self.old proc limit }
         ensures steps { TakesSteps until.0 proc self.old self.new }
@@ -223,11 +227,11 @@ impl Machine {
 
     /// On a machine that goes on, takes the steps of quiet geometry that are due before the place of a rank at a tick, before which nobody acts.
     pub fn catch_up(&mut self, tick: Tick, rank: u8)
-        requires running { IsRunning last_limit self.old }
+        requires running { RunsWithSome self.old }
         requires before { ComesBeforeAll tick.0 rank self.old }
         requires early { tick.0 ≤ 2 ^ 56 }
         ensures caught { CatchesUp tick.0 rank self.old self.new }
-        ensures running { IsRunning last_limit self.new }
+        ensures running { RunsOnWithEach self.old self.new }
     {
         if self.parts.is_behind(tick, rank) {
             self.parts.catch_up(tick, rank);
@@ -241,11 +245,11 @@ impl Machine {
     /// may step before its turn.
     #[inline(always)]
     pub fn catch_up_before(&mut self, tick: Tick, rank: u8)
-        requires running { IsRunning last_limit self.old }
+        requires running { RunsWithSome self.old }
         requires early { tick.0 ≤ 2 ^ 56 }
         requires may { MayAct self.old tick rank }
         ensures caught { CatchesUpFor tick.0 rank self.old self.new }
-        ensures running { IsRunning last_limit self.new }
+        ensures running { RunsOnWithEach self.old self.new }
     {
         if self.parts.catch_up_before(tick, rank) {
             let next_event = self.parts.next_event();

@@ -6,6 +6,7 @@ ghost use Rattle.ds_machine.specs.Booted.{machine_blank, machine_booted};
 ghost use Rattle.ds_machine.specs.Inspections.{fetch_of};
 ghost use Rattle.ds_machine.specs.Processors.{state_of};
 ghost use Rattle.ds_machine.specs.Sound.{HasSoundParts};
+ghost use Rattle.ds_machine.specs.States.{with_file};
 ghost use Rattle.ds_machine.specs.Steps.{is_blocked, line_of, processor_of};
 
 use crate::processors::Processor;
@@ -51,7 +52,7 @@ impl Model for Parts {
     ghost use Rattle.ds_base.specs.declared.processors.Arch.TheVariants.{V4, V5};
     ghost use Rattle.ds_machine.specs.Processors.{state_of};
     ghost use Rattle.ds_machine.specs.States.{MachineState};
-    ghost use Rattle.std.specs.Prelude.{◌≡◌};
+    ghost use Rattle.std.specs.Prelude.{◌≡◌, []};
 
     ghost Value = { MachineState };
 
@@ -70,6 +71,7 @@ impl Model for Parts {
       io = m.io;
       keys = m.script;
       events = m.events;
+      file = [];
     } };
 
     ghost invariant = { λ m. (m.nine.processor.core.arch ≡ V5) × (m.seven.processor.core.arch ≡ V4) };
@@ -78,7 +80,7 @@ impl Model for Parts {
 impl Parts {
     /// The parts at boot.
     pub fn new(alloc: Global, cart: &Cart, keys: Keys) -> Result<Parts, AllocError>
-        ensures booted { IfOk result (λ parts. parts ≡ machine_booted cart.now keys) }
+        ensures booted { IfOk result (λ parts. with_file cart.now parts ≡ machine_booted cart.now keys) }
         ensures units { IfOk result (λ parts. parts.io ≡ io_at_boot) }
     {
         let mut parts = Parts::blank(alloc, cart, keys)?;
@@ -90,7 +92,7 @@ impl Parts {
 
     /// The parts before anything is copied.
     fn blank(alloc: Global, cart: &Cart, keys: Keys) -> Result<Parts, AllocError>
-        ensures { IfOk result (λ parts. parts ≡ machine_blank cart.now keys) }
+        ensures { IfOk result (λ parts. with_file cart.now parts ≡ machine_blank cart.now keys) }
     {
         Ok(Parts {
             nine: Nine {

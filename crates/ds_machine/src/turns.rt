@@ -10,7 +10,7 @@ ghost use Rattle.ds_machine.specs.GuardedSteps.{IsFreeFor};
 ghost use Rattle.ds_machine.specs.Processors.{stop_in};
 ghost use Rattle.ds_machine.specs.Reference.{awake, due_by, step_by};
 ghost use Rattle.ds_machine.specs.StepAnswers.{stepped_of, Steps};
-ghost use Rattle.ds_machine.specs.Counting.{last_limit, IsRunning};
+ghost use Rattle.ds_machine.specs.Counting.{RunsWithSome};
 ghost use Rattle.ds_machine.specs.Touching.{DataStaysNear, DataStaysPrivate};
 ghost use Rattle.ds_machine.specs.Steps.{machine_concluded, goes_on, gone_by, is_halted, line_of, outcome_of, processor_of, wakes, went_on, with_processor, woken, woken_one, ended};
 
@@ -28,7 +28,7 @@ impl Parts {
     #[inline(always)]
     pub fn step_actor(&mut self, rank: u8) -> Done
         requires may { MayStep self.old rank }
-        requires running { IsRunning last_limit self.old }
+        requires running { RunsWithSome self.old }
         ensures { Steps rank self.old result self.new }
     {
         let actor = Actor::of(rank);

@@ -1,3 +1,4 @@
+pub mod LoadedMachine
 pub mod RunningOn
 pub mod StepTurns
 pub mod Stretches

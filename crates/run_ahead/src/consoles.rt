@@ -16,11 +16,12 @@ ghost use Rattle.run_ahead.specs.Turns.{Turns, TurnsUpTo, RunsOn, HasRuns, turns
 ghost use Rattle.ds_base.specs.declared.left_out.LeftOut.{LeftOut};
 ghost use Rattle.run_ahead.specs.declared.turns.Turned.TheVariants.{Ran, Stopped};
 
+use crate::loaded::Loaded;
 use crate::machine_turns::{take_stretch_of, take_turn};
 use crate::turns::Turned;
 use ds_base::{Due, Keys, LeftOut, Memory, Proc, Tick};
 use ds_header::Cart;
-use ds_machine::{Done, First, Machine, Seen};
+use ds_machine::{Done, First, Seen};
 use gx_geometry::Lists;
 use std::alloc::{AllocError, Global};
 use std::marker::Model;
@@ -41,7 +42,7 @@ pub struct Counts {
 /// A console. No call but `turn` and `run_on`, which is turns alone, changes it.
 #[derive(Drop)]
 pub struct Console {
-    machine: Machine,
+    machine: Loaded,
     limit: u64,
     stopped: Option<LeftOut>,
     open_until: u64,
@@ -70,7 +71,7 @@ impl Console {
     pub fn new(alloc: Global, cart: Cart, keys: Keys) -> Result<Console, AllocError>
         ensures { IfOk result (λ console. console ≡ record { machine = machine_booted cart keys; limit = 0; stopped = None; turns = 0 }) }
     {
-        let machine = Machine::new(alloc, &cart, keys)?;
+        let machine = Loaded::new(alloc, cart, keys)?;
         Ok(Console {
             machine,
             limit: 0,

@@ -9,8 +9,9 @@ ghost use Rattle.ds_machine.specs.Counting.{last_limit, IsRunning};
 ghost use Rattle.ds_machine.specs.TurnSteps.{BelongsToTurn, TakesSteps};
 ghost use Rattle.run_ahead.specs.Inside.{HasProcessor, TookSlowly, TookStretch, TookTurn};
 
+use crate::loaded::Loaded;
 use ds_base::{Due, LeftOut, Proc, Tick};
-use ds_machine::{Done, First, Machine, rank_of};
+use ds_machine::{Done, First, rank_of};
 use ds_runs::Actor;
 
 /// The processor of a rank, where it is one's.
@@ -40,7 +41,7 @@ pub enum Slow {
 /// be moved at each turn.
 #[inline(never)]
 fn step_slowly(
-    machine: &mut Machine,
+    machine: &mut Loaded,
     stop: &mut Option<LeftOut>,
     proc: Proc,
     until: Tick,
@@ -72,7 +73,7 @@ fn step_slowly(
 /// acting one any more.
 #[inline(always)]
 pub fn take_stretch(
-    machine: &mut Machine,
+    machine: &mut Loaded,
     stop: &mut Option<LeftOut>,
     proc: Proc,
     until: Tick,
@@ -106,7 +107,7 @@ pub fn take_stretch(
 /// Takes the steps of a turn whose first tick past it is known: two copies of the loop over steps, one for each processor.
 #[inline(always)]
 pub fn take_stretch_of(
-    machine: &mut Machine,
+    machine: &mut Loaded,
     stop: &mut Option<LeftOut>,
     first: First,
     until: Tick,
@@ -128,7 +129,7 @@ pub fn take_stretch_of(
 
 /// Takes the rest of a processor's steps that belong to its turn, where it isn't known when it isn't the least acting one any more.
 #[inline(never)]
-fn end_slowly(machine: &mut Machine, stop: &mut Option<LeftOut>, proc: Proc, until: Tick) -> bool
+fn end_slowly(machine: &mut Loaded, stop: &mut Option<LeftOut>, proc: Proc, until: Tick) -> bool
     requires early { until.0 ≤ 2 ^ 56 }
     requires going { IsRunning last_limit machine.old }
     ensures took { TookStretch until.0 proc machine.old stop.new machine.new }
@@ -141,7 +142,7 @@ fn end_slowly(machine: &mut Machine, stop: &mut Option<LeftOut>, proc: Proc, unt
 
 /// The same, where the turn isn't taken at once: the fast path stands elsewhere.
 #[inline(never)]
-fn take_stretch_slowly(machine: &mut Machine, proc: Proc, until: Tick) -> Option<LeftOut>
+fn take_stretch_slowly(machine: &mut Loaded, proc: Proc, until: Tick) -> Option<LeftOut>
     requires early { until.0 ≤ 2 ^ 56 }
     requires going { IsRunning last_limit machine.old }
     ensures { TookStretch until.0 proc machine.old result machine.new }
@@ -157,7 +158,7 @@ fn take_stretch_slowly(machine: &mut Machine, proc: Proc, until: Tick) -> Option
 }
 
 /// Takes an event's step that is the least of those who act; where it observes geometry, geometry catches up before it.
-fn take_event(machine: &mut Machine, acting: Due, until: Tick) -> Done
+fn take_event(machine: &mut Loaded, acting: Due, until: Tick) -> Done
     requires early { until.0 ≤ 2 ^ 56 }
     requires going { IsRunning last_limit machine.old }
     requires acting { IsActing machine.old acting }
@@ -171,7 +172,7 @@ fn take_event(machine: &mut Machine, acting: Due, until: Tick) -> Done
 
 /// Takes a turn of a machine, of which the least actor that acts is given: where it is due below a limit, an event's step, or the steps of a
 /// processor that belong to its turn; where quiet geometry alone is, all its steps below the limit.
-pub fn take_turn(machine: &mut Machine, acting: Due, until: Tick) -> Done
+pub fn take_turn(machine: &mut Loaded, acting: Due, until: Tick) -> Done
     requires early { until.0 ≤ 2 ^ 56 }
     requires going { IsRunning last_limit machine.old }
     requires acting { IsActing machine.old acting }

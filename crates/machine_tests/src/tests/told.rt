@@ -106,32 +106,34 @@ pub fn script(alloc: Global, tick: u64, pressed: u16) -> Result<Keys, AllocError
     Ok(keys)
 }
 
-/// A machine, and whether its last step stopped.
+/// A machine with its cartridge, and whether its last step stopped.
 #[derive(Drop)]
 struct Tested {
     machine: Machine,
+    cart: Cart,
     stopped: bool,
 }
 
 impl Model for Tested {
     ghost use Rattle.std.specs.Prelude.{◌≡◌, false};
     ghost use Rattle.ds_machine.specs.Counting.{last_limit, IsRunning};
-    ghost use Rattle.ds_machine.specs.States.{MachineState};
+    ghost use Rattle.ds_machine.specs.States.{MachineState, with_file};
 
     ghost Value = { MachineState };
 
     ghost view = { λ t. t.machine };
 
-    ghost invariant = { λ t. t.stopped ≡ false → IsRunning last_limit t.machine };
+    ghost invariant = { λ t. t.stopped ≡ false → IsRunning last_limit (with_file t.cart t.machine) };
 }
 
 impl Tested {
     /// A machine at boot.
-    fn new(alloc: Global, cart: &Cart, keys: Keys) -> Result<Tested, AllocError> {
-        let machine = Machine::new(alloc, cart, keys)?;
+    fn new(alloc: Global, cart: Cart, keys: Keys) -> Result<Tested, AllocError> {
+        let machine = Machine::new(alloc, &cart, keys)?;
         running_laws();
         Ok(Tested {
             machine,
+            cart,
             stopped: false,
         })
     }
@@ -142,7 +144,7 @@ impl Tested {
         if self.stopped || due.tick.0 > 0x10_0000 {
             return None;
         }
-        match self.machine.step(due.rank) {
+        match self.machine.step(&self.cart, due.rank) {
             Done::Made => Some(Done::Made),
             Done::Frame { swapped } => Some(Done::Frame { swapped }),
             Done::Stopped(left) => {
@@ -160,7 +162,7 @@ impl Tested {
         }
         acting_laws();
         self.machine.catch_up_before(acting.tick, acting.rank);
-        match self.machine.step(acting.rank) {
+        match self.machine.step(&self.cart, acting.rank) {
             Done::Made => Some(Done::Made),
             Done::Frame { swapped } => Some(Done::Frame { swapped }),
             Done::Stopped(left) => {
@@ -279,7 +281,7 @@ pub fn try_lines(
 ) -> Result<(), AllocError> {
     match Cart::read(file) {
         Ok(cart) => {
-            let mut tested = Tested::new(alloc, &cart, keys)?;
+            let mut tested = Tested::new(alloc, cart, keys)?;
             for (number, line) in lines.iter().enumerate() {
                 let held = tested.holds(*line);
                 assert!(rt; held, "line {number}");

@@ -1,5 +1,5 @@
-use Rattle.std.proofs.Common.{◌<◌, refl, sym, ◌∙◌, ap, subst, arith}
-use Rattle.ds_machine.specs.Counting.{IsRunning, last_limit}
+use Rattle.std.proofs.Common.{refl, sym, ◌∙◌, ap, subst, arith}
+use Rattle.ds_machine.specs.Counting.{RunsWithSome}
 use Rattle.ds_machine.specs.NextEvents.{IsNextEvent}
 use Rattle.ds_machine.specs.States.{MachineState}
 use Rattle.ds_machine.specs.TurnSteps.{BelongsToTurn, HasLimit, TakesSteps, no_steps}
@@ -18,7 +18,7 @@ pub steps-init : goal.steps-init
 steps-init c =
     let some = c.if-next_event-eq0.false in (
       goes_first c.args.until.0 c.args.proc c.self.inside.next_event c.args.limit c.self.inside.parts c.self.invariant.0 (omega (arith, some)) c.requires.early
-          (subst (IsRunning last_limit) (sym c.self.view_is) c.requires.running)
+          (subst RunsWithSome (sym c.self.view_is) c.requires.running)
           (subst (λ (m : MachineState). HasLimit c.args.until.0 m c.args.proc c.args.limit) (sym c.self.view_is) c.requires.limit),
       refl,
     )

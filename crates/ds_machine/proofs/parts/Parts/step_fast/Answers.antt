@@ -2,6 +2,7 @@ use Rattle.std.proofs.Common.{◌<◌, ◌≤◌, ◌^◌, inl, inr, refl, ◌�
 use Rattle.ds_machine.specs.States.{ProcessorState}
 use Rattle.ds_machine.specs.Steps.{tick_of}
 use Rattle.ds_machine.proofs.FastTurns.{below_turn, is_due, least_now, over_at_end, over_past, went_fast}
+use Rattle.ds_machine.proofs.Files.{some_sound}
 use Rattle.ds_machine.proofs.GoingSteps.{ahead_data, ahead_if, ahead_may, free_now, line_is}
 use Rattle.ds_machine.proofs.GuardedSteps.{free_for}
 use Rattle.ds_machine.proofs.ProcessorSteps.{reached_early, reached_few}
@@ -117,4 +118,4 @@ returns c =
 
 pub take_fast-fast-requires-clause-room : goal.take_fast-fast-requires-clause-room
 take_fast-fast-requires-clause-room c =
-    free_for c.args.proc c.args.self.now c.requires.goes.running.sound.parts (free_now c.args.next_event c.args.self.now c.args.proc c.requires.goes.kept c.requires.goes.free)
+    free_for c.args.proc c.args.self.now (some_sound c.args.self.now c.requires.goes.running).parts (free_now c.args.next_event c.args.self.now c.args.proc c.requires.goes.kept c.requires.goes.free)

@@ -1,0 +1,246 @@
+use Rattle.std.proofs.Common.{ℕ, ◌≡◌, ◌≤◌, ◌^◌, inl, inr, Bool, true, false, if◌then◌else◌, List, Option, Some, None, refl, sym, ◌∙◌, ap, subst, arith, []}
+use Rattle.ds_base.specs.declared.processors.Proc.{Proc}
+use Rattle.ds_base.specs.declared.processors.Proc.TheVariants.{Nine, Seven}
+use Rattle.ds_base.specs.declared.ticks.Tick.{Tick}
+use Rattle.ds_runs.specs.Actors.{actor_of}
+use Rattle.ds_runs.specs.Runs.{MachineStep, Makes, Stops}
+use Rattle.ds_runs.specs.declared.actors.Actor as actor
+use Rattle.ds_runs.specs.declared.actors.Actor.TheVariants.{KeyScript, Dma, Processor}
+use Rattle.ds_base.specs.declared.left_out.LeftOut.{LeftOut}
+use Rattle.ds_machine.specs.Acting.{acting_dues}
+use Rattle.ds_machine.specs.Counting.{RunsWithSome, last_limit}
+use Rattle.ds_machine.specs.Lagging as lagging
+use Rattle.ds_machine.specs.Lagging.{ActsUnobserving, CatchesUp, CatchesUpFor, CatchesUpIf, ComesBeforeAll, TakesGeometry, observes_by}
+use Rattle.ds_machine.specs.Private.{IsAhead, IsBelowFence, IsPrivate, rank_of}
+use Rattle.ds_machine.specs.Reference.{Shown, awake, due_by, dues_of, processor_due, reference_step, step_by}
+use Rattle.ds_machine.specs.Sound.{HasSoundParts, IsSound}
+use Rattle.ds_machine.specs.States.{MachineState, with_file}
+use Rattle.ds_machine.specs.Statuses.{HasBothStatuses, left_by}
+use Rattle.ds_machine.specs.StepAnswers.{Steps, stepped_of}
+use Rattle.ds_machine.specs.Steps.{ended, goes_on, machine_settled, processor_of, tick_of, wakes, woken_one}
+use Rattle.ds_machine.specs.Touched.{CartFile, StepsKeepFile, machine_graft, step_with, untouched_by}
+use Rattle.ds_machine.specs.TurnSteps.{BelongsToTurn, HasLimit, IsFirst, MayAct, MayStep, TakesSteps, more_steps, no_steps}
+use Rattle.ds_machine.specs.declared.answers.Done as answer
+use Rattle.ds_machine.specs.declared.answers.Done.TheVariants as answers
+use Rattle.ds_machine.specs.declared.next_events.First.{First}
+use Rattle.ds_machine.proofs.Apart.{picked}
+use Rattle.ds_machine.proofs.Running.{running_taken, steps_keep_running}
+use Rattle.ds_machine.proofs.Touched.{comes_to_same}
+
+-- With another file a machine is due when it was, and its actors' steps come to the same: none of them looks at it. What is said of `s` is said of
+-- `with_file file s`, and the other way round, since the machine with its own file is itself.
+
+abbrev Step : Type 0
+Step = MachineStep MachineState Shown LeftOut
+
+module _ (file : List ℕ) where
+  abbrev put : MachineState → MachineState
+  put s = with_file file s
+
+  -- ---- when actors are due
+
+  pub processor_due_put : (s : MachineState) (proc : Proc) → processor_due (put s) proc ≡ processor_due s proc
+  processor_due_put s Nine = refl
+  processor_due_put s Seven = refl
+
+  due_put : (a : actor.Actor) (s : MachineState) → due_by a (put s) ≡ due_by a s
+  due_put KeyScript s = refl
+  due_put (Processor proc) s = processor_due_put s proc
+  due_put _ s = refl
+
+  pub dues_put : (s : MachineState) → dues_of (put s) ≡ dues_of s
+  unfolding dues_of
+  dues_put s = refl
+
+  pub acting_put : (s : MachineState) → acting_dues (put s) ≡ acting_dues s
+  unfolding acting_dues
+  acting_put s = refl
+
+  pub own_put : (s : MachineState) (proc : Proc) → processor_of (put s) proc ≡ processor_of s proc
+  own_put s Nine = refl
+  own_put s Seven = refl
+
+  -- ---- steps
+
+  none_uses : (a : actor.Actor) (s : MachineState) → (untouched_by a s).rest CartFile ≡ true
+  none_uses (Dma Nine channel) s = refl
+  none_uses (Dma Seven channel) s = refl
+  none_uses (Processor Nine) s = refl
+  none_uses (Processor Seven) s = refl
+  none_uses _ s = refl
+
+  step_put : (rank : ℕ) (a : actor.Actor) (s : MachineState) → step_by rank a (put s) ≡ step_with put (step_by rank a s)
+  step_put rank a s = comes_to_same rank a s put (record { shared = refl; vram = refl }) (λ left.
+      λ i. record (machine_graft (untouched_by a s) (put s) left) { file = picked ((untouched_by a s).rest CartFile) file left.file (none_uses a s) i })
+
+  go_put : (proc : Proc) (tick : Tick) (s : MachineState) → goes_on proc tick (put s) ≡ put (goes_on proc tick s)
+  go_put Nine tick s = refl
+  go_put Seven tick s = refl
+
+  if_put : (b : Bool) (x y : MachineState) → (if b then put x else put y) ≡ put (if b then x else y)
+  if_put true x y = refl
+  if_put false x y = refl
+
+  woken_put : (proc : Proc) (tick : Tick) (s : MachineState) → woken_one proc tick (put s) ≡ put (woken_one proc tick s)
+  woken_put proc tick s =
+      ap (λ (m : MachineState). if wakes s proc then m else put s) (go_put proc tick s) ∙ if_put (wakes s proc) (goes_on proc tick s) s
+
+  ended_put : (tick : Tick) (s : MachineState) → ended tick (put s) ≡ put (ended tick s)
+  unfolding ended
+  ended_put tick s =
+      let first = machine_settled tick s in ap (woken_one Seven tick) (woken_put Nine tick first) ∙ woken_put Seven tick (woken_one Nine tick first)
+
+  awake_put : (due : Option Tick) (came : Step) → awake due (step_with put came) ≡ step_with put (awake due came)
+  awake_put None came = refl
+  awake_put (Some tick) (Makes next outs) = ap (λ (m : MachineState). (let step : Step = Makes m outs in step)) (ended_put tick next)
+  awake_put (Some tick) (Stops stop left) = refl
+
+  pub reference_put : (rank : ℕ) (s : MachineState) → reference_step rank (put s) ≡ step_with put (reference_step rank s)
+  reference_put rank s =
+      let a = actor_of rank in
+      ap (λ (due : Option Tick). awake due (step_by rank a (put s))) (due_put a s)
+      ∙ ap (awake (due_by a s)) (step_put rank a s)
+      ∙ awake_put (due_by a s) (step_by rank a s)
+
+  kept_put : (came : Step) → came ≡ step_with put came → (left_by came).file ≡ file
+  kept_put (Makes next outs) h = ap (λ (step : Step). (left_by step).file) h
+  kept_put (Stops stop left) h = ap (λ (step : Step). (left_by step).file) h
+
+  pub makes_put : (rank : ℕ) (s next : MachineState) (outs : List Shown) → reference_step rank s ≡ Makes next outs → reference_step rank (put s) ≡ Makes (put next) outs
+  makes_put rank s next outs h = reference_put rank s ∙ ap (step_with put) h
+
+  stepped_put : (old new : MachineState) (done : answer.Done) → step_with put (stepped_of old done new) ≡ stepped_of (put old) done (put new)
+  stepped_put old new answers.Made = refl
+  stepped_put old new (answers.Frame swapped) = refl
+  stepped_put old new (answers.Stopped left) = refl
+
+  pub steps_put : (rank : ℕ) (old new : MachineState) (done : answer.Done) → Steps rank old done new → Steps rank (put old) done (put new)
+  steps_put rank old new done h = reference_put rank old ∙ ap (step_with put) h ∙ stepped_put old new done
+
+  -- ---- what holds of it
+
+  pub parts_put : (s : MachineState) → HasSoundParts s → HasSoundParts (put s)
+  parts_put s is = record { io = is.io; keys = is.keys }
+
+  pub sound_put : (s : MachineState) → IsSound s → IsSound (put s)
+  sound_put s is = record { parts = parts_put s is.parts; asleep = is.asleep; settled = is.settled }
+
+  pub statuses_put : (s : MachineState) → HasBothStatuses s → HasBothStatuses (put s)
+  statuses_put s has = record { nine = has.nine; seven = has.seven }
+
+  private_put : (s : MachineState) (proc : Proc) → IsPrivate s proc → IsPrivate (put s) proc
+  private_put s Nine is = record { free = is.free; down = is.down; deaf = is.deaf; own = is.own }
+  private_put s Seven is = record { free = is.free; down = is.down; deaf = is.deaf; own = is.own }
+
+  below_put : (s : MachineState) (tick : Tick) (proc : Proc) → IsBelowFence s proc tick → IsBelowFence (put s) proc tick
+  unfolding acting_dues
+  below_put s tick proc is = is
+
+  pub ahead_put : (s : MachineState) (proc : Proc) → IsAhead s proc → IsAhead (put s) proc
+  ahead_put s Nine is = record { private = private_put s Nine is.private; below = below_put s (tick_of s.nine.processor) Nine is.below }
+  ahead_put s Seven is = record { private = private_put s Seven is.private; below = below_put s (tick_of s.seven.processor) Seven is.below }
+
+  observes_put : (a : actor.Actor) (s : MachineState) → observes_by a (put s) ≡ observes_by a s
+  observes_put (Dma Nine channel) s = refl
+  observes_put (Dma Seven channel) s = refl
+  observes_put (Processor Nine) s = refl
+  observes_put (Processor Seven) s = refl
+  observes_put _ s = refl
+
+  pub first_put : (s : MachineState) (tick rank : ℕ) → ComesBeforeAll tick rank s → ComesBeforeAll tick rank (put s)
+  unfolding acting_dues
+  first_put s tick rank is = is
+
+  apart_put : (s : MachineState) (tick : Tick) (rank : ℕ) → ActsUnobserving s rank tick → ActsUnobserving (put s) rank tick
+  unfolding acting_dues
+  apart_put s tick rank is = record { least = is.least; unobserving = observes_put (actor_of rank) s ∙ is.unobserving }
+
+  pub may_step_put : (s : MachineState) (rank : ℕ) → MayStep s rank → MayStep (put s) rank
+  unfolding dues_of
+  may_step_put s rank is = record {
+    tick = is.tick;
+    due = is.due;
+    early = is.early;
+    may = elim is.may [
+      | inl least ↦ inl least
+      | inr other ↦ elim other [ inl acts ↦ inr (inl (apart_put s is.tick rank acts)) | inr k ↦ inr (inr (k.0, k.1, ahead_put s k.0 k.2)) ]
+    ];
+  }
+
+  pub may_act_put : (s : MachineState) (tick : Tick) (rank : ℕ) → MayAct s tick rank → MayAct (put s) tick rank
+  unfolding acting_dues
+  may_act_put s tick rank is = record { due = is.due; may = elim is.may [ inl least ↦ inl least | inr k ↦ inr (k.0, k.1, ahead_put s k.0 k.2) ] }
+
+  pub belongs_put : (until : ℕ) (s : MachineState) (proc : Proc) → BelongsToTurn until s proc → BelongsToTurn until (put s) proc
+  unfolding acting_dues
+  belongs_put until s proc is = record {
+    tick = is.tick;
+    due = processor_due_put s proc ∙ is.due;
+    below = is.below;
+    goes = elim is.goes [ inl least ↦ inl least | inr ahead ↦ inr (ahead_put s proc ahead) ];
+  }
+
+  pub limit_put : (until : ℕ) (s : MachineState) (proc : Proc) (limit : ℕ) → HasLimit until s proc limit → HasLimit until (put s) proc limit
+  unfolding acting_dues
+  limit_put until s proc limit has = record { free = has.free; first = has.first }
+
+  pub is_first_put : (until : ℕ) (s : MachineState) (first : First) → IsFirst until s first → IsFirst until (put s) first
+  unfolding acting_dues
+  is_first_put until s first is = record {
+    least = record { tick = is.least.tick; least = is.least.least; below = is.least.below };
+    limit = limit_put until s first.proc first.limit is.limit;
+  }
+
+  -- ---- geometry catches up, and a processor takes its turn
+
+  takes_put : (tick rank : ℕ) (s now : MachineState) → TakesGeometry tick rank s now → TakesGeometry tick rank (put s) (put now)
+  takes_put tick rank s now (lagging.no_geometry start) = lagging.no_geometry (put start)
+  takes_put tick rank s now (lagging.more_geometry start before next earlier behind makes) =
+      lagging.more_geometry (put start) (put before) (put next) (takes_put tick rank start before earlier) behind (makes_put 12 before next [] makes)
+
+  pub catches_put : (tick rank : ℕ) (s caught : MachineState) → CatchesUp tick rank s caught → CatchesUp tick rank (put s) (put caught)
+  catches_put tick rank s caught k = record { steps = takes_put tick rank s caught k.steps; level = k.level }
+
+  catches_if : (b : Bool) (tick rank : ℕ) (s caught : MachineState) → CatchesUpIf b tick rank s caught → CatchesUpIf b tick rank (put s) (put caught)
+  catches_if true tick rank s caught k = catches_put tick rank s caught k
+  catches_if false tick rank s caught same = ap put same
+
+  pub catches_for : (tick rank : ℕ) (s caught : MachineState) → CatchesUpFor tick rank s caught → CatchesUpFor tick rank (put s) (put caught)
+  catches_for tick rank s caught k =
+      subst (λ (b : Bool). CatchesUpIf b tick rank (put s) (put caught)) (sym (observes_put (actor_of rank) s)) (catches_if (observes_by (actor_of rank) s) tick rank s caught k)
+
+  catches_own : (s caught : MachineState) (proc : Proc) → CatchesUpFor (processor_of s proc).due (rank_of proc) s caught
+      → CatchesUpFor (processor_of (put s) proc).due (rank_of proc) (put s) (put caught)
+  catches_own s caught Nine k = catches_for s.nine.processor.due 22 s caught k
+  catches_own s caught Seven k = catches_for s.seven.processor.due 23 s caught k
+
+  pub turn_put : (until : ℕ) (proc : Proc) (s next : MachineState) → TakesSteps until proc s next → TakesSteps until proc (put s) (put next)
+  turn_put until proc s next (no_steps start) = no_steps (put start)
+  turn_put until proc s next (more_steps start before caught last earlier b catches makes) =
+      more_steps (put start) (put before) (put caught) (put last) (turn_put until proc start before earlier) (belongs_put until before proc b)
+      (catches_own before caught proc catches) (makes_put (rank_of proc) caught last [] makes)
+
+-- ---- a machine that goes on with some file
+
+pub some_sound : (s : MachineState) → RunsWithSome s → IsSound s
+some_sound s running = sound_put s.file (with_file running.0 s) running.1.sound
+
+pub some_taken : (tick rank : ℕ) (s now : MachineState) → ComesBeforeAll tick rank s → tick ≤ 2 ^ 56 → TakesGeometry tick rank s now → RunsWithSome s → RunsWithSome now
+some_taken tick rank s now before early takes running =
+    let file = running.0 in (
+      file,
+      running_taken last_limit tick rank (with_file file s) (with_file file now) (first_put file s tick rank before) (λ u le earlier. omega (arith, le, early))
+          (takes_put file tick rank s now takes) running.1,
+    )
+
+pub some_after : (rank : ℕ) (s next : MachineState) (outs : List Shown) → RunsWithSome s → MayStep s rank → reference_step rank s ≡ Makes next outs → RunsWithSome next
+some_after rank s next outs running may h =
+    let file = running.0 in
+    let there = may_step_put file s rank may in
+    let early = there.early in
+    (file, steps_keep_running last_limit rank (with_file file s) (with_file file next) outs running.1 there (omega (arith, early)) (makes_put file rank s next outs h))
+
+-- ---- no step changes the file
+
+pub steps_keep_file : StepsKeepFile
+steps_keep_file rank s = kept_put s.file (reference_step rank s) (reference_put s.file rank s)

@@ -1,0 +1,12 @@
+use Rattle.std.proofs.Common.{◌∙◌, ap}
+use Rattle.std.specs.Prelude.{slice_index}
+use Rattle.ds_machine.specs.Inspections.{memory_of}
+use Rattle.ds_machine.specs.States.{MachineState}
+use Rattle.run_ahead.specs.Consoles.{ConsoleState}
+use Rattle.run_ahead.proofs.consoles.Console.byte_of.Goals as goal
+
+pub returns : goal.returns
+returns c =
+    c.byte_of.ensures
+    ∙ ap (λ (m : MachineState). slice_index (memory_of m c.args.memory) c.args.at) c.deref.ensures
+    ∙ ap (λ (x : ConsoleState). slice_index (memory_of x.machine c.args.memory) c.args.at) c.self.view_is

@@ -1,0 +1,11 @@
+use Rattle.std.proofs.Common.{◌∙◌, ap}
+use Rattle.ds_machine.specs.Inspections.{memory_of}
+use Rattle.ds_machine.specs.States.{MachineState}
+use Rattle.run_ahead.specs.Consoles.{ConsoleState}
+use Rattle.run_ahead.proofs.consoles.Console.bytes.Goals as goal
+
+pub returns-clause-value : goal.returns-clause-value
+returns-clause-value c =
+    c.bytes.ensures.value
+    ∙ ap (λ (m : MachineState). memory_of m c.args.memory) c.deref.ensures
+    ∙ ap (λ (x : ConsoleState). memory_of x.machine c.args.memory) c.self.view_is

@@ -19,26 +19,26 @@ use Rattle.ds_card.specs.declared.cards.Transfer.{Transfer}
 -- The words of a transfer are taken in order, each once.
 
 -- what stands of a transfer of `count` words over `word`, of which `taken` were taken
-record Stands (word : ℕ → ℕ) (count : ℕ) (t : Transfer) : Type 0 where
-  left : (t.taken < count) ⊎ ((count ≡ 0) × (t.taken ≡ 0) × (ready_word t.next ≡ None))
-  ready : (w : ℕ) → ready_word t.next ≡ Some w → w ≡ word t.taken
+pub record Stands (word : ℕ → ℕ) (count : ℕ) (t : Transfer) : Type 0 where
+  pub left : (t.taken < count) ⊎ ((count ≡ 0) × (t.taken ≡ 0) × (ready_word t.next ≡ None))
+  pub ready : (w : ℕ) → ready_word t.next ≡ Some w → w ≡ word t.taken
 
 -- a state of a card in which such a transfer is busy, or has ended after all its words
-abbrev StandsIn : (ℕ → ℕ) → ℕ → ℕ → Option Transfer → Type 0
+abbrev pub StandsIn : (ℕ → ℕ) → ℕ → ℕ → Option Transfer → Type 0
 StandsIn word count taken None = taken ≡ count
 StandsIn word count taken (Some t) = Stands word count t × (t.taken ≡ taken)
 
-record Follows (file : List ℕ) (s next : CardState) (taken : ℕ) : Type 0 where
-  romctrl : next.romctrl ≡ s.romctrl
-  command : next.command ≡ s.command
-  stands : StandsIn (card_word file s.command) (block_words s.romctrl) taken next.transfer
+pub record Follows (file : List ℕ) (s next : CardState) (taken : ℕ) : Type 0 where
+  pub romctrl : next.romctrl ≡ s.romctrl
+  pub command : next.command ≡ s.command
+  pub stands : StandsIn (card_word file s.command) (block_words s.romctrl) taken next.transfer
 
 -- what one happening gives: nothing, or the next word
-abbrev Gives : (ℕ → ℕ) → ℕ → ℕ → Option ℕ → Type 0
+abbrev pub Gives : (ℕ → ℕ) → ℕ → ℕ → Option ℕ → Type 0
 Gives word taken after None = after ≡ taken
 Gives word taken after (Some w) = (after ≡ suc taken) × (w ≡ word taken)
 
-abbrev Happened : (file : List ℕ) (s next : CardState) (taken : ℕ) (got : Option ℕ) → Type 0
+abbrev pub Happened : (file : List ℕ) (s next : CardState) (taken : ℕ) (got : Option ℕ) → Type 0
 Happened file s next taken got = (after : ℕ) × Gives (card_word file s.command) taken after got × Follows file s next after
 
 -- ---- a write
@@ -120,7 +120,7 @@ followed file s t next got st (wrote proc at width value now) = (t.taken, refl, 
 followed file s t next got st (was_read proc at width now) = read_follows file (with_transfer s t) t proc at width now st
 followed file s t next got st (came due) = (t.taken, refl, event_follows file (with_transfer s t) t (block_words s.romctrl == 0) refl st)
 
-one_follows : (file : List ℕ) (s next : CardState) (t : Transfer) (got : Option ℕ)
+pub one_follows : (file : List ℕ) (s next : CardState) (t : Transfer) (got : Option ℕ)
     → s.transfer ≡ Some t → Stands (card_word file s.command) (block_words s.romctrl) t → CardHappens file s got next → Happened file s next t.taken got
 one_follows file s next t got h st =
     subst (λ (x : CardState). CardHappens file x got next → Happened file x next t.taken got)

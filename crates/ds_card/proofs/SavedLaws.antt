@@ -1,14 +1,17 @@
-use Rattle.std.proofs.Common.{rules, ℕ, zero, suc, ◌≡◌, ◌⊎◌, inl, inr, ◌<◌, ◌≤◌, ◌^◌, ◌==◌, ◌&&◌, ◌||◌, not, nat_lt, true, false, true≢false, List, slice_index_or, Option, Some, None, is_some, refl, sym, ap, arith}
-use Rattle.ds_base.proofs.Choices.{both, both_true, equal}
+use Rattle.std.proofs.Common.{rules, ℕ, zero, suc, ◌≡◌, ◌⊎◌, inl, inr, ◌<◌, ◌≤◌, ◌^◌, ◌==◌, ◌&&◌, ◌||◌, not, nat_lt, true, false, true≢false, List, slice_index_or, Option, Some, None, is_some, IfSome, refl, sym, ap, subst, arith}
+use Rattle.ds_base.proofs.Choices.{both, both_true, either, equal}
 use Rattle.ds_base.specs.Schedules.{due_number}
 use Rattle.ds_base.specs.declared.processors.Proc.{Proc}
 use Rattle.ds_base.specs.declared.processors.Proc.TheVariants.{Nine, Seven}
 use Rattle.ds_base.specs.Bits.{bits}
-use Rattle.ds_base.specs.Numbers.{number_at}
+use Rattle.ds_base.specs.Numbers.{aligned_down, number_at}
 use Rattle.ds_base.specs.declared.memories.Width.TheVariants.{Word}
+use Rattle.ds_card.proofs.InOrder.{Stands, StandsIn, one_follows}
 use Rattle.ds_card.specs.CardPorts.{block_words, words_of_size}
-use Rattle.ds_card.specs.Cards.{CardState, IsCard, IsUnderWay, card_due, card_starter, card_word, next_due, ready_word, is_known}
-use Rattle.ds_card.specs.Saved.{CardsAreSaved, IsCardAt, HasItsWord, KeepsAuxspicnt, card_format, due_by, due_where, keeps_auxspicnt, keeps_romctrl, next_numbered, numbered_starter, starter_number, starts_by, taken_of, takes_by, transfer_numbered}
+use Rattle.ds_card.specs.Cards.{CardState, IsCard, IsUnderWay, card_due, card_starter, card_taken, card_word, is_starting, start_refusal, next_due, ready_word, is_known}
+use Rattle.ds_card.specs.Saved.{CardsAreSaved, IsCardAt, HasItsWord, KeepsAuxspicnt, card_format, card_due_by, due_where, keeps_auxspicnt, keeps_romctrl, next_numbered, numbered_starter, starter_number, starts_by, taken_of, takes_by, transfer_numbered}
+use Rattle.ds_card.specs.Transfers.{CardHappens}
+use Rattle.ds_card.specs.Transfers.CardHappens.{wrote, was_read, came}
 use Rattle.ds_card.specs.declared.cards.NextWord.{NextWord}
 use Rattle.ds_card.specs.declared.cards.NextWord.TheVariants.{Due, Ready}
 use Rattle.ds_card.specs.declared.cards.Transfer.{Transfer}
@@ -29,7 +32,7 @@ record SaysThem (n count : ℕ) (tick : Option ℕ) (c : CardState) : Type 0 whe
   taken : taken_of c.transfer ≡ count
   due : due_number (card_due c) ≡ tick
 
-no_due : (words taken at : ℕ) (due : Option ℕ) → due_by words 0 taken at due ≡ true → due ≡ None
+no_due : (words taken at : ℕ) (due : Option ℕ) → card_due_by words 0 taken at due ≡ true → due ≡ None
 no_due words taken at None rule = refl
 no_due words taken at (Some due) rule = absurd (true≢false (sym (both (soon at (Some due)) false rule).1))
 
@@ -41,7 +44,7 @@ too_great : (command : List ℕ) (n at : ℕ) → starts_by command at (suc (suc
 too_great command n at rule = grind (arith, rule)
 
 says_them : (nine seven romctrl command : List ℕ) (starter taken word at : ℕ) (due : Option ℕ)
-    → starts_by command at starter ≡ true → takes_by (block_words romctrl) starter at taken ≡ true → due_by (block_words romctrl) starter taken at due ≡ true
+    → starts_by command at starter ≡ true → takes_by (block_words romctrl) starter at taken ≡ true → card_due_by (block_words romctrl) starter taken at due ≡ true
     → SaysThem starter taken due (made_card nine seven romctrl command starter taken word due)
 says_them nine seven romctrl command zero taken word at due begins takes comes =
     record { starter = refl; taken = sym (equal taken 0 takes); due = sym (no_due (block_words romctrl) taken at due comes) }
@@ -187,8 +190,52 @@ card_stands file at s early is =
       ap (λ (t : Option Transfer). with_transfer s t) holds.again,
     )
 
+-- ---- a word that is ready stays the file's
+
+stands_of : (file : List ℕ) (s : CardState) (t : Transfer) → IsUnderWay s (Some t) → HasItsWord file s (Some t)
+    → Stands (card_word file s.command) (block_words s.romctrl) t
+stands_of file s t under word = record { left = under.1; ready = is_word (ready_word t.next) word } where
+  is_word : (ready : Option ℕ) → IfSome ready (λ w. w ≡ card_word file s.command t.taken) → (w : ℕ) → ready ≡ Some w → w ≡ card_word file s.command t.taken
+  is_word None h w e = absurd (cc)
+  is_word (Some x) h w e = cc
+
+word_of : (ready : Option ℕ) (word : ℕ) → ((w : ℕ) → ready ≡ Some w → w ≡ word) → IfSome ready (λ w. w ≡ word)
+word_of None word h = tt
+word_of (Some w) word h = h w refl
+
+stood : (file command : List ℕ) (count taken : ℕ) (next : CardState) (there : Option Transfer) → next.command ≡ command
+    → StandsIn (card_word file command) count taken there → HasItsWord file next there
+stood file command count taken next None e stands = tt
+stood file command count taken next (Some t) e stands =
+    subst (λ (c : List ℕ). IfSome (ready_word t.next) (λ w. w ≡ card_word file c t.taken)) (sym e)
+    (word_of (ready_word t.next) (card_word file command t.taken) stands.0.ready)
+
+abbrev HasWord : List ℕ → CardState → Type 0
+HasWord file c = HasItsWord file c c.transfer
+
+idle_happens : (file : List ℕ) (s next : CardState) (got : Option ℕ) → CardHappens file (with_transfer s None) got next → HasWord file next
+idle_happens file s next got (wrote Nine at width value now) =
+    either (HasWord file) (is_some (start_refusal (with_transfer s None) at width value)) _ _ tt
+    (either (HasWord file) (is_starting (with_transfer s None) (aligned_down width at) width value) _ _ tt tt)
+idle_happens file s next got (wrote Seven at width value now) =
+    either (HasWord file) (is_some (start_refusal (with_transfer s None) at width value)) _ _ tt
+    (either (HasWord file) (is_starting (with_transfer s None) (aligned_down width at) width value) _ _ tt tt)
+idle_happens file s next got (was_read proc at width now) =
+    either (HasWord file) (is_some (card_taken (with_transfer s None) proc at width)) _ _ tt tt
+idle_happens file s next got (came due) = tt
+
+word_stays : (file : List ℕ) (s next : CardState) (got : Option ℕ) → IsCard s → HasWord file s → CardHappens file s got next → HasWord file next
+word_stays file s next got is word happens = by_transfer s.transfer refl is.transfer word where
+  by_transfer : (there : Option Transfer) → s.transfer ≡ there → IsUnderWay s there → HasItsWord file s there → HasWord file next
+  by_transfer None h under has =
+      idle_happens file s next got (subst (λ (c : CardState). CardHappens file c got next) (ap (λ (t : Option Transfer). with_transfer s t) h) happens)
+  by_transfer (Some t) h under has =
+      let one = one_follows file s next t got h (stands_of file s t under has) happens in
+      stood file s.command (block_words s.romctrl) one.0 next next.transfer one.2.command one.2.stands
+
 pub cards_saved : CardsAreSaved
 cards_saved = record {
   back = λ file at s early is. round_trips (card_format file) at s (card_stands file at s early is);
   spelling = λ file at. one_spelling (card_format file) at (card_exact file at);
+  stays = word_stays;
 }

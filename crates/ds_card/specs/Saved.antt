@@ -4,6 +4,7 @@ use Rattle.ds_base.specs.declared.processors.Proc.{Proc}
 use Rattle.ds_base.specs.declared.processors.Proc.TheVariants.{Nine, Seven}
 use Rattle.ds_card.specs.CardPorts.{block_words}
 use Rattle.ds_card.specs.Cards.{CardState, IsCard, card_due, card_starter, card_word, is_known, ready_word}
+use Rattle.ds_card.specs.Transfers.{CardHappens}
 use Rattle.ds_card.specs.declared.cards.NextWord.{NextWord}
 use Rattle.ds_card.specs.declared.cards.NextWord.TheVariants.{Due, Ready}
 use Rattle.ds_card.specs.declared.cards.Transfer.{Transfer}
@@ -45,8 +46,8 @@ takes_by words starter at taken = if starter == 0 then taken == 0 else (words ==
 abbrev pub due_where : ℕ → ℕ → ℕ → Option ℕ → Bool
 due_where words starter taken due = if starter == 0 then not (is_some due) else not (words == 0) || ((taken == 0) && is_some due)
 
-abbrev pub due_by : ℕ → ℕ → ℕ → ℕ → Option ℕ → Bool
-due_by words starter taken at due = soon at due && due_where words starter taken due
+abbrev pub card_due_by : ℕ → ℕ → ℕ → ℕ → Option ℕ → Bool
+card_due_by words starter taken at due = soon at due && due_where words starter taken due
 
 -- the next word: at its tick, or that of the file
 abbrev pub next_numbered : ℕ → Option ℕ → NextWord
@@ -65,7 +66,7 @@ card_format file = do
   command ← one_field (array 8) (λ c. c.command) any
   starter ← one_field (number_code 1) (λ c. starter_number (card_starter c)) (starts_by command)
   taken ← one_field (number_code 4) (λ c. taken_of c.transfer) (takes_by (block_words romctrl) starter)
-  due ← one_field tick (λ c. due_number (card_due c)) (due_by (block_words romctrl) starter taken)
+  due ← one_field tick (λ c. due_number (card_due c)) (card_due_by (block_words romctrl) starter taken)
   done (record {
     nine = nine;
     seven = seven;
@@ -92,7 +93,9 @@ pub record IsCardAt (file : List ℕ) (at : ℕ) (s : CardState) : Type 0 where
   pub word : HasItsWord file s s.transfer
   pub due : soon at (due_number (card_due s)) ≡ true
 
--- its bytes are read as it was, and bytes that are read are its own
+-- its bytes are read as it was, and bytes that are read are its own; and whatever happens to a card, its word stays the file's
 pub record CardsAreSaved : Type 0 where
   pub back : (file : List ℕ) (at : ℕ) (s : CardState) → at ≤ 2 ^ 56 → IsCardAt file at s → RoundTrips (card_format file) at s
   pub spelling : (file : List ℕ) (at : ℕ) → OneSpelling (card_format file) at
+  pub stays : (file : List ℕ) (s next : CardState) (got : Option ℕ) → IsCard s → HasItsWord file s s.transfer → CardHappens file s got next
+      → HasItsWord file next next.transfer

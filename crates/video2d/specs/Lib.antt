@@ -12,3 +12,4 @@ pub mod Stops
 pub mod Videos
 pub mod Windows
 pub mod rows
+pub mod Invariants

@@ -16,7 +16,8 @@
 //! background copies it to the running point; `kept_byte` is the byte that a port keeps, whether it reads or not. `event`: exactly what the
 //! next event leaves, flags, running points, the drawn line, the whole frame (clause `state`); what it raises at each processor, which DMA
 //! it triggers, whether a frame is whole, or why it stops, by the first need of the line in order (`answer`); after a stop all is as it
-//! was. `frame` is the last whole frame, 98,304 pixels. The memory of both frames is taken by `Video::new`, and none later.
+//! was. `frame` is the last whole frame, 98,304 pixels. The memory of both frames is taken by `Video::new`, and none later. `video_laws`: at boot,
+//! and after each write of a port and each event, registers have the bits that they keep and no others, and pixels have bit 15 as 0.
 //!
 //! Only tested, in `video2d_tests`: that the definitions are the console's, on rows worked by hand from GBATEK's tables, and that
 //! `Video::new` succeeds where there is memory.
@@ -26,6 +27,7 @@ mod backgrounds;
 mod display_registers;
 mod engines;
 mod fronts;
+mod laws;
 mod layers;
 mod lines;
 mod mixes;
@@ -43,4 +45,5 @@ pub use display_registers::{
     DisplayRegister, DisplayRow, control_row_at, drawing_row_at, engine_row_at, output_row_at,
 };
 pub use engines::Engine;
+pub use laws::video_laws;
 pub use videos::{Shown, Video};

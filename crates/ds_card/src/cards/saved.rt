@@ -165,8 +165,9 @@ impl Card {
     }
 }
 
-/// Does nothing; its contract states that the card's bytes at a tick are read as it was, whatever stands behind them, where a word that is ready is the
-/// file's and no due tick is earlier; and that bytes which are read are those of what is read.
+/// Does nothing; its contract states that the card's bytes at a tick are read as it was, whatever stands behind them, where a word that is ready
+/// is the file's and no due tick is earlier; that bytes which are read are those of what is read; and that a word that is ready stays the
+/// file's, whatever is written, read or comes.
 #[tactic(auto, using(crate::proofs::SavedLaws::cards_saved))]
 pub fn saved_laws()
     ensures { CardsAreSaved }

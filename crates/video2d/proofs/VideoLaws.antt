@@ -1,0 +1,279 @@
+use Rattle.std.proofs.Common.{ℕ, zero, suc, ◌≡◌, ◌≢◌, ◌⊎◌, inl, inr, ◌<◌, ◌≤◌, ◌+◌, ◌*◌, ◌/◌, ◌%◌, ◌^◌, ◌==◌, true, false, nat_lt, List, replicate, Option, Some, None, bit_and, slice_index, slice_set, refl, sym, ◌∙◌, ap, subst, arith}
+use Rattle.std.proofs.lemmas.Bool.{cases_eq}
+use Rattle.std.proofs.lemmas.List.{get_or-replicate, get_or-set_other, get_or-set_same, length-replicate, length-set}
+use Rattle.ds_base.proofs.Choices.{either, either_by}
+use Rattle.std.specs.List.{AllByRecursion}
+use Rattle.ds_base.specs.Bits.{bit}
+use Rattle.ds_base.specs.Numbers.{aligned_down, is_within, number_at, put_by, zeroes}
+use Rattle.ds_base.specs.declared.left_out.Stop.{Stop}
+use Rattle.ds_base.specs.declared.memories.Width.{Width}
+use Rattle.ds_base.specs.declared.memories.Width.TheVariants.{Byte, Half, Word}
+use Rattle.ds_base.specs.declared.processors.Proc.{Proc}
+use Rattle.ds_base.specs.declared.processors.Proc.TheVariants.{Nine, Seven}
+use Rattle.ds_state.proofs.Kept.{kept_twice}
+use Rattle.vram_banks.specs.Cells.{Banks}
+use Rattle.video2d.proofs.Colours.{laid_frame, line_colours, line_long}
+use Rattle.video2d.specs.DisplayRegisters.{display_row, engine_bytes, engine_row_at, kept_at}
+use Rattle.video2d.specs.Engines.{EngineState, PointState, coordinate_at, engine_at_boot, engine_byte_by, point_started, point_stepped, point_written, points_after, points_started, points_stepped, word_of_28, word_of_half}
+use Rattle.video2d.specs.Invariants.{IsColour, IsEngine, IsFrame, IsPoint, IsDispstat, IsVideo, StaysVideo, kept_bits_at, kept_by}
+use Rattle.video2d.specs.Pictures.{engine_line, line_place, screen_of}
+use Rattle.video2d.specs.Ports.{video_port}
+use Rattle.video2d.specs.Scans.{ScanState, blanks_drawn_line, line_after, scan_after}
+use Rattle.video2d.specs.Statuses.{StatusState, status_written, with_half_byte}
+use Rattle.video2d.specs.Videos.{VideoState, drawn_with, engine_of, line_drawn, unless_stop, video_after_event, video_blanked, video_byte_written, video_byte_written_by, video_line_started, video_stop}
+use Rattle.video2d.specs.declared.display_registers.DisplayRegister.TheVariants.{Dispstat}
+use Rattle.video2d.specs.declared.display_registers.DisplayRow.{DisplayRow}
+use Rattle.video2d.specs.declared.engines.Engine.{Engine}
+use Rattle.video2d.specs.declared.engines.Engine.TheVariants.{A, B}
+use Rattle.video2d.specs.declared.ports.VideoPort.{VideoPort}
+use Rattle.video2d.specs.declared.ports.VideoPort.TheVariants.{Status, Count, OfEngine, Power, Nothing}
+
+-- What holds of the display at every time.
+
+-- ---- running points
+
+coordinate_small : (ports : List ℕ) (at : ℕ) → coordinate_at ports at < 2 ^ 32
+coordinate_small ports at = by_number (number_at Word ports at) where
+  by_number : (n : ℕ) → word_of_28 n < 2 ^ 32
+  by_number n = either (λ (x : ℕ). x < 2 ^ 32) (nat_lt (n % 2 ^ 28) (2 ^ 27)) _ _ (omega arith) (omega arith)
+
+started_is : (ports : List ℕ) (n : ℕ) → IsPoint (point_started ports n)
+started_is ports n = record { x = coordinate_small ports _; y = coordinate_small ports _ }
+
+stepped_is : (ports : List ℕ) (n : ℕ) (p : PointState) → IsPoint (point_stepped ports n p)
+stepped_is ports n p = record {
+  x = mod_small (p.x + word_of_half (number_at Half ports (0x10 * n + 2)));
+  y = mod_small (p.y + word_of_half (number_at Half ports (0x10 * n + 6)));
+} where
+  mod_small : (n : ℕ) → n % 2 ^ 32 < 2 ^ 32
+  mod_small n = omega arith
+
+written_is : (ports : List ℕ) (n at : ℕ) (p : PointState) → IsPoint p → IsPoint (point_written ports n at p)
+written_is ports n at p is =
+    either IsPoint (is_within (0x10 * n + 8) 4 at) _ _ (record { x = coordinate_small ports _; y = is.y })
+    (either IsPoint (is_within (0x10 * n + 12) 4 at) _ _ (record { x = is.x; y = coordinate_small ports _ }) is)
+
+-- ---- an engine
+
+points_is : (which : Engine) (at : ℕ) (e : EngineState) → IsEngine which e → IsEngine which (points_after at e)
+points_is which at e is = record {
+  long = is.long;
+  kept = is.kept;
+  two = written_is e.ports 2 at e.two is.two;
+  three = written_is e.ports 3 at e.three is.three;
+}
+
+set_is : (which : Engine) (e : EngineState) (at value : ℕ) → IsEngine which e
+    → IsEngine which (record e { ports = slice_set e.ports at (bit_and value (kept_bits_at which at)) })
+set_is which e at value is = record {
+  long = length-set e.ports at (bit_and value (kept_bits_at which at)) ∙ is.long;
+  kept = λ i lt. by_place i lt (cases_eq i at);
+  two = is.two;
+  three = is.three;
+} where
+  by_place : (i : ℕ) → i < engine_bytes → (i ≡ at) ⊎ (i ≢ at)
+      → bit_and (slice_index (slice_set e.ports at (bit_and value (kept_bits_at which at))) i) (kept_bits_at which i)
+      ≡ slice_index (slice_set e.ports at (bit_and value (kept_bits_at which at))) i
+  by_place i lt (inl same) =
+      subst (λ (n : ℕ). bit_and (slice_index (slice_set e.ports at (bit_and value (kept_bits_at which at))) n) (kept_bits_at which n)
+      ≡ slice_index (slice_set e.ports at (bit_and value (kept_bits_at which at))) n) (sym same)
+      (let long = is.long in let there = get_or-set_same e.ports at (bit_and value (kept_bits_at which at)) 0 (omega (arith, lt, same, long)) in
+      rw there (kept_twice value (kept_bits_at which at)))
+  by_place i lt (inr other) = (let there = get_or-set_other e.ports at i (bit_and value (kept_bits_at which at)) 0 other in rw there (is.kept i lt))
+
+byte_is : (which : Engine) (e : EngineState) (at value : ℕ) (row : Option DisplayRow) → engine_row_at which at ≡ row → IsEngine which e
+    → IsEngine which (engine_byte_by row e at value)
+byte_is which e at value None h is = is
+byte_is which e at value (Some row) h is =
+    let same : kept_bits_at which at ≡ kept_at row at = ap (λ (r : Option DisplayRow). kept_by r at) h in
+    subst (λ (k : ℕ). IsEngine which (points_after at (record e { ports = slice_set e.ports at (bit_and value k) }))) same
+    (points_is which at _ (set_is which e at value is))
+
+-- ---- a write
+
+half_is : (byte half value : ℕ) → half < 2 ^ 16 → value < 256 → with_half_byte byte half value < 2 ^ 16
+half_is byte half value small one = either (λ (n : ℕ). n < 2 ^ 16) (byte == 0) _ _ (omega (arith, small, one)) (omega (arith, small, one))
+
+status_is : (s : StatusState) (byte value : ℕ) → IsDispstat (status_written s byte value)
+status_is s byte value = record { kept = kept_twice (with_half_byte byte s.kept value) (display_row Dispstat).kept }
+
+port_is : (port : VideoPort) (proc : Proc) (v : VideoState) (value : ℕ) → value < 256 → IsVideo v → IsVideo (video_byte_written_by port proc v value)
+port_is (Status byte) Nine v value one is = record {
+  line = is.line;
+  nine = status_is v.nine byte value;
+  seven = is.seven;
+  a = is.a;
+  b = is.b;
+  power = is.power;
+  drawn = is.drawn;
+  whole = is.whole;
+}
+port_is (Status byte) Seven v value one is = record {
+  line = is.line;
+  nine = is.nine;
+  seven = status_is v.seven byte value;
+  a = is.a;
+  b = is.b;
+  power = is.power;
+  drawn = is.drawn;
+  whole = is.whole;
+}
+port_is (Count byte) proc v value one is = is
+port_is (OfEngine A at) proc v value one is = record {
+  line = is.line;
+  nine = is.nine;
+  seven = is.seven;
+  a = byte_is A v.a at value (engine_row_at A at) refl is.a;
+  b = is.b;
+  power = is.power;
+  drawn = is.drawn;
+  whole = is.whole;
+}
+port_is (OfEngine B at) proc v value one is = record {
+  line = is.line;
+  nine = is.nine;
+  seven = is.seven;
+  a = is.a;
+  b = byte_is B v.b at value (engine_row_at B at) refl is.b;
+  power = is.power;
+  drawn = is.drawn;
+  whole = is.whole;
+}
+port_is (Power byte) proc v value one is = record {
+  line = is.line;
+  nine = is.nine;
+  seven = is.seven;
+  a = is.a;
+  b = is.b;
+  power = half_is byte v.power value is.power one;
+  drawn = is.drawn;
+  whole = is.whole;
+}
+port_is Nothing proc v value one is = is
+
+one_is : (proc : Proc) (at value : ℕ) (v : VideoState) → value < 256 → IsVideo v → IsVideo (video_byte_written proc at value v)
+unfolding video_byte_written
+one_is proc at value v one is = port_is (video_port proc at) proc v value one is
+
+write_is : (proc : Proc) (v : VideoState) (at : ℕ) (width : Width) (value : ℕ) → IsVideo v
+    → IsVideo (put_by width (video_byte_written proc) at value v)
+write_is proc v at Byte value is = one_is proc at (value % 256) v (omega arith) is
+write_is proc v at Half value is =
+    one_is proc (at + 1) (value / 256 % 256) _ (omega arith) (one_is proc at (value % 256) v (omega arith) is)
+write_is proc v at Word value is =
+    one_is proc (at + 3) (value / 16777216 % 256) _ (omega arith) (one_is proc (at + 2) (value / 65536 % 256) _ (omega arith)
+    (one_is proc (at + 1) (value / 256 % 256) _ (omega arith) (one_is proc at (value % 256) v (omega arith) is)))
+
+-- ---- an event
+
+line_is : (s : ScanState) → s.line ≤ 262 → (scan_after s).line ≤ 262
+line_is s le = grind (arith, le)
+
+place_is : (screen line : ℕ) → screen ≤ 1 → line < 192 → line_place screen line + 256 ≤ 98304
+place_is screen line le lt = omega (arith, le, lt)
+
+screen_is : (which : Engine) (power : ℕ) → screen_of which power ≤ 1
+screen_is A power = either (λ (n : ℕ). n ≤ 1) (bit 15 power) 0 1 (omega arith) (omega arith)
+screen_is B power = either (λ (n : ℕ). n ≤ 1) (bit 15 power) 1 0 (omega arith) (omega arith)
+
+drawn_is : (m : Banks) (palette oam : List ℕ) (v : VideoState) (which : Engine) (frame : List ℕ) → v.scan.line < 192 → IsFrame frame
+    → IsFrame (drawn_with m palette oam v which frame)
+drawn_is m palette oam v which frame lt is =
+    laid_frame (line_place (screen_of which v.power) v.scan.line) (engine_line m palette oam which v.power (engine_of v which) v.scan.line) frame
+    (place_is (screen_of which v.power) v.scan.line (screen_is which v.power) lt) (line_long m palette oam which v.power (engine_of v which) v.scan.line)
+    (line_colours m palette oam which v.power (engine_of v which) v.scan.line) is
+
+stepped_all : (which : Engine) (e : EngineState) → IsEngine which e → IsEngine which (points_stepped e)
+stepped_all which e is = record { long = is.long; kept = is.kept; two = stepped_is e.ports 2 e.two; three = stepped_is e.ports 3 e.three }
+
+started_all : (which : Engine) (e : EngineState) → IsEngine which e → IsEngine which (points_started e)
+started_all which e is = record { long = is.long; kept = is.kept; two = started_is e.ports 2; three = started_is e.ports 3 }
+
+drawn_line : (s : ScanState) → blanks_drawn_line s ≡ true → s.line < 192
+drawn_line s h = grind (arith, h)
+
+blanked_is : (m : Banks) (palette oam : List ℕ) (v : VideoState) → IsVideo v → IsVideo (video_blanked m palette oam v)
+blanked_is m palette oam v is = either_by IsVideo (blanks_drawn_line v.scan) _ _ drawn left where
+  drawn : blanks_drawn_line v.scan ≡ true
+      → IsVideo (record v { scan = scan_after v.scan; a = points_stepped v.a; b = points_stepped v.b; drawn = line_drawn m palette oam v })
+  drawn h = record {
+    line = line_is v.scan is.line;
+    nine = is.nine;
+    seven = is.seven;
+    a = stepped_all A v.a is.a;
+    b = stepped_all B v.b is.b;
+    power = is.power;
+    drawn = drawn_is m palette oam v B _ (drawn_line v.scan h) (drawn_is m palette oam v A v.drawn (drawn_line v.scan h) is.drawn);
+    whole = is.whole;
+  }
+
+  left : blanks_drawn_line v.scan ≡ false → IsVideo (record v { scan = scan_after v.scan })
+  left h = record {
+    line = line_is v.scan is.line;
+    nine = is.nine;
+    seven = is.seven;
+    a = is.a;
+    b = is.b;
+    power = is.power;
+    drawn = is.drawn;
+    whole = is.whole;
+  }
+
+line_started_is : (line : ℕ) (v : VideoState) → IsVideo v → IsVideo (video_line_started line v)
+line_started_is line v is = record {
+  line = line_is v.scan is.line;
+  nine = record { kept = is.nine.kept };
+  seven = record { kept = is.seven.kept };
+  a = either (IsEngine A) (line == 0) _ _ (started_all A v.a is.a) is.a;
+  b = either (IsEngine B) (line == 0) _ _ (started_all B v.b is.b) is.b;
+  power = is.power;
+  drawn = is.drawn;
+  whole = either IsFrame (line == 192) _ _ is.drawn is.whole;
+}
+
+unless_is : (stop : Option Stop) (made left : VideoState) → IsVideo made → IsVideo left → IsVideo (unless_stop stop made left)
+unless_is None made left is was = is
+unless_is (Some stop) made left is was = was
+
+event_is : (m : Banks) (palette oam : List ℕ) (v : VideoState) → IsVideo v → IsVideo (video_after_event m palette oam v)
+event_is m palette oam v is =
+    unless_is (video_stop oam v) _ _
+    (either IsVideo v.scan.blanked _ _ (line_started_is (line_after v.scan.line) v is) (blanked_is m palette oam v is)) is
+
+-- ---- boot
+
+none_kept : (n mask : ℕ) → n ≡ 0 → bit_and n mask ≡ n
+none_kept n mask e = rw e refl
+
+boot_engine : (which : Engine) → IsEngine which engine_at_boot
+unfolding zeroes
+boot_engine which = record {
+  long = refl;
+  kept = λ at lt. none_kept (slice_index (replicate 112 0) at) (kept_bits_at which at) (get_or-replicate 112 at 0 0 lt);
+  two = record { x = omega arith; y = omega arith };
+  three = record { x = omega arith; y = omega arith };
+}
+
+all_black : (n : ℕ) → AllByRecursion IsColour (replicate n 0)
+all_black zero = tt
+all_black (suc n) = (omega arith, all_black n)
+
+boot_frame : IsFrame (zeroes 98304)
+unfolding zeroes
+boot_frame = record { long = length-replicate {A = ℕ} 98304 0; colours = all_black 98304 }
+
+pub stays_video : StaysVideo
+stays_video = record {
+  boot = record {
+    line = omega arith;
+    nine = record { kept = refl };
+    seven = record { kept = refl };
+    a = boot_engine A;
+    b = boot_engine B;
+    power = omega arith;
+    drawn = boot_frame;
+    whole = boot_frame;
+  };
+  write = λ proc v at width value is. write_is proc v (aligned_down width at) width value is;
+  event = event_is;
+}

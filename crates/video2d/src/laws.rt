@@ -1,0 +1,10 @@
+//! What holds of the display at every time.
+
+ghost use Rattle.video2d.specs.Invariants.{StaysVideo};
+
+/// Does nothing; its contract states that at boot, and after each write of a port and each event, registers have the bits that they keep and no
+/// others, running points are words, and the pixels of both frames are colours, whose bit 15 is 0.
+#[tactic(auto, using(crate::proofs::VideoLaws::stays_video))]
+pub fn video_laws()
+    ensures { StaysVideo }
+{}

@@ -15,7 +15,8 @@ use Rattle.ds_dma.proofs.Turns.{all_later}
 use Rattle.ds_ipc.specs.Ipcs.{other_proc}
 use Rattle.ds_map.specs.Accesses.{map_value}
 use Rattle.ds_map.specs.Maps.{MapState}
-use Rattle.ds_map.specs.Moves.{next_unit, map_after_unit, unit_read, unit_refusal, unit_taken}
+use Rattle.ds_map.proofs.Waiting.{unit_waits_most}
+use Rattle.ds_map.specs.Moves.{unit_waits, next_unit, map_after_unit, unit_read, unit_refusal, unit_taken}
 use Rattle.ds_map.proofs.Later.{map_read_unchanged, map_write_goes}
 use Rattle.ds_ports.specs.Dues.{held_due, io_due}
 use Rattle.ds_ports.specs.Happenings.{IsIo, IsTold, Goes, IsUnchanged, HasOnlyLaterEvents, ReschedulesEach}
@@ -34,7 +35,8 @@ use Rattle.ds_machine.specs.Channels.{channel_step, delayed_past, moved_by, one_
 use Rattle.ds_machine.specs.Reference.{Shown, due_unless, processor_due}
 use Rattle.ds_machine.specs.Sound.{HasSoundParts}
 use Rattle.ds_machine.specs.States.{MachineState, ProcessorState, counts_of}
-use Rattle.ds_machine.specs.Steps.{is_blocked, is_halted, map_of, processor_of, with_map, with_processor}
+use Rattle.ds_machine.proofs.Ticks.{after_unit}
+use Rattle.ds_machine.specs.Steps.{due_past_unit, is_blocked, is_halted, map_of, processor_of, with_map, with_processor}
 use Rattle.ds_machine.proofs.Moves.{Moves, left_after, other_held, unchanged_held, unchanged_io_dues, unchanged_io, moves_of, same_keys, then_io_dues}
 use Rattle.ds_machine.proofs.Rooms.{unit_within}
 use Rattle.ds_machine.proofs.Wakes.{halted_blocks, put_beside, put_counts, put_other, put_processor_io}
@@ -96,7 +98,7 @@ event_counts s = omega arith
 pub unit_counts : (proc : Proc) (now : Tick) (unit : DmaUnit) (s : MachineState) → counts_of (machine_after_unit proc now unit s) ≡ counts_of s + 1
 unit_counts proc now unit s =
     let moved = with_map proc s (map_after_unit None proc now unit (map_of proc s)) in
-    let k = put_counts proc moved (past_tick (is_halted moved proc) now (processor_of moved proc)) in
+    let k = put_counts proc moved (past_tick (is_halted moved proc) (due_past_unit moved proc now) (processor_of moved proc)) in
     let e = event_counts (delayed_past proc now moved) in
     omega (arith, k, e)
 
@@ -141,10 +143,11 @@ same_some : (proc : Proc) (old new : IoState) → IsUnchanged (io_of old proc) (
 same_some proc old new left h = subst (λ (dma : DmaState). IsSome (dma_due dma)) (sym left.dma) h
 
 -- a processor that waits until after a tick is due later, or not at all
-past_later : (now : Tick) (halted blocked : Bool) (p : ProcessorState) → (halted ≡ true → blocked ≡ true) → IsLater now (due_unless blocked (past_tick halted now p))
-past_later now halted true p h = tt
-past_later now true false p h = absurd (true≢false (sym (h refl)))
-past_later now false false p h = omega (arith, le-max_right p.due (now.0 + 1))
+past_later : (now : Tick) (least : ℕ) (halted blocked : Bool) (p : ProcessorState) → now.0 < least → (halted ≡ true → blocked ≡ true)
+    → IsLater now (due_unless blocked (past_tick halted least p))
+past_later now least halted true p lt h = tt
+past_later now least true false p lt h = absurd (true≢false (sym (h refl)))
+past_later now least false false p lt h = omega (arith, lt, le-max_right p.due least)
 
 module _ (proc : Proc) (channel : ℕ) (now : Tick) (unit : DmaUnit) (s : MachineState) (sound : HasSoundParts s) (lt : channel < 4)
     (due : io_due (Dma proc channel) s.io ≡ Some now)
@@ -165,7 +168,7 @@ module _ (proc : Proc) (channel : ℕ) (now : Tick) (unit : DmaUnit) (s : Machin
   read_io = unchanged_io s.io read sound.io left
 
   moves : MovedGoes proc now read taken.io
-  moves = moved_goes proc now 0 read (omega arith) read_io (same_some proc s.io read (left.processor_io proc) (channel_is_due proc channel now s.io due))
+  moves = moved_goes proc now (unit_waits proc unit (map_of proc s)) read (unit_waits_most proc unit (map_of proc s)) read_io (same_some proc s.io read (left.processor_io proc) (channel_is_due proc channel now s.io due))
 
   is_quiet : HasOnlyLaterEvents now (io_of taken.io proc)
   is_quiet = record {
@@ -202,7 +205,7 @@ module _ (proc : Proc) (channel : ℕ) (now : Tick) (unit : DmaUnit) (s : Machin
   io = goes_io proc now taken.io written.io (unit_within proc channel now unit s sound.io.gx due) moves.io goes
 
   abbrev past : ProcessorState
-  past = let m = with_map proc s written in past_tick (is_halted m proc) now (processor_of m proc)
+  past = let m = with_map proc s written in past_tick (is_halted m proc) (due_past_unit m proc now) (processor_of m proc)
 
   pub unit_moves : Moves now s (machine_after_unit proc now unit s)
   unit_moves =
@@ -212,7 +215,7 @@ module _ (proc : Proc) (channel : ℕ) (now : Tick) (unit : DmaUnit) (s : Machin
       moves_of now s next (same_keys now s.keys next.keys b.keys) (subst (ReschedulesEach now s.io) (sym b.io) dues)
       (of_both (λ each. Reschedules now (processor_due s each) (processor_due next each)) proc
       (inr (subst (IsLater now) (sym (event_due (with_processor proc m past) proc ∙ put_processor_io proc m past))
-      (past_later now (is_halted m proc) (is_blocked m proc) (processor_of m proc) (halted_blocks m proc))))
+      (past_later now (due_past_unit m proc now) (is_halted m proc) (is_blocked m proc) (processor_of m proc) (after_unit (io_of m.io proc).dma.last now) (halted_blocks m proc))))
       (inl (event_due (with_processor proc m past) (other_proc proc) ∙ put_other proc m past ∙ left_due proc s written (other_proc proc) other_as_before)))
 
   -- the other processor's own, and the display, are as before

@@ -1,4 +1,4 @@
-use Rattle.std.proofs.Common.{ℕ, ◌≡◌, ◌/◌, ◌%◌, ◌^◌, Bool, true, false, if◌then◌else◌, List, [], ◌∷◌, Option, Some, None, refl, ◌∙◌, ap}
+use Rattle.std.proofs.Common.{ℕ, ◌≡◌, ◌+◌, ◌/◌, ◌%◌, ◌^◌, Bool, true, false, if◌then◌else◌, List, [], ◌∷◌, Option, Some, None, refl, ◌∙◌, ap}
 use Rattle.ds_base.specs.Accesses.{Access, Fetch, MemoryMachine, Performed, Read, Write, perform, refused_or, with_value}
 use Rattle.ds_base.specs.declared.left_out.Stop.{Stop}
 use Rattle.ds_base.specs.declared.memories.Width.{Width}
@@ -15,9 +15,9 @@ use Rattle.arm_core.specs.Meanings.{meaning, skipped}
 use Rattle.arm_core.specs.Registers.{RegisterState, is_thumb}
 use Rattle.arm_core.specs.Steps as steps
 use Rattle.arm_core.specs.Steps.{FetchOutcome, Setting, enters, executed_word, fetched, fetched_half, fetched_word, stop_of}
-use Rattle.ds_machine.specs.Private.{data_accesses}
-use Rattle.ds_machine.specs.PrivateSides.{SideOf, side_taken}
-use Rattle.ds_machine.specs.Sides.{taken}
+use Rattle.ds_map.specs.Waits.{unless_refused, waits_of}
+use Rattle.ds_machine.specs.Sides.{data_accesses, data_waits, next_fetch, waits_of_step, taken}
+use Rattle.ds_machine.specs.PrivateSides.{SideOf, side_step, side_taken, side_waits}
 
 -- A change of what a processor reaches that none of its accesses tells or undoes, none of its steps does.
 
@@ -108,6 +108,47 @@ module _ {S : Type 0} (m : MemoryMachine S) (All : S → List Access → Type 0)
       number = ap (λ (word : ℕ). word / 2 ^ 28) (c.fetched s old.pc Word [] (i Word));
       instr = ap (decoded_arm arch) (c.fetched s old.pc Word [] (i Word));
     }
+
+  -- so its waits are, where each access waits as long in the changed state
+  module _ (wait : S → Access → ℕ) (same : (s : S) (access : Access) (rest : List Access) → All s (access ∷ rest) → wait (f s) access ≡ wait s access) where
+    waits_commute : (s : S) (accesses : List Access) → All s accesses → waits_of m wait (f s) accesses ≡ waits_of m wait s accesses
+    waits_commute s [] i = refl
+    waits_commute s (Fetch at width ∷ rest) i =
+        let first = wait s (Fetch at width) in
+        ap (λ (n : ℕ). n + waits_of m wait (m.fetch_next (f s) at width) rest) (same s (Fetch at width) rest i)
+        ∙ ap (λ (x : S). first + waits_of m wait x rest) (c.fetches s at width rest i)
+        ∙ ap (λ (n : ℕ). first + n) (waits_commute (m.fetch_next s at width) rest (c.fetch_stays s at width rest i))
+    waits_commute s (Read at width ∷ rest) i =
+        let first = wait s (Read at width) in
+        ap (λ (n : ℕ). n + waits_of m wait (m.read_next (f s) at width) rest) (same s (Read at width) rest i)
+        ∙ ap (λ (x : S). first + waits_of m wait x rest) (c.reads s at width rest i)
+        ∙ ap (λ (n : ℕ). first + n) (waits_commute (m.read_next s at width) rest (c.read_stays s at width rest i))
+    waits_commute s (Write at width value ∷ rest) i =
+        let first = wait s (Write at width value) in
+        let next = m.write_next s at width value in
+        let stop = m.refusal s at width value in
+        ap (λ (n : ℕ). n + unless_refused (m.refusal (f s) at width value) (waits_of m wait (m.write_next (f s) at width value) rest)) (same s (Write at width value) rest i)
+        ∙ ap (λ (x : Option Stop). first + unless_refused x (waits_of m wait (m.write_next (f s) at width value) rest)) (c.refuses s at width value rest i)
+        ∙ ap (λ (x : S). first + unless_refused stop (waits_of m wait x rest)) (c.writes s at width value rest i)
+        ∙ ap (λ (n : ℕ). first + unless_refused stop n) (waits_commute next rest (c.write_stays s at width value rest i))
+
+  pub step_waits_commute : (side : SideOf S) (line : Bool) (old : RegisterState) (s : S)
+      → ((s : S) (access : Access) (rest : List Access) → All s (access ∷ rest) → side.wait (f s) access ≡ side.wait s access)
+      → ((width : Width) → All s (Fetch old.pc width ∷ [])) → side.base (f s) ≡ side.base s
+      → (enters line old ≡ false → All s (data_accesses side.arch (side.base s) old (fetched m side.arch old s).instr))
+      → side_waits m side line old (f s) ≡ side_waits m side line old s
+  unfolding waits_of_step
+  step_waits_commute side line old s same fetch base apart = by_entry (enters line old) refl where
+    by_entry : (b : Bool) → enters line old ≡ b → (if b then 0 else side.wait (f s) (next_fetch old) + data_waits m (side_step side) old (f s))
+        ≡ (if b then 0 else side.wait s (next_fetch old) + data_waits m (side_step side) old s)
+    by_entry true e = refl
+    by_entry false e =
+        let first = side.wait s (next_fetch old) in
+        let instr = (fetched m side.arch old s).instr in
+        ap (λ (n : ℕ). n + data_waits m (side_step side) old (f s)) (same s (next_fetch old) [] (fetch (if is_thumb old then Half else Word)))
+        ∙ ap (λ (b : ℕ). first + waits_of m side.wait (f s) (data_accesses side.arch b old (fetched m side.arch old (f s)).instr)) base
+        ∙ ap (λ (i : Option Instr). first + waits_of m side.wait (f s) (data_accesses side.arch (side.base s) old i)) (fetched_commutes side.arch old s fetch).instr
+        ∙ ap (λ (n : ℕ). first + n) (waits_commute side.wait same s (data_accesses side.arch (side.base s) old instr) (apart e))
 
   pub taken_commutes : (side : SideOf S) (line : Bool) (old : RegisterState) (s : S) → All s [] → ((width : Width) → All s (Fetch old.pc width ∷ [])) → side.base (f s) ≡ side.base s
       → (enters line old ≡ false → (let fetch = fetched m side.arch old s in side.executed old (f s) fetch.number fetch.instr ≡ outcome_so f (side.executed old s fetch.number fetch.instr)))

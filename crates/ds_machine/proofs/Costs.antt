@@ -17,10 +17,13 @@ use Rattle.arm9_exec.specs.Coprocessors.{move_of}
 use Rattle.arm9_exec.specs.declared.coprocessors.Moved.{Moved}
 use Rattle.arm9_exec.proofs.Costs.{moved_costs}
 use Rattle.ds_map.specs.Views.{NineReach, nine_memory, seven_memory}
-use Rattle.ds_machine.specs.PrivateSides.{SideOf, nine_side, seven_side, side_taken}
+use Rattle.ds_machine.specs.PrivateSides.{SideOf, nine_side, seven_side, side_taken, side_waits}
 use Rattle.ds_machine.specs.Sides.{nine_executed, taken}
 use Rattle.ds_machine.specs.States.{MachineState}
-use Rattle.ds_machine.specs.Steps.{line_of, nine_reach, outcome_of, seven_reach}
+use Rattle.arm_core.specs.declared.outcomes.Stepped as arm
+use Rattle.arm_core.specs.declared.outcomes.Stepped.TheVariants.{Cost, Halted, Left}
+use Rattle.ds_machine.specs.Steps.{in_ticks, line_of, nine_reach, outcome_of, seven_reach}
+use Rattle.ds_machine.proofs.Ticks.{some_ticks}
 
 -- Every step of a processor costs a clock at least, since what it executes does.
 
@@ -39,8 +42,22 @@ nine_costs : (s : RegisterState) (r : NineReach) (number : ℕ) (instr : Option 
 nine_costs s r number instr None = word_costs nine_memory (arm9 r.cp15) s r number instr
 nine_costs s r number instr (Some move) = moved_costs s r.cp15 move (holds move.cond s.cpsr) refl
 
+-- a clock is a tick at least
+ticks_cost : (proc : Proc) (waits : ℕ) (came : arm.Stepped) → CostsSome came → CostsSome (in_ticks proc waits came)
+ticks_cost proc waits (Cost clocks) some = some_ticks proc clocks waits some
+ticks_cost proc waits (Halted clocks) some = tt
+ticks_cost proc waits (Left stop) some = tt
+
 pub step_costs : (proc : Proc) (now : Tick) (s : MachineState) → CostsSome (outcome_of proc now s).stepped
 step_costs Nine now s =
-    taken_costs nine_memory nine_side (λ old r number instr. nine_costs old r number instr (move_of instr)) (line_of s Nine) s.nine.processor.registers (nine_reach now s)
+    let line = line_of s Nine in
+    let old = s.nine.processor.registers in
+    let r = nine_reach now s in
+    ticks_cost Nine (side_waits nine_memory nine_side line old r) (side_taken nine_memory nine_side line old r).stepped
+    (taken_costs nine_memory nine_side (λ old r number instr. nine_costs old r number instr (move_of instr)) line old r)
 step_costs Seven now s =
-    taken_costs seven_memory seven_side (λ old r number instr. word_costs seven_memory arm7 old r number instr) (line_of s Seven) s.seven.processor.registers (seven_reach now s)
+    let line = line_of s Seven in
+    let old = s.seven.processor.registers in
+    let r = seven_reach now s in
+    ticks_cost Seven (side_waits seven_memory seven_side line old r) (side_taken seven_memory seven_side line old r).stepped
+    (taken_costs seven_memory seven_side (λ old r number instr. word_costs seven_memory arm7 old r number instr) line old r)

@@ -22,7 +22,8 @@ use Rattle.arm_ops.specs.declared.operations.Operation.{Operation}
 use Rattle.arm_ops.specs.declared.operations.TransferOp.{TransferOp}
 use Rattle.arm_ops.specs.declared.operations.TransferOp.TheVariants.{WordOrByte, HalfOrSigned}
 use Rattle.arm_ops.proofs.Laws.{made_accesses, operation_means}
-use Rattle.ds_machine.specs.Private.{AllReachPrivate, ReachesPrivate, data_accesses, may_go_ahead, next_fetch}
+use Rattle.ds_machine.specs.Private.{AllReachPrivate, ReachesPrivate, may_go_ahead}
+use Rattle.ds_machine.specs.Sides.{data_accesses, next_fetch}
 use Rattle.ds_machine.specs.PrivateSides.{SideOf}
 use Rattle.ds_machine.specs.Touching.{DataStays, GoesByWords, access_stays}
 use Rattle.ds_machine.proofs.PrivatePlaces.{private_itself}

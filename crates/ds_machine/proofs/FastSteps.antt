@@ -166,18 +166,18 @@ end_stays tick s is settled asleep =
 
 -- so ends a step that costs
 pub cost_ends : (s : MachineState) (rank : ℕ) (proc : Proc) (tick : Tick) (clocks : ℕ) → IsIo s.io → is_settled s.io ≡ true → AreAsleep s → is_blocked s proc ≡ false
-    → awake (Some tick) (machine_concluded rank proc s (Cost clocks)) ≡ Makes (with_processor proc s (went_on proc clocks false (processor_of s proc))) []
+    → awake (Some tick) (machine_concluded rank proc s (Cost clocks)) ≡ Makes (with_processor proc s (went_on clocks false (processor_of s proc))) []
 cost_ends s rank proc tick clocks sound settled asleep blocked =
-    let p = went_on proc clocks false (processor_of s proc) in
+    let p = went_on clocks false (processor_of s proc) in
     let next = with_processor proc s p in
     let io = (put_beside proc s p).io in
-    let came : Bool → MachineStep MachineState Shown LeftOut = λ b. awake (Some tick) (Makes (with_processor proc s (went_on proc clocks b (processor_of s proc))) []) in
+    let came : Bool → MachineStep MachineState Shown LeftOut = λ b. awake (Some tick) (Makes (with_processor proc s (went_on clocks b (processor_of s proc))) []) in
     ap came (not_halted s proc blocked)
     ∙ ap (λ (m : MachineState). (let step : MachineStep MachineState Shown LeftOut = Makes m [] in step)) (end_stays tick next (subst IsIo (sym io) sound) (ap is_settled io ∙ settled)
     (λ who. ap (λ (u : IoState). (io_of u who).halted && shares_bit (io_of u who).irq) io ∙ asleep who))
 
 pub cost_fast : (next_event : NextEvent) (s : MachineState) (rank : ℕ) (proc : Proc) (tick : Tick) (clocks : ℕ) → IsIo s.io → IsNextEvent next_event s → 0 < next_event.events_until.0 → is_blocked s proc ≡ false
-    → awake (Some tick) (machine_concluded rank proc s (Cost clocks)) ≡ stepped_of s answers.Made (with_processor proc s (went_on proc clocks false (processor_of s proc)))
+    → awake (Some tick) (machine_concluded rank proc s (Cost clocks)) ≡ stepped_of s answers.Made (with_processor proc s (went_on clocks false (processor_of s proc)))
 cost_fast next_event s rank proc tick clocks sound is some blocked = cost_ends s rank proc tick clocks sound (is.settled some) (is.asleep some) blocked
 
 -- what is kept stays at it
@@ -199,7 +199,7 @@ free_stays proc s next io free = ap (λ (u : IoState). is_held u proc) io ∙ fr
 -- the whole of it
 pub made_fast : (next_event : NextEvent) (s m next : MachineState) (rank : ℕ) (proc : Proc) (tick : Tick) (clocks : ℕ) → IsIo m.io → IsNextEvent next_event m → 0 < next_event.events_until.0 → is_blocked m proc ≡ false
     → tick ≡ tick_of (processor_of s proc) → m ≡ (outcome_of proc tick s).machine → Cost clocks ≡ (outcome_of proc tick s).stepped
-    → next ≡ with_processor proc m (went_on proc clocks false (processor_of m proc))
+    → next ≡ with_processor proc m (went_on clocks false (processor_of m proc))
     → awake (Some tick) (step_by rank (Processor proc) s) ≡ stepped_of s answers.Made next
 made_fast next_event s m next rank proc tick clocks sound is some blocked at machine stepped e =
     step_concluded rank proc tick s m next (Cost clocks) answers.Made at machine stepped

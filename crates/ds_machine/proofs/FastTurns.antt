@@ -59,7 +59,7 @@ module _ (next_event : NextEvent) (s : MachineState) (proc : Proc) (until limit 
   -- a step that costs and reaches what is near
   pub went_fast : (m next : MachineState) (clocks : ℕ) → n < until → IsLeast (acting_dues s) (record { 0 = n }) (rank_of proc) ⊎ IsAhead s proc
       → m ≡ (outcome_of proc (record { 0 = n }) s).machine → (outcome_of proc (record { 0 = n }) s).stepped ≡ Cost clocks → m.io ≡ s.io
-      → next ≡ with_processor proc m (went_on proc clocks false (processor_of m proc)) → DataStaysNear (record { 0 = n }) s proc
+      → next ≡ with_processor proc m (went_on clocks false (processor_of m proc)) → DataStaysNear (record { 0 = n }) s proc
       → TookStep until proc s next × GoesFast until proc next_event limit next
   went_fast m next clocks lt goes_now machine stepped io e near =
       let tick : Tick = record { 0 = n } in
@@ -68,10 +68,10 @@ module _ (next_event : NextEvent) (s : MachineState) (proc : Proc) (until limit 
       let sound = subst IsIo (sym io) (some_sound s goes.running).parts.io in
       let made = made_fast next_event s m next (rank_of proc) proc tick clocks sound kept goes.some (free_stays proc s m io d.free) d.own machine
       (sym stepped) e in
-      let units : next.io ≡ s.io = ap (λ (x : MachineState). x.io) e ∙ (put_beside proc m (went_on proc clocks false (processor_of m proc))).io ∙ io in
+      let units : next.io ≡ s.io = ap (λ (x : MachineState). x.io) e ∙ (put_beside proc m (went_on clocks false (processor_of m proc))).io ∙ io in
       let took = took_when next_event s next proc n until goes.running d lt early goes_now (near_unobserved s proc tick d.own near) made units
-      (other_stays proc tick s m next (went_on proc clocks false (processor_of m proc)) machine e) in
-      (took, goes_after next took (cost_keeps next_event m next proc (went_on proc clocks false (processor_of m proc)) kept e))
+      (other_stays proc tick s m next (went_on clocks false (processor_of m proc)) machine e) in
+      (took, goes_after next took (cost_keeps next_event m next proc (went_on clocks false (processor_of m proc)) kept e))
 
 -- ---- a loop over them: the steps so far were of the turn, and the next goes by the same
 

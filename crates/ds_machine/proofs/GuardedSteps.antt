@@ -54,7 +54,7 @@ use Rattle.ds_machine.proofs.Rooms.{due_unstalled, few_have_room, instructions_f
 is_within : (n : ℕ) → n ≤ 320 → nat_lt 320 n ≡ false
 is_within n h = grind (arith, h)
 
-unguarded : (m : MapState) (at : ℕ) → HasRoom m → is_guarded Nine m at ≡ false
+pub unguarded : (m : MapState) (at : ℕ) → HasRoom m → is_guarded Nine m at ≡ false
 unguarded m at h = room_meets_none Nine m at (is_within (waiting_entries m.io.gx) h)
 
 same_performed : (accesses : List Access) (r : NineReach) → FindsRoom accesses r → perform guarded_memory r accesses ≡ perform nine_memory r accesses

@@ -1,4 +1,4 @@
-use Rattle.std.proofs.Common.{ℕ, ◌≡◌, ◌≢◌, ◌<◌, ◌&&◌, Bool, true, false, List, [], Some, refl, sym, ◌∙◌, ap, subst}
+use Rattle.std.proofs.Common.{ℕ, ◌≡◌, ◌≢◌, ◌<◌, ◌+◌, arith, ◌&&◌, Bool, true, false, List, [], Some, refl, sym, ◌∙◌, ap, subst}
 use Rattle.ds_base.specs.Schedules.{IsLater}
 use Rattle.ds_base.specs.declared.left_out.LeftOut.{LeftOut}
 use Rattle.ds_base.specs.declared.processors.Proc.{Proc}
@@ -25,29 +25,29 @@ use Rattle.ds_machine.specs.Apart.{NineOwn, nine_own_of, with_nine_own, with_nin
 use Rattle.ds_machine.specs.Private.{IsHarmless, IsPrivate, ProcessorStaysPrivate, StaysPrivate, is_deaf}
 use Rattle.ds_machine.specs.Reference.{Shown, awake, due_by, due_unless, processor_due, reference_step}
 use Rattle.ds_machine.specs.Sound.{AreAsleep, IsSound}
-use Rattle.ds_machine.specs.PrivateSides.{nine_side, seven_side, side_taken}
+use Rattle.ds_machine.specs.PrivateSides.{nine_side, seven_side, side_taken, side_waits}
 use Rattle.ds_machine.specs.States.{MachineState, ProcessorState, SevenState}
 use Rattle.ds_machine.specs.Steps.{is_blocked, line_of, machine_concluded, nine_reach, processor_of, seven_reach, tick_of, went_on, with_nine, with_processor, with_seven}
 use Rattle.ds_machine.proofs.DueTicks.{steps_as}
 use Rattle.ds_machine.proofs.FastSteps.{cost_ends}
 use Rattle.ds_machine.proofs.Moves.{later_unless}
 use Rattle.ds_machine.proofs.OwnShares.{is_shared_so}
-use Rattle.ds_machine.proofs.PrivateAccesses.{StepsAlike, costing}
+use Rattle.ds_machine.proofs.PrivateAccesses.{StepsAlike, costing, ticked_alike}
 use Rattle.ds_machine.proofs.PrivateSides.{NineReachOwn, NineShared, nine_apart, nine_executes, put_nine, put_shared, shared_wrote, put_seven, seven_apart, seven_executes, seven_wrote}
-use Rattle.ds_machine.proofs.PrivateSteps.{private_alike, taken_alike}
-use Rattle.ds_machine.proofs.ProcessorSteps.{later_by}
+use Rattle.ds_machine.proofs.PrivateSteps.{private_alike, step_waits_alike, taken_alike}
+use Rattle.ds_machine.proofs.Ticks.{ticked}
 
 -- A harmless step changes the processor's own part alone, depends on it alone, and never stops.
 
 -- ---- what it makes of the own part: what it would make of it beside any rest, where the line is down
 
-abbrev pub clocks_of : arm.Stepped → ℕ
-clocks_of (Cost clocks) = clocks
-clocks_of (Halted clocks) = clocks
-clocks_of (Left stop) = 0
+abbrev pub ticks_in : arm.Stepped → ℕ
+ticks_in (Cost ticks) = ticks
+ticks_in (Halted ticks) = ticks
+ticks_in (Left stop) = 0
 
-abbrev pub went_by : Proc → ProcessorState → RegisterState → arm.Stepped → ProcessorState
-went_by proc p registers stepped = went_on proc (clocks_of stepped) false (record p { registers = registers })
+abbrev pub went_by : ProcessorState → RegisterState → arm.Stepped → ProcessorState
+went_by p registers stepped = went_on (ticks_in stepped) false (record p { registers = registers })
 
 -- ARM9's
 abbrev pub nine_reached : NineOwn → NineReachOwn
@@ -62,7 +62,7 @@ nine_reached own = record {
 abbrev pub nine_by : NineOwn → Outcome NineReach → NineOwn
 nine_by own o = record {
   part = record {
-    nine = record { processor = went_by Nine own.part.nine.processor o.registers o.stepped; cp15 = o.state.cp15; itcm = o.state.itcm; dtcm = o.state.dtcm };
+    nine = record { processor = went_by own.part.nine.processor o.registers o.stepped; cp15 = o.state.cp15; itcm = o.state.itcm; dtcm = o.state.dtcm };
     palette = o.state.map.memories.palette;
     oam = o.state.map.memories.oam;
   };
@@ -70,14 +70,20 @@ nine_by own o = record {
 }
 
 abbrev pub after_nine : NineReach → NineOwn → NineOwn
-after_nine rest own = nine_by own (side_taken nine_memory nine_side false own.part.nine.processor.registers (put_nine (nine_reached own) rest))
+after_nine rest own =
+    let old = own.part.nine.processor.registers in
+    let r = put_nine (nine_reached own) rest in
+    nine_by own (ticked Nine (side_waits nine_memory nine_side false old r) (side_taken nine_memory nine_side false old r))
 
 -- ARM7's
 abbrev pub seven_by : SevenState → Outcome SevenReach → SevenState
-seven_by part o = record { processor = went_by Seven part.processor o.registers o.stepped; wram = o.state.map.memories.wram }
+seven_by part o = record { processor = went_by part.processor o.registers o.stepped; wram = o.state.map.memories.wram }
 
 abbrev pub after_seven : SevenReach → SevenState → SevenState
-after_seven rest part = seven_by part (side_taken seven_memory seven_side false part.processor.registers (put_seven part.wram rest))
+after_seven rest part =
+    let old = part.processor.registers in
+    let r = put_seven part.wram rest in
+    seven_by part (ticked Seven (side_waits seven_memory seven_side false old r) (side_taken seven_memory seven_side false old r))
 
 -- ---- the law
 
@@ -113,27 +119,47 @@ put_again tick s =
     ap (λ (xs : List ℕ). with_bytes xs (mixed apart (mixed apart bytes []) bytes)) (own_again (is_shown_to_nine s.io.wramcnt) s.shared [])
     ∙ ap (with_bytes s.shared) (own_again apart bytes [])
 
+-- a step by ticks
+abbrev nine_ticked : Bool → RegisterState → NineReach → Outcome NineReach
+nine_ticked line old r = ticked Nine (side_waits nine_memory nine_side line old r) (side_taken nine_memory nine_side line old r)
+
+abbrev seven_ticked : Bool → RegisterState → SevenReach → Outcome SevenReach
+seven_ticked line old r = ticked Seven (side_waits seven_memory seven_side line old r) (side_taken seven_memory seven_side line old r)
+
 nine_taken : (rest : NineReach) (s : MachineState) → IsHarmless s Nine
     → StepsAlike (put_shared s.shared s.io) (nine_reach (tick_of s.nine.processor) s) rest
-    (side_taken nine_memory nine_side (line_of s Nine) s.nine.processor.registers (nine_reach (tick_of s.nine.processor) s))
-    (side_taken nine_memory nine_side false s.nine.processor.registers (put_nine (nine_reached (nine_own_of s)) rest))
+    (nine_ticked (line_of s Nine) s.nine.processor.registers (nine_reach (tick_of s.nine.processor) s))
+    (nine_ticked false s.nine.processor.registers (put_nine (nine_reached (nine_own_of s)) rest))
 nine_taken rest s h =
     let registers = s.nine.processor.registers in
     let there = nine_reach (tick_of s.nine.processor) s in
     let k : NineShared s.shared s.io = record { own = nine_reached (nine_own_of s); so = is_shared_so s } in
     let again = put_again (tick_of s.nine.processor) s in
-    subst (λ (r : NineReach). StepsAlike (put_shared s.shared s.io) there rest (side_taken nine_memory nine_side (line_of s Nine) registers r)
-    (side_taken nine_memory nine_side false registers (put_nine k.own rest))) again
+    let stays = subst (StaysPrivate nine_memory nine_side registers) (sym again) h.own in
+    let line = line_of s Nine in
+    let here = put_nine k.own there in
+    let beside = put_nine k.own rest in
+    subst (λ (r : NineReach). StepsAlike (put_shared s.shared s.io) there rest (nine_ticked line registers r) (nine_ticked false registers beside)) again
+    (ticked_alike (put_shared s.shared s.io) there rest (side_taken nine_memory nine_side line registers here) (side_taken nine_memory nine_side false registers beside) Nine
+    (side_waits nine_memory nine_side line registers here) (side_waits nine_memory nine_side false registers beside)
+    (step_waits_alike nine_memory nine_side (put_shared s.shared s.io) (shared_wrote s.shared s.io) (nine_apart s.shared s.io) registers k there rest
+    line false h.quiet (line_down registers) stays)
     (taken_alike nine_memory nine_side (put_shared s.shared s.io) (shared_wrote s.shared s.io) (nine_apart s.shared s.io) (nine_executes s.shared s.io) registers k there rest
-    (line_of s Nine) false h.quiet (line_down registers) (subst (StaysPrivate nine_memory nine_side registers) (sym again) h.own))
+    line false h.quiet (line_down registers) stays))
 
 seven_taken : (rest : SevenReach) (s : MachineState) → IsHarmless s Seven
     → StepsAlike put_seven (seven_reach (tick_of s.seven.processor) s) rest
-    (side_taken seven_memory seven_side (line_of s Seven) s.seven.processor.registers (seven_reach (tick_of s.seven.processor) s))
-    (side_taken seven_memory seven_side false s.seven.processor.registers (put_seven s.seven.wram rest))
+    (seven_ticked (line_of s Seven) s.seven.processor.registers (seven_reach (tick_of s.seven.processor) s))
+    (seven_ticked false s.seven.processor.registers (put_seven s.seven.wram rest))
 seven_taken rest s h =
-    taken_alike seven_memory seven_side put_seven seven_wrote seven_apart seven_executes s.seven.processor.registers s.seven.wram (seven_reach (tick_of s.seven.processor) s) rest
-    (line_of s Seven) false h.quiet (line_down s.seven.processor.registers) h.own
+    let registers = s.seven.processor.registers in
+    let there = seven_reach (tick_of s.seven.processor) s in
+    let line = line_of s Seven in
+    let beside = put_seven s.seven.wram rest in
+    ticked_alike put_seven there rest (side_taken seven_memory seven_side line registers there) (side_taken seven_memory seven_side false registers beside) Seven
+    (side_waits seven_memory seven_side line registers there) (side_waits seven_memory seven_side false registers beside)
+    (step_waits_alike seven_memory seven_side put_seven seven_wrote seven_apart registers s.seven.wram there rest line false h.quiet (line_down registers) h.own)
+    (taken_alike seven_memory seven_side put_seven seven_wrote seven_apart seven_executes registers s.seven.wram there rest line false h.quiet (line_down registers) h.own)
 
 -- of the units behind the ports video memory's bytes alone change
 io_stays : (v : cells.Banks) (wramcnt : ℕ) (u : IoState) → IsIo u → IsIo (with_shares v wramcnt u)
@@ -145,7 +171,7 @@ asleep_by s m nine seven asleep Seven = ap (λ (each : ProcessorIoState). each.h
 
 -- what a step left beside a machine's rest, and beside another, is the same once it is put into the machine
 put_after : (s : MachineState) (rest : NineReach) (own : NineReachOwn) (registers : RegisterState) (clocks : ℕ)
-    → (let m = with_nine s (costing registers (put_nine own (nine_reach (tick_of s.nine.processor) s)) clocks) in with_processor Nine m (went_on Nine clocks false (processor_of m Nine)))
+    → (let m = with_nine s (costing registers (put_nine own (nine_reach (tick_of s.nine.processor) s)) clocks) in with_processor Nine m (went_on clocks false (processor_of m Nine)))
     ≡ with_nine_own (nine_by (nine_own_of s) (costing registers (put_nine own rest) clocks)) s
 put_after s rest own registers clocks =
     let share = own.bytes.share in
@@ -185,15 +211,18 @@ inner_seven rest s calm h =
     ∙ ap (λ (o : Outcome SevenReach). (let step : MachineStep MachineState Shown LeftOut = Makes (with_seven_part (seven_by s.seven o) s) [] in step)) (sym a.there))
 
 -- after it the processor is due later
+due_later : (due ticks : ℕ) → 0 < ticks → due < due + ticks
+due_later due ticks some = omega (arith, some)
+
 pub nine_later : (rest : NineReach) (s : MachineState) → IsHarmless s Nine → s.nine.processor.due < (after_nine rest (nine_own_of s)).part.nine.processor.due
 nine_later rest s h =
     let a = nine_taken rest s h in
-    subst (λ (o : Outcome NineReach). s.nine.processor.due < (nine_by (nine_own_of s) o).part.nine.processor.due) (sym a.there) (later_by Nine s.nine.processor.due a.clocks a.some)
+    subst (λ (o : Outcome NineReach). s.nine.processor.due < (nine_by (nine_own_of s) o).part.nine.processor.due) (sym a.there) (due_later s.nine.processor.due a.clocks a.some)
 
 pub seven_later : (rest : SevenReach) (s : MachineState) → IsHarmless s Seven → s.seven.processor.due < (after_seven rest s.seven).processor.due
 seven_later rest s h =
     let a = seven_taken rest s h in
-    subst (λ (o : Outcome SevenReach). s.seven.processor.due < (seven_by s.seven o).processor.due) (sym a.there) (later_by Seven s.seven.processor.due a.clocks a.some)
+    subst (λ (o : Outcome SevenReach). s.seven.processor.due < (seven_by s.seven o).processor.due) (sym a.there) (due_later s.seven.processor.due a.clocks a.some)
 
 -- the memories are shared out as before
 pub nine_fits : (rest : NineReach) (s : MachineState) → IsHarmless s Nine → IsSharedSo (after_nine rest (nine_own_of s)).share s.shared s.io

@@ -13,9 +13,8 @@ use Rattle.arm_core.specs.Meanings.{meaning, skipped}
 use Rattle.arm_core.specs.Registers.{RegisterState}
 use Rattle.arm_core.specs.Steps as steps
 use Rattle.arm_core.specs.Steps.{Setting, enters, executed_word, fetched, stop_of}
-use Rattle.ds_machine.specs.Private.{data_accesses}
+use Rattle.ds_machine.specs.Sides.{data_accesses, taken}
 use Rattle.ds_machine.specs.PrivateSides.{SideOf, side_taken}
-use Rattle.ds_machine.specs.Sides.{taken}
 
 -- What each access of a memory machine makes of its state, a step over it makes of it.
 

@@ -55,14 +55,15 @@ use Rattle.ds_machine.specs.Touched.{machine_graft, step_with, unchanged_by}
 use Rattle.ds_machine.specs.Channels.{channel_step, delayed_past, moved_by, one_event}
 use Rattle.ds_machine.specs.Lagging.{access_observes, any_observes, channel_observes, is_observed_past, is_observed_place, nine_observes, observes_by}
 use Rattle.ds_ports.specs.Acting.{any_armed, is_armed}
-use Rattle.ds_machine.specs.Private.{data_accesses}
+use Rattle.ds_machine.specs.Sides.{data_accesses, nine_executed}
 use Rattle.ds_machine.specs.Reference.{Shown, after_event, after_line, after_video, shown_at, step_by, swapped_if, video_step}
-use Rattle.ds_machine.specs.PrivateSides.{nine_side, side_taken}
-use Rattle.ds_machine.specs.Sides.{nine_executed}
+use Rattle.ds_map.specs.Waits.{nine_wait}
+use Rattle.ds_machine.specs.PrivateSides.{nine_side, side_taken, side_waits}
 use Rattle.ds_machine.specs.States.{MachineState}
 use Rattle.ds_machine.specs.Statuses.{left_by}
 use Rattle.ds_machine.specs.Steps.{ended, goes_on, line_of, machine_concluded, machine_settled, map_of, nine_reach, tick_of, wakes, with_io, with_map, with_nine, woken, woken_one}
-use Rattle.ds_machine.proofs.Commutes.{Commutes, outcome_so, taken_commutes, word_commutes}
+use Rattle.ds_machine.proofs.Commutes.{Commutes, outcome_so, step_waits_commute, taken_commutes, word_commutes}
+use Rattle.ds_machine.proofs.Ticks.{ticked, ticked_so}
 use Rattle.ds_machine.proofs.Keeps.{FollowsEach, taken_leads, word_leads}
 use Rattle.ds_machine.proofs.Touched.{comes_to_same, each_touches}
 
@@ -201,6 +202,11 @@ nine_commutes g = record {
   write_stays = λ r at width value rest h. rest_apart r (nine_memory.write_next r at width value) (Write at width value) rest (written_on r at width value rest h) h;
 }
 
+nine_waits_so : (g : GxState) (r : NineReach) (access : Access) → nine_wait (nine_put g r) access ≡ nine_wait r access
+nine_waits_so g r (Fetch at width) = refl
+nine_waits_so g r (Read at width) = refl
+nine_waits_so g r (Write at width value) = refl
+
 abbrev NineArms : NineReach → NineReach → Type 0
 NineArms r left = ArmsNoMore r.map.io.nine.dma left.map.io.nine.dma
 
@@ -242,6 +248,19 @@ module _ (old : RegisterState) (r : NineReach) where
       taken_commutes nine_memory NoneObserve (nine_put g) (nine_commutes g) nine_side line old r refl (λ width. refl) refl (λ e.
       executed_same g next_word.number next_word.instr (move_of next_word.instr) (past_entry (enters line old) (any_observes r (data_accesses V5 (vectors_of r.cp15) old next_word.instr)) h e))
 
+  waits_same : (g : GxState) (line : Bool) → IsApart line → side_waits nine_memory nine_side line old (nine_put g r) ≡ side_waits nine_memory nine_side line old r
+  waits_same g line h =
+      step_waits_commute nine_memory NoneObserve (nine_put g) (nine_commutes g) nine_side line old r (λ r access rest h. nine_waits_so g r access) (λ width. refl) refl
+      (λ e. past_entry (enters line old) (any_observes r (data_accesses V5 (vectors_of r.cp15) old next_word.instr)) h e)
+
+  -- and by ticks
+  came_same : (g : GxState) (line : Bool) → IsApart line
+      → ticked Nine (side_waits nine_memory nine_side line old (nine_put g r)) (side_taken nine_memory nine_side line old (nine_put g r))
+      ≡ outcome_so (nine_put g) (ticked Nine (side_waits nine_memory nine_side line old r) (side_taken nine_memory nine_side line old r))
+  came_same g line h =
+      ticked_so Nine (side_waits nine_memory nine_side line old (nine_put g r)) (side_waits nine_memory nine_side line old r) (nine_put g)
+      (side_taken nine_memory nine_side line old (nine_put g r)) (side_taken nine_memory nine_side line old r) (waits_same g line h) (taken_same g line h)
+
   taken_arms : (line : Bool) → IsApart line → NineArms r (side_taken nine_memory nine_side line old r).state
   taken_arms line h =
       taken_leads nine_memory NoneObserve NineArms nine_follows nine_side line old r refl (λ e.
@@ -280,9 +299,10 @@ module _ (count : ℕ → ℕ) (on : (n : ℕ) → count (n + 1) ≡ count n + 1
   nine_lets rank s h =
       let r = nine_reach (tick_of s.nine.processor) s in
       let old = s.nine.processor.registers in
-      let o = side_taken nine_memory nine_side (line_of s Nine) old r in
+      let line = line_of s Nine in
+      let o = ticked Nine (side_waits nine_memory nine_side line old r) (side_taken nine_memory nine_side line old r) in
       record {
-        same = ap (λ (x : Outcome NineReach). (let step : Step = machine_concluded rank Nine (with_nine (put s) x) x.stepped in step)) (taken_same old r g (line_of s Nine) h)
+        same = ap (λ (x : Outcome NineReach). (let step : Step = machine_concluded rank Nine (with_nine (put s) x) x.stepped in step)) (came_same old r g line h)
             ∙ concluded_gx rank (with_nine s o) o.stepped;
         arms = arms_then s.io.nine.dma o.state.map.io.nine.dma _ (taken_arms old r (line_of s Nine) h)
             (arms_by o.state.map.io.nine.dma _ (concluded_dma rank (with_nine s o) o.stepped));

@@ -43,7 +43,7 @@ use Rattle.ds_machine.specs.Channels.{one_event}
 use Rattle.ds_machine.specs.Lagging.{access_observes, any_observes, nine_observes, observes_by}
 use Rattle.ds_ports.specs.Acting.{any_armed, is_quiet}
 use Rattle.ds_machine.specs.Acting.{acting_due, acting_dues}
-use Rattle.ds_machine.specs.Private.{data_accesses}
+use Rattle.ds_machine.specs.Sides.{data_accesses}
 use Rattle.ds_machine.specs.Reference.{Shown, after_geometry, due_by, due_unless, reference_step}
 use Rattle.ds_machine.specs.Sound.{IsSound}
 use Rattle.ds_machine.specs.PrivateSides.{nine_side}

@@ -72,3 +72,5 @@ pub mod ObservedTests
 pub mod SameTick
 pub mod SeenSame
 pub mod Halting
+pub mod Ticks
+pub mod WaitedSteps

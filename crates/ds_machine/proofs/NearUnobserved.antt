@@ -23,7 +23,7 @@ use Rattle.ds_places.specs.declared.kinds.Place.TheVariants.{Cell, Banks, Port, 
 use Rattle.ds_places.proofs.Rows.{port_place}
 use Rattle.ds_runs.specs.declared.actors.Actor.TheVariants.{Processor}
 use Rattle.ds_machine.specs.Lagging.{any_observes, is_observed_past, is_observed_place, observes_by}
-use Rattle.ds_machine.specs.Private.{data_accesses}
+use Rattle.ds_machine.specs.Sides.{data_accesses}
 use Rattle.ds_machine.specs.SteadyPorts.{is_steady_port}
 use Rattle.ds_machine.specs.PrivateSides.{SideOf, nine_side}
 use Rattle.ds_machine.specs.States.{MachineState}

@@ -22,7 +22,8 @@ use Rattle.ds_runs.specs.Runs.{due_at}
 use Rattle.ds_runs.specs.declared.actors.Actor as actor
 use Rattle.ds_machine.specs.Lagging.{any_observes, is_observed_past, is_observed_place}
 use Rattle.ds_machine.specs.Observing.{data_unobserved}
-use Rattle.ds_machine.specs.Private.{AllReachPrivate, data_accesses}
+use Rattle.ds_machine.specs.Private.{AllReachPrivate}
+use Rattle.ds_machine.specs.Sides.{data_accesses}
 use Rattle.ds_machine.specs.Reference.{due_by, dues_of}
 use Rattle.ds_machine.specs.PrivateSides.{SideOf, nine_side}
 use Rattle.ds_machine.specs.States.{MachineState}

@@ -1,5 +1,5 @@
 use Rattle.std.proofs.Common.{ℕ, ◌≡◌, Bool, true, false, if◌then◌else◌, List, [], Option, Some, None, refl, sym, ◌∙◌, ap}
-use Rattle.ds_base.specs.Accesses.{Access}
+use Rattle.ds_base.specs.Accesses.{Access, Fetch, Read, Write}
 use Rattle.ds_base.specs.declared.left_out.LeftOut.{LeftOut}
 use Rattle.ds_base.specs.declared.left_out.Stop.{Stop}
 use Rattle.ds_base.specs.declared.processors.Proc.TheVariants.{Nine, Seven}
@@ -28,11 +28,13 @@ use Rattle.vram_banks.specs.Mixes.{mixed}
 use Rattle.ds_machine.specs.Apart.{IsOutside, NineOwn, nine_own_of, with_nine_own}
 use Rattle.ds_machine.specs.Channels.{channel_step, moved_by}
 use Rattle.ds_machine.specs.Reference.{Shown, step_by}
-use Rattle.ds_machine.specs.PrivateSides.{seven_side, side_taken}
+use Rattle.ds_map.specs.Waits.{seven_wait, wait_at}
+use Rattle.ds_machine.specs.PrivateSides.{seven_side, side_taken, side_waits}
 use Rattle.ds_machine.specs.States.{MachineState}
 use Rattle.ds_machine.specs.Touched.{step_with}
 use Rattle.ds_machine.specs.Steps.{ended, goes_on, is_halted, line_of, machine_concluded, machine_settled, map_of, seven_reach, tick_of, wakes, with_map, with_seven, woken, woken_one}
-use Rattle.ds_machine.proofs.Commutes.{Commutes, taken_commutes, word_commutes}
+use Rattle.ds_machine.proofs.Commutes.{Commutes, step_waits_commute, taken_commutes, word_commutes}
+use Rattle.ds_machine.proofs.Ticks.{ticked, ticked_so}
 use Rattle.ds_machine.proofs.OuterSteps.{not_woken, settled_halted}
 
 -- A step of an actor outside ARM9's fence comes to the same with other bytes in what ARM9 alone reaches by the present map, and leaves that as it was.
@@ -93,10 +95,20 @@ seven_commutes own = record {
   write_stays = λ r at width value rest i. seven_map.written_stays own r.map i r.now at width value;
 }
 
+-- each waits as long, since WRAMCNT is the same
+seven_waits_so : (own : SharedPart) (r : SevenReach) (access : Access) → IsReachedSo own r → seven_wait (reach_put own r) access ≡ seven_wait r access
+seven_waits_so own r (Fetch at width) i = ap (λ (w : ℕ). wait_at Seven w at width) i.wramcnt
+seven_waits_so own r (Read at width) i = ap (λ (w : ℕ). wait_at Seven w at width) i.wramcnt
+seven_waits_so own r (Write at width value) i = ap (λ (w : ℕ). wait_at Seven w at width) i.wramcnt
+
 -- ---- ARM7's step
 
+abbrev seven_waited : MachineState → ℕ
+seven_waited s = side_waits seven_memory seven_side (line_of s Seven) s.seven.processor.registers (seven_reach (tick_of s.seven.processor) s)
+
 abbrev seven_taken : MachineState → Outcome SevenReach
-seven_taken s = side_taken seven_memory seven_side (line_of s Seven) s.seven.processor.registers (seven_reach (tick_of s.seven.processor) s)
+seven_taken s =
+    ticked Seven (seven_waited s) (side_taken seven_memory seven_side (line_of s Seven) s.seven.processor.registers (seven_reach (tick_of s.seven.processor) s))
 
 seven_concluded : (rank : ℕ) (own : NineOwn) (s : MachineState) (came : arm.Stepped)
     → (let step : MachineStep MachineState Shown LeftOut = machine_concluded rank Seven (with_nine_own own s) came in step)
@@ -111,10 +123,16 @@ seven_steps rank own s shared =
     let old = s.seven.processor.registers in
     let r = seven_reach (tick_of s.seven.processor) s in
     let o = seven_taken s in
+    let line = line_of s Seven in
+    let put = reach_put own.share in
     ap (λ (o : Outcome SevenReach). (let step : MachineStep MachineState Shown LeftOut = machine_concluded rank Seven (with_seven (with_nine_own own s) o) o.stepped in step))
-    (taken_commutes seven_memory (AllReachedSo own.share) (reach_put own.share) (seven_commutes own.share) seven_side (line_of s Seven) old r shared (λ width. shared) refl (λ e.
+    (ticked_so Seven (side_waits seven_memory seven_side line old (put r)) (seven_waited s) put (side_taken seven_memory seven_side line old (put r))
+    (side_taken seven_memory seven_side line old r)
+    (step_waits_commute seven_memory (AllReachedSo own.share) put (seven_commutes own.share) seven_side line old r (λ r access rest i. seven_waits_so own.share r access i)
+    (λ width. shared) refl (λ e. shared))
+    (taken_commutes seven_memory (AllReachedSo own.share) put (seven_commutes own.share) seven_side line old r shared (λ width. shared) refl (λ e.
     let fetch = fetched seven_memory seven_side.arch old r in
-    word_commutes seven_memory (AllReachedSo own.share) (reach_put own.share) (seven_commutes own.share) arm7 old r fetch.number fetch.instr shared shared))
+    word_commutes seven_memory (AllReachedSo own.share) put (seven_commutes own.share) arm7 old r fetch.number fetch.instr shared shared)))
     ∙ seven_concluded rank own (with_seven s o) o.stepped
 
 -- ---- a unit that a channel of ARM7's moves

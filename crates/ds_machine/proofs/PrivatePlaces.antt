@@ -14,6 +14,8 @@ use Rattle.ds_places.specs.declared.kinds.Place.TheVariants.{Cell, Rom, Nothing}
 use Rattle.ds_places.proofs.Rows.{in_row, past_row}
 use Rattle.ds_map.specs.Accesses.{after_read_at, fetched_at, map_fetched, map_read, map_refusal, map_value, map_written, refusal_at, value_at, written_at}
 use Rattle.ds_map.specs.Maps.{MapState}
+use Rattle.ds_map.specs.Waits.{wait_at}
+use Rattle.ds_places.specs.Waits.{wait_of}
 use Rattle.ds_machine.specs.PrivateSides.{is_private_to_seven}
 
 -- An access's own address is private where all of its bytes are. ARM7's private places: the same stands there whatever WRAMCNT says, and an access of it reaches its own work RAM alone.
@@ -104,6 +106,11 @@ low_fixed at h = record {
   own = low_own (nat_le 0x00000000 at && nat_le at 0x00003FFF) (nat_le 0x03800000 at && nat_le at 0x03FFFFFF) (at - 0) (0 + (at - 0x03800000) % memory_size Own7);
   stands = λ wramcnt. low_stands wramcnt at (low_cases at h);
 }
+
+-- so an access there waits as long whatever WRAMCNT says
+pub fixed_wait : (at : ℕ) (place : Place) → IsFixed at place → (w v : ℕ) (width : Width) → wait_at Seven w at width ≡ wait_at Seven v at width
+unfolding wait_at
+fixed_wait at place fixed w v width = ap (λ (p : Place). wait_of Seven p width) (fixed.stands w ∙ sym (fixed.stands v))
 
 -- ---- accesses of it
 

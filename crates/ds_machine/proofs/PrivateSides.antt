@@ -2,6 +2,7 @@ use Rattle.std.proofs.Common.{ℕ, ◌≡◌, ◌<◌, ◌≤◌, ◌^◌, Bool,
 use Rattle.std.specs.Prelude.{not}
 use Rattle.std.proofs.lemmas.Option.{none-some, same_Some}
 use Rattle.ds_base.proofs.Choices.{low_or_high}
+use Rattle.ds_base.specs.Accesses.{Access, Fetch, Read, Write}
 use Rattle.ds_base.specs.Numbers.{aligned_down, width_bytes, with_number}
 use Rattle.ds_base.specs.declared.memories.Width.{Width}
 use Rattle.ds_base.specs.declared.processors.Arch.TheVariants.{V5}
@@ -31,11 +32,12 @@ use Rattle.ds_ports.specs.Io.{IoState}
 use Rattle.ds_map.specs.Maps.{MapState}
 use Rattle.ds_map.specs.Shares.{IsSharedSo, is_private_place}
 use Rattle.ds_map.proofs.NineShares.{IsOwnAddress, IsSharedAlike, NineBytes, nine_fetched_alike, nine_none_refused, nine_put, nine_read_leaves, nine_value_alike, nine_write_leaves, nine_wrote_alike, nine_wrote_at, no_address, private_address, so_shared, stays_alike}
-use Rattle.ds_machine.specs.Private.{AllReachPrivate, data_accesses, stays_behind}
+use Rattle.ds_map.specs.Waits.{nine_wait, seven_wait}
+use Rattle.ds_machine.specs.Private.{AllReachPrivate, ReachesPrivate, stays_behind}
+use Rattle.ds_machine.specs.Sides.{data_accesses, nine_executed}
 use Rattle.ds_machine.specs.PrivateSides.{is_private_tcm, is_private_to_seven, nine_side, seven_side}
-use Rattle.ds_machine.specs.Sides.{nine_executed}
 use Rattle.ds_machine.proofs.PrivateAccesses.{AsPrivate, IsApart, StepsAlike}
-use Rattle.ds_machine.proofs.PrivatePlaces.{IsLow, low_fixed, low_place, map_fetched_alike, map_none_refused, map_read_leaves, map_value_alike, map_write_leaves, private_itself, wram_written, with_wram}
+use Rattle.ds_machine.proofs.PrivatePlaces.{IsLow, fixed_wait, low_fixed, low_place, map_fetched_alike, map_none_refused, map_read_leaves, map_value_alike, map_write_leaves, private_itself, wram_written, with_wram}
 use Rattle.ds_machine.proofs.PrivateSteps.{ExecutesAlike, both_down, word_alike}
 
 -- What either processor reaches in private places stands apart from the rest.
@@ -156,8 +158,14 @@ module _ (shared : List ℕ) (u : IoState) where
     so = so_shared k.own.bytes.share (nine_wrote k.own at width value).bytes.share shared u (tcm_alike (tcm_of k.own.cp15 at true false) k.own at width value) k.so;
   }
 
+  waits_there : (k : NineShared shared u) (access : Access) (r t : NineReach) → nine_wait (put_shared k r) access ≡ nine_wait (put_shared k t) access
+  waits_there k (Fetch at width) r t = refl
+  waits_there k (Read at width) r t = refl
+  waits_there k (Write at width value) r t = refl
+
   pub nine_apart : IsApart nine_memory nine_side put_shared shared_wrote
   nine_apart = record {
+    waits = λ k access r t h. waits_there k access r t;
     base = λ k r t. refl;
     moves = λ k r t writing fetching byte. same_private (tcm_of k.own.cp15 byte writing fetching) (put_nine k.own r).map (put_nine k.own t).map byte refl refl;
     keeps = λ k at width value r. keeps_private k.own at width value r;
@@ -233,8 +241,15 @@ at_seven width at h = elim (low_or_high at (2 ^ 32)) [
   | inr le ↦ inr le
 ]
 
+seven_waits : (own : List ℕ) (access : Access) (r t : SevenReach) → ReachesPrivate seven_side (put_seven own r) access
+    → seven_wait (put_seven own r) access ≡ seven_wait (put_seven own t) access
+seven_waits own (Fetch at width) r t h = fixed_wait at (low_place at) (low_fixed at (at_seven width at h)) r.map.io.wramcnt t.map.io.wramcnt width
+seven_waits own (Read at width) r t h = fixed_wait at (low_place at) (low_fixed at (at_seven width at h)) r.map.io.wramcnt t.map.io.wramcnt width
+seven_waits own (Write at width value) r t h = fixed_wait at (low_place at) (low_fixed at (at_seven width at h)) r.map.io.wramcnt t.map.io.wramcnt width
+
 pub seven_apart : IsApart seven_memory seven_side put_seven seven_wrote
 seven_apart = record {
+  waits = seven_waits;
   base = λ own r t. refl;
   moves = λ own r t writing fetching byte. refl;
   keeps = λ own at width value r writing fetching byte. refl;

@@ -1,5 +1,5 @@
 use Rattle.std.specs.Prelude.{not, ◌&&◌}
-use Rattle.std.proofs.Common.{ℕ, ◌≡◌, Bool, true, false, true≢false, if◌then◌else◌, Option, Some, None, refl, sym, ◌∙◌, subst}
+use Rattle.std.proofs.Common.{ℕ, ◌≡◌, ◌+◌, Bool, true, false, true≢false, if◌then◌else◌, Option, Some, None, refl, sym, ◌∙◌, ap, subst}
 use Rattle.ds_base.specs.Accesses.{MemoryMachine}
 use Rattle.ds_base.specs.declared.left_out.Stop.{Stop}
 use Rattle.ds_base.specs.declared.memories.Width.{Width}
@@ -11,9 +11,12 @@ use Rattle.arm_core.specs.Conditions.{holds}
 use Rattle.arm_core.specs.Meanings.{condition, meaning}
 use Rattle.arm_core.specs.Registers.{RegisterState, is_thumb}
 use Rattle.arm_core.specs.Steps.{FetchOutcome, Setting, enters, executed_unless, executed_word, fetched, fetched_half, fetched_word, stop_of, swi_stop}
-use Rattle.ds_machine.specs.Private.{AllReachPrivate, StaysPrivate, data_accesses, may_go_ahead, next_fetch, stays_behind}
-use Rattle.ds_machine.specs.PrivateSides.{SideOf, side_taken}
-use Rattle.ds_machine.proofs.PrivateAccesses.{IsApart, StepsAlike, access_moves, all_move, carried_alike}
+use Rattle.ds_machine.specs.Private.{AllReachPrivate, StaysPrivate, may_go_ahead, stays_behind}
+use Rattle.ds_machine.specs.Sides.{data_accesses, data_waits, next_fetch, waits_of_step}
+use Rattle.ds_machine.specs.PrivateSides.{SideOf, side_step, side_taken, side_waits}
+use Rattle.ds_base.proofs.Choices.{if_false}
+use Rattle.ds_map.specs.Waits.{waits_of}
+use Rattle.ds_machine.proofs.PrivateAccesses.{IsApart, StepsAlike, access_moves, all_move, carried_alike, waits_alike}
 use Rattle.ds_machine.proofs.Taken.{taken_executed}
 
 -- A step that reaches private places changes the own part alone, and depends on it alone.
@@ -111,3 +114,18 @@ module _ {S O : Type 0} (memory : MemoryMachine S) (side : SideOf S) (put : O �
         here = taken_executed memory side line s (put own r) f.number f.instr quiet refl refl ∙ o.here;
         there = taken_executed memory side other s (put own t) f.number f.instr also same.number same.instr ∙ o.there;
       }
+
+  -- and it waits as long
+  pub step_waits_alike : (s : RegisterState) (own : O) (r t : S) (line other : Bool) → enters line s ≡ false → enters other s ≡ false
+      → StaysPrivate memory side s (put own r) → side_waits memory side line s (put own r) ≡ side_waits memory side other s (put own t)
+  unfolding waits_of_step
+  step_waits_alike s own r t line other quiet also stays =
+      let instr = (fetched memory side.arch s (put own r)).instr in
+      let first = side.wait (put own t) (next_fetch s) in
+      let waited : ℕ → Option Instr → ℕ = λ base i. first + waits_of memory side.wait (put own t) (data_accesses side.arch base s i) in
+      if_false (enters line s) 0 (side.wait (put own r) (next_fetch s) + data_waits memory (side_step side) s (put own r)) quiet
+      ∙ ap (λ (n : ℕ). n + data_waits memory (side_step side) s (put own r)) (apart.waits own (next_fetch s) r t stays.fetch)
+      ∙ ap (λ (n : ℕ). first + n) (waits_alike memory side put wrote apart own r t (data_accesses side.arch (side.base (put own r)) s instr) stays.accesses)
+      ∙ ap (λ (base : ℕ). waited base instr) (apart.base own r t)
+      ∙ ap (waited (side.base (put own t))) (fetch_alike s own r t stays).instr
+      ∙ sym (if_false (enters other s) 0 (side.wait (put own t) (next_fetch s) + data_waits memory (side_step side) s (put own t)) also)

@@ -23,7 +23,8 @@ use Rattle.arm_core.specs.declared.touches.Reach.{Reach}
 use Rattle.arm_core.specs.declared.touches.Touch.{Touch}
 use Rattle.ds_map.specs.Views.{nine_memory, seven_memory}
 use Rattle.ds_machine.specs.Inspections.{fetch_of}
-use Rattle.ds_machine.specs.Private.{AllReachPrivate, ProcessorStaysPrivate, ReachesPrivate, StaysPrivate, data_accesses, may_go_ahead, next_fetch}
+use Rattle.ds_machine.specs.Private.{AllReachPrivate, ProcessorStaysPrivate, ReachesPrivate, StaysPrivate, may_go_ahead}
+use Rattle.ds_machine.specs.Sides.{data_accesses, next_fetch}
 use Rattle.ds_machine.specs.PrivateSides.{SideOf, nine_side, seven_side}
 use Rattle.ds_machine.specs.States.{MachineState}
 use Rattle.ds_machine.specs.Steps.{nine_reach, processor_of, seven_reach, tick_of}

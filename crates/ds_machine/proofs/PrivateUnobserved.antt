@@ -22,7 +22,8 @@ use Rattle.ds_places.specs.declared.kinds.Place.TheVariants.{Cell, Banks, Port, 
 use Rattle.ds_runs.specs.Actors.{actor_of}
 use Rattle.ds_runs.specs.declared.actors.Actor.TheVariants.{Processor}
 use Rattle.ds_machine.specs.Lagging.{access_observes, any_observes, is_observed_past, is_observed_place, observes_by}
-use Rattle.ds_machine.specs.Private.{AllReachPrivate, IsPrivate, ReachesPrivate, data_accesses, rank_of}
+use Rattle.ds_machine.specs.Private.{AllReachPrivate, IsPrivate, ReachesPrivate, rank_of}
+use Rattle.ds_machine.specs.Sides.{data_accesses}
 use Rattle.ds_machine.specs.PrivateSides.{is_private_tcm, nine_side}
 use Rattle.ds_machine.specs.States.{MachineState}
 use Rattle.ds_machine.specs.Steps.{line_of, nine_reach, tick_of}

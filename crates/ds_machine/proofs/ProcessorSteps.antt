@@ -1,6 +1,4 @@
 use Rattle.std.proofs.Common.{ℕ, ◌≡◌, ◌<◌, ◌≤◌, ◌+◌, ◌*◌, ◌^◌, inl, inr, Bool, true, false, true≢false, List, [], ◌∷◌, Some, refl, sym, ◌∙◌, ap, subst, arith}
-use Rattle.std.proofs.Math.Nat.{mul-le-mul_left}
-use Rattle.ds_base.specs.Processors.{ticks_per_clock}
 use Rattle.ds_base.specs.KeyLines.{AreKeyLines}
 use Rattle.ds_base.specs.Schedules.{IsLater, Reschedules}
 use Rattle.ds_base.specs.declared.left_out.LeftOut.{LeftOut}
@@ -122,46 +120,35 @@ Took (Left stop) = ⊥
 
 -- one more step is counted
 pub gone_counts : (proc : Proc) (m : MachineState) (came : arm.Stepped) → Took came → counts_of (gone_by proc came m) ≡ counts_of m + 1
-gone_counts proc m (Cost clocks) took = let k = put_counts proc m (went_on proc clocks (is_halted m proc) (processor_of m proc)) in omega (arith, k)
+gone_counts proc m (Cost clocks) took = let k = put_counts proc m (went_on clocks (is_halted m proc) (processor_of m proc)) in omega (arith, k)
 gone_counts proc m (Halted clocks) took =
     let halt = with_halt proc m true in
-    let k = put_counts proc halt (went_on proc clocks true (processor_of m proc)) in
+    let k = put_counts proc halt (went_on clocks true (processor_of m proc)) in
     let e = halt_steps proc m true in
     omega (arith, k, e)
 gone_counts proc m (Left stop) took = absurd took
 
-some_clock : (proc : Proc) → 0 < ticks_per_clock proc
-some_clock Nine = omega arith
-some_clock Seven = omega arith
-
--- a step that costs something makes a processor due later
-pub later_by : (proc : Proc) (due clocks : ℕ) → 0 < clocks → due < due + ticks_per_clock proc * clocks
-later_by proc due clocks some =
-    let one : ticks_per_clock proc * 1 ≤ ticks_per_clock proc * clocks = mul-le-mul_left {m = 1} {n = clocks} (ticks_per_clock proc) some in
-    let each = some_clock proc in
-    omega (arith, one, each)
-
 -- a processor that went on is due later, or not at all
-went_later : (proc : Proc) (p : ProcessorState) (tick : Tick) (clocks : ℕ) (halted blocked : Bool) → (halted ≡ true → blocked ≡ true) → p.due ≡ tick.0 → 0 < clocks
-    → IsLater tick (due_unless blocked (went_on proc clocks halted p))
-went_later proc p tick clocks halted true h e some = tt
-went_later proc p tick clocks true false h e some = absurd (true≢false (sym (h refl)))
-went_later proc p tick clocks false false h e some = let lt = later_by proc p.due clocks some in omega (arith, e, lt)
+went_later : (p : ProcessorState) (tick : Tick) (clocks : ℕ) (halted blocked : Bool) → (halted ≡ true → blocked ≡ true) → p.due ≡ tick.0 → 0 < clocks
+    → IsLater tick (due_unless blocked (went_on clocks halted p))
+went_later p tick clocks halted true h e some = tt
+went_later p tick clocks true false h e some = absurd (true≢false (sym (h refl)))
+went_later p tick clocks false false h e some = omega (arith, e, some)
 
 gone_later : (proc : Proc) (m : MachineState) (tick : Tick) (came : arm.Stepped) → (processor_of m proc).due ≡ tick.0 → Took came
     → IsLater tick (processor_due (gone_by proc came m) proc)
 gone_later proc m tick (Cost clocks) e took =
-    subst (IsLater tick) (sym (put_processor_io proc m (went_on proc clocks (is_halted m proc) (processor_of m proc))))
-    (went_later proc (processor_of m proc) tick clocks (is_halted m proc) (is_blocked m proc) (halted_blocks m proc) e took)
+    subst (IsLater tick) (sym (put_processor_io proc m (went_on clocks (is_halted m proc) (processor_of m proc))))
+    (went_later (processor_of m proc) tick clocks (is_halted m proc) (is_blocked m proc) (halted_blocks m proc) e took)
 gone_later proc m tick (Halted clocks) e took =
-    let p = went_on proc clocks true (processor_of m proc) in
+    let p = went_on clocks true (processor_of m proc) in
     let halt = with_halt proc m true in
     subst (IsLater tick) (sym (put_processor_io proc halt p ∙ ap (λ (blocked : Bool). due_unless blocked p) (halt_blocked proc m))) tt
 gone_later proc m tick (Left stop) e took = absurd took
 
 gone_other : (proc : Proc) (m : MachineState) (came : arm.Stepped) → Took came → processor_due (gone_by proc came m) (other_proc proc) ≡ processor_due m (other_proc proc)
-gone_other proc m (Cost clocks) took = put_other proc m (went_on proc clocks (is_halted m proc) (processor_of m proc))
-gone_other proc m (Halted clocks) took = put_other proc (with_halt proc m true) (went_on proc clocks true (processor_of m proc)) ∙ halt_other proc m true
+gone_other proc m (Cost clocks) took = put_other proc m (went_on clocks (is_halted m proc) (processor_of m proc))
+gone_other proc m (Halted clocks) took = put_other proc (with_halt proc m true) (went_on clocks true (processor_of m proc)) ∙ halt_other proc m true
 gone_other proc m (Left stop) took = absurd took
 
 -- the units behind the ports, and the key script
@@ -172,14 +159,14 @@ record Stays (tick : Tick) (m n : MachineState) : Type 0 where
 
 gone_stays : (proc : Proc) (m : MachineState) (tick : Tick) (came : arm.Stepped) → Took came → Stays tick m (gone_by proc came m)
 gone_stays proc m tick (Cost clocks) took =
-    let b = put_beside proc m (went_on proc clocks (is_halted m proc) (processor_of m proc)) in
+    let b = put_beside proc m (went_on clocks (is_halted m proc) (processor_of m proc)) in
     record {
       dues = subst (ReschedulesEach tick m.io) (sym b.io) (λ who n. inl refl);
       io = λ are. subst IsIo (sym b.io) are;
       keys = b.keys;
     }
 gone_stays proc m tick (Halted clocks) took =
-    let b = put_beside proc (with_halt proc m true) (went_on proc clocks true (processor_of m proc)) in
+    let b = put_beside proc (with_halt proc m true) (went_on clocks true (processor_of m proc)) in
     record {
       dues = subst (ReschedulesEach tick m.io) (sym b.io) (halted_io_dues tick proc m.io true);
       io = λ are. subst IsIo (sym b.io) (halted_io proc m.io true are);

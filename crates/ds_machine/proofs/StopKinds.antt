@@ -68,10 +68,10 @@ use Rattle.video2d.specs.declared.engines.Engine.TheVariants.{A, B}
 use Rattle.video2d.specs.declared.videos.Shown as display
 use Rattle.ds_machine.specs.Channels.{channel_step, moved_by}
 use Rattle.ds_machine.specs.Reference.{Shown, awake, due_by, step_by, video_step}
-use Rattle.ds_machine.specs.PrivateSides.{SideOf, nine_side, seven_side, side_taken}
+use Rattle.ds_machine.specs.PrivateSides.{SideOf, nine_side, seven_side, side_taken, side_waits}
 use Rattle.ds_machine.specs.Sides.{nine_executed, taken}
 use Rattle.ds_machine.specs.States.{MachineState}
-use Rattle.ds_machine.specs.Steps.{line_of, machine_concluded, map_of, nine_reach, outcome_of, processor_of, seven_reach, tick_of, with_map}
+use Rattle.ds_machine.specs.Steps.{in_ticks, line_of, machine_concluded, map_of, nine_reach, outcome_of, processor_of, seven_reach, tick_of, with_map}
 use Rattle.ds_machine.specs.Stopping.{NoStopIsNotYet}
 
 -- No step stops for want of what isn't built yet.
@@ -331,11 +331,20 @@ nine_came : (old : RegisterState) (r : NineReach) (number : ℕ) (instr : Option
 nine_came old r number instr None = word_came nine_memory nine_refuses (arm9 r.cp15) old r number instr
 nine_came old r number instr (Some move) = moved_named old r.cp15 move
 
+ticks_named : (proc : Proc) (waits : ℕ) (came : arm.Stepped) → CameNamed came → CameNamed (in_ticks proc waits came)
+ticks_named proc waits (Cost clocks) h = tt
+ticks_named proc waits (Halted clocks) h = tt
+ticks_named proc waits (Left stop) h = h
+
 outcome_named : (proc : Proc) (now : Tick) (s : MachineState) → CameNamed (outcome_of proc now s).stepped
 outcome_named Nine now s =
-    taken_named nine_memory nine_refuses nine_side (λ old r number instr. nine_came old r number instr (move_of instr)) (line_of s Nine) s.nine.processor.registers (nine_reach now s)
+    ticks_named Nine (side_waits nine_memory nine_side (line_of s Nine) s.nine.processor.registers (nine_reach now s))
+    (side_taken nine_memory nine_side (line_of s Nine) s.nine.processor.registers (nine_reach now s)).stepped
+    (taken_named nine_memory nine_refuses nine_side (λ old r number instr. nine_came old r number instr (move_of instr)) (line_of s Nine) s.nine.processor.registers (nine_reach now s))
 outcome_named Seven now s =
-    taken_named seven_memory seven_refuses seven_side (word_came seven_memory seven_refuses arm7) (line_of s Seven) s.seven.processor.registers (seven_reach now s)
+    ticks_named Seven (side_waits seven_memory seven_side (line_of s Seven) s.seven.processor.registers (seven_reach now s))
+    (side_taken seven_memory seven_side (line_of s Seven) s.seven.processor.registers (seven_reach now s)).stepped
+    (taken_named seven_memory seven_refuses seven_side (word_came seven_memory seven_refuses arm7) (line_of s Seven) s.seven.processor.registers (seven_reach now s))
 
 -- ---- steps of the machine
 

@@ -1,15 +1,18 @@
-use Rattle.std.proofs.Common.{ℕ, ◌≡◌, Bool, true, false, Option, refl, ◌∙◌}
+use Rattle.std.proofs.Common.{ℕ, ◌≡◌, ◌+◌, Bool, true, false, true≢false, Option, Some, None, refl, sym, ◌∙◌, ap, subst}
 use Rattle.ds_base.specs.Accesses.{MemoryMachine}
 use Rattle.arm_words.specs.declared.instructions.Instr.{Instr}
-use Rattle.arm_core.specs.Effects.{carried_out}
+use Rattle.arm_core.specs.Effects.{Meaning, carried_out}
 use Rattle.arm_core.specs.Exceptions.{interrupt_meaning}
 use Rattle.arm_core.specs.Registers.{RegisterState}
 use Rattle.arm_core.specs.Steps.{enters, fetched}
-use Rattle.arm_ops.specs.Operations.{operation_of}
+use Rattle.arm_ops.specs.Meanings.{operation_meaning}
+use Rattle.arm_ops.specs.Operations.{is_other, operation_of}
+use Rattle.arm_ops.proofs.Laws.{operation_means}
+use Rattle.ds_map.specs.Waits.{waits_of}
 use Rattle.arm_ops.specs.declared.operations.Operation.{Operation}
 use Rattle.ds_machine.specs.DecodedSteps.{RunsAs, operation_outcome}
-use Rattle.ds_machine.specs.PrivateSides.{SideOf, side_taken}
-use Rattle.ds_machine.specs.Sides.{taken}
+use Rattle.ds_machine.specs.PrivateSides.{SideOf, side_step, side_taken, side_waits}
+use Rattle.ds_machine.specs.Sides.{data_accesses, data_waits, next_fetch, waits_of_step, taken}
 
 -- A step by what is entered and fetched.
 
@@ -28,3 +31,28 @@ pub taken_operation : {S : Type 0} (memory : MemoryMachine S) (side : SideOf S) 
     → enters line s ≡ false → operation ≡ operation_of (fetched memory side.arch s state).instr → side_taken memory side line s state ≡ operation_outcome memory side s state operation
 taken_operation memory side line s state operation executes none is =
     let f = fetched memory side.arch s state in taken_executed memory side line s state f.number f.instr none refl refl ∙ executes f.number f.instr is
+
+-- ---- and how long it waits
+
+pub waits_entered : {S : Type 0} (memory : MemoryMachine S) (side : SideOf S) (line : Bool) (s : RegisterState) (state : S) → enters line s ≡ true
+    → side_waits memory side line s state ≡ 0
+unfolding waits_of_step
+waits_entered memory side line s state enter = rw enter refl
+
+pub waits_fetched : {S : Type 0} (memory : MemoryMachine S) (side : SideOf S) (line : Bool) (s : RegisterState) (state : S) → enters line s ≡ false
+    → side_waits memory side line s state ≡ side.wait state (next_fetch s) + data_waits memory (side_step side) s state
+unfolding waits_of_step
+waits_fetched memory side line s state none = rw none refl
+
+-- what is decoded makes the accesses of its instruction
+pub decoded_waits : {S : Type 0} (memory : MemoryMachine S) (side : SideOf S) (s : RegisterState) (state : S) (operation : Operation) → is_other operation.op ≡ false
+    → operation ≡ operation_of (fetched memory side.arch s state).instr
+    → waits_of memory side.wait state (operation_meaning side.arch s operation).accesses ≡ data_waits memory (side_step side) s state
+decoded_waits {S} memory side s state operation known is =
+    ap (λ (o : Operation). waits_of memory side.wait state (operation_meaning side.arch s o).accesses) is
+    ∙ by_instr (fetched memory side.arch s state).instr (subst (λ (o : Operation). is_other o.op ≡ false) is known) where
+      by_instr : (instr : Option Instr) → is_other (operation_of instr).op ≡ false
+          → waits_of memory side.wait state (operation_meaning side.arch s (operation_of instr)).accesses
+          ≡ waits_of memory side.wait state (data_accesses side.arch (side.base state) s instr)
+      by_instr None h = absurd (true≢false h)
+      by_instr (Some instr) h = ap (λ (m : Meaning). waits_of memory side.wait state m.accesses) (sym (operation_means side.arch (side.base state) s instr h))

@@ -1,5 +1,5 @@
 use Rattle.std.proofs.Common.{ℕ, ◌≡◌, Bool, true, false, if◌then◌else◌, List, [], ◌∷◌, ◌++◌, Option, Some, None, refl, sym, ◌∙◌, ap}
-use Rattle.ds_base.specs.Accesses.{Access}
+use Rattle.ds_base.specs.Accesses.{Access, Fetch, Read, Write}
 use Rattle.ds_base.specs.Interrupts.{interrupt_bit}
 use Rattle.ds_base.specs.Numbers.{aligned_down}
 use Rattle.ds_base.specs.declared.interrupts.Interrupt.TheVariants.{Keys}
@@ -41,13 +41,15 @@ use Rattle.video2d.specs.declared.videos.Shown as display
 use Rattle.vram_banks.proofs.Mixes.{mixed_same}
 use Rattle.ds_machine.specs.Apart.{NineOwn, nine_own_of, with_nine_own}
 use Rattle.ds_machine.specs.Channels.{channel_step, moved_by, one_event}
-use Rattle.ds_machine.specs.PrivateSides.{seven_side, side_taken}
+use Rattle.ds_map.specs.Waits.{seven_wait}
+use Rattle.ds_machine.specs.PrivateSides.{seven_side, side_taken, side_waits}
 use Rattle.ds_machine.specs.Reference.{Shown, after_line, shown_at, step_by, swapped_if, video_step}
 use Rattle.ds_machine.specs.States.{MachineState}
 use Rattle.ds_machine.specs.Statuses.{left_by}
 use Rattle.ds_machine.specs.Steps.{line_of, machine_concluded, map_of, outcome_of, seven_reach, tick_of, with_io, with_map, with_seven}
 use Rattle.ds_machine.specs.Touched.{ByteSet, EachTouches, EveryByte, GeometryDelays, IsAsLong, NoByte, PartSet, RegistersNine, DueNine, StepsNine, RegistersSeven, DueSeven, StepsSeven, Cp15, Itcm, Dtcm, OwnRam, MainRam, PaletteRam, OamRam, KeyLines, Events, CartFile, BytesWhere, bytes_from, machine_graft, seven_changes, seven_shows, step_with, unchanged_by, untouched_by}
-use Rattle.ds_machine.proofs.Commutes.{Commutes, taken_commutes, word_commutes}
+use Rattle.ds_machine.proofs.Commutes.{Commutes, step_waits_commute, taken_commutes, word_commutes}
+use Rattle.ds_machine.proofs.Ticks.{ticked, ticked_so}
 use Rattle.ds_machine.proofs.OwnShares.{is_shared_so, put_own_of, seven_channel, seven_steps}
 
 -- Each row of the table of what actors touch is true: by computing, but for what chooses a whole state, and for ARM7's accesses.
@@ -280,6 +282,11 @@ module _ (t : MachineState) where
     write_stays = λ r at width value rest i. tt;
   }
 
+  waits_beside : (r : SevenReach) (access : Access) → seven_wait (reach_put r) access ≡ seven_wait r access
+  waits_beside r (Fetch at width) = refl
+  waits_beside r (Read at width) = refl
+  waits_beside r (Write at width value) = refl
+
   -- ARM7's step
   abbrev beside : MachineState → MachineState
   beside m = record m { io = other_units m.io; keys = t.keys; events = t.events; file = t.file }
@@ -294,11 +301,16 @@ module _ (t : MachineState) where
   beside_steps rank s =
       let r = seven_reach (tick_of s.seven.processor) s in
       let old = s.seven.processor.registers in
-      let o = side_taken seven_memory seven_side (line_of s Seven) old r in
+      let line = line_of s Seven in
+      let waits = side_waits seven_memory seven_side line old r in
+      let taken = side_taken seven_memory seven_side line old r in
+      let o = ticked Seven waits taken in
       let f = fetched seven_memory seven_side.arch old r in
       ap (λ (x : Outcome SevenReach). (let step : Step = machine_concluded rank Seven (with_seven (beside s) x) x.stepped in step))
-      (taken_commutes seven_memory Every reach_put units_commute seven_side (line_of s Seven) old r tt (λ width. tt) refl (λ e.
-      word_commutes seven_memory Every reach_put units_commute arm7 old r f.number f.instr tt tt))
+      (ticked_so Seven (side_waits seven_memory seven_side line old (reach_put r)) waits reach_put (side_taken seven_memory seven_side line old (reach_put r)) taken
+      (step_waits_commute seven_memory Every reach_put units_commute seven_side line old r (λ r access rest i. waits_beside r access) (λ width. tt) refl (λ e. tt))
+      (taken_commutes seven_memory Every reach_put units_commute seven_side line old r tt (λ width. tt) refl (λ e.
+      word_commutes seven_memory Every reach_put units_commute arm7 old r f.number f.instr tt tt)))
       ∙ beside_concluded rank (with_seven s o) o.stepped
 
   -- a channel's unit
@@ -327,9 +339,9 @@ module _ (t : MachineState) where
       let taken = unit_taken Seven now unit m in
       let to = passes_at taken unit.width (place_of Seven taken.io.wramcnt unit.to) in
       ap (λ (x : Option Stop). (let step : Step = moved_by rank Seven now x (with_map Seven (beside_channel s) (unit_moved Seven now unit n)) in step))
-      (passed.unit_refuses same_bytes other_units Seven m now unit refl from (λ u. refl) refl to)
+      (passed.unit_refuses same_bytes other_units Seven m now unit refl from (λ waits u. refl) refl refl to)
       ∙ ap (λ (x : MapState). (let step : Step = moved_by rank Seven now (unit_refusal Seven now unit m) (with_map Seven (beside_channel s) x) in step))
-      (passed.unit_moves same_bytes other_units Seven m now unit refl from (λ u. refl) refl to)
+      (passed.unit_moves same_bytes other_units Seven m now unit refl from (λ waits u. refl) refl refl to)
       ∙ beside_moved rank now (unit_refusal Seven now unit m) (with_map Seven s left)
 
 -- with both: the bytes that ARM9 alone reaches from another machine, shared out as they are here, and what stands beside

@@ -15,7 +15,8 @@ use Rattle.ds_ports.specs.Io.{IoState, channel_comes_before, io_of, is_settled, 
 use Rattle.ds_machine.specs.Reference.{due_unless, keys_due, processor_due}
 use Rattle.ds_machine.specs.Sound.{AreAsleep, HasSoundParts}
 use Rattle.ds_machine.specs.States.{MachineState, ProcessorState, counts_of}
-use Rattle.ds_machine.specs.Steps.{ended, goes_on, is_blocked, is_halted, machine_settled, processor_of, wakes, with_halt, with_processor, woken, woken_one}
+use Rattle.ds_machine.proofs.Ticks.{after_unit}
+use Rattle.ds_machine.specs.Steps.{due_past_unit, ended, goes_on, is_blocked, is_halted, machine_settled, processor_of, wakes, with_halt, with_processor, woken, woken_one}
 use Rattle.gx_fifo.specs.GxStates.{AreWaiting, is_half_empty}
 use Rattle.ds_machine.proofs.Moves.{Moves, blocked_moves, later_unless, moves_of, then_all}
 use Rattle.ds_ports.proofs.Later.{each_processor_io, of_both, processor_io_each, processor_io_is, same_reschedules, io_is}
@@ -83,11 +84,11 @@ halted_blocks s Seven h = rw h refl
 on_moves : (proc : Proc) (tick : Tick) (s : MachineState) → Moves tick s (goes_on proc tick s)
 on_moves proc tick s =
     let halt = with_halt proc s false in
-    let p : ProcessorState = record (processor_of s proc) { due = tick.0 + 1 } in
+    let p : ProcessorState = record (processor_of s proc) { due = due_past_unit s proc tick } in
     let next = with_processor proc halt p in
     let b = put_beside proc halt p in
     let own : Reschedules tick (processor_due s proc) (processor_due next proc) =
-    rw (put_processor_io proc halt p) (inr (later_unless tick (is_blocked halt proc) p (omega arith))) in
+    rw (put_processor_io proc halt p) (inr (later_unless tick (is_blocked halt proc) p (after_unit (io_of s.io proc).dma.last tick))) in
     let other : Reschedules tick (processor_due s (other_proc proc)) (processor_due next (other_proc proc)) = inl (put_other proc halt p ∙ halt_other proc s false) in
     moves_of tick s next (inl (ap keys_due b.keys))
     (subst (ReschedulesEach tick s.io) (sym b.io) (halted_io_dues tick proc s.io false))
@@ -96,7 +97,7 @@ on_moves proc tick s =
 on_sound : (proc : Proc) (tick : Tick) (s : MachineState) → HasSoundParts s → HasSoundParts (goes_on proc tick s)
 on_sound proc tick s sound =
     let halt = with_halt proc s false in
-    let b = put_beside proc halt (record (processor_of s proc) { due = tick.0 + 1 }) in
+    let b = put_beside proc halt (record (processor_of s proc) { due = due_past_unit s proc tick }) in
     record { io = subst IsIo (sym b.io) (halted_io proc s.io false sound.io); keys = subst AreKeyLines (sym b.keys) sound.keys }
 
 pub halt_steps : (proc : Proc) (s : MachineState) (halted : Bool) → (processor_of (with_halt proc s halted) proc).steps ≡ (processor_of s proc).steps
@@ -106,7 +107,7 @@ halt_steps Seven s halted = refl
 on_counts : (proc : Proc) (tick : Tick) (s : MachineState) → counts_of (goes_on proc tick s) ≡ counts_of s
 on_counts proc tick s =
     let halt = with_halt proc s false in
-    let k = put_counts proc halt (record (processor_of s proc) { due = tick.0 + 1 }) in
+    let k = put_counts proc halt (record (processor_of s proc) { due = due_past_unit s proc tick }) in
     let e = halt_steps proc s false in
     omega (arith, k, e)
 

@@ -6,7 +6,7 @@ use Rattle.ds_base.specs.declared.ticks.Tick.{Tick}
 use Rattle.ds_map.specs.Moves.{next_unit, unit_moved, unit_refusal}
 use Rattle.ds_runs.specs.Runs.{MachineStep, Makes, Stops}
 use Rattle.ds_machine.specs.States.{MachineState, ProcessorState}
-use Rattle.ds_machine.specs.Steps.{is_halted, map_of, processor_of, with_map, with_processor}
+use Rattle.ds_machine.specs.Steps.{is_halted, map_of, due_past_unit, processor_of, with_map, with_processor}
 
 -- The event of a DMA channel.
 
@@ -14,13 +14,13 @@ use Rattle.ds_machine.specs.Steps.{is_halted, map_of, processor_of, with_map, wi
 abbrev pub one_event : MachineState → MachineState
 one_event s = record s { events = s.events + 1 }
 
--- a processor is due after a tick at the earliest: so it is after each unit that a channel of it moves (our choice); one that is halted isn't due,
--- and has 0 there
-abbrev pub past_tick : Bool → Tick → ProcessorState → ProcessorState
-past_tick halted now p = record p { due = if halted then 0 else max p.due (now.0 + 1) }
+-- a processor is due at a tick at the earliest: so it is after each unit that a channel of it moves and the unit's waits (our choice); one that is
+-- halted isn't due, and has 0 there
+abbrev pub past_tick : Bool → ℕ → ProcessorState → ProcessorState
+past_tick halted least p = record p { due = if halted then 0 else max p.due least }
 
 abbrev pub delayed_past : Proc → Tick → MachineState → MachineState
-delayed_past proc now s = with_processor proc s (past_tick (is_halted s proc) now (processor_of s proc))
+delayed_past proc now s = with_processor proc s (past_tick (is_halted s proc) (due_past_unit s proc now) (processor_of s proc))
 
 abbrev pub stopped_at : ℕ → Tick → Stop → LeftOut
 stopped_at rank now stop = record { kind = stop.kind; tick = now; rank = rank; value = stop.value }

@@ -20,7 +20,7 @@ use Rattle.ds_runs.specs.declared.actors.Actor as actor
 use Rattle.ds_runs.specs.declared.actors.Actor.TheVariants.{Dma, Geometry, Processor, Video}
 use Rattle.video2d.specs.Scans.{starts_vblank}
 use Rattle.ds_machine.specs.Acting.{acting_dues, is_behind}
-use Rattle.ds_machine.specs.Private.{data_accesses}
+use Rattle.ds_machine.specs.Sides.{data_accesses}
 use Rattle.ds_machine.specs.Hearing.{geometry_rank}
 use Rattle.ds_machine.specs.Reference.{Shown, reference, reference_step}
 use Rattle.ds_machine.specs.Sound.{IsSound}

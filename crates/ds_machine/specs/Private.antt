@@ -2,7 +2,6 @@ use Rattle.std.specs.Prelude.{ℕ, ◌↔◌, ◌≡◌, ◌<◌, ◌≤◌, ◌
 use Rattle.ds_base.specs.Accesses.{Access, Fetch, MemoryMachine, Read, Write}
 use Rattle.ds_base.specs.Bits.{bit, bits}
 use Rattle.ds_base.specs.declared.left_out.LeftOut.{LeftOut}
-use Rattle.ds_base.specs.declared.memories.Width.TheVariants.{Half, Word}
 use Rattle.ds_base.specs.declared.processors.Arch.{Arch}
 use Rattle.ds_base.specs.declared.processors.Proc.{Proc}
 use Rattle.ds_base.specs.declared.processors.Proc.TheVariants.{Nine, Seven}
@@ -10,8 +9,7 @@ use Rattle.ds_base.specs.declared.ticks.Tick.{Tick}
 use Rattle.arm_words.specs.declared.instructions.Instr.{Instr}
 use Rattle.arm_words.specs.declared.instructions.Instr.TheVariants.{Bkpt, Coprocessor, Swi, ThumbBkpt, ThumbSwi}
 use Rattle.arm_core.specs.Footprints.{access_bytes}
-use Rattle.arm_core.specs.Meanings.{meaning}
-use Rattle.arm_core.specs.Registers.{RegisterState, is_thumb}
+use Rattle.arm_core.specs.Registers.{RegisterState}
 use Rattle.arm_core.specs.Steps.{enters, fetched}
 use Rattle.arm_core.specs.Undefined.{is_undefined}
 use Rattle.ds_map.specs.Views.{nine_memory, seven_memory}
@@ -22,6 +20,7 @@ use Rattle.ds_timers.specs.Irqs.{IrqState}
 use Rattle.ds_machine.specs.Acting.{acting_dues}
 use Rattle.ds_machine.specs.Hearing.{Fences}
 use Rattle.ds_machine.specs.Reference.{Shown, reference, reference_step}
+use Rattle.ds_machine.specs.Sides.{data_accesses, next_fetch}
 use Rattle.ds_machine.specs.Sound.{IsSound}
 use Rattle.ds_machine.specs.PrivateSides.{SideOf, nine_side, seven_side}
 use Rattle.ds_machine.specs.States.{MachineState}
@@ -56,15 +55,6 @@ stays_behind _ = false
 abbrev pub may_go_ahead : Arch → Option Instr → Bool
 may_go_ahead arch None = false
 may_go_ahead arch (Some instr) = not (is_undefined arch (Some instr)) && not (stays_behind instr)
-
--- the accesses of data that it makes
-abbrev pub data_accesses : Arch → ℕ → RegisterState → Option Instr → List Access
-data_accesses arch base s None = []
-data_accesses arch base s (Some instr) = (meaning arch base s instr).accesses
-
--- what is fetched at r15
-abbrev pub next_fetch : RegisterState → Access
-next_fetch s = Fetch s.pc (if is_thumb s then Half else Word)
 
 -- a step that enters no interrupt reaches private places alone: its fetch, and each access of its instruction, which is of such a kind
 pub record StaysPrivate {S : Type 0} (memory : MemoryMachine S) (side : SideOf S) (s : RegisterState) (state : S) : Type 0 where

@@ -1,4 +1,4 @@
-use Rattle.std.specs.Prelude.{ℕ, ◌+◌, ◌*◌, ◌&&◌, Bool, true, false, if◌then◌else◌, []}
+use Rattle.std.specs.Prelude.{ℕ, ◌+◌, ◌*◌, ◌&&◌, max, nat_le, Bool, true, false, if◌then◌else◌, [], Option, Some, None}
 use Rattle.ds_base.specs.Processors.{ticks_per_clock}
 use Rattle.ds_base.specs.declared.left_out.LeftOut.{LeftOut}
 use Rattle.ds_base.specs.declared.left_out.Stop.{Stop}
@@ -8,12 +8,13 @@ use Rattle.arm_core.specs.Effects.{Outcome}
 use Rattle.arm_core.specs.declared.outcomes.Stepped as arm
 use Rattle.arm_core.specs.declared.outcomes.Stepped.TheVariants.{Cost, Halted, Left}
 use Rattle.ds_base.specs.declared.ticks.Tick.{Tick}
+use Rattle.ds_dma.specs.declared.channels.LastUnit.{LastUnit}
 use Rattle.ds_map.specs.Maps.{MapState, bytes_by}
 use Rattle.ds_map.specs.Views.{NineReach, SevenReach, nine_memory, seven_memory}
 use Rattle.ds_ports.specs.Io.{IoState, io_of, is_held, settled, with_halted}
 use Rattle.ds_timers.specs.Irqs.{line_is_up, shares_bit}
 use Rattle.ds_runs.specs.Runs.{MachineStep, Makes, Stops}
-use Rattle.ds_machine.specs.Sides.{nine_step, seven_step, taken}
+use Rattle.ds_machine.specs.Sides.{nine_step, seven_step, waits_of_step, taken}
 use Rattle.ds_machine.specs.States.{MachineState, ProcessorState}
 
 -- A processor's step in the machine.
@@ -88,22 +89,30 @@ with_seven s o = record (with_map Seven s o.state.map) {
   seven = record { processor = record s.seven.processor { registers = o.registers }; wram = o.state.map.memories.wram };
 }
 
--- what a processor's step at a tick comes to, and the machine with what it left
+-- what a step comes to, its cost in ticks: that of its class, in the processor's clocks, and its waits
+abbrev pub in_ticks : Proc → ℕ → arm.Stepped → arm.Stepped
+in_ticks proc waits (Cost clocks) = Cost (ticks_per_clock proc * clocks + waits)
+in_ticks proc waits (Halted clocks) = Halted (ticks_per_clock proc * clocks + waits)
+in_ticks proc waits (Left stop) = Left stop
+
+-- what a processor's step at a tick comes to, by ticks, and the machine with what it left
 pub record StepOutcome : Type 0 where
   pub machine : MachineState
   pub stepped : arm.Stepped
 
 abbrev pub outcome_of : Proc → Tick → MachineState → StepOutcome
 outcome_of Nine now s =
-    let o = taken nine_memory nine_step (line_of s Nine) s.nine.processor.registers (nine_reach now s) in record {
-      machine = with_nine s o;
-      stepped = o.stepped;
-    }
+    let line = line_of s Nine in
+    let old = s.nine.processor.registers in
+    let r = nine_reach now s in
+    let o = taken nine_memory nine_step line old r in
+    record { machine = with_nine s o; stepped = in_ticks Nine (waits_of_step nine_memory nine_step line old r) o.stepped }
 outcome_of Seven now s =
-    let o = taken seven_memory seven_step (line_of s Seven) s.seven.processor.registers (seven_reach now s) in record {
-      machine = with_seven s o;
-      stepped = o.stepped;
-    }
+    let line = line_of s Seven in
+    let old = s.seven.processor.registers in
+    let r = seven_reach now s in
+    let o = taken seven_memory seven_step line old r in
+    record { machine = with_seven s o; stepped = in_ticks Seven (waits_of_step seven_memory seven_step line old r) o.stepped }
 
 -- the machine with other units behind the ports
 abbrev pub with_io : MachineState → IoState → MachineState
@@ -113,15 +122,15 @@ with_io s io = record s { io = io }
 abbrev pub with_halt : Proc → MachineState → Bool → MachineState
 with_halt proc s halted = with_io s (with_halted proc s.io halted)
 
--- A processor after a step that costs so many of its clocks. While it is halted the tick at which its next step is due is 0: it goes on after the
+-- A processor after a step that costs so many ticks. While it is halted the tick at which its next step is due is 0: it goes on after the
 -- tick at which it wakes, whatever it had before.
-abbrev pub went_on : Proc → ℕ → Bool → ProcessorState → ProcessorState
-went_on proc clocks halted p = record p { due = if halted then 0 else p.due + ticks_per_clock proc * clocks; steps = p.steps + 1 }
+abbrev pub went_on : ℕ → Bool → ProcessorState → ProcessorState
+went_on ticks halted p = record p { due = if halted then 0 else p.due + ticks; steps = p.steps + 1 }
 
 -- the machine by what a processor's step came to
 abbrev pub gone_by : Proc → arm.Stepped → MachineState → MachineState
-gone_by proc (Cost clocks) s = with_processor proc s (went_on proc clocks (is_halted s proc) (processor_of s proc))
-gone_by proc (Halted clocks) s = with_processor proc (with_halt proc s true) (went_on proc clocks true (processor_of s proc))
+gone_by proc (Cost ticks) s = with_processor proc s (went_on ticks (is_halted s proc) (processor_of s proc))
+gone_by proc (Halted ticks) s = with_processor proc (with_halt proc s true) (went_on ticks true (processor_of s proc))
 gone_by proc (Left stop) s = s
 
 -- what a processor's step needs that is left out
@@ -130,21 +139,31 @@ left_out_by rank p stop = record { kind = stop.kind; tick = tick_of p; rank = ra
 
 -- the machine's step, by what the processor came to, on the machine that it left
 abbrev pub machine_concluded : {O : Type 0} → ℕ → Proc → MachineState → arm.Stepped → MachineStep MachineState O LeftOut
-machine_concluded rank proc s (Cost clocks) = Makes (gone_by proc (Cost clocks) s) []
-machine_concluded rank proc s (Halted clocks) = Makes (gone_by proc (Halted clocks) s) []
+machine_concluded rank proc s (Cost ticks) = Makes (gone_by proc (Cost ticks) s) []
+machine_concluded rank proc s (Halted ticks) = Makes (gone_by proc (Halted ticks) s) []
 machine_concluded rank proc s (Left stop) = Stops (left_out_by rank (processor_of s proc) stop) s
 
 -- its step, at the tick at which it is due
 abbrev pub processor_step : {O : Type 0} → ℕ → Proc → MachineState → MachineStep MachineState O LeftOut
 processor_step rank proc s = let o = outcome_of proc (tick_of (processor_of s proc)) s in machine_concluded rank proc o.machine o.stepped
 
--- ---- waking: where a halted processor's IE and IF share a bit after a step at a tick, it is due at the next tick, whatever IME is (our choice)
+-- ---- after a tick, and after a processor's last unit of DMA
+
+-- a processor goes on after a tick at the earliest, and once the waits of its last unit are over (our choice); no unit is later than the tick
+abbrev pub past_unit : Option LastUnit → Tick → ℕ
+past_unit None now = now.0 + 1
+past_unit (Some last) now = if nat_le last.tick.0 now.0 then max (now.0 + 1) (last.tick.0 + last.waits + 1) else now.0 + 1
+
+abbrev pub due_past_unit : MachineState → Proc → Tick → ℕ
+due_past_unit s proc now = past_unit (io_of s.io proc).dma.last now
+
+-- ---- waking: where a halted processor's IE and IF share a bit after a step at a tick, it goes on after it, whatever IME is (our choice)
 
 abbrev pub wakes : MachineState → Proc → Bool
 wakes s proc = is_halted s proc && shares_bit (io_of s.io proc).irq
 
 abbrev pub goes_on : Proc → Tick → MachineState → MachineState
-goes_on proc tick s = with_processor proc (with_halt proc s false) (record (processor_of s proc) { due = tick.0 + 1 })
+goes_on proc tick s = with_processor proc (with_halt proc s false) (record (processor_of s proc) { due = due_past_unit s proc tick })
 
 abbrev pub woken_one : Proc → Tick → MachineState → MachineState
 woken_one proc tick s = if wakes s proc then goes_on proc tick s else s

@@ -19,7 +19,8 @@ use Rattle.arm_ops.specs.declared.operations.DataAccess.{DataAccess}
 use Rattle.ds_base.specs.declared.ticks.Tick.{Tick}
 use Rattle.ds_map.specs.Views.{nine_memory, seven_memory}
 use Rattle.ds_timers.specs.Irqs.{IrqState}
-use Rattle.ds_machine.specs.Private.{AllReachPrivate, IsBelowFence, ReachesPrivate, data_accesses, is_deaf, may_go_ahead, next_fetch}
+use Rattle.ds_machine.specs.Private.{AllReachPrivate, IsBelowFence, ReachesPrivate, is_deaf, may_go_ahead}
+use Rattle.ds_machine.specs.Sides.{data_accesses, next_fetch}
 use Rattle.ds_machine.specs.SteadyPorts.{is_steady_port}
 use Rattle.ds_machine.specs.PrivateSides.{SideOf, is_private_to_seven, nine_side, seven_side}
 use Rattle.ds_machine.specs.States.{MachineState}

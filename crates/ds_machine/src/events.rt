@@ -72,7 +72,7 @@ impl Parts {
         let stalled = self.io.gx().stalled();
         self.io.event(Actor::Geometry);
         if stalled && !self.io.gx().stalled() && !self.io.processor(Proc::Nine).is_halted() {
-            self.nine.processor.delay_past(false, tick);
+            self.nine.processor.delay_past(false, tick.0 + 1);
         }
     }
 
@@ -136,15 +136,16 @@ impl Parts {
         }
     }
 
-    /// A processor is due after a tick at the earliest, where it isn't halted.
+    /// A processor is due after a tick and the waits of its last unit at the earliest, where it isn't halted.
     fn delay_past(&mut self, proc: Proc, tick: Tick)
         requires { tick.0 ≤ 2 ^ 56 }
         ensures { self.new ≡ delayed_past proc tick self.old }
     {
         let halted = self.io.processor(proc).is_halted();
+        let least = self.next_due(proc, tick);
         match proc {
-            Proc::Nine => self.nine.processor.delay_past(halted, tick),
-            Proc::Seven => self.seven.processor.delay_past(halted, tick),
+            Proc::Nine => self.nine.processor.delay_past(halted, least),
+            Proc::Seven => self.seven.processor.delay_past(halted, least),
         }
     }
 

@@ -8,6 +8,7 @@ ghost use Rattle.ds_machine.specs.Touching.{FetchStaysPrivate, MayBeAhead};
 
 use crate::next_events::{First, NextEvent};
 use crate::parts::Parts;
+use crate::processors::ticks_of;
 use ds_base::{Proc, Tick};
 
 /// What came of trying a step of a processor's turn.
@@ -83,7 +84,7 @@ impl Parts {
             }
             return Gone::Unknown;
         }
-        self.go_on(proc, fast.clocks, false);
+        self.go_on(proc, ticks_of(proc, fast.clocks, fast.waits), false);
         Gone::Took
     }
 

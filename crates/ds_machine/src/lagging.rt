@@ -11,7 +11,7 @@ ghost use Rattle.ds_map.specs.ObservedPorts as ports;
 ghost use Rattle.ds_machine.specs.Lagging as lagging;
 ghost use Rattle.ds_machine.specs.Lagging.{any_observes, channel_observes, nine_observes, observes_by};
 ghost use Rattle.ds_machine.specs.Observing.{all_unobserved, data_unobserved, is_unobserved_at, is_observed_at};
-ghost use Rattle.ds_machine.specs.Private.{data_accesses};
+ghost use Rattle.ds_machine.specs.Sides.{data_accesses};
 ghost use Rattle.ds_machine.specs.Reference.{dues_of, due_by};
 ghost use Rattle.ds_machine.specs.PrivateSides.{nine_side};
 ghost use Rattle.ds_machine.specs.Steps.{nine_reach, tick_of};

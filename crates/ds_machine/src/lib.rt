@@ -13,15 +13,17 @@
 //!   RAM, so the units behind the ports are as at boot (clause `units`).
 //! - `due` is the least actor of the 24 by due tick and then by rank. A processor isn't due while it is halted or a DMA channel of it runs,
 //!   and ARM9 isn't, nor its channels, while a stall of geometry holds them.
-//! - `step`, of the least actor, or of the least acting one where its step doesn't observe geometry, or of a processor that may step before
-//!   its turn (`MayStep`), on a machine that goes on (`IsRunning`), is exactly the reference step of that actor (`Steps`): the state after
-//!   it, with the units settled and the processors awake that wake by it (`ended`), and what it puts out; or the stop, and the state that
-//!   the stop leaves. A processor's step is `taken` over what it reaches and its side, one definition and one function for both, with its
-//!   cost in ticks. Geometry's step is its head command; where that ends a stall ARM9, unless it is halted, is due after its tick at the
-//!   earliest (`after_geometry`). While a processor is halted the tick of its next step is 0 (`went_on`, `past_tick`). The display's step
-//!   is its event with palettes and OAM (`video_step`): where it makes a frame whole it swaps geometry lists that wait, and puts out the
-//!   frame, whether a swap waited, and the lists of the last swap. The state is read with the file of the cartridge that is handed in
-//!   (`with_file`), before the step and after it, and no step changes that file (`touch_laws`, clause `file`).
+//! - `step`, of the least actor, or of the least acting one where its step doesn't observe geometry, or of a processor that may step before its
+//!   turn (`MayStep`), on a machine that goes on (`IsRunning`), is exactly the reference step of that actor (`Steps`): the state after it, with
+//!   the units settled and the processors awake that wake by it (`ended`), and what it puts out; or the stop, and the state that the stop
+//!   leaves. A processor's step is `taken` over what it reaches and its side, one definition and one function for both, with its cost in ticks:
+//!   that of its class, and the waits of its fetch and of each of its accesses (`in_ticks`, `waits_of_step`). One that wakes, or whose channel
+//!   moved a unit, goes on once that unit's waits are over (`due_past_unit`). Geometry's step is its head command; where that ends a stall ARM9,
+//!   unless it is halted, is due after its tick at the earliest (`after_geometry`). While a processor is halted the tick of its next step is 0
+//!   (`went_on`, `past_tick`). The display's step is its event with palettes and OAM (`video_step`): where it makes a frame whole it swaps
+//!   geometry lists that wait, and puts out the frame, whether a swap waited, and the lists of the last swap. The state is read with the file
+//!   of the cartridge that is handed in (`with_file`), before the step and after it, and no step changes that file (`touch_laws`, clause
+//!   `file`).
 //!
 //! Proved of turns:
 //! - `touches` is Yes exactly where a processor's next step may be taken before its turn, but for when it is due (`IsPrivate`): it is due,

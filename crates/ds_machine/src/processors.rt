@@ -1,16 +1,18 @@
 //! A processor in the machine.
 
-ghost use Rattle.std.specs.Prelude.{◌≡◌, ◌≤◌, ◌^◌};
+ghost use Rattle.std.specs.Prelude.{◌≡◌, ◌≤◌, ◌+◌, ◌*◌, ◌^◌};
 ghost use Rattle.arm_core.specs.Cores as cores;
-ghost use Rattle.ds_base.specs.Processors.{architecture_of};
+ghost use Rattle.ds_base.specs.Processors.{architecture_of, ticks_per_clock};
 ghost use Rattle.ds_header.specs.Fields.{image_entry};
 ghost use Rattle.ds_machine.specs.Booted.{stacks_of};
 ghost use Rattle.ds_machine.specs.Channels.{past_tick};
 ghost use Rattle.ds_machine.specs.Processors.{state_of};
+ghost use Rattle.ds_machine.specs.Steps as steps;
 ghost use Rattle.ds_machine.specs.Steps.{went_on};
 
 use arm_core::Core;
 use ds_base::{Proc, Tick};
+use ds_dma::LastUnit;
 use ds_header::Cart;
 
 /// A processor: the tick at which its next step is due, which is 0 while it is halted, its core, and how many steps it took. (The two numbers don't
@@ -47,28 +49,52 @@ impl Processor {
         }
     }
 
-    /// Took a step that costs so many of its clocks; where it is halted now it has no tick at which it is due.
+    /// Took a step that costs so many ticks; where it is halted now it has no tick at which it is due.
     #[inline(always)]
-    pub fn go_on(&mut self, proc: Proc, clocks: u32, halted: bool)
+    pub fn go_on(&mut self, ticks: u64, halted: bool)
+        requires brief { ticks ≤ 2 ^ 40 }
         requires early { self.old.due ≤ 2 ^ 56 }
         requires counted { self.old.steps ≤ 2 ^ 61 }
-        ensures state { state_of self.new ≡ went_on proc clocks halted (state_of self.old) }
+        ensures state { state_of self.new ≡ went_on ticks halted (state_of self.old) }
         ensures core { self.new.core ≡ self.old.core }
     {
         if halted {
             self.due = 0;
         } else {
-            self.due += proc.ticks_per_clock() * clocks as u64;
+            self.due += ticks;
         }
         self.steps += 1;
     }
 
-    /// It is due after a tick at the earliest, where it isn't halted.
-    pub fn delay_past(&mut self, halted: bool, tick: Tick)
-        requires { tick.0 ≤ 2 ^ 56 }
-        ensures state { state_of self.new ≡ past_tick halted tick (state_of self.old) }
+    /// It is due at a tick at the earliest, where it isn't halted.
+    pub fn delay_past(&mut self, halted: bool, least: u64)
+        ensures state { state_of self.new ≡ past_tick halted least (state_of self.old) }
         ensures core { self.new.core ≡ self.old.core }
     {
-        self.due = if halted { 0 } else { self.due.max(tick.0 + 1) };
+        self.due = if halted { 0 } else { self.due.max(least) };
+    }
+}
+
+/// What a step costs in ticks: by its class in a processor's clocks, and its waits.
+#[inline(always)]
+pub fn ticks_of(proc: Proc, clocks: u32, waits: u32) -> u64
+    ensures value { result ≡ ticks_per_clock proc * clocks + waits }
+    ensures brief { result ≤ 2 ^ 40 }
+{
+    proc.ticks_per_clock() * clocks as u64 + waits as u64
+}
+
+/// When a processor goes on after a tick, by its last unit of DMA, if there was one: at the next tick, or once the unit's waits are over.
+#[inline(always)]
+pub fn past_unit(last: Option<LastUnit>, tick: Tick) -> u64
+    requires { tick.0 ≤ 2 ^ 56 }
+    ensures value { result ≡ steps.past_unit last tick }
+    ensures early { result ≤ 2 ^ 57 }
+{
+    match last {
+        Some(last) if last.tick.0 <= tick.0 => {
+            (tick.0 + 1).max(last.tick.0 + last.waits as u64 + 1)
+        }
+        _ => tick.0 + 1,
     }
 }

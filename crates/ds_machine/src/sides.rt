@@ -1,7 +1,7 @@
 //! What a processor reaches at its step, and what parts it from the other.
 
-ghost use Rattle.std.specs.Prelude.{◌≡◌, ◌<◌, ℕ, List, false, IfSome};
-ghost use Rattle.ds_base.specs.Accesses.{MemoryMachine};
+ghost use Rattle.std.specs.Prelude.{◌≡◌, ◌<◌, ◌≤◌, ℕ, List, false, IfSome};
+ghost use Rattle.ds_base.specs.Accesses.{Fetch, MemoryMachine};
 ghost use Rattle.arm_core.specs.declared.outcomes.Stepped.TheVariants.{Cost};
 ghost use Rattle.arm_ops.specs.Meanings.{access_made, operation_meaning, IsNear};
 ghost use Rattle.arm_ops.specs.Operations.{is_other, HasAccess, HasOperation};
@@ -12,10 +12,12 @@ ghost use Rattle.ds_base.specs.declared.processors.Proc.TheVariants.{Nine};
 ghost use Rattle.ds_places.specs.AddressTables.{place_of};
 ghost use Rattle.ds_map.specs.Maps.{MemoriesState};
 ghost use Rattle.ds_map.specs.Shares.{is_private_place};
+ghost use Rattle.ds_map.specs.Waits.{waits_of};
 ghost use Rattle.ds_machine.specs.SteadyPorts.{is_steady_port};
 ghost use Rattle.ds_machine.specs.PrivateSides as sides;
 ghost use Rattle.ds_machine.specs.DecodedSteps.{operation_outcome, RunsAs};
 ghost use Rattle.ds_machine.specs.PrivateSides.{is_private_tcm, SideOf};
+ghost use Rattle.ds_machine.specs.Sides.{data_accesses};
 ghost use Rattle.ds_machine.specs.Touching.{GoesByWords};
 
 use crate::steady_ports::SteadyPorts;
@@ -26,7 +28,7 @@ use arm7_exec::execute7;
 use arm9_exec::{in_rom, move_if, move_of};
 use cp15_tcm::{Cp15, Tcm};
 use ds_base::{Arch, Proc, Width};
-use ds_map::{NineView, SevenView, fetched_by_nine};
+use ds_map::{NineView, SevenView, fetch_wait_of_nine, fetched_by_nine, wait_at};
 use ds_places::{is_own, is_seven_rom};
 use ds_ports::Io;
 
@@ -47,6 +49,9 @@ pub trait Side {
     /// The units behind the ports.
     ghost io: { State → IoState };
 
+    /// How many ticks its accesses of data waited since it was made.
+    ghost waits: { Self → ℕ };
+
     /// Where the accesses of a step find room, so that its bus ignores none of its writes.
     ghost finds_room: { State → Type 0 };
 
@@ -60,6 +65,15 @@ pub trait Side {
     /// What is fetched at an address; all stays as it is.
     fn fetched(&self, at: u32, width: Width) -> u32
         ensures { result ≡ memory.fetch_value (state self.now) at width };
+
+    /// How many ticks a fetch at an address waits.
+    fn fetch_wait(&self, at: u32, width: Width) -> u32
+        ensures value { result ≡ side.wait (state self.now) (Fetch at width) }
+        ensures most { result ≤ 8 };
+
+    /// How many ticks its accesses of data waited since it was made.
+    fn waited(&self) -> u32
+        ensures { result ≡ waits self.now };
 
     /// Where the exception vectors begin.
     fn base(&self) -> u32
@@ -78,9 +92,13 @@ pub trait Side {
         requires low { next.number < 16 }
         requires fields { IfSome next.instr HasFields }
         requires room { finds_room (state self.old) }
+        requires begins { waits self.old ≡ 0 }
         ensures registers { s.new ≡ (side.executed s.old (state self.old) next.number next.instr).registers }
         ensures state { state self.new ≡ (side.executed s.old (state self.old) next.number next.instr).state }
         ensures stepped { result ≡ (side.executed s.old (state self.old) next.number next.instr).stepped }
+        ensures waits { waits self.new
+            ≡ waits_of memory side.wait (state self.old) (data_accesses side.arch (side.base (state self.old)) s.old next.instr) }
+        ensures brief { waits self.new ≤ 128 }
         ensures same { identity self.new ≡ identity self.old };
 
     /// Runs an operation, wherever its access is, which was asked for: it is what its instruction comes to.
@@ -95,9 +113,12 @@ pub trait Side {
         requires access { access ≡ access_made s.old operation.now }
         requires reaches { IfSome access HasAccess }
         requires room { finds_room (state self.old) }
+        requires begins { waits self.old ≡ 0 }
         ensures registers { s.new ≡ (operation_outcome memory side s.old (state self.old) operation.now).registers }
         ensures state { state self.new ≡ (operation_outcome memory side s.old (state self.old) operation.now).state }
         ensures stepped { result ≡ (operation_outcome memory side s.old (state self.old) operation.now).stepped }
+        ensures waits { waits self.new ≡ waits_of memory side.wait (state self.old) (operation_meaning side.arch s.old operation.now).accesses }
+        ensures brief { waits self.new ≤ 128 }
         ensures executes { RunsAs memory side s.old (state self.old) operation.now }
         ensures same { identity self.new ≡ identity self.old };
 
@@ -106,11 +127,15 @@ pub trait Side {
     fn run_fast(&mut self, s: &mut Registers, operation: &Operation) -> u32
         requires fields { HasOperation operation.now }
         requires room { finds_room (state self.old) }
+        requires begins { waits self.old ≡ 0 }
         ensures none { result ≡ 0 → (s.new ≡ s.old) × (state self.new ≡ state self.old) }
         ensures known { 0 < result → is_other operation.now.op ≡ false }
         ensures registers { 0 < result → s.new ≡ (operation_outcome memory side s.old (state self.old) operation.now).registers }
         ensures state { 0 < result → state self.new ≡ (operation_outcome memory side s.old (state self.old) operation.now).state }
         ensures stepped { 0 < result → (operation_outcome memory side s.old (state self.old) operation.now).stepped ≡ Cost result }
+        ensures waits { 0 < result → waits self.new
+            ≡ waits_of memory side.wait (state self.old) (operation_meaning side.arch s.old operation.now).accesses }
+        ensures brief { waits self.new ≤ 128 }
         ensures executes { 0 < result → RunsAs memory side s.old (state self.old) operation.now }
         ensures near { 0 < result → IsNear is_steady_port (operation_meaning side.arch s.old operation.now).accesses }
         ensures io { io (state self.new) ≡ io (state self.old) }
@@ -174,6 +199,8 @@ impl Side for NineView<'_> {
 
     ghost io = { λ r. r.map.io };
 
+    ghost waits = { λ v. v.waits };
+
     ghost finds_room = { λ r. IsFree r.map.io.gx };
 
     ghost identity = { λ v. v.map.ghost_name ∷ v.io.ghost_name ∷ v.cp.ghost_name ∷ v.itcm.ghost_name ∷ v.dtcm.ghost_name ∷ unreached Nine v.map.now };
@@ -186,6 +213,16 @@ impl Side for NineView<'_> {
     #[inline(always)]
     fn fetched(&self, at: u32, width: Width) -> u32 {
         fetched_by_nine(self.cp, self.map, self.io, self.itcm, self.dtcm, at, width)
+    }
+
+    #[inline(always)]
+    fn fetch_wait(&self, at: u32, width: Width) -> u32 {
+        fetch_wait_of_nine(self.cp, self.io, at, width)
+    }
+
+    #[inline(always)]
+    fn waited(&self) -> u32 {
+        self.waits
     }
 
     #[inline(always)]
@@ -213,7 +250,7 @@ impl Side for NineView<'_> {
     }
 
     #[inline(always)]
-    #[tactic(auto, using(crate::proofs::GuardedSteps::same_operation))]
+    #[tactic(auto, using(crate::proofs::WaitedSteps::nine_operation))]
     fn run(
         &mut self,
         s: &mut Registers,
@@ -224,7 +261,7 @@ impl Side for NineView<'_> {
     }
 
     #[inline]
-    #[tactic(auto, using(crate::proofs::GuardedSteps::guarded_refuses_none, crate::proofs::GuardedSteps::same_operation))]
+    #[tactic(auto, using(crate::proofs::WaitedSteps::waiting_refuses_none, crate::proofs::WaitedSteps::nine_operation))]
     fn run_fast(&mut self, s: &mut Registers, operation: &Operation) -> u32 {
         run::<Self, SteadyPorts>(Arch::V5, s, self, operation)
     }
@@ -247,6 +284,8 @@ impl Side for SevenView<'_> {
 
     ghost io = { λ r. r.map.io };
 
+    ghost waits = { λ v. v.waits };
+
     ghost finds_room = { λ r. Unit {0} };
 
     ghost identity = { λ v. v.map.ghost_name ∷ v.io.ghost_name ∷ unreached Seven v.map.now };
@@ -259,6 +298,16 @@ impl Side for SevenView<'_> {
     #[inline(always)]
     fn fetched(&self, at: u32, width: Width) -> u32 {
         self.map.fetch(self.io, Proc::Seven, at, width)
+    }
+
+    #[inline(always)]
+    fn fetch_wait(&self, at: u32, width: Width) -> u32 {
+        wait_at(self.io, Proc::Seven, at, width)
+    }
+
+    #[inline(always)]
+    fn waited(&self) -> u32 {
+        self.waits
     }
 
     #[inline(always)]
@@ -291,7 +340,7 @@ impl Side for SevenView<'_> {
     }
 
     #[inline]
-    #[tactic(auto, using(crate::proofs::RamAccesses::seven_refuses_none))]
+    #[tactic(auto, using(crate::proofs::WaitedSteps::seven_waiting_refuses_none))]
     fn run_fast(&mut self, s: &mut Registers, operation: &Operation) -> u32 {
         run::<Self, SteadyPorts>(Arch::V4, s, self, operation)
     }

@@ -1,6 +1,6 @@
 //! The step of a processor over what it reaches, and of it what is fast: one function each for both processors.
 
-ghost use Rattle.std.specs.Prelude.{◌≡◌, ◌<◌, ◌%◌, ◌^◌, false, true, IfSome};
+ghost use Rattle.std.specs.Prelude.{◌≡◌, ◌<◌, ◌≤◌, ◌%◌, ◌^◌, false, true, IfSome};
 ghost use Rattle.arm_core.specs.Steps.{enters, fetched};
 ghost use Rattle.arm_core.specs.declared.outcomes.Stepped.TheVariants.{Cost};
 ghost use Rattle.decode_cache.specs.Known.{arch_of};
@@ -8,7 +8,8 @@ ghost use Rattle.arm_ops.specs.Operations.{is_other, operation_of, HasOperation}
 ghost use Rattle.arm_words.specs.Fields.{HasFields};
 ghost use Rattle.arm_words.specs.ThumbTable.{decoded_thumb};
 ghost use Rattle.arm_ops.specs.Meanings.{access_made};
-ghost use Rattle.ds_machine.specs.PrivateSides.{side_taken};
+ghost use Rattle.ds_machine.specs.PrivateSides.{side_step, side_taken, side_waits};
+ghost use Rattle.ds_machine.specs.Sides.{data_waits, next_fetch};
 ghost use Rattle.ds_machine.specs.Touching.{access_stays, DataIsNear, DataStays, GoesByWords};
 
 use crate::sides::Side;
@@ -64,14 +65,31 @@ fn next_decoded<V: Side>(s: &Registers, view: &V) -> Fetched
     decoded_word(arch, view.fetched(at, Width::Word))
 }
 
+/// How many ticks the fetch at r15 waits.
+#[inline(always)]
+fn fetch_wait<V: Side>(s: &Registers, view: &V) -> u32
+    ensures value { result ≡ V.side.wait (V.state view.now) (next_fetch s.now) }
+    ensures most { result ≤ 8 }
+{
+    let width = if s.is_thumb() {
+        Width::Half
+    } else {
+        Width::Word
+    };
+    view.fetch_wait(s.pc(), width)
+}
+
 /// The step of an instruction that isn't decoded, where no interrupt is entered.
 #[inline(never)]
 fn take_other<V: Side>(s: &mut Registers, view: &mut V, line: bool) -> Stepped
     requires none { enters line s.old ≡ false }
     requires room { V.finds_room (V.state view.old) }
+    requires begins { V.waits view.old ≡ 0 }
     ensures registers { s.new ≡ (side_taken V.memory V.side line s.old (V.state view.old)).registers }
     ensures state { V.state view.new ≡ (side_taken V.memory V.side line s.old (V.state view.old)).state }
     ensures stepped { result ≡ (side_taken V.memory V.side line s.old (V.state view.old)).stepped }
+    ensures waits { V.waits view.new ≡ data_waits V.memory (side_step V.side) s.old (V.state view.old) }
+    ensures brief { V.waits view.new ≤ 128 }
     ensures same { V.identity view.new ≡ V.identity view.old }
 {
     let _ = line;
@@ -87,9 +105,12 @@ fn take_operation<V: Side>(s: &mut Registers, view: &mut V, line: bool, next: &O
     requires fields { HasOperation next.now }
     requires known { is_other next.now.op ≡ false }
     requires room { V.finds_room (V.state view.old) }
+    requires begins { V.waits view.old ≡ 0 }
     ensures registers { s.new ≡ (side_taken V.memory V.side line s.old (V.state view.old)).registers }
     ensures state { V.state view.new ≡ (side_taken V.memory V.side line s.old (V.state view.old)).state }
     ensures stepped { result ≡ (side_taken V.memory V.side line s.old (V.state view.old)).stepped }
+    ensures waits { V.waits view.new ≡ data_waits V.memory (side_step V.side) s.old (V.state view.old) }
+    ensures brief { V.waits view.new ≤ 128 }
     ensures same { V.identity view.new ≡ V.identity view.old }
 {
     let _ = line;
@@ -97,39 +118,58 @@ fn take_operation<V: Side>(s: &mut Registers, view: &mut V, line: bool, next: &O
     view.run(s, next, access)
 }
 
+/// What a step came to.
+#[derive(Clone, Copy)]
+pub struct Came {
+    /// What it costs by its class, in clocks, or why it stopped.
+    pub stepped: Stepped,
+    /// How many ticks its accesses waited.
+    pub waits: u32,
+}
+
 /// The step.
 #[inline(always)]
-#[tactic(auto, using(crate::proofs::Taken::taken_entered))]
+#[tactic(auto, using(crate::proofs::Taken::taken_entered, crate::proofs::Taken::waits_entered, crate::proofs::Taken::waits_fetched))]
 pub fn take_in_view<V: Side, const VERSION: u32>(
     s: &mut Registers,
     decoder: &mut Decoder<VERSION>,
     view: &mut V,
     line: bool,
-) -> Stepped
+) -> Came
     requires version { arch_of VERSION ≡ V.side.arch }
     requires room { V.finds_room (V.state view.old) }
+    requires begins { V.waits view.old ≡ 0 }
     ensures registers { s.new ≡ (side_taken V.memory V.side line s.old (V.state view.old)).registers }
     ensures state { V.state view.new ≡ (side_taken V.memory V.side line s.old (V.state view.old)).state }
-    ensures stepped { result ≡ (side_taken V.memory V.side line s.old (V.state view.old)).stepped }
+    ensures stepped { result.stepped ≡ (side_taken V.memory V.side line s.old (V.state view.old)).stepped }
+    ensures waits { result.waits ≡ side_waits V.memory V.side line s.old (V.state view.old) }
     ensures same { V.identity view.new ≡ V.identity view.old }
 {
     let entered = enters(s, line);
     if entered {
         let base = view.base();
-        return Stepped::Cost(interrupt(view.arch(), s, base));
+        let stepped = Stepped::Cost(interrupt(view.arch(), s, base));
+        return Came { stepped, waits: 0 };
     }
+    let fetch = fetch_wait(s, view);
     let next = next_operation(s, decoder, view);
     if is_other(next) {
-        return take_other(s, view, line);
+        let stepped = take_other(s, view, line);
+        let waits = fetch + view.waited();
+        return Came { stepped, waits };
     }
-    take_operation(s, view, line, next)
+    let stepped = take_operation(s, view, line, next);
+    let waits = fetch + view.waited();
+    Came { stepped, waits }
 }
 
 /// What came of a fast step.
 #[derive(Clone, Copy)]
 pub struct Fast {
-    /// Its cost; 0 where it wasn't taken.
+    /// What it costs by its class, in clocks; 0 where it wasn't taken.
     pub clocks: u32,
+    /// How many ticks its accesses waited.
+    pub waits: u32,
     /// Whether it wasn't taken since it reaches past private places.
     pub leaves: bool,
 }
@@ -163,10 +203,12 @@ pub fn take_fast_in_view<V: Side, const VERSION: u32>(
 ) -> Fast
     requires version { arch_of VERSION ≡ V.side.arch }
     requires room { V.finds_room (V.state view.old) }
+    requires begins { V.waits view.old ≡ 0 }
     ensures none { result.clocks ≡ 0 → (s.new ≡ s.old) × (V.state view.new ≡ V.state view.old) }
     ensures registers { 0 < result.clocks → s.new ≡ (side_taken V.memory V.side line s.old (V.state view.old)).registers }
     ensures state { 0 < result.clocks → V.state view.new ≡ (side_taken V.memory V.side line s.old (V.state view.old)).state }
     ensures stepped { 0 < result.clocks → (side_taken V.memory V.side line s.old (V.state view.old)).stepped ≡ Cost result.clocks }
+    ensures waits { 0 < result.clocks → result.waits ≡ side_waits V.memory V.side line s.old (V.state view.old) }
     ensures stays { ahead ≡ true → 0 < result.clocks → DataStays V.memory V.side s.old (V.state view.old) }
     ensures leaves { result.leaves ≡ true → DataStays V.memory V.side s.old (V.state view.old) → ⊥ }
     ensures left { result.leaves ≡ true → (result.clocks ≡ 0) × (ahead ≡ true) }
@@ -177,6 +219,7 @@ pub fn take_fast_in_view<V: Side, const VERSION: u32>(
     if enters(s, line) {
         return Fast {
             clocks: 0,
+            waits: 0,
             leaves: false,
         };
     }
@@ -184,12 +227,16 @@ pub fn take_fast_in_view<V: Side, const VERSION: u32>(
     if ahead && !access_stays(s, view, next) {
         return Fast {
             clocks: 0,
+            waits: 0,
             leaves: true,
         };
     }
+    let fetch = fetch_wait(s, view);
     let clocks = view.run_fast(s, next);
+    let waits = fetch + view.waited();
     Fast {
         clocks,
+        waits,
         leaves: false,
     }
 }

@@ -6,7 +6,8 @@ ghost use Rattle.arm_core.specs.Footprints.{span};
 ghost use Rattle.arm_words.specs.Fields.{HasFields};
 ghost use Rattle.ds_base.specs.Accesses.{Fetch};
 ghost use Rattle.ds_machine.specs.Private as private;
-ghost use Rattle.ds_machine.specs.Private.{is_deaf, next_fetch, IsPrivate, ProcessorStaysPrivate};
+ghost use Rattle.ds_machine.specs.Private.{is_deaf, IsPrivate, ProcessorStaysPrivate};
+ghost use Rattle.ds_machine.specs.Sides.{next_fetch};
 ghost use Rattle.ds_ports.specs.Io.{io_of};
 ghost use Rattle.ds_machine.specs.Touching.{all_private, data_private, instr_at, is_private_to, is_told_nothing, FetchStaysPrivate, InstrStaysPrivate, IsFootprint};
 

@@ -1,6 +1,6 @@
 //! The step of the actor that is due, and those of the processors.
 
-ghost use Rattle.std.specs.Prelude.{◌≡◌, ◌<◌, ◌≤◌, ◌^◌, Some, true};
+ghost use Rattle.std.specs.Prelude.{◌≡◌, ◌<◌, ◌≤◌, ◌+◌, ◌*◌, ◌^◌, Some, true};
 ghost use Rattle.arm_core.specs.declared.outcomes.Stepped.TheVariants.{Cost};
 ghost use Rattle.ds_base.specs.declared.processors.Proc.{Proc};
 ghost use Rattle.ds_runs.specs.Actors.{IsNumbered};
@@ -12,11 +12,13 @@ ghost use Rattle.ds_machine.specs.Reference.{awake, due_by, step_by};
 ghost use Rattle.ds_machine.specs.StepAnswers.{stepped_of, Steps};
 ghost use Rattle.ds_machine.specs.Counting.{RunsWithSome};
 ghost use Rattle.ds_machine.specs.Touching.{DataStaysNear, DataStaysPrivate};
-ghost use Rattle.ds_machine.specs.Steps.{machine_concluded, goes_on, gone_by, is_halted, line_of, outcome_of, processor_of, wakes, went_on, with_processor, woken, woken_one, ended};
+ghost use Rattle.ds_base.specs.Processors.{ticks_per_clock};
+ghost use Rattle.ds_machine.specs.Steps.{in_ticks, machine_concluded, goes_on, gone_by, is_halted, line_of, due_past_unit, outcome_of, processor_of, wakes, went_on, with_processor, woken, woken_one, ended};
 
 use crate::answers::Done;
 use crate::parts::Parts;
-use crate::steps::{Fast, take_fast_in_view, take_in_view};
+use crate::processors::{past_unit, ticks_of};
+use crate::steps::{Came, Fast, take_fast_in_view, take_in_view};
 use arm_core::Stepped;
 use ds_base::{LeftOut, Proc, Stop, Tick};
 use ds_map::{NineView, SevenView};
@@ -73,18 +75,18 @@ impl Parts {
     {
         self.laws();
         let line = self.line(proc);
-        let stepped = self.take(proc, tick, line);
-        self.conclude(rank, proc, tick, stepped)
+        let came = self.take(proc, tick, line);
+        self.conclude(rank, proc, tick, came)
     }
 
     /// Takes a processor's step at a tick, but for its cost.
     #[inline(always)]
-    fn take(&mut self, proc: Proc, now: Tick, line: bool) -> Stepped
+    fn take(&mut self, proc: Proc, now: Tick, line: bool) -> Came
         requires early { now.0 ≤ 2 ^ 56 }
         requires line { line ≡ line_of self.old proc }
         requires room { IsFreeFor proc self.old }
         ensures machine { self.new ≡ (outcome_of proc now self.old).machine }
-        ensures stepped { result ≡ (outcome_of proc now self.old).stepped }
+        ensures stepped { in_ticks proc result.waits result.stepped ≡ (outcome_of proc now self.old).stepped }
     {
         match proc {
             Proc::Nine => {
@@ -95,6 +97,7 @@ impl Parts {
                     dtcm: &mut self.nine.dtcm,
                     cp: &mut self.nine.cp15,
                     now,
+                    waits: 0,
                 };
                 take_in_view(
                     &mut self.nine.processor.core.registers,
@@ -108,6 +111,7 @@ impl Parts {
                     map: &mut self.map,
                     io: &mut self.io,
                     now,
+                    waits: 0,
                 };
                 take_in_view(
                     &mut self.seven.processor.core.registers,
@@ -128,7 +132,7 @@ impl Parts {
         requires room { IsFreeFor proc self.old }
         ensures none { result.clocks ≡ 0 → self.new ≡ self.old }
         ensures machine { 0 < result.clocks → self.new ≡ (outcome_of proc now self.old).machine }
-        ensures stepped { 0 < result.clocks → (outcome_of proc now self.old).stepped ≡ Cost result.clocks }
+        ensures stepped { 0 < result.clocks → (outcome_of proc now self.old).stepped ≡ Cost (ticks_per_clock proc * result.clocks + result.waits) }
         ensures stays { ahead ≡ true → 0 < result.clocks → DataStaysPrivate now self.old proc }
         ensures leaves { result.leaves ≡ true → DataStaysPrivate now self.old proc → ⊥ }
         ensures left { result.leaves ≡ true → (result.clocks ≡ 0) × (ahead ≡ true) }
@@ -144,6 +148,7 @@ impl Parts {
                     dtcm: &mut self.nine.dtcm,
                     cp: &mut self.nine.cp15,
                     now,
+                    waits: 0,
                 };
                 take_fast_in_view(
                     &mut self.nine.processor.core.registers,
@@ -158,6 +163,7 @@ impl Parts {
                     map: &mut self.map,
                     io: &mut self.io,
                     now,
+                    waits: 0,
                 };
                 take_fast_in_view(
                     &mut self.seven.processor.core.registers,
@@ -170,36 +176,37 @@ impl Parts {
         }
     }
 
-    /// A processor took a step that costs so many of its clocks.
+    /// A processor took a step that costs so many ticks.
     #[inline(always)]
-    pub fn go_on(&mut self, proc: Proc, clocks: u32, halted: bool)
+    pub fn go_on(&mut self, proc: Proc, ticks: u64, halted: bool)
+        requires brief { ticks ≤ 2 ^ 40 }
         requires early { (processor_of self.old proc).due ≤ 2 ^ 56 }
         requires counted { (processor_of self.old proc).steps ≤ 2 ^ 61 }
-        ensures { self.new ≡ with_processor proc self.old (went_on proc clocks halted (processor_of self.old proc)) }
+        ensures { self.new ≡ with_processor proc self.old (went_on ticks halted (processor_of self.old proc)) }
     {
         match proc {
-            Proc::Nine => self.nine.processor.go_on(proc, clocks, halted),
-            Proc::Seven => self.seven.processor.go_on(proc, clocks, halted),
+            Proc::Nine => self.nine.processor.go_on(ticks, halted),
+            Proc::Seven => self.seven.processor.go_on(ticks, halted),
         }
     }
 
     /// A processor goes on by what its step came to, where it was taken.
     #[inline(always)]
-    fn go_by(&mut self, proc: Proc, stepped: Stepped) -> Option<Stop>
+    fn go_by(&mut self, proc: Proc, came: Came) -> Option<Stop>
         requires early { (processor_of self.old proc).due ≤ 2 ^ 56 }
         requires counted { (processor_of self.old proc).steps ≤ 2 ^ 61 }
-        ensures state { self.new ≡ gone_by proc stepped self.old }
-        ensures stop { result ≡ stop_in stepped }
+        ensures state { self.new ≡ gone_by proc (in_ticks proc came.waits came.stepped) self.old }
+        ensures stop { result ≡ stop_in came.stepped }
     {
-        match stepped {
+        match came.stepped {
             Stepped::Cost(clocks) => {
                 let halted = self.io.processor(proc).is_halted();
-                self.go_on(proc, clocks, halted);
+                self.go_on(proc, ticks_of(proc, clocks, came.waits), halted);
                 None
             }
             Stepped::Halted(clocks) => {
                 self.io.set_halted(proc, true);
-                self.go_on(proc, clocks, true);
+                self.go_on(proc, ticks_of(proc, clocks, came.waits), true);
                 None
             }
             Stepped::Left(stop) => Some(stop),
@@ -208,13 +215,14 @@ impl Parts {
 
     /// Concludes a processor's step by what it came to.
     #[inline(always)]
-    fn conclude(&mut self, rank: u8, proc: Proc, tick: Tick, stepped: Stepped) -> Done
+    fn conclude(&mut self, rank: u8, proc: Proc, tick: Tick, came: Came) -> Done
         requires tick { tick.0 ≤ 2 ^ 56 }
         requires early { (processor_of self.old proc).due ≤ 2 ^ 56 }
         requires counted { (processor_of self.old proc).steps ≤ 2 ^ 61 }
-        ensures { awake (Some tick) (machine_concluded rank proc self.old stepped) ≡ stepped_of self.old result self.new }
+        ensures { awake (Some tick) (machine_concluded rank proc self.old (in_ticks proc came.waits came.stepped))
+            ≡ stepped_of self.old result self.new }
     {
-        match self.go_by(proc, stepped) {
+        match self.go_by(proc, came) {
             None => {
                 self.end_step(tick);
                 Done::Made
@@ -268,15 +276,26 @@ impl Parts {
         }
     }
 
-    /// A halted processor goes on at the next tick.
+    /// When a processor goes on after a tick: at the next one, or once the waits of its last unit are over.
+    #[inline(always)]
+    pub fn next_due(&self, proc: Proc, tick: Tick) -> u64
+        requires { tick.0 ≤ 2 ^ 56 }
+        ensures value { result ≡ due_past_unit self.now proc tick }
+        ensures early { result ≤ 2 ^ 57 }
+    {
+        past_unit(self.io.processor(proc).last_unit(), tick)
+    }
+
+    /// A halted processor goes on after a tick.
     fn go_again(&mut self, proc: Proc, tick: Tick)
         requires { tick.0 ≤ 2 ^ 56 }
         ensures { self.new ≡ goes_on proc tick self.old }
     {
+        let due = self.next_due(proc, tick);
         self.io.set_halted(proc, false);
         match proc {
-            Proc::Nine => self.nine.processor.due = tick.0 + 1,
-            Proc::Seven => self.seven.processor.due = tick.0 + 1,
+            Proc::Nine => self.nine.processor.due = due,
+            Proc::Seven => self.seven.processor.due = due,
         }
     }
 }

@@ -17,7 +17,7 @@ use Rattle.ds_ports.specs.Io.{IoState, channel_moved}
 use Rattle.ds_map.specs.Accesses.{map_refusal, map_written}
 use Rattle.ds_map.specs.Guards.{guarded_memory, is_guarded, map_guarded, map_guarded_refusal, meets_guard, tcm_guarded, tcm_guarded_refusal}
 use Rattle.ds_map.specs.Maps.{MapState}
-use Rattle.ds_map.specs.Moves.{unit_read, unit_taken}
+use Rattle.ds_map.specs.Moves.{unit_read, unit_taken, unit_waits}
 use Rattle.ds_map.specs.Views.{NineReach, nine_memory, tcm_refusal, tcm_written}
 use Rattle.ds_map.proofs.Later.{map_read_unchanged}
 
@@ -71,12 +71,12 @@ same_overfull Seven u v e = refl
 pub read_leaves : (proc : Proc) (unit : DmaUnit) (m : MapState) → (unit_read proc unit m).io.gx ≡ m.io.gx
 read_leaves proc unit m = (map_read_unchanged proc m unit.from unit.width).gx
 
-moved_leaves : (proc : Proc) (now : Tick) (u : IoState) → (channel_moved proc now 0 u).gx ≡ u.gx
-moved_leaves Nine now u = refl
-moved_leaves Seven now u = refl
+moved_leaves : (proc : Proc) (now : Tick) (waits : ℕ) (u : IoState) → (channel_moved proc now waits u).gx ≡ u.gx
+moved_leaves Nine now waits u = refl
+moved_leaves Seven now waits u = refl
 
 pub taken_leaves : (proc : Proc) (now : Tick) (unit : DmaUnit) (m : MapState) → (unit_taken proc now unit m).io.gx ≡ m.io.gx
-taken_leaves proc now unit m = moved_leaves proc now (unit_read proc unit m).io ∙ read_leaves proc unit m
+taken_leaves proc now unit m = moved_leaves proc now (unit_waits proc unit m) (unit_read proc unit m).io ∙ read_leaves proc unit m
 
 pub unit_has_room : (proc : Proc) (now : Tick) (unit : DmaUnit) (m : MapState) (at : ℕ) → is_overfull proc m.io ≡ false
     → is_guarded proc (unit_taken proc now unit m) at ≡ false

@@ -22,7 +22,7 @@ use Rattle.gx_fifo.specs.GxStates.{GxState}
 use Rattle.vram_banks.specs.Cells.{vram_written}
 use Rattle.ds_map.specs.Accesses.{after_read_at, is_byte_of_nine, map_fetched, map_read, map_refusal, map_value, map_written, takes_no_bytes, written_at}
 use Rattle.ds_map.specs.Maps.{MapState}
-use Rattle.ds_map.specs.Moves.{map_after_unit, unit_moved, unit_read, unit_refusal, unit_taken}
+use Rattle.ds_map.specs.Moves.{map_after_unit, unit_moved, unit_read, unit_refusal, unit_taken, unit_waits}
 use Rattle.ds_map.specs.ObservedPorts.{is_observed_port}
 use Rattle.ds_map.proofs.ObservedPorts.{no_control, no_geometry, observed_same}
 use Rattle.ds_map.proofs.Passed as passed
@@ -146,10 +146,10 @@ module _ (g : GxState) (proc : Proc) (m : MapState) where
 
     pub unit_refuses : unit_refusal proc now unit (gx_in_map g m) ≡ unit_refusal proc now unit m
     unit_refuses =
-        passed.unit_refuses same_bytes (with_gx g) proc m now unit refl (passes unit.width (place_of proc m.io.wramcnt unit.from) from) (moved_apart g proc now 0) refl to_passes
+        passed.unit_refuses same_bytes (with_gx g) proc m now unit refl (passes unit.width (place_of proc m.io.wramcnt unit.from) from) (moved_apart g proc now) refl refl to_passes
 
     pub unit_moves : unit_moved proc now unit (gx_in_map g m) ≡ gx_in_map g (unit_moved proc now unit m)
-    unit_moves = passed.unit_moves same_bytes (with_gx g) proc m now unit refl (passes unit.width (place_of proc m.io.wramcnt unit.from) from) (moved_apart g proc now 0) refl to_passes
+    unit_moves = passed.unit_moves same_bytes (with_gx g) proc m now unit refl (passes unit.width (place_of proc m.io.wramcnt unit.from) from) (moved_apart g proc now) refl refl to_passes
 
 -- ---- ARM9's channels
 
@@ -193,9 +193,9 @@ unfolding map_written
 map_written_keeps proc now m at width number h = written_keeps_there proc now (place_of proc m.io.wramcnt at) m width number h
 
 -- a channel of ARM9's that took a unit may be disabled
-moved_arms : (proc : Proc) (now : Tick) (u : IoState) → ArmsNoMore u.nine.dma (channel_moved proc now 0 u).nine.dma
-moved_arms Nine now u = finished_arms u.nine.dma now 0
-moved_arms Seven now u = arms_by u.nine.dma u.nine.dma refl
+moved_arms : (proc : Proc) (now : Tick) (waits : ℕ) (u : IoState) → ArmsNoMore u.nine.dma (channel_moved proc now waits u).nine.dma
+moved_arms Nine now waits u = finished_arms u.nine.dma now waits
+moved_arms Seven now waits u = arms_by u.nine.dma u.nine.dma refl
 
 module _ (proc : Proc) (m : MapState) (now : Tick) (unit : DmaUnit) (to : IsApartPlace proc (place_of proc m.io.wramcnt unit.to)) where
   after_arms : (refused : Option Stop) → ArmsNoMore m.io.nine.dma (map_after_unit refused proc now unit m).io.nine.dma
@@ -206,7 +206,7 @@ module _ (proc : Proc) (m : MapState) (now : Tick) (unit : DmaUnit) (to : IsApar
       let dma = m.io.nine.dma in
       let end = map_written proc now taken unit.to unit.width number in
       arms_then dma taken.io.nine.dma end.io.nine.dma
-      (arms_then dma left.io.nine.dma taken.io.nine.dma (arms_by dma left.io.nine.dma (map_read_dma proc m unit.from unit.width)) (moved_arms proc now left.io))
+      (arms_then dma left.io.nine.dma taken.io.nine.dma (arms_by dma left.io.nine.dma (map_read_dma proc m unit.from unit.width)) (moved_arms proc now (unit_waits proc unit m) left.io))
       (arms_kept taken.io.nine.dma end.io.nine.dma
       (map_written_keeps proc now taken unit.to unit.width number (apart_anyhow proc m.io.wramcnt taken.io.wramcnt unit.to to)))
   after_arms (Some stop) = arms_by m.io.nine.dma _ (map_read_dma proc m unit.from unit.width)

@@ -7,3 +7,4 @@ pub mod Passed
 pub mod SevenShares
 pub mod ObservedPorts
 pub mod GxApart
+pub mod Waiting

@@ -1,4 +1,4 @@
-use Rattle.std.specs.Prelude.{◌&&◌}
+use Rattle.std.specs.Prelude.{◌+◌, ◌&&◌}
 use Rattle.std.proofs.Common.{ℕ, ◌≡◌, Bool, false, if◌then◌else◌, List, Option, Some, None, refl, sym, ◌∙◌, ap}
 use Rattle.ds_base.proofs.Choices.{and_false}
 use Rattle.ds_base.specs.Deeds.{pick}
@@ -23,7 +23,8 @@ use Rattle.vram_banks.specs.Cells as cells
 use Rattle.vram_banks.specs.Cells.{vram_value, vram_written}
 use Rattle.ds_map.specs.Accesses.{after_read_at, cell_put, fetched_at, is_byte_of_nine, map_fetched, map_read, map_refusal, map_value, map_written, refusal_at, takes_no_bytes, value_at, written_at}
 use Rattle.ds_map.specs.Maps.{MapState, MemoriesState, cells_of, with_cells}
-use Rattle.ds_map.specs.Moves.{map_after_unit, unit_moved, unit_read, unit_refusal, unit_taken}
+use Rattle.ds_map.specs.Moves.{map_after_unit, unit_moved, unit_read, unit_refusal, unit_taken, unit_waits}
+use Rattle.ds_map.specs.Waits.{wait_at}
 
 -- An access of the map passes a change of what is in it where what stands at its address passes it: it comes to the same, and leaves what it left, changed. Proved once, for
 -- all changes of shared work RAM and of the units.
@@ -155,18 +156,27 @@ module _ (shared : List ℕ → List ℕ) (io : IoState → IoState) where
   -- ---- the DMA unit
 
   module _ (proc : Proc) (m : MapState) (now : Tick) (unit : DmaUnit) (same : (io m.io).wramcnt ≡ m.io.wramcnt) (from : PlacePasses proc m unit.width (place_of proc m.io.wramcnt unit.from))
-      (moved : (u : IoState) → channel_moved proc now 0 (io u) ≡ io (channel_moved proc now 0 u)) where
+      (moved : (waits : ℕ) (u : IoState) → channel_moved proc now waits (io u) ≡ io (channel_moved proc now waits u))
+      (halfway : (io (unit_read proc unit m).io).wramcnt ≡ (unit_read proc unit m).io.wramcnt) where
     abbrev taken : MapState
     taken = unit_taken proc now unit m
 
     abbrev moved_number : ℕ
     moved_number = map_value proc now m unit.from unit.width
 
+    waits_so : unit_waits proc unit (changed m) ≡ unit_waits proc unit m
+    waits_so =
+        ap (λ (x : MapState). wait_at proc (io m.io).wramcnt unit.from unit.width + wait_at proc x.io.wramcnt unit.to unit.width) (read proc m same unit.from unit.width from)
+        ∙ ap (λ (w : ℕ). wait_at proc w unit.from unit.width + wait_at proc (io (unit_read proc unit m).io).wramcnt unit.to unit.width) same
+        ∙ ap (λ (w : ℕ). wait_at proc m.io.wramcnt unit.from unit.width + wait_at proc w unit.to unit.width) halfway
+
     taken_so : unit_taken proc now unit (changed m) ≡ changed taken
     taken_so =
         let left = unit_read proc unit m in
-        ap (λ (x : MapState). (let next : MapState = record x { io = channel_moved proc now 0 x.io } in next)) (read proc m same unit.from unit.width from)
-        ∙ ap (λ (u : IoState). (let next : MapState = record (changed left) { io = u } in next)) (moved left.io)
+        let waits = unit_waits proc unit m in
+        ap (λ (n : ℕ). (let next : MapState = record (unit_read proc unit (changed m)) { io = channel_moved proc now n (unit_read proc unit (changed m)).io } in next)) waits_so
+        ∙ ap (λ (x : MapState). (let next : MapState = record x { io = channel_moved proc now waits x.io } in next)) (read proc m same unit.from unit.width from)
+        ∙ ap (λ (u : IoState). (let next : MapState = record (changed left) { io = u } in next)) (moved waits left.io)
 
     module _ (still : (io taken.io).wramcnt ≡ taken.io.wramcnt) (to : PlacePasses proc taken unit.width (place_of proc taken.io.wramcnt unit.to)) where
       pub unit_refuses : unit_refusal proc now unit (changed m) ≡ unit_refusal proc now unit m

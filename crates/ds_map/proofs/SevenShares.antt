@@ -254,15 +254,18 @@ module _ (own : SharedPart) (m : MapState) (so : IsSharedSo own m.memories.share
       let left = unit_read Seven unit m in
       so_alike own left.memories.shared left.io taken.io (record { vram = refl; wramcnt = refl }) (read_stays own m so unit.from unit.width)
 
-  moved : (u : IoState) → channel_moved Seven now 0 (shares_put own u) ≡ shares_put own (channel_moved Seven now 0 u)
-  moved u = refl
+  moved : (waits : ℕ) (u : IoState) → channel_moved Seven now waits (shares_put own u) ≡ shares_put own (channel_moved Seven now waits u)
+  moved waits u = refl
+
+  abbrev halfway : own.wramcnt ≡ (unit_read Seven unit m).io.wramcnt
+  halfway = (read_stays own m so unit.from unit.width).wramcnt
 
   pub unit_refuses : unit_refusal Seven now unit (map_put own m) ≡ unit_refusal Seven now unit m
   unit_refuses =
-      passed.unit_refuses (shared_put own) (shares_put own) Seven m now unit so.wramcnt (passes_at own m so unit.from unit.width) moved taken_stays.wramcnt
+      passed.unit_refuses (shared_put own) (shares_put own) Seven m now unit so.wramcnt (passes_at own m so unit.from unit.width) moved halfway taken_stays.wramcnt
       (passes_at own taken taken_stays unit.to unit.width)
 
   pub unit_moves : unit_moved Seven now unit (map_put own m) ≡ map_put own (unit_moved Seven now unit m)
   unit_moves =
-      passed.unit_moves (shared_put own) (shares_put own) Seven m now unit so.wramcnt (passes_at own m so unit.from unit.width) moved taken_stays.wramcnt
+      passed.unit_moves (shared_put own) (shares_put own) Seven m now unit so.wramcnt (passes_at own m so unit.from unit.width) moved halfway taken_stays.wramcnt
       (passes_at own taken taken_stays unit.to unit.width)

@@ -15,7 +15,7 @@ use Rattle.ds_ports.specs.Ports.{port_refusal, port_written, unless_stopped}
 use Rattle.ds_ports.specs.Io.{IoState, channel_moved, channel_put_back, io_of}
 use Rattle.ds_map.specs.Accesses.{map_read, map_refusal, map_value, map_written, written_at, refusal_at}
 use Rattle.ds_map.specs.Maps.{MapState}
-use Rattle.ds_map.specs.Moves.{map_after_unit, unit_read, unit_refusal, unit_taken}
+use Rattle.ds_map.specs.Moves.{map_after_unit, unit_read, unit_refusal, unit_taken, unit_waits}
 use Rattle.ds_map.proofs.Later.{map_read_unchanged}
 
 -- A channel's unit: it is still due after its read, and where its write is refused all is as it was after the read.
@@ -44,9 +44,9 @@ unfolding map_refusal map_written
 refused_leaves proc now m at width value h = place_refuses proc now (place_of proc m.io.wramcnt at) m width value h
 
 -- where a move is taken back, the units are again as they were
-taken_back : (proc : Proc) (now : Tick) (u : IoState) → channel_put_back proc (before_move (io_of u proc)) (channel_moved proc now 0 u) ≡ u
-taken_back Nine now u = refl
-taken_back Seven now u = refl
+taken_back : (proc : Proc) (now : Tick) (waits : ℕ) (u : IoState) → channel_put_back proc (before_move (io_of u proc)) (channel_moved proc now waits u) ≡ u
+taken_back Nine now waits u = refl
+taken_back Seven now waits u = refl
 
 left_by_stop : (refused : Option Stop) (proc : Proc) (now : Tick) (unit : DmaUnit) (m : MapState) → IsSome refused → map_after_unit refused proc now unit m ≡ unit_read proc unit m
 left_by_stop None proc now unit m h = absurd (true≢false (sym h))
@@ -60,5 +60,5 @@ put_back_is proc now unit m written h w =
     let read = unit_read proc unit m in
     let stays = w ∙ refused_leaves proc now (unit_taken proc now unit m) unit.to unit.width (map_value proc now m unit.from unit.width) h in
     ap (λ (x : MapState). (let back : MapState = record x { io = channel_put_back proc (before_move (io_of read.io proc)) x.io } in back)) stays
-    ∙ ap (λ (u : IoState). (let back : MapState = record read { io = u } in back)) (taken_back proc now read.io)
+    ∙ ap (λ (u : IoState). (let back : MapState = record read { io = u } in back)) (taken_back proc now (unit_waits proc unit m) read.io)
     ∙ sym (left_by_stop (unit_refusal proc now unit m) proc now unit m h)

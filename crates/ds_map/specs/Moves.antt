@@ -1,4 +1,4 @@
-use Rattle.std.specs.Prelude.{Option, Some, None}
+use Rattle.std.specs.Prelude.{ℕ, ◌+◌, Option, Some, None}
 use Rattle.ds_base.specs.declared.left_out.Stop.{Stop}
 use Rattle.ds_base.specs.declared.processors.Proc.{Proc}
 use Rattle.ds_base.specs.declared.ticks.Tick.{Tick}
@@ -7,22 +7,29 @@ use Rattle.ds_dma.specs.States.{due_channel}
 use Rattle.ds_dma.specs.declared.channels.Unit.{Unit as DmaUnit}
 use Rattle.ds_map.specs.Accesses.{map_read, map_refusal, map_value, map_written}
 use Rattle.ds_map.specs.Maps.{MapState}
+use Rattle.ds_map.specs.Waits.{wait_at}
 use Rattle.ds_ports.specs.Io.{IoState, channel_moved, io_of}
 
 -- How a DMA channel moves a unit (GBATEK, "DS DMA Transfers"; the order is our choice): it reads it, takes it from its plan with all that taking the
--- last one brings, and then writes it. Where the write is refused all is as it was after the read: the unit is still in the plan. The accesses don't
--- wait yet (our choice: the machine adds no waits by region).
+-- last one brings, and then writes it. Where the write is refused all is as it was after the read: the unit is still in the plan. Both accesses wait
+-- (our choice), and the processor's next unit comes so much later.
 
 -- the unit that the channel of a processor that is due moves
 abbrev pub next_unit : IoState → Proc → DmaUnit
 next_unit u proc = unit_of (due_channel (io_of u proc).dma) 0
 
--- the map after it was read, and after it was taken too
+-- the map after it was read
 abbrev pub unit_read : Proc → DmaUnit → MapState → MapState
 unit_read proc unit m = map_read proc m unit.from unit.width
 
+-- how long its two accesses wait together, each by the state before it; taking it leaves what WRAMCNT shows
+abbrev pub unit_waits : Proc → DmaUnit → MapState → ℕ
+unit_waits proc unit m =
+    wait_at proc m.io.wramcnt unit.from unit.width + wait_at proc (unit_read proc unit m).io.wramcnt unit.to unit.width
+
+-- the map after it was taken too
 abbrev pub unit_taken : Proc → Tick → DmaUnit → MapState → MapState
-unit_taken proc now unit m = let read = unit_read proc unit m in record read { io = channel_moved proc now 0 read.io }
+unit_taken proc now unit m = let read = unit_read proc unit m in record read { io = channel_moved proc now (unit_waits proc unit m) read.io }
 
 -- why its write is refused, and the map after all
 abbrev pub unit_refusal : Proc → Tick → DmaUnit → MapState → Option Stop

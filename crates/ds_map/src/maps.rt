@@ -10,13 +10,14 @@ ghost use Rattle.ds_ports.specs.Io.{video_done};
 ghost use Rattle.video2d.specs.Scans.{scan_due};
 ghost use Rattle.video2d.specs.Videos.{video_answer};
 ghost use Rattle.ds_map.specs.Accesses.{cell_put, fetched_at, is_byte_of_nine, after_read_at, map_fetched, map_read, map_refusal, map_value, map_written, rom_value, takes_no_bytes, value_at};
+ghost use Rattle.ds_map.specs.Waits.{wait_at};
 ghost use Rattle.ds_map.specs.Guards.{guarded_at, guarded_refusal_at, is_guarded, map_guarded, map_guarded_refusal};
 
 use crate::blocks::Block;
 use ds_base::{
     MAIN_BYTES, Memory, OAM_BYTES, OWN7_BYTES, PALETTE_BYTES, Proc, SHARED_BYTES, Stop, Tick, Width,
 };
-use ds_places::{Place, main_cell, own_cell, place, port_at, rom_word};
+use ds_places::{Place, main_cell, own_cell, place, port_at, rom_word, wait};
 use ds_ports::{Io, part};
 use std::alloc::{AllocError, Global};
 use std::marker::Model;
@@ -354,6 +355,37 @@ impl Map {
             Memory::Itcm | Memory::Dtcm | Memory::Vram => 0,
         }
     }
+}
+
+/// How long an access of a processor's at an address waits, wherever it is.
+#[inline(never)]
+#[tactic(auto, unfolding(crate::specs::Waits::wait_at))]
+fn wait_anywhere(io: &Io, proc: Proc, at: u32, width: Width) -> u32
+    ensures value { result ≡ wait_at proc io.now.wramcnt at width }
+    ensures most { result ≤ 8 }
+{
+    wait(proc, place(proc, io.wramcnt(), at), width)
+}
+
+/// How long an access of a processor's at an address waits, in ticks, past the tightly coupled memories: at most 8, by what the address names.
+#[inline(always)]
+#[tactic(auto, unfolding(crate::specs::Waits::wait_at))]
+pub fn wait_at(io: &Io, proc: Proc, at: u32, width: Width) -> u32
+    ensures value { result ≡ wait_at proc io.now.wramcnt at width }
+    ensures most { result ≤ 8 }
+{
+    if let Some(at) = main_cell(at) {
+        let memory = Memory::Main;
+        return wait(proc, Place::Cell { memory, at }, width);
+    }
+    if let Some(at) = own_cell(proc, at) {
+        let memory = Memory::Own7;
+        return wait(proc, Place::Cell { memory, at }, width);
+    }
+    if let Some(port) = port_at(at) {
+        return wait(proc, Place::Port(port), width);
+    }
+    wait_anywhere(io, proc, at, width)
 }
 
 /// Whether an access is of a byte by ARM9.

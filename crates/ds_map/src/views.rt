@@ -1,20 +1,22 @@
 //! The views of the processors.
 
-ghost use Rattle.std.specs.Prelude.{◌≡◌, Some};
+ghost use Rattle.std.specs.Prelude.{◌≡◌, ◌≤◌, ◌+◌, ◌%◌, ◌^◌, false, true, Some};
 ghost use Rattle.ds_base.specs.Schedules.{IsEarly};
 ghost use Rattle.ds_base.specs.declared.ticks.Tick.{Tick};
-ghost use Rattle.ds_base.specs.declared.processors.Proc.TheVariants.{Nine};
+ghost use Rattle.ds_base.specs.declared.processors.Proc.TheVariants.{Nine, Seven};
 ghost use Rattle.ds_map.specs.Maps.{map_seen};
 ghost use Rattle.ds_map.specs.Views.{nine_memory};
+ghost use Rattle.ds_map.specs.Waits.{tcm_wait};
+ghost use Rattle.cp15_tcm.specs.TightlyCoupled.{tcm_of};
 
 use crate::blocks::Block;
-use crate::maps::Map;
+use crate::maps::{Map, wait_at};
 use arm_core::Bus;
 use cp15_tcm::{Cp15, Tcm};
 use ds_base::{DTCM_BYTES, ITCM_BYTES, Proc, Stop, Tick, Width};
 use ds_ports::Io;
 
-/// What ARM7 reaches: the memories and the units behind the ports, at the tick of its step.
+/// What ARM7 reaches: the memories and the units behind the ports, at the tick of its step. As a bus it adds up how long its accesses wait.
 #[derive(Drop)]
 pub struct SevenView<'a> {
     /// The memories.
@@ -23,36 +25,47 @@ pub struct SevenView<'a> {
     pub io: &'a mut Io,
     /// The tick of the step.
     pub now: Tick,
+    /// How many ticks the bus's accesses waited together so far.
+    pub waits: u32,
     ghost early: { IsEarly (Some now) },
 }
 
 impl Bus for SevenView<'_> {
     ghost use Rattle.std.specs.Prelude.{◌∷◌};
-    ghost use Rattle.ds_base.specs.declared.processors.Proc.TheVariants.{Seven};
     ghost use Rattle.ds_map.specs.Maps.{map_seen, unreached};
     ghost use Rattle.ds_map.specs.Views.{SevenReach, seven_memory};
+    ghost use Rattle.ds_map.specs.Waits.{Waited, seven_wait, waiting};
 
-    ghost State = { SevenReach };
+    ghost State = { Waited SevenReach };
 
-    ghost state = { λ v. record { map = map_seen Seven v.map.now v.io.now; now = v.now } };
+    ghost state = { λ v. record { reached = record { map = map_seen Seven v.map.now v.io.now; now = v.now }; waits = v.waits } };
 
-    ghost memory = { seven_memory };
+    ghost memory = { waiting seven_memory seven_wait };
 
     ghost identity = { λ v. v.map.ghost_name ∷ v.io.ghost_name ∷ unreached Seven v.map.now };
 
     #[inline(always)]
     fn fetch(&mut self, at: u32, width: Width) -> u32 {
+        self.waits = self
+            .waits
+            .wrapping_add(wait_at(self.io, Proc::Seven, at, width));
         self.map.fetch(self.io, Proc::Seven, at, width)
     }
 
     #[inline(always)]
     fn read(&mut self, at: u32, width: Width) -> u32 {
+        self.waits = self
+            .waits
+            .wrapping_add(wait_at(self.io, Proc::Seven, at, width));
         self.map.read(self.io, Proc::Seven, self.now, at, width)
     }
 
     #[inline(always)]
     #[tactic(auto, using(crate::proofs::Guards::seven_refusal, crate::proofs::Guards::seven_written))]
     fn write(&mut self, at: u32, width: Width, value: u32) -> Option<Stop> {
+        self.waits = self
+            .waits
+            .wrapping_add(wait_at(self.io, Proc::Seven, at, width));
         self.map
             .write(self.io, Proc::Seven, self.now, at, width, value)
     }
@@ -85,8 +98,29 @@ pub fn fetched_by_nine(
     }
 }
 
-/// What ARM9 reaches: CP15, its tightly coupled memories, where CP15 says, and behind them the map. As a bus it ignores a write of a port while more
-/// than 320 entries wait for geometry.
+/// How many ticks an access of ARM9's at an address waits, where a tightly coupled memory answers or past both.
+#[inline(always)]
+fn tcm_wait(io: &Io, tcm: Tcm, at: u32, width: Width) -> u32
+    ensures value { result ≡ tcm_wait tcm io.now.wramcnt at width }
+    ensures most { result ≤ 8 }
+{
+    match tcm {
+        Tcm::Itcm(_) | Tcm::Dtcm(_) => 0,
+        Tcm::Past => wait_at(io, Proc::Nine, at, width),
+    }
+}
+
+/// How many ticks a fetch by ARM9 at an address waits: at most 8.
+#[inline(always)]
+pub fn fetch_wait_of_nine(cp: &Cp15, io: &Io, at: u32, width: Width) -> u32
+    ensures value { result ≡ tcm_wait (tcm_of cp.now at false true) io.now.wramcnt at width }
+    ensures most { result ≤ 8 }
+{
+    tcm_wait(io, cp.tcm_place(at, false, true), at, width)
+}
+
+/// What ARM9 reaches: CP15, its tightly coupled memories, where CP15 says, and behind them the map. As a bus it adds up how long its accesses wait,
+/// and ignores a write of a port while more than 320 entries wait for geometry.
 #[derive(Drop)]
 pub struct NineView<'a> {
     /// The memories.
@@ -101,32 +135,45 @@ pub struct NineView<'a> {
     pub cp: &'a mut Cp15,
     /// The tick of the step.
     pub now: Tick,
+    /// How many ticks the bus's accesses waited together so far.
+    pub waits: u32,
     ghost early: { IsEarly (Some now) },
 }
 
 impl Bus for NineView<'_> {
     ghost use Rattle.std.specs.Prelude.{◌∷◌};
-    ghost use Rattle.ds_base.specs.declared.processors.Proc.TheVariants.{Nine};
     ghost use Rattle.ds_map.specs.Maps.{map_seen, unreached};
     ghost use Rattle.ds_map.specs.Guards.{guarded_memory};
     ghost use Rattle.ds_map.specs.Views.{NineReach};
+    ghost use Rattle.ds_map.specs.Waits.{Waited, nine_wait, waiting};
 
-    ghost State = { NineReach };
+    ghost State = { Waited NineReach };
 
-    ghost state = { λ v. record { map = map_seen Nine v.map.now v.io.now; cp15 = v.cp.now; itcm = v.itcm.now; dtcm = v.dtcm.now; now = v.now } };
+    ghost state = { λ v. record {
+      reached = record { map = map_seen Nine v.map.now v.io.now; cp15 = v.cp.now; itcm = v.itcm.now; dtcm = v.dtcm.now; now = v.now };
+      waits = v.waits;
+    } };
 
-    ghost memory = { guarded_memory };
+    ghost memory = { waiting guarded_memory nine_wait };
 
     ghost identity = { λ v. v.map.ghost_name ∷ v.io.ghost_name ∷ v.cp.ghost_name ∷ v.itcm.ghost_name ∷ v.dtcm.ghost_name ∷ unreached Nine v.map.now };
 
     #[inline(always)]
     fn fetch(&mut self, at: u32, width: Width) -> u32 {
-        fetched_by_nine(self.cp, self.map, self.io, self.itcm, self.dtcm, at, width)
+        let tcm = self.cp.tcm_place(at, false, true);
+        self.waits = self.waits.wrapping_add(tcm_wait(self.io, tcm, at, width));
+        match tcm {
+            Tcm::Itcm(place) => self.itcm.number(place as usize, width),
+            Tcm::Dtcm(place) => self.dtcm.number(place as usize, width),
+            Tcm::Past => self.map.fetch(self.io, Proc::Nine, at, width),
+        }
     }
 
     #[inline(always)]
     fn read(&mut self, at: u32, width: Width) -> u32 {
-        match self.cp.tcm_place(at, false, false) {
+        let tcm = self.cp.tcm_place(at, false, false);
+        self.waits = self.waits.wrapping_add(tcm_wait(self.io, tcm, at, width));
+        match tcm {
             Tcm::Itcm(place) => self.itcm.number(place as usize, width),
             Tcm::Dtcm(place) => self.dtcm.number(place as usize, width),
             Tcm::Past => self.map.read(self.io, Proc::Nine, self.now, at, width),
@@ -135,7 +182,9 @@ impl Bus for NineView<'_> {
 
     #[inline(always)]
     fn write(&mut self, at: u32, width: Width, value: u32) -> Option<Stop> {
-        match self.cp.tcm_place(at, true, false) {
+        let tcm = self.cp.tcm_place(at, true, false);
+        self.waits = self.waits.wrapping_add(tcm_wait(self.io, tcm, at, width));
+        match tcm {
             Tcm::Itcm(place) => self.itcm.set_number(place as usize, width, value),
             Tcm::Dtcm(place) => self.dtcm.set_number(place as usize, width, value),
             Tcm::Past => return self

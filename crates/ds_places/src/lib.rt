@@ -8,8 +8,8 @@
 //! each processor and each WRAMCNT. `within`: a cell's number is below its memory's size, and an address of a space below the space's.
 //! `rom_word(proc, at)` is the word of a processor's boot ROM at a multiple of 4: that of the list of all 121 words of the stub that stands
 //! in place of the console's boot ROMs, routine by routine, each beside its statement, and 0 past the list (`word`); from 1E4h on it is 0
-//! (`zeros`). `wait(proc, place, width)` is how many ticks an access waits there by the table of regions (`value`), at most 8 (`most`); the
-//! machine doesn't add waits yet. No call takes memory.
+//! (`zeros`). `wait(proc, place, width)` is how many ticks an access waits there by the table of regions (`value`), at most 8 (`most`). No
+//! call takes memory.
 //!
 //! Only tested: that the tables are the console's, along each border of both tables on both sides, for each WRAMCNT, and the waits at each
 //! place for each width (`units_tests`); that the words are those of their statements: `nds_rows` has the stub's listing, of which `asm`

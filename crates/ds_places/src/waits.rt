@@ -1,4 +1,4 @@
-//! How long accesses wait, by what an address names. Nothing asks for it yet: the machine doesn't add waits.
+//! How long accesses wait, by what an address names.
 
 ghost use Rattle.std.specs.Prelude.{ℕ, ◌≡◌, ◌≤◌};
 ghost use Rattle.ds_base.specs.declared.processors.Proc.{Proc};

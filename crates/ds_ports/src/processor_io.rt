@@ -18,7 +18,7 @@ ghost use Rattle.ds_ports.specs.Registers.{meaning_of};
 
 use crate::registers::Register;
 use ds_base::{Due, Interrupt, Proc, Stop, Tick};
-use ds_dma::{Cause, Dma, DmaPort, Unit};
+use ds_dma::{Cause, Dma, DmaPort, LastUnit, Unit};
 use ds_runs::{earlier, entry};
 use ds_timers::{Irq, Timers};
 use std::marker::Model;
@@ -418,6 +418,13 @@ impl ProcessorIo {
             Some(due) => due.tick.0 < ticks,
             None => false,
         }
+    }
+
+    /// The last unit that a DMA channel of it moved, if one did.
+    pub fn last_unit(&self) -> Option<LastUnit>
+        ensures { result ≡ self.now.dma.last }
+    {
+        self.dma.last_unit()
     }
 
     /// The unit that is due of the channels.

@@ -22,7 +22,8 @@ use Rattle.ds_runs.proofs.Lists.{has_least}
 use Rattle.video2d.specs.Scans.{scan_due_tick}
 use Rattle.ds_machine.specs.Acting.{acting_dues}
 use Rattle.ds_machine.specs.FenceTicks.{channel_dues, timer_dues}
-use Rattle.ds_machine.specs.Private.{AllReachPrivate, IsAhead, IsFence, IsPrivate, ProcessorStaysPrivate, ReachesPrivate, StaysPrivate, data_accesses, is_deaf, may_go_ahead, next_fetch, rank_of}
+use Rattle.ds_machine.specs.Private.{AllReachPrivate, IsAhead, IsFence, IsPrivate, ProcessorStaysPrivate, ReachesPrivate, StaysPrivate, is_deaf, may_go_ahead, rank_of}
+use Rattle.ds_machine.specs.Sides.{data_accesses, next_fetch}
 use Rattle.ds_machine.specs.Reference.{keys_due, processor_due}
 use Rattle.ds_machine.specs.PrivateSides.{SideOf, nine_side, seven_side}
 use Rattle.ds_machine.specs.States.{MachineState}

@@ -1,11 +1,13 @@
-use Rattle.std.proofs.Common.{◌≡◌, ◌∙◌, Bool, true, false, true≢false, refl, sym, ap}
+use Rattle.std.proofs.Common.{ℕ, ◌≡◌, ◌+◌, ◌∙◌, Bool, true, false, true≢false, refl, sym, ap}
 use Rattle.arm_core.specs.Effects.{Outcome}
 use Rattle.arm_core.specs.Steps.{enters}
 use Rattle.arm_ops.specs.Operations.{is_other}
 use Rattle.ds_machine.specs.Touching.{DataStays}
 use Rattle.ds_machine.proofs.DecodedStays.{leaves_known, stays_known}
 use Rattle.ds_machine.proofs.NearUnobserved.{near_known}
-use Rattle.ds_machine.proofs.Taken.{taken_operation}
+use Rattle.ds_machine.specs.PrivateSides.{side_step}
+use Rattle.ds_machine.specs.Sides.{data_waits}
+use Rattle.ds_machine.proofs.Taken.{decoded_waits, taken_operation, waits_fetched}
 use Rattle.ds_machine.proofs.steps.take_fast_in_view.Goals.{else-ahead-via-then-ahead+else-not-access_stays, else-ahead-via-else-ahead}
 use Rattle.ds_machine.proofs.steps.take_fast_in_view.Goals as goal
 
@@ -53,3 +55,17 @@ returns-clause-stays g c = λ ahead some.
           (sym (w.access_stays.ensures.stays (c.run_fast-clocks.ensures.known some)) ∙ w.if-not-access_stays.false)
       | else-ahead-via-else-ahead w ↦ absurd (true≢false (sym ahead ∙ w.if-ahead.false))
     ]
+
+pub returns-clause-waits : goal.returns-clause-waits
+returns-clause-waits g c = λ some.
+    (let memory = g.V.Side.memory in
+    let side = g.V.Side.side in
+    let state = g.V.Side.state c.args.view.now in
+    let s = c.args.s.now in
+    let next = c.next_operation-next.result.now in
+    let first = c.fetch_wait-fetch.result in
+    let none : enters c.args.line s ≡ false = sym c.if-enters.ensures in
+    ap (λ (n : ℕ). first + n) (c.waited.ensures ∙ c.run_fast-clocks.ensures.waits some
+    ∙ decoded_waits memory side s state next (c.run_fast-clocks.ensures.known some) c.next_operation-next.ensures.operation)
+    ∙ ap (λ (n : ℕ). n + data_waits memory (side_step side) s state) c.fetch_wait-fetch.ensures.value
+    ∙ sym (waits_fetched memory side c.args.line s state none))

@@ -1,6 +1,6 @@
 use Rattle.std.proofs.Common.{◌∙◌, sym, ap}
 use Rattle.arm_core.specs.Effects.{Outcome}
-use Rattle.ds_machine.proofs.Taken.{taken_operation}
+use Rattle.ds_machine.proofs.Taken.{decoded_waits, taken_operation}
 use Rattle.ds_machine.proofs.steps.take_operation.Goals as goal
 
 pub returns-clause-registers : goal.returns-clause-registers
@@ -17,3 +17,8 @@ pub returns-clause-stepped : goal.returns-clause-stepped
 returns-clause-stepped g c =
     let is = taken_operation g.V.Side.memory g.V.Side.side c.args.line c.args.s.now (g.V.Side.state c.args.view.now) c.args.next.now c.run.ensures.executes c.requires.none c.requires.operation in
     c.run.ensures.stepped ∙ ap (λ (o : Outcome g.V.Side.State). o.stepped) (sym is)
+
+pub returns-clause-waits : goal.returns-clause-waits
+returns-clause-waits g c =
+    c.run.ensures.waits
+    ∙ decoded_waits g.V.Side.memory g.V.Side.side c.args.s.now (g.V.Side.state c.args.view.now) c.args.next.now c.requires.known c.requires.operation

@@ -1,4 +1,7 @@
-use Rattle.std.proofs.Common.{◌∙◌, sym, ap}
+use Rattle.std.proofs.Common.{Option, ◌∙◌, sym, ap}
+use Rattle.arm_words.specs.declared.instructions.Instr.{Instr}
+use Rattle.ds_map.specs.Waits.{waits_of}
+use Rattle.ds_machine.specs.Sides.{data_accesses}
 use Rattle.arm_core.specs.Effects.{Outcome}
 use Rattle.ds_machine.proofs.Taken.{taken_executed}
 use Rattle.ds_machine.proofs.steps.take_other.Goals as goal
@@ -20,3 +23,9 @@ returns-clause-stepped g c =
     let is = taken_executed g.V.Side.memory g.V.Side.side c.args.line c.args.s.now (g.V.Side.state c.args.view.now) c.next_decoded-next.result.number
     c.next_decoded-next.result.instr c.requires.none c.next_decoded-next.ensures.number c.next_decoded-next.ensures.instr in
     c.execute.ensures.stepped ∙ ap (λ (o : Outcome g.V.Side.State). o.stepped) (sym is)
+
+pub returns-clause-waits : goal.returns-clause-waits
+returns-clause-waits g c =
+    c.execute.ensures.waits
+    ∙ ap (λ (i : Option Instr). waits_of g.V.Side.memory g.V.Side.side.wait (g.V.Side.state c.args.view.now)
+    (data_accesses g.V.Side.side.arch (g.V.Side.side.base (g.V.Side.state c.args.view.now)) c.args.s.now i)) c.next_decoded-next.ensures.instr

@@ -1,6 +1,6 @@
 use Rattle.std.proofs.Common.{ℕ, ◌≡◌, ◌↔◌, ◌∙◌, Bool, true, ap, sym, subst}
 use Rattle.ds_base.specs.Accesses.{Fetch}
-use Rattle.ds_machine.specs.Private.{next_fetch}
+use Rattle.ds_machine.specs.Sides.{next_fetch}
 use Rattle.ds_machine.specs.States.{ProcessorState}
 use Rattle.ds_machine.specs.Touching.{FetchStaysPrivate}
 use Rattle.ds_machine.proofs.PrivateTests.{fetch_stays}

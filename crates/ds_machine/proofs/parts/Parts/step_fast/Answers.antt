@@ -1,4 +1,6 @@
-use Rattle.std.proofs.Common.{◌<◌, ◌≤◌, ◌^◌, inl, inr, refl, ◌∙◌, ap, arith}
+use Rattle.std.proofs.Common.{ℕ, ◌<◌, ◌≤◌, ◌^◌, inl, inr, refl, sym, ◌∙◌, ap, arith}
+use Rattle.arm_core.specs.declared.outcomes.Stepped as arm
+use Rattle.arm_core.specs.declared.outcomes.Stepped.TheVariants.{Cost}
 use Rattle.ds_machine.specs.States.{ProcessorState}
 use Rattle.ds_machine.specs.Steps.{tick_of}
 use Rattle.ds_machine.proofs.FastTurns.{below_turn, is_due, least_now, over_at_end, over_past, went_fast}
@@ -97,22 +99,24 @@ returns c =
     let n = c.processor.result.now.due in
     let early = c.requires.early in
     let due = ap (λ (p : ProcessorState). p.due) c.processor.ensures in
+    let cost : ℕ → arm.Stepped = λ n. Cost n in
     let some : 0 < c.take_fast-fast.result.clocks = (let more = c.if-fast-eq0.false in omega (arith, more)) in
     let fast = c.take_fast-fast.ensures in
+    let stepped = fast.stepped some ∙ ap cost (sym c.ticks_of.ensures.value) in
     elim c.else-ahead.branch [
       | else-ahead-via-then-ahead+else-not-may_go_on x ↦
           (let past = x.if-ahead.true in
           let k = x.may_go_on.ensures.yes x.if-not-may_go_on.false in
           let d = is_due c.args.next_event s proc until c.args.limit n c.requires.goes due early k.0 in
           went_fast c.args.next_event s proc until c.args.limit n c.requires.goes due early c.take_fast-fast.new.self c.go_on.new.self
-          c.take_fast-fast.result.clocks k.0 (inr (ahead_if s proc n d k.1 (fast.stays (grind (arith, past)) some))) (fast.machine some) (fast.stepped some) fast.io
+          c.ticks_of.result k.0 (inr (ahead_if s proc n d k.1 (fast.stays (grind (arith, past)) some))) (fast.machine some) stepped fast.io
           c.go_on.ensures (fast.near some))
       | else-ahead-via-else-ahead x ↦
           (let less = x.if-ahead.false in
           let before : n < c.args.limit = omega (arith, less) in
           went_fast c.args.next_event s proc until c.args.limit n c.requires.goes due early c.take_fast-fast.new.self c.go_on.new.self
-          c.take_fast-fast.result.clocks (below_turn c.args.next_event s proc until c.args.limit n c.requires.goes due early before)
-          (inl (least_now c.args.next_event s proc until c.args.limit n c.requires.goes due early before)) (fast.machine some) (fast.stepped some) fast.io
+          c.ticks_of.result (below_turn c.args.next_event s proc until c.args.limit n c.requires.goes due early before)
+          (inl (least_now c.args.next_event s proc until c.args.limit n c.requires.goes due early before)) (fast.machine some) stepped fast.io
           c.go_on.ensures (fast.near some))
     ]
 

@@ -1,10 +1,27 @@
+use Rattle.std.proofs.Common.{ℕ, ◌≡◌, ◌<◌, ◌≤◌, refl, sym, ◌∙◌, ap, subst}
+use Rattle.ds_base.specs.declared.processors.Arch.TheVariants.{V5}
 use Rattle.ds_base.specs.declared.processors.Proc.TheVariants.{Nine}
+use Rattle.arm_core.specs.Effects.{Outcome, carried_out}
+use Rattle.arm_ops.specs.Meanings.{operation_meaning}
+use Rattle.ds_map.specs.Guards.{guarded_memory}
 use Rattle.ds_map.specs.Maps.{map_seen}
-use Rattle.ds_map.specs.Views.{NineReach}
+use Rattle.ds_map.specs.Views.{NineReach, nine_memory}
+use Rattle.ds_map.specs.Waits.{Waited, nine_wait, waiting, waits_of}
+use Rattle.ds_map.proofs.Waiting.{nine_most, waited_so}
 use Rattle.ds_machine.proofs.DecodedOperations.{nine_executes}
+use Rattle.ds_machine.proofs.WaitedSteps.{brief_by, nine_operation, operation_brief}
 use Rattle.ds_machine.proofs.sides.NineViewSide.run.Goals as goal
 
 pub returns-clause-executes : goal.returns-clause-executes
 returns-clause-executes c = λ number instr is.
     (let r : NineReach = record { map = map_seen Nine c.args.self.now.map.now c.args.self.now.io.now; cp15 = c.args.self.now.cp.now; itcm = c.args.self.now.itcm.now; dtcm = c.args.self.now.dtcm.now; now = c.args.self.now.now } in
     nine_executes c.args.s.now r c.args.operation.now number instr c.requires.known is)
+
+pub returns-clause-brief : goal.returns-clause-brief
+returns-clause-brief c =
+    let r : NineReach = record { map = map_seen Nine c.args.self.now.map.now c.args.self.now.io.now; cp15 = c.args.self.now.cp.now; itcm = c.args.self.now.itcm.now; dtcm = c.args.self.now.dtcm.now; now = c.args.self.now.now } in
+    let is =
+    ap (λ (n : ℕ). carried_out (waiting guarded_memory nine_wait) V5 c.args.s.now (waited_so r n) (operation_meaning V5 c.args.s.now c.args.operation.now)) c.requires.begins
+    ∙ nine_operation c.args.s.now r c.requires.room c.args.operation.now in
+    let waits = ap (λ (x : Waited NineReach). x.waits) (c.run_made.ensures.state ∙ ap (λ (o : Outcome (Waited NineReach)). o.state) is) in
+    subst (λ (n : ℕ). n ≤ 128) (sym waits) (operation_brief nine_memory nine_wait nine_most V5 c.args.s.now r c.args.operation.now)

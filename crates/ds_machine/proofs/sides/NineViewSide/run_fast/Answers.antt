@@ -1,13 +1,16 @@
-use Rattle.std.proofs.Common.{◌∙◌, ap}
+use Rattle.std.proofs.Common.{ℕ, ◌≡◌, ◌<◌, ◌≤◌, refl, sym, ◌∙◌, ap, subst}
 use Rattle.ds_base.specs.declared.processors.Arch.TheVariants.{V5}
-use Rattle.arm_core.specs.Effects.{Outcome}
-use Rattle.arm_ops.specs.Meanings.{operation_meaning}
 use Rattle.ds_base.specs.declared.processors.Proc.TheVariants.{Nine}
+use Rattle.arm_core.specs.Effects.{Outcome, carried_out}
+use Rattle.arm_ops.specs.Meanings.{operation_meaning}
+use Rattle.ds_map.specs.Guards.{guarded_memory}
 use Rattle.ds_map.specs.Maps.{map_seen}
-use Rattle.ds_map.specs.Views.{NineReach}
-use Rattle.ds_machine.proofs.NearAccesses.{nine_stays}
+use Rattle.ds_map.specs.Views.{NineReach, nine_memory}
+use Rattle.ds_map.specs.Waits.{Waited, nine_wait, waiting, waits_of}
+use Rattle.ds_map.proofs.Waiting.{nine_most, waited_so}
 use Rattle.ds_machine.proofs.DecodedOperations.{nine_executes}
-use Rattle.ds_machine.proofs.GuardedSteps.{same_operation}
+use Rattle.ds_machine.proofs.WaitedSteps.{brief_by, nine_operation, operation_brief}
+use Rattle.ds_machine.proofs.NearAccesses.{nine_stays}
 use Rattle.ds_machine.proofs.sides.NineViewSide.run_fast.Goals as goal
 
 pub returns-clause-executes : goal.returns-clause-executes
@@ -19,7 +22,21 @@ pub returns-clause-io : goal.returns-clause-io
 returns-clause-io c =
     let r : NineReach = record { map = map_seen Nine c.args.self.now.map.now c.args.self.now.io.now; cp15 = c.args.self.now.cp.now; itcm = c.args.self.now.itcm.now; dtcm = c.args.self.now.dtcm.now; now = c.args.self.now.now } in
     let after : NineReach = record { map = map_seen Nine c.run.new.bus.map.now c.run.new.bus.io.now; cp15 = c.run.new.bus.cp.now; itcm = c.run.new.bus.itcm.now; dtcm = c.run.new.bus.dtcm.now; now = c.run.new.bus.now } in
+    let is =
+    ap (λ (n : ℕ). carried_out (waiting guarded_memory nine_wait) V5 c.args.s.now (waited_so r n) (operation_meaning V5 c.args.s.now c.args.operation.now)) c.requires.begins
+    ∙ nine_operation c.args.s.now r c.requires.room c.args.operation.now in
     nine_stays c.run.result c.args.s.now r after (operation_meaning V5 c.args.s.now c.args.operation.now)
-    (λ e. (c.run.ensures.none e).1)
-    (λ some. c.run.ensures.state some ∙ ap (λ (o : Outcome NineReach). o.state) (same_operation c.args.s.now r c.args.operation.now c.requires.room))
+    (λ e. ap (λ (x : Waited NineReach). x.reached) (c.run.ensures.none e).1)
+    (λ some. ap (λ (x : Waited NineReach). x.reached) (c.run.ensures.state some ∙ ap (λ (o : Outcome (Waited NineReach)). o.state) is))
     c.run.ensures.near
+
+pub returns-clause-brief : goal.returns-clause-brief
+returns-clause-brief c =
+    let r : NineReach = record { map = map_seen Nine c.args.self.now.map.now c.args.self.now.io.now; cp15 = c.args.self.now.cp.now; itcm = c.args.self.now.itcm.now; dtcm = c.args.self.now.dtcm.now; now = c.args.self.now.now } in
+    let is =
+    ap (λ (n : ℕ). carried_out (waiting guarded_memory nine_wait) V5 c.args.s.now (waited_so r n) (operation_meaning V5 c.args.s.now c.args.operation.now)) c.requires.begins
+    ∙ nine_operation c.args.s.now r c.requires.room c.args.operation.now in
+    brief_by c.run.result c.run.new.bus.waits (waits_of nine_memory nine_wait r (operation_meaning V5 c.args.s.now c.args.operation.now).accesses)
+    (λ e. ap (λ (x : Waited NineReach). x.waits) (c.run.ensures.none e).1 ∙ c.requires.begins)
+    (λ some. ap (λ (x : Waited NineReach). x.waits) (c.run.ensures.state some ∙ ap (λ (o : Outcome (Waited NineReach)). o.state) is))
+    (operation_brief nine_memory nine_wait nine_most V5 c.args.s.now r c.args.operation.now)

@@ -1,0 +1,39 @@
+use Rattle.std.proofs.Common.{ℕ, ◌≡◌, ◌<◌, ◌≤◌, ◌+◌, ◌*◌, nat_le, max, if◌then◌else◌, Bool, true, false, Option, Some, None, ◌∙◌, ap, arith}
+use Rattle.std.proofs.Math.Nat.{mul-le-mul_left}
+use Rattle.std.proofs.Math.Nat.{le-max_left}
+use Rattle.ds_base.specs.Processors.{ticks_per_clock}
+use Rattle.ds_base.specs.declared.processors.Proc.{Proc}
+use Rattle.ds_base.specs.declared.processors.Proc.TheVariants.{Nine, Seven}
+use Rattle.arm_core.specs.Effects.{Outcome}
+use Rattle.ds_base.specs.declared.ticks.Tick.{Tick}
+use Rattle.ds_dma.specs.declared.channels.LastUnit.{LastUnit}
+use Rattle.ds_machine.specs.Steps.{in_ticks, past_unit}
+use Rattle.ds_machine.proofs.Commutes.{outcome_so}
+
+-- What a step costs in ticks.
+
+-- a step's outcome, with its cost in ticks
+abbrev pub ticked : {S : Type 0} → Proc → ℕ → Outcome S → Outcome S
+ticked proc waits o = record o { stepped = in_ticks proc waits o.stepped }
+
+pub ticked_so : {S : Type 0} (proc : Proc) (v w : ℕ) (f : S → S) (a b : Outcome S) → v ≡ w → a ≡ outcome_so f b → ticked proc v a ≡ outcome_so f (ticked proc w b)
+ticked_so {S} proc v w f a b same h = ap (λ (n : ℕ). ticked proc n a) same ∙ ap (ticked proc w) h
+
+some_clock : (proc : Proc) → 0 < ticks_per_clock proc
+some_clock Nine = omega arith
+some_clock Seven = omega arith
+
+-- what costs a clock costs a tick
+pub some_ticks : (proc : Proc) (clocks waits : ℕ) → 0 < clocks → 0 < ticks_per_clock proc * clocks + waits
+some_ticks proc clocks waits some =
+    let one : ticks_per_clock proc * 1 ≤ ticks_per_clock proc * clocks = mul-le-mul_left {m = 1} {n = clocks} (ticks_per_clock proc) some in
+    let each = some_clock proc in
+    omega (arith, one, each)
+
+-- a processor goes on later than a tick after it
+pub after_unit : (last : Option LastUnit) (now : Tick) → now.0 < past_unit last now
+after_unit None now = omega arith
+after_unit (Some last) now = by_test (nat_le last.tick.0 now.0) where
+  by_test : (b : Bool) → now.0 < (if b then max (now.0 + 1) (last.tick.0 + last.waits + 1) else now.0 + 1)
+  by_test true = let le = le-max_left (now.0 + 1) (last.tick.0 + last.waits + 1) in omega (arith, le)
+  by_test false = omega arith

@@ -15,7 +15,7 @@ const PORTS: u32 = 0xE3A0_0301;
 /// A branch to itself.
 const LOOP: u32 = 0xEAFF_FFFE;
 
-/// ARM7 halts, at tick 6, and would not wake.
+/// ARM7 halts, at tick 20, and would not wake.
 const HALT_OF_SEVEN: [u32; 4] = [
     PORTS,
     0xE3A0_1080, // mov r1, #0x80
@@ -76,7 +76,7 @@ fn steps_of_arm9_observe_by_their_accesses(rt: HostRuntime) -> Result<(), AllocE
         &[
             Observes(22, false),
             Observes(23, false),
-            Until(8),
+            Until(40),
             at(8, 0xE590_1600),
             Observes(22, true),
             Steps(1),
@@ -134,7 +134,7 @@ fn units_of_dma_observe_by_their_places(rt: HostRuntime) -> Result<(), AllocErro
         ],
         &[
             // DMA1 moves a word within main memory
-            Until(10),
+            Until(54),
             Observes(15, false),
             NotDue(14),
             NotDue(22),
@@ -187,46 +187,44 @@ fn quiet_geometry_waits_for_a_step_that_observes_it(rt: HostRuntime) -> Result<(
         rt.alloc(),
         &[
             PORTS,
-            0xE580_1454, // str r1, [r0, #0x454], at 1: MTX_IDENTITY, done at 39
-            0xE3A0_2009, // mov r2, #9
-            0xE252_2001, // subs r2, r2, #1, at 3, 7, .., 35
+            0xE580_1454, // str r1, [r0, #0x454], at 5: MTX_IDENTITY, done at 43
+            0xE3A0_2002, // mov r2, #2
+            0xE252_2001, // subs r2, r2, #1, at 17 and 29
             0x1AFF_FFFD, // bne to it
-            0xE1A0_0000, // mov r0, r0, at 37
-            0xE1A0_0000,
-            0xE1A0_0000,
-            0xE590_1600, // ldr r1, [r0, #0x600], at 40: GXSTAT
+            0xE1A0_0000, // mov r0, r0, at 39
+            0xE590_1600, // ldr r1, [r0, #0x600], at 44: GXSTAT
             LOOP,
         ],
         &[
             Quiet(false),
             Behind(1000, 23, false),
-            // ARM9 at 0 and 1, ARM7 at 0
+            // ARM9 at 0 and 5, ARM7 at 0
             ActingSteps(3),
             Quiet(true),
-            Due(12, 39),
-            First(2, 22),
-            Acts(2, 22),
-            Behind(39, 0, false),
-            Behind(39, 12, false),
-            Behind(39, 13, true),
-            Behind(40, 0, true),
-            // ARM7 at 2 and 4, ARM9 up to 39
-            ActingSteps(24),
-            Took(24, 3, 0),
-            First(39, 12),
-            Acts(40, 22),
+            Due(12, 43),
+            First(10, 23),
+            Acts(10, 23),
+            Behind(43, 0, false),
+            Behind(43, 12, false),
+            Behind(43, 13, true),
+            Behind(44, 0, true),
+            // ARM7 at 10 and 20, ARM9 up to 39
+            ActingSteps(8),
+            Took(8, 3, 0),
+            First(43, 12),
+            Acts(44, 22),
             Quiet(true),
-            Behind(40, 22, true),
+            Behind(44, 22, true),
             Observes(12, false),
             Observes(22, true),
             // geometry's step, and then the load
             ActingSteps(1),
-            Took(25, 3, 1),
+            Took(9, 3, 1),
             NotDue(12),
             Quiet(false),
-            Behind(40, 22, false),
-            First(42, 22),
-            Acts(42, 22),
+            Behind(44, 22, false),
+            First(52, 22),
+            Acts(52, 22),
         ],
     )
 }

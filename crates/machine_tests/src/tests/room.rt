@@ -16,12 +16,16 @@ fn sixteen_registers_behind_260_entries_find_room(rt: HostRuntime) -> Result<(),
             0xE3A0_1015, // mov r1, #0x15
             0xE181_1401, // orr r1, r1, r1, lsl #8
             0xE181_1801, // orr r1, r1, r1, lsl #16: four MTX_IDENTITY, of 38 ticks each
-            0xE580_1540, // str r1, [r0, #0x540], at 4: SWAP_BUFFERS, done at 788
-            0xE3A0_4041, // mov r4, #65
-            0xE580_1400, // str r1, [r0, #0x400], at 6, and then every 5 ticks, the last at 326
+            0xE580_1540, // str r1, [r0, #0x540], at 20: SWAP_BUFFERS, done at 804
+            0xE3A0_400D, // mov r4, #13
+            0xE580_1400, // str r1, [r0, #0x400], at 32, five of 35 ticks, and then every 47, the last at 624
+            0xE580_1400,
+            0xE580_1400,
+            0xE580_1400,
+            0xE580_1400,
             0xE254_4001, // subs r4, r4, #1
-            0x1AFF_FFFC, // bne to the store
-            0xE1A0_2001, // mov r2, r1, at 791
+            0x1AFF_FFF8, // bne to the first store
+            0xE1A0_2001, // mov r2, r1, at 815
             0xE1A0_3001, // mov r3, r1
             0xE1A0_4001, // mov r4, r1
             0xE1A0_5001, // mov r5, r1
@@ -35,7 +39,7 @@ fn sixteen_registers_behind_260_entries_find_room(rt: HostRuntime) -> Result<(),
             0xE1A0_D001, // mov r13, r1
             0xE1A0_E001, // mov r14, r1
             0xE280_0B01, // add r0, r0, #0x400: GXFIFO
-            0xE880_FFFF, // stmia r0, {r0-r15}, at 805
+            0xE880_FFFF, // stmia r0, {r0-r15}, at 885
             LOOP,
         ],
         &[
@@ -53,18 +57,18 @@ fn sixteen_registers_behind_260_entries_find_room(rt: HostRuntime) -> Result<(),
         keys,
         &[
             // with the swap's entry 65 words make 261: ARM9 goes on where the swap waits for line 192, with 260 behind it
-            Until(327),
+            Until(625),
             NotDue(22),
-            First(788, 12),
+            First(804, 12),
             Steps(1),
             NotDue(12),
-            Due(22, 789),
-            Until(805),
             Due(22, 805),
-            // r1 to r14 add four each: 316 wait. r0, 4000400h, and r15, 2000068h, have no commands
+            Until(885),
+            Due(22, 885),
+            // r1 to r14 add four each: 316 wait. r0, 4000400h, and r15, 2000078h, have no commands
             Steps(1),
             NotDue(22),
-            Took(216, 3, 1),
+            Took(112, 3, 1),
             Until(817_920),
             First(817_920, 1),
             SwappedFrame,

@@ -298,17 +298,17 @@ const LOOP: u32 = 0xEAFF_FFFE;
 #[test]
 fn each_actor_is_due_by_its_rank(rt: HostRuntime) -> Result<(), AllocError> {
     let file = file(rt.alloc(), &[LOOP], &[LOOP])?;
-    let keys = script(rt.alloc(), 5, 1)?;
+    let keys = script(rt.alloc(), 10, 1)?;
     try_lines(
         &rt,
         rt.alloc(),
         file,
         keys,
         &[
-            // at boot both processors are due; the first H-blank is at 3,212, and the line of keys at 5
+            // at boot both processors are due; the first H-blank is at 3,212, and the line of keys at 10
             Line::Due(22, 0),
             Line::Due(23, 0),
-            Line::Due(0, 5),
+            Line::Due(0, 10),
             Line::Due(1, 3212),
             // no timer, divider, root, channel; geometry has no command, and the card never is
             NotDue(2),
@@ -335,24 +335,24 @@ fn each_actor_is_due_by_its_rank(rt: HostRuntime) -> Result<(), AllocError> {
                 },
             ),
             Took(0, 0, 0),
-            // a branch takes 3 ticks on ARM9 and 6 on ARM7
+            // a branch takes 3 ticks on ARM9 and 6 on ARM7, and its fetch from main memory 4 and 8
             Steps(1),
             First(0, 23),
-            Line::Due(22, 3),
+            Line::Due(22, 7),
             Line::Due(23, 0),
             Steps(1),
-            First(3, 22),
-            Line::Due(23, 6),
+            First(7, 22),
+            Line::Due(23, 14),
             Took(1, 1, 0),
             Steps(1),
-            First(5, 0),
-            Line::Due(22, 6),
+            First(10, 0),
+            Line::Due(22, 14),
             Steps(1),
             NotDue(0),
-            First(6, 22),
+            First(14, 22),
             Took(2, 1, 1),
             Steps(1),
-            First(6, 23),
+            First(14, 23),
         ],
     )
 }
@@ -363,21 +363,21 @@ fn units_behind_ports_are_due_by_their_ranks(rt: HostRuntime) -> Result<(), Allo
         rt.alloc(),
         &[
             0xE3A0_0301, // mov r0, #0x4000000
-            0xE3A0_18C0, // mov r1, #0xc00000
-            0xE381_1CFF, // orr r1, r1, #0xff00
-            0xE381_10FD, // orr r1, r1, #0xfd
-            0xE580_1100, // str r1, [r0, #0x100], at tick 4: timer 0 overflows after three counts of 2 ticks
-            0xE280_6D0A, // add r6, r0, #0x280
-            0xE3A0_1005, // mov r1, #5
-            0xE586_1010, // str r1, [r6, #0x10], at 7: a division of 36 ticks
-            0xE586_1038, // str r1, [r6, #0x38], at 8: a root of 26
             0xE3A0_1402, // mov r1, #0x2000000
             0xE580_10B0, // str r1, [r0, #0xb0]: the source
             0xE3A0_1622, // mov r1, #0x2200000
             0xE580_10B4, // str r1, [r0, #0xb4]: the target
-            0xE3A0_1484, // mov r1, #0x84000000
-            0xE381_1001, // orr r1, r1, #1
-            0xE580_10B8, // str r1, [r0, #0xb8], at 15: a channel, whose one unit is due 4 ticks later
+            0xE3A0_2484, // mov r2, #0x84000000
+            0xE382_2001, // orr r2, r2, #1
+            0xE3A0_18C0, // mov r1, #0xc00000
+            0xE381_1CFF, // orr r1, r1, #0xff00
+            0xE381_10FD, // orr r1, r1, #0xfd
+            0xE280_6D0A, // add r6, r0, #0x280
+            0xE3A0_3005, // mov r3, #5
+            0xE580_1100, // str r1, [r0, #0x100], at tick 64: timer 0 overflows after three counts of 2 ticks
+            0xE586_3010, // str r3, [r6, #0x10], at 71: a division of 36 ticks
+            0xE586_3038, // str r3, [r6, #0x38], at 78: a root of 26
+            0xE580_20B8, // str r2, [r0, #0xb8], at 85: a channel, whose one unit is due 4 ticks later
             LOOP,
         ],
         &[LOOP],
@@ -389,37 +389,37 @@ fn units_behind_ports_are_due_by_their_ranks(rt: HostRuntime) -> Result<(), Allo
         file,
         keys,
         &[
-            // ARM9 at 0 to 4, ARM7 at 0
-            Steps(6),
-            First(5, 22),
-            Line::Due(2, 10),
+            // ARM9's first thirteen steps, the last at 64, and ARM7 at 0, 14, 28, 42 and 56
+            Steps(18),
+            First(70, 2),
+            Line::Due(22, 71),
             NotDue(10),
-            Took(5, 1, 0),
-            // ARM9 at 5 to 15, ARM7 at 6 and 12, and the overflow at 10, after which the next is at 16
-            Steps(14),
-            Took(16, 3, 1),
-            First(16, 2),
-            Line::Due(2, 16),
+            Took(13, 5, 0),
+            // ARM9 at 71, 78 and 85, ARM7 at 70 and 84, and the overflows at 70, 76 and 82, after which the next is at 88
+            Steps(8),
+            Took(16, 7, 3),
+            First(88, 2),
+            Line::Due(2, 88),
             NotDue(3),
             NotDue(6),
-            Line::Due(10, 43),
-            Line::Due(11, 34),
-            Line::Due(14, 19),
+            Line::Due(10, 107),
+            Line::Due(11, 104),
+            Line::Due(14, 89),
             NotDue(15),
             NotDue(18),
             // while its channel runs ARM9 isn't due
             NotDue(22),
-            Line::Due(23, 18),
+            Line::Due(23, 98),
             Sees(Nine, Seen::Idle),
             Main(0x20_0000, 0),
-            // the overflow at 16, ARM7 at 18, the unit at 19
-            Steps(3),
-            Took(16, 4, 3),
-            First(20, 22),
+            // the overflow at 88, and the unit at 89, which waits twice for main memory: 8 ticks, and ARM9 goes on one later
+            Steps(2),
+            Took(16, 7, 5),
+            First(94, 2),
             NotDue(14),
-            Line::Due(2, 22),
-            Line::Due(22, 20),
-            Line::Due(23, 24),
+            Line::Due(2, 94),
+            Line::Due(22, 98),
+            Line::Due(23, 98),
             Sees(
                 Nine,
                 Seen::Word {
@@ -443,7 +443,7 @@ fn a_halted_processor_is_not_due(rt: HostRuntime) -> Result<(), AllocError> {
     let nine = [0xEE07_0F90, LOOP];
     let seven = [0xE3A0_0301, 0xE3A0_1080, 0xE5C0_1301, LOOP];
     let file = file(rt.alloc(), &nine, &seven)?;
-    let keys = script(rt.alloc(), 7, 0x800)?;
+    let keys = script(rt.alloc(), 40, 0x800)?;
     try_lines(
         &rt,
         rt.alloc(),
@@ -468,7 +468,7 @@ fn a_halted_processor_is_not_due(rt: HostRuntime) -> Result<(), AllocError> {
                 },
             ),
             Steps(2),
-            Line::Due(23, 4),
+            Line::Due(23, 20),
             Sees(
                 Seven,
                 Seen::Word {
@@ -481,7 +481,7 @@ fn a_halted_processor_is_not_due(rt: HostRuntime) -> Result<(), AllocError> {
             Sees(Seven, Seen::Idle),
             Took(1, 3, 0),
             // the line of keys, and then the display
-            First(7, 0),
+            First(40, 0),
             Steps(1),
             First(3212, 1),
             NotDue(22),
@@ -505,22 +505,22 @@ fn the_entry_of_an_interrupt_is_told(rt: HostRuntime) -> Result<(), AllocError> 
             0xE3A0_1001, // mov r1, #1
             0xE580_1208, // str r1, [r0, #0x208]: IME
             0xE3A0_101F, // mov r1, #0x1f
-            0xE121_F001, // msr cpsr_c, r1, at tick 10: System mode, I clear
+            0xE121_F001, // msr cpsr_c, r1, at tick 56: System mode, I clear
             LOOP,
         ],
         &[LOOP],
     )?;
-    let keys = script(rt.alloc(), 15, 1)?;
+    let keys = script(rt.alloc(), 72, 1)?;
     try_lines(
         &rt,
         rt.alloc(),
         file,
         keys,
         &[
-            // ARM9 at 0 to 11 and at 14, ARM7 at 0, 6 and 12; the line of keys at 15
-            Steps(16),
-            Took(13, 3, 0),
-            First(15, 0),
+            // ARM9 twelve times up to 61, and at 68, ARM7 at 0, 14, .. 70; the line of keys at 72
+            Steps(19),
+            Took(13, 6, 0),
+            First(72, 0),
             Sees(
                 Nine,
                 Seen::Word {
@@ -529,7 +529,7 @@ fn the_entry_of_an_interrupt_is_told(rt: HostRuntime) -> Result<(), AllocError> 
                 },
             ),
             Steps(1),
-            First(17, 22),
+            First(75, 22),
             Sees(Nine, Seen::Irq(0x0200_002C)),
             Sees(
                 Seven,
@@ -538,9 +538,9 @@ fn the_entry_of_an_interrupt_is_told(rt: HostRuntime) -> Result<(), AllocError> 
                     word: LOOP,
                 },
             ),
-            // the entry takes 3 ticks; the boot ROM's word there is a branch
+            // the entry takes 3 ticks, and fetches nothing; the boot ROM's word there is a branch
             Steps(1),
-            Line::Due(22, 20),
+            Line::Due(22, 78),
             Sees(
                 Nine,
                 Seen::Word {
@@ -548,7 +548,7 @@ fn the_entry_of_an_interrupt_is_told(rt: HostRuntime) -> Result<(), AllocError> 
                     word: 0xEA00_0000,
                 },
             ),
-            Took(14, 3, 1),
+            Took(14, 6, 1),
         ],
     )
 }

@@ -69,7 +69,7 @@ class Demos(Room):
 
     def test_a_demo_to_tick_9_has_its_known_numbers(self):
         lines = self.called("demo", "0", "9").decode().splitlines()
-        self.assertEqual((lines[0], lines[1], lines[3]), ("demo 0 9", "bytes 5017938", "steps9 8 steps7 5 events 0 turns 3"))
+        self.assertEqual((lines[0], lines[1], lines[3]), ("demo 0 9", "bytes 5017938", "steps9 2 steps7 5 events 0 turns 3"))
         self.assertEqual(struct.unpack("<I", cartridge(0)[0x228:0x22C])[0], 0xE1D63003)
 
     def test_peeks_and_traces_of_the_cartridge_show_it(self):
@@ -78,7 +78,7 @@ class Demos(Room):
         peeked = self.called("peek", "demo.nds", "none", "9", "main", "40", "4").decode()
         self.assertEqual(peeked, f"00000028: {struct.pack('<I', word).hex(' ')}\n")
         traced = self.called("trace", "demo.nds", "none", "9", "9", "2").decode()
-        self.assertEqual(traced, "000000000000 02000000 e3a08402 mov r8, #0x2000000\n000000000001 02000004 e3a09000 mov r9, #0x0\n")
+        self.assertEqual(traced, "000000000000 02000000 e3a08402 mov r8, #0x2000000\n000000000005 02000004 e3a09000 mov r9, #0x0\n")
 
 
 if __name__ == "__main__":

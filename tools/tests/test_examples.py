@@ -70,11 +70,11 @@ class Examples(Built):
 
     def test_outputs_of_the_examples(self):
         self.put("loop.out", self.run_of("run", "loop.nds", "none", "100", "none"))
-        self.put("later.out", self.run_of("run", "loop.nds", "none", "105", "none"))
+        self.put("later.out", self.run_of("run", "loop.nds", "none", "130", "none"))
         self.put("screens.out", self.run_of("run", "screens.nds", "none", "3361140", "all"))
         self.assertTrue(self.tool("nds-show", "loop.out", "0x2001000", "7:0x2101000").endswith(
-            "0x2001000  02001000\n  +000  00000014  (20)\n7:0x2101000  02101000\n  +000  00000008  (8)\n"))  # fmt: skip
-        self.assertIn("main, words: 2 of 1048576 differ\n  02001000: 00000014 and 00000015\n  02101000: 00000008 and 00000009\n", self.tool("nds-diff", "loop.out", "later.out", status=1))
+            "0x2001000  02001000\n  +000  00000004  (4)\n7:0x2101000  02101000\n  +000  00000002  (2)\n"))  # fmt: skip
+        self.assertIn("main, words: 2 of 1048576 differ\n  02001000: 00000004 and 00000006\n  02101000: 00000002 and 00000003\n", self.tool("nds-diff", "loop.out", "later.out", status=1))
         self.assertEqual([it[0:1] for it in self.tool("nds-frames", "screens.out").splitlines()], ["F", "F", "F", "M", "E"])
         self.tool("nds-frames", "-", "--png", "shots", "--frame", "3", given=open_bytes(f"{self.room}/screens.out"))
         rows = picture(f"{self.room}/shots/frame-0003.png")[2]
@@ -84,7 +84,7 @@ class Examples(Built):
         elf = f"{TOP}/examples/startup/nine.elf"
         loop, startup = f"{TOP}/examples/loop.nds", f"{TOP}/examples/startup/startup.nds"
         lines = self.tool("nds-trace", loop, "--ticks", "100", "--profile").splitlines()
-        self.assertEqual((lines[0], len(lines), lines[2].split()[2:]), ("62 steps in 99 ticks, halted for 0 of them (0.0%)", 3, ["62", "0", "(no", "symbol)"]))
+        self.assertEqual((lines[0], len(lines), lines[2].split()[2:]), ("16 steps in 99 ticks, halted for 0 of them (0.0%)", 3, ["16", "0", "(no", "symbol)"]))
         self.assertIn(" bl 0x200005c  ; memories\n", self.tool("nds-trace", startup, "--ticks", "100", "--elf9", elf))
 
     def test_a_stop_is_shown_by_a_run_to_its_tick(self):
@@ -92,7 +92,7 @@ class Examples(Built):
         self.tool("make-cart", "--arm9", code, "--flat", "-o", "stop.nds")
         self.put("stop.out", self.run_of("run", f"{self.room}/stop.nds", "none", "100", "none", status=9))
         said = self.tool("nds-show", "stop.out", "--cart", "stop.nds")
-        self.assertIn("stopped: Swi 0x0000000e (GetCRC16) at tick 1 by ARM9 (rank 22)", said)
+        self.assertIn("stopped: Swi 0x0000000e (GetCRC16) at tick 5 by ARM9 (rank 22)", said)
         self.assertIn("ARM9  System mode, ARM state, interrupts masked, cpsr 000000df\n  r15 02000004", said)
 
     def test_the_way_of_the_document_from_c_to_a_test(self):

@@ -69,7 +69,7 @@ class Games(Built):
         code = self.put("stop.bin", struct.pack("<3I", 0xE1A00000, 0xEF0E0000, 0xEAFFFFFE))
         self.tool("make-cart", "--arm9", f"{code}@0x2000000", "-o", "stop.nds")
         said = self.tool("nds-show", "stop.nds", "--frame", "1")
-        self.assertIn(" at tick 1 by ARM9 (rank 22)\n  as it is at that tick, before the step:\ntick 1, ", said)
+        self.assertIn(" at tick 5 by ARM9 (rank 22)\n  as it is at that tick, before the step:\ntick 5, ", said)
 
 
 if __name__ == "__main__":

@@ -1,3 +1,4 @@
 pub mod InOrder
 pub mod KeptBits
 pub mod SavedLaws
+pub mod Schedules

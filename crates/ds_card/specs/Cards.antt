@@ -124,6 +124,13 @@ end_interrupt s starter = if bit 14 (number_at Half (auxspicnt_of s starter) 0) 
 abbrev pub none_raised : Raised
 none_raised = record { nine = 0; seven = 0 }
 
+-- two processors are the same one
+abbrev pub same_proc : Proc → Proc → Bool
+same_proc Nine Nine = true
+same_proc Seven Seven = true
+same_proc Nine Seven = false
+same_proc Seven Nine = false
+
 -- when its event comes: where a transfer is busy and no word is ready
 abbrev pub next_due : NextWord → Option Tick
 next_due (Due tick) = Some tick
@@ -140,6 +147,14 @@ card_starter s = starter_of s.transfer where
   starter_of : Option Transfer → Option Proc
   starter_of None = None
   starter_of (Some t) = Some t.starter
+
+-- the same, of a transfer that a processor started
+abbrev pub due_if_started : Proc → Option Transfer → Option Tick
+due_if_started proc None = None
+due_if_started proc (Some t) = if same_proc proc t.starter then next_due t.next else None
+
+abbrev pub card_due_for : Proc → CardState → Option Tick
+card_due_for proc s = due_if_started proc s.transfer
 
 -- its event: the next word becomes ready, or a transfer without words ends
 abbrev pub event_by : List ℕ → CardState → Option Transfer → CardState
@@ -165,12 +180,6 @@ event_raised s = if event_readies s then none_raised else ended_on s s.transfer
 -- ---- what is read
 
 -- the word that a processor's read of the data port takes: whole words alone, by the starter, where one is ready
-abbrev pub same_proc : Proc → Proc → Bool
-same_proc Nine Nine = true
-same_proc Seven Seven = true
-same_proc Nine Seven = false
-same_proc Seven Nine = false
-
 abbrev pub ready_word : NextWord → Option ℕ
 ready_word (Due tick) = None
 ready_word (Ready word) = Some word
@@ -190,13 +199,21 @@ abbrev pub is_ready : Option Transfer → Bool
 is_ready None = false
 is_ready (Some t) = is_some (ready_word t.next)
 
--- what a byte of its ports shows; the data port alone shows nothing by bytes
-abbrev pub card_byte : CardState → Proc → ℕ → ℕ
-card_byte s proc place =
+-- the bytes of its ports, where ROMCTRL's are these; the data port alone has none
+abbrev pub port_byte_of : List ℕ → CardState → Proc → ℕ → ℕ
+port_byte_of romctrl s proc place =
     if is_within auxspicnt_at 2 place then slice_index_or (auxspicnt_of s proc) (place - auxspicnt_at) 0
-    else if is_within romctrl_at 4 place then slice_index_or (shown_romctrl s.romctrl (is_ready s.transfer) (is_busy s)) (place - romctrl_at) 0
+    else if is_within romctrl_at 4 place then slice_index_or romctrl (place - romctrl_at) 0
     else if is_within command_at 8 place then slice_index_or s.command (place - command_at) 0
     else 0
+
+-- what they show, and what a write leaves in those of a register's bytes that it doesn't cover: there ROMCTRL is without the bits that show how a
+-- transfer stands
+abbrev pub card_byte : CardState → Proc → ℕ → ℕ
+card_byte s proc place = port_byte_of (shown_romctrl s.romctrl (is_ready s.transfer) (is_busy s)) s proc place
+
+abbrev pub card_kept : CardState → Proc → ℕ → Width → ℕ
+card_kept s proc at width = value_by width (port_byte_of s.romctrl s proc) (aligned_down width at)
 
 abbrev pub value_or : Option ℕ → ℕ → ℕ
 value_or None shown = shown
@@ -241,7 +258,3 @@ pub record IsCard (s : CardState) : Type 0 where
   pub ready_bit : slice_index_or s.romctrl 2 0 < 128
   pub busy_bit : slice_index_or s.romctrl 3 0 < 128
   pub transfer : IsUnderWay s s.transfer
-
--- a transfer of a starter, of which so many words were taken, has one ready
-abbrev pub IsTaking : CardState → Proc → ℕ → Type 0
-IsTaking s starter taken = (word : ℕ) × (s.transfer ≡ Some (record { starter = starter; taken = taken; next = Ready word }))

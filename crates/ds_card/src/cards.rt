@@ -1,10 +1,11 @@
 //! The card, and the calls of its users.
 
-ghost use Rattle.std.specs.Prelude.{◌≡◌, ◌≤◌, ◌+◌, ◌^◌, IsSome, Some, None, slice_index_or};
+ghost use Rattle.std.specs.Prelude.{◌≡◌, ◌≤◌, ◌+◌, ◌^◌, ◌&&◌, not, true, IfSome, IsSome, Some, None, slice_index_or};
 ghost use Rattle.ds_base.specs.Processors.{raised_at};
 ghost use Rattle.ds_base.specs.Schedules.{IsEarly, Reschedules};
 ghost use Rattle.ds_base.specs.Numbers.{value_by, width_bytes};
-ghost use Rattle.ds_card.specs.Cards.{IsCard, IsTaking, card_at_boot, start_refusal, card_written, card_value, card_after_read, card_byte, card_word, read_raised, card_due, card_starter, card_after_event, next_word_after, end_interrupt, event_readies, event_raised, is_known, is_ready, last_raised, none_raised, ports_written, taken_by};
+ghost use Rattle.ds_card.specs.CardPorts.{overwritten, romctrl_at, starts_at};
+ghost use Rattle.ds_card.specs.Cards.{IsCard, is_busy, card_at_boot, card_kept, card_taken, start_refusal, card_written, card_value, card_after_read, port_byte_of, card_word, read_raised, card_due, card_due_for, card_starter, card_after_event, next_word_after, end_interrupt, event_readies, event_raised, is_known, is_ready, last_raised, none_raised, ports_written, taken_by};
 ghost use Rattle.ds_card.specs.Saved.{KeepsAuxspicnt};
 
 mod saved;
@@ -109,6 +110,22 @@ impl Card {
         self.transfer.map(|it| it.starter)
     }
 
+    /// The same, where a processor started the transfer; None where the other did.
+    pub fn due_for(&self, proc: Proc) -> Option<Tick>
+        ensures { result ≡ card_due_for proc self.now }
+    {
+        match self.transfer {
+            Some(
+                Transfer {
+                    starter,
+                    next: NextWord::Due(tick),
+                    ..
+                },
+            ) if starter == proc => Some(tick),
+            _ => None,
+        }
+    }
+
     /// A processor writes at an offset above 4000000h, aligned down to the width. A write that covers ROMCTRL's top byte and sets bit 31
     /// starts a transfer for the writer, where none is busy. It answers the stop exactly where its command is left out; then all stays as
     /// it was.
@@ -125,16 +142,11 @@ impl Card {
         ensures state { self.new ≡ card_written self.old proc at width value now }
         ensures schedule { Reschedules now (card_due self.old) (card_due self.new) }
     {
-        let at = ports::aligned(width, at);
-        let mut raw = self.romctrl;
-        ports::overwrite(&mut raw, ports::ROMCTRL, width, at, value);
-        let starting = self.transfer.is_none() && ports::starts(width, at, &raw);
-        if starting && !is_known(self.command[0]) {
-            return Some(Stop {
-                kind: LeftKind::CardTransfer,
-                value: ports::word(&raw),
-            });
+        if let Some(stop) = self.refusal(at, width, value) {
+            return Some(stop);
         }
+        let at = ports::aligned(width, at);
+        let starting = self.is_starting(&self.overwritten(width, at, value), width, at);
         self.write_ports(proc, at, width, value);
         if starting {
             self.transfer = Some(Transfer {
@@ -146,6 +158,63 @@ impl Card {
         None
     }
 
+    /// The stop for which a write is refused: it would start a transfer whose command is left out. It tells ROMCTRL as it was to be written.
+    pub fn refusal(&self, at: u32, width: Width, value: u32) -> Option<Stop>
+        ensures { result ≡ start_refusal self.now at width value }
+    {
+        let at = ports::aligned(width, at);
+        let raw = self.overwritten(width, at, value);
+        if self.is_starting(&raw, width, at) && !is_known(self.command[0]) {
+            return Some(Stop {
+                kind: LeftKind::CardTransfer,
+                value: ports::word(&raw),
+            });
+        }
+        None
+    }
+
+    /// ROMCTRL as an access would write it, with the bits that it doesn't keep.
+    fn overwritten(&self, width: Width, at: u32, value: u32) -> [u8; 4]
+        requires { at + width_bytes width ≤ 2 ^ 32 }
+        ensures { result ≡ overwritten romctrl_at self.now.romctrl width at value }
+    {
+        let mut raw = self.romctrl;
+        ports::overwrite(&mut raw, ports::ROMCTRL, width, at, value);
+        raw
+    }
+
+    /// Whether an access that would write ROMCTRL so starts a transfer.
+    fn is_starting(&self, raw: &[u8; 4], width: Width, at: u32) -> bool
+        requires { at + width_bytes width ≤ 2 ^ 32 }
+        ensures { result ≡ (not (is_busy self.now) && starts_at width at raw.now) }
+    {
+        self.transfer.is_none() && ports::starts(width, at, raw)
+    }
+
+    /// What a processor's read gives at an offset above 4000000h, aligned down to the width, without what the read leaves.
+    pub fn value(&self, proc: Proc, at: u32, width: Width) -> u32
+        ensures { result ≡ card_value self.now proc at width }
+    {
+        match self.taken_word(proc, at, width) {
+            Some(word) => word,
+            None => {
+                let romctrl = ports::shown_romctrl(
+                    &self.romctrl,
+                    self.is_ready(),
+                    self.transfer.is_some(),
+                );
+                self.number(proc, &romctrl, ports::aligned(width, at), width)
+            }
+        }
+    }
+
+    /// What a write of some bytes of a register leaves in the others: ROMCTRL is without the bits that show how a transfer stands.
+    pub fn kept(&self, proc: Proc, at: u32, width: Width) -> u32
+        ensures { result ≡ card_kept self.now proc at width }
+    {
+        self.number(proc, &self.romctrl, ports::aligned(width, at), width)
+    }
+
     /// A processor reads at an offset above 4000000h, aligned down to the width. The starter's read of the data port by a whole word takes
     /// the word that is ready; any other changes nothing.
     pub fn read(&mut self, proc: Proc, at: u32, width: Width, now: Tick) -> CardRead
@@ -155,24 +224,30 @@ impl Card {
         ensures state { self.new ≡ card_after_read self.old proc at width now }
         ensures schedule { Reschedules now (card_due self.old) (card_due self.new) }
     {
-        let at = ports::aligned(width, at);
-        let shown = CardRead {
-            value: self.shown(proc, at, width),
-            raised: none_raised(),
+        let value = self.value(proc, at, width);
+        let raised = match self.taken_word(proc, at, width) {
+            Some(_) => self.take(now),
+            None => none_raised(),
         };
-        let Some(transfer) = self.transfer else {
-            return shown;
-        };
+        CardRead { value, raised }
+    }
+
+    /// The word that a processor's read takes, if it takes one.
+    fn taken_word(&self, proc: Proc, at: u32, width: Width) -> Option<u32>
+        ensures word { result ≡ card_taken self.now proc at width }
+        ensures ready { IfSome result (λ word. is_ready self.now.transfer ≡ true) }
+    {
+        let transfer = self.transfer?;
         let NextWord::Ready(word) = transfer.next else {
-            return shown;
+            return None;
         };
-        if transfer.starter != proc || width != Width::Word || at != ports::DATA {
-            return shown;
+        if transfer.starter != proc
+            || width != Width::Word
+            || ports::aligned(width, at) != ports::DATA
+        {
+            return None;
         }
-        CardRead {
-            value: word,
-            raised: self.take(transfer.starter, transfer.taken, now),
-        }
+        Some(word)
     }
 
     /// Its event, for the cartridge's file: the next word is ready, or a transfer without words ends.
@@ -256,43 +331,48 @@ impl Card {
     }
 
     /// Takes the word that is ready.
-    fn take(&mut self, starter: Proc, taken: u32, now: Tick) -> Raised
+    fn take(&mut self, now: Tick) -> Raised
         requires early { IsEarly (Some now) }
-        requires busy { IsTaking self.old starter taken }
+        requires ready { is_ready self.old.transfer ≡ true }
         ensures raised { result ≡ last_raised self.old self.old.transfer }
         ensures state { self.new ≡ taken_by self.old self.old.transfer now }
     {
-        let words = ports::block_words(&self.romctrl);
-        if taken + 1 == words {
+        let Some(transfer) = self.transfer else {
+            return none_raised();
+        };
+        if transfer.taken + 1 == ports::block_words(&self.romctrl) {
             self.transfer = None;
-            return self.end_raised(starter);
+            return self.end_raised(transfer.starter);
         }
         self.transfer = Some(Transfer {
-            starter,
-            taken: taken + 1,
+            starter: transfer.starter,
+            taken: transfer.taken + 1,
             next: due_after(now),
         });
         none_raised()
     }
 
-    fn shown(&self, proc: Proc, at: u32, width: Width) -> u32
+    /// The number that the bytes of its ports stand for, where ROMCTRL's are these.
+    fn number(&self, proc: Proc, romctrl: &[u8; 4], at: u32, width: Width) -> u32
         requires { at + width_bytes width ≤ 2 ^ 32 }
-        ensures { result ≡ value_by width (card_byte self.now proc) at }
+        ensures { result ≡ value_by width (port_byte_of romctrl.now self.now proc) at }
     {
         match width {
-            Width::Byte => self.byte(proc, at) as u32,
-            Width::Half => self.byte(proc, at) as u32 + 256 * self.byte(proc, at + 1) as u32,
+            Width::Byte => self.byte(proc, romctrl, at) as u32,
+            Width::Half => {
+                self.byte(proc, romctrl, at) as u32 + 256 * self.byte(proc, romctrl, at + 1) as u32
+            }
             Width::Word => {
-                self.byte(proc, at) as u32
-                    + 256 * self.byte(proc, at + 1) as u32
-                    + 65536 * self.byte(proc, at + 2) as u32
-                    + 16777216 * self.byte(proc, at + 3) as u32
+                self.byte(proc, romctrl, at) as u32
+                    + 256 * self.byte(proc, romctrl, at + 1) as u32
+                    + 65536 * self.byte(proc, romctrl, at + 2) as u32
+                    + 16777216 * self.byte(proc, romctrl, at + 3) as u32
             }
         }
     }
 
-    fn byte(&self, proc: Proc, place: u32) -> u8
-        ensures { result ≡ card_byte self.now proc place }
+    fn byte(&self, proc: Proc, romctrl: &[u8; 4], place: u32) -> u8
+        ensures { result ≡ port_byte_of romctrl.now self.now proc place }
     {
         let own = match proc {
             Proc::Nine => self.nine.bytes(),
@@ -301,12 +381,7 @@ impl Card {
         if ports::AUXSPICNT <= place && place < ports::AUXSPICNT + 2 {
             own[(place - ports::AUXSPICNT) as usize]
         } else if ports::ROMCTRL <= place && place < ports::ROMCTRL + 4 {
-            let shown = ports::shown_romctrl(
-                &self.romctrl,
-                self.is_ready(),
-                self.transfer.is_some(),
-            );
-            shown[(place - ports::ROMCTRL) as usize]
+            romctrl[(place - ports::ROMCTRL) as usize]
         } else if ports::COMMAND <= place && place < ports::COMMAND + 8 {
             self.command[(place - ports::COMMAND) as usize]
         } else {

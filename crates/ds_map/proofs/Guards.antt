@@ -19,7 +19,7 @@ use Rattle.ds_map.specs.Guards.{guarded_memory, is_guarded, map_guarded, map_gua
 use Rattle.ds_map.specs.Maps.{MapState}
 use Rattle.ds_map.specs.Moves.{unit_read, unit_taken, unit_waits}
 use Rattle.ds_map.specs.Views.{NineReach, nine_memory, tcm_refusal, tcm_written}
-use Rattle.ds_map.proofs.Later.{map_read_unchanged}
+use Rattle.ds_map.proofs.Later.{map_read_leaves}
 
 -- Where writes meet no guard.
 
@@ -68,15 +68,15 @@ same_overfull : (proc : Proc) (u v : IoState) → v.gx ≡ u.gx → is_overfull 
 same_overfull Nine u v e = ap (λ (g : GxState). nat_lt 320 (waiting_entries g)) e
 same_overfull Seven u v e = refl
 
-pub read_leaves : (proc : Proc) (unit : DmaUnit) (m : MapState) → (unit_read proc unit m).io.gx ≡ m.io.gx
-read_leaves proc unit m = (map_read_unchanged proc m unit.from unit.width).gx
+pub read_leaves : (proc : Proc) (now : Tick) (unit : DmaUnit) (m : MapState) → (unit_read proc now unit m).io.gx ≡ m.io.gx
+read_leaves proc now unit m = (map_read_leaves proc now m unit.from unit.width).gx
 
 moved_leaves : (proc : Proc) (now : Tick) (waits : ℕ) (u : IoState) → (channel_moved proc now waits u).gx ≡ u.gx
 moved_leaves Nine now waits u = refl
 moved_leaves Seven now waits u = refl
 
 pub taken_leaves : (proc : Proc) (now : Tick) (unit : DmaUnit) (m : MapState) → (unit_taken proc now unit m).io.gx ≡ m.io.gx
-taken_leaves proc now unit m = moved_leaves proc now (unit_waits proc unit m) (unit_read proc unit m).io ∙ read_leaves proc unit m
+taken_leaves proc now unit m = moved_leaves proc now (unit_waits proc now unit m) (unit_read proc now unit m).io ∙ read_leaves proc now unit m
 
 pub unit_has_room : (proc : Proc) (now : Tick) (unit : DmaUnit) (m : MapState) (at : ℕ) → is_overfull proc m.io ≡ false
     → is_guarded proc (unit_taken proc now unit m) at ≡ false

@@ -123,8 +123,9 @@ module _ (g : GxState) (proc : Proc) (m : MapState) where
   pub fetched : (at : ℕ) (width : Width) → map_fetched proc (gx_in_map g m) at width ≡ map_fetched proc m at width
   fetched at width = passed.fetched same_bytes (with_gx g) proc m refl at width (fetch_passes of_geometry of_others (with_it g) proc m width (place_of proc m.io.wramcnt at))
 
-  pub read : (at : ℕ) (width : Width) → IsApartPlace proc (place_of proc m.io.wramcnt at) → map_read proc (gx_in_map g m) at width ≡ gx_in_map g (map_read proc m at width)
-  read at width h = passed.read same_bytes (with_gx g) proc m refl at width (passes width (place_of proc m.io.wramcnt at) h)
+  pub read : (now : Tick) (at : ℕ) (width : Width) → IsApartPlace proc (place_of proc m.io.wramcnt at)
+      → map_read proc now (gx_in_map g m) at width ≡ gx_in_map g (map_read proc now m at width)
+  read now at width h = passed.read same_bytes (with_gx g) proc m refl at width now (passes width (place_of proc m.io.wramcnt at) h)
 
   pub refusal : (at : ℕ) (width : Width) (number : ℕ) → IsApartPlace proc (place_of proc m.io.wramcnt at)
       → map_refusal proc (gx_in_map g m) at width number ≡ map_refusal proc m at width number
@@ -154,16 +155,16 @@ module _ (g : GxState) (proc : Proc) (m : MapState) where
 -- ---- ARM9's channels
 
 -- a read leaves them
-read_dma_there : (proc : Proc) (place : Place) (m : MapState) (width : Width) → (after_read_at proc place m width).io.nine.dma ≡ m.io.nine.dma
-read_dma_there proc (Cell memory at) m width = refl
-read_dma_there proc (Banks space at) m width = refl
-read_dma_there proc (Port at) m width = read_dma proc m.io (aligned_down width at) width
-read_dma_there proc (Rom at) m width = refl
-read_dma_there proc Nothing m width = refl
+read_dma_there : (proc : Proc) (now : Tick) (place : Place) (m : MapState) (width : Width) → (after_read_at proc now place m width).io.nine.dma ≡ m.io.nine.dma
+read_dma_there proc now (Cell memory at) m width = refl
+read_dma_there proc now (Banks space at) m width = refl
+read_dma_there proc now (Port at) m width = read_dma proc now m.io (aligned_down width at) width
+read_dma_there proc now (Rom at) m width = refl
+read_dma_there proc now Nothing m width = refl
 
-pub map_read_dma : (proc : Proc) (m : MapState) (at : ℕ) (width : Width) → (map_read proc m at width).io.nine.dma ≡ m.io.nine.dma
+pub map_read_dma : (proc : Proc) (now : Tick) (m : MapState) (at : ℕ) (width : Width) → (map_read proc now m at width).io.nine.dma ≡ m.io.nine.dma
 unfolding map_read
-map_read_dma proc m at width = read_dma_there proc (place_of proc m.io.wramcnt at) m width
+map_read_dma proc now m at width = read_dma_there proc now (place_of proc m.io.wramcnt at) m width
 
 -- a write leaves their controls
 port_keeps : (proc : Proc) (now : Tick) (u : IoState) (at : ℕ) (width : Width) (number : ℕ) → IsApartPlace proc (Port at)
@@ -200,16 +201,16 @@ moved_arms Seven now waits u = arms_by u.nine.dma u.nine.dma refl
 module _ (proc : Proc) (m : MapState) (now : Tick) (unit : DmaUnit) (to : IsApartPlace proc (place_of proc m.io.wramcnt unit.to)) where
   after_arms : (refused : Option Stop) → ArmsNoMore m.io.nine.dma (map_after_unit refused proc now unit m).io.nine.dma
   after_arms None =
-      let left = unit_read proc unit m in
+      let left = unit_read proc now unit m in
       let taken = unit_taken proc now unit m in
       let number = map_value proc now m unit.from unit.width in
       let dma = m.io.nine.dma in
       let end = map_written proc now taken unit.to unit.width number in
       arms_then dma taken.io.nine.dma end.io.nine.dma
-      (arms_then dma left.io.nine.dma taken.io.nine.dma (arms_by dma left.io.nine.dma (map_read_dma proc m unit.from unit.width)) (moved_arms proc now (unit_waits proc unit m) left.io))
+      (arms_then dma left.io.nine.dma taken.io.nine.dma (arms_by dma left.io.nine.dma (map_read_dma proc now m unit.from unit.width)) (moved_arms proc now (unit_waits proc now unit m) left.io))
       (arms_kept taken.io.nine.dma end.io.nine.dma
       (map_written_keeps proc now taken unit.to unit.width number (apart_anyhow proc m.io.wramcnt taken.io.wramcnt unit.to to)))
-  after_arms (Some stop) = arms_by m.io.nine.dma _ (map_read_dma proc m unit.from unit.width)
+  after_arms (Some stop) = arms_by m.io.nine.dma _ (map_read_dma proc now m unit.from unit.width)
 
   pub unit_arms : ArmsNoMore m.io.nine.dma (unit_moved proc now unit m).io.nine.dma
   unit_arms = after_arms (unit_refusal proc now unit m)

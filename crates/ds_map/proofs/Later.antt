@@ -13,33 +13,33 @@ use Rattle.ds_places.specs.declared.kinds.Place.TheVariants as place
 use Rattle.ds_ports.specs.Happenings.{Goes, IsProcessorIo, HasOnlyLaterEvents}
 use Rattle.ds_ports.specs.Ports.{port_refusal, port_written, unless_stopped}
 use Rattle.ds_ports.specs.Io.{IoState, io_of}
-use Rattle.ds_ports.proofs.Later.{AreUnchanged, all_unchanged, goes_nowhere, leaves_all, unchanged_goes, port_unchanged, write_goes}
+use Rattle.ds_ports.proofs.Later.{ReadLeaves, all_left, goes_nowhere, leaves_all, port_leaves, read_goes, write_goes}
 use Rattle.vram_banks.specs.Cells.{Banks, vram_written}
 use Rattle.ds_map.specs.Accesses.{is_byte_of_nine, after_read_at, map_read, map_written, written_at, takes_no_bytes}
 use Rattle.ds_map.specs.Maps.{MapState}
 
 -- What accesses past the tightly coupled memories at a tick make of the units behind the ports.
 
--- ---- reads: nothing is due otherwise than before
+-- ---- reads
 
-place_unchanged : (proc : Proc) (where_ : Place) (m : MapState) (width : Width) → AreUnchanged m.io (after_read_at proc where_ m width).io
-place_unchanged proc (place.Cell memory at) m width = all_unchanged m.io
-place_unchanged proc (place.Banks space at) m width = all_unchanged m.io
-place_unchanged proc (place.Port at) m width = port_unchanged proc m.io (aligned_down width at) width
-place_unchanged proc (place.Rom at) m width = all_unchanged m.io
-place_unchanged proc place.Nothing m width = all_unchanged m.io
+place_leaves : (proc : Proc) (now : Tick) (where_ : Place) (m : MapState) (width : Width) → ReadLeaves proc now m.io (after_read_at proc now where_ m width).io
+place_leaves proc now (place.Cell memory at) m width = all_left proc now m.io
+place_leaves proc now (place.Banks space at) m width = all_left proc now m.io
+place_leaves proc now (place.Port at) m width = port_leaves proc now m.io (aligned_down width at) width
+place_leaves proc now (place.Rom at) m width = all_left proc now m.io
+place_leaves proc now place.Nothing m width = all_left proc now m.io
 
 -- what a read of the map leaves
-pub map_read_unchanged : (proc : Proc) (m : MapState) (at : ℕ) (width : Width) → AreUnchanged m.io (map_read proc m at width).io
+pub map_read_leaves : (proc : Proc) (now : Tick) (m : MapState) (at : ℕ) (width : Width) → ReadLeaves proc now m.io (map_read proc now m at width).io
 unfolding map_read
-map_read_unchanged proc m at width = place_unchanged proc (place_of proc m.io.wramcnt at) m width
+map_read_leaves proc now m at width = place_leaves proc now (place_of proc m.io.wramcnt at) m width
 
 -- ---- writes
 
 module _ (proc : Proc) (now : Tick) where
   -- other bytes in video memory
   banks_go : (u : IoState) (vram : Banks) → Goes proc now u u → Goes proc now u (record u { vram = vram })
-  banks_go u vram g = record { is = g.is; quiet = g.quiet; each = g.each; other = g.other; told = g.told; scan = g.scan; whole = g.whole; geometry = leaves_all proc u (record u { vram = vram }) refl refl }
+  banks_go u vram g = record { is = g.is; quiet = g.quiet; each = g.each; other = g.other; told = g.told; scan = g.scan; whole = g.whole; geometry = leaves_all proc u (record u { vram = vram }) refl refl; card = g.card }
 
   module _ (m : MapState) (is : IsProcessorIo (io_of m.io proc)) (quiet : HasOnlyLaterEvents now (io_of m.io proc)) where
     stays : Goes proc now m.io m.io
@@ -64,5 +64,5 @@ module _ (proc : Proc) (now : Tick) where
     unfolding map_written
     map_write_goes at width value = place_goes (place_of proc m.io.wramcnt at) width value
 
-    pub map_read_goes : (at : ℕ) (width : Width) → Goes proc now m.io (map_read proc m at width).io
-    map_read_goes at width = unchanged_goes proc now m.io (map_read proc m at width).io is quiet (map_read_unchanged proc m at width)
+    pub map_read_goes : (at : ℕ) (width : Width) → Goes proc now m.io (map_read proc now m at width).io
+    map_read_goes at width = read_goes proc now m.io (map_read proc now m at width).io is quiet (map_read_leaves proc now m at width)

@@ -218,12 +218,12 @@ fetch_alike (Rom at) own m n width is = refl
 fetch_alike Nothing own m n width is = refl
 fetch_alike place own m n width is = absurd is
 
-read_leaves : (place : Place) (wramcnt : ℕ) (m : MapState) (width : Width) → IsOwnPlace wramcnt place → after_read_at Nine place m width ≡ m
-read_leaves (Cell memory at) wramcnt m width is = refl
-read_leaves (Banks space at) wramcnt m width is = refl
-read_leaves (Rom at) wramcnt m width is = refl
-read_leaves Nothing wramcnt m width is = refl
-read_leaves place wramcnt m width is = absurd is
+read_leaves : (now : Tick) (place : Place) (wramcnt : ℕ) (m : MapState) (width : Width) → IsOwnPlace wramcnt place → after_read_at Nine now place m width ≡ m
+read_leaves now (Cell memory at) wramcnt m width is = refl
+read_leaves now (Banks space at) wramcnt m width is = refl
+read_leaves now (Rom at) wramcnt m width is = refl
+read_leaves now Nothing wramcnt m width is = refl
+read_leaves now place wramcnt m width is = absurd is
 
 none_refused : (place : Place) (wramcnt : ℕ) (m : MapState) (width : Width) (value : ℕ) → IsOwnPlace wramcnt place → refusal_at Nine place m width value ≡ None
 none_refused (Cell memory at) wramcnt m width value is = refl
@@ -297,9 +297,9 @@ module _ (own : NineBytes) (at : ℕ) (is : IsOwnAddress own.share.wramcnt at) (
   unfolding map_fetched
   nine_fetched_alike m n = fetch_alike (place_of Nine own.share.wramcnt at) own m n width is
 
-  pub nine_read_leaves : (m : MapState) → map_read Nine (nine_put own m) at width ≡ nine_put own m
+  pub nine_read_leaves : (now : Tick) (m : MapState) → map_read Nine now (nine_put own m) at width ≡ nine_put own m
   unfolding map_read
-  nine_read_leaves m = read_leaves (place_of Nine own.share.wramcnt at) own.share.wramcnt (nine_put own m) width is
+  nine_read_leaves now m = read_leaves now (place_of Nine own.share.wramcnt at) own.share.wramcnt (nine_put own m) width is
 
   pub nine_none_refused : (m : MapState) (value : ℕ) → map_refusal Nine (nine_put own m) at width value ≡ None
   unfolding map_refusal

@@ -40,7 +40,7 @@ pub record BanksPass (io : IoState → IoState) (u : IoState) (space : Space) (a
 
 pub record PortsPass (io : IoState → IoState) (proc : Proc) (u : IoState) (at : ℕ) (width : Width) : Type 0 where
   pub value : (now : Tick) → port_value proc now (io u) at width ≡ port_value proc now u at width
-  pub read : port_read proc (io u) at width ≡ io (port_read proc u at width)
+  pub read : (now : Tick) → port_read proc now (io u) at width ≡ io (port_read proc now u at width)
   pub refusal : (value : ℕ) → port_refusal proc (io u) at width value ≡ port_refusal proc u at width value
   pub written : (now : Tick) (value : ℕ) → port_written proc now (io u) at width value ≡ io (port_written proc now u at width value)
 
@@ -88,12 +88,13 @@ module _ (shared : List ℕ → List ℕ) (io : IoState → IoState) where
     fetched_there (Rom at) width h = refl
     fetched_there Nothing width h = refl
 
-    read_there : (place : Place) (width : Width) → PlacePasses proc m width place → after_read_at proc place (changed m) width ≡ changed (after_read_at proc place m width)
-    read_there (Port at) width h = ap (λ (u : IoState). (let left : MapState = record (changed m) { io = u } in left)) h.read
-    read_there (Cell memory at) width h = refl
-    read_there (Banks space at) width h = refl
-    read_there (Rom at) width h = refl
-    read_there Nothing width h = refl
+    read_there : (now : Tick) (place : Place) (width : Width) → PlacePasses proc m width place
+        → after_read_at proc now place (changed m) width ≡ changed (after_read_at proc now place m width)
+    read_there now (Port at) width h = ap (λ (u : IoState). (let left : MapState = record (changed m) { io = u } in left)) (h.read now)
+    read_there now (Cell memory at) width h = refl
+    read_there now (Banks space at) width h = refl
+    read_there now (Rom at) width h = refl
+    read_there now Nothing width h = refl
 
     refusal_there : (place : Place) (width : Width) (number : ℕ) → PlacePasses proc m width place → refusal_at proc place (changed m) width number ≡ refusal_at proc place m width number
     refusal_there (Port at) width number h = h.refusal number
@@ -141,9 +142,9 @@ module _ (shared : List ℕ → List ℕ) (io : IoState → IoState) where
       unfolding map_fetched
       fetched h = ap (λ (w : ℕ). fetched_at proc (place_of proc w at) (changed m) width) same ∙ fetched_there here width h
 
-      pub read : PlacePasses proc m width here → map_read proc (changed m) at width ≡ changed (map_read proc m at width)
+      pub read : (now : Tick) → PlacePasses proc m width here → map_read proc now (changed m) at width ≡ changed (map_read proc now m at width)
       unfolding map_read
-      read h = ap (λ (w : ℕ). after_read_at proc (place_of proc w at) (changed m) width) same ∙ read_there here width h
+      read now h = ap (λ (w : ℕ). after_read_at proc now (place_of proc w at) (changed m) width) same ∙ read_there now here width h
 
       pub refusal : (number : ℕ) → PlacePasses proc m width here → map_refusal proc (changed m) at width number ≡ map_refusal proc m at width number
       unfolding map_refusal
@@ -157,25 +158,25 @@ module _ (shared : List ℕ → List ℕ) (io : IoState → IoState) where
 
   module _ (proc : Proc) (m : MapState) (now : Tick) (unit : DmaUnit) (same : (io m.io).wramcnt ≡ m.io.wramcnt) (from : PlacePasses proc m unit.width (place_of proc m.io.wramcnt unit.from))
       (moved : (waits : ℕ) (u : IoState) → channel_moved proc now waits (io u) ≡ io (channel_moved proc now waits u))
-      (halfway : (io (unit_read proc unit m).io).wramcnt ≡ (unit_read proc unit m).io.wramcnt) where
+      (halfway : (io (unit_read proc now unit m).io).wramcnt ≡ (unit_read proc now unit m).io.wramcnt) where
     abbrev taken : MapState
     taken = unit_taken proc now unit m
 
     abbrev moved_number : ℕ
     moved_number = map_value proc now m unit.from unit.width
 
-    waits_so : unit_waits proc unit (changed m) ≡ unit_waits proc unit m
+    waits_so : unit_waits proc now unit (changed m) ≡ unit_waits proc now unit m
     waits_so =
-        ap (λ (x : MapState). wait_at proc (io m.io).wramcnt unit.from unit.width + wait_at proc x.io.wramcnt unit.to unit.width) (read proc m same unit.from unit.width from)
-        ∙ ap (λ (w : ℕ). wait_at proc w unit.from unit.width + wait_at proc (io (unit_read proc unit m).io).wramcnt unit.to unit.width) same
+        ap (λ (x : MapState). wait_at proc (io m.io).wramcnt unit.from unit.width + wait_at proc x.io.wramcnt unit.to unit.width) (read proc m same unit.from unit.width now from)
+        ∙ ap (λ (w : ℕ). wait_at proc w unit.from unit.width + wait_at proc (io (unit_read proc now unit m).io).wramcnt unit.to unit.width) same
         ∙ ap (λ (w : ℕ). wait_at proc m.io.wramcnt unit.from unit.width + wait_at proc w unit.to unit.width) halfway
 
     taken_so : unit_taken proc now unit (changed m) ≡ changed taken
     taken_so =
-        let left = unit_read proc unit m in
-        let waits = unit_waits proc unit m in
-        ap (λ (n : ℕ). (let next : MapState = record (unit_read proc unit (changed m)) { io = channel_moved proc now n (unit_read proc unit (changed m)).io } in next)) waits_so
-        ∙ ap (λ (x : MapState). (let next : MapState = record x { io = channel_moved proc now waits x.io } in next)) (read proc m same unit.from unit.width from)
+        let left = unit_read proc now unit m in
+        let waits = unit_waits proc now unit m in
+        ap (λ (n : ℕ). (let next : MapState = record (unit_read proc now unit (changed m)) { io = channel_moved proc now n (unit_read proc now unit (changed m)).io } in next)) waits_so
+        ∙ ap (λ (x : MapState). (let next : MapState = record x { io = channel_moved proc now waits x.io } in next)) (read proc m same unit.from unit.width now from)
         ∙ ap (λ (u : IoState). (let next : MapState = record (changed left) { io = u } in next)) (moved waits left.io)
 
     module _ (still : (io taken.io).wramcnt ≡ taken.io.wramcnt) (to : PlacePasses proc taken unit.width (place_of proc taken.io.wramcnt unit.to)) where
@@ -190,7 +191,7 @@ module _ (shared : List ℕ → List ℕ) (io : IoState → IoState) where
           ap (λ (x : MapState). map_written proc now x unit.to unit.width (map_value proc now (changed m) unit.from unit.width)) taken_so
           ∙ ap (map_written proc now (changed taken) unit.to unit.width) (value proc m same unit.from unit.width now from)
           ∙ written proc taken still unit.to unit.width now moved_number to
-      after_so (Some stop) = read proc m same unit.from unit.width from
+      after_so (Some stop) = read proc m same unit.from unit.width now from
 
       pub unit_moves : unit_moved proc now unit (changed m) ≡ changed (unit_moved proc now unit m)
       unit_moves = ap (λ (r : Option Stop). map_after_unit r proc now unit (changed m)) unit_refuses ∙ after_so (unit_refusal proc now unit m)
@@ -200,7 +201,7 @@ module _ (shared : List ℕ → List ℕ) (io : IoState → IoState) where
 pub port_passes : (P : UnitPart → Bool) (t : IoState) (proc : Proc) (u : IoState) (at : ℕ) (width : Width) → Covers (touches_none P proc) proc at width → PortsPass (io_graft P t) proc u at width
 port_passes P t proc u at width h = record {
   value = λ now. value_same (touches_none P proc) proc now u (io_graft P t u) (reads P t proc now u) at width h;
-  read = read_passes (touches_none P proc) proc (io_graft P t) (passes P t proc) u at width h;
+  read = λ now. read_passes (touches_none P proc) proc (io_graft P t) (passes P t proc) now u at width h;
   refusal = λ value. refusal_passes (touches_none P proc) proc (io_graft P t) (passes P t proc) u at width value h;
   written = λ now value. write_passes (touches_none P proc) proc (io_graft P t) (passes P t proc) now u at width value h;
 }

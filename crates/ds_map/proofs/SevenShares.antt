@@ -96,10 +96,10 @@ record AreSharedAlike (u v : IoState) : Type 0 where
   pub vram : v.vram ≡ u.vram
   pub wramcnt : v.wramcnt ≡ u.wramcnt
 
-read_alike : (u : IoState) (at : ℕ) (width : Width) → AreSharedAlike u (port_read Seven u at width)
-read_alike u at width = record {
-  vram = λ i. record { bytes = read_left VideoMemory Seven u at width refl i; controls = read_left BankControls Seven u at width refl i };
-  wramcnt = read_left WramControl Seven u at width refl;
+read_alike : (now : Tick) (u : IoState) (at : ℕ) (width : Width) → AreSharedAlike u (port_read Seven now u at width)
+read_alike now u at width = record {
+  vram = λ i. record { bytes = read_left VideoMemory Seven now u at width refl i; controls = read_left BankControls Seven now u at width refl i };
+  wramcnt = read_left WramControl Seven now u at width refl;
 }
 
 write_alike : (now : Tick) (u : IoState) (at : ℕ) (width : Width) (value : ℕ) → AreSharedAlike u (port_written Seven now u at width value)
@@ -146,7 +146,8 @@ module _ (own : SharedPart) (shared : List ℕ) (u : IoState) (so : IsSharedSo o
       let p = port_passes of_memory there Seven u at width (covers_all (touches_none of_memory Seven) Seven at width refl) in
       record {
         value = λ now. ap (λ (x : IoState). port_value Seven now x at width) it ∙ p.value now;
-        read = ap (λ (x : IoState). port_read Seven x at width) it ∙ p.read ∙ sym (as_graft (port_read Seven u at width) (read_alike u at width));
+        read = λ now. ap (λ (x : IoState). port_read Seven now x at width) it ∙ p.read now
+            ∙ sym (as_graft (port_read Seven now u at width) (read_alike now u at width));
         refusal = λ value. ap (λ (x : IoState). port_refusal Seven x at width value) it ∙ p.refusal value;
         written = λ now value. ap (λ (x : IoState). port_written Seven now x at width value) it ∙ p.written now value
             ∙ sym (as_graft (port_written Seven now u at width value) (write_alike now u at width value));
@@ -193,8 +194,8 @@ module _ (own : SharedPart) (m : MapState) (so : IsSharedSo own m.memories.share
   pub fetched : (at : ℕ) (width : Width) → map_fetched Seven (map_put own m) at width ≡ map_fetched Seven m at width
   fetched at width = passed.fetched shared_changed (shares_put own) Seven m so.wramcnt at width (fetch_by width (place_of Seven m.io.wramcnt at) (passes_at at width))
 
-  pub read : (at : ℕ) (width : Width) → map_read Seven (map_put own m) at width ≡ map_put own (map_read Seven m at width)
-  read at width = passed.read shared_changed (shares_put own) Seven m so.wramcnt at width (passes_at at width)
+  pub read : (now : Tick) (at : ℕ) (width : Width) → map_read Seven now (map_put own m) at width ≡ map_put own (map_read Seven now m at width)
+  read now at width = passed.read shared_changed (shares_put own) Seven m so.wramcnt at width now (passes_at at width)
 
   pub refusal : (at : ℕ) (width : Width) (number : ℕ) → map_refusal Seven (map_put own m) at width number ≡ map_refusal Seven m at width number
   refusal at width number = passed.refusal shared_changed (shares_put own) Seven m so.wramcnt at width number (passes_at at width)
@@ -202,17 +203,18 @@ module _ (own : SharedPart) (m : MapState) (so : IsSharedSo own m.memories.share
   pub written : (now : Tick) (at : ℕ) (width : Width) (number : ℕ) → map_written Seven now (map_put own m) at width number ≡ map_put own (map_written Seven now m at width number)
   written now at width number = passed.written shared_changed (shares_put own) Seven m so.wramcnt at width now number (passes_at at width)
 
-  read_stays_there : (place : Place) (width : Width) → (let left = after_read_at Seven place m width in IsSharedSo own left.memories.shared left.io)
-  read_stays_there (Cell memory at) width = so
-  read_stays_there (Banks space at) width = so
-  read_stays_there (Port at) width =
-      let down = aligned_down width at in so_alike own m.memories.shared m.io (port_read Seven m.io down width) (read_alike m.io down width) so
-  read_stays_there (Rom at) width = so
-  read_stays_there Nothing width = so
+  read_stays_there : (now : Tick) (place : Place) (width : Width) → (let left = after_read_at Seven now place m width in IsSharedSo own left.memories.shared left.io)
+  read_stays_there now (Cell memory at) width = so
+  read_stays_there now (Banks space at) width = so
+  read_stays_there now (Port at) width =
+      let down = aligned_down width at in so_alike own m.memories.shared m.io (port_read Seven now m.io down width) (read_alike now m.io down width) so
+  read_stays_there now (Rom at) width = so
+  read_stays_there now Nothing width = so
 
-  pub read_stays : (at : ℕ) (width : Width) → IsSharedSo own (map_read Seven m at width).memories.shared (map_read Seven m at width).io
+  pub read_stays : (now : Tick) (at : ℕ) (width : Width)
+      → IsSharedSo own (map_read Seven now m at width).memories.shared (map_read Seven now m at width).io
   unfolding map_read
-  read_stays at width = read_stays_there (place_of Seven m.io.wramcnt at) width
+  read_stays now at width = read_stays_there now (place_of Seven m.io.wramcnt at) width
 
   written_stays_there : (now : Tick) (place : Place) (width : Width) (number : ℕ)
       → (let left = written_at Seven now place m width number in IsSharedSo own left.memories.shared left.io)
@@ -251,14 +253,14 @@ module _ (own : SharedPart) (m : MapState) (so : IsSharedSo own m.memories.share
   -- taking it from the plan changes the channels alone
   taken_stays : IsSharedSo own taken.memories.shared taken.io
   taken_stays =
-      let left = unit_read Seven unit m in
-      so_alike own left.memories.shared left.io taken.io (record { vram = refl; wramcnt = refl }) (read_stays own m so unit.from unit.width)
+      let left = unit_read Seven now unit m in
+      so_alike own left.memories.shared left.io taken.io (record { vram = refl; wramcnt = refl }) (read_stays own m so now unit.from unit.width)
 
   moved : (waits : ℕ) (u : IoState) → channel_moved Seven now waits (shares_put own u) ≡ shares_put own (channel_moved Seven now waits u)
   moved waits u = refl
 
-  abbrev halfway : own.wramcnt ≡ (unit_read Seven unit m).io.wramcnt
-  halfway = (read_stays own m so unit.from unit.width).wramcnt
+  abbrev halfway : own.wramcnt ≡ (unit_read Seven now unit m).io.wramcnt
+  halfway = (read_stays own m so now unit.from unit.width).wramcnt
 
   pub unit_refuses : unit_refusal Seven now unit (map_put own m) ≡ unit_refusal Seven now unit m
   unit_refuses =

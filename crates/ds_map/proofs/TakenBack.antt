@@ -16,12 +16,13 @@ use Rattle.ds_ports.specs.Io.{IoState, channel_moved, channel_put_back, io_of}
 use Rattle.ds_map.specs.Accesses.{map_read, map_refusal, map_value, map_written, written_at, refusal_at}
 use Rattle.ds_map.specs.Maps.{MapState}
 use Rattle.ds_map.specs.Moves.{map_after_unit, unit_read, unit_refusal, unit_taken, unit_waits}
-use Rattle.ds_map.proofs.Later.{map_read_unchanged}
+use Rattle.ds_map.proofs.Later.{map_read_leaves}
 
 -- A channel's unit: it is still due after its read, and where its write is refused all is as it was after the read.
 
-pub still_due : (proc : Proc) (m : MapState) (at : ℕ) (width : Width) → IsSome (dma_due (io_of m.io proc).dma) → IsSome (dma_due (io_of (map_read proc m at width).io proc).dma)
-still_due proc m at width h = subst (λ (d : DmaState). IsSome (dma_due d)) (sym ((map_read_unchanged proc m at width).processor_io proc).dma) h
+pub still_due : (proc : Proc) (now : Tick) (m : MapState) (at : ℕ) (width : Width) → IsSome (dma_due (io_of m.io proc).dma)
+    → IsSome (dma_due (io_of (map_read proc now m at width).io proc).dma)
+still_due proc now m at width h = subst (λ (d : DmaState). IsSome (dma_due d)) (sym ((map_read_leaves proc now m at width).processor_io proc).dma) h
 
 -- a write that is refused leaves all
 stop_leaves : (refused : Option Stop) (u written : IoState) → IsSome refused → unless_stopped refused u written ≡ u
@@ -48,17 +49,17 @@ taken_back : (proc : Proc) (now : Tick) (waits : ℕ) (u : IoState) → channel_
 taken_back Nine now waits u = refl
 taken_back Seven now waits u = refl
 
-left_by_stop : (refused : Option Stop) (proc : Proc) (now : Tick) (unit : DmaUnit) (m : MapState) → IsSome refused → map_after_unit refused proc now unit m ≡ unit_read proc unit m
+left_by_stop : (refused : Option Stop) (proc : Proc) (now : Tick) (unit : DmaUnit) (m : MapState) → IsSome refused → map_after_unit refused proc now unit m ≡ unit_read proc now unit m
 left_by_stop None proc now unit m h = absurd (true≢false (sym h))
 left_by_stop (Some stop) proc now unit m h = refl
 
 pub put_back_is : (proc : Proc) (now : Tick) (unit : DmaUnit) (m written : MapState) → IsSome (unit_refusal proc now unit m)
     → written ≡ map_written proc now (unit_taken proc now unit m) unit.to unit.width (map_value proc now m unit.from unit.width)
-    → (let back : MapState = record written { io = channel_put_back proc (before_move (io_of (unit_read proc unit m).io proc)) written.io } in back)
+    → (let back : MapState = record written { io = channel_put_back proc (before_move (io_of (unit_read proc now unit m).io proc)) written.io } in back)
     ≡ map_after_unit (unit_refusal proc now unit m) proc now unit m
 put_back_is proc now unit m written h w =
-    let read = unit_read proc unit m in
+    let read = unit_read proc now unit m in
     let stays = w ∙ refused_leaves proc now (unit_taken proc now unit m) unit.to unit.width (map_value proc now m unit.from unit.width) h in
     ap (λ (x : MapState). (let back : MapState = record x { io = channel_put_back proc (before_move (io_of read.io proc)) x.io } in back)) stays
-    ∙ ap (λ (u : IoState). (let back : MapState = record read { io = u } in back)) (taken_back proc now (unit_waits proc unit m) read.io)
+    ∙ ap (λ (u : IoState). (let back : MapState = record read { io = u } in back)) (taken_back proc now (unit_waits proc now unit m) read.io)
     ∙ sym (left_by_stop (unit_refusal proc now unit m) proc now unit m h)

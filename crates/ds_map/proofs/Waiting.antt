@@ -6,6 +6,7 @@ use Rattle.ds_base.specs.declared.memories.Width.{Width}
 use Rattle.ds_base.specs.declared.memories.Width.TheVariants.{Byte, Half, Word}
 use Rattle.ds_base.specs.declared.processors.Proc.{Proc}
 use Rattle.ds_base.specs.declared.processors.Proc.TheVariants.{Nine, Seven}
+use Rattle.ds_base.specs.declared.ticks.Tick.{Tick}
 use Rattle.cp15_tcm.specs.TightlyCoupled.{tcm_of}
 use Rattle.cp15_tcm.specs.declared.answers.Tcm.{Tcm}
 use Rattle.cp15_tcm.specs.declared.answers.Tcm.TheVariants as tcm
@@ -129,6 +130,6 @@ seven_most r (Read at width) = wait_at_most Seven r.map.io.wramcnt at width
 seven_most r (Write at width value) = wait_at_most Seven r.map.io.wramcnt at width
 
 -- a unit's two accesses wait 16 ticks at most
-pub unit_waits_most : (proc : Proc) (unit : DmaUnit) (m : MapState) → unit_waits proc unit m ≤ 16
-unit_waits_most proc unit m =
-    omega (arith, wait_at_most proc m.io.wramcnt unit.from unit.width, wait_at_most proc (unit_read proc unit m).io.wramcnt unit.to unit.width)
+pub unit_waits_most : (proc : Proc) (now : Tick) (unit : DmaUnit) (m : MapState) → unit_waits proc now unit m ≤ 16
+unit_waits_most proc now unit m =
+    omega (arith, wait_at_most proc m.io.wramcnt unit.from unit.width, wait_at_most proc (unit_read proc now unit m).io.wramcnt unit.to unit.width)

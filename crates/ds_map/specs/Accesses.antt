@@ -31,12 +31,12 @@ value_at proc now (Port at) m width = port_value proc now m.io (aligned_down wid
 value_at proc now (Rom at) m width = rom_value proc (aligned_down width at) width
 value_at proc now Nothing m width = 0
 
-abbrev pub after_read_at : Proc → Place → MapState → Width → MapState
-after_read_at proc (Cell memory at) m width = m
-after_read_at proc (Banks space at) m width = m
-after_read_at proc (Port at) m width = record m { io = port_read proc m.io (aligned_down width at) width }
-after_read_at proc (Rom at) m width = m
-after_read_at proc Nothing m width = m
+abbrev pub after_read_at : Proc → Tick → Place → MapState → Width → MapState
+after_read_at proc now (Cell memory at) m width = m
+after_read_at proc now (Banks space at) m width = m
+after_read_at proc now (Port at) m width = record m { io = port_read proc now m.io (aligned_down width at) width }
+after_read_at proc now (Rom at) m width = m
+after_read_at proc now Nothing m width = m
 
 -- what is fetched at a place: from a port 0 (our choice)
 abbrev pub fetched_at : Proc → Place → MapState → Width → ℕ
@@ -97,8 +97,8 @@ written_at proc now Nothing m width value = m
 unfoldable pub map_value : Proc → Tick → MapState → ℕ → Width → ℕ
 map_value proc now m at width = value_at proc now (place_of proc m.io.wramcnt at) m width
 
-unfoldable pub map_read : Proc → MapState → ℕ → Width → MapState
-map_read proc m at width = after_read_at proc (place_of proc m.io.wramcnt at) m width
+unfoldable pub map_read : Proc → Tick → MapState → ℕ → Width → MapState
+map_read proc now m at width = after_read_at proc now (place_of proc m.io.wramcnt at) m width
 
 unfoldable pub map_fetched : Proc → MapState → ℕ → Width → ℕ
 map_fetched proc m at width = fetched_at proc (place_of proc m.io.wramcnt at) m width

@@ -19,17 +19,17 @@ abbrev pub next_unit : IoState → Proc → DmaUnit
 next_unit u proc = unit_of (due_channel (io_of u proc).dma) 0
 
 -- the map after it was read
-abbrev pub unit_read : Proc → DmaUnit → MapState → MapState
-unit_read proc unit m = map_read proc m unit.from unit.width
+abbrev pub unit_read : Proc → Tick → DmaUnit → MapState → MapState
+unit_read proc now unit m = map_read proc now m unit.from unit.width
 
 -- how long its two accesses wait together, each by the state before it; taking it leaves what WRAMCNT shows
-abbrev pub unit_waits : Proc → DmaUnit → MapState → ℕ
-unit_waits proc unit m =
-    wait_at proc m.io.wramcnt unit.from unit.width + wait_at proc (unit_read proc unit m).io.wramcnt unit.to unit.width
+abbrev pub unit_waits : Proc → Tick → DmaUnit → MapState → ℕ
+unit_waits proc now unit m =
+    wait_at proc m.io.wramcnt unit.from unit.width + wait_at proc (unit_read proc now unit m).io.wramcnt unit.to unit.width
 
 -- the map after it was taken too
 abbrev pub unit_taken : Proc → Tick → DmaUnit → MapState → MapState
-unit_taken proc now unit m = let read = unit_read proc unit m in record read { io = channel_moved proc now (unit_waits proc unit m) read.io }
+unit_taken proc now unit m = let read = unit_read proc now unit m in record read { io = channel_moved proc now (unit_waits proc now unit m) read.io }
 
 -- why its write is refused, and the map after all
 abbrev pub unit_refusal : Proc → Tick → DmaUnit → MapState → Option Stop
@@ -37,7 +37,7 @@ unit_refusal proc now unit m = map_refusal proc (unit_taken proc now unit m) uni
 
 abbrev pub map_after_unit : Option Stop → Proc → Tick → DmaUnit → MapState → MapState
 map_after_unit None proc now unit m = map_written proc now (unit_taken proc now unit m) unit.to unit.width (map_value proc now m unit.from unit.width)
-map_after_unit (Some stop) proc now unit m = unit_read proc unit m
+map_after_unit (Some stop) proc now unit m = unit_read proc now unit m
 
 abbrev pub unit_moved : Proc → Tick → DmaUnit → MapState → MapState
 unit_moved proc now unit m = map_after_unit (unit_refusal proc now unit m) proc now unit m

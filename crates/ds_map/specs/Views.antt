@@ -25,7 +25,7 @@ seven_memory = record {
   fetch_value = λ r at width. map_fetched Seven r.map at width;
   fetch_next = λ r at width. r;
   read_value = λ r at width. map_value Seven r.now r.map at width;
-  read_next = λ r at width. record r { map = map_read Seven r.map at width };
+  read_next = λ r at width. record r { map = map_read Seven r.now r.map at width };
   refusal = λ r at width value. map_refusal Seven r.map at width value;
   write_next = λ r at width value. record r { map = map_written Seven r.now r.map at width value };
 }
@@ -59,7 +59,7 @@ tcm_written Past r at width value = record r { map = map_written Nine r.now r.ma
 abbrev pub tcm_read : Tcm → NineReach → ℕ → Width → NineReach
 tcm_read (Itcm place) r at width = r
 tcm_read (Dtcm place) r at width = r
-tcm_read Past r at width = record r { map = map_read Nine r.map at width }
+tcm_read Past r at width = record r { map = map_read Nine r.now r.map at width }
 
 abbrev pub tcm_refusal : Tcm → NineReach → ℕ → Width → ℕ → Option Stop
 tcm_refusal (Itcm place) r at width value = None

@@ -95,8 +95,9 @@ impl Map {
     fn read_at(&self, io: &mut Io, proc: Proc, now: Tick, place: Place, width: Width) -> u32
         requires inside { IsInside place }
         requires reached { is_reached proc place ≡ true }
+        requires early { IsEarly (Some now) }
         ensures value { result ≡ value_at proc now place (map_seen proc self.now io.old) width }
-        ensures next { map_seen proc self.now io.new ≡ after_read_at proc place (map_seen proc self.now io.old) width }
+        ensures next { map_seen proc self.now io.new ≡ after_read_at proc now place (map_seen proc self.now io.old) width }
     {
         match place {
             Place::Cell { memory, at } => self.cell(memory, at, width),
@@ -179,8 +180,9 @@ impl Map {
     #[inline(never)]
     #[tactic(auto, using(crate::proofs::Reached::place_reached), unfolding(crate::specs::Accesses::map_value, crate::specs::Accesses::map_read))]
     fn read_any(&self, io: &mut Io, proc: Proc, now: Tick, at: u32, width: Width) -> u32
+        requires { IsEarly (Some now) }
         ensures value { result ≡ map_value proc now (map_seen proc self.now io.old) at width }
-        ensures next { map_seen proc self.now io.new ≡ map_read proc (map_seen proc self.now io.old) at width }
+        ensures next { map_seen proc self.now io.new ≡ map_read proc now (map_seen proc self.now io.old) at width }
     {
         let place = place(proc, io.wramcnt(), at);
         self.read_at(io, proc, now, place, width)
@@ -190,8 +192,9 @@ impl Map {
     #[inline(never)]
     #[tactic(auto, unfolding(crate::specs::Accesses::map_value, crate::specs::Accesses::map_read))]
     fn read_past(&self, io: &mut Io, proc: Proc, now: Tick, at: u32, width: Width) -> u32
+        requires { IsEarly (Some now) }
         ensures value { result ≡ map_value proc now (map_seen proc self.now io.old) at width }
-        ensures next { map_seen proc self.now io.new ≡ map_read proc (map_seen proc self.now io.old) at width }
+        ensures next { map_seen proc self.now io.new ≡ map_read proc now (map_seen proc self.now io.old) at width }
     {
         if let Some(port) = port_at(at) {
             return io.take(proc, now, aligned_down(width, port), width);
@@ -203,8 +206,9 @@ impl Map {
     #[inline(always)]
     #[tactic(auto, unfolding(crate::specs::Accesses::map_value, crate::specs::Accesses::map_read))]
     pub fn read(&self, io: &mut Io, proc: Proc, now: Tick, at: u32, width: Width) -> u32
+        requires { IsEarly (Some now) }
         ensures value { result ≡ map_value proc now (map_seen proc self.now io.old) at width }
-        ensures next { map_seen proc self.now io.new ≡ map_read proc (map_seen proc self.now io.old) at width }
+        ensures next { map_seen proc self.now io.new ≡ map_read proc now (map_seen proc self.now io.old) at width }
     {
         if let Some(cell) = main_cell(at) {
             return self.main.number(cell as usize, width);

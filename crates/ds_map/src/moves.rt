@@ -28,9 +28,10 @@ impl Map {
     /// Reads a unit, and tells how long that and its write wait.
     #[inline(always)]
     fn read_unit(&self, io: &mut Io, proc: Proc, now: Tick, unit: Unit) -> UnitRead
+        requires { IsEarly (Some now) }
         ensures value { result.value ≡ map_value proc now (map_seen proc self.now io.old) unit.from unit.width }
-        ensures next { map_seen proc self.now io.new ≡ unit_read proc unit (map_seen proc self.now io.old) }
-        ensures waits { result.waits ≡ unit_waits proc unit (map_seen proc self.now io.old) }
+        ensures next { map_seen proc self.now io.new ≡ unit_read proc now unit (map_seen proc self.now io.old) }
+        ensures waits { result.waits ≡ unit_waits proc now unit (map_seen proc self.now io.old) }
         ensures most { result.waits ≤ most_waits }
     {
         let first = wait_at(io, proc, unit.from, unit.width);

@@ -162,13 +162,6 @@ slot_of_fits at out = slot_by_all (Of is_no_control) (each_place place_fits) (re
 
 -- ---- each register
 
-dma_of : (b : Bool) (x p : ProcessorIoState) → x.dma ≡ p.dma → (if b then x else p).dma ≡ p.dma
-dma_of true x p e = e
-dma_of false x p e = refl
-
-pub told_dma : (processor_io : ProcessorIoState) (pressed : ℕ) → (keys_told processor_io pressed).dma ≡ processor_io.dma
-told_dma processor_io pressed = dma_of (keys_hold processor_io.keycnt pressed) (processor_io_raised processor_io (interrupt_bit Keys)) processor_io refl
-
 nine_keeps : (now : Tick) (u : IoState) (register : Register) (n word : ℕ) → is_no_control register ≡ true
     → KeepsControls u.nine.dma (after_write Nine now u register n word).nine.dma
 nine_keeps now u Dmacnt n word h = absurd (true≢false (sym h))
@@ -187,5 +180,5 @@ write_keeps now u at width value apart =
 pub seven_write_dma : (now : Tick) (u : IoState) (at : ℕ) (width : Width) (value : ℕ) → (port_written Seven now u at width value).nine.dma ≡ u.nine.dma
 seven_write_dma now u at width value = write_left DmaNine Seven now u at width value (covers_all (keeps_part DmaNine Seven) Seven at width refl)
 
-pub read_dma : (proc : Proc) (u : IoState) (at : ℕ) (width : Width) → (port_read proc u at width).nine.dma ≡ u.nine.dma
-read_dma proc u at width = read_left DmaNine proc u at width refl
+pub read_dma : (proc : Proc) (now : Tick) (u : IoState) (at : ℕ) (width : Width) → (port_read proc now u at width).nine.dma ≡ u.nine.dma
+read_dma proc now u at width = read_left DmaNine proc now u at width refl

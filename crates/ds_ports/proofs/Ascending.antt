@@ -8,7 +8,7 @@ use Rattle.ds_base.specs.Numbers.{width_bytes}
 use Rattle.ds_base.specs.declared.left_out.Stop.{Stop}
 use Rattle.ds_base.specs.declared.processors.Proc.{Proc}
 use Rattle.ds_base.specs.declared.ticks.Tick.{Tick}
-use Rattle.ds_ports.specs.Ports.{GoesAscending, ascending, begun_refusal, begun_value, begun_written, first_refusal, first_stop, half_refusal, half_written, port_half, port_read, port_refusal, port_value, port_word, port_written, read_unchanged, read_or, refusal_or, values_from, whole_in, word_refusal, word_written, written_or}
+use Rattle.ds_ports.specs.Ports.{GoesAscending, ascending, begun_refusal, begun_value, begun_written, first_refusal, first_stop, half_refusal, half_written, port_half, port_read, port_refusal, port_value, port_word, port_written, slot_read, read_or, refusal_or, values_from, whole_in, word_refusal, word_written, written_or}
 use Rattle.ds_ports.specs.RegisterMap.{IsWidth, StandsWhole, slot_of}
 use Rattle.ds_ports.specs.Io.{IoState}
 use Rattle.ds_ports.specs.declared.registers.Slot.{Slot}
@@ -308,8 +308,8 @@ module _ (proc : Proc) (now : Tick) where
       ∙ four_stops (begun_refusal proc u (slot_of proc at) value) (begun_refusal proc u (slot_of proc (at + 1)) (value / 2 ^ 8))
       (first_refusal proc u (at + 1 + 1) (value / 2 ^ 8 / 2 ^ 8) 2)
 
-  read_elsewhere : (u : IoState) (slot : Option Slot) → slot ≡ None → read_unchanged proc u slot ≡ u
-  read_elsewhere u slot none = ap (λ (x : Option Slot). read_unchanged proc u x) none
+  read_elsewhere : (u : IoState) (slot : Option Slot) → slot ≡ None → slot_read proc now u slot ≡ u
+  read_elsewhere u slot none = ap (λ (x : Option Slot). slot_read proc now u x) none
 
   -- no register stands at an offset where a byte lies in none
   byte_there : (t : Slot) → t.byte < t.bytes → whole_in Byte (Some t) ≡ Some t

@@ -8,7 +8,7 @@ use Rattle.ds_base.specs.declared.memories.Width.TheVariants.{Byte, Half, Word}
 use Rattle.ds_base.specs.declared.processors.Proc.{Proc}
 use Rattle.ds_base.specs.declared.ticks.Tick.{Tick}
 use Rattle.ds_ports.specs.Io.{IoState}
-use Rattle.ds_ports.specs.Ports.{byte_refusal, byte_written, first_stop, half_refusal, half_written, ignores, part, port_byte, port_half, port_read, port_refusal, port_value, port_word, port_written, read_or, read_unchanged, refusal_or, slot_joined, slot_refusal, slot_value, slot_written, whole_if, whole_in, with_bytes_from, word_refusal, word_written, written_or}
+use Rattle.ds_ports.specs.Ports.{byte_refusal, byte_written, first_stop, half_refusal, half_written, ignores, part, port_byte, port_half, port_read, port_refusal, port_value, port_word, port_written, read_or, slot_read, refusal_or, slot_joined, slot_refusal, slot_value, slot_written, whole_if, whole_in, with_bytes_from, word_refusal, word_written, written_or}
 use Rattle.ds_ports.specs.RegisterMap.{PortRow, register_map, slot_of}
 use Rattle.ds_ports.specs.Registers.{after_write, meaning_of}
 use Rattle.ds_ports.specs.declared.registers.Register.{Register}
@@ -137,17 +137,17 @@ module _ (Q : Slot → Type 0) (proc : Proc) (now : Tick) (R : IoState → IoSta
   write_leaves u at Half value h = half_leaves u at value h
   write_leaves u at Word value h = word_leaves u at value h
 
-module _ (kind : Register → Bool) (proc : Proc) (R : IoState → IoState → Type 0) (same : (u : IoState) → R u u)
-    (each : (u : IoState) (register : Register) → kind register ≡ true → R u ((meaning_of register).after_read proc u)) where
-  unchanged_leaves : (u : IoState) (slot : Option Slot) → OfKind kind slot → R u (read_unchanged proc u slot)
-  unchanged_leaves u None h = same u
-  unchanged_leaves u (Some slot) h = each u slot.register h
+module _ (kind : Register → Bool) (proc : Proc) (now : Tick) (R : IoState → IoState → Type 0) (same : (u : IoState) → R u u)
+    (each : (u : IoState) (register : Register) → kind register ≡ true → R u ((meaning_of register).after_read proc now u)) where
+  slot_read_leaves : (u : IoState) (slot : Option Slot) → OfKind kind slot → R u (slot_read proc now u slot)
+  slot_read_leaves u None h = same u
+  slot_read_leaves u (Some slot) h = each u slot.register h
 
-  pub read_leaves : (u : IoState) (at : ℕ) (width : Width) → Covers kind proc at width → R u (port_read proc u at width)
+  pub read_leaves : (u : IoState) (at : ℕ) (width : Width) → Covers kind proc at width → R u (port_read proc now u at width)
   unfolding port_read
   read_leaves u at Byte h = same u
   read_leaves u at Half h = same u
-  read_leaves u at Word h = unchanged_leaves u (whole_in Word (slot_of proc at)) (whole_is (Of kind) Word (slot_of proc at) h.0.0)
+  read_leaves u at Word h = slot_read_leaves u (whole_in Word (slot_of proc at)) (whole_is (Of kind) Word (slot_of proc at) h.0.0)
 
 -- ---- a change of the units that registers of a kind don't see, and leave as it is
 
@@ -155,7 +155,8 @@ pub record Passes (kind : Register → Bool) (proc : Proc) (change : IoState →
   pub kept : (u : IoState) (register : Register) (n : ℕ) → kind register ≡ true → (meaning_of register).kept proc (change u) n ≡ (meaning_of register).kept proc u n
   pub refusal : (u : IoState) (register : Register) (n word : ℕ) → kind register ≡ true
       → (meaning_of register).refusal proc (change u) n word ≡ (meaning_of register).refusal proc u n word
-  pub after_read : (u : IoState) (register : Register) → kind register ≡ true → (meaning_of register).after_read proc (change u) ≡ change ((meaning_of register).after_read proc u)
+  pub after_read : (now : Tick) (u : IoState) (register : Register) → kind register ≡ true
+      → (meaning_of register).after_read proc now (change u) ≡ change ((meaning_of register).after_read proc now u)
   pub written : (now : Tick) (u : IoState) (register : Register) (n word : ℕ) → kind register ≡ true
       → after_write proc now (change u) register n word ≡ change (after_write proc now u register n word)
 
@@ -202,15 +203,16 @@ module _ (kind : Register → Bool) (proc : Proc) (change : IoState → IoState)
     write_passes u at Word value h = word_passes u at value h
 
   -- reads
-  unchanged_passes : (u : IoState) (slot : Option Slot) → OfKind kind slot → read_unchanged proc (change u) slot ≡ change (read_unchanged proc u slot)
-  unchanged_passes u None h = refl
-  unchanged_passes u (Some slot) h = passes.after_read u slot.register h
+  slot_read_passes : (now : Tick) (u : IoState) (slot : Option Slot) → OfKind kind slot → slot_read proc now (change u) slot ≡ change (slot_read proc now u slot)
+  slot_read_passes now u None h = refl
+  slot_read_passes now u (Some slot) h = passes.after_read now u slot.register h
 
-  pub read_passes : (u : IoState) (at : ℕ) (width : Width) → Covers kind proc at width → port_read proc (change u) at width ≡ change (port_read proc u at width)
+  pub read_passes : (now : Tick) (u : IoState) (at : ℕ) (width : Width) → Covers kind proc at width
+      → port_read proc now (change u) at width ≡ change (port_read proc now u at width)
   unfolding port_read
-  read_passes u at Byte h = refl
-  read_passes u at Half h = refl
-  read_passes u at Word h = unchanged_passes u (whole_in Word (slot_of proc at)) (whole_is (Of kind) Word (slot_of proc at) h.0.0)
+  read_passes now u at Byte h = refl
+  read_passes now u at Half h = refl
+  read_passes now u at Word h = slot_read_passes now u (whole_in Word (slot_of proc at)) (whole_is (Of kind) Word (slot_of proc at) h.0.0)
 
   -- refusals
   slot_refuses : (u : IoState) (width : Width) (slot : Slot) (value : ℕ) → kind slot.register ≡ true → slot_refusal proc (change u) width slot value ≡ slot_refusal proc u width slot value

@@ -1,10 +1,11 @@
 use Rattle.std.specs.Prelude.{◌&&◌, not}
-use Rattle.std.proofs.Common.{ℕ, suc, ◌≡◌, ◌+◌, ◌==◌, Bool, true, false, if◌then◌else◌, List, [], ◌∷◌, ◌++◌, Option, Some, None, is_some, refl, ◌∙◌, ap, arith}
+use Rattle.std.proofs.Common.{ℕ, suc, ◌≡◌, ◌≢◌, ◌+◌, ◌==◌, Bool, true, false, if◌then◌else◌, List, [], ◌∷◌, ◌++◌, Option, Some, None, is_some, refl, ◌∙◌, ap, arith}
 use Rattle.ds_base.specs.declared.memories.Width.TheVariants.{Half, Word}
 use Rattle.ds_base.specs.declared.processors.Proc.{Proc}
 use Rattle.ds_base.specs.declared.processors.Proc.TheVariants.{Nine, Seven}
 use Rattle.ds_base.specs.declared.ticks.Due.{Due}
 use Rattle.ds_base.specs.declared.ticks.Tick.{Tick}
+use Rattle.ds_card.specs.Cards.{card_due}
 use Rattle.ds_dma.specs.Channels.{ready}
 use Rattle.ds_dma.specs.States.{DmaState, channel_at, channel_due, dma_due, due_with}
 use Rattle.ds_dma.specs.declared.dma.DmaDue.{DmaDue}
@@ -20,7 +21,7 @@ use Rattle.ds_ports.specs.Registers.{after_write, meaning_of}
 use Rattle.ds_ports.specs.Io.{IoState, keys_pressed, io_of, with_halted, with_io_of}
 use Rattle.ds_ports.specs.Touches.{UnitPart, Display, among, beyond, changes_some, io_graft}
 use Rattle.ds_ports.specs.declared.registers.Register.{Register}
-use Rattle.ds_ports.specs.declared.registers.Register.TheVariants.{DisplayHalf, DisplayWord, Ipcfiforecv}
+use Rattle.ds_ports.specs.declared.registers.Register.TheVariants.{DisplayHalf, DisplayWord, Ipcfiforecv, CardData}
 use Rattle.vram_banks.specs.Cells.{Banks}
 use Rattle.ds_ports.proofs.DisplayPorts.{written_scan}
 use Rattle.ds_ports.proofs.Passed.{first_false, stays_by_row}
@@ -78,26 +79,27 @@ pub first_by_parts : (geometry : Option Tick) (u : IoState) → first_with geome
     (earlier (due_with_rank 10 u.divider.due)
     (earlier (due_with_rank 11 u.root.due)
     (earlier (due_with_rank 12 geometry)
+    (earlier (due_with_rank 13 (card_due u.card))
     (earlier (first_from 14 (dma_due_in u Nine 0 ∷ dma_due_in u Nine 1 ∷ dma_due_in u Nine 2 ∷ dma_due_in u Nine 3 ∷ []))
-    (first_from 18 (channel_due u.seven.dma 0 ∷ channel_due u.seven.dma 1 ∷ channel_due u.seven.dma 2 ∷ channel_due u.seven.dma 3 ∷ []))))))))
+    (first_from 18 (channel_due u.seven.dma 0 ∷ channel_due u.seven.dma 1 ∷ channel_due u.seven.dma 2 ∷ channel_due u.seven.dma 3 ∷ [])))))))))
 unfolding first_with
 first_by_parts geometry u =
     let n : List (Option Tick) = timer_due (timer_at u.nine.timers 0) ∷ timer_due (timer_at u.nine.timers 1) ∷ timer_due (timer_at u.nine.timers 2) ∷ timer_due (timer_at u.nine.timers 3) ∷ [] in
     let s : List (Option Tick) = timer_due (timer_at u.seven.timers 0) ∷ timer_due (timer_at u.seven.timers 1) ∷ timer_due (timer_at u.seven.timers 2) ∷ timer_due (timer_at u.seven.timers 3) ∷ [] in
     let nd : List (Option Tick) = dma_due_in u Nine 0 ∷ dma_due_in u Nine 1 ∷ dma_due_in u Nine 2 ∷ dma_due_in u Nine 3 ∷ [] in
     let sd : List (Option Tick) = channel_due u.seven.dma 0 ∷ channel_due u.seven.dma 1 ∷ channel_due u.seven.dma 2 ∷ channel_due u.seven.dma 3 ∷ [] in
-    let maths : List (Option Tick) = u.divider.due ∷ u.root.due ∷ geometry ∷ None ∷ nd ++ sd in
+    let maths : List (Option Tick) = u.divider.due ∷ u.root.due ∷ geometry ∷ card_due u.card ∷ nd ++ sd in
     let video : Option Due = due_with_rank 1 (io_due Video u) in
     ap (λ (d : Option Due). earlier video d) (first_of_append 2 n (s ++ maths)
     ∙ ap (λ (d : Option Due). earlier (first_from 2 n) d) (first_of_append 6 s maths)
-    ∙ ap (λ (d : Option Due). earlier (first_from 2 n) (earlier (first_from 6 s) (earlier (due_with_rank 10 u.divider.due) (earlier (due_with_rank 11 u.root.due) (earlier (due_with_rank 12 geometry) d))))) (first_of_append 14 nd sd))
+    ∙ ap (λ (d : Option Due). earlier (first_from 2 n) (earlier (first_from 6 s) (earlier (due_with_rank 10 u.divider.due) (earlier (due_with_rank 11 u.root.due) (earlier (due_with_rank 12 geometry) (earlier (due_with_rank 13 (card_due u.card)) d)))))) (first_of_append 14 nd sd))
 
 -- ---- what leaves the first that acts
 
 same : (u v : IoState) → v.video.scan ≡ u.video.scan → v.nine.timers ≡ u.nine.timers → v.nine.dma ≡ u.nine.dma → v.seven.timers ≡ u.seven.timers → v.seven.dma ≡ u.seven.dma
-    → v.divider ≡ u.divider → v.root ≡ u.root → v.gx ≡ u.gx → v.released ≡ u.released → first_acting_io_due v ≡ first_acting_io_due u
+    → v.divider ≡ u.divider → v.root ≡ u.root → v.gx ≡ u.gx → v.released ≡ u.released → v.card ≡ u.card → first_acting_io_due v ≡ first_acting_io_due u
 unfolding first_acting_io_due
-same u v scan a b c d e f g r = rw (scan, a, b, c, d, e, f, g, r) refl
+same u v scan a b c d e f g r k = rw (scan, a, b, c, d, e, f, g, r, k) refl
 
 -- of a processor's own the timers and the channels stay
 abbrev IsStill : ProcessorIoState → ProcessorIoState → Type 0
@@ -110,8 +112,8 @@ told_still processor_io pressed = go (keys_hold processor_io.keycnt pressed) ref
   go false e = rw e (refl, refl)
 
 still : (proc : Proc) (u : IoState) (processor_io : ProcessorIoState) → IsStill (io_of u proc) processor_io → first_acting_io_due (with_io_of proc u processor_io) ≡ first_acting_io_due u
-still Nine u processor_io h = same u (with_io_of Nine u processor_io) refl h.0 h.1 refl refl refl refl refl refl
-still Seven u processor_io h = same u (with_io_of Seven u processor_io) refl refl refl h.0 h.1 refl refl refl refl
+still Nine u processor_io h = same u (with_io_of Nine u processor_io) refl h.0 h.1 refl refl refl refl refl refl refl
+still Seven u processor_io h = same u (with_io_of Seven u processor_io) refl refl refl h.0 h.1 refl refl refl refl refl
 
 pub vram_moves_none : (u : IoState) (vram : Banks) → first_acting_io_due (record u { vram = vram }) ≡ first_acting_io_due u
 unfolding first_acting_io_due
@@ -124,12 +126,15 @@ pub keys_move_none : (u : IoState) (pressed : ℕ) → first_acting_io_due (keys
 keys_move_none u pressed =
     let n = told_still u.nine pressed in
     let s = told_still u.seven pressed in
-    same u (keys_pressed u pressed) refl n.0 n.1 s.0 s.1 refl refl refl refl
+    same u (keys_pressed u pressed) refl n.0 n.1 s.0 s.1 refl refl refl refl refl
 
-pub reads_move_none : (proc : Proc) (u : IoState) (register : Register) → first_acting_io_due ((meaning_of register).after_read proc u) ≡ first_acting_io_due u
+-- a read that takes none of the card's words
+pub reads_move_none : (proc : Proc) (now : Tick) (u : IoState) (register : Register) → register ≢ CardData
+    → first_acting_io_due ((meaning_of register).after_read proc now u) ≡ first_acting_io_due u
 unfolding first_acting_io_due
-reads_move_none proc u Ipcfiforecv = refl
-reads_move_none proc u _ = refl
+reads_move_none proc now u CardData other = absurd (other refl)
+reads_move_none proc now u Ipcfiforecv other = refl
+reads_move_none proc now u _ other = refl
 
 -- what is due depends on the parts that move it, and on the display
 abbrev due_parts : List UnitPart
@@ -146,7 +151,7 @@ by_row proc now u register number value row none =
 
 pub writes_move_none : (proc : Proc) (now : Tick) (u : IoState) (register : Register) (number value : ℕ) → moves_dues register ≡ false
     → first_acting_io_due (after_write proc now u register number value) ≡ first_acting_io_due u
-writes_move_none proc now u DisplayHalf number value none = same u (after_write proc now u DisplayHalf number value) (written_scan proc u.video number Half value) refl refl refl refl refl refl refl refl
-writes_move_none proc now u DisplayWord number value none = same u (after_write proc now u DisplayWord number value) (written_scan proc u.video number Word value) refl refl refl refl refl refl refl refl
+writes_move_none proc now u DisplayHalf number value none = same u (after_write proc now u DisplayHalf number value) (written_scan proc u.video number Half value) refl refl refl refl refl refl refl refl refl
+writes_move_none proc now u DisplayWord number value none = same u (after_write proc now u DisplayWord number value) (written_scan proc u.video number Word value) refl refl refl refl refl refl refl refl refl
 writes_move_none Nine now u register number value none = by_row Nine now u register number value refl none
 writes_move_none Seven now u register number value none = by_row Seven now u register number value refl none

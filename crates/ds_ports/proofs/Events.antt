@@ -8,9 +8,12 @@ use Rattle.ds_base.specs.declared.processors.Proc.{Proc}
 use Rattle.ds_base.specs.declared.processors.Proc.TheVariants.{Nine, Seven}
 use Rattle.ds_base.specs.declared.ticks.Tick.{Tick}
 use Rattle.ds_dma.specs.Channels.{ready}
-use Rattle.ds_dma.specs.States.{AreReadyLater, DmaState, any_runs, channel_at, channel_due, dma_due, dma_finished, due_channel, due_with, least_running, most_waits}
+use Rattle.ds_card.specs.Cards.{CardState, card_after_event, card_due, card_starter, event_readies}
+use Rattle.ds_card.proofs.Schedules.{event_ends}
+use Rattle.ds_dma.specs.States.{AreReadyLater, DmaState, IsDma, any_runs, channel_at, channel_due, dma_due, dma_finished, due_channel, due_with, least_running, most_waits}
 use Rattle.ds_dma.specs.declared.controls.Cause.{Cause}
 use Rattle.ds_dma.specs.declared.controls.Cause.TheVariants.{VBlank, HBlank}
+use Rattle.ds_dma.specs.declared.controls.Cause.TheVariants as causes
 use Rattle.ds_dma.proofs.Turns.{all_later, event_schedules, finished_later}
 use Rattle.ds_dma.proofs.Wholes.{dma_finished_is, dma_triggered_is, event_runs}
 use Rattle.ds_ipc.specs.Ipcs.{other_proc}
@@ -24,8 +27,8 @@ use Rattle.ds_ports.specs.Dues.{held_due, io_due}
 use Rattle.ds_ports.specs.Happenings.{IsIo, IsUnchanged, IsProcessorIo, ReschedulesEach}
 use Rattle.ds_ports.proofs.HeldDues.{held_reschedules}
 use Rattle.ds_ports.specs.ProcessorIo.{ProcessorIoState, blocks_processor, processor_io_moved, processor_io_raised, processor_io_triggered}
-use Rattle.ds_ports.specs.Io.{IoState, both_raised, channel_moved, channels_shown, channels_triggered, division_done, io_event, io_of, keys_pressed, root_done, shown_to_others, timer_overflows, video_done, with_io_of}
-use Rattle.ds_ports.proofs.Later.{ProcessorIoReschedules, divider_each, each_processor_io, in_turn, io_is, processor_io_across, processor_io_each, processor_io_is, processor_io_there, raised_unchanged, root_each, told_unchanged, unchanged_is, unchanged_same}
+use Rattle.ds_ports.specs.Io.{IoState, both_raised, card_done, card_done_at, starter_told, told_of_card, channel_moved, channels_shown, channels_triggered, division_done, io_event, io_of, keys_pressed, root_done, shown_to_others, timer_overflows, video_done, with_io_of}
+use Rattle.ds_ports.proofs.Later.{ProcessorIoReschedules, card_each, divider_each, each_processor_io, in_turn, io_is, processor_io_across, processor_io_each, processor_io_is, processor_io_there, raised_unchanged, root_each, told_unchanged, unchanged_is, unchanged_same}
 use Rattle.gx_fifo.specs.GxStates.{AreWaiting, is_stalled}
 use Rattle.ds_base.specs.declared.processors.Raised.{Raised}
 use Rattle.video2d.specs.Scans.{ScanState, blanks_drawn_line, line_after, scan_after, scan_due, scan_due_tick, starts_vblank}
@@ -256,6 +259,49 @@ show_goes palette oam u all none =
     subst (λ (stop : Option Stop). Happens now u (unless_stop stop (shown_to_others shown now a) u)
     × (scan_due u.video.scan < scan_due (unless_stop stop (shown_to_others shown now a) u).video.scan)) (sym none) (third, later)
 
+-- ---- the card gives a word, and its starter is told; then it isn't due
+
+module _ (card : CardState) (now : Tick) where
+  told_reschedules : (starter : Proc) (own : ProcessorIoState) → IsProcessorIo own → ProcessorIoReschedules now own (told_of_card card starter now own)
+  told_reschedules starter own is (Dma proc channel) l =
+      either (λ (dma : DmaState). Reschedules now (channel_due own.dma channel) (channel_due dma channel)) (event_readies card) _ _
+      (event_schedules own.dma causes.Card now is.dma channel l) (inl refl)
+  told_reschedules starter own is _ l = inl refl
+
+  told_is : (starter : Proc) (own : ProcessorIoState) → IsProcessorIo own → IsProcessorIo (told_of_card card starter now own)
+  told_is starter own is = record { timers = is.timers; dma = either IsDma (event_readies card) _ _ (dma_triggered_is own.dma causes.Card now is.dma) is.dma }
+
+  starter_happens : (starter : Option Proc) (u : IoState) → IsIo u → Happens now u (starter_told starter card now u)
+  starter_happens None u all = record { io = all; dues = λ a l. inl refl; halted = λ proc. refl; blocked = λ proc h. h; stall = λ h. h }
+  starter_happens (Some starter) u all =
+      let own = io_of u starter in
+      let is = processor_io_is u all starter in
+      let new = told_of_card card starter now own in
+      happens_by now u (with_io_of starter u new) (own_is starter u new all (told_is starter own is))
+      (processor_io_each starter now u new (told_reschedules starter own is))
+      (each_processor_io (λ p x. x.halted ≡ (io_of u p).halted) starter u new refl refl)
+      (each_processor_io (λ p x. any_runs (io_of u p).dma.channels ≡ true → any_runs x.dma.channels ≡ true) starter u new
+      (λ h. either (λ (dma : DmaState). any_runs dma.channels ≡ true) (event_readies card) _ _ (event_runs own.dma causes.Card now is.dma h) h) (λ h. h))
+      (λ h. ap is_stalled (gx_there starter u new) ∙ h)
+
+  starter_card : (starter : Option Proc) (u : IoState) → (starter_told starter card now u).card ≡ u.card
+  starter_card None u = refl
+  starter_card (Some Nine) u = refl
+  starter_card (Some Seven) u = refl
+
+word_given : (file : List ℕ) (now : Tick) (u : IoState) → IsIo u → card_due u.card ≡ Some now
+    → Happens now u (card_done file u) × IsLater now (card_due (card_done file u).card)
+word_given file now u all due =
+    let given : IoState = record u { card = card_after_event file u.card } in
+    let none = event_ends file u.card in
+    let first = unchanged_happens now u given all (λ p. by_proc p) (card_each now u given.card (inr (subst (IsLater now) (sym none) tt))) refl in
+    let second = happens_on now u given (starter_told (card_starter u.card) u.card now given) first (starter_happens u.card now (card_starter u.card) given first.io) in
+    let later = subst (IsLater now) (sym (ap card_due (starter_card u.card now (card_starter u.card) given) ∙ none)) tt in
+    subst (λ (d : Option Tick). Happens now u (card_done_at d file u) × IsLater now (card_due (card_done_at d file u).card)) (sym due) (second, later) where
+      by_proc : (p : Proc) → IsUnchanged (io_of u p) (io_of (record u { card = card_after_event file u.card }) p)
+      by_proc Nine = unchanged_same u.nine
+      by_proc Seven = unchanged_same u.seven
+
 -- ---- each of them
 
 -- an actor behind the ports but the display, whose event reads memories, geometry, whose event may end a stall, and the DMA channels, whose events
@@ -269,23 +315,17 @@ HasEvent (Processor proc) = ⊥
 HasEvent a = Unit {0}
 
 -- its event, and the actor is due later, or not at all
-pub event_goes : (a : actor.Actor) (now : Tick) (u : IoState) → IsIo u → HasEvent a → IsNumbered a → io_due a u ≡ Some now
-    → Happens now u (io_event a u) × IsLater now (io_due a (io_event a u))
-event_goes KeyScript now u all has l due = absurd has
-event_goes Video now u all has l due = absurd has
-event_goes (Timer proc number) now u all has l due = timer_goes proc number now u all l due
-event_goes Divider now u all has l due = (division_happens now u all, tt)
-event_goes SquareRoot now u all has l due = (root_happens now u all, tt)
-event_goes Geometry now u all has l due = absurd has
-event_goes Card now u all has l due = absurd (none-some now due)
-event_goes (Dma proc channel) now u all has l due = absurd has
-event_goes (Processor proc) now u all has l due = absurd has
-
--- a timer's leaves the other processor and the display alone
-pub timer_leaves : (proc : Proc) (number : ℕ) (u : IoState)
-    → IsUnchanged (io_of u (other_proc proc)) (io_of (timer_overflows proc number u) (other_proc proc)) × ((timer_overflows proc number u).video ≡ u.video)
-timer_leaves Nine number u = (unchanged_same u.seven, refl)
-timer_leaves Seven number u = (unchanged_same u.nine, refl)
+pub event_goes : (file : List ℕ) (a : actor.Actor) (now : Tick) (u : IoState) → IsIo u → HasEvent a → IsNumbered a → io_due a u ≡ Some now
+    → Happens now u (io_event file a u) × IsLater now (io_due a (io_event file a u))
+event_goes file KeyScript now u all has l due = absurd has
+event_goes file Video now u all has l due = absurd has
+event_goes file (Timer proc number) now u all has l due = timer_goes proc number now u all l due
+event_goes file Divider now u all has l due = (division_happens now u all, tt)
+event_goes file SquareRoot now u all has l due = (root_happens now u all, tt)
+event_goes file Geometry now u all has l due = absurd has
+event_goes file Card now u all has l due = word_given file now u all due
+event_goes file (Dma proc channel) now u all has l due = absurd has
+event_goes file (Processor proc) now u all has l due = absurd has
 
 -- ---- other keys are pressed
 

@@ -6,12 +6,13 @@ use Rattle.ds_base.specs.declared.memories.Width.{Width}
 use Rattle.ds_base.specs.declared.processors.Proc.{Proc}
 use Rattle.ds_base.specs.declared.processors.Proc.TheVariants.{Nine, Seven}
 use Rattle.ds_base.specs.declared.ticks.Tick.{Tick}
+use Rattle.ds_card.specs.Cards.{card_due, card_starter}
 use Rattle.ds_dma.specs.States.{channel_due}
 use Rattle.ds_dma.specs.declared.controls.Cause.TheVariants.{VBlank, HBlank}
 use Rattle.ds_runs.specs.declared.actors.Actor as actor
-use Rattle.ds_runs.specs.declared.actors.Actor.TheVariants.{Timer, Geometry, Dma}
+use Rattle.ds_runs.specs.declared.actors.Actor.TheVariants.{Timer, Geometry, Card, Dma}
 use Rattle.ds_ports.specs.Dues.{held_due, io_due}
-use Rattle.ds_ports.specs.Io.{IoState, both_raised, channel_moved, channels_triggered, io_at_boot, io_event, shown_to_others, video_done, with_gx}
+use Rattle.ds_ports.specs.Io.{IoState, both_raised, card_done_at, channel_moved, channels_triggered, io_at_boot, io_event, shown_to_others, video_done, with_gx}
 use Rattle.ds_ports.specs.RegisterMap.{PortRow, row_bytes}
 use Rattle.ds_ports.specs.declared.registers.Register.{Register}
 use Rattle.ds_ports.specs.Touches as touches
@@ -63,11 +64,19 @@ passes_stop change None made left = refl
 passes_stop change (Some stop) made left = refl
 
 module _ (g : GxState) where
-  pub event_apart : (a : actor.Actor) (u : IoState) → a ≢ Geometry → io_event a (with_gx g u) ≡ with_gx g (io_event a u)
-  event_apart Geometry u other = absurd (other refl)
-  event_apart (Timer Nine number) u other = refl
-  event_apart (Timer Seven number) u other = refl
-  event_apart _ u other = refl
+  card_apart : (due : Option Tick) (file : List ℕ) (starter : Option Proc) (u : IoState) → card_starter u.card ≡ starter
+      → card_done_at due file (with_gx g u) ≡ with_gx g (card_done_at due file u)
+  card_apart None file starter u h = refl
+  card_apart (Some now) file None u h = rw h refl
+  card_apart (Some now) file (Some Nine) u h = rw h refl
+  card_apart (Some now) file (Some Seven) u h = rw h refl
+
+  pub event_apart : (file : List ℕ) (a : actor.Actor) (u : IoState) → a ≢ Geometry → io_event file a (with_gx g u) ≡ with_gx g (io_event file a u)
+  event_apart file Geometry u other = absurd (other refl)
+  event_apart file (Timer Nine number) u other = refl
+  event_apart file (Timer Seven number) u other = refl
+  event_apart file Card u other = card_apart (card_due u.card) file (card_starter u.card) u refl
+  event_apart file _ u other = refl
 
   shown_apart : (shown : Shown) (now : Tick) (u : IoState) → shown_to_others shown now (with_gx g u) ≡ with_gx g (shown_to_others shown now u)
   shown_apart shown now u =

@@ -1,4 +1,4 @@
-use Rattle.std.proofs.Common.{ℕ, ◌≡◌, ◌<◌, ◌≤◌, ◌+◌, ◌%◌, ◌^◌, inl, inr, true, List, Option, Some, None, refl, sym, ◌∙◌, ap, subst, arith}
+use Rattle.std.proofs.Common.{ℕ, ◌≡◌, ◌<◌, ◌≤◌, ◌+◌, ◌%◌, ◌^◌, inl, inr, true, false, List, Option, Some, None, refl, sym, ◌∙◌, ap, subst, arith}
 use Rattle.std.specs.Prelude.{◌==◌}
 use Rattle.ds_base.proofs.Choices.{either}
 use Rattle.ds_base.specs.Bits.{bits}
@@ -10,6 +10,9 @@ use Rattle.ds_base.specs.declared.processors.Proc.{Proc}
 use Rattle.ds_base.specs.declared.processors.Proc.TheVariants.{Nine, Seven}
 use Rattle.ds_base.specs.declared.processors.Raised.{Raised}
 use Rattle.ds_base.specs.declared.ticks.Tick.{Tick}
+use Rattle.ds_card.specs.CardPorts.{data_port_at}
+use Rattle.ds_card.specs.Cards.{CardState, card_after_read, card_due, card_due_for, card_written, read_raised, same_proc}
+use Rattle.ds_card.proofs.Schedules.{read_leaves_other, read_schedules, write_leaves_other, write_schedules}
 use Rattle.ds_dma.specs.States.{AreReadyLater, IsDma, channel_due}
 use Rattle.ds_dma.specs.declared.controls.DmaPort.{DmaPort}
 use Rattle.ds_dma.specs.declared.controls.DmaPort.TheVariants.{Source, Target, Control}
@@ -20,7 +23,7 @@ use Rattle.ds_math.specs.Dividers.{DividerState, division_ticks}
 use Rattle.ds_math.specs.Roots.{RootState}
 use Rattle.ds_runs.specs.Actors.{IsNumbered}
 use Rattle.ds_runs.specs.declared.actors.Actor as actor
-use Rattle.ds_runs.specs.declared.actors.Actor.TheVariants.{Video, Timer, Divider, SquareRoot, Geometry, Dma}
+use Rattle.ds_runs.specs.declared.actors.Actor.TheVariants.{Video, Timer, Divider, SquareRoot, Geometry, Card, Dma}
 use Rattle.ds_timers.specs.Timing.{TimerState, AreTimers, control_set, kept_control, reload_set, timer_at, timer_due}
 use Rattle.ds_timers.proofs.Changed.{control_schedules, control_set_is, reload_leaves, reload_set_is}
 use Rattle.ds_timers.proofs.Four.{one_reschedules}
@@ -29,14 +32,14 @@ use Rattle.gx_fifo.specs.GxStates.{AreWaiting, GxState, gx_written, is_stalled, 
 use Rattle.gx_fifo.proofs.Laws.{written_run, written_schedules, written_waiting}
 use Rattle.ds_ports.specs.Dues.{io_due}
 use Rattle.ds_ports.specs.Guards.{guarded_written, is_overfull}
-use Rattle.ds_ports.specs.Happenings.{IsIo, IsTold, Goes, LeavesGeometry, IsUnchanged, IsProcessorIo, HasOnlyLaterEvents, ReschedulesEach}
+use Rattle.ds_ports.specs.Happenings.{IsIo, IsTold, Goes, LeavesGeometry, LeavesTransfer, IsUnchanged, IsProcessorIo, HasOnlyLaterEvents, ReschedulesEach}
 use Rattle.ds_ports.specs.ProcessorIo.{ProcessorIoState, dma_written, haltcnt_written, kept_keycnt, keycnt_written, keys_hold, keys_told, processor_io_raised}
 use Rattle.ds_ports.specs.Ports.{port_read, port_refusal, port_written, unless_stopped}
 use Rattle.ds_ports.specs.RegisterMap.{IsSlot}
-use Rattle.ds_ports.specs.Registers.{after_write, gx_set, meaning_of}
-use Rattle.ds_ports.specs.Io.{IoState, both_raised, io_of, with_io_of}
+use Rattle.ds_ports.specs.Registers.{after_write, card_set, card_word_taken, gx_set, meaning_of}
+use Rattle.ds_ports.specs.Io.{IoState, both_raised, io_of, raised_to, with_io_of}
 use Rattle.ds_ports.specs.declared.registers.Register.{Register}
-use Rattle.ds_ports.specs.declared.registers.Register.TheVariants.{DisplayHalf, DisplayWord, Dmasad, Dmadad, Dmacnt, TmcntL, TmcntH, Keycnt, Ipcsync, Ipcfifocnt, Ipcfifosend, Ipcfiforecv, Ime, Ie, If, Divcnt, DivNumer, DivDenom, Sqrtcnt, SqrtParam, GxWord, GxCommand, Haltcnt}
+use Rattle.ds_ports.specs.declared.registers.Register.TheVariants.{DisplayHalf, DisplayWord, Dmasad, Dmadad, Dmacnt, TmcntL, TmcntH, Keycnt, Ipcsync, Ipcfifocnt, Ipcfifosend, Ipcfiforecv, Ime, Ie, If, Divcnt, DivNumer, DivDenom, Sqrtcnt, SqrtParam, GxWord, GxCommand, Auxspicnt, CardWord, CardData, Haltcnt}
 use Rattle.ds_ports.proofs.Covered.{are_all, read_leaves, write_leaves}
 use Rattle.ds_ports.proofs.Passed.{any_covered, any_register}
 use Rattle.ds_ports.proofs.HeldDues.{held_reschedules, stall_begins}
@@ -193,7 +196,7 @@ leaves_on proc a b c g h = record {
 }
 
 pub goes_nowhere : (proc : Proc) (now : Tick) (u : IoState) → IsProcessorIo (io_of u proc) → HasOnlyLaterEvents now (io_of u proc) → Goes proc now u u
-goes_nowhere proc now u is quiet = record { is = is; quiet = quiet; each = λ a l. inl refl; other = unchanged_same (io_of u (other_proc proc)); told = told_nothing (io_of u (other_proc proc)).irq; scan = refl; whole = refl; geometry = leaves_all proc u u refl refl }
+goes_nowhere proc now u is quiet = record { is = is; quiet = quiet; each = λ a l. inl refl; other = unchanged_same (io_of u (other_proc proc)); told = told_nothing (io_of u (other_proc proc)).irq; scan = refl; whole = refl; geometry = leaves_all proc u u refl refl; card = refl }
 
 pub goes_on : (proc : Proc) (now : Tick) (a b c : IoState) → Goes proc now a b → Goes proc now b c → Goes proc now a c
 goes_on proc now a b c g h = record {
@@ -210,19 +213,20 @@ goes_on proc now a b c g h = record {
   scan = h.scan ∙ g.scan;
   whole = h.whole ∙ g.whole;
   geometry = leaves_on proc a b c g.geometry h.geometry;
+  card = h.card ∙ g.card;
 }
 
 -- what changes the processor's own alone
 processor_io_goes : (proc : Proc) (now : Tick) (u : IoState) (processor_io : ProcessorIoState) → Stands now processor_io → Goes proc now u (with_io_of proc u processor_io)
 processor_io_goes proc now u processor_io s = by_proc proc (processor_io_each proc now u processor_io (processor_io_later now (io_of u proc) processor_io s)) where
   by_proc : (proc : Proc) → ReschedulesEach now u (with_io_of proc u processor_io) → Goes proc now u (with_io_of proc u processor_io)
-  by_proc Nine each = record { is = s.0; quiet = s.1; each = each; other = unchanged_same u.seven; told = told_nothing u.seven.irq; scan = refl; whole = refl; geometry = leaves_all Nine u (with_io_of Nine u processor_io) refl refl }
-  by_proc Seven each = record { is = s.0; quiet = s.1; each = each; other = unchanged_same u.nine; told = told_nothing u.nine.irq; scan = refl; whole = refl; geometry = leaves_all Seven u (with_io_of Seven u processor_io) refl refl }
+  by_proc Nine each = record { is = s.0; quiet = s.1; each = each; other = unchanged_same u.seven; told = told_nothing u.seven.irq; scan = refl; whole = refl; geometry = leaves_all Nine u (with_io_of Nine u processor_io) refl refl; card = refl }
+  by_proc Seven each = record { is = s.0; quiet = s.1; each = each; other = unchanged_same u.nine; told = told_nothing u.nine.irq; scan = refl; whole = refl; geometry = leaves_all Seven u (with_io_of Seven u processor_io) refl refl; card = refl }
 
 -- what changes neither's own
 shared_goes : (proc : Proc) (now : Tick) (u new : IoState) → ((each : Proc) → io_of new each ≡ io_of u each) → new.video.scan ≡ u.video.scan → new.video.whole ≡ u.video.whole
-    → LeavesGeometry proc u new → Stands now (io_of u proc) → ReschedulesEach now u new → Goes proc now u new
-shared_goes proc now u new same scan whole geometry s each = record {
+    → LeavesGeometry proc u new → LeavesTransfer proc u.card new.card → Stands now (io_of u proc) → ReschedulesEach now u new → Goes proc now u new
+shared_goes proc now u new same scan whole geometry card s each = record {
   is = subst IsProcessorIo (sym (same proc)) s.0;
   quiet = subst (HasOnlyLaterEvents now) (sym (same proc)) s.1;
   each = each;
@@ -231,6 +235,7 @@ shared_goes proc now u new same scan whole geometry s each = record {
   scan = scan;
   whole = whole;
   geometry = geometry;
+  card = card;
 }
 
 -- ---- what changes nothing but interrupt words, as a read: nothing is due otherwise than before
@@ -247,16 +252,17 @@ pub record AreUnchanged (old new : IoState) : Type 0 where
   pub whole : new.video.whole ≡ old.video.whole
   pub gx : new.gx ≡ old.gx
   pub released : new.released ≡ old.released
+  pub card : new.card ≡ old.card
 
 -- so what holds of a processor's own holds still
 pub unchanged_is : (old new : ProcessorIoState) → IsUnchanged old new → IsProcessorIo old → IsProcessorIo new
 unchanged_is old new l is = record { timers = subst AreTimers (sym l.timers) is.timers; dma = subst IsDma (sym l.dma) is.dma }
 
 pub all_unchanged : (u : IoState) → AreUnchanged u u
-all_unchanged u = record { processor_io = λ each. unchanged_same (io_of u each); told = λ each. told_nothing (io_of u each).irq; dues = λ a. refl; scan = refl; whole = refl; gx = refl; released = refl }
+all_unchanged u = record { processor_io = λ each. unchanged_same (io_of u each); told = λ each. told_nothing (io_of u each).irq; dues = λ a. refl; scan = refl; whole = refl; gx = refl; released = refl; card = refl }
 
 both_unchanged : (u : IoState) (ipc_after : IpcState) (raised : Raised) → AreIpcAtBoth raised → AreUnchanged u (both_raised (record u { ipc = ipc_after }) raised)
-both_unchanged u ipc_after raised ipc = record { processor_io = processor_io; told = told; dues = dues; scan = refl; whole = refl; gx = refl; released = refl } where
+both_unchanged u ipc_after raised ipc = record { processor_io = processor_io; told = told; dues = dues; scan = refl; whole = refl; gx = refl; released = refl; card = refl } where
   processor_io : (proc : Proc) → IsUnchanged (io_of u proc) (io_of (both_raised (record u { ipc = ipc_after }) raised) proc)
   processor_io Nine = raised_unchanged u.nine raised.nine
   processor_io Seven = raised_unchanged u.seven raised.seven
@@ -272,10 +278,115 @@ both_unchanged u ipc_after raised ipc = record { processor_io = processor_io; to
   dues (Dma Seven channel) = refl
   dues _ = refl
 
-pub unchanged_goes : (proc : Proc) (now : Tick) (old new : IoState) → IsProcessorIo (io_of old proc) → HasOnlyLaterEvents now (io_of old proc) → AreUnchanged old new → Goes proc now old new
-unchanged_goes proc now old new is quiet left =
-    let s = alike now (io_of old proc) (io_of new proc) (left.processor_io proc).timers (left.processor_io proc).dma (is, quiet) in
-    record { is = s.0; quiet = s.1; each = λ a l. inl (left.dues a); other = left.processor_io (other_proc proc); told = left.told (other_proc proc); scan = left.scan; whole = left.whole; geometry = leaves_all proc old new left.gx left.released }
+-- What a read at a tick leaves: all that holds a processor, geometry and the display; and each due tick, but that the card's next word is on its way.
+-- The other processor is told of IPC interrupts at most, and the transfer that it started stays.
+pub record ReadLeaves (proc : Proc) (now : Tick) (old new : IoState) : Type 0 where
+  pub processor_io : (each : Proc) → IsUnchanged (io_of old each) (io_of new each)
+  pub told : IsTold (io_of old (other_proc proc)).irq (io_of new (other_proc proc)).irq
+  pub each : ReschedulesEach now old new
+  pub scan : new.video.scan ≡ old.video.scan
+  pub whole : new.video.whole ≡ old.video.whole
+  pub gx : new.gx ≡ old.gx
+  pub released : new.released ≡ old.released
+  pub card : LeavesTransfer proc old.card new.card
+
+pub unchanged_reads : (proc : Proc) (now : Tick) (old new : IoState) → AreUnchanged old new → ReadLeaves proc now old new
+unchanged_reads proc now old new left = record {
+  processor_io = left.processor_io;
+  told = left.told (other_proc proc);
+  each = λ a l. inl (left.dues a);
+  scan = left.scan;
+  whole = left.whole;
+  gx = left.gx;
+  released = left.released;
+  card = ap (card_due_for (other_proc proc)) left.card;
+}
+
+pub read_goes : (proc : Proc) (now : Tick) (old new : IoState) → IsProcessorIo (io_of old proc) → HasOnlyLaterEvents now (io_of old proc)
+    → ReadLeaves proc now old new → Goes proc now old new
+read_goes proc now old new is quiet left =
+    let s = alike now (io_of old proc) (io_of new proc) (left.processor_io proc).timers (left.processor_io proc).dma (is, quiet) in record {
+      is = s.0;
+      quiet = s.1;
+      each = left.each;
+      other = left.processor_io (other_proc proc);
+      told = left.told;
+      scan = left.scan;
+      whole = left.whole;
+      geometry = leaves_all proc old new left.gx left.released;
+      card = left.card;
+    }
+
+pub unchanged_goes : (proc : Proc) (now : Tick) (old new : IoState) → IsProcessorIo (io_of old proc) → HasOnlyLaterEvents now (io_of old proc)
+    → AreUnchanged old new → Goes proc now old new
+unchanged_goes proc now old new is quiet left = read_goes proc now old new is quiet (unchanged_reads proc now old new left)
+
+-- ---- the card: what the processor does leaves the transfer that the other started
+
+other_apart : (proc : Proc) → same_proc (other_proc proc) proc ≡ false
+other_apart Nine = refl
+other_apart Seven = refl
+
+module _ (now : Tick) (u : IoState) (card : CardState) (later : Reschedules now (card_due u.card) (card_due card)) where
+  pub card_each : ReschedulesEach now u (record u { card = card })
+  card_each Card l = later
+  card_each (Timer Nine number) l = inl refl
+  card_each (Timer Seven number) l = inl refl
+  card_each (Dma Nine channel) l = inl refl
+  card_each (Dma Seven channel) l = inl refl
+  card_each _ l = inl refl
+
+  -- and bits of IF are raised at the processor
+  card_raised_each : (proc : Proc) (raised : ℕ) → ReschedulesEach now u (with_io_of proc (record u { card = card }) (processor_io_raised (io_of u proc) raised))
+  card_raised_each proc raised Card l = by_proc proc where
+    by_proc : (proc : Proc) → Reschedules now (card_due u.card) (card_due (with_io_of proc (record u { card = card }) (processor_io_raised (io_of u proc) raised)).card)
+    by_proc Nine = later
+    by_proc Seven = later
+  card_raised_each Nine raised (Timer Nine number) l = inl refl
+  card_raised_each Nine raised (Timer Seven number) l = inl refl
+  card_raised_each Nine raised (Dma Nine channel) l = inl refl
+  card_raised_each Nine raised (Dma Seven channel) l = inl refl
+  card_raised_each Seven raised (Timer Nine number) l = inl refl
+  card_raised_each Seven raised (Timer Seven number) l = inl refl
+  card_raised_each Seven raised (Dma Nine channel) l = inl refl
+  card_raised_each Seven raised (Dma Seven channel) l = inl refl
+  card_raised_each Nine raised _ l = inl refl
+  card_raised_each Seven raised _ l = inl refl
+
+-- a word is taken
+module _ (now : Tick) (u : IoState) where
+  taken_each : (proc : Proc) → ReschedulesEach now u (card_word_taken proc now u)
+  taken_each proc =
+      card_raised_each now u (card_after_read u.card proc data_port_at Word now) (read_schedules u.card proc data_port_at Word now) proc
+      (raised_to proc (read_raised u.card proc data_port_at Word))
+
+  taken_unchanged : (proc each : Proc) → IsUnchanged (io_of u each) (io_of (card_word_taken proc now u) each)
+  taken_unchanged Nine Nine = raised_unchanged u.nine (raised_to Nine (read_raised u.card Nine data_port_at Word))
+  taken_unchanged Nine Seven = unchanged_same u.seven
+  taken_unchanged Seven Nine = unchanged_same u.nine
+  taken_unchanged Seven Seven = raised_unchanged u.seven (raised_to Seven (read_raised u.card Seven data_port_at Word))
+
+  taken_leaves : (proc : Proc) → ReadLeaves proc now u (card_word_taken proc now u)
+  taken_leaves Nine = record {
+    processor_io = taken_unchanged Nine;
+    told = told_nothing u.seven.irq;
+    each = taken_each Nine;
+    scan = refl;
+    whole = refl;
+    gx = refl;
+    released = refl;
+    card = read_leaves_other u.card Seven Nine data_port_at Word now refl;
+  }
+  taken_leaves Seven = record {
+    processor_io = taken_unchanged Seven;
+    told = told_nothing u.nine.irq;
+    each = taken_each Seven;
+    scan = refl;
+    whole = refl;
+    gx = refl;
+    released = refl;
+    card = read_leaves_other u.card Nine Seven data_port_at Word now refl;
+  }
 
 -- ---- what a write of a register leaves
 
@@ -305,7 +416,7 @@ display_goes proc now u s width at value =
     let video = video_written proc u.video at width value in
     let same = written_scan proc u.video at width value in
     shared_goes proc now u (record u { video = video }) (shown_processor_io now u video same) same (written_whole proc u.video at width value)
-    (leaves_all proc u (record u { video = video }) refl refl) s (λ a l. inl (shown_dues now u video same a))
+    (leaves_all proc u (record u { video = video }) refl refl) refl s (λ a l. inl (shown_dues now u video same a))
 
 nine_or_seven : Nine ≡ Seven → ⊥
 nine_or_seven h = grind (arith, h)
@@ -334,11 +445,20 @@ module _ (now : Tick) (u : IoState) (number value : ℕ) where
   }
 
 gx_goes : (proc : Proc) (now : Tick) (u : IoState) (number value : ℕ) → Stands now (io_of u proc) → Goes proc now u (gx_set proc now u number value)
-gx_goes Nine now u number value s = shared_goes Nine now u (gx_set Nine now u number value) same refl refl (gx_leaves now u number value) s (gx_each now u number value) where
+gx_goes Nine now u number value s = shared_goes Nine now u (gx_set Nine now u number value) same refl refl (gx_leaves now u number value) refl s (gx_each now u number value) where
   same : (each : Proc) → io_of (gx_set Nine now u number value) each ≡ io_of u each
   same Nine = refl
   same Seven = refl
 gx_goes Seven now u number value s = goes_nowhere Seven now u s.0 s.1
+
+-- one of the card's
+card_goes : (proc : Proc) (now : Tick) (u : IoState) → Stands now (io_of u proc) → (width : Width) (number value : ℕ)
+    → Goes proc now u (card_set width proc now u number value)
+card_goes proc now u s width number value =
+    let card = card_written u.card proc number width value now in
+    shared_goes proc now u (record u { card = card }) (λ each. refl) refl refl (leaves_all proc u (record u { card = card }) refl refl)
+    (write_leaves_other u.card (other_proc proc) proc number width value now (other_apart proc)) s
+    (card_each now u card (write_schedules u.card proc number width value now))
 
 register_goes : (proc : Proc) (now : Tick) (u : IoState) → Stands now (io_of u proc) → (register : Register) (number : ℕ)
     → number < (meaning_of register).count → (value : ℕ) → Goes proc now u (after_write proc now u register number value)
@@ -359,21 +479,23 @@ register_goes proc now u s Ipcsync number l value = unchanged_goes proc now u _ 
 register_goes proc now u s Ipcfifocnt number l value = unchanged_goes proc now u _ s.0 s.1 (both_unchanged u _ _ (control_ipc u.ipc proc (value % 2 ^ 16)))
 register_goes proc now u s Ipcfifosend number l value = unchanged_goes proc now u _ s.0 s.1 (both_unchanged u _ _ (send_ipc u.ipc proc))
 register_goes proc now u s Divcnt number l value =
-    shared_goes proc now u _ (λ each. refl) refl refl (leaves_all proc u _ refl refl) s (divider_each now u (after_write proc now u Divcnt number value).divider (inr (division_later now _)))
+    shared_goes proc now u _ (λ each. refl) refl refl (leaves_all proc u _ refl refl) refl s (divider_each now u (after_write proc now u Divcnt number value).divider (inr (division_later now _)))
 register_goes proc now u s DivNumer number l value =
-    shared_goes proc now u _ (λ each. refl) refl refl (leaves_all proc u _ refl refl) s (divider_each now u (after_write proc now u DivNumer number value).divider (inr (division_later now _)))
+    shared_goes proc now u _ (λ each. refl) refl refl (leaves_all proc u _ refl refl) refl s (divider_each now u (after_write proc now u DivNumer number value).divider (inr (division_later now _)))
 register_goes proc now u s DivDenom number l value =
-    shared_goes proc now u _ (λ each. refl) refl refl (leaves_all proc u _ refl refl) s (divider_each now u (after_write proc now u DivDenom number value).divider (inr (division_later now _)))
+    shared_goes proc now u _ (λ each. refl) refl refl (leaves_all proc u _ refl refl) refl s (divider_each now u (after_write proc now u DivDenom number value).divider (inr (division_later now _)))
 register_goes proc now u s Sqrtcnt number l value =
-    shared_goes proc now u _ (λ each. refl) refl refl (leaves_all proc u _ refl refl) s (root_each now u (after_write proc now u Sqrtcnt number value).root (inr (root_later now)))
+    shared_goes proc now u _ (λ each. refl) refl refl (leaves_all proc u _ refl refl) refl s (root_each now u (after_write proc now u Sqrtcnt number value).root (inr (root_later now)))
 register_goes proc now u s SqrtParam number l value =
-    shared_goes proc now u _ (λ each. refl) refl refl (leaves_all proc u _ refl refl) s (root_each now u (after_write proc now u SqrtParam number value).root (inr (root_later now)))
+    shared_goes proc now u _ (λ each. refl) refl refl (leaves_all proc u _ refl refl) refl s (root_each now u (after_write proc now u SqrtParam number value).root (inr (root_later now)))
 register_goes proc now u s DisplayHalf number l value = display_goes proc now u s Half number value
 register_goes proc now u s DisplayWord number l value = display_goes proc now u s Word number value
 register_goes proc now u s GxWord number l value = gx_goes proc now u number value s
 register_goes proc now u s GxCommand number l value = gx_goes proc now u number value s
+register_goes proc now u s Auxspicnt number l value = card_goes proc now u s Half number value
+register_goes proc now u s CardWord number l value = card_goes proc now u s Word number value
 register_goes proc now u s register number l value =
-    shared_goes proc now u (after_write proc now u register number value) (λ each. refl) refl refl (leaves_all proc u _ refl refl) s (λ a m. inl refl)
+    shared_goes proc now u (after_write proc now u register number value) (λ each. refl) refl refl (leaves_all proc u _ refl refl) refl s (λ a m. inl refl)
 
 -- ---- accesses
 
@@ -400,14 +522,19 @@ put_goes proc now old new at width value is_new is quiet =
     (unless_goes proc now (port_refusal proc old at width value) old (port_written proc now old at width value) is quiet
     (write_goes proc now old at width value is quiet)))
 
--- ---- reads: nothing is due otherwise than before
+-- ---- reads
 
-register_unchanged : (proc : Proc) (u : IoState) (register : Register) → AreUnchanged u ((meaning_of register).after_read proc u)
-register_unchanged proc u Ipcfiforecv = both_unchanged u _ _ (receive_ipc u.ipc proc)
-register_unchanged proc u _ = all_unchanged u
+pub all_left : (proc : Proc) (now : Tick) (u : IoState) → ReadLeaves proc now u u
+all_left proc now u = unchanged_reads proc now u u (all_unchanged u)
 
-pub port_unchanged : (proc : Proc) (u : IoState) (at : ℕ) (width : Width) → AreUnchanged u (port_read proc u at width)
-port_unchanged proc u at width = read_leaves any_register proc AreUnchanged all_unchanged (λ x r h. register_unchanged proc x r) u at width (any_covered proc at width)
+register_read : (proc : Proc) (now : Tick) (u : IoState) (register : Register) → ReadLeaves proc now u ((meaning_of register).after_read proc now u)
+register_read proc now u Ipcfiforecv = unchanged_reads proc now u _ (both_unchanged u _ _ (receive_ipc u.ipc proc))
+register_read proc now u CardData = taken_leaves now u proc
+register_read proc now u _ = all_left proc now u
+
+pub port_leaves : (proc : Proc) (now : Tick) (u : IoState) (at : ℕ) (width : Width) → ReadLeaves proc now u (port_read proc now u at width)
+port_leaves proc now u at width =
+    read_leaves any_register proc now (ReadLeaves proc now) (all_left proc now) (λ x r h. register_read proc now x r) u at width (any_covered proc at width)
 
 -- what holds of one processor and of the other holds of both
 pub of_both : (P : Proc → Type 0) (proc : Proc) → P proc → P (other_proc proc) → (each : Proc) → P each

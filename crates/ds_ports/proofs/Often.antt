@@ -84,17 +84,17 @@ if_word Nine now u l = all_of_word u.nine.irq.if_ l
 if_word Seven now u l = all_of_word u.seven.irq.if_ l
 
 -- a read of their words leaves all
-pub ime_left : (proc : Proc) (u : IoState) → port_read proc u 0x208 Word ≡ u
+pub ime_left : (proc : Proc) (now : Tick) (u : IoState) → port_read proc now u 0x208 Word ≡ u
 unfolding port_read slot_of
-ime_left Nine u = refl
-ime_left Seven u = refl
+ime_left Nine now u = refl
+ime_left Seven now u = refl
 
-pub ie_left : (proc : Proc) (u : IoState) → port_read proc u 0x210 Word ≡ u
+pub ie_left : (proc : Proc) (now : Tick) (u : IoState) → port_read proc now u 0x210 Word ≡ u
 unfolding port_read slot_of
-ie_left Nine u = refl
-ie_left Seven u = refl
+ie_left Nine now u = refl
+ie_left Seven now u = refl
 
-pub if_left : (proc : Proc) (u : IoState) → port_read proc u 0x214 Word ≡ u
+pub if_left : (proc : Proc) (now : Tick) (u : IoState) → port_read proc now u 0x214 Word ≡ u
 unfolding port_read slot_of
-if_left Nine u = refl
-if_left Seven u = refl
+if_left Nine now u = refl
+if_left Seven now u = refl

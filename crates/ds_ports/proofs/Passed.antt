@@ -4,6 +4,7 @@ use Rattle.ds_base.specs.declared.memories.Width.{Width}
 use Rattle.ds_base.specs.declared.processors.Proc.{Proc}
 use Rattle.ds_base.specs.declared.processors.Proc.TheVariants.{Nine, Seven}
 use Rattle.ds_base.specs.declared.ticks.Tick.{Tick}
+use Rattle.ds_card.specs.Cards.{CardState}
 use Rattle.ds_dma.specs.States.{DmaState}
 use Rattle.ds_ipc.specs.Sides.{Side}
 use Rattle.ds_math.specs.Dividers.{DividerState}
@@ -21,8 +22,8 @@ use Rattle.ds_ports.specs.Registers.{after_write, meaning_of}
 use Rattle.ds_ports.specs.declared.registers.Register.{Register}
 use Rattle.ds_ports.proofs.Covered.{Covers, Of, Passes, ReadTheSame, covers_all, read_leaves, write_leaves}
 use Rattle.ds_ports.proofs.Touched as touched
-use Rattle.ds_ports.specs.Touches.{UnitPart, Display, VideoMemory, BankControls, WramControl, IpcNine, IpcSeven, Pressed, Fill, Card, Division, SquareRoot, Geometry, Released, IrqNine, IrqSeven, TimersNine, TimersSeven, KeycntNine, KeycntSeven, HaltNine, HaltSeven, DmaNine, DmaSeven, among, beyond, both_sides, changes_some, touches_none, is_part, io_graft, none_of, touch_of}
-use Rattle.ds_ports.proofs.Touched.{unchanged, untouched}
+use Rattle.ds_ports.specs.Touches.{UnitPart, Display, VideoMemory, BankControls, WramControl, IpcNine, IpcSeven, Pressed, Fill, Card, Division, SquareRoot, Geometry, Released, IrqNine, IrqSeven, TimersNine, TimersSeven, KeycntNine, KeycntSeven, HaltNine, HaltSeven, DmaNine, DmaSeven, among, beyond, changes_some, touches_none, is_part, io_graft, none_of, touch_of}
+use Rattle.ds_ports.proofs.Touched.{read_parts, unchanged, untouched}
 
 -- The units behind the ports have parts; what a register doesn't touch, an access of it passes.
 
@@ -44,6 +45,7 @@ Field HaltNine = Bool
 Field HaltSeven = Bool
 Field DmaNine = DmaState
 Field DmaSeven = DmaState
+Field Card = CardState
 Field _ = ℕ
 
 abbrev pub io_get : IoState → (p : UnitPart) → Field p
@@ -55,7 +57,7 @@ io_get s IpcNine = s.ipc.nine
 io_get s IpcSeven = s.ipc.seven
 io_get s Pressed = s.pressed
 io_get s Fill = s.fill
-io_get s Card = s.romctrl
+io_get s Card = s.card
 io_get s Division = s.divider
 io_get s SquareRoot = s.root
 io_get s Geometry = s.gx
@@ -83,7 +85,7 @@ io_whole s t h = λ i. record {
   ipc = record { nine = h IpcNine i; seven = h IpcSeven i };
   pressed = h Pressed i;
   fill = h Fill i;
-  romctrl = h Card i;
+  card = h Card i;
   divider = h Division i;
   root = h SquareRoot i;
   gx = h Geometry i;
@@ -161,7 +163,7 @@ module _ (P : UnitPart → Bool) (t : IoState) (proc : Proc) where
   passes = record {
     kept = λ u r n h. tells_so r h (λ x. (meaning_of r).kept proc x n) u (λ x. touched.kept x u (record { 0 = 0 }) n 0 proc r);
     refusal = λ u r n word h. tells_so r h (λ x. (meaning_of r).refusal proc x n word) u (λ x. touched.refusal x u (record { 0 = 0 }) n word proc r);
-    after_read = λ u r h. leaves_so r h (λ x. (meaning_of r).after_read proc x) u (λ x. touched.after_read x u (record { 0 = 0 }) 0 0 proc r);
+    after_read = λ now u r h. leaves_so r h (λ x. (meaning_of r).after_read proc now x) u (λ x. touched.after_read x u now 0 0 proc r);
     written = λ now u r n word h. leaves_so r h (λ x. after_write proc now x r n word) u (λ x. touched.written x u now n word proc r);
   }
 
@@ -199,10 +201,10 @@ module _ (p : UnitPart) (proc : Proc) where
   write_left now u at width value h =
       write_leaves (Of (keeps_part p proc)) proc now (λ x y. io_get y p ≡ io_get x p) (λ x. refl) (λ x y z k l. l ∙ k) (λ x slot word k. row_leaves now x slot.register slot.number word k) u at width value h
 
-  read_row : (u : IoState) (r : Register) → among both_sides p ≡ false → io_get ((meaning_of r).after_read proc u) p ≡ io_get u p
-  read_row u r h = (changes_by units (among both_sides) u ((meaning_of r).after_read proc u) refl (touched.read_left u (record { 0 = 0 }) 0 0 proc r)).others p h
+  read_row : (now : Tick) (u : IoState) (r : Register) → among read_parts p ≡ false → io_get ((meaning_of r).after_read proc now u) p ≡ io_get u p
+  read_row now u r h = (changes_by units (among read_parts) u ((meaning_of r).after_read proc now u) refl (touched.read_left u now 0 0 proc r)).others p h
 
--- and a read leaves all but what passes between the processors
+-- and a read leaves all but the card and what passes between the processors
 abbrev pub any_register : Register → Bool
 any_register r = true
 
@@ -210,6 +212,7 @@ pub any_covered : (proc : Proc) (at : ℕ) (width : Width) → Covers any_regist
 any_covered Nine at width = covers_all any_register Nine at width refl
 any_covered Seven at width = covers_all any_register Seven at width refl
 
-pub read_left : (p : UnitPart) (proc : Proc) (u : IoState) (at : ℕ) (width : Width) → among both_sides p ≡ false → io_get (port_read proc u at width) p ≡ io_get u p
-read_left p proc u at width h =
-    read_leaves any_register proc (λ x y. io_get y p ≡ io_get x p) (λ x. refl) (λ x r k. read_row p proc x r h) u at width (any_covered proc at width)
+pub read_left : (p : UnitPart) (proc : Proc) (now : Tick) (u : IoState) (at : ℕ) (width : Width) → among read_parts p ≡ false
+    → io_get (port_read proc now u at width) p ≡ io_get u p
+read_left p proc now u at width h =
+    read_leaves any_register proc now (λ x y. io_get y p ≡ io_get x p) (λ x. refl) (λ x r k. read_row p proc now x r h) u at width (any_covered proc at width)

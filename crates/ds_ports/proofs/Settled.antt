@@ -10,17 +10,20 @@ use Rattle.ds_base.specs.declared.processors.Raised.{Raised}
 use Rattle.ds_base.specs.declared.ticks.Tick.{Tick}
 use Rattle.ds_base.specs.Interrupts.{interrupt_bit}
 use Rattle.ds_base.specs.declared.interrupts.Interrupt.TheVariants.{Keys}
+use Rattle.ds_base.specs.declared.memories.Width.TheVariants.{Word}
+use Rattle.ds_card.specs.CardPorts.{data_port_at}
+use Rattle.ds_card.specs.Cards.{read_raised}
 use Rattle.ds_ipc.specs.Ipcs.{IpcState, ipc_control_raised, ipc_control_written, ipc_receive_raised, ipc_received, ipc_send_raised, ipc_sent, ipc_sync_raised, ipc_sync_written}
 use Rattle.ds_timers.specs.Irqs.{events, level}
 use Rattle.gx_fifo.specs.GxStates.{gx_level}
 use Rattle.ds_ports.specs.Inside.{moves_dues}
 use Rattle.ds_ports.specs.ProcessorIo.{if_written, keycnt_written, keys_hold, kept_keycnt, processor_io_raised}
 use Rattle.ds_ports.specs.Registers.{after_write, meaning_of}
-use Rattle.ds_ports.specs.Io.{IoState, both_raised, is_settled}
+use Rattle.ds_ports.specs.Io.{IoState, both_raised, is_settled, raised_to}
 use Rattle.ds_ports.specs.Touches as touches
 use Rattle.ds_ports.specs.Touches.{UnitPart, DmaNine, IrqNine, Released, among, changes_some}
 use Rattle.ds_ports.specs.declared.registers.Register.{Register}
-use Rattle.ds_ports.specs.declared.registers.Register.TheVariants.{Ie, If, Ime, Ipcfifocnt, Ipcfiforecv, Ipcfifosend, Ipcsync, Keycnt}
+use Rattle.ds_ports.specs.declared.registers.Register.TheVariants.{Ie, If, Ime, Ipcfifocnt, Ipcfiforecv, Ipcfifosend, Ipcsync, Keycnt, CardData}
 use Rattle.ds_ports.proofs.Passed.{first_false, stays_by_row}
 
 -- What leaves nothing to settle where nothing was: reads, and writes that move no due tick. Events that are raised or acknowledged never touch the level's bit.
@@ -111,9 +114,12 @@ nine_acked u word h =
 passed_raised : (u : IoState) (ipc : IpcState) (raised : Raised) → is_settled u ≡ true → is_settled (both_raised (record u { ipc = ipc }) raised) ≡ true
 passed_raised u ipc raised h = nine_raised u raised.nine h
 
-pub reads_leave_settled : (proc : Proc) (u : IoState) (register : Register) → is_settled u ≡ true → is_settled ((meaning_of register).after_read proc u) ≡ true
-reads_leave_settled proc u Ipcfiforecv h = passed_raised u (ipc_received u.ipc proc) (ipc_receive_raised u.ipc proc) h
-reads_leave_settled proc u _ h = h
+pub reads_leave_settled : (proc : Proc) (now : Tick) (u : IoState) (register : Register) → is_settled u ≡ true
+    → is_settled ((meaning_of register).after_read proc now u) ≡ true
+reads_leave_settled proc now u Ipcfiforecv h = passed_raised u (ipc_received u.ipc proc) (ipc_receive_raised u.ipc proc) h
+reads_leave_settled Nine now u CardData h = nine_raised u (raised_to Nine (read_raised u.card Nine data_port_at Word)) h
+reads_leave_settled Seven now u CardData h = h
+reads_leave_settled proc now u _ h = h
 
 keys_settled : (u : IoState) (value : ℕ) → is_settled u ≡ true → is_settled (record u { nine = keycnt_written u.nine u.pressed value }) ≡ true
 keys_settled u value h = go (keys_hold (kept_keycnt value) u.pressed) where

@@ -1,4 +1,4 @@
-use Rattle.std.proofs.Common.{ℕ, ◌≡◌, ◌==◌, ◌%◌, ◌^◌, Bool, true, false, if◌then◌else◌, ◌++◌, refl}
+use Rattle.std.proofs.Common.{ℕ, ◌≡◌, ◌==◌, ◌%◌, ◌^◌, Bool, true, false, if◌then◌else◌, List, ◌∷◌, ◌++◌, refl}
 use Rattle.ds_base.specs.Bits.{bits}
 use Rattle.ds_base.specs.Interrupts.{interrupt_bit}
 use Rattle.ds_base.specs.declared.interrupts.Interrupt.TheVariants.{Keys}
@@ -8,7 +8,7 @@ use Rattle.ds_base.specs.declared.ticks.Tick.{Tick}
 use Rattle.ds_ports.specs.Io.{IoState, io_of, with_io_of}
 use Rattle.ds_ports.specs.ProcessorIo.{ProcessorIoState, kept_keycnt, keys_hold, processor_io_raised}
 use Rattle.ds_ports.specs.Registers.{after_write, meaning_of}
-use Rattle.ds_ports.specs.Touches.{UnitPart, beyond, both_sides, io_graft, touch_of}
+use Rattle.ds_ports.specs.Touches.{UnitPart, Card, beyond, both_sides, io_graft, touch_of}
 use Rattle.ds_ports.specs.declared.registers.Register.{Register}
 use Rattle.ds_ports.specs.declared.registers.Register.TheVariants.{Haltcnt, Ie, Keycnt}
 
@@ -64,11 +64,15 @@ module _ (t u : IoState) (now : Tick) (n word : ℕ) where
   refusal Nine _ = refl
   refusal Seven _ = refl
 
-  pub after_read : (proc : Proc) (r : Register) → (meaning_of r).after_read proc (io_graft (untouched proc r) t u) ≡ io_graft (untouched proc r) t ((meaning_of r).after_read proc u)
+  pub after_read : (proc : Proc) (r : Register)
+      → (meaning_of r).after_read proc now (io_graft (untouched proc r) t u) ≡ io_graft (untouched proc r) t ((meaning_of r).after_read proc now u)
   after_read Nine Ie = refl
   after_read Seven Ie = refl
   after_read Nine _ = refl
   after_read Seven _ = refl
+
+abbrev pub read_parts : List UnitPart
+read_parts = Card ∷ both_sides
 
 -- and it changes no more
 abbrev pub unchanged : Proc → Register → UnitPart → Bool
@@ -95,8 +99,8 @@ module _ (u : IoState) (now : Tick) (n word : ℕ) where
   left Nine _ = refl
   left Seven _ = refl
 
-  -- a read changes nothing but what passes between the processors
-  pub read_left : (proc : Proc) (r : Register) → io_graft (beyond both_sides) u ((meaning_of r).after_read proc u) ≡ (meaning_of r).after_read proc u
+  -- a read changes nothing but the card and what passes between the processors
+  pub read_left : (proc : Proc) (r : Register) → io_graft (beyond read_parts) u ((meaning_of r).after_read proc now u) ≡ (meaning_of r).after_read proc now u
   read_left Nine Ie = refl
   read_left Seven Ie = refl
   read_left Nine _ = refl

@@ -28,21 +28,22 @@ value_whole proc now u at Byte slot h = rw (there Byte (slot_of proc at) slot h)
 value_whole proc now u at Half slot h = rw h refl
 value_whole proc now u at Word slot h = rw h refl
 
-pub read_whole : (proc : Proc) (u : IoState) (at : ℕ) (slot : Slot) → whole_in Word (slot_of proc at) ≡ Some slot → port_read proc u at Word ≡ (meaning_of slot.register).after_read proc u
+pub read_whole : (proc : Proc) (now : Tick) (u : IoState) (at : ℕ) (slot : Slot) → whole_in Word (slot_of proc at) ≡ Some slot
+    → port_read proc now u at Word ≡ (meaning_of slot.register).after_read proc now u
 unfolding port_read
-read_whole proc u at slot h = rw h refl
+read_whole proc now u at slot h = rw h refl
 
-pub read_narrow : (proc : Proc) (u : IoState) (at : ℕ) (width : Width) → is_narrow width ≡ true → port_read proc u at width ≡ u
+pub read_narrow : (proc : Proc) (now : Tick) (u : IoState) (at : ℕ) (width : Width) → is_narrow width ≡ true → port_read proc now u at width ≡ u
 unfolding port_read
-read_narrow proc u at Byte h = refl
-read_narrow proc u at Half h = refl
-read_narrow proc u at Word h = absurd (grind (arith, h))
+read_narrow proc now u at Byte h = refl
+read_narrow proc now u at Half h = refl
+read_narrow proc now u at Word h = absurd (grind (arith, h))
 
-pub read_apart : (proc : Proc) (u : IoState) (at : ℕ) (width : Width) → whole_in width (slot_of proc at) ≡ None → port_read proc u at width ≡ u
+pub read_apart : (proc : Proc) (now : Tick) (u : IoState) (at : ℕ) (width : Width) → whole_in width (slot_of proc at) ≡ None → port_read proc now u at width ≡ u
 unfolding port_read
-read_apart proc u at Byte h = refl
-read_apart proc u at Half h = refl
-read_apart proc u at Word h = rw h refl
+read_apart proc now u at Byte h = refl
+read_apart proc now u at Half h = refl
+read_apart proc now u at Word h = rw h refl
 
 pub refusal_whole : (proc : Proc) (u : IoState) (at : ℕ) (width : Width) (value : ℕ) (slot : Slot) → whole_in width (slot_of proc at) ≡ Some slot
     → port_refusal proc u at width value ≡ slot_refusal proc u width slot value

@@ -3,6 +3,7 @@ use Rattle.ds_base.specs.declared.processors.Proc.{Proc}
 use Rattle.ds_base.specs.declared.processors.Proc.TheVariants.{Nine, Seven}
 use Rattle.ds_base.specs.declared.ticks.Due.{Due}
 use Rattle.ds_base.specs.declared.ticks.Tick.{Tick}
+use Rattle.ds_card.specs.Cards.{card_due}
 use Rattle.ds_dma.specs.States.{channel_due}
 use Rattle.ds_runs.specs.declared.actors.Actor as actor
 use Rattle.ds_runs.specs.declared.actors.Actor.TheVariants.{KeyScript, Video, Timer, Divider, SquareRoot, Geometry, Card, Dma, Processor}
@@ -28,8 +29,7 @@ abbrev pub dma_due_in : IoState → Proc → ℕ → Option Tick
 dma_due_in u Nine channel = held_due (is_stalled u.gx) u.released (channel_due u.nine.dma channel)
 dma_due_in u Seven channel = channel_due u.seven.dma channel
 
--- when an actor behind the ports is due; the key script and the processors stand elsewhere, and are never due here, nor is the card, which isn't
--- built yet
+-- when an actor behind the ports is due; the key script and the processors stand elsewhere, and are never due here
 abbrev pub due_in_io : IoState → actor.Actor → Option Tick
 due_in_io u Video = Some (scan_due_tick u.video.scan)
 due_in_io u (Timer proc number) = timer_due (timer_at (io_of u proc).timers number)
@@ -38,7 +38,7 @@ due_in_io u SquareRoot = u.root.due
 due_in_io u Geometry = u.gx.due
 due_in_io u (Dma proc channel) = dma_due_in u proc channel
 due_in_io u KeyScript = None
-due_in_io u Card = None
+due_in_io u Card = card_due u.card
 due_in_io u (Processor proc) = None
 
 abbrev pub io_due : actor.Actor → IoState → Option Tick

@@ -5,6 +5,7 @@ use Rattle.ds_base.specs.declared.interrupts.Interrupt.TheVariants.{IpcSync, Sen
 use Rattle.ds_base.specs.declared.processors.Proc.{Proc}
 use Rattle.ds_base.specs.declared.processors.Proc.TheVariants.{Seven}
 use Rattle.ds_base.specs.declared.ticks.Tick.{Tick}
+use Rattle.ds_card.specs.Cards.{CardState, card_due_for}
 use Rattle.ds_dma.specs.States.{AreReadyLater, IsDma}
 use Rattle.ds_ipc.specs.Ipcs.{other_proc}
 use Rattle.ds_runs.specs.Actors.{IsNumbered}
@@ -71,6 +72,10 @@ pub record LeavesGeometry (proc : Proc) (old new : IoState) : Type 0 where
   pub stall : is_stalled old.gx ≡ true → is_stalled new.gx ≡ true
   pub of_seven : proc ≡ Seven → new.gx ≡ old.gx
 
+-- and of the card: the transfer that the other processor started, if one is busy, is due as it was, and none of that processor's begins
+abbrev pub LeavesTransfer : Proc → CardState → CardState → Type 0
+LeavesTransfer proc old new = card_due_for (other_proc proc) new ≡ card_due_for (other_proc proc) old
+
 -- what accesses of a processor, or of a channel of it, at a tick make of the units: each due tick is as it was or later, and the other processor is
 -- told of the IPC interrupts and of nothing else; the display is where it was, and so is its last whole frame
 pub record Goes (proc : Proc) (now : Tick) (old new : IoState) : Type 0 where
@@ -82,3 +87,4 @@ pub record Goes (proc : Proc) (now : Tick) (old new : IoState) : Type 0 where
   pub scan : new.video.scan ≡ old.video.scan
   pub whole : new.video.whole ≡ old.video.whole
   pub geometry : LeavesGeometry proc old new
+  pub card : LeavesTransfer proc old.card new.card

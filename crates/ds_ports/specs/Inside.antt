@@ -11,14 +11,14 @@ use Rattle.ds_ports.specs.ProcessorIo.{ProcessorIoState, control_written, dma_wr
 use Rattle.ds_ports.specs.Touches as touches
 use Rattle.ds_ports.specs.Touches.{UnitPart, Division, DmaNine, DmaSeven, Released, TimersNine, TimersSeven, among, changes_some}
 use Rattle.ds_ports.specs.declared.registers.Register.{Register}
-use Rattle.ds_ports.specs.declared.registers.Register.TheVariants.{DisplayHalf, DisplayWord, GxWord, GxCommand, Dmasad, Dmadad, Dmacnt, TmcntL, TmcntH, Keycnt, Ime, Ie, If, Haltcnt, Vramcnt, Vramstat, Divcnt, DivNumer, DivDenom, DivResult, DivremResult, Sqrtcnt, SqrtResult, SqrtParam}
+use Rattle.ds_ports.specs.declared.registers.Register.TheVariants.{DisplayHalf, DisplayWord, GxWord, GxCommand, Dmasad, Dmadad, Dmacnt, TmcntL, TmcntH, Keycnt, Ime, Ie, If, Haltcnt, Vramcnt, Vramstat, Divcnt, DivNumer, DivDenom, DivResult, DivremResult, Sqrtcnt, SqrtResult, SqrtParam, Auxspicnt, CardWord, CardData}
 
 -- What the code's parts say of one another. No public clause speaks of it.
 
 -- a write of a register may change when something is due, or leave something to settle: it changes one of these parts of the units. The display is
 -- due too, but by its scan, which no register changes. (Both processors' registers of a name change such parts, or none of them does)
 abbrev pub moving_parts : List UnitPart
-moving_parts = TimersNine ∷ TimersSeven ∷ Division ∷ touches.SquareRoot ∷ touches.Geometry ∷ Released ∷ DmaNine ∷ DmaSeven ∷ []
+moving_parts = TimersNine ∷ TimersSeven ∷ Division ∷ touches.SquareRoot ∷ touches.Geometry ∷ touches.Card ∷ Released ∷ DmaNine ∷ DmaSeven ∷ []
 
 abbrev pub moves_dues : Register → Bool
 moves_dues register = changes_some (among moving_parts) Nine register
@@ -55,7 +55,7 @@ is_own _ = false
 unfoldable pub first_with : Option Tick → IoState → Option Due
 first_with geometry u = first_from 1 (dues_with geometry u)
 
--- a register is video's, the maths unit's or geometry's
+-- a register is video's, the maths unit's, geometry's or the card's
 abbrev pub is_of_unit : Register → Bool
 is_of_unit DisplayHalf = true
 is_of_unit DisplayWord = true
@@ -71,4 +71,7 @@ is_of_unit SqrtResult = true
 is_of_unit SqrtParam = true
 is_of_unit GxWord = true
 is_of_unit GxCommand = true
+is_of_unit Auxspicnt = true
+is_of_unit CardWord = true
+is_of_unit CardData = true
 is_of_unit _ = false

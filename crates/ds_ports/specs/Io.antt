@@ -3,10 +3,11 @@ use Rattle.ds_base.specs.declared.processors.Proc.{Proc}
 use Rattle.ds_base.specs.declared.processors.Proc.TheVariants.{Nine, Seven}
 use Rattle.ds_base.specs.declared.processors.Raised.{Raised}
 use Rattle.ds_base.specs.declared.ticks.Tick.{Tick}
+use Rattle.ds_card.specs.Cards.{CardState, card_after_event, card_at_boot, card_due, card_starter, event_raised, event_readies}
 use Rattle.ds_dma.specs.declared.controls.Cause.{Cause}
 use Rattle.ds_dma.specs.declared.controls.Cause.TheVariants.{VBlank, HBlank}
 use Rattle.ds_dma.specs.declared.controls.Cause.TheVariants as causes
-use Rattle.ds_dma.specs.States.{awaits_geometry, dma_due}
+use Rattle.ds_dma.specs.States.{awaits_geometry, dma_due, dma_triggered}
 use Rattle.ds_dma.specs.declared.dma.DmaDue.{DmaDue}
 use Rattle.ds_ipc.specs.Ipcs.{IpcState, ipc_at_boot}
 use Rattle.ds_math.specs.Dividers.{DividerState, divider_at_boot, division_finished}
@@ -25,7 +26,7 @@ use Rattle.vram_banks.specs.Cells.{Banks, blank_banks}
 -- What stands behind the ports.
 
 -- the display; video memory with its controls; WRAMCNT, which shares out the shared work RAM (GBATEK, "DS Memory Control"); what passes between the
--- processors; the keys that are pressed; the four words of DMA0FILL to DMA3FILL; ROMCTRL, which both processors share; the divider and the square
+-- processors; the keys that are pressed; the four words of DMA0FILL to DMA3FILL; the card; the divider and the square
 -- root unit; the geometry engine with what waits for it; the tick before which ARM9's DMA isn't due, which is the one after the geometry command that
 -- ended the last stall while that holds a channel back, and else 0; and what each processor has of its own
 pub record IoState : Type 0 where
@@ -35,7 +36,7 @@ pub record IoState : Type 0 where
   pub ipc : IpcState
   pub pressed : ℕ
   pub fill : List ℕ
-  pub romctrl : ℕ
+  pub card : CardState
   pub divider : DividerState
   pub root : RootState
   pub gx : GxState
@@ -55,7 +56,7 @@ io_at_boot = record {
   ipc = ipc_at_boot;
   pressed = 0;
   fill = 0 ∷ 0 ∷ 0 ∷ 0 ∷ [];
-  romctrl = 0;
+  card = card_at_boot;
   divider = divider_at_boot;
   root = root_at_boot;
   gx = gx_at_boot;
@@ -83,6 +84,11 @@ with_io_of Seven u processor_io = record u { seven = processor_io }
 -- bits of IF are raised at both processors
 abbrev pub both_raised : IoState → Raised → IoState
 both_raised u raised = record u { nine = processor_io_raised u.nine raised.nine; seven = processor_io_raised u.seven raised.seven }
+
+-- those that are raised at a processor
+abbrev pub raised_to : Proc → Raised → ℕ
+raised_to Nine raised = raised.nine
+raised_to Seven raised = raised.seven
 
 -- other keys are pressed
 abbrev pub keys_pressed : IoState → ℕ → IoState
@@ -123,6 +129,27 @@ abbrev pub video_done : List ℕ → List ℕ → IoState → IoState
 video_done palette oam u =
     unless_stop (video_stop oam u.video)
     (shown_to_others (video_shown u.video) (scan_due_tick u.video.scan) (record u { video = video_after_event u.vram palette oam u.video })) u
+
+-- The card's event, for the cartridge's file: a word is ready, which triggers the channels that wait for it, or a transfer without words ends, which
+-- raises an interrupt; both at the processor that started the transfer alone (GBATEK, "DS Cartridge I/O Ports"; whose channels are our choice)
+abbrev pub triggered_if : Bool → Cause → Tick → ProcessorIoState → ProcessorIoState
+triggered_if triggers cause now processor_io =
+    record processor_io { dma = if triggers then dma_triggered processor_io.dma cause now else processor_io.dma }
+
+abbrev pub told_of_card : CardState → Proc → Tick → ProcessorIoState → ProcessorIoState
+told_of_card card starter now processor_io =
+    triggered_if (event_readies card) causes.Card now (processor_io_raised processor_io (raised_to starter (event_raised card)))
+
+abbrev pub starter_told : Option Proc → CardState → Tick → IoState → IoState
+starter_told None card now u = u
+starter_told (Some starter) card now u = with_io_of starter u (told_of_card card starter now (io_of u starter))
+
+abbrev pub card_done_at : Option Tick → List ℕ → IoState → IoState
+card_done_at None file u = u
+card_done_at (Some now) file u = starter_told (card_starter u.card) u.card now (record u { card = card_after_event file u.card })
+
+abbrev pub card_done : List ℕ → IoState → IoState
+card_done file u = card_done_at (card_due u.card) file u
 
 -- the head command of geometry ends a stall: more entries waited than the FIFO holds, and now no more do (GBATEK, "GXFIFO")
 abbrev pub stall_ends : IoState → Bool
@@ -176,19 +203,19 @@ is_settled u =
     ((irq_levelled u.nine.irq (gx_level u.gx)).if_ == u.nine.irq.if_)
     && (not (is_half_empty u.gx && awaits_geometry u.nine.dma) && (release_of u == u.released))
 
--- What the event of an actor behind the ports leaves, where it is due. Five have none here, and leave all: the key script, which presses keys; the
--- display, whose event stands above, since it reads memories; the card, which isn't built yet; a DMA channel, whose event is an access of memory and
--- stands below in parts; and a processor, whose steps are instructions.
-abbrev pub io_event : actor.Actor → IoState → IoState
-io_event (Timer proc number) u = timer_overflows proc number u
-io_event Divider u = division_done u
-io_event SquareRoot u = root_done u
-io_event Geometry u = geometry_done u
-io_event KeyScript u = u
-io_event Video u = u
-io_event Card u = u
-io_event (Dma proc channel) u = u
-io_event (Processor proc) u = u
+-- What the event of an actor behind the ports leaves, where it is due, with the cartridge's file, which the card alone reads. Four have none here, and
+-- leave all: the key script, which presses keys; the display, whose event stands above, since it reads memories; a DMA channel, whose event is an
+-- access of memory and stands below in parts; and a processor, whose steps are instructions.
+abbrev pub io_event : List ℕ → actor.Actor → IoState → IoState
+io_event file (Timer proc number) u = timer_overflows proc number u
+io_event file Divider u = division_done u
+io_event file SquareRoot u = root_done u
+io_event file Geometry u = geometry_done u
+io_event file Card u = card_done file u
+io_event file KeyScript u = u
+io_event file Video u = u
+io_event file (Dma proc channel) u = u
+io_event file (Processor proc) u = u
 
 -- the DMA channel of a processor that is due moves its first unit, but for the access itself
 abbrev pub channel_moved : Proc → Tick → ℕ → IoState → IoState

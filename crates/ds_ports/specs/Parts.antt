@@ -42,7 +42,7 @@ abbrev pub high_parts : Proc → List Part
 high_parts proc =
     map_part 0x240 interrupt_rows ∷ map_part 0x280 (memory_rows proc) ∷ map_part 0x300 (maths_rows proc) ∷ map_part 0x301 boot_rows
     ∷ map_part 0x400 (power_rows proc) ∷ map_part 0x1000 (geometry_rows proc) ∷ map_part 0x100000 (second_engine_rows proc)
-    ∷ map_part 0x100004 receive_rows ∷ []
+    ∷ map_part 0x100014 receive_rows ∷ []
 
 abbrev pub parts_of : Proc → List Part
 parts_of proc = low_parts proc ++ high_parts proc

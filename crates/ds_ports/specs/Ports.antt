@@ -70,14 +70,14 @@ port_value proc now u at Half = port_half proc now u at
 port_value proc now u at Word = port_word proc now u at
 
 -- what a read leaves: a register that a read changes is one that takes whole words
-abbrev pub read_unchanged : Proc → IoState → Option Slot → IoState
-read_unchanged proc u None = u
-read_unchanged proc u (Some slot) = (meaning_of slot.register).after_read proc u
+abbrev pub slot_read : Proc → Tick → IoState → Option Slot → IoState
+slot_read proc now u None = u
+slot_read proc now u (Some slot) = (meaning_of slot.register).after_read proc now u
 
-unfoldable pub port_read : Proc → IoState → ℕ → Width → IoState
-port_read proc u at Byte = u
-port_read proc u at Half = u
-port_read proc u at Word = read_unchanged proc u (whole_in Word (slot_of proc at))
+unfoldable pub port_read : Proc → Tick → IoState → ℕ → Width → IoState
+port_read proc now u at Byte = u
+port_read proc now u at Half = u
+port_read proc now u at Word = slot_read proc now u (whole_in Word (slot_of proc at))
 
 -- ---- writes
 
@@ -184,6 +184,6 @@ first_refusal proc u at value (suc n) = first_stop (begun_refusal proc u (slot_o
 
 pub record GoesAscending (proc : Proc) (now : Tick) (u : IoState) (at : ℕ) (width : Width) (value : ℕ) : Type 0 where
   pub reads : port_value proc now u at width ≡ values_from proc now u at (width_bytes width)
-  pub after_read : port_read proc u at width ≡ u
+  pub after_read : port_read proc now u at width ≡ u
   pub writes : port_written proc now u at width value ≡ ascending proc now u at value (width_bytes width)
   pub refuses : port_refusal proc u at width value ≡ first_refusal proc u at value (width_bytes width)

@@ -2,7 +2,7 @@ use Rattle.std.specs.Prelude.{ℕ, ◌≡◌, ◌<◌, ◌≤◌, ◌⊎◌, ◌
 use Rattle.ds_base.specs.declared.processors.Proc.{Proc}
 use Rattle.ds_base.specs.declared.processors.Proc.TheVariants.{Nine, Seven}
 use Rattle.ds_ports.specs.declared.registers.Register.{Register}
-use Rattle.ds_ports.specs.declared.registers.Register.TheVariants.{DisplayHalf, DisplayWord, GxWord, GxCommand, Dmasad, Dmadad, Dmacnt, Dmafill, TmcntL, TmcntH, Keyinput, Keycnt, Extkeyin, Ipcsync, Ipcfifocnt, Ipcfifosend, Ipcfiforecv, Romctrl, Ime, Ie, If, Vramcnt, Wramcnt, Vramstat, Wramstat, Divcnt, DivNumer, DivDenom, DivResult, DivremResult, Sqrtcnt, SqrtResult, SqrtParam, Postflg, Haltcnt}
+use Rattle.ds_ports.specs.declared.registers.Register.TheVariants.{DisplayHalf, DisplayWord, GxWord, GxCommand, Dmasad, Dmadad, Dmacnt, Dmafill, TmcntL, TmcntH, Keyinput, Keycnt, Extkeyin, Ipcsync, Ipcfifocnt, Ipcfifosend, Ipcfiforecv, Auxspicnt, CardWord, CardData, Ime, Ie, If, Vramcnt, Wramcnt, Vramstat, Wramstat, Divcnt, DivNumer, DivDenom, DivResult, DivremResult, Sqrtcnt, SqrtResult, SqrtParam, Postflg, Haltcnt}
 use Rattle.ds_ports.specs.declared.registers.Slot.{Slot}
 use Rattle.ds_ports.specs.Registers.{meaning_of}
 use Rattle.video2d.specs.DisplayRegisters.{control_registers, display_row, drawing_registers, engine_base, engine_registers, output_registers}
@@ -44,7 +44,10 @@ abbrev pub display_ports : ℕ → List DisplayRegister → List PortRow
 display_ports base [] = []
 display_ports base (register ∷ registers) = display_port base (display_row register) ∷ display_ports base registers
 
--- geometry's, of four bytes each: their numbers are their offsets too
+-- geometry's and the card's: their numbers are their offsets too
+abbrev pub halves_by_offset : ℕ → ℕ → Register → PortRow
+halves_by_offset offset count register = record (port_row offset 2 count register) { number = λ place. offset + 2 * place }
+
 abbrev pub words_by_offset : ℕ → ℕ → Register → PortRow
 words_by_offset offset count register = record (port_row offset 4 count register) { number = λ place. offset + 4 * place }
 
@@ -118,7 +121,8 @@ ipc_rows =
     port_row 0x180 2 1 Ipcsync  -- IPCSYNC
     ∷ port_row 0x184 2 1 Ipcfifocnt  -- IPCFIFOCNT
     ∷ port_row 0x188 4 1 Ipcfifosend  -- IPCFIFOSEND
-    ∷ port_row 0x1A4 4 1 Romctrl  -- ROMCTRL
+    ∷ halves_by_offset 0x1A0 1 Auxspicnt  -- AUXSPICNT
+    ∷ words_by_offset 0x1A4 3 CardWord  -- ROMCTRL, and the card's command, its first and its second word
     ∷ []
 
 abbrev pub interrupt_rows : List PortRow
@@ -177,7 +181,10 @@ second_engine_rows Nine = display_ports (engine_base B) (engine_registers B)
 second_engine_rows Seven = []
 
 abbrev pub receive_rows : List PortRow
-receive_rows = port_row 0x100000 4 1 Ipcfiforecv ∷ []  -- IPCFIFORECV
+receive_rows =
+    port_row 0x100000 4 1 Ipcfiforecv  -- IPCFIFORECV
+    ∷ port_row 0x100010 4 1 CardData  -- the card's data
+    ∷ []
 
 -- ---- the map of each
 

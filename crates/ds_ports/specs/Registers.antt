@@ -1,13 +1,15 @@
-use Rattle.std.specs.Prelude.{ℕ, ◌+◌, ◌*◌, ◌/◌, ◌%◌, ◌^◌, ◌==◌, ◌||◌, if◌then◌else◌, Bool, true, false, Option, Some, None, is_some, bit_and, slice_index_or, slice_set}
+use Rattle.std.specs.Prelude.{ℕ, ◌+◌, ◌*◌, ◌/◌, ◌%◌, ◌^◌, ◌==◌, ◌||◌, if◌then◌else◌, Bool, true, false, Option, Some, None, is_some, slice_index_or, slice_set}
 use Rattle.ds_base.specs.Bits.{bit, bits, flag}
 use Rattle.ds_base.specs.Numbers.{value_by}
-use Rattle.ds_base.specs.declared.left_out.LeftKind.TheVariants.{CardTransfer, HaltMode}
+use Rattle.ds_base.specs.declared.left_out.LeftKind.TheVariants.{HaltMode}
 use Rattle.ds_base.specs.declared.left_out.Stop.{Stop}
 use Rattle.ds_base.specs.declared.memories.Width.{Width}
 use Rattle.ds_base.specs.declared.memories.Width.TheVariants.{Half, Word}
 use Rattle.ds_base.specs.declared.processors.Proc.{Proc}
 use Rattle.ds_base.specs.declared.processors.Proc.TheVariants.{Nine, Seven}
 use Rattle.ds_base.specs.declared.ticks.Tick.{Tick}
+use Rattle.ds_card.specs.CardPorts.{data_port_at}
+use Rattle.ds_card.specs.Cards.{card_after_read, card_kept, card_value, card_written, read_raised, start_refusal}
 use Rattle.ds_dma.specs.Channels.{channel_refusal, channel_word}
 use Rattle.ds_dma.specs.States.{channel_at}
 use Rattle.ds_dma.specs.declared.controls.DmaPort.{DmaPort}
@@ -17,10 +19,10 @@ use Rattle.ds_ipc.specs.Sides.{control_kept, sync_kept}
 use Rattle.ds_math.specs.Dividers.{DividerState, division_started}
 use Rattle.ds_math.specs.Roots.{RootState, root_started}
 use Rattle.ds_timers.specs.Timing.{counter_of, timer_at}
-use Rattle.ds_ports.specs.ProcessorIo.{ProcessorIoState, control_written, dma_written, extkeyin_word, haltcnt_written, ie_written, if_written, ime_written, keycnt_written, keyinput_word, reload_written}
-use Rattle.ds_ports.specs.Io.{IoState, both_raised, io_of, with_io_of}
+use Rattle.ds_ports.specs.ProcessorIo.{ProcessorIoState, control_written, dma_written, extkeyin_word, haltcnt_written, ie_written, if_written, ime_written, keycnt_written, keyinput_word, processor_io_raised, reload_written}
+use Rattle.ds_ports.specs.Io.{IoState, both_raised, io_of, raised_to, with_io_of}
 use Rattle.ds_ports.specs.declared.registers.Register.{Register}
-use Rattle.ds_ports.specs.declared.registers.Register.TheVariants.{DisplayHalf, DisplayWord, GxWord, GxCommand, Dmasad, Dmadad, Dmacnt, Dmafill, TmcntL, TmcntH, Keyinput, Keycnt, Extkeyin, Ipcsync, Ipcfifocnt, Ipcfifosend, Ipcfiforecv, Romctrl, Ime, Ie, If, Vramcnt, Wramcnt, Vramstat, Wramstat, Divcnt, DivNumer, DivDenom, DivResult, DivremResult, Sqrtcnt, SqrtResult, SqrtParam, Postflg, Haltcnt}
+use Rattle.ds_ports.specs.declared.registers.Register.TheVariants.{DisplayHalf, DisplayWord, GxWord, GxCommand, Dmasad, Dmadad, Dmacnt, Dmafill, TmcntL, TmcntH, Keyinput, Keycnt, Extkeyin, Ipcsync, Ipcfifocnt, Ipcfifosend, Ipcfiforecv, Auxspicnt, CardWord, CardData, Ime, Ie, If, Vramcnt, Wramcnt, Vramstat, Wramstat, Divcnt, DivNumer, DivDenom, DivResult, DivremResult, Sqrtcnt, SqrtResult, SqrtParam, Postflg, Haltcnt}
 use Rattle.gx_fifo.specs.GxStates.{gx_kept, gx_word, gx_written}
 use Rattle.video2d.specs.Kept.{kept_byte}
 use Rattle.video2d.specs.Videos.{video_byte, video_written}
@@ -38,8 +40,8 @@ pub record RegisterMeaning : Type 0 where
   pub value : Proc → Tick → IoState → ℕ → ℕ
   -- the bits that a write of some of its bytes leaves as they are in the others; bits that act when they are written have 0 here
   pub kept : Proc → IoState → ℕ → ℕ
-  -- what a read of the whole of it leaves
-  pub after_read : Proc → IoState → IoState
+  -- what a read of the whole of it leaves, for a processor at a tick
+  pub after_read : Proc → Tick → IoState → IoState
   -- what a write of all its bytes leaves, for a processor at a tick, by the register's number, of those of its name, and the word that is written
   pub written : Proc → Tick → IoState → ℕ → ℕ → IoState
   -- the stop for which such a write is refused, if it is
@@ -54,7 +56,7 @@ idle = record {
   takes_words = false;
   value = λ proc now u n. 0;
   kept = λ proc u n. 0;
-  after_read = λ proc u. u;
+  after_read = λ proc now u. u;
   written = λ proc now u n word. u;
   refusal = λ proc u n word. None;
 }
@@ -112,13 +114,25 @@ word_sent proc u word = both_raised (record u { ipc = ipc_sent u.ipc proc word }
 abbrev pub word_received : Proc → IoState → IoState
 word_received proc u = both_raised (record u { ipc = ipc_received u.ipc proc }) (ipc_receive_raised u.ipc proc)
 
--- what ROMCTRL keeps: bits 0 to 22 and 24 to 30; its bit 31 would start a transfer, which is left out as yet: what is told is the whole word
--- (GBATEK, "DS Cartridge I/O Ports")
-abbrev pub kept_of_romctrl : ℕ
-kept_of_romctrl = 0x7F7FFFFF
+-- one of the card's, of which the number is the offset of its first byte: what it reads, what it keeps, what a write leaves and why one is refused
+-- are told where the card is (GBATEK, "DS Cartridge I/O Ports")
+abbrev pub card_set : Width → Proc → Tick → IoState → ℕ → ℕ → IoState
+card_set width proc now u n word = record u { card = card_written u.card proc n width word now }
 
-abbrev pub card_refusal : ℕ → Option Stop
-card_refusal word = if bit 31 word then Some (record { kind = CardTransfer; value = word }) else None
+abbrev pub card_register : Width → RegisterMeaning
+card_register width = record idle {
+  count = 0x1B0;
+  value = λ proc now u n. card_value u.card proc n width;
+  kept = λ proc u n. card_kept u.card proc n width;
+  written = card_set width;
+  refusal = λ proc u n word. start_refusal u.card n width word;
+}
+
+-- a word of the card's is taken by the processor that started its transfer, which alone hears that the transfer ends (the same chapter)
+abbrev pub card_word_taken : Proc → Tick → IoState → IoState
+card_word_taken proc now u =
+    with_io_of proc (record u { card = card_after_read u.card proc data_port_at Word now })
+    (processor_io_raised (io_of u proc) (raised_to proc (read_raised u.card proc data_port_at Word)))
 
 -- a bank's control is written (GBATEK, "DS Memory Control - VRAM")
 abbrev pub bank_set : IoState → ℕ → ℕ → IoState
@@ -216,11 +230,16 @@ meaning_of Ipcfifosend = record (write_only (λ proc now u n word. word_sent pro
 meaning_of Ipcfiforecv = record idle {
   takes_words = true;
   value = λ proc now u n. ipc_received_word u.ipc proc;
-  after_read = λ proc u. word_received proc u;
+  after_read = λ proc now u. word_received proc u;
 }
--- ROMCTRL (GBATEK, "DS Cartridge I/O Ports")
-meaning_of Romctrl = record (plain (λ u n. u.romctrl) (λ u now n word. record u { romctrl = bit_and word kept_of_romctrl })) {
-  refusal = λ proc u n word. card_refusal word;
+-- AUXSPICNT; ROMCTRL and the two words of the command (GBATEK, "DS Cartridge I/O Ports")
+meaning_of Auxspicnt = card_register Half
+meaning_of CardWord = card_register Word
+-- the port by which the card's words are taken (the same chapter)
+meaning_of CardData = record idle {
+  takes_words = true;
+  value = λ proc now u n. card_value u.card proc data_port_at Word;
+  after_read = card_word_taken;
 }
 -- IME, IE and IF (GBATEK, "DS Interrupts")
 meaning_of Ime =

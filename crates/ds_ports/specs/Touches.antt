@@ -4,7 +4,7 @@ use Rattle.ds_base.specs.declared.processors.Proc.{Proc}
 use Rattle.ds_base.specs.declared.processors.Proc.TheVariants.{Nine, Seven}
 use Rattle.ds_ports.specs.Io.{IoState}
 use Rattle.ds_ports.specs.declared.registers.Register.{Register}
-use Rattle.ds_ports.specs.declared.registers.Register.TheVariants.{DisplayHalf, DisplayWord, GxWord, GxCommand, Dmasad, Dmadad, Dmacnt, Dmafill, TmcntL, TmcntH, Keyinput, Keycnt, Extkeyin, Ipcsync, Ipcfifocnt, Ipcfifosend, Ipcfiforecv, Romctrl, Ime, Ie, If, Vramcnt, Wramcnt, Vramstat, Wramstat, Divcnt, DivNumer, DivDenom, DivResult, DivremResult, Sqrtcnt, SqrtResult, SqrtParam, Postflg, Haltcnt}
+use Rattle.ds_ports.specs.declared.registers.Register.TheVariants.{DisplayHalf, DisplayWord, GxWord, GxCommand, Dmasad, Dmadad, Dmacnt, Dmafill, TmcntL, TmcntH, Keyinput, Keycnt, Extkeyin, Ipcsync, Ipcfifocnt, Ipcfifosend, Ipcfiforecv, Auxspicnt, CardWord, CardData, Ime, Ie, If, Vramcnt, Wramcnt, Vramstat, Wramstat, Divcnt, DivNumer, DivDenom, DivResult, DivremResult, Sqrtcnt, SqrtResult, SqrtParam, Postflg, Haltcnt}
 
 -- What each register touches: a column beside the register map. It is no part of what the console does, but follows from it, and is proved of each
 -- row: a register depends on no other parts of the units than those of its row, and an access of it changes no others than those that the row says.
@@ -20,7 +20,7 @@ pub data UnitPart : Type 0 where
   -- what each processor has sent, with its control of the FIFO
   IpcNine : UnitPart
   IpcSeven : UnitPart
-  -- the keys that are pressed; the words of DMAxFILL; ROMCTRL; the divider; the square root unit
+  -- the keys that are pressed; the words of DMAxFILL; the card; the divider; the square root unit
   Pressed : UnitPart
   Fill : UnitPart
   Card : UnitPart
@@ -50,7 +50,7 @@ io_graft P t s = record {
   ipc = record { nine = pick (P IpcNine) t.ipc.nine s.ipc.nine; seven = pick (P IpcSeven) t.ipc.seven s.ipc.seven };
   pressed = pick (P Pressed) t.pressed s.pressed;
   fill = pick (P Fill) t.fill s.fill;
-  romctrl = pick (P Card) t.romctrl s.romctrl;
+  card = pick (P Card) t.card s.card;
   divider = pick (P Division) t.divider s.divider;
   root = pick (P SquareRoot) t.root s.root;
   gx = pick (P Geometry) t.gx s.gx;
@@ -171,7 +171,9 @@ touch_of proc Ipcsync = touch_row both_sides both_sides
 touch_of proc Ipcfifocnt = touch_row both_sides both_sides
 touch_of proc Ipcfifosend = touch_row both_sides both_sides
 touch_of proc Ipcfiforecv = touch_row both_sides both_sides
-touch_of proc Romctrl = kept_in Card
+touch_of proc Auxspicnt = kept_in Card
+touch_of proc CardWord = kept_in Card
+touch_of proc CardData = touch_row (irq_of proc ∷ []) (Card ∷ irq_of proc ∷ [])
 touch_of proc Ime = kept_in (irq_of proc)
 touch_of proc Ie = kept_in (irq_of proc)
 touch_of proc If = kept_in (irq_of proc)

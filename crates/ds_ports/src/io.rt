@@ -13,7 +13,7 @@ ghost use Rattle.ds_ports.specs.Dues.{io_due};
 ghost use Rattle.ds_ports.specs.Guards.{is_overfull};
 ghost use Rattle.ds_ports.specs.Inside.{moves_dues};
 ghost use Rattle.ds_ports.specs.ProcessorIo.{before_move};
-ghost use Rattle.ds_ports.specs.Registers.{after_write, meaning_of};
+ghost use Rattle.ds_ports.specs.Registers.{after_write, card_word_taken, meaning_of};
 ghost use Rattle.ds_ports.specs.Io.{channel_moved, channel_put_back, geometry_swapped, io_at_boot, io_event, io_of, is_settled, keys_pressed, settled, video_done, with_halted};
 ghost use Rattle.video2d.specs.Videos.{video_answer};
 
@@ -77,6 +77,9 @@ fn moves_dues(register: Register) -> bool
             | Register::SqrtParam
             | Register::GxWord
             | Register::GxCommand
+            | Register::Auxspicnt
+            | Register::CardWord
+            | Register::CardData
     )
 }
 
@@ -123,17 +126,18 @@ impl Io {
     }
 
     /// The event of an actor behind the ports that is due: a timer overflows and its interrupts are raised, a division or a square root is done, or
-    /// the head command of geometry, which may end a stall: then ARM9's channels are due at the next tick or later. The display's is told by `show`,
-    /// a DMA channel's by `move_channel`.
-    pub fn event(&mut self, actor: Actor)
+    /// the head command of geometry, which may end a stall: then ARM9's channels are due at the next tick or later; or the card gives the next word
+    /// of the cartridge's file, which triggers its starter's channels, or ends a transfer without words, which raises an interrupt there. The display's is
+    /// told by `show`, a DMA channel's by `move_channel`.
+    pub fn event(&mut self, actor: Actor, file: &[u8])
         requires numbered { IsNumbered actor }
         requires due { IsSome (io_due actor self.old) }
         requires early { IsEarly (io_due actor self.old) }
         requires run { actor ≡ actors.Geometry → self.old.gx.geometry.numbers.run ≤ 2 ^ 56 }
-        ensures { self.new ≡ io_event actor self.old }
+        ensures { self.new ≡ io_event file.now actor self.old }
     {
         self.settled = false;
-        self.units.event(actor);
+        self.units.event(actor, file);
         self.first = self.units.find_acting();
     }
 
@@ -240,13 +244,27 @@ impl Io {
         self.units.press(pressed);
     }
 
-    /// What a read of a whole register leaves.
+    /// What a read of a whole register leaves, for a processor at a tick. When the card is due, one changes that takes the card's word.
     #[inline(always)]
     #[tactic(auto, using(crate::proofs::Dues::reads_move_none, crate::proofs::Settled::reads_leave_settled))]
-    pub(crate) fn read_register(&mut self, proc: Proc, register: Register)
-        ensures { self.new ≡ (meaning_of register).after_read proc self.old }
+    pub(crate) fn read_register(&mut self, proc: Proc, now: Tick, register: Register)
+        requires { IsEarly (Some now) }
+        ensures { self.new ≡ (meaning_of register).after_read proc now self.old }
     {
-        self.units.read_register(proc, register);
+        if register == Register::CardData {
+            return self.take_card_word(proc, now);
+        }
+        self.units.read_register(proc, now, register);
+    }
+
+    #[inline(never)]
+    fn take_card_word(&mut self, proc: Proc, now: Tick)
+        requires { IsEarly (Some now) }
+        ensures { self.new ≡ card_word_taken proc now self.old }
+    {
+        self.settled = false;
+        self.units.read_register(proc, now, Register::CardData);
+        self.first = self.units.find_acting();
     }
 
     /// A write of all bytes of a register, for a processor at a tick.

@@ -84,7 +84,10 @@ fn ignores(width: Width, register: Register) -> bool
     width != Width::Word
         && matches!(
             register,
-            Register::Ipcfifosend | Register::Ipcfiforecv | Register::GxCommand
+            Register::Ipcfifosend
+                | Register::Ipcfiforecv
+                | Register::CardData
+                | Register::GxCommand
         )
 }
 
@@ -162,14 +165,15 @@ impl Io {
         }
     }
 
-    /// What a processor's read leaves. Only one of a whole word changes anything: it takes the word that is received.
+    /// What a processor's read at a tick leaves. Only one of a whole word changes anything: it takes the word that is received, or the card's.
     #[tactic(auto, unfolding(crate::specs::Ports::port_read))]
-    pub fn read(&mut self, proc: Proc, at: u32, width: Width)
-        ensures { self.new ≡ port_read proc self.old at width }
+    pub fn read(&mut self, proc: Proc, now: Tick, at: u32, width: Width)
+        requires { IsEarly (Some now) }
+        ensures { self.new ≡ port_read proc now self.old at width }
     {
         if width == Width::Word {
             if let Some(slot) = whole_in(Width::Word, slot_of(proc, at)) {
-                self.read_register(proc, slot.register);
+                self.read_register(proc, now, slot.register);
             }
         }
     }
@@ -178,9 +182,10 @@ impl Io {
     #[inline(never)]
     #[tactic(auto, using(crate::proofs::Wholes::value_whole, crate::proofs::Wholes::read_whole, crate::proofs::Wholes::read_apart, crate::proofs::Wholes::read_narrow))]
     fn take_by_map(&mut self, proc: Proc, now: Tick, at: u32, width: Width) -> u32
-        requires { at < 2 ^ 24 }
+        requires at { at < 2 ^ 24 }
+        requires early { IsEarly (Some now) }
         ensures value { result ≡ port_value proc now self.old at width }
-        ensures next { self.new ≡ port_read proc self.old at width }
+        ensures next { self.new ≡ port_read proc now self.old at width }
     {
         let Some(slot) = whole_in(width, slot_at(proc, at)) else {
             return self.value(proc, now, at, width);
@@ -189,16 +194,17 @@ impl Io {
         if width != Width::Word {
             return value;
         }
-        self.read_register(proc, slot.register);
+        self.read_register(proc, now, slot.register);
         value
     }
 
     /// What a processor's access reads at an offset from 4000000h, at a tick, and the read. What is read most is asked first.
     #[inline(always)]
     pub fn take(&mut self, proc: Proc, now: Tick, at: u32, width: Width) -> u32
-        requires { at < 2 ^ 24 }
+        requires at { at < 2 ^ 24 }
+        requires early { IsEarly (Some now) }
         ensures value { result ≡ port_value proc now self.old at width }
-        ensures next { self.new ≡ port_read proc self.old at width }
+        ensures next { self.new ≡ port_read proc now self.old at width }
     {
         if let Some(value) = self.value_often(proc, at, width) {
             return value;

@@ -5,6 +5,7 @@ ghost use Rattle.ds_base.specs.Bits.{flag};
 ghost use Rattle.ds_base.specs.Schedules.{IsEarly};
 ghost use Rattle.ds_dma.specs.Channels.{channel_refusal, channel_word, unit_of};
 ghost use Rattle.ds_dma.specs.States.{channel_at, channel_due, dma_due, due_channel, most_waits, awaits_geometry};
+ghost use Rattle.ds_dma.specs.declared.controls.Cause.TheVariants.{Card};
 ghost use Rattle.ds_dma.specs.declared.controls.DmaPort.TheVariants.{Control};
 ghost use Rattle.ds_runs.specs.Order.{first_from};
 ghost use Rattle.ds_timers.specs.Irqs.{irq_levelled, line_is_up, shares_bit};
@@ -12,7 +13,7 @@ ghost use Rattle.ds_timers.specs.Timing.{counter_of, overflow_of, timer_at, time
 ghost use Rattle.ds_ports.specs.Acting.{any_armed, is_armed};
 ghost use Rattle.ds_ports.specs.Happenings.{IsProcessorIo};
 ghost use Rattle.ds_ports.specs.Inside.{own_written};
-ghost use Rattle.ds_ports.specs.Io.{channel_comes_before};
+ghost use Rattle.ds_ports.specs.Io.{channel_comes_before, triggered_if};
 ghost use Rattle.ds_ports.specs.ProcessorIo.{before_move, control_written, dma_written, extkeyin_word, haltcnt_written, ie_written, if_written, ime_written, blocks_processor, keycnt_written, keyinput_word, keys_hold, keys_told, processor_io_at_boot, processor_io_moved, processor_io_put_back, processor_io_raised, processor_io_triggered, reload_written};
 ghost use Rattle.ds_ports.specs.Registers.{meaning_of};
 
@@ -383,6 +384,17 @@ impl ProcessorIo {
     {
         self.dma.trigger(cause, now);
         self.running = self.dma.running();
+    }
+
+    /// Tells of the card at a tick: bits of IF are raised, and the channels triggered that wait for a word, where one is ready.
+    pub fn hear_of_card(&mut self, raised: u32, ready: bool, now: Tick)
+        requires { IsEarly (Some now) }
+        ensures { self.new ≡ triggered_if ready Card now (processor_io_raised self.old raised) }
+    {
+        self.raise(raised);
+        if ready {
+            self.trigger(Cause::Card, now);
+        }
     }
 
     /// When a channel is due, if it is: of those that run the one with the least number.

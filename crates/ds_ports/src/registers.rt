@@ -47,8 +47,12 @@ pub enum Register {
     Ipcfifosend,
     /// IPCFIFORECV. (The same chapter.)
     Ipcfiforecv,
-    /// ROMCTRL, which both processors share. (GBATEK, "DS Cartridge I/O Ports".)
-    Romctrl,
+    /// AUXSPICNT, of which each processor has its own; its number is its offset from 4000000h. (GBATEK, "DS Cartridge I/O Ports".)
+    Auxspicnt,
+    /// ROMCTRL, or one of the two words of the card's command, which both processors share; its number is its offset. (The same chapter.)
+    CardWord,
+    /// The card's data, by which its words are taken. (The same chapter.)
+    CardData,
     /// IME. (GBATEK, "DS Interrupts".)
     Ime,
     /// IE. (The same chapter.)
@@ -112,15 +116,15 @@ fn in_row(register: Register, bytes: u32, offset: u32) -> Option<Slot>
     })
 }
 
-/// The byte at an offset from 4000000h of a row of the display's registers of two bytes, which begins at another.
+/// The byte at an offset from 4000000h of a row of registers of two bytes, which begins at another, and whose numbers are their offsets.
 #[inline(always)]
-fn halves(first: u32, at: u32) -> Option<Slot>
+fn halves(register: Register, first: u32, at: u32) -> Option<Slot>
     requires from { first ≤ at }
-    ensures { result ≡ Some (record { register = DisplayHalf; number = first + 2 * ((at - first) / 2); byte = (at - first) % 2; bytes = 2 }) }
+    ensures { result ≡ Some (record { register = register; number = first + 2 * ((at - first) / 2); byte = (at - first) % 2; bytes = 2 }) }
 {
     let offset = at - first;
     Some(Slot {
-        register: Register::DisplayHalf,
+        register,
         number: first + 2 * (offset / 2),
         byte: offset % 2,
         bytes: 2,
@@ -219,7 +223,7 @@ fn in_display_row(base: u32, row: DisplayRow, at: u32) -> Option<Slot>
     if row.bytes == 4 {
         words(Register::DisplayWord, base + row.first, at)
     } else {
-        halves(base + row.first, at)
+        halves(Register::DisplayHalf, base + row.first, at)
     }
 }
 
@@ -255,8 +259,8 @@ fn status(at: u32) -> Option<Slot>
     ensures { result ≡ slot_among status_rows at }
 {
     match at {
-        0x004..=0x005 => halves(0x004, at), // DISPSTAT
-        0x006..=0x007 => halves(0x006, at), // VCOUNT
+        0x004..=0x005 => halves(Register::DisplayHalf, 0x004, at), // DISPSTAT
+        0x006..=0x007 => halves(Register::DisplayHalf, 0x006, at), // VCOUNT
         _ => None,
     }
 }
@@ -372,7 +376,8 @@ fn ipc(at: u32) -> Option<Slot>
         0x180..=0x181 => in_row(Register::Ipcsync, 2, at - 0x180), // IPCSYNC
         0x184..=0x185 => in_row(Register::Ipcfifocnt, 2, at - 0x184), // IPCFIFOCNT
         0x188..=0x18B => in_row(Register::Ipcfifosend, 4, at - 0x188), // IPCFIFOSEND
-        0x1A4..=0x1A7 => in_row(Register::Romctrl, 4, at - 0x1A4), // ROMCTRL
+        0x1A0..=0x1A1 => halves(Register::Auxspicnt, 0x1A0, at), // AUXSPICNT
+        0x1A4..=0x1AF => words(Register::CardWord, 0x1A4, at), // ROMCTRL, the card's command
         _ => None,
     }
 }
@@ -442,7 +447,7 @@ fn power(proc: Proc, at: u32) -> Option<Slot>
 {
     match proc {
         Proc::Nine => match at {
-            0x304..=0x305 => halves(0x304, at), // POWCNT1
+            0x304..=0x305 => halves(Register::DisplayHalf, 0x304, at), // POWCNT1
             _ => None,
         },
         Proc::Seven => match at {
@@ -499,7 +504,7 @@ fn second_engine(proc: Proc, at: u32) -> Option<Slot>
     }
 }
 
-/// What the other processor sent.
+/// What the other processor sent, and what the card gives.
 #[inline(always)]
 #[tactic(auto, unfolding(crate::specs::Parts::slot_among))]
 fn receive(at: u32) -> Option<Slot>
@@ -507,6 +512,7 @@ fn receive(at: u32) -> Option<Slot>
 {
     match at {
         0x100000..=0x100003 => in_row(Register::Ipcfiforecv, 4, at - 0x100000), // IPCFIFORECV
+        0x100010..=0x100013 => in_row(Register::CardData, 4, at - 0x100010), // the card's data
         _ => None,
     }
 }
@@ -544,7 +550,7 @@ fn by_high_parts(proc: Proc, at: u32) -> Option<Slot>
         0x301..=0x3FF => power(proc, at),
         0x400..=0xFFF => geometry(proc, at),
         0x1000..=0xF_FFFF => second_engine(proc, at),
-        0x10_0000..=0x10_0003 => receive(at),
+        0x10_0000..=0x10_0013 => receive(at),
         _ => None,
     }
 }

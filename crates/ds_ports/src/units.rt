@@ -18,6 +18,7 @@ mod writes;
 
 use crate::processor_io::ProcessorIo;
 use ds_base::{Proc, Raised, Space, Tick, Width};
+use ds_card::Card;
 use ds_ipc::Ipc;
 use ds_math::{Divider, Root};
 use gx_fifo::Gx;
@@ -38,7 +39,7 @@ pub struct Units {
     ipc: Ipc,
     pressed: u16,
     fill: [u32; 4],
-    romctrl: u32,
+    card: Card,
     divider: Divider,
     root: Root,
     gx: Gx,
@@ -60,7 +61,7 @@ impl Model for Units {
       ipc = u.ipc;
       pressed = u.pressed;
       fill = u.fill;
-      romctrl = u.romctrl;
+      card = u.card;
       divider = u.divider;
       root = u.root;
       gx = u.gx;
@@ -88,7 +89,7 @@ impl Units {
             ipc,
             pressed: 0,
             fill: [0; 4],
-            romctrl: 0,
+            card: Card::new(),
             divider: Divider::new(),
             root: Root::new(),
             gx,
@@ -137,6 +138,14 @@ impl Units {
         ensures { result.now ≡ self.now.ipc }
     {
         &self.ipc
+    }
+
+    /// The card.
+    #[inline(always)]
+    pub fn card(&self) -> &Card
+        ensures { result.now ≡ self.now.card }
+    {
+        &self.card
     }
 
     /// A write of video memory, at an address of one of its spaces.

@@ -27,7 +27,7 @@ fn released_at(released: u64, due: Option<Tick>) -> Option<Tick>
 }
 
 impl Units {
-    /// When an actor behind the ports is due, if it is; those that aren't behind them, or aren't built yet, never are.
+    /// When an actor behind the ports is due, if it is; those that aren't behind them never are.
     pub fn io_due(&self, actor: Actor) -> Option<Tick>
         requires { IsNumbered actor }
         ensures { result ≡ io_due actor self.now }
@@ -39,7 +39,8 @@ impl Units {
             Actor::Geometry => self.gx.due(),
             Actor::Dma { proc, channel } => self.channel_due(proc, channel),
             Actor::Video => Some(self.video.due()),
-            Actor::KeyScript | Actor::Card | Actor::Processor(_) => None,
+            Actor::Card => self.card.due(),
+            Actor::KeyScript | Actor::Processor(_) => None,
         }
     }
 
@@ -126,6 +127,7 @@ impl Units {
         ensures { Some result ≡ first_with geometry self.now }
     {
         let mut first = earlier(self.first_channel_of_nine(), self.seven.first_channel(18));
+        first = earlier(entry(13, self.card.due()), first);
         first = earlier(entry(12, geometry), first);
         first = earlier(entry(11, self.root.due()), first);
         first = earlier(entry(10, self.divider.due()), first);

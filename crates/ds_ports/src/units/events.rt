@@ -2,12 +2,13 @@
 
 ghost use Rattle.std.specs.Prelude.{◌≡◌, ◌<◌, ◌≤◌, ◌^◌, IsSome, Some, length};
 ghost use Rattle.ds_base.specs.Schedules.{IsEarly};
+ghost use Rattle.ds_card.specs.Cards.{card_due};
 ghost use Rattle.ds_dma.specs.States.{dma_due, most_waits};
 ghost use Rattle.ds_runs.specs.Actors.{IsNumbered};
 ghost use Rattle.ds_timers.specs.Timing.{timer_at, timer_due};
 ghost use Rattle.ds_ports.specs.Dues.{io_due};
 ghost use Rattle.ds_ports.specs.ProcessorIo.{before_move};
-ghost use Rattle.ds_ports.specs.Io.{channel_moved, channel_put_back, channels_shown, channels_triggered, geometry_done, geometry_triggered, io_event, io_of, is_settled, release_of, settled, timer_overflows, video_done};
+ghost use Rattle.ds_ports.specs.Io.{card_done, channel_moved, channel_put_back, channels_shown, channels_triggered, geometry_done, geometry_triggered, io_event, io_of, is_settled, release_of, settled, timer_overflows, video_done};
 ghost use Rattle.video2d.specs.Scans.{scan_due};
 ghost use Rattle.video2d.specs.Videos.{video_answer};
 ghost use Rattle.ds_runs.specs.declared.actors.Actor.TheVariants as actors;
@@ -20,20 +21,22 @@ use ds_runs::Actor;
 use video2d::Shown;
 
 impl Units {
-    /// The event of an actor behind the ports that is due. The display's is told by `show`, a DMA channel's by `move_channel`.
-    pub fn event(&mut self, actor: Actor)
+    /// The event of an actor behind the ports that is due, with the cartridge's file. The display's is told by `show`, a DMA channel's by
+    /// `move_channel`.
+    pub fn event(&mut self, actor: Actor, file: &[u8])
         requires numbered { IsNumbered actor }
         requires due { IsSome (io_due actor self.old) }
         requires early { IsEarly (io_due actor self.old) }
         requires run { actor ≡ actors.Geometry → self.old.gx.geometry.numbers.run ≤ 2 ^ 56 }
-        ensures { self.new ≡ io_event actor self.old }
+        ensures { self.new ≡ io_event file.now actor self.old }
     {
         match actor {
             Actor::Timer { proc, number } => self.overflow(proc, number),
             Actor::Divider => self.divider.finish(),
             Actor::SquareRoot => self.root.finish(),
             Actor::Geometry => self.finish_command(),
-            Actor::KeyScript | Actor::Video | Actor::Card => {}
+            Actor::Card => self.give_word(file),
+            Actor::KeyScript | Actor::Video => {}
             Actor::Dma { .. } | Actor::Processor(_) => {}
         }
     }
@@ -144,6 +147,23 @@ impl Units {
     {
         self.nine.trigger(cause, now);
         self.seven.trigger(cause, now);
+    }
+
+    /// The card's event, for the cartridge's file: a word is ready, which triggers the channels that wait for it, or a transfer without words ends,
+    /// which raises an interrupt; both at the processor that started the transfer alone.
+    fn give_word(&mut self, file: &[u8])
+        requires due { IsSome (card_due self.old.card) }
+        requires early { IsEarly (card_due self.old.card) }
+        ensures { self.new ≡ card_done file.now self.old }
+    {
+        let (Some(starter), Some(now)) = (self.card.starter(), self.card.due()) else {
+            return;
+        };
+        let done = self.card.event(file);
+        match starter {
+            Proc::Nine => self.nine.hear_of_card(done.raised.nine, done.ready, now),
+            Proc::Seven => self.seven.hear_of_card(done.raised.seven, done.ready, now),
+        }
     }
 
     /// A processor's channel that is due moves its first unit, with so many ticks of waits, but for the access itself.

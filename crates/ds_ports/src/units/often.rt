@@ -32,7 +32,7 @@ impl Units {
     #[tactic(auto, using(crate::proofs::Often::ime_word, crate::proofs::Often::ie_word, crate::proofs::Often::if_word, crate::proofs::Often::ime_left, crate::proofs::Often::ie_left, crate::proofs::Often::if_left))]
     fn word_often(&self, proc: Proc, at: u32) -> Option<u32>
         ensures value { IfSome result (λ value. (now : Tick) → value ≡ port_value proc now self.now at Word) }
-        ensures left { IfSome result (λ value. port_read proc self.now at Word ≡ self.now) }
+        ensures left { IfSome result (λ value. (now : Tick) → port_read proc now self.now at Word ≡ self.now) }
     {
         match at {
             0x208 => Some(self.processor(proc).ime()), // IME
@@ -47,7 +47,7 @@ impl Units {
     #[tactic(auto, using(crate::proofs::Wholes::read_narrow))]
     pub(crate) fn value_often(&self, proc: Proc, at: u32, width: Width) -> Option<u32>
         ensures value { IfSome result (λ value. (now : Tick) → value ≡ port_value proc now self.now at width) }
-        ensures left { IfSome result (λ value. port_read proc self.now at width ≡ self.now) }
+        ensures left { IfSome result (λ value. (now : Tick) → port_read proc now self.now at width ≡ self.now) }
     {
         match width {
             Width::Byte => None,

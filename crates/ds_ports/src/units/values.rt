@@ -1,9 +1,10 @@
 //! What each register reads and keeps.
 
-ghost use Rattle.std.specs.Prelude.{◌≡◌, ◌<◌, true};
+ghost use Rattle.std.specs.Prelude.{◌≡◌, ◌<◌, true, Some};
 ghost use Rattle.ds_base.specs.Bits.{flag};
+ghost use Rattle.ds_base.specs.Schedules.{IsEarly};
 ghost use Rattle.ds_ports.specs.Inside.{is_of_unit};
-ghost use Rattle.ds_ports.specs.Registers.{divcnt_word, meaning_of, sqrtcnt_word, word_of_two, word_received};
+ghost use Rattle.ds_ports.specs.Registers.{card_word_taken, divcnt_word, meaning_of, sqrtcnt_word, word_of_two, word_received};
 
 use crate::displays::{display_kept, display_value};
 use crate::processor_io::{extkeyin, keyinput};
@@ -12,6 +13,9 @@ use crate::units::Units;
 use ds_base::{Proc, Tick, Width};
 use ds_dma::DmaPort;
 use ds_math::{Divider, Root};
+
+/// The offset of the port by which the card's words are taken.
+const CARD_DATA: u32 = 0x10_0010;
 
 /// The low or the high word of a number, by 0 and 1.
 fn word_of_two(which: u32, number: u64) -> u32
@@ -68,7 +72,6 @@ impl Units {
             Register::Ipcsync => self.ipc.sync_read(proc) as u32,
             Register::Ipcfifocnt => self.ipc.control_read(proc) as u32,
             Register::Ipcfiforecv => self.ipc.look(proc),
-            Register::Romctrl => self.romctrl,
             Register::Ime => self.processor(proc).ime(),
             Register::Ie => self.processor(proc).ie(),
             Register::If => self.processor(proc).flags(),
@@ -79,7 +82,7 @@ impl Units {
         }
     }
 
-    /// The same, of one of video's, the maths unit's and geometry's. It stands apart so that the others need no stack.
+    /// The same, of one of video's, the maths unit's, geometry's and the card's. It stands apart so that the others need no stack.
     #[inline(never)]
     fn value_of_unit(&self, proc: Proc, now: Tick, register: Register, number: u32) -> u32
         requires number { number < (meaning_of register).count }
@@ -99,16 +102,34 @@ impl Units {
             Register::SqrtResult => self.root.read().root,
             Register::SqrtParam => word_of_two(number, self.root.read().value),
             Register::GxWord | Register::GxCommand => self.gx.port_read(number),
+            Register::Auxspicnt => self.card.value(proc, number, Width::Half),
+            Register::CardWord => self.card.value(proc, number, Width::Word),
+            Register::CardData => self.card.value(proc, CARD_DATA, Width::Word),
             _ => 0,
         }
     }
 
-    /// What a read of a whole register leaves.
-    pub fn read_register(&mut self, proc: Proc, register: Register)
-        ensures { self.new ≡ (meaning_of register).after_read proc self.old }
+    /// What a read of a whole register leaves, for a processor at a tick.
+    pub fn read_register(&mut self, proc: Proc, now: Tick, register: Register)
+        requires early { IsEarly (Some now) }
+        ensures { self.new ≡ (meaning_of register).after_read proc now self.old }
     {
-        if register == Register::Ipcfiforecv {
-            self.take_word(proc);
+        match register {
+            Register::Ipcfiforecv => self.take_word(proc),
+            Register::CardData => self.take_card_word(proc, now),
+            _ => {}
+        }
+    }
+
+    /// Takes the card's word that a processor waits for, if one is ready.
+    fn take_card_word(&mut self, proc: Proc, now: Tick)
+        requires { IsEarly (Some now) }
+        ensures { self.new ≡ card_word_taken proc now self.old }
+    {
+        let raised = self.card.read(proc, CARD_DATA, Width::Word, now).raised;
+        match proc {
+            Proc::Nine => self.nine.raise(raised.nine),
+            Proc::Seven => self.seven.raise(raised.seven),
         }
     }
 
@@ -135,7 +156,6 @@ impl Units {
             Register::Keycnt => self.processor(proc).keycnt(),
             Register::Ipcsync => self.ipc.sync_kept(proc) as u32,
             Register::Ipcfifocnt => self.ipc.control_kept(proc) as u32,
-            Register::Romctrl => self.romctrl,
             Register::Ime => self.processor(proc).ime(),
             Register::Ie => self.processor(proc).ie(),
             Register::Wramcnt => self.wramcnt as u32,
@@ -146,7 +166,7 @@ impl Units {
         }
     }
 
-    /// The same, of one of video's, the maths unit's and geometry's.
+    /// The same, of one of video's, the maths unit's, geometry's and the card's.
     #[inline(never)]
     fn kept_of_unit(&self, proc: Proc, register: Register, number: u32) -> u32
         requires number { number < (meaning_of register).count }
@@ -162,6 +182,8 @@ impl Units {
             Register::Sqrtcnt => is_wide(&self.root),
             Register::SqrtParam => word_of_two(number, self.root.read().value),
             Register::GxWord | Register::GxCommand => self.gx.port_kept(number),
+            Register::Auxspicnt => self.card.kept(proc, number, Width::Half),
+            Register::CardWord => self.card.kept(proc, number, Width::Word),
             _ => 0,
         }
     }

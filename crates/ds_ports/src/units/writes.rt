@@ -5,14 +5,11 @@ ghost use Rattle.ds_base.specs.Bits.{bit};
 ghost use Rattle.ds_base.specs.Schedules.{IsEarly};
 ghost use Rattle.ds_ports.specs.Guards.{is_overfull};
 ghost use Rattle.ds_ports.specs.Inside.{is_of_unit, is_own};
-ghost use Rattle.ds_ports.specs.Registers.{bank_set, card_refusal, division_set, fifo_control_set, gx_set, halt_refusal, after_write, meaning_of, root_set, sync_set, with_word_of_two, word_sent};
+ghost use Rattle.ds_ports.specs.Registers.{bank_set, card_set, division_set, fifo_control_set, gx_set, halt_refusal, after_write, meaning_of, root_set, sync_set, with_word_of_two, word_sent};
 
 use crate::registers::Register;
 use crate::units::Units;
 use ds_base::{LeftKind, Proc, Stop, Tick, Width};
-
-/// The bits that ROMCTRL keeps. (GBATEK, "DS Cartridge I/O Ports".)
-const KEPT_OF_ROMCTRL: u32 = 0x7F7F_FFFF;
 
 /// A number with another low or high word.
 fn with_word_of_two(which: u32, number: u64, word: u32) -> u64
@@ -34,19 +31,6 @@ fn halt_refusal(value: u32) -> Option<Stop>
     if mode == 1 || mode == 3 {
         return Some(Stop {
             kind: LeftKind::HaltMode,
-            value,
-        });
-    }
-    None
-}
-
-/// The stop for which a write of ROMCTRL is refused.
-fn card_refusal(value: u32) -> Option<Stop>
-    ensures { result ≡ card_refusal value }
-{
-    if (value >> 31) & 1 == 1 {
-        return Some(Stop {
-            kind: LeftKind::CardTransfer,
             value,
         });
     }
@@ -158,6 +142,14 @@ impl Units {
         }
     }
 
+    /// A write of one of the card's; one that is refused leaves all.
+    fn set_card(&mut self, proc: Proc, now: Tick, number: u32, width: Width, value: u32)
+        requires { IsEarly (Some now) }
+        ensures { self.new ≡ card_set width proc now self.old number value }
+    {
+        let _refused = self.card.write(proc, number, width, value, now);
+    }
+
     /// A write of a register of a processor's own.
     #[tactic(auto, using(crate::proofs::OwnWrites::own_is))]
     fn write_processor_io(
@@ -211,7 +203,6 @@ impl Units {
             Register::Ipcsync => self.set_sync(proc, value),
             Register::Ipcfifocnt => self.set_fifo_control(proc, value),
             Register::Ipcfifosend => self.send(proc, value),
-            Register::Romctrl => self.romctrl = value & KEPT_OF_ROMCTRL,
             Register::Wramcnt => self.wramcnt = (value % 4) as u8,
             Register::Keyinput | Register::Extkeyin | Register::Ipcfiforecv => {}
             Register::Wramstat | Register::Postflg => {}
@@ -219,7 +210,7 @@ impl Units {
         }
     }
 
-    /// The same, of one of video's, the maths unit's and geometry's.
+    /// The same, of one of video's, the maths unit's, geometry's and the card's.
     #[inline(never)]
     fn write_unit(&mut self, proc: Proc, now: Tick, register: Register, number: u32, value: u32)
         requires number { number < (meaning_of register).count }
@@ -238,6 +229,8 @@ impl Units {
             Register::Sqrtcnt => self.set_sqrtcnt(now, value),
             Register::SqrtParam => self.set_radicand(now, number, value),
             Register::GxWord | Register::GxCommand => self.set_gx(proc, now, number, value),
+            Register::Auxspicnt => self.set_card(proc, now, number, Width::Half, value),
+            Register::CardWord => self.set_card(proc, now, number, Width::Word, value),
             _ => {}
         }
     }
@@ -256,7 +249,8 @@ impl Units {
     {
         match register {
             Register::Dmacnt => self.processor(proc).control_refusal(number, value),
-            Register::Romctrl => card_refusal(value),
+            Register::Auxspicnt => self.card.refusal(number, Width::Half, value),
+            Register::CardWord => self.card.refusal(number, Width::Word, value),
             Register::Haltcnt => halt_refusal(value % 0x100),
             _ => None,
         }

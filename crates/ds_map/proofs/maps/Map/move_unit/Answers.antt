@@ -16,7 +16,7 @@ pub move_channel-before-requires-clause-due : goal.move_channel-before-requires-
 move_channel-before-requires-clause-due c =
     let m = map_seen c.args.proc c.args.self.now c.args.io.now in
     subst (λ (x : MapState). IsSome (dma_due (io_of x.io c.args.proc).dma)) (sym c.read_unit-read.ensures.next)
-    (still_due c.args.proc m c.args.unit.from c.args.unit.width c.requires.due)
+    (still_due c.args.proc c.args.now m c.args.unit.from c.args.unit.width c.requires.due)
 
 -- there is still room for its write
 pub put-stop-requires-clause-room : goal.put-stop-requires-clause-room
@@ -26,7 +26,7 @@ put-stop-requires-clause-room c =
     let taken : map_seen proc c.args.self.now c.move_channel-before.new.self ≡ unit_taken proc c.args.now c.args.unit m =
     ap (λ (u : IoState). map_seen proc c.args.self.now u) c.move_channel-before.ensures.state
     ∙ ap (λ (n : ℕ). map_seen proc c.args.self.now (channel_moved proc c.args.now n c.read_unit-read.new.io)) c.read_unit-read.ensures.waits
-    ∙ ap (λ (x : MapState). (let moved : MapState = record x { io = channel_moved proc c.args.now (unit_waits proc c.args.unit m) x.io } in moved)) c.read_unit-read.ensures.next in
+    ∙ ap (λ (x : MapState). (let moved : MapState = record x { io = channel_moved proc c.args.now (unit_waits proc c.args.now c.args.unit m) x.io } in moved)) c.read_unit-read.ensures.next in
     subst (λ (x : MapState). is_guarded proc x c.args.unit.to ≡ false) (sym taken)
     (unit_has_room proc c.args.now c.args.unit m c.args.unit.to c.requires.room)
 
@@ -43,7 +43,7 @@ returns-then-is_some-clause-map c =
     let taken : map_seen proc c.args.self.now c.move_channel-before.new.self ≡ all =
     ap (λ (u : IoState). map_seen proc c.args.self.now u) c.move_channel-before.ensures.state
     ∙ ap (λ (n : ℕ). map_seen proc c.args.self.now (channel_moved proc c.args.now n c.read_unit-read.new.io)) c.read_unit-read.ensures.waits
-    ∙ ap (λ (x : MapState). (let moved : MapState = record x { io = channel_moved proc c.args.now (unit_waits proc c.args.unit m) x.io } in moved)) c.read_unit-read.ensures.next in
+    ∙ ap (λ (x : MapState). (let moved : MapState = record x { io = channel_moved proc c.args.now (unit_waits proc c.args.now c.args.unit m) x.io } in moved)) c.read_unit-read.ensures.next in
     let refused : c.put-stop.result ≡ unit_refusal proc c.args.now unit m =
     c.put-stop.ensures.refusal
     ∙ ap (λ (x : MapState). map_refusal proc x unit.to unit.width value) taken

@@ -35,7 +35,7 @@ impl Model for Gx {
     ghost use Rattle.std.specs.Prelude.{◌≡◌, ◌<◌, ◌^◌, ◌&&◌, not, is_some, false};
     ghost use Rattle.ds_base.specs.Bits.{bit};
     ghost use Rattle.gx_fifo.specs.Entries.{complete_command};
-    ghost use Rattle.gx_fifo.specs.GxStates.{GxState, IsGiven};
+    ghost use Rattle.gx_fifo.specs.GxStates.{GxState};
 
     ghost Value = { GxState };
 
@@ -48,7 +48,7 @@ impl Model for Gx {
       selector = g.selector;
     } };
 
-    ghost invariant = { λ g. (is_some g.due ≡ (not g.swap_waits && is_some (complete_command g.fifo.entries))) × IsGiven g.fifo.left g.fifo.given
+    ghost invariant = { λ g. (is_some g.due ≡ (not g.swap_waits && is_some (complete_command g.fifo.entries)))
         × (g.display < 2 ^ 15) × (bit 13 g.display ≡ false) × (g.selector < 2 ^ 2) };
 }
 

@@ -3,8 +3,8 @@ use Rattle.gx_geometry.specs.Records.{NumbersState}
 use Rattle.gx_geometry.specs.declared.polygons.Vertex.{Vertex}
 use Rattle.gx_geometry.specs.declared.polygons.Polygon.{Polygon}
 use Rattle.gx_geometry.specs.Lights.{light_at}
-use Rattle.gx_geometry.specs.Polygons.{most_vertices, most_polygons, no_vertex}
-use Rattle.gx_geometry.specs.States.{GeometryState, no_place}
+use Rattle.gx_geometry.specs.Polygons.{most_vertices, most_polygons, no_place, no_vertex}
+use Rattle.gx_geometry.specs.States.{GeometryState}
 
 -- What holds of the engine at every time, by which those who hold it know the sizes of what it gives out.
 

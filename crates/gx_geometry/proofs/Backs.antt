@@ -1,5 +1,5 @@
 use Rattle.std.proofs.Common.{ℕ, ◌≡◌, ◌≢◌, ◌≤◌, ◌+◌, ◌-◌, ◌/◌, ◌%◌, ◌⊎◌, inl, inr, true, false, List, [], ◌∷◌, length, map, Some, None, refl, sym, ap, ◌∙◌, arith}
-use Rattle.std.specs.Prelude.{◌==◌, not, nat_lt, slice_index_or}
+use Rattle.std.specs.Prelude.{◌==◌, ◌&&◌, ◌||◌, not, nat_lt, slice_index, slice_index_or}
 use Rattle.std.specs.List.{list_all}
 use Rattle.ds_base.proofs.Choices.{same_or_not, is_equal, is_unequal}
 use Rattle.gx_geometry.specs.declared.numbers.Kind.{Kind}
@@ -190,3 +190,12 @@ by_shape four came a = by_agreeing (place_among four a) four came a (among_agree
 pub same_polygon : (four : List ℕ) (came : List Vertex) (a : Arrival) → Agrees (place_since came a) four a.place → polygon_among four came a ≡ polygon_of came a
 unfolding polygon_of
 same_polygon four came a agrees = by_shape four came a ∙ sym (by_agreeing (place_since came a) four came a agrees)
+
+-- three corners leave the fourth place unused
+pub shaped_back : (four : List ℕ) (shape : Shape) (count : ℕ) (indices : List ℕ) → count ≡ length (corners_back shape) → indices ≡ indices_back four shape
+    → ((count == 4) || (count == 3 && slice_index indices 3 == 0)) ≡ true
+unfolding indices_back
+shaped_back four Triangle count indices is are = rw (is, are) refl
+shaped_back four TurnedTriangle count indices is are = rw (is, are) refl
+shaped_back four Quad count indices is are = rw is refl
+shaped_back four StripQuad count indices is are = rw is refl

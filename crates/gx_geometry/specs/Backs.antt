@@ -8,7 +8,8 @@ use Rattle.gx_geometry.specs.declared.polygons.Vertex.{Vertex}
 use Rattle.gx_geometry.specs.declared.polygons.Polygon.{Polygon}
 use Rattle.gx_geometry.specs.Polygons.{Arrival, no_place, no_vertex, determinant, is_kept}
 
--- How the code finds a polygon's corners: by how many vertices before the last one they came. No public call speaks of it.
+-- How the code finds a polygon's corners: by how many vertices before the last one they came, among the places of the last four. No public
+-- call speaks of it.
 
 -- the shape of the polygon that a run's vertex of a place completes, if it does
 unfoldable pub shape_of : Kind → ℕ → Option Shape

@@ -1,10 +1,10 @@
 //! What commands bring about beside the numbers: the results of tests, and the open lists.
 
-ghost use Rattle.std.specs.Prelude.{◌≡◌, ◌<◌, ◌≤◌, ◌^◌, length, IfOk, IfSome};
+ghost use Rattle.std.specs.Prelude.{◌≡◌, ◌<◌, ◌≤◌, ◌^◌, true, length, IfOk, IfSome};
 ghost use Rattle.gx_matrix.specs.CommandTable.{HasParameters};
 ghost use Rattle.gx_geometry.specs.Polygons.{arrival_of, polygon_among, most_vertices};
 ghost use Rattle.gx_geometry.specs.States.{no_outcome, four_recent, then_recent, results_of, tested, polygon_added, vertex_added, arrived, flag_cleared, lists_emptied};
-ghost use Rattle.gx_geometry.specs.Bounds.{AreSmall, AreLimited, ArePlaces};
+ghost use Rattle.gx_geometry.specs.Bounds.{is_shaped, AreSmall, AreLimited, ArePlaces};
 ghost use Rattle.gx_geometry.specs.RecordsKept.{numbers_seen};
 
 mod saved;
@@ -35,7 +35,7 @@ pub struct Outcome {
 impl Model for Outcome {
     ghost use Rattle.std.specs.Prelude.{◌≡◌, ◌≤◌, length};
     ghost use Rattle.gx_geometry.specs.Polygons.{most_vertices, most_polygons};
-    ghost use Rattle.gx_geometry.specs.Bounds.{ArePlaces, HaveColours, HavePalettes};
+    ghost use Rattle.gx_geometry.specs.Bounds.{ArePlaces, HaveColours, HavePalettes, HaveShapes};
     ghost use Rattle.gx_geometry.specs.States.{OutcomeState};
 
     ghost Value = { OutcomeState };
@@ -52,7 +52,7 @@ impl Model for Outcome {
 
     ghost invariant = { λ o. (o.results.vertices ≡ length o.vertices) × (o.results.polygons ≡ length o.polygons) × (length o.vertices ≤ most_vertices)
         × (length o.polygons ≤ most_polygons) × HaveColours o.vertices × HavePalettes o.polygons
-        × ArePlaces (length o.vertices) o.recent };
+        × HaveShapes o.polygons × ArePlaces (length o.vertices) o.recent };
 }
 
 /// The places of a run's last three vertices when the next one comes.
@@ -85,9 +85,10 @@ impl Outcome {
         })
     }
 
-    #[tactic(auto, using(crate::proofs::Bounds::palette_added))]
+    #[tactic(auto, using(crate::proofs::Bounds::palette_added, crate::proofs::Bounds::shape_added))]
     fn add_polygon(&mut self, polygon: Option<Polygon>)
-        requires { IfSome polygon (λ p. p.palette < 2 ^ 13) }
+        requires palette { IfSome polygon (λ p. p.palette < 2 ^ 13) }
+        requires shape { IfSome polygon (λ p. is_shaped p ≡ true) }
         ensures { self.new ≡ polygon_added polygon self.old }
     {
         if let Some(polygon) = polygon {
@@ -129,6 +130,7 @@ impl Outcome {
         requires palette { s.now.palette < 2 ^ 13 }
         ensures value { result ≡ polygon_among four self.now.vertices (arrival_of (numbers_seen s.now)) }
         ensures palette { IfSome result (λ p. p.palette < 2 ^ 13) }
+        ensures shape { IfSome result (λ p. is_shaped p ≡ true) }
     {
         polygon_of(self.vertices.as_slice(), four, s)
     }

@@ -1,8 +1,9 @@
 //! Vertices and polygons, as the lists of a swap have them.
 
-ghost use Rattle.std.specs.Prelude.{◌≡◌, ◌≤◌, ◌-◌, ◌^◌, ◌-ℤ◌, ◌+ℤ◌, ◌*ℤ◌, ◌≤ℤ◌, pos, negsuc, length, slice_index, slice_index_or, IfSome};
+ghost use Rattle.std.specs.Prelude.{◌≡◌, ◌≤◌, ◌-◌, ◌^◌, ◌-ℤ◌, ◌+ℤ◌, ◌*ℤ◌, ◌≤ℤ◌, pos, negsuc, true, length, slice_index, slice_index_or, IfSome};
 ghost use Rattle.ds_base.specs.Bits.{bit};
 ghost use Rattle.gx_geometry.specs.Polygons.{vertex_of, arrival_of, minor, times_minor, determinant, is_kept, no_vertex, polygon_among};
+ghost use Rattle.gx_geometry.specs.Bounds.{is_shaped};
 ghost use Rattle.gx_geometry.specs.RecordsKept.{numbers_seen};
 ghost use Rattle.gx_geometry.specs.Backs.{shape_of, corners_back, index_back, reaches_back, seen_back, indices_back, polygon_back, polygon_by_shape};
 
@@ -298,6 +299,7 @@ fn may_be_seen(came: &[Vertex], four: [u16; 4], attributes: u32, shape: Shape) -
 fn polygon_with(four: [u16; 4], s: &Numbers, shape: Shape) -> Polygon
     ensures value { result ≡ polygon_back four (arrival_of (numbers_seen s.now)) shape }
     ensures palette { result.palette ≡ s.now.palette }
+    ensures shape { is_shaped result ≡ true }
 {
     Polygon {
         attributes: s.attributes,
@@ -313,6 +315,7 @@ fn polygon_by_shape(came: &[Vertex], four: [u16; 4], s: &Numbers) -> Option<Poly
     requires { 1 ≤ s.now.run }
     ensures value { result ≡ polygon_by_shape (shape_of s.now.kind (s.now.run - 1)) four came.now (arrival_of (numbers_seen s.now)) }
     ensures palette { IfSome result (λ p. p.palette ≡ s.now.palette) }
+    ensures shape { IfSome result (λ p. is_shaped p ≡ true) }
 {
     match shape_of(s.kind, s.run - 1) {
         Some(shape) if reaches_back(four, shape) && may_be_seen(came, four, s.attributes, shape) =>
@@ -327,6 +330,7 @@ pub fn polygon_of(came: &[Vertex], four: [u16; 4], s: &Numbers) -> Option<Polygo
     requires { 1 ≤ s.now.run }
     ensures value { result ≡ polygon_among four came.now (arrival_of (numbers_seen s.now)) }
     ensures palette { IfSome result (λ p. p.palette ≡ s.now.palette) }
+    ensures shape { IfSome result (λ p. is_shaped p ≡ true) }
 {
     polygon_by_shape(came, four, s)
 }

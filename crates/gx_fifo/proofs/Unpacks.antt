@@ -68,7 +68,7 @@ pub stops : (word : ℕ) (es : List GxEntry) → word < 2 ^ 32 → stops_at word
 stops word es small h = ap (λ (xs : List GxEntry). es ++ xs) (added_none word small h) ∙ append-nil es
 
 -- and so are as many bytes as there are
-no_parameters : first_parameters 0 ≡ 0
+pub no_parameters : first_parameters 0 ≡ 0
 unfolding command_of
 no_parameters = refl
 

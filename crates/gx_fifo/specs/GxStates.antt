@@ -176,9 +176,10 @@ pub record AreWaiting (s : GxState) : Type 0 where
   pub given : is_given s.fifo.packed s.fifo.given ≡ true
   pub due : is_some s.due ≡ (not s.swap_waits && is_some (complete_command s.fifo.entries))
 
--- and which bits are kept, and what holds of the engine
+-- and which bits are kept, that a parameter waits with a swap alone, and what holds of the engine
 pub record IsGx (s : GxState) : Type 0 where
   pub waiting : AreWaiting s
+  pub parameter : s.swap_waits ≡ false → s.geometry.numbers.parameter ≡ 0
   pub display : s.display < 2 ^ 15
   pub overflow_apart : bit 13 s.display ≡ false
   pub selector : s.selector < 2 ^ 2

@@ -28,4 +28,4 @@ mod packed;
 mod ports;
 
 pub use entries::GxEntry;
-pub use gx::Gx;
+pub use gx::{Gx, saved_laws};

@@ -6,9 +6,12 @@ ghost use Rattle.gx_fifo.specs.Entries.{words_taken, entries_taken, most_entries
 ghost use Rattle.gx_fifo.specs.PackedWords.{added_by, bytes_left, first_command, first_parameters, fifo_at_boot, is_given, packed_commands, without_word, unpacked, word_taken, entry_added};
 ghost use Rattle.gx_fifo.specs.Unpacking.{stops_at};
 
+mod saved;
+
 use crate::entries::{Entries, GxEntry};
 use arrayvec::ArrayVec;
 use gx_matrix::GeometryCommand;
+pub use saved::take_left;
 use std::alloc::{AllocError, Global};
 use std::marker::Model;
 

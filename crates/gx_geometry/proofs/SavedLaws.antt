@@ -76,7 +76,7 @@ number_of_kind (suc (suc zero)) h = refl
 number_of_kind (suc (suc (suc zero))) h = refl
 number_of_kind (suc (suc (suc (suc n)))) h = absurd (omega (arith, h))
 
-geometry_exact : (at : ℕ) → IsExact geometry_format at
+pub geometry_exact : (at : ℕ) → IsExact geometry_format at
 unfolding geometry_format
 geometry_exact at = (
   stacks_exact at,
@@ -248,7 +248,7 @@ holds_all : (first second third at long : ℕ) → long ≤ most_vertices → is
 holds_all first second third at long few a b c =
     let le : nat_le long most_vertices ≡ true = grind (arith, few) in rw (le, a, b, c) refl
 
-geometry_stands : (at : ℕ) (g : GeometryState) → at ≤ 2 ^ 56 → IsSavedGeometry at g → StandsFor geometry_format at g
+pub geometry_stands : (at : ℕ) (g : GeometryState) → at ≤ 2 ^ 56 → IsSavedGeometry at g → StandsFor geometry_format at g
 unfolding geometry_format
 geometry_stands at g early is =
     let stacks = stacks_stand at g.numbers.stacks is.bounds.stacks in

@@ -33,7 +33,8 @@ parameter_longer (Some command) word s = go (nat_le (command_row command).parame
   longer = appended s.entries (with_word command word ∷ []) (length s.entries) (omega arith)
 
   go : (b : Bool) → length s.entries
-      ≤ length (if b then unpacked (s.entries ++ with_word command word ∷ []) (s.packed / 2 ^ 8) else record s { entries = s.entries ++ with_word command word ∷ []; given = s.given + 1 }).entries
+      ≤ length (if b then unpacked (s.entries ++ with_word command word ∷ []) (s.packed / 2 ^ 8)
+      else record s { entries = s.entries ++ with_word command word ∷ []; given = s.given + 1 }).entries
   go true = unpacked_longer (s.entries ++ with_word command word ∷ []) (s.packed / 2 ^ 8) (length s.entries) longer
   go false = longer
 

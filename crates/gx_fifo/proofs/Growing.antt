@@ -47,7 +47,8 @@ one_before n x old between new first grows = record {
 }
 
 -- the command that waits is given a parameter
-pub still_given : (command : GeometryCommand) (packed given : ℕ) → first_command packed ≡ Some command → nat_le (command_row command).parameters (given + 1) ≡ false
+pub still_given : (command : GeometryCommand) (packed given : ℕ) → first_command packed ≡ Some command
+    → nat_le (command_row command).parameters (given + 1) ≡ false
     → is_given packed (given + 1) ≡ true
 still_given command packed given first more = rw first (grind (arith, more))
 

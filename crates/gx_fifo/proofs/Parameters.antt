@@ -10,7 +10,8 @@ use Rattle.gx_fifo.specs.Entries.{asks_for_swap}
 
 -- A swap's parameter is there from the command that asks for it to the swap.
 
-kept : (command : GeometryCommand) (params : List ℕ) (s : NumbersState) → asks_for_swap command ≡ false → (numbers_after command params s).parameter ≡ s.parameter
+kept : (command : GeometryCommand) (params : List ℕ) (s : NumbersState) → asks_for_swap command ≡ false
+    → (numbers_after command params s).parameter ≡ s.parameter
 unfolding asks_for_swap numbers_after numbers_lit numbers_drawn normal_given coordinates_given vertex_given diffuse_given specular_given light_pointed light_coloured run_begun
 kept Color params s other = refl
 kept Texcoord params s other = refl

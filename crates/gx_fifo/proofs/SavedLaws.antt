@@ -135,12 +135,14 @@ may_be_due parameter false true at false h = absurd (true≢false (sym (is_other
 may_be_due parameter true false at false h = absurd (true≢false (sym (is_other parameter false h)))
 may_be_due parameter false false at false h = refl
 
-pub may_be_none : (parameter : ℕ) (due head : Bool) (at : ℕ) (waits : Bool) → may_wait parameter due head at waits ≡ true → waits ≡ false → parameter ≡ 0
+pub may_be_none : (parameter : ℕ) (due head : Bool) (at : ℕ) (waits : Bool) → may_wait parameter due head at waits ≡ true → waits ≡ false
+    → parameter ≡ 0
 may_be_none parameter due head at true h none = absurd (true≢false none)
 may_be_none parameter due true at false h none = is_zero parameter due h
 may_be_none parameter due false at false h none = is_zero parameter (not due) h
 
-waits_may : (parameter : ℕ) (due head : Bool) (at : ℕ) (waits : Bool) → due ≡ (not waits && head) → (waits ≡ false → parameter ≡ 0) → may_wait parameter due head at waits ≡ true
+waits_may : (parameter : ℕ) (due head : Bool) (at : ℕ) (waits : Bool) → due ≡ (not waits && head) → (waits ≡ false → parameter ≡ 0)
+    → may_wait parameter due head at waits ≡ true
 waits_may parameter due head at true e none = rw e refl
 waits_may parameter due true at false e none = rw (e, none refl) refl
 waits_may parameter due false at false e none = rw (e, none refl) refl

@@ -80,7 +80,8 @@ none_above zero word small =
     let e : word ≡ 0 = omega (arith, small) in rw (e, no_parameters) refl
 none_above (suc bytes) word small =
     let less : word / 2 ^ 8 < 256 ^ bytes = grind (arith, small) in
-    same_if (nat_lt 0 (first_parameters word)) word (left_among (suc bytes) (word / 2 ^ 8)) (left_among bytes (word / 2 ^ 8)) (none_above bytes (word / 2 ^ 8) less)
+    let rest = word / 2 ^ 8 in
+    same_if (nat_lt 0 (first_parameters word)) word (left_among (suc bytes) rest) (left_among bytes rest) (none_above bytes rest less)
 
 else_by : (b : Bool) (w n : ℕ) → b ≡ false → (if b then w else n) ≡ n
 else_by true w n h = absurd (true≢false h)
@@ -123,7 +124,8 @@ both : (first : Option GeometryCommand) (rest : List GeometryCommand) → length
 both None rest = omega arith
 both (Some command) rest = omega arith
 
-pub room_first : (word n most : ℕ) → word < 2 ^ 32 → n + length (packed_commands word) ≤ most → n + length (option_to_list (first_command word)) ≤ most
+pub room_first : (word n most : ℕ) → word < 2 ^ 32 → n + length (packed_commands word) ≤ most
+    → n + length (option_to_list (first_command word)) ≤ most
 room_first word n most small h =
     let e = ap (λ (cs : List GeometryCommand). length cs) (one_by_one word small) in
     let s = both (first_command word) (packed_commands (word / 2 ^ 8)) in
@@ -140,11 +142,13 @@ room_rest word es most small h =
     omega (arith, e, s, a, m, h)
 
 -- at most one command a byte
-pub some_command : (command : Option GeometryCommand) (rest : List GeometryCommand) (n : ℕ) → length rest ≤ n → length (cons_option command rest) ≤ n + 1
+pub some_command : (command : Option GeometryCommand) (rest : List GeometryCommand) (n : ℕ) → length rest ≤ n
+    → length (cons_option command rest) ≤ n + 1
 some_command None rest n le = omega (arith, le)
 some_command (Some command) rest n le = omega (arith, le)
 
-three_by : (a b c : Option GeometryCommand) (n : ℕ) (d : List GeometryCommand) → length d ≤ n → length (cons_option a (cons_option b (cons_option c d))) ≤ n + 3
+three_by : (a b c : Option GeometryCommand) (n : ℕ) (d : List GeometryCommand) → length d ≤ n
+    → length (cons_option a (cons_option b (cons_option c d))) ≤ n + 3
 three_by a b c n d h =
     let third = some_command c d n h in
     let second = some_command b (cons_option c d) (n + 1) third in
@@ -154,7 +158,8 @@ three_by a b c n d h =
 pub four_commands : (word : ℕ) → length (packed_commands word) ≤ 4
 four_commands word =
     let last = some_command (command_of (bits 24 8 word)) [] 0 (omega arith) in
-    three_by (command_of (bits 0 8 word)) (command_of (bits 8 8 word)) (command_of (bits 16 8 word)) 1 (cons_option (command_of (bits 24 8 word)) []) last
+    three_by (command_of (bits 0 8 word)) (command_of (bits 8 8 word)) (command_of (bits 16 8 word)) 1
+    (cons_option (command_of (bits 24 8 word)) []) last
 
 pub three_commands : (word : ℕ) → word < 2 ^ 32 → length (packed_commands (word / 2 ^ 8)) ≤ 3
 three_commands word small =

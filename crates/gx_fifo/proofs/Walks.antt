@@ -14,7 +14,8 @@ in_pieces write before (e ∷ front) back = in_pieces write (write before e) fro
 abbrev pub no_entry : GxEntry
 no_entry = record { command = MtxMode; word = 0 }
 
-pub all_words : (xs : List GxEntry) → ((i : ℕ) → i < length xs → (slice_index_or xs i no_entry).word < 2 ^ 32) → AllByRecursion (λ e. e.word < 2 ^ 32) xs
+pub all_words : (xs : List GxEntry) → ((i : ℕ) → i < length xs → (slice_index_or xs i no_entry).word < 2 ^ 32)
+    → AllByRecursion (λ e. e.word < 2 ^ 32) xs
 all_words [] h = tt
 all_words (x ∷ xs) h = (h 0 (omega arith), all_words xs (λ i l. h (suc i) (omega (arith, l))))
 

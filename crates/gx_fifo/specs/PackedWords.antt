@@ -62,7 +62,9 @@ abbrev pub parameter_taken : Option GeometryCommand → ℕ → FifoState → Fi
 parameter_taken None word s = unpacked s.entries word
 parameter_taken (Some command) word s =
     let entries = s.entries ++ with_word command word ∷ [] in
-    if nat_le (command_row command).parameters (s.given + 1) then unpacked entries (s.packed / 2 ^ 8) else record s { entries = entries; given = s.given + 1 }
+    if nat_le (command_row command).parameters (s.given + 1)
+    then unpacked entries (s.packed / 2 ^ 8)
+    else record s { entries = entries; given = s.given + 1 }
 
 -- a word is written to the FIFO's port: a packed one where no command waits for parameters
 abbrev pub word_taken : ℕ → FifoState → FifoState

@@ -43,7 +43,8 @@ module _ (stands : ℕ → ℕ) (four : List ℕ) (came : List Vertex) (a : Arri
   unfolding has_corners reaches_back
   has_same ps shape h = all_same ps (corners_back shape) h
 
-  seen_same : (ps : List ℕ) (shape : Shape) → ArePairs a.place ps (corners_back shape) → may_be_seen stands came a ps ≡ seen_back four came a.attributes shape
+  seen_same : (ps : List ℕ) (shape : Shape) → ArePairs a.place ps (corners_back shape)
+      → may_be_seen stands came a ps ≡ seen_back four came a.attributes shape
   unfolding may_be_seen seen_back ArePairs Agrees
   seen_same (p ∷ q ∷ r ∷ ps) Triangle h = rw (agrees p 2 h.0.0 h.0.1, agrees q 1 h.1.0.0 h.1.0.1, agrees r 0 h.1.1.0.0 h.1.1.0.1) refl
   seen_same (p ∷ q ∷ r ∷ ps) TurnedTriangle h = rw (agrees p 1 h.0.0 h.0.1, agrees q 2 h.1.0.0 h.1.0.1, agrees r 0 h.1.1.0.0 h.1.1.0.1) refl
@@ -187,12 +188,14 @@ unfolding polygon_among
 by_shape four came a = by_agreeing (place_among four a) four came a (among_agrees four a)
 
 -- the same by all vertices that came, where the last four stand by them
-pub same_polygon : (four : List ℕ) (came : List Vertex) (a : Arrival) → Agrees (place_since came a) four a.place → polygon_among four came a ≡ polygon_of came a
+pub same_polygon : (four : List ℕ) (came : List Vertex) (a : Arrival) → Agrees (place_since came a) four a.place
+    → polygon_among four came a ≡ polygon_of came a
 unfolding polygon_of
 same_polygon four came a agrees = by_shape four came a ∙ sym (by_agreeing (place_since came a) four came a agrees)
 
 -- three corners leave the fourth place unused
-pub shaped_back : (four : List ℕ) (shape : Shape) (count : ℕ) (indices : List ℕ) → count ≡ length (corners_back shape) → indices ≡ indices_back four shape
+pub shaped_back : (four : List ℕ) (shape : Shape) (count : ℕ) (indices : List ℕ) → count ≡ length (corners_back shape)
+    → indices ≡ indices_back four shape
     → ((count == 4) || (count == 3 && slice_index indices 3 == 0)) ≡ true
 unfolding indices_back
 shaped_back four Triangle count indices is are = rw (is, are) refl

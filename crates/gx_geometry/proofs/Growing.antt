@@ -51,7 +51,8 @@ none_stands : (stands : ℕ → ℕ) (p : ℕ) (ps : List ℕ) → stands p ≡ 
 unfolding has_corners
 none_stands stands p ps h = rw h refl
 
-none_at : (came : List Vertex) (a : Arrival) (p : ℕ) (ps : List ℕ) → most_vertices < length came → polygon_at (place_since came a) came a (p ∷ ps) ≡ None
+none_at : (came : List Vertex) (a : Arrival) (p : ℕ) (ps : List ℕ) → most_vertices < length came
+    → polygon_at (place_since came a) came a (p ∷ ps) ≡ None
 none_at came a p ps h = rw (none_stands (place_since came a) p ps (nowhere came a p h)) refl
 
 strip_at : (came : List Vertex) (a : Arrival) (k : ℕ) (b : Bool) → most_vertices < length came
@@ -59,7 +60,8 @@ strip_at : (came : List Vertex) (a : Arrival) (k : ℕ) (b : Bool) → most_vert
 strip_at came a k true h = none_at came a k _ h
 strip_at came a k false h = none_at came a (k + 1) _ h
 
-kind_dropped : (kind : Kind) (k : ℕ) (came : List Vertex) (a : Arrival) → most_vertices < length came → polygon_at (place_since came a) came a (corners kind k) ≡ None
+kind_dropped : (kind : Kind) (k : ℕ) (came : List Vertex) (a : Arrival) → most_vertices < length came
+    → polygon_at (place_since came a) came a (corners kind k) ≡ None
 kind_dropped Triangles k came a h = none_at came a (3 * k) _ h
 kind_dropped Quads k came a h = none_at came a (4 * k) _ h
 kind_dropped TriangleStrip k came a h = strip_at came a k (k % 2 == 0) h
@@ -124,7 +126,8 @@ arrived_holds a o came made makes held = elim (low_or_high (length came) most_ve
 ]
 
 -- a command, which gives a vertex or doesn't
-pub step_holds : (b : Bool) (a : Arrival) (o : OutcomeState) (came : List Vertex) (made : List Polygon) → (b ≡ true → SamePolygon a o came) → Holds o came made →
+pub step_holds : (b : Bool) (a : Arrival) (o : OutcomeState) (came : List Vertex) (made : List Polygon) → (b ≡ true → SamePolygon a o came)
+    → Holds o came made →
     Holds (if b then arrived a o else o) (if b then came ++ a.vertex ∷ [] else came) (if b then polygons_with a came made else made)
 step_holds true a o came made makes held = arrived_holds a o came made (makes refl) held
 step_holds false a o came made makes held = held
@@ -172,7 +175,8 @@ then_back came run recent h = record {
   third = back_last came run;
 }
 
-vertex_linked : (a : Arrival) (run : ℕ) (o : OutcomeState) (came : List Vertex) (made : List Polygon) → Holds o came made → IsLinked came run o.recent →
+vertex_linked : (a : Arrival) (run : ℕ) (o : OutcomeState) (came : List Vertex) (made : List Polygon) → Holds o came made
+    → IsLinked came run o.recent →
     IsLinked (came ++ a.vertex ∷ []) (run + 1) (arrived a o).recent
 unfolding IsLinked
 vertex_linked a run o came made held linked few =
@@ -207,7 +211,8 @@ step_linked PosTest params s o a came made held linked = linked
 step_linked VecTest params s o a came made held linked = linked
 step_linked command params s o a came made held linked = linked
 
-pub command_linked : (command : GeometryCommand) (params : List ℕ) (g : GeometryState) (came : List Vertex) (made : List Polygon) → Holds g.outcome came made →
+pub command_linked : (command : GeometryCommand) (params : List ℕ) (g : GeometryState) (came : List Vertex) (made : List Polygon)
+    → Holds g.outcome came made →
     IsLinked came g.numbers.run g.outcome.recent →
     IsLinked (if gives_vertex command then came ++ (arrival_of (numbers_after command params g.numbers)).vertex ∷ [] else came)
     (geometry_after command params g).numbers.run (geometry_after command params g).outcome.recent
@@ -241,7 +246,8 @@ since_is : (came : List Vertex) (a : Arrival) (n p b : ℕ) → length came ≡ 
     → place_since came a p ≡ (if nat_le b n && (nat_le b a.place || b == 0) then n - b else no_place)
 since_is came a n p b long few e = grind (arith, long, few, e)
 
-agree : (a : Arrival) (o : OutcomeState) (came : List Vertex) → length came < most_vertices → length o.vertices ≡ length came → AreBack (length came) a.place o.recent
+agree : (a : Arrival) (o : OutcomeState) (came : List Vertex) → length came < most_vertices → length o.vertices ≡ length came
+    → AreBack (length came) a.place o.recent
     → Agrees (place_since (came ++ a.vertex ∷ []) a) (four_recent o) a.place
 unfolding Agrees
 agree a o came room long back p b e few =
@@ -249,17 +255,20 @@ agree a o came room long back p b e few =
     since_is (came ++ a.vertex ∷ []) a (length came) p b one room e
     ∙ sym (back_is (length came) a.place a.place p b (four_recent o) long back.third back.second back.first few)
 
-same_made : (a : Arrival) (run : ℕ) (o : OutcomeState) (came : List Vertex) (made : List Polygon) → a.place ≡ run → Holds o came made → IsLinked came run o.recent →
+same_made : (a : Arrival) (run : ℕ) (o : OutcomeState) (came : List Vertex) (made : List Polygon) → a.place ≡ run → Holds o came made
+    → IsLinked came run o.recent →
     SamePolygon a o came
 unfolding SamePolygon IsLinked
 same_made a run o came made place held linked room =
     let same : o.vertices ≡ came = held.vertices_are ∙ take_all most_vertices came (omega (arith, room)) in
     let long : length o.vertices ≡ length came = ap (λ (xs : List Vertex). length xs) same in
-    let back : AreBack (length came) a.place o.recent = subst (λ (n : ℕ). AreBack (length came) n o.recent) (sym place) (linked (omega (arith, room))) in
+    let back : AreBack (length came) a.place o.recent =
+    subst (λ (n : ℕ). AreBack (length came) n o.recent) (sym place) (linked (omega (arith, room))) in
     ap (λ (xs : List Vertex). polygon_among (four_recent o) (xs ++ a.vertex ∷ []) a) same
     ∙ same_polygon (four_recent o) (came ++ a.vertex ∷ []) a (agree a o came room long back)
 
-tested_recent : (command : GeometryCommand) (params : List ℕ) (s : NumbersState) (o : OutcomeState) → gives_vertex command ≡ true → (tested command params s o).recent ≡ o.recent
+tested_recent : (command : GeometryCommand) (params : List ℕ) (s : NumbersState) (o : OutcomeState) → gives_vertex command ≡ true
+    → (tested command params s o).recent ≡ o.recent
 unfolding tested
 tested_recent BeginVtxs params s o h = absurd (true≢false (sym h))
 tested_recent BoxTest params s o h = refl
@@ -277,8 +286,10 @@ tested_holds VecTest params s o came made held = record { vertices_are = held.ve
 tested_holds BeginVtxs params s o came made held = record { vertices_are = held.vertices_are; polygons_are = held.polygons_are }
 tested_holds _ params s o came made held = held
 
-pub same_given : (command : GeometryCommand) (params : List ℕ) (s : NumbersState) (o : OutcomeState) (came : List Vertex) (made : List Polygon) → Holds o came made →
-    IsLinked came s.run o.recent → gives_vertex command ≡ true → SamePolygon (arrival_of (numbers_after command params s)) (tested command params s o) came
+pub same_given : (command : GeometryCommand) (params : List ℕ) (s : NumbersState) (o : OutcomeState) (came : List Vertex) (made : List Polygon)
+    → Holds o came made →
+    IsLinked came s.run o.recent → gives_vertex command ≡ true
+    → SamePolygon (arrival_of (numbers_after command params s)) (tested command params s o) came
 same_given command params s o came made held linked gives =
     let a = arrival_of (numbers_after command params s) in
     let place : a.place ≡ s.run = let run = run_by_command command params s in let one = run_given command s.run gives in omega (arith, run, one) in
@@ -286,7 +297,8 @@ same_given command params s o came made held linked gives =
     (subst (IsLinked came s.run) (sym (tested_recent command params s o gives)) linked)
 
 -- a list of acts
-pub grown : (acts : List GeometryAct) (g : GeometryState) (came : List Vertex) (made : List Polygon) → IsLinked came g.numbers.run g.outcome.recent → Holds g.outcome came made →
+pub grown : (acts : List GeometryAct) (g : GeometryState) (came : List Vertex) (made : List Polygon)
+    → IsLinked came g.numbers.run g.outcome.recent → Holds g.outcome came made →
     Holds (after_all acts g).outcome (came ++ vertices_of (arrivals g.numbers acts)) (made ++ polygons_of came (arrivals g.numbers acts))
     × IsLinked (came ++ vertices_of (arrivals g.numbers acts)) (after_all acts g).numbers.run (after_all acts g).outcome.recent
 unfolding after_all arrivals geometry_after polygons_of

@@ -93,7 +93,8 @@ unfolding excess
 excess_grows came more made others = omega (arith, length-append came more, length-append made others)
 
 -- a command, which gives a vertex or doesn't
-step_flag : (b : Bool) (a : Arrival) (o : OutcomeState) (came : List Vertex) (made : List Polygon) → (b ≡ true → SamePolygon a o came) → Holds o came made →
+step_flag : (b : Bool) (a : Arrival) (o : OutcomeState) (came : List Vertex) (made : List Polygon) → (b ≡ true → SamePolygon a o came)
+    → Holds o came made →
     (if b then arrived a o else o).overflow
     ≡ (o.overflow || nat_lt (excess came made) (excess (if b then came ++ a.vertex ∷ [] else came) (if b then polygons_with a came made else made)))
 step_flag true a o came made makes held = arrived_flag a o came made (makes refl) held
@@ -115,7 +116,8 @@ tested_flag BeginVtxs params s o = refl
 tested_flag _ params s o = refl
 
 -- a list of acts of which none clears it
-pub flag_after : (acts : List GeometryAct) (g : GeometryState) (came : List Vertex) (made : List Polygon) → AreNoClear acts → IsLinked came g.numbers.run g.outcome.recent
+pub flag_after : (acts : List GeometryAct) (g : GeometryState) (came : List Vertex) (made : List Polygon) → AreNoClear acts
+    → IsLinked came g.numbers.run g.outcome.recent
     → Holds g.outcome came made →
     (after_all acts g).outcome.overflow
     ≡ (g.outcome.overflow || nat_lt (excess came made) (excess (came ++ vertices_of (arrivals g.numbers acts)) (made ++ polygons_of came (arrivals g.numbers acts))))

@@ -221,8 +221,10 @@ lists_stand at l early are tick none =
     let few : length l.vertices < 2 ^ 32 = omega (arith, are.vertex_count) in
     let as_few : length l.polygons < 2 ^ 32 = omega (arith, are.polygon_count) in
     let is_used = unless l.tick.0 0xFFFFFFFF at l.parameter (omega (arith, parameter)) (λ e. ap (λ (x : Swapped). x.parameter) (none e)) in
-    let vertex_count = unless l.tick.0 most_vertices at (length l.vertices) are.vertex_count (λ e. ap (λ (x : Swapped). length x.vertices) (none e)) in
-    let polygon_count = unless l.tick.0 most_polygons at (length l.polygons) are.polygon_count (λ e. ap (λ (x : Swapped). length x.polygons) (none e)) in
+    let vertex_count =
+    unless l.tick.0 most_vertices at (length l.vertices) are.vertex_count (λ e. ap (λ (x : Swapped). length x.vertices) (none e)) in
+    let polygon_count =
+    unless l.tick.0 most_polygons at (length l.polygons) are.polygon_count (λ e. ap (λ (x : Swapped). length x.polygons) (none e)) in
     let vertices = vertices_stand at l.vertices are.vertices in
     let polygons = polygons_stand at l.polygons are.polygons in
     (search rules, refl)

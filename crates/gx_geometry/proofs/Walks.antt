@@ -24,7 +24,8 @@ all_signed (x ∷ xs) h = (h 0 (omega arith), all_signed xs (λ i l. h (suc i) (
 vertex_is : (v : Vertex) → v.colour < 2 ^ 15 → FitsVertex v → IsVertex v
 vertex_is v colour fits = record { x = fits.x; y = fits.y; z = fits.z; w = fits.w; colour = colour; s = fits.s; t = fits.t }
 
-pub all_vertices : (xs : List Vertex) → HaveColours xs → ((i : ℕ) → i < length xs → FitsVertex (slice_index_or xs i no_vertex)) → AllByRecursion IsVertex xs
+pub all_vertices : (xs : List Vertex) → HaveColours xs → ((i : ℕ) → i < length xs → FitsVertex (slice_index_or xs i no_vertex))
+    → AllByRecursion IsVertex xs
 all_vertices [] colours h = tt
 all_vertices (x ∷ xs) colours h =
     (vertex_is x (colours 0) (h 0 (omega arith)), all_vertices xs (λ i. colours (suc i)) (λ i l. h (suc i) (omega (arith, l))))

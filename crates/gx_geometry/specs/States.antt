@@ -93,8 +93,8 @@ tested VecTest params s o = record o { vector = vector_test (slice_index params 
 tested BeginVtxs params s o = record o { recent = none_recent }
 tested _ params s o = o
 
--- A vertex comes: it is added to the open list, and with it the polygon that it completes by where the run's last vertices stand; what comes past a limit is dropped and sets the overflow
--- (GBATEK, DISP3DCNT bit 13, and "DS 3D Overview": 6144 vertices and 2048 polygons).
+-- A vertex comes: it is added to the open list, and with it the polygon that it completes by where the run's last vertices stand; what comes past a
+-- limit is dropped and sets the overflow (GBATEK, DISP3DCNT bit 13, and "DS 3D Overview": 6144 vertices and 2048 polygons).
 abbrev pub overflown : OutcomeState → OutcomeState
 overflown o = record o { overflow = true }
 

@@ -11,6 +11,8 @@ loop-preserved c =
     let total = read_list reader c.args.count c.args.from.now in
     let one = length-append c.loop.entries (c.in_ok-entry.entry ∷ []) in
     record {
-      reads = rw c.add.ensures (goes_on reader c.loop.entries c.args.count c.loop.counter c.loop.from c.in_ok-entry.entry c.take.new.from total c.loop-test.true c.in_ok-entry.ensures c.loop.invariant.reads);
+      reads = rw c.add.ensures
+          (goes_on reader c.loop.entries c.args.count c.loop.counter c.loop.from c.in_ok-entry.entry c.take.new.from total
+          c.loop-test.true c.in_ok-entry.ensures c.loop.invariant.reads);
       long = rw c.add.ensures (omega (arith, one, c.loop.invariant.long));
     }

@@ -18,7 +18,8 @@ take_packed-requires c =
     let long = length-append c.self.inside.entries (with_word c.args.command c.args.word ∷ []) in
     let few : length c.self.inside.entries + 4 ≤ 324 = omega (arith, room, c.requires.room) in
     let behind = room_behind c.take_packed.inside.packed (length c.self.inside.entries) 324 c.take_packed.invariant.0 few in
-    let all : length (c.self.inside.entries ++ with_word c.args.command c.args.word ∷ []) + length (packed_commands (c.take_packed.inside.packed / 2 ^ 8)) ≤ 324 =
+    let all : length (c.self.inside.entries ++ with_word c.args.command c.args.word ∷ [])
+    + length (packed_commands (c.take_packed.inside.packed / 2 ^ 8)) ≤ 324 =
     omega (arith, long, behind) in
     record { room = rw c.add.ensures all }
 

@@ -119,7 +119,7 @@ hidden_sound : (s : MachineState) → HasSoundParts s → HasSoundParts (gx_put 
 hidden_sound s sound =
     let waits = sound.io.gx in
     record {
-      io = record { nine = sound.io.nine; seven = sound.io.seven; gx = record { entries = waits.entries; left = waits.left; given = waits.given; due = refl } };
+      io = record { nine = sound.io.nine; seven = sound.io.seven; gx = record { entries = waits.entries; packed = waits.packed; given = waits.given; due = refl } };
       keys = sound.keys;
     }
 

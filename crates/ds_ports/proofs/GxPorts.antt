@@ -1,4 +1,4 @@
-use Rattle.std.proofs.Common.{ℕ, ◌≡◌, ◌≤◌, ◌+◌, nat_le, nat_lt, if◌then◌else◌, Bool, true, false, List, [], ◌∷◌, ◌++◌, length, map, take_while, Option, Some, None, refl, arith}
+use Rattle.std.proofs.Common.{ℕ, ◌≡◌, ◌≤◌, ◌+◌, ◌/◌, ◌^◌, nat_le, nat_lt, if◌then◌else◌, Bool, true, false, List, [], ◌∷◌, ◌++◌, length, Option, Some, None, refl, arith}
 use Rattle.std.proofs.lemmas.List.{length-append}
 use Rattle.ds_base.specs.Bits.{bit}
 use Rattle.ds_base.specs.declared.ticks.Tick.{Tick}
@@ -10,7 +10,7 @@ use Rattle.gx_fifo.specs.declared.ports.GxPort.{GxPort}
 use Rattle.gx_fifo.specs.declared.ports.GxPort.TheVariants.{Display, Fifo, Direct, Status, Lengths, Position, Vector, Clip, VectorMatrix, Unlisted}
 use Rattle.gx_fifo.specs.GxPorts.{gx_port}
 use Rattle.gx_fifo.specs.GxStates.{GxState, gx_written, is_stalled, waiting_entries, write_port}
-use Rattle.gx_fifo.specs.PackedWords.{FifoState, entry_added, packed_commands, parameter_taken, takes_none, unpacked, with_word, without_word}
+use Rattle.gx_fifo.specs.PackedWords.{FifoState, added_by, entry_added, first_command, parameter_taken, unpacked, with_word}
 
 -- What a write of one of geometry's registers leaves.
 
@@ -19,13 +19,13 @@ use Rattle.gx_fifo.specs.PackedWords.{FifoState, entry_added, packed_commands, p
 appended : (xs ys : List GxEntry) (n : ℕ) → n ≤ length xs → n ≤ length (xs ++ ys)
 appended xs ys n h = omega (arith, h, length-append xs ys)
 
-unpacked_longer : (entries : List GxEntry) (left : List GeometryCommand) (n : ℕ) → n ≤ length entries → n ≤ length (unpacked entries left).entries
+unpacked_longer : (entries : List GxEntry) (word n : ℕ) → n ≤ length entries → n ≤ length (unpacked entries word).entries
 unfolding unpacked
-unpacked_longer entries left n h = appended entries (map without_word (take_while takes_none left)) n h
+unpacked_longer entries word n h = appended entries (added_by word) n h
 
-parameter_longer : (left : List GeometryCommand) (word : ℕ) (s : FifoState) → length s.entries ≤ length (parameter_taken left word s).entries
-parameter_longer [] word s = unpacked_longer s.entries (packed_commands word) (length s.entries) (omega arith)
-parameter_longer (command ∷ rest) word s = go (nat_le (command_row command).parameters (s.given + 1)) where
+parameter_longer : (first : Option GeometryCommand) (word : ℕ) (s : FifoState) → length s.entries ≤ length (parameter_taken first word s).entries
+parameter_longer None word s = unpacked_longer s.entries word (length s.entries) (omega arith)
+parameter_longer (Some command) word s = go (nat_le (command_row command).parameters (s.given + 1)) where
   entries : List GxEntry
   entries = s.entries ++ with_word command word ∷ []
 
@@ -33,8 +33,9 @@ parameter_longer (command ∷ rest) word s = go (nat_le (command_row command).pa
   longer = appended s.entries (with_word command word ∷ []) (length s.entries) (omega arith)
 
   go : (b : Bool) → length s.entries
-      ≤ length (if b then unpacked (s.entries ++ with_word command word ∷ []) rest else record s { entries = s.entries ++ with_word command word ∷ []; given = s.given + 1 }).entries
-  go true = unpacked_longer (s.entries ++ with_word command word ∷ []) rest (length s.entries) longer
+      ≤ length (if b then unpacked (s.entries ++ with_word command word ∷ []) (s.packed / 2 ^ 8)
+      else record s { entries = s.entries ++ with_word command word ∷ []; given = s.given + 1 }).entries
+  go true = unpacked_longer (s.entries ++ with_word command word ∷ []) (s.packed / 2 ^ 8) (length s.entries) longer
   go false = longer
 
 entry_longer : (command : Option GeometryCommand) (word : ℕ) (s : FifoState) → length s.entries ≤ length (entry_added command word s).entries
@@ -44,7 +45,7 @@ entry_longer (Some command) word s = appended s.entries (with_word command word 
 port_longer : (port : GxPort) (value : ℕ) (now : Tick) (s : GxState) → waiting_entries s ≤ waiting_entries (write_port port value now s)
 unfolding write_port
 port_longer Display value now s = omega arith
-port_longer Fifo value now s = parameter_longer s.fifo.left value s.fifo
+port_longer Fifo value now s = parameter_longer (first_command s.fifo.packed) value s.fifo
 port_longer (Direct code) value now s = entry_longer (command_of code) value s.fifo
 port_longer Status value now s = omega arith
 port_longer Lengths value now s = omega arith

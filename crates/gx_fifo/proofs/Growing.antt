@@ -1,64 +1,40 @@
-use Rattle.std.proofs.Common.{◌≡◌, ℕ, suc, ◌+◌, ◌≤◌, nat_le, if◌then◌else◌, Bool, true, false, List, [], ◌∷◌, ◌++◌, length, map, take, drop, Option, Some, None, is_some, cond, refl, sym, ap, ◌∙◌, arith}
-use Rattle.std.specs.List.{prefix_len, cons_option}
-use Rattle.std.proofs.lemmas.List.{append_assoc, append-nil, length-append, length-drop, length-map, length-take}
-use Rattle.ds_base.specs.Bits.{bits}
-use Rattle.gx_matrix.specs.CommandTable.{command_of, command_row}
+use Rattle.std.proofs.Common.{◌≡◌, ℕ, ◌+◌, ◌/◌, ◌<◌, ◌≤◌, ◌^◌, nat_le, if◌then◌else◌, Bool, true, false, List, [], ◌∷◌, ◌++◌, length, take, Option, Some, None, is_some, refl, sym, ap, ◌∙◌, arith}
+use Rattle.std.specs.List.{prefix_len}
+use Rattle.std.proofs.lemmas.List.{append_assoc, append-nil, length-append, length-map, length-take}
+use Rattle.gx_matrix.specs.CommandTable.{command_row}
 use Rattle.gx_matrix.specs.declared.commands.GeometryCommand.{GeometryCommand}
 use Rattle.gx_fifo.specs.declared.entries.GxEntry.{GxEntry}
 use Rattle.gx_fifo.specs.Entries.{complete_command}
-use Rattle.gx_fifo.specs.PackedWords.{FifoState, packed_commands, takes_none, with_word, without_word, unpacked, parameter_taken, word_taken, entry_added}
-use Rattle.gx_fifo.specs.GxStates.{IsGiven}
+use Rattle.gx_fifo.specs.PackedWords.{FifoState, added_by, first_command, is_given, packed_commands, takes_none, with_word, without_word, unpacked, parameter_taken, word_taken, entry_added}
+use Rattle.gx_fifo.proofs.Unpacks.{four_commands, left_given, three_commands, word_left}
 
 -- What a word adds to the entries that wait, and what it leaves of a packed word's commands.
 
--- entries come at the end, so many at most; the commands left are four at most, and the first of them was given fewer parameters than it has
+-- entries come at the end, so many at most; what is left of a packed word is a word, and its first command was given fewer parameters than it has
 pub record Grows (most : ℕ) (old new : FifoState) : Type 0 where
   pub more : List GxEntry
   pub entries : new.entries ≡ old.entries ++ more
   pub within : length more ≤ most
-  pub left : length new.left ≤ 4
-  pub given : IsGiven new.left new.given
+  pub packed : new.packed < 2 ^ 32
+  pub given : is_given new.packed new.given ≡ true
 
--- each byte of a packed word has a command at most
-some_command : (command : Option GeometryCommand) (rest : List GeometryCommand) (n : ℕ) → length rest ≤ n → length (cons_option command rest) ≤ n + 1
-some_command None rest n le = omega (arith, le)
-some_command (Some command) rest n le = omega (arith, le)
-
-pub four_commands : (word : ℕ) → length (packed_commands word) ≤ 4
-four_commands word =
-    let last = some_command (command_of (bits 24 8 word)) [] 0 (omega arith) in
-    let third = some_command (command_of (bits 16 8 word)) _ 1 last in
-    let second = some_command (command_of (bits 8 8 word)) _ 2 third in
-    some_command (command_of (bits 0 8 word)) _ 3 second
-
--- after those without parameters comes one that has some, or none is left
-given_by : (b : Bool) (command : GeometryCommand) (rest : List GeometryCommand) → takes_none command ≡ b →
-    IsGiven (drop (prefix_len takes_none rest) rest) 0 → IsGiven (drop (cond b (1 + prefix_len takes_none rest) 0) (command ∷ rest)) 0
-given_by true command rest none later =
-    let one : 1 + prefix_len takes_none rest ≡ suc (prefix_len takes_none rest) = omega arith in
-    rw one later
-given_by false command rest some later = grind (arith, some)
-
-given_none : (left : List GeometryCommand) → IsGiven (drop (prefix_len takes_none left) left) 0
-given_none [] = refl
-given_none (command ∷ rest) = given_by (takes_none command) command rest refl (given_none rest)
-
--- the commands left, taken apart, add no more entries than they are
-unpacked_grows : (left : List GeometryCommand) → length left ≤ 4 → (old : FifoState) → Grows (length left) old (unpacked old.entries left)
+-- a packed word adds no more entries than it has commands
+unpacked_grows : (word : ℕ) (old : FifoState) → Grows (length (packed_commands word)) old (unpacked old.entries word)
 unfolding unpacked
-unpacked_grows left four old =
+unpacked_grows word old =
+    let left = packed_commands word in
     let n = prefix_len takes_none left in
     record {
-      more = map without_word (take n left);
+      more = added_by word;
       entries = refl;
       within = grind (arith, length-map (take n left) without_word, length-take n left);
-      left = grind (arith, length-drop n left, four);
-      given = given_none left;
+      packed = word_left word;
+      given = left_given word;
     }
 
 widened : (least most : ℕ) (old new : FifoState) → least ≤ most → Grows least old new → Grows most old new
 widened least most old new le grows =
-    record { more = grows.more; entries = grows.entries; within = omega (arith, le, grows.within); left = grows.left; given = grows.given }
+    record { more = grows.more; entries = grows.entries; within = omega (arith, le, grows.within); packed = grows.packed; given = grows.given }
 
 -- one more entry before them
 one_before : (n : ℕ) (x : GxEntry) (old between new : FifoState) → between.entries ≡ old.entries ++ x ∷ [] → Grows n between new → Grows (n + 1) old new
@@ -66,39 +42,48 @@ one_before n x old between new first grows = record {
   more = x ∷ grows.more;
   entries = grows.entries ∙ ap (λ es. es ++ grows.more) first ∙ append_assoc old.entries (x ∷ []) grows.more;
   within = omega (arith, grows.within);
-  left = grows.left;
+  packed = grows.packed;
   given = grows.given;
 }
 
-parameter_by : (b : Bool) (command : GeometryCommand) (rest : List GeometryCommand) (word : ℕ) (s : FifoState) →
-    nat_le (command_row command).parameters (s.given + 1) ≡ b → s.left ≡ command ∷ rest → length (command ∷ rest) ≤ 4 →
-    Grows 4 s (if b then unpacked (s.entries ++ with_word command word ∷ []) rest
+-- the command that waits is given a parameter
+pub still_given : (command : GeometryCommand) (packed given : ℕ) → first_command packed ≡ Some command
+    → nat_le (command_row command).parameters (given + 1) ≡ false
+    → is_given packed (given + 1) ≡ true
+still_given command packed given first more = rw first (grind (arith, more))
+
+parameter_by : (b : Bool) (command : GeometryCommand) (word : ℕ) (s : FifoState) → nat_le (command_row command).parameters (s.given + 1) ≡ b
+    → first_command s.packed ≡ Some command → s.packed < 2 ^ 32
+    → Grows 4 s (if b then unpacked (s.entries ++ with_word command word ∷ []) (s.packed / 2 ^ 8)
     else record s { entries = s.entries ++ with_word command word ∷ []; given = s.given + 1 })
-parameter_by true command rest word s last is four =
+parameter_by true command word s last first small =
     let between : FifoState = record s { entries = s.entries ++ with_word command word ∷ [] } in
-    widened (length rest + 1) 4 s _ (omega (arith, four))
-    (one_before (length rest) (with_word command word) s between _ refl (unpacked_grows rest (omega (arith, four)) between))
-parameter_by false command rest word s more is four = record {
+    let rest = s.packed / 2 ^ 8 in
+    let few = three_commands s.packed small in
+    widened (length (packed_commands rest) + 1) 4 s _ (omega (arith, few))
+    (one_before (length (packed_commands rest)) (with_word command word) s between _ refl (unpacked_grows rest between))
+parameter_by false command word s more first small = record {
   more = with_word command word ∷ [];
   entries = refl;
   within = omega arith;
-  left = rw is four;
-  given = rw is (grind (arith, more));
+  packed = small;
+  given = still_given command s.packed s.given first more;
 }
 
-parameter_grows : (left : List GeometryCommand) (word : ℕ) (s : FifoState) → s.left ≡ left → length left ≤ 4 → Grows 4 s (parameter_taken left word s)
-parameter_grows [] word s is four = widened _ 4 s _ (four_commands word) (unpacked_grows (packed_commands word) (four_commands word) s)
-parameter_grows (command ∷ rest) word s is four =
-    parameter_by (nat_le (command_row command).parameters (s.given + 1)) command rest word s refl is four
+parameter_grows : (first : Option GeometryCommand) (word : ℕ) (s : FifoState) → first_command s.packed ≡ first → s.packed < 2 ^ 32
+    → Grows 4 s (parameter_taken first word s)
+parameter_grows None word s is small = widened _ 4 s _ (four_commands word) (unpacked_grows word s)
+parameter_grows (Some command) word s is small =
+    parameter_by (nat_le (command_row command).parameters (s.given + 1)) command word s refl is small
 
-pub word_grows : (word : ℕ) (s : FifoState) → length s.left ≤ 4 → Grows 4 s (word_taken word s)
-word_grows word s four = parameter_grows s.left word s refl four
+pub word_grows : (word : ℕ) (s : FifoState) → s.packed < 2 ^ 32 → Grows 4 s (word_taken word s)
+word_grows word s small = parameter_grows (first_command s.packed) word s refl small
 
-pub entry_grows : (command : Option GeometryCommand) (word : ℕ) (s : FifoState) → length s.left ≤ 4 → IsGiven s.left s.given →
+pub entry_grows : (command : Option GeometryCommand) (word : ℕ) (s : FifoState) → s.packed < 2 ^ 32 → is_given s.packed s.given ≡ true →
     Grows 4 s (entry_added command word s)
-entry_grows None word s four given = record { more = []; entries = sym (append-nil s.entries); within = omega arith; left = four; given = given }
-entry_grows (Some command) word s four given =
-    record { more = with_word command word ∷ []; entries = refl; within = omega arith; left = four; given = given }
+entry_grows None word s small given = record { more = []; entries = sym (append-nil s.entries); within = omega arith; packed = small; given = given }
+entry_grows (Some command) word s small given =
+    record { more = with_word command word ∷ []; entries = refl; within = omega arith; packed = small; given = given }
 
 -- a head command that is complete stays so where entries come
 pub complete_grows : (entries more : List GxEntry) → is_some (complete_command entries) ≡ true → is_some (complete_command (entries ++ more)) ≡ true

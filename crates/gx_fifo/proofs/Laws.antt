@@ -59,7 +59,7 @@ came_waiting : (most : ℕ) (now : Tick) (fifo : FifoState) (s : GxState) → le
     AreWaiting (entries_came now fifo s)
 came_waiting most now fifo s room grows waiting = record {
   entries = room;
-  left = grows.left;
+  packed = grows.packed;
   given = grows.given;
   due = due_kept most s.fifo fifo s.due now s.swap_waits grows waiting.due;
 }
@@ -67,7 +67,7 @@ came_waiting most now fifo s room grows waiting = record {
 same_waiting : (s t : GxState) → t.fifo ≡ s.fifo → t.due ≡ s.due → t.swap_waits ≡ s.swap_waits → AreWaiting s → AreWaiting t
 same_waiting s t fifo due swap waiting = record {
   entries = rw fifo waiting.entries;
-  left = rw fifo waiting.left;
+  packed = rw fifo waiting.packed;
   given = rw fifo waiting.given;
   due = rw (fifo, due, swap) waiting.due;
 }
@@ -76,9 +76,9 @@ port_waiting : (port : GxPort) (value : ℕ) (now : Tick) (s : GxState) → leng
     AreWaiting (write_port port value now s)
 unfolding write_port
 port_waiting Display value now s room waiting = same_waiting s _ refl refl refl waiting
-port_waiting Fifo value now s room waiting = came_waiting 4 now _ s room (word_grows value s.fifo waiting.left) waiting
+port_waiting Fifo value now s room waiting = came_waiting 4 now _ s room (word_grows value s.fifo waiting.packed) waiting
 port_waiting (Direct code) value now s room waiting =
-    came_waiting 4 now _ s room (entry_grows (command_of code) value s.fifo waiting.left waiting.given) waiting
+    came_waiting 4 now _ s room (entry_grows (command_of code) value s.fifo waiting.packed waiting.given) waiting
 port_waiting Status value now s room waiting = same_waiting s _ refl refl refl waiting
 port_waiting Lengths value now s room waiting = waiting
 port_waiting (Position i) value now s room waiting = waiting
@@ -96,8 +96,8 @@ port_grows : (port : GxPort) (value : ℕ) (now : Tick) (s : GxState) → AreWai
     length (write_port port value now s).fifo.entries ≤ length s.fifo.entries + 4
 unfolding write_port
 port_grows Display value now s waiting = omega arith
-port_grows Fifo value now s waiting = grows_by 4 s.fifo _ (word_grows value s.fifo waiting.left)
-port_grows (Direct code) value now s waiting = grows_by 4 s.fifo _ (entry_grows (command_of code) value s.fifo waiting.left waiting.given)
+port_grows Fifo value now s waiting = grows_by 4 s.fifo _ (word_grows value s.fifo waiting.packed)
+port_grows (Direct code) value now s waiting = grows_by 4 s.fifo _ (entry_grows (command_of code) value s.fifo waiting.packed waiting.given)
 port_grows Status value now s waiting = omega arith
 port_grows Lengths value now s waiting = omega arith
 port_grows (Position i) value now s waiting = omega arith
@@ -116,7 +116,7 @@ done_waiting None head s waiting = waiting
 done_waiting (Some now) None s waiting = waiting
 done_waiting (Some now) (Some command) s waiting = record {
   entries = omega (arith, length-drop (entries_taken command) s.fifo.entries, waiting.entries);
-  left = waiting.left;
+  packed = waiting.packed;
   given = waiting.given;
   due = begun_is now (asks_for_swap command) (drop (entries_taken command) s.fifo.entries);
 }
@@ -159,7 +159,7 @@ either_waiting false x y first second = second
 pub swapped_waiting : (now : Tick) (s : GxState) → AreWaiting s → AreWaiting (gx_swapped now s)
 swapped_waiting now s waiting =
     either_waiting s.swap_waits _ s
-    (record { entries = waiting.entries; left = waiting.left; given = waiting.given; due = begun_is now false s.fifo.entries }) waiting
+    (record { entries = waiting.entries; packed = waiting.packed; given = waiting.given; due = begun_is now false s.fifo.entries }) waiting
 
 -- the current run's vertices are counted by commands alone
 either_run : (b : Bool) (x y : GeometryState) (n : ℕ) → x.numbers.run ≡ n → y.numbers.run ≡ n → (if b then x else y).numbers.run ≡ n

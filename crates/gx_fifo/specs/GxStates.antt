@@ -1,14 +1,14 @@
-use Rattle.std.specs.Prelude.{ℕ, ◌≡◌, ◌<◌, ◌≤◌, ◌+◌, ◌-◌, ◌*◌, ◌/◌, ◌%◌, ◌^◌, ◌==◌, ◌&&◌, ◌||◌, not, nat_lt, min, if◌then◌else◌, Bool, false, ℤ, pos, List, [], ◌∷◌, length, drop, slice_index_or, Option, Some, None, is_some}
+use Rattle.std.specs.Prelude.{ℕ, ◌≡◌, ◌<◌, ◌≤◌, ◌+◌, ◌-◌, ◌*◌, ◌/◌, ◌%◌, ◌^◌, ◌==◌, ◌&&◌, ◌||◌, not, nat_lt, min, if◌then◌else◌, Bool, true, false, ℤ, pos, List, length, drop, slice_index_or, Option, Some, None, is_some}
 use Rattle.std.specs.Int.{cast_unsigned, w16, w32}
 use Rattle.ds_base.specs.Bits.{bit, bits, flag}
 use Rattle.ds_base.specs.declared.ticks.Tick.{Tick}
-use Rattle.gx_matrix.specs.CommandTable.{command_of, command_row}
+use Rattle.gx_matrix.specs.CommandTable.{command_of}
 use Rattle.gx_matrix.specs.Commands.{clip_of, levels_of}
 use Rattle.gx_matrix.specs.declared.commands.GeometryCommand.{GeometryCommand}
 use Rattle.gx_geometry.specs.Bounds.{IsGeometry}
 use Rattle.gx_geometry.specs.States.{GeometryState, geometry_at_boot, geometry_after, geometry_error_cleared, overflow_cleared, swapped}
 use Rattle.gx_fifo.specs.Entries.{entries_taken, words_taken, complete_command, begun, asks_for_swap, is_tested, is_stacked, kind_waits, most_entries}
-use Rattle.gx_fifo.specs.PackedWords.{FifoState, fifo_at_boot, word_taken, entry_added}
+use Rattle.gx_fifo.specs.PackedWords.{FifoState, fifo_at_boot, is_given, word_taken, entry_added}
 use Rattle.gx_fifo.specs.GxPorts.{gx_port}
 use Rattle.gx_fifo.specs.declared.ports.GxPort.{GxPort}
 use Rattle.gx_fifo.specs.declared.ports.GxPort.TheVariants.{Display, Fifo, Direct, Status, Lengths, Position, Vector, Clip, VectorMatrix}
@@ -169,21 +169,17 @@ gx_swapped now s =
 
 -- What holds at every time.
 
--- the first command left was given fewer parameters than it has
-abbrev pub IsGiven : List GeometryCommand → ℕ → Type 0
-IsGiven [] given = given ≡ 0
-IsGiven (command ∷ rest) given = given < (command_row command).parameters
-
 -- what waits: how much at most, and that a command is due exactly where the head command is complete and no swap waits
 pub record AreWaiting (s : GxState) : Type 0 where
   pub entries : length s.fifo.entries ≤ most_entries
-  pub left : length s.fifo.left ≤ 4
-  pub given : IsGiven s.fifo.left s.fifo.given
+  pub packed : s.fifo.packed < 2 ^ 32
+  pub given : is_given s.fifo.packed s.fifo.given ≡ true
   pub due : is_some s.due ≡ (not s.swap_waits && is_some (complete_command s.fifo.entries))
 
--- and which bits are kept, and what holds of the engine
+-- and which bits are kept, that a parameter waits with a swap alone, and what holds of the engine
 pub record IsGx (s : GxState) : Type 0 where
   pub waiting : AreWaiting s
+  pub parameter : s.swap_waits ≡ false → s.geometry.numbers.parameter ≡ 0
   pub display : s.display < 2 ^ 15
   pub overflow_apart : bit 13 s.display ≡ false
   pub selector : s.selector < 2 ^ 2

@@ -3,3 +3,4 @@ pub mod PackedWords
 pub mod Unpacking
 pub mod GxPorts
 pub mod GxStates
+pub mod Saved

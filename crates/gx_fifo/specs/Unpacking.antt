@@ -1,10 +1,8 @@
-use Rattle.std.specs.Prelude.{Bool, false, List, [], ◌∷◌}
-use Rattle.gx_matrix.specs.declared.commands.GeometryCommand.{GeometryCommand}
-use Rattle.gx_fifo.specs.PackedWords.{takes_none}
+use Rattle.std.specs.Prelude.{ℕ, ◌==◌, ◌||◌, nat_lt, Bool}
+use Rattle.gx_fifo.specs.PackedWords.{first_parameters}
 
--- What the code that takes packed words apart asks at each command. No public call speaks of it.
+-- What the code that takes packed words apart asks at each byte. No public call speaks of it.
 
--- the first command left has no parameters
-abbrev pub starts_without : List GeometryCommand → Bool
-starts_without [] = false
-starts_without (command ∷ rest) = takes_none command
+-- nothing is left, or a command that has parameters stands first
+abbrev pub stops_at : ℕ → Bool
+stops_at word = (word == 0) || nat_lt 0 (first_parameters word)

@@ -4,9 +4,12 @@ ghost use Rattle.std.specs.Prelude.{◌≡◌, ◌<◌, ◌≤◌, ◌∷◌, �
 ghost use Rattle.gx_matrix.specs.CommandTable.{command_row};
 ghost use Rattle.gx_fifo.specs.Entries.{is_tested, is_stacked, kind_waits, complete_command, entries_taken, words_taken, most_entries};
 
+mod saved;
+
 use arrayvec::ArrayVec;
 use circular_buffer::HeapCircularBuffer;
 use gx_matrix::GeometryCommand;
+pub use saved::take_entries;
 use std::alloc::{AllocError, Global};
 use std::marker::Model;
 

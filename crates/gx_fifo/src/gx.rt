@@ -10,12 +10,15 @@ ghost use Rattle.gx_fifo.specs.Entries.{begun, done_after, complete_command, ask
 ghost use Rattle.gx_fifo.specs.PackedWords.{word_taken, entry_added};
 ghost use Rattle.gx_fifo.specs.GxStates.{AddsOneVertex, IsGx, gx_at_boot, waiting_entries, shown_count, is_stalled, is_half_empty, gx_level, gx_status, display_control, read_port, gx_word, gx_kept, kept_port, gx_written, gx_finished, gx_swapped, disp3dcnt_written, gxstat_written, entries_came, due_after, engine_word, word_in, half_in};
 
+mod saved;
+
 use crate::entries::Entries;
 use crate::packed::Fifo;
 use crate::ports::{GxPort, port_at};
 use ds_base::Tick;
 use gx_geometry::{Geometry, Lists};
 use gx_matrix::GeometryCommand;
+pub use saved::saved_laws;
 use std::alloc::{AllocError, Global};
 use std::marker::Model;
 
@@ -35,7 +38,7 @@ impl Model for Gx {
     ghost use Rattle.std.specs.Prelude.{◌≡◌, ◌<◌, ◌^◌, ◌&&◌, not, is_some, false};
     ghost use Rattle.ds_base.specs.Bits.{bit};
     ghost use Rattle.gx_fifo.specs.Entries.{complete_command};
-    ghost use Rattle.gx_fifo.specs.GxStates.{GxState, IsGiven};
+    ghost use Rattle.gx_fifo.specs.GxStates.{GxState};
 
     ghost Value = { GxState };
 
@@ -48,8 +51,8 @@ impl Model for Gx {
       selector = g.selector;
     } };
 
-    ghost invariant = { λ g. (is_some g.due ≡ (not g.swap_waits && is_some (complete_command g.fifo.entries))) × IsGiven g.fifo.left g.fifo.given
-        × (g.display < 2 ^ 15) × (bit 13 g.display ≡ false) × (g.selector < 2 ^ 2) };
+    ghost invariant = { λ g. (is_some g.due ≡ (not g.swap_waits && is_some (complete_command g.fifo.entries)))
+        × (g.swap_waits ≡ false → g.engine.numbers.parameter ≡ 0) × (g.display < 2 ^ 15) × (bit 13 g.display ≡ false) × (g.selector < 2 ^ 2) };
 }
 
 /// When a command that begins at a tick is done.

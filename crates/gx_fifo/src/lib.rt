@@ -2,10 +2,10 @@
 //! their parameters, when each command is done, and the swap that waits for line 192. All memory is taken by `Gx::new`.
 //!
 //! `specs/` has the list of entries and its head command (Entries), the packed words (PackedWords), the table of ports and what each reads
-//! (GxPorts), and the whole with what each call leaves (GxStates).
+//! (GxPorts), the whole with what each call leaves (GxStates), and its bytes (Saved).
 //!
-//! The definition is a list of entries, each a command by its name and a word, with the commands left of the last packed word; there is no
-//! ring in it. The head command is the first entry's, and takes as many entries as it has parameters, and one where it has none, whatever
+//! The definition is a list of entries, each a command by its name and a word, with the bytes left of the last packed word as a number; there is
+//! no ring in it. The head command is the first entry's, and takes as many entries as it has parameters, and one where it has none, whatever
 //! they were written for. The code keeps a ring of 324 entries, and beside it how many of them GXSTAT asks for; that these counts are those
 //! of the list is proved.
 //!
@@ -14,9 +14,11 @@
 //! later than `now` (`schedule`). `Gx::due`: when the head command is done, `2 * clocks` ticks after it was complete and first.
 //! `Gx::finish`, where one is due and the run has at most 2^56 vertices: the engine after the command, without its entries, and the next
 //! command begun at that tick. `Gx::swap` is true exactly where a swap waited, and what it gives out are the lists of all that was done
-//! since the swap before (`lists`). `laws`: at most 324 entries; at most four commands left of a packed word, the first given fewer
-//! parameters than it has; a command is due exactly where the head command is complete and no swap waits; which bits are kept; a command
-//! adds one vertex to the run at most.
+//! since the swap before (`lists`). `laws`: at most 324 entries; what is left of a packed word begins with a command that was given
+//! fewer parameters than it has, or is 0; a command is due exactly where the head command is complete and no swap waits; which bits are
+//! kept; a swap's parameter is there only while one waits; a command adds one vertex to the run at most. `pack` and `unpack`: the bytes of it
+//! all and what is read of bytes, by one format; `saved_laws`: the bytes at a tick that isn't after the due tick, and no more than 2^32 before
+//! it, are read as what they were, and bytes that are read are those of what is read; `bounds` has what that asks of each number beside `laws`.
 //!
 //! Only tested, in `gx_tests`: ticks, packed words, GXSTAT, results, the stall and a swap, worked by hand, and that `Gx::new` succeeds with
 //! ample memory.
@@ -28,4 +30,4 @@ mod packed;
 mod ports;
 
 pub use entries::GxEntry;
-pub use gx::Gx;
+pub use gx::{Gx, saved_laws};

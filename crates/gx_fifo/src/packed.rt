@@ -1,39 +1,88 @@
 //! Packed words, taken apart into entries.
 
-ghost use Rattle.std.specs.Prelude.{◌≡◌, ◌<◌, ◌≤◌, ◌+◌, ◌∷◌, ◌++◌, length, drop, filter_map, map, option_to_list, slice_get, take, [], Some, IfOk};
-ghost use Rattle.ds_base.specs.Bits.{bits};
+ghost use Rattle.std.specs.Prelude.{◌≡◌, ◌<◌, ◌≤◌, ◌+◌, ◌^◌, ◌∷◌, ◌++◌, true, length, drop, map, option_to_list, [], Some, IfOk};
 ghost use Rattle.gx_matrix.specs.CommandTable.{command_of};
-ghost use Rattle.gx_fifo.specs.Entries.{complete_command, words_taken, entries_taken, most_entries};
-ghost use Rattle.gx_fifo.specs.PackedWords.{fifo_at_boot, packed_commands, without_word, with_word, unpacked, word_taken, entry_added};
-ghost use Rattle.gx_fifo.specs.Unpacking.{starts_without};
+ghost use Rattle.gx_fifo.specs.Entries.{words_taken, entries_taken, most_entries};
+ghost use Rattle.gx_fifo.specs.PackedWords.{added_by, bytes_left, first_command, first_parameters, fifo_at_boot, is_given, packed_commands, without_word, unpacked, word_taken, entry_added};
+ghost use Rattle.gx_fifo.specs.Unpacking.{stops_at};
+
+mod saved;
 
 use crate::entries::{Entries, GxEntry};
 use arrayvec::ArrayVec;
-use circular_buffer::HeapCircularBuffer;
 use gx_matrix::GeometryCommand;
+pub use saved::take_left;
 use std::alloc::{AllocError, Global};
 use std::marker::Model;
 
-/// How many commands a packed word has at most.
-const COMMANDS: usize = 4;
-
-/// The entries that wait, and the commands that are left of the last packed word.
+/// The entries that wait, and what is left of the last packed word: its upper bytes, the lowest of them the code of the command that was given
+/// some of its parameters; 0 where none waits for any.
 #[derive(Drop)]
 pub struct Fifo {
     entries: Entries,
-    left: HeapCircularBuffer<GeometryCommand>,
+    packed: u32,
     given: u8,
 }
 
 impl Model for Fifo {
-    ghost use Rattle.std.specs.Prelude.{◌≡◌, ◌<◌, ◌≤◌, length};
-    ghost use Rattle.gx_fifo.specs.PackedWords.{FifoState};
+    ghost use Rattle.std.specs.Prelude.{◌≡◌, ◌<◌, ◌≤◌, ◌^◌, true, length};
+    ghost use Rattle.gx_fifo.specs.PackedWords.{FifoState, is_given};
 
     ghost Value = { FifoState };
 
-    ghost view = { λ f. record { entries = f.entries; left = f.left.items; given = f.given } };
+    ghost view = { λ f. record { entries = f.entries; packed = f.packed; given = f.given } };
 
-    ghost invariant = { λ f. (f.left.capacity ≡ 4) × (length f.left.items ≤ 4) × (f.given < 32) × (length f.entries ≤ 324) };
+    ghost invariant = { λ f. (f.packed < 2 ^ 32) × (f.given < 32) × (is_given f.packed f.given ≡ true) × (length f.entries ≤ 324) };
+}
+
+/// The command of the first byte.
+fn first_command(word: u32) -> Option<GeometryCommand>
+    ensures { result ≡ first_command word }
+{
+    GeometryCommand::of((word & 0xFF) as u8)
+}
+
+/// How many parameters the command of the first byte has.
+fn first_parameters(word: u32) -> u8
+    ensures value { result ≡ first_parameters word }
+    ensures within { result ≤ 32 }
+{
+    match first_command(word) {
+        None => 0,
+        Some(command) => command.parameters(),
+    }
+}
+
+/// Whether nothing is left, or a command that has parameters stands first.
+fn stops_at(word: u32) -> bool
+    ensures { result ≡ stops_at word }
+{
+    word == 0 || first_parameters(word) != 0
+}
+
+/// The command of the first byte becomes an entry without a parameter.
+fn add_first(entries: &mut Entries, word: u32)
+    requires { length entries.old + length (option_to_list (first_command word)) ≤ most_entries }
+    ensures { entries.new ≡ entries.old ++ map without_word (option_to_list (first_command word)) }
+{
+    if let Some(command) = first_command(word) {
+        entries.add(GxEntry { command, word: 0 });
+    }
+}
+
+/// The commands at the front of a packed word that have no parameters become entries. What is left of the word.
+fn unpack(entries: &mut Entries, word: u32) -> u32
+    requires room { length entries.old + length (packed_commands word) ≤ most_entries }
+    ensures entries { entries.new ≡ entries.old ++ added_by word }
+    ensures left { result ≡ bytes_left word }
+    ensures given { is_given result 0 ≡ true }
+{
+    let mut left = word;
+    while !stops_at(left) {
+        add_first(entries, left);
+        left >>= 8;
+    }
+    left
 }
 
 impl Fifo {
@@ -42,10 +91,9 @@ impl Fifo {
         ensures { IfOk result (λ f. f ≡ fifo_at_boot) }
     {
         let entries = Entries::new(alloc)?;
-        let left = HeapCircularBuffer::with_capacity(alloc, COMMANDS)?;
         Ok(Fifo {
             entries,
-            left,
+            packed: 0,
             given: 0,
         })
     }
@@ -54,91 +102,44 @@ impl Fifo {
     pub fn entries(&self) -> &Entries
         ensures value { result.now ≡ self.now.entries }
         ensures within { length self.now.entries ≤ most_entries }
-        ensures left { length self.now.left ≤ 4 }
+        ensures packed { self.now.packed < 2 ^ 32 }
+        ensures given { is_given self.now.packed self.now.given ≡ true }
     {
         &self.entries
     }
 
-    /// A byte of a packed word, after those before it.
-    fn leave(&mut self, code: u8)
-        requires { length self.old.left < 4 }
-        ensures { self.new ≡ record self.old { left = self.old.left ++ option_to_list (command_of code) } }
-    {
-        match GeometryCommand::of(code) {
-            None => (),
-            Some(command) => {
-                self.left.push_back(command);
-            }
-        }
-    }
-
-    /// Whether the first command left has no parameters.
-    fn starts_without(&self) -> bool
-        ensures { result ≡ starts_without self.now.left }
-    {
-        match self.left.front() {
-            Some(command) => command.parameters() == 0,
-            None => false,
-        }
-    }
-
-    /// The first command left becomes an entry without a parameter.
-    fn add_first(&mut self)
-        requires { length self.old.entries < most_entries }
-        ensures { self.new ≡ record self.old { entries = self.old.entries ++ map without_word (take 1 self.old.left); left = drop 1 self.old.left } }
-    {
-        if let Some(command) = self.left.pop_front() {
-            self.entries.add(GxEntry { command, word: 0 });
-        }
-    }
-
-    /// The commands at the front of those left that have no parameters become entries.
-    fn unpack(&mut self)
-        requires room { length self.old.entries + length self.old.left ≤ most_entries }
-        ensures state { self.new ≡ unpacked self.old.entries self.old.left }
-    {
-        self.given = 0;
-        while self.starts_without() {
-            self.add_first();
-        }
-    }
-
     /// A word that is written to the FIFO's port.
-    #[tactic(auto, using(crate::proofs::Unpacks::none_left))]
+    #[tactic(auto, using(crate::proofs::Unpacks::four_commands))]
     pub fn take_word(&mut self, word: u32)
         requires room { length self.old.entries + 4 ≤ most_entries }
         ensures state { self.new ≡ word_taken word self.old }
-        ensures left { length self.old.left ≤ 4 }
+        ensures packed { self.old.packed < 2 ^ 32 }
     {
-        match self.left.front().copied() {
+        match first_command(self.packed) {
             None => self.take_packed(word),
             Some(command) => self.take_parameter(command, word),
         }
     }
 
-    /// A packed word.
+    /// A packed word, or what is left of one behind a command.
+    #[tactic(auto, unfolding(crate::specs::PackedWords::unpacked))]
     fn take_packed(&mut self, word: u32)
-        requires room { length self.old.entries + 4 ≤ most_entries }
-        requires none { self.old.left ≡ [] }
-        ensures state { self.new ≡ unpacked self.old.entries (packed_commands word) }
+        requires room { length self.old.entries + length (packed_commands word) ≤ most_entries }
+        ensures state { self.new ≡ unpacked self.old.entries word }
     {
-        self.leave((word & 0xFF) as u8);
-        self.leave((word >> 8 & 0xFF) as u8);
-        self.leave((word >> 16 & 0xFF) as u8);
-        self.leave((word >> 24) as u8);
-        self.unpack();
+        self.packed = unpack(&mut self.entries, word);
+        self.given = 0;
     }
 
-    /// A parameter of the first command left.
+    /// A parameter of the command that waits for it.
     fn take_parameter(&mut self, command: GeometryCommand, word: u32)
         requires room { length self.old.entries + 4 ≤ most_entries }
-        requires first { slice_get self.old.left 0 ≡ Some command }
+        requires first { first_command self.old.packed ≡ Some command }
         ensures state { self.new ≡ word_taken word self.old }
     {
         self.entries.add(GxEntry { command, word });
         if command.parameters() <= self.given + 1 {
-            let _done = self.left.pop_front();
-            self.unpack();
+            self.take_packed(self.packed >> 8);
         } else {
             self.given += 1;
         }

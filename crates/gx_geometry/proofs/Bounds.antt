@@ -12,7 +12,7 @@ use Rattle.gx_geometry.specs.Numbers.{no_light, numbers_at_boot}
 use Rattle.gx_geometry.specs.Lights.{lit_channel, lit_colour, turned}
 use Rattle.gx_geometry.specs.Changes.{numbers_drawn, numbers_lit, numbers_after, normal_given, coordinates_given, vertex_given, diffuse_given, specular_given, light_pointed, light_coloured, run_begun, gives_vertex}
 use Rattle.gx_geometry.specs.States.{GeometryState, geometry_after}
-use Rattle.gx_geometry.specs.Bounds.{AreSmall, AreLimited, HaveColours, HavePalettes}
+use Rattle.gx_geometry.specs.Bounds.{is_shaped, AreSmall, AreLimited, HaveColours, HavePalettes, HaveShapes}
 
 -- Commands keep colours to fifteen bits and palettes to thirteen, and add at most one vertex to a run.
 
@@ -186,6 +186,10 @@ palette_added [] p small h (suc i) = h 0
 palette_added (x ∷ xs) p small h zero = h 0
 palette_added (x ∷ xs) p small h (suc i) = palette_added xs p small (λ j. h (suc j)) i
 
+pub shape_added : (xs : List Polygon) (p : Polygon) → is_shaped p ≡ true → HaveShapes xs → HaveShapes (xs ++ p ∷ [])
+shape_added [] p shaped h = (shaped, tt)
+shape_added (x ∷ xs) p shaped h = (h.0, shape_added xs p shaped h.1)
+
 -- a command adds at most one vertex to the run
 named_after : (command : GeometryCommand) (params : List ℕ) (g : GeometryState) → (geometry_after command params g).numbers.run ≤ g.numbers.run + 1
 unfolding geometry_after
@@ -214,4 +218,4 @@ pub no_palettes : HavePalettes []
 no_palettes i = omega arith
 
 pub none_limited : AreLimited [] []
-none_limited = record { vertices_within = omega arith; polygons_within = omega arith; colours = no_colours; palettes = no_palettes }
+none_limited = record { vertices_within = omega arith; polygons_within = omega arith; colours = no_colours; palettes = no_palettes; shapes = tt }

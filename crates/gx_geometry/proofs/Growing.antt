@@ -1,16 +1,20 @@
-use Rattle.std.proofs.Common.{ℕ, ◌≡◌, ◌<◌, ◌≤◌, inl, inr, Bool, true, false, List, [], ◌∷◌, ◌++◌, length, take, Option, Some, None, refl, sym, ◌∙◌, ap, arith, append_assoc, append-nil, length-append}
-use Rattle.std.specs.Prelude.{if◌then◌else◌, option_to_list}
+use Rattle.std.proofs.Common.{ℕ, zero, suc, ◌≡◌, ◌<◌, ◌≤◌, ◌+◌, ◌-◌, ◌*◌, ◌%◌, inl, inr, Bool, true, false, true≢false, List, [], ◌∷◌, ◌++◌, length, take, Option, Some, None, refl, sym, subst, ◌∙◌, ap, arith, append_assoc, append-nil, length-append}
+use Rattle.std.specs.Prelude.{◌==◌, ◌&&◌, ◌||◌, nat_le, if◌then◌else◌, option_to_list, slice_index, slice_index_or}
 use Rattle.std.proofs.lemmas.List.{take-append-le, take_all, length-take-le}
 use Rattle.ds_base.proofs.Choices.{low_or_high}
 use Rattle.gx_matrix.specs.declared.commands.GeometryCommand.{GeometryCommand}
-use Rattle.gx_matrix.specs.declared.commands.GeometryCommand.TheVariants.{BeginVtxs, BoxTest, PosTest, VecTest}
+use Rattle.gx_matrix.specs.declared.commands.GeometryCommand.TheVariants.{BeginVtxs, Vtx16, Vtx10, VtxXy, VtxXz, VtxYz, VtxDiff, BoxTest, PosTest, VecTest}
+use Rattle.gx_geometry.specs.declared.numbers.Kind.{Kind}
+use Rattle.gx_geometry.specs.declared.numbers.Kind.TheVariants.{Triangles, Quads, TriangleStrip, QuadStrip}
 use Rattle.gx_geometry.specs.declared.polygons.Vertex.{Vertex}
 use Rattle.gx_geometry.specs.declared.polygons.Polygon.{Polygon}
 use Rattle.gx_geometry.specs.Records.{NumbersState}
 use Rattle.gx_geometry.specs.Changes.{numbers_after, gives_vertex}
-use Rattle.gx_geometry.specs.Polygons.{Arrival, arrival_of, polygon_of, polygon_by, completed, has_corners, most_vertices, most_polygons}
+use Rattle.gx_geometry.specs.Polygons.{Arrival, arrival_of, no_place, place_since, polygon_of, polygon_among, polygon_at, polygon_by, corners, completed, has_corners, most_vertices, most_polygons}
 use Rattle.gx_geometry.specs.Lists.{GeometryAct, Command, ClearError, ClearOverflow, arrivals, polygons_of, vertices_of}
-use Rattle.gx_geometry.specs.States.{OutcomeState, GeometryState, IsFresh, AreListsSince, vertex_dropped, polygon_added, vertex_added, arrived, tested, geometry_after, geometry_error_cleared, overflow_cleared, after_all}
+use Rattle.gx_geometry.specs.States.{OutcomeState, GeometryState, IsFresh, AreListsSince, four_recent, none_recent, then_recent, vertex_dropped, polygon_added, vertex_added, arrived, tested, outcome_after, geometry_after, geometry_error_cleared, overflow_cleared, after_all}
+use Rattle.gx_geometry.proofs.Backs.{Agrees, same_polygon}
+use Rattle.gx_geometry.proofs.Recent.{recent_polygon, run_by, run_by_command}
 
 -- The open lists, which grow command by command, are the lists of all commands since the swap.
 
@@ -40,10 +44,32 @@ polygon_step (Some p) o made e = elim (low_or_high (length made) most_polygons) 
 ]
 
 -- past the limit a vertex makes no polygon
-none_dropped : (k : Option ℕ) (came : List Vertex) (a : Arrival) → most_vertices < length came → polygon_by k came a ≡ None
+nowhere : (came : List Vertex) (a : Arrival) (place : ℕ) → most_vertices < length came → place_since came a place ≡ no_place
+nowhere came a place h = grind (arith, h)
+
+none_stands : (stands : ℕ → ℕ) (p : ℕ) (ps : List ℕ) → stands p ≡ no_place → has_corners stands (p ∷ ps) ≡ false
 unfolding has_corners
+none_stands stands p ps h = rw h refl
+
+none_at : (came : List Vertex) (a : Arrival) (p : ℕ) (ps : List ℕ) → most_vertices < length came
+    → polygon_at (place_since came a) came a (p ∷ ps) ≡ None
+none_at came a p ps h = rw (none_stands (place_since came a) p ps (nowhere came a p h)) refl
+
+strip_at : (came : List Vertex) (a : Arrival) (k : ℕ) (b : Bool) → most_vertices < length came
+    → polygon_at (place_since came a) came a (if b then k ∷ (k + 1) ∷ (k + 2) ∷ [] else (k + 1) ∷ k ∷ (k + 2) ∷ []) ≡ None
+strip_at came a k true h = none_at came a k _ h
+strip_at came a k false h = none_at came a (k + 1) _ h
+
+kind_dropped : (kind : Kind) (k : ℕ) (came : List Vertex) (a : Arrival) → most_vertices < length came
+    → polygon_at (place_since came a) came a (corners kind k) ≡ None
+kind_dropped Triangles k came a h = none_at came a (3 * k) _ h
+kind_dropped Quads k came a h = none_at came a (4 * k) _ h
+kind_dropped TriangleStrip k came a h = strip_at came a k (k % 2 == 0) h
+kind_dropped QuadStrip k came a h = none_at came a (2 * k) _ h
+
+none_dropped : (k : Option ℕ) (came : List Vertex) (a : Arrival) → most_vertices < length came → polygon_by k (place_since came a) came a ≡ None
 none_dropped None came a h = refl
-none_dropped (Some k) came a h = grind arith
+none_dropped (Some k) came a h = kind_dropped a.kind k came a h
 
 pub dropped : (came : List Vertex) (a : Arrival) → most_vertices < length came → polygon_of came a ≡ None
 unfolding polygon_of
@@ -51,7 +77,7 @@ dropped came a h = none_dropped (completed a.kind a.place) came a h
 
 -- a vertex comes: both lists go on as those of all vertices and polygons, cut at the limits
 pub arrived_room : (a : Arrival) (o : OutcomeState) → length o.vertices < most_vertices →
-    arrived a o ≡ polygon_added (polygon_of (o.vertices ++ a.vertex ∷ []) a) (vertex_added a.vertex o)
+    arrived a o ≡ polygon_added (polygon_among (four_recent o) (o.vertices ++ a.vertex ∷ []) a) (vertex_added a.vertex o)
 unfolding arrived
 arrived_room a o h = grind arith
 
@@ -66,20 +92,25 @@ pub record Holds (o : OutcomeState) (came : List Vertex) (made : List Polygon) :
 unfoldable pub polygons_with : Arrival → List Vertex → List Polygon → List Polygon
 polygons_with a came made = made ++ option_to_list (polygon_of (came ++ a.vertex ∷ []) a)
 
-arrived_holds : (a : Arrival) (o : OutcomeState) (came : List Vertex) (made : List Polygon) → Holds o came made →
+-- the polygon that is made of the run's last vertices is that of all that came
+unfoldable pub SamePolygon : Arrival → OutcomeState → List Vertex → Type 0
+SamePolygon a o came =
+    length came < most_vertices → polygon_among (four_recent o) (o.vertices ++ a.vertex ∷ []) a ≡ polygon_of (came ++ a.vertex ∷ []) a
+
+arrived_holds : (a : Arrival) (o : OutcomeState) (came : List Vertex) (made : List Polygon) → SamePolygon a o came → Holds o came made →
     Holds (arrived a o) (came ++ a.vertex ∷ []) (polygons_with a came made)
-unfolding polygons_with
-arrived_holds a o came made held = elim (low_or_high (length came) most_vertices) [
+unfolding polygons_with SamePolygon
+arrived_holds a o came made makes held = elim (low_or_high (length came) most_vertices) [
   | inl h ↦
       let same : o.vertices ≡ came = held.vertices_are ∙ take_all most_vertices came (omega arith) in
       let room : length o.vertices < most_vertices = omega (arith, ap (λ (xs : List Vertex). length xs) same) in
       let fits : length (came ++ a.vertex ∷ []) ≤ most_vertices = omega (arith, length-append came (a.vertex ∷ [])) in
-      let p : Option Polygon = polygon_of (o.vertices ++ a.vertex ∷ []) a in
+      let p : Option Polygon = polygon_among (four_recent o) (o.vertices ++ a.vertex ∷ []) a in
       record {
         vertices_are = ap (λ (x : OutcomeState). x.vertices) (arrived_room a o room) ∙ polygon_keeps p (vertex_added a.vertex o)
             ∙ ap (λ (xs : List Vertex). xs ++ a.vertex ∷ []) same ∙ sym (take_all most_vertices (came ++ a.vertex ∷ []) fits);
         polygons_are = ap (λ (x : OutcomeState). x.polygons) (arrived_room a o room) ∙ polygon_step p (vertex_added a.vertex o) made held.polygons_are
-            ∙ ap (λ (xs : List Vertex). take most_polygons (made ++ option_to_list (polygon_of (xs ++ a.vertex ∷ []) a))) same;
+            ∙ ap (λ (q : Option Polygon). take most_polygons (made ++ option_to_list q)) (makes h);
       }
   | inr h ↦
       let full : most_vertices ≤ length o.vertices =
@@ -95,10 +126,11 @@ arrived_holds a o came made held = elim (low_or_high (length came) most_vertices
 ]
 
 -- a command, which gives a vertex or doesn't
-pub step_holds : (b : Bool) (a : Arrival) (o : OutcomeState) (came : List Vertex) (made : List Polygon) → Holds o came made →
+pub step_holds : (b : Bool) (a : Arrival) (o : OutcomeState) (came : List Vertex) (made : List Polygon) → (b ≡ true → SamePolygon a o came)
+    → Holds o came made →
     Holds (if b then arrived a o else o) (if b then came ++ a.vertex ∷ [] else came) (if b then polygons_with a came made else made)
-step_holds true a o came made held = arrived_holds a o came made held
-step_holds false a o came made held = held
+step_holds true a o came made makes held = arrived_holds a o came made (makes refl) held
+step_holds false a o came made makes held = held
 
 pub step_vertices : (b : Bool) (a : Arrival) (came : List Vertex) (later : List Arrival) →
     (if b then came ++ a.vertex ∷ [] else came) ++ vertices_of later ≡ came ++ vertices_of (if b then a ∷ later else later)
@@ -113,6 +145,137 @@ step_polygons true a came made later =
     append_assoc made (option_to_list (polygon_of (came ++ a.vertex ∷ []) a)) (polygons_of (came ++ a.vertex ∷ []) later)
 step_polygons false a came made later = refl
 
+-- where the last so many of a run's vertices stands among those that came
+abbrev pub back_place : ℕ → ℕ → ℕ → ℕ
+back_place came run back = if nat_le back run && nat_le back came then came - back else no_place
+
+pub record AreBack (came run : ℕ) (recent : List ℕ) : Type 0 where
+  pub first : slice_index recent 0 ≡ back_place came run 3
+  pub second : slice_index recent 1 ≡ back_place came run 2
+  pub third : slice_index recent 2 ≡ back_place came run 1
+
+-- the run's last three stand so, as long as none was dropped
+unfoldable pub IsLinked : List Vertex → ℕ → List ℕ → Type 0
+IsLinked came run recent = length came ≤ most_vertices → AreBack (length came) run recent
+
+pub fresh_linked : (run : ℕ) (recent : List ℕ) → recent ≡ none_recent → IsLinked [] run recent
+unfolding IsLinked
+fresh_linked run recent e few = rw e (record { first = grind arith; second = grind arith; third = grind arith })
+
+back_more : (came run back : ℕ) → back_place came run back ≡ back_place (came + 1) (run + 1) (back + 1)
+back_more came run back = grind arith
+
+back_last : (came run : ℕ) → came ≡ back_place (came + 1) (run + 1) 1
+back_last came run = grind arith
+
+then_back : (came run : ℕ) (recent : List ℕ) → AreBack came run recent → AreBack (came + 1) (run + 1) (then_recent came recent)
+then_back came run recent h = record {
+  first = h.second ∙ back_more came run 2;
+  second = h.third ∙ back_more came run 1;
+  third = back_last came run;
+}
+
+vertex_linked : (a : Arrival) (run : ℕ) (o : OutcomeState) (came : List Vertex) (made : List Polygon) → Holds o came made
+    → IsLinked came run o.recent →
+    IsLinked (came ++ a.vertex ∷ []) (run + 1) (arrived a o).recent
+unfolding IsLinked
+vertex_linked a run o came made held linked few =
+    let one : length (came ++ a.vertex ∷ []) ≡ length came + 1 = length-append came (a.vertex ∷ []) in
+    let same : o.vertices ≡ came = held.vertices_are ∙ take_all most_vertices came (omega (arith, one, few)) in
+    let long : length o.vertices ≡ length came = ap (λ (xs : List Vertex). length xs) same in
+    let room : length o.vertices < most_vertices = omega (arith, long, one, few) in
+    let p = polygon_among (four_recent o) (o.vertices ++ a.vertex ∷ []) a in
+    let recent : then_recent (length came) o.recent ≡ (arrived a o).recent =
+    ap (λ (n : ℕ). then_recent n o.recent) (sym long) ∙ sym (recent_polygon p (vertex_added a.vertex o)) ∙ sym (ap (λ (x : OutcomeState). x.recent) (arrived_room a o room)) in
+    rw one (subst (AreBack (length came + 1) (run + 1)) recent (then_back (length came) run o.recent (linked (omega (arith, one, few)))))
+
+begun_linked : (came : List Vertex) → IsLinked came 0 none_recent
+unfolding IsLinked
+begun_linked came few = record { first = refl; second = refl; third = refl }
+
+-- a command
+step_linked : (command : GeometryCommand) (params : List ℕ) (s : NumbersState) (o : OutcomeState) (a : Arrival) (came : List Vertex) (made : List Polygon) → Holds o came made →
+    IsLinked came s.run o.recent →
+    IsLinked (if gives_vertex command then came ++ a.vertex ∷ [] else came) (run_by command s.run)
+    (if gives_vertex command then arrived a (tested command params s o) else tested command params s o).recent
+unfolding tested
+step_linked BeginVtxs params s o a came made held linked = begun_linked came
+step_linked Vtx16 params s o a came made held linked = vertex_linked a s.run o came made held linked
+step_linked Vtx10 params s o a came made held linked = vertex_linked a s.run o came made held linked
+step_linked VtxXy params s o a came made held linked = vertex_linked a s.run o came made held linked
+step_linked VtxXz params s o a came made held linked = vertex_linked a s.run o came made held linked
+step_linked VtxYz params s o a came made held linked = vertex_linked a s.run o came made held linked
+step_linked VtxDiff params s o a came made held linked = vertex_linked a s.run o came made held linked
+step_linked BoxTest params s o a came made held linked = linked
+step_linked PosTest params s o a came made held linked = linked
+step_linked VecTest params s o a came made held linked = linked
+step_linked command params s o a came made held linked = linked
+
+pub command_linked : (command : GeometryCommand) (params : List ℕ) (g : GeometryState) (came : List Vertex) (made : List Polygon)
+    → Holds g.outcome came made →
+    IsLinked came g.numbers.run g.outcome.recent →
+    IsLinked (if gives_vertex command then came ++ (arrival_of (numbers_after command params g.numbers)).vertex ∷ [] else came)
+    (geometry_after command params g).numbers.run (geometry_after command params g).outcome.recent
+unfolding geometry_after
+command_linked command params g came made held linked =
+    let a = arrival_of (numbers_after command params g.numbers) in
+    subst (λ (run : ℕ). IsLinked (if gives_vertex command then came ++ a.vertex ∷ [] else came) run (outcome_after command params g.numbers g.outcome).recent)
+    (sym (run_by_command command params g.numbers)) (step_linked command params g.numbers g.outcome a came made held linked)
+
+-- so the polygon is the one of all that came
+run_given : (command : GeometryCommand) (run : ℕ) → gives_vertex command ≡ true → run_by command run ≡ run + 1
+run_given BeginVtxs run h = absurd (true≢false (sym h))
+run_given Vtx16 run h = refl
+run_given Vtx10 run h = refl
+run_given VtxXy run h = refl
+run_given VtxXz run h = refl
+run_given VtxYz run h = refl
+run_given VtxDiff run h = refl
+run_given command run h = absurd (true≢false (sym h))
+
+back_is : (came run last p b : ℕ) (four : List ℕ) → slice_index_or four 3 no_place ≡ came → slice_index_or four 2 no_place ≡ back_place came run 1
+    → slice_index_or four 1 no_place ≡ back_place came run 2 → slice_index_or four 0 no_place ≡ back_place came run 3 → b ≤ 3
+    → slice_index_or four (3 - b) no_place ≡ (if nat_le b came && (nat_le b run || b == 0) then came - b else no_place)
+back_is came run last p zero four d c b a few = grind (arith, d)
+back_is came run last p (suc zero) four d c b a few = grind (arith, c)
+back_is came run last p (suc (suc zero)) four d c b a few = grind (arith, b)
+back_is came run last p (suc (suc (suc zero))) four d c b a few = grind (arith, a)
+back_is came run last p (suc (suc (suc (suc n)))) four d c b a few = absurd (omega (arith, few))
+
+since_is : (came : List Vertex) (a : Arrival) (n p b : ℕ) → length came ≡ n + 1 → n < most_vertices → a.place ≡ p + b
+    → place_since came a p ≡ (if nat_le b n && (nat_le b a.place || b == 0) then n - b else no_place)
+since_is came a n p b long few e = grind (arith, long, few, e)
+
+agree : (a : Arrival) (o : OutcomeState) (came : List Vertex) → length came < most_vertices → length o.vertices ≡ length came
+    → AreBack (length came) a.place o.recent
+    → Agrees (place_since (came ++ a.vertex ∷ []) a) (four_recent o) a.place
+unfolding Agrees
+agree a o came room long back p b e few =
+    let one : length (came ++ a.vertex ∷ []) ≡ length came + 1 = length-append came (a.vertex ∷ []) in
+    since_is (came ++ a.vertex ∷ []) a (length came) p b one room e
+    ∙ sym (back_is (length came) a.place a.place p b (four_recent o) long back.third back.second back.first few)
+
+same_made : (a : Arrival) (run : ℕ) (o : OutcomeState) (came : List Vertex) (made : List Polygon) → a.place ≡ run → Holds o came made
+    → IsLinked came run o.recent →
+    SamePolygon a o came
+unfolding SamePolygon IsLinked
+same_made a run o came made place held linked room =
+    let same : o.vertices ≡ came = held.vertices_are ∙ take_all most_vertices came (omega (arith, room)) in
+    let long : length o.vertices ≡ length came = ap (λ (xs : List Vertex). length xs) same in
+    let back : AreBack (length came) a.place o.recent =
+    subst (λ (n : ℕ). AreBack (length came) n o.recent) (sym place) (linked (omega (arith, room))) in
+    ap (λ (xs : List Vertex). polygon_among (four_recent o) (xs ++ a.vertex ∷ []) a) same
+    ∙ same_polygon (four_recent o) (came ++ a.vertex ∷ []) a (agree a o came room long back)
+
+tested_recent : (command : GeometryCommand) (params : List ℕ) (s : NumbersState) (o : OutcomeState) → gives_vertex command ≡ true
+    → (tested command params s o).recent ≡ o.recent
+unfolding tested
+tested_recent BeginVtxs params s o h = absurd (true≢false (sym h))
+tested_recent BoxTest params s o h = refl
+tested_recent PosTest params s o h = refl
+tested_recent VecTest params s o h = refl
+tested_recent _ params s o h = refl
+
 -- a test leaves the lists
 pub tested_holds : (command : GeometryCommand) (params : List ℕ) (s : NumbersState) (o : OutcomeState) (came : List Vertex) (made : List Polygon) → Holds o came made →
     Holds (tested command params s o) came made
@@ -123,30 +286,49 @@ tested_holds VecTest params s o came made held = record { vertices_are = held.ve
 tested_holds BeginVtxs params s o came made held = record { vertices_are = held.vertices_are; polygons_are = held.polygons_are }
 tested_holds _ params s o came made held = held
 
+pub same_given : (command : GeometryCommand) (params : List ℕ) (s : NumbersState) (o : OutcomeState) (came : List Vertex) (made : List Polygon)
+    → Holds o came made →
+    IsLinked came s.run o.recent → gives_vertex command ≡ true
+    → SamePolygon (arrival_of (numbers_after command params s)) (tested command params s o) came
+same_given command params s o came made held linked gives =
+    let a = arrival_of (numbers_after command params s) in
+    let place : a.place ≡ s.run = let run = run_by_command command params s in let one = run_given command s.run gives in omega (arith, run, one) in
+    same_made a s.run (tested command params s o) came made place (tested_holds command params s o came made held)
+    (subst (IsLinked came s.run) (sym (tested_recent command params s o gives)) linked)
+
 -- a list of acts
-pub grown : (acts : List GeometryAct) (g : GeometryState) (came : List Vertex) (made : List Polygon) → Holds g.outcome came made →
+pub grown : (acts : List GeometryAct) (g : GeometryState) (came : List Vertex) (made : List Polygon)
+    → IsLinked came g.numbers.run g.outcome.recent → Holds g.outcome came made →
     Holds (after_all acts g).outcome (came ++ vertices_of (arrivals g.numbers acts)) (made ++ polygons_of came (arrivals g.numbers acts))
+    × IsLinked (came ++ vertices_of (arrivals g.numbers acts)) (after_all acts g).numbers.run (after_all acts g).outcome.recent
 unfolding after_all arrivals geometry_after polygons_of
-grown [] g came made held = record {
-  vertices_are = held.vertices_are ∙ ap (λ (xs : List Vertex). take most_vertices xs) (sym (append-nil came));
-  polygons_are = held.polygons_are ∙ ap (λ (xs : List Polygon). take most_polygons xs) (sym (append-nil made));
-}
-grown (Command command params ∷ acts) g came made held =
+grown [] g came made linked held = (
+  record {
+    vertices_are = held.vertices_are ∙ ap (λ (xs : List Vertex). take most_vertices xs) (sym (append-nil came));
+    polygons_are = held.polygons_are ∙ ap (λ (xs : List Polygon). take most_polygons xs) (sym (append-nil made));
+  },
+  subst (λ (xs : List Vertex). IsLinked xs g.numbers.run g.outcome.recent) (sym (append-nil came)) linked,
+)
+grown (Command command params ∷ acts) g came made linked held =
     let b : Bool = gives_vertex command in
     let a : Arrival = arrival_of (numbers_after command params g.numbers) in
     let o : OutcomeState = tested command params g.numbers g.outcome in
     let kept : Holds o came made = tested_holds command params g.numbers g.outcome came made held in
     let came' : List Vertex = if b then came ++ a.vertex ∷ [] else came in
     let made' : List Polygon = if b then polygons_with a came made else made in
-    let rest = grown acts (geometry_after command params g) came' made' (step_holds b a o came made kept) in
-    let later : List Arrival = arrivals (numbers_after command params g.numbers) acts in
-    record {
-      vertices_are = rest.vertices_are ∙ ap (λ (xs : List Vertex). take most_vertices xs) (step_vertices b a came later);
-      polygons_are = rest.polygons_are ∙ ap (λ (xs : List Polygon). take most_polygons xs) (step_polygons b a came made later);
-    }
-grown (ClearError ∷ acts) g came made held = grown acts (geometry_error_cleared g) came made held
-grown (ClearOverflow ∷ acts) g came made held =
-    grown acts (overflow_cleared g) came made (record { vertices_are = held.vertices_are; polygons_are = held.polygons_are })
+    let makes : b ≡ true → SamePolygon a o came = same_given command params g.numbers g.outcome came made held linked in
+    let next : GeometryState = geometry_after command params g in
+    let rest = grown acts next came' made' (command_linked command params g came made held linked) (step_holds b a o came made makes kept) in
+    let later : List Arrival = arrivals (numbers_after command params g.numbers) acts in (
+      record {
+        vertices_are = rest.0.vertices_are ∙ ap (λ (xs : List Vertex). take most_vertices xs) (step_vertices b a came later);
+        polygons_are = rest.0.polygons_are ∙ ap (λ (xs : List Polygon). take most_polygons xs) (step_polygons b a came made later);
+      },
+      subst (λ (xs : List Vertex). IsLinked xs (after_all acts next).numbers.run (after_all acts next).outcome.recent) (step_vertices b a came later) rest.1,
+    )
+grown (ClearError ∷ acts) g came made linked held = grown acts (geometry_error_cleared g) came made linked held
+grown (ClearOverflow ∷ acts) g came made linked held =
+    grown acts (overflow_cleared g) came made linked (record { vertices_are = held.vertices_are; polygons_are = held.polygons_are })
 
 -- the open lists are those of all that was done since a swap
 pub fresh_holds : (g : GeometryState) → IsFresh g → Holds g.outcome [] []
@@ -155,7 +337,7 @@ fresh_holds g fresh = record { vertices_are = fresh.no_vertex; polygons_are = fr
 pub open_lists : (g : GeometryState) → AreListsSince g g.outcome.vertices g.outcome.polygons
 open_lists g start acts fresh e =
     let all : Holds (after_all acts start).outcome (vertices_of (arrivals start.numbers acts)) (polygons_of [] (arrivals start.numbers acts)) =
-    grown acts start [] [] (fresh_holds start fresh) in
+    (grown acts start [] [] (fresh_linked start.numbers.run start.outcome.recent fresh.no_recent) (fresh_holds start fresh)).0 in
     record {
       by_vertices = sym (ap (λ (x : GeometryState). x.outcome.vertices) e) ∙ all.vertices_are;
       by_polygons = sym (ap (λ (x : GeometryState). x.outcome.polygons) e) ∙ all.polygons_are;

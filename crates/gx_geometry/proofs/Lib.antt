@@ -9,3 +9,4 @@ pub mod Sides
 pub mod Recent
 pub mod Lit
 pub mod SavedLaws
+pub mod Walks

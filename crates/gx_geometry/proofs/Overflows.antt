@@ -8,10 +8,10 @@ use Rattle.gx_geometry.specs.Records.{NumbersState}
 use Rattle.gx_geometry.specs.declared.polygons.Vertex.{Vertex}
 use Rattle.gx_geometry.specs.declared.polygons.Polygon.{Polygon}
 use Rattle.gx_geometry.specs.Changes.{numbers_after, gives_vertex}
-use Rattle.gx_geometry.specs.Polygons.{Arrival, arrival_of, polygon_of, most_vertices, most_polygons}
+use Rattle.gx_geometry.specs.Polygons.{Arrival, arrival_of, polygon_of, polygon_among, most_vertices, most_polygons}
 use Rattle.gx_geometry.specs.Lists.{GeometryAct, Command, ClearError, ClearOverflow, numbers_cleared, arrivals, polygons_of, vertices_of, AreNoClear}
-use Rattle.gx_geometry.specs.States.{OutcomeState, GeometryState, IsOverflowSince, polygon_added, vertex_added, arrived, tested, geometry_after, geometry_error_cleared, overflow_cleared, after_all}
-use Rattle.gx_geometry.proofs.Growing.{arrived_room, arrived_full, dropped, Holds, polygons_with, step_holds, step_vertices, step_polygons, tested_holds, grown, fresh_holds}
+use Rattle.gx_geometry.specs.States.{OutcomeState, GeometryState, IsOverflowSince, four_recent, polygon_added, vertex_added, arrived, tested, geometry_after, geometry_error_cleared, overflow_cleared, after_all}
+use Rattle.gx_geometry.proofs.Growing.{arrived_room, arrived_full, dropped, command_linked, fresh_linked, Holds, IsLinked, polygons_with, same_given, SamePolygon, step_holds, step_vertices, step_polygons, tested_holds, grown, fresh_holds}
 
 -- The overflow is set where something was dropped since it was cleared.
 
@@ -57,18 +57,18 @@ same_excess : (m n i j : ℕ) → i ≡ 0 → j ≡ 0 → nat_lt m n ≡ nat_lt 
 same_excess m n i j h l = grind (arith, h, l)
 
 -- a vertex more
-arrived_flag : (a : Arrival) (o : OutcomeState) (came : List Vertex) (made : List Polygon) → Holds o came made →
+arrived_flag : (a : Arrival) (o : OutcomeState) (came : List Vertex) (made : List Polygon) → SamePolygon a o came → Holds o came made →
     (arrived a o).overflow ≡ (o.overflow || nat_lt (excess came made) (excess (came ++ a.vertex ∷ []) (polygons_with a came made)))
-unfolding excess polygons_with
-arrived_flag a o came made held =
+unfolding excess polygons_with SamePolygon
+arrived_flag a o came made makes held =
     let one : length (came ++ a.vertex ∷ []) ≡ length came + 1 = length-append came (a.vertex ∷ []) in
     elim (low_or_high (length came) most_vertices) [
       | inl h ↦
           (let same : o.vertices ≡ came = held.vertices_are ∙ take_all most_vertices came (omega arith) in
           let room : length o.vertices < most_vertices = omega (arith, ap (λ (xs : List Vertex). length xs) same) in
-          let p : Option Polygon = polygon_of (o.vertices ++ a.vertex ∷ []) a in
+          let p : Option Polygon = polygon_among (four_recent o) (o.vertices ++ a.vertex ∷ []) a in
           let q : Option Polygon = polygon_of (came ++ a.vertex ∷ []) a in
-          let pq : p ≡ q = ap (λ (xs : List Vertex). polygon_of (xs ++ a.vertex ∷ []) a) same in
+          let pq : p ≡ q = makes h in
           ap (λ (x : OutcomeState). x.overflow) (arrived_room a o room)
           ∙ polygon_flag p (vertex_added a.vertex o) made held.polygons_are
           ∙ ap (λ (x : Option Polygon). o.overflow || nat_lt (length made - most_polygons) (length (made ++ option_to_list x) - most_polygons)) pq
@@ -93,11 +93,12 @@ unfolding excess
 excess_grows came more made others = omega (arith, length-append came more, length-append made others)
 
 -- a command, which gives a vertex or doesn't
-step_flag : (b : Bool) (a : Arrival) (o : OutcomeState) (came : List Vertex) (made : List Polygon) → Holds o came made →
+step_flag : (b : Bool) (a : Arrival) (o : OutcomeState) (came : List Vertex) (made : List Polygon) → (b ≡ true → SamePolygon a o came)
+    → Holds o came made →
     (if b then arrived a o else o).overflow
     ≡ (o.overflow || nat_lt (excess came made) (excess (if b then came ++ a.vertex ∷ [] else came) (if b then polygons_with a came made else made)))
-step_flag true a o came made held = arrived_flag a o came made held
-step_flag false a o came made held = or_same o.overflow (excess came made) (excess came made) (omega arith)
+step_flag true a o came made makes held = arrived_flag a o came made (makes refl) held
+step_flag false a o came made makes held = or_same o.overflow (excess came made) (excess came made) (omega arith)
 
 step_grows : (b : Bool) (a : Arrival) (came : List Vertex) (made : List Polygon) →
     excess came made ≤ excess (if b then came ++ a.vertex ∷ [] else came) (if b then polygons_with a came made else made)
@@ -115,15 +116,17 @@ tested_flag BeginVtxs params s o = refl
 tested_flag _ params s o = refl
 
 -- a list of acts of which none clears it
-pub flag_after : (acts : List GeometryAct) (g : GeometryState) (came : List Vertex) (made : List Polygon) → AreNoClear acts → Holds g.outcome came made →
+pub flag_after : (acts : List GeometryAct) (g : GeometryState) (came : List Vertex) (made : List Polygon) → AreNoClear acts
+    → IsLinked came g.numbers.run g.outcome.recent
+    → Holds g.outcome came made →
     (after_all acts g).outcome.overflow
     ≡ (g.outcome.overflow || nat_lt (excess came made) (excess (came ++ vertices_of (arrivals g.numbers acts)) (made ++ polygons_of came (arrivals g.numbers acts))))
 unfolding after_all arrivals geometry_after polygons_of
-flag_after [] g came made none held =
+flag_after [] g came made none linked held =
     let v : came ++ [] ≡ came = append-nil came in
     let p : made ++ [] ≡ made = append-nil made in
     rw (v, p) (or_same g.outcome.overflow (excess came made) (excess came made) (omega arith))
-flag_after (Command command params ∷ acts) g came made none held =
+flag_after (Command command params ∷ acts) g came made none linked held =
     let b : Bool = gives_vertex command in
     let a : Arrival = arrival_of (numbers_after command params g.numbers) in
     let o : OutcomeState = tested command params g.numbers g.outcome in
@@ -133,14 +136,15 @@ flag_after (Command command params ∷ acts) g came made none held =
     let made' : List Polygon = if b then polygons_with a came made else made in
     let later : List Arrival = arrivals (numbers_after command params g.numbers) acts in
     let end : ℕ = excess (came' ++ vertices_of later) (made' ++ polygons_of came' later) in
-    flag_after acts next came' made' none (step_holds b a o came made kept)
-    ∙ ap (λ (f : Bool). f || nat_lt (excess came' made') end) (step_flag b a o came made kept)
+    let makes : b ≡ true → SamePolygon a o came = same_given command params g.numbers g.outcome came made held linked in
+    flag_after acts next came' made' none (command_linked command params g came made held linked) (step_holds b a o came made makes kept)
+    ∙ ap (λ (f : Bool). f || nat_lt (excess came' made') end) (step_flag b a o came made makes kept)
     ∙ ap (λ (f : Bool). (f || nat_lt (excess came made) (excess came' made')) || nat_lt (excess came' made') end) (tested_flag command params g.numbers g.outcome)
     ∙ or_join g.outcome.overflow (excess came made) (excess came' made') end (step_grows b a came made) (excess_grows came' (vertices_of later) made' (polygons_of came' later))
     ∙ ap (λ (xs : List Vertex). g.outcome.overflow || nat_lt (excess came made) (excess xs (made' ++ polygons_of came' later))) (step_vertices b a came later)
     ∙ ap (λ (xs : List Polygon). g.outcome.overflow || nat_lt (excess came made) (excess (came ++ vertices_of (if b then a ∷ later else later)) xs)) (step_polygons b a came made later)
-flag_after (ClearError ∷ acts) g came made none held = flag_after acts (geometry_error_cleared g) came made none held
-flag_after (ClearOverflow ∷ acts) g came made none held = absurd none
+flag_after (ClearError ∷ acts) g came made none linked held = flag_after acts (geometry_error_cleared g) came made none linked held
+flag_after (ClearOverflow ∷ acts) g came made none linked held = absurd none
 
 -- ---- some acts, and then more
 
@@ -207,11 +211,13 @@ whole_state before after g = after_append before (ClearOverflow ∷ after) g
 pub open_overflow : (g : GeometryState) → IsOverflowSince g g.outcome.overflow
 unfolding excess
 open_overflow g start acts fresh e = record {
-  never_cleared = λ none. sym (ap (λ (x : GeometryState). x.outcome.overflow) e) ∙ flag_after acts start [] [] none (fresh_holds start fresh);
+  never_cleared = λ none. sym (ap (λ (x : GeometryState). x.outcome.overflow) e) ∙ flag_after acts start [] [] none (fresh_linked start.numbers.run start.outcome.recent fresh.no_recent) (fresh_holds start fresh);
   cleared = λ before after split none.
       (let first : List Arrival = arrivals start.numbers before in
       let mid : GeometryState = after_all before start in
-      let held : Holds mid.outcome (vertices_of first) (polygons_of [] first) = grown before start [] [] (fresh_holds start fresh) in
+      let both = grown before start [] [] (fresh_linked start.numbers.run start.outcome.recent fresh.no_recent) (fresh_holds start fresh) in
+      let held : Holds mid.outcome (vertices_of first) (polygons_of [] first) = both.0 in
+      let linked : IsLinked (vertices_of first) mid.numbers.run mid.outcome.recent = both.1 in
       let later : List Arrival = arrivals mid.numbers after in
       let numbers : mid.numbers ≡ numbers_all before start.numbers = after_numbers before start in
       let all : arrivals start.numbers acts ≡ first ++ later =
@@ -220,7 +226,7 @@ open_overflow g start acts fresh e = record {
       ap (λ (l : List GeometryAct). after_all l start) split ∙ whole_state before after start in
       sym (ap (λ (x : GeometryState). x.outcome.overflow) e)
       ∙ ap (λ (x : GeometryState). x.outcome.overflow) ends
-      ∙ flag_after after (overflow_cleared mid) (vertices_of first) (polygons_of [] first) none (record { vertices_are = held.vertices_are; polygons_are = held.polygons_are })
+      ∙ flag_after after (overflow_cleared mid) (vertices_of first) (polygons_of [] first) none linked (record { vertices_are = held.vertices_are; polygons_are = held.polygons_are })
       ∙ ap (λ (xs : List Vertex). nat_lt (excess (vertices_of first) (polygons_of [] first)) (excess xs (polygons_of [] first ++ polygons_of (vertices_of first) later))) (sym (vertices_append first later))
       ∙ ap (λ (ps : List Polygon). nat_lt (excess (vertices_of first) (polygons_of [] first)) (excess (vertices_of (first ++ later)) ps)) (sym (polygons_append first later []))
       ∙ ap (λ (l : List Arrival). nat_lt (excess (vertices_of first) (polygons_of [] first)) (excess (vertices_of l) (polygons_of [] l))) (sym all));

@@ -5,8 +5,8 @@ use Rattle.gx_matrix.specs.declared.commands.GeometryCommand.TheVariants.{Color,
 use Rattle.gx_geometry.specs.declared.polygons.Polygon.{Polygon}
 use Rattle.gx_geometry.specs.Records.{NumbersState}
 use Rattle.gx_geometry.specs.Changes.{numbers_drawn, numbers_lit, numbers_after, normal_given, coordinates_given, vertex_given, diffuse_given, specular_given, light_pointed, light_coloured, run_begun, gives_vertex}
-use Rattle.gx_geometry.specs.Polygons.{Arrival, arrival_of, polygon_of, most_vertices, most_polygons}
-use Rattle.gx_geometry.specs.States.{OutcomeState, GeometryState, no_place, none_recent, then_recent, overflown, polygon_added, vertex_added, vertex_dropped, arrived, tested, outcome_after, geometry_after}
+use Rattle.gx_geometry.specs.Polygons.{Arrival, arrival_of, no_place, polygon_among, most_vertices, most_polygons}
+use Rattle.gx_geometry.specs.States.{OutcomeState, GeometryState, four_recent, none_recent, then_recent, overflown, polygon_added, vertex_added, vertex_dropped, arrived, tested, outcome_after, geometry_after}
 use Rattle.gx_geometry.specs.Bounds.{is_place, ArePlaces, is_told, AreTold}
 
 -- The places of a run's last three vertices, command by command.
@@ -50,41 +50,41 @@ told_then run place recent h = record {
 }
 
 -- how long the run is after a command
-abbrev run_by : GeometryCommand → ℕ → ℕ
+abbrev pub run_by : GeometryCommand → ℕ → ℕ
 run_by BeginVtxs run = 0
 run_by command run = if gives_vertex command then run + 1 else run
 
-run_after : (command : GeometryCommand) (params : List ℕ) (s : NumbersState) → (numbers_after command params s).run ≡ run_by command s.run
+pub run_by_command : (command : GeometryCommand) (params : List ℕ) (s : NumbersState) → (numbers_after command params s).run ≡ run_by command s.run
 unfolding numbers_after numbers_lit numbers_drawn normal_given coordinates_given vertex_given diffuse_given specular_given light_pointed light_coloured run_begun
-run_after Color params s = refl
-run_after Texcoord params s = refl
-run_after PolygonAttr params s = refl
-run_after TeximageParam params s = refl
-run_after PlttBase params s = refl
-run_after Normal params s = refl
-run_after DifAmb params s = refl
-run_after SpeEmi params s = refl
-run_after LightVector params s = refl
-run_after LightColor params s = refl
-run_after Shininess params s = refl
-run_after BeginVtxs params s = refl
-run_after SwapBuffers params s = refl
-run_after Viewport params s = refl
-run_after PosTest params s = refl
-run_after Vtx16 params s = refl
-run_after Vtx10 params s = refl
-run_after VtxXy params s = refl
-run_after VtxXz params s = refl
-run_after VtxYz params s = refl
-run_after VtxDiff params s = refl
-run_after command params s = refl
+run_by_command Color params s = refl
+run_by_command Texcoord params s = refl
+run_by_command PolygonAttr params s = refl
+run_by_command TeximageParam params s = refl
+run_by_command PlttBase params s = refl
+run_by_command Normal params s = refl
+run_by_command DifAmb params s = refl
+run_by_command SpeEmi params s = refl
+run_by_command LightVector params s = refl
+run_by_command LightColor params s = refl
+run_by_command Shininess params s = refl
+run_by_command BeginVtxs params s = refl
+run_by_command SwapBuffers params s = refl
+run_by_command Viewport params s = refl
+run_by_command PosTest params s = refl
+run_by_command Vtx16 params s = refl
+run_by_command Vtx10 params s = refl
+run_by_command VtxXy params s = refl
+run_by_command VtxXz params s = refl
+run_by_command VtxYz params s = refl
+run_by_command VtxDiff params s = refl
+run_by_command command params s = refl
 
 -- a polygon leaves them
 recent_if : (b : Bool) (p : Polygon) (o : OutcomeState) → (if b then record o { polygons = o.polygons ++ p ∷ [] } else overflown o).recent ≡ o.recent
 recent_if true p o = refl
 recent_if false p o = refl
 
-recent_polygon : (p : Option Polygon) (o : OutcomeState) → (polygon_added p o).recent ≡ o.recent
+pub recent_polygon : (p : Option Polygon) (o : OutcomeState) → (polygon_added p o).recent ≡ o.recent
 recent_polygon None o = refl
 recent_polygon (Some p) o = recent_if (nat_lt (length o.polygons) most_polygons) p o
 
@@ -95,7 +95,7 @@ arrived_told false p a run o h = told_then run no_place o.recent h
 
 vertex_told : (a : Arrival) (run : ℕ) (o : OutcomeState) → AreTold run o.recent → AreTold (run + 1) (arrived a o).recent
 unfolding arrived
-vertex_told a run o h = arrived_told (nat_lt (length o.vertices) most_vertices) (polygon_of (o.vertices ++ a.vertex ∷ []) a) a run o h
+vertex_told a run o h = arrived_told (nat_lt (length o.vertices) most_vertices) (polygon_among (four_recent o) (o.vertices ++ a.vertex ∷ []) a) a run o h
 
 command_told : (command : GeometryCommand) (params : List ℕ) (s : NumbersState) (o : OutcomeState) (a : Arrival) → AreTold s.run o.recent
     → AreTold (run_by command s.run) (if gives_vertex command then arrived a (tested command params s o) else tested command params s o).recent
@@ -118,7 +118,7 @@ pub told_after : (command : GeometryCommand) (params : List ℕ) (g : GeometrySt
 unfolding geometry_after
 told_after command params g h =
     let a = arrival_of (numbers_after command params g.numbers) in
-    subst (λ (run : ℕ). AreTold run (outcome_after command params g.numbers g.outcome).recent) (sym (run_after command params g.numbers))
+    subst (λ (run : ℕ). AreTold run (outcome_after command params g.numbers g.outcome).recent) (sym (run_by_command command params g.numbers))
     (command_told command params g.numbers g.outcome a h)
 
 -- the same of what a command's parts leave: where it gives a vertex, and where it doesn't
@@ -133,7 +133,7 @@ told_given command params s t o p q gives numbers tests comes h =
     ∙ ap (λ (x : OutcomeState). arrived a x) (sym tests) ∙ sym comes in
     subst (λ (x : OutcomeState). AreTold t.run x.recent) chosen
     (subst (λ (run : ℕ). AreTold run (if gives_vertex command then arrived a (tested command params s o) else tested command params s o).recent)
-    (sym (ap (λ (n : NumbersState). n.run) numbers ∙ run_after command params s)) both)
+    (sym (ap (λ (n : NumbersState). n.run) numbers ∙ run_by_command command params s)) both)
 
 pub told_kept : (command : GeometryCommand) (params : List ℕ) (s t : NumbersState) (o p : OutcomeState) → gives_vertex command ≡ false
     → t ≡ numbers_after command params s → p ≡ tested command params s o → AreTold s.run o.recent → AreTold t.run p.recent
@@ -145,4 +145,4 @@ told_kept command params s t o p gives numbers tests h =
     ap (λ (b : Bool). if b then arrived a (tested command params s o) else tested command params s o) gives ∙ sym tests in
     subst (λ (x : OutcomeState). AreTold t.run x.recent) chosen
     (subst (λ (run : ℕ). AreTold run (if gives_vertex command then arrived a (tested command params s o) else tested command params s o).recent)
-    (sym (ap (λ (n : NumbersState). n.run) numbers ∙ run_after command params s)) both)
+    (sym (ap (λ (n : NumbersState). n.run) numbers ∙ run_by_command command params s)) both)

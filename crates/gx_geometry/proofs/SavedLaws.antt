@@ -1,4 +1,4 @@
-use Rattle.std.proofs.Common.{rules, ℕ, ℤ, FitsSigned, zero, suc, ◌≡◌, ◌<◌, ◌≤◌, ◌^◌, true, nat_le, List, [], ◌∷◌, length, slice_index, slice_index_or, refl, arith}
+use Rattle.std.proofs.Common.{rules, ℕ, ℤ, FitsSigned, zero, suc, ◌≡◌, ◌<◌, ◌≤◌, ◌^◌, true, nat_le, List, [], ◌∷◌, length, slice_index, slice_index_or, refl, ap, arith}
 use Rattle.std.specs.Int.{w32}
 use Rattle.std.specs.List.{AllByRecursion}
 use Rattle.ds_state.specs.Formats.{signed_format, word_format}
@@ -11,10 +11,10 @@ use Rattle.gx_geometry.specs.declared.numbers.Kind.TheVariants.{Triangles, Quads
 use Rattle.gx_geometry.specs.declared.polygons.Vertex.{Vertex}
 use Rattle.gx_geometry.specs.declared.polygons.Polygon.{Polygon}
 use Rattle.gx_geometry.specs.Bounds.{is_place}
-use Rattle.gx_geometry.specs.Polygons.{most_vertices}
+use Rattle.gx_geometry.specs.Polygons.{most_vertices, most_polygons}
 use Rattle.gx_geometry.specs.Records.{LightState}
-use Rattle.gx_geometry.specs.States.{GeometryState, Swapped}
-use Rattle.gx_geometry.specs.Saved.{GeometryIsSaved, IsSavedGeometry, AreCurrent, AreLighting, AreTestResults, AreSavedLists, IsLight, IsPolygon, IsVertex, CurrentNumbers, LightingNumbers, TestResults, signed_at, holds_recent, vertex_format, polygon_format, current_format, light_format, lighting_format, results_format, lists_format, geometry_format, run_kind_number}
+use Rattle.gx_geometry.specs.States.{GeometryState, Swapped, no_swap}
+use Rattle.gx_geometry.specs.Saved.{GeometryIsSaved, IsSavedGeometry, AreCurrent, AreLighting, AreTestResults, AreSwapped, IsLight, IsPolygon, IsVertex, CurrentNumbers, LightingNumbers, TestResults, signed_at, holds_recent, unless_none, vertex_format, polygon_format, current_format, light_format, lighting_format, results_format, lists_format, geometry_format, run_kind_number}
 
 -- What the geometry engine owes of its format.
 
@@ -76,7 +76,7 @@ number_of_kind (suc (suc zero)) h = refl
 number_of_kind (suc (suc (suc zero))) h = refl
 number_of_kind (suc (suc (suc (suc n)))) h = absurd (omega (arith, h))
 
-geometry_exact : (at : ℕ) → IsExact geometry_format at
+pub geometry_exact : (at : ℕ) → IsExact geometry_format at
 unfolding geometry_format
 geometry_exact at = (
   stacks_exact at,
@@ -182,16 +182,21 @@ light_stands : (at : ℕ) (l : LightState) → IsLight l → StandsFor light_for
 unfolding light_format
 light_stands at l is = let x = is.x in let y = is.y in let z = is.z in let colour = is.colour in (search rules, refl)
 
+light_among : (xs : List LightState) → AllByRecursion IsLight xs → (i : ℕ) → i < length xs → IsLight (slice_index_or xs i no_light)
+light_among [] all i h = absurd (omega (arith, h))
+light_among (x ∷ xs) all zero h = all.0
+light_among (x ∷ xs) all (suc i) h = light_among xs all.1 i (omega (arith, h))
+
 lighting_stands : (at : ℕ) (n : LightingNumbers) → AreLighting n → StandsFor lighting_format at n
 unfolding lighting_format
 lighting_stands at n are =
     let diffuse = are.diffuse in let ambient = are.ambient in let specular = are.specular in let emission = are.emission in
     let words = are.words in
     let table = words_stand at n.table are.table in
-    let first = light_stands at _ (are.lights 0 (omega arith)) in
-    let second = light_stands at _ (are.lights 1 (omega arith)) in
-    let third = light_stands at _ (are.lights 2 (omega arith)) in
-    let fourth = light_stands at _ (are.lights 3 (omega arith)) in
+    let first = light_stands at _ (light_among n.lights are.lights 0 (omega (arith, are.four))) in
+    let second = light_stands at _ (light_among n.lights are.lights 1 (omega (arith, are.four))) in
+    let third = light_stands at _ (light_among n.lights are.lights 2 (omega (arith, are.four))) in
+    let fourth = light_stands at _ (light_among n.lights are.lights 3 (omega (arith, are.four))) in
     let again = lights_again n.lights are.four in
     (search rules, rw again refl)
 
@@ -204,13 +209,22 @@ results_stand at r are =
     let again = halves_again r.vector are.three in
     (search rules, rw again refl)
 
-lists_stand : (at : ℕ) (l : Swapped) → at ≤ 2 ^ 56 → AreSavedLists at l → StandsFor lists_format at l
+-- at tick 0 there was no swap
+unless : (tick most at n : ℕ) → n ≤ most → (tick ≡ 0 → n ≡ 0) → unless_none tick most at n ≡ true
+unless zero most at n le none = let e : n ≡ 0 = none refl in rw e (grind arith)
+unless (suc tick) most at n le none = grind (arith, le)
+
+lists_stand : (at : ℕ) (l : Swapped) → at ≤ 2 ^ 56 → AreSwapped l → l.tick.0 ≤ at → (l.tick.0 ≡ 0 → l ≡ no_swap) → StandsFor lists_format at l
 unfolding lists_format
-lists_stand at l early are =
-    let tick = are.tick in let parameter = are.parameter in let none = are.none in
-    let vertex_count = are.vertex_count in let polygon_count = are.polygon_count in
-    let few : length l.vertices < 2 ^ 32 = grind (arith, vertex_count) in
-    let as_few : length l.polygons < 2 ^ 32 = grind (arith, polygon_count) in
+lists_stand at l early are tick none =
+    let parameter = are.parameter in
+    let few : length l.vertices < 2 ^ 32 = omega (arith, are.vertex_count) in
+    let as_few : length l.polygons < 2 ^ 32 = omega (arith, are.polygon_count) in
+    let is_used = unless l.tick.0 0xFFFFFFFF at l.parameter (omega (arith, parameter)) (λ e. ap (λ (x : Swapped). x.parameter) (none e)) in
+    let vertex_count =
+    unless l.tick.0 most_vertices at (length l.vertices) are.vertex_count (λ e. ap (λ (x : Swapped). length x.vertices) (none e)) in
+    let polygon_count =
+    unless l.tick.0 most_polygons at (length l.polygons) are.polygon_count (λ e. ap (λ (x : Swapped). length x.polygons) (none e)) in
     let vertices = vertices_stand at l.vertices are.vertices in
     let polygons = polygons_stand at l.polygons are.polygons in
     (search rules, refl)
@@ -236,28 +250,28 @@ holds_all : (first second third at long : ℕ) → long ≤ most_vertices → is
 holds_all first second third at long few a b c =
     let le : nat_le long most_vertices ≡ true = grind (arith, few) in rw (le, a, b, c) refl
 
-geometry_stands : (at : ℕ) (g : GeometryState) → at ≤ 2 ^ 56 → IsSavedGeometry at g → StandsFor geometry_format at g
+pub geometry_stands : (at : ℕ) (g : GeometryState) → at ≤ 2 ^ 56 → IsSavedGeometry at g → StandsFor geometry_format at g
 unfolding geometry_format
 geometry_stands at g early is =
-    let stacks = stacks_stand at g.numbers.stacks is.stacks in
-    let parameter = is.parameter in
-    let current = current_stands at _ is.current in
-    let lighting = lighting_stands at _ is.lighting in
+    let stacks = stacks_stand at g.numbers.stacks is.bounds.stacks in
+    let parameter = is.bounds.parameter in
+    let current = current_stands at _ is.bounds.current in
+    let lighting = lighting_stands at _ is.bounds.lighting in
     let kinds = few_kinds g.numbers.kind in
     let run = is.run in
-    let few = is.vertex_count in
-    let as_few = is.polygon_count in
-    let first = place_small _ _ few is.places.first in
-    let second = place_small _ _ few is.places.second in
-    let third = place_small _ _ few is.places.third in
-    let told_first = is.told.first in let told_second = is.told.second in let told_third = is.told.third in
-    let results = results_stand at _ is.results in
-    let holds = holds_all _ _ _ 0 _ few is.places.first is.places.second is.places.third in
-    let vertices = vertices_stand at g.outcome.vertices is.vertices in
-    let polygons = polygons_stand at g.outcome.polygons is.polygons in
-    let last = lists_stand at g.last early is.last in
+    let few = is.bounds.vertex_count in
+    let as_few = is.bounds.polygon_count in
+    let first = place_small _ _ few is.bounds.places.first in
+    let second = place_small _ _ few is.bounds.places.second in
+    let third = place_small _ _ few is.bounds.places.third in
+    let told_first = is.bounds.told.first in let told_second = is.bounds.told.second in let told_third = is.bounds.told.third in
+    let results = results_stand at _ is.bounds.results in
+    let holds = holds_all _ _ _ 0 _ few is.bounds.places.first is.bounds.places.second is.bounds.places.third in
+    let vertices = vertices_stand at g.outcome.vertices is.bounds.vertices in
+    let polygons = polygons_stand at g.outcome.polygons is.bounds.polygons in
+    let last = lists_stand at g.last early is.bounds.last is.swap is.none in
     let kind = kind_again g.numbers.kind in
-    let again = three_again g.outcome.recent is.places.three in
+    let again = three_again g.outcome.recent is.bounds.places.three in
     (search rules, rw (kind, again) refl)
 
 pub geometry_saved : GeometryIsSaved

@@ -1,10 +1,11 @@
-use Rattle.std.specs.Prelude.{ℕ, ◌≡◌, ◌<◌, ◌≤◌, ◌^◌, ◌==◌, ◌||◌, nat_le, nat_lt, Bool, true, [], List, length, slice_index, slice_index_or}
+use Rattle.std.specs.Prelude.{ℕ, ◌≡◌, ◌<◌, ◌≤◌, ◌^◌, ◌==◌, ◌&&◌, ◌||◌, nat_le, nat_lt, Bool, true, [], List, length, slice_index, slice_index_or}
+use Rattle.std.specs.List.{AllByRecursion}
 use Rattle.gx_geometry.specs.Records.{NumbersState}
 use Rattle.gx_geometry.specs.declared.polygons.Vertex.{Vertex}
 use Rattle.gx_geometry.specs.declared.polygons.Polygon.{Polygon}
 use Rattle.gx_geometry.specs.Lights.{light_at}
-use Rattle.gx_geometry.specs.Polygons.{most_vertices, most_polygons, no_vertex}
-use Rattle.gx_geometry.specs.States.{GeometryState, no_place}
+use Rattle.gx_geometry.specs.Polygons.{most_vertices, most_polygons, no_place, no_vertex}
+use Rattle.gx_geometry.specs.States.{GeometryState}
 
 -- What holds of the engine at every time, by which those who hold it know the sizes of what it gives out.
 
@@ -27,12 +28,20 @@ HaveColours vertices = (i : ℕ) → (slice_index_or vertices i no_vertex).colou
 abbrev pub HavePalettes : List Polygon → Type 0
 HavePalettes polygons = (i : ℕ) → (slice_index_or polygons i no_polygon).palette < 2 ^ 13
 
--- two lists, of vertices and of polygons, are as long as a swap takes them at most, with colours and palettes so
+-- a polygon has four corners, or three and an unused place of 0
+abbrev pub is_shaped : Polygon → Bool
+is_shaped p = (p.corners == 4) || (p.corners == 3 && slice_index p.indices 3 == 0)
+
+abbrev pub HaveShapes : List Polygon → Type 0
+HaveShapes polygons = AllByRecursion (λ p. is_shaped p ≡ true) polygons
+
+-- two lists, of vertices and of polygons, are as long as a swap takes them at most, with colours, palettes and corners so
 pub record AreLimited (vertices : List Vertex) (polygons : List Polygon) : Type 0 where
   pub vertices_within : length vertices ≤ most_vertices
   pub polygons_within : length polygons ≤ most_polygons
   pub colours : HaveColours vertices
   pub palettes : HavePalettes polygons
+  pub shapes : HaveShapes polygons
 
 -- a run's vertices stand in the open list or nowhere
 abbrev pub is_place : ℕ → ℕ → Bool

@@ -1,4 +1,4 @@
-use Rattle.std.specs.Prelude.{ℕ, zero, suc, ◌+◌, ◌-◌, ◌*◌, ◌/◌, ◌%◌, ◌==◌, ◌&&◌, ◌||◌, nat_lt, nat_le, if◌then◌else◌, Bool, ℤ, pos, negsuc, ◌+ℤ◌, ◌-ℤ◌, ◌*ℤ◌, List, [], ◌∷◌, ◌++◌, length, map, replicate, slice_index, slice_index_or, Option, Some, None}
+use Rattle.std.specs.Prelude.{ℕ, zero, suc, ◌+◌, ◌-◌, ◌*◌, ◌/◌, ◌%◌, ◌==◌, ◌&&◌, ◌||◌, not, nat_lt, nat_le, if◌then◌else◌, Bool, ℤ, pos, negsuc, ◌+ℤ◌, ◌-ℤ◌, ◌*ℤ◌, List, [], ◌∷◌, ◌++◌, length, map, replicate, slice_index, slice_index_or, Option, Some, None}
 use Rattle.std.specs.List.{list_all}
 use Rattle.ds_base.specs.Bits.{bit}
 use Rattle.gx_matrix.specs.Commands.{clip_of}
@@ -76,50 +76,59 @@ is_kept attributes (pos zero) = bit 6 attributes || bit 7 attributes
 is_kept attributes (pos (suc n)) = bit 7 attributes
 is_kept attributes (negsuc n) = bit 6 attributes
 
--- Of the vertices that came since the swap, the last one completes the polygon. A vertex of a place in its run stands as many places before it as
--- it came before it, unless it came before the swap.
 abbrev pub no_vertex : Vertex
 no_vertex = record { x = pos 0; y = pos 0; z = pos 0; w = pos 0; colour = 0; s = pos 0; t = pos 0 }
 
-abbrev pub has_come : List Vertex → Arrival → ℕ → Bool
-has_come came a place = nat_lt a.place (length came + place)
+-- a place in the list of vertices that a vertex doesn't have: it was dropped, it came before the last swap, or there is none
+abbrev pub no_place : ℕ
+no_place = 0xFFFF
 
-abbrev pub index_of : List Vertex → Arrival → ℕ → ℕ
-index_of came a place = length came + place - (a.place + 1)
+-- Where the vertex of a place in its run stands in the list. Of all vertices that came since the swap the last one completes the polygon, and one of
+-- its run stands as many places before it as it came before it, unless it came before the swap; where more came than the list takes, the last one
+-- stands nowhere, and no polygon is made.
+abbrev pub place_since : List Vertex → Arrival → ℕ → ℕ
+place_since came a place =
+    if nat_le (length came) most_vertices && nat_lt a.place (length came + place) then length came + place - (a.place + 1) else no_place
 
-abbrev pub vertex_at : List Vertex → Arrival → ℕ → Vertex
-vertex_at came a place = slice_index_or came (index_of came a place) no_vertex
+-- the same where it is told where the run's last four vertices stand, the oldest first
+abbrev pub place_among : List ℕ → Arrival → ℕ → ℕ
+place_among four a place = slice_index_or four (place + 3 - a.place) no_place
 
--- none of a polygon's corners was dropped: they came since the swap, and all that came then are within the limit
-unfoldable pub has_corners : List Vertex → Arrival → List ℕ → Bool
-has_corners came a places = nat_le (length came) most_vertices && list_all (has_come came a) places
+-- none of a polygon's corners stands nowhere
+unfoldable pub has_corners : (ℕ → ℕ) → List ℕ → Bool
+has_corners stands places = list_all (λ p. not (stands p == no_place)) places
 
-unfoldable pub may_be_seen : List Vertex → Arrival → List ℕ → Bool
-may_be_seen came a places =
-    let corner = λ (i : ℕ). vertex_at came a (slice_index places i) in
+unfoldable pub may_be_seen : (ℕ → ℕ) → List Vertex → Arrival → List ℕ → Bool
+may_be_seen stands came a places =
+    let corner = λ (i : ℕ). slice_index_or came (stands (slice_index places i)) no_vertex in
     is_kept a.attributes (determinant (corner 0) (corner 1) (corner 2))
 
 -- its corners by their places in the list of vertices; an unused one is 0
-unfoldable pub indices_of : List Vertex → Arrival → List ℕ → List ℕ
-indices_of came a places = map (index_of came a) places ++ replicate (4 - length places) 0
+unfoldable pub indices_of : (ℕ → ℕ) → List ℕ → List ℕ
+indices_of stands places = map stands places ++ replicate (4 - length places) 0
 
-unfoldable pub polygon_with : List Vertex → Arrival → List ℕ → Polygon
-polygon_with came a places = record {
+unfoldable pub polygon_with : (ℕ → ℕ) → Arrival → List ℕ → Polygon
+polygon_with stands a places = record {
   attributes = a.attributes;
   texture = a.texture;
   palette = a.palette;
   viewport = a.viewport;
   corners = length places;
-  indices = indices_of came a places;
+  indices = indices_of stands places;
 }
 
--- the polygon that the last of the vertices that came makes, if it does
-abbrev pub polygon_at : List Vertex → Arrival → List ℕ → Option Polygon
-polygon_at came a places = if has_corners came a places && may_be_seen came a places then Some (polygon_with came a places) else None
+-- the polygon that the last vertex makes, if it does
+abbrev pub polygon_at : (ℕ → ℕ) → List Vertex → Arrival → List ℕ → Option Polygon
+polygon_at stands came a places =
+    if has_corners stands places && may_be_seen stands came a places then Some (polygon_with stands a places) else None
 
-abbrev pub polygon_by : Option ℕ → List Vertex → Arrival → Option Polygon
-polygon_by None came a = None
-polygon_by (Some k) came a = polygon_at came a (corners a.kind k)
+abbrev pub polygon_by : Option ℕ → (ℕ → ℕ) → List Vertex → Arrival → Option Polygon
+polygon_by None stands came a = None
+polygon_by (Some k) stands came a = polygon_at stands came a (corners a.kind k)
 
+-- by all vertices that came since the swap, and by where the run's last four stand in the list
 unfoldable pub polygon_of : List Vertex → Arrival → Option Polygon
-polygon_of came a = polygon_by (completed a.kind a.place) came a
+polygon_of came a = polygon_by (completed a.kind a.place) (place_since came a) came a
+
+unfoldable pub polygon_among : List ℕ → List Vertex → Arrival → Option Polygon
+polygon_among four came a = polygon_by (completed a.kind a.place) (place_among four a) came a

@@ -12,7 +12,7 @@ use Rattle.gx_geometry.specs.Bounds.{is_place, is_told, ArePlaces, AreTold}
 use Rattle.gx_geometry.specs.Numbers.{kind_of, no_light}
 use Rattle.gx_geometry.specs.Polygons.{most_vertices, most_polygons}
 use Rattle.gx_geometry.specs.Records.{CoordinatesState, GivenPointState, LightState, MaterialState, NumbersState}
-use Rattle.gx_geometry.specs.States.{GeometryState, OutcomeState, Swapped}
+use Rattle.gx_geometry.specs.States.{GeometryState, OutcomeState, Swapped, no_swap}
 
 -- The geometry engine in bytes: the matrices, the numbers that commands keep, the results of tests, the open lists, and the lists of the last swap.
 
@@ -295,7 +295,7 @@ pub record AreLighting (n : LightingNumbers) : Type 0 where
   pub words : length n.table ≡ 32
   pub table : AllByRecursion (λ w. w < 2 ^ 32) n.table
   pub four : length n.lights ≡ 4
-  pub lights : (i : ℕ) → i < 4 → IsLight (slice_index_or n.lights i no_light)
+  pub lights : AllByRecursion IsLight n.lights
 
 pub record AreTestResults (r : TestResults) : Type 0 where
   pub four : length r.position ≡ 4
@@ -305,21 +305,19 @@ pub record AreTestResults (r : TestResults) : Type 0 where
   pub b : FitsSigned w16 (signed_at r.vector 1)
   pub c : FitsSigned w16 (signed_at r.vector 2)
 
-pub record AreSavedLists (at : ℕ) (l : Swapped) : Type 0 where
-  pub tick : l.tick.0 ≤ at
+pub record AreSwapped (l : Swapped) : Type 0 where
   pub parameter : l.parameter < 2 ^ 32
-  pub none : unless_none l.tick.0 0xFFFFFFFF at l.parameter ≡ true
-  pub vertex_count : unless_none l.tick.0 most_vertices at (length l.vertices) ≡ true
-  pub polygon_count : unless_none l.tick.0 most_polygons at (length l.polygons) ≡ true
+  pub vertex_count : length l.vertices ≤ most_vertices
+  pub polygon_count : length l.polygons ≤ most_polygons
   pub vertices : AllByRecursion IsVertex l.vertices
   pub polygons : AllByRecursion IsPolygon l.polygons
 
-pub record IsSavedGeometry (at : ℕ) (g : GeometryState) : Type 0 where
+-- so it is at every time
+pub record HasBounds (g : GeometryState) : Type 0 where
   pub stacks : AreStacks g.numbers.stacks
   pub parameter : g.numbers.parameter < 2 ^ 32
   pub current : AreCurrent (current_numbers g.numbers)
   pub lighting : AreLighting (lighting_numbers g.numbers)
-  pub run : g.numbers.run ≤ at
   pub told : AreTold g.numbers.run g.outcome.recent
   pub places : ArePlaces (length g.outcome.vertices) g.outcome.recent
   pub results : AreTestResults (test_results g.outcome)
@@ -327,7 +325,14 @@ pub record IsSavedGeometry (at : ℕ) (g : GeometryState) : Type 0 where
   pub polygon_count : length g.outcome.polygons ≤ most_polygons
   pub vertices : AllByRecursion IsVertex g.outcome.vertices
   pub polygons : AllByRecursion IsPolygon g.outcome.polygons
-  pub last : AreSavedLists at g.last
+  pub last : AreSwapped g.last
+
+-- At a tick the run has no more vertices than there were ticks, and the last swap was no later, nor at tick 0.
+pub record IsSavedGeometry (at : ℕ) (g : GeometryState) : Type 0 where
+  pub bounds : HasBounds g
+  pub run : g.numbers.run ≤ at
+  pub swap : g.last.tick.0 ≤ at
+  pub none : g.last.tick.0 ≡ 0 → g.last ≡ no_swap
 
 -- its bytes at a tick are read as it was, and bytes that are read as an engine are its bytes
 pub record GeometryIsSaved : Type 0 where

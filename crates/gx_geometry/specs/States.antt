@@ -12,7 +12,7 @@ use Rattle.gx_geometry.specs.Numbers.{numbers_at_boot, point_by_halves}
 use Rattle.gx_geometry.specs.Boxes.{through, box_test}
 use Rattle.gx_geometry.specs.Coordinates.{vector_test}
 use Rattle.gx_geometry.specs.Changes.{numbers_after, gives_vertex}
-use Rattle.gx_geometry.specs.Polygons.{Arrival, arrival_of, polygon_of, most_vertices, most_polygons}
+use Rattle.gx_geometry.specs.Polygons.{Arrival, arrival_of, no_place, polygon_among, most_vertices, most_polygons}
 use Rattle.gx_geometry.specs.Lists.{GeometryAct, Command, ClearError, ClearOverflow, numbers_cleared, AreLists, IsOverflow}
 
 -- The geometry engine: its numbers, the results of tests, the open lists, and the lists that the last swap gave out.
@@ -44,10 +44,6 @@ pub record GeometryState : Type 0 where
   pub numbers : NumbersState
   pub outcome : OutcomeState
   pub last : Swapped
-
--- a place in the open list that a vertex doesn't have: it was dropped, it came before the last swap, or there is none
-abbrev pub no_place : ℕ
-no_place = 0xFFFF
 
 abbrev pub none_recent : List ℕ
 none_recent = no_place ∷ no_place ∷ no_place ∷ []
@@ -97,8 +93,8 @@ tested VecTest params s o = record o { vector = vector_test (slice_index params 
 tested BeginVtxs params s o = record o { recent = none_recent }
 tested _ params s o = o
 
--- A vertex comes: it is added to the open list, and with it the polygon that it completes; what comes past a limit is dropped and sets the overflow
--- (GBATEK, DISP3DCNT bit 13, and "DS 3D Overview": 6144 vertices and 2048 polygons).
+-- A vertex comes: it is added to the open list, and with it the polygon that it completes by where the run's last vertices stand; what comes past a
+-- limit is dropped and sets the overflow (GBATEK, DISP3DCNT bit 13, and "DS 3D Overview": 6144 vertices and 2048 polygons).
 abbrev pub overflown : OutcomeState → OutcomeState
 overflown o = record o { overflow = true }
 
@@ -113,10 +109,14 @@ vertex_added v o = record o { vertices = o.vertices ++ v ∷ []; recent = then_r
 abbrev pub vertex_dropped : OutcomeState → OutcomeState
 vertex_dropped o = record (overflown o) { recent = then_recent no_place o.recent }
 
+-- where the run's last three vertices and the next one stand
+abbrev pub four_recent : OutcomeState → List ℕ
+four_recent o = slice_index o.recent 0 ∷ slice_index o.recent 1 ∷ slice_index o.recent 2 ∷ length o.vertices ∷ []
+
 unfoldable pub arrived : Arrival → OutcomeState → OutcomeState
 arrived a o =
     if nat_lt (length o.vertices) most_vertices
-    then polygon_added (polygon_of (o.vertices ++ a.vertex ∷ []) a) (vertex_added a.vertex o)
+    then polygon_added (polygon_among (four_recent o) (o.vertices ++ a.vertex ∷ []) a) (vertex_added a.vertex o)
     else vertex_dropped o
 
 -- after a command: its test, by the numbers before it, and its vertex, by those after it
@@ -161,10 +161,11 @@ swapped now g = record {
   last = record { tick = now; parameter = g.numbers.parameter; vertices = g.outcome.vertices; polygons = g.outcome.polygons };
 }
 
--- the engine as a swap leaves it, or boot: both open lists are empty
+-- the engine as a swap leaves it, or boot: both open lists are empty, and none of the run's vertices stands there
 pub record IsFresh (g : GeometryState) : Type 0 where
   pub no_vertex : g.outcome.vertices ≡ []
   pub no_polygon : g.outcome.polygons ≡ []
+  pub no_recent : g.outcome.recent ≡ none_recent
 
 -- from whatever fresh engine and by whatever acts it came to be as it is, these are the lists of those acts
 abbrev pub AreListsSince : GeometryState → List Vertex → List Polygon → Type 0

@@ -100,6 +100,13 @@ impl Geometry {
         self.numbers.run
     }
 
+    /// The parameter of the last command that asked for a swap, since the last swap; 0 where there was none.
+    pub fn swap_parameter(&self) -> u32
+        ensures { result ≡ self.now.numbers.parameter }
+    {
+        self.numbers.parameter
+    }
+
     /// A command by its name, with as many parameters as it has (GBATEK, "DS 3D Geometry Commands"). It takes no memory.
     #[tactic(auto, using(crate::proofs::Recent::told_after), unfolding(crate::specs::States::geometry_after))]
     pub fn take_command(&mut self, command: GeometryCommand, params: &[u32])

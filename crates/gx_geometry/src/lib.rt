@@ -17,7 +17,8 @@
 //! dropped since it was cleared last (clause `overflow`). `laws`: at most 6,144 vertices and 2,048 polygons, colours of fifteen bits,
 //! palettes' bases of thirteen, at most one vertex a command. `pack` and `unpack`: the engine's bytes and what is read of bytes, by one format
 //! (`specs/Saved`); `saved_laws`: the bytes of an engine whose numbers have their bounds (`IsSavedGeometry`) are read as that engine, and
-//! bytes that are read as an engine are its bytes. That each engine's numbers have those bounds is no clause yet.
+//! bytes that are read as an engine are its bytes. `bounds`: each engine's numbers have those bounds, so its bytes are read back at each tick
+//! that is no lower than its run's length and its last swap's tick.
 //!
 //! Only tested, in `gx_tests`: each command, each lighting term, the texture modes, strips, culling and both limits on values worked by
 //! hand, and that `Geometry::new` succeeds with ample memory.
@@ -35,6 +36,7 @@ mod numbers;
 mod outcomes;
 mod polygons;
 mod results;
+mod widths;
 
 pub use engine::{Geometry, saved_laws};
 pub use lists::Lists;

@@ -1,10 +1,10 @@
 //! What commands bring about beside the numbers: the results of tests, and the open lists.
 
-ghost use Rattle.std.specs.Prelude.{◌≡◌, ◌<◌, ◌≤◌, ◌^◌, length, IfOk, IfSome};
+ghost use Rattle.std.specs.Prelude.{◌≡◌, ◌<◌, ◌≤◌, ◌^◌, true, length, IfOk, IfSome};
 ghost use Rattle.gx_matrix.specs.CommandTable.{HasParameters};
-ghost use Rattle.gx_geometry.specs.Polygons.{arrival_of, polygon_of, most_vertices};
-ghost use Rattle.gx_geometry.specs.States.{no_outcome, then_recent, results_of, tested, polygon_added, vertex_added, arrived, flag_cleared, lists_emptied};
-ghost use Rattle.gx_geometry.specs.Bounds.{AreSmall, AreLimited, ArePlaces};
+ghost use Rattle.gx_geometry.specs.Polygons.{arrival_of, polygon_among, most_vertices};
+ghost use Rattle.gx_geometry.specs.States.{no_outcome, four_recent, then_recent, results_of, tested, polygon_added, vertex_added, arrived, flag_cleared, lists_emptied};
+ghost use Rattle.gx_geometry.specs.Bounds.{is_shaped, AreSmall, AreLimited, ArePlaces};
 ghost use Rattle.gx_geometry.specs.RecordsKept.{numbers_seen};
 
 mod saved;
@@ -14,7 +14,7 @@ use crate::capped::Capped;
 use crate::coordinates::vector_test;
 use crate::lists::{Lists, POLYGONS, VERTICES};
 use crate::numbers::{Numbers, point_by_halves};
-use crate::polygons::{Polygon, Vertex, polygon_of, vertex_of};
+use crate::polygons::{NOWHERE, Polygon, Vertex, polygon_of, vertex_of};
 use crate::results::Results;
 use ds_base::Tick;
 use gx_matrix::GeometryCommand;
@@ -32,13 +32,10 @@ pub struct Outcome {
     recent: [u16; 3],
 }
 
-/// A place in the list that a vertex doesn't have.
-const NOWHERE: u16 = 0xFFFF;
-
 impl Model for Outcome {
     ghost use Rattle.std.specs.Prelude.{◌≡◌, ◌≤◌, length};
     ghost use Rattle.gx_geometry.specs.Polygons.{most_vertices, most_polygons};
-    ghost use Rattle.gx_geometry.specs.Bounds.{ArePlaces, HaveColours, HavePalettes};
+    ghost use Rattle.gx_geometry.specs.Bounds.{ArePlaces, HaveColours, HavePalettes, HaveShapes};
     ghost use Rattle.gx_geometry.specs.States.{OutcomeState};
 
     ghost Value = { OutcomeState };
@@ -55,7 +52,7 @@ impl Model for Outcome {
 
     ghost invariant = { λ o. (o.results.vertices ≡ length o.vertices) × (o.results.polygons ≡ length o.polygons) × (length o.vertices ≤ most_vertices)
         × (length o.polygons ≤ most_polygons) × HaveColours o.vertices × HavePalettes o.polygons
-        × ArePlaces (length o.vertices) o.recent };
+        × HaveShapes o.polygons × ArePlaces (length o.vertices) o.recent };
 }
 
 /// The places of a run's last three vertices when the next one comes.
@@ -88,9 +85,10 @@ impl Outcome {
         })
     }
 
-    #[tactic(auto, using(crate::proofs::Bounds::palette_added))]
+    #[tactic(auto, using(crate::proofs::Bounds::palette_added, crate::proofs::Bounds::shape_added))]
     fn add_polygon(&mut self, polygon: Option<Polygon>)
-        requires { IfSome polygon (λ p. p.palette < 2 ^ 13) }
+        requires palette { IfSome polygon (λ p. p.palette < 2 ^ 13) }
+        requires shape { IfSome polygon (λ p. is_shaped p ≡ true) }
         ensures { self.new ≡ polygon_added polygon self.old }
     {
         if let Some(polygon) = polygon {
@@ -114,14 +112,27 @@ impl Outcome {
         self.results.vertices += 1;
     }
 
-    /// The polygon that the last vertex of the open list makes, if it does.
-    fn completed(&self, s: &Numbers) -> Option<Polygon>
+    /// Where the run's last three vertices and the next one stand.
+    fn four_recent(&self) -> [u16; 4]
+        ensures { result ≡ four_recent self.now }
+    {
+        [
+            self.recent[0],
+            self.recent[1],
+            self.recent[2],
+            self.results.vertices,
+        ]
+    }
+
+    /// The polygon that the last vertex of the open list makes, if it does, by where the run's last four stand.
+    fn completed(&self, four: [u16; 4], s: &Numbers) -> Option<Polygon>
         requires run { 1 ≤ s.now.run }
         requires palette { s.now.palette < 2 ^ 13 }
-        ensures value { result ≡ polygon_of self.now.vertices (arrival_of (numbers_seen s.now)) }
+        ensures value { result ≡ polygon_among four self.now.vertices (arrival_of (numbers_seen s.now)) }
         ensures palette { IfSome result (λ p. p.palette < 2 ^ 13) }
+        ensures shape { IfSome result (λ p. is_shaped p ≡ true) }
     {
-        polygon_of(self.vertices.as_slice(), s)
+        polygon_of(self.vertices.as_slice(), four, s)
     }
 
     /// A vertex comes, and with it the polygon that it completes.
@@ -132,8 +143,9 @@ impl Outcome {
         ensures { self.new ≡ arrived (arrival_of (numbers_seen s.now)) self.old }
     {
         if (self.results.vertices as usize) < VERTICES {
+            let four = self.four_recent();
             self.add_vertex(vertex_of(s));
-            let polygon = self.completed(s);
+            let polygon = self.completed(four, s);
             self.add_polygon(polygon);
         } else {
             self.recent = then_recent(NOWHERE, self.recent);

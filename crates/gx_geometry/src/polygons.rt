@@ -1,10 +1,11 @@
 //! Vertices and polygons, as the lists of a swap have them.
 
-ghost use Rattle.std.specs.Prelude.{◌≡◌, ◌<◌, ◌≤◌, ◌+◌, ◌-◌, ◌^◌, ◌-ℤ◌, ◌+ℤ◌, ◌*ℤ◌, ◌≤ℤ◌, pos, negsuc, length, slice_index, IfSome};
+ghost use Rattle.std.specs.Prelude.{◌≡◌, ◌≤◌, ◌-◌, ◌^◌, ◌-ℤ◌, ◌+ℤ◌, ◌*ℤ◌, ◌≤ℤ◌, pos, negsuc, true, length, slice_index, slice_index_or, IfSome};
 ghost use Rattle.ds_base.specs.Bits.{bit};
-ghost use Rattle.gx_geometry.specs.Polygons.{vertex_of, arrival_of, most_vertices, minor, times_minor, determinant, is_kept, polygon_of};
+ghost use Rattle.gx_geometry.specs.Polygons.{vertex_of, arrival_of, minor, times_minor, determinant, is_kept, no_vertex, polygon_among};
+ghost use Rattle.gx_geometry.specs.Bounds.{is_shaped};
 ghost use Rattle.gx_geometry.specs.RecordsKept.{numbers_seen};
-ghost use Rattle.gx_geometry.specs.Backs.{shape_of, corners_back, vertex_back, seen_back, indices_back, polygon_back, polygon_by_shape};
+ghost use Rattle.gx_geometry.specs.Backs.{shape_of, corners_back, index_back, reaches_back, seen_back, indices_back, polygon_back, polygon_by_shape};
 
 mod saved;
 
@@ -48,6 +49,19 @@ pub struct Polygon {
     /// Their places in the list of vertices; the fourth is 0 where there are three.
     pub indices: [u16; 4],
 }
+
+/// A place in the list of vertices that a vertex doesn't have.
+pub const NOWHERE: u16 = 0xFFFF;
+
+const NO_VERTEX: Vertex = Vertex {
+    x: 0,
+    y: 0,
+    z: 0,
+    w: 0,
+    colour: 0,
+    s: 0,
+    t: 0,
+};
 
 /// The shape of a polygon that a run completes.
 #[derive(Clone, Copy)]
@@ -213,8 +227,6 @@ fn shape_of(kind: Kind, place: u64) -> Option<Shape>
 /// How many corners a shape has.
 fn corner_count(shape: Shape) -> u8
     ensures value { result ≡ length (corners_back shape) }
-    ensures some { 3 ≤ result }
-    ensures within { result ≤ 4 }
 {
     match shape {
         Shape::Triangle | Shape::TurnedTriangle => 3,
@@ -222,68 +234,72 @@ fn corner_count(shape: Shape) -> u8
     }
 }
 
-/// How far back the first three corners of a shape came.
-fn first_corners(shape: Shape) -> (u8, u8, u8)
-    ensures zero { result.0 ≡ slice_index (corners_back shape) 0 }
-    ensures one { result.1 ≡ slice_index (corners_back shape) 1 }
-    ensures two { result.2 ≡ slice_index (corners_back shape) 2 }
-    ensures zero_within { result.0 < length (corners_back shape) }
-    ensures one_within { result.1 < length (corners_back shape) }
-    ensures two_within { result.2 < length (corners_back shape) }
+/// Where the first three corners of a shape stand, by where the run's last four vertices do.
+fn first_corners(four: [u16; 4], shape: Shape) -> (u16, u16, u16)
+    ensures zero { result.0 ≡ index_back four (slice_index (corners_back shape) 0) }
+    ensures one { result.1 ≡ index_back four (slice_index (corners_back shape) 1) }
+    ensures two { result.2 ≡ index_back four (slice_index (corners_back shape) 2) }
 {
     match shape {
-        Shape::Triangle => (2, 1, 0),
-        Shape::TurnedTriangle => (1, 2, 0),
-        Shape::Quad => (3, 2, 1),
-        Shape::StripQuad => (3, 2, 0),
+        Shape::Triangle => (four[1], four[2], four[3]),
+        Shape::TurnedTriangle => (four[2], four[1], four[3]),
+        Shape::Quad => (four[0], four[1], four[2]),
+        Shape::StripQuad => (four[0], four[1], four[3]),
     }
 }
 
-#[tactic(auto, unfolding(crate::specs::Backs::vertex_back))]
-fn vertex_back(came: &[Vertex], back: u8) -> Vertex
-    requires { back < length came.now }
-    ensures { result ≡ vertex_back came.now back }
+/// Where all its corners stand; an unused one is 0.
+#[tactic(auto, unfolding(crate::specs::Backs::indices_back))]
+fn indices_of(four: [u16; 4], shape: Shape) -> [u16; 4]
+    ensures { result ≡ indices_back four shape }
 {
-    came[came.len() - 1 - back as usize]
+    match shape {
+        Shape::Triangle => [four[1], four[2], four[3], 0],
+        Shape::TurnedTriangle => [four[2], four[1], four[3], 0],
+        Shape::Quad => [four[0], four[1], four[2], four[3]],
+        Shape::StripQuad => [four[0], four[1], four[3], four[2]],
+    }
+}
+
+/// Whether none of its corners stands nowhere.
+#[tactic(auto, unfolding(crate::specs::Backs::reaches_back))]
+fn reaches_back(four: [u16; 4], shape: Shape) -> bool
+    ensures { result ≡ reaches_back four shape }
+{
+    let (a, b, c) = first_corners(four, shape);
+    let three = a != NOWHERE && b != NOWHERE && c != NOWHERE;
+    match shape {
+        Shape::Triangle | Shape::TurnedTriangle => three,
+        Shape::Quad => three && four[3] != NOWHERE,
+        Shape::StripQuad => three && four[2] != NOWHERE,
+    }
+}
+
+/// The vertex of a place, and none past the last.
+fn vertex_at(came: &[Vertex], place: u16) -> Vertex
+    ensures { result ≡ slice_index_or came.now place no_vertex }
+{
+    match came.get(place as usize) {
+        Some(vertex) => *vertex,
+        None => NO_VERTEX,
+    }
 }
 
 /// Whether a polygon's side may be seen.
 #[tactic(auto, using(gx_matrix::proofs::Sums::casts), unfolding(crate::specs::Backs::seen_back))]
-fn may_be_seen(came: &[Vertex], attributes: u32, shape: Shape) -> bool
-    requires { length (corners_back shape) ≤ length came.now }
-    ensures { result ≡ seen_back came.now attributes shape }
+fn may_be_seen(came: &[Vertex], four: [u16; 4], attributes: u32, shape: Shape) -> bool
+    ensures { result ≡ seen_back four came.now attributes shape }
 {
-    let (a, b, c) = first_corners(shape);
-    let (a, b, c) = (
-        vertex_back(came, a),
-        vertex_back(came, b),
-        vertex_back(came, c),
-    );
+    let (a, b, c) = first_corners(four, shape);
+    let (a, b, c) = (vertex_at(came, a), vertex_at(came, b), vertex_at(came, c));
     is_kept(attributes, determinant(&a, &b, &c))
 }
 
-/// The places of a polygon's corners in the list of vertices.
-#[tactic(auto, unfolding(crate::specs::Backs::indices_back))]
-fn indices_of(came: &[Vertex], shape: Shape) -> [u16; 4]
-    requires some { length (corners_back shape) ≤ length came.now }
-    requires within { length came.now ≤ most_vertices }
-    ensures { result ≡ indices_back came.now shape }
-{
-    let last = came.len() as u16 - 1;
-    match shape {
-        Shape::Triangle => [last - 2, last - 1, last, 0],
-        Shape::TurnedTriangle => [last - 1, last - 2, last, 0],
-        Shape::Quad => [last - 3, last - 2, last - 1, last],
-        Shape::StripQuad => [last - 3, last - 2, last, last - 1],
-    }
-}
-
 #[tactic(auto, unfolding(crate::specs::Backs::polygon_back))]
-fn polygon_with(came: &[Vertex], s: &Numbers, shape: Shape) -> Polygon
-    requires some { length (corners_back shape) ≤ length came.now }
-    requires within { length came.now ≤ most_vertices }
-    ensures value { result ≡ polygon_back came.now (arrival_of (numbers_seen s.now)) shape }
+fn polygon_with(four: [u16; 4], s: &Numbers, shape: Shape) -> Polygon
+    ensures value { result ≡ polygon_back four (arrival_of (numbers_seen s.now)) shape }
     ensures palette { result.palette ≡ s.now.palette }
+    ensures shape { is_shaped result ≡ true }
 {
     Polygon {
         attributes: s.attributes,
@@ -291,32 +307,30 @@ fn polygon_with(came: &[Vertex], s: &Numbers, shape: Shape) -> Polygon
         palette: s.palette,
         viewport: s.viewport,
         corners: corner_count(shape),
-        indices: indices_of(came, shape),
+        indices: indices_of(four, shape),
     }
 }
 
-#[tactic(auto, unfolding(crate::specs::Backs::reaches_back))]
-fn polygon_by_shape(came: &[Vertex], s: &Numbers) -> Option<Polygon>
-    requires run { 1 ≤ s.now.run }
-    requires within { length came.now ≤ most_vertices }
-    ensures value { result ≡ polygon_by_shape (shape_of s.now.kind (s.now.run - 1)) came.now (arrival_of (numbers_seen s.now)) }
+fn polygon_by_shape(came: &[Vertex], four: [u16; 4], s: &Numbers) -> Option<Polygon>
+    requires { 1 ≤ s.now.run }
+    ensures value { result ≡ polygon_by_shape (shape_of s.now.kind (s.now.run - 1)) four came.now (arrival_of (numbers_seen s.now)) }
     ensures palette { IfSome result (λ p. p.palette ≡ s.now.palette) }
+    ensures shape { IfSome result (λ p. is_shaped p ≡ true) }
 {
     match shape_of(s.kind, s.run - 1) {
-        Some(shape)
-            if came.len() >= corner_count(shape) as usize
-                && may_be_seen(came, s.attributes, shape) => { Some(polygon_with(came, s, shape)) }
+        Some(shape) if reaches_back(four, shape) && may_be_seen(came, four, s.attributes, shape) =>
+            { Some(polygon_with(four, s, shape)) }
         _ => None,
     }
 }
 
-/// The polygon that the last of these vertices makes, if it does.
+/// The polygon that the last of these vertices makes, if it does, by where the run's last four stand.
 #[tactic(auto, using(crate::proofs::Backs::by_shape))]
-pub fn polygon_of(came: &[Vertex], s: &Numbers) -> Option<Polygon>
-    requires run { 1 ≤ s.now.run }
-    requires within { length came.now ≤ most_vertices }
-    ensures value { result ≡ polygon_of came.now (arrival_of (numbers_seen s.now)) }
+pub fn polygon_of(came: &[Vertex], four: [u16; 4], s: &Numbers) -> Option<Polygon>
+    requires { 1 ≤ s.now.run }
+    ensures value { result ≡ polygon_among four came.now (arrival_of (numbers_seen s.now)) }
     ensures palette { IfSome result (λ p. p.palette ≡ s.now.palette) }
+    ensures shape { IfSome result (λ p. is_shaped p ≡ true) }
 {
-    polygon_by_shape(came, s)
+    polygon_by_shape(came, four, s)
 }

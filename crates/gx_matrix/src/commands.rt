@@ -158,6 +158,61 @@ impl GeometryCommand {
         }
     }
 
+    /// Its code.
+    pub fn code(self) -> u8
+        ensures { result ≡ (command_row self).code }
+    {
+        match self {
+            GeometryCommand::MtxMode => 0x10,
+            GeometryCommand::MtxPush => 0x11,
+            GeometryCommand::MtxPop => 0x12,
+            GeometryCommand::MtxStore => 0x13,
+            GeometryCommand::MtxRestore => 0x14,
+            GeometryCommand::MtxIdentity => 0x15,
+            GeometryCommand::MtxLoad4x4 => 0x16,
+            GeometryCommand::MtxLoad4x3 => 0x17,
+            GeometryCommand::MtxMult4x4 => 0x18,
+            GeometryCommand::MtxMult4x3 => 0x19,
+            GeometryCommand::MtxMult3x3 => 0x1A,
+            GeometryCommand::MtxScale => 0x1B,
+            GeometryCommand::MtxTrans => 0x1C,
+            other => other.other_code(),
+        }
+    }
+
+    /// The code of one that is no command of matrices.
+    fn other_code(self) -> u8
+        requires { 0x20 ≤ (command_row self).code }
+        ensures { result ≡ (command_row self).code }
+    {
+        match self {
+            GeometryCommand::Color => 0x20,
+            GeometryCommand::Normal => 0x21,
+            GeometryCommand::Texcoord => 0x22,
+            GeometryCommand::Vtx16 => 0x23,
+            GeometryCommand::Vtx10 => 0x24,
+            GeometryCommand::VtxXy => 0x25,
+            GeometryCommand::VtxXz => 0x26,
+            GeometryCommand::VtxYz => 0x27,
+            GeometryCommand::VtxDiff => 0x28,
+            GeometryCommand::PolygonAttr => 0x29,
+            GeometryCommand::TeximageParam => 0x2A,
+            GeometryCommand::PlttBase => 0x2B,
+            GeometryCommand::DifAmb => 0x30,
+            GeometryCommand::SpeEmi => 0x31,
+            GeometryCommand::LightVector => 0x32,
+            GeometryCommand::LightColor => 0x33,
+            GeometryCommand::Shininess => 0x34,
+            GeometryCommand::BeginVtxs => 0x40,
+            GeometryCommand::EndVtxs => 0x41,
+            GeometryCommand::SwapBuffers => 0x50,
+            GeometryCommand::Viewport => 0x60,
+            GeometryCommand::BoxTest => 0x70,
+            GeometryCommand::PosTest => 0x71,
+            _ => 0x72,
+        }
+    }
+
     /// How many words of parameters it has.
     #[tactic(auto, unfolding(crate::specs::CommandTable::command_of))]
     pub fn parameters(self) -> u8

@@ -13,6 +13,7 @@ mod matrices;
 mod ports;
 mod rig;
 mod saved;
+mod saved_fifo;
 mod stacks;
 mod swaps;
 mod vertices;

@@ -3,7 +3,7 @@
 ghost use Rattle.std.specs.Prelude.{◌≡◌, OnOk};
 ghost use Rattle.ds_state.specs.Formats.{bytes_written, number_code};
 ghost use Rattle.ds_state.specs.Reading.{GivesIn, GivesRead, read_code, read_format, ruled};
-ghost use Rattle.gx_geometry.specs.Saved.{geometry_format, run_until, GeometryIsSaved};
+ghost use Rattle.gx_geometry.specs.Saved.{geometry_format, run_until, GeometryIsSaved, HasBounds};
 
 use crate::engine::Geometry;
 use crate::lists::{Lists, put_polygons, put_vertices, take_polygons, take_vertices};
@@ -11,6 +11,7 @@ use crate::numbers::{
     Numbers, kind_of, put_current, put_lighting, run_kind_number, take_current, take_lighting,
 };
 use crate::outcomes::{Outcome, put_results, take_length, take_place, take_results};
+use crate::widths::{are_current, are_lighting, are_polygons, are_results, are_vertices};
 use ds_base::Tick;
 use ds_state::{Packer, Unpacked, Unpacker, holds};
 use gx_matrix::Stacks;
@@ -50,6 +51,20 @@ impl Geometry {
         put_polygons(into, self.outcome.polygons())?;
         self.last.pack(into)?;
         Ok(())
+    }
+
+    /// Does nothing; its contract states what holds of each of its numbers at every time, by which `saved_laws` speaks of its bytes at a tick
+    /// that is no lower than the run's length and the last swap's tick. It walks over the lists.
+    pub fn bounds(&self)
+        ensures { HasBounds self.now }
+    {
+        self.numbers.stacks.laws();
+        are_current(&self.numbers);
+        are_lighting(&self.numbers);
+        are_results(self.outcome.results());
+        are_vertices(self.outcome.vertices());
+        are_polygons(self.outcome.polygons());
+        self.last.bounds();
     }
 
     /// Takes what `pack` puts; the clip matrix is made anew. The error is want of memory, or where the first field begins that isn't whole or

@@ -3,12 +3,13 @@
 ghost use Rattle.std.specs.Prelude.{◌≡◌, ◌<◌, ◌≤◌, length, IfOk, OnOk};
 ghost use Rattle.ds_state.specs.Formats.{bytes_written, number_code, written_each};
 ghost use Rattle.ds_state.specs.Reading.{GivesIn, GivesRead, read_code, read_format, read_list, ruled};
-ghost use Rattle.gx_geometry.specs.Bounds.{AreLimited, HaveColours, HavePalettes};
-ghost use Rattle.gx_geometry.specs.Saved.{lists_format, polygon_format, unless_none, vertex_format};
+ghost use Rattle.gx_geometry.specs.Bounds.{AreLimited, HaveColours, HavePalettes, HaveShapes};
+ghost use Rattle.gx_geometry.specs.Saved.{AreSwapped, lists_format, polygon_format, unless_none, vertex_format};
 
 use crate::capped::Capped;
 use crate::lists::{Lists, POLYGONS, VERTICES};
 use crate::polygons::{Polygon, Vertex, put_polygon, put_vertex, take_polygon, take_vertex};
+use crate::widths::{are_polygons, are_vertices, is_unsigned_word};
 use ds_base::Tick;
 use ds_state::{Packer, Unpacked, Unpacker, holds};
 use std::alloc::{AllocError, Global};
@@ -66,6 +67,7 @@ pub fn take_polygons(
     ensures reads { GivesIn (λ c. c) result from.new (read_list (read_format polygon_format at) count from.old) }
     ensures long { IfOk result (λ c. length c ≡ count) }
     ensures palettes { IfOk result (λ c. HavePalettes c) }
+    ensures shapes { IfOk result (λ c. HaveShapes c) }
 {
     let mut polygons = Capped::new(alloc)?;
     for _ in 0..count {
@@ -87,6 +89,16 @@ fn take_unless_none(from: &mut Unpacker, tick: u64, most: u32) -> Result<u32, Un
 }
 
 impl Lists {
+    /// Does nothing; its contract states what holds of each of its numbers.
+    pub(crate) fn bounds(&self)
+        requires { AreLimited self.now.vertices self.now.polygons }
+        ensures { AreSwapped self.now }
+    {
+        is_unsigned_word(self.parameter);
+        are_vertices(self.vertices());
+        are_polygons(self.polygons());
+    }
+
     /// Puts the swap's tick and parameter, and its lists.
     #[tactic(auto, unfolding(crate::specs::Saved::lists_format))]
     pub(crate) fn pack(&self, into: &mut Packer) -> Result<(), AllocError>

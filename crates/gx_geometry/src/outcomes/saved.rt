@@ -9,8 +9,8 @@ ghost use Rattle.gx_geometry.specs.SavedKept.{results_seen};
 
 use crate::capped::Capped;
 use crate::lists::{POLYGONS, VERTICES};
-use crate::outcomes::{NOWHERE, Outcome};
-use crate::polygons::{Polygon, Vertex};
+use crate::outcomes::Outcome;
+use crate::polygons::{NOWHERE, Polygon, Vertex};
 use crate::results::Results;
 use ds_state::{Packer, Unpacked, Unpacker, holds, put_list, take_each};
 use std::alloc::AllocError;

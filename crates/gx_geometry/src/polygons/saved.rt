@@ -1,8 +1,9 @@
 //! Vertices and polygons in bytes.
 
-ghost use Rattle.std.specs.Prelude.{◌≡◌, ◌<◌, ◌^◌, IfOk, OnOk};
+ghost use Rattle.std.specs.Prelude.{◌≡◌, ◌<◌, ◌^◌, true, IfOk, OnOk};
 ghost use Rattle.ds_state.specs.Formats.{bytes_written};
 ghost use Rattle.ds_state.specs.Reading.{GivesRead, read_format};
+ghost use Rattle.gx_geometry.specs.Bounds.{is_shaped};
 ghost use Rattle.gx_geometry.specs.Saved.{polygon_format, vertex_format};
 
 use crate::polygons::{Polygon, Vertex};
@@ -70,6 +71,7 @@ pub fn put_polygon(into: &mut Packer, polygon: &Polygon) -> Result<(), AllocErro
 pub fn take_polygon(from: &mut Unpacker, at: u64) -> Result<Polygon, Unpacked>
     ensures reads { GivesRead (λ p. p) result from.new (read_format polygon_format at from.old) }
     ensures palette { IfOk result (λ p. p.palette < 2 ^ 13) }
+    ensures shape { IfOk result (λ p. is_shaped p ≡ true) }
 {
     let attributes = from.take_u32()?;
     let texture = from.take_u32()?;

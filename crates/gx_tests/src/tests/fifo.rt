@@ -40,13 +40,13 @@ enum Act {
     Swapped(u64, u32),
 }
 
-fn write(gx: &mut Gx, at: u32, word: u32, now: u64) {
+pub fn write(gx: &mut Gx, at: u32, word: u32, now: u64) {
     if gx.waiting() <= 320 {
         gx.port_write(at, word, Tick(now % 0x1_0000_0000));
     }
 }
 
-fn finish(gx: &mut Gx) {
+pub fn finish(gx: &mut Gx) {
     if let Some(due) = gx.due() {
         if due.0 <= 1 << 56 && gx.run_length() <= 1 << 56 {
             gx.finish();

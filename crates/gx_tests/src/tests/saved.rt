@@ -129,3 +129,55 @@ fn full_lists_are_taken_back_from_their_bytes(rt: HostRuntime) -> Result<(), All
     assert!(rt; row == SWAPPED.len() && got == 191_026, "row {row}: {got}");
     Ok(())
 }
+
+/// A place of the last three in the bytes of a strip of three vertices, and then, after a vertex more: how many polygons there are, and the corners
+/// of the last one.
+type Place = (usize, [u8; 2], usize, [u16; 4]);
+
+#[rattlefmt::skip]
+const PLACES: [Place; 7] = [
+    // as they are: the second triangle of a strip is turned
+    (4604, [2, 0], 2, [2, 1, 3, 0]),
+    // the last one, the one before it, and the first, which is no corner
+    (4604, [0, 0], 2, [0, 1, 3, 0]), (4602, [0, 0], 2, [2, 0, 3, 0]), (4600, [2, 0], 2, [2, 1, 3, 0]),
+    // one that stands nowhere
+    (4604, [0xFF, 0xFF], 1, [0, 1, 2, 0]), (4602, [0xFF, 0xFF], 1, [0, 1, 2, 0]), (4600, [0xFF, 0xFF], 2, [2, 1, 3, 0]),
+];
+
+/// How many polygons a swap gives after one vertex more, and the corners of the last one.
+fn next_made(engine: &mut Geometry) -> (usize, [u16; 4]) {
+    give(engine, 0x23, &[0x1000_1000, 0]);
+    engine.swap(Tick(9));
+    let polygons = engine.lists().polygons();
+    match polygons.last() {
+        Some(polygon) => (polygons.len(), polygon.indices),
+        None => (0, [0; 4]),
+    }
+}
+
+#[test]
+fn the_next_polygon_is_made_where_the_bytes_say(rt: HostRuntime) -> Result<(), AllocError> {
+    let mut engine = Geometry::new(rt.alloc())?;
+    give(&mut engine, 0x29, &[0xC0]);
+    give(&mut engine, 0x40, &[2]);
+    give(&mut engine, 0x23, &[0, 0]);
+    give(&mut engine, 0x23, &[0x1000, 0]);
+    give(&mut engine, 0x23, &[0x1000_0000, 0]);
+    for (number, (at, place, count, corners)) in PLACES.iter().enumerate() {
+        let mut packer = Packer::new(rt.alloc());
+        engine.pack(&mut packer)?;
+        let mut bytes = packer.finish();
+        if *at + 1 < bytes.len() {
+            bytes[*at] = place[0];
+            bytes[*at + 1] = place[1];
+        }
+        let (some, _) = bytes.as_slice().split_at(bytes.len().min(0x10_0000));
+        let mut from = Unpacker::new(some);
+        let (got, indices) = match Geometry::unpack(rt.alloc(), &mut from, Tick(100)) {
+            Ok(mut other) => next_made(&mut other),
+            Err(_) => (99, [0; 4]),
+        };
+        assert!(rt; got == *count && indices == *corners, "row {number}: {got}");
+    }
+    Ok(())
+}

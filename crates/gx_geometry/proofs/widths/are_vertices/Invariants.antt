@@ -1,0 +1,7 @@
+use Rattle.std.proofs.Common.{ℕ, ◌<◌, slice_index_or}
+use Rattle.gx_geometry.specs.Polygons.{no_vertex}
+use Rattle.gx_geometry.specs.SavedKept.{FitsVertex}
+use Rattle.gx_geometry.proofs.widths.are_vertices.Given as goal
+
+abbrev pub invariant-loop-vertex : goal.invariant-loop-vertex
+invariant-loop-vertex l = (i : ℕ) → i < l.vertex-index → FitsVertex (slice_index_or l.vertices i no_vertex)

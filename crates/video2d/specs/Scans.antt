@@ -38,8 +38,8 @@ scan_after s = if s.blanked then next_line_scan s else record s { blanked = true
 abbrev pub is_drawn_line : ℕ → Bool
 is_drawn_line line = nat_lt line 192
 
--- the V-blank flag: it is set at the start of line 192 and cleared at that of line 262 (GBATEK, "LCD I/O Interrupts and Status": it isn't set
--- in a frame's last line)
+-- the lines at which the V-blank flag is set from boot on: it is set at the start of line 192 and cleared at that of line 262 (GBATEK, "LCD I/O
+-- Interrupts and Status": it isn't set in a frame's last line)
 abbrev pub in_vblank : ℕ → Bool
 in_vblank line = nat_le 192 line && nat_lt line 262
 

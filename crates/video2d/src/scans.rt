@@ -1,7 +1,7 @@
 //! Where the display is, and when its next event comes.
 
 ghost use Rattle.std.specs.Prelude.{◌≡◌, ◌<◌, ◌≤◌, ◌^◌};
-ghost use Rattle.video2d.specs.Scans.{scan_at_boot, scan_due, scan_after, line_after, is_drawn_line, in_vblank, blanks_drawn_line, starts_vblank, framed_by, scan_line_start};
+ghost use Rattle.video2d.specs.Scans.{scan_at_boot, scan_due, scan_after, line_after, is_drawn_line, blanks_drawn_line, starts_vblank, framed_by, scan_line_start};
 
 use ds_base::Tick;
 use std::marker::Model;
@@ -75,13 +75,6 @@ impl Scan {
         ensures { result ≡ self.now.blanked }
     {
         self.blanked
-    }
-
-    /// Whether the V-blank flag is set.
-    pub fn in_vblank(&self) -> bool
-        ensures { result ≡ in_vblank self.now.line }
-    {
-        self.line >= VBLANK_LINE && self.line < LAST_LINE
     }
 
     /// Whether the next event is the H-blank of a line that is drawn.

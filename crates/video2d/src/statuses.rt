@@ -2,18 +2,19 @@
 
 ghost use Rattle.std.specs.Prelude.{◌≡◌, ◌≤◌, ◌+◌, ◌*◌};
 ghost use Rattle.ds_base.specs.Bits.{bits, flag};
-ghost use Rattle.video2d.specs.Statuses.{half_byte, with_half_byte, status_at_boot, status_written, vcount_setting, status_word, status_started, raised_where, raised_at_hblank, raised_at_start};
+ghost use Rattle.video2d.specs.Statuses.{half_byte, with_half_byte, status_at_boot, status_written, vcount_setting, status_word, status_blanked, status_started, raised_where, raised_at_hblank, raised_at_start};
 
 use crate::display_registers::DisplayRegister;
-use crate::scans::Scan;
 use ds_base::Interrupt;
 use std::marker::Model;
 
-/// One processor's DISPSTAT: what it keeps, and its V-count flag.
+/// One processor's DISPSTAT: what it keeps, and its flags.
 #[derive(Drop)]
 pub struct Status {
     kept: u16,
-    matched: bool,
+    vblank: bool,
+    hblank: bool,
+    vcount: bool,
 }
 
 impl Model for Status {
@@ -21,7 +22,7 @@ impl Model for Status {
 
     ghost Value = { StatusState };
 
-    ghost view = { λ s. record { kept = s.kept; matched = s.matched } };
+    ghost view = { λ s. record { kept = s.kept; vblank = s.vblank; hblank = s.hblank; vcount = s.vcount } };
 }
 
 /// A byte of a half, the low one being byte 0.
@@ -73,7 +74,9 @@ impl Status {
     {
         Status {
             kept: 0,
-            matched: false,
+            vblank: false,
+            hblank: false,
+            vcount: false,
         }
     }
 
@@ -84,7 +87,7 @@ impl Status {
         self.kept
     }
 
-    /// A byte is written: the flag stays, and so does the other byte.
+    /// A byte is written: the flags stay, and so does the other byte.
     pub fn write(&mut self, byte: u8, value: u8)
         ensures { self.new ≡ status_written self.old byte value }
     {
@@ -100,17 +103,30 @@ impl Status {
     }
 
     /// DISPSTAT as it is read.
-    pub fn word(&self, scan: &Scan) -> u16
-        ensures { result ≡ status_word scan.now self.now }
+    pub fn word(&self) -> u16
+        ensures { result ≡ status_word self.now }
     {
-        joined(scan.in_vblank(), scan.blanked(), self.matched, self.kept)
+        joined(self.vblank, self.hblank, self.vcount, self.kept)
+    }
+
+    /// A line's H-blank.
+    pub fn blank(&mut self)
+        ensures { self.new ≡ status_blanked self.old }
+    {
+        self.hblank = true;
     }
 
     /// A line starts.
     pub fn start(&mut self, line: u16)
         ensures { self.new ≡ status_started line self.old }
     {
-        self.matched = line == self.setting();
+        if line == 192 {
+            self.vblank = true;
+        } else if line == 262 {
+            self.vblank = false;
+        }
+        self.hblank = false;
+        self.vcount = line == self.setting();
     }
 
     /// The bits of IF that a line's H-blank raises.

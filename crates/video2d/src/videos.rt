@@ -159,9 +159,9 @@ impl Video {
     /// A processor's DISPSTAT as it is read, both bytes.
     #[inline(always)]
     pub fn status_read(&self, proc: Proc) -> u16
-        ensures { result ≡ status_word self.now.scan (status_of self.now proc) }
+        ensures { result ≡ status_word (status_of self.now proc) }
     {
-        self.status(proc).word(&self.scan)
+        self.status(proc).word()
     }
 
     /// VCOUNT as it is read, both bytes.
@@ -177,7 +177,7 @@ impl Video {
         ensures { result ≡ video_byte proc self.now at }
     {
         match video_port(proc, at) {
-            VideoPort::Status(byte) => half_byte(byte, self.status(proc).word(&self.scan)),
+            VideoPort::Status(byte) => half_byte(byte, self.status(proc).word()),
             VideoPort::Count(byte) => half_byte(byte, self.scan.line()),
             VideoPort::OfEngine(which, at) => self.engine(which).byte(which, at),
             VideoPort::Power(byte) => half_byte(byte, self.power),
@@ -290,6 +290,8 @@ impl Video {
             self.a.step_points();
             self.b.step_points();
         }
+        self.nine.blank();
+        self.seven.blank();
         self.scan.advance();
     }
 

@@ -1,4 +1,4 @@
-use Rattle.std.specs.Prelude.{ℕ, ◌+◌, ◌*◌, ◌==◌, nat_le, nat_lt, ◌&&◌, not, Bool, false, true, if◌then◌else◌, ◌-◌, Option, Some, None}
+use Rattle.std.specs.Prelude.{ℕ, ◌+◌, ◌*◌, ◌/◌, ◌%◌, ◌==◌, nat_le, nat_lt, ◌&&◌, not, Bool, false, true, if◌then◌else◌, ◌-◌, Option, Some, None}
 use Rattle.ds_base.specs.declared.ticks.Tick.{Tick}
 
 -- Where the display is, and when its events come (GBATEK, "DS Video", LCD timings; the tick of H-blank is our choice). A line has 355 dots of
@@ -58,3 +58,11 @@ whole_tick frame = record { 0 = 1120380 * frame + 817920 }
 -- when the last whole frame became so: the present one from its line 192 on, and until then the one before it, where there was one
 abbrev pub framed_by : ScanState → Option Tick
 framed_by s = if nat_le 192 s.line then Some (whole_tick s.frame) else (if s.frame == 0 then None else Some (whole_tick (s.frame - 1)))
+
+-- where the display is once all events that are due below a tick have been: what the tick before it falls into
+abbrev pub scan_before : ℕ → ScanState
+scan_before at = record {
+  frame = (at - 1) / 1120380;
+  line = (at - 1) % 1120380 / 4260;
+  blanked = nat_le 3212 ((at - 1) % 1120380 % 4260);
+}

@@ -1,7 +1,8 @@
 //! Where the display is, and when its next event comes.
 
-ghost use Rattle.std.specs.Prelude.{◌≡◌, ◌<◌, ◌≤◌, ◌^◌};
-ghost use Rattle.video2d.specs.Scans.{scan_at_boot, scan_due, scan_after, line_after, is_drawn_line, blanks_drawn_line, starts_vblank, framed_by, scan_line_start};
+ghost use Rattle.std.specs.Prelude.{◌≡◌, ◌<◌, ◌≤◌, ◌^◌, Some};
+ghost use Rattle.video2d.specs.Scans.{scan_at_boot, scan_due, scan_after, line_after, is_drawn_line, blanks_drawn_line, starts_vblank, framed_by, scan_before, scan_line_start};
+ghost use Rattle.ds_base.specs.Schedules.{IsEarly};
 
 use ds_base::Tick;
 use std::marker::Model;
@@ -51,6 +52,24 @@ impl Scan {
             line: 0,
             blanked: false,
             due: HBLANK_TICKS,
+        }
+    }
+
+    /// Where the display is at a tick: all events that are due below it have been.
+    pub fn before(at: Tick) -> Scan
+        requires { IsEarly (Some at) }
+        ensures { result ≡ scan_before at.0 }
+    {
+        let ticks = at.0.saturating_sub(1);
+        let frame = ticks / FRAME_TICKS;
+        let line = ticks % FRAME_TICKS / LINE_TICKS;
+        let blanked = ticks % FRAME_TICKS % LINE_TICKS >= HBLANK_TICKS;
+        let wait = if blanked { LINE_TICKS } else { HBLANK_TICKS };
+        Scan {
+            frame,
+            line: line as u16,
+            blanked,
+            due: frame * FRAME_TICKS + line * LINE_TICKS + wait,
         }
     }
 

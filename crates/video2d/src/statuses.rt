@@ -1,7 +1,8 @@
 //! DISPSTAT, of which each processor has its own.
 
 ghost use Rattle.std.specs.Prelude.{◌≡◌, ◌≤◌, ◌+◌, ◌*◌};
-ghost use Rattle.ds_base.specs.Bits.{bits, flag};
+ghost use Rattle.ds_base.specs.Bits.{bit, bits, flag};
+ghost use Rattle.video2d.specs.Saved.{status_of_bits};
 ghost use Rattle.video2d.specs.Statuses.{half_byte, with_half_byte, status_at_boot, status_written, vcount_setting, status_word, status_blanked, status_started, raised_where, raised_at_hblank, raised_at_start};
 
 use crate::display_registers::DisplayRegister;
@@ -54,6 +55,13 @@ fn mark(n: u8, set: bool) -> u16
     if set { 1 << n } else { 0 }
 }
 
+fn is_set(n: u8, word: u16) -> bool
+    requires { n ≤ 15 }
+    ensures { result ≡ bit n word }
+{
+    (word >> n) % 2 == 1
+}
+
 /// DISPSTAT of its flags and of what is kept.
 fn joined(vblank: bool, hblank: bool, vcount: bool, kept: u16) -> u16
     ensures { result ≡ flag 0 vblank + flag 1 hblank + flag 2 vcount + 8 * bits 3 13 kept }
@@ -77,6 +85,18 @@ impl Status {
             vblank: false,
             hblank: false,
             vcount: false,
+        }
+    }
+
+    /// DISPSTAT of its bits, as it is read.
+    pub fn of_bits(word: u16) -> Status
+        ensures { result ≡ status_of_bits word }
+    {
+        Status {
+            kept: word & DisplayRegister::Dispstat.row().kept as u16,
+            vblank: is_set(0, word),
+            hblank: is_set(1, word),
+            vcount: is_set(2, word),
         }
     }
 

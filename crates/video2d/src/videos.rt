@@ -19,6 +19,10 @@ use std::alloc::{AllocError, Global};
 use std::marker::Model;
 use vram_banks::Vram;
 
+mod saved;
+
+pub use saved::saved_laws;
+
 /// What an event does beside what it changes here.
 #[derive(Clone, Copy)]
 pub struct Shown {

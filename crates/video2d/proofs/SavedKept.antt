@@ -26,7 +26,8 @@ half_parts a b k l small few e =
     let y : k + 256 * l ≡ l * 2 ^ 8 + k = omega arith in
     let le = and_le_l a k in
     split (bit_and a k) (bit_and b l) a b (omega (arith, le, small)) small
-    (sym (and_block 8 b l a k small few) ∙ sym (ap (λ (n : ℕ). bit_and n (l * 2 ^ 8 + k)) x) ∙ sym (ap (λ (n : ℕ). bit_and (a + 256 * b) n) y) ∙ e ∙ x)
+    (sym (and_block 8 b l a k small few) ∙ sym (ap (λ (n : ℕ). bit_and n (l * 2 ^ 8 + k)) x)
+    ∙ sym (ap (λ (n : ℕ). bit_and (a + 256 * b) n) y) ∙ e ∙ x)
 
 record WordParts (a b c d k l m n : ℕ) : Type 0 where
   first : bit_and a k ≡ a
@@ -94,7 +95,8 @@ half_made which m at v are within small e = record { long = p.long; kept = λ i 
 
   parts : (bit_and (v % 256) (kept_bits_at which at) ≡ v % 256) × (bit_and (v / 256 % 256) (kept_bits_at which (at + 1)) ≡ v / 256 % 256)
   parts =
-      half_parts (v % 256) (v / 256 % 256) (kept_bits_at which at) (kept_bits_at which (at + 1)) (byte_below v) (kept_small (engine_row_at which at) at)
+      half_parts (v % 256) (v / 256 % 256) (kept_bits_at which at) (kept_bits_at which (at + 1)) (byte_below v)
+      (kept_small (engine_row_at which at) at)
       (subst (λ (n : ℕ). bit_and n (mask_at which Half at) ≡ n) (sym x) e)
 
   Kept : ℕ → Type 0

@@ -42,13 +42,16 @@ same_bytes which zero s at m k before = refl
 same_bytes which (suc n) s at m k before = row_bytes which n s (same_bytes which n s) at m k before (engine_row_at which at)
 
 pub put_past : (which : Engine) (i at : ℕ) (m before s total : List ℕ) → i < 56 → engine_row_at which at ≡ None
-    → bytes_written (registers_from which (56 - i) at m) before s ≡ total → bytes_written (registers_from which (56 - (i + 1)) (at + 2) m) before s ≡ total
+    → bytes_written (registers_from which (56 - i) at m) before s ≡ total
+    → bytes_written (registers_from which (56 - (i + 1)) (at + 2) m) before s ≡ total
 put_past which i at m before s total lt none so_far =
     let n = 56 - (i + 1) in
-    let one : bytes_written (registers_from which (suc n) at m) before s ≡ total = subst (λ (k : ℕ). bytes_written (registers_from which k at m) before s ≡ total) (one_less i lt) so_far in
+    let one : bytes_written (registers_from which (suc n) at m) before s ≡ total =
+    subst (λ (k : ℕ). bytes_written (registers_from which k at m) before s ≡ total) (one_less i lt) so_far in
     subst (λ (row : Option DisplayRow). bytes_written (register_if row at m (registers_from which n)) before s ≡ total) none one
 
-pub put_on : (which : Engine) (i at : ℕ) (row : DisplayRow) (m before s total : List ℕ) → i < 56 → engine_row_at which at ≡ Some row → HasByteAt row at
+pub put_on : (which : Engine) (i at : ℕ) (row : DisplayRow) (m before s total : List ℕ) → i < 56 → engine_row_at which at ≡ Some row
+    → HasByteAt row at
     → bytes_written (registers_from which (56 - i) at m) before s ≡ total
     → bytes_written (registers_from which (56 - (i + 1)) (at + row.bytes) m)
     (before ++ code_bytes (number_code (width_bytes (row_width row))) (number_at (row_width row) s at)) s ≡ total
@@ -56,7 +59,8 @@ put_on which i at row m before s total lt there has so_far =
     let n = 56 - (i + 1) in
     let w = row_width row in
     let after = before ++ code_bytes (number_code (width_bytes w)) (number_at w s at) in
-    let one : bytes_written (registers_from which (suc n) at m) before s ≡ total = subst (λ (k : ℕ). bytes_written (registers_from which k at m) before s ≡ total) (one_less i lt) so_far in
+    let one : bytes_written (registers_from which (suc n) at m) before s ≡ total =
+    subst (λ (k : ℕ). bytes_written (registers_from which k at m) before s ≡ total) (one_less i lt) so_far in
     let two : bytes_written (registers_from which n (at + width_bytes w) (with_number w m at (number_at w s at))) after s ≡ total =
     subst (λ (r : Option DisplayRow). bytes_written (register_if r at m (registers_from which n)) before s ≡ total) there one in
     same_bytes which n s (at + row.bytes) m (with_number w m at (number_at w s at)) after
@@ -68,7 +72,8 @@ pub take_past : (which : Engine) (i at : ℕ) (m : List ℕ) (tick : ℕ) (l : L
     → read_format (registers_from which (56 - i) at m) tick l ≡ total → read_format (registers_from which (56 - (i + 1)) (at + 2) m) tick l ≡ total
 take_past which i at m tick l total lt none so_far =
     let n = 56 - (i + 1) in
-    let one : read_format (registers_from which (suc n) at m) tick l ≡ total = subst (λ (k : ℕ). read_format (registers_from which k at m) tick l ≡ total) (one_less i lt) so_far in
+    let one : read_format (registers_from which (suc n) at m) tick l ≡ total =
+    subst (λ (k : ℕ). read_format (registers_from which k at m) tick l ≡ total) (one_less i lt) so_far in
     subst (λ (row : Option DisplayRow). read_format (register_if row at m (registers_from which n)) tick l ≡ total) none one
 
 -- the next register is read first
@@ -79,7 +84,8 @@ reads_one : (which : Engine) (i at : ℕ) (row : DisplayRow) (m : List ℕ) (tic
 reads_one which i at row m tick l total lt there has so_far =
     let n = 56 - (i + 1) in
     let w = row_width row in
-    let one : read_format (registers_from which (suc n) at m) tick l ≡ total = subst (λ (k : ℕ). read_format (registers_from which k at m) tick l ≡ total) (one_less i lt) so_far in
+    let one : read_format (registers_from which (suc n) at m) tick l ≡ total =
+    subst (λ (k : ℕ). read_format (registers_from which k at m) tick l ≡ total) (one_less i lt) so_far in
     let two : (ruled (keeps_mask row.kept 0) l (read_code (number_code (width_bytes w)) l)
     >>= (λ p. read_format (registers_from which n (at + width_bytes w) (with_number w m at p.0)) tick p.1)) ≡ total =
     subst (λ (r : Option DisplayRow). read_format (register_if r at m (registers_from which n)) tick l ≡ total) there one in
@@ -105,9 +111,11 @@ take_ends which i at row m tick offset l total lt there has read so_far =
     >>= (λ p. read_format (registers_from which (56 - (i + 1)) (at + row.bytes) (with_number (row_width row) m at p.0)) tick p.1)) ≡ total) read
     (reads_one which i at row m tick l total lt there has so_far))
 
-pub take_fails : (which : Engine) (i at : ℕ) (row : DisplayRow) (m : List ℕ) (tick : ℕ) (e : Unpacked) (l : Left) (total : ReadAnswer (List ℕ)) → i < 56
+pub take_fails : (which : Engine) (i at : ℕ) (row : DisplayRow) (m : List ℕ) (tick : ℕ) (e : Unpacked) (l : Left) (total : ReadAnswer (List ℕ))
+    → i < 56
     → engine_row_at which at ≡ Some row → HasByteAt row at
     → Fails e (ruled (keeps_mask row.kept 0) l (read_code (number_code (width_bytes (row_width row))) l))
     → read_format (registers_from which (56 - i) at m) tick l ≡ total → Fails e total
 take_fails which i at row m tick NoMemory l total lt there has read so_far = read
-take_fails which i at row m tick (Bad offset) l total lt there has read so_far = take_ends which i at row m tick offset l total lt there has read so_far
+take_fails which i at row m tick (Bad offset) l total lt there has read so_far =
+    take_ends which i at row m tick offset l total lt there has read so_far

@@ -170,7 +170,9 @@ word_placed m at v long within small =
 byte_placed : (m : List ℕ) (at v : ℕ) → length m ≡ 112 → at + 1 ≤ 112 → v < 256 → Placed Byte m at v
 byte_placed m at v long within small = record {
   long = length-set m at (v % 256) ∙ long;
-  value = λ a below. below at (omega arith) ∙ get_or-set_same m at (v % 256) 0 (omega (arith, long, within)) ∙ (let e : v % 256 ≡ v = omega (arith, small) in e);
+  value = λ a below.
+      below at (omega arith) ∙ get_or-set_same m at (v % 256) 0 (omega (arith, long, within))
+      ∙ (let e : v % 256 ≡ v = omega (arith, small) in e);
   other = λ i away. get_or-set_other m at i (v % 256) 0 (first_apart i at 1 (omega arith) away);
 }
 
@@ -201,7 +203,8 @@ ports_say which (suc n) tick at m P long h all =
 
 pub ports_exact : (which : Engine) (tick : ℕ) → IsExact (ports_format which) tick
 unfolding ports_format zeroes
-ports_exact which tick = ports_say which 56 tick 0 (zeroes engine_bytes) (λ s. Unit {0}) (length-replicate {A = ℕ} 112 0) (all_agree which) (λ a below. tt)
+ports_exact which tick =
+    ports_say which 56 tick 0 (zeroes engine_bytes) (λ s. Unit {0}) (length-replicate {A = ℕ} 112 0) (all_agree which) (λ a below. tt)
 
 -- ---- an engine's ports stand for themselves
 
@@ -341,7 +344,8 @@ byte_copied which at m s are within c = record {
   by_place : (i : ℕ) → i < at + 1 → i < 112 → (i ≡ at) ⊎ (i ≢ at) → slice_index (slice_set m at (slice_index s at % 256)) i ≡ slice_index s i
   by_place i lt here (inl e) =
       let long = c.long in let small = byte_small which s at are (omega (arith, within)) in
-      rw e (get_or-set_same m at (slice_index s at % 256) 0 (omega (arith, long, within)) ∙ (let e : slice_index s at % 256 ≡ slice_index s at = omega (arith, small) in e))
+      let same : slice_index s at % 256 ≡ slice_index s at = omega (arith, small) in
+      rw e (get_or-set_same m at (slice_index s at % 256) 0 (omega (arith, long, within)) ∙ same)
   by_place i lt here (inr ne) =
       let before : i < at = omega (arith, lt, ne) in
       get_or-set_other m at i (slice_index s at % 256) 0 ne ∙ c.same i before here

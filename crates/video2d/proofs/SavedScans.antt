@@ -28,13 +28,15 @@ waits_by at later f l q true h le lt e from to =
     let r = (later - 1) - (1120380 * f + 4260 * l) in
     let small : r < 4260 = omega (arith, e, from, to) in
     let still : nat_le 3212 r ≡ true = (let le : 3212 ≤ r = omega (arith, e, from, to, past) in grind (arith, le)) in
-    scan_is (later - 1) f l r le small (omega (arith, e, from, to)) ∙ ap (λ (b : Bool). (let s : ScanState = record { frame = f; line = l; blanked = b } in s)) still
+    scan_is (later - 1) f l r le small (omega (arith, e, from, to))
+    ∙ ap (λ (b : Bool). (let s : ScanState = record { frame = f; line = l; blanked = b } in s)) still
 waits_by at later f l q false h le lt e from to =
     let before : q < 3212 = grind (arith, h) in
     let r = (later - 1) - (1120380 * f + 4260 * l) in
     let few : r < 3212 = omega (arith, e, from, to, before) in
     let still : nat_le 3212 r ≡ false = grind (arith, few) in
-    scan_is (later - 1) f l r le (omega (arith, few)) (omega (arith, e, from, to)) ∙ ap (λ (b : Bool). (let s : ScanState = record { frame = f; line = l; blanked = b } in s)) still
+    scan_is (later - 1) f l r le (omega (arith, few)) (omega (arith, e, from, to))
+    ∙ ap (λ (b : Bool). (let s : ScanState = record { frame = f; line = l; blanked = b } in s)) still
 
 waits : (at later : ℕ) → at ≤ later → later ≤ scan_due (scan_before at) → scan_before later ≡ scan_before at
 waits at later from to =
@@ -55,7 +57,8 @@ event_by f l true le =
       next : (l == 262) ≡ false → scan_of (1120380 * f + 4260 * l + 4260) ≡ record { frame = f; line = l + 1; blanked = false }
       next h = (let few : l < 262 = grind (arith, h, le) in scan_is _ f (l + 1) 0 (omega (arith, few)) (omega arith) (omega arith))
 
-      same : (b : Bool) → ◌≡◌ {A = ScanState} (if b then (record { frame = f + 1; line = 0; blanked = false }) else (record { frame = f; line = l + 1; blanked = false }))
+      same : (b : Bool)
+          → ◌≡◌ {A = ScanState} (if b then (record { frame = f + 1; line = 0; blanked = false }) else (record { frame = f; line = l + 1; blanked = false }))
           (record { frame = if b then f + 1 else f; line = if b then 0 else l + 1; blanked = false })
       same true = refl
       same false = refl

@@ -3,7 +3,7 @@ use Rattle.ds_base.specs.Bits.{bit}
 use Rattle.ds_base.specs.Numbers.{number_at, width_bytes, with_number, zeroes}
 use Rattle.ds_base.specs.declared.memories.Width.{Width}
 use Rattle.ds_base.specs.declared.memories.Width.TheVariants.{Half, Word}
-use Rattle.ds_state.specs.Formats.{Format, number_code, flag_code, then_field, done, ◌>>=◌, one_field, its, each, any, at_most, keeps_mask}
+use Rattle.ds_state.specs.Formats.{Code, Format, number_code, flag_code, then_field, done, ◌>>=◌, one_field, its, each, any, at_most, keeps_mask}
 use Rattle.ds_state.specs.Laws.{OneSpelling, RoundTrips}
 use Rattle.ds_state.specs.Reading.{Left, read_format}
 use Rattle.video2d.specs.DisplayRegisters.{display_row, engine_bytes, engine_row_at}
@@ -43,6 +43,9 @@ status_bits = (display_row Dispstat).kept + 7
 
 abbrev pub row_width : DisplayRow → Width
 row_width row = if row.bytes == 2 then Half else Word
+
+abbrev pub row_code : DisplayRow → Code ℕ
+row_code row = number_code (width_bytes (row_width row))
 
 -- one that begins at an offset, and what comes after it
 abbrev pub register_field : Width → ℕ → ℕ → List ℕ → (ℕ → List ℕ → Format (List ℕ) (List ℕ)) → Format (List ℕ) (List ℕ)

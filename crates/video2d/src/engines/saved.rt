@@ -1,11 +1,11 @@
 //! An engine's registers in bytes.
 
 ghost use Rattle.std.specs.Prelude.{◌≡◌, ◌<◌, ◌≤◌, ◌+◌, ◌++◌, IfOk, OnOk};
-ghost use Rattle.ds_base.specs.Numbers.{number_at, width_bytes, with_number};
-ghost use Rattle.ds_state.specs.Formats.{bytes_written, code_bytes, keeps_mask, number_code};
+ghost use Rattle.ds_base.specs.Numbers.{number_at, with_number};
+ghost use Rattle.ds_state.specs.Formats.{bytes_written, code_bytes, keeps_mask};
 ghost use Rattle.ds_state.specs.Reading.{GivesRead, read_code, read_format, ruled};
 ghost use Rattle.video2d.specs.DisplayRegisters.{HasByteAt, engine_bytes};
-ghost use Rattle.video2d.specs.Saved.{point_format, ports_format, row_width};
+ghost use Rattle.video2d.specs.Saved.{point_format, ports_format, row_code, row_width};
 
 use crate::display_registers::{DisplayRow, engine_row_at};
 use crate::engines::{Engine, EngineRegisters};
@@ -26,7 +26,7 @@ fn put_register(
 ) -> Result<(), AllocError>
     requires row { HasByteAt row at }
     requires inside { at + row.bytes ≤ engine_bytes }
-    ensures { OnOk result (into.new ≡ into.old ++ code_bytes (number_code (width_bytes (row_width row))) (number_at (row_width row) ports.now at)) }
+    ensures { OnOk result (into.new ≡ into.old ++ code_bytes (row_code row) (number_at (row_width row) ports.now at)) }
 {
     if row.bytes == 2 {
         into.put_u16(half_at(ports, at as usize))
@@ -56,7 +56,7 @@ fn put_registers(into: &mut Packer, ports: &[u8; PORTS], which: Engine) -> Resul
 /// Takes a register of a row, which has no bits but those that it keeps.
 fn take_register(from: &mut Unpacker, row: DisplayRow, at: u32) -> Result<u32, Unpacked>
     requires { HasByteAt row at }
-    ensures { GivesRead (λ n. n) result from.new (ruled (keeps_mask row.kept 0) from.old (read_code (number_code (width_bytes (row_width row))) from.old)) }
+    ensures { GivesRead (λ n. n) result from.new (ruled (keeps_mask row.kept 0) from.old (read_code (row_code row) from.old)) }
 {
     let offset = from.place();
     let value = if row.bytes == 2 {

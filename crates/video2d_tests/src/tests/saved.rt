@@ -137,7 +137,8 @@ fn came(alloc: Global, bytes: &[u8], at: u32) -> Comes {
     }
 }
 
-/// Which byte is changed to what, how many bytes there are, the tick, and what comes. Line 1's H-blank event is due at 7,472, line 2's start at 8,520.
+/// Which byte is changed to what, how many bytes there are, the tick, and what comes. Line 1's H-blank event is due at 7,472, and line 2's start at
+/// 8,520.
 const LINES: [(usize, u8, usize, u32, Comes); 88] = [
     // where it is, at each tick between those events, in any frame
     (0, 1, ALL, 8_000, Takes(393_425)),

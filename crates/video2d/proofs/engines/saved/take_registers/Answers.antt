@@ -15,7 +15,8 @@ pub returns-in_err-value-in-Some : goal.returns-in_err-value-in-Some
 returns-in_err-value-in-Some c =
     let p = err_from_is_err_and c.from_residual.result c.from_residual.ensures.1 in
     rw (p.1, p.2) (take_fails c.args.which c.loop.counter c.loop.place c.in-Some.row c.loop.ports c.args.at.0 c.in_err-value-in-Some.field-0.0
-    c.loop.from (read_format (ports_format c.args.which) c.args.at.0 c.args.from.now) c.loop-test.true (sym c.engine_row_at.ensures.value ∙ c.in-Some.is)
+    c.loop.from (read_format (ports_format c.args.which) c.args.at.0 c.args.from.now) c.loop-test.true
+    (sym c.engine_row_at.ensures.value ∙ c.in-Some.is)
     c.in-Some.ensures.fits c.in_err-value-in-Some.ensures c.loop.invariant.reads)
 
 pub loop-preserved : goal.loop-preserved
